@@ -1,0 +1,113 @@
+-- One call on the plain machine: its refusal, its reply and the state after it.
+use Rattle.std.specs.Prelude.{ℕ, Bool, false, ◌||◌, ◌&&◌, nat_lt, if◌then◌else◌, List, [], ◌∷◌, length, Option, None, Some}
+use Rattle.itm_types.specs.Access.{size_of}
+use Rattle.itm_types.specs.declared.call.Props.{Props}
+use Rattle.itm_types.specs.declared.call.Refusal.{Refusal}
+use Rattle.itm_types.specs.declared.call.Refusal.TheVariants.{Outside, OutOfRange, TooDeep}
+use Rattle.itm_types.specs.declared.call.Call.{Call}
+use Rattle.itm_types.specs.declared.call.Call.TheVariants.{Begin, Commit, Read, Write}
+use Rattle.itm_types.specs.declared.call.Reply.{Reply}
+use Rattle.itm_types.specs.declared.call.Reply.TheVariants.{Done, Bytes, Code, Refused}
+use Rattle.itm_model.specs.Places.{in_range, is_aligned, slice, with_slice}
+use Rattle.itm_model.specs.State.{Saved, Block, State}
+
+-- ## Refusals
+
+abbrev pub is_open : State → Bool
+is_open s = nat_lt 0 (length s.blocks)
+
+-- the refusal where the test fails
+abbrev pub unless : Bool → Refusal → Option Refusal
+unless ok refusal = if ok then None else Some refusal
+
+-- the first refusal of two
+abbrev pub or_else : Option Refusal → Option Refusal → Option Refusal
+or_else None later = later
+or_else (Some refusal) later = Some refusal
+
+abbrev pub needs_open : State → Option Refusal
+needs_open s = unless (is_open s) Outside
+
+abbrev pub in_shared : State → ℕ → ℕ → Option Refusal
+in_shared s place size = unless (is_aligned place && in_range s.memory place size) OutOfRange
+
+-- why the call is refused, if it is; `deepest` blocks may be open
+abbrev pub refusal : ℕ → State → Call → Option Refusal
+refusal deepest s (Begin props room) = unless (nat_lt (length s.blocks) deepest) TooDeep
+refusal deepest s Commit = needs_open s
+refusal deepest s (Read hint width at) = or_else (needs_open s) (in_shared s at (size_of width))
+refusal deepest s (Write hint at value) = or_else (needs_open s) (in_shared s at (size_of value.width))
+
+-- ## Effects of accepted calls
+
+-- a shared slice is replaced
+abbrev pub written : State → ℕ → List ℕ → State
+written s place bytes = record s { memory = with_slice s.memory place bytes; wrote = s.wrote || nat_lt 0 (length bytes) }
+
+-- the innermost block closes
+abbrev pub closed : State → List Block → State
+closed s [] = s
+closed s (b ∷ bs) = record s { blocks = bs }
+
+-- the state with the innermost block rolled back and gone
+abbrev pub rolled_back : State → List Block → Saved → State
+rolled_back s rest saved = record s { memory = saved.memory; blocks = rest; wrote = saved.wrote }
+
+-- the innermost of these open blocks rolled back
+abbrev pub back_from : State → List Block → State
+back_from s [] = s
+back_from s (b ∷ bs) = rolled_back s bs b.saved
+
+abbrev pub back : State → State
+back s = back_from s s.blocks
+
+-- every open block rolled back, the innermost first
+abbrev pub undone_from : State → List Block → State
+undone_from s [] = s
+undone_from s (b ∷ bs) = undone_from (rolled_back s bs b.saved) bs
+
+abbrev pub undone : State → State
+undone s = undone_from s s.blocks
+
+-- a block opens
+abbrev pub entered : State → Props → State
+entered s props = record s { blocks = record { props = props; saved = record { memory = s.memory; wrote = s.wrote } } ∷ s.blocks }
+
+-- no block is open
+abbrev pub outside : List ℕ → List ℕ → State
+outside memory arena = record { memory = memory; arena = arena; blocks = []; wrote = false }
+
+-- the state after an accepted outermost begin
+abbrev pub opened : List ℕ → List ℕ → Props → State
+opened memory arena props = entered (outside memory arena) props
+
+abbrev pub effect : State → Call → State
+effect s (Begin props room) = if is_open s then entered s props else opened s.memory s.arena props
+effect s Commit = closed s s.blocks
+effect s (Read hint width at) = s
+effect s (Write hint at value) = written s at value.bytes.items
+
+abbrev pub bytes_reply : List ℕ → Reply
+bytes_reply bytes = Bytes (record { items = bytes })
+
+abbrev pub answer : State → Call → Reply
+answer s (Begin props room) = Code 5
+answer s Commit = Done
+answer s (Read hint width at) = bytes_reply (slice s.memory at (size_of width))
+answer s (Write hint at value) = Done
+
+-- ## One call
+
+abbrev pub reply_unless : Option Refusal → Reply → Reply
+reply_unless None reply = reply
+reply_unless (Some refusal) reply = Refused refusal
+
+abbrev pub reply : ℕ → State → Call → Reply
+reply deepest s call = reply_unless (refusal deepest s call) (answer s call)
+
+abbrev pub after_unless : Option Refusal → State → State → State
+after_unless None old new = new
+after_unless (Some refusal) old new = old
+
+abbrev pub after : ℕ → State → Call → State
+after deepest s call = after_unless (refusal deepest s call) s (effect s call)

@@ -1,0 +1,18 @@
+-- A transaction as plain data: whole lists of bytes, and for each open block what stood at its begin.
+use Rattle.std.specs.Prelude.{ℕ, Bool, List}
+use Rattle.itm_types.specs.declared.call.Props.{Props}
+
+-- what a rollback of a block goes back to
+pub record Saved : Type 0 where
+  pub memory : List ℕ
+  pub wrote : Bool
+
+pub record Block : Type 0 where
+  pub props : Props
+  pub saved : Saved
+
+pub record State : Type 0 where
+  pub memory : List ℕ
+  pub arena : List ℕ
+  pub blocks : List Block  -- the open ones, innermost first
+  pub wrote : Bool  -- a shared byte was written and not rolled back

@@ -1,0 +1,35 @@
+//! Slices of a list of bytes.
+
+ghost use Rattle.std.specs.Prelude.{◌≡◌, IsTrue, length};
+ghost use Rattle.itm_types.specs.Access.{size_of};
+ghost use Rattle.itm_model.specs.Places.{in_range, slice, with_slice};
+
+use itm_types::{Value, Width};
+
+/// Whether so many bytes from a place on lie within the list. No sum wraps.
+pub(crate) fn is_in_range(bytes: &[u8], place: u64, size: u8) -> bool
+    ensures { result ≡ in_range bytes.now place size }
+{
+    let len = bytes.len() as u64;
+    let size = u64::from(size);
+    size <= len && place <= len - size
+}
+
+/// The bytes of an access at a place.
+pub(crate) fn value_at(bytes: &[u8], place: u64, width: Width) -> Value
+    requires { IsTrue (in_range bytes.now place (size_of width)) }
+    ensures { result.items ≡ slice bytes.now place (size_of width) }
+{
+    let start = place as usize;
+    let end = start + usize::from(width.size());
+    Value::try_from(&bytes[start..end]).unwrap()
+}
+
+/// Puts new bytes from a place on.
+pub(crate) fn replace(bytes: &mut [u8], place: u64, new: &[u8])
+    requires { IsTrue (in_range bytes.old place (length new.now)) }
+    ensures { bytes.new ≡ with_slice bytes.old place new.now }
+{
+    let start = place as usize;
+    bytes[start..start + new.len()].copy_from_slice(new);
+}

@@ -1,0 +1,10 @@
+//! The plain machine: a transaction is a run of calls on a whole list of bytes.
+#![tactic(auto)]
+
+mod block;
+mod bytes;
+mod limits;
+mod plain;
+
+pub use limits::{MAX_ARENA, MAX_DEPTH, MAX_MEMORY, WORD};
+pub use plain::Plain;

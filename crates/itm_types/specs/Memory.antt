@@ -1,0 +1,29 @@
+-- Memory as a list of words, its bytes, and rows of words with values.
+use Rattle.std.specs.Prelude.{◌≡◌, ℕ, ◌^◌, ◌<◌, List, [], ◌∷◌, length, Some, slice_get, slice_set}
+use Rattle.std.specs.List.{flat_map}
+use Rattle.std.specs.Int.{w64, to_le_bytes}
+use Rattle.itm_types.specs.declared.row.LogRow.{LogRow}
+use Rattle.itm_types.specs.declared.row.WriteRow.{WriteRow}
+
+-- the bytes of the words, each little-endian
+abbrev pub bytes_of : List ℕ → List ℕ
+bytes_of m = flat_map (to_le_bytes w64) m
+
+-- each word fits 64 bits
+abbrev pub AllFit : List ℕ → Type 0
+AllFit [] = Unit {0}
+AllFit (w ∷ ws) = (w < 2 ^ 64) × AllFit ws
+
+-- a memory of so many words
+abbrev pub IsMemory : ℕ → List ℕ → Type 0
+IsMemory words m = (length m ≡ words) × AllFit m
+
+-- every row's value is its word of the memory
+abbrev pub Agrees : List ℕ → List LogRow → Type 0
+Agrees m [] = Unit {0}
+Agrees m (r ∷ rs) = (slice_get m r.word ≡ Some r.value) × Agrees m rs
+
+-- the memory with the rows laid over it, the first one first
+abbrev pub overlay : List ℕ → List WriteRow → List ℕ
+overlay m [] = m
+overlay m (r ∷ rs) = overlay (slice_set m r.word r.value) rs

@@ -1,0 +1,68 @@
+//! The calls of a transaction, and what they are answered.
+
+ghost use Rattle.std.specs.Prelude.{◌≡◌};
+ghost use Rattle.itm_types.specs.Refusals.{number_of};
+
+use crate::access::{ReadHint, Value, Width, WriteHint};
+use crate::datum::Datum;
+
+/// The code properties of a block (Intel TM ABI 1.1, section 5.10.1). None of those served so far changes an answer.
+#[derive(Clone, Copy, Debug, PartialEq, Eq)]
+pub struct Props {}
+
+/// One call of the runtime. Places are bytes, counted from 0.
+#[derive(Debug, Drop, PartialEq, Eq)]
+pub enum Call {
+    /// Begins a block (section 5.10). `room` is how many more calls the block may make.
+    Begin {
+        props: Props,
+        room: u32,
+    },
+    /// Ends the innermost block (section 5.12).
+    Commit,
+    /// Reads shared memory (section 5.15).
+    Read {
+        hint: ReadHint,
+        width: Width,
+        at: u64,
+    },
+    /// Writes shared memory (section 5.15).
+    Write {
+        hint: WriteHint,
+        at: u64,
+        value: Datum,
+    },
+}
+
+/// Why a call is refused. A refused call changes nothing.
+#[derive(Clone, Copy, Debug, PartialEq, Eq)]
+pub enum Refusal {
+    /// No transaction is open.
+    Outside,
+    /// A shared range leaves the memory, or does not begin at a multiple of 8.
+    OutOfRange,
+    /// As many blocks are open as may be.
+    TooDeep,
+}
+
+impl Refusal {
+    /// The number by which texts name the refusal.
+    pub fn number(self) -> u8
+        ensures { result ≡ number_of self }
+    {
+        match self {
+            Refusal::Outside => 1,
+            Refusal::OutOfRange => 2,
+            Refusal::TooDeep => 8,
+        }
+    }
+}
+
+/// What a call is answered.
+#[derive(Debug, Drop, PartialEq, Eq)]
+pub enum Reply {
+    Done,
+    Bytes(Value),
+    Code(u32),
+    Refused(Refusal),
+}

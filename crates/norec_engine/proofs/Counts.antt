@@ -1,0 +1,93 @@
+-- The steps of a call are within its most.
+use Rattle.std.proofs.Common.{◌≡◌, ◌≢◌, ℕ, ◌+◌, ◌-◌, ◌*◌, ◌^◌, ◌<◌, ◌≤◌, length, refl, arith, None, sym, subst}
+use Rattle.std.proofs.Math.Nat.{mul-le-mul_right}
+use Rattle.std.proofs.lemmas.Nat.{mul-le}
+use Rattle.itm_types.specs.Access.{words_in}
+use Rattle.itm_types.specs.declared.access.Width.{Width}
+use Rattle.itm_types.specs.declared.access.Width.TheVariants.{U8}
+use Rattle.norec_engine.specs.declared.phase.Aim.{Aim}
+use Rattle.norec_engine.specs.declared.phase.Aim.TheVariants as aims
+use Rattle.norec_engine.specs.declared.phase.Phase.{Phase}
+use Rattle.norec_engine.specs.declared.phase.Phase.TheVariants as at
+use Rattle.norec_engine.specs.declared.phase.Reading.{Reading}
+use Rattle.norec_engine.specs.declared.phase.Turn.{Turn}
+use Rattle.norec_engine.specs.declared.data.Data.{Data}
+use Rattle.norec_engine.specs.Proceeds.{most, IsWithin}
+use Rattle.norec_engine.specs.Fields.{core, IsSound, InRound, IsSoundTurn, data_after, phase_after, IsWaiting, doing_of, waits_of}
+
+some_word : (w : Width) → words_in w ≡ 1
+some_word U8 = refl
+
+-- one try more, all of them within the patience
+more : (t p k : ℕ) → 0 < t → t ≤ p → (t - 1) * k + k ≤ p * k
+more t p k l h =
+    let e : (t - 1 + 1) * k ≤ p * k = mul-le-mul_right {m = t - 1 + 1} {n = p} k (omega arith) in
+    omega (arith, e)
+
+rounds : (d : Data) (aim : Aim) (steps : ℕ) → InRound d aim steps → steps ≤ length d.log.items + 3 → d.spent ≤ most (core d (at.RoundStart aim)) (doing_of (at.RoundStart aim))
+rounds d (aims.Read r) steps round l =
+    omega (arith, more d.tries d.limits.patience (d.entry + words_in r.width + 4) round.tried round.is_open.tries, round.spent, round.may.grown, some_word r.width)
+rounds d aims.Commit steps round l =
+    omega (arith, more d.tries d.limits.patience (length d.log.items + 3) round.tried round.is_open.tries, round.spent)
+
+-- what a waiting engine has asked for
+within : (d : Data) (phase : Phase) → IsSound d phase → IsWaiting phase → d.spent ≤ most (core d phase) (doing_of phase)
+within d at.Idle s w = absurd w
+within d (at.Begin b) s w = omega (arith, s.in_phase.1, s.in_phase.0.tries)
+within d (at.Load r) s w = omega (arith, s.in_phase.3, some_word r.width, mul-le-mul_right {m = d.tries} {n = d.limits.patience} (d.entry + words_in r.width + 4) s.in_phase.0.tries)
+within d (at.Confirm r value) s w = omega (arith, s.in_phase.3, some_word r.width, mul-le-mul_right {m = d.tries} {n = d.limits.patience} (d.entry + words_in r.width + 4) s.in_phase.0.tries)
+within d (at.RoundStart aim) s w = rounds d aim 1 s.in_phase (omega arith)
+within d (at.RoundRow aim row) s w = rounds d aim (row + 2) s.in_phase.0 (omega (arith, s.in_phase.2))
+within d (at.RoundEnd aim) s w = rounds d aim (length d.log.items + 2) s.in_phase.0 (omega arith)
+within d at.Exchange s w = omega (arith, s.in_phase.4, mul-le-mul_right {m = d.tries} {n = d.limits.patience} (length d.log.items + 3) s.in_phase.0.tries)
+within d (at.Store row) s w = omega (arith, s.in_phase.1, s.in_phase.0.spent, mul-le-mul_right {m = d.tries} {n = d.limits.patience} (length d.log.items + 3) s.in_phase.0.is_open.tries)
+within d at.Free s w = omega (arith, s.in_phase.spent, mul-le-mul_right {m = d.tries} {n = d.limits.patience} (length d.log.items + 3) s.in_phase.is_open.tries)
+
+waiting : (d : Data) (phase : Phase) → waits_of d phase ≢ None → IsWaiting phase
+waiting d at.Idle n = n refl
+waiting d (at.Begin b) n = tt
+waiting d (at.Load r) n = tt
+waiting d (at.Confirm r value) n = tt
+waiting d (at.RoundStart aim) n = tt
+waiting d (at.RoundRow aim row) n = tt
+waiting d (at.RoundEnd aim) n = tt
+waiting d at.Exchange n = tt
+waiting d (at.Store row) n = tt
+waiting d at.Free n = tt
+
+counts : (d : Data) (phase : Phase) → IsSound d phase → IsWithin (core d phase)
+counts d phase s = λ n. within d phase s (waiting d phase n)
+
+-- a bound that every call's most steps keep
+few : (p k w s : ℕ) → p ≤ 1000 → k ≤ 2 ^ 64 + 8 → w < 2 ^ 64 → s ≤ p * k + 2 * w + 8 → s < 2 ^ 128
+few p k w s a b c h = omega (arith, h, mul-le p k 1000 (2 ^ 64 + 8) a b)
+
+read_few : (d : Data) (r : Reading) → d.limits.patience ≤ 1000 → d.entry < 2 ^ 64 → d.spent ≤ 2 * words_in r.width + d.limits.patience * (d.entry + words_in r.width + 4) → d.spent < 2 ^ 128
+read_few d r p e h = few d.limits.patience (d.entry + words_in r.width + 4) 0 d.spent p (omega (arith, some_word r.width)) (omega arith) (omega (arith, some_word r.width, h))
+
+commit_few : (d : Data) → d.limits.patience ≤ 1000 → length d.log.items < 2 ^ 64 → length d.writes.items < 2 ^ 64 → d.spent ≤ d.limits.patience * (length d.log.items + 3) + 2 * length d.writes.items + 2 → d.spent < 2 ^ 128
+commit_few d p l w h = few d.limits.patience (length d.log.items + 3) (length d.writes.items) d.spent p (omega arith) w (omega (arith, h))
+
+-- so the count fits
+fits_most : (d : Data) (phase : Phase) → IsWaiting phase → d.limits.patience ≤ 1000 → length d.log.items < 2 ^ 64 → length d.writes.items < 2 ^ 64 → d.entry < 2 ^ 64 → d.spent ≤ most (core d phase) (doing_of phase) → d.spent < 2 ^ 128
+fits_most d at.Idle w p l m e h = absurd w
+fits_most d (at.Begin b) w p l m e h = omega (arith, h)
+fits_most d (at.Load r) w p l m e h = read_few d r p e h
+fits_most d (at.Confirm r value) w p l m e h = read_few d r p e h
+fits_most d (at.RoundStart (aims.Read r)) w p l m e h = read_few d r p e h
+fits_most d (at.RoundStart aims.Commit) w p l m e h = commit_few d p l m h
+fits_most d (at.RoundRow (aims.Read r) row) w p l m e h = read_few d r p e h
+fits_most d (at.RoundRow aims.Commit row) w p l m e h = commit_few d p l m h
+fits_most d (at.RoundEnd (aims.Read r)) w p l m e h = read_few d r p e h
+fits_most d (at.RoundEnd aims.Commit) w p l m e h = commit_few d p l m h
+fits_most d at.Exchange w p l m e h = commit_few d p l m h
+fits_most d (at.Store row) w p l m e h = commit_few d p l m h
+fits_most d at.Free w p l m e h = commit_few d p l m h
+
+pub fits : (d : Data) (phase : Phase) → IsSound d phase → IsWaiting phase → length d.log.items < 2 ^ 64 → length d.writes.items < 2 ^ 64 → d.entry < 2 ^ 64 → d.spent < 2 ^ 128
+fits d phase s w l m e = fits_most d phase w s.patient.1 l m e (within d phase s w)
+
+-- so it is after a turn
+pub counts_after : (turn : Turn) (d new : Data) (phase : Phase) → IsSoundTurn turn d → new ≡ data_after turn d → phase ≡ phase_after turn → IsWithin (core new phase)
+counts_after turn d new phase s e f =
+    subst (λ (x : Data). IsWithin (core x phase)) (sym e) (subst (λ (p : Phase). IsWithin (core (data_after turn d) p)) (sym f) (counts (data_after turn d) (phase_after turn) s.sound))

@@ -1,0 +1,4 @@
+pub mod Overlays
+pub mod Machines
+pub mod Ended
+pub mod Counts

@@ -1,0 +1,304 @@
+-- The engine's fields as what its callers see, and what is true of them.
+use Rattle.std.specs.Prelude.{◌≡◌, ◌≢◌, ℕ, ◌+◌, ◌-◌, ◌*◌, ◌/◌, ◌%◌, ◌^◌, ◌<◌, ◌≤◌, suc, Bool, true, false, List, [], ◌∷◌, length, take, Option, None, Some, vec_capacity}
+use Rattle.itm_types.specs.declared.row.LogRow.{LogRow}
+use Rattle.itm_types.specs.declared.row.WriteRow.{WriteRow}
+use Rattle.itm_types.specs.declared.call.Call.{Call}
+use Rattle.itm_types.specs.declared.call.Call.TheVariants.{Begin, Commit, Read}
+use Rattle.itm_types.specs.declared.step.Step.{Step}
+use Rattle.itm_types.specs.declared.step.Step.TheVariants.{Load, Store, Cas}
+use Rattle.itm_types.specs.Access.{words_in}
+use Rattle.norec_engine.specs.declared.phase.Aim.{Aim}
+use Rattle.norec_engine.specs.declared.phase.Aim.TheVariants as aims
+use Rattle.norec_engine.specs.declared.phase.Phase.{Phase}
+use Rattle.norec_engine.specs.declared.phase.Phase.TheVariants as at
+use Rattle.norec_engine.specs.declared.phase.Reading.{Reading}
+use Rattle.norec_engine.specs.declared.phase.Turn.{Turn}
+use Rattle.norec_engine.specs.declared.phase.Turn.TheVariants.{Wait, End}
+use Rattle.norec_engine.specs.declared.data.Data.{Data}
+use Rattle.norec_engine.specs.declared.answer.Next.{Next}
+use Rattle.norec_engine.specs.declared.answer.Next.TheVariants.{Step as Asks, Answer as Answers}
+use Rattle.norec_engine.specs.Rows.{lookup, row_at, write_at, AllWithin, AllWritesWithin, AllWritesFit, AreApart}
+use Rattle.norec_engine.specs.Core.{Core}
+use Rattle.norec_engine.specs.Proceeds.{Proceeds}
+
+-- ## What callers see
+
+abbrev pub call_of : Aim → Call
+call_of (aims.Read r) = Read r.hint r.width (r.word * 8)
+call_of aims.Commit = Commit
+
+abbrev pub doing_of : Phase → Option Call
+doing_of at.Idle = None
+doing_of (at.Begin b) = Some (Begin b.props b.room)
+doing_of (at.Load r) = Some (call_of (aims.Read r))
+doing_of (at.Confirm r value) = Some (call_of (aims.Read r))
+doing_of (at.RoundStart aim) = Some (call_of aim)
+doing_of (at.RoundRow aim row) = Some (call_of aim)
+doing_of (at.RoundEnd aim) = Some (call_of aim)
+doing_of at.Exchange = Some Commit
+doing_of (at.Store row) = Some Commit
+doing_of at.Free = Some Commit
+
+abbrev pub again_of : Phase → Bool
+again_of (at.Begin b) = b.again
+again_of _ = false
+
+-- the step that the phase waits for
+abbrev pub step_of : Data → Phase → Step
+step_of d at.Idle = Load 0
+step_of d (at.Begin b) = Load 0
+step_of d (at.Load r) = Load (suc r.word)
+step_of d (at.Confirm r value) = Load 0
+step_of d (at.RoundStart aim) = Load 0
+step_of d (at.RoundRow aim row) = Load (suc (row_at d.log.items row).word)
+step_of d (at.RoundEnd aim) = Load 0
+step_of d at.Exchange = Cas 0 d.snapshot (d.snapshot + 1)
+step_of d (at.Store row) = Store (suc (write_at d.writes.items row).word) (write_at d.writes.items row).value
+step_of d at.Free = Store 0 (d.snapshot + 2)
+
+abbrev pub waits_of : Data → Phase → Option Step
+waits_of d at.Idle = None
+waits_of d (at.Begin b) = Some (step_of d (at.Begin b))
+waits_of d (at.Load r) = Some (step_of d (at.Load r))
+waits_of d (at.Confirm r value) = Some (step_of d (at.Confirm r value))
+waits_of d (at.RoundStart aim) = Some (step_of d (at.RoundStart aim))
+waits_of d (at.RoundRow aim row) = Some (step_of d (at.RoundRow aim row))
+waits_of d (at.RoundEnd aim) = Some (step_of d (at.RoundEnd aim))
+waits_of d at.Exchange = Some (step_of d at.Exchange)
+waits_of d (at.Store row) = Some (step_of d (at.Store row))
+waits_of d at.Free = Some (step_of d at.Free)
+
+abbrev pub fresh_of : List LogRow → Phase → List LogRow
+fresh_of log at.Idle = []
+fresh_of log (at.Begin b) = []
+fresh_of log (at.Load r) = []
+fresh_of log (at.Confirm r value) = record { word = r.word; value = value } ∷ []
+fresh_of log (at.RoundStart aim) = []
+fresh_of log (at.RoundRow aim row) = take row log
+fresh_of log (at.RoundEnd aim) = log
+fresh_of log at.Exchange = []
+fresh_of log (at.Store row) = []
+fresh_of log at.Free = []
+
+abbrev pub holds_of : Phase → Bool
+holds_of (at.Store row) = true
+holds_of at.Free = true
+holds_of _ = false
+
+abbrev pub done_of : List WriteRow → Phase → ℕ
+done_of writes (at.Store row) = row
+done_of writes at.Free = length writes
+done_of writes _ = 0
+
+-- the engine with these fields, in this phase
+abbrev pub core : Data → Phase → Core
+core d phase = record {
+  words = d.words;
+  patience = d.limits.patience;
+  max_commits = d.limits.max_commits;
+  arena = d.arena;
+  snapshot = d.snapshot;
+  clock = d.clock;
+  fresh = fresh_of d.log.items phase;
+  log = d.log.items;
+  writes = d.writes.items;
+  is_open = d.is_open;
+  props = d.props;
+  holds = holds_of phase;
+  done = done_of d.writes.items phase;
+  freed = false;
+  doing = doing_of phase;
+  again = again_of phase;
+  waits = waits_of d phase;
+  spent = d.spent;
+  stage = phase;
+  tries = d.tries;
+  entry = d.entry;
+}
+
+-- ## What is true of the fields
+
+-- the steps of one round for this aim, and those before the first round
+abbrev pub round_of : Aim → Data → ℕ
+round_of (aims.Read r) d = d.entry + words_in r.width + 4
+round_of aims.Commit d = length d.log.items + 3
+
+abbrev pub first_of : Aim → ℕ
+first_of (aims.Read r) = 2
+first_of aims.Commit = 1
+
+-- a transaction is open, and its words lie within the memory
+pub record IsOpen (d : Data) : Type 0 where
+  pub is_open : d.is_open ≡ true
+  pub log : AllWithin d.words d.log.items
+  pub writes : AllWritesWithin d.words d.writes.items
+  pub apart : AreApart d.writes.items
+  pub fit : AllWritesFit d.writes.items
+  pub tries : d.tries ≤ d.limits.patience
+
+pub record IsOutside (d : Data) : Type 0 where
+  pub is_open : d.is_open ≡ false
+  pub log : d.log.items ≡ []
+  pub writes : d.writes.items ≡ []
+  pub tries : d.tries ≤ d.limits.patience
+
+-- the word may be read, and its row has room in the log
+pub record MayRead (d : Data) (r : Reading) : Type 0 where
+  pub within : r.word < d.words
+  pub unwritten : lookup r.word d.writes.items ≡ None
+  pub room : length d.log.items < vec_capacity d.log
+  pub grown : length d.log.items ≤ d.entry
+
+abbrev pub Aims : Data → Aim → Type 0
+Aims d (aims.Read r) = MayRead d r
+Aims d aims.Commit = d.writes.items ≢ []
+
+pub record InRound (d : Data) (aim : Aim) (steps : ℕ) : Type 0 where
+  pub is_open : IsOpen d
+  pub may : Aims d aim
+  pub tried : 0 < d.tries
+  pub later : d.snapshot < d.clock
+  pub spent : d.spent ≤ first_of aim + (d.tries - 1) * round_of aim d + steps
+
+-- the clock is held: so many steps may have been asked for
+pub record IsHolding (d : Data) (steps : ℕ) : Type 0 where
+  pub is_open : IsOpen d
+  pub some : 0 < length d.writes.items
+  pub settled : d.clock ≡ d.snapshot
+  pub free : d.snapshot / 2 < d.limits.max_commits
+  pub spent : d.spent ≤ 1 + d.tries * round_of aims.Commit d + steps
+
+abbrev pub InPhase : Data → Phase → Type 0
+InPhase d at.Idle = (d.is_open ≡ true → IsOpen d × (d.clock ≡ d.snapshot)) × (d.is_open ≡ false → IsOutside d)
+InPhase d (at.Begin b) = IsOutside d × (d.spent ≤ d.tries)
+InPhase d (at.Load r) = IsOpen d × MayRead d r × (d.clock ≡ d.snapshot) × (d.spent ≤ 1 + d.tries * round_of (aims.Read r) d)
+InPhase d (at.Confirm r value) = IsOpen d × MayRead d r × (d.clock ≡ d.snapshot) × (d.spent ≤ 2 + d.tries * round_of (aims.Read r) d)
+InPhase d (at.RoundStart aim) = InRound d aim 1
+InPhase d (at.RoundRow aim row) = InRound d aim (row + 2) × (d.clock % 2 ≡ 0) × (row < length d.log.items)
+InPhase d (at.RoundEnd aim) = InRound d aim (length d.log.items + 2) × (d.clock % 2 ≡ 0)
+InPhase d at.Exchange = IsOpen d × (d.writes.items ≢ []) × (d.clock ≡ d.snapshot) × (d.snapshot / 2 < d.limits.max_commits) × (d.spent ≤ 1 + d.tries * round_of aims.Commit d)
+InPhase d (at.Store row) = IsHolding d (row + 1) × (row < length d.writes.items)
+InPhase d at.Free = IsHolding d (length d.writes.items + 1)
+
+pub record IsSound (d : Data) (phase : Phase) : Type 0 where
+  pub patient : (0 < d.limits.patience) × (d.limits.patience ≤ 1000)
+  pub commits : d.limits.max_commits < 2 ^ 62
+  pub small : d.words ≤ 8192
+  pub even : d.snapshot % 2 ≡ 0
+  pub reached : d.snapshot ≤ d.clock
+  pub in_phase : InPhase d phase
+
+-- ## A turn: what comes of an event, before it is counted
+
+abbrev pub next_of : Turn → Data → Next
+next_of (Wait phase) d = Asks (step_of d phase)
+next_of (End a) d = Answers a
+
+abbrev pub counted : Data → Data
+counted d = record d { spent = d.spent + 1 }
+
+abbrev pub data_after : Turn → Data → Data
+data_after (Wait phase) d = counted d
+data_after (End a) d = d
+
+abbrev pub phase_after : Turn → Phase
+phase_after (Wait phase) = phase
+phase_after (End a) = at.Idle
+
+abbrev pub core_after : Turn → Data → Core
+core_after turn d = core (data_after turn d) (phase_after turn)
+
+abbrev pub IsWaiting : Phase → Type 0
+IsWaiting at.Idle = ⊥
+IsWaiting _ = Unit {0}
+
+abbrev pub Asked : Turn → Type 0
+Asked (Wait phase) = IsWaiting phase
+Asked (End a) = Unit {0}
+
+pub record IsSoundTurn (turn : Turn) (d : Data) : Type 0 where
+  pub sound : IsSound (data_after turn d) (phase_after turn)
+  pub asked : Asked turn
+
+abbrev pub Turns : Core → Turn → Data → Type 0
+Turns mid turn d = Proceeds mid (next_of turn d) (core_after turn d)
+
+-- ## Between two steps
+
+-- in a call with rounds; the last step was on the clock
+abbrev pub between : Data → Aim → Core
+between d aim = record (core d (at.RoundStart aim)) { waits = None; stage = at.Idle; tries = 0 }
+
+-- with another snapshot
+abbrev pub moved : Core → ℕ → Core
+moved c was = record c { snapshot = was }
+
+-- in a commit, these rows being stored
+abbrev pub in_stores : Data → ℕ → Core
+in_stores d row = record (core d (at.Store row)) { waits = None; stage = at.Idle; tries = 0 }
+
+-- in a round, the rows before this one being loaded
+abbrev pub in_rows : Data → Aim → ℕ → Core
+in_rows d aim row = record (core d (at.RoundRow aim row)) { waits = None; stage = at.Idle; tries = 0 }
+
+-- the log and the snapshot stay, unless the transaction ended
+pub record Stays (old new : Data) : Type 0 where
+  pub opens : new.is_open ≡ true → old.is_open ≡ true
+  pub log : new.is_open ≡ true → new.log.items ≡ old.log.items
+  pub snapshot : new.snapshot ≡ old.snapshot
+
+-- the transaction is over, and all else as before
+pub record IsEnded (old new : Data) : Type 0 where
+  pub is_open : new.is_open ≡ false
+  pub log : new.log.items ≡ []
+  pub writes : new.writes.items ≡ []
+  pub words : new.words ≡ old.words
+  pub limits : new.limits ≡ old.limits
+  pub arena : new.arena ≡ old.arena
+  pub snapshot : new.snapshot ≡ old.snapshot
+  pub clock : new.clock ≡ old.clock
+  pub props : new.props ≡ old.props
+  pub tries : new.tries ≡ old.tries
+  pub spent : new.spent ≡ old.spent
+  pub entry : new.entry ≡ old.entry
+
+-- a round may be tried
+pub record MayTry (d : Data) (aim : Aim) : Type 0 where
+  pub patient : (0 < d.limits.patience) × (d.limits.patience ≤ 1000)
+  pub commits : d.limits.max_commits < 2 ^ 62
+  pub small : d.words ≤ 8192
+  pub even : d.snapshot % 2 ≡ 0
+  pub is_open : IsOpen d
+  pub may : Aims d aim
+  pub later : d.snapshot < d.clock
+  pub spent : d.spent ≤ first_of aim + d.tries * round_of aim d
+
+-- a round goes on: its rows before this one are as logged
+pub record InRows (d : Data) (aim : Aim) (row : ℕ) : Type 0 where
+  pub patient : (0 < d.limits.patience) × (d.limits.patience ≤ 1000)
+  pub commits : d.limits.max_commits < 2 ^ 62
+  pub small : d.words ≤ 8192
+  pub even : d.snapshot % 2 ≡ 0
+  pub round : InRound d aim (row + 1)
+  pub steady : d.clock % 2 ≡ 0
+  pub far : row ≤ length d.log.items
+
+-- the clock may be taken
+pub record MayExchange (d : Data) : Type 0 where
+  pub patient : (0 < d.limits.patience) × (d.limits.patience ≤ 1000)
+  pub commits : d.limits.max_commits < 2 ^ 62
+  pub small : d.words ≤ 8192
+  pub even : d.snapshot % 2 ≡ 0
+  pub is_open : IsOpen d
+  pub may : d.writes.items ≢ []
+  pub settled : d.clock ≡ d.snapshot
+  pub spent : d.spent ≤ d.tries * round_of aims.Commit d
+
+-- the clock is held, and this many rows are stored
+pub record InStores (d : Data) (row : ℕ) : Type 0 where
+  pub patient : (0 < d.limits.patience) × (d.limits.patience ≤ 1000)
+  pub commits : d.limits.max_commits < 2 ^ 62
+  pub small : d.words ≤ 8192
+  pub even : d.snapshot % 2 ≡ 0
+  pub holding : IsHolding d row
+  pub far : row ≤ length d.writes.items

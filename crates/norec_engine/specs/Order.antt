@@ -1,0 +1,65 @@
+-- The order of the steps: where a call stands once it has come, and after each value that is handed in.
+use Rattle.std.specs.Prelude.{ℕ, ◌+◌, ◌/◌, ◌%◌, ◌==◌, ◌&&◌, nat_lt, Bool, if◌then◌else◌, length, Option, None, Some}
+use Rattle.itm_types.specs.declared.call.Call.{Call}
+use Rattle.itm_types.specs.declared.call.Call.TheVariants as calls
+use Rattle.norec_engine.specs.declared.phase.Aim.{Aim}
+use Rattle.norec_engine.specs.declared.phase.Aim.TheVariants as aims
+use Rattle.norec_engine.specs.declared.phase.Reading.{Reading}
+use Rattle.norec_engine.specs.declared.phase.Phase.{Phase}
+use Rattle.norec_engine.specs.declared.phase.Phase.TheVariants.{Idle, Begin, Load, Confirm, RoundStart, RoundRow, RoundEnd, Exchange, Store, Free}
+use Rattle.norec_engine.specs.Rows.{lookup, row_at}
+use Rattle.norec_engine.specs.Core.{Core}
+
+-- one more round, or the end
+abbrev pub try_stage : ℕ → ℕ → Aim → Phase
+try_stage tries patience aim = if nat_lt tries patience then RoundStart aim else Idle
+
+-- the next row of a round, or the clock load that ends it
+abbrev pub row_stage : ℕ → Aim → ℕ → Phase
+row_stage rows aim row = if nat_lt row rows then RoundRow aim row else RoundEnd aim
+
+-- the exchange, or the end where as many commits are done as may be
+abbrev pub exchange_stage : ℕ → ℕ → Phase
+exchange_stage max_commits snapshot = if nat_lt (snapshot / 2) max_commits then Exchange else Idle
+
+-- the next row of the write set, or the store that frees the clock
+abbrev pub store_stage : ℕ → ℕ → Phase
+store_stage rows row = if nat_lt row rows then Store row else Free
+
+-- what a round was made for
+abbrev pub aimed_stage : Core → Aim → ℕ → Phase
+aimed_stage c (aims.Read r) seen = Load r
+aimed_stage c aims.Commit seen = exchange_stage c.max_commits seen
+
+abbrev pub stage_from : Core → Phase → ℕ → Phase
+stage_from c Idle seen = Idle
+stage_from c (Begin b) seen = if seen % 2 == 0 then Idle else (if nat_lt c.tries c.patience then Begin b else Idle)
+stage_from c (Load r) seen = Confirm r seen
+stage_from c (Confirm r value) seen = if seen == c.snapshot then Idle else try_stage c.tries c.patience (aims.Read r)
+stage_from c (RoundStart aim) seen = if seen % 2 == 0 then row_stage (length c.log) aim 0 else try_stage c.tries c.patience aim
+stage_from c (RoundRow aim row) seen = if (row_at c.log row).value == seen then row_stage (length c.log) aim (row + 1) else Idle
+stage_from c (RoundEnd aim) seen = if seen == c.clock then aimed_stage c aim seen else try_stage c.tries c.patience aim
+stage_from c Exchange seen = if seen == c.snapshot then store_stage (length c.writes) 0 else try_stage c.tries c.patience aims.Commit
+stage_from c (Store row) seen = store_stage (length c.writes) (row + 1)
+stage_from c Free seen = Idle
+
+abbrev pub stage_after : Core → ℕ → Phase
+stage_after c seen = stage_from c c.stage seen
+
+-- a word of the write set is answered at once
+abbrev pub load_stage : Option ℕ → Reading → Phase
+load_stage None r = Load r
+load_stage (Some value) r = Idle
+
+abbrev pub commit_stage : Core → Phase
+commit_stage c = if length c.writes == 0 then Idle else exchange_stage c.max_commits c.snapshot
+
+-- where a call stands as it comes
+abbrev pub stage_at : Core → Call → Bool → Phase
+stage_at c (calls.Begin props room) again = if c.is_open then Idle else Begin (record { props = props; room = room; again = again })
+stage_at c calls.Commit again = if c.is_open then commit_stage c else Idle
+stage_at c (calls.Read hint width at) again =
+    if c.is_open && ((at % 8 == 0) && nat_lt (at / 8) c.words)
+    then load_stage (lookup (at / 8) c.writes) (record { hint = hint; width = width; word = at / 8 })
+    else Idle
+stage_at c (calls.Write hint at value) again = Idle

@@ -1,0 +1,217 @@
+-- What an engine may do next. `mid` is the engine with a call that came, or with the value of the step that it waited for.
+use Rattle.std.specs.Prelude.{◌≡◌, ◌≢◌, ◌⊎◌, ℕ, zero, suc, ◌+◌, ◌*◌, ◌/◌, ◌%◌, ◌<◌, ◌≤◌, Bool, true, false, List, [], ◌∷◌, ◌++◌, Option, None, Some, slice_get, slice_set, take, length}
+use Rattle.itm_types.specs.declared.row.LogRow.{LogRow}
+use Rattle.itm_types.specs.declared.call.Call.{Call}
+use Rattle.itm_types.specs.declared.call.Call.TheVariants.{Begin, Commit, Read, Write}
+use Rattle.itm_types.specs.declared.call.Reply.{Reply as Replied}
+use Rattle.itm_types.specs.declared.call.Reply.TheVariants.{Done, Bytes, Code, Refused}
+use Rattle.itm_types.specs.declared.step.Step.{Step}
+use Rattle.itm_types.specs.declared.step.Step.TheVariants.{Load, Store, Cas}
+use Rattle.itm_types.specs.Access.{words_in}
+use Rattle.itm_model.specs.declared.limits.TheConstants.{MAX_DEPTH}
+use Rattle.itm_types.specs.Memory.{bytes_of, overlay, IsMemory, Agrees}
+use Rattle.itm_model.specs.Machine.{after, reply}
+use Rattle.norec_engine.specs.declared.answer.Answer.{Answer as Answered}
+use Rattle.norec_engine.specs.declared.answer.Answer.TheVariants.{Reply, Committed, Conflict, Busy, Full}
+use Rattle.norec_engine.specs.declared.answer.Next.{Next}
+use Rattle.norec_engine.specs.declared.answer.Next.TheVariants.{Step as Asks, Answer as Answers}
+use Rattle.norec_engine.specs.Rows.{write_at}
+use Rattle.norec_engine.specs.Core.{Core, ended}
+use Rattle.norec_engine.specs.Stands.{stands_for}
+
+-- ## Lawful steps
+
+-- the words that the holder's stores have made of this memory
+abbrev pub backed : Core → List ℕ → List ℕ
+backed c m = overlay m (take c.done c.writes)
+
+-- a store by the holder is of the next row, and brings the memory on by that row
+pub record StoresNext (c : Core) (word value : ℕ) : Type 0 where
+  pub word_is : word ≡ (write_at c.writes c.done).word
+  pub value_is : (m : List ℕ) → overlay m (take (c.done + 1) c.writes) ≡ slice_set (backed c m) word value
+
+-- the holder stores a word, or frees the clock once each row is stored
+abbrev pub StoresOrFrees : Core → ℕ → ℕ → Type 0
+StoresOrFrees c zero value = (value ≡ c.clock + 2) × (c.done ≡ length c.writes)
+StoresOrFrees c (suc word) value = StoresNext c word value
+
+-- the clock is loaded by one that does not hold it; the holder loads the word that it stores next
+abbrev pub LoadsOwn : Core → ℕ → Type 0
+LoadsOwn c zero = c.holds ≡ false
+LoadsOwn c (suc word) = c.holds ≡ true → word ≡ (write_at c.writes c.done).word
+
+-- the step of an engine that asks for it is one of the algorithm's
+abbrev pub IsLawful : Core → Step → Type 0
+IsLawful c (Load cell) = (cell ≤ c.words) × LoadsOwn c cell
+IsLawful c (Store cell value) = (cell ≤ c.words) × (c.holds ≡ true) × StoresOrFrees c cell value
+IsLawful c (Cas cell from to) =
+    (cell ≡ 0) × (c.holds ≡ false) × (c.is_open ≡ true) × (from ≡ c.snapshot) × (from % 2 ≡ 0) × (from / 2 < c.max_commits) × (to ≡ from + 1)
+
+-- ## What comes of an event
+
+-- a step is asked for: all else stays, but the log and the snapshot (`Joins`)
+pub record AsksFor (mid : Core) (step : Step) (new : Core) : Type 0 where
+  pub lawful : IsLawful new step
+  pub unfreed : mid.freed ≡ false
+  pub stays : new ≡ record mid { waits = Some step; spent = mid.spent + 1; stage = new.stage; tries = new.tries; log = new.log; snapshot = new.snapshot }
+
+-- a block that was begun before is told so
+abbrev pub recoded : Bool → Replied → Replied
+recoded false r = r
+recoded true Done = Done
+recoded true (Bytes value) = Bytes value
+recoded true (Code n) = Code 9
+recoded true (Refused refusal) = Refused refusal
+
+-- at a reply the engine and the reply are the plain machine's, over every memory that agrees with the log
+pub record Replies (mid : Core) (call : Call) (r : Replied) (new : Core) : Type 0 where
+  pub meets : (m : List ℕ) → IsMemory mid.words m → Agrees m new.log → stands_for new m ≡ after MAX_DEPTH (stands_for mid m) call
+  pub reply_is : (m : List ℕ) → IsMemory mid.words m → Agrees m new.log → r ≡ recoded mid.again (reply MAX_DEPTH (stands_for mid m) call)
+  pub stays : new ≡ record mid {
+    stage = new.stage;
+    tries = new.tries;
+    waits = None;
+    doing = None;
+    again = false;
+    fresh = [];
+    done = 0;
+    log = new.log;
+    snapshot = new.snapshot;
+    writes = new.writes;
+    is_open = new.is_open;
+    props = new.props;
+  }
+  pub free : mid.holds ≡ false
+  pub unfreed : mid.freed ≡ false
+  pub still : mid.is_open ≡ true → new.is_open ≡ true
+  pub settled : new.is_open ≡ true → (new.clock ≡ new.snapshot) × (new.snapshot % 2 ≡ 0)
+
+-- the call is a commit: over every memory that agrees with the log, the stores leave the plain machine's memory
+pub record Commits (mid : Core) (at : ℕ) (wrote : Bool) (new : Core) : Type 0 where
+  pub doing : mid.doing ≡ Some Commit
+  pub is_open : mid.is_open ≡ true
+  pub at_is : at ≡ mid.snapshot / 2
+  pub wrote_is : (m : List ℕ) → IsMemory mid.words m → Agrees m mid.log → wrote ≡ (after MAX_DEPTH (stands_for mid m) Commit).wrote
+  pub memory_is : (m : List ℕ) → IsMemory mid.words m → Agrees m mid.log → bytes_of (backed mid m) ≡ (after MAX_DEPTH (stands_for mid m) Commit).memory
+  pub arena_is : (m : List ℕ) → new.arena ≡ (after MAX_DEPTH (stands_for mid m) Commit).arena
+  pub free : mid.holds ≡ false
+  pub freed : mid.freed ≡ wrote
+  pub stays : new ≡ record (ended mid) { stage = new.stage; tries = new.tries }
+
+-- the word that differs was the last one loaded
+abbrev pub Differs : List LogRow → List LogRow → Option ℕ → Type 0
+Differs fresh log None = fresh ≡ []
+Differs fresh log (Some word) =
+    (before : List LogRow) × (found : ℕ) × (logged : LogRow) × (place : ℕ)
+    × (fresh ≡ before ++ record { word = word; value = found } ∷ []) × (slice_get log place ≡ Some logged) × (logged.word ≡ word) × (logged.value ≢ found)
+
+-- the clock that was seen last is later than the snapshot
+pub record Conflicts (mid : Core) (clock : ℕ) (word : Option ℕ) (new : Core) : Type 0 where
+  pub is_open : mid.is_open ≡ true
+  pub clock_is : clock ≡ mid.clock
+  pub later : mid.snapshot < clock
+  pub word_is : Differs mid.fresh mid.log word
+  pub free : mid.holds ≡ false
+  pub unfreed : mid.freed ≡ false
+  pub stays : new ≡ record (ended mid) { stage = new.stage; tries = new.tries }
+
+abbrev pub IsBegin : Option Call → Type 0
+IsBegin None = ⊥
+IsBegin (Some (Begin props room)) = Unit {0}
+IsBegin (Some Commit) = ⊥
+IsBegin (Some (Read hint width at)) = ⊥
+IsBegin (Some (Write hint at value)) = ⊥
+
+-- a begin found the clock odd as often as it may
+pub record IsBusy (mid : Core) (clock : ℕ) (new : Core) : Type 0 where
+  pub begins : IsBegin mid.doing
+  pub closed : mid.is_open ≡ false
+  pub clock_is : clock ≡ mid.clock
+  pub odd : clock % 2 ≡ 1
+  pub unfreed : mid.freed ≡ false
+  pub stays : new ≡ record (ended mid) { stage = new.stage; tries = new.tries }
+
+-- as many commits are done as may be
+pub record IsFull (mid : Core) (at : ℕ) (new : Core) : Type 0 where
+  pub doing : mid.doing ≡ Some Commit
+  pub is_open : mid.is_open ≡ true
+  pub at_is : at ≡ new.snapshot / 2
+  pub full : mid.max_commits ≤ at
+  pub free : mid.holds ≡ false
+  pub unfreed : mid.freed ≡ false
+  pub stays : new ≡ record (ended mid) { stage = new.stage; tries = new.tries; snapshot = new.snapshot }
+
+abbrev pub RepliesTo : Core → Option Call → Replied → Core → Type 0
+RepliesTo mid None r new = ⊥
+RepliesTo mid (Some call) r new = Replies mid call r new
+
+abbrev pub Ends : Core → Answered → Core → Type 0
+Ends mid (Reply r) new = RepliesTo mid mid.doing r new
+Ends mid (Committed at wrote) new = Commits mid at wrote new
+Ends mid (Conflict clock word) new = Conflicts mid clock word new
+Ends mid (Busy clock) new = IsBusy mid clock new
+Ends mid (Full at) new = IsFull mid at new
+
+abbrev pub Proceeds : Core → Next → Core → Type 0
+Proceeds mid (Asks step) new = AsksFor mid step new
+Proceeds mid (Answers a) new = Ends mid a new
+
+-- ## The log and the snapshot
+
+-- a clock load gives the even value that was handed in last before it
+pub record Settles (old : Core) (seen : ℕ) : Type 0 where
+  pub load : old.waits ≡ Some (Load 0)
+  pub same : seen ≡ old.clock
+  pub even : seen % 2 ≡ 0
+
+-- rows join the log, and the snapshot moves, only there: the rows that join, or at a move all rows, were loaded between the two loads
+pub record Joins (old : Core) (seen : ℕ) (new : Core) : Type 0 where
+  pub log : new.is_open ≡ true → (new.log ≡ old.log) ⊎ (Settles old seen × (new.log ≡ old.log ++ old.fresh) × (new.snapshot ≡ seen))
+  pub begins : old.is_open ≡ false → new.is_open ≡ true → (old.waits ≡ Some (Load 0)) × (new.snapshot ≡ seen) × (seen % 2 ≡ 0)
+  pub snapshot : old.is_open ≡ true → (new.snapshot ≡ old.snapshot) ⊎ (Settles old seen × (old.fresh ≡ old.log) × (new.snapshot ≡ seen))
+
+-- a transaction opens at a clock load alone, so not as a call comes; no row joins the log then, and the snapshot stays
+pub record StaysOn (old new : Core) : Type 0 where
+  pub opens : new.is_open ≡ true → old.is_open ≡ true
+  pub log : new.is_open ≡ true → new.log ≡ old.log
+  pub snapshot : new.snapshot ≡ old.snapshot
+
+-- what a call may be answered before its first step
+abbrev pub IsAtOnce : Next → Type 0
+IsAtOnce (Asks step) = Unit {0}
+IsAtOnce (Answers (Reply r)) = Unit {0}
+IsAtOnce (Answers (Committed at wrote)) = Unit {0}
+IsAtOnce (Answers (Conflict clock word)) = ⊥
+IsAtOnce (Answers (Busy clock)) = ⊥
+IsAtOnce (Answers (Full at)) = Unit {0}
+
+-- ## Values and counts
+
+-- a value that the memory can hand in: the clock never falls
+abbrev pub FitsStep : Core → Option Step → ℕ → Type 0
+FitsStep c None seen = Unit {0}
+FitsStep c (Some (Load zero)) seen = c.clock ≤ seen
+FitsStep c (Some (Load (suc word))) seen = Unit {0}
+FitsStep c (Some (Store cell value)) seen = Unit {0}
+FitsStep c (Some (Cas cell from to)) seen = c.clock ≤ seen
+
+abbrev pub Fits : Core → ℕ → Type 0
+Fits c seen = FitsStep c c.waits seen
+
+-- the most steps of a call
+abbrev pub most : Core → Option Call → ℕ
+most c None = 0
+most c (Some (Begin props room)) = 2 * c.patience
+most c (Some Commit) = c.patience * (length c.log + 3) + 2 * length c.writes + 2
+most c (Some (Read hint width at)) = 2 * words_in width + c.patience * (c.entry + words_in width + 4)
+most c (Some (Write hint at value)) = 0
+
+-- while it waits, it has asked for no more than the call's most steps
+abbrev pub IsWithin : Core → Type 0
+IsWithin c = c.waits ≢ None → c.spent ≤ most c c.doing
+
+-- between calls: outside, nothing is kept; inside, the clock that was handed in last is the snapshot
+pub record IsSettled (c : Core) : Type 0 where
+  pub closed : c.is_open ≡ false → (c.log ≡ []) × (c.writes ≡ [])
+  pub reached : c.snapshot ≤ c.clock
+  pub inside : c.waits ≡ None → c.is_open ≡ true → (c.clock ≡ c.snapshot) × (c.snapshot % 2 ≡ 0)

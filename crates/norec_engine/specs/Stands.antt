@@ -1,0 +1,27 @@
+-- The plain state that an engine stands for over a memory.
+use Rattle.std.specs.Prelude.{ℕ, Bool, true, false, if◌then◌else◌, List, [], ◌∷◌}
+use Rattle.itm_types.specs.declared.row.WriteRow.{WriteRow}
+use Rattle.itm_types.specs.declared.call.Props.{Props}
+use Rattle.itm_types.specs.Memory.{bytes_of, overlay}
+use Rattle.itm_model.specs.State.{Block, State}
+use Rattle.norec_engine.specs.Core.{Core}
+
+abbrev pub is_some_row : List WriteRow → Bool
+is_some_row [] = false
+is_some_row (r ∷ rs) = true
+
+-- the open block: it goes back to the memory without the write set
+abbrev pub block_over : Props → List ℕ → Block
+block_over props m = record { props = props; saved = record { memory = bytes_of m; wrote = false } }
+
+abbrev pub state_over : List WriteRow → Bool → Props → List ℕ → List ℕ → State
+state_over writes is_open props arena m = record {
+  memory = bytes_of (overlay m writes);
+  arena = arena;
+  blocks = if is_open then block_over props m ∷ [] else [];
+  wrote = is_some_row writes;
+}
+
+-- the memory is this one with the write set laid over it
+abbrev pub stands_for : Core → List ℕ → State
+stands_for c m = state_over c.writes c.is_open c.props c.arena m

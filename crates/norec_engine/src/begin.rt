@@ -1,0 +1,64 @@
+//! Begins of outermost blocks.
+
+ghost use Rattle.std.specs.Prelude.{◌≡◌, ◌≤◌};
+ghost use Rattle.norec_engine.specs.Fields.{core, core_after, phase_after, IsSound, IsSoundTurn, Turns, Stays};
+ghost use Rattle.norec_engine.specs.Core.{came, handed};
+ghost use Rattle.norec_engine.specs.Order.{stage_at, stage_after};
+ghost use Rattle.norec_engine.specs.Proceeds.{Joins};
+
+use crate::answer::Answer;
+use crate::data::Data;
+use crate::phase::{Opening, Phase, Turn};
+use itm_types::{Call, Props, Refusal, Reply};
+
+/// The code of a begin that was not tried before, and of one that was.
+const ENTERED: u32 = 5;
+
+const ENTERED_AGAIN: u32 = 9;
+
+/// A begin comes.
+pub(crate) fn begin(state: &mut Data, props: Props, room: u32, again: bool) -> Turn
+    requires sound { IsSound state.old Phase.Idle }
+    ensures sound { IsSoundTurn result state.new }
+    ensures proceeds { Turns (came (core state.old Phase.Idle) (Call.Begin props room) again) result state.new }
+    ensures stays { Stays state.old state.new }
+    ensures order { phase_after result ≡ stage_at (core state.old Phase.Idle) (Call.Begin props room) again }
+{
+    let rows = state.log.len();
+    state.spent = 0;
+    state.entry = rows;
+    if state.is_open {
+        Turn::End(Answer::Reply(Reply::Refused(Refusal::TooDeep)))
+    } else {
+        state.tries = 1;
+        Turn::Wait(Phase::Begin(Opening { props, room, again }))
+    }
+}
+
+/// The clock was loaded for a begin.
+pub(crate) fn begin_seen(state: &mut Data, opening: Opening, seen: u64) -> Turn
+    requires sound { IsSound state.old (Phase.Begin opening) }
+    requires fits { state.old.clock ≤ seen }
+    ensures sound { IsSoundTurn result state.new }
+    ensures proceeds { Turns (handed (core state.old (Phase.Begin opening)) seen) result state.new }
+    ensures joins { Joins (core state.old (Phase.Begin opening)) seen (core_after result state.new) }
+    ensures order { phase_after result ≡ stage_after (core state.old (Phase.Begin opening)) seen }
+{
+    state.clock = seen;
+    if seen % 2 == 0 {
+        state.snapshot = seen;
+        state.is_open = true;
+        state.props = opening.props;
+        let code = if opening.again {
+            ENTERED_AGAIN
+        } else {
+            ENTERED
+        };
+        Turn::End(Answer::Reply(Reply::Code(code)))
+    } else if state.tries < state.limits.patience {
+        state.tries += 1;
+        Turn::Wait(Phase::Begin(opening))
+    } else {
+        Turn::End(Answer::Busy { clock: seen })
+    }
+}

@@ -1,0 +1,111 @@
+//! Commits: the clock is taken, the write set is stored in the order of first writing, and the clock is freed.
+
+ghost use Rattle.std.specs.Prelude.{◌≡◌, ◌≤◌, length, ℕ, false};
+ghost use Rattle.norec_engine.specs.Fields.{core, phase_after, between, moved, in_stores, IsSound, IsSoundTurn, Turns, Stays, MayExchange, InStores};
+ghost use Rattle.norec_engine.specs.Core.{came, handed};
+ghost use Rattle.norec_engine.specs.Order.{stage_at, stage_after, exchange_stage, store_stage};
+
+use crate::answer::Answer;
+use crate::data::Data;
+use crate::phase::{Aim, Phase, Turn};
+use crate::rounds::{end, try_round};
+use itm_types::{Call, Refusal, Reply};
+
+/// A commit comes.
+pub(crate) fn commit(state: &mut Data) -> Turn
+    requires sound { IsSound state.old Phase.Idle }
+    ensures sound { IsSoundTurn result state.new }
+    ensures proceeds { Turns (came (core state.old Phase.Idle) Call.Commit false) result state.new }
+    ensures stays { Stays state.old state.new }
+    ensures order { phase_after result ≡ stage_at (core state.old Phase.Idle) Call.Commit false }
+{
+    let rows = state.log.len();
+    state.spent = 0;
+    state.tries = 0;
+    state.entry = rows;
+    if !state.is_open {
+        return Turn::End(Answer::Reply(Reply::Refused(Refusal::Outside)));
+    }
+    if state.writes.is_empty() {
+        let at = state.snapshot / 2;
+        end(state);
+        Turn::End(Answer::Committed { at, wrote: false })
+    } else {
+        exchange(state)
+    }
+}
+
+/// The clock is to be taken, where fewer writers have committed than may.
+pub(crate) fn exchange(state: &mut Data) -> Turn
+    requires may { MayExchange state.old }
+    ensures sound { IsSoundTurn result state.new }
+    // whatever the snapshot was before a round moved it
+    ensures proceeds { (was : ℕ) → Turns (moved (between state.old Aim.Commit) was) result state.new }
+    ensures stays { Stays state.old state.new }
+    ensures order { phase_after result ≡ exchange_stage state.old.limits.max_commits state.old.snapshot }
+{
+    let at = state.snapshot / 2;
+    if at < state.limits.max_commits {
+        Turn::Wait(Phase::Exchange)
+    } else {
+        end(state);
+        Turn::End(Answer::Full { at })
+    }
+}
+
+/// The clock was taken, or another value was found in it.
+pub(crate) fn exchanged(state: &mut Data, seen: u64) -> Turn
+    requires sound { IsSound state.old Phase.Exchange }
+    requires fits { state.old.clock ≤ seen }
+    ensures sound { IsSoundTurn result state.new }
+    ensures proceeds { Turns (handed (core state.old Phase.Exchange) seen) result state.new }
+    ensures stays { Stays state.old state.new }
+    ensures order { phase_after result ≡ stage_after (core state.old Phase.Exchange) seen }
+{
+    state.clock = seen;
+    if seen == state.snapshot {
+        next_store(state, 0)
+    } else {
+        try_round(state, Aim::Commit)
+    }
+}
+
+/// The next row is stored, or the clock is freed.
+fn next_store(state: &mut Data, row: usize) -> Turn
+    requires may { InStores state.old row }
+    ensures sound { IsSoundTurn result state.new }
+    ensures proceeds { Turns (in_stores state.old row) result state.new }
+    ensures stays { Stays state.old state.new }
+    ensures order { phase_after result ≡ store_stage (length state.old.writes.items) row }
+{
+    if row < state.writes.len() {
+        Turn::Wait(Phase::Store(row))
+    } else {
+        Turn::Wait(Phase::Free)
+    }
+}
+
+/// A row was stored.
+pub(crate) fn stored(state: &mut Data, row: usize) -> Turn
+    requires sound { IsSound state.old (Phase.Store row) }
+    ensures sound { IsSoundTurn result state.new }
+    ensures proceeds { Turns (handed (core state.old (Phase.Store row)) 0) result state.new }
+    ensures stays { Stays state.old state.new }
+    ensures order { phase_after result ≡ stage_after (core state.old (Phase.Store row)) 0 }
+{
+    next_store(state, row + 1)
+}
+
+/// The clock was freed.
+pub(crate) fn freed(state: &mut Data) -> Turn
+    requires sound { IsSound state.old Phase.Free }
+    ensures sound { IsSoundTurn result state.new }
+    ensures proceeds { Turns (handed (core state.old Phase.Free) 0) result state.new }
+    ensures stays { Stays state.old state.new }
+    ensures order { phase_after result ≡ stage_after (core state.old Phase.Free) 0 }
+{
+    let at = state.snapshot / 2;
+    state.clock = state.snapshot + 2;
+    end(state);
+    Turn::End(Answer::Committed { at, wrote: true })
+}

@@ -1,0 +1,27 @@
+//! What an engine keeps beside the phase.
+
+use crate::arena::Arena;
+use crate::limits::Limits;
+use itm_types::{LogRow, Props, WriteRow};
+
+/// The fields that the phases share.
+#[derive(Drop)]
+pub struct Data {
+    pub words: u32,
+    pub limits: Limits,
+    pub arena: Arena,
+    /// The even clock value at which the value log holds.
+    pub snapshot: u64,
+    /// The last clock value handed in.
+    pub clock: u64,
+    pub is_open: bool,
+    pub props: Props,
+    pub log: Vec<LogRow>,
+    pub writes: Vec<WriteRow>,
+    /// How many rows were logged as the call came.
+    pub entry: usize,
+    /// Validation rounds that the call started, or clock loads of a begin.
+    pub tries: u32,
+    /// Steps that the call has asked for.
+    pub spent: u128,
+}

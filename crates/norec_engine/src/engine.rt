@@ -1,0 +1,260 @@
+//! One thread's transactions over shared cells that someone else steps on.
+
+ghost use Rattle.std.specs.Prelude.{◌≡◌, ◌≢◌, ◌<◌, ◌≤◌, ◌^◌, IfOk, OnOk, OnErr, IsSome, IsTrue, ◌↔◌, is_some, false};
+ghost use Rattle.norec_engine.specs.Core.{opening, came, handed};
+ghost use Rattle.norec_engine.specs.Order.{stage_at, stage_after};
+ghost use Rattle.norec_engine.specs.Proceeds.{Proceeds, Joins, StaysOn, IsAtOnce, Fits, IsWithin, IsSettled};
+ghost use Rattle.norec_engine.specs.Fields.{core, core_after, phase_after, data_after, next_of, waits_of, IsSound, IsSoundTurn, Turns, Stays};
+ghost use Rattle.norec_engine.specs.Undoing.{undone_of, after_undoing};
+
+use crate::answer::{Answer, Next, Undone};
+use crate::arena::Arena;
+use crate::begin::{begin, begin_seen};
+use crate::commit::{commit, exchanged, freed, stored};
+use crate::data::Data;
+use crate::limits::Limits;
+use crate::phase::{Phase, Turn};
+use crate::read::{confirmed, loaded, read};
+use crate::rounds::{end, round_ended, round_started, row_seen};
+use crate::steps::step_of;
+use crate::write::write;
+use itm_types::{Call, Props};
+use std::alloc::{AllocError, Global};
+use std::marker::Model;
+
+/// The transactions of one thread, one after the other.
+///
+/// A call gives either its answer or a step. The step is to be done on the shared cells, and its value handed in by
+/// `resume`, which again gives the answer or the next step.
+#[derive(Drop)]
+pub struct Engine {
+    state: Data,
+    phase: Phase,
+}
+
+impl Model for Engine {
+    ghost use Rattle.norec_engine.specs.Core.{Core};
+
+    ghost Value = { Core };
+
+    ghost use Rattle.norec_engine.specs.Fields.{core, IsSound};
+
+    ghost view = { λ e. core e.state e.phase };
+
+    ghost invariant = { λ e. IsSound e.state e.phase };
+}
+
+impl Engine {
+    /// An engine outside a transaction, over a memory of 1 to 8,192 words, with its thread's arena.
+    pub fn new(alloc: Global, words: u32, arena: Arena, limits: Limits) -> Self
+        requires words { (0 < words) × (words ≤ 8192) }
+        requires patience { (0 < limits.patience) × (limits.patience ≤ 1000) }
+        requires commits { (0 < limits.max_commits) × (limits.max_commits < 2 ^ 62) }
+        ensures { result ≡ opening words arena limits.patience limits.max_commits }
+    {
+        Engine {
+            state: Data {
+                words,
+                limits,
+                arena,
+                snapshot: 0,
+                clock: 0,
+                is_open: false,
+                props: Props {},
+                log: Vec::new(alloc),
+                writes: Vec::new(alloc),
+                entry: 0,
+                tries: 0,
+                spent: 0,
+            },
+            phase: Phase::Idle,
+        }
+    }
+
+    /// An outermost block begins, `again` where an earlier try of it got past its begin; inside a transaction this is `call`.
+    pub fn begin(&mut self, props: Props, room: u32, again: bool) -> Result<Next, AllocError>
+        requires idle { self.old.waits ≡ None }
+        ensures proceeds { IfOk result (λ next. Proceeds (came self.old (Call.Begin props room) again) next self.new) }
+        ensures at_once { IfOk result IsAtOnce }
+        ensures stays { OnOk result (StaysOn self.old self.new) }
+        ensures order { OnOk result (self.new.stage ≡ stage_at self.old (Call.Begin props room) again) }
+        ensures count { OnOk result (IsWithin self.new) }
+        ensures settled { OnOk result (IsSettled self.new) }
+        ensures err { OnErr result (self.new ≡ self.old) }
+    {
+        let turn = begin(&mut self.state, props, room, again);
+        self.phase = phase_of(&turn);
+        Ok(count(&mut self.state, turn))
+    }
+
+    /// A call comes.
+    pub fn call(&mut self, call: &Call) -> Result<Next, AllocError>
+        requires idle { self.old.waits ≡ None }
+        ensures proceeds { IfOk result (λ next. Proceeds (came self.old call.now false) next self.new) }
+        ensures at_once { IfOk result IsAtOnce }
+        ensures stays { OnOk result (StaysOn self.old self.new) }
+        ensures order { OnOk result (self.new.stage ≡ stage_at self.old call.now false) }
+        ensures count { OnOk result (IsWithin self.new) }
+        ensures settled { OnOk result (IsSettled self.new) }
+        ensures err { OnErr result (self.new ≡ self.old) }
+    {
+        let turn = called(&mut self.state, call)?;
+        self.phase = phase_of(&turn);
+        Ok(count(&mut self.state, turn))
+    }
+
+    /// The step that it waits for was done: `seen` is the value loaded, the value that an exchange found, or 0 after a store.
+    pub fn resume(&mut self, seen: u64) -> Next
+        requires waits { IsSome self.old.waits }
+        requires fits { Fits self.old seen }
+        ensures proceeds { Proceeds (handed self.old seen) result self.new }
+        ensures joins { Joins self.old seen self.new }
+        ensures order { self.new.stage ≡ stage_after self.old seen }
+        ensures count { IsWithin self.new }
+        ensures settled { IsSettled self.new }
+    {
+        let turn = turned(&mut self.state, self.phase, seen);
+        self.phase = phase_of(&turn);
+        count(&mut self.state, turn)
+    }
+
+    /// Gives the transaction up, with the call in progress. While the clock is held, nothing is changed.
+    pub fn abort(&mut self) -> Undone
+        ensures undone { result ≡ undone_of self.old }
+        ensures after { self.new ≡ after_undoing self.old self.new.tries }
+    {
+        match self.phase {
+            Phase::Store(_) | Phase::Free => Undone::Held,
+            _ => {
+                let was_open = self.state.is_open;
+                end(&mut self.state);
+                self.phase = Phase::Idle;
+                if was_open {
+                    Undone::Done
+                } else {
+                    Undone::Nothing
+                }
+            }
+        }
+    }
+
+    /// A step is asked for whose value was not handed in.
+    pub fn waits(&self) -> bool
+        ensures { result ≡ is_some self.now.waits }
+    {
+        match self.phase {
+            Phase::Idle => false,
+            _ => true,
+        }
+    }
+
+    /// The memory can hand this value in: the clock never falls.
+    pub fn fits(&self, seen: u64) -> bool
+        ensures { IsTrue result ↔ Fits self.now seen }
+    {
+        match self.phase {
+            Phase::Idle | Phase::Load(_) | Phase::RoundRow(_, _) | Phase::Store(_) | Phase::Free =>
+                true,
+            _ => self.state.clock <= seen,
+        }
+    }
+
+    /// A transaction is open.
+    pub fn is_open(&self) -> bool
+        ensures { result ≡ self.now.is_open }
+    {
+        self.state.is_open
+    }
+
+    /// The even clock value at which the transaction reads, after its end the last one.
+    pub fn snapshot(&self) -> u64
+        ensures { result ≡ self.now.snapshot }
+    {
+        self.state.snapshot
+    }
+
+    /// The thread's private bytes.
+    pub fn arena(&self) -> &Arena
+        ensures { result.now ≡ self.now.arena }
+    {
+        &self.state.arena
+    }
+
+    /// How many steps the present or last call has asked for.
+    pub fn spent(&self) -> u128
+        ensures { result ≡ self.now.spent }
+    {
+        self.state.spent
+    }
+}
+
+/// The phase after a turn.
+fn phase_of(turn: &Turn) -> Phase
+    ensures { result ≡ phase_after turn.now }
+{
+    match turn {
+        Turn::Wait(phase) => *phase,
+        Turn::End(_) => Phase::Idle,
+    }
+}
+
+/// A step that is asked for is counted.
+fn count(state: &mut Data, turn: Turn) -> Next
+    requires sound { IsSoundTurn turn state.old }
+    ensures after { state.new ≡ data_after turn state.old }
+    ensures next { result ≡ next_of turn state.old }
+{
+    match turn {
+        Turn::Wait(phase) => {
+            let _rows = state.log.len();
+            let _writes = state.writes.len();
+            let _entry = state.entry;
+            let step = step_of(state, phase);
+            state.spent += 1;
+            Next::Step(step)
+        }
+        Turn::End(answer) => Next::Answer(answer),
+    }
+}
+
+/// What comes of the step that the phase waits for.
+fn turned(state: &mut Data, phase: Phase, seen: u64) -> Turn
+    requires sound { IsSound state.old phase }
+    requires waits { IsSome (waits_of state.old phase) }
+    requires fits { Fits (core state.old phase) seen }
+    ensures sound { IsSoundTurn result state.new }
+    ensures proceeds { Turns (handed (core state.old phase) seen) result state.new }
+    ensures joins { Joins (core state.old phase) seen (core_after result state.new) }
+    ensures order { phase_after result ≡ stage_after (core state.old phase) seen }
+{
+    match phase {
+        Phase::Idle => unreachable!(),
+        Phase::Begin(opening) => begin_seen(state, opening, seen),
+        Phase::Load(reading) => loaded(state, reading, seen),
+        Phase::Confirm(reading, value) => confirmed(state, reading, value, seen),
+        Phase::RoundStart(aim) => round_started(state, aim, seen),
+        Phase::RoundRow(aim, row) => row_seen(state, aim, row, seen),
+        Phase::RoundEnd(aim) => round_ended(state, aim, seen),
+        Phase::Exchange => exchanged(state, seen),
+        Phase::Store(row) => stored(state, row),
+        Phase::Free => freed(state),
+    }
+}
+
+/// What comes of a call.
+fn called(state: &mut Data, call: &Call) -> Result<Turn, AllocError>
+    requires sound { IsSound state.old Phase.Idle }
+    ensures sound { IfOk result (λ turn. IsSoundTurn turn state.new) }
+    ensures proceeds { IfOk result (λ turn. Turns (came (core state.old Phase.Idle) call.now false) turn state.new) }
+    ensures stays { OnOk result (Stays state.old state.new) }
+    ensures err_sound { OnErr result (IsSound state.new Phase.Idle) }
+    ensures err { OnErr result (core state.new Phase.Idle ≡ core state.old Phase.Idle) }
+    ensures order { IfOk result (λ turn. phase_after turn ≡ stage_at (core state.old Phase.Idle) call.now false) }
+{
+    match call {
+        Call::Begin { props, room } => Ok(begin(state, *props, *room, false)),
+        Call::Commit => Ok(commit(state)),
+        Call::Read { hint, width, at } => read(state, *hint, *width, *at),
+        Call::Write { hint, at, value } => write(state, *hint, *at, value),
+    }
+}

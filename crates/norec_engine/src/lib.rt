@@ -1,0 +1,25 @@
+//! The transaction of one thread, as a machine that asks for one atomic step at a time: NOrec, from
+//! "NOrec: Streamlining STM by Abolishing Ownership Records" (Dalessandro, Spear, Scott, PPoPP 2010).
+#![tactic(auto)]
+
+mod answer;
+mod arena;
+mod begin;
+mod commit;
+mod data;
+mod engine;
+mod limits;
+mod phase;
+mod read;
+mod rounds;
+mod rows;
+mod steps;
+mod write;
+
+pub use answer::{Answer, Next, Undone};
+pub use arena::Arena;
+pub use engine::Engine;
+pub use limits::Limits;
+
+#[cfg(test)]
+mod tests;

@@ -1,0 +1,115 @@
+//! Validation rounds: the value log is compared with the memory between two equal even clocks.
+
+ghost use Rattle.std.specs.Prelude.{◌≡◌, ◌≤◌, length, ℕ};
+ghost use Rattle.norec_engine.specs.Fields.{core, core_after, phase_after, between, in_rows, IsSound, IsSoundTurn, Turns, Stays, IsEnded, MayTry, InRows};
+ghost use Rattle.norec_engine.specs.Core.{handed};
+ghost use Rattle.norec_engine.specs.Order.{stage_after, try_stage, row_stage};
+ghost use Rattle.norec_engine.specs.Proceeds.{Joins};
+
+use crate::answer::Answer;
+use crate::commit::exchange;
+use crate::data::Data;
+use crate::phase::{Aim, Phase, Turn};
+
+/// A new round, if one is left.
+pub(crate) fn try_round(state: &mut Data, aim: Aim) -> Turn
+    requires may { MayTry state.old aim }
+    ensures sound { IsSoundTurn result state.new }
+    ensures proceeds { Turns (between state.old aim) result state.new }
+    ensures stays { Stays state.old state.new }
+    ensures order { phase_after result ≡ try_stage state.old.tries state.old.limits.patience aim }
+{
+    if state.tries < state.limits.patience {
+        state.tries += 1;
+        Turn::Wait(Phase::RoundStart(aim))
+    } else {
+        end(state);
+        Turn::End(Answer::Conflict {
+            clock: state.clock,
+            word: None,
+        })
+    }
+}
+
+/// The transaction is over: nothing of it is kept.
+pub(crate) fn end(state: &mut Data)
+    ensures { IsEnded state.old state.new }
+{
+    state.log.clear();
+    state.writes.clear();
+    state.is_open = false;
+}
+
+/// The clock was loaded at the start of a round.
+pub(crate) fn round_started(state: &mut Data, aim: Aim, seen: u64) -> Turn
+    requires sound { IsSound state.old (Phase.RoundStart aim) }
+    requires fits { state.old.clock ≤ seen }
+    ensures sound { IsSoundTurn result state.new }
+    ensures proceeds { Turns (handed (core state.old (Phase.RoundStart aim)) seen) result state.new }
+    ensures stays { Stays state.old state.new }
+    ensures order { phase_after result ≡ stage_after (core state.old (Phase.RoundStart aim)) seen }
+{
+    state.clock = seen;
+    if seen % 2 == 0 {
+        next_row(state, aim, 0)
+    } else {
+        try_round(state, aim)
+    }
+}
+
+/// The next row of a round, or the clock again.
+fn next_row(state: &mut Data, aim: Aim, row: usize) -> Turn
+    requires rows { InRows state.old aim row }
+    ensures sound { IsSoundTurn result state.new }
+    ensures proceeds { Turns (in_rows state.old aim row) result state.new }
+    ensures stays { Stays state.old state.new }
+    ensures order { phase_after result ≡ row_stage (length state.old.log.items) aim row }
+{
+    if row < state.log.len() {
+        Turn::Wait(Phase::RoundRow(aim, row))
+    } else {
+        Turn::Wait(Phase::RoundEnd(aim))
+    }
+}
+
+/// A logged word was loaded in a round.
+pub(crate) fn row_seen(state: &mut Data, aim: Aim, row: usize, seen: u64) -> Turn
+    requires sound { IsSound state.old (Phase.RoundRow aim row) }
+    ensures sound { IsSoundTurn result state.new }
+    ensures proceeds { Turns (handed (core state.old (Phase.RoundRow aim row)) seen) result state.new }
+    ensures stays { Stays state.old state.new }
+    ensures order { phase_after result ≡ stage_after (core state.old (Phase.RoundRow aim row)) seen }
+{
+    let logged = state.log[row];
+    if logged.value == seen {
+        next_row(state, aim, row + 1)
+    } else {
+        end(state);
+        Turn::End(Answer::Conflict {
+            clock: state.clock,
+            word: Some(logged.word),
+        })
+    }
+}
+
+/// The clock was loaded at the end of a round: where it has not moved, it is the new snapshot.
+pub(crate) fn round_ended(state: &mut Data, aim: Aim, seen: u64) -> Turn
+    requires sound { IsSound state.old (Phase.RoundEnd aim) }
+    requires fits { state.old.clock ≤ seen }
+    ensures sound { IsSoundTurn result state.new }
+    ensures proceeds { Turns (handed (core state.old (Phase.RoundEnd aim)) seen) result state.new }
+    ensures joins { Joins (core state.old (Phase.RoundEnd aim)) seen (core_after result state.new) }
+    ensures order { phase_after result ≡ stage_after (core state.old (Phase.RoundEnd aim)) seen }
+{
+    let is_steady = seen == state.clock;
+    state.clock = seen;
+    if is_steady {
+        state.snapshot = seen;
+        match aim {
+            Aim::Read(reading) => Turn::Wait(Phase::Load(reading)),
+            Aim::Commit => exchange(state),
+        }
+    } else {
+        try_round(state, aim)
+    }
+}

@@ -1,0 +1,34 @@
+//! The step that a phase waits for.
+
+ghost use Rattle.std.specs.Prelude.{◌≡◌};
+ghost use Rattle.norec_engine.specs.Fields.{IsSound, counted, step_of};
+
+use crate::data::Data;
+use crate::phase::Phase;
+use itm_types::Step;
+
+/// The step that the phase waits for.
+pub(crate) fn step_of(state: &Data, phase: Phase) -> Step
+    requires sound { IsSound (counted state.now) phase }
+    ensures { result ≡ step_of state.now phase }
+{
+    let _words = state.words;
+    match phase {
+        Phase::Idle
+        | Phase::Begin(_)
+        | Phase::Confirm(_, _)
+        | Phase::RoundStart(_)
+        | Phase::RoundEnd(_) => Step::Load(0),
+        Phase::Load(reading) => Step::Load(reading.word + 1),
+        Phase::RoundRow(_, row) => {
+            let logged = state.log[row];
+            Step::Load(logged.word + 1)
+        }
+        Phase::Exchange => Step::Cas(0, state.snapshot, state.snapshot + 1),
+        Phase::Store(row) => {
+            let written = state.writes[row];
+            Step::Store(written.word + 1, written.value)
+        }
+        Phase::Free => Step::Store(0, state.snapshot + 2),
+    }
+}

@@ -1,0 +1,49 @@
+//! What a thread's code has to offer to whatever runs its transactions.
+
+use itm_types::{Call, Reply};
+use std::alloc::AllocError;
+
+/// Makes the calls of one thread, one at a time, and learns the reply to each.
+pub trait Player: Drop {
+    ghost use Rattle.std.specs.Prelude.{◌≡◌, ℕ, ◌<◌, IfOk, Option, Some, if◌then◌else◌};
+    ghost use Rattle.itm_types.specs.declared.call.Call.{Call};
+    ghost use Rattle.itm_types.specs.declared.call.Reply.{Reply};
+    ghost use Rattle.script_vm.specs.Depth.{depth_after, opens};
+
+    /// The call that comes next, or that there is none.
+    ghost next_call: { Self → Option Call };
+
+    /// The player once its call has this reply.
+    ghost answered: { Self → Reply → Self };
+
+    /// The player as it called the last accepted begin of an outermost block.
+    ghost restarted: { Self → Self };
+
+    /// A bound on the calls that are still to come.
+    ghost calls_left: { Self → ℕ };
+
+    /// How many blocks it has open.
+    ghost depth: { Self → ℕ };
+
+    /// The next call, or `None` where the player has ended.
+    fn next(&self) -> Option<Call>
+        ensures { result ≡ next_call self.now };
+
+    /// Takes the reply to its call.
+    fn answer(&mut self, reply: &Reply)
+        ensures { self.new ≡ answered self.old reply.now };
+
+    /// Goes back to where it called the last accepted begin of an outermost block.
+    fn restart(&mut self)
+        ensures { self.new ≡ restarted self.old };
+
+    /// An equal player.
+    fn copy(&self) -> Result<Self, AllocError>
+        ensures { IfOk result (λ p. p ≡ self.now) };
+
+    ghost nearer: { (p : Self) (c : Call) (r : Reply) → next_call p ≡ Some c → calls_left (answered p r) < calls_left p };
+
+    ghost nests: { (p : Self) (c : Call) (r : Reply) → next_call p ≡ Some c → depth (answered p r) ≡ depth_after (depth p) c r };
+
+    ghost restarts: { (p : Self) (c : Call) (r : Reply) → next_call p ≡ Some c → restarted (answered p r) ≡ (if opens (depth p) c r then p else restarted p) };
+}
