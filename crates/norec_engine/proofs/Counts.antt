@@ -28,7 +28,7 @@ rounds : (d : Data) (aim : Aim) (steps : ℕ) → InRound d aim steps → steps 
 rounds d (aims.Read r) steps round l =
     omega (arith, more d.tries d.limits.patience (d.entry + words_in r.width + 4) round.tried round.is_open.tries, round.spent, round.may.grown, some_word r.width)
 rounds d aims.Commit steps round l =
-    omega (arith, more d.tries d.limits.patience (length d.log.items + 3) round.tried round.is_open.tries, round.spent)
+    omega (arith, more d.tries d.limits.patience (d.entry + 3) round.tried round.is_open.tries, round.spent, round.may.grown)
 
 -- what a waiting engine has asked for
 within : (d : Data) (phase : Phase) → IsSound d phase → IsWaiting phase → d.spent ≤ most (core d phase) (doing_of phase)
@@ -39,9 +39,9 @@ within d (at.Confirm r value) s w = omega (arith, s.in_phase.3, some_word r.widt
 within d (at.RoundStart aim) s w = rounds d aim 1 s.in_phase (omega arith)
 within d (at.RoundRow aim row) s w = rounds d aim (row + 2) s.in_phase.0 (omega (arith, s.in_phase.2))
 within d (at.RoundEnd aim) s w = rounds d aim (length d.log.items + 2) s.in_phase.0 (omega arith)
-within d at.Exchange s w = omega (arith, s.in_phase.4, mul-le-mul_right {m = d.tries} {n = d.limits.patience} (length d.log.items + 3) s.in_phase.0.tries)
-within d (at.Store row) s w = omega (arith, s.in_phase.1, s.in_phase.0.spent, mul-le-mul_right {m = d.tries} {n = d.limits.patience} (length d.log.items + 3) s.in_phase.0.is_open.tries)
-within d at.Free s w = omega (arith, s.in_phase.spent, mul-le-mul_right {m = d.tries} {n = d.limits.patience} (length d.log.items + 3) s.in_phase.is_open.tries)
+within d at.Exchange s w = omega (arith, s.in_phase.4, mul-le-mul_right {m = d.tries} {n = d.limits.patience} (d.entry + 3) s.in_phase.0.tries)
+within d (at.Store row) s w = omega (arith, s.in_phase.1, s.in_phase.0.spent, mul-le-mul_right {m = d.tries} {n = d.limits.patience} (d.entry + 3) s.in_phase.0.is_open.tries)
+within d at.Free s w = omega (arith, s.in_phase.spent, mul-le-mul_right {m = d.tries} {n = d.limits.patience} (d.entry + 3) s.in_phase.is_open.tries)
 
 waiting : (d : Data) (phase : Phase) → waits_of d phase ≢ None → IsWaiting phase
 waiting d at.Idle n = n refl
@@ -65,27 +65,27 @@ few p k w s a b c h = omega (arith, h, mul-le p k 1000 (2 ^ 64 + 8) a b)
 read_few : (d : Data) (r : Reading) → d.limits.patience ≤ 1000 → d.entry < 2 ^ 64 → d.spent ≤ 2 * words_in r.width + d.limits.patience * (d.entry + words_in r.width + 4) → d.spent < 2 ^ 128
 read_few d r p e h = few d.limits.patience (d.entry + words_in r.width + 4) 0 d.spent p (omega (arith, some_word r.width)) (omega arith) (omega (arith, some_word r.width, h))
 
-commit_few : (d : Data) → d.limits.patience ≤ 1000 → length d.log.items < 2 ^ 64 → length d.writes.items < 2 ^ 64 → d.spent ≤ d.limits.patience * (length d.log.items + 3) + 2 * length d.writes.items + 2 → d.spent < 2 ^ 128
-commit_few d p l w h = few d.limits.patience (length d.log.items + 3) (length d.writes.items) d.spent p (omega arith) w (omega (arith, h))
+commit_few : (d : Data) → d.limits.patience ≤ 1000 → d.entry < 2 ^ 64 → length d.writes.items < 2 ^ 64 → d.spent ≤ d.limits.patience * (d.entry + 3) + 2 * length d.writes.items + 2 → d.spent < 2 ^ 128
+commit_few d p l w h = few d.limits.patience (d.entry + 3) (length d.writes.items) d.spent p (omega arith) w (omega (arith, h))
 
 -- so the count fits
-fits_most : (d : Data) (phase : Phase) → IsWaiting phase → d.limits.patience ≤ 1000 → length d.log.items < 2 ^ 64 → length d.writes.items < 2 ^ 64 → d.entry < 2 ^ 64 → d.spent ≤ most (core d phase) (doing_of phase) → d.spent < 2 ^ 128
-fits_most d at.Idle w p l m e h = absurd w
-fits_most d (at.Begin b) w p l m e h = omega (arith, h)
-fits_most d (at.Load r) w p l m e h = read_few d r p e h
-fits_most d (at.Confirm r value) w p l m e h = read_few d r p e h
-fits_most d (at.RoundStart (aims.Read r)) w p l m e h = read_few d r p e h
-fits_most d (at.RoundStart aims.Commit) w p l m e h = commit_few d p l m h
-fits_most d (at.RoundRow (aims.Read r) row) w p l m e h = read_few d r p e h
-fits_most d (at.RoundRow aims.Commit row) w p l m e h = commit_few d p l m h
-fits_most d (at.RoundEnd (aims.Read r)) w p l m e h = read_few d r p e h
-fits_most d (at.RoundEnd aims.Commit) w p l m e h = commit_few d p l m h
-fits_most d at.Exchange w p l m e h = commit_few d p l m h
-fits_most d (at.Store row) w p l m e h = commit_few d p l m h
-fits_most d at.Free w p l m e h = commit_few d p l m h
+fits_most : (d : Data) (phase : Phase) → IsWaiting phase → d.limits.patience ≤ 1000 → length d.writes.items < 2 ^ 64 → d.entry < 2 ^ 64 → d.spent ≤ most (core d phase) (doing_of phase) → d.spent < 2 ^ 128
+fits_most d at.Idle w p m e h = absurd w
+fits_most d (at.Begin b) w p m e h = omega (arith, h)
+fits_most d (at.Load r) w p m e h = read_few d r p e h
+fits_most d (at.Confirm r value) w p m e h = read_few d r p e h
+fits_most d (at.RoundStart (aims.Read r)) w p m e h = read_few d r p e h
+fits_most d (at.RoundStart aims.Commit) w p m e h = commit_few d p e m h
+fits_most d (at.RoundRow (aims.Read r) row) w p m e h = read_few d r p e h
+fits_most d (at.RoundRow aims.Commit row) w p m e h = commit_few d p e m h
+fits_most d (at.RoundEnd (aims.Read r)) w p m e h = read_few d r p e h
+fits_most d (at.RoundEnd aims.Commit) w p m e h = commit_few d p e m h
+fits_most d at.Exchange w p m e h = commit_few d p e m h
+fits_most d (at.Store row) w p m e h = commit_few d p e m h
+fits_most d at.Free w p m e h = commit_few d p e m h
 
-pub fits : (d : Data) (phase : Phase) → IsSound d phase → IsWaiting phase → length d.log.items < 2 ^ 64 → length d.writes.items < 2 ^ 64 → d.entry < 2 ^ 64 → d.spent < 2 ^ 128
-fits d phase s w l m e = fits_most d phase w s.patient.1 l m e (within d phase s w)
+pub fits : (d : Data) (phase : Phase) → IsSound d phase → IsWaiting phase → length d.writes.items < 2 ^ 64 → d.entry < 2 ^ 64 → d.spent < 2 ^ 128
+fits d phase s w m e = fits_most d phase w s.patient.1 m e (within d phase s w)
 
 -- so it is after a turn
 pub counts_after : (turn : Turn) (d new : Data) (phase : Phase) → IsSoundTurn turn d → new ≡ data_after turn d → phase ≡ phase_after turn → IsWithin (core new phase)

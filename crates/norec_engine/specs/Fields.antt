@@ -121,7 +121,7 @@ core d phase = record {
 -- the steps of one round for this aim, and those before the first round
 abbrev pub round_of : Aim → Data → ℕ
 round_of (aims.Read r) d = d.entry + words_in r.width + 4
-round_of aims.Commit d = length d.log.items + 3
+round_of aims.Commit d = d.entry + 3
 
 abbrev pub first_of : Aim → ℕ
 first_of (aims.Read r) = 2
@@ -149,9 +149,14 @@ pub record MayRead (d : Data) (r : Reading) : Type 0 where
   pub room : length d.log.items < vec_capacity d.log
   pub grown : length d.log.items ≤ d.entry
 
+-- there is something to write
+pub record MayCommit (d : Data) : Type 0 where
+  pub some : d.writes.items ≢ []
+  pub grown : length d.log.items ≤ d.entry
+
 abbrev pub Aims : Data → Aim → Type 0
 Aims d (aims.Read r) = MayRead d r
-Aims d aims.Commit = d.writes.items ≢ []
+Aims d aims.Commit = MayCommit d
 
 pub record InRound (d : Data) (aim : Aim) (steps : ℕ) : Type 0 where
   pub is_open : IsOpen d
@@ -176,7 +181,7 @@ InPhase d (at.Confirm r value) = IsOpen d × MayRead d r × (d.clock ≡ d.snaps
 InPhase d (at.RoundStart aim) = InRound d aim 1
 InPhase d (at.RoundRow aim row) = InRound d aim (row + 2) × (d.clock % 2 ≡ 0) × (row < length d.log.items)
 InPhase d (at.RoundEnd aim) = InRound d aim (length d.log.items + 2) × (d.clock % 2 ≡ 0)
-InPhase d at.Exchange = IsOpen d × (d.writes.items ≢ []) × (d.clock ≡ d.snapshot) × (d.snapshot / 2 < d.limits.max_commits) × (d.spent ≤ 1 + d.tries * round_of aims.Commit d)
+InPhase d at.Exchange = IsOpen d × MayCommit d × (d.clock ≡ d.snapshot) × (d.snapshot / 2 < d.limits.max_commits) × (d.spent ≤ 1 + d.tries * round_of aims.Commit d)
 InPhase d (at.Store row) = IsHolding d (row + 1) × (row < length d.writes.items)
 InPhase d at.Free = IsHolding d (length d.writes.items + 1)
 
@@ -290,7 +295,7 @@ pub record MayExchange (d : Data) : Type 0 where
   pub small : d.words ≤ 8192
   pub even : d.snapshot % 2 ≡ 0
   pub is_open : IsOpen d
-  pub may : d.writes.items ≢ []
+  pub may : MayCommit d
   pub settled : d.clock ≡ d.snapshot
   pub spent : d.spent ≤ d.tries * round_of aims.Commit d
 

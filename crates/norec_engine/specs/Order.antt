@@ -1,5 +1,5 @@
 -- The order of the steps: where a call stands once it has come, and after each value that is handed in.
-use Rattle.std.specs.Prelude.{ℕ, ◌+◌, ◌/◌, ◌%◌, ◌==◌, ◌&&◌, nat_lt, Bool, if◌then◌else◌, length, Option, None, Some}
+use Rattle.std.specs.Prelude.{◌≡◌, ℕ, suc, ◌+◌, ◌/◌, ◌%◌, ◌==◌, ◌&&◌, nat_lt, Bool, if◌then◌else◌, length, Option, None, Some}
 use Rattle.itm_types.specs.declared.call.Call.{Call}
 use Rattle.itm_types.specs.declared.call.Call.TheVariants as calls
 use Rattle.norec_engine.specs.declared.phase.Aim.{Aim}
@@ -63,3 +63,31 @@ stage_at c (calls.Read hint width at) again =
     then load_stage (lookup (at / 8) c.writes) (record { hint = hint; width = width; word = at / 8 })
     else Idle
 stage_at c (calls.Write hint at value) again = Idle
+
+-- ## Tries
+
+-- each round that starts, and each further load of a begin, is one try more
+abbrev pub tries_after : Phase → ℕ → ℕ
+tries_after Idle tries = tries
+tries_after (Begin b) tries = suc tries
+tries_after (Load r) tries = tries
+tries_after (Confirm r value) tries = tries
+tries_after (RoundStart aim) tries = suc tries
+tries_after (RoundRow aim row) tries = tries
+tries_after (RoundEnd aim) tries = tries
+tries_after Exchange tries = tries
+tries_after (Store row) tries = tries
+tries_after Free tries = tries
+
+-- a call that goes on starts with none, but for the first load of a begin
+abbrev pub AreFirst : Phase → ℕ → Type 0
+AreFirst Idle tries = Unit {0}
+AreFirst (Begin b) tries = tries ≡ 1
+AreFirst (Load r) tries = tries ≡ 0
+AreFirst (Confirm r value) tries = tries ≡ 0
+AreFirst (RoundStart aim) tries = tries ≡ 0
+AreFirst (RoundRow aim row) tries = tries ≡ 0
+AreFirst (RoundEnd aim) tries = tries ≡ 0
+AreFirst Exchange tries = tries ≡ 0
+AreFirst (Store row) tries = tries ≡ 0
+AreFirst Free tries = tries ≡ 0

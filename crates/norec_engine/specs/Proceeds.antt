@@ -1,6 +1,8 @@
 -- What an engine may do next. `mid` is the engine with a call that came, or with the value of the step that it waited for.
 use Rattle.std.specs.Prelude.{◌≡◌, ◌≢◌, ◌⊎◌, ℕ, zero, suc, ◌+◌, ◌*◌, ◌/◌, ◌%◌, ◌<◌, ◌≤◌, Bool, true, false, List, [], ◌∷◌, ◌++◌, Option, None, Some, slice_get, slice_set, take, length}
+use Rattle.std.specs.Int.{w64, from_le_bytes}
 use Rattle.itm_types.specs.declared.row.LogRow.{LogRow}
+use Rattle.itm_types.specs.declared.row.WriteRow.{WriteRow}
 use Rattle.itm_types.specs.declared.call.Call.{Call}
 use Rattle.itm_types.specs.declared.call.Call.TheVariants.{Begin, Commit, Read, Write}
 use Rattle.itm_types.specs.declared.call.Reply.{Reply as Replied}
@@ -15,7 +17,7 @@ use Rattle.norec_engine.specs.declared.answer.Answer.{Answer as Answered}
 use Rattle.norec_engine.specs.declared.answer.Answer.TheVariants.{Reply, Committed, Conflict, Busy, Full}
 use Rattle.norec_engine.specs.declared.answer.Next.{Next}
 use Rattle.norec_engine.specs.declared.answer.Next.TheVariants.{Step as Asks, Answer as Answers}
-use Rattle.norec_engine.specs.Rows.{write_at}
+use Rattle.norec_engine.specs.Rows.{write_at, put}
 use Rattle.norec_engine.specs.Core.{Core, ended}
 use Rattle.norec_engine.specs.Stands.{stands_for}
 
@@ -63,6 +65,16 @@ recoded true (Bytes value) = Bytes value
 recoded true (Code n) = Code 9
 recoded true (Refused refusal) = Refused refusal
 
+-- an accepted write puts its word in the write set, which keeps the order of first writing
+abbrev pub writes_after : List WriteRow → Call → Replied → List WriteRow
+writes_after writes (Begin props room) r = writes
+writes_after writes Commit r = writes
+writes_after writes (Read hint width at) r = writes
+writes_after writes (Write hint at value) Done = put writes (at / 8) (from_le_bytes w64 value.bytes.items)
+writes_after writes (Write hint at value) (Bytes bytes) = writes
+writes_after writes (Write hint at value) (Code n) = writes
+writes_after writes (Write hint at value) (Refused refusal) = writes
+
 -- at a reply the engine and the reply are the plain machine's, over every memory that agrees with the log
 pub record Replies (mid : Core) (call : Call) (r : Replied) (new : Core) : Type 0 where
   pub meets : (m : List ℕ) → IsMemory mid.words m → Agrees m new.log → stands_for new m ≡ after MAX_DEPTH (stands_for mid m) call
@@ -81,6 +93,7 @@ pub record Replies (mid : Core) (call : Call) (r : Replied) (new : Core) : Type 
     is_open = new.is_open;
     props = new.props;
   }
+  pub writes : new.writes ≡ writes_after mid.writes call r
   pub free : mid.holds ≡ false
   pub unfreed : mid.freed ≡ false
   pub still : mid.is_open ≡ true → new.is_open ≡ true
@@ -202,7 +215,7 @@ Fits c seen = FitsStep c c.waits seen
 abbrev pub most : Core → Option Call → ℕ
 most c None = 0
 most c (Some (Begin props room)) = 2 * c.patience
-most c (Some Commit) = c.patience * (length c.log + 3) + 2 * length c.writes + 2
+most c (Some Commit) = c.patience * (c.entry + 3) + 2 * length c.writes + 2
 most c (Some (Read hint width at)) = 2 * words_in width + c.patience * (c.entry + words_in width + 4)
 most c (Some (Write hint at value)) = 0
 

@@ -3,7 +3,7 @@
 ghost use Rattle.std.specs.Prelude.{◌≡◌, ◌≤◌};
 ghost use Rattle.norec_engine.specs.Fields.{core, core_after, phase_after, IsSound, IsSoundTurn, Turns, Stays};
 ghost use Rattle.norec_engine.specs.Core.{came, handed};
-ghost use Rattle.norec_engine.specs.Order.{stage_at, stage_after};
+ghost use Rattle.norec_engine.specs.Order.{AreFirst, stage_after, stage_at, tries_after};
 ghost use Rattle.norec_engine.specs.Proceeds.{Joins};
 
 use crate::answer::Answer;
@@ -23,6 +23,7 @@ pub(crate) fn begin(state: &mut Data, props: Props, room: u32, again: bool) -> T
     ensures proceeds { Turns (came (core state.old Phase.Idle) (Call.Begin props room) again) result state.new }
     ensures stays { Stays state.old state.new }
     ensures order { phase_after result ≡ stage_at (core state.old Phase.Idle) (Call.Begin props room) again }
+    ensures tries { AreFirst (phase_after result) state.new.tries }
 {
     let rows = state.log.len();
     state.spent = 0;
@@ -43,6 +44,7 @@ pub(crate) fn begin_seen(state: &mut Data, opening: Opening, seen: u64) -> Turn
     ensures proceeds { Turns (handed (core state.old (Phase.Begin opening)) seen) result state.new }
     ensures joins { Joins (core state.old (Phase.Begin opening)) seen (core_after result state.new) }
     ensures order { phase_after result ≡ stage_after (core state.old (Phase.Begin opening)) seen }
+    ensures tries { state.new.tries ≡ tries_after (phase_after result) state.old.tries }
 {
     state.clock = seen;
     if seen % 2 == 0 {

@@ -3,7 +3,7 @@
 ghost use Rattle.std.specs.Prelude.{◌≡◌, ◌≤◌, length, ℕ, false};
 ghost use Rattle.norec_engine.specs.Fields.{core, phase_after, between, moved, in_stores, IsSound, IsSoundTurn, Turns, Stays, MayExchange, InStores};
 ghost use Rattle.norec_engine.specs.Core.{came, handed};
-ghost use Rattle.norec_engine.specs.Order.{stage_at, stage_after, exchange_stage, store_stage};
+ghost use Rattle.norec_engine.specs.Order.{AreFirst, exchange_stage, stage_after, stage_at, store_stage, tries_after};
 
 use crate::answer::Answer;
 use crate::data::Data;
@@ -18,6 +18,7 @@ pub(crate) fn commit(state: &mut Data) -> Turn
     ensures proceeds { Turns (came (core state.old Phase.Idle) Call.Commit false) result state.new }
     ensures stays { Stays state.old state.new }
     ensures order { phase_after result ≡ stage_at (core state.old Phase.Idle) Call.Commit false }
+    ensures tries { AreFirst (phase_after result) state.new.tries }
 {
     let rows = state.log.len();
     state.spent = 0;
@@ -43,6 +44,7 @@ pub(crate) fn exchange(state: &mut Data) -> Turn
     ensures proceeds { (was : ℕ) → Turns (moved (between state.old Aim.Commit) was) result state.new }
     ensures stays { Stays state.old state.new }
     ensures order { phase_after result ≡ exchange_stage state.old.limits.max_commits state.old.snapshot }
+    ensures tries { state.new.tries ≡ state.old.tries }
 {
     let at = state.snapshot / 2;
     if at < state.limits.max_commits {
@@ -61,6 +63,7 @@ pub(crate) fn exchanged(state: &mut Data, seen: u64) -> Turn
     ensures proceeds { Turns (handed (core state.old Phase.Exchange) seen) result state.new }
     ensures stays { Stays state.old state.new }
     ensures order { phase_after result ≡ stage_after (core state.old Phase.Exchange) seen }
+    ensures tries { state.new.tries ≡ tries_after (phase_after result) state.old.tries }
 {
     state.clock = seen;
     if seen == state.snapshot {
@@ -77,6 +80,7 @@ fn next_store(state: &mut Data, row: usize) -> Turn
     ensures proceeds { Turns (in_stores state.old row) result state.new }
     ensures stays { Stays state.old state.new }
     ensures order { phase_after result ≡ store_stage (length state.old.writes.items) row }
+    ensures tries { state.new.tries ≡ tries_after (phase_after result) state.old.tries }
 {
     if row < state.writes.len() {
         Turn::Wait(Phase::Store(row))
@@ -92,6 +96,7 @@ pub(crate) fn stored(state: &mut Data, row: usize) -> Turn
     ensures proceeds { Turns (handed (core state.old (Phase.Store row)) 0) result state.new }
     ensures stays { Stays state.old state.new }
     ensures order { phase_after result ≡ stage_after (core state.old (Phase.Store row)) 0 }
+    ensures tries { state.new.tries ≡ tries_after (phase_after result) state.old.tries }
 {
     next_store(state, row + 1)
 }
@@ -103,6 +108,7 @@ pub(crate) fn freed(state: &mut Data) -> Turn
     ensures proceeds { Turns (handed (core state.old Phase.Free) 0) result state.new }
     ensures stays { Stays state.old state.new }
     ensures order { phase_after result ≡ stage_after (core state.old Phase.Free) 0 }
+    ensures tries { state.new.tries ≡ tries_after (phase_after result) state.old.tries }
 {
     let at = state.snapshot / 2;
     state.clock = state.snapshot + 2;

@@ -2,7 +2,7 @@
 
 ghost use Rattle.std.specs.Prelude.{◌≡◌, ◌≢◌, ◌<◌, ◌≤◌, ◌^◌, IfOk, OnOk, OnErr, IsSome, IsTrue, ◌↔◌, is_some, false};
 ghost use Rattle.norec_engine.specs.Core.{opening, came, handed};
-ghost use Rattle.norec_engine.specs.Order.{stage_at, stage_after};
+ghost use Rattle.norec_engine.specs.Order.{stage_at, stage_after, tries_after, AreFirst};
 ghost use Rattle.norec_engine.specs.Proceeds.{Proceeds, Joins, StaysOn, IsAtOnce, Fits, IsWithin, IsSettled};
 ghost use Rattle.norec_engine.specs.Fields.{core, core_after, phase_after, data_after, next_of, waits_of, IsSound, IsSoundTurn, Turns, Stays};
 ghost use Rattle.norec_engine.specs.Undoing.{undone_of, after_undoing};
@@ -78,6 +78,7 @@ impl Engine {
         ensures at_once { IfOk result IsAtOnce }
         ensures stays { OnOk result (StaysOn self.old self.new) }
         ensures order { OnOk result (self.new.stage ≡ stage_at self.old (Call.Begin props room) again) }
+        ensures tries { OnOk result (AreFirst self.new.stage self.new.tries) }
         ensures count { OnOk result (IsWithin self.new) }
         ensures settled { OnOk result (IsSettled self.new) }
         ensures err { OnErr result (self.new ≡ self.old) }
@@ -94,6 +95,7 @@ impl Engine {
         ensures at_once { IfOk result IsAtOnce }
         ensures stays { OnOk result (StaysOn self.old self.new) }
         ensures order { OnOk result (self.new.stage ≡ stage_at self.old call.now false) }
+        ensures tries { OnOk result (AreFirst self.new.stage self.new.tries) }
         ensures count { OnOk result (IsWithin self.new) }
         ensures settled { OnOk result (IsSettled self.new) }
         ensures err { OnErr result (self.new ≡ self.old) }
@@ -110,6 +112,7 @@ impl Engine {
         ensures proceeds { Proceeds (handed self.old seen) result self.new }
         ensures joins { Joins self.old seen self.new }
         ensures order { self.new.stage ≡ stage_after self.old seen }
+        ensures tries { self.new.tries ≡ tries_after self.new.stage self.old.tries }
         ensures count { IsWithin self.new }
         ensures settled { IsSettled self.new }
     {
@@ -206,7 +209,6 @@ fn count(state: &mut Data, turn: Turn) -> Next
 {
     match turn {
         Turn::Wait(phase) => {
-            let _rows = state.log.len();
             let _writes = state.writes.len();
             let _entry = state.entry;
             let step = step_of(state, phase);
@@ -226,6 +228,7 @@ fn turned(state: &mut Data, phase: Phase, seen: u64) -> Turn
     ensures proceeds { Turns (handed (core state.old phase) seen) result state.new }
     ensures joins { Joins (core state.old phase) seen (core_after result state.new) }
     ensures order { phase_after result ≡ stage_after (core state.old phase) seen }
+    ensures tries { state.new.tries ≡ tries_after (phase_after result) state.old.tries }
 {
     match phase {
         Phase::Idle => unreachable!(),
@@ -250,6 +253,7 @@ fn called(state: &mut Data, call: &Call) -> Result<Turn, AllocError>
     ensures err_sound { OnErr result (IsSound state.new Phase.Idle) }
     ensures err { OnErr result (core state.new Phase.Idle ≡ core state.old Phase.Idle) }
     ensures order { IfOk result (λ turn. phase_after turn ≡ stage_at (core state.old Phase.Idle) call.now false) }
+    ensures tries { IfOk result (λ turn. AreFirst (phase_after turn) state.new.tries) }
 {
     match call {
         Call::Begin { props, room } => Ok(begin(state, *props, *room, false)),

@@ -4,7 +4,7 @@ ghost use Rattle.std.specs.Prelude.{◌≡◌, ◌≢◌, ◌⊎◌, ◌≤◌, 
 ghost use Rattle.std.specs.Int.{w64, to_le_bytes};
 ghost use Rattle.norec_engine.specs.Fields.{core, core_after, phase_after, IsSound, IsSoundTurn, Turns, Stays};
 ghost use Rattle.norec_engine.specs.Core.{came, handed};
-ghost use Rattle.norec_engine.specs.Order.{stage_at, stage_after};
+ghost use Rattle.norec_engine.specs.Order.{AreFirst, stage_after, stage_at, tries_after};
 ghost use Rattle.norec_engine.specs.Proceeds.{Joins};
 
 use crate::answer::Answer;
@@ -29,6 +29,7 @@ pub(crate) fn read(
     ensures err_sound { OnErr result (IsSound state.new Phase.Idle) }
     ensures err { OnErr result (core state.new Phase.Idle ≡ core state.old Phase.Idle) }
     ensures order { IfOk result (λ turn. phase_after turn ≡ stage_at (core state.old Phase.Idle) (Call.Read hint width at) false) }
+    ensures tries { IfOk result (λ turn. AreFirst (phase_after turn) state.new.tries) }
 {
     let rows = state.log.len();
     if !state.is_open {
@@ -82,6 +83,7 @@ pub(crate) fn loaded(state: &mut Data, reading: Reading, seen: u64) -> Turn
     ensures proceeds { Turns (handed (core state.old (Phase.Load reading)) seen) result state.new }
     ensures stays { Stays state.old state.new }
     ensures order { phase_after result ≡ stage_after (core state.old (Phase.Load reading)) seen }
+    ensures tries { state.new.tries ≡ tries_after (phase_after result) state.old.tries }
 {
     Turn::Wait(Phase::Confirm(reading, seen))
 }
@@ -94,6 +96,7 @@ pub(crate) fn confirmed(state: &mut Data, reading: Reading, value: u64, seen: u6
     ensures proceeds { Turns (handed (core state.old (Phase.Confirm reading value)) seen) result state.new }
     ensures joins { Joins (core state.old (Phase.Confirm reading value)) seen (core_after result state.new) }
     ensures order { phase_after result ≡ stage_after (core state.old (Phase.Confirm reading value)) seen }
+    ensures tries { state.new.tries ≡ tries_after (phase_after result) state.old.tries }
 {
     state.clock = seen;
     if seen == state.snapshot {

@@ -1,10 +1,10 @@
 //! Writes: a value goes into the write set, and no step is taken.
 
 ghost use Rattle.std.specs.Prelude.{◌≡◌, ◌≤◌, ◌<◌, ◌^◌, false, IfOk, OnOk, OnErr};
-ghost use Rattle.std.specs.Int.{w64, to_le_bytes};
+ghost use Rattle.std.specs.Int.{w64, to_le_bytes, from_le_bytes};
 ghost use Rattle.norec_engine.specs.Fields.{core, phase_after, IsSound, IsSoundTurn, Turns, Stays};
 ghost use Rattle.norec_engine.specs.Core.{came};
-ghost use Rattle.norec_engine.specs.Order.{stage_at};
+ghost use Rattle.norec_engine.specs.Order.{stage_at, AreFirst};
 
 use crate::answer::Answer;
 use crate::data::Data;
@@ -28,6 +28,7 @@ pub(crate) fn write(
     ensures err_sound { OnErr result (IsSound state.new Phase.Idle) }
     ensures err { OnErr result (core state.new Phase.Idle ≡ core state.old Phase.Idle) }
     ensures order { IfOk result (λ turn. phase_after turn ≡ stage_at (core state.old Phase.Idle) (Call.Write hint at value.now) false) }
+    ensures tries { IfOk result (λ turn. AreFirst (phase_after turn) state.new.tries) }
 {
     let rows = state.log.len();
     if !state.is_open {
@@ -49,6 +50,7 @@ pub(crate) fn write(
 /// The word that has the value's bytes.
 fn word_of(value: &Datum) -> u64
     ensures bytes { to_le_bytes w64 result ≡ value.now.bytes.items }
+    ensures value { result ≡ from_le_bytes w64 value.now.bytes.items }
     ensures fits { result < 2 ^ 64 }
 {
     match value.width {
@@ -62,6 +64,7 @@ fn word_of(value: &Datum) -> u64
 /// The word that has these bytes.
 fn from_bytes(bytes: &[u8; 8]) -> u64
     ensures bytes { to_le_bytes w64 result ≡ bytes.now }
+    ensures value { result ≡ from_le_bytes w64 bytes.now }
     ensures fits { result < 2 ^ 64 }
 {
     u64::from_le_bytes(*bytes)

@@ -16,7 +16,7 @@ pub trait Player: Drop {
     /// The player once its call has this reply.
     ghost answered: { Self → Reply → Self };
 
-    /// The player as it called the last accepted begin of an outermost block.
+    /// While a block is open: the player as it called the accepted begin of the outermost one.
     ghost restarted: { Self → Self };
 
     /// A bound on the calls that are still to come.
@@ -33,7 +33,7 @@ pub trait Player: Drop {
     fn answer(&mut self, reply: &Reply)
         ensures { self.new ≡ answered self.old reply.now };
 
-    /// Goes back to where it called the last accepted begin of an outermost block.
+    /// While a block is open: goes back to where it called the accepted begin of the outermost one.
     fn restart(&mut self)
         ensures { self.new ≡ restarted self.old };
 
@@ -45,5 +45,6 @@ pub trait Player: Drop {
 
     ghost nests: { (p : Self) (c : Call) (r : Reply) → next_call p ≡ Some c → depth (answered p r) ≡ depth_after (depth p) c r };
 
-    ghost restarts: { (p : Self) (c : Call) (r : Reply) → next_call p ≡ Some c → restarted (answered p r) ≡ (if opens (depth p) c r then p else restarted p) };
+    ghost restarts: { (p : Self) (c : Call) (r : Reply) → next_call p ≡ Some c → 0 < depth_after (depth p) c r
+        → restarted (answered p r) ≡ (if opens (depth p) c r then p else restarted p) };
 }

@@ -6,4 +6,4 @@ use Rattle.norec_engine.proofs.engine.count.Goals as goal
 pub overflow_add-state : goal.overflow_add-state
 overflow_add-state c =
     let s = rw c.in-Wait.is at c.requires.sound in
-    omega (arith, fits (counted c.args.state.now) c.in-Wait.phase s.sound s.asked (omega arith) (omega arith) (search rules))
+    omega (arith, fits (counted c.args.state.now) c.in-Wait.phase s.sound s.asked (omega arith) (search rules))

@@ -50,6 +50,7 @@ returns-then-seen-state-clause-proceeds c =
       meets = λ m mem agrees. (all m mem agrees).0;
       reply_is = λ m mem agrees. ap (λ (bs : List ℕ). Bytes (record { items = bs })) c.bytes_of.ensures ∙ (all m mem agrees).1;
       stays = refl;
+      writes = refl;
       free = refl;
       unfreed = refl;
       still = λ o. o;

@@ -17,6 +17,7 @@ returns-in_default-clause-proceeds c =
       meets = λ m mem agrees. (all m mem).0;
       reply_is = λ m mem agrees. (all m mem).1;
       stays = search rules;
+      writes = refl;
       free = refl;
       unfreed = refl;
       still = λ o. o;
@@ -36,6 +37,7 @@ returns-in-Some-lookup-clause-proceeds c =
       meets = λ m mem agrees. (all m mem).0;
       reply_is = λ m mem agrees. ap (λ (bs : List ℕ). Bytes (record { items = bs })) c.bytes_of.ensures ∙ (all m mem).1;
       stays = search rules;
+      writes = refl;
       free = refl;
       unfreed = refl;
       still = λ o. o;

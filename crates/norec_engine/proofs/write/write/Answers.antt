@@ -1,6 +1,6 @@
-use Rattle.std.proofs.Common.{rules, ℕ, List, refl, sym, ap, subst, ◌∙◌}
+use Rattle.std.proofs.Common.{◌≡◌, rules, ℕ, List, refl, sym, ap, subst, ◌∙◌, arith, ◌/◌}
 use Rattle.itm_types.specs.Memory.{IsMemory}
-use Rattle.norec_engine.specs.Rows.{AllWritesWithin, AllWritesFit, AreApart}
+use Rattle.norec_engine.specs.Rows.{put, AllWritesWithin, AllWritesFit, AreApart}
 use Rattle.norec_engine.specs.Stands.{state_over}
 use Rattle.norec_engine.proofs.Overlays.{AllWritesWithin-put, AllWritesFit-put, AreApart-put}
 use Rattle.norec_engine.proofs.Machines.{writes, writes_not}
@@ -16,6 +16,7 @@ returns-in_default-clause-proceeds c =
       meets = λ m mem agrees. (all m mem).0;
       reply_is = λ m mem agrees. (all m mem).1;
       stays = search rules;
+      writes = refl;
       free = refl;
       unfreed = refl;
       still = λ o. o;
@@ -54,6 +55,7 @@ returns-clause-sound c =
 pub returns-clause-proceeds : goal.returns-clause-proceeds
 returns-clause-proceeds c =
     let s = c.args.state.now in
+    let place_of : c.in-Some.word ≡ c.args.at / 8 = omega (arith, c.in-Some.ensures.0) in
     let idle = c.requires.sound.in_phase.0 c.if-not-state.false in
     let all = λ (m : List ℕ) (mem : IsMemory s.words m).
     writes s.writes.items s.is_open s.props s.arena m s.words c.args.hint c.args.value.now c.args.at c.in-Some.word c.word_of.result c.in-Some.ensures.0 c.if-not-state.false mem c.in-Some.ensures.1
@@ -62,6 +64,7 @@ returns-clause-proceeds c =
       meets = λ m mem agrees. ap (λ x. state_over x s.is_open s.props s.arena m) c.in_ok-put.ensures.ok ∙ (all m mem).0;
       reply_is = λ m mem agrees. (all m mem).1;
       stays = search rules;
+      writes = c.in_ok-put.ensures.ok ∙ (λ i. put s.writes.items (place_of i) (c.word_of.ensures.value i));
       free = refl;
       unfreed = refl;
       still = λ o. o;
