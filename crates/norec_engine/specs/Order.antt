@@ -91,3 +91,21 @@ AreFirst (RoundEnd aim) tries = tries ≡ 0
 AreFirst Exchange tries = tries ≡ 0
 AreFirst (Store row) tries = tries ≡ 0
 AreFirst Free tries = tries ≡ 0
+
+-- ## The snapshot
+
+-- an even clock at a begin, and a clock that has not moved over a round, are the new snapshot
+abbrev pub snapshot_from : Core → Phase → ℕ → ℕ
+snapshot_from c Idle seen = c.snapshot
+snapshot_from c (Begin b) seen = if seen % 2 == 0 then seen else c.snapshot
+snapshot_from c (Load r) seen = c.snapshot
+snapshot_from c (Confirm r value) seen = c.snapshot
+snapshot_from c (RoundStart aim) seen = c.snapshot
+snapshot_from c (RoundRow aim row) seen = c.snapshot
+snapshot_from c (RoundEnd aim) seen = if seen == c.clock then seen else c.snapshot
+snapshot_from c Exchange seen = c.snapshot
+snapshot_from c (Store row) seen = c.snapshot
+snapshot_from c Free seen = c.snapshot
+
+abbrev pub snapshot_after : Core → ℕ → ℕ
+snapshot_after c seen = snapshot_from c c.stage seen

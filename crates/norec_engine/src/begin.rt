@@ -3,7 +3,7 @@
 ghost use Rattle.std.specs.Prelude.{◌≡◌, ◌≤◌};
 ghost use Rattle.norec_engine.specs.Fields.{core, core_after, phase_after, IsSound, IsSoundTurn, Turns, Stays};
 ghost use Rattle.norec_engine.specs.Core.{came, handed};
-ghost use Rattle.norec_engine.specs.Order.{AreFirst, stage_after, stage_at, tries_after};
+ghost use Rattle.norec_engine.specs.Order.{AreFirst, snapshot_after, stage_after, stage_at, tries_after};
 ghost use Rattle.norec_engine.specs.Proceeds.{Joins};
 
 use crate::answer::Answer;
@@ -44,6 +44,7 @@ pub(crate) fn begin_seen(state: &mut Data, opening: Opening, seen: u64) -> Turn
     ensures proceeds { Turns (handed (core state.old (Phase.Begin opening)) seen) result state.new }
     ensures joins { Joins (core state.old (Phase.Begin opening)) seen (core_after result state.new) }
     ensures order { phase_after result ≡ stage_after (core state.old (Phase.Begin opening)) seen }
+    ensures snapshot { state.new.snapshot ≡ snapshot_after (core state.old (Phase.Begin opening)) seen }
     ensures tries { state.new.tries ≡ tries_after (phase_after result) state.old.tries }
 {
     state.clock = seen;

@@ -2,7 +2,7 @@
 
 ghost use Rattle.std.specs.Prelude.{◌≡◌, ◌≢◌, ◌<◌, ◌≤◌, ◌^◌, IfOk, OnOk, OnErr, IsSome, IsTrue, ◌↔◌, is_some, false};
 ghost use Rattle.norec_engine.specs.Core.{opening, came, handed};
-ghost use Rattle.norec_engine.specs.Order.{stage_at, stage_after, tries_after, AreFirst};
+ghost use Rattle.norec_engine.specs.Order.{stage_at, stage_after, snapshot_after, tries_after, AreFirst};
 ghost use Rattle.norec_engine.specs.Proceeds.{Proceeds, Joins, StaysOn, IsAtOnce, Fits, IsWithin, IsSettled};
 ghost use Rattle.norec_engine.specs.Fields.{core, core_after, phase_after, data_after, next_of, waits_of, IsSound, IsSoundTurn, Turns, Stays};
 ghost use Rattle.norec_engine.specs.Undoing.{undone_of, after_undoing};
@@ -113,6 +113,7 @@ impl Engine {
         ensures joins { Joins self.old seen self.new }
         ensures order { self.new.stage ≡ stage_after self.old seen }
         ensures tries { self.new.tries ≡ tries_after self.new.stage self.old.tries }
+        ensures snapshot { self.new.snapshot ≡ snapshot_after self.old seen }
         ensures count { IsWithin self.new }
         ensures settled { IsSettled self.new }
     {
@@ -229,6 +230,7 @@ fn turned(state: &mut Data, phase: Phase, seen: u64) -> Turn
     ensures joins { Joins (core state.old phase) seen (core_after result state.new) }
     ensures order { phase_after result ≡ stage_after (core state.old phase) seen }
     ensures tries { state.new.tries ≡ tries_after (phase_after result) state.old.tries }
+    ensures snapshot { state.new.snapshot ≡ snapshot_after (core state.old phase) seen }
 {
     match phase {
         Phase::Idle => unreachable!(),

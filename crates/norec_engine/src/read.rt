@@ -4,7 +4,7 @@ ghost use Rattle.std.specs.Prelude.{◌≡◌, ◌≢◌, ◌⊎◌, ◌≤◌, 
 ghost use Rattle.std.specs.Int.{w64, to_le_bytes};
 ghost use Rattle.norec_engine.specs.Fields.{core, core_after, phase_after, IsSound, IsSoundTurn, Turns, Stays};
 ghost use Rattle.norec_engine.specs.Core.{came, handed};
-ghost use Rattle.norec_engine.specs.Order.{AreFirst, stage_after, stage_at, tries_after};
+ghost use Rattle.norec_engine.specs.Order.{AreFirst, snapshot_after, stage_after, stage_at, tries_after};
 ghost use Rattle.norec_engine.specs.Proceeds.{Joins};
 
 use crate::answer::Answer;
@@ -96,6 +96,7 @@ pub(crate) fn confirmed(state: &mut Data, reading: Reading, value: u64, seen: u6
     ensures proceeds { Turns (handed (core state.old (Phase.Confirm reading value)) seen) result state.new }
     ensures joins { Joins (core state.old (Phase.Confirm reading value)) seen (core_after result state.new) }
     ensures order { phase_after result ≡ stage_after (core state.old (Phase.Confirm reading value)) seen }
+    ensures snapshot { state.new.snapshot ≡ snapshot_after (core state.old (Phase.Confirm reading value)) seen }
     ensures tries { state.new.tries ≡ tries_after (phase_after result) state.old.tries }
 {
     state.clock = seen;

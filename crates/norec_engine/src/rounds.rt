@@ -3,7 +3,7 @@
 ghost use Rattle.std.specs.Prelude.{◌≡◌, ◌≤◌, length, ℕ};
 ghost use Rattle.norec_engine.specs.Fields.{core, core_after, phase_after, between, in_rows, IsSound, IsSoundTurn, Turns, Stays, IsEnded, MayTry, InRows};
 ghost use Rattle.norec_engine.specs.Core.{handed};
-ghost use Rattle.norec_engine.specs.Order.{AreFirst, row_stage, stage_after, tries_after, try_stage};
+ghost use Rattle.norec_engine.specs.Order.{AreFirst, row_stage, snapshot_after, stage_after, tries_after, try_stage};
 ghost use Rattle.norec_engine.specs.Proceeds.{Joins};
 
 use crate::answer::Answer;
@@ -104,6 +104,7 @@ pub(crate) fn round_ended(state: &mut Data, aim: Aim, seen: u64) -> Turn
     ensures proceeds { Turns (handed (core state.old (Phase.RoundEnd aim)) seen) result state.new }
     ensures joins { Joins (core state.old (Phase.RoundEnd aim)) seen (core_after result state.new) }
     ensures order { phase_after result ≡ stage_after (core state.old (Phase.RoundEnd aim)) seen }
+    ensures snapshot { state.new.snapshot ≡ snapshot_after (core state.old (Phase.RoundEnd aim)) seen }
     ensures tries { state.new.tries ≡ tries_after (phase_after result) state.old.tries }
 {
     let is_steady = seen == state.clock;
