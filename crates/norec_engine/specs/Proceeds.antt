@@ -144,12 +144,13 @@ pub record IsBusy (mid : Core) (clock : ℕ) (new : Core) : Type 0 where
   pub unfreed : mid.freed ≡ false
   pub stays : new ≡ record (ended mid) { stage = new.stage; tries = new.tries }
 
--- as many commits are done as may be
+-- there is something to write, and as many commits are done as may be
 pub record IsFull (mid : Core) (at : ℕ) (new : Core) : Type 0 where
   pub doing : mid.doing ≡ Some Commit
   pub is_open : mid.is_open ≡ true
   pub at_is : at ≡ new.snapshot / 2
   pub full : mid.max_commits ≤ at
+  pub some : mid.writes ≢ []
   pub free : mid.holds ≡ false
   pub unfreed : mid.freed ≡ false
   pub stays : new ≡ record (ended mid) { stage = new.stage; tries = new.tries; snapshot = new.snapshot }
