@@ -1,0 +1,11 @@
+pub mod Cutting
+pub mod Digits
+pub mod Looking
+pub mod Worked
+pub mod Padding
+pub mod Entering
+pub mod Putting
+pub mod Growing
+pub mod Taking
+pub mod Playing
+pub mod Refusing

@@ -1,0 +1,33 @@
+-- What a text that was read up to its limit says.
+use Rattle.std.proofs.Common.{◌≡◌, ℕ, ◌+◌, ◌<◌, ◌≤◌, List, ◌++◌, length, take, Option, Some, None, IfSome, Result, refl, sym, ap, subst, ◌∙◌, arith, inl, inr}
+use Rattle.std.specs.Io.KnownBytes.{Consumes}
+use Rattle.std.proofs.KnownBytes.{Consumes-trans}
+use Rattle.std.proofs.lemmas.Bool.{cases_lt, lt-ltb}
+use Rattle.std.proofs.lemmas.List.{length-append, length-take}
+use Rattle.std.proofs.lemmas.Grind.{common_steps}
+use Rattle.itmrun.specs.declared.asm.fault.AsmFault.{AsmFault}
+use Rattle.itmrun.specs.Listing.{Listing}
+use Rattle.itmrun.specs.Assembly.{program_of}
+use Rattle.itmrun.specs.Input.{IsFront}
+
+pub few_more : (a b c : Option (List ℕ)) (x y : List ℕ) (limit : ℕ) → Consumes a b x → Consumes b c y → length x + length y ≤ limit → IsFront a c limit
+few_more a b c x y limit p q h = (x ++ y, omega (arith, length-append x y), Consumes-trans a b c x y p q)
+
+past : (n : ℕ) (xs : List ℕ) → length xs ≤ n → take n xs ≡ xs
+past n xs h = grind (arith, common_steps)
+
+too_long : (text : List ℕ) → 16777216 < length text → program_of text ≡ program_of (take 16777217 text)
+unfolding program_of
+too_long text h = rw (lt-ltb 16777216 (length text) h, lt-ltb 16777216 (length (take 16777217 text)) (omega (arith, length-take 16777217 text))) refl
+
+-- a beginning of that many bytes tells as much as the whole text
+pub same_text : (text all : List ℕ) → text ≡ take 16777217 all → program_of text ≡ program_of all
+same_text text all e =
+    elim (cases_lt 16777216 (length all)) [
+      | inl more ↦ ap program_of e ∙ sym (too_long all more)
+      | inr few ↦ ap program_of (e ∙ past 16777217 all (omega arith))
+    ]
+
+pub cut : (known : Option (List ℕ)) (text : List ℕ) (P : Result Listing AsmFault → Type 0) → IfSome known (λ all. text ≡ take 16777217 all) → P (program_of text) → IfSome known (λ all. P (program_of all))
+cut None text P e h = tt
+cut (Some all) text P e h = subst P (same_text text all e) h

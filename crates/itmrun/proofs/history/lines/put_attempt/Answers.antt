@@ -1,0 +1,10 @@
+use Rattle.itmrun.specs.Histories.{attempt_lines}
+use Rattle.itmrun.proofs.Growing.{grows_then}
+use Rattle.itmrun.proofs.history.lines.put_attempt.Goals as goal
+
+pub returns-clause-grows : goal.returns-clause-grows
+unfolding attempt_lines
+returns-clause-grows g c =
+    let written_arena = rw c.as_slice.ensures at c.put_arena.ensures.grows in
+    let written_calls = rw c.as_slice-2.ensures at c.put_calls.ensures.grows in
+    grows_then _ _ _ _ _ _ _ _ (grows_then _ _ _ _ _ _ _ _ (grows_then _ _ _ _ _ _ _ _ c.put_head.ensures.grows written_arena) written_calls) c.put.ensures.grows

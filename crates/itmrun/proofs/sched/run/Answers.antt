@@ -1,0 +1,12 @@
+use Rattle.std.proofs.Common.{◌≡◌, ℕ, List, Option, Result}
+use Rattle.itmrun.specs.declared.asm.fault.AsmFault.{AsmFault}
+use Rattle.itmrun.specs.Listing.{Listing}
+use Rattle.itmrun.specs.Answers.{Runs}
+use Rattle.itmrun.proofs.Taking.{cut}
+use Rattle.itmrun.proofs.sched.run.Goals as goal
+
+pub returns-in-Ok-clause-answer : goal.returns-in-Ok-clause-answer
+returns-in-Ok-clause-answer g c =
+    let e : c.deref.result.now ≡ c.in-Ok.text.items = cc in
+    let h = rw e at c.answer.ensures in
+    cut _ c.in-Ok.text.items (λ (r : Result Listing AsmFault). Runs c.answer.result r (g.W.Write.contents c.args.writer.now) (g.W.Write.contents c.answer.new.writer)) c.in-Ok.ensures.read h

@@ -1,0 +1,63 @@
+-- The text of a history.
+use Rattle.std.specs.Prelude.{ℕ, List, ◌++◌, length, flat_map, decimal, codes, if◌then◌else◌, ◌==◌}
+use Rattle.hex.specs.Hex.{encode_lower}
+use Rattle.itm_types.specs.Refusals.{number_of}
+use Rattle.itm_types.specs.declared.call.Call.{Call}
+use Rattle.itm_types.specs.declared.call.Call.TheVariants as calls
+use Rattle.itm_types.specs.declared.call.Reply.{Reply}
+use Rattle.itm_types.specs.declared.call.Reply.TheVariants as replies
+use Rattle.norec_world.specs.declared.attempt.Outcome.{Outcome}
+use Rattle.norec_world.specs.declared.attempt.Outcome.TheVariants as outcomes
+use Rattle.norec_world.specs.declared.attempt.Entry.{Entry}
+use Rattle.norec_world.specs.declared.attempt.Attempt.{Attempt}
+
+-- what a run leaves to be told: the memory before it, its attempts, and the clock and the memory after it
+pub record History : Type 0 where
+  pub memory : List ℕ
+  pub attempts : List Attempt
+  pub clock : ℕ
+  pub bytes : List ℕ
+
+abbrev pub outcome_name : Outcome → List ℕ
+outcome_name outcomes.Committed = codes "committed"
+outcome_name outcomes.ReadOnly = codes "readonly"
+outcome_name outcomes.Conflict = codes "conflict"
+outcome_name outcomes.Full = codes "full"
+outcome_name outcomes.NoMemory = codes "nomemory"
+outcome_name outcomes.Unfinished = codes "unfinished"
+
+-- who tried, the try, the position, and how it ended; no properties are served
+unfoldable pub head_line : Attempt → List ℕ
+head_line a = codes "attempt " ++ decimal a.thread ++ codes " " ++ decimal a.nth ++ codes " " ++ decimal a.at ++ codes " " ++ outcome_name a.outcome ++ codes " -\n"
+
+unfoldable pub arena_line : List ℕ → List ℕ
+arena_line bytes = if length bytes == 0 then codes "arena -\n" else codes "arena " ++ encode_lower bytes ++ codes "\n"
+
+unfoldable pub body_text : Call → List ℕ
+body_text (calls.Begin props room) = codes "_ITM_beginTransaction -"
+body_text calls.Commit = codes "_ITM_commitTransaction"
+body_text (calls.Read hint width at) = codes "_ITM_RU8 " ++ decimal at
+body_text (calls.Write hint at value) = codes "_ITM_WU8 " ++ decimal at ++ codes " " ++ encode_lower value.bytes.items
+
+unfoldable pub reply_text : Reply → List ℕ
+reply_text replies.Done = codes "ok"
+reply_text (replies.Bytes value) = encode_lower value.items
+reply_text (replies.Code n) = codes "code " ++ decimal n
+reply_text (replies.Refused refusal) = codes "refused " ++ decimal (number_of refusal)
+
+unfoldable pub call_line : Entry → List ℕ
+call_line e = codes "call " ++ body_text e.call ++ codes " = " ++ reply_text e.reply ++ codes "\n"
+
+unfoldable pub attempt_lines : Attempt → List ℕ
+attempt_lines a = head_line a ++ arena_line a.arena ++ flat_map call_line a.calls ++ codes "end\n"
+
+-- the lines before the first attempt
+unfoldable pub first_lines : List ℕ → List ℕ
+first_lines memory = codes "itm-history 1\nmemory " ++ encode_lower memory ++ codes "\n"
+
+unfoldable pub last_line : ℕ → List ℕ → List ℕ
+last_line clock bytes = codes "final " ++ decimal clock ++ codes " " ++ encode_lower bytes ++ codes "\n"
+
+-- the one spelling of a history
+unfoldable pub history_text : History → List ℕ
+history_text h = first_lines h.memory ++ flat_map attempt_lines h.attempts ++ last_line h.clock h.bytes

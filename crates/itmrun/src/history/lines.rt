@@ -1,0 +1,179 @@
+//! The lines of a history.
+
+ghost use Rattle.std.specs.Prelude.{◌≡◌, flat_map};
+ghost use Rattle.itmrun.specs.Spelling.{Grows};
+ghost use Rattle.itmrun.specs.Histories.{outcome_name, head_line, arena_line, body_text, reply_text, call_line, attempt_lines, first_lines, last_line, history_text};
+
+use crate::history::pieces::Piece;
+use crate::history::stream::Stream;
+use itm_types::{Call, Reply};
+use norec_world::{Attempt, Entry, Outcome};
+use std::io::Write;
+
+fn outcome_name(outcome: Outcome) -> &'static [u8]
+    ensures { result.now ≡ outcome_name outcome }
+{
+    match outcome {
+        Outcome::Committed => b"committed",
+        Outcome::ReadOnly => b"readonly",
+        Outcome::Conflict => b"conflict",
+        Outcome::Full => b"full",
+        Outcome::NoMemory => b"nomemory",
+        Outcome::Unfinished => b"unfinished",
+    }
+}
+
+#[tactic(auto, unfolding(crate::specs::Histories::head_line), using(crate::proofs::Growing::grows_as))]
+fn put_head<W: Write>(stream: &mut Stream<'_, W>, attempt: &Attempt)
+    ensures same { stream.new.writer.ghost_name ≡ stream.old.writer.ghost_name }
+    ensures grows { Grows stream.old.failed (W.contents stream.old.writer.now) stream.new.failed (W.contents stream.new.writer.now) (head_line attempt.now) }
+{
+    stream.put(&[
+        Piece::Text(b"attempt "),
+        Piece::Number(u64::from(attempt.thread)),
+        Piece::Text(b" "),
+        Piece::Number(u64::from(attempt.nth)),
+        Piece::Text(b" "),
+        Piece::Number(attempt.at),
+        Piece::Text(b" "),
+        Piece::Text(outcome_name(attempt.outcome)),
+        Piece::Text(b" -\n"),
+    ]);
+}
+
+#[tactic(auto, unfolding(crate::specs::Histories::arena_line), using(crate::proofs::Growing::grows_as))]
+fn put_arena<W: Write>(stream: &mut Stream<'_, W>, bytes: &[u8])
+    ensures same { stream.new.writer.ghost_name ≡ stream.old.writer.ghost_name }
+    ensures grows { Grows stream.old.failed (W.contents stream.old.writer.now) stream.new.failed (W.contents stream.new.writer.now) (arena_line bytes.now) }
+{
+    if bytes.is_empty() {
+        stream.put(&[Piece::Text(b"arena -\n")]);
+    } else {
+        stream.put(&[
+            Piece::Text(b"arena "),
+            Piece::Hex(bytes),
+            Piece::Text(b"\n"),
+        ]);
+    }
+}
+
+#[tactic(auto, unfolding(crate::specs::Histories::body_text), using(crate::proofs::Growing::grows_as))]
+fn put_body<W: Write>(stream: &mut Stream<'_, W>, call: &Call)
+    ensures same { stream.new.writer.ghost_name ≡ stream.old.writer.ghost_name }
+    ensures grows { Grows stream.old.failed (W.contents stream.old.writer.now) stream.new.failed (W.contents stream.new.writer.now) (body_text call.now) }
+{
+    match call {
+        Call::Begin { .. } => stream.put(&[Piece::Text(b"_ITM_beginTransaction -")]),
+        Call::Commit => stream.put(&[Piece::Text(b"_ITM_commitTransaction")]),
+        Call::Read { at, .. } => stream.put(&[Piece::Text(b"_ITM_RU8 "), Piece::Number(*at)]),
+        Call::Write { at, value, .. } => stream.put(&[
+            Piece::Text(b"_ITM_WU8 "),
+            Piece::Number(*at),
+            Piece::Text(b" "),
+            Piece::Hex(value.bytes.as_slice()),
+        ]),
+    }
+}
+
+#[tactic(auto, unfolding(crate::specs::Histories::reply_text), using(crate::proofs::Growing::grows_as))]
+fn put_reply<W: Write>(stream: &mut Stream<'_, W>, reply: &Reply)
+    ensures same { stream.new.writer.ghost_name ≡ stream.old.writer.ghost_name }
+    ensures grows { Grows stream.old.failed (W.contents stream.old.writer.now) stream.new.failed (W.contents stream.new.writer.now) (reply_text reply.now) }
+{
+    match reply {
+        Reply::Done => stream.put(&[Piece::Text(b"ok")]),
+        Reply::Bytes(bytes) => stream.put(&[Piece::Hex(bytes.as_slice())]),
+        Reply::Code(n) => stream.put(&[Piece::Text(b"code "), Piece::Number(u64::from(*n))]),
+        Reply::Refused(refusal) => stream.put(&[
+            Piece::Text(b"refused "),
+            Piece::Number(u64::from(refusal.number())),
+        ]),
+    }
+}
+
+fn put_call<W: Write>(stream: &mut Stream<'_, W>, entry: &Entry)
+    ensures same { stream.new.writer.ghost_name ≡ stream.old.writer.ghost_name }
+    ensures grows { Grows stream.old.failed (W.contents stream.old.writer.now) stream.new.failed (W.contents stream.new.writer.now) (call_line entry.now) }
+{
+    stream.put(&[Piece::Text(b"call ")]);
+    put_body(stream, &entry.call);
+    stream.put(&[Piece::Text(b" = ")]);
+    put_reply(stream, &entry.reply);
+    stream.put(&[Piece::Text(b"\n")]);
+}
+
+#[tactic(auto, using(crate::proofs::Growing::grows_none, crate::proofs::Growing::grows_call))]
+fn put_calls<W: Write>(stream: &mut Stream<'_, W>, calls: &[Entry])
+    ensures same { stream.new.writer.ghost_name ≡ stream.old.writer.ghost_name }
+    ensures grows { Grows stream.old.failed (W.contents stream.old.writer.now) stream.new.failed (W.contents stream.new.writer.now) (flat_map call_line calls.now) }
+{
+    for entry in calls {
+        put_call(stream, entry);
+    }
+}
+
+/// Writes the lines before the first attempt: the format's name, and the memory as it was.
+#[tactic(auto, unfolding(crate::specs::Histories::first_lines), using(crate::proofs::Growing::grows_as))]
+fn put_first<W: Write>(stream: &mut Stream<'_, W>, memory: &[u8])
+    ensures same { stream.new.writer.ghost_name ≡ stream.old.writer.ghost_name }
+    ensures grows { Grows stream.old.failed (W.contents stream.old.writer.now) stream.new.failed (W.contents stream.new.writer.now) (first_lines memory.now) }
+{
+    stream.put(&[
+        Piece::Text(b"itm-history 1\nmemory "),
+        Piece::Hex(memory),
+        Piece::Text(b"\n"),
+    ]);
+}
+
+fn put_attempt<W: Write>(stream: &mut Stream<'_, W>, attempt: &Attempt)
+    ensures same { stream.new.writer.ghost_name ≡ stream.old.writer.ghost_name }
+    ensures grows { Grows stream.old.failed (W.contents stream.old.writer.now) stream.new.failed (W.contents stream.new.writer.now) (attempt_lines attempt.now) }
+{
+    put_head(stream, attempt);
+    put_arena(stream, attempt.arena.as_slice());
+    put_calls(stream, attempt.calls.as_slice());
+    stream.put(&[Piece::Text(b"end\n")]);
+}
+
+#[tactic(auto, using(crate::proofs::Growing::grows_no_attempt, crate::proofs::Growing::grows_attempt))]
+fn put_attempts<W: Write>(stream: &mut Stream<'_, W>, attempts: &[Attempt])
+    ensures same { stream.new.writer.ghost_name ≡ stream.old.writer.ghost_name }
+    ensures grows { Grows stream.old.failed (W.contents stream.old.writer.now) stream.new.failed (W.contents stream.new.writer.now) (flat_map attempt_lines attempts.now) }
+{
+    for attempt in attempts {
+        put_attempt(stream, attempt);
+    }
+}
+
+/// Writes the last line: the clock, and the memory as it is.
+#[tactic(auto, unfolding(crate::specs::Histories::last_line), using(crate::proofs::Growing::grows_as))]
+fn put_last<W: Write>(stream: &mut Stream<'_, W>, clock: u64, bytes: &[u8])
+    ensures same { stream.new.writer.ghost_name ≡ stream.old.writer.ghost_name }
+    ensures grows { Grows stream.old.failed (W.contents stream.old.writer.now) stream.new.failed (W.contents stream.new.writer.now) (last_line clock bytes.now) }
+{
+    stream.put(&[
+        Piece::Text(b"final "),
+        Piece::Number(clock),
+        Piece::Text(b" "),
+        Piece::Hex(bytes),
+        Piece::Text(b"\n"),
+    ]);
+}
+
+/// Writes a whole history: the memory before the run, the attempts, and the clock and the memory after it.
+pub fn put_history<W: Write>(
+    stream: &mut Stream<'_, W>,
+    memory: &[u8],
+    attempts: &[Attempt],
+    clock: u64,
+    bytes: &[u8],
+)
+    ensures same { stream.new.writer.ghost_name ≡ stream.old.writer.ghost_name }
+    ensures grows { Grows stream.old.failed (W.contents stream.old.writer.now) stream.new.failed (W.contents stream.new.writer.now)
+        (history_text (record { memory = memory.now; attempts = attempts.now; clock = clock; bytes = bytes.now })) }
+{
+    put_first(stream, memory);
+    put_attempts(stream, attempts);
+    put_last(stream, clock, bytes);
+    stream.flush();
+}

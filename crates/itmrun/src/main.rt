@@ -1,0 +1,15 @@
+//! The program `itmrun`: scripts of transactional calls, run to histories.
+#![tactic(auto)]
+
+mod asm;
+mod command;
+mod history;
+mod input;
+mod sched;
+mod script;
+
+use std::process::ExitCode;
+
+fn main(rt: HostRuntime) -> ExitCode {
+    ExitCode::from(command::run(&rt, &mut rt.stderr()))
+}

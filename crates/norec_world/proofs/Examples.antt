@@ -1,0 +1,121 @@
+-- Worked cases of attempts, computed: one counter, and two whose first try is lost.
+use Rattle.std.proofs.Common.{◌≡◌, ℕ, zero, suc, ◌<◌, ◌≤◌, List, [], ◌∷◌, ◌++◌, refl, true, false, replicate, Option, None, Some, arith, lit<, lit≤}
+use Rattle.arrayvec.specs.ArrayVec.{ArrayVec}
+use Rattle.itm_types.specs.declared.access.Width.TheVariants.{U8}
+use Rattle.itm_types.specs.declared.access.ReadHint.TheVariants.{R}
+use Rattle.itm_types.specs.declared.access.WriteHint.TheVariants.{W}
+use Rattle.itm_types.specs.declared.datum.Datum.{Datum}
+use Rattle.itm_types.specs.declared.call.Props.{Props}
+use Rattle.itm_types.specs.declared.call.Call.{Call}
+use Rattle.itm_types.specs.declared.call.Call.TheVariants.{Begin, Commit, Read, Write}
+use Rattle.itm_types.specs.declared.call.Reply.{Reply}
+use Rattle.itm_types.specs.declared.call.Reply.TheVariants.{Done, Bytes, Code, Refused}
+use Rattle.norec_world.specs.declared.attempt.Entry.{Entry}
+use Rattle.norec_world.specs.declared.attempt.Outcome.TheVariants.{Committed, ReadOnly, Conflict}
+use Rattle.norec_world.specs.declared.attempt.Attempt.{Attempt}
+use Rattle.norec_world.specs.Attempts.{memory_after}
+use Rattle.norec_world.specs.Opacity.{IsOpaque, IsRunOf, Between}
+
+-- ## A player that adds one to the counter at place 0
+
+abbrev plain : Props
+plain = record {}
+
+-- a byte as a U8
+abbrev eight : ℕ → List ℕ
+eight b = b ∷ 0 ∷ 0 ∷ 0 ∷ 0 ∷ 0 ∷ 0 ∷ 0 ∷ []
+
+abbrev word : ℕ → Datum
+word b = record { width = U8; bytes = record { items = eight b }; sized = refl }
+
+abbrev read : ℕ → Entry
+read b = record { call = Read R U8 0; reply = Bytes (record { items = eight b }) }
+
+abbrev write : ℕ → Entry
+write b = record { call = Write W 0 (word b); reply = Done }
+
+abbrev commit : Entry
+commit = record { call = Commit; reply = Done }
+
+record Counter : Type 0 where
+  step : ℕ
+  got : ℕ
+
+abbrev first_byte : List ℕ → ℕ
+first_byte [] = 0
+first_byte (b ∷ bs) = b
+
+abbrev call_at : ℕ → ℕ → Option Call
+call_at zero got = Some (Begin plain 3)
+call_at (suc zero) got = Some (Read R U8 0)
+call_at (suc (suc zero)) got = Some (Write W 0 (word (suc got)))
+call_at (suc (suc (suc zero))) got = Some Commit
+call_at (suc (suc (suc (suc n)))) got = None
+
+abbrev next : Counter → Option Call
+next p = call_at p.step p.got
+
+abbrev answered : Counter → Reply → Counter
+answered p Done = record { step = suc p.step; got = p.got }
+answered p (Bytes v) = record { step = suc p.step; got = first_byte v.items }
+answered p (Code n) = record { step = suc p.step; got = p.got }
+answered p (Refused r) = record { step = suc p.step; got = p.got }
+
+abbrev restarted : Counter → Counter
+restarted p = record { step = 0; got = 0 }
+
+abbrev left_at : ℕ → ℕ
+left_at zero = 4
+left_at (suc zero) = 3
+left_at (suc (suc zero)) = 2
+left_at (suc (suc (suc zero))) = 1
+left_at (suc (suc (suc (suc n)))) = 0
+
+abbrev left : Counter → ℕ
+left p = left_at p.step
+
+abbrev fresh : Between Counter
+fresh = record { player = record { step = 0; got = 0 }; arena = []; again = false; tries = 0 }
+
+-- ## One counter
+
+abbrev counter : Attempt
+counter = record { thread = 0; nth = 1; began = 0; at = 0; props = plain; arena = []; calls = read 0 ∷ write 1 ∷ commit ∷ []; outcome = Committed }
+
+counter_memory : memory_after 1 (replicate 8 0) (counter ∷ []) 1 ≡ 1 ∷ replicate 7 0
+counter_memory = refl
+
+counter_is_opaque : IsOpaque next answered restarted left 1 (record { step = 1; got = 0 }) counter 1 (replicate 8 0)
+counter_is_opaque = record { no_older = omega arith; no_newer = omega arith; beginning = ([], refl); whole = λ e. refl; ends = (refl, refl) }
+
+counter_run : IsRunOf next answered restarted left 1 1 (memory_after 1 (replicate 8 0) (counter ∷ [])) (Some fresh) (counter ∷ [])
+counter_run = ((refl, refl, omega arith, counter_is_opaque), tt)
+
+-- ## The lost update: of two counters the first to begin is the last to commit. Its first try conflicts, and is opaque all the same.
+
+abbrev other : Attempt
+other = record { thread = 1; nth = 1; began = 0; at = 0; props = plain; arena = []; calls = read 0 ∷ write 1 ∷ commit ∷ []; outcome = Committed }
+
+abbrev lost : Attempt
+lost = record { thread = 0; nth = 1; began = 0; at = 0; props = plain; arena = []; calls = read 0 ∷ write 1 ∷ []; outcome = Conflict }
+
+abbrev retried : Attempt
+retried = record { thread = 0; nth = 2; began = 1; at = 1; props = plain; arena = []; calls = read 1 ∷ write 2 ∷ commit ∷ []; outcome = Committed }
+
+abbrev memory : ℕ → List ℕ
+memory = memory_after 1 (replicate 8 0) (other ∷ lost ∷ retried ∷ [])
+
+lost_update_memory : memory 2 ≡ 2 ∷ replicate 7 0
+lost_update_memory = refl
+
+lost_is_opaque : IsOpaque next answered restarted left 1 (record { step = 1; got = 0 }) lost 2 (memory 0)
+lost_is_opaque = record { no_older = omega arith; no_newer = omega arith; beginning = (commit_pair, refl); whole = λ e. absurd (cc); ends = refl }
+  where
+    commit_pair : List (Call × Reply)
+    commit_pair = (Commit, Done) ∷ []
+
+retried_is_opaque : IsOpaque next answered restarted left 1 (record { step = 1; got = 0 }) retried 2 (memory 1)
+retried_is_opaque = record { no_older = omega arith; no_newer = omega arith; beginning = ([], refl); whole = λ e. refl; ends = (refl, refl) }
+
+lost_update_run : IsRunOf next answered restarted left 1 2 memory (Some fresh) (lost ∷ retried ∷ [])
+lost_update_run = ((refl, refl, omega arith, lost_is_opaque), ((refl, refl, omega arith, retried_is_opaque), tt))

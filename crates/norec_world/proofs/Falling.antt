@@ -1,0 +1,69 @@
+-- Less and less is left to do.
+use Rattle.std.proofs.Common.{◌≡◌, ℕ, ◌+◌, ◌<◌, ◌≤◌, Bool, true, false, Option, None, Some, refl, sym, ap, subst, ◌∙◌, arith, if◌then◌else◌}
+use Rattle.itm_types.specs.declared.call.Call.{Call}
+use Rattle.itm_types.specs.declared.call.Reply.{Reply as Replied}
+use Rattle.norec_world.specs.declared.actor.Actor.{Actor}
+use Rattle.norec_world.specs.declared.actor.Status.{Status}
+use Rattle.norec_world.specs.declared.actor.Status.TheVariants.{Ready, Waits, Ended}
+use Rattle.norec_world.specs.Status.{ending_of, is_ready, is_waiting}
+use Rattle.norec_world.specs.Sound.{IsNoMore, Falls, whole, rank, run_left}
+
+module _ {P : Type 0} (next : P → Option Call) (answered : P → Replied → P) (restarted : P → P) (left : P → ℕ) (depth : P → ℕ) where
+  pub same_less : (a : Actor P) → IsNoMore next answered restarted left depth a a
+  same_less a = record { whole_falls = (let o : whole next answered restarted left depth a.engine.is_open a.player ≤ whole next answered restarted left depth a.engine.is_open a.player = omega arith in o); rank_falls = λ k b. omega arith }
+
+  pub less_less : (a b c : Actor P) → IsNoMore next answered restarted left depth a b → IsNoMore next answered restarted left depth b c → IsNoMore next answered restarted left depth a c
+  less_less a b c f g = let x = f.whole_falls in let y = g.whole_falls in record {
+    whole_falls = omega arith;
+    rank_falls = λ k l. (let u = f.rank_falls k l in let v = g.rank_falls k (omega arith) in omega arith);
+  }
+
+  pub less_falls : (a b c : Actor P) → IsNoMore next answered restarted left depth a b → Falls next answered restarted left depth b.engine.is_open c.engine.is_open b c
+      → Falls next answered restarted left depth a.engine.is_open c.engine.is_open a c
+  less_falls a b c f g = let x = f.whole_falls in let y = g.whole_falls in record {
+    whole_falls = omega arith;
+    rank_falls = λ k l. (let u = f.rank_falls k l in let v = g.rank_falls k (omega arith) in omega arith);
+  }
+
+  pub falls_less : (a b : Actor P) → Falls next answered restarted left depth a.engine.is_open b.engine.is_open a b → IsNoMore next answered restarted left depth a b
+  falls_less a b f = record { whole_falls = f.whole_falls; rank_falls = λ k l. (let u = f.rank_falls k l in omega arith) }
+
+waiting_goes_on : (s : Status) → is_waiting s ≡ true → ending_of s ≡ None
+waiting_goes_on Ready e = absurd (cc)
+waiting_goes_on (Waits call step) e = refl
+waiting_goes_on (Ended end) e = absurd (cc)
+
+-- one turn of a run: the call of a is finished at b, and local work leads to c
+module _ {P : Type 0} (next : P → Option Call) (answered : P → Replied → P) (restarted : P → P) (left : P → ℕ) (depth : P → ℕ) (a b c : Actor P)
+    (waits : is_waiting a.status ≡ true) (over : is_waiting b.status ≡ false)
+    (falls : is_ready b.status ≡ true → Falls next answered restarted left depth a.engine.is_open b.engine.is_open a b)
+    (still : is_ready b.status ≡ false → c.status ≡ b.status)
+    (less : ending_of c.status ≡ None → IsNoMore next answered restarted left depth b c) where
+  fell : is_waiting c.status ≡ true → Falls next answered restarted left depth a.engine.is_open b.engine.is_open a b
+  fell w = of_ready (is_ready b.status) refl
+    where
+      of_ready : (x : Bool) → is_ready b.status ≡ x → Falls next answered restarted left depth a.engine.is_open b.engine.is_open a b
+      of_ready true e = falls e
+      of_ready false e = absurd (let f : is_waiting c.status ≡ false = ap is_waiting (still e) ∙ over in cc)
+
+  pub turn_less : is_waiting c.status ≡ true → IsNoMore next answered restarted left depth a c
+  turn_less w = less_less next answered restarted left depth a b c (falls_less next answered restarted left depth a b (fell w)) (less (waiting_goes_on c.status w))
+
+  pub turn_falls : (k : ℕ) → whole next answered restarted left depth a.engine.is_open a.player ≤ k → run_left next answered restarted left depth k c < run_left next answered restarted left depth k a
+  turn_falls k l = of_waiting (is_waiting c.status) refl
+    where
+      before : run_left next answered restarted left depth k a ≡ rank next answered restarted left depth k a.engine.is_open a + 1
+      before = ap (λ (x : Bool). if x then rank next answered restarted left depth k a.engine.is_open a + 1 else 0) waits
+
+      of_waiting : (x : Bool) → is_waiting c.status ≡ x → run_left next answered restarted left depth k c < run_left next answered restarted left depth k a
+      of_waiting true e =
+          let after : run_left next answered restarted left depth k c ≡ rank next answered restarted left depth k c.engine.is_open c + 1 = ap (λ (x : Bool). if x then rank next answered restarted left depth k c.engine.is_open c + 1 else 0) e in
+          let f = (fell e).rank_falls k l in
+          let w = (fell e).whole_falls in
+          let m = (less (waiting_goes_on c.status e)).rank_falls k (omega arith) in
+          let u = before in
+          omega arith
+      of_waiting false e =
+          let after : run_left next answered restarted left depth k c ≡ 0 = ap (λ (x : Bool). if x then rank next answered restarted left depth k c.engine.is_open c + 1 else 0) e in
+          let u = before in
+          omega arith

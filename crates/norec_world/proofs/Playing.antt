@@ -1,0 +1,117 @@
+-- The player's laws, over one answer: its depth, where it goes back to, and how much is left to do.
+use Rattle.std.proofs.Common.{◌≡◌, ℕ, zero, suc, ◌+◌, ◌-◌, ◌*◌, ◌<◌, ◌≤◌, ◌==◌, ◌&&◌, Bool, true, false, List, [], ◌∷◌, ◌++◌, length, Option, None, Some, refl, sym, ap, subst, ◌∙◌, arith, if◌then◌else◌}
+use Rattle.std.proofs.Math.Nat.{mul-le-mul_right}
+use Rattle.itm_types.specs.declared.call.Props.{Props}
+use Rattle.itm_types.specs.declared.call.Call.{Call}
+use Rattle.itm_types.specs.declared.call.Call.TheVariants.{Begin, Commit, Read, Write}
+use Rattle.itm_types.specs.declared.call.Reply.{Reply as Replied}
+use Rattle.itm_types.specs.declared.call.Reply.TheVariants.{Done, Bytes, Code, Refused}
+use Rattle.script_vm.specs.Depth.{depth_after, is_begin, is_code, opens}
+use Rattle.norec_engine.specs.declared.answer.Answer.TheVariants.{Reply, Committed, Conflict, Busy, Full}
+use Rattle.norec_world.specs.declared.recorded.Recorded.{Recorded}
+use Rattle.norec_world.specs.declared.actor.Actor.{Actor}
+use Rattle.norec_world.specs.declared.actor.Status.{Status}
+use Rattle.norec_world.specs.declared.actor.Status.TheVariants.{Ready, Waits, Ended}
+use Rattle.norec_world.specs.Sound.{depth_if, HasRow, IsKept, IsNested, IsInCall, IsReady, IsAnswered, IsSettledBy, RestsAs, Falls, whole, rank, tries_left}
+
+-- ## Numbers
+
+pub rank_less : (x x' k c c' : ℕ) → x' < x → c' ≤ k → x' * (k + 1) + c' < x * (k + 1) + c
+rank_less x x' k c c' less within = let up : x' + 1 ≤ x = omega arith in let m : (x' + 1) * (k + 1) ≤ x * (k + 1) = mul-le-mul_right (k + 1) up in omega arith
+
+pub rank_same : (x x' k c c' : ℕ) → x' ≤ x → c' < c → x' * (k + 1) + c' < x * (k + 1) + c
+rank_same x x' k c c' below less = let m : x' * (k + 1) ≤ x * (k + 1) = mul-le-mul_right (k + 1) below in omega arith
+
+-- fewer calls are left in the block
+pub block_less : (w w' r t t' : ℕ) → w' < w → t' ≤ r → w' * (r + 1) + t' < w * (r + 1) + t
+block_less w w' r t t' less within = let up : w' + 1 ≤ w = omega arith in let m : (w' + 1) * (r + 1) ≤ w * (r + 1) = mul-le-mul_right (r + 1) up in omega arith
+
+pub block_same : (w w' r t : ℕ) → w' ≤ w → w' * (r + 1) + t ≤ w * (r + 1) + t
+block_same w w' r t below = let m : w' * (r + 1) ≤ w * (r + 1) = mul-le-mul_right (r + 1) below in omega arith
+
+-- ## The depth
+
+-- the accepted begin of an outermost block
+pub opens_at_begin : (c : Call) (r : Replied) → depth_after 0 c r ≡ 1 → opens 0 c r ≡ true
+opens_at_begin (Begin props room) Done e = absurd (cc)
+opens_at_begin (Begin props room) (Bytes value) e = absurd (cc)
+opens_at_begin (Begin props room) (Code n) e = refl
+opens_at_begin (Begin props room) (Refused why) e = absurd (cc)
+opens_at_begin Commit Done e = absurd (omega arith)
+opens_at_begin Commit (Bytes value) e = absurd (omega arith)
+opens_at_begin Commit (Code n) e = absurd (omega arith)
+opens_at_begin Commit (Refused why) e = absurd (omega arith)
+opens_at_begin (Read hint width at) r e = absurd (omega arith)
+opens_at_begin (Write hint at value) r e = absurd (omega arith)
+
+opens_within : (c : Call) (r : Replied) → opens 1 c r ≡ false
+opens_within c r = refl
+
+both : (n : Bool) → n ≡ true → n ≡ false → ⊥
+both n t f = absurd (cc)
+
+module _ {P : Type 0} (next : P → Option Call) (answered : P → Replied → P) (restarted : P → P) (left : P → ℕ) (depth : P → ℕ)
+    (nearer : (p : P) (c : Call) (r : Replied) → next p ≡ Some c → left (answered p r) < left p)
+    (nests : (p : P) (c : Call) (r : Replied) → next p ≡ Some c → depth (answered p r) ≡ depth_after (depth p) c r)
+    (restarts : (p : P) (c : Call) (r : Replied) → next p ≡ Some c → 0 < depth_after (depth p) c r → restarted (answered p r) ≡ (if opens (depth p) c r then p else restarted p)) where
+  -- what a player is after a reply, by the blocks that were open and that are now
+  pub record Played (was now : Bool) (p q : P) : Type 0 where
+    pub nested : IsNested next answered restarted left depth now q
+    pub whole_falls : whole next answered restarted left depth now q ≤ whole next answered restarted left depth was p
+    pub less : left q < left p
+
+  module _ (p : P) (c : Call) (r : Replied) (asks : next p ≡ Some c) where
+    goes_back : (d : ℕ) → depth p ≡ d → 0 < depth_after d c r → restarted (answered p r) ≡ (if opens d c r then p else restarted p)
+    goes_back d e l =
+        let Back : ℕ → Type 0 = λ x. 0 < depth_after x c r → restarted (answered p r) ≡ (if opens x c r then p else restarted p) in
+        subst Back e (restarts p c r asks) l
+
+    deep : (d : ℕ) → depth p ≡ d → depth (answered p r) ≡ depth_after d c r
+    deep d e = nests p c r asks ∙ ap (λ x. depth_after x c r) e
+
+    -- a block opened
+    entered : depth p ≡ 0 → depth_after 0 c r ≡ 1 → Played false true p (answered p r)
+    entered e fits =
+        let back : restarted (answered p r) ≡ p = goes_back 0 e (omega arith) ∙ ap (λ (b : Bool). if b then p else restarted p) (opens_at_begin c r fits) in
+        let fewer = nearer p c r asks in
+        let same : left (restarted (answered p r)) ≡ left p = ap left back in
+        record {
+          nested = record { depth_is = deep 0 e ∙ fits; begun = λ o. ap depth back ∙ e; less = λ o. omega arith };
+          whole_falls = omega arith;
+          less = fewer;
+        }
+
+    -- it stays open
+    within : depth p ≡ 1 → depth (restarted p) ≡ 0 → left p < left (restarted p) → depth_after 1 c r ≡ 1 → Played true true p (answered p r)
+    within e back0 room fits =
+        let back : restarted (answered p r) ≡ restarted p = goes_back 1 e (omega arith) in
+        let fewer = nearer p c r asks in
+        let same : left (restarted (answered p r)) ≡ left (restarted p) = ap left back in
+        record {
+          nested = record { depth_is = deep 1 e ∙ fits; begun = λ o. ap depth back ∙ back0; less = λ o. omega arith };
+          whole_falls = omega arith;
+          less = fewer;
+        }
+
+    -- none is open
+    outside : depth p ≡ 0 → depth_after 0 c r ≡ 0 → Played false false p (answered p r)
+    outside e fits =
+        let fewer = nearer p c r asks in
+        record {
+          nested = record { depth_is = deep 0 e ∙ fits; begun = λ o. absurd (cc); less = λ o. absurd (cc) };
+          whole_falls = omega arith;
+          less = fewer;
+        }
+
+    pub plays : (was now : Bool) → IsNested next answered restarted left depth was p → depth_after (depth_if was) c r ≡ depth_if now → (was ≡ true → now ≡ true) → Played was now p (answered p r)
+    plays true true n fits still = within n.depth_is (n.begun refl) (n.less refl) fits
+    plays true false n fits still = absurd (both false (still refl) refl)
+    plays false true n fits still = entered n.depth_is fits
+    plays false false n fits still = outside n.depth_is fits
+
+    -- the block is done
+    pub closes : IsNested next answered restarted left depth true p → c ≡ Commit → r ≡ Done → IsNested next answered restarted left depth false (answered p r) × (left (answered p r) < left (restarted p))
+    closes n is done =
+        let fewer = nearer p c r asks in
+        let room = n.less refl in
+        (record { depth_is = deep 1 n.depth_is ∙ ((λ i. depth_after 1 (is i) (done i))); begun = λ o. absurd (cc); less = λ o. absurd (cc) }, omega arith)

@@ -1,0 +1,63 @@
+use Rattle.std.proofs.Common.{◌≡◌, ◌/◌, ◌≤◌, ℕ, length, vec_len, Some, subst, ◌++◌, ◌∷◌, [], List, ap, ◌∙◌, refl, sym, Bool, true, false, None, is_some}
+use Rattle.norec_world.specs.declared.attempt.Attempt.{Attempt}
+use Rattle.norec_world.proofs.Settling.{after_reply}
+use Rattle.norec_world.proofs.Recording.{row_stays, was_open, row_opened, row_none, within_last}
+use Rattle.norec_world.specs.Sound.{HasRow}
+use Rattle.norec_world.proofs.actor.Actor.replied.Goals as goal
+
+pub returns-else-is_open : goal.returns-else-is_open
+returns-else-is_open g c was d =
+    let l = g.met.P.Player in
+    let a = c.args.self.now in
+    let r = c.args.recorded.now in
+    let closed : a.engine.is_open ≡ false = sym c.is_open-is_open.ensures ∙ c.if-is_open.false in
+    after_reply g.P.Player.next_call g.P.Player.answered g.P.Player.restarted g.P.Player.calls_left g.P.Player.depth l.nearer l.nests l.restarts r r a c.args.call
+    was c.args.reply d c.answer.new.self c.answer.ensures a.spare d.kept.empty c.take.new.self c.take.ensures.after a.again
+    (row_stays r a.thread was a.engine.is_open d.fits.1 closed d.kept.row) d.kept.within
+
+pub returns-then-is_open : goal.returns-then-is_open
+returns-then-is_open g c was d =
+    let l = g.met.P.Player in
+    let a = c.args.self.now in
+    let r = c.args.recorded.now in
+    let r' = c.open.new.self in
+    let row : Attempt = record c.in-Some.attempt { at = c.snapshot.result / 2 } in
+    let some : a.pending ≡ Some c.in-Some.attempt = sym c.in-Some.ensures.value in
+    let p = d.in_call.opens c.in-Some.attempt some in
+    let shut : was ≡ true → ⊥ = λ e. (let n = d.in_call.inside e in absurd (cc)) in
+    let none : vec_len r.rows ≡ r.ended = row_none r a.thread was shut d.kept.row in
+    let items : r'.rows.items ≡ r.rows.items ++ row ∷ [] = c.open.ensures.alone none in
+    let count : length r.rows.items ≡ r'.ended = sym r.rows.ok.0 ∙ (none ∙ sym c.open.ensures.ended) in
+    let opened : a.engine.is_open ≡ true = sym c.is_open-is_open.ensures ∙ c.if-is_open.true in
+    after_reply g.P.Player.next_call g.P.Player.answered g.P.Player.restarted g.P.Player.calls_left g.P.Player.depth l.nearer l.nests l.restarts r r' a c.args.call
+    was c.args.reply d c.answer.new.self c.answer.ensures a.spare d.kept.empty c.take.new.self c.take.ensures.after true
+    (row_opened r' a.thread a.engine.is_open r.rows.items row opened count items p.thread p.outcome) (within_last r' r.rows.items row count items)
+
+pub returns-then-is_open-2 : goal.returns-then-is_open-2
+returns-then-is_open-2 g c was d =
+    let l = g.met.P.Player in
+    let a = c.args.self.now in
+    let r = c.args.recorded.now in
+    let r' = c.add.new.self in
+    let opened : a.engine.is_open ≡ true = sym c.is_open-is_open.ensures ∙ c.if-is_open-2.true in
+    let none : a.pending ≡ None = sym c.in-None.ensures.value in
+    let open_before : was ≡ true = was_open was a.engine.is_open c.args.call c.args.reply (λ e. sym (d.in_call.begins e) ∙ ap is_some none) d.fits.0 opened in
+    let h : HasRow true r a.thread = subst (λ (b : Bool). HasRow b r a.thread) open_before d.kept.row in
+    let past : List Attempt = h.0 in
+    let old : Attempt = h.1 in
+    let row : Attempt = record old { calls = old.calls ++ record { call = c.args.call; reply = c.args.reply } ∷ [] } in
+    let items : r'.rows.items ≡ past ++ row ∷ [] = c.add.ensures.added past old h.2 in
+    let count : length past ≡ r'.ended = h.2.count ∙ sym c.add.ensures.ended in
+    after_reply g.P.Player.next_call g.P.Player.answered g.P.Player.restarted g.P.Player.calls_left g.P.Player.depth l.nearer l.nests l.restarts r r' a c.args.call
+    was c.args.reply d c.answer.new.self c.answer.ensures c.add.new.spare c.add.ensures.empty c.take.new.self c.take.ensures.after a.again
+    (row_opened r' a.thread a.engine.is_open past row opened count items h.2.thread_is h.3) (within_last r' past row count items)
+
+pub returns-else-is_open-2 : goal.returns-else-is_open-2
+returns-else-is_open-2 g c was d =
+    let l = g.met.P.Player in
+    let a = c.args.self.now in
+    let r = c.args.recorded.now in
+    let closed : a.engine.is_open ≡ false = sym c.is_open-is_open.ensures ∙ c.if-is_open-2.false in
+    after_reply g.P.Player.next_call g.P.Player.answered g.P.Player.restarted g.P.Player.calls_left g.P.Player.depth l.nearer l.nests l.restarts r r a c.args.call
+    was c.args.reply d c.answer.new.self c.answer.ensures a.spare d.kept.empty c.take.new.self c.take.ensures.after a.again
+    (row_stays r a.thread was a.engine.is_open d.fits.1 closed d.kept.row) d.kept.within

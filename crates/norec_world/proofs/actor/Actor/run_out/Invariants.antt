@@ -1,0 +1,16 @@
+use Rattle.std.proofs.Common.{◌≡◌, true, false}
+use Rattle.norec_world.specs.Status.{is_waiting, is_ready}
+use Rattle.norec_world.specs.Sound.{IsSound, IsNoMore, whole, run_left}
+use Rattle.norec_world.proofs.actor.Actor.run_out.Given as goal
+
+abbrev pub invariant-loop-alloc : goal.invariant-loop-alloc
+invariant-loop-alloc g l = record {
+  sound : IsSound g.P.Player.next_call g.P.Player.answered g.P.Player.restarted g.P.Player.calls_left g.P.Player.depth l.memory l.recorded l.self;
+  ready : is_ready l.self.status ≡ false;
+  thread : l.self.thread ≡ l.initial.self.thread;
+  less : is_waiting l.self.status ≡ true → IsNoMore g.P.Player.next_call g.P.Player.answered g.P.Player.restarted g.P.Player.calls_left g.P.Player.depth l.initial.self l.self;
+}
+
+abbrev pub decreases-loop-alloc : goal.decreases-loop-alloc
+decreases-loop-alloc g l = run_left g.P.Player.next_call g.P.Player.answered g.P.Player.restarted g.P.Player.calls_left g.P.Player.depth
+    (whole g.P.Player.next_call g.P.Player.answered g.P.Player.restarted g.P.Player.calls_left g.P.Player.depth l.initial.self.engine.is_open l.initial.self.player) l.self

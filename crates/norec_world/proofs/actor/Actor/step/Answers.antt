@@ -1,0 +1,72 @@
+use Rattle.std.proofs.Common.{◌≡◌, ap, ◌∙◌, refl, sym, subst}
+use Rattle.norec_world.proofs.Stepping.{step_due, step_done}
+use Rattle.norec_world.proofs.actor.Actor.step.Goals as goal
+
+pub proceed-requires : goal.proceed-requires
+proceed-requires g c = (
+  c.args.self.now.engine.is_open,
+  step_due g.P.Player.next_call g.P.Player.answered g.P.Player.restarted g.P.Player.calls_left g.P.Player.depth c.args.memory.now c.args.recorded.now c.args.self.now c.requires.sound
+      c.in-Waits.call c.in-Waits.step (sym c.in-Waits.ensures.value) c.apply-seen.result c.apply-seen.ensures.found c.apply-seen.new.self c.apply-seen.ensures.cells c.apply-seen.ensures.fit
+      c.resume-next.new.self c.resume-next.ensures.joins c.resume-next.ensures.settled c.resume-next.ensures.count
+      c.resume-next.result c.resume-next.ensures.proceeds c.replace.new.dest c.replace.ensures.after,
+)
+
+pub follow-requires : goal.follow-requires
+follow-requires g c =
+    let s = step_done g.P.Player.next_call g.P.Player.answered g.P.Player.restarted g.P.Player.calls_left g.P.Player.depth c.args.memory.now c.args.recorded.now c.args.self.now c.requires.sound
+    c.in-Waits.call c.in-Waits.step (sym c.in-Waits.ensures.value) c.apply-seen.result c.apply-seen.ensures.found c.apply-seen.new.self c.apply-seen.ensures.cells c.apply-seen.ensures.fit
+    c.resume-next.new.self c.resume-next.ensures.joins c.resume-next.ensures.settled c.resume-next.ensures.count
+    c.resume-next.result c.resume-next.ensures.proceeds c.replace.new.dest c.proceed.new.recorded c.proceed.new.self
+    (c.proceed.ensures c.args.self.now.engine.is_open (step_due g.P.Player.next_call g.P.Player.answered g.P.Player.restarted g.P.Player.calls_left g.P.Player.depth c.args.memory.now c.args.recorded.now c.args.self.now c.requires.sound
+    c.in-Waits.call c.in-Waits.step (sym c.in-Waits.ensures.value) c.apply-seen.result c.apply-seen.ensures.found c.apply-seen.new.self c.apply-seen.ensures.cells c.apply-seen.ensures.fit
+    c.resume-next.new.self c.resume-next.ensures.joins c.resume-next.ensures.settled c.resume-next.ensures.count
+    c.resume-next.result c.resume-next.ensures.proceeds c.replace.new.dest c.replace.ensures.after)) in
+    s.kept
+
+pub returns-in-Waits-clause-sound : goal.returns-in-Waits-clause-sound
+returns-in-Waits-clause-sound g c =
+    let s = step_done g.P.Player.next_call g.P.Player.answered g.P.Player.restarted g.P.Player.calls_left g.P.Player.depth c.args.memory.now c.args.recorded.now c.args.self.now c.requires.sound
+    c.in-Waits.call c.in-Waits.step (sym c.in-Waits.ensures.value) c.apply-seen.result c.apply-seen.ensures.found c.apply-seen.new.self c.apply-seen.ensures.cells c.apply-seen.ensures.fit
+    c.resume-next.new.self c.resume-next.ensures.joins c.resume-next.ensures.settled c.resume-next.ensures.count
+    c.resume-next.result c.resume-next.ensures.proceeds c.replace.new.dest c.proceed.new.recorded c.proceed.new.self
+    (c.proceed.ensures c.args.self.now.engine.is_open (step_due g.P.Player.next_call g.P.Player.answered g.P.Player.restarted g.P.Player.calls_left g.P.Player.depth c.args.memory.now c.args.recorded.now c.args.self.now c.requires.sound
+    c.in-Waits.call c.in-Waits.step (sym c.in-Waits.ensures.value) c.apply-seen.result c.apply-seen.ensures.found c.apply-seen.new.self c.apply-seen.ensures.cells c.apply-seen.ensures.fit
+    c.resume-next.new.self c.resume-next.ensures.joins c.resume-next.ensures.settled c.resume-next.ensures.count
+    c.resume-next.result c.resume-next.ensures.proceeds c.replace.new.dest c.replace.ensures.after)) in
+    record { tied = s.tied; kept = c.follow.ensures.kept; status = c.follow.ensures.status c.proceed.new.self.status s.status }
+
+pub returns-in-Waits-clause-thread : goal.returns-in-Waits-clause-thread
+returns-in-Waits-clause-thread g c =
+    let s = step_done g.P.Player.next_call g.P.Player.answered g.P.Player.restarted g.P.Player.calls_left g.P.Player.depth c.args.memory.now c.args.recorded.now c.args.self.now c.requires.sound
+    c.in-Waits.call c.in-Waits.step (sym c.in-Waits.ensures.value) c.apply-seen.result c.apply-seen.ensures.found c.apply-seen.new.self c.apply-seen.ensures.cells c.apply-seen.ensures.fit
+    c.resume-next.new.self c.resume-next.ensures.joins c.resume-next.ensures.settled c.resume-next.ensures.count
+    c.resume-next.result c.resume-next.ensures.proceeds c.replace.new.dest c.proceed.new.recorded c.proceed.new.self
+    (c.proceed.ensures c.args.self.now.engine.is_open (step_due g.P.Player.next_call g.P.Player.answered g.P.Player.restarted g.P.Player.calls_left g.P.Player.depth c.args.memory.now c.args.recorded.now c.args.self.now c.requires.sound
+    c.in-Waits.call c.in-Waits.step (sym c.in-Waits.ensures.value) c.apply-seen.result c.apply-seen.ensures.found c.apply-seen.new.self c.apply-seen.ensures.cells c.apply-seen.ensures.fit
+    c.resume-next.new.self c.resume-next.ensures.joins c.resume-next.ensures.settled c.resume-next.ensures.count
+    c.resume-next.result c.resume-next.ensures.proceeds c.replace.new.dest c.replace.ensures.after)) in
+    s.thread
+
+pub returns-in-Waits-clause-goes_on : goal.returns-in-Waits-clause-goes_on
+returns-in-Waits-clause-goes_on g c =
+    let s = step_done g.P.Player.next_call g.P.Player.answered g.P.Player.restarted g.P.Player.calls_left g.P.Player.depth c.args.memory.now c.args.recorded.now c.args.self.now c.requires.sound
+    c.in-Waits.call c.in-Waits.step (sym c.in-Waits.ensures.value) c.apply-seen.result c.apply-seen.ensures.found c.apply-seen.new.self c.apply-seen.ensures.cells c.apply-seen.ensures.fit
+    c.resume-next.new.self c.resume-next.ensures.joins c.resume-next.ensures.settled c.resume-next.ensures.count
+    c.resume-next.result c.resume-next.ensures.proceeds c.replace.new.dest c.proceed.new.recorded c.proceed.new.self
+    (c.proceed.ensures c.args.self.now.engine.is_open (step_due g.P.Player.next_call g.P.Player.answered g.P.Player.restarted g.P.Player.calls_left g.P.Player.depth c.args.memory.now c.args.recorded.now c.args.self.now c.requires.sound
+    c.in-Waits.call c.in-Waits.step (sym c.in-Waits.ensures.value) c.apply-seen.result c.apply-seen.ensures.found c.apply-seen.new.self c.apply-seen.ensures.cells c.apply-seen.ensures.fit
+    c.resume-next.new.self c.resume-next.ensures.joins c.resume-next.ensures.settled c.resume-next.ensures.count
+    c.resume-next.result c.resume-next.ensures.proceeds c.replace.new.dest c.replace.ensures.after)) in
+    s.goes_on
+
+pub returns-in-Waits-clause-falls : goal.returns-in-Waits-clause-falls
+returns-in-Waits-clause-falls g c =
+    let s = step_done g.P.Player.next_call g.P.Player.answered g.P.Player.restarted g.P.Player.calls_left g.P.Player.depth c.args.memory.now c.args.recorded.now c.args.self.now c.requires.sound
+    c.in-Waits.call c.in-Waits.step (sym c.in-Waits.ensures.value) c.apply-seen.result c.apply-seen.ensures.found c.apply-seen.new.self c.apply-seen.ensures.cells c.apply-seen.ensures.fit
+    c.resume-next.new.self c.resume-next.ensures.joins c.resume-next.ensures.settled c.resume-next.ensures.count
+    c.resume-next.result c.resume-next.ensures.proceeds c.replace.new.dest c.proceed.new.recorded c.proceed.new.self
+    (c.proceed.ensures c.args.self.now.engine.is_open (step_due g.P.Player.next_call g.P.Player.answered g.P.Player.restarted g.P.Player.calls_left g.P.Player.depth c.args.memory.now c.args.recorded.now c.args.self.now c.requires.sound
+    c.in-Waits.call c.in-Waits.step (sym c.in-Waits.ensures.value) c.apply-seen.result c.apply-seen.ensures.found c.apply-seen.new.self c.apply-seen.ensures.cells c.apply-seen.ensures.fit
+    c.resume-next.new.self c.resume-next.ensures.joins c.resume-next.ensures.settled c.resume-next.ensures.count
+    c.resume-next.result c.resume-next.ensures.proceeds c.replace.new.dest c.replace.ensures.after)) in
+    s.falls

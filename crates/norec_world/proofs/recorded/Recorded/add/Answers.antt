@@ -1,0 +1,11 @@
+use Rattle.std.proofs.Common.{◌≡◌, ◌++◌, ◌∷◌, [], List, ap, ◌∙◌}
+use Rattle.norec_world.specs.declared.attempt.Attempt.{Attempt}
+use Rattle.norec_world.proofs.RowLists.{row_at_last, set_at_last}
+use Rattle.norec_world.proofs.recorded.Recorded.add.Goals as goal
+
+pub returns-in-Some-clause-added : goal.returns-in-Some-clause-added
+returns-in-Some-clause-added c past row l =
+    let rows : List Attempt = c.args.self.now.rows.items in
+    let got : c.index_mut-row.result.now ≡ row = row_at_last rows c.args.self.now.ended c.args.thread past row l c.in-Some.place c.in-Some.ensures c.index_mut-row.result.now c.index_mut-row.ensures.value in
+    set_at_last rows c.args.self.now.ended c.args.thread past row l c.in-Some.place c.in-Some.ensures (record c.index_mut-row.result.now { calls = c.push.new.self })
+    ∙ (λ i. past ++ record (got i) { calls = (c.push.ensures.added ∙ ap (λ (x : Attempt). x.calls ++ c.args.entry ∷ []) got) i } ∷ [])

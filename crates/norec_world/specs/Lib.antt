@@ -1,0 +1,10 @@
+pub mod Attempts
+pub mod Opacity
+pub mod Cells
+pub mod Rows
+pub mod Status
+pub mod Sound
+pub mod World
+pub mod Views
+pub mod Plan
+pub mod PlanLaws

@@ -1,0 +1,96 @@
+-- Opacity: what an attempt saw is what its player gets alone on the bytes that some first commits left, also where the attempt came to nothing.
+use Rattle.std.specs.Prelude.{ℕ, zero, suc, ◌≡◌, ◌<◌, ◌≤◌, Bool, true, false, is_none, if◌then◌else◌, List, [], ◌∷◌, ◌++◌, Option, None, Some}
+use Rattle.itm_types.specs.declared.call.Props.{Props}
+use Rattle.itm_types.specs.declared.call.Call.{Call}
+use Rattle.itm_types.specs.declared.call.Call.TheVariants.{Begin, Commit, Read, Write}
+use Rattle.itm_types.specs.declared.call.Reply.{Reply}
+use Rattle.itm_types.specs.declared.call.Reply.TheVariants.{Code}
+use Rattle.itm_model.specs.State.{State}
+use Rattle.itm_model.specs.Machine.{outside, undone, is_open, refusal, reply, after}
+use Rattle.itm_model.specs.Runs.{answers}
+use Rattle.norec_world.specs.declared.attempt.Outcome.{Outcome}
+use Rattle.norec_world.specs.declared.attempt.Outcome.TheVariants.{Committed, ReadOnly, Conflict, Full, NoMemory, Unfinished}
+use Rattle.norec_world.specs.declared.attempt.Attempt.{Attempt}
+use Rattle.norec_world.specs.Attempts.{alone, pairs_of, replies_of}
+
+-- how an attempt ended, by the plain state after its calls: whether its block has ended, and whether it wrote
+abbrev pub EndsAs : Outcome → State → Type 0
+EndsAs Committed s = (is_open s ≡ false) × (s.wrote ≡ true)
+EndsAs ReadOnly s = (is_open s ≡ false) × (s.wrote ≡ false)
+EndsAs Conflict s = is_open s ≡ true
+EndsAs Full s = is_open s ≡ true
+EndsAs NoMemory s = is_open s ≡ true
+EndsAs Unfinished s = is_open s ≡ true
+
+abbrev pub IsBeginningOf : {A : Type 0} → List A → List A → Type 0
+IsBeginningOf {A} xs ys = (rest : List A) × (xs ++ rest ≡ ys)
+
+-- what the outermost begin of a try is answered: entered, or entered again
+abbrev pub begin_code : Bool → Reply
+begin_code again = Code (if again then 9 else 5)
+
+-- a player as it calls an outermost begin, with its arena and the block's properties
+pub record Beginning (P : Type 0) : Type 0 where
+  pub player : P
+  pub arena : List ℕ
+  pub props : Props
+
+-- a player between attempts: its arena, whether its next begin enters a block again, and how many tries of the block there were at least
+pub record Between (P : Type 0) : Type 0 where
+  pub player : P
+  pub arena : List ℕ
+  pub again : Bool
+  pub tries : ℕ
+
+module _ {P : Type 0} (next : P → Option Call) (answered : P → Reply → P) (restarted : P → P) (left : P → ℕ) (deepest : ℕ) where
+  -- The attempt is opaque: its player after the begin is p, n commits are done, and the memory is the bytes that the first a.at of them left.
+  pub record IsOpaque (p : P) (a : Attempt) (n : ℕ) (memory : List ℕ) : Type 0 where
+    pub no_older : a.began ≤ a.at
+    pub no_newer : a.at ≤ n
+    pub beginning : IsBeginningOf (pairs_of a) (answers next answered left deepest p memory a.arena a.props)
+    pub whole : is_open (alone deepest memory a) ≡ false → pairs_of a ≡ answers next answered left deepest p memory a.arena a.props
+    pub ends : EndsAs a.outcome (alone deepest memory a)
+
+  abbrev pub answered_all : P → List Reply → P
+  answered_all p [] = p
+  answered_all p (r ∷ rs) = answered_all (answered p r) rs
+
+  -- where a player's calls outside a transaction lead: to an outermost begin that is accepted, or to its end
+  abbrev pub begin_within : ℕ → P → List ℕ → Option Call → Option (Beginning P)
+  begin_within zero p arena call = None
+  begin_within (suc n) p arena None = None
+  begin_within (suc n) p arena (Some (Begin props room)) =
+      if is_none (refusal deepest (outside [] arena) (Begin props room)) then Some (record { player = p; arena = arena; props = props })
+      else (let q = answered p (reply deepest (outside [] arena) (Begin props room)) in begin_within n q arena (next q))
+  begin_within (suc n) p arena (Some call) =
+      let q = answered p (reply deepest (outside [] arena) call) in
+      begin_within n q (after deepest (outside [] arena) call).arena (next q)
+
+  abbrev pub begin_of : P → List ℕ → Option (Beginning P)
+  begin_of p arena = begin_within (left p) p arena (next p)
+
+  -- what follows an attempt whose player after the begin was p and that left the plain state s, if anything does
+  abbrev pub follows : Outcome → P → Attempt → State → Option (Between P)
+  follows Committed p a s = Some (record { player = answered_all p (replies_of a); arena = s.arena; again = false; tries = 0 })
+  follows ReadOnly p a s = Some (record { player = answered_all p (replies_of a); arena = s.arena; again = false; tries = 0 })
+  follows Conflict p a s = Some (record { player = restarted (answered_all p (replies_of a)); arena = (undone s).arena; again = true; tries = a.nth })
+  follows Full p a s = None
+  follows NoMemory p a s = None
+  follows Unfinished p a s = None
+
+  -- the attempt is of the block that its player comes to, and is opaque
+  abbrev pub IsTryAt : ℕ → (ℕ → List ℕ) → Between P → Option (Beginning P) → Attempt → Type 0
+  IsTryAt n memory b None a = ⊥
+  IsTryAt n memory b (Some start) a =
+      (a.arena ≡ start.arena) × (a.props ≡ start.props) × (b.tries < a.nth) × IsOpaque (answered start.player (begin_code b.again)) a n (memory a.at)
+
+  abbrev pub after_try : (ℕ → List ℕ) → Between P → Option (Beginning P) → Attempt → Option (Between P)
+  after_try memory b None a = None
+  after_try memory b (Some start) a = follows a.outcome (answered start.player (begin_code b.again)) a (alone deepest (memory a.at) a)
+
+  -- The attempts of one actor, in order, are its player's own: none is left out before another, and each is opaque.
+  abbrev pub IsRunOf : ℕ → (ℕ → List ℕ) → Option (Between P) → List Attempt → Type 0
+  IsRunOf n memory b [] = Unit {0}
+  IsRunOf n memory None (a ∷ rest) = ⊥
+  IsRunOf n memory (Some b) (a ∷ rest) =
+      IsTryAt n memory b (begin_of b.player b.arena) a × IsRunOf n memory (after_try memory b (begin_of b.player b.arena) a) rest

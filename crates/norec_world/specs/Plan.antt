@@ -1,0 +1,63 @@
+-- A list of calls that are made one after the other, whatever the replies are.
+use Rattle.std.specs.Prelude.{◌≡◌, ℕ, ◌+◌, ◌-◌, min, List, length, Option, None, Some, slice_get}
+use Rattle.itm_types.specs.declared.call.Call.{Call}
+use Rattle.itm_types.specs.declared.call.Call.TheVariants.{Begin, Commit, Read, Write}
+use Rattle.itm_types.specs.declared.call.Reply.{Reply}
+use Rattle.itm_types.specs.declared.call.Reply.TheVariants.{Done, Bytes, Code, Refused}
+
+pub record Plan : Type 0 where
+  pub calls : List Call
+  pub at : ℕ  -- the next one
+  pub begun : Option ℕ  -- where the open block began
+
+-- no block within a block
+abbrev pub offered : Option ℕ → Option Call → Option Call
+offered begun None = None
+offered None (Some call) = Some call
+offered (Some start) (Some (Begin props room)) = None
+offered (Some start) (Some Commit) = Some Commit
+offered (Some start) (Some (Read hint width at)) = Some (Read hint width at)
+offered (Some start) (Some (Write hint at value)) = Some (Write hint at value)
+
+abbrev pub next_call : Plan → Option Call
+next_call p = offered p.begun (slice_get p.calls p.at)
+
+-- after an accepted begin
+abbrev pub entered : Option ℕ → ℕ → Reply → Option ℕ
+entered begun at Done = begun
+entered begun at (Bytes value) = begun
+entered begun at (Code n) = Some at
+entered begun at (Refused refusal) = begun
+
+abbrev pub left_by : Option ℕ → Reply → Option ℕ
+left_by begun Done = None
+left_by begun (Bytes value) = begun
+left_by begun (Code n) = begun
+left_by begun (Refused refusal) = begun
+
+abbrev pub begun_after : Option ℕ → ℕ → Option Call → Reply → Option ℕ
+begun_after begun at None reply = begun
+begun_after begun at (Some (Begin props room)) reply = entered begun at reply
+begun_after begun at (Some Commit) reply = left_by begun reply
+begun_after begun at (Some (Read hint width place)) reply = begun
+begun_after begun at (Some (Write hint place value)) reply = begun
+
+abbrev pub answered : Plan → Reply → Plan
+answered p reply = record { calls = p.calls; at = min (p.at + 1) (length p.calls); begun = begun_after p.begun p.at (next_call p) reply }
+
+abbrev pub restarted_at : Plan → Option ℕ → Plan
+restarted_at p None = p
+restarted_at p (Some start) = record { calls = p.calls; at = start; begun = None }
+
+abbrev pub restarted : Plan → Plan
+restarted p = restarted_at p p.begun
+
+abbrev pub calls_left : Plan → ℕ
+calls_left p = length p.calls - p.at
+
+abbrev pub depth_in : Option ℕ → ℕ
+depth_in None = 0
+depth_in (Some start) = 1
+
+abbrev pub depth : Plan → ℕ
+depth p = depth_in p.begun

@@ -1,0 +1,232 @@
+-- What is true of an actor between two events. So far there is one actor, and nobody else takes a step.
+use Rattle.std.specs.Prelude.{◌≡◌, ℕ, zero, suc, ◌+◌, ◌-◌, ◌*◌, ◌/◌, ◌<◌, ◌≤◌, Bool, true, false, nat_lt, if◌then◌else◌, is_some, List, [], ◌∷◌, length, Option, None, Some, vec_len, vec_capacity}
+use Rattle.itm_types.specs.declared.call.Call.{Call}
+use Rattle.itm_types.specs.declared.call.Call.TheVariants.{Commit}
+use Rattle.itm_types.specs.declared.call.Reply.{Reply as Replied}
+use Rattle.itm_types.specs.declared.step.Step.{Step}
+use Rattle.itm_types.specs.Memory.{AllFit, Agrees}
+use Rattle.script_vm.specs.Depth.{depth_after, is_begin}
+use Rattle.norec_engine.specs.Core.{Core, came}
+use Rattle.norec_engine.specs.Proceeds.{IsLawful, IsSettled, IsWithin, Proceeds, StaysOn, most}
+use Rattle.norec_engine.specs.declared.answer.Next.{Next}
+use Rattle.norec_engine.specs.declared.answer.Next.TheVariants.{Step as Asks, Answer as Answers}
+use Rattle.norec_engine.specs.declared.answer.Answer.{Answer}
+use Rattle.norec_engine.specs.declared.answer.Answer.TheVariants.{Reply, Committed, Conflict, Busy, Full}
+use Rattle.norec_world.specs.declared.attempt.Attempt.{Attempt}
+use Rattle.norec_world.specs.declared.attempt.Outcome.TheVariants.{Unfinished}
+use Rattle.norec_world.specs.declared.attempt.End.TheVariants.{GaveUp}
+use Rattle.norec_world.specs.declared.recorded.Recorded.{Recorded}
+use Rattle.norec_world.specs.declared.actor.Actor.{Actor}
+use Rattle.norec_world.specs.declared.actor.Status.{Status}
+use Rattle.norec_world.specs.declared.actor.Status.TheVariants.{Ready, Waits, Ended}
+use Rattle.norec_world.specs.Cells.{Cells}
+use Rattle.norec_world.specs.Rows.{IsLast}
+use Rattle.norec_world.specs.Status.{is_ready, is_waiting}
+
+-- ## The engine and the cells
+
+-- the engine's own data, as the cells have it
+pub record IsTied (cells : Cells) (e : Core) : Type 0 where
+  pub words : e.words ≡ length cells.words
+  pub fit : AllFit cells.words
+  pub late : e.clock ≤ cells.clock
+  pub holder : e.holds ≡ true → cells.clock ≡ e.clock + 1
+  pub opens : e.holds ≡ true → e.is_open ≡ true
+  pub logged : e.holds ≡ false → Agrees cells.words e.log
+  pub fresh : e.holds ≡ false → Agrees cells.words e.fresh
+  pub unfreed : e.freed ≡ false
+  pub settled : IsSettled e
+
+-- the steps that the call in progress may still ask for
+abbrev pub steps_left : Core → ℕ
+steps_left e = most e e.doing - e.spent
+
+-- ## What is recorded
+
+-- the attempts of an actor that has an open one, or none
+abbrev pub HasRow : Bool → Recorded → ℕ → Type 0
+HasRow false r thread = vec_len r.rows ≡ r.ended
+HasRow true r thread = (past : List Attempt) × (row : Attempt) × IsLast r.rows.items r.ended thread past row × (row.outcome ≡ Unfinished)
+
+module _ {P : Type 0} where
+  pub record IsKept (is_open : Bool) (r : Recorded) (a : Actor P) : Type 0 where
+    pub row : HasRow is_open r a.thread
+    pub within : r.ended ≤ vec_len r.rows
+    pub empty : a.spare.items ≡ []
+    pub tried : 0 < a.nth
+    pub tries : a.nth ≤ a.retries + 1
+    pub retries : a.retries ≤ 10000
+
+  -- the attempt that a begin is to open
+  pub record IsPending (r : Recorded) (a : Actor P) (row : Attempt) : Type 0 where
+    pub thread : row.thread ≡ a.thread
+    pub nth : row.nth ≡ a.nth
+    pub outcome : row.outcome ≡ Unfinished
+    pub room : vec_len r.rows < vec_capacity r.rows
+
+  -- a try of its block came to nothing: the next one, or the end
+  abbrev pub retried : Actor P → Actor P
+  retried a = if nat_lt a.retries a.nth then record a { status = Ended GaveUp } else record a { nth = a.nth + 1 }
+
+  -- tries of its block that are left after the present or next one
+  abbrev pub tries_left : Actor P → ℕ
+  tries_left a = a.retries + 1 - a.nth
+
+-- ## The player
+
+abbrev pub depth_if : Bool → ℕ
+depth_if true = 1
+depth_if false = 0
+
+-- ## Answers
+
+-- what an answer leaves: the engine was open or not as the call came, and now is as this says
+abbrev pub AnswerFits : Bool → Bool → Call → Answer → Type 0
+AnswerFits was now call (Reply r) = (depth_after (depth_if was) call r ≡ depth_if now) × (was ≡ true → now ≡ true)
+AnswerFits was now call (Committed at wrote) = (was ≡ true) × (now ≡ false) × (call ≡ Commit)
+AnswerFits was now call (Conflict clock word) = (was ≡ true) × (now ≡ false)
+AnswerFits was now call (Busy clock) = (was ≡ false) × (now ≡ false)
+AnswerFits was now call (Full at) = (was ≡ true) × (now ≡ false)
+
+module _ {P : Type 0} (next : P → Option Call) (answered : P → Replied → P) (restarted : P → P) (left : P → ℕ) (depth : P → ℕ) where
+  -- the player has as many blocks open as the engine, and can go back to where it began them
+  pub record IsNested (is_open : Bool) (p : P) : Type 0 where
+    pub depth_is : depth p ≡ depth_if is_open
+    pub begun : is_open ≡ true → depth (restarted p) ≡ 0
+    pub less : is_open ≡ true → left p < left (restarted p)
+
+  -- the call came from the player, and there is room for what comes of it
+  pub record IsInCall (is_open : Bool) (r : Recorded) (a : Actor P) (call : Call) : Type 0 where
+    pub asks : next a.player ≡ Some call
+    pub begins : is_open ≡ false → is_some a.pending ≡ is_begin call
+    pub inside : is_open ≡ true → a.pending ≡ None
+    pub opens : (row : Attempt) → a.pending ≡ Some row → IsPending r a row
+    pub room : (past : List Attempt) (row : Attempt) → is_open ≡ true → IsLast r.rows.items r.ended a.thread past row → length row.calls < vec_capacity a.spare
+
+  pub record IsWaiting (r : Recorded) (a : Actor P) (call : Call) (step : Step) : Type 0 where
+    pub nested : IsNested a.engine.is_open a.player
+    pub in_call : IsInCall a.engine.is_open r a call
+    pub doing : a.engine.doing ≡ Some call
+    pub waits : a.engine.waits ≡ Some step
+    pub lawful : IsLawful a.engine step
+    pub within : IsWithin a.engine
+
+  pub record IsReady (a : Actor P) : Type 0 where
+    pub nested : IsNested a.engine.is_open a.player
+    pub idle : a.engine.waits ≡ None
+    pub free : a.engine.holds ≡ false
+    pub nothing : a.pending ≡ None
+
+  abbrev pub StatusIs : Recorded → Actor P → Status → Type 0
+  StatusIs r a Ready = IsReady a
+  StatusIs r a (Waits call step) = IsWaiting r a call step
+  StatusIs r a (Ended end) = Unit {0}
+
+  -- between two events, and within local work
+  pub record IsSound (cells : Cells) (r : Recorded) (a : Actor P) : Type 0 where
+    pub tied : IsTied cells a.engine
+    pub kept : IsKept a.engine.is_open r a
+    pub status : StatusIs r a a.status
+
+  -- ## How much is left to do
+
+  -- the calls left where the block that is under way was begun, or is
+  abbrev pub whole : Bool → P → ℕ
+  whole true p = left (restarted p)
+  whole false p = left p
+
+  -- falls with each answer; k bounds the calls left
+  abbrev pub rank : ℕ → Bool → Actor P → ℕ
+  rank k is_open a = (whole is_open a.player * (a.retries + 1) + tries_left a) * (k + 1) + left a.player
+
+  -- less is left to do
+  pub record Falls (was now : Bool) (old new : Actor P) : Type 0 where
+    pub whole_falls : whole now new.player ≤ whole was old.player
+    pub rank_falls : (k : ℕ) → whole was old.player ≤ k → rank k now new < rank k was old
+
+  -- ## Answers
+
+  -- the call is answered, and nothing is recorded of that yet
+  pub record IsAnswered (was : Bool) (r : Recorded) (a : Actor P) (call : Call) (answer : Answer) : Type 0 where
+    pub kept : IsKept was r a
+    pub nested : IsNested was a.player
+    pub in_call : IsInCall was r a call
+    pub fits : AnswerFits was a.engine.is_open call answer
+    pub idle : a.engine.waits ≡ None
+    pub free : a.engine.holds ≡ false
+    pub status : a.status ≡ Ready
+
+  -- the actor is between calls, or has ended
+  abbrev pub RestsAs : Status → Actor P → Type 0
+  RestsAs Ready a = IsReady a
+  RestsAs (Waits call step) a = ⊥
+  RestsAs (Ended end) a = Unit {0}
+
+  -- the answer is recorded
+  pub record IsSettledBy (was : Bool) (r : Recorded) (old new : Actor P) : Type 0 where
+    pub engine : new.engine ≡ old.engine
+    pub thread : new.thread ≡ old.thread
+    pub retries : new.retries ≡ old.retries
+    pub kept : IsKept new.engine.is_open r new
+    pub rests : RestsAs new.status new
+    pub falls : new.status ≡ Ready → Falls was new.engine.is_open old new
+
+  -- ## A call goes to the engine
+
+  -- all but the engine and what has to do with the call is as it was
+  pub record SameBeside (old new : Actor P) : Type 0 where
+    pub thread : new.thread ≡ old.thread
+    pub retries : new.retries ≡ old.retries
+    pub player : new.player ≡ old.player
+    pub nth : new.nth ≡ old.nth
+    pub status : new.status ≡ old.status
+
+  -- the engine went on with the call, and there is room for what comes of it
+  pub record IsAsked (r : Recorded) (old new : Actor P) (call : Call) (what : Next) : Type 0 where
+    pub same : SameBeside old new
+    pub again : Bool
+    pub proceeds : Proceeds (came old.engine call again) what new.engine
+    pub stays : StaysOn old.engine new.engine
+    pub within : IsWithin new.engine
+    pub settled : IsSettled new.engine
+    pub kept : IsKept old.engine.is_open r new
+    pub in_call : IsInCall old.engine.is_open r new call
+
+  -- memory was refused before the call came to the engine
+  pub record IsUnasked (r : Recorded) (old new : Actor P) : Type 0 where
+    pub same : SameBeside old new
+    pub engine : new.engine ≡ old.engine
+    pub kept : IsKept new.engine.is_open r new
+
+  -- no more is left to do than before
+  pub record IsNoMore (old new : Actor P) : Type 0 where
+    pub whole_falls : whole new.engine.is_open new.player ≤ whole old.engine.is_open old.player
+    pub rank_falls : (k : ℕ) → whole old.engine.is_open old.player ≤ k → rank k new.engine.is_open new ≤ rank k old.engine.is_open old
+
+  -- the same call goes on, with fewer steps left
+  pub record GoesOn (old new : Actor P) : Type 0 where
+    pub steps : steps_left new.engine < steps_left old.engine
+    pub less : IsNoMore old new
+
+  -- what is left to do in local work
+  abbrev pub work_left : ℕ → Actor P → ℕ
+  work_left k a = if is_ready a.status then rank k a.engine.is_open a + 1 else 0
+
+  -- ## What comes next for a call
+
+  -- nothing is recorded yet of what the engine gave for the call
+  abbrev pub IsDue : Bool → Recorded → Actor P → Call → Next → Type 0
+  IsDue was r a call (Asks step) = a.status ≡ Ready
+  IsDue was r a call (Answers answer) = IsAnswered was r a call answer
+
+  abbrev pub IsDone : Bool → Recorded → Recorded → Actor P → Actor P → Call → Next → Type 0
+  IsDone was r r' old new call (Asks step) = (new ≡ record old { status = Waits call step }) × (r' ≡ r)
+  IsDone was r r' old new call (Answers answer) = IsSettledBy was r' old new
+
+  -- steps of the call in progress that are left, where one is
+  abbrev pub call_left : Actor P → ℕ
+  call_left a = if is_waiting a.status then steps_left a.engine + 1 else 0
+
+  -- what is left to do until the actor has ended
+  abbrev pub run_left : ℕ → Actor P → ℕ
+  run_left k a = if is_waiting a.status then rank k a.engine.is_open a + 1 else 0

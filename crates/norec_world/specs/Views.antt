@@ -1,0 +1,13 @@
+-- The fields of a world as what contracts see.
+use Rattle.norec_world.specs.declared.world.World.TheInside.{Inside}
+use Rattle.norec_world.specs.World.{World}
+
+abbrev pub world_of : {P : Type 0} → Inside P → World P
+world_of w = record {
+  opening = w.opening.items;
+  cells = w.memory;
+  actors = w.actors.items;
+  attempts = w.recorded.rows.items;
+  ended = w.recorded.ended;
+  events = w.events;
+}

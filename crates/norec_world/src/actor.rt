@@ -1,0 +1,131 @@
+//! One actor.
+
+use crate::attempt::{Attempt, End, Entry};
+use crate::memory::Memory;
+use crate::recorded::Recorded;
+use itm_types::{Call, Step};
+use norec_engine::{Engine, Next};
+use script_vm::Player;
+use std::alloc::Global;
+use std::mem;
+
+/// What an actor does next.
+#[derive(Drop)]
+pub(crate) enum Status {
+    /// Its player is to be asked for a call.
+    Ready,
+    /// The call waits for the step.
+    Waits { call: Call, step: Step },
+    /// Nothing any more.
+    Ended(End),
+}
+
+/// A player with its engine.
+#[derive(Drop)]
+pub(crate) struct Actor<P> {
+    pub(crate) thread: u8,
+    /// How often a block may be tried again.
+    pub(crate) retries: u32,
+    pub(crate) player: P,
+    pub(crate) engine: Engine,
+    /// Room for the calls of the open attempt, and one more while a call is in progress.
+    pub(crate) spare: Vec<Entry>,
+    /// The attempt that its begin, which is in progress, is to open.
+    pub(crate) pending: Option<Attempt>,
+    /// Which try of its block is under way or comes next, counted from 1.
+    pub(crate) nth: u32,
+    /// An earlier try of the block got past its begin.
+    pub(crate) again: bool,
+    pub(crate) status: Status,
+}
+
+impl<P: Player> Actor<P> {
+    ghost use Rattle.std.specs.Prelude.{◌≡◌, Bool, true, false, [], Some, None};
+    ghost use Rattle.norec_world.specs.Cells.{cells_after};
+    ghost use Rattle.norec_world.specs.Status.{ending_of, is_waiting, is_ready, waiting_step};
+    ghost use Rattle.norec_world.specs.Sound.{IsKept, IsSound, IsDue, IsDone, StatusIs, GoesOn, Falls};
+
+    /// An actor that has made no call.
+    pub(crate) fn new(alloc: Global, thread: u8, retries: u32, player: P, engine: Engine) -> Self
+        ensures parts { (result.thread ≡ thread) × (result.retries ≡ retries) × (result.player ≡ player) × (result.engine ≡ engine) }
+        ensures tries { (result.nth ≡ 1) × (result.again ≡ false) }
+        ensures nothing { (result.spare.items ≡ []) × (result.pending ≡ None) × (result.status ≡ Status.Ready) }
+    {
+        Actor {
+            thread,
+            retries,
+            player,
+            engine,
+            spare: Vec::new(alloc),
+            pending: None,
+            nth: 1,
+            again: false,
+            status: Status::Ready,
+        }
+    }
+
+    /// How it ended.
+    pub(crate) fn ending(&self) -> Option<End>
+        ensures { result ≡ ending_of self.now.status }
+    {
+        match self.status {
+            Status::Ended(end) => Some(end),
+            _ => None,
+        }
+    }
+
+    /// It waits for a step.
+    pub(crate) fn waits(&self) -> bool
+        ensures { result ≡ is_waiting self.now.status }
+    {
+        match self.status {
+            Status::Waits { .. } => true,
+            _ => false,
+        }
+    }
+
+    /// The operation that it waits for: the call goes on, or is answered.
+    pub(crate) fn step(&mut self, memory: &mut Memory, recorded: &mut Recorded)
+        requires sound { IsSound P.next_call P.answered P.restarted P.calls_left P.depth memory.old recorded.old self.old }
+        requires waits { is_waiting self.old.status ≡ true }
+        ensures sound { IsSound P.next_call P.answered P.restarted P.calls_left P.depth memory.new recorded.new self.new }
+        ensures thread { self.new.thread ≡ self.old.thread }
+        ensures cells { (step : Step) → waiting_step self.old.status ≡ Some step → memory.new ≡ cells_after memory.old step }
+        ensures goes_on { is_waiting self.new.status ≡ true → GoesOn P.next_call P.answered P.restarted P.calls_left P.depth self.old self.new }
+        ensures falls { is_ready self.new.status ≡ true → Falls P.next_call P.answered P.restarted P.calls_left P.depth self.old.engine.is_open self.new.engine.is_open self.old self.new }
+    {
+        match mem::replace(&mut self.status, Status::Ready) {
+            Status::Waits { call, step } => {
+                let seen = memory.apply(step);
+                let next = self.engine.resume(seen);
+                self.proceed(recorded, call, next);
+                self.follow(recorded);
+            }
+            other => self.status = other,
+        }
+    }
+
+    /// The call waits for a step, or what comes of its answer is recorded.
+    pub(crate) fn proceed(&mut self, recorded: &mut Recorded, call: Call, next: Next)
+        requires { (was : Bool) × IsDue P.next_call P.answered P.restarted P.calls_left P.depth was recorded.old self.old call next }
+        ensures { (was : Bool) → IsDue P.next_call P.answered P.restarted P.calls_left P.depth was recorded.old self.old call next
+            → IsDone P.next_call P.answered P.restarted P.calls_left P.depth was recorded.old recorded.new self.old self.new call next }
+    {
+        match next {
+            Next::Step(step) => self.status = Status::Waits { call, step },
+            Next::Answer(answer) => self.settle(recorded, call, answer),
+        }
+    }
+
+    /// The open attempt is told where the engine reads.
+    fn follow(&self, recorded: &mut Recorded)
+        requires { IsKept self.now.engine.is_open recorded.old self.now }
+        ensures kept { IsKept self.now.engine.is_open recorded.new self.now }
+        ensures status { (status : Status) → StatusIs P.next_call P.answered P.restarted P.calls_left P.depth recorded.old self.now status
+            → StatusIs P.next_call P.answered P.restarted P.calls_left P.depth recorded.new self.now status }
+    {
+        if self.engine.is_open() {
+            recorded.move_to(self.thread, self.engine.snapshot() / 2);
+        }
+    }
+}

@@ -1,0 +1,17 @@
+//! Why an event did not come off.
+
+use thiserror::Error;
+
+/// Why `go` answers no `Ok`.
+#[derive(Clone, Copy, Debug, PartialEq, Eq, Error)]
+pub enum WorldFault {
+    /// The world is as it was.
+    #[error("there is no such actor")]
+    NoSuchActor,
+    /// The world is as it was.
+    #[error("the actor has ended")]
+    Ended,
+    /// The operation is done, and the actor has ended.
+    #[error("no memory")]
+    NoMemory,
+}

@@ -1,0 +1,91 @@
+//! Lists that contracts compare by what stands in them.
+
+ghost use Rattle.std.specs.Prelude.{◌≡◌, ◌<◌, ◌∷◌, [], ◌++◌, length, vec_capacity};
+
+use crate::attempt::Entry;
+use std::alloc::{AllocError, Global};
+use std::marker::Model;
+use std::mem;
+
+/// Bytes, in order.
+#[derive(Debug, Drop)]
+pub struct Bytes {
+    items: Vec<u8>,
+}
+
+impl Model for Bytes {
+    ghost use Rattle.std.specs.Prelude.{List, ℕ};
+
+    ghost Value = { List ℕ };
+
+    ghost view = { λ b. b.items.items };
+}
+
+impl Bytes {
+    /// These bytes. Takes no memory.
+    pub fn new(items: Vec<u8>) -> Self
+        ensures { result ≡ items.items }
+    {
+        Bytes { items }
+    }
+
+    pub fn as_slice(&self) -> &[u8]
+        ensures { result.now ≡ self.now }
+    {
+        &self.items
+    }
+
+    /// The bytes, given back. Takes no memory.
+    pub fn into_vec(self) -> Vec<u8>
+        ensures { result.items ≡ self }
+    {
+        self.items
+    }
+}
+
+/// Calls with their replies, in order.
+#[derive(Debug, Drop)]
+pub struct Calls {
+    items: Vec<Entry>,
+}
+
+impl Model for Calls {
+    ghost use Rattle.std.specs.Prelude.{List};
+    ghost use Rattle.norec_world.specs.declared.attempt.Entry.{Entry};
+
+    ghost Value = { List Entry };
+
+    ghost view = { λ c. c.items.items };
+}
+
+impl Calls {
+    /// No calls. Takes no memory.
+    pub fn new(alloc: Global) -> Self
+        ensures { result ≡ [] }
+    {
+        Calls {
+            items: Vec::new(alloc),
+        }
+    }
+
+    pub fn as_slice(&self) -> &[Entry]
+        ensures { result.now ≡ self.now }
+    {
+        &self.items
+    }
+
+    /// One more. Contracts see calls as a list, so the room for it is told of `spare`, to which the calls move over
+    /// where their own room is used up.
+    pub(crate) fn push(&mut self, spare: &mut Vec<Entry>, entry: Entry)
+        requires empty { spare.old.items ≡ [] }
+        requires room { length self.old < vec_capacity spare.old }
+        ensures added { self.new ≡ self.old ++ entry ∷ [] }
+        ensures empty { spare.new.items ≡ [] }
+    {
+        if self.items.len() == self.items.capacity() {
+            let _ = spare.append(&mut self.items);
+            mem::swap(spare, &mut self.items);
+        }
+        self.items.push_reserved(entry);
+    }
+}

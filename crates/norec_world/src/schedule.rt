@@ -1,0 +1,46 @@
+//! Many events in a row.
+
+ghost use Rattle.std.specs.Prelude.{◌≡◌, ◌+◌, length};
+
+use crate::fault::WorldFault;
+use crate::world::World;
+use script_vm::Player;
+use std::alloc::Global;
+
+/// What came of a schedule's entries.
+#[derive(Clone, Copy, Debug, PartialEq, Eq)]
+pub struct Passes {
+    /// Entries that were events, with no fault.
+    pub taken: usize,
+    /// Entries that name no actor, or one that had ended.
+    pub passed: usize,
+    /// Entries that were events, after which the actor had found no memory.
+    pub starved: usize,
+}
+
+impl<P: Player> World<P> {
+    ghost use Rattle.norec_world.specs.World.{counted};
+
+    /// An event for each entry in turn, passing over those that name no actor or one that has ended.
+    pub fn run(&mut self, alloc: Global, schedule: &[u8]) -> Passes
+        ensures all { result.taken + result.passed + result.starved ≡ length schedule.now }
+        ensures counts { self.new.events ≡ counted self.old.events (result.taken + result.starved) }
+        ensures opening { self.new.opening ≡ self.old.opening }
+        ensures actors { length self.new.actors ≡ length self.old.actors }
+    {
+        let _events = self.events();
+        let mut passes = Passes {
+            taken: 0,
+            passed: 0,
+            starved: 0,
+        };
+        for actor in schedule {
+            match self.go(alloc, *actor) {
+                Ok(()) => passes.taken += 1,
+                Err(WorldFault::NoMemory) => passes.starved += 1,
+                Err(_) => passes.passed += 1,
+            }
+        }
+        passes
+    }
+}

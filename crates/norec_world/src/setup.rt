@@ -1,0 +1,16 @@
+//! What a world begins with.
+
+use crate::lists::Bytes;
+use norec_engine::Limits;
+
+/// What a world begins with, beside its players.
+#[derive(Debug, Drop)]
+pub struct Setup {
+    /// The shared memory: 8 to 65,536 bytes, whole words of 8.
+    pub bytes: Bytes,
+    /// How many bytes each actor's arena has: at most 4,096.
+    pub arena: u32,
+    pub limits: Limits,
+    /// How often a block is tried again, at most 10,000 times.
+    pub retries: u32,
+}

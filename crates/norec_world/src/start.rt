@@ -1,0 +1,78 @@
+//! How actors begin.
+
+ghost use Rattle.std.specs.Prelude.{◌≡◌, ◌^◌, ◌<◌, ◌≤◌, false, length, vec_len, IfOk, All};
+ghost use Rattle.itm_types.specs.Memory.{AllFit};
+ghost use Rattle.norec_world.specs.Status.{is_ready};
+ghost use Rattle.norec_world.specs.Sound.{IsSound};
+ghost use Rattle.norec_world.specs.World.{IsSoundWorld};
+
+use crate::actor::Actor;
+use crate::attempt::End;
+use crate::memory::Memory;
+use crate::recorded::Recorded;
+use norec_engine::{Arena, Engine, Limits};
+use script_vm::Player;
+use std::alloc::{AllocError, Global};
+
+/// What every actor begins with.
+#[derive(Clone, Copy)]
+pub(crate) struct Terms {
+    pub(crate) arena: u32,
+    pub(crate) limits: Limits,
+    pub(crate) retries: u32,
+    ghost small: { arena ≤ 4096 },
+    ghost patient: { 0 < limits.patience },
+    ghost hasty: { limits.patience ≤ 1000 },
+    ghost some: { 0 < limits.max_commits },
+    ghost commits: { limits.max_commits < 2 ^ 62 },
+    ghost few: { retries ≤ 10000 },
+}
+
+/// An actor for each player, which has done its local work up to its first operation.
+pub(crate) fn start_all<P: Player>(
+    alloc: Global,
+    terms: Terms,
+    memory: &Memory,
+    recorded: &mut Recorded,
+    players: Vec<P>,
+) -> Result<Vec<Actor<P>>, AllocError>
+    requires one { length players.items ≡ 1 }
+    requires outside { All (λ p. P.depth p ≡ 0) players.items }
+    requires size { (0 < length memory.now.words) × (length memory.now.words ≤ 8192) }
+    requires fit { AllFit memory.now.words }
+    requires none { vec_len recorded.old.rows ≡ recorded.old.ended }
+    ensures { IfOk result (λ actors. IsSoundWorld P.next_call P.answered P.restarted P.calls_left P.depth memory.now recorded.new actors.items) }
+{
+    let mut actors = Vec::new(alloc);
+    for player in players {
+        let actor = start(alloc, terms, memory, recorded, player)?;
+        actors.push(actor)?;
+    }
+    Ok(actors)
+}
+
+/// The player's actor.
+fn start<P: Player>(
+    alloc: Global,
+    terms: Terms,
+    memory: &Memory,
+    recorded: &mut Recorded,
+    player: P,
+) -> Result<Actor<P>, AllocError>
+    requires outside { P.depth player ≡ 0 }
+    requires size { (0 < length memory.now.words) × (length memory.now.words ≤ 8192) }
+    requires fit { AllFit memory.now.words }
+    requires none { vec_len recorded.old.rows ≡ recorded.old.ended }
+    ensures sound { IfOk result (IsSound P.next_call P.answered P.restarted P.calls_left P.depth memory.now recorded.new) }
+    ensures done { IfOk result (λ a. is_ready a.status ≡ false) }
+    ensures thread { IfOk result (λ a. a.thread ≡ 0) }
+{
+    let arena = Arena::new(alloc, terms.arena)?;
+    let engine = Engine::new(alloc, memory.words(), arena, terms.limits);
+    let mut actor = Actor::new(alloc, 0, terms.retries, player, engine);
+    actor.work(alloc, memory, recorded);
+    match actor.ending() {
+        Some(End::NoMemory) => Err(AllocError),
+        _ => Ok(actor),
+    }
+}

@@ -1,0 +1,216 @@
+//! The local work of an actor: what it does between two operations.
+
+ghost use Rattle.std.specs.Prelude.{◌≡◌, ◌+◌, ◌/◌, ◌≤◌, ℕ, Bool, true, false, [], if◌then◌else◌, Some, None, IfOk, OnErr};
+
+use crate::actor::{Actor, Status};
+use crate::attempt::{Attempt, End, Entry, Outcome};
+use crate::lists::{Bytes, Calls};
+use crate::memory::Memory;
+use crate::recorded::Recorded;
+use itm_types::{Call, Props, Reply};
+use norec_engine::{Answer, Next, Undone};
+use script_vm::Player;
+use std::alloc::{AllocError, Global};
+
+impl<P: Player> Actor<P> {
+    ghost use Rattle.norec_world.specs.Cells.{Cells};
+    ghost use Rattle.norec_world.specs.Status.{is_ready, ending_of};
+    ghost use Rattle.norec_world.specs.Sound.{IsTied, IsKept, IsReady, IsSound, IsAnswered, IsSettledBy, IsAsked, IsUnasked, IsNoMore, Falls, retried};
+
+    /// Calls are made until one waits for a step or the actor has ended.
+    pub(crate) fn work(&mut self, alloc: Global, memory: &Memory, recorded: &mut Recorded)
+        requires { IsSound P.next_call P.answered P.restarted P.calls_left P.depth memory.now recorded.old self.old }
+        ensures sound { IsSound P.next_call P.answered P.restarted P.calls_left P.depth memory.now recorded.new self.new }
+        ensures done { is_ready self.new.status ≡ false }
+        ensures still { is_ready self.old.status ≡ false → self.new.status ≡ self.old.status }
+        ensures thread { self.new.thread ≡ self.old.thread }
+        ensures less { ending_of self.new.status ≡ None → IsNoMore P.next_call P.answered P.restarted P.calls_left P.depth self.old self.new }
+    {
+        while let Status::Ready = self.status {
+            self.call_next(alloc, memory, recorded);
+        }
+    }
+
+    /// The player's next call.
+    fn call_next(&mut self, alloc: Global, memory: &Memory, recorded: &mut Recorded)
+        requires sound { IsSound P.next_call P.answered P.restarted P.calls_left P.depth memory.now recorded.old self.old }
+        requires ready { self.old.status ≡ Status.Ready }
+        ensures sound { IsSound P.next_call P.answered P.restarted P.calls_left P.depth memory.now recorded.new self.new }
+        ensures thread { self.new.thread ≡ self.old.thread }
+        ensures less { ending_of self.new.status ≡ None → IsNoMore P.next_call P.answered P.restarted P.calls_left P.depth self.old self.new }
+        ensures falls { self.new.status ≡ Status.Ready → Falls P.next_call P.answered P.restarted P.calls_left P.depth self.old.engine.is_open self.new.engine.is_open self.old self.new }
+    {
+        let Some(call) = self.player.next() else {
+            self.status = Status::Ended(End::Finished);
+            return;
+        };
+        match self.ask(alloc, memory, recorded, &call) {
+            Ok(Next::Step(step)) => self.status = Status::Waits { call, step },
+            Ok(Next::Answer(answer)) => self.settle(recorded, call, answer),
+            Err(_) => self.starve(recorded),
+        }
+    }
+
+    /// The call goes to the engine, once there is room for what comes of it.
+    fn ask(
+        &mut self,
+        alloc: Global,
+        memory: &Memory,
+        recorded: &mut Recorded,
+        call: &Call,
+    ) -> Result<Next, AllocError>
+        requires kept { IsKept self.old.engine.is_open recorded.old self.old }
+        requires ready { IsReady P.next_call P.answered P.restarted P.calls_left P.depth self.old }
+        requires asks { P.next_call self.old.player ≡ Some call.now }
+        ensures asked { IfOk result (λ next. IsAsked P.next_call P.answered P.restarted P.calls_left P.depth recorded.new self.old self.new call.now next) }
+        ensures unasked { OnErr result (IsUnasked P.next_call P.answered P.restarted P.calls_left P.depth recorded.new self.old self.new) }
+    {
+        match call {
+            Call::Begin { props, room } if !self.engine.is_open() => {
+                recorded.rows.reserve(1)?;
+                let attempt = self.attempt(alloc, memory.clock(), *props)?;
+                let next = self.engine.begin(*props, *room, self.again)?;
+                self.pending = Some(attempt);
+                Ok(next)
+            }
+            _ => {
+                let calls = recorded.calls_of(self.thread);
+                self.spare.reserve(calls.saturating_add(1))?;
+                self.engine.call(call)
+            }
+        }
+    }
+
+    /// The attempt that a begin is to open.
+    fn attempt(&self, alloc: Global, clock: u64, props: Props) -> Result<Attempt, AllocError>
+        ensures { IfOk result (λ a. a ≡ record {
+          thread = self.now.thread;
+          nth = self.now.nth;
+          began = clock / 2;
+          at = 0;
+          props = props;
+          arena = self.now.engine.arena;
+          calls = [];
+          outcome = Outcome.Unfinished;
+        }) }
+    {
+        let arena = self.engine.arena().as_slice().to_vec(alloc)?;
+        Ok(Attempt {
+            thread: self.thread,
+            nth: self.nth,
+            began: clock / 2,
+            at: 0,
+            props,
+            arena: Bytes::new(arena),
+            calls: Calls::new(alloc),
+            outcome: Outcome::Unfinished,
+        })
+    }
+
+    /// What comes of the call's answer.
+    pub(crate) fn settle(&mut self, recorded: &mut Recorded, call: Call, answer: Answer)
+        requires { (was : Bool) × IsAnswered P.next_call P.answered P.restarted P.calls_left P.depth was recorded.old self.old call answer }
+        ensures { (was : Bool) → IsAnswered P.next_call P.answered P.restarted P.calls_left P.depth was recorded.old self.old call answer
+            → IsSettledBy P.next_call P.answered P.restarted P.calls_left P.depth was recorded.new self.old self.new }
+    {
+        match answer {
+            Answer::Reply(reply) => self.replied(recorded, call, reply),
+            Answer::Committed { at, wrote } => self.committed(recorded, call, at, wrote),
+            Answer::Conflict { .. } => {
+                recorded.end(self.thread, self.engine.snapshot() / 2, Outcome::Conflict);
+                self.player.restart();
+                self.retry();
+            }
+            Answer::Busy { .. } => {
+                self.pending = None;
+                self.retry();
+            }
+            Answer::Full { at } => {
+                recorded.end(self.thread, at, Outcome::Full);
+                self.status = Status::Ended(End::GaveUp);
+            }
+        }
+    }
+
+    /// The transaction is open as it was, or its begin is over.
+    fn replied(&mut self, recorded: &mut Recorded, call: Call, reply: Reply)
+        requires { (was : Bool) × IsAnswered P.next_call P.answered P.restarted P.calls_left P.depth was recorded.old self.old call (Answer.Reply reply) }
+        ensures { (was : Bool) → IsAnswered P.next_call P.answered P.restarted P.calls_left P.depth was recorded.old self.old call (Answer.Reply reply)
+            → IsSettledBy P.next_call P.answered P.restarted P.calls_left P.depth was recorded.new self.old self.new }
+    {
+        self.player.answer(&reply);
+        let is_open = self.engine.is_open();
+        match self.pending.take() {
+            Some(mut attempt) => {
+                if is_open {
+                    self.again = true;
+                    attempt.at = self.engine.snapshot() / 2;
+                    recorded.open(attempt);
+                }
+            }
+            None => {
+                if is_open {
+                    recorded.add(self.thread, &mut self.spare, Entry { call, reply });
+                }
+            }
+        }
+    }
+
+    /// The block is done, and the next one is tried for the first time.
+    fn committed(&mut self, recorded: &mut Recorded, call: Call, at: u64, wrote: bool)
+        requires { (was : Bool) × IsAnswered P.next_call P.answered P.restarted P.calls_left P.depth was recorded.old self.old call (Answer.Committed at wrote) }
+        ensures { (was : Bool) → IsAnswered P.next_call P.answered P.restarted P.calls_left P.depth was recorded.old self.old call (Answer.Committed at wrote)
+            → IsSettledBy P.next_call P.answered P.restarted P.calls_left P.depth was recorded.new self.old self.new }
+    {
+        self.player.answer(&Reply::Done);
+        let entry = Entry {
+            call,
+            reply: Reply::Done,
+        };
+        recorded.add(self.thread, &mut self.spare, entry);
+        recorded.end(self.thread, at, outcome_of(wrote));
+        self.nth = 1;
+        self.again = false;
+    }
+
+    /// The block is tried again, where it may be.
+    fn retry(&mut self)
+        requires { (self.old.nth ≤ self.old.retries + 1) × (self.old.retries ≤ 10000) }
+        ensures { self.new ≡ retried self.old }
+    {
+        if self.retries < self.nth {
+            self.status = Status::Ended(End::GaveUp);
+        } else {
+            self.nth += 1;
+        }
+    }
+
+    /// Memory was refused before the call came to the engine: the actor ends.
+    fn starve(&mut self, recorded: &mut Recorded)
+        requires kept { IsKept self.old.engine.is_open recorded.old self.old }
+        requires free { self.old.engine.holds ≡ false }
+        ensures kept { IsKept self.new.engine.is_open recorded.new self.new }
+        ensures tied { (cells : Cells) → IsTied cells self.old.engine → IsTied cells self.new.engine }
+        ensures status { self.new.status ≡ Status.Ended End.NoMemory }
+        ensures thread { self.new.thread ≡ self.old.thread }
+        ensures player { self.new.player ≡ self.old.player }
+        ensures closed { self.new.engine.is_open ≡ false }
+        ensures same { (self.new.nth ≡ self.old.nth) × (self.new.retries ≡ self.old.retries) }
+    {
+        if let Undone::Done = self.engine.abort() {
+            recorded.end(self.thread, self.engine.snapshot() / 2, Outcome::NoMemory);
+        }
+        self.status = Status::Ended(End::NoMemory);
+    }
+}
+
+/// How a transaction that committed ended.
+fn outcome_of(wrote: bool) -> Outcome
+    ensures { result ≡ (if wrote then Outcome.Committed else Outcome.ReadOnly) }
+{
+    if wrote {
+        Outcome::Committed
+    } else {
+        Outcome::ReadOnly
+    }
+}

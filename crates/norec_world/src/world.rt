@@ -1,0 +1,200 @@
+//! Actors over one memory.
+
+ghost use Rattle.std.specs.Prelude.{◌≡◌, ◌%◌, ◌^◌, ◌<◌, ◌≤◌, ◌↔◌, length, IfOk, Some, None, IsSome, IsTrue, Err, All, false};
+ghost use Rattle.norec_world.specs.World.{told};
+
+use crate::actor::Actor;
+use crate::attempt::{Attempt, End};
+use crate::fault::WorldFault;
+use crate::memory::Memory;
+use crate::recorded::Recorded;
+use crate::setup::Setup;
+use crate::start::{Terms, start_all};
+use itm_types::Step;
+use script_vm::Player;
+use std::alloc::{AllocError, Global};
+use std::marker::Model;
+
+/// Actors over one memory, each with a player and an engine. One event is one operation of one actor on one shared
+/// cell, with the actor's local work up to its next operation.
+#[derive(Drop)]
+pub struct World<P: Player> {
+    opening: Vec<P>,
+    memory: Memory,
+    actors: Vec<Actor<P>>,
+    recorded: Recorded,
+    events: u64,
+}
+
+impl<P: Player> Model for World<P> {
+    ghost use Rattle.norec_world.specs.World.{World};
+
+    ghost Value = { World P };
+
+    ghost use Rattle.norec_world.specs.Views.{world_of};
+    ghost use Rattle.norec_world.specs.World.{IsSoundWorld};
+
+    ghost view = { world_of };
+
+    ghost invariant = { λ w. IsSoundWorld P.next_call P.answered P.restarted P.calls_left P.depth w.memory w.recorded w.actors.items };
+}
+
+impl<P: Player> World<P> {
+    ghost use Rattle.norec_world.specs.Cells.{cells_after};
+    ghost use Rattle.norec_world.specs.World.{counted, ending_at, waits_at, memory_of, told, is_event};
+
+    /// A world over this memory, with the clock at 0. Each actor's local work up to its first operation is done.
+    pub fn new(alloc: Global, setup: Setup, players: Vec<P>) -> Result<Self, AllocError>
+        requires size { (8 ≤ length setup.bytes) × (length setup.bytes ≤ 65536) × (length setup.bytes % 8 ≡ 0) }
+        requires arena { setup.arena ≤ 4096 }
+        requires patience { (0 < setup.limits.patience) × (setup.limits.patience ≤ 1000) }
+        requires commits { (0 < setup.limits.max_commits) × (setup.limits.max_commits < 2 ^ 62) }
+        requires retries { setup.retries ≤ 10000 }
+        requires one { length players.items ≡ 1 }
+        requires outside { All (λ p. P.depth p ≡ 0) players.items }
+        ensures opening { IfOk result (λ w. w.opening ≡ players.items) }
+        ensures memory { IfOk result (λ w. memory_of w ≡ setup.bytes) }
+        ensures clock { IfOk result (λ w. w.cells.clock ≡ 0) }
+        ensures events { IfOk result (λ w. w.events ≡ 0) }
+        ensures actors { IfOk result (λ w. length w.actors ≡ 1) }
+    {
+        let opening = copies(alloc, &players)?;
+        let terms = Terms {
+            arena: setup.arena,
+            limits: setup.limits,
+            retries: setup.retries,
+        };
+        let memory = Memory::new(setup.bytes.into_vec());
+        let mut recorded = Recorded::new(alloc);
+        let actors = start_all(alloc, terms, &memory, &mut recorded, players)?;
+        Ok(World {
+            opening,
+            memory,
+            actors,
+            recorded,
+            events: 0,
+        })
+    }
+
+    /// One event of the actor: the operation that comes next from it, and its local work up to the next one.
+    pub fn go(&mut self, alloc: Global, actor: u8) -> Result<(), WorldFault>
+        ensures no_such { (result ≡ Err WorldFault.NoSuchActor) ↔ (length self.old.actors ≤ actor) }
+        ensures ended { (result ≡ Err WorldFault.Ended) ↔ IsSome (ending_at self.old actor) }
+        ensures event { IsTrue (is_event result) ↔ IsSome (waits_at self.old actor) }
+
+        ensures told { IsTrue (is_event result) → result ≡ told (ending_at self.new actor) }
+        ensures operation { (step : Step) → waits_at self.old actor ≡ Some step → self.new.cells ≡ cells_after self.old.cells step }
+        ensures counts { IsTrue (is_event result) → self.new.events ≡ counted self.old.events 1 }
+        ensures unchanged { is_event result ≡ false → self.new ≡ self.old }
+
+        ensures opening { self.new.opening ≡ self.old.opening }
+        ensures actors { length self.new.actors ≡ length self.old.actors }
+    {
+        match self.actors.get(actor as usize) {
+            None => Err(WorldFault::NoSuchActor),
+            Some(a) => {
+                if a.waits() {
+                    self.event(alloc, actor as usize);
+                    told(self.ending(actor))
+                } else {
+                    Err(WorldFault::Ended)
+                }
+            }
+        }
+    }
+
+    /// The operation that the actor waits for, and its local work.
+    fn event(&mut self, alloc: Global, actor: usize)
+        requires { IsSome (waits_at self.old actor) }
+        ensures operation { (step : Step) → waits_at self.old actor ≡ Some step → self.new.cells ≡ cells_after self.old.cells step }
+        ensures counts { self.new.events ≡ counted self.old.events 1 }
+        ensures opening { self.new.opening ≡ self.old.opening }
+        ensures actors { length self.new.actors ≡ length self.old.actors }
+    {
+        let a = &mut self.actors[actor];
+        a.step(&mut self.memory, &mut self.recorded);
+        a.work(alloc, &self.memory, &mut self.recorded);
+        self.events = self.events.saturating_add(1);
+    }
+
+    /// Takes events until the actor has ended, and tells how many, up to 2^64 - 1; 0 for no such actor.
+    pub fn run_out(&mut self, alloc: Global, actor: u8) -> u64
+        ensures no_such { length self.old.actors ≤ actor → (result ≡ 0) × (self.new ≡ self.old) }
+        ensures ended { actor < length self.old.actors → IsSome (ending_at self.new actor) }
+        ensures counts { self.new.events ≡ counted self.old.events result }
+        ensures opening { self.new.opening ≡ self.old.opening }
+        ensures actors { length self.new.actors ≡ length self.old.actors }
+    {
+        let index = actor as usize;
+        if index >= self.actors.len() {
+            return 0;
+        }
+        let a = &mut self.actors[index];
+        let taken = a.run_out(alloc, &mut self.memory, &mut self.recorded);
+        self.events = self.events.saturating_add(taken);
+        taken
+    }
+
+    /// The players as they were handed in.
+    pub fn opening(&self) -> &[P]
+        ensures { result.now ≡ self.now.opening }
+    {
+        &self.opening
+    }
+
+    /// The attempts that have ended, in the order in which they did, and then the open ones by actor.
+    pub fn attempts(&self) -> &[Attempt]
+        ensures { result.now ≡ self.now.attempts }
+    {
+        &self.recorded.rows
+    }
+
+    /// The shared memory.
+    pub fn bytes(&self) -> &[u8]
+        ensures { result.now ≡ memory_of self.now }
+    {
+        self.memory.bytes()
+    }
+
+    /// The sequence clock.
+    pub fn clock(&self) -> u64
+        ensures { result ≡ self.now.cells.clock }
+    {
+        self.memory.clock()
+    }
+
+    /// How many events there were; 2^64 - 1 where there were more.
+    pub fn events(&self) -> u64
+        ensures { result ≡ self.now.events }
+    {
+        self.events
+    }
+
+    /// How the actor ended; `None` before that, and where there is no such actor.
+    pub fn ending(&self, actor: u8) -> Option<End>
+        ensures { result ≡ ending_at self.now actor }
+    {
+        self.actors.get(actor as usize)?.ending()
+    }
+}
+
+/// What an event is answered, by how its actor stands then.
+fn told(ending: Option<End>) -> Result<(), WorldFault>
+    ensures { result ≡ told ending }
+{
+    match ending {
+        Some(End::NoMemory) => Err(WorldFault::NoMemory),
+        _ => Ok(()),
+    }
+}
+
+/// Equal players.
+fn copies<P: Player>(alloc: Global, players: &[P]) -> Result<Vec<P>, AllocError>
+    ensures { IfOk result (λ v. v.items ≡ players.now) }
+{
+    let mut copies = Vec::new(alloc);
+    for player in players {
+        copies.push(player.copy()?)?;
+    }
+    Ok(copies)
+}
