@@ -2,6 +2,7 @@ pub mod Cutting
 pub mod Digits
 pub mod Looking
 pub mod Worked
+pub mod WorkedPages
 pub mod Padding
 pub mod Entering
 pub mod Putting
@@ -9,3 +10,4 @@ pub mod Growing
 pub mod Taking
 pub mod Playing
 pub mod Refusing
+pub mod Paging

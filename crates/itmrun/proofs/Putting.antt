@@ -3,14 +3,14 @@ use Rattle.std.proofs.Common.{◌≡◌, ℕ, ◌+◌, ◌-◌, ◌/◌, ◌%◌
 use Rattle.std.specs.Io.KnownBytes.{Appends, Keeps}
 use Rattle.std.proofs.KnownBytes.{Appends-nil, Appends-trans, Appends-kept}
 use Rattle.std.proofs.lemmas.Grind.{common_steps}
-use Rattle.std.proofs.lemmas.List.{take-take, drop-take, take-append-drop, take-append-le, flat_map_more}
+use Rattle.std.proofs.lemmas.List.{length-append, take-take, drop-take, take-append-drop, take-append-le, flat_map_more}
 use Rattle.std.proofs.lemmas.List.Concat.{flat_map-append, flat_map-cons}
 use Rattle.std.proofs.Math.Seq.{take-append-add}
 use Rattle.std.specs.List.{flat_map}
 use Rattle.hex.specs.Hex.{encode_lower, encode_with, lower_digits}
 use Rattle.itmrun.specs.declared.history.pieces.Piece.{Piece}
-use Rattle.itmrun.specs.Spelling.{Puts, spelled}
-use Rattle.std.specs.Prelude.{slice_index, IsErr}
+use Rattle.itmrun.specs.Spelling.{IsCut, Puts, Grows, spelled}
+use Rattle.std.specs.Prelude.{slice_index, IsErr, is_err, false}
 
 pieces_past : (n : ℕ) (ps : List Piece) → length ps ≤ n → take n ps ≡ ps
 pieces_past n ps h = grind (arith, common_steps)
@@ -28,8 +28,8 @@ starts a = Appends-nil a
 pub grown : (a b c : Option (List ℕ)) (text : List ℕ) (i n : ℕ) → Appends a b (take i text) → Appends b c (take n (drop i text)) → Appends a c (take (i + n) text)
 grown a b c text i n p q = subst (Appends a c) (sym (take_more text i n)) (Appends-trans a b c _ _ p q)
 
-pub stays : (a b c : Option (List ℕ)) (text : List ℕ) (i : ℕ) → Appends a b (take i text) → Keeps b c → (n : ℕ) × Appends a c (take n text)
-stays a b c text i p q = (i, Appends-kept a b c _ p q)
+pub stays : (a b c : Option (List ℕ)) (text : List ℕ) (i : ℕ) → Appends a b (take i text) → i < length text → Keeps b c → IsCut a c text
+stays a b c text i p h q = (i, h, Appends-kept a b c _ p q)
 
 pub whole : (a b : Option (List ℕ)) (text : List ℕ) (i : ℕ) → Appends a b (take i text) → length text ≤ i → Appends a b text
 whole a b text i p h = subst (Appends a b) (take_past i text h) p
@@ -41,6 +41,16 @@ stopped a b c x y z text p q e =
     let short : take q.0 y ≡ take k y = grind (arith, common_steps) in
     let front : take (length x + k) text ≡ x ++ take k y = ap (take (length x + k)) e ∙ take-append-add x (y ++ z) k ∙ ap (λ (l : List ℕ). x ++ l) (take-append-le k y z (omega arith)) in
     (length x + k, subst (Appends a c) (ap (λ (l : List ℕ). x ++ l) short ∙ sym front) (Appends-trans a b c x (take q.0 y) p q.1))
+
+-- a call that failed left something out
+pub cut_short : (a b c : Option (List ℕ)) (x y z text : List ℕ) → Appends a b x → IsCut b c y → text ≡ x ++ (y ++ z) → IsCut a c text
+cut_short a b c x y z text p q e =
+    let front : take (length x + q.0) text ≡ x ++ take q.0 y = ap (take (length x + q.0)) e ∙ take-append-add x (y ++ z) q.0 ∙ ap (λ (l : List ℕ). x ++ l) (take-append-le q.0 y z (omega (arith, q.1))) in
+    (
+        length x + q.0,
+        omega (arith, q.1, ap (length {A = ℕ}) e, length-append x (y ++ z), length-append y z),
+        subst (Appends a c) (sym front) (Appends-trans a b c x (take q.0 y) p q.2),
+    )
 
 pub encode_append : (xs ys : List ℕ) → encode_lower (xs ++ ys) ≡ encode_lower xs ++ encode_lower ys
 unfolding encode_with
@@ -55,10 +65,10 @@ pub hex_grown : (a b c : Option (List ℕ)) (bytes : List ℕ) (i n : ℕ) → A
 hex_grown a b c bytes i n p q =
     subst (Appends a c) (sym (ap encode_lower (take_more bytes i n) ∙ encode_append (take i bytes) (take n (drop i bytes)))) (Appends-trans a b c _ _ p q)
 
-pub hex_stays : (a b c : Option (List ℕ)) (bytes : List ℕ) (i n : ℕ) → Appends a b (encode_lower (take i bytes)) → (k : ℕ) × Appends b c (take k (encode_lower (take n (drop i bytes)))) → (k : ℕ) × Appends a c (take k (encode_lower bytes))
+pub hex_stays : (a b c : Option (List ℕ)) (bytes : List ℕ) (i n : ℕ) → Appends a b (encode_lower (take i bytes)) → IsCut b c (encode_lower (take n (drop i bytes))) → IsCut a c (encode_lower bytes)
 hex_stays a b c bytes i n p q =
     let rest = drop i bytes in
-    stopped a b c (encode_lower (take i bytes)) (encode_lower (take n rest)) (encode_lower (drop n rest)) (encode_lower bytes) p q
+    cut_short a b c (encode_lower (take i bytes)) (encode_lower (take n rest)) (encode_lower (drop n rest)) (encode_lower bytes) p q
     (ap encode_lower (sym (take-append-drop i bytes)) ∙ encode_append (take i bytes) rest ∙ ap (λ (l : List ℕ). encode_lower (take i bytes) ++ l) (ap encode_lower (sym (take-append-drop n rest)) ∙ encode_append (take n rest) (drop n rest)))
 
 pub hex_whole : (a b : Option (List ℕ)) (bytes : List ℕ) (i : ℕ) → Appends a b (encode_lower (take i bytes)) → length bytes ≤ i → Appends a b (encode_lower bytes)
@@ -71,9 +81,9 @@ pub more_pieces : (a b c : Option (List ℕ)) (ps : List Piece) (i : ℕ) (d : P
 more_pieces a b c ps i d h p q =
     subst (Appends a c) (sym (flat_map_next ps i d h)) (Appends-trans a b c _ _ p q)
 
-pub pieces_stop : (a b c : Option (List ℕ)) (ps : List Piece) (i : ℕ) (d : Piece) → i < length ps → Appends a b (flat_map spelled (take i ps)) → (k : ℕ) × Appends b c (take k (spelled (get_or ps i d))) → (k : ℕ) × Appends a c (take k (flat_map spelled ps))
+pub pieces_stop : (a b c : Option (List ℕ)) (ps : List Piece) (i : ℕ) (d : Piece) → i < length ps → Appends a b (flat_map spelled (take i ps)) → IsCut b c (spelled (get_or ps i d)) → IsCut a c (flat_map spelled ps)
 pieces_stop a b c ps i d h p q =
-    stopped a b c (flat_map spelled (take i ps)) (spelled (get_or ps i d)) (flat_map spelled (drop (suc i) ps)) (flat_map spelled ps) p q
+    cut_short a b c (flat_map spelled (take i ps)) (spelled (get_or ps i d)) (flat_map spelled (drop (suc i) ps)) (flat_map spelled ps) p q
     (ap (flat_map spelled) (sym (take-append-drop i ps)) ∙ flat_map-append spelled (take i ps) (drop i ps) ∙ ap (λ (l : List ℕ). flat_map spelled (take i ps) ++ l) (ap (flat_map spelled) (drop-cons ps i d h) ∙ refl))
 
 pub whole_pieces : (a b : Option (List ℕ)) (ps : List Piece) (i : ℕ) → Appends a b (flat_map spelled (take i ps)) → length ps ≤ i → Appends a b (flat_map spelled ps)
@@ -82,11 +92,7 @@ whole_pieces a b ps i p h = subst (λ (l : List Piece). Appends a b (flat_map sp
 pub put_as : {A E : Type 0} (a b : Option (List ℕ)) (r : Result A E) (x y : List ℕ) → Puts a b r x → x ≡ y → Puts a b r y
 put_as a b r x y p e = subst (Puts a b r) e p
 
--- what the rest puts comes after what was put before
-pub then_put : {A E : Type 0} (a b c : Option (List ℕ)) (r : Result A E) (x y text : List ℕ) → Appends a b x → Puts b c r y → x ++ y ≡ text → Puts a c r text
-then_put a b c (Ok v) x y text p q e = subst (Appends a c) e (Appends-trans a b c x y p q)
-then_put a b c (Err v) x y text p q e = stopped a b c x y [] text p q (sym e ∙ ap (λ (l : List ℕ). x ++ l) (sym (append-nil y)))
-
-pub stop_put : {A E : Type 0} (a b c : Option (List ℕ)) (r : Result A E) (x y z text : List ℕ) → Appends a b x → (n : ℕ) × Appends b c (take n y) → IsErr r → x ++ (y ++ z) ≡ text → Puts a c r text
-stop_put a b c (Ok v) x y z text p q i e = absurd cc
-stop_put a b c (Err v) x y z text p q i e = stopped a b c x y z text p q (sym e)
+-- whether the writing failed is what a stream remembers
+pub remembered : {A E : Type 0} (a b : Option (List ℕ)) (r : Result A E) (text : List ℕ) → Puts a b r text → Grows false a (is_err r) b text
+remembered a b (Ok v) text p = p
+remembered a b (Err v) text p = (p.0, p.2)

@@ -1,5 +1,5 @@
 -- What a text that was read up to its limit says.
-use Rattle.std.proofs.Common.{◌≡◌, ℕ, ◌+◌, ◌<◌, ◌≤◌, List, ◌++◌, length, take, Option, Some, None, IfSome, Result, refl, sym, ap, subst, ◌∙◌, arith, inl, inr}
+use Rattle.std.proofs.Common.{◌≡◌, ℕ, ◌+◌, ◌<◌, ◌≤◌, List, [], ◌++◌, length, take, Option, Some, None, IfSome, Result, refl, sym, ap, subst, ◌∙◌, arith, inl, inr}
 use Rattle.std.specs.Io.KnownBytes.{Consumes}
 use Rattle.std.proofs.KnownBytes.{Consumes-trans}
 use Rattle.std.proofs.lemmas.Bool.{cases_lt, lt-ltb}
@@ -28,6 +28,13 @@ same_text text all e =
       | inr few ↦ ap program_of (e ∙ past 16777217 all (omega arith))
     ]
 
-pub cut : (known : Option (List ℕ)) (text : List ℕ) (P : Result Listing AsmFault → Type 0) → IfSome known (λ all. text ≡ take 16777217 all) → P (program_of text) → IfSome known (λ all. P (program_of all))
-cut None text P e h = tt
-cut (Some all) text P e h = subst P (same_text text all e) h
+-- what is so of the program of the text that was read is so of the reader's text, where that is known
+pub cut : (known : Option (List ℕ)) (text : List ℕ) (P : Result Listing AsmFault → Type 0) → IfSome known (λ all. text ≡ take 16777217 all) → P (program_of text)
+    → (whole : List ℕ) × IfSome known (λ all. whole ≡ all) × P (program_of whole)
+cut None text P e h = (text, tt, h)
+cut (Some all) text P e h = (all, refl, subst P (same_text text all e) h)
+
+-- what is so whatever the text says
+pub unread : (known : Option (List ℕ)) (P : Result Listing AsmFault → Type 0) → ((r : Result Listing AsmFault) → P r) → (whole : List ℕ) × IfSome known (λ all. whole ≡ all) × P (program_of whole)
+unread None P h = ([], tt, h (program_of []))
+unread (Some all) P h = (all, refl, h (program_of all))

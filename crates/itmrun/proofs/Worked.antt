@@ -2,12 +2,12 @@
 use Rattle.std.proofs.Common.{◌≡◌, List, ℕ, [], ◌∷◌, ◌++◌, Ok, refl}
 use Rattle.std.specs.Prelude.{codes}
 use Rattle.itmrun.specs.declared.asm.fault.AsmKind.TheVariants as kinds
-use Rattle.itmrun.specs.declared.asm.program.Instruction.TheVariants as code
 use Rattle.itmrun.specs.Text.{fields, without_comment}
 use Rattle.itmrun.specs.Words.{word_of}
 use Rattle.itmrun.specs.Operands.{number, value_of, register, none, one, two, three, register_number, number_register, registers, register_dash, size_of}
 use Rattle.itmrun.specs.Items.{item_of}
 use Rattle.itmrun.specs.Assembly.{program_of, meaning, step, run_code, end_of, fault}
+use Rattle.itmrun.proofs.WorkedPages.{counter, empty_block, beyond}
 
 -- a line with its end
 abbrev line : List ℕ → List ℕ
@@ -17,10 +17,17 @@ line t = t ++ 10 ∷ []
 abbrev script : List ℕ → List ℕ
 script code = line (codes ".memory 8") ++ line (codes ".thread") ++ code
 
-counter : program_of (script (line (codes "set r1 1 ; one") ++ line (codes "_ITM_beginTransaction r0 -") ++ line (codes "  _ITM_RU8 r2 0") ++ line (codes "add\tr2 r2 r1\r") ++ line (codes "_ITM_WU8 0 r2") ++ codes "_ITM_commitTransaction"))
-    ≡ Ok (record { memory = 8; code = code.Set 1 1 ∷ code.Begin 0 ∷ code.Read 2 0 ∷ code.Add 2 2 1 ∷ code.Write 0 2 ∷ code.Commit ∷ [] })
+counter_script : program_of (script (line (codes "set r1 1 ; one") ++ line (codes "_ITM_beginTransaction r0 -") ++ line (codes "  _ITM_RU8 r2 0") ++ line (codes "add\tr2 r2 r1\r") ++ line (codes "_ITM_WU8 0 r2") ++ codes "_ITM_commitTransaction")) ≡ Ok counter
 unfolding program_of meaning step run_code end_of item_of fields without_comment word_of number value_of register none one two three register_number number_register registers register_dash size_of
-counter = refl
+counter_script = refl
+
+empty_block_script : program_of (script (line (codes "_ITM_beginTransaction r0 -") ++ line (codes "_ITM_commitTransaction"))) ≡ Ok empty_block
+unfolding program_of meaning step run_code end_of item_of fields without_comment word_of number value_of register none one two three register_number number_register registers register_dash size_of
+empty_block_script = refl
+
+beyond_script : program_of (script (line (codes "set r1 5") ++ line (codes "_ITM_beginTransaction r0 -") ++ line (codes "_ITM_RU8 r1 8") ++ line (codes "_ITM_WU8 0 r1") ++ line (codes "_ITM_commitTransaction"))) ≡ Ok beyond
+unfolding program_of meaning step run_code end_of item_of fields without_comment word_of number value_of register none one two three register_number number_register registers register_dash size_of
+beyond_script = refl
 
 unknown : program_of (script (codes "_ITM_RaRU8 r0 0")) ≡ fault 3 kinds.Unknown
 unfolding program_of meaning step run_code end_of item_of fields without_comment word_of number value_of register none one two three register_number number_register registers register_dash size_of

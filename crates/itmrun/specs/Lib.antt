@@ -12,4 +12,5 @@ pub mod ThreadLaws
 pub mod Spelling
 pub mod Histories
 pub mod Input
+pub mod Pages
 pub mod Answers

@@ -1,14 +1,18 @@
 -- The one spelling of a history.
-use Rattle.std.specs.Prelude.{◌≡◌, Bool, true, false, ℕ, ◌+◌, ◌/◌, ◌%◌, List, [], ◌∷◌, ◌++◌, length, take, Option, Some, None, Result, Ok, Err, flat_map, decimal, codes, if◌then◌else◌, nat_lt}
+use Rattle.std.specs.Prelude.{◌≡◌, Bool, true, false, ℕ, ◌+◌, ◌/◌, ◌%◌, ◌<◌, List, [], ◌∷◌, ◌++◌, length, take, Option, Some, None, Result, Ok, Err, flat_map, decimal, codes, if◌then◌else◌, nat_lt}
 use Rattle.std.specs.Io.KnownBytes.{Appends, Keeps}
 use Rattle.hex.specs.Hex.{encode_lower}
 use Rattle.itmrun.specs.declared.history.pieces.Piece.{Piece}
 use Rattle.itmrun.specs.declared.history.pieces.Piece.TheVariants.{Text, Number, Hex}
 
--- the text is written, or the call failed and a beginning of it is
+-- a beginning of the text is written, and not all of it
+abbrev pub IsCut : Option (List ℕ) → Option (List ℕ) → List ℕ → Type 0
+IsCut old new text = (n : ℕ) × (n < length text) × Appends old new (take n text)
+
+-- the text is written, or the call failed before all of it was
 abbrev pub Puts : {A E : Type 0} → Option (List ℕ) → Option (List ℕ) → Result A E → List ℕ → Type 0
 Puts old new (Ok x) text = Appends old new text
-Puts old new (Err e) text = (n : ℕ) × Appends old new (take n text)
+Puts old new (Err e) text = IsCut old new text
 
 -- The text is written after what was; where a write failed, a beginning of it is, and from then on nothing.
 abbrev pub Grows : Bool → Option (List ℕ) → Bool → Option (List ℕ) → List ℕ → Type 0

@@ -1,10 +1,13 @@
 //! Scripts that are run, and what they are answered.
 
-ghost use Rattle.std.specs.Prelude.{◌≡◌, IfOk, IfSome, replicate, false, vec_len};
+ghost use Rattle.std.specs.Prelude.{◌≡◌, ℕ, List, IfOk, IfSome, replicate, false, vec_len};
 ghost use Rattle.itmrun.specs.Sizes.{IsSize};
 ghost use Rattle.itmrun.specs.Spelling.{Puts, Grows};
 ghost use Rattle.itmrun.specs.Assembly.{program_of};
-ghost use Rattle.itmrun.specs.Histories.{History, history_text};
+ghost use Rattle.norec_world.specs.World.{ShowsAlone};
+ghost use Rattle.itmrun.specs.Threads.{next_call, answered, calls_left};
+ghost use Rattle.itmrun.specs.Histories.{history_text};
+ghost use Rattle.itmrun.specs.Pages.{IsWorldOf, history_of};
 ghost use Rattle.itmrun.specs.Input.{IsFront};
 ghost use Rattle.itmrun.specs.Answers.{finish_of, Runs, error_text, status_of, Answers};
 
@@ -52,7 +55,9 @@ fn opening(alloc: Global, program: &Program) -> Result<Vec<u8>, AllocError>
 }
 
 /// The program's world once its thread has ended.
-fn run_program(alloc: Global, program: &Program) -> Result<World<Script>, AllocError> {
+fn run_program(alloc: Global, program: &Program) -> Result<World<Script>, AllocError>
+    ensures { IfOk result (λ w. IsWorldOf program.now w) }
+{
     let mut players = Vec::new(alloc);
     players.push(Script::new(alloc, program, 0)?)?;
     let memory = opening(alloc, program)?;
@@ -69,7 +74,8 @@ fn run_program(alloc: Global, program: &Program) -> Result<World<Script>, AllocE
 
 /// Writes the history of a world; answers whether that failed.
 fn write_world<W: Write>(writer: &mut W, opening: &[u8], world: &World<Script>) -> bool
-    ensures { (h : History) × (h.memory ≡ opening.now) × Grows false (W.contents writer.old) result (W.contents writer.new) (history_text h) }
+    ensures text { Grows false (W.contents writer.old) result (W.contents writer.new) (history_text (history_of opening.now world.now)) }
+    ensures alone { ShowsAlone next_call answered calls_left world.now }
 {
     let mut stream = Stream {
         writer,
@@ -86,13 +92,13 @@ fn write_world<W: Write>(writer: &mut W, opening: &[u8], world: &World<Script>) 
 }
 
 /// How the thread's end ends the run.
-fn finish_of(ending: Option<End>) -> Finish
+fn finish_of(ending: End) -> Finish
     ensures { result ≡ finish_of ending }
 {
     match ending {
-        Some(End::GaveUp) => Finish::GaveUp(0),
-        Some(End::NoMemory) => Finish::Starved(0),
-        Some(End::Finished) | None => Finish::Good,
+        End::Finished => Finish::Good,
+        End::GaveUp => Finish::GaveUp(0),
+        End::NoMemory => Finish::Starved(0),
     }
 }
 
@@ -106,10 +112,11 @@ fn play<W: Write>(alloc: Global, program: &Program, writer: &mut W) -> Finish
     let Ok(world) = run_program(alloc, program) else {
         return Finish::NoMemory;
     };
-    if write_world(writer, &memory, &world) {
-        return Finish::Writing;
+    let failed = write_world(writer, &memory, &world);
+    match world.ending(0) {
+        Some(ending) if !failed => finish_of(ending),
+        _ => Finish::Writing,
     }
-    finish_of(world.ending(0))
 }
 
 fn answer<W: Write>(alloc: Global, text: &[u8], writer: &mut W) -> Finish
@@ -125,9 +132,8 @@ fn answer<W: Write>(alloc: Global, text: &[u8], writer: &mut W) -> Finish
 }
 
 /// Reads a script and answers it. Of its text no more is read than decides that it is too long.
-#[tactic(auto, using(crate::proofs::Taking::cut))]
 fn run<R: Read, W: Write>(alloc: Global, reader: &mut R, writer: &mut W) -> Finish
-    ensures answer { IfSome (R.remaining reader.old) (λ text. Runs result (program_of text) (W.contents writer.old) (W.contents writer.new)) }
+    ensures answer { (text : List ℕ) × IfSome (R.remaining reader.old) (λ all. text ≡ all) × Runs result (program_of text) (W.contents writer.old) (W.contents writer.new) }
     ensures few { IsFront (R.remaining reader.old) (R.remaining reader.new) 16777217 }
 {
     match read_up_to(alloc, reader, 16_777_217) {
@@ -195,7 +201,7 @@ pub fn sched<R: Read, W: Write, E: Write>(
     writer: &mut W,
     errors: &mut E,
 ) -> u8
-    ensures answer { IfSome (R.remaining reader.old) (λ text. Answers result (program_of text) (W.contents writer.old) (W.contents writer.new) (E.contents errors.old) (E.contents errors.new)) }
+    ensures answer { (text : List ℕ) × IfSome (R.remaining reader.old) (λ all. text ≡ all) × Answers result (program_of text) (W.contents writer.old) (W.contents writer.new) (E.contents errors.old) (E.contents errors.new) }
     ensures few { IsFront (R.remaining reader.old) (R.remaining reader.new) 16777217 }
 {
     let finish = run(alloc, reader, writer);

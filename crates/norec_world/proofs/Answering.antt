@@ -1,17 +1,17 @@
 -- What the engine's answers say of the player's depth.
-use Rattle.std.proofs.Common.{◌≡◌, ℕ, zero, suc, ◌+◌, ◌<◌, ◌≤◌, Bool, true, false, List, [], ◌∷◌, length, Option, None, Some, refl, sym, ap, subst, ◌∙◌, arith, if◌then◌else◌}
+use Rattle.std.proofs.Common.{◌≡◌, ℕ, Bool, true, false, List, [], ◌∷◌, refl, sym, ap, ◌∙◌, if◌then◌else◌}
 use Rattle.itm_types.specs.declared.row.WriteRow.{WriteRow}
 use Rattle.itm_types.specs.declared.call.Props.{Props}
 use Rattle.itm_types.specs.declared.call.Call.{Call}
 use Rattle.itm_types.specs.declared.call.Call.TheVariants.{Begin, Commit, Read, Write}
 use Rattle.itm_types.specs.declared.call.Reply.{Reply as Replied}
-use Rattle.itm_types.specs.declared.call.Reply.TheVariants.{Done, Bytes, Code, Refused}
+use Rattle.itm_types.specs.declared.call.Reply.TheVariants.{Code, Refused}
 use Rattle.itm_model.specs.declared.limits.TheConstants.{MAX_DEPTH}
 use Rattle.itm_model.specs.State.{State, Block}
 use Rattle.itm_model.specs.Machine.{after, reply}
-use Rattle.norec_engine.specs.Stands.{state_over, block_over}
+use Rattle.norec_engine.specs.Stands.{state_over}
 use Rattle.norec_engine.specs.Proceeds.{recoded}
-use Rattle.script_vm.specs.Depth.{depth_after, is_begin, is_code}
+use Rattle.script_vm.specs.Depth.{depth_after}
 use Rattle.norec_world.specs.Sound.{depth_if}
 
 -- a block is open where there is one

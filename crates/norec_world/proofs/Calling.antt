@@ -1,21 +1,19 @@
 -- A call went to the engine: it waits for a step, or is answered at once.
-use Rattle.std.proofs.Common.{◌≡◌, ℕ, zero, suc, ◌+◌, ◌-◌, ◌*◌, ◌<◌, ◌≤◌, Bool, true, false, nat_lt, List, [], ◌∷◌, ◌++◌, length, Option, None, Some, refl, sym, ap, subst, ◌∙◌, arith, if◌then◌else◌, vec_len, Vec, Global}
+use Rattle.std.proofs.Common.{◌≡◌, ℕ, ◌+◌, ◌-◌, ◌*◌, ◌<◌, ◌≤◌, Bool, Option, None, refl, sym, subst, ◌∙◌, arith}
 use Rattle.itm_types.specs.declared.call.Call.{Call}
 use Rattle.itm_types.specs.declared.call.Reply.{Reply as Replied}
-use Rattle.itm_types.specs.declared.step.Step.{Step}
-use Rattle.norec_engine.specs.Core.{Core, came}
-use Rattle.norec_engine.specs.Proceeds.{AsksFor, Ends, Proceeds, StaysOn, IsSettled}
+use Rattle.norec_engine.specs.Core.{came}
 use Rattle.norec_engine.specs.declared.answer.Answer.{Answer}
 use Rattle.norec_engine.specs.declared.answer.Next.{Next}
-use Rattle.norec_engine.specs.declared.answer.Next.TheVariants.{Step as Asks, Answer as Answers}
+use Rattle.norec_engine.specs.declared.answer.Next.TheVariants.{Answer as Answers}
 use Rattle.norec_world.specs.declared.recorded.Recorded.{Recorded}
 use Rattle.norec_world.specs.declared.actor.Actor.{Actor}
 use Rattle.norec_world.specs.declared.actor.Status.{Status}
 use Rattle.norec_world.specs.declared.actor.Status.TheVariants.{Ready, Waits, Ended}
 use Rattle.norec_world.specs.Cells.{Cells}
 use Rattle.norec_world.specs.Status.{ending_of}
-use Rattle.norec_world.specs.Sound.{IsTied, HasRow, IsKept, IsNested, IsInCall, IsReady, IsWaiting, IsSound, StatusIs, IsAnswered, IsSettledBy, IsAsked, IsNoMore, RestsAs, Falls, whole, rank, AnswerFits}
-use Rattle.norec_world.proofs.Tying.{IsMid, comes, tied, rests, answer_fits}
+use Rattle.norec_world.specs.Sound.{IsTied, IsNested, IsReady, IsSound, StatusIs, IsAnswered, IsSettledBy, IsAsked, IsNoMore, RestsAs, Falls, whole, rank}
+use Rattle.norec_world.proofs.Tying.{comes, tied, rests, answer_fits}
 
 module _ {P : Type 0} (next : P → Option Call) (answered : P → Replied → P) (restarted : P → P) (left : P → ℕ) (depth : P → ℕ)
     (cells : Cells) (r : Recorded) (old new : Actor P) (call : Call) (t : IsTied cells old.engine) (ready : IsReady next answered restarted left depth old) where

@@ -1,6 +1,5 @@
 -- Worked cases of attempts, computed: one counter, and two whose first try is lost.
-use Rattle.std.proofs.Common.{◌≡◌, ℕ, zero, suc, ◌<◌, ◌≤◌, List, [], ◌∷◌, ◌++◌, refl, true, false, replicate, Option, None, Some, arith, lit<, lit≤}
-use Rattle.arrayvec.specs.ArrayVec.{ArrayVec}
+use Rattle.std.proofs.Common.{◌≡◌, ℕ, zero, suc, List, [], ◌∷◌, refl, false, replicate, Option, None, Some, arith}
 use Rattle.itm_types.specs.declared.access.Width.TheVariants.{U8}
 use Rattle.itm_types.specs.declared.access.ReadHint.TheVariants.{R}
 use Rattle.itm_types.specs.declared.access.WriteHint.TheVariants.{W}
@@ -11,7 +10,7 @@ use Rattle.itm_types.specs.declared.call.Call.TheVariants.{Begin, Commit, Read, 
 use Rattle.itm_types.specs.declared.call.Reply.{Reply}
 use Rattle.itm_types.specs.declared.call.Reply.TheVariants.{Done, Bytes, Code, Refused}
 use Rattle.norec_world.specs.declared.attempt.Entry.{Entry}
-use Rattle.norec_world.specs.declared.attempt.Outcome.TheVariants.{Committed, ReadOnly, Conflict}
+use Rattle.norec_world.specs.declared.attempt.Outcome.TheVariants.{Committed, Conflict}
 use Rattle.norec_world.specs.declared.attempt.Attempt.{Attempt}
 use Rattle.norec_world.specs.Attempts.{memory_after}
 use Rattle.norec_world.specs.Opacity.{IsOpaque, IsRunOf, Between}

@@ -10,3 +10,13 @@ pub mod Calling
 pub mod Stepping
 pub mod Falling
 pub mod Worlds
+pub mod Alones
+pub mod Solos
+pub mod Following
+pub mod Noting
+pub mod Tracking
+pub mod Parts
+pub mod Asking
+pub mod Handing
+pub mod Beginnings
+pub mod Ends

@@ -1,18 +1,12 @@
 -- The player's laws, over one answer: its depth, where it goes back to, and how much is left to do.
-use Rattle.std.proofs.Common.{◌≡◌, ℕ, zero, suc, ◌+◌, ◌-◌, ◌*◌, ◌<◌, ◌≤◌, ◌==◌, ◌&&◌, Bool, true, false, List, [], ◌∷◌, ◌++◌, length, Option, None, Some, refl, sym, ap, subst, ◌∙◌, arith, if◌then◌else◌}
+use Rattle.std.proofs.Common.{◌≡◌, ℕ, ◌+◌, ◌*◌, ◌<◌, ◌≤◌, Bool, true, false, Option, Some, refl, ap, subst, ◌∙◌, arith, if◌then◌else◌}
 use Rattle.std.proofs.Math.Nat.{mul-le-mul_right}
-use Rattle.itm_types.specs.declared.call.Props.{Props}
 use Rattle.itm_types.specs.declared.call.Call.{Call}
 use Rattle.itm_types.specs.declared.call.Call.TheVariants.{Begin, Commit, Read, Write}
 use Rattle.itm_types.specs.declared.call.Reply.{Reply as Replied}
 use Rattle.itm_types.specs.declared.call.Reply.TheVariants.{Done, Bytes, Code, Refused}
-use Rattle.script_vm.specs.Depth.{depth_after, is_begin, is_code, opens}
-use Rattle.norec_engine.specs.declared.answer.Answer.TheVariants.{Reply, Committed, Conflict, Busy, Full}
-use Rattle.norec_world.specs.declared.recorded.Recorded.{Recorded}
-use Rattle.norec_world.specs.declared.actor.Actor.{Actor}
-use Rattle.norec_world.specs.declared.actor.Status.{Status}
-use Rattle.norec_world.specs.declared.actor.Status.TheVariants.{Ready, Waits, Ended}
-use Rattle.norec_world.specs.Sound.{depth_if, HasRow, IsKept, IsNested, IsInCall, IsReady, IsAnswered, IsSettledBy, RestsAs, Falls, whole, rank, tries_left}
+use Rattle.script_vm.specs.Depth.{depth_after, opens}
+use Rattle.norec_world.specs.Sound.{depth_if, IsNested, whole}
 
 -- ## Numbers
 

@@ -1,14 +1,11 @@
 -- What stands in the rows of attempts, after an answer.
-use Rattle.std.proofs.Common.{◌≡◌, ℕ, zero, suc, ◌+◌, ◌<◌, ◌≤◌, ◌&&◌, Bool, true, false, List, [], ◌∷◌, ◌++◌, length, Option, None, Some, is_some, refl, sym, ap, subst, ◌∙◌, arith, vec_len, vec_capacity, length-append}
+use Rattle.std.proofs.Common.{◌≡◌, ℕ, ◌+◌, ◌≤◌, ◌&&◌, Bool, true, false, List, [], ◌∷◌, ◌++◌, length, refl, ap, ◌∙◌, arith, vec_len, length-append}
 use Rattle.itm_types.specs.declared.call.Call.{Call}
 use Rattle.itm_types.specs.declared.call.Reply.{Reply as Replied}
 use Rattle.script_vm.specs.Depth.{depth_after, is_begin, is_code, opens}
-use Rattle.norec_world.specs.declared.attempt.Entry.{Entry}
 use Rattle.norec_world.specs.declared.attempt.Attempt.{Attempt}
-use Rattle.norec_world.specs.declared.attempt.Outcome.{Outcome}
 use Rattle.norec_world.specs.declared.attempt.Outcome.TheVariants.{Unfinished}
 use Rattle.norec_world.specs.declared.recorded.Recorded.{Recorded}
-use Rattle.norec_world.specs.Rows.{IsLast}
 use Rattle.norec_world.specs.Sound.{depth_if, HasRow}
 use Rattle.norec_world.proofs.Playing.{opens_at_begin}
 

@@ -1,12 +1,11 @@
 -- What comes of an answer is recorded, and the actor is between calls again, or has ended.
-use Rattle.std.proofs.Common.{◌≡◌, ℕ, zero, suc, ◌+◌, ◌-◌, ◌*◌, ◌<◌, ◌≤◌, Bool, true, false, nat_lt, List, [], ◌∷◌, ◌++◌, length, Option, None, Some, refl, sym, ap, subst, ◌∙◌, arith, if◌then◌else◌, vec_len, Vec, Global}
+use Rattle.std.proofs.Common.{◌≡◌, ℕ, ◌+◌, ◌-◌, ◌*◌, ◌<◌, ◌≤◌, Bool, true, false, nat_lt, [], Option, None, Some, refl, sym, ap, subst, arith, if◌then◌else◌, vec_len, Vec, Global}
 use Rattle.std.proofs.lemmas.Bool.{ltb-false}
 use Rattle.itm_types.specs.declared.call.Call.{Call}
 use Rattle.itm_types.specs.declared.call.Reply.{Reply as Replied}
 use Rattle.itm_types.specs.declared.call.Reply.TheVariants.{Done}
 use Rattle.script_vm.specs.Depth.{depth_after, opens}
-use Rattle.norec_engine.specs.declared.answer.Answer.{Answer}
-use Rattle.norec_engine.specs.declared.answer.Answer.TheVariants.{Reply, Committed, Conflict, Busy, Full}
+use Rattle.norec_engine.specs.declared.answer.Answer.TheVariants.{Reply, Committed}
 use Rattle.norec_world.specs.declared.attempt.Entry.{Entry}
 use Rattle.norec_world.specs.declared.attempt.Attempt.{Attempt}
 use Rattle.norec_world.specs.declared.attempt.End.{End}
@@ -14,9 +13,8 @@ use Rattle.norec_world.specs.declared.attempt.End.TheVariants.{GaveUp}
 use Rattle.norec_world.specs.declared.recorded.Recorded.{Recorded}
 use Rattle.norec_world.specs.declared.actor.Actor.{Actor}
 use Rattle.norec_world.specs.declared.actor.Status.{Status}
-use Rattle.norec_world.specs.declared.actor.Status.TheVariants.{Ready, Waits, Ended}
-use Rattle.norec_world.specs.Rows.{IsLast}
-use Rattle.norec_world.specs.Sound.{depth_if, HasRow, IsKept, IsNested, IsInCall, IsReady, IsAnswered, IsSettledBy, RestsAs, Falls, whole, rank, tries_left, retried}
+use Rattle.norec_world.specs.declared.actor.Status.TheVariants.{Ready, Ended}
+use Rattle.norec_world.specs.Sound.{HasRow, IsKept, IsNested, IsAnswered, IsSettledBy, RestsAs, Falls, whole, tries_left, retried}
 use Rattle.norec_world.proofs.Playing.{Played, plays, closes, rank_less, rank_same, block_less, block_same}
 
 module _ {P : Type 0} (next : P → Option Call) (answered : P → Replied → P) (restarted : P → P) (left : P → ℕ) (depth : P → ℕ)

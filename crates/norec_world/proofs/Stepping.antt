@@ -1,5 +1,5 @@
 -- The step's value came to the engine: the call goes on, or is answered.
-use Rattle.std.proofs.Common.{◌≡◌, ℕ, zero, suc, ◌+◌, ◌-◌, ◌*◌, ◌<◌, ◌≤◌, Bool, true, false, nat_lt, List, [], ◌∷◌, ◌++◌, length, Option, None, Some, refl, sym, ap, subst, ◌∙◌, arith, if◌then◌else◌, vec_len}
+use Rattle.std.proofs.Common.{◌≡◌, ℕ, zero, suc, ◌+◌, ◌*◌, ◌<◌, ◌≤◌, Bool, true, length, Option, None, Some, refl, sym, ap, subst, ◌∙◌, arith}
 use Rattle.itm_types.specs.declared.call.Call.{Call}
 use Rattle.itm_types.specs.declared.call.Call.TheVariants.{Begin, Commit, Read, Write}
 use Rattle.itm_types.specs.declared.call.Reply.{Reply as Replied}
@@ -8,7 +8,7 @@ use Rattle.itm_types.specs.declared.step.Step.TheVariants.{Load, Store, Cas}
 use Rattle.itm_types.specs.Access.{words_in}
 use Rattle.itm_types.specs.Memory.{AllFit}
 use Rattle.norec_engine.specs.Core.{Core, handed, handed_to}
-use Rattle.norec_engine.specs.Proceeds.{AsksFor, Ends, Proceeds, Joins, IsSettled, IsWithin, IsLawful, most}
+use Rattle.norec_engine.specs.Proceeds.{AsksFor, Ends, Proceeds, Joins, IsSettled, IsWithin, most}
 use Rattle.norec_engine.specs.declared.answer.Answer.{Answer}
 use Rattle.norec_engine.specs.declared.answer.Next.{Next}
 use Rattle.norec_engine.specs.declared.answer.Next.TheVariants.{Step as Asks, Answer as Answers}
@@ -18,7 +18,7 @@ use Rattle.norec_world.specs.declared.actor.Status.{Status}
 use Rattle.norec_world.specs.declared.actor.Status.TheVariants.{Ready, Waits, Ended}
 use Rattle.norec_world.specs.Cells.{Cells, found, cells_after}
 use Rattle.norec_world.specs.Status.{is_waiting, is_ready}
-use Rattle.norec_world.specs.Sound.{IsTied, HasRow, IsKept, IsNested, IsInCall, IsReady, IsWaiting, IsSound, StatusIs, IsAnswered, IsSettledBy, RestsAs, IsDue, IsDone, IsNoMore, GoesOn, Falls, whole, rank, AnswerFits, steps_left}
+use Rattle.norec_world.specs.Sound.{IsTied, HasRow, IsKept, IsNested, IsInCall, IsWaiting, IsSound, StatusIs, IsAnswered, IsSettledBy, RestsAs, IsDue, IsDone, GoesOn, Falls, whole, rank, AnswerFits, steps_left}
 use Rattle.norec_world.proofs.Tying.{IsMid, hands, tied, rests, answer_fits}
 
 -- what the value does not change

@@ -1,5 +1,5 @@
 -- The engine and the cells, over one event: the engine's data stay as the cells have them.
-use Rattle.std.proofs.Common.{◌≡◌, ◌≢◌, ◌⊎◌, inl, inr, ℕ, zero, suc, ◌+◌, ◌/◌, ◌%◌, ◌^◌, ◌<◌, ◌≤◌, ◌==◌, Bool, true, false, List, [], ◌∷◌, ◌++◌, length, Option, None, Some, slice_get, slice_set, slice_index, refl, sym, ap, subst, ◌∙◌, arith, if◌then◌else◌, eqb-true, length-set}
+use Rattle.std.proofs.Common.{◌≡◌, ◌⊎◌, inl, inr, ℕ, zero, suc, ◌+◌, ◌≤◌, ◌==◌, Bool, true, false, List, [], ◌∷◌, ◌++◌, length, Option, None, Some, slice_index, refl, sym, ap, subst, ◌∙◌, arith, if◌then◌else◌, eqb-true, length-set}
 use Rattle.std.proofs.lemmas.Option.{slice_get-get_or}
 use Rattle.itm_types.specs.declared.row.LogRow.{LogRow}
 use Rattle.itm_types.specs.declared.step.Step.{Step}
@@ -8,14 +8,14 @@ use Rattle.itm_types.specs.declared.call.Call.{Call}
 use Rattle.itm_types.specs.declared.call.Call.TheVariants.{Commit}
 use Rattle.itm_types.specs.declared.call.Reply.{Reply as Replied}
 use Rattle.itm_types.specs.Memory.{AllFit, Agrees, IsMemory}
-use Rattle.norec_engine.specs.Core.{Core, came, handed, handed_to}
-use Rattle.norec_engine.specs.Proceeds.{IsLawful, IsSettled, Proceeds, Joins, Settles, StaysOn, AsksFor, Replies, Commits, RepliesTo, Ends, FitsStep}
+use Rattle.norec_engine.specs.Core.{Core, came, handed_to}
+use Rattle.norec_engine.specs.Proceeds.{IsLawful, IsSettled, Proceeds, Joins, StaysOn, AsksFor, Replies, RepliesTo, Ends, FitsStep}
 use Rattle.norec_engine.specs.declared.answer.Next.{Next}
 use Rattle.norec_engine.specs.declared.answer.Next.TheVariants.{Step as Asks, Answer as Answers}
 use Rattle.norec_engine.specs.declared.answer.Answer.{Answer}
 use Rattle.norec_engine.specs.declared.answer.Answer.TheVariants.{Reply, Committed, Conflict, Busy, Full}
 use Rattle.norec_world.specs.Cells.{Cells, IsCell, found, cells_after}
-use Rattle.norec_world.specs.Sound.{IsTied, AnswerFits, depth_if}
+use Rattle.norec_world.specs.Sound.{IsTied, AnswerFits}
 use Rattle.norec_world.proofs.Answering.{reply_fits}
 
 both : (n : Bool) → n ≡ true → n ≡ false → ⊥

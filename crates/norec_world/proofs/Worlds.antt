@@ -1,5 +1,5 @@
 -- The one actor of a world, over one event.
-use Rattle.std.proofs.Common.{◌≡◌, ℕ, zero, suc, ◌<◌, ◌≤◌, Bool, true, false, List, [], ◌∷◌, length, Option, None, Some, IsSome, slice_get, slice_set, refl, sym, ap, subst, ◌∙◌, arith, vec_len}
+use Rattle.std.proofs.Common.{◌≡◌, ℕ, zero, suc, ◌<◌, ◌≤◌, Bool, false, List, [], ◌∷◌, length, Option, None, Some, IsSome, slice_get, slice_set, replicate, refl, sym, ap, subst, ◌∙◌, arith, vec_len}
 use Rattle.std.specs.List.{slice_index_or}
 use Rattle.std.specs.Option.{option_and_then}
 use Rattle.itm_types.specs.declared.call.Call.{Call}
@@ -7,14 +7,15 @@ use Rattle.itm_types.specs.declared.call.Reply.{Reply as Replied}
 use Rattle.itm_types.specs.declared.step.Step.{Step}
 use Rattle.norec_world.specs.declared.recorded.Recorded.{Recorded}
 use Rattle.norec_world.specs.declared.actor.Actor.{Actor}
-use Rattle.norec_world.specs.Cells.{Cells, cells_after}
+use Rattle.norec_world.specs.Cells.{Cells}
 use Rattle.norec_world.specs.declared.actor.Status.{Status}
 use Rattle.norec_world.specs.declared.actor.Status.TheVariants.{Ready, Waits, Ended}
 use Rattle.norec_world.specs.Status.{is_ready, waiting_step, ending_of}
 use Rattle.itm_types.specs.Memory.{AllFit}
 use Rattle.norec_engine.specs.Core.{Core, opening}
 use Rattle.norec_world.specs.Sound.{IsTied, IsKept, IsNested, StatusIs, IsSound}
-use Rattle.norec_world.specs.World.{World, IsSoundWorld, waits_at}
+use Rattle.norec_world.specs.Tracks.{Tracks, StillTracks}
+use Rattle.norec_world.specs.World.{IsSoundWorld, IsAlone}
 
 module _ {P : Type 0} where
   only_first : (actors : List (Actor P)) (a : Actor P) (i : ℕ) → actors ≡ a ∷ [] → IsSome (option_and_then (λ x. waiting_step x.status) (slice_get actors i)) → i ≡ 0
@@ -43,6 +44,9 @@ module _ {P : Type 0} where
       thread = thread ∙ (ap (λ (x : Actor P). x.thread) got_is ∙ s.thread);
     }
 
+    pub event_within : i < length actors
+    event_within = (let z = only_first actors s.actor i s.alone h in let n : length actors ≡ 1 = ap length s.alone in omega arith)
+
     pub waits_same : (step : Step) → option_and_then (λ x. waiting_step x.status) (slice_get actors i) ≡ Some step → waiting_step got.status ≡ Some step
     waits_same step w =
         let at : option_and_then (λ x. waiting_step x.status) (slice_get actors i) ≡ waiting_step s.actor.status =
@@ -67,6 +71,17 @@ module _ {P : Type 0} (next : P → Option Call) (answered : P → Replied → P
     sound = sound;
     done = done;
     thread = thread ∙ (ap (λ (x : Actor P). x.thread) place_got ∙ s.thread);
+  }
+
+  pub place_alone : (op : List P) (base : List ℕ) (arena max_commits : ℕ) → IsAlone next answered left op base arena max_commits cells r.rows.items actors
+      → (new : Actor P) → StillTracks next answered left cells r.rows.items got cells' r'.rows.items new → IsAlone next answered left op base arena max_commits cells' r'.rows.items (slice_set actors i new)
+  place_alone op base arena max_commits w new still = record {
+    player = w.player;
+    actor = new;
+    players = w.players;
+    one = (λ k. slice_set (w.one k) (place_is k) new);
+    tracks = still max_commits w.player base (replicate arena 0)
+        (subst (Tracks next answered left max_commits w.player base (replicate arena 0) cells r.rows.items) (sym (got_first actors w.actor i w.one place_is got is)) w.tracks);
   }
 
 pub ended_ready : (s : Status) → IsSome (ending_of s) → is_ready s ≡ false

@@ -1,5 +1,5 @@
 -- The shared cells: the sequence clock and the words of the memory.
-use Rattle.std.specs.Prelude.{◌≡◌, ℕ, zero, suc, ◌<◌, ◌≤◌, ◌/◌, ◌==◌, if◌then◌else◌, List, [], ◌∷◌, length, take, drop, slice_set, slice_index}
+use Rattle.std.specs.Prelude.{◌≡◌, ℕ, zero, suc, ◌≤◌, ◌/◌, ◌==◌, if◌then◌else◌, List, [], ◌∷◌, length, take, drop, slice_set, slice_index}
 use Rattle.std.specs.Int.{w64, from_le_bytes}
 use Rattle.itm_types.specs.declared.step.Step.{Step}
 use Rattle.itm_types.specs.declared.step.Step.TheVariants.{Load, Store, Cas}

@@ -4,7 +4,13 @@ pub mod Cells
 pub mod Rows
 pub mod Status
 pub mod Sound
-pub mod World
-pub mod Views
 pub mod Plan
 pub mod PlanLaws
+pub mod Alone
+pub mod Solo
+pub mod Follows
+pub mod Records
+pub mod SoFar
+pub mod Tracks
+pub mod World
+pub mod Views

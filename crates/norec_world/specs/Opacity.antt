@@ -2,7 +2,7 @@
 use Rattle.std.specs.Prelude.{ℕ, zero, suc, ◌≡◌, ◌<◌, ◌≤◌, Bool, true, false, is_none, if◌then◌else◌, List, [], ◌∷◌, ◌++◌, Option, None, Some}
 use Rattle.itm_types.specs.declared.call.Props.{Props}
 use Rattle.itm_types.specs.declared.call.Call.{Call}
-use Rattle.itm_types.specs.declared.call.Call.TheVariants.{Begin, Commit, Read, Write}
+use Rattle.itm_types.specs.declared.call.Call.TheVariants.{Begin}
 use Rattle.itm_types.specs.declared.call.Reply.{Reply}
 use Rattle.itm_types.specs.declared.call.Reply.TheVariants.{Code}
 use Rattle.itm_model.specs.State.{State}
@@ -42,19 +42,12 @@ pub record Between (P : Type 0) : Type 0 where
   pub again : Bool
   pub tries : ℕ
 
-module _ {P : Type 0} (next : P → Option Call) (answered : P → Reply → P) (restarted : P → P) (left : P → ℕ) (deepest : ℕ) where
-  -- The attempt is opaque: its player after the begin is p, n commits are done, and the memory is the bytes that the first a.at of them left.
-  pub record IsOpaque (p : P) (a : Attempt) (n : ℕ) (memory : List ℕ) : Type 0 where
-    pub no_older : a.began ≤ a.at
-    pub no_newer : a.at ≤ n
-    pub beginning : IsBeginningOf (pairs_of a) (answers next answered left deepest p memory a.arena a.props)
-    pub whole : is_open (alone deepest memory a) ≡ false → pairs_of a ≡ answers next answered left deepest p memory a.arena a.props
-    pub ends : EndsAs a.outcome (alone deepest memory a)
-
+module _ {P : Type 0} (answered : P → Reply → P) where
   abbrev pub answered_all : P → List Reply → P
   answered_all p [] = p
   answered_all p (r ∷ rs) = answered_all (answered p r) rs
 
+module _ {P : Type 0} (next : P → Option Call) (answered : P → Reply → P) (left : P → ℕ) (deepest : ℕ) where
   -- where a player's calls outside a transaction lead: to an outermost begin that is accepted, or to its end
   abbrev pub begin_within : ℕ → P → List ℕ → Option Call → Option (Beginning P)
   begin_within zero p arena call = None
@@ -69,11 +62,20 @@ module _ {P : Type 0} (next : P → Option Call) (answered : P → Reply → P) 
   abbrev pub begin_of : P → List ℕ → Option (Beginning P)
   begin_of p arena = begin_within (left p) p arena (next p)
 
+module _ {P : Type 0} (next : P → Option Call) (answered : P → Reply → P) (restarted : P → P) (left : P → ℕ) (deepest : ℕ) where
+  -- The attempt is opaque: its player after the begin is p, n commits are done, and the memory is the bytes that the first a.at of them left.
+  pub record IsOpaque (p : P) (a : Attempt) (n : ℕ) (memory : List ℕ) : Type 0 where
+    pub no_older : a.began ≤ a.at
+    pub no_newer : a.at ≤ n
+    pub beginning : IsBeginningOf (pairs_of a) (answers next answered left deepest p memory a.arena a.props)
+    pub whole : is_open (alone deepest memory a) ≡ false → pairs_of a ≡ answers next answered left deepest p memory a.arena a.props
+    pub ends : EndsAs a.outcome (alone deepest memory a)
+
   -- what follows an attempt whose player after the begin was p and that left the plain state s, if anything does
   abbrev pub follows : Outcome → P → Attempt → State → Option (Between P)
-  follows Committed p a s = Some (record { player = answered_all p (replies_of a); arena = s.arena; again = false; tries = 0 })
-  follows ReadOnly p a s = Some (record { player = answered_all p (replies_of a); arena = s.arena; again = false; tries = 0 })
-  follows Conflict p a s = Some (record { player = restarted (answered_all p (replies_of a)); arena = (undone s).arena; again = true; tries = a.nth })
+  follows Committed p a s = Some (record { player = answered_all answered p (replies_of a); arena = s.arena; again = false; tries = 0 })
+  follows ReadOnly p a s = Some (record { player = answered_all answered p (replies_of a); arena = s.arena; again = false; tries = 0 })
+  follows Conflict p a s = Some (record { player = restarted (answered_all answered p (replies_of a)); arena = (undone s).arena; again = true; tries = a.nth })
   follows Full p a s = None
   follows NoMemory p a s = None
   follows Unfinished p a s = None
@@ -93,4 +95,4 @@ module _ {P : Type 0} (next : P → Option Call) (answered : P → Reply → P) 
   IsRunOf n memory b [] = Unit {0}
   IsRunOf n memory None (a ∷ rest) = ⊥
   IsRunOf n memory (Some b) (a ∷ rest) =
-      IsTryAt n memory b (begin_of b.player b.arena) a × IsRunOf n memory (after_try memory b (begin_of b.player b.arena) a) rest
+      IsTryAt n memory b (begin_of next answered left deepest b.player b.arena) a × IsRunOf n memory (after_try memory b (begin_of next answered left deepest b.player b.arena) a) rest

@@ -1,12 +1,12 @@
 -- The laws of a player that makes the calls of a list.
-use Rattle.std.proofs.Common.{◌≡◌, ℕ, zero, suc, ◌+◌, ◌-◌, ◌<◌, ◌≤◌, min, Bool, true, false, List, [], ◌∷◌, length, Option, None, Some, slice_get, refl, sym, ap, subst, ◌∙◌, arith, if◌then◌else◌}
+use Rattle.std.proofs.Common.{◌≡◌, ℕ, ◌+◌, ◌<◌, min, List, length, Option, None, Some, slice_get, refl, sym, ap, ◌∙◌, arith, if◌then◌else◌}
 use Rattle.std.proofs.lemmas.Option.{slice_get_within}
 use Rattle.itm_types.specs.declared.call.Call.{Call}
 use Rattle.itm_types.specs.declared.call.Call.TheVariants.{Begin, Commit, Read, Write}
 use Rattle.itm_types.specs.declared.call.Reply.{Reply}
 use Rattle.itm_types.specs.declared.call.Reply.TheVariants.{Done, Bytes, Code, Refused}
 use Rattle.script_vm.specs.Depth.{depth_after, opens}
-use Rattle.norec_world.specs.Plan.{Plan, offered, next_call, answered, restarted, restarted_at, calls_left, depth, depth_in, begun_after, entered, left_by}
+use Rattle.norec_world.specs.Plan.{Plan, offered, next_call, answered, restarted, restarted_at, calls_left, depth, depth_in, begun_after}
 
 -- an offered call stands in the list
 offers : (b : Option ℕ) (o : Option Call) (c : Call) → offered b o ≡ Some c → o ≡ Some c

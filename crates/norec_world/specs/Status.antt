@@ -1,6 +1,5 @@
 -- What an actor does next.
 use Rattle.std.specs.Prelude.{Bool, true, false, Option, None, Some}
-use Rattle.itm_types.specs.declared.call.Call.{Call}
 use Rattle.itm_types.specs.declared.step.Step.{Step}
 use Rattle.norec_world.specs.declared.attempt.End.{End}
 use Rattle.norec_world.specs.declared.actor.Status.{Status}

@@ -5,6 +5,9 @@ use Rattle.norec_world.specs.World.{World}
 abbrev pub world_of : {P : Type 0} → Inside P → World P
 world_of w = record {
   opening = w.opening.items;
+  base = w.base;
+  arena = w.terms.arena;
+  max_commits = w.terms.limits.max_commits;
   cells = w.memory;
   actors = w.actors.items;
   attempts = w.recorded.rows.items;

@@ -1,11 +1,12 @@
 -- What contracts see of a world.
-use Rattle.std.specs.Prelude.{◌≡◌, ℕ, ◌+◌, ◌-◌, ◌*◌, ◌^◌, ◌<◌, ◌≤◌, min, Bool, true, false, List, [], ◌∷◌, Option, None, Some, Result, Ok, Err, slice_get}
+use Rattle.std.specs.Prelude.{◌≡◌, ℕ, ◌+◌, ◌-◌, ◌^◌, min, Bool, true, false, List, [], ◌∷◌, Option, None, Some, Result, Ok, Err, slice_get, replicate, ◌/◌, ◌%◌}
 use Rattle.std.specs.Option.{option_and_then}
 use Rattle.itm_types.specs.declared.call.Call.{Call}
 use Rattle.itm_types.specs.declared.call.Reply.{Reply}
 use Rattle.itm_types.specs.declared.step.Step.{Step}
 use Rattle.itm_types.specs.Memory.{bytes_of}
 use Rattle.norec_world.specs.declared.attempt.Attempt.{Attempt}
+use Rattle.norec_world.specs.declared.attempt.Outcome.TheVariants.{Unfinished}
 use Rattle.norec_world.specs.declared.attempt.End.{End}
 use Rattle.norec_world.specs.declared.attempt.End.TheVariants.{Finished, GaveUp, NoMemory}
 use Rattle.norec_world.specs.declared.fault.WorldFault.{WorldFault}
@@ -15,14 +16,26 @@ use Rattle.norec_world.specs.declared.actor.Actor.{Actor}
 use Rattle.norec_world.specs.Cells.{Cells}
 use Rattle.norec_world.specs.Status.{ending_of, is_ready, waiting_step}
 use Rattle.norec_world.specs.Sound.{IsSound}
+use Rattle.norec_world.specs.SoFar.{IsSoFar}
+use Rattle.norec_world.specs.Tracks.{HasEnded, Tracks}
 
 pub record World (P : Type 0) : Type 0 where
   pub opening : List P  -- the players as they were handed in
+  pub base : List ℕ  -- the memory as it was handed in
+  pub arena : ℕ  -- the bytes of each actor's arena
+  pub max_commits : ℕ
   pub cells : Cells
   pub actors : List (Actor P)
   pub attempts : List Attempt
   pub ended : ℕ  -- so many of them have ended
   pub events : ℕ
+
+-- it is a world of the same beginning
+pub record SameOpening {P : Type 0} (old new : World P) : Type 0 where
+  pub opening : new.opening ≡ old.opening
+  pub base : new.base ≡ old.base
+  pub arena : new.arena ≡ old.arena
+  pub max_commits : new.max_commits ≡ old.max_commits
 
 -- so many events more, standing still at the highest number
 abbrev pub counted : ℕ → ℕ → ℕ
@@ -32,9 +45,13 @@ counted events more = min (events + more) (2 ^ 64 - 1)
 abbrev pub memory_of : {P : Type 0} → World P → List ℕ
 memory_of w = bytes_of w.cells.words
 
+-- how one of these actors ended
+abbrev pub ending_in : {P : Type 0} → List (Actor P) → ℕ → Option End
+ending_in actors actor = option_and_then (λ a. ending_of a.status) (slice_get actors actor)
+
 -- how the actor ended
 abbrev pub ending_at : {P : Type 0} → World P → ℕ → Option End
-ending_at w actor = option_and_then (λ a. ending_of a.status) (slice_get w.actors actor)
+ending_at w actor = ending_in w.actors actor
 
 -- what an event is answered, by how its actor stands then
 abbrev pub told : Option End → Result (Unit {0}) WorldFault
@@ -62,3 +79,25 @@ module _ {P : Type 0} (next : P → Option Call) (answered : P → Reply → P) 
     pub sound : IsSound next answered restarted left depth cells r actor
     pub done : is_ready actor.status ≡ false
     pub thread : actor.thread ≡ 0
+
+-- what the one actor did is what its player does alone on the memory that was handed in, up to refused memory
+module _ {P : Type 0} (next : P → Option Call) (answered : P → Reply → P) (left : P → ℕ) where
+  pub record IsAlone (opening : List P) (base : List ℕ) (arena max_commits : ℕ) (cells : Cells) (rows : List Attempt) (actors : List (Actor P)) : Type 0 where
+    pub player : P
+    pub actor : Actor P
+    pub players : opening ≡ player ∷ []
+    pub one : actors ≡ actor ∷ []
+    pub tracks : Tracks next answered left max_commits player base (replicate arena 0) cells rows actor
+
+  abbrev pub RunsAlone : World P → Type 0
+  RunsAlone w = IsAlone w.opening w.base w.arena w.max_commits w.cells w.attempts w.actors
+
+  -- What its player has done alone: a beginning before its end, where the memory is told only of an even clock; all of it at its end, or a beginning where memory was refused.
+  abbrev pub DoneBy : World P → P → Option End → Type 0
+  DoneBy w p None = (memory : List ℕ) × IsSoFar next answered left w.max_commits 0 p w.base (replicate w.arena 0) (w.cells.clock / 2) memory Unfinished w.attempts
+      × (w.cells.clock % 2 ≡ 0 → memory_of w ≡ memory)
+  DoneBy w p (Some end) = HasEnded next answered left w.max_commits p w.base (replicate w.arena 0) w.cells w.attempts end
+
+  -- the players are one, and so far the world shows what that one has done alone
+  abbrev pub ShowsAlone : World P → Type 0
+  ShowsAlone w = (p : P) × (w.opening ≡ p ∷ []) × DoneBy w p (ending_at w 0)

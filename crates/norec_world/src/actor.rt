@@ -40,9 +40,11 @@ pub(crate) struct Actor<P> {
 }
 
 impl<P: Player> Actor<P> {
-    ghost use Rattle.std.specs.Prelude.{◌≡◌, Bool, true, false, [], Some, None};
+    ghost use Rattle.std.specs.Prelude.{◌≡◌, ◌/◌, Bool, true, false, [], Some, None};
     ghost use Rattle.norec_world.specs.Cells.{cells_after};
     ghost use Rattle.norec_world.specs.Status.{ending_of, is_waiting, is_ready, waiting_step};
+    ghost use Rattle.norec_world.specs.Records.{Tells, IsTold};
+    ghost use Rattle.norec_world.specs.Tracks.{StillTracks};
     ghost use Rattle.norec_world.specs.Sound.{IsKept, IsSound, IsDue, IsDone, StatusIs, GoesOn, Falls};
 
     /// An actor that has made no call.
@@ -91,6 +93,7 @@ impl<P: Player> Actor<P> {
         ensures sound { IsSound P.next_call P.answered P.restarted P.calls_left P.depth memory.new recorded.new self.new }
         ensures thread { self.new.thread ≡ self.old.thread }
         ensures cells { (step : Step) → waiting_step self.old.status ≡ Some step → memory.new ≡ cells_after memory.old step }
+        ensures tracks { StillTracks P.next_call P.answered P.calls_left memory.old recorded.old.rows.items self.old memory.new recorded.new.rows.items self.new }
         ensures goes_on { is_waiting self.new.status ≡ true → GoesOn P.next_call P.answered P.restarted P.calls_left P.depth self.old self.new }
         ensures falls { is_ready self.new.status ≡ true → Falls P.next_call P.answered P.restarted P.calls_left P.depth self.old.engine.is_open self.new.engine.is_open self.old self.new }
     {
@@ -108,8 +111,10 @@ impl<P: Player> Actor<P> {
     /// The call waits for a step, or what comes of its answer is recorded.
     pub(crate) fn proceed(&mut self, recorded: &mut Recorded, call: Call, next: Next)
         requires { (was : Bool) × IsDue P.next_call P.answered P.restarted P.calls_left P.depth was recorded.old self.old call next }
-        ensures { (was : Bool) → IsDue P.next_call P.answered P.restarted P.calls_left P.depth was recorded.old self.old call next
+        ensures done { (was : Bool) → IsDue P.next_call P.answered P.restarted P.calls_left P.depth was recorded.old self.old call next
             → IsDone P.next_call P.answered P.restarted P.calls_left P.depth was recorded.old recorded.new self.old self.new call next }
+        ensures tells { (was : Bool) → IsDue P.next_call P.answered P.restarted P.calls_left P.depth was recorded.old self.old call next
+            → Tells P.answered P.restarted was recorded.old.rows.items recorded.new.rows.items self.old self.new call next }
     {
         match next {
             Next::Step(step) => self.status = Status::Waits { call, step },
@@ -121,6 +126,7 @@ impl<P: Player> Actor<P> {
     fn follow(&self, recorded: &mut Recorded)
         requires { IsKept self.now.engine.is_open recorded.old self.now }
         ensures kept { IsKept self.now.engine.is_open recorded.new self.now }
+        ensures told { IsTold self.now.engine.is_open recorded.old.rows.items (self.now.engine.snapshot / 2) recorded.new.rows.items }
         ensures status { (status : Status) → StatusIs P.next_call P.answered P.restarted P.calls_left P.depth recorded.old self.now status
             → StatusIs P.next_call P.answered P.restarted P.calls_left P.depth recorded.new self.now status }
     {

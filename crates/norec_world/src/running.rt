@@ -10,6 +10,7 @@ use std::alloc::Global;
 
 impl<P: Player> Actor<P> {
     ghost use Rattle.norec_world.specs.Status.{is_ready, is_waiting, ending_of};
+    ghost use Rattle.norec_world.specs.Tracks.{StillTracks};
     ghost use Rattle.norec_world.specs.Sound.{IsSound, IsNoMore, Falls};
 
     /// Takes events until the actor has ended, and tells how many, up to 2^64 - 1.
@@ -24,6 +25,7 @@ impl<P: Player> Actor<P> {
         ensures sound { IsSound P.next_call P.answered P.restarted P.calls_left P.depth memory.new recorded.new self.new }
         ensures ended { IsSome (ending_of self.new.status) }
         ensures thread { self.new.thread ≡ self.old.thread }
+        ensures tracks { self.old.thread ≡ 0 → StillTracks P.next_call P.answered P.calls_left memory.old recorded.old.rows.items self.old memory.new recorded.new.rows.items self.new }
     {
         let mut taken = 0u64;
         while self.waits() {
@@ -40,6 +42,7 @@ impl<P: Player> Actor<P> {
         ensures sound { IsSound P.next_call P.answered P.restarted P.calls_left P.depth memory.new recorded.new self.new }
         ensures over { is_waiting self.new.status ≡ false }
         ensures thread { self.new.thread ≡ self.old.thread }
+        ensures tracks { StillTracks P.next_call P.answered P.calls_left memory.old recorded.old.rows.items self.old memory.new recorded.new.rows.items self.new }
         ensures falls { is_ready self.new.status ≡ true → Falls P.next_call P.answered P.restarted P.calls_left P.depth self.old.engine.is_open self.new.engine.is_open self.old self.new }
     {
         let mut taken = 0u64;

@@ -19,13 +19,13 @@ pub struct Passes {
 }
 
 impl<P: Player> World<P> {
-    ghost use Rattle.norec_world.specs.World.{counted};
+    ghost use Rattle.norec_world.specs.World.{counted, SameOpening};
 
     /// An event for each entry in turn, passing over those that name no actor or one that has ended.
     pub fn run(&mut self, alloc: Global, schedule: &[u8]) -> Passes
         ensures all { result.taken + result.passed + result.starved ≡ length schedule.now }
         ensures counts { self.new.events ≡ counted self.old.events (result.taken + result.starved) }
-        ensures opening { self.new.opening ≡ self.old.opening }
+        ensures opening { SameOpening self.old self.new }
         ensures actors { length self.new.actors ≡ length self.old.actors }
     {
         let _events = self.events();

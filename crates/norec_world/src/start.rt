@@ -1,10 +1,11 @@
 //! How actors begin.
 
-ghost use Rattle.std.specs.Prelude.{◌≡◌, ◌^◌, ◌<◌, ◌≤◌, false, length, vec_len, IfOk, All};
-ghost use Rattle.itm_types.specs.Memory.{AllFit};
-ghost use Rattle.norec_world.specs.Status.{is_ready};
+ghost use Rattle.std.specs.Prelude.{◌≡◌, ◌^◌, ◌<◌, ◌≤◌, false, [], length, replicate, vec_len, Some, IfOk, All};
+ghost use Rattle.itm_types.specs.Memory.{AllFit, bytes_of};
+ghost use Rattle.norec_world.specs.Tracks.{Tracks};
+ghost use Rattle.norec_world.specs.Status.{ending_of, is_ready};
 ghost use Rattle.norec_world.specs.Sound.{IsSound};
-ghost use Rattle.norec_world.specs.World.{IsSoundWorld};
+ghost use Rattle.norec_world.specs.World.{IsSoundWorld, IsAlone, ending_in};
 
 use crate::actor::Actor;
 use crate::attempt::End;
@@ -41,7 +42,11 @@ pub(crate) fn start_all<P: Player>(
     requires size { (0 < length memory.now.words) × (length memory.now.words ≤ 8192) }
     requires fit { AllFit memory.now.words }
     requires none { vec_len recorded.old.rows ≡ recorded.old.ended }
-    ensures { IfOk result (λ actors. IsSoundWorld P.next_call P.answered P.restarted P.calls_left P.depth memory.now recorded.new actors.items) }
+    requires empty { recorded.old.rows.items ≡ [] }
+    requires clock { memory.now.clock ≡ 0 }
+    ensures alone { IfOk result (λ actors. IsAlone P.next_call P.answered P.calls_left players.items (bytes_of memory.now.words) terms.arena terms.limits.max_commits memory.now recorded.new.rows.items actors.items) }
+    ensures fed { IfOk result (λ actors. ending_in actors.items 0 ≡ Some End.NoMemory → ⊥) }
+    ensures sound { IfOk result (λ actors. IsSoundWorld P.next_call P.answered P.restarted P.calls_left P.depth memory.now recorded.new actors.items) }
 {
     let mut actors = Vec::new(alloc);
     for player in players {
@@ -63,7 +68,11 @@ fn start<P: Player>(
     requires size { (0 < length memory.now.words) × (length memory.now.words ≤ 8192) }
     requires fit { AllFit memory.now.words }
     requires none { vec_len recorded.old.rows ≡ recorded.old.ended }
+    requires empty { recorded.old.rows.items ≡ [] }
+    requires clock { memory.now.clock ≡ 0 }
+    ensures tracks { IfOk result (Tracks P.next_call P.answered P.calls_left terms.limits.max_commits player (bytes_of memory.now.words) (replicate terms.arena 0) memory.now recorded.new.rows.items) }
     ensures sound { IfOk result (IsSound P.next_call P.answered P.restarted P.calls_left P.depth memory.now recorded.new) }
+    ensures fed { IfOk result (λ a. ending_of a.status ≡ Some End.NoMemory → ⊥) }
     ensures done { IfOk result (λ a. is_ready a.status ≡ false) }
     ensures thread { IfOk result (λ a. a.thread ≡ 0) }
 {

@@ -15,6 +15,8 @@ use std::alloc::{AllocError, Global};
 impl<P: Player> Actor<P> {
     ghost use Rattle.norec_world.specs.Cells.{Cells};
     ghost use Rattle.norec_world.specs.Status.{is_ready, ending_of};
+    ghost use Rattle.norec_world.specs.Records.{Asks, Records, StopsAt};
+    ghost use Rattle.norec_world.specs.Tracks.{StillTracks};
     ghost use Rattle.norec_world.specs.Sound.{IsTied, IsKept, IsReady, IsSound, IsAnswered, IsSettledBy, IsAsked, IsUnasked, IsNoMore, Falls, retried};
 
     /// Calls are made until one waits for a step or the actor has ended.
@@ -24,6 +26,7 @@ impl<P: Player> Actor<P> {
         ensures done { is_ready self.new.status ≡ false }
         ensures still { is_ready self.old.status ≡ false → self.new.status ≡ self.old.status }
         ensures thread { self.new.thread ≡ self.old.thread }
+        ensures tracks { self.old.thread ≡ 0 → StillTracks P.next_call P.answered P.calls_left memory.now recorded.old.rows.items self.old memory.now recorded.new.rows.items self.new }
         ensures less { ending_of self.new.status ≡ None → IsNoMore P.next_call P.answered P.restarted P.calls_left P.depth self.old self.new }
     {
         while let Status::Ready = self.status {
@@ -37,6 +40,7 @@ impl<P: Player> Actor<P> {
         requires ready { self.old.status ≡ Status.Ready }
         ensures sound { IsSound P.next_call P.answered P.restarted P.calls_left P.depth memory.now recorded.new self.new }
         ensures thread { self.new.thread ≡ self.old.thread }
+        ensures tracks { self.old.thread ≡ 0 → StillTracks P.next_call P.answered P.calls_left memory.now recorded.old.rows.items self.old memory.now recorded.new.rows.items self.new }
         ensures less { ending_of self.new.status ≡ None → IsNoMore P.next_call P.answered P.restarted P.calls_left P.depth self.old self.new }
         ensures falls { self.new.status ≡ Status.Ready → Falls P.next_call P.answered P.restarted P.calls_left P.depth self.old.engine.is_open self.new.engine.is_open self.old self.new }
     {
@@ -63,7 +67,9 @@ impl<P: Player> Actor<P> {
         requires ready { IsReady P.next_call P.answered P.restarted P.calls_left P.depth self.old }
         requires asks { P.next_call self.old.player ≡ Some call.now }
         ensures asked { IfOk result (λ next. IsAsked P.next_call P.answered P.restarted P.calls_left P.depth recorded.new self.old self.new call.now next) }
+        ensures told { IfOk result (λ next. Asks memory.now.clock recorded.old.rows.items recorded.new.rows.items self.old self.new call.now next) }
         ensures unasked { OnErr result (IsUnasked P.next_call P.answered P.restarted P.calls_left P.depth recorded.new self.old self.new) }
+        ensures rows { recorded.new.rows.items ≡ recorded.old.rows.items }
     {
         match call {
             Call::Begin { props, room } if !self.engine.is_open() => {
@@ -110,8 +116,10 @@ impl<P: Player> Actor<P> {
     /// What comes of the call's answer.
     pub(crate) fn settle(&mut self, recorded: &mut Recorded, call: Call, answer: Answer)
         requires { (was : Bool) × IsAnswered P.next_call P.answered P.restarted P.calls_left P.depth was recorded.old self.old call answer }
-        ensures { (was : Bool) → IsAnswered P.next_call P.answered P.restarted P.calls_left P.depth was recorded.old self.old call answer
+        ensures settled { (was : Bool) → IsAnswered P.next_call P.answered P.restarted P.calls_left P.depth was recorded.old self.old call answer
             → IsSettledBy P.next_call P.answered P.restarted P.calls_left P.depth was recorded.new self.old self.new }
+        ensures records { (was : Bool) → IsAnswered P.next_call P.answered P.restarted P.calls_left P.depth was recorded.old self.old call answer
+            → Records P.answered P.restarted was recorded.old.rows.items recorded.new.rows.items self.old self.new call answer }
     {
         match answer {
             Answer::Reply(reply) => self.replied(recorded, call, reply),
@@ -135,8 +143,10 @@ impl<P: Player> Actor<P> {
     /// The transaction is open as it was, or its begin is over.
     fn replied(&mut self, recorded: &mut Recorded, call: Call, reply: Reply)
         requires { (was : Bool) × IsAnswered P.next_call P.answered P.restarted P.calls_left P.depth was recorded.old self.old call (Answer.Reply reply) }
-        ensures { (was : Bool) → IsAnswered P.next_call P.answered P.restarted P.calls_left P.depth was recorded.old self.old call (Answer.Reply reply)
+        ensures settled { (was : Bool) → IsAnswered P.next_call P.answered P.restarted P.calls_left P.depth was recorded.old self.old call (Answer.Reply reply)
             → IsSettledBy P.next_call P.answered P.restarted P.calls_left P.depth was recorded.new self.old self.new }
+        ensures records { (was : Bool) → IsAnswered P.next_call P.answered P.restarted P.calls_left P.depth was recorded.old self.old call (Answer.Reply reply)
+            → Records P.answered P.restarted was recorded.old.rows.items recorded.new.rows.items self.old self.new call (Answer.Reply reply) }
     {
         self.player.answer(&reply);
         let is_open = self.engine.is_open();
@@ -159,8 +169,10 @@ impl<P: Player> Actor<P> {
     /// The block is done, and the next one is tried for the first time.
     fn committed(&mut self, recorded: &mut Recorded, call: Call, at: u64, wrote: bool)
         requires { (was : Bool) × IsAnswered P.next_call P.answered P.restarted P.calls_left P.depth was recorded.old self.old call (Answer.Committed at wrote) }
-        ensures { (was : Bool) → IsAnswered P.next_call P.answered P.restarted P.calls_left P.depth was recorded.old self.old call (Answer.Committed at wrote)
+        ensures settled { (was : Bool) → IsAnswered P.next_call P.answered P.restarted P.calls_left P.depth was recorded.old self.old call (Answer.Committed at wrote)
             → IsSettledBy P.next_call P.answered P.restarted P.calls_left P.depth was recorded.new self.old self.new }
+        ensures records { (was : Bool) → IsAnswered P.next_call P.answered P.restarted P.calls_left P.depth was recorded.old self.old call (Answer.Committed at wrote)
+            → Records P.answered P.restarted was recorded.old.rows.items recorded.new.rows.items self.old self.new call (Answer.Committed at wrote) }
     {
         self.player.answer(&Reply::Done);
         let entry = Entry {
@@ -196,6 +208,8 @@ impl<P: Player> Actor<P> {
         ensures player { self.new.player ≡ self.old.player }
         ensures closed { self.new.engine.is_open ≡ false }
         ensures same { (self.new.nth ≡ self.old.nth) × (self.new.retries ≡ self.old.retries) }
+        ensures row { self.old.engine.is_open ≡ true → StopsAt recorded.old.rows.items (self.old.engine.snapshot / 2) Outcome.NoMemory recorded.new.rows.items }
+        ensures none { self.old.engine.is_open ≡ false → recorded.new.rows.items ≡ recorded.old.rows.items }
     {
         if let Undone::Done = self.engine.abort() {
             recorded.end(self.thread, self.engine.snapshot() / 2, Outcome::NoMemory);

@@ -6,6 +6,7 @@ ghost use Rattle.norec_world.specs.World.{told};
 use crate::actor::Actor;
 use crate::attempt::{Attempt, End};
 use crate::fault::WorldFault;
+use crate::lists::Bytes;
 use crate::memory::Memory;
 use crate::recorded::Recorded;
 use crate::setup::Setup;
@@ -20,6 +21,8 @@ use std::marker::Model;
 #[derive(Drop)]
 pub struct World<P: Player> {
     opening: Vec<P>,
+    base: Bytes,
+    terms: Terms,
     memory: Memory,
     actors: Vec<Actor<P>>,
     recorded: Recorded,
@@ -32,16 +35,16 @@ impl<P: Player> Model for World<P> {
     ghost Value = { World P };
 
     ghost use Rattle.norec_world.specs.Views.{world_of};
-    ghost use Rattle.norec_world.specs.World.{IsSoundWorld};
+    ghost use Rattle.norec_world.specs.World.{IsSoundWorld, RunsAlone};
 
     ghost view = { world_of };
 
-    ghost invariant = { λ w. IsSoundWorld P.next_call P.answered P.restarted P.calls_left P.depth w.memory w.recorded w.actors.items };
+    ghost invariant = { λ w. IsSoundWorld P.next_call P.answered P.restarted P.calls_left P.depth w.memory w.recorded w.actors.items × RunsAlone P.next_call P.answered P.calls_left (world_of w) };
 }
 
 impl<P: Player> World<P> {
     ghost use Rattle.norec_world.specs.Cells.{cells_after};
-    ghost use Rattle.norec_world.specs.World.{counted, ending_at, waits_at, memory_of, told, is_event};
+    ghost use Rattle.norec_world.specs.World.{counted, ending_at, waits_at, memory_of, told, is_event, SameOpening, ShowsAlone};
 
     /// A world over this memory, with the clock at 0. Each actor's local work up to its first operation is done.
     pub fn new(alloc: Global, setup: Setup, players: Vec<P>) -> Result<Self, AllocError>
@@ -54,11 +57,16 @@ impl<P: Player> World<P> {
         requires outside { All (λ p. P.depth p ≡ 0) players.items }
         ensures opening { IfOk result (λ w. w.opening ≡ players.items) }
         ensures memory { IfOk result (λ w. memory_of w ≡ setup.bytes) }
+        ensures base { IfOk result (λ w. w.base ≡ setup.bytes) }
+        ensures arena { IfOk result (λ w. w.arena ≡ setup.arena) }
+        ensures limit { IfOk result (λ w. w.max_commits ≡ setup.limits.max_commits) }
         ensures clock { IfOk result (λ w. w.cells.clock ≡ 0) }
         ensures events { IfOk result (λ w. w.events ≡ 0) }
         ensures actors { IfOk result (λ w. length w.actors ≡ 1) }
+        ensures fed { IfOk result (λ w. ending_at w 0 ≡ Some End.NoMemory → ⊥) }
     {
         let opening = copies(alloc, &players)?;
+        let base = Bytes::new(setup.bytes.as_slice().to_vec(alloc)?);
         let terms = Terms {
             arena: setup.arena,
             limits: setup.limits,
@@ -69,6 +77,8 @@ impl<P: Player> World<P> {
         let actors = start_all(alloc, terms, &memory, &mut recorded, players)?;
         Ok(World {
             opening,
+            base,
+            terms,
             memory,
             actors,
             recorded,
@@ -87,7 +97,7 @@ impl<P: Player> World<P> {
         ensures counts { IsTrue (is_event result) → self.new.events ≡ counted self.old.events 1 }
         ensures unchanged { is_event result ≡ false → self.new ≡ self.old }
 
-        ensures opening { self.new.opening ≡ self.old.opening }
+        ensures opening { SameOpening self.old self.new }
         ensures actors { length self.new.actors ≡ length self.old.actors }
     {
         match self.actors.get(actor as usize) {
@@ -108,7 +118,7 @@ impl<P: Player> World<P> {
         requires { IsSome (waits_at self.old actor) }
         ensures operation { (step : Step) → waits_at self.old actor ≡ Some step → self.new.cells ≡ cells_after self.old.cells step }
         ensures counts { self.new.events ≡ counted self.old.events 1 }
-        ensures opening { self.new.opening ≡ self.old.opening }
+        ensures opening { SameOpening self.old self.new }
         ensures actors { length self.new.actors ≡ length self.old.actors }
     {
         let a = &mut self.actors[actor];
@@ -122,7 +132,7 @@ impl<P: Player> World<P> {
         ensures no_such { length self.old.actors ≤ actor → (result ≡ 0) × (self.new ≡ self.old) }
         ensures ended { actor < length self.old.actors → IsSome (ending_at self.new actor) }
         ensures counts { self.new.events ≡ counted self.old.events result }
-        ensures opening { self.new.opening ≡ self.old.opening }
+        ensures opening { SameOpening self.old self.new }
         ensures actors { length self.new.actors ≡ length self.old.actors }
     {
         let index = actor as usize;
@@ -142,9 +152,13 @@ impl<P: Player> World<P> {
         &self.opening
     }
 
-    /// The attempts that have ended, in the order in which they did, and then the open ones by actor.
+    /// The attempts that have ended, in the order in which they did, and then the open ones by actor. They are those
+    /// of the player alone on the memory that was handed in: all of them once its actor has ended, and the first ones
+    /// before, or where the actor found no memory.
+    #[tactic(auto, using(crate::proofs::Ends::shows_alone))]
     pub fn attempts(&self) -> &[Attempt]
-        ensures { result.now ≡ self.now.attempts }
+        ensures value { result.now ≡ self.now.attempts }
+        ensures alone { ShowsAlone P.next_call P.answered P.calls_left self.now }
     {
         &self.recorded.rows
     }

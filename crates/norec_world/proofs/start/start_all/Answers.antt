@@ -1,6 +1,12 @@
-use Rattle.std.proofs.Common.{◌≡◌, ◌≤◌, ◌<◌, ℕ, suc, [], ◌∷◌, ◌++◌, List, length, ap, ◌∙◌, arith}
+use Rattle.std.proofs.Common.{rules, ◌≡◌, ◌≤◌, suc, [], ◌∷◌, ◌++◌, List, length, ap, sym, subst, refl, ◌∙◌, arith}
+use Rattle.itm_types.specs.Memory.{bytes_of}
+use Rattle.norec_world.specs.World.{IsAlone, ending_in}
 use Rattle.norec_world.specs.declared.actor.Actor.{Actor}
 use Rattle.norec_world.proofs.start.start_all.Goals as goal
+
+nil_of : {A : Type 0} (xs : List A) → length xs ≡ 0 → xs ≡ []
+nil_of [] e = refl
+nil_of (x ∷ xs) e = absurd (cc)
 
 pub loop-player-preserved : goal.loop-player-preserved
 loop-player-preserved g c =
@@ -21,4 +27,19 @@ loop-player-preserved g c =
         done = c.in_ok-actor.ensures.done;
         thread = c.in_ok-actor.ensures.thread;
       };
+      empty = λ e. absurd (omega arith);
+      all = λ e. absurd (omega arith);
+      fed = λ e n. c.in_ok-actor.ensures.fed (sym (ap (λ (l : List (Actor g.row.P.Denot)). ending_in l 0) (c.in_ok-push.ensures.items ∙ ap (λ (l : List (Actor g.row.P.Denot)). l ++ c.in_ok-actor.actor ∷ []) before)) ∙ n);
+      alone = λ e. record {
+        player = c.in-Some.player;
+        actor = c.in_ok-actor.actor;
+        players = sym (i.all (omega arith)) ∙ (c.in-Some.ensures.steps.0 ∙ ap (λ (l : List g.row.P.Denot). c.in-Some.player ∷ l) (nil_of c.next.new.self.rest.items none));
+        one = c.in_ok-push.ensures.items ∙ ap (λ (l : List (Actor g.row.P.Denot)). l ++ c.in_ok-actor.actor ∷ []) before;
+        tracks = c.in_ok-actor.ensures.tracks;
+      };
     }
+
+pub returns-clause-alone : goal.returns-clause-alone
+returns-clause-alone g c =
+    subst (λ (players : List g.row.P.Denot). IsAlone g.P.Player.next_call g.P.Player.answered g.P.Player.calls_left players (bytes_of c.args.memory.now.words) c.args.terms.arena c.args.terms.limits.max_commits c.args.memory.now c.loop-player.recorded.rows.items c.loop-player.actors.items)
+    (search rules) (c.loop-player.invariant.alone (search rules))

@@ -1,4 +1,4 @@
-use Rattle.std.proofs.Common.{◌≡◌, ◌+◌, ◌++◌, ◌∷◌, [], List, ap, ◌∙◌, refl, sym, subst, ℕ, length, Bool, true, false, None}
+use Rattle.std.proofs.Common.{◌≡◌, ◌+◌, ◌++◌, ◌∷◌, [], List, ap, ◌∙◌, sym, subst, ℕ, length, Bool, true}
 use Rattle.itm_types.specs.declared.call.Reply.TheVariants.{Done}
 use Rattle.norec_world.specs.declared.attempt.Attempt.{Attempt}
 use Rattle.norec_world.specs.Rows.{IsLast}
@@ -7,8 +7,8 @@ use Rattle.norec_world.proofs.Settling.{after_commit}
 use Rattle.norec_world.proofs.Recording.{all_ended}
 use Rattle.norec_world.proofs.actor.Actor.committed.Goals as goal
 
-pub returns : goal.returns
-returns g c was d =
+pub returns-clause-settled : goal.returns-clause-settled
+returns-clause-settled g c was d =
     let l = g.met.P.Player in
     let a = c.args.self.now in
     let r = c.args.recorded.now in

@@ -1,11 +1,13 @@
 use Rattle.std.proofs.Common.{◌≡◌, true}
 use Rattle.norec_world.specs.Status.{is_waiting, is_ready}
+use Rattle.norec_world.specs.Tracks.{StillTracks}
 use Rattle.norec_world.specs.Sound.{IsSound, IsNoMore, Falls, call_left}
 use Rattle.norec_world.proofs.actor.Actor.finish_call.Given as goal
 
 abbrev pub invariant-loop-self : goal.invariant-loop-self
 invariant-loop-self g l = record {
   sound : IsSound g.P.Player.next_call g.P.Player.answered g.P.Player.restarted g.P.Player.calls_left g.P.Player.depth l.memory l.recorded l.self;
+  tracks : StillTracks g.P.Player.next_call g.P.Player.answered g.P.Player.calls_left l.initial.memory l.initial.recorded.rows.items l.initial.self l.memory l.recorded.rows.items l.self;
   thread : l.self.thread ≡ l.initial.self.thread;
   less : is_waiting l.self.status ≡ true → IsNoMore g.P.Player.next_call g.P.Player.answered g.P.Player.restarted g.P.Player.calls_left g.P.Player.depth l.initial.self l.self;
   falls : is_ready l.self.status ≡ true → Falls g.P.Player.next_call g.P.Player.answered g.P.Player.restarted g.P.Player.calls_left g.P.Player.depth l.initial.self.engine.is_open l.self.engine.is_open l.initial.self l.self;

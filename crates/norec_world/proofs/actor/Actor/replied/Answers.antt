@@ -1,12 +1,12 @@
-use Rattle.std.proofs.Common.{◌≡◌, ◌/◌, ◌≤◌, ℕ, length, vec_len, Some, subst, ◌++◌, ◌∷◌, [], List, ap, ◌∙◌, refl, sym, Bool, true, false, None, is_some}
+use Rattle.std.proofs.Common.{◌≡◌, ◌/◌, length, vec_len, Some, subst, ◌++◌, ◌∷◌, [], List, ap, ◌∙◌, sym, Bool, true, false, None, is_some}
 use Rattle.norec_world.specs.declared.attempt.Attempt.{Attempt}
 use Rattle.norec_world.proofs.Settling.{after_reply}
 use Rattle.norec_world.proofs.Recording.{row_stays, was_open, row_opened, row_none, within_last}
 use Rattle.norec_world.specs.Sound.{HasRow}
 use Rattle.norec_world.proofs.actor.Actor.replied.Goals as goal
 
-pub returns-else-is_open : goal.returns-else-is_open
-returns-else-is_open g c was d =
+pub returns-else-is_open-clause-settled : goal.returns-else-is_open-clause-settled
+returns-else-is_open-clause-settled g c was d =
     let l = g.met.P.Player in
     let a = c.args.self.now in
     let r = c.args.recorded.now in
@@ -15,8 +15,8 @@ returns-else-is_open g c was d =
     was c.args.reply d c.answer.new.self c.answer.ensures a.spare d.kept.empty c.take.new.self c.take.ensures.after a.again
     (row_stays r a.thread was a.engine.is_open d.fits.1 closed d.kept.row) d.kept.within
 
-pub returns-then-is_open : goal.returns-then-is_open
-returns-then-is_open g c was d =
+pub returns-then-is_open-clause-settled : goal.returns-then-is_open-clause-settled
+returns-then-is_open-clause-settled g c was d =
     let l = g.met.P.Player in
     let a = c.args.self.now in
     let r = c.args.recorded.now in
@@ -33,8 +33,8 @@ returns-then-is_open g c was d =
     was c.args.reply d c.answer.new.self c.answer.ensures a.spare d.kept.empty c.take.new.self c.take.ensures.after true
     (row_opened r' a.thread a.engine.is_open r.rows.items row opened count items p.thread p.outcome) (within_last r' r.rows.items row count items)
 
-pub returns-then-is_open-2 : goal.returns-then-is_open-2
-returns-then-is_open-2 g c was d =
+pub returns-then-is_open-2-clause-settled : goal.returns-then-is_open-2-clause-settled
+returns-then-is_open-2-clause-settled g c was d =
     let l = g.met.P.Player in
     let a = c.args.self.now in
     let r = c.args.recorded.now in
@@ -52,8 +52,8 @@ returns-then-is_open-2 g c was d =
     was c.args.reply d c.answer.new.self c.answer.ensures c.add.new.spare c.add.ensures.empty c.take.new.self c.take.ensures.after a.again
     (row_opened r' a.thread a.engine.is_open past row opened count items h.2.thread_is h.3) (within_last r' past row count items)
 
-pub returns-else-is_open-2 : goal.returns-else-is_open-2
-returns-else-is_open-2 g c was d =
+pub returns-else-is_open-2-clause-settled : goal.returns-else-is_open-2-clause-settled
+returns-else-is_open-2-clause-settled g c was d =
     let l = g.met.P.Player in
     let a = c.args.self.now in
     let r = c.args.recorded.now in

@@ -16,6 +16,8 @@ loop-alloc-preserved g c =
       sound = c.work.ensures.sound;
       ready = c.work.ensures.done;
       thread = c.work.ensures.thread ∙ (c.finish_call.ensures.thread ∙ c.loop-alloc.invariant.thread);
+      tracks = λ z max_commits p0 base arena t. c.work.ensures.tracks (c.finish_call.ensures.thread ∙ (c.loop-alloc.invariant.thread ∙ z)) max_commits p0 base arena
+          (c.finish_call.ensures.tracks max_commits p0 base arena (c.loop-alloc.invariant.tracks z max_commits p0 base arena t));
       less = λ w. less_less g.P.Player.next_call g.P.Player.answered g.P.Player.restarted g.P.Player.calls_left g.P.Player.depth c.args.self.now c.loop-alloc.self c.work.new.self (c.loop-alloc.invariant.less waits)
           (turn_less g.P.Player.next_call g.P.Player.answered g.P.Player.restarted g.P.Player.calls_left g.P.Player.depth c.loop-alloc.self c.finish_call.new.self c.work.new.self
           waits c.finish_call.ensures.over c.finish_call.ensures.falls c.work.ensures.still c.work.ensures.less w);

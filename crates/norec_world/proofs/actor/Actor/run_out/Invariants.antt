@@ -1,5 +1,6 @@
 use Rattle.std.proofs.Common.{◌≡◌, true, false}
 use Rattle.norec_world.specs.Status.{is_waiting, is_ready}
+use Rattle.norec_world.specs.Tracks.{StillTracks}
 use Rattle.norec_world.specs.Sound.{IsSound, IsNoMore, whole, run_left}
 use Rattle.norec_world.proofs.actor.Actor.run_out.Given as goal
 
@@ -7,6 +8,7 @@ abbrev pub invariant-loop-alloc : goal.invariant-loop-alloc
 invariant-loop-alloc g l = record {
   sound : IsSound g.P.Player.next_call g.P.Player.answered g.P.Player.restarted g.P.Player.calls_left g.P.Player.depth l.memory l.recorded l.self;
   ready : is_ready l.self.status ≡ false;
+  tracks : l.initial.self.thread ≡ 0 → StillTracks g.P.Player.next_call g.P.Player.answered g.P.Player.calls_left l.initial.memory l.initial.recorded.rows.items l.initial.self l.memory l.recorded.rows.items l.self;
   thread : l.self.thread ≡ l.initial.self.thread;
   less : is_waiting l.self.status ≡ true → IsNoMore g.P.Player.next_call g.P.Player.answered g.P.Player.restarted g.P.Player.calls_left g.P.Player.depth l.initial.self l.self;
 }

@@ -1,16 +1,14 @@
-use Rattle.std.proofs.Common.{◌≡◌, ◌+◌, ◌++◌, ◌∷◌, [], List, ap, ◌∙◌, refl, sym, subst, ℕ, length, Bool, true, false, None}
-use Rattle.norec_engine.specs.declared.answer.Answer.{Answer}
+use Rattle.std.proofs.Common.{◌≡◌, ◌+◌, List, ap, ◌∙◌, refl, sym, subst, ℕ, length, Bool, true, false, None}
 use Rattle.norec_engine.specs.declared.answer.Answer.TheVariants.{Conflict, Busy, Full}
 use Rattle.norec_world.specs.declared.attempt.Attempt.{Attempt}
-use Rattle.norec_world.specs.declared.actor.Actor.{Actor}
 use Rattle.norec_world.specs.declared.attempt.End.TheVariants.{GaveUp}
 use Rattle.norec_world.specs.Sound.{depth_if, HasRow, AnswerFits, IsSettledBy, whole}
 use Rattle.norec_world.proofs.Settling.{after_try, after_end}
 use Rattle.norec_world.proofs.Recording.{all_ended}
 use Rattle.norec_world.proofs.actor.Actor.settle.Goals as goal
 
-pub returns-in-Conflict : goal.returns-in-Conflict
-returns-in-Conflict g c was d =
+pub returns-in-Conflict-clause-settled : goal.returns-in-Conflict-clause-settled
+returns-in-Conflict-clause-settled g c was d =
     let l = g.met.P.Player in
     let a = c.args.self.now in
     let r = c.args.recorded.now in
@@ -28,8 +26,8 @@ returns-in-Conflict g c was d =
     (ap g.P.Player.calls_left c.restart.ensures ∙ sym (ap (λ (b : Bool). whole g.P.Player.next_call g.P.Player.answered g.P.Player.restarted g.P.Player.calls_left g.P.Player.depth b a.player) fits.0))
     fits.1 (all_ended r' past _ count items))
 
-pub returns-in-Busy : goal.returns-in-Busy
-returns-in-Busy g c was d =
+pub returns-in-Busy-clause-settled : goal.returns-in-Busy-clause-settled
+returns-in-Busy-clause-settled g c was d =
     let l = g.met.P.Player in
     let a = c.args.self.now in
     let r = c.args.recorded.now in
@@ -42,8 +40,8 @@ returns-in-Busy g c was d =
     (sym (ap (λ (b : Bool). whole g.P.Player.next_call g.P.Player.answered g.P.Player.restarted g.P.Player.calls_left g.P.Player.depth b a.player) fits.0))
     fits.1 (sym h))
 
-pub returns-in-Full : goal.returns-in-Full
-returns-in-Full g c was d =
+pub returns-in-Full-clause-settled : goal.returns-in-Full-clause-settled
+returns-in-Full-clause-settled g c was d =
     let l = g.met.P.Player in
     let a = c.args.self.now in
     let r = c.args.recorded.now in

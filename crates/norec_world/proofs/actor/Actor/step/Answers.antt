@@ -1,5 +1,6 @@
-use Rattle.std.proofs.Common.{◌≡◌, ap, ◌∙◌, refl, sym, subst}
+use Rattle.std.proofs.Common.{sym}
 use Rattle.norec_world.proofs.Stepping.{step_due, step_done}
+use Rattle.norec_world.proofs.Handing.{stepped}
 use Rattle.norec_world.proofs.actor.Actor.step.Goals as goal
 
 pub proceed-requires : goal.proceed-requires
@@ -17,7 +18,7 @@ follow-requires g c =
     c.in-Waits.call c.in-Waits.step (sym c.in-Waits.ensures.value) c.apply-seen.result c.apply-seen.ensures.found c.apply-seen.new.self c.apply-seen.ensures.cells c.apply-seen.ensures.fit
     c.resume-next.new.self c.resume-next.ensures.joins c.resume-next.ensures.settled c.resume-next.ensures.count
     c.resume-next.result c.resume-next.ensures.proceeds c.replace.new.dest c.proceed.new.recorded c.proceed.new.self
-    (c.proceed.ensures c.args.self.now.engine.is_open (step_due g.P.Player.next_call g.P.Player.answered g.P.Player.restarted g.P.Player.calls_left g.P.Player.depth c.args.memory.now c.args.recorded.now c.args.self.now c.requires.sound
+    (c.proceed.ensures.done c.args.self.now.engine.is_open (step_due g.P.Player.next_call g.P.Player.answered g.P.Player.restarted g.P.Player.calls_left g.P.Player.depth c.args.memory.now c.args.recorded.now c.args.self.now c.requires.sound
     c.in-Waits.call c.in-Waits.step (sym c.in-Waits.ensures.value) c.apply-seen.result c.apply-seen.ensures.found c.apply-seen.new.self c.apply-seen.ensures.cells c.apply-seen.ensures.fit
     c.resume-next.new.self c.resume-next.ensures.joins c.resume-next.ensures.settled c.resume-next.ensures.count
     c.resume-next.result c.resume-next.ensures.proceeds c.replace.new.dest c.replace.ensures.after)) in
@@ -29,7 +30,7 @@ returns-in-Waits-clause-sound g c =
     c.in-Waits.call c.in-Waits.step (sym c.in-Waits.ensures.value) c.apply-seen.result c.apply-seen.ensures.found c.apply-seen.new.self c.apply-seen.ensures.cells c.apply-seen.ensures.fit
     c.resume-next.new.self c.resume-next.ensures.joins c.resume-next.ensures.settled c.resume-next.ensures.count
     c.resume-next.result c.resume-next.ensures.proceeds c.replace.new.dest c.proceed.new.recorded c.proceed.new.self
-    (c.proceed.ensures c.args.self.now.engine.is_open (step_due g.P.Player.next_call g.P.Player.answered g.P.Player.restarted g.P.Player.calls_left g.P.Player.depth c.args.memory.now c.args.recorded.now c.args.self.now c.requires.sound
+    (c.proceed.ensures.done c.args.self.now.engine.is_open (step_due g.P.Player.next_call g.P.Player.answered g.P.Player.restarted g.P.Player.calls_left g.P.Player.depth c.args.memory.now c.args.recorded.now c.args.self.now c.requires.sound
     c.in-Waits.call c.in-Waits.step (sym c.in-Waits.ensures.value) c.apply-seen.result c.apply-seen.ensures.found c.apply-seen.new.self c.apply-seen.ensures.cells c.apply-seen.ensures.fit
     c.resume-next.new.self c.resume-next.ensures.joins c.resume-next.ensures.settled c.resume-next.ensures.count
     c.resume-next.result c.resume-next.ensures.proceeds c.replace.new.dest c.replace.ensures.after)) in
@@ -41,7 +42,7 @@ returns-in-Waits-clause-thread g c =
     c.in-Waits.call c.in-Waits.step (sym c.in-Waits.ensures.value) c.apply-seen.result c.apply-seen.ensures.found c.apply-seen.new.self c.apply-seen.ensures.cells c.apply-seen.ensures.fit
     c.resume-next.new.self c.resume-next.ensures.joins c.resume-next.ensures.settled c.resume-next.ensures.count
     c.resume-next.result c.resume-next.ensures.proceeds c.replace.new.dest c.proceed.new.recorded c.proceed.new.self
-    (c.proceed.ensures c.args.self.now.engine.is_open (step_due g.P.Player.next_call g.P.Player.answered g.P.Player.restarted g.P.Player.calls_left g.P.Player.depth c.args.memory.now c.args.recorded.now c.args.self.now c.requires.sound
+    (c.proceed.ensures.done c.args.self.now.engine.is_open (step_due g.P.Player.next_call g.P.Player.answered g.P.Player.restarted g.P.Player.calls_left g.P.Player.depth c.args.memory.now c.args.recorded.now c.args.self.now c.requires.sound
     c.in-Waits.call c.in-Waits.step (sym c.in-Waits.ensures.value) c.apply-seen.result c.apply-seen.ensures.found c.apply-seen.new.self c.apply-seen.ensures.cells c.apply-seen.ensures.fit
     c.resume-next.new.self c.resume-next.ensures.joins c.resume-next.ensures.settled c.resume-next.ensures.count
     c.resume-next.result c.resume-next.ensures.proceeds c.replace.new.dest c.replace.ensures.after)) in
@@ -53,7 +54,7 @@ returns-in-Waits-clause-goes_on g c =
     c.in-Waits.call c.in-Waits.step (sym c.in-Waits.ensures.value) c.apply-seen.result c.apply-seen.ensures.found c.apply-seen.new.self c.apply-seen.ensures.cells c.apply-seen.ensures.fit
     c.resume-next.new.self c.resume-next.ensures.joins c.resume-next.ensures.settled c.resume-next.ensures.count
     c.resume-next.result c.resume-next.ensures.proceeds c.replace.new.dest c.proceed.new.recorded c.proceed.new.self
-    (c.proceed.ensures c.args.self.now.engine.is_open (step_due g.P.Player.next_call g.P.Player.answered g.P.Player.restarted g.P.Player.calls_left g.P.Player.depth c.args.memory.now c.args.recorded.now c.args.self.now c.requires.sound
+    (c.proceed.ensures.done c.args.self.now.engine.is_open (step_due g.P.Player.next_call g.P.Player.answered g.P.Player.restarted g.P.Player.calls_left g.P.Player.depth c.args.memory.now c.args.recorded.now c.args.self.now c.requires.sound
     c.in-Waits.call c.in-Waits.step (sym c.in-Waits.ensures.value) c.apply-seen.result c.apply-seen.ensures.found c.apply-seen.new.self c.apply-seen.ensures.cells c.apply-seen.ensures.fit
     c.resume-next.new.self c.resume-next.ensures.joins c.resume-next.ensures.settled c.resume-next.ensures.count
     c.resume-next.result c.resume-next.ensures.proceeds c.replace.new.dest c.replace.ensures.after)) in
@@ -65,8 +66,24 @@ returns-in-Waits-clause-falls g c =
     c.in-Waits.call c.in-Waits.step (sym c.in-Waits.ensures.value) c.apply-seen.result c.apply-seen.ensures.found c.apply-seen.new.self c.apply-seen.ensures.cells c.apply-seen.ensures.fit
     c.resume-next.new.self c.resume-next.ensures.joins c.resume-next.ensures.settled c.resume-next.ensures.count
     c.resume-next.result c.resume-next.ensures.proceeds c.replace.new.dest c.proceed.new.recorded c.proceed.new.self
-    (c.proceed.ensures c.args.self.now.engine.is_open (step_due g.P.Player.next_call g.P.Player.answered g.P.Player.restarted g.P.Player.calls_left g.P.Player.depth c.args.memory.now c.args.recorded.now c.args.self.now c.requires.sound
+    (c.proceed.ensures.done c.args.self.now.engine.is_open (step_due g.P.Player.next_call g.P.Player.answered g.P.Player.restarted g.P.Player.calls_left g.P.Player.depth c.args.memory.now c.args.recorded.now c.args.self.now c.requires.sound
     c.in-Waits.call c.in-Waits.step (sym c.in-Waits.ensures.value) c.apply-seen.result c.apply-seen.ensures.found c.apply-seen.new.self c.apply-seen.ensures.cells c.apply-seen.ensures.fit
     c.resume-next.new.self c.resume-next.ensures.joins c.resume-next.ensures.settled c.resume-next.ensures.count
     c.resume-next.result c.resume-next.ensures.proceeds c.replace.new.dest c.replace.ensures.after)) in
     s.falls
+
+pub returns-in-Waits-clause-tracks : goal.returns-in-Waits-clause-tracks
+returns-in-Waits-clause-tracks g c max_commits p0 base arena t =
+    stepped g.P.Player.next_call g.P.Player.answered g.P.Player.restarted g.P.Player.calls_left g.P.Player.depth g.met.P.Player.nearer max_commits p0 base arena c.args.memory.now c.args.recorded.now c.args.self.now c.requires.sound
+    c.in-Waits.call c.in-Waits.step (sym c.in-Waits.ensures.value) c.apply-seen.result c.apply-seen.ensures.found c.apply-seen.new.self c.apply-seen.ensures.cells c.apply-seen.ensures.fit
+    c.resume-next.new.self c.resume-next.ensures.joins c.resume-next.ensures.settled c.resume-next.ensures.count
+    c.resume-next.result c.resume-next.ensures.proceeds c.replace.new.dest c.replace.ensures.after c.proceed.new.recorded c.proceed.new.self
+    (c.proceed.ensures.done c.args.self.now.engine.is_open (step_due g.P.Player.next_call g.P.Player.answered g.P.Player.restarted g.P.Player.calls_left g.P.Player.depth c.args.memory.now c.args.recorded.now c.args.self.now c.requires.sound
+    c.in-Waits.call c.in-Waits.step (sym c.in-Waits.ensures.value) c.apply-seen.result c.apply-seen.ensures.found c.apply-seen.new.self c.apply-seen.ensures.cells c.apply-seen.ensures.fit
+    c.resume-next.new.self c.resume-next.ensures.joins c.resume-next.ensures.settled c.resume-next.ensures.count
+    c.resume-next.result c.resume-next.ensures.proceeds c.replace.new.dest c.replace.ensures.after))
+    (c.proceed.ensures.tells c.args.self.now.engine.is_open (step_due g.P.Player.next_call g.P.Player.answered g.P.Player.restarted g.P.Player.calls_left g.P.Player.depth c.args.memory.now c.args.recorded.now c.args.self.now c.requires.sound
+    c.in-Waits.call c.in-Waits.step (sym c.in-Waits.ensures.value) c.apply-seen.result c.apply-seen.ensures.found c.apply-seen.new.self c.apply-seen.ensures.cells c.apply-seen.ensures.fit
+    c.resume-next.new.self c.resume-next.ensures.joins c.resume-next.ensures.settled c.resume-next.ensures.count
+    c.resume-next.result c.resume-next.ensures.proceeds c.replace.new.dest c.replace.ensures.after))
+    c.follow.new.recorded.rows.items c.follow.ensures.told t

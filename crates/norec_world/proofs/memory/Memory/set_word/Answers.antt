@@ -1,7 +1,7 @@
-use Rattle.std.proofs.Common.{rules, arith, ◌≡◌, ◌<◌, ◌≤◌, ◌+◌, ◌*◌, ◌/◌, ◌++◌, length, take, drop, sym, ap, ◌∙◌, subst, ℕ, List, slice_index, slice_set}
+use Rattle.std.proofs.Common.{arith, ◌≡◌, ◌<◌, ◌+◌, ◌*◌, ◌/◌, ◌++◌, length, take, drop, sym, ap, ◌∙◌, subst, ℕ, List, slice_set}
 use Rattle.std.specs.Int.{w64, to_le_bytes}
 use Rattle.itm_types.specs.Memory.{bytes_of, AllFit}
-use Rattle.itm_types.proofs.Words.{length-bytes_of, bytes_of-set}
+use Rattle.itm_types.proofs.Words.{bytes_of-set}
 use Rattle.std.proofs.lemmas.List.{with_items_is}
 use Rattle.norec_world.specs.Cells.{Cells, words_of, AreWords}
 use Rattle.norec_world.proofs.WordLists.{length-words_from, words_of-bytes_of, are_words-bytes_of, fit-set}

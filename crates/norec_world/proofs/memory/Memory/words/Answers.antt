@@ -1,4 +1,4 @@
-use Rattle.std.proofs.Common.{rules, arith, ◌≡◌, ◌≤◌, ◌/◌, length, ap, ◌∙◌, sym, ℕ}
+use Rattle.std.proofs.Common.{arith, ◌≡◌, ◌≤◌, ◌/◌, length, ap, ◌∙◌}
 use Rattle.norec_world.specs.Cells.{Cells, words_of}
 use Rattle.norec_world.proofs.WordLists.{length-words_from}
 use Rattle.norec_world.proofs.memory.Memory.words.Goals as goal

@@ -1,0 +1,72 @@
+-- What an actor that follows its player has done is a beginning of what the player does alone.
+use Rattle.std.proofs.Common.{◌≡◌, ◌⊎◌, inl, inr, ℕ, ◌+◌, ◌*◌, ◌/◌, ◌%◌, Bool, true, false, List, [], ◌∷◌, ◌++◌, length, Option, None, Some, refl, sym, ap, ◌∙◌, arith}
+use Rattle.itm_types.specs.declared.call.Call.{Call}
+use Rattle.itm_types.specs.declared.call.Reply.{Reply}
+use Rattle.itm_types.specs.Memory.{bytes_of}
+use Rattle.norec_engine.specs.Core.{Core}
+use Rattle.norec_world.specs.declared.attempt.Attempt.{Attempt}
+use Rattle.norec_world.specs.declared.attempt.Outcome.{Outcome}
+use Rattle.norec_world.specs.declared.attempt.Outcome.TheVariants.{NoMemory, Unfinished}
+use Rattle.norec_world.specs.Cells.{Cells}
+use Rattle.norec_world.specs.Solo.{Progress}
+use Rattle.norec_world.specs.Follows.{Follows, row_of}
+use Rattle.norec_world.specs.SoFar.{IsBegun, IsSoFar}
+use Rattle.norec_world.specs.Records.{StopsAt}
+
+half_even : (n k : ℕ) → n ≡ 2 * k → (n / 2 ≡ k) × (n % 2 ≡ 0)
+half_even n k e = (omega (arith, e), omega (arith, e))
+
+half_odd : (n k : ℕ) → n ≡ 2 * k + 1 → (n / 2 ≡ k) × (n % 2 ≡ 0 → ⊥)
+half_odd n k e = (omega (arith, e), λ z. omega (arith, e, z))
+
+module _ {P : Type 0} (next : P → Option Call) (answered : P → Reply → P) (left : P → ℕ) (max_commits thread : ℕ) (p0 : P) (base arena : List ℕ)
+    (b : Progress P) (past : List Attempt) (M : List ℕ) (cells : Cells) (rows : List Attempt) (p : P) (e : Core) (f : Follows next answered left max_commits thread p0 base arena b past M cells rows p e) where
+  abbrev SoFar : ℕ → List ℕ → Outcome → List Attempt → Type 0
+  SoFar commits memory outcome rows' = IsSoFar next answered left max_commits thread p0 base arena commits memory outcome rows'
+
+  either : (rows' : List Attempt) (outcome : Outcome) → (e.is_open ≡ false → rows' ≡ past) → (e.is_open ≡ true → IsBegun next answered left max_commits thread b past outcome rows')
+      → (rows' ≡ past) ⊎ IsBegun next answered left max_commits thread b past outcome rows'
+  either rows' outcome closed opens = by_case e.is_open refl
+    where
+      by_case : (o : Bool) → e.is_open ≡ o → (rows' ≡ past) ⊎ IsBegun next answered left max_commits thread b past outcome rows'
+      by_case true o = inr (opens o)
+      by_case false o = inl (closed o)
+
+  so_far : (commits : ℕ) (memory : List ℕ) (outcome : Outcome) (rows' : List Attempt) → commits ≡ b.commits → memory ≡ b.memory
+      → (e.is_open ≡ false → rows' ≡ past) → (e.is_open ≡ true → IsBegun next answered left max_commits thread b past outcome rows') → SoFar commits memory outcome rows'
+  so_far commits memory outcome rows' same_commits same_memory closed opens = record {
+    before = b;
+    past = past;
+    whole = f.whole;
+    commits_are = same_commits;
+    memory_is = same_memory;
+    rows_are = either rows' outcome closed opens;
+  }
+
+  begun : (outcome : Outcome) (rows' : List Attempt) (o : e.is_open ≡ true) → rows' ≡ past ++ row_of next answered left max_commits thread b (f.opens o).0 (f.opens o).1 outcome ∷ []
+      → IsBegun next answered left max_commits thread b past outcome rows'
+  begun outcome rows' o is = (let block = f.opens o in record { start = block.0; calls = block.1; rows_are = is; begins = block.3.comes; alone = block.3.alone })
+
+  -- half the clock is the number of commits, also while the clock is held
+  halves : (cells.clock / 2 ≡ b.commits) × (cells.clock % 2 ≡ 0 → bytes_of cells.words ≡ b.memory)
+  halves = by_case e.holds refl
+    where
+      by_case : (h : Bool) → e.holds ≡ h → (cells.clock / 2 ≡ b.commits) × (cells.clock % 2 ≡ 0 → bytes_of cells.words ≡ b.memory)
+      by_case true h = (let odd = half_odd cells.clock b.commits (f.held h).0 in (odd.0, λ z. absurd (odd.1 z)))
+      by_case false h = (let free = f.free h in ((half_even cells.clock b.commits free.0).0, λ z. ap bytes_of free.1 ∙ sym f.bytes))
+
+  pub unfinished : (memory : List ℕ) × SoFar (cells.clock / 2) memory Unfinished rows × (cells.clock % 2 ≡ 0 → bytes_of cells.words ≡ memory)
+  unfinished = (b.memory, so_far (cells.clock / 2) b.memory Unfinished rows halves.0 refl (λ o. (f.closed o).0) (λ o. begun Unfinished rows o (f.opens o).2), halves.1)
+
+  -- memory was refused, and the open row, if there is one, says so
+  pub starved : (rows' : List Attempt) → e.holds ≡ false → (e.is_open ≡ true → StopsAt rows (e.snapshot / 2) NoMemory rows') → (e.is_open ≡ false → rows' ≡ rows)
+      → (cells.clock % 2 ≡ 0) × SoFar (cells.clock / 2) (bytes_of cells.words) NoMemory rows'
+  starved rows' free stops none =
+      let even = half_even cells.clock b.commits (f.free free).0 in
+      (
+        even.1,
+        so_far (cells.clock / 2) (bytes_of cells.words) NoMemory rows' even.0 (halves.1 even.1) (λ o. none o ∙ (f.closed o).0)
+        (λ o. (let block = f.opens o in begun NoMemory rows' o (
+        stops o past (row_of next answered left max_commits thread b block.0 block.1 Unfinished) block.2
+        ∙ ap (λ (at : ℕ). past ++ record (row_of next answered left max_commits thread b block.0 block.1 NoMemory) { at = at } ∷ []) (half_even e.snapshot b.commits block.3.at).0))),
+      )

@@ -1,0 +1,98 @@
+-- One player that runs alone: each of its outermost blocks is one attempt, on the memory that the last one left.
+use Rattle.std.specs.Prelude.{ℕ, zero, suc, ◌+◌, ◌&&◌, Bool, true, false, nat_le, if◌then◌else◌, List, [], ◌∷◌, map, Option, None, Some}
+use Rattle.itm_types.specs.declared.call.Call.{Call}
+use Rattle.itm_types.specs.declared.call.Reply.{Reply}
+use Rattle.itm_model.specs.State.{State}
+use Rattle.itm_model.specs.Machine.{opened, is_open}
+use Rattle.itm_model.specs.Runs.{answers, state_after}
+use Rattle.norec_world.specs.declared.attempt.Entry.{Entry}
+use Rattle.norec_world.specs.declared.attempt.Attempt.{Attempt}
+use Rattle.norec_world.specs.declared.attempt.Outcome.{Outcome}
+use Rattle.norec_world.specs.declared.attempt.Outcome.TheVariants.{Committed, ReadOnly, Full, Unfinished}
+use Rattle.norec_world.specs.declared.attempt.End.{End}
+use Rattle.norec_world.specs.declared.attempt.End.TheVariants.{Finished, GaveUp}
+use Rattle.norec_world.specs.Opacity.{Beginning, begin_code, begin_of}
+
+-- a player between two blocks
+pub record Progress (P : Type 0) : Type 0 where
+  pub player : P
+  pub arena : List ℕ
+  pub memory : List ℕ
+  pub commits : ℕ  -- writers that have committed
+
+-- what a player has done when it has ended
+pub record Solo : Type 0 where
+  pub attempts : List Attempt
+  pub memory : List ℕ
+  pub commits : ℕ
+  pub ending : End
+
+abbrev pub entry_of : Call × Reply → Entry
+entry_of c = record { call = c.0; reply = c.1 }
+
+abbrev pub with_first : Attempt → Solo → Solo
+with_first a s = record s { attempts = a ∷ s.attempts }
+
+-- all but the last
+abbrev pub front : {A : Type 0} → List A → List A
+front [] = []
+front (x ∷ []) = []
+front (x ∷ y ∷ ys) = x ∷ front (y ∷ ys)
+
+abbrev pub one_if : Bool → ℕ
+one_if true = 1
+one_if false = 0
+
+-- it wrote and committed, or only read
+abbrev pub ended_as : Bool → Outcome
+ended_as true = Committed
+ended_as false = ReadOnly
+
+module _ {P : Type 0} (next : P → Option Call) (answered : P → Reply → P) (left : P → ℕ) (deepest max_commits thread : ℕ) where
+  abbrev pub the_attempt : Progress P → Beginning P → List (Call × Reply) → Outcome → Attempt
+  the_attempt b start pairs outcome = record {
+    thread = thread;
+    nth = 1;
+    began = b.commits;
+    at = b.commits;
+    props = start.props;
+    arena = start.arena;
+    calls = map entry_of pairs;
+    outcome = outcome;
+  }
+
+  -- the player after these replies
+  abbrev pub player_after : P → List (Call × Reply) → P
+  player_after p [] = p
+  player_after p (c ∷ cs) = player_after (answered p c.1) cs
+
+  -- after the block
+  abbrev pub passed : Progress P → P → List (Call × Reply) → State → Progress P
+  passed b p pairs s = record { player = player_after p pairs; arena = s.arena; memory = s.memory; commits = b.commits + one_if s.wrote }
+
+  abbrev pub stopped : Progress P → End → Solo
+  stopped b ending = record { attempts = []; memory = b.memory; commits = b.commits; ending = ending }
+
+  -- one block: its player after the begin is p, its calls with their replies are these, and s is the state after them
+  abbrev pub block_then : (Progress P → Solo) → Progress P → Beginning P → P → List (Call × Reply) → State → Solo
+  block_then rest b start p pairs s =
+      if is_open s then with_first (the_attempt b start pairs Unfinished) (stopped b Finished)
+      else (if s.wrote && nat_le max_commits b.commits then with_first (the_attempt b start (front pairs) Full) (stopped b GaveUp)
+      else with_first (the_attempt b start pairs (ended_as s.wrote)) (rest (passed b p pairs s)))
+
+  -- the block that begins here, and then the rest
+  abbrev pub begun_then : (Progress P → Solo) → Progress P → Option (Beginning P) → Solo
+  begun_then rest b None = stopped b Finished
+  begun_then rest b (Some start) =
+      let p = answered start.player (begin_code false) in
+      let pairs = answers next answered left deepest p b.memory start.arena start.props in
+      block_then rest b start p pairs (state_after deepest (opened b.memory start.arena start.props) (map (λ c. c.0) pairs))
+
+  -- the player's blocks, at most so many
+  abbrev pub solo_within : ℕ → Progress P → Solo
+  solo_within zero b = stopped b Finished
+  solo_within (suc n) b = begun_then (solo_within n) b (begin_of next answered left deepest b.player b.arena)
+
+  -- all that the player does alone on these bytes
+  abbrev pub solo : P → List ℕ → List ℕ → Solo
+  solo p memory arena = solo_within (left p) (record { player = p; arena = arena; memory = memory; commits = 0 })

@@ -1,0 +1,60 @@
+-- The one actor of a world, between two events: what its player does alone.
+use Rattle.std.specs.Prelude.{◌≡◌, ℕ, false, List, [], Option, Some, ◌/◌, ◌%◌}
+use Rattle.itm_types.specs.declared.call.Call.{Call}
+use Rattle.itm_types.specs.declared.call.Call.TheVariants.{Begin}
+use Rattle.itm_types.specs.declared.call.Props.{Props}
+use Rattle.itm_types.specs.declared.call.Reply.{Reply}
+use Rattle.itm_types.specs.Memory.{bytes_of}
+use Rattle.norec_world.specs.declared.attempt.Attempt.{Attempt}
+use Rattle.norec_world.specs.declared.attempt.Outcome.TheVariants.{Unfinished}
+use Rattle.norec_world.specs.declared.attempt.Outcome.TheVariants as outcomes
+use Rattle.norec_world.specs.declared.attempt.End.{End}
+use Rattle.norec_world.specs.declared.attempt.End.TheVariants.{Finished, GaveUp, NoMemory}
+use Rattle.norec_world.specs.declared.actor.Actor.{Actor}
+use Rattle.norec_world.specs.declared.actor.Status.{Status}
+use Rattle.norec_world.specs.declared.actor.Status.TheVariants.{Ready, Waits, Ended}
+use Rattle.norec_world.specs.Cells.{Cells}
+use Rattle.norec_world.specs.Solo.{Progress}
+use Rattle.norec_world.specs.Follows.{Follows, IsAll, row_of}
+use Rattle.norec_world.specs.SoFar.{IsSoFar}
+
+module _ {P : Type 0} (next : P → Option Call) (answered : P → Reply → P) (left : P → ℕ) (max_commits : ℕ) (p0 : P) (base arena : List ℕ) where
+  -- the attempt that a begin is to open
+  pub record OpensNext (b : Progress P) (call : Call) (row : Attempt) : Type 0 where
+    pub props : Props
+    pub room : ℕ
+    pub call_is : call ≡ Begin props room
+    pub row_is : row ≡ record (row_of next answered left max_commits 0 b (record { player = b.player; arena = b.arena; props = props }) [] Unfinished) { at = 0 }
+
+  -- it goes on as its player alone
+  pub record IsOnWay (cells : Cells) (rows : List Attempt) (a : Actor P) : Type 0 where
+    pub before : Progress P  -- where the player stood before the present block
+    pub past : List Attempt
+    pub memory : List ℕ  -- the words that the last commit left
+    pub follows : Follows next answered left max_commits 0 p0 base arena before past memory cells rows a.player a.engine
+    pub first : a.nth ≡ 1
+    pub anew : a.engine.is_open ≡ false → a.again ≡ false
+
+  pub record IsUnderWay (cells : Cells) (rows : List Attempt) (a : Actor P) (call : Call) : Type 0 where
+    pub way : IsOnWay cells rows a
+    pub opens : (row : Attempt) → a.pending ≡ Some row → OpensNext way.before call row
+
+  -- It has ended: all that its player does alone is done, or, where memory was refused, a beginning of that.
+  abbrev pub HasEnded : Cells → List Attempt → End → Type 0
+  HasEnded cells rows Finished = IsAll next answered left max_commits 0 p0 base arena cells rows Finished
+  HasEnded cells rows GaveUp = IsAll next answered left max_commits 0 p0 base arena cells rows GaveUp
+  HasEnded cells rows NoMemory = (cells.clock % 2 ≡ 0) × IsSoFar next answered left max_commits 0 p0 base arena (cells.clock / 2) (bytes_of cells.words) outcomes.NoMemory rows
+
+  abbrev pub TracksAs : Cells → List Attempt → Actor P → Status → Type 0
+  TracksAs cells rows a Ready = IsOnWay cells rows a
+  TracksAs cells rows a (Waits call step) = IsUnderWay cells rows a call
+  TracksAs cells rows a (Ended end) = HasEnded cells rows end
+
+  abbrev pub Tracks : Cells → List Attempt → Actor P → Type 0
+  Tracks cells rows a = TracksAs cells rows a a.status
+
+-- an actor that tracks its player before tracks it afterwards too
+module _ {P : Type 0} (next : P → Option Call) (answered : P → Reply → P) (left : P → ℕ) where
+  abbrev pub StillTracks : Cells → List Attempt → Actor P → Cells → List Attempt → Actor P → Type 0
+  StillTracks cells rows a cells' rows' a' = (max_commits : ℕ) (p0 : P) (base arena : List ℕ)
+      → Tracks next answered left max_commits p0 base arena cells rows a → Tracks next answered left max_commits p0 base arena cells' rows' a'
