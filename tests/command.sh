@@ -82,6 +82,57 @@ cp "$work/input" "$work/-x"
 status=$?
 check 'a file whose name begins with a dash' 0
 
+# as many instructions as may be: blocks that do nothing, and blocks that count
+: >"$work/want_errors"
+awk 'BEGIN {
+    print ".memory 8\n.thread"
+    for (i = 0; i < 32768; i++) print "_ITM_beginTransaction r0 -\n_ITM_commitTransaction"
+}' >"$work/input"
+awk 'BEGIN {
+    print "itm-history 1\nmemory 0000000000000000"
+    for (i = 0; i < 32768; i++) print "attempt 0 1 0 readonly -\narena -\ncall _ITM_commitTransaction = ok\nend"
+    print "final 0 0000000000000000"
+}' >"$work/want_output"
+run sched -
+check 'as many empty blocks as may be' 0
+awk 'BEGIN {
+    print ".memory 16\n.thread\nset r1 1"
+    for (i = 0; i < 13107; i++) print "_ITM_beginTransaction r0 -\n_ITM_RU8 r2 8\nadd r2 r2 r1\n_ITM_WU8 8 r2\n_ITM_commitTransaction"
+}' >"$work/input"
+awk 'function word(n) { return sprintf("%02x%02x000000000000", n % 256, int(n / 256)) }
+BEGIN {
+    print "itm-history 1\nmemory 00000000000000000000000000000000"
+    for (i = 0; i < 13107; i++)
+        print "attempt 0 1 " i " committed -\narena -\ncall _ITM_RU8 8 = " word(i) "\ncall _ITM_WU8 8 " word(i + 1) " = ok\ncall _ITM_commitTransaction = ok\nend"
+    print "final 26214 0000000000000000" word(13107)
+}' >"$work/want_output"
+run sched -
+check 'as many counting blocks as may be' 0
+
+# the largest memory
+awk 'BEGIN {
+    print ".memory 65536\n.thread\nset r1 255\n_ITM_beginTransaction r0 -\n_ITM_WU8 65528 r1\n_ITM_RU8 r1 65529\n_ITM_commitTransaction"
+}' >"$work/input"
+awk 'BEGIN {
+    for (i = 0; i < 8191; i++) rest = rest "0000000000000000"
+    print "itm-history 1\nmemory " rest "0000000000000000\nattempt 0 1 0 committed -\narena -"
+    print "call _ITM_WU8 65528 ff00000000000000 = ok\ncall _ITM_RU8 65529 = refused 2\ncall _ITM_commitTransaction = ok\nend"
+    print "final 2 " rest "ff00000000000000"
+}' >"$work/want_output"
+run sched -
+check 'the largest memory' 0
+
+# the largest text, and one byte more
+printf '.memory 8\n.thread\n;' >"$work/input"
+head -c 16777197 /dev/zero >>"$work/input"
+printf 'itm-history 1\nmemory 0000000000000000\nfinal 0 0000000000000000\n' >"$work/want_output"
+run sched -
+check 'the largest text' 0
+printf '\n' >>"$work/input"
+want_line 'itmrun: line 0: too long'
+run sched -
+check 'a text that is too large' 2
+
 want_line 'itmrun: line 2: unknown name'
 printf '.memory 8\n.rept 2\n' >"$work/input"
 run sched -

@@ -18,7 +18,7 @@ AllFit (w ∷ ws) = (w < 2 ^ 64) × AllFit ws
 abbrev pub IsMemory : ℕ → List ℕ → Type 0
 IsMemory words m = (length m ≡ words) × AllFit m
 
--- every row's value is its word of the memory
+-- a memory agrees with a value log where each row has the value that its word has there
 abbrev pub Agrees : List ℕ → List LogRow → Type 0
 Agrees m [] = Unit {0}
 Agrees m (r ∷ rs) = (slice_get m r.word ≡ Some r.value) × Agrees m rs

@@ -11,7 +11,7 @@ use Rattle.norec_world.specs.Tracks.{HasEnded}
 use Rattle.itmrun.specs.Listing.{Listing}
 use Rattle.itmrun.specs.Threads.{Thread, opening, next_call, answered, calls_left}
 use Rattle.itmrun.specs.Histories.{History}
-use Rattle.itmrun.specs.Pages.{limit, alone, page, IsOf, IsWorldOf, history_of}
+use Rattle.itmrun.specs.Pages.{limit, solo_of, page, IsOf, IsWorldOf, history_of}
 
 head_is : (x y : Thread) → x ∷ [] ≡ y ∷ [] → x ≡ y
 head_is x y e = cc
@@ -24,12 +24,12 @@ module _ (p : Listing) (w : World Thread) (run : IsWorldOf p w) (a : ShowsAlone 
   player_is = head_is a.0 (opening p.code) (sym a.1 ∙ run.opening_is)
 
   -- what the player does alone is what the program's thread does
-  alone_is : solo next_call answered calls_left MAX_DEPTH w.max_commits 0 a.0 w.base (replicate w.arena 0) ≡ alone p
-  unfolding alone
+  alone_is : solo next_call answered calls_left MAX_DEPTH w.max_commits 0 a.0 w.base (replicate w.arena 0) ≡ solo_of p
+  unfolding solo_of
   alone_is = λ i. solo next_call answered calls_left MAX_DEPTH (run.limit_is i) 0 (player_is i) (run.base i) (replicate (run.arena i) 0)
 
-  shows : (end : End) → alone p ≡ record { attempts = w.attempts; memory = memory_of w; commits = w.cells.clock / 2; ending = end } → w.cells.clock % 2 ≡ 0
-      → ((alone p).ending ≡ end) × (history_of (replicate p.memory 0) w ≡ page p)
+  shows : (end : End) → solo_of p ≡ record { attempts = w.attempts; memory = memory_of w; commits = w.cells.clock / 2; ending = end } → w.cells.clock % 2 ≡ 0
+      → ((solo_of p).ending ≡ end) × (history_of (replicate p.memory 0) w ≡ page p)
   unfolding page
   shows end all even = (
     ap (λ (s : Solo). s.ending) all,

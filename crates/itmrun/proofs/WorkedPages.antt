@@ -10,7 +10,7 @@ use Rattle.itmrun.specs.declared.asm.program.Instruction.TheVariants as code
 use Rattle.itmrun.specs.Threads.{datum, opening, next_call, answered, calls_left}
 use Rattle.itmrun.specs.Histories.{history_text, first_lines, attempt_lines, head_line, arena_line, call_line, body_text, reply_text, last_line}
 use Rattle.itmrun.specs.Listing.{Listing}
-use Rattle.itmrun.specs.Pages.{alone, page}
+use Rattle.itmrun.specs.Pages.{solo_of, page}
 
 abbrev line : List ℕ → List ℕ
 line t = t ++ 10 ∷ []
@@ -28,7 +28,7 @@ counter_page : history_text (page counter) ≡
     ++ line (codes "call _ITM_commitTransaction = ok")
     ++ line (codes "end")
     ++ line (codes "final 2 0100000000000000")
-unfolding page alone datum history_text first_lines attempt_lines head_line arena_line call_line body_text reply_text last_line encode_with
+unfolding page solo_of datum history_text first_lines attempt_lines head_line arena_line call_line body_text reply_text last_line encode_with
 counter_page = rw (decimal_digit 0 (omega arith), decimal_digit 1 (omega arith), decimal_digit 2 (omega arith)) refl
 
 abbrev pub empty_block : Listing
@@ -42,7 +42,7 @@ empty_block_page : history_text (page empty_block) ≡
     ++ line (codes "call _ITM_commitTransaction = ok")
     ++ line (codes "end")
     ++ line (codes "final 0 0000000000000000")
-unfolding page alone datum history_text first_lines attempt_lines head_line arena_line call_line body_text reply_text last_line encode_with
+unfolding page solo_of datum history_text first_lines attempt_lines head_line arena_line call_line body_text reply_text last_line encode_with
 empty_block_page = rw (decimal_digit 0 (omega arith), decimal_digit 1 (omega arith)) refl
 
 -- a read beyond the memory is refused, and its register stays
@@ -59,7 +59,7 @@ beyond_page : history_text (page beyond) ≡
     ++ line (codes "call _ITM_commitTransaction = ok")
     ++ line (codes "end")
     ++ line (codes "final 2 0500000000000000")
-unfolding page alone datum history_text first_lines attempt_lines head_line arena_line call_line body_text reply_text last_line encode_with
+unfolding page solo_of datum history_text first_lines attempt_lines head_line arena_line call_line body_text reply_text last_line encode_with
 beyond_page = rw (decimal_digit 0 (omega arith), decimal_digit 1 (omega arith), decimal_digit 2 (omega arith), decimal_digit 8 (omega arith)) refl
 
 -- three blocks where one writer may commit: one that writes, one that reads what it wrote, and one that is full

@@ -15,18 +15,18 @@ use Rattle.itmrun.specs.Histories.{History}
 abbrev pub limit : ℕ
 limit = 4611686018427387903
 
--- all that the program's thread does
-unfoldable pub alone : Listing → Solo
-alone p = solo next_call answered calls_left MAX_DEPTH limit 0 (opening p.code) (replicate p.memory 0) []
+-- all that the program's thread does alone
+unfoldable pub solo_of : Listing → Solo
+solo_of p = solo next_call answered calls_left MAX_DEPTH limit 0 (opening p.code) (replicate p.memory 0) []
 
 -- its history
 unfoldable pub page : Listing → History
-page p = record { memory = replicate p.memory 0; attempts = (alone p).attempts; clock = 2 * (alone p).commits; bytes = (alone p).memory }
+page p = record { memory = replicate p.memory 0; attempts = (solo_of p).attempts; clock = 2 * (solo_of p).commits; bytes = (solo_of p).memory }
 
 -- The history of a run that ended so: the page, or, where the thread found no memory, a beginning of what it does, with what the commits so far left.
 abbrev pub IsOf : Listing → End → History → Type 0
-IsOf p Finished h = ((alone p).ending ≡ Finished) × (h ≡ page p)
-IsOf p GaveUp h = ((alone p).ending ≡ GaveUp) × (h ≡ page p)
+IsOf p Finished h = ((solo_of p).ending ≡ Finished) × (h ≡ page p)
+IsOf p GaveUp h = ((solo_of p).ending ≡ GaveUp) × (h ≡ page p)
 IsOf p NoMemory h = (h.memory ≡ replicate p.memory 0) × (h.clock % 2 ≡ 0)
     × IsSoFar next_call answered calls_left limit 0 (opening p.code) (replicate p.memory 0) [] (h.clock / 2) h.bytes outcomes.NoMemory h.attempts
 

@@ -1,4 +1,4 @@
--- The plain state that an engine stands for over a memory.
+-- What an engine means over a memory: a state of the plain machine.
 use Rattle.std.specs.Prelude.{ℕ, Bool, true, false, if◌then◌else◌, List, [], ◌∷◌}
 use Rattle.itm_types.specs.declared.row.WriteRow.{WriteRow}
 use Rattle.itm_types.specs.declared.call.Props.{Props}

@@ -184,7 +184,7 @@ impl Engine {
         &self.state.arena
     }
 
-    /// How many steps the present or last call has asked for.
+    /// The number of steps asked for since a call last came.
     pub fn spent(&self) -> u128
         ensures { result ≡ self.now.spent }
     {

@@ -1,5 +1,6 @@
--- Worked cases of attempts, computed: one counter, and two whose first try is lost.
-use Rattle.std.proofs.Common.{◌≡◌, ℕ, zero, suc, List, [], ◌∷◌, refl, false, replicate, Option, None, Some, arith}
+-- Worked cases, computed: the attempts of one counter, and of two whose first try is lost; the counts of a schedule.
+use Rattle.std.proofs.Common.{◌≡◌, ℕ, zero, suc, ◌<◌, ◌≤◌, List, [], ◌∷◌, ◌++◌, refl, true, false, replicate, Option, None, Some, Ok, Err, arith, lit<, lit≤}
+use Rattle.arrayvec.specs.ArrayVec.{ArrayVec}
 use Rattle.itm_types.specs.declared.access.Width.TheVariants.{U8}
 use Rattle.itm_types.specs.declared.access.ReadHint.TheVariants.{R}
 use Rattle.itm_types.specs.declared.access.WriteHint.TheVariants.{W}
@@ -12,7 +13,9 @@ use Rattle.itm_types.specs.declared.call.Reply.TheVariants.{Done, Bytes, Code, R
 use Rattle.norec_world.specs.declared.attempt.Entry.{Entry}
 use Rattle.norec_world.specs.declared.attempt.Outcome.TheVariants.{Committed, Conflict}
 use Rattle.norec_world.specs.declared.attempt.Attempt.{Attempt}
+use Rattle.norec_world.specs.declared.fault.WorldFault.TheVariants as faults
 use Rattle.norec_world.specs.Attempts.{memory_after}
+use Rattle.norec_world.specs.Going.{passes_of}
 use Rattle.norec_world.specs.Opacity.{IsOpaque, IsRunOf, Between}
 
 -- ## A player that adds one to the counter at place 0
@@ -118,3 +121,8 @@ retried_is_opaque = record { no_older = omega arith; no_newer = omega arith; beg
 
 lost_update_run : IsRunOf next answered restarted left 1 2 memory (Some fresh) (lost ∷ retried ∷ [])
 lost_update_run = ((refl, refl, omega arith, lost_is_opaque), ((refl, refl, omega arith, retried_is_opaque), tt))
+
+-- ## A schedule of four entries: an event, an actor that is not there, an event that found no memory, and the same actor again
+
+schedule_counts : passes_of (Ok tt ∷ Err faults.NoSuchActor ∷ Err faults.NoMemory ∷ Err faults.Ended ∷ []) ≡ record { taken = 1; passed = 2; starved = 1 }
+schedule_counts = refl

@@ -10,6 +10,9 @@ pub mod Calling
 pub mod Stepping
 pub mod Falling
 pub mod Worlds
+pub mod Goings
+pub mod Stretching
+pub mod Outing
 pub mod Alones
 pub mod Solos
 pub mod Following

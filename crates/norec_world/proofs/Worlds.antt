@@ -13,9 +13,10 @@ use Rattle.norec_world.specs.declared.actor.Status.TheVariants.{Ready, Waits, En
 use Rattle.norec_world.specs.Status.{is_ready, waiting_step, ending_of}
 use Rattle.itm_types.specs.Memory.{AllFit}
 use Rattle.norec_engine.specs.Core.{Core, opening}
+use Rattle.norec_engine.specs.Proceeds.{IsLawful}
 use Rattle.norec_world.specs.Sound.{IsTied, IsKept, IsNested, StatusIs, IsSound}
 use Rattle.norec_world.specs.Tracks.{Tracks, StillTracks}
-use Rattle.norec_world.specs.World.{IsSoundWorld, IsAlone}
+use Rattle.norec_world.specs.World.{World, IsSoundWorld, IsSoloWorld}
 
 module _ {P : Type 0} where
   only_first : (actors : List (Actor P)) (a : Actor P) (i : ℕ) → actors ≡ a ∷ [] → IsSome (option_and_then (λ x. waiting_step x.status) (slice_get actors i)) → i ≡ 0
@@ -53,11 +54,28 @@ module _ {P : Type 0} where
         (λ k. option_and_then (λ (x : Actor P). waiting_step x.status) (slice_get (s.alone k) (only_first actors s.actor i s.alone h k))) in
         ap (λ (x : Actor P). waiting_step x.status) got_is ∙ (sym at ∙ w)
 
+-- the step that a sound actor waits for is one of the algorithm's
+module _ {P : Type 0} (next : P → Option Call) (answered : P → Replied → P) (restarted : P → P) (left : P → ℕ) (depth : P → ℕ) where
+  pub lawful_as : (r : Recorded) (a : Actor P) (s : Status) (step : Step) → StatusIs next answered restarted left depth r a s → waiting_step s ≡ Some step → IsLawful a.engine step
+  lawful_as r a Ready step i w = absurd (cc)
+  lawful_as r a (Waits call other) step i w = (let same : other ≡ step = cc in subst (IsLawful a.engine) same i.lawful)
+  lawful_as r a (Ended end) step i w = absurd (cc)
+
+  pub lawful_at : (w : World P) (r : Recorded) → IsSoundWorld next answered restarted left depth w.cells r w.actors → (i : ℕ) (a : Actor P) (step : Step)
+      → slice_get w.actors i ≡ Some a → waiting_step a.status ≡ Some step → IsLawful a.engine step
+  lawful_at w r s i a step e waits = first i (ap (λ (l : List (Actor P)). slice_get l i) (sym s.alone) ∙ e)
+    where
+      first : (i : ℕ) → slice_get (s.actor ∷ []) i ≡ Some a → IsLawful a.engine step
+      first zero h =
+          let same : s.actor ≡ a = cc in
+          subst (λ (x : Actor P). IsLawful x.engine step) same (lawful_as r s.actor s.actor.status step s.sound.status (ap (λ (x : Actor P). waiting_step x.status) same ∙ waits))
+      first (suc i) h = absurd (cc)
+
 -- an actor at its place, in a world of one
 module _ {P : Type 0} (next : P → Option Call) (answered : P → Replied → P) (restarted : P → P) (left : P → ℕ) (depth : P → ℕ)
     (cells cells' : Cells) (r r' : Recorded) (actors : List (Actor P)) (s : IsSoundWorld next answered restarted left depth cells r actors) (i : ℕ) (within : i < length actors)
     (got : Actor P) (is : got ≡ slice_index_or actors i got) where
-  place_is : i ≡ 0
+  pub place_is : i ≡ 0
   place_is = let n : length actors ≡ 1 = ap length s.alone in omega arith
 
   pub place_got : got ≡ s.actor
@@ -73,15 +91,19 @@ module _ {P : Type 0} (next : P → Option Call) (answered : P → Replied → P
     thread = thread ∙ (ap (λ (x : Actor P). x.thread) place_got ∙ s.thread);
   }
 
-  pub place_alone : (op : List P) (base : List ℕ) (arena max_commits : ℕ) → IsAlone next answered left op base arena max_commits cells r.rows.items actors
-      → (new : Actor P) → StillTracks next answered left cells r.rows.items got cells' r'.rows.items new → IsAlone next answered left op base arena max_commits cells' r'.rows.items (slice_set actors i new)
+  pub place_tracks : (op : List P) (base : List ℕ) (arena max_commits : ℕ) (w : IsSoloWorld next answered left op base arena max_commits cells r.rows.items actors)
+      → Tracks next answered left max_commits w.player base (replicate arena 0) cells r.rows.items got
+  place_tracks op base arena max_commits w =
+      subst (Tracks next answered left max_commits w.player base (replicate arena 0) cells r.rows.items) (sym (got_first actors w.actor i w.one place_is got is)) w.tracks
+
+  pub place_alone : (op : List P) (base : List ℕ) (arena max_commits : ℕ) → IsSoloWorld next answered left op base arena max_commits cells r.rows.items actors
+      → (new : Actor P) → StillTracks next answered left cells r.rows.items got cells' r'.rows.items new → IsSoloWorld next answered left op base arena max_commits cells' r'.rows.items (slice_set actors i new)
   place_alone op base arena max_commits w new still = record {
     player = w.player;
     actor = new;
     players = w.players;
     one = (λ k. slice_set (w.one k) (place_is k) new);
-    tracks = still max_commits w.player base (replicate arena 0)
-        (subst (Tracks next answered left max_commits w.player base (replicate arena 0) cells r.rows.items) (sym (got_first actors w.actor i w.one place_is got is)) w.tracks);
+    tracks = still max_commits w.player base (replicate arena 0) (place_tracks op base arena max_commits w);
   }
 
 pub ended_ready : (s : Status) → IsSome (ending_of s) → is_ready s ≡ false

@@ -1,21 +1,20 @@
 -- Calls that a player makes alone on plain bytes, one by one.
-use Rattle.std.specs.Prelude.{◌≡◌, ℕ, List, [], ◌∷◌, Option, Some}
+use Rattle.std.specs.Prelude.{◌≡◌, ℕ, map, List, [], ◌∷◌, Option, Some}
 use Rattle.itm_types.specs.declared.call.Call.{Call}
 use Rattle.itm_types.specs.declared.call.Reply.{Reply}
 use Rattle.itm_model.specs.State.{State}
 use Rattle.itm_model.specs.Machine.{after, reply}
-use Rattle.itm_model.specs.Runs.{turn}
+use Rattle.itm_model.specs.Runs.{turn, state_after}
 use Rattle.norec_world.specs.declared.attempt.Entry.{Entry}
+use Rattle.norec_world.specs.Opacity.{answered_all}
 
 -- the plain state after the calls
 abbrev pub state_then : ℕ → State → List Entry → State
-state_then deepest s [] = s
-state_then deepest s (x ∷ xs) = state_then deepest (after deepest s x.call) xs
+state_then deepest s xs = state_after deepest s (map (λ x. x.call) xs)
 
 -- the player after the replies
 abbrev pub player_then : {P : Type 0} → (P → Reply → P) → P → List Entry → P
-player_then answered p [] = p
-player_then answered p (x ∷ xs) = player_then answered (answered p x.reply) xs
+player_then answered p xs = answered_all answered p (map (λ x. x.reply) xs)
 
 module _ {P : Type 0} (next : P → Option Call) (answered : P → Reply → P) (left : P → ℕ) (deepest : ℕ) where
   -- each call is the player's next in an open block, and each reply the plain machine's

@@ -32,6 +32,7 @@ module _ {P : Type 0} (next : P → Option Call) (answered : P → Reply → P) 
     pub at : e.snapshot ≡ 2 * b.commits
 
   module _ (max_commits thread : ℕ) where
+    -- the row of the block that begins so, with these calls
     abbrev pub row_of : Progress P → Beginning P → List Entry → Outcome → Attempt
     row_of b start xs outcome = record {
       thread = thread;

@@ -13,4 +13,6 @@ pub mod Records
 pub mod SoFar
 pub mod Tracks
 pub mod World
+pub mod Going
+pub mod Stretches
 pub mod Views

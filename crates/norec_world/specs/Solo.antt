@@ -1,4 +1,4 @@
--- One player that runs alone: each of its outermost blocks is one attempt, on the memory that the last one left.
+-- A player with no other beside it: block after block, each on the bytes that those before left.
 use Rattle.std.specs.Prelude.{ℕ, zero, suc, ◌+◌, ◌&&◌, Bool, true, false, nat_le, if◌then◌else◌, List, [], ◌∷◌, map, Option, None, Some}
 use Rattle.itm_types.specs.declared.call.Call.{Call}
 use Rattle.itm_types.specs.declared.call.Reply.{Reply}
@@ -11,7 +11,7 @@ use Rattle.norec_world.specs.declared.attempt.Outcome.{Outcome}
 use Rattle.norec_world.specs.declared.attempt.Outcome.TheVariants.{Committed, ReadOnly, Full, Unfinished}
 use Rattle.norec_world.specs.declared.attempt.End.{End}
 use Rattle.norec_world.specs.declared.attempt.End.TheVariants.{Finished, GaveUp}
-use Rattle.norec_world.specs.Opacity.{Beginning, begin_code, begin_of}
+use Rattle.norec_world.specs.Opacity.{Beginning, answered_all, begin_code, begin_of}
 
 -- a player between two blocks
 pub record Progress (P : Type 0) : Type 0 where
@@ -27,9 +27,11 @@ pub record Solo : Type 0 where
   pub commits : ℕ
   pub ending : End
 
+-- a call with its reply, as attempts list them
 abbrev pub entry_of : Call × Reply → Entry
 entry_of c = record { call = c.0; reply = c.1 }
 
+-- one attempt, and then the rest
 abbrev pub with_first : Attempt → Solo → Solo
 with_first a s = record s { attempts = a ∷ s.attempts }
 
@@ -49,6 +51,7 @@ ended_as true = Committed
 ended_as false = ReadOnly
 
 module _ {P : Type 0} (next : P → Option Call) (answered : P → Reply → P) (left : P → ℕ) (deepest max_commits thread : ℕ) where
+  -- the row of the block, with these calls
   abbrev pub the_attempt : Progress P → Beginning P → List (Call × Reply) → Outcome → Attempt
   the_attempt b start pairs outcome = record {
     thread = thread;
@@ -63,13 +66,13 @@ module _ {P : Type 0} (next : P → Option Call) (answered : P → Reply → P) 
 
   -- the player after these replies
   abbrev pub player_after : P → List (Call × Reply) → P
-  player_after p [] = p
-  player_after p (c ∷ cs) = player_after (answered p c.1) cs
+  player_after p pairs = answered_all answered p (map (λ c. c.1) pairs)
 
   -- after the block
   abbrev pub passed : Progress P → P → List (Call × Reply) → State → Progress P
   passed b p pairs s = record { player = player_after p pairs; arena = s.arena; memory = s.memory; commits = b.commits + one_if s.wrote }
 
+  -- the player goes no further
   abbrev pub stopped : Progress P → End → Solo
   stopped b ending = record { attempts = []; memory = b.memory; commits = b.commits; ending = ending }
 

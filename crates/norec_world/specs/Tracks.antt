@@ -35,6 +35,7 @@ module _ {P : Type 0} (next : P → Option Call) (answered : P → Reply → P) 
     pub first : a.nth ≡ 1
     pub anew : a.engine.is_open ≡ false → a.again ≡ false
 
+  -- it waits for a step of this call
   pub record IsUnderWay (cells : Cells) (rows : List Attempt) (a : Actor P) (call : Call) : Type 0 where
     pub way : IsOnWay cells rows a
     pub opens : (row : Attempt) → a.pending ≡ Some row → OpensNext way.before call row
@@ -45,6 +46,7 @@ module _ {P : Type 0} (next : P → Option Call) (answered : P → Reply → P) 
   HasEnded cells rows GaveUp = IsAll next answered left max_commits 0 p0 base arena cells rows GaveUp
   HasEnded cells rows NoMemory = (cells.clock % 2 ≡ 0) × IsSoFar next answered left max_commits 0 p0 base arena (cells.clock / 2) (bytes_of cells.words) outcomes.NoMemory rows
 
+  -- by how it stands, its rows, engine and player are those of its player alone
   abbrev pub TracksAs : Cells → List Attempt → Actor P → Status → Type 0
   TracksAs cells rows a Ready = IsOnWay cells rows a
   TracksAs cells rows a (Waits call step) = IsUnderWay cells rows a call

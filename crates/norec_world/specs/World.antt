@@ -82,15 +82,16 @@ module _ {P : Type 0} (next : P → Option Call) (answered : P → Reply → P) 
 
 -- what the one actor did is what its player does alone on the memory that was handed in, up to refused memory
 module _ {P : Type 0} (next : P → Option Call) (answered : P → Reply → P) (left : P → ℕ) where
-  pub record IsAlone (opening : List P) (base : List ℕ) (arena max_commits : ℕ) (cells : Cells) (rows : List Attempt) (actors : List (Actor P)) : Type 0 where
+  pub record IsSoloWorld (opening : List P) (base : List ℕ) (arena max_commits : ℕ) (cells : Cells) (rows : List Attempt) (actors : List (Actor P)) : Type 0 where
     pub player : P
     pub actor : Actor P
     pub players : opening ≡ player ∷ []
     pub one : actors ≡ actor ∷ []
     pub tracks : Tracks next answered left max_commits player base (replicate arena 0) cells rows actor
 
+  -- the same of a world
   abbrev pub RunsAlone : World P → Type 0
-  RunsAlone w = IsAlone w.opening w.base w.arena w.max_commits w.cells w.attempts w.actors
+  RunsAlone w = IsSoloWorld w.opening w.base w.arena w.max_commits w.cells w.attempts w.actors
 
   -- What its player has done alone: a beginning before its end, where the memory is told only of an even clock; all of it at its end, or a beginning where memory was refused.
   abbrev pub DoneBy : World P → P → Option End → Type 0

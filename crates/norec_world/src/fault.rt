@@ -11,7 +11,7 @@ pub enum WorldFault {
     /// The world is as it was.
     #[error("the actor has ended")]
     Ended,
-    /// The operation is done, and the actor has ended.
+    /// The event took place, and then memory was refused to its actor, which has ended.
     #[error("no memory")]
     NoMemory,
 }

@@ -1,6 +1,6 @@
 //! An actor on its own, up to its end.
 
-ghost use Rattle.std.specs.Prelude.{◌≡◌, true, false, None, IsSome};
+ghost use Rattle.std.specs.Prelude.{◌≡◌, ℕ, true, false, None, IsSome};
 
 use crate::actor::Actor;
 use crate::memory::Memory;
@@ -11,6 +11,8 @@ use std::alloc::Global;
 impl<P: Player> Actor<P> {
     ghost use Rattle.norec_world.specs.Status.{is_ready, is_waiting, ending_of};
     ghost use Rattle.norec_world.specs.Tracks.{StillTracks};
+    ghost use Rattle.norec_world.specs.World.{counted};
+    ghost use Rattle.norec_world.specs.Stretches.{standing, StepsOn};
     ghost use Rattle.norec_world.specs.Sound.{IsSound, IsNoMore, Falls};
 
     /// Takes events until the actor has ended, and tells how many, up to 2^64 - 1.
@@ -24,6 +26,7 @@ impl<P: Player> Actor<P> {
         requires ready { is_ready self.old.status ≡ false }
         ensures sound { IsSound P.next_call P.answered P.restarted P.calls_left P.depth memory.new recorded.new self.new }
         ensures ended { IsSome (ending_of self.new.status) }
+        ensures took { (n : ℕ) × StepsOn P.next_call P.answered P.calls_left n (standing memory.old recorded.old self.old) (standing memory.new recorded.new self.new) × (result ≡ counted 0 n) }
         ensures thread { self.new.thread ≡ self.old.thread }
         ensures tracks { self.old.thread ≡ 0 → StillTracks P.next_call P.answered P.calls_left memory.old recorded.old.rows.items self.old memory.new recorded.new.rows.items self.new }
     {
@@ -41,6 +44,7 @@ impl<P: Player> Actor<P> {
         requires waits { is_waiting self.old.status ≡ true }
         ensures sound { IsSound P.next_call P.answered P.restarted P.calls_left P.depth memory.new recorded.new self.new }
         ensures over { is_waiting self.new.status ≡ false }
+        ensures took { (n : ℕ) × StepsOn P.next_call P.answered P.calls_left n (standing memory.old recorded.old self.old) (standing memory.new recorded.new self.new) × (result ≡ counted 0 n) }
         ensures thread { self.new.thread ≡ self.old.thread }
         ensures tracks { StillTracks P.next_call P.answered P.calls_left memory.old recorded.old.rows.items self.old memory.new recorded.new.rows.items self.new }
         ensures falls { is_ready self.new.status ≡ true → Falls P.next_call P.answered P.restarted P.calls_left P.depth self.old.engine.is_open self.new.engine.is_open self.old self.new }

@@ -1,6 +1,6 @@
 //! Many events in a row.
 
-ghost use Rattle.std.specs.Prelude.{◌≡◌, ◌+◌, length};
+ghost use Rattle.std.specs.Prelude.{◌≡◌, ◌+◌, List, Result, length};
 
 use crate::fault::WorldFault;
 use crate::world::World;
@@ -19,10 +19,13 @@ pub struct Passes {
 }
 
 impl<P: Player> World<P> {
+    ghost use Rattle.norec_world.specs.declared.fault.WorldFault.{WorldFault};
     ghost use Rattle.norec_world.specs.World.{counted, SameOpening};
+    ghost use Rattle.norec_world.specs.Going.{Leads, passes_of};
 
     /// An event for each entry in turn, passing over those that name no actor or one that has ended.
     pub fn run(&mut self, alloc: Global, schedule: &[u8]) -> Passes
+        ensures led { (results : List (Result (Unit {0}) WorldFault)) × Leads P.next_call P.answered P.calls_left self.old schedule.now results self.new × (result ≡ passes_of results) }
         ensures all { result.taken + result.passed + result.starved ≡ length schedule.now }
         ensures counts { self.new.events ≡ counted self.old.events (result.taken + result.starved) }
         ensures opening { SameOpening self.old self.new }
@@ -38,7 +41,8 @@ impl<P: Player> World<P> {
             match self.go(alloc, *actor) {
                 Ok(()) => passes.taken += 1,
                 Err(WorldFault::NoMemory) => passes.starved += 1,
-                Err(_) => passes.passed += 1,
+                Err(WorldFault::NoSuchActor) => passes.passed += 1,
+                Err(WorldFault::Ended) => passes.passed += 1,
             }
         }
         passes

@@ -5,7 +5,7 @@ ghost use Rattle.itm_types.specs.Memory.{AllFit, bytes_of};
 ghost use Rattle.norec_world.specs.Tracks.{Tracks};
 ghost use Rattle.norec_world.specs.Status.{ending_of, is_ready};
 ghost use Rattle.norec_world.specs.Sound.{IsSound};
-ghost use Rattle.norec_world.specs.World.{IsSoundWorld, IsAlone, ending_in};
+ghost use Rattle.norec_world.specs.World.{IsSoundWorld, IsSoloWorld, ending_in};
 
 use crate::actor::Actor;
 use crate::attempt::End;
@@ -44,7 +44,7 @@ pub(crate) fn start_all<P: Player>(
     requires none { vec_len recorded.old.rows ≡ recorded.old.ended }
     requires empty { recorded.old.rows.items ≡ [] }
     requires clock { memory.now.clock ≡ 0 }
-    ensures alone { IfOk result (λ actors. IsAlone P.next_call P.answered P.calls_left players.items (bytes_of memory.now.words) terms.arena terms.limits.max_commits memory.now recorded.new.rows.items actors.items) }
+    ensures alone { IfOk result (λ actors. IsSoloWorld P.next_call P.answered P.calls_left players.items (bytes_of memory.now.words) terms.arena terms.limits.max_commits memory.now recorded.new.rows.items actors.items) }
     ensures fed { IfOk result (λ actors. ending_in actors.items 0 ≡ Some End.NoMemory → ⊥) }
     ensures sound { IfOk result (λ actors. IsSoundWorld P.next_call P.answered P.restarted P.calls_left P.depth memory.now recorded.new actors.items) }
 {

@@ -1,6 +1,6 @@
 //! Actors over one memory.
 
-ghost use Rattle.std.specs.Prelude.{◌≡◌, ◌%◌, ◌^◌, ◌<◌, ◌≤◌, ◌↔◌, length, IfOk, Some, None, IsSome, IsTrue, Err, All, false};
+ghost use Rattle.std.specs.Prelude.{◌≡◌, ℕ, ◌%◌, ◌^◌, ◌<◌, ◌≤◌, length, IfOk, Some, IsSome, All};
 ghost use Rattle.norec_world.specs.World.{told};
 
 use crate::actor::Actor;
@@ -16,8 +16,8 @@ use script_vm::Player;
 use std::alloc::{AllocError, Global};
 use std::marker::Model;
 
-/// Actors over one memory, each with a player and an engine. One event is one operation of one actor on one shared
-/// cell, with the actor's local work up to its next operation.
+/// Actors over one memory, each with a player and an engine. They take events one at a time: an actor's next load,
+/// store or compare-exchange on a shared cell, and then all that it can do without another one.
 #[derive(Drop)]
 pub struct World<P: Player> {
     opening: Vec<P>,
@@ -44,7 +44,8 @@ impl<P: Player> Model for World<P> {
 
 impl<P: Player> World<P> {
     ghost use Rattle.norec_world.specs.Cells.{cells_after};
-    ghost use Rattle.norec_world.specs.World.{counted, ending_at, waits_at, memory_of, told, is_event, SameOpening, ShowsAlone};
+    ghost use Rattle.norec_world.specs.World.{counted, ending_at, waits_at, memory_of, SameOpening, RunsAlone, ShowsAlone};
+    ghost use Rattle.norec_world.specs.Going.{Goes, Takes};
 
     /// A world over this memory, with the clock at 0. Each actor's local work up to its first operation is done.
     pub fn new(alloc: Global, setup: Setup, players: Vec<P>) -> Result<Self, AllocError>
@@ -88,17 +89,7 @@ impl<P: Player> World<P> {
 
     /// One event of the actor: the operation that comes next from it, and its local work up to the next one.
     pub fn go(&mut self, alloc: Global, actor: u8) -> Result<(), WorldFault>
-        ensures no_such { (result ≡ Err WorldFault.NoSuchActor) ↔ (length self.old.actors ≤ actor) }
-        ensures ended { (result ≡ Err WorldFault.Ended) ↔ IsSome (ending_at self.old actor) }
-        ensures event { IsTrue (is_event result) ↔ IsSome (waits_at self.old actor) }
-
-        ensures told { IsTrue (is_event result) → result ≡ told (ending_at self.new actor) }
-        ensures operation { (step : Step) → waits_at self.old actor ≡ Some step → self.new.cells ≡ cells_after self.old.cells step }
-        ensures counts { IsTrue (is_event result) → self.new.events ≡ counted self.old.events 1 }
-        ensures unchanged { is_event result ≡ false → self.new ≡ self.old }
-
-        ensures opening { SameOpening self.old self.new }
-        ensures actors { length self.new.actors ≡ length self.old.actors }
+        ensures { Goes P.next_call P.answered P.calls_left actor self.old result self.new }
     {
         match self.actors.get(actor as usize) {
             None => Err(WorldFault::NoSuchActor),
@@ -120,6 +111,7 @@ impl<P: Player> World<P> {
         ensures counts { self.new.events ≡ counted self.old.events 1 }
         ensures opening { SameOpening self.old self.new }
         ensures actors { length self.new.actors ≡ length self.old.actors }
+        ensures alone { RunsAlone P.next_call P.answered P.calls_left self.new }
     {
         let a = &mut self.actors[actor];
         a.step(&mut self.memory, &mut self.recorded);
@@ -131,6 +123,7 @@ impl<P: Player> World<P> {
     pub fn run_out(&mut self, alloc: Global, actor: u8) -> u64
         ensures no_such { length self.old.actors ≤ actor → (result ≡ 0) × (self.new ≡ self.old) }
         ensures ended { actor < length self.old.actors → IsSome (ending_at self.new actor) }
+        ensures took { (n : ℕ) × Takes P.next_call P.answered P.calls_left actor n self.old self.new × (result ≡ counted 0 n) }
         ensures counts { self.new.events ≡ counted self.old.events result }
         ensures opening { SameOpening self.old self.new }
         ensures actors { length self.new.actors ≡ length self.old.actors }

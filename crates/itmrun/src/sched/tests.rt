@@ -250,15 +250,17 @@ fn too_many_instructions(rt: HostRuntime) -> Result<(), Fail> {
     Ok(())
 }
 
-/// Gives so many bytes of a comment, and then fails.
+/// Gives so many bytes of a comment, fails once, and then is at its end.
 #[derive(Drop)]
 struct Comment {
     left: usize,
+    failed: bool,
 }
 
 impl Read for Comment {
     fn read(&mut self, buf: &mut [u8]) -> io::Result<usize> {
-        if self.left == 0 {
+        if self.left == 0 && !self.failed {
+            self.failed = true;
             return Err(io::ErrorKind::Other.into());
         }
         let n = buf.len().min(self.left);
@@ -279,7 +281,10 @@ fn failing_reads(rt: HostRuntime) -> Result<(), Fail> {
         (16_777_217, 2, b"itmrun: line 0: too long\n"),
     ];
     for (left, status, line) in rows {
-        let mut reader = Comment { left };
+        let mut reader = Comment {
+            left,
+            failed: false,
+        };
         let mut output = Vec::new(rt.alloc());
         let mut errors = Vec::new(rt.alloc());
         assert_eq!(rt;
@@ -292,7 +297,8 @@ fn failing_reads(rt: HostRuntime) -> Result<(), Fail> {
     Ok(())
 }
 
-/// Takes at most `most` bytes a write, so many writes, and then fails or takes nothing.
+/// Takes at most `most` bytes a write, so many writes. The write after them fails or takes nothing, and only that one;
+/// so does a flush in its place.
 #[derive(Drop)]
 struct Meagre {
     taken: Vec<u8>,
@@ -304,6 +310,7 @@ struct Meagre {
 impl Write for Meagre {
     fn write(&mut self, buf: &[u8]) -> io::Result<usize> {
         if self.writes == 0 {
+            self.writes = usize::MAX;
             return if self.fails {
                 Err(io::ErrorKind::Other.into())
             } else {
@@ -320,14 +327,19 @@ impl Write for Meagre {
     }
 
     fn flush(&mut self) -> io::Result<()> {
+        if self.writes == 0 && self.fails {
+            self.writes = usize::MAX;
+            return Err(io::ErrorKind::Other.into());
+        }
         Ok(())
     }
 }
 
-/// Each write of the counter's history fails in turn; what was taken before is a beginning of it.
+/// Each write of the counter's history fails in turn, and then its flush; what was taken before is a beginning of it.
 #[test]
 fn failing_writes(rt: HostRuntime) -> Result<(), Fail> {
     for fails in [true, false] {
+        let mut unflushed = false;
         for writes in 0..1000 {
             let mut reader = COUNTER;
             let mut writer = Meagre {
@@ -344,9 +356,11 @@ fn failing_writes(rt: HostRuntime) -> Result<(), Fail> {
                 break;
             }
             assert_eq!(rt; status, 5);
-            assert!(rt; writer.taken.len() < COUNTER_HISTORY.len());
+            assert!(rt; !unflushed);
+            unflushed = writer.taken.len() == COUNTER_HISTORY.len();
             assert_eq!(rt; errors.as_slice(), b"itmrun: writing failed\n".as_slice());
         }
+        assert_eq!(rt; unflushed, fails);
     }
     Ok(())
 }

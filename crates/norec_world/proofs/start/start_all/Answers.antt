@@ -1,6 +1,6 @@
 use Rattle.std.proofs.Common.{rules, ◌≡◌, ◌≤◌, suc, [], ◌∷◌, ◌++◌, List, length, ap, sym, subst, refl, ◌∙◌, arith}
 use Rattle.itm_types.specs.Memory.{bytes_of}
-use Rattle.norec_world.specs.World.{IsAlone, ending_in}
+use Rattle.norec_world.specs.World.{IsSoloWorld, ending_in}
 use Rattle.norec_world.specs.declared.actor.Actor.{Actor}
 use Rattle.norec_world.proofs.start.start_all.Goals as goal
 
@@ -41,5 +41,5 @@ loop-player-preserved g c =
 
 pub returns-clause-alone : goal.returns-clause-alone
 returns-clause-alone g c =
-    subst (λ (players : List g.row.P.Denot). IsAlone g.P.Player.next_call g.P.Player.answered g.P.Player.calls_left players (bytes_of c.args.memory.now.words) c.args.terms.arena c.args.terms.limits.max_commits c.args.memory.now c.loop-player.recorded.rows.items c.loop-player.actors.items)
+    subst (λ (players : List g.row.P.Denot). IsSoloWorld g.P.Player.next_call g.P.Player.answered g.P.Player.calls_left players (bytes_of c.args.memory.now.words) c.args.terms.arena c.args.terms.limits.max_commits c.args.memory.now c.loop-player.recorded.rows.items c.loop-player.actors.items)
     (search rules) (c.loop-player.invariant.alone (search rules))

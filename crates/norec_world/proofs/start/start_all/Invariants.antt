@@ -1,6 +1,6 @@
 use Rattle.std.proofs.Common.{◌≡◌, ◌≤◌, [], length, vec_len, All, Some}
 use Rattle.itm_types.specs.Memory.{bytes_of}
-use Rattle.norec_world.specs.World.{IsSoundWorld, IsAlone, ending_in}
+use Rattle.norec_world.specs.World.{IsSoundWorld, IsSoloWorld, ending_in}
 use Rattle.norec_world.specs.declared.attempt.End.TheVariants.{NoMemory}
 use Rattle.norec_world.proofs.start.start_all.Given as goal
 
@@ -14,5 +14,5 @@ invariant-loop-player g l = record {
   empty : length l.player-iterator.rest.items ≡ 1 → l.recorded.rows.items ≡ [];
   all : length l.player-iterator.rest.items ≡ 1 → l.player-iterator.rest.items ≡ l.initial.player-iterator.rest.items;
   fed : length l.player-iterator.rest.items ≡ 0 → ending_in l.actors.items 0 ≡ Some NoMemory → ⊥;
-  alone : length l.player-iterator.rest.items ≡ 0 → IsAlone g.P.Player.next_call g.P.Player.answered g.P.Player.calls_left l.initial.player-iterator.rest.items (bytes_of l.memory.words) l.terms.arena l.terms.limits.max_commits l.memory l.recorded.rows.items l.actors.items;
+  alone : length l.player-iterator.rest.items ≡ 0 → IsSoloWorld g.P.Player.next_call g.P.Player.answered g.P.Player.calls_left l.initial.player-iterator.rest.items (bytes_of l.memory.words) l.terms.arena l.terms.limits.max_commits l.memory l.recorded.rows.items l.actors.items;
 }

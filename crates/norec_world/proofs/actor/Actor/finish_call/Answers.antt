@@ -1,5 +1,8 @@
-use Rattle.std.proofs.Common.{◌≡◌, true, sym, ◌∙◌}
+use Rattle.std.proofs.Common.{◌≡◌, suc, true, sym, ◌∙◌}
 use Rattle.norec_world.specs.Status.{is_waiting}
+use Rattle.norec_world.specs.Stretches.{standing}
+use Rattle.norec_world.proofs.Worlds.{lawful_as}
+use Rattle.norec_world.proofs.Stretching.{waits_for, counted_one}
 use Rattle.norec_world.proofs.Falling.{less_less, less_falls}
 use Rattle.norec_world.proofs.actor.Actor.finish_call.Goals as goal
 
@@ -8,6 +11,22 @@ loop-self-preserved g c =
     let waits : is_waiting c.loop-self.self.status ≡ true = sym c.waits.ensures ∙ c.loop-self-test.true in
     record {
       sound = c.step.ensures.sound;
+      took = (
+        suc c.loop-self.invariant.took.0,
+        (
+          standing c.loop-self.memory c.loop-self.recorded c.loop-self.self,
+          c.loop-self.invariant.took.1,
+          (let step = waits_for c.loop-self.self.status waits in record {
+            step = step.0;
+            waits = step.1;
+            lawful = lawful_as g.P.Player.next_call g.P.Player.answered g.P.Player.restarted g.P.Player.calls_left g.P.Player.depth c.loop-self.recorded c.loop-self.self c.loop-self.self.status step.0 c.loop-self.invariant.sound.status step.1;
+            cells_are = c.step.ensures.cells step.0 step.1;
+            thread = c.step.ensures.thread;
+            tracks = λ z. c.step.ensures.tracks;
+          }),
+        ),
+        counted_one c.loop-self.invariant.took.0 c.loop-self.taken c.saturating_add-taken.result c.loop-self.invariant.took.2 c.saturating_add-taken.ensures,
+      );
       tracks = λ max_commits p0 base arena t. c.step.ensures.tracks max_commits p0 base arena (c.loop-self.invariant.tracks max_commits p0 base arena t);
       thread = c.step.ensures.thread ∙ c.loop-self.invariant.thread;
       less = λ w. less_less g.P.Player.next_call g.P.Player.answered g.P.Player.restarted g.P.Player.calls_left g.P.Player.depth c.args.self.now c.loop-self.self c.step.new.self (c.loop-self.invariant.less waits) (c.step.ensures.goes_on w).less;

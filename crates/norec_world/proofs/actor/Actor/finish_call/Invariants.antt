@@ -1,6 +1,8 @@
-use Rattle.std.proofs.Common.{◌≡◌, true}
+use Rattle.std.proofs.Common.{◌≡◌, ℕ, true}
 use Rattle.norec_world.specs.Status.{is_waiting, is_ready}
 use Rattle.norec_world.specs.Tracks.{StillTracks}
+use Rattle.norec_world.specs.World.{counted}
+use Rattle.norec_world.specs.Stretches.{standing, StepsOn}
 use Rattle.norec_world.specs.Sound.{IsSound, IsNoMore, Falls, call_left}
 use Rattle.norec_world.proofs.actor.Actor.finish_call.Given as goal
 
@@ -8,6 +10,7 @@ abbrev pub invariant-loop-self : goal.invariant-loop-self
 invariant-loop-self g l = record {
   sound : IsSound g.P.Player.next_call g.P.Player.answered g.P.Player.restarted g.P.Player.calls_left g.P.Player.depth l.memory l.recorded l.self;
   tracks : StillTracks g.P.Player.next_call g.P.Player.answered g.P.Player.calls_left l.initial.memory l.initial.recorded.rows.items l.initial.self l.memory l.recorded.rows.items l.self;
+  took : (n : ℕ) × StepsOn g.P.Player.next_call g.P.Player.answered g.P.Player.calls_left n (standing l.initial.memory l.initial.recorded l.initial.self) (standing l.memory l.recorded l.self) × (l.taken ≡ counted 0 n);
   thread : l.self.thread ≡ l.initial.self.thread;
   less : is_waiting l.self.status ≡ true → IsNoMore g.P.Player.next_call g.P.Player.answered g.P.Player.restarted g.P.Player.calls_left g.P.Player.depth l.initial.self l.self;
   falls : is_ready l.self.status ≡ true → Falls g.P.Player.next_call g.P.Player.answered g.P.Player.restarted g.P.Player.calls_left g.P.Player.depth l.initial.self.engine.is_open l.self.engine.is_open l.initial.self l.self;

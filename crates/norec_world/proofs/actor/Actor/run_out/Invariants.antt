@@ -1,6 +1,8 @@
-use Rattle.std.proofs.Common.{◌≡◌, true, false}
+use Rattle.std.proofs.Common.{◌≡◌, ℕ, true, false}
 use Rattle.norec_world.specs.Status.{is_waiting, is_ready}
 use Rattle.norec_world.specs.Tracks.{StillTracks}
+use Rattle.norec_world.specs.World.{counted}
+use Rattle.norec_world.specs.Stretches.{standing, StepsOn}
 use Rattle.norec_world.specs.Sound.{IsSound, IsNoMore, whole, run_left}
 use Rattle.norec_world.proofs.actor.Actor.run_out.Given as goal
 
@@ -9,6 +11,7 @@ invariant-loop-alloc g l = record {
   sound : IsSound g.P.Player.next_call g.P.Player.answered g.P.Player.restarted g.P.Player.calls_left g.P.Player.depth l.memory l.recorded l.self;
   ready : is_ready l.self.status ≡ false;
   tracks : l.initial.self.thread ≡ 0 → StillTracks g.P.Player.next_call g.P.Player.answered g.P.Player.calls_left l.initial.memory l.initial.recorded.rows.items l.initial.self l.memory l.recorded.rows.items l.self;
+  took : (n : ℕ) × StepsOn g.P.Player.next_call g.P.Player.answered g.P.Player.calls_left n (standing l.initial.memory l.initial.recorded l.initial.self) (standing l.memory l.recorded l.self) × (l.taken ≡ counted 0 n);
   thread : l.self.thread ≡ l.initial.self.thread;
   less : is_waiting l.self.status ≡ true → IsNoMore g.P.Player.next_call g.P.Player.answered g.P.Player.restarted g.P.Player.calls_left g.P.Player.depth l.initial.self l.self;
 }

@@ -29,3 +29,6 @@ returns-clause-operation g c step w =
     c.step.ensures.cells step (waits_same g.P.Player.next_call g.P.Player.answered g.P.Player.restarted g.P.Player.calls_left g.P.Player.depth c.self.inside.memory c.step.new.memory c.self.inside.recorded c.work.new.recorded
     c.self.inside.actors.items c.self.invariant.0 c.args.actor (subst W (sym c.self.view_is) c.requires) c.index_mut-a.result.now c.index_mut-a.ensures.value step waits)
     ∙ ap (λ (x : World g.row.P.Denot). cells_after x.cells step) c.self.view_is
+
+pub returns-clause-alone : goal.returns-clause-alone
+returns-clause-alone g c = (invariant_of-self g c).1

@@ -1,0 +1,104 @@
+-- Events of a world, and what their answers tell.
+use Rattle.std.proofs.Common.{◌≡◌, ℕ, ◌+◌, ◌<◌, Bool, true, false, cond, length, take, get_or, arith, List, [], ◌∷◌, ◌++◌, count_by, IsTrue, Option, None, Some, Result, Ok, Err, IsSome, refl, sym, ap, subst, ◌∙◌, slice_get}
+use Rattle.std.specs.Option.{option_and_then}
+use Rattle.std.proofs.lemmas.List.{take_more}
+use Rattle.std.proofs.lemmas.List.Sums.{sum_by-append}
+use Rattle.itm_types.specs.declared.call.Call.{Call}
+use Rattle.itm_types.specs.declared.call.Reply.{Reply}
+use Rattle.norec_world.specs.declared.attempt.End.{End}
+use Rattle.norec_world.specs.declared.attempt.End.TheVariants.{Finished, GaveUp, NoMemory}
+use Rattle.norec_world.specs.declared.fault.WorldFault.{WorldFault}
+use Rattle.norec_world.specs.declared.fault.WorldFault.TheVariants as faults
+use Rattle.norec_world.specs.declared.schedule.Passes.{Passes}
+use Rattle.norec_world.specs.declared.actor.Actor.{Actor}
+use Rattle.norec_world.specs.declared.actor.Status.{Status}
+use Rattle.norec_world.specs.declared.actor.Status.TheVariants.{Ready, Waits, Ended}
+use Rattle.norec_world.specs.Status.{ending_of, waiting_step}
+use Rattle.norec_world.specs.World.{World, ending_at, waits_at, told, is_event}
+use Rattle.norec_world.specs.Going.{Goes, Leads, is_taken, is_passed, is_starved, passes_of}
+
+-- an event is answered by no fault of the other two
+pub told_event : (e : Option End) → IsTrue (is_event (told e))
+told_event None = refl
+told_event (Some Finished) = refl
+told_event (Some GaveUp) = refl
+told_event (Some NoMemory) = refl
+
+pub told_ended : (e : Option End) → told e ≡ Err faults.Ended → ⊥
+told_ended None h = cc
+told_ended (Some Finished) h = cc
+told_ended (Some GaveUp) h = cc
+told_ended (Some NoMemory) h = cc
+
+pub told_no_such : (e : Option End) → told e ≡ Err faults.NoSuchActor → ⊥
+told_no_such None h = cc
+told_no_such (Some Finished) h = cc
+told_no_such (Some GaveUp) h = cc
+told_no_such (Some NoMemory) h = cc
+
+-- who waits has not ended
+pub ending_waits : (s : Status) → IsSome (waiting_step s) → IsSome (ending_of s) → ⊥
+ending_waits Ready w e = cc
+ending_waits (Waits call step) w e = cc
+ending_waits (Ended end) w e = cc
+
+pub waits_not_ended : {P : Type 0} (w : World P) (actor : ℕ) → IsSome (waits_at w actor) → IsSome (ending_at w actor) → ⊥
+waits_not_ended {P} w actor = of_got (slice_get w.actors actor)
+  where
+    of_got : (o : Option (Actor P)) → IsSome (option_and_then (λ a. waiting_step a.status) o) → IsSome (option_and_then (λ a. ending_of a.status) o) → ⊥
+    of_got None x e = cc
+    of_got (Some a) x e = ending_waits a.status x e
+
+-- ## Many in a row
+
+module _ {P : Type 0} (next : P → Option Call) (answered : P → Reply → P) (left : P → ℕ) where
+  -- one entry more
+  pub leads_on : (old between new : World P) (schedule : List ℕ) (results : List (Result (Unit {0}) WorldFault)) (actor : ℕ) (result : Result (Unit {0}) WorldFault)
+      → Leads next answered left old schedule results between → Goes next answered left actor between result new
+      → Leads next answered left old (schedule ++ actor ∷ []) (results ++ result ∷ []) new
+  leads_on old between new [] [] actor result l g = (new, subst (λ (w : World P). Goes next answered left actor w result new) l g, refl)
+  leads_on old between new [] (r ∷ rs) actor result l g = absurd l
+  leads_on old between new (a ∷ rest) [] actor result l g = absurd l
+  leads_on old between new (a ∷ rest) (r ∷ rs) actor result l g = (l.0, l.1, leads_on l.0 between new rest rs actor result l.2 g)
+
+-- the counts with one result more
+abbrev pub noted : Passes → Result (Unit {0}) WorldFault → Passes
+noted p (Ok done) = record p { taken = p.taken + 1 }
+noted p (Err faults.NoSuchActor) = record p { passed = p.passed + 1 }
+noted p (Err faults.Ended) = record p { passed = p.passed + 1 }
+noted p (Err faults.NoMemory) = record p { starved = p.starved + 1 }
+
+module _ {A : Type 0} (p : A → Bool) (xs : List A) (x : A) where
+  count_yes : p x ≡ true → count_by p (xs ++ x ∷ []) ≡ count_by p xs + 1
+  count_yes e =
+      let all : count_by p (xs ++ x ∷ []) ≡ count_by p xs + (0 + cond (p x) 1 0) = sum_by-append (λ y. cond (p y) 1 0) xs (x ∷ []) in
+      let one : ◌≡◌ {A = ℕ} (cond (p x) 1 0) 1 = ap (λ (b : Bool). cond {A = ℕ} b 1 0) e in
+      omega arith
+
+  count_no : p x ≡ false → count_by p (xs ++ x ∷ []) ≡ count_by p xs
+  count_no e =
+      let all : count_by p (xs ++ x ∷ []) ≡ count_by p xs + (0 + cond (p x) 1 0) = sum_by-append (λ y. cond (p y) 1 0) xs (x ∷ []) in
+      let none : ◌≡◌ {A = ℕ} (cond (p x) 1 0) 0 = ap (λ (b : Bool). cond {A = ℕ} b 1 0) e in
+      omega arith
+
+pub passes_more : (results : List (Result (Unit {0}) WorldFault)) (r : Result (Unit {0}) WorldFault) → passes_of (results ++ r ∷ []) ≡ noted (passes_of results) r
+passes_more results (Ok done) = (λ i. record { taken = count_yes is_taken results (Ok done) refl i; passed = count_no is_passed results (Ok done) refl i; starved = count_no is_starved results (Ok done) refl i })
+passes_more results (Err faults.NoSuchActor) = (λ i. record { taken = count_no is_taken results (Err faults.NoSuchActor) refl i; passed = count_yes is_passed results (Err faults.NoSuchActor) refl i; starved = count_no is_starved results (Err faults.NoSuchActor) refl i })
+passes_more results (Err faults.Ended) = (λ i. record { taken = count_no is_taken results (Err faults.Ended) refl i; passed = count_yes is_passed results (Err faults.Ended) refl i; starved = count_no is_starved results (Err faults.Ended) refl i })
+passes_more results (Err faults.NoMemory) = (λ i. record { taken = count_no is_taken results (Err faults.NoMemory) refl i; passed = count_no is_passed results (Err faults.NoMemory) refl i; starved = count_yes is_starved results (Err faults.NoMemory) refl i })
+
+-- an entry of a schedule more, and its result
+module _ {P : Type 0} (next : P → Option Call) (answered : P → Reply → P) (left : P → ℕ) where
+  -- what has come of the schedule so far
+  abbrev pub HasLed : World P → List ℕ → World P → Passes → Type 0
+  HasLed old schedule new passes = (results : List (Result (Unit {0}) WorldFault)) × Leads next answered left old schedule results new × (passes ≡ passes_of results)
+
+  pub led_on : (old between new : World P) (schedule : List ℕ) (i d : ℕ) → i < length schedule → (passes passes' : Passes) (result : Result (Unit {0}) WorldFault)
+      → HasLed old (take i schedule) between passes → Goes next answered left (get_or schedule i d) between result new → passes' ≡ noted passes result
+      → HasLed old (take (i + 1) schedule) new passes'
+  led_on old between new schedule i d within passes passes' result led goes is = (
+    led.0 ++ result ∷ [],
+    subst (λ (entries : List ℕ). Leads next answered left old entries (led.0 ++ result ∷ []) new) (sym (take_more schedule i d within))
+        (leads_on next answered left old between new (take i schedule) led.0 (get_or schedule i d) result led.1 goes),
+    is ∙ (ap (λ (p : Passes). noted p result) led.2 ∙ sym (passes_more led.0 result)),
+  )

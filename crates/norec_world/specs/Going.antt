@@ -1,0 +1,65 @@
+-- What one event does to a world, and what many in a row do.
+use Rattle.std.specs.Prelude.{◌≡◌, ℕ, zero, suc, ◌≤◌, ◌↔◌, Bool, true, false, IsTrue, List, [], ◌∷◌, length, count_by, Option, Some, IsSome, Result, Ok, Err, slice_get}
+use Rattle.itm_types.specs.declared.call.Call.{Call}
+use Rattle.itm_types.specs.declared.call.Reply.{Reply}
+use Rattle.itm_types.specs.declared.step.Step.{Step}
+use Rattle.norec_world.specs.declared.fault.WorldFault.{WorldFault}
+use Rattle.norec_world.specs.declared.fault.WorldFault.TheVariants.{NoSuchActor, Ended, NoMemory}
+use Rattle.norec_world.specs.declared.schedule.Passes.{Passes}
+use Rattle.norec_engine.specs.Proceeds.{IsLawful}
+use Rattle.norec_world.specs.declared.actor.Actor.{Actor}
+use Rattle.norec_world.specs.Cells.{cells_after}
+use Rattle.norec_world.specs.Status.{waiting_step}
+use Rattle.norec_world.specs.World.{World, SameOpening, ShowsAlone, ending_at, waits_at, told, is_event, counted}
+
+module _ {P : Type 0} (next : P → Option Call) (answered : P → Reply → P) (left : P → ℕ) where
+  -- the actor is asked for one event, and this comes of it
+  pub record Goes (actor : ℕ) (old : World P) (result : Result (Unit {0}) WorldFault) (new : World P) : Type 0 where
+    pub no_such : (result ≡ Err NoSuchActor) ↔ (length old.actors ≤ actor)  -- told exactly where there is no such actor
+    pub ended : (result ≡ Err Ended) ↔ IsSome (ending_at old actor)  -- told exactly where it had ended
+    pub event : IsTrue (is_event result) ↔ IsSome (waits_at old actor)  -- an event exactly where it waits for an operation
+    pub answer : IsTrue (is_event result) → result ≡ told (ending_at new actor)  -- an event is answered by how the actor stands then
+    pub lawful : (a : Actor P) (step : Step) → slice_get old.actors actor ≡ Some a → waiting_step a.status ≡ Some step → IsLawful a.engine step  -- the operation is a step of the algorithm
+    pub operation : (step : Step) → waits_at old actor ≡ Some step → new.cells ≡ cells_after old.cells step  -- it is done, and changes no other cell
+    pub counts : IsTrue (is_event result) → new.events ≡ counted old.events 1  -- an event is counted
+    pub unchanged : is_event result ≡ false → new ≡ old  -- without one the world is as it was
+    pub opening : SameOpening old new  -- the world keeps its beginning
+    pub actors : length new.actors ≡ length old.actors  -- and its number of actors
+    pub alone : ShowsAlone next answered left new  -- its attempts, bytes and clock are still those of its player alone
+
+  -- an entry of the schedule after the other, with these results, leads from the one world to the other
+  abbrev pub Leads : World P → List ℕ → List (Result (Unit {0}) WorldFault) → World P → Type 0
+  Leads old [] [] new = new ≡ old
+  Leads old [] (result ∷ results) new = ⊥
+  Leads old (actor ∷ schedule) [] new = ⊥
+  Leads old (actor ∷ schedule) (result ∷ results) new = (between : World P) × Goes actor old result between × Leads between schedule results new
+
+  -- so many events of the actor in a row lead from the one world to the other
+  abbrev pub Takes : ℕ → ℕ → World P → World P → Type 0
+  Takes actor zero old new = new ≡ old
+  Takes actor (suc n) old new = (before : World P) × (result : Result (Unit {0}) WorldFault) × Takes actor n old before × IsTrue (is_event result) × Goes actor before result new
+
+-- an event, after which the actor goes on or has ended for another reason than want of memory
+abbrev pub is_taken : Result (Unit {0}) WorldFault → Bool
+is_taken (Ok done) = true
+is_taken (Err NoSuchActor) = false
+is_taken (Err Ended) = false
+is_taken (Err NoMemory) = false
+
+-- no event
+abbrev pub is_passed : Result (Unit {0}) WorldFault → Bool
+is_passed (Ok done) = false
+is_passed (Err NoSuchActor) = true
+is_passed (Err Ended) = true
+is_passed (Err NoMemory) = false
+
+-- an event, after which the actor had found no memory
+abbrev pub is_starved : Result (Unit {0}) WorldFault → Bool
+is_starved (Ok done) = false
+is_starved (Err NoSuchActor) = false
+is_starved (Err Ended) = false
+is_starved (Err NoMemory) = true
+
+-- how many results there are of each kind
+abbrev pub passes_of : List (Result (Unit {0}) WorldFault) → Passes
+passes_of results = record { taken = count_by is_taken results; passed = count_by is_passed results; starved = count_by is_starved results }
