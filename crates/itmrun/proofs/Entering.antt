@@ -1,8 +1,8 @@
 -- A begin that is accepted.
-use Rattle.std.proofs.Common.{◌≡◌, ℕ, zero, suc, ◌+◌, List, drop, Option, Some, refl, add-one}
+use Rattle.std.proofs.Common.{◌≡◌, ℕ, zero, suc, ◌+◌, List, drop, Some, refl, add-one}
 use Rattle.std.proofs.lemmas.List.{drop-drop}
 use Rattle.itmrun.specs.declared.asm.program.Instruction.{Instruction}
-use Rattle.itmrun.specs.Threads.{Thread, Block, deeper, block_at}
+use Rattle.itmrun.specs.Threads.{Thread, deeper, block_at}
 
 -- what the fields of a script's player show
 abbrev pub thread_of : ℕ → List Instruction → List (List ℕ) → ℕ → List Instruction → List (List ℕ) → Thread

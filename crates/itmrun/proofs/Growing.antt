@@ -1,6 +1,5 @@
 -- Writing one text after another.
-use Rattle.std.proofs.Common.{◌≡◌, refl, ℕ, Bool, true, false, List, [], ◌++◌, take, Option, sym, ap, ◌∙◌, append-nil, subst, ◌+◌, ◌<◌, length, get_or, flat_map, arith}
-use Rattle.std.specs.Io.KnownBytes.{Appends, Keeps}
+use Rattle.std.proofs.Common.{◌≡◌, refl, ℕ, Bool, true, false, List, [], ◌++◌, take, Option, sym, ap, append-nil, subst, ◌+◌, ◌<◌, length, get_or, flat_map, arith}
 use Rattle.std.proofs.KnownBytes.{Appends-nil, Appends-trans, Appends-kept, Keeps-refl, Keeps-trans}
 use Rattle.std.proofs.lemmas.Grind.{common_steps}
 use Rattle.norec_world.specs.declared.attempt.Entry.{Entry}

@@ -1,5 +1,5 @@
 -- A program's world shows its page.
-use Rattle.std.proofs.Common.{◌≡◌, ℕ, ◌*◌, ◌/◌, ◌%◌, List, [], ◌∷◌, replicate, Option, Some, refl, sym, ap, subst, ◌∙◌, arith}
+use Rattle.std.proofs.Common.{◌≡◌, ℕ, ◌*◌, ◌/◌, ◌%◌, List, [], ◌∷◌, replicate, Some, refl, sym, ap, subst, ◌∙◌, arith}
 use Rattle.itm_model.specs.declared.limits.TheConstants.{MAX_DEPTH}
 use Rattle.norec_world.specs.declared.attempt.End.{End}
 use Rattle.norec_world.specs.declared.attempt.End.TheVariants.{Finished, GaveUp, NoMemory}
@@ -10,7 +10,6 @@ use Rattle.norec_world.specs.World.{World, ShowsAlone, DoneBy, ending_at, memory
 use Rattle.norec_world.specs.Tracks.{HasEnded}
 use Rattle.itmrun.specs.Listing.{Listing}
 use Rattle.itmrun.specs.Threads.{Thread, opening, next_call, answered, calls_left}
-use Rattle.itmrun.specs.Histories.{History}
 use Rattle.itmrun.specs.Pages.{limit, solo_of, page, IsOf, IsWorldOf, history_of}
 
 head_is : (x y : Thread) → x ∷ [] ≡ y ∷ [] → x ≡ y
@@ -48,9 +47,9 @@ module _ (p : Listing) (w : World Thread) (run : IsWorldOf p w) (a : ShowsAlone 
     refl,
     part.0,
     subst (λ (n : ℕ). IsSoFar next_call answered calls_left limit 0 (opening p.code) (replicate p.memory 0) (replicate n 0) (w.cells.clock / 2) (memory_of w) outcomes.NoMemory w.attempts) run.arena
-    (subst (λ (base : List ℕ). IsSoFar next_call answered calls_left limit 0 (opening p.code) base (replicate w.arena 0) (w.cells.clock / 2) (memory_of w) outcomes.NoMemory w.attempts) run.base
-    (subst (λ (t : Thread). IsSoFar next_call answered calls_left limit 0 t w.base (replicate w.arena 0) (w.cells.clock / 2) (memory_of w) outcomes.NoMemory w.attempts) player_is
-    (subst (λ (n : ℕ). IsSoFar next_call answered calls_left n 0 a.0 w.base (replicate w.arena 0) (w.cells.clock / 2) (memory_of w) outcomes.NoMemory w.attempts) run.limit_is part.1))),
+        (subst (λ (base : List ℕ). IsSoFar next_call answered calls_left limit 0 (opening p.code) base (replicate w.arena 0) (w.cells.clock / 2) (memory_of w) outcomes.NoMemory w.attempts) run.base
+        (subst (λ (t : Thread). IsSoFar next_call answered calls_left limit 0 t w.base (replicate w.arena 0) (w.cells.clock / 2) (memory_of w) outcomes.NoMemory w.attempts) player_is
+        (subst (λ (n : ℕ). IsSoFar next_call answered calls_left n 0 a.0 w.base (replicate w.arena 0) (w.cells.clock / 2) (memory_of w) outcomes.NoMemory w.attempts) run.limit_is part.1))),
   )
 
   pub page_of_run : (end : End) → ending_at w 0 ≡ Some end → IsOf p end (history_of (replicate p.memory 0) w)

@@ -1,16 +1,16 @@
 -- Writing a text piece by piece.
-use Rattle.std.proofs.Common.{◌≡◌, ℕ, ◌+◌, ◌-◌, ◌/◌, ◌%◌, ◌<◌, ◌≤◌, min, List, [], ◌∷◌, ◌++◌, length, take, drop, Option, Some, None, Result, Ok, Err, refl, sym, ap, ◌∙◌, arith, append_assoc, append-nil, subst, suc, get_or, drop-cons}
+use Rattle.std.proofs.Common.{◌≡◌, ℕ, ◌+◌, ◌/◌, ◌%◌, ◌<◌, ◌≤◌, min, List, [], ◌∷◌, ◌++◌, length, take, drop, Option, Result, Ok, Err, refl, sym, ap, ◌∙◌, arith, subst, suc, get_or, drop-cons}
 use Rattle.std.specs.Io.KnownBytes.{Appends, Keeps}
 use Rattle.std.proofs.KnownBytes.{Appends-nil, Appends-trans, Appends-kept}
 use Rattle.std.proofs.lemmas.Grind.{common_steps}
-use Rattle.std.proofs.lemmas.List.{length-append, take-take, drop-take, take-append-drop, take-append-le, flat_map_more}
-use Rattle.std.proofs.lemmas.List.Concat.{flat_map-append, flat_map-cons}
+use Rattle.std.proofs.lemmas.List.{length-append, take-take, drop-take, take-append-drop, take-append-le}
+use Rattle.std.proofs.lemmas.List.Concat.{flat_map-append}
 use Rattle.std.proofs.Math.Seq.{take-append-add}
 use Rattle.std.specs.List.{flat_map}
 use Rattle.hex.specs.Hex.{encode_lower, encode_with, lower_digits}
 use Rattle.itmrun.specs.declared.history.pieces.Piece.{Piece}
 use Rattle.itmrun.specs.Spelling.{IsCut, Puts, Grows, spelled}
-use Rattle.std.specs.Prelude.{slice_index, IsErr, is_err, false}
+use Rattle.std.specs.Prelude.{slice_index, is_err, false}
 
 pieces_past : (n : ℕ) (ps : List Piece) → length ps ≤ n → take n ps ≡ ps
 pieces_past n ps h = grind (arith, common_steps)
@@ -45,11 +45,10 @@ stopped a b c x y z text p q e =
 -- a call that failed left something out
 pub cut_short : (a b c : Option (List ℕ)) (x y z text : List ℕ) → Appends a b x → IsCut b c y → text ≡ x ++ (y ++ z) → IsCut a c text
 cut_short a b c x y z text p q e =
-    let front : take (length x + q.0) text ≡ x ++ take q.0 y = ap (take (length x + q.0)) e ∙ take-append-add x (y ++ z) q.0 ∙ ap (λ (l : List ℕ). x ++ l) (take-append-le q.0 y z (omega (arith, q.1))) in
-    (
-        length x + q.0,
-        omega (arith, q.1, ap (length {A = ℕ}) e, length-append x (y ++ z), length-append y z),
-        subst (Appends a c) (sym front) (Appends-trans a b c x (take q.0 y) p q.2),
+    let front : take (length x + q.0) text ≡ x ++ take q.0 y = ap (take (length x + q.0)) e ∙ take-append-add x (y ++ z) q.0 ∙ ap (λ (l : List ℕ). x ++ l) (take-append-le q.0 y z (omega (arith, q.1))) in (
+      length x + q.0,
+      omega (arith, q.1, ap (length {A = ℕ}) e, length-append x (y ++ z), length-append y z),
+      subst (Appends a c) (sym front) (Appends-trans a b c x (take q.0 y) p q.2),
     )
 
 pub encode_append : (xs ys : List ℕ) → encode_lower (xs ++ ys) ≡ encode_lower xs ++ encode_lower ys

@@ -1,5 +1,5 @@
 -- Registers: 16 lists of 32 bytes.
-use Rattle.std.specs.Prelude.{ℕ, List, [], ◌++◌, ◌-◌, length, take, replicate, slice_index_or, slice_set}
+use Rattle.std.specs.Prelude.{ℕ, List, [], ◌++◌, ◌-◌, length, take, replicate, slice_index_or}
 use Rattle.std.specs.Int.{to_le_bytes, from_le_bytes, w64}
 
 -- all bytes zero

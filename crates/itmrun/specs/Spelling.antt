@@ -1,5 +1,5 @@
 -- The one spelling of a history.
-use Rattle.std.specs.Prelude.{◌≡◌, Bool, true, false, ℕ, ◌+◌, ◌/◌, ◌%◌, ◌<◌, List, [], ◌∷◌, ◌++◌, length, take, Option, Some, None, Result, Ok, Err, flat_map, decimal, codes, if◌then◌else◌, nat_lt}
+use Rattle.std.specs.Prelude.{Bool, true, false, ℕ, ◌<◌, List, length, take, Option, Result, Ok, Err, decimal}
 use Rattle.std.specs.Io.KnownBytes.{Appends, Keeps}
 use Rattle.hex.specs.Hex.{encode_lower}
 use Rattle.itmrun.specs.declared.history.pieces.Piece.{Piece}

@@ -1,5 +1,5 @@
 -- The laws of a thread as a player.
-use Rattle.std.proofs.Common.{◌≡◌, ℕ, zero, suc, ◌<◌, ◌≤◌, ◌-◌, Bool, true, false, eqb, List, [], ◌∷◌, length, drop, Option, Some, None, refl, sym, ap, ◌∙◌, subst, arith, length-drop}
+use Rattle.std.proofs.Common.{◌≡◌, ℕ, zero, suc, ◌<◌, ◌≤◌, ◌-◌, false, eqb, List, [], ◌∷◌, length, drop, Option, Some, None, refl, arith, length-drop}
 use Rattle.std.specs.Prelude.{if◌then◌else◌, slice_set}
 use Rattle.std.proofs.lemmas.Bool.{ne_eqb}
 use Rattle.itm_types.specs.declared.call.Call.{Call}
@@ -14,7 +14,7 @@ use Rattle.script_vm.specs.Depth.{depth_after, opens}
 use Rattle.itmrun.specs.declared.asm.program.Instruction.{Instruction}
 use Rattle.itmrun.specs.declared.asm.program.Instruction.TheVariants as code
 use Rattle.itmrun.specs.Registers.{of_number, of_bytes}
-use Rattle.itmrun.specs.Threads.{Thread, Block, next_call, answered, restarted, calls_left, depth_of, depth_in, call_at, answered_at, settled, sum_of, room, left_over, begun, ended, took, shallower, goes_on, datum}
+use Rattle.itmrun.specs.Threads.{Thread, Block, next_call, answered, restarted, calls_left, depth_of, depth_in, call_at, answered_at, settled, sum_of, room, left_over, begun, ended, took, goes_on, datum}
 
 none_is_no_call : (c : Call) → None ≡ Some c → ⊥
 none_is_no_call c e = cc

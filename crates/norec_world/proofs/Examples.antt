@@ -1,6 +1,5 @@
 -- Worked cases, computed: the attempts of one counter, and of two whose first try is lost; the counts of a schedule.
-use Rattle.std.proofs.Common.{◌≡◌, ℕ, zero, suc, ◌<◌, ◌≤◌, List, [], ◌∷◌, ◌++◌, refl, true, false, replicate, Option, None, Some, Ok, Err, arith, lit<, lit≤}
-use Rattle.arrayvec.specs.ArrayVec.{ArrayVec}
+use Rattle.std.proofs.Common.{◌≡◌, ℕ, zero, suc, List, [], ◌∷◌, refl, false, replicate, Option, None, Some, Ok, Err, arith}
 use Rattle.itm_types.specs.declared.access.Width.TheVariants.{U8}
 use Rattle.itm_types.specs.declared.access.ReadHint.TheVariants.{R}
 use Rattle.itm_types.specs.declared.access.WriteHint.TheVariants.{W}

@@ -1,5 +1,5 @@
 -- What an actor that follows its player has done is a beginning of what the player does alone.
-use Rattle.std.proofs.Common.{◌≡◌, ◌⊎◌, inl, inr, ℕ, ◌+◌, ◌*◌, ◌/◌, ◌%◌, Bool, true, false, List, [], ◌∷◌, ◌++◌, length, Option, None, Some, refl, sym, ap, ◌∙◌, arith}
+use Rattle.std.proofs.Common.{◌≡◌, ◌⊎◌, inl, inr, ℕ, ◌+◌, ◌*◌, ◌/◌, ◌%◌, Bool, true, false, List, [], ◌∷◌, ◌++◌, Option, refl, sym, ap, ◌∙◌, arith}
 use Rattle.itm_types.specs.declared.call.Call.{Call}
 use Rattle.itm_types.specs.declared.call.Reply.{Reply}
 use Rattle.itm_types.specs.Memory.{bytes_of}
@@ -62,11 +62,10 @@ module _ {P : Type 0} (next : P → Option Call) (answered : P → Reply → P) 
   pub starved : (rows' : List Attempt) → e.holds ≡ false → (e.is_open ≡ true → StopsAt rows (e.snapshot / 2) NoMemory rows') → (e.is_open ≡ false → rows' ≡ rows)
       → (cells.clock % 2 ≡ 0) × SoFar (cells.clock / 2) (bytes_of cells.words) NoMemory rows'
   starved rows' free stops none =
-      let even = half_even cells.clock b.commits (f.free free).0 in
-      (
+      let even = half_even cells.clock b.commits (f.free free).0 in (
         even.1,
         so_far (cells.clock / 2) (bytes_of cells.words) NoMemory rows' even.0 (halves.1 even.1) (λ o. none o ∙ (f.closed o).0)
-        (λ o. (let block = f.opens o in begun NoMemory rows' o (
-        stops o past (row_of next answered left max_commits thread b block.0 block.1 Unfinished) block.2
-        ∙ ap (λ (at : ℕ). past ++ record (row_of next answered left max_commits thread b block.0 block.1 NoMemory) { at = at } ∷ []) (half_even e.snapshot b.commits block.3.at).0))),
+            (λ o. (let block = f.opens o in begun NoMemory rows' o (
+            stops o past (row_of next answered left max_commits thread b block.0 block.1 Unfinished) block.2
+            ∙ ap (λ (at : ℕ). past ++ record (row_of next answered left max_commits thread b block.0 block.1 NoMemory) { at = at } ∷ []) (half_even e.snapshot b.commits block.3.at).0))),
       )

@@ -1,4 +1,4 @@
-use Rattle.std.proofs.Common.{rules, arith, length, take}
+use Rattle.std.proofs.Common.{arith, take}
 use Rattle.std.proofs.lemmas.List.{length-take}
 use Rattle.itmrun.proofs.Taking.{few_more}
 use Rattle.itmrun.proofs.input.read_up_to.Goals as goal

@@ -1,4 +1,4 @@
-use Rattle.std.proofs.Common.{◌≡◌, ℕ, List, Option, Result}
+use Rattle.std.proofs.Common.{◌≡◌, Result}
 use Rattle.itmrun.specs.declared.asm.fault.AsmFault.{AsmFault}
 use Rattle.itmrun.specs.Listing.{Listing}
 use Rattle.itmrun.specs.Answers.{Runs}

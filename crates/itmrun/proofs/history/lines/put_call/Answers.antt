@@ -1,4 +1,3 @@
-use Rattle.std.proofs.Common.{rules}
 use Rattle.itmrun.specs.Histories.{call_line}
 use Rattle.itmrun.proofs.Growing.{grows_then}
 use Rattle.itmrun.proofs.history.lines.put_call.Goals as goal

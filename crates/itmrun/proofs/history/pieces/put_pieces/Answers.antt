@@ -1,4 +1,3 @@
-use Rattle.std.proofs.Common.{rules, arith}
 use Rattle.std.proofs.lemmas.Result.{err_from_is_err_and}
 use Rattle.itmrun.proofs.Putting.{pieces_stop}
 use Rattle.itmrun.proofs.history.pieces.put_pieces.Goals as goal

@@ -1,7 +1,6 @@
-use Rattle.std.proofs.Common.{◌≤◌, ◌-◌, length, take}
+use Rattle.std.proofs.Common.{take}
 use Rattle.std.specs.List.{flat_map}
 use Rattle.std.specs.Io.KnownBytes.{Appends}
-use Rattle.hex.specs.Hex.{encode_lower}
 use Rattle.itmrun.specs.Spelling.{spelled}
 use Rattle.itmrun.proofs.history.pieces.put_pieces.Given as goal
 
