@@ -1,8 +1,8 @@
 -- Worked cases of the plain machine, computed.
 use Rattle.std.proofs.Common.{◌≡◌, ℕ, zero, suc, List, [], ◌∷◌, ◌++◌, Option, None, Some, true, refl, replicate}
 use Rattle.arrayvec.specs.ArrayVec.{ArrayVec}
-use Rattle.itm_types.specs.declared.access.Width.TheVariants.{U8}
-use Rattle.itm_types.specs.declared.access.ReadHint.TheVariants.{R}
+use Rattle.itm_types.specs.declared.access.Width.TheVariants.{U1, U2, U4, U8}
+use Rattle.itm_types.specs.declared.access.ReadHint.TheVariants.{R, RaR, RaW}
 use Rattle.itm_types.specs.declared.access.WriteHint.TheVariants.{W}
 use Rattle.itm_types.specs.declared.datum.Datum.{Datum}
 use Rattle.itm_types.specs.declared.call.Props.{Props}
@@ -73,13 +73,30 @@ last_word = refl
 refused_write : state_after 1 (start 8) (Write W 8 (word 5) ∷ []) ≡ start 8
 refused_write = refl
 
--- ## A place that is no multiple of 8
+-- ## Places inside words: a write over the end of a word, and a read of it and of bytes around it
 
-unaligned : replies 1 (start 16) (Read R U8 4 ∷ Write W 1 (word 9) ∷ Read R U8 8 ∷ []) ≡ Refused OutOfRange ∷ Refused OutOfRange ∷ Bytes (value 0) ∷ []
-unaligned = refl
+abbrev counted_bytes : List ℕ
+counted_bytes = 0x00 ∷ 0x11 ∷ 0x22 ∷ 0x33 ∷ 0x44 ∷ 0x55 ∷ 0x66 ∷ 0x77 ∷ 0x88 ∷ 0x99 ∷ 0xaa ∷ 0xbb ∷ 0xcc ∷ 0xdd ∷ 0xee ∷ 0xff ∷ []
 
-unaligned_unchanged : state_after 1 (start 16) (Read R U8 4 ∷ Write W 1 (word 9) ∷ []) ≡ start 16
-unaligned_unchanged = refl
+abbrev over_the_end : List Call
+over_the_end = Write W 6 (record { width = U4; bytes = record { items = 0xdd ∷ 0xcc ∷ 0xbb ∷ 0xaa ∷ [] }; sized = refl }) ∷ Read RaR U8 4 ∷ Commit ∷ []
+
+over_the_end_replies : replies 1 (opened counted_bytes [] plain) over_the_end ≡ Done ∷ Bytes (record { items = 0x44 ∷ 0x55 ∷ 0xdd ∷ 0xcc ∷ 0xbb ∷ 0xaa ∷ 0xaa ∷ 0xbb ∷ [] }) ∷ Done ∷ []
+over_the_end_replies = refl
+
+over_the_end_bytes : (state_after 1 (opened counted_bytes [] plain) over_the_end).memory
+    ≡ 0x00 ∷ 0x11 ∷ 0x22 ∷ 0x33 ∷ 0x44 ∷ 0x55 ∷ 0xdd ∷ 0xcc ∷ 0xbb ∷ 0xaa ∷ 0xaa ∷ 0xbb ∷ 0xcc ∷ 0xdd ∷ 0xee ∷ 0xff ∷ []
+over_the_end_bytes = refl
+
+-- the last byte is within, and one byte more is not
+last_bytes : replies 1 (start 16) (Read R U8 8 ∷ Read R U8 9 ∷ Read R U1 15 ∷ Read R U1 16 ∷ []) ≡ Bytes (value 0) ∷ Refused OutOfRange ∷ Bytes (record { items = 0 ∷ [] }) ∷ Refused OutOfRange ∷ []
+last_bytes = refl
+
+-- ## Hints that are not true: a read after a read and a read after a write that were none
+false_hints : replies 1 (opened counted_bytes [] plain)
+    (Write W 1 (record { width = U2; bytes = record { items = 0xaa ∷ 0xbb ∷ [] }; sized = refl }) ∷ Read RaW U4 0 ∷ Read RaR U2 8 ∷ Commit ∷ [])
+    ≡ Done ∷ Bytes (record { items = 0x00 ∷ 0xaa ∷ 0xbb ∷ 0x33 ∷ [] }) ∷ Bytes (record { items = 0x88 ∷ 0x99 ∷ [] }) ∷ Done ∷ []
+false_hints = refl
 
 -- ## A write replaces its own word alone
 

@@ -1,5 +1,5 @@
 -- One call on the plain machine: its refusal, its reply and the state after it.
-use Rattle.std.specs.Prelude.{ℕ, Bool, false, ◌||◌, ◌&&◌, nat_lt, if◌then◌else◌, List, [], ◌∷◌, length, Option, None, Some}
+use Rattle.std.specs.Prelude.{ℕ, Bool, false, ◌||◌, nat_lt, if◌then◌else◌, List, [], ◌∷◌, length, Option, None, Some}
 use Rattle.itm_types.specs.Access.{size_of}
 use Rattle.itm_types.specs.declared.call.Props.{Props}
 use Rattle.itm_types.specs.declared.call.Refusal.{Refusal}
@@ -8,7 +8,8 @@ use Rattle.itm_types.specs.declared.call.Call.{Call}
 use Rattle.itm_types.specs.declared.call.Call.TheVariants.{Begin, Commit, Read, Write}
 use Rattle.itm_types.specs.declared.call.Reply.{Reply}
 use Rattle.itm_types.specs.declared.call.Reply.TheVariants.{Done, Bytes, Code, Refused}
-use Rattle.itm_model.specs.Places.{in_range, is_aligned, slice, with_slice}
+use Rattle.itm_types.specs.Slices.{slice, with_slice}
+use Rattle.itm_model.specs.Places.{in_range}
 use Rattle.itm_model.specs.State.{Saved, Block, State}
 
 -- ## Refusals
@@ -29,7 +30,7 @@ abbrev pub needs_open : State → Option Refusal
 needs_open s = unless (is_open s) Outside
 
 abbrev pub in_shared : State → ℕ → ℕ → Option Refusal
-in_shared s place size = unless (is_aligned place && in_range s.memory place size) OutOfRange
+in_shared s place size = unless (in_range s.memory place size) OutOfRange
 
 -- why the call is refused, if it is; `deepest` blocks may be open
 abbrev pub refusal : ℕ → State → Call → Option Refusal

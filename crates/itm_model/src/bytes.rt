@@ -2,7 +2,8 @@
 
 ghost use Rattle.std.specs.Prelude.{◌≡◌, IsTrue, length};
 ghost use Rattle.itm_types.specs.Access.{size_of};
-ghost use Rattle.itm_model.specs.Places.{in_range, slice, with_slice};
+ghost use Rattle.itm_types.specs.Slices.{slice, with_slice};
+ghost use Rattle.itm_model.specs.Places.{in_range};
 
 use itm_types::{Value, Width};
 

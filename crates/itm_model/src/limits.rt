@@ -9,5 +9,5 @@ pub const MAX_MEMORY: usize = 65_536;
 /// The largest arena, in bytes.
 pub const MAX_ARENA: usize = 4_096;
 
-/// The bytes of a word. A memory is whole words, and an access begins at one.
+/// The bytes of a word. A memory is whole words.
 pub const WORD: u64 = 8;

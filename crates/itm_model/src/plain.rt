@@ -132,11 +132,11 @@ impl Plain {
         }
     }
 
-    /// An access leaves the memory, or does not begin at a word.
+    /// An access leaves the memory.
     fn out_of_range(&self, place: u64, width: Width) -> Option<Refusal>
         ensures { result ≡ in_shared self.now place (size_of width) }
     {
-        if place % WORD == 0 && is_in_range(&self.memory, place, width.size()) {
+        if is_in_range(&self.memory, place, width.size()) {
             None
         } else {
             Some(Refusal::OutOfRange)

@@ -1,3 +1,7 @@
 pub mod Access
+pub mod Copies
+pub mod Names
+pub mod Entries
 pub mod Refusals
 pub mod Memory
+pub mod Slices

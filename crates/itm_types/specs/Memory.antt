@@ -1,9 +1,8 @@
--- Memory as a list of words, its bytes, and rows of words with values.
-use Rattle.std.specs.Prelude.{◌≡◌, ℕ, ◌^◌, ◌<◌, List, [], ◌∷◌, length, Some, slice_get, slice_set}
+-- Memory as a list of words, its bytes, and rows of a value log.
+use Rattle.std.specs.Prelude.{◌≡◌, ℕ, ◌^◌, ◌<◌, List, [], ◌∷◌, length, Some, slice_get}
 use Rattle.std.specs.List.{flat_map}
 use Rattle.std.specs.Int.{w64, to_le_bytes}
 use Rattle.itm_types.specs.declared.row.LogRow.{LogRow}
-use Rattle.itm_types.specs.declared.row.WriteRow.{WriteRow}
 
 -- the bytes of the words, each little-endian
 abbrev pub bytes_of : List ℕ → List ℕ
@@ -22,8 +21,3 @@ IsMemory words m = (length m ≡ words) × AllFit m
 abbrev pub Agrees : List ℕ → List LogRow → Type 0
 Agrees m [] = Unit {0}
 Agrees m (r ∷ rs) = (slice_get m r.word ≡ Some r.value) × Agrees m rs
-
--- the memory with the rows laid over it, the first one first
-abbrev pub overlay : List ℕ → List WriteRow → List ℕ
-overlay m [] = m
-overlay m (r ∷ rs) = overlay (slice_set m r.word r.value) rs

@@ -39,7 +39,7 @@ pub enum Call {
 pub enum Refusal {
     /// No transaction is open.
     Outside,
-    /// A shared range leaves the memory, or does not begin at a multiple of 8.
+    /// A shared range leaves the memory.
     OutOfRange,
     /// As many blocks are open as may be.
     TooDeep,

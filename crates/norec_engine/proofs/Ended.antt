@@ -21,6 +21,7 @@ core_ended old new e = λ i. record {
   holds = false;
   done = 0;
   freed = false;
+  got = None;
   doing = None;
   again = false;
   waits = None;

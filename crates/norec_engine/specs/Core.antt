@@ -1,7 +1,7 @@
 -- What an engine is to its callers.
 use Rattle.std.specs.Prelude.{ℕ, ◌+◌, ◌==◌, ◌&&◌, not, zero, suc, Bool, false, true, List, [], ◌∷◌, ◌++◌, Option, None, Some, length}
 use Rattle.itm_types.specs.declared.row.LogRow.{LogRow}
-use Rattle.itm_types.specs.declared.row.WriteRow.{WriteRow}
+use Rattle.write_set.specs.declared.row.Row.{Row}
 use Rattle.itm_types.specs.declared.call.Call.{Call}
 use Rattle.itm_types.specs.declared.call.Props.{Props}
 use Rattle.itm_types.specs.declared.step.Step.{Step}
@@ -18,12 +18,13 @@ pub record Core : Type 0 where
   pub clock : ℕ  -- the last clock value handed in
   pub fresh : List LogRow  -- the words loaded since then
   pub log : List LogRow  -- the value log
-  pub writes : List WriteRow  -- the write set
+  pub writes : List Row  -- the write set
   pub is_open : Bool  -- a transaction is open
   pub props : Props  -- of its block
   pub holds : Bool  -- it holds the clock
   pub done : ℕ  -- how many rows of the write set were stored since it took the clock
   pub freed : Bool  -- the last step freed the clock
+  pub got : Option ℕ  -- what the last step, a load by the holder, found
   pub doing : Option Call  -- the call that has no answer yet
   pub again : Bool  -- that call begins a block that was begun before
   pub waits : Option Step  -- the step that it asked for
@@ -51,6 +52,7 @@ opening words arena patience max_commits = record {
   holds = false;
   done = 0;
   freed = false;
+  got = None;
   doing = None;
   again = false;
   waits = None;
@@ -62,21 +64,26 @@ opening words arena patience max_commits = record {
 
 -- the engine as a call comes
 abbrev pub came : Core → Call → Bool → Core
-came c call again = record c { doing = Some call; again = again && not c.is_open; stage = at.Idle; tries = 0; fresh = []; done = 0; freed = false; spent = 0; entry = length c.log }
+came c call again = record c { doing = Some call; again = again && not c.is_open; stage = at.Idle; tries = 0; fresh = []; done = 0; freed = false; got = None; spent = 0; entry = length c.log }
+
+-- a word was loaded, by the holder of the clock or by another
+abbrev pub word_loaded : Core → Bool → ℕ → ℕ → Core
+word_loaded c true word seen = record c { waits = None; stage = at.Idle; tries = 0; got = Some seen }
+word_loaded c false word seen = record c { waits = None; stage = at.Idle; tries = 0; fresh = c.fresh ++ record { word = word; value = seen } ∷ [] }
 
 -- the value that a load found
 abbrev pub loaded : Core → ℕ → ℕ → Core
 loaded c zero seen = record c { waits = None; stage = at.Idle; tries = 0; clock = seen; fresh = [] }
-loaded c (suc word) seen = record c { waits = None; stage = at.Idle; tries = 0; fresh = c.fresh ++ record { word = word; value = seen } ∷ [] }
+loaded c (suc word) seen = word_loaded c c.holds word seen
 
 -- a store was done
 abbrev pub stored : Core → ℕ → ℕ → Core
 stored c zero value = record c { waits = None; stage = at.Idle; tries = 0; clock = value; fresh = []; holds = false; freed = true }
-stored c (suc word) value = record c { waits = None; stage = at.Idle; tries = 0; done = c.done + 1 }
+stored c (suc word) value = record c { waits = None; stage = at.Idle; tries = 0; got = None; done = c.done + 1 }
 
 -- the value that an exchange found: the clock is taken where that is the expected one
 abbrev pub exchanged : Core → ℕ → ℕ → Core
-exchanged c from seen = record c { waits = None; stage = at.Idle; tries = 0; clock = seen; fresh = []; holds = seen == from; done = 0 }
+exchanged c from seen = record c { waits = None; stage = at.Idle; tries = 0; clock = seen; fresh = []; holds = seen == from; done = 0; got = None }
 
 -- the engine with the step's value taken in, by the kinds of step
 abbrev pub handed_to : Core → Option Step → ℕ → Core

@@ -1,12 +1,16 @@
 -- The engine's fields as what its callers see, and what is true of them.
 use Rattle.std.specs.Prelude.{◌≡◌, ◌≢◌, ℕ, ◌+◌, ◌-◌, ◌*◌, ◌/◌, ◌%◌, ◌^◌, ◌<◌, ◌≤◌, suc, Bool, true, false, List, [], ◌∷◌, length, take, Option, None, Some, vec_capacity}
 use Rattle.itm_types.specs.declared.row.LogRow.{LogRow}
-use Rattle.itm_types.specs.declared.row.WriteRow.{WriteRow}
+use Rattle.write_set.specs.declared.row.Row.{Row}
 use Rattle.itm_types.specs.declared.call.Call.{Call}
 use Rattle.itm_types.specs.declared.call.Call.TheVariants.{Begin, Commit, Read}
 use Rattle.itm_types.specs.declared.step.Step.{Step}
 use Rattle.itm_types.specs.declared.step.Step.TheVariants.{Load, Store, Cas}
-use Rattle.itm_types.specs.Access.{words_in}
+use Rattle.itm_types.specs.Access.{size_of}
+use Rattle.itm_types.specs.Memory.{IsMemory, Agrees}
+use Rattle.word_pieces.specs.declared.piece.Piece.{Piece}
+use Rattle.word_pieces.specs.Masks.{whole}
+use Rattle.word_pieces.specs.Pieces.{piece_of, pieces_of, count_of, gathered}
 use Rattle.norec_engine.specs.declared.phase.Aim.{Aim}
 use Rattle.norec_engine.specs.declared.phase.Aim.TheVariants as aims
 use Rattle.norec_engine.specs.declared.phase.Phase.{Phase}
@@ -17,14 +21,29 @@ use Rattle.norec_engine.specs.declared.phase.Turn.TheVariants.{Wait, End}
 use Rattle.norec_engine.specs.declared.data.Data.{Data}
 use Rattle.norec_engine.specs.declared.answer.Next.{Next}
 use Rattle.norec_engine.specs.declared.answer.Next.TheVariants.{Step as Asks, Answer as Answers}
-use Rattle.norec_engine.specs.Rows.{lookup, row_at, write_at, AllWithin, AllWritesWithin, AllWritesFit, AreApart}
+use Rattle.norec_engine.specs.Rows.{row_at, write_at, value_into, is_covered, AllWithin, AllWritesWithin}
+use Rattle.write_set.specs.Rows.{overlay, AreRows}
 use Rattle.norec_engine.specs.Core.{Core}
 use Rattle.norec_engine.specs.Proceeds.{Proceeds}
 
 -- ## What callers see
 
+-- the word of the read's piece
+abbrev pub word_of : Reading → ℕ
+word_of r = r.at / 8 + r.number
+
+-- the piece
+abbrev pub part : Reading → Piece
+part r = piece_of r.at (size_of r.width) (word_of r)
+
+abbrev pub parts : Reading → List Piece
+parts r = pieces_of r.at (size_of r.width)
+
+abbrev pub count : Reading → ℕ
+count r = count_of r.at (size_of r.width)
+
 abbrev pub call_of : Aim → Call
-call_of (aims.Read r) = Read r.hint r.width (r.word * 8)
+call_of (aims.Read r) = Read r.hint r.width r.at
 call_of aims.Commit = Commit
 
 abbrev pub doing_of : Phase → Option Call
@@ -36,7 +55,8 @@ doing_of (at.RoundStart aim) = Some (call_of aim)
 doing_of (at.RoundRow aim row) = Some (call_of aim)
 doing_of (at.RoundEnd aim) = Some (call_of aim)
 doing_of at.Exchange = Some Commit
-doing_of (at.Store row) = Some Commit
+doing_of (at.BackLoad row) = Some Commit
+doing_of (at.Store row got) = Some Commit
 doing_of at.Free = Some Commit
 
 abbrev pub again_of : Phase → Bool
@@ -47,13 +67,14 @@ again_of _ = false
 abbrev pub step_of : Data → Phase → Step
 step_of d at.Idle = Load 0
 step_of d (at.Begin b) = Load 0
-step_of d (at.Load r) = Load (suc r.word)
+step_of d (at.Load r) = Load (suc (word_of r))
 step_of d (at.Confirm r value) = Load 0
 step_of d (at.RoundStart aim) = Load 0
 step_of d (at.RoundRow aim row) = Load (suc (row_at d.log.items row).word)
 step_of d (at.RoundEnd aim) = Load 0
 step_of d at.Exchange = Cas 0 d.snapshot (d.snapshot + 1)
-step_of d (at.Store row) = Store (suc (write_at d.writes.items row).word) (write_at d.writes.items row).value
+step_of d (at.BackLoad row) = Load (suc (write_at d.writes row).word)
+step_of d (at.Store row got) = Store (suc (write_at d.writes row).word) (value_into (write_at d.writes row) got)
 step_of d at.Free = Store 0 (d.snapshot + 2)
 
 abbrev pub waits_of : Data → Phase → Option Step
@@ -65,30 +86,38 @@ waits_of d (at.RoundStart aim) = Some (step_of d (at.RoundStart aim))
 waits_of d (at.RoundRow aim row) = Some (step_of d (at.RoundRow aim row))
 waits_of d (at.RoundEnd aim) = Some (step_of d (at.RoundEnd aim))
 waits_of d at.Exchange = Some (step_of d at.Exchange)
-waits_of d (at.Store row) = Some (step_of d (at.Store row))
+waits_of d (at.BackLoad row) = Some (step_of d (at.BackLoad row))
+waits_of d (at.Store row got) = Some (step_of d (at.Store row got))
 waits_of d at.Free = Some (step_of d at.Free)
 
 abbrev pub fresh_of : List LogRow → Phase → List LogRow
 fresh_of log at.Idle = []
 fresh_of log (at.Begin b) = []
 fresh_of log (at.Load r) = []
-fresh_of log (at.Confirm r value) = record { word = r.word; value = value } ∷ []
+fresh_of log (at.Confirm r value) = record { word = word_of r; value = value } ∷ []
 fresh_of log (at.RoundStart aim) = []
 fresh_of log (at.RoundRow aim row) = take row log
 fresh_of log (at.RoundEnd aim) = log
 fresh_of log at.Exchange = []
-fresh_of log (at.Store row) = []
+fresh_of log (at.BackLoad row) = []
+fresh_of log (at.Store row got) = []
 fresh_of log at.Free = []
 
 abbrev pub holds_of : Phase → Bool
-holds_of (at.Store row) = true
+holds_of (at.BackLoad row) = true
+holds_of (at.Store row got) = true
 holds_of at.Free = true
 holds_of _ = false
 
-abbrev pub done_of : List WriteRow → Phase → ℕ
-done_of writes (at.Store row) = row
+abbrev pub done_of : List Row → Phase → ℕ
+done_of writes (at.BackLoad row) = row
+done_of writes (at.Store row got) = row
 done_of writes at.Free = length writes
 done_of writes _ = 0
+
+abbrev pub got_of : Phase → Option ℕ
+got_of (at.Store row got) = got
+got_of _ = None
 
 -- the engine with these fields, in this phase
 abbrev pub core : Data → Phase → Core
@@ -101,12 +130,13 @@ core d phase = record {
   clock = d.clock;
   fresh = fresh_of d.log.items phase;
   log = d.log.items;
-  writes = d.writes.items;
+  writes = d.writes;
   is_open = d.is_open;
   props = d.props;
   holds = holds_of phase;
-  done = done_of d.writes.items phase;
+  done = done_of d.writes phase;
   freed = false;
+  got = got_of phase;
   doing = doing_of phase;
   again = again_of phase;
   waits = waits_of d phase;
@@ -120,38 +150,45 @@ core d phase = record {
 
 -- the steps of one round for this aim, and those before the first round
 abbrev pub round_of : Aim → Data → ℕ
-round_of (aims.Read r) d = d.entry + words_in r.width + 4
+round_of (aims.Read r) d = d.entry + count r + 4
 round_of aims.Commit d = d.entry + 3
 
 abbrev pub first_of : Aim → ℕ
-first_of (aims.Read r) = 2
+first_of (aims.Read r) = 2 * r.number + 2
 first_of aims.Commit = 1
 
 -- a transaction is open, and its words lie within the memory
 pub record IsOpen (d : Data) : Type 0 where
   pub is_open : d.is_open ≡ true
   pub log : AllWithin d.words d.log.items
-  pub writes : AllWritesWithin d.words d.writes.items
-  pub apart : AreApart d.writes.items
-  pub fit : AllWritesFit d.writes.items
+  pub writes : AllWritesWithin d.words d.writes
+  pub rows : AreRows d.writes
   pub tries : d.tries ≤ d.limits.patience
 
 pub record IsOutside (d : Data) : Type 0 where
   pub is_open : d.is_open ≡ false
   pub log : d.log.items ≡ []
-  pub writes : d.writes.items ≡ []
+  pub writes : d.writes ≡ []
   pub tries : d.tries ≤ d.limits.patience
 
--- the word may be read, and its row has room in the log
+-- the pieces before this one are gathered, and there is room in the log for the others
+pub record IsReading (d : Data) (r : Reading) : Type 0 where
+  pub within : r.at + size_of r.width ≤ 8 * d.words
+  pub far : r.number ≤ count r
+  pub room : length d.log.items + (count r - r.number) ≤ vec_capacity d.log
+  pub grown : length d.log.items ≤ d.entry + r.number
+  pub has : (m : List ℕ) → IsMemory d.words m → Agrees m d.log.items → d.gathered.items ≡ gathered (overlay m d.writes) (take r.number (parts r))
+  pub sized : length d.gathered.items ≡ length (gathered [] (take r.number (parts r)))
+
+-- the write set does not have all of this piece
 pub record MayRead (d : Data) (r : Reading) : Type 0 where
-  pub within : r.word < d.words
-  pub unwritten : lookup r.word d.writes.items ≡ None
-  pub room : length d.log.items < vec_capacity d.log
-  pub grown : length d.log.items ≤ d.entry
+  pub reading : IsReading d r
+  pub some : r.number < count r
+  pub uncovered : is_covered d.writes (part r) ≡ false
 
 -- there is something to write
 pub record MayCommit (d : Data) : Type 0 where
-  pub some : d.writes.items ≢ []
+  pub some : d.writes ≢ []
   pub grown : length d.log.items ≤ d.entry
 
 abbrev pub Aims : Data → Aim → Type 0
@@ -168,7 +205,7 @@ pub record InRound (d : Data) (aim : Aim) (steps : ℕ) : Type 0 where
 -- the clock is held: so many steps may have been asked for
 pub record IsHolding (d : Data) (steps : ℕ) : Type 0 where
   pub is_open : IsOpen d
-  pub some : 0 < length d.writes.items
+  pub some : 0 < length d.writes
   pub settled : d.clock ≡ d.snapshot
   pub free : d.snapshot / 2 < d.limits.max_commits
   pub spent : d.spent ≤ 1 + d.tries * round_of aims.Commit d + steps
@@ -176,14 +213,16 @@ pub record IsHolding (d : Data) (steps : ℕ) : Type 0 where
 abbrev pub InPhase : Data → Phase → Type 0
 InPhase d at.Idle = (d.is_open ≡ true → IsOpen d × (d.clock ≡ d.snapshot)) × (d.is_open ≡ false → IsOutside d)
 InPhase d (at.Begin b) = IsOutside d × (d.spent ≤ d.tries)
-InPhase d (at.Load r) = IsOpen d × MayRead d r × (d.clock ≡ d.snapshot) × (d.spent ≤ 1 + d.tries * round_of (aims.Read r) d)
-InPhase d (at.Confirm r value) = IsOpen d × MayRead d r × (d.clock ≡ d.snapshot) × (d.spent ≤ 2 + d.tries * round_of (aims.Read r) d)
+InPhase d (at.Load r) = IsOpen d × MayRead d r × (d.clock ≡ d.snapshot) × (d.spent ≤ 2 * r.number + 1 + d.tries * round_of (aims.Read r) d)
+InPhase d (at.Confirm r value) = IsOpen d × MayRead d r × (d.clock ≡ d.snapshot) × (d.spent ≤ 2 * r.number + 2 + d.tries * round_of (aims.Read r) d)
 InPhase d (at.RoundStart aim) = InRound d aim 1
 InPhase d (at.RoundRow aim row) = InRound d aim (row + 2) × (d.clock % 2 ≡ 0) × (row < length d.log.items)
 InPhase d (at.RoundEnd aim) = InRound d aim (length d.log.items + 2) × (d.clock % 2 ≡ 0)
 InPhase d at.Exchange = IsOpen d × MayCommit d × (d.clock ≡ d.snapshot) × (d.snapshot / 2 < d.limits.max_commits) × (d.spent ≤ 1 + d.tries * round_of aims.Commit d)
-InPhase d (at.Store row) = IsHolding d (row + 1) × (row < length d.writes.items)
-InPhase d at.Free = IsHolding d (length d.writes.items + 1)
+InPhase d (at.BackLoad row) = IsHolding d (2 * row + 1) × (row < length d.writes) × ((write_at d.writes row).mask ≢ whole)
+InPhase d (at.Store row None) = IsHolding d (2 * row + 1) × (row < length d.writes) × ((write_at d.writes row).mask ≡ whole)
+InPhase d (at.Store row (Some word)) = IsHolding d (2 * row + 2) × (row < length d.writes)
+InPhase d at.Free = IsHolding d (2 * length d.writes + 1)
 
 pub record IsSound (d : Data) (phase : Phase) : Type 0 where
   pub patient : (0 < d.limits.patience) × (d.limits.patience ≤ 1000)
@@ -234,13 +273,17 @@ Turns mid turn d = Proceeds mid (next_of turn d) (core_after turn d)
 abbrev pub between : Data → Aim → Core
 between d aim = record (core d (at.RoundStart aim)) { waits = None; stage = at.Idle; tries = 0 }
 
+-- with another log
+abbrev pub logged : Core → List LogRow → Core
+logged c log = record c { log = log }
+
 -- with another snapshot
 abbrev pub moved : Core → ℕ → Core
 moved c was = record c { snapshot = was }
 
 -- in a commit, these rows being stored
 abbrev pub in_stores : Data → ℕ → Core
-in_stores d row = record (core d (at.Store row)) { waits = None; stage = at.Idle; tries = 0 }
+in_stores d row = record (core d (at.BackLoad row)) { waits = None; stage = at.Idle; tries = 0 }
 
 -- in a round, the rows before this one being loaded
 abbrev pub in_rows : Data → Aim → ℕ → Core
@@ -256,7 +299,7 @@ pub record Stays (old new : Data) : Type 0 where
 pub record IsEnded (old new : Data) : Type 0 where
   pub is_open : new.is_open ≡ false
   pub log : new.log.items ≡ []
-  pub writes : new.writes.items ≡ []
+  pub writes : new.writes ≡ []
   pub words : new.words ≡ old.words
   pub limits : new.limits ≡ old.limits
   pub arena : new.arena ≡ old.arena
@@ -277,6 +320,17 @@ pub record MayTry (d : Data) (aim : Aim) : Type 0 where
   pub may : Aims d aim
   pub later : d.snapshot < d.clock
   pub spent : d.spent ≤ first_of aim + d.tries * round_of aim d
+
+-- the next piece of a read may be taken
+pub record MayGather (d : Data) (r : Reading) : Type 0 where
+  pub patient : (0 < d.limits.patience) × (d.limits.patience ≤ 1000)
+  pub commits : d.limits.max_commits < 2 ^ 62
+  pub small : d.words ≤ 8192
+  pub even : d.snapshot % 2 ≡ 0
+  pub is_open : IsOpen d
+  pub reading : IsReading d r
+  pub settled : d.clock ≡ d.snapshot
+  pub spent : d.spent ≤ 2 * r.number + d.tries * round_of (aims.Read r) d
 
 -- a round goes on: its rows before this one are as logged
 pub record InRows (d : Data) (aim : Aim) (row : ℕ) : Type 0 where
@@ -305,5 +359,5 @@ pub record InStores (d : Data) (row : ℕ) : Type 0 where
   pub commits : d.limits.max_commits < 2 ^ 62
   pub small : d.words ≤ 8192
   pub even : d.snapshot % 2 ≡ 0
-  pub holding : IsHolding d row
-  pub far : row ≤ length d.writes.items
+  pub holding : IsHolding d (2 * row)
+  pub far : row ≤ length d.writes

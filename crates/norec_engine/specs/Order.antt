@@ -1,13 +1,18 @@
 -- The order of the steps: where a call stands once it has come, and after each value that is handed in.
-use Rattle.std.specs.Prelude.{◌≡◌, ℕ, suc, ◌+◌, ◌/◌, ◌%◌, ◌==◌, ◌&&◌, nat_lt, Bool, if◌then◌else◌, length, Option, None, Some}
+use Rattle.std.specs.Prelude.{◌≡◌, ℕ, suc, ◌+◌, ◌*◌, ◌/◌, ◌%◌, ◌==◌, ◌&&◌, nat_le, nat_lt, Bool, if◌then◌else◌, List, [], ◌∷◌, drop, length, None, Some}
 use Rattle.itm_types.specs.declared.call.Call.{Call}
 use Rattle.itm_types.specs.declared.call.Call.TheVariants as calls
 use Rattle.norec_engine.specs.declared.phase.Aim.{Aim}
 use Rattle.norec_engine.specs.declared.phase.Aim.TheVariants as aims
 use Rattle.norec_engine.specs.declared.phase.Reading.{Reading}
 use Rattle.norec_engine.specs.declared.phase.Phase.{Phase}
-use Rattle.norec_engine.specs.declared.phase.Phase.TheVariants.{Idle, Begin, Load, Confirm, RoundStart, RoundRow, RoundEnd, Exchange, Store, Free}
-use Rattle.norec_engine.specs.Rows.{lookup, row_at}
+use Rattle.norec_engine.specs.declared.phase.Phase.TheVariants.{Idle, Begin, Load, Confirm, RoundStart, RoundRow, RoundEnd, Exchange, BackLoad, Store, Free}
+use Rattle.itm_types.specs.Access.{size_of}
+use Rattle.write_set.specs.declared.row.Row.{Row}
+use Rattle.word_pieces.specs.declared.piece.Piece.{Piece}
+use Rattle.word_pieces.specs.Masks.{whole}
+use Rattle.word_pieces.specs.Pieces.{pieces_of}
+use Rattle.norec_engine.specs.Rows.{row_at, write_at, is_covered}
 use Rattle.norec_engine.specs.Core.{Core}
 
 -- one more round, or the end
@@ -22,9 +27,22 @@ row_stage rows aim row = if nat_lt row rows then RoundRow aim row else RoundEnd 
 abbrev pub exchange_stage : ℕ → ℕ → Phase
 exchange_stage max_commits snapshot = if nat_lt (snapshot / 2) max_commits then Exchange else Idle
 
+-- a row with a whole word is stored at once; of another one the word is loaded first
+abbrev pub row_store : Row → ℕ → Phase
+row_store r row = if r.mask == whole then Store row None else BackLoad row
+
 -- the next row of the write set, or the store that frees the clock
-abbrev pub store_stage : ℕ → ℕ → Phase
-store_stage rows row = if nat_lt row rows then Store row else Free
+abbrev pub store_stage : List Row → ℕ → Phase
+store_stage rows row = if nat_lt row (length rows) then row_store (write_at rows row) row else Free
+
+-- the first of these pieces, of which the next one is the read's, that the write set does not have, or the end
+abbrev pub load_among : List Row → Reading → List Piece → Phase
+load_among writes r [] = Idle
+load_among writes r (p ∷ ps) = if is_covered writes p then load_among writes (record r { number = suc r.number }) ps else Load r
+
+-- the next piece that is loaded, from this one on
+abbrev pub load_stage : List Row → Reading → Phase
+load_stage writes r = load_among writes r (drop r.number (pieces_of r.at (size_of r.width)))
 
 -- what a round was made for
 abbrev pub aimed_stage : Core → Aim → ℕ → Phase
@@ -35,21 +53,17 @@ abbrev pub stage_from : Core → Phase → ℕ → Phase
 stage_from c Idle seen = Idle
 stage_from c (Begin b) seen = if seen % 2 == 0 then Idle else (if nat_lt c.tries c.patience then Begin b else Idle)
 stage_from c (Load r) seen = Confirm r seen
-stage_from c (Confirm r value) seen = if seen == c.snapshot then Idle else try_stage c.tries c.patience (aims.Read r)
+stage_from c (Confirm r value) seen = if seen == c.snapshot then load_stage c.writes (record r { number = suc r.number }) else try_stage c.tries c.patience (aims.Read r)
 stage_from c (RoundStart aim) seen = if seen % 2 == 0 then row_stage (length c.log) aim 0 else try_stage c.tries c.patience aim
 stage_from c (RoundRow aim row) seen = if (row_at c.log row).value == seen then row_stage (length c.log) aim (row + 1) else Idle
 stage_from c (RoundEnd aim) seen = if seen == c.clock then aimed_stage c aim seen else try_stage c.tries c.patience aim
-stage_from c Exchange seen = if seen == c.snapshot then store_stage (length c.writes) 0 else try_stage c.tries c.patience aims.Commit
-stage_from c (Store row) seen = store_stage (length c.writes) (row + 1)
+stage_from c Exchange seen = if seen == c.snapshot then store_stage c.writes 0 else try_stage c.tries c.patience aims.Commit
+stage_from c (BackLoad row) seen = Store row (Some seen)
+stage_from c (Store row got) seen = store_stage c.writes (row + 1)
 stage_from c Free seen = Idle
 
 abbrev pub stage_after : Core → ℕ → Phase
 stage_after c seen = stage_from c c.stage seen
-
--- a word of the write set is answered at once
-abbrev pub load_stage : Option ℕ → Reading → Phase
-load_stage None r = Load r
-load_stage (Some value) r = Idle
 
 abbrev pub commit_stage : Core → Phase
 commit_stage c = if length c.writes == 0 then Idle else exchange_stage c.max_commits c.snapshot
@@ -59,9 +73,7 @@ abbrev pub stage_at : Core → Call → Bool → Phase
 stage_at c (calls.Begin props room) again = if c.is_open then Idle else Begin (record { props = props; room = room; again = again })
 stage_at c calls.Commit again = if c.is_open then commit_stage c else Idle
 stage_at c (calls.Read hint width at) again =
-    if c.is_open && ((at % 8 == 0) && nat_lt (at / 8) c.words)
-    then load_stage (lookup (at / 8) c.writes) (record { hint = hint; width = width; word = at / 8 })
-    else Idle
+    if c.is_open && nat_le (at + size_of width) (8 * c.words) then load_stage c.writes (record { hint = hint; width = width; at = at; number = 0 }) else Idle
 stage_at c (calls.Write hint at value) again = Idle
 
 -- ## Tries
@@ -76,7 +88,8 @@ tries_after (RoundStart aim) tries = suc tries
 tries_after (RoundRow aim row) tries = tries
 tries_after (RoundEnd aim) tries = tries
 tries_after Exchange tries = tries
-tries_after (Store row) tries = tries
+tries_after (BackLoad row) tries = tries
+tries_after (Store row got) tries = tries
 tries_after Free tries = tries
 
 -- a call that goes on starts with none, but for the first load of a begin
@@ -89,7 +102,8 @@ AreFirst (RoundStart aim) tries = tries ≡ 0
 AreFirst (RoundRow aim row) tries = tries ≡ 0
 AreFirst (RoundEnd aim) tries = tries ≡ 0
 AreFirst Exchange tries = tries ≡ 0
-AreFirst (Store row) tries = tries ≡ 0
+AreFirst (BackLoad row) tries = tries ≡ 0
+AreFirst (Store row got) tries = tries ≡ 0
 AreFirst Free tries = tries ≡ 0
 
 -- ## The snapshot
@@ -104,7 +118,8 @@ snapshot_from c (RoundStart aim) seen = c.snapshot
 snapshot_from c (RoundRow aim row) seen = c.snapshot
 snapshot_from c (RoundEnd aim) seen = if seen == c.clock then seen else c.snapshot
 snapshot_from c Exchange seen = c.snapshot
-snapshot_from c (Store row) seen = c.snapshot
+snapshot_from c (BackLoad row) seen = c.snapshot
+snapshot_from c (Store row got) seen = c.snapshot
 snapshot_from c Free seen = c.snapshot
 
 abbrev pub snapshot_after : Core → ℕ → ℕ

@@ -1,23 +1,24 @@
 -- What an engine may do next. `mid` is the engine with a call that came, or with the value of the step that it waited for.
 use Rattle.std.specs.Prelude.{◌≡◌, ◌≢◌, ◌⊎◌, ℕ, zero, suc, ◌+◌, ◌*◌, ◌/◌, ◌%◌, ◌<◌, ◌≤◌, Bool, true, false, List, [], ◌∷◌, ◌++◌, Option, None, Some, slice_get, slice_set, take, length}
-use Rattle.std.specs.Int.{w64, from_le_bytes}
 use Rattle.itm_types.specs.declared.row.LogRow.{LogRow}
-use Rattle.itm_types.specs.declared.row.WriteRow.{WriteRow}
+use Rattle.write_set.specs.declared.row.Row.{Row}
 use Rattle.itm_types.specs.declared.call.Call.{Call}
 use Rattle.itm_types.specs.declared.call.Call.TheVariants.{Begin, Commit, Read, Write}
 use Rattle.itm_types.specs.declared.call.Reply.{Reply as Replied}
 use Rattle.itm_types.specs.declared.call.Reply.TheVariants.{Done, Bytes, Code, Refused}
 use Rattle.itm_types.specs.declared.step.Step.{Step}
 use Rattle.itm_types.specs.declared.step.Step.TheVariants.{Load, Store, Cas}
-use Rattle.itm_types.specs.Access.{words_in}
+use Rattle.itm_types.specs.Access.{size_of}
+use Rattle.word_pieces.specs.Pieces.{pieces_of, count_of}
 use Rattle.itm_model.specs.declared.limits.TheConstants.{MAX_DEPTH}
-use Rattle.itm_types.specs.Memory.{bytes_of, overlay, IsMemory, Agrees}
+use Rattle.itm_types.specs.Memory.{bytes_of, IsMemory, Agrees}
 use Rattle.itm_model.specs.Machine.{after, reply}
 use Rattle.norec_engine.specs.declared.answer.Answer.{Answer as Answered}
 use Rattle.norec_engine.specs.declared.answer.Answer.TheVariants.{Reply, Committed, Conflict, Busy, Full}
 use Rattle.norec_engine.specs.declared.answer.Next.{Next}
 use Rattle.norec_engine.specs.declared.answer.Next.TheVariants.{Step as Asks, Answer as Answers}
-use Rattle.norec_engine.specs.Rows.{write_at, put}
+use Rattle.write_set.specs.Rows.{overlay}
+use Rattle.norec_engine.specs.Rows.{write_at, reserved_all, put_all}
 use Rattle.norec_engine.specs.Core.{Core, ended}
 use Rattle.norec_engine.specs.Stands.{stands_for}
 
@@ -27,10 +28,15 @@ use Rattle.norec_engine.specs.Stands.{stands_for}
 abbrev pub backed : Core → List ℕ → List ℕ
 backed c m = overlay m (take c.done c.writes)
 
+-- what the holder loaded is the word of this memory, if it has loaded one
+abbrev pub Got : Option ℕ → Option ℕ → Type 0
+Got None word = Unit {0}
+Got (Some seen) word = word ≡ Some seen
+
 -- a store by the holder is of the next row, and brings the memory on by that row
 pub record StoresNext (c : Core) (word value : ℕ) : Type 0 where
   pub word_is : word ≡ (write_at c.writes c.done).word
-  pub value_is : (m : List ℕ) → overlay m (take (c.done + 1) c.writes) ≡ slice_set (backed c m) word value
+  pub value_is : (m : List ℕ) → IsMemory c.words m → Got c.got (slice_get (backed c m) word) → overlay m (take (c.done + 1) c.writes) ≡ slice_set (backed c m) word value
 
 -- the holder stores a word, or frees the clock once each row is stored
 abbrev pub StoresOrFrees : Core → ℕ → ℕ → Type 0
@@ -65,12 +71,12 @@ recoded true (Bytes value) = Bytes value
 recoded true (Code n) = Code 9
 recoded true (Refused refusal) = Refused refusal
 
--- an accepted write puts its word in the write set, which keeps the order of first writing
-abbrev pub writes_after : List WriteRow → Call → Replied → List WriteRow
+-- an accepted write puts its pieces in the write set, which keeps the order of first writing
+abbrev pub writes_after : List Row → Call → Replied → List Row
 writes_after writes (Begin props room) r = writes
 writes_after writes Commit r = writes
 writes_after writes (Read hint width at) r = writes
-writes_after writes (Write hint at value) Done = put writes (at / 8) (from_le_bytes w64 value.bytes.items)
+writes_after writes (Write hint at value) Done = (let ps = pieces_of at (size_of value.width) in put_all (reserved_all writes ps) ps value.bytes.items)
 writes_after writes (Write hint at value) (Bytes bytes) = writes
 writes_after writes (Write hint at value) (Code n) = writes
 writes_after writes (Write hint at value) (Refused refusal) = writes
@@ -217,7 +223,7 @@ abbrev pub most : Core → Option Call → ℕ
 most c None = 0
 most c (Some (Begin props room)) = 2 * c.patience
 most c (Some Commit) = c.patience * (c.entry + 3) + 2 * length c.writes + 2
-most c (Some (Read hint width at)) = 2 * words_in width + c.patience * (c.entry + words_in width + 4)
+most c (Some (Read hint width at)) = 2 * count_of at (size_of width) + c.patience * (c.entry + count_of at (size_of width) + 4)
 most c (Some (Write hint at value)) = 0
 
 -- while it waits, it has asked for no more than the call's most steps

@@ -1,48 +1,49 @@
--- Rows of the value log and of the write set.
-use Rattle.std.specs.Prelude.{◌≡◌, ℕ, ◌^◌, ◌<◌, ◌==◌, if◌then◌else◌, List, [], ◌∷◌, length, Option, Some, None, slice_index_or, take}
+-- Rows of the value log, and of the write set as the engine uses it.
+use Rattle.std.specs.Prelude.{ℕ, ◌<◌, ◌==◌, Bool, false, List, [], ◌∷◌, Option, Some, None, slice_index_or}
+use Rattle.std.specs.Int.Bits.{bit_and}
 use Rattle.itm_types.specs.declared.row.LogRow.{LogRow}
-use Rattle.itm_types.specs.declared.row.WriteRow.{WriteRow}
+use Rattle.word_pieces.specs.declared.piece.Piece.{Piece}
+use Rattle.word_pieces.specs.Masks.{merge, mask_of}
+use Rattle.word_pieces.specs.Pieces.{scattered}
+use Rattle.write_set.specs.declared.row.Row.{Row}
+use Rattle.write_set.specs.Rows.{lookup, put, reserved}
 
--- the value that is to be written to the word
-abbrev pub lookup : ℕ → List WriteRow → Option ℕ
-lookup word [] = None
-lookup word (r ∷ rs) = if r.word == word then Some r.value else lookup word rs
+-- the rows with one for each piece's word
+abbrev pub reserved_all : List Row → List Piece → List Row
+reserved_all rows [] = rows
+reserved_all rows (p ∷ ps) = reserved_all (reserved rows p.word) ps
 
-abbrev pub write_row : ℕ → ℕ → WriteRow
-write_row word value = record { word = word; value = value }
+-- the rows with the pieces of a value
+abbrev pub put_all : List Row → List Piece → List ℕ → List Row
+put_all rows [] bytes = rows
+put_all rows (p ∷ ps) bytes = put_all (put rows p.word (mask_of p.first p.count) (scattered p bytes)) ps bytes
 
--- the rows with this value in the word's row, or in a new one at the end
-abbrev pub put : List WriteRow → ℕ → ℕ → List WriteRow
-put [] word value = write_row word value ∷ []
-put (r ∷ rs) word value = if r.word == word then write_row word value ∷ rs else r ∷ put rs word value
+-- whether a row has all bytes of the mask
+abbrev pub has_mask : Option Row → ℕ → Bool
+has_mask None mask = false
+has_mask (Some r) mask = bit_and r.mask mask == mask
+
+-- whether the write set has all bytes of the piece
+abbrev pub is_covered : List Row → Piece → Bool
+is_covered rows p = has_mask (lookup p.word rows) (mask_of p.first p.count)
+
+-- what a row makes of the word that was loaded; a row with all bytes needs none
+abbrev pub value_into : Row → Option ℕ → ℕ
+value_into r None = r.value
+value_into r (Some word) = merge word r.mask r.value
 
 -- each row's word lies within the memory
 abbrev pub AllWithin : ℕ → List LogRow → Type 0
 AllWithin words [] = Unit {0}
 AllWithin words (r ∷ rs) = (r.word < words) × AllWithin words rs
 
-abbrev pub AllWritesWithin : ℕ → List WriteRow → Type 0
+abbrev pub AllWritesWithin : ℕ → List Row → Type 0
 AllWritesWithin words [] = Unit {0}
 AllWritesWithin words (r ∷ rs) = (r.word < words) × AllWritesWithin words rs
-
-abbrev pub AllWritesFit : List WriteRow → Type 0
-AllWritesFit [] = Unit {0}
-AllWritesFit (r ∷ rs) = (r.value < 2 ^ 64) × AllWritesFit rs
-
--- no two rows have one word
-abbrev pub AreApart : List WriteRow → Type 0
-AreApart [] = Unit {0}
-AreApart (r ∷ rs) = (lookup r.word rs ≡ None) × AreApart rs
 
 -- the row at a place
 abbrev pub row_at : List LogRow → ℕ → LogRow
 row_at rows place = slice_index_or rows place (record { word = 0; value = 0 })
 
-abbrev pub write_at : List WriteRow → ℕ → WriteRow
-write_at rows place = slice_index_or rows place (record { word = 0; value = 0 })
-
--- the first row of the word stands at this place
-pub record IsFirst (rows : List WriteRow) (word i : ℕ) : Type 0 where
-  pub within : i < length rows
-  pub here : (write_at rows i).word ≡ word
-  pub before : lookup word (take i rows) ≡ None
+abbrev pub write_at : List Row → ℕ → Row
+write_at rows place = slice_index_or rows place (record { word = 0; mask = 0; value = 0 })

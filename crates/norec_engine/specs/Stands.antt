@@ -1,12 +1,13 @@
 -- What an engine means over a memory: a state of the plain machine.
 use Rattle.std.specs.Prelude.{ℕ, Bool, true, false, if◌then◌else◌, List, [], ◌∷◌}
-use Rattle.itm_types.specs.declared.row.WriteRow.{WriteRow}
+use Rattle.write_set.specs.declared.row.Row.{Row}
 use Rattle.itm_types.specs.declared.call.Props.{Props}
-use Rattle.itm_types.specs.Memory.{bytes_of, overlay}
+use Rattle.itm_types.specs.Memory.{bytes_of}
+use Rattle.write_set.specs.Rows.{overlay}
 use Rattle.itm_model.specs.State.{Block, State}
 use Rattle.norec_engine.specs.Core.{Core}
 
-abbrev pub is_some_row : List WriteRow → Bool
+abbrev pub is_some_row : List Row → Bool
 is_some_row [] = false
 is_some_row (r ∷ rs) = true
 
@@ -14,7 +15,7 @@ is_some_row (r ∷ rs) = true
 abbrev pub block_over : Props → List ℕ → Block
 block_over props m = record { props = props; saved = record { memory = bytes_of m; wrote = false } }
 
-abbrev pub state_over : List WriteRow → Bool → Props → List ℕ → List ℕ → State
+abbrev pub state_over : List Row → Bool → Props → List ℕ → List ℕ → State
 state_over writes is_open props arena m = record {
   memory = bytes_of (overlay m writes);
   arena = arena;

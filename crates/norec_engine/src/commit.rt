@@ -27,7 +27,7 @@ pub(crate) fn commit(state: &mut Data) -> Turn
     if !state.is_open {
         return Turn::End(Answer::Reply(Reply::Refused(Refusal::Outside)));
     }
-    if state.writes.is_empty() {
+    if state.writes.len() == 0 {
         let at = state.snapshot / 2;
         end(state);
         Turn::End(Answer::Committed { at, wrote: false })
@@ -79,25 +79,43 @@ fn next_store(state: &mut Data, row: usize) -> Turn
     ensures sound { IsSoundTurn result state.new }
     ensures proceeds { Turns (in_stores state.old row) result state.new }
     ensures stays { Stays state.old state.new }
-    ensures order { phase_after result ≡ store_stage (length state.old.writes.items) row }
+    ensures order { phase_after result ≡ store_stage state.old.writes row }
     ensures tries { state.new.tries ≡ tries_after (phase_after result) state.old.tries }
 {
     if row < state.writes.len() {
-        Turn::Wait(Phase::Store(row))
+        let written = state.writes.row(row);
+        if written.mask == u64::MAX {
+            Turn::Wait(Phase::Store(row, None))
+        } else {
+            Turn::Wait(Phase::BackLoad(row))
+        }
     } else {
         Turn::Wait(Phase::Free)
     }
 }
 
-/// A row was stored.
-pub(crate) fn stored(state: &mut Data, row: usize) -> Turn
-    requires sound { IsSound state.old (Phase.Store row) }
+/// The word of a row was loaded, to be stored with the row's part of it.
+pub(crate) fn back_loaded(state: &mut Data, row: usize, seen: u64) -> Turn
+    requires sound { IsSound state.old (Phase.BackLoad row) }
     ensures sound { IsSoundTurn result state.new }
-    ensures proceeds { Turns (handed (core state.old (Phase.Store row)) 0) result state.new }
+    ensures proceeds { Turns (handed (core state.old (Phase.BackLoad row)) seen) result state.new }
     ensures stays { Stays state.old state.new }
-    ensures order { phase_after result ≡ stage_after (core state.old (Phase.Store row)) 0 }
+    ensures order { phase_after result ≡ stage_after (core state.old (Phase.BackLoad row)) seen }
     ensures tries { state.new.tries ≡ tries_after (phase_after result) state.old.tries }
 {
+    Turn::Wait(Phase::Store(row, Some(seen)))
+}
+
+/// A row was stored.
+pub(crate) fn stored(state: &mut Data, row: usize, got: Option<u64>) -> Turn
+    requires sound { IsSound state.old (Phase.Store row got) }
+    ensures sound { IsSoundTurn result state.new }
+    ensures proceeds { Turns (handed (core state.old (Phase.Store row got)) 0) result state.new }
+    ensures stays { Stays state.old state.new }
+    ensures order { phase_after result ≡ stage_after (core state.old (Phase.Store row got)) 0 }
+    ensures tries { state.new.tries ≡ tries_after (phase_after result) state.old.tries }
+{
+    let _rows = state.writes.len();
     next_store(state, row + 1)
 }
 

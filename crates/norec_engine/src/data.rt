@@ -2,7 +2,8 @@
 
 use crate::arena::Arena;
 use crate::limits::Limits;
-use itm_types::{LogRow, Props, WriteRow};
+use itm_types::{LogRow, Props, Value};
+use write_set::WriteSet;
 
 /// The fields that the phases share.
 #[derive(Drop)]
@@ -17,7 +18,9 @@ pub struct Data {
     pub is_open: bool,
     pub props: Props,
     pub log: Vec<LogRow>,
-    pub writes: Vec<WriteRow>,
+    pub writes: WriteSet,
+    /// The bytes that the read in progress has so far.
+    pub gathered: Value,
     /// How many rows were logged as the call came.
     pub entry: usize,
     /// Validation rounds that the call started, or clock loads of a begin.

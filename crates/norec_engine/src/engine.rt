@@ -10,7 +10,7 @@ ghost use Rattle.norec_engine.specs.Undoing.{undone_of, after_undoing};
 use crate::answer::{Answer, Next, Undone};
 use crate::arena::Arena;
 use crate::begin::{begin, begin_seen};
-use crate::commit::{commit, exchanged, freed, stored};
+use crate::commit::{back_loaded, commit, exchanged, freed, stored};
 use crate::data::Data;
 use crate::limits::Limits;
 use crate::phase::{Phase, Turn};
@@ -18,9 +18,10 @@ use crate::read::{confirmed, loaded, read};
 use crate::rounds::{end, round_ended, round_started, row_seen};
 use crate::steps::step_of;
 use crate::write::write;
-use itm_types::{Call, Props};
+use itm_types::{Call, Props, Value};
 use std::alloc::{AllocError, Global};
 use std::marker::Model;
+use write_set::WriteSet;
 
 /// The transactions of one thread, one after the other.
 ///
@@ -62,7 +63,8 @@ impl Engine {
                 is_open: false,
                 props: Props {},
                 log: Vec::new(alloc),
-                writes: Vec::new(alloc),
+                writes: WriteSet::new(alloc),
+                gathered: Value::new(),
                 entry: 0,
                 tries: 0,
                 spent: 0,
@@ -128,7 +130,7 @@ impl Engine {
         ensures after { self.new ≡ after_undoing self.old self.new.tries }
     {
         match self.phase {
-            Phase::Store(_) | Phase::Free => Undone::Held,
+            Phase::BackLoad(_) | Phase::Store(_, _) | Phase::Free => Undone::Held,
             _ => {
                 let was_open = self.state.is_open;
                 end(&mut self.state);
@@ -157,8 +159,12 @@ impl Engine {
         ensures { IsTrue result ↔ Fits self.now seen }
     {
         match self.phase {
-            Phase::Idle | Phase::Load(_) | Phase::RoundRow(_, _) | Phase::Store(_) | Phase::Free =>
-                true,
+            Phase::Idle
+            | Phase::Load(_)
+            | Phase::RoundRow(_, _)
+            | Phase::BackLoad(_)
+            | Phase::Store(_, _)
+            | Phase::Free => true,
             _ => self.state.clock <= seen,
         }
     }
@@ -241,7 +247,8 @@ fn turned(state: &mut Data, phase: Phase, seen: u64) -> Turn
         Phase::RoundRow(aim, row) => row_seen(state, aim, row, seen),
         Phase::RoundEnd(aim) => round_ended(state, aim, seen),
         Phase::Exchange => exchanged(state, seen),
-        Phase::Store(row) => stored(state, row),
+        Phase::BackLoad(row) => back_loaded(state, row, seen),
+        Phase::Store(row, got) => stored(state, row, got),
         Phase::Free => freed(state),
     }
 }

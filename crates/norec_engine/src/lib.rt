@@ -12,7 +12,6 @@ mod limits;
 mod phase;
 mod read;
 mod rounds;
-mod rows;
 mod steps;
 mod write;
 

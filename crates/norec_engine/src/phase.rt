@@ -1,7 +1,13 @@
 //! Where a call in progress stands.
 
+ghost use Rattle.std.specs.Prelude.{◌≡◌, ℕ, ◌+◌, ◌*◌, ◌<◌, ◌≤◌, List, ◌++◌, take, length, IfSome, slice_get, slice_index};
+ghost use Rattle.itm_types.specs.Access.{size_of};
+ghost use Rattle.word_pieces.specs.Pieces.{IsPiece, gathered, part_of};
+ghost use Rattle.norec_engine.specs.Fields.{parts, word_of};
+
 use crate::answer::Answer;
 use itm_types::{Props, ReadHint, Width};
+use word_pieces::{Piece, piece_at};
 
 /// A begin of an outermost block.
 #[derive(Clone, Copy, Debug, PartialEq, Eq)]
@@ -12,12 +18,50 @@ pub struct Opening {
     pub again: bool,
 }
 
-/// A read of one word that the write set does not have.
+/// A read, at one of the pieces in which its bytes lie.
 #[derive(Clone, Copy, Debug, PartialEq, Eq)]
 pub struct Reading {
     pub hint: ReadHint,
     pub width: Width,
-    pub word: u32,
+    pub at: u64,
+    /// The number of the piece, counted upwards from 0.
+    pub number: u8,
+}
+
+impl Reading {
+    /// The piece, if there are as many.
+    pub(crate) fn piece(self) -> Option<Piece>
+        requires { self.at ≤ 65536 }
+        ensures value { result ≡ slice_get (parts self) self.number }
+        ensures piece { IfSome result IsPiece }
+        ensures few { IfSome result (λ _. self.number < 5) }
+        ensures in_value { IfSome result (λ p. p.at + p.count ≤ 32) }
+        ensures in_memory { IfSome result (λ p. (words : ℕ) → self.at + size_of self.width ≤ 8 * words → p.word < words) }
+        ensures before { IfSome result (λ p. (m : List ℕ) → length (gathered m (take self.number (parts self))) ≡ p.at) }
+        ensures reads_on { IfSome result (λ p. (m : List ℕ) →
+            gathered m (take (self.number + 1) (parts self)) ≡ gathered m (take self.number (parts self)) ++ part_of p (slice_index m p.word)) }
+    {
+        piece_at(self.at, self.width.size(), self.number)
+    }
+
+    /// The read at its next piece.
+    pub(crate) fn next(self) -> Reading
+        requires { self.number ≤ 5 }
+        ensures { result ≡ record self { number = self.number + 1 } }
+    {
+        Reading {
+            number: self.number + 1,
+            ..self
+        }
+    }
+
+    /// The word of the piece.
+    pub(crate) fn word(self) -> u32
+        requires { self.at ≤ 65536 }
+        ensures { result ≡ word_of self }
+    {
+        (self.at / 8) as u32 + u32::from(self.number)
+    }
 }
 
 /// What a validation round is made for.
@@ -34,7 +78,7 @@ pub enum Phase {
     Idle,
     /// The clock, for a begin.
     Begin(Opening),
-    /// The word that is read.
+    /// The word of the read's piece.
     Load(Reading),
     /// The clock, to confirm this value of the word.
     Confirm(Reading, u64),
@@ -46,8 +90,10 @@ pub enum Phase {
     RoundEnd(Aim),
     /// The exchange that takes the clock.
     Exchange,
-    /// The store of this row of the write set.
-    Store(usize),
+    /// The word of this row of the write set, which has a part of it.
+    BackLoad(usize),
+    /// The store of this row of the write set, into this word where the row has a part of it.
+    Store(usize, Option<u64>),
     /// The store that frees the clock.
     Free,
 }

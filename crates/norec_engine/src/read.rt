@@ -1,19 +1,28 @@
-//! Reads: a word is loaded, and logged once the clock confirms that its value stood at the snapshot.
+//! Reads: piece by piece upwards a word is loaded, and logged once the clock confirms that its value stood at the
+//! snapshot. A piece that the write set has takes no step.
 
-ghost use Rattle.std.specs.Prelude.{◌≡◌, ◌≢◌, ◌⊎◌, ◌≤◌, ◌<◌, ◌*◌, ◌/◌, ◌%◌, false, IfOk, OnOk, OnErr, MatchOption};
-ghost use Rattle.std.specs.Int.{w64, to_le_bytes};
-ghost use Rattle.norec_engine.specs.Fields.{core, core_after, phase_after, IsSound, IsSoundTurn, Turns, Stays};
+ghost use Rattle.std.specs.Prelude.{◌≡◌, ◌<◌, ◌≤◌, ◌+◌, ◌*◌, nat_le, ℕ, false, IfOk, IfSome, OnOk, OnErr, List, Some, is_some, length, slice_get, slice_index};
+ghost use Rattle.itm_types.specs.Memory.{AllFit};
+ghost use Rattle.word_pieces.specs.Pieces.{IsPiece, part_of};
+ghost use Rattle.write_set.specs.Rows.{overlay, AreRows};
+ghost use Rattle.norec_engine.specs.Rows.{is_covered};
+ghost use Rattle.itm_types.specs.Access.{size_of};
+ghost use Rattle.norec_engine.specs.Fields.{core, core_after, phase_after, between, logged, IsSound, IsSoundTurn, Turns, Stays, MayGather};
 ghost use Rattle.norec_engine.specs.Core.{came, handed};
-ghost use Rattle.norec_engine.specs.Order.{AreFirst, snapshot_after, stage_after, stage_at, tries_after};
+ghost use Rattle.norec_engine.specs.Order.{AreFirst, load_stage, snapshot_after, stage_after, stage_at, tries_after};
 ghost use Rattle.norec_engine.specs.Proceeds.{Joins};
 
 use crate::answer::Answer;
 use crate::data::Data;
 use crate::phase::{Aim, Phase, Reading, Turn};
 use crate::rounds::try_round;
-use crate::rows::lookup;
 use itm_types::{Call, LogRow, ReadHint, Refusal, Reply, Value, Width};
 use std::alloc::AllocError;
+use std::mem;
+use word_pieces::{Piece, merge};
+
+/// The words that one access touches at most.
+pub(crate) const MOST_PIECES: usize = 5;
 
 /// A read comes.
 pub(crate) fn read(
@@ -37,42 +46,80 @@ pub(crate) fn read(
         state.entry = rows;
         return Ok(Turn::End(Answer::Reply(Reply::Refused(Refusal::Outside))));
     }
-    let Some(word) = word_at(state.words, at) else {
+    if !is_within(state.words, at, width.size()) {
         state.spent = 0;
         state.entry = rows;
         return Ok(Turn::End(Answer::Reply(Reply::Refused(Refusal::OutOfRange))));
-    };
-    if let Some(value) = lookup(&state.writes, word) {
-        state.spent = 0;
-        state.entry = rows;
-        return Ok(Turn::End(Answer::Reply(Reply::Bytes(bytes_of(value)))));
     }
-    state.log.reserve(1)?;
+    state.log.reserve(MOST_PIECES)?;
     state.spent = 0;
     state.tries = 0;
     state.entry = rows;
-    Ok(Turn::Wait(Phase::Load(Reading { hint, width, word })))
+    state.gathered = Value::new();
+    Ok(next_piece(
+        state,
+        Reading {
+            hint,
+            width,
+            at,
+            number: 0,
+        },
+    ))
 }
 
-/// The word that begins at a place.
-pub(crate) fn word_at(words: u32, at: u64) -> Option<u32>
-    ensures { MatchOption result ((at % 8 ≢ 0) ⊎ (words ≤ at / 8)) (λ word. (at ≡ word * 8) × (word < words)) }
+/// Whether so many bytes from a place on lie within the memory.
+pub(crate) fn is_within(words: u32, at: u64, size: u8) -> bool
+    requires { words ≤ 8192 }
+    ensures { result ≡ nat_le (at + size) (8 * words) }
 {
-    if at % 8 == 0 && at / 8 < words as u64 {
-        Some((at / 8) as u32)
-    } else {
-        None
+    let bytes = 8 * u64::from(words);
+    let size = u64::from(size);
+    size <= bytes && at <= bytes - size
+}
+
+/// The pieces from this one on are taken from the write set, up to one that it does not have.
+fn next_piece(state: &mut Data, reading: Reading) -> Turn
+    requires may { MayGather state.old reading }
+    ensures sound { IsSoundTurn result state.new }
+    // whatever the log was before a row joined it
+    ensures proceeds { (log : List LogRow) → Turns (logged (between state.old (Aim.Read reading)) log) result state.new }
+    ensures stays { Stays state.old state.new }
+    ensures order { phase_after result ≡ load_stage state.old.writes reading }
+    ensures tries { state.new.tries ≡ state.old.tries }
+{
+    let Some(piece) = reading.piece() else {
+        let bytes = mem::replace(&mut state.gathered, Value::new());
+        return Turn::End(Answer::Reply(Reply::Bytes(bytes)));
+    };
+    match covered(state, piece) {
+        Some(value) => {
+            piece.gather(value, &mut state.gathered);
+            next_piece(state, reading.next())
+        }
+        None => Turn::Wait(Phase::Load(reading)),
     }
 }
 
-/// The bytes of a word.
-fn bytes_of(word: u64) -> Value
-    ensures { result.items ≡ to_le_bytes w64 word }
+/// The word that the write set has of a piece, where it has all of the piece.
+fn covered(state: &Data, piece: Piece) -> Option<u64>
+    requires piece { IsPiece piece }
+    requires rows { AreRows state.now.writes }
+    ensures covered { is_some result ≡ is_covered state.now.writes piece }
+    ensures part { IfSome result (λ value. (m : List ℕ) → AllFit m → piece.word < length m → part_of piece (slice_index (overlay m state.now.writes) piece.word) ≡ part_of piece value) }
 {
-    let mut bytes = Value::new();
-    match bytes.try_extend_from_slice(&word.to_le_bytes()) {
-        Ok(()) => bytes,
-        Err(_) => unreachable!(),
+    match state.writes.get(piece.word) {
+        Some(row) if piece.is_within(row.mask) => Some(row.value),
+        _ => None,
+    }
+}
+
+/// The loaded word with what the write set has of it.
+fn overlaid(state: &Data, word: u32, value: u64) -> u64
+    ensures { (m : List ℕ) → slice_get m word ≡ Some value → slice_get (overlay m state.now.writes) word ≡ Some result }
+{
+    match state.writes.get(word) {
+        Some(row) => merge(value, row.mask, row.value),
+        None => value,
     }
 }
 
@@ -101,11 +148,16 @@ pub(crate) fn confirmed(state: &mut Data, reading: Reading, value: u64, seen: u6
 {
     state.clock = seen;
     if seen == state.snapshot {
+        let Some(piece) = reading.piece() else {
+            unreachable!();
+        };
         state.log.push_reserved(LogRow {
-            word: reading.word,
+            word: piece.word,
             value,
         });
-        Turn::End(Answer::Reply(Reply::Bytes(bytes_of(value))))
+        let word = overlaid(state, piece.word, value);
+        piece.gather(word, &mut state.gathered);
+        next_piece(state, reading.next())
     } else {
         try_round(state, Aim::Read(reading))
     }

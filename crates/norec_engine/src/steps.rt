@@ -6,6 +6,7 @@ ghost use Rattle.norec_engine.specs.Fields.{IsSound, counted, step_of};
 use crate::data::Data;
 use crate::phase::Phase;
 use itm_types::Step;
+use word_pieces::merge;
 
 /// The step that the phase waits for.
 pub(crate) fn step_of(state: &Data, phase: Phase) -> Step
@@ -19,15 +20,23 @@ pub(crate) fn step_of(state: &Data, phase: Phase) -> Step
         | Phase::Confirm(_, _)
         | Phase::RoundStart(_)
         | Phase::RoundEnd(_) => Step::Load(0),
-        Phase::Load(reading) => Step::Load(reading.word + 1),
+        Phase::Load(reading) => Step::Load(reading.word() + 1),
         Phase::RoundRow(_, row) => {
             let logged = state.log[row];
             Step::Load(logged.word + 1)
         }
         Phase::Exchange => Step::Cas(0, state.snapshot, state.snapshot + 1),
-        Phase::Store(row) => {
-            let written = state.writes[row];
-            Step::Store(written.word + 1, written.value)
+        Phase::BackLoad(row) => {
+            let written = state.writes.row(row);
+            Step::Load(written.word + 1)
+        }
+        Phase::Store(row, got) => {
+            let written = state.writes.row(row);
+            let value = match got {
+                Some(word) => merge(word, written.mask, written.value),
+                None => written.value,
+            };
+            Step::Store(written.word + 1, value)
         }
         Phase::Free => Step::Store(0, state.snapshot + 2),
     }

@@ -1,7 +1,10 @@
-//! Writes: a value goes into the write set, and no step is taken.
+//! Writes: a value goes into the write set, piece by piece upwards, and no step is taken.
 
-ghost use Rattle.std.specs.Prelude.{◌≡◌, ◌≤◌, ◌<◌, ◌^◌, false, IfOk, OnOk, OnErr};
-ghost use Rattle.std.specs.Int.{w64, to_le_bytes, from_le_bytes};
+ghost use Rattle.std.specs.Prelude.{◌≡◌, ◌≤◌, ◌+◌, false, IfOk, OnOk, OnErr, IsSome, All, length};
+ghost use Rattle.word_pieces.specs.Pieces.{IsPiece};
+ghost use Rattle.itm_types.specs.Slices.{AreBytes};
+ghost use Rattle.write_set.specs.Rows.{lookup};
+ghost use Rattle.norec_engine.specs.Rows.{reserved_all, put_all};
 ghost use Rattle.norec_engine.specs.Fields.{core, phase_after, IsSound, IsSoundTurn, Turns, Stays};
 ghost use Rattle.norec_engine.specs.Core.{came};
 ghost use Rattle.norec_engine.specs.Order.{stage_at, AreFirst};
@@ -9,10 +12,11 @@ ghost use Rattle.norec_engine.specs.Order.{stage_at, AreFirst};
 use crate::answer::Answer;
 use crate::data::Data;
 use crate::phase::{Phase, Turn};
-use crate::read::word_at;
-use crate::rows::put;
-use itm_types::{Call, Datum, Refusal, Reply, Width, WriteHint};
+use crate::read::is_within;
+use itm_types::{Call, Datum, Refusal, Reply, WriteHint};
 use std::alloc::AllocError;
+use word_pieces::{Piece, pieces};
+use write_set::WriteSet;
 
 /// A write comes.
 pub(crate) fn write(
@@ -36,36 +40,43 @@ pub(crate) fn write(
         state.entry = rows;
         return Ok(Turn::End(Answer::Reply(Reply::Refused(Refusal::Outside))));
     }
-    let Some(word) = word_at(state.words, at) else {
+    if !is_within(state.words, at, value.width.size()) {
         state.spent = 0;
         state.entry = rows;
         return Ok(Turn::End(Answer::Reply(Reply::Refused(Refusal::OutOfRange))));
-    };
-    put(&mut state.writes, word, word_of(value))?;
+    }
+    let pieces = pieces(at, value.width.size());
+    reserve_all(&mut state.writes, &pieces)?;
+    put_all(&mut state.writes, &pieces, value.bytes.as_slice());
     state.spent = 0;
     state.entry = rows;
     Ok(Turn::End(Answer::Reply(Reply::Done)))
 }
 
-/// The word that has the value's bytes.
-fn word_of(value: &Datum) -> u64
-    ensures bytes { to_le_bytes w64 result ≡ value.now.bytes.items }
-    ensures value { result ≡ from_le_bytes w64 value.now.bytes.items }
-    ensures fits { result < 2 ^ 64 }
+/// Gives each piece's word a row. Where memory is refused, none is given.
+fn reserve_all(writes: &mut WriteSet, pieces: &[Piece]) -> Result<(), AllocError>
+    ensures ok { OnOk result (writes.new ≡ reserved_all writes.old pieces.now) }
+    ensures err { OnErr result (writes.new ≡ writes.old) }
 {
-    match value.width {
-        Width::U8 => match value.bytes.as_slice().first_chunk::<8>() {
-            Some(bytes) => from_bytes(bytes),
-            None => unreachable!(),
-        },
+    let len = writes.len();
+    for piece in pieces {
+        if writes.reserve(piece.word).is_err() {
+            writes.cut(len);
+            return Err(AllocError);
+        }
     }
+    Ok(())
 }
 
-/// The word that has these bytes.
-fn from_bytes(bytes: &[u8; 8]) -> u64
-    ensures bytes { to_le_bytes w64 result ≡ bytes.now }
-    ensures value { result ≡ from_le_bytes w64 bytes.now }
-    ensures fits { result < 2 ^ 64 }
+/// Puts the pieces of a value in the write set, where each has a row.
+fn put_all(writes: &mut WriteSet, pieces: &[Piece], bytes: &[u8])
+    requires room { All (λ p. IsSome (lookup p.word writes.old)) pieces.now }
+    requires pieces { All IsPiece pieces.now }
+    requires bytes { All (λ p. p.at + p.count ≤ length bytes.now) pieces.now }
+    ensures rows { writes.new ≡ put_all writes.old pieces.now bytes.now }
+    ensures bytes { AreBytes bytes.now }
 {
-    u64::from_le_bytes(*bytes)
+    for piece in pieces {
+        writes.put(piece.word, piece.mask(), piece.scatter(bytes));
+    }
 }

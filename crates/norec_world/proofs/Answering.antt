@@ -1,6 +1,6 @@
 -- What the engine's answers say of the player's depth.
 use Rattle.std.proofs.Common.{◌≡◌, ℕ, Bool, true, false, List, [], ◌∷◌, refl, sym, ap, ◌∙◌, if◌then◌else◌}
-use Rattle.itm_types.specs.declared.row.WriteRow.{WriteRow}
+use Rattle.write_set.specs.declared.row.Row.{Row}
 use Rattle.itm_types.specs.declared.call.Props.{Props}
 use Rattle.itm_types.specs.declared.call.Call.{Call}
 use Rattle.itm_types.specs.declared.call.Call.TheVariants.{Begin, Commit, Read, Write}
@@ -41,7 +41,7 @@ refused_depth true r d Commit why e = ap (depth_after d Commit) e
 refused_depth true r d (Read hint width at) why e = refl
 refused_depth true r d (Write hint at value) why e = refl
 
-module _ (wm wn : List WriteRow) (pm pn : Props) (am an m : List ℕ) (again : Bool) (r : Replied) where
+module _ (wm wn : List Row) (pm pn : Props) (am an m : List ℕ) (again : Bool) (r : Replied) where
   -- at a reply the depth is as the engine says
   pub reply_fits : (was now : Bool) (call : Call)
       → state_over wn now pn an m ≡ after MAX_DEPTH (state_over wm was pm am m) call

@@ -33,6 +33,7 @@ module _ {P : Type 0} (next : P → Option Call) (answered : P → Reply → P) 
           even = refl;
           free = λ h. (clock, refl);
           held = λ h. absurd (cc);
+          got = λ h. tt;
           closed = λ h. (none, refl);
           opens = λ h. absurd (cc);
         });

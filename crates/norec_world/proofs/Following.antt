@@ -1,7 +1,8 @@
 -- The actor goes on as its player alone, whatever the engine does next.
-use Rattle.std.proofs.Common.{◌≡◌, ◌≢◌, ◌⊎◌, inl, inr, ℕ, zero, suc, ◌+◌, ◌*◌, ◌/◌, ◌%◌, ◌<◌, ◌≤◌, Bool, true, false, ◌&&◌, not, ◌==◌, eq-eqb, nat_le, slice_set, List, [], ◌∷◌, ◌++◌, length, take, Option, None, Some, refl, sym, ap, subst, ◌∙◌, arith, append_assoc, if◌then◌else◌}
+use Rattle.std.proofs.Common.{◌≡◌, ◌≢◌, ◌⊎◌, inl, inr, ℕ, zero, suc, ◌+◌, ◌*◌, ◌/◌, ◌%◌, ◌<◌, ◌≤◌, Bool, true, false, ◌&&◌, not, ◌==◌, eq-eqb, nat_le, slice_set, slice_get, slice_index, List, [], ◌∷◌, ◌++◌, length, Option, None, Some, refl, sym, ap, subst, ◌∙◌, arith, append_assoc, if◌then◌else◌}
 use Rattle.std.proofs.lemmas.Bool.{cond-true, and_from, le-leb}
-use Rattle.itm_types.specs.declared.row.WriteRow.{WriteRow}
+use Rattle.write_set.specs.declared.row.Row.{Row}
+use Rattle.write_set.specs.Rows.{overlay}
 use Rattle.itm_types.specs.declared.step.Step.{Step}
 use Rattle.itm_types.specs.declared.step.Step.TheVariants.{Load, Store, Cas}
 use Rattle.itm_types.specs.declared.call.Props.{Props}
@@ -11,15 +12,16 @@ use Rattle.itm_types.specs.declared.call.Reply.{Reply}
 use Rattle.itm_types.specs.declared.call.Reply.TheVariants.{Done, Code}
 use Rattle.itm_types.specs.Access.{size_of}
 use Rattle.script_vm.specs.Depth.{is_begin}
-use Rattle.itm_types.specs.Memory.{bytes_of, overlay, IsMemory, Agrees}
+use Rattle.itm_types.specs.Memory.{bytes_of, IsMemory, Agrees}
 use Rattle.itm_types.specs.declared.call.Refusal.TheVariants.{Outside}
 use Rattle.itm_model.specs.declared.limits.TheConstants.{MAX_DEPTH}
 use Rattle.itm_model.specs.State.{State}
 use Rattle.itm_model.specs.Machine.{outside, opened, after, after_unless, effect, answer, reply, reply_unless, unless, or_else, in_shared, is_open}
 use Rattle.itm_model.specs.Runs.{turn}
-use Rattle.norec_engine.specs.Core.{Core, came, handed, handed_to}
+use Rattle.norec_engine.specs.Core.{Core, came, handed, handed_to, word_loaded}
 use Rattle.norec_engine.specs.Stands.{stands_for, state_over, is_some_row}
-use Rattle.norec_engine.specs.Proceeds.{IsLawful, AsksFor, Replies, Commits, Conflicts, IsBusy, IsFull, backed, recoded}
+use Rattle.norec_engine.specs.Proceeds.{IsLawful, AsksFor, Replies, Commits, Conflicts, IsBusy, IsFull, backed, Got, recoded}
+use Rattle.norec_engine.specs.Rows.{write_at}
 use Rattle.norec_world.specs.declared.attempt.Entry.{Entry}
 use Rattle.norec_world.specs.declared.attempt.Attempt.{Attempt}
 use Rattle.norec_world.specs.declared.attempt.Outcome.TheVariants.{Unfinished, Full, Committed, ReadOnly}
@@ -33,6 +35,7 @@ use Rattle.norec_world.specs.declared.attempt.Outcome.{Outcome}
 use Rattle.norec_world.specs.declared.attempt.End.{End}
 use Rattle.norec_world.specs.declared.attempt.End.TheVariants.{GaveUp, Finished}
 use Rattle.std.proofs.lemmas.List.{append-nil, take_all, length-set}
+use Rattle.std.proofs.lemmas.Option.{slice_get-get_or}
 use Rattle.norec_world.proofs.Alones.{asked}
 use Rattle.norec_world.proofs.Solos.{begin_found, ended_block, full_block, open_block, no_block, passing, outside_call}
 
@@ -105,6 +108,7 @@ module _ {P : Type 0} (next : P → Option Call) (answered : P → Reply → P) 
           even = ap (λ (c : Core). c.clock % 2) same ∙ f.even;
           free = λ h. f.free (sym holds ∙ h);
           held = λ h. (let l = f.held (sym holds ∙ h) in (l.0, l.1 ∙ sym backs, l.2));
+          got = λ h. subst (λ (c : Core). Got c.got (slice_get cells.words (write_at c.writes c.done).word)) (sym same) (f.got (sym holds ∙ h));
           closed = λ h. f.closed (sym opens ∙ h);
           opens = λ h. (let o = f.opens (sym opens ∙ h) in let k = o.3 in (
             o.0,
@@ -158,6 +162,7 @@ module _ {P : Type 0} (next : P → Option Call) (answered : P → Reply → P) 
           even = ap (λ (e : Core). e.clock % 2) same ∙ f.even;
           free = λ h. f.free free;
           held = λ h. absurd (let a : true ≡ false = sym h ∙ holds in (cc));
+          got = λ h. absurd (let a : true ≡ false = sym h ∙ holds in (cc));
           closed = λ h. absurd (let a : true ≡ false = sym open_new ∙ h in (cc));
           opens = λ h. (
             start,
@@ -175,7 +180,7 @@ module _ {P : Type 0} (next : P → Option Call) (answered : P → Reply → P) 
 
     -- ## Commits
 
-    pub no_rows : (rows : List WriteRow) → is_some_row rows ≡ false → rows ≡ []
+    pub no_rows : (rows : List Row) → is_some_row rows ≡ false → rows ≡ []
     no_rows [] e = refl
     no_rows (x ∷ xs) e = absurd (cc)
 
@@ -256,6 +261,7 @@ module _ {P : Type 0} (next : P → Option Call) (answered : P → Reply → P) 
             even = ap (λ (e : Core). e.clock % 2) same ∙ f.even;
             free = λ h. (clock ∙ ap (λ (s : State). 2 * (b.commits + one_if s.wrote)) (sym ended), words);
             held = λ h. absurd (let a : true ≡ false = sym h ∙ free_new in (cc));
+            got = λ h. absurd (let a : true ≡ false = sym h ∙ free_new in (cc));
             closed = λ h. (refl, ap (λ (r : P). answered r Done) k.player ∙ sym (player_snoc answered p1 xs x));
             opens = λ h. absurd (let a : true ≡ false = sym h ∙ closed_new in (cc));
           },
@@ -267,7 +273,7 @@ module _ {P : Type 0} (next : P → Option Call) (answered : P → Reply → P) 
     abbrev Stops : List Attempt → ℕ → Outcome → List Attempt → Type 0
     Stops rows at outcome rows' = (past : List Attempt) (row : Attempt) → rows ≡ past ++ row ∷ [] → rows' ≡ past ++ record row { at = at; outcome = outcome } ∷ []
 
-    some_rows : (rows : List WriteRow) → rows ≢ [] → is_some_row rows ≡ true
+    some_rows : (rows : List Row) → rows ≢ [] → is_some_row rows ≡ true
     some_rows [] n = absurd (n refl)
     some_rows (x ∷ xs) n = refl
 
@@ -371,6 +377,7 @@ module _ {P : Type 0} (next : P → Option Call) (answered : P → Reply → P) 
             even = ap (λ (e : Core). e.clock % 2) same ∙ f.even;
             free = λ h. f.free g.free;
             held = λ h. absurd (let a : true ≡ false = sym h ∙ holds in (cc));
+            got = λ h. absurd (let a : true ≡ false = sym h ∙ holds in (cc));
             closed = λ h. absurd (let a : true ≡ false = sym opens ∙ h in (cc));
             opens = λ h. (
               start,
@@ -436,6 +443,7 @@ module _ {P : Type 0} (next : P → Option Call) (answered : P → Reply → P) 
               even = ap (λ (e : Core). e.clock % 2) same ∙ f.even;
               free = λ h. f.free g.free;
               held = λ h. absurd (let a : true ≡ false = sym h ∙ holds in (cc));
+              got = λ h. absurd (let a : true ≡ false = sym h ∙ holds in (cc));
               closed = λ h. (closed.0, λ i. answered (closed.1 i) (reply_is i));
               opens = λ h. absurd (let a : true ≡ false = sym h ∙ closed_new in (cc));
             },
@@ -504,11 +512,42 @@ module _ {P : Type 0} (next : P → Option Call) (answered : P → Reply → P) 
 
     -- the value is handed in, of any step but the store that frees the clock
     pub hands_on : (b : Progress P) (past : List Attempt) (M : List ℕ) (cells : Cells) (rows : List Attempt) (p : P) (e : Core) (step : Step)
-        → On b past M cells rows p e → IsLawful e step → e.waits ≡ Some step → is_free step ≡ false → On b past M (cells_after cells step) rows p (handed e (found cells step))
-    hands_on b past M cells rows p e step f l w n = subst (λ (o : Option Step). On b past M (cells_after cells step) rows p (handed_to e o (found cells step))) (sym w) (by_step step l n)
+        → On b past M cells rows p e → e.words ≡ length cells.words → IsLawful e step → e.waits ≡ Some step → is_free step ≡ false → On b past M (cells_after cells step) rows p (handed e (found cells step))
+    hands_on b past M cells rows p e step f long l w n = subst (λ (o : Option Step). On b past M (cells_after cells step) rows p (handed_to e o (found cells step))) (sym w) (by_step step l n)
       where
-        taken : (M : List ℕ) (rows : List WriteRow) → overlay M (take 0 rows) ≡ M
-        taken m rows = refl
+        -- the holder got the word that it stores next
+        loads_word : (word : ℕ) → word < length cells.words → (holds : Bool) → e.holds ≡ holds → (e.holds ≡ true → word ≡ (write_at e.writes e.done).word)
+            → On b past M cells rows p (word_loaded e holds word (slice_index cells.words word))
+        loads_word word inside true h own = record {
+          whole = f.whole;
+          bytes = f.bytes;
+          memory = f.memory;
+          arena_is = f.arena_is;
+          limit = f.limit;
+          first = f.first;
+          logged = f.logged;
+          even = f.even;
+          free = f.free;
+          held = f.held;
+          got = λ g. ap (slice_get cells.words) (sym (own g)) ∙ slice_get-get_or cells.words word 0 inside;
+          closed = f.closed;
+          opens = λ h. (let o = f.opens h in let k = o.3 in (o.0, o.1, o.2, record { comes = k.comes; player = k.player; alone = k.alone; stands = k.stands; at = k.at }));
+        }
+        loads_word word inside false h own = record {
+          whole = f.whole;
+          bytes = f.bytes;
+          memory = f.memory;
+          arena_is = f.arena_is;
+          limit = f.limit;
+          first = f.first;
+          logged = f.logged;
+          even = f.even;
+          free = f.free;
+          held = f.held;
+          got = λ g. absurd (let a : true ≡ false = sym g ∙ h in (cc));
+          closed = f.closed;
+          opens = λ h. (let o = f.opens h in let k = o.3 in (o.0, o.1, o.2, record { comes = k.comes; player = k.player; alone = k.alone; stands = k.stands; at = k.at }));
+        }
 
         by_step : (s : Step) → IsLawful e s → is_free s ≡ false → On b past M (cells_after cells s) rows p (handed_to e (Some s) (found cells s))
         by_step (Load zero) l n = record {
@@ -522,26 +561,16 @@ module _ {P : Type 0} (next : P → Option Call) (answered : P → Reply → P) 
           even = (let now = (f.free l.1).0 in omega arith);
           free = f.free;
           held = λ h. absurd (let a : true ≡ false = sym h ∙ l.1 in (cc));
+          got = λ h. absurd (let a : true ≡ false = sym h ∙ l.1 in (cc));
           closed = f.closed;
           opens = λ h. (let o = f.opens h in let k = o.3 in (o.0, o.1, o.2, record { comes = k.comes; player = k.player; alone = k.alone; stands = k.stands; at = k.at }));
         }
-        by_step (Load (suc word)) l n = record {
-          whole = f.whole;
-          bytes = f.bytes;
-          memory = f.memory;
-          arena_is = f.arena_is;
-          limit = f.limit;
-          first = f.first;
-          logged = f.logged;
-          even = f.even;
-          free = f.free;
-          held = f.held;
-          closed = f.closed;
-          opens = λ h. (let o = f.opens h in let k = o.3 in (o.0, o.1, o.2, record { comes = k.comes; player = k.player; alone = k.alone; stands = k.stands; at = k.at }));
-        }
+        by_step (Load (suc word)) l n = loads_word word (let k = l.0 in omega arith) e.holds refl (λ h. l.1 h)
         by_step (Store zero value) l n = absurd (cc)
         by_step (Store (suc word) value) l n = (
             let held = f.held l.1 in
+            let mem : IsMemory e.words M = (f.memory.0 ∙ sym long, f.memory.1) in
+            let got : Got e.got (slice_get cells.words word) = subst (λ (n : ℕ). Got e.got (slice_get cells.words n)) (sym l.2.word_is) (f.got l.1) in
             record {
               whole = f.whole;
               bytes = f.bytes;
@@ -552,7 +581,8 @@ module _ {P : Type 0} (next : P → Option Call) (answered : P → Reply → P) 
               logged = f.logged;
               even = f.even;
               free = λ h. absurd (let a : true ≡ false = sym l.1 ∙ h in (cc));
-              held = λ h. (held.0, ap (λ (m : List ℕ). slice_set m word value) held.1 ∙ sym (l.2.value_is M), held.2);
+              held = λ h. (held.0, ap (λ (m : List ℕ). slice_set m word value) held.1 ∙ sym (l.2.value_is M mem (subst (λ (m : List ℕ). Got e.got (slice_get m word)) held.1 got)), held.2);
+              got = λ h. tt;
               closed = f.closed;
               opens = λ h. (let o = f.opens h in let k = o.3 in (o.0, o.1, o.2, record { comes = k.comes; player = k.player; alone = k.alone; stands = k.stands; at = k.at }));
             })
@@ -575,6 +605,7 @@ module _ {P : Type 0} (next : P → Option Call) (answered : P → Reply → P) 
               even = (let now = free.0 in omega arith);
               free = λ h. absurd (let a : true ≡ false = sym yes ∙ h in (cc));
               held = λ h. (cond-true (cells.clock == from) to cells.clock yes ∙ (l.6 ∙ ap (λ (j : ℕ). j + 1) from_is), free.1, omega arith);
+              got = λ h. tt;
               closed = f.closed;
               opens = λ h. (let o = f.opens h in let k = o.3 in (o.0, o.1, o.2, record { comes = k.comes; player = k.player; alone = k.alone; stands = k.stands; at = k.at }));
             })
@@ -618,6 +649,7 @@ module _ {P : Type 0} (next : P → Option Call) (answered : P → Reply → P) 
       even = f.even;
       free = f.free;
       held = λ h. absurd (let a : true ≡ false = sym h ∙ free in (cc));
+      got = λ h. tt;
       closed = f.closed;
       opens = λ h. (let o = f.opens h in let k = o.3 in (o.0, o.1, o.2, record { comes = k.comes; player = k.player; alone = k.alone; stands = k.stands; at = k.at }));
     }

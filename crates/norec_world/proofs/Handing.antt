@@ -4,7 +4,8 @@ use Rattle.itm_types.specs.declared.call.Call.{Call}
 use Rattle.itm_types.specs.declared.call.Reply.{Reply as Replied}
 use Rattle.itm_types.specs.declared.step.Step.{Step}
 use Rattle.itm_types.specs.declared.step.Step.TheVariants.{Load, Store, Cas}
-use Rattle.itm_types.specs.Memory.{overlay, IsMemory, AllFit}
+use Rattle.itm_types.specs.Memory.{IsMemory, AllFit}
+use Rattle.write_set.specs.Rows.{overlay}
 use Rattle.norec_engine.specs.Core.{Core, handed, handed_to}
 use Rattle.norec_engine.specs.Proceeds.{AsksFor, Ends, Joins, IsSettled, IsLawful, IsWithin, Proceeds}
 use Rattle.norec_engine.specs.declared.answer.Next.{Next}
@@ -94,7 +95,7 @@ module _ {P : Type 0} (next : P → Option Call) (answered : P → Replied → P
     freed_is = ap (λ (o : Option Step). (handed_to old.engine o (found cells step)).freed) waits.waits ∙ freed_by old.engine step (found cells step) sound.tied.unfreed
 
     on : is_free step ≡ false → Follows next answered left max_commits 0 p0 base arena way.way.before way.way.past way.way.memory cells' r.rows.items old.player mid
-    on unfree = hands_on next answered left nearer max_commits 0 p0 base arena way.way.before way.way.past way.way.memory cells r.rows.items old.player old.engine step way.way.follows waits.lawful waits.waits unfree
+    on unfree = hands_on next answered left nearer max_commits 0 p0 base arena way.way.before way.way.past way.way.memory cells r.rows.items old.player old.engine step way.way.follows sound.tied.words waits.lawful waits.waits unfree
 
     -- the call goes on
     pub goes_on : (s : Step) → AsksFor mid s new → Tracks next answered left max_commits p0 base arena cells' r.rows.items (record old { engine = new; status = Waits call s })

@@ -1,13 +1,14 @@
 -- The step's value came to the engine: the call goes on, or is answered.
-use Rattle.std.proofs.Common.{◌≡◌, ℕ, zero, suc, ◌+◌, ◌*◌, ◌<◌, ◌≤◌, Bool, true, length, Option, None, Some, refl, sym, ap, subst, ◌∙◌, arith}
+use Rattle.std.proofs.Common.{◌≡◌, ℕ, zero, suc, ◌+◌, ◌*◌, ◌<◌, ◌≤◌, Bool, true, false, length, Option, None, Some, refl, sym, ap, subst, ◌∙◌, arith}
 use Rattle.itm_types.specs.declared.call.Call.{Call}
 use Rattle.itm_types.specs.declared.call.Call.TheVariants.{Begin, Commit, Read, Write}
 use Rattle.itm_types.specs.declared.call.Reply.{Reply as Replied}
 use Rattle.itm_types.specs.declared.step.Step.{Step}
 use Rattle.itm_types.specs.declared.step.Step.TheVariants.{Load, Store, Cas}
-use Rattle.itm_types.specs.Access.{words_in}
+use Rattle.itm_types.specs.Access.{size_of}
+use Rattle.word_pieces.specs.Pieces.{count_of}
 use Rattle.itm_types.specs.Memory.{AllFit}
-use Rattle.norec_engine.specs.Core.{Core, handed, handed_to}
+use Rattle.norec_engine.specs.Core.{Core, handed, handed_to, word_loaded}
 use Rattle.norec_engine.specs.Proceeds.{AsksFor, Ends, Proceeds, Joins, IsSettled, IsWithin, most}
 use Rattle.norec_engine.specs.declared.answer.Answer.{Answer}
 use Rattle.norec_engine.specs.declared.answer.Next.{Next}
@@ -32,12 +33,16 @@ most_of : (e mid : Core) (o : Option Call) → mid.patience ≡ e.patience → m
 most_of e mid None p n w = refl
 most_of e mid (Some (Begin props room)) p n w = λ i. 2 * p i
 most_of e mid (Some Commit) p n w = λ i. p i * (n i + 3) + 2 * length (w i) + 2
-most_of e mid (Some (Read hint width at)) p n w = λ i. 2 * words_in width + p i * (n i + words_in width + 4)
+most_of e mid (Some (Read hint width at)) p n w = λ i. 2 * count_of at (size_of width) + p i * (n i + count_of at (size_of width) + 4)
 most_of e mid (Some (Write hint at value)) p n w = refl
+
+loaded_is : (e : Core) (holds : Bool) (word seen : ℕ) → IsHanded e (word_loaded e holds word seen)
+loaded_is e true word seen = record { is_open = refl; doing = refl; spent = refl; most_same = most_of e (word_loaded e true word seen) e.doing refl refl refl }
+loaded_is e false word seen = record { is_open = refl; doing = refl; spent = refl; most_same = most_of e (word_loaded e false word seen) e.doing refl refl refl }
 
 handed_is : (e : Core) (step : Step) (seen : ℕ) → IsHanded e (handed_to e (Some step) seen)
 handed_is e (Load zero) seen = record { is_open = refl; doing = refl; spent = refl; most_same = most_of e (handed_to e (Some (Load zero)) seen) e.doing refl refl refl }
-handed_is e (Load (suc word)) seen = record { is_open = refl; doing = refl; spent = refl; most_same = most_of e (handed_to e (Some (Load (suc word))) seen) e.doing refl refl refl }
+handed_is e (Load (suc word)) seen = loaded_is e e.holds word seen
 handed_is e (Store zero value) seen = record { is_open = refl; doing = refl; spent = refl; most_same = most_of e (handed_to e (Some (Store zero value)) seen) e.doing refl refl refl }
 handed_is e (Store (suc word) value) seen = record { is_open = refl; doing = refl; spent = refl; most_same = most_of e (handed_to e (Some (Store (suc word) value)) seen) e.doing refl refl refl }
 handed_is e (Cas cell from to) seen = record { is_open = refl; doing = refl; spent = refl; most_same = most_of e (handed_to e (Some (Cas cell from to)) seen) e.doing refl refl refl }

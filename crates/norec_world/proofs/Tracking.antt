@@ -1,5 +1,5 @@
 -- The one actor of a world tracks what its player does alone, over each answer and each step.
-use Rattle.std.proofs.Common.{◌≡◌, ◌⊎◌, inl, inr, ℕ, zero, suc, ◌+◌, ◌*◌, ◌/◌, ◌<◌, ◌≤◌, Bool, true, false, ◌&&◌, ◌==◌, cond, nat_le, is_some, if◌then◌else◌, List, [], ◌∷◌, ◌++◌, length, Option, None, Some, refl, sym, ap, subst, ◌∙◌, arith}
+use Rattle.std.proofs.Common.{◌≡◌, ◌⊎◌, inl, inr, ℕ, zero, suc, ◌+◌, ◌*◌, ◌/◌, ◌<◌, ◌≤◌, Bool, true, false, ◌&&◌, ◌==◌, cond, nat_le, is_some, if◌then◌else◌, List, [], ◌∷◌, ◌++◌, length, Option, None, Some, slice_index, refl, sym, ap, subst, ◌∙◌, arith}
 use Rattle.std.proofs.lemmas.Bool.{cond-true, cond-false, eqb-true, and_left, and_right, lt-leb}
 use Rattle.itm_types.specs.declared.step.Step.{Step}
 use Rattle.itm_types.specs.declared.step.Step.TheVariants.{Load, Store, Cas}
@@ -8,10 +8,11 @@ use Rattle.itm_types.specs.declared.call.Call.{Call}
 use Rattle.itm_types.specs.declared.call.Call.TheVariants.{Begin, Commit, Read, Write}
 use Rattle.itm_types.specs.declared.call.Reply.{Reply as Replied}
 use Rattle.itm_types.specs.declared.call.Reply.TheVariants.{Done}
-use Rattle.itm_types.specs.Memory.{overlay, IsMemory, Agrees}
+use Rattle.itm_types.specs.Memory.{IsMemory, Agrees}
+use Rattle.write_set.specs.Rows.{overlay}
 use Rattle.itm_model.specs.State.{State}
 use Rattle.script_vm.specs.Depth.{is_begin}
-use Rattle.norec_engine.specs.Core.{Core, came, handed, handed_to}
+use Rattle.norec_engine.specs.Core.{Core, came, handed, handed_to, word_loaded}
 use Rattle.norec_engine.specs.Stands.{is_some_row}
 use Rattle.norec_engine.specs.Proceeds.{IsLawful, IsSettled, StaysOn, Joins, AsksFor, Ends, RepliesTo, Replies, Commits}
 use Rattle.norec_engine.proofs.Machines.{commits}
@@ -59,18 +60,30 @@ pub record HandedSame (e mid : Core) : Type 0 where
   pub words : mid.words ≡ e.words
   pub writes : mid.writes ≡ e.writes
 
+loaded_same : (e : Core) (holds : Bool) (word seen : ℕ) → HandedSame e (word_loaded e holds word seen)
+loaded_same e true word seen = record { snapshot = refl; is_open = refl; doing = refl; words = refl; writes = refl }
+loaded_same e false word seen = record { snapshot = refl; is_open = refl; doing = refl; words = refl; writes = refl }
+
 pub handed_same : (e : Core) (o : Option Step) (seen : ℕ) → HandedSame e (handed_to e o seen)
 handed_same e None seen = record { snapshot = refl; is_open = refl; doing = refl; words = refl; writes = refl }
 handed_same e (Some (Load zero)) seen = record { snapshot = refl; is_open = refl; doing = refl; words = refl; writes = refl }
-handed_same e (Some (Load (suc word))) seen = record { snapshot = refl; is_open = refl; doing = refl; words = refl; writes = refl }
+handed_same e (Some (Load (suc word))) seen = loaded_same e e.holds word seen
 handed_same e (Some (Store zero value)) seen = record { snapshot = refl; is_open = refl; doing = refl; words = refl; writes = refl }
 handed_same e (Some (Store (suc word) value)) seen = record { snapshot = refl; is_open = refl; doing = refl; words = refl; writes = refl }
 handed_same e (Some (Cas cell from to)) seen = record { snapshot = refl; is_open = refl; doing = refl; words = refl; writes = refl }
 
+loaded_freed : (e : Core) (holds : Bool) (word seen : ℕ) → (word_loaded e holds word seen).freed ≡ e.freed
+loaded_freed e true word seen = refl
+loaded_freed e false word seen = refl
+
+loaded_clock : (e : Core) (holds : Bool) (word seen : ℕ) → (word_loaded e holds word seen).clock ≡ e.clock
+loaded_clock e true word seen = refl
+loaded_clock e false word seen = refl
+
 -- whether the clock was freed by it
 pub freed_by : (e : Core) (s : Step) (seen : ℕ) → e.freed ≡ false → (handed_to e (Some s) seen).freed ≡ is_free s
 freed_by e (Load zero) seen f = f
-freed_by e (Load (suc word)) seen f = f
+freed_by e (Load (suc word)) seen f = loaded_freed e e.holds word seen ∙ f
 freed_by e (Store zero value) seen f = refl
 freed_by e (Store (suc word) value) seen f = f
 freed_by e (Cas cell from to) seen f = f
@@ -244,7 +257,7 @@ module _ {P : Type 0} (next : P → Option Call) (answered : P → Replied → P
 
   late_after : (cells : Cells) (e : Core) (s : Step) → e.clock ≤ cells.clock → IsLawful e s → (e.holds ≡ true → cells.clock ≡ e.clock + 1) → (handed_to e (Some s) (found cells s)).clock ≤ (cells_after cells s).clock
   late_after cells e (Load zero) l w h = omega arith
-  late_after cells e (Load (suc word)) l w h = l
+  late_after cells e (Load (suc word)) l w h = (let same = loaded_clock e e.holds word (slice_index cells.words word) in omega arith)
   late_after cells e (Store zero value) l w h = omega arith
   late_after cells e (Store (suc word) value) l w h = l
   late_after cells e (Cas cell from to) l w h = by_case (cells.clock == from) refl

@@ -1,5 +1,5 @@
 -- The engine and the cells, over one event: the engine's data stay as the cells have them.
-use Rattle.std.proofs.Common.{◌≡◌, ◌⊎◌, inl, inr, ℕ, zero, suc, ◌+◌, ◌≤◌, ◌==◌, Bool, true, false, List, [], ◌∷◌, ◌++◌, length, Option, None, Some, slice_index, refl, sym, ap, subst, ◌∙◌, arith, if◌then◌else◌, eqb-true, length-set}
+use Rattle.std.proofs.Common.{◌≡◌, ◌⊎◌, inl, inr, ℕ, zero, suc, ◌+◌, ◌<◌, ◌≤◌, ◌==◌, Bool, true, false, List, [], ◌∷◌, ◌++◌, length, Option, None, Some, slice_index, refl, sym, ap, subst, ◌∙◌, arith, if◌then◌else◌, eqb-true, length-set}
 use Rattle.std.proofs.lemmas.Option.{slice_get-get_or}
 use Rattle.itm_types.specs.declared.row.LogRow.{LogRow}
 use Rattle.itm_types.specs.declared.step.Step.{Step}
@@ -8,7 +8,7 @@ use Rattle.itm_types.specs.declared.call.Call.{Call}
 use Rattle.itm_types.specs.declared.call.Call.TheVariants.{Commit}
 use Rattle.itm_types.specs.declared.call.Reply.{Reply as Replied}
 use Rattle.itm_types.specs.Memory.{AllFit, Agrees, IsMemory}
-use Rattle.norec_engine.specs.Core.{Core, came, handed_to}
+use Rattle.norec_engine.specs.Core.{Core, came, handed_to, word_loaded}
 use Rattle.norec_engine.specs.Proceeds.{IsLawful, IsSettled, Proceeds, Joins, StaysOn, AsksFor, Replies, RepliesTo, Ends, FitsStep}
 use Rattle.norec_engine.specs.declared.answer.Next.{Next}
 use Rattle.norec_engine.specs.declared.answer.Next.TheVariants.{Step as Asks, Answer as Answers}
@@ -219,6 +219,29 @@ module _ (cells : Cells) (e new : Core) (t : IsTied cells e) (settled : IsSettle
   taken : (b : Bool) (clock from to : ℕ) → b ≡ true → clock ≡ from → to ≡ from + 1 → (if b then to else clock) ≡ clock + 1
   taken b clock from to hit is up = ap (λ (x : Bool). if x then to else clock) hit ∙ (let k : to ≡ clock + 1 = omega arith in k)
 
+  word_taken : (word : ℕ) → AllFit cells.words → Joins e (slice_index cells.words word) new → (holds : Bool) → e.holds ≡ holds → word < length cells.words
+      → IsMid cells (word_loaded e holds word (slice_index cells.words word)) new
+  word_taken word fit j true held inside = record {
+    words = t.words;
+    fit = fit;
+    late = t.late;
+    holder = t.holder;
+    opens = t.opens;
+    settled = settled;
+    logged = λ h u. absurd (both e.holds held h);
+    fresh = λ h u. absurd (both e.holds held h);
+  }
+  word_taken word fit j false free inside = record {
+    words = t.words;
+    fit = fit;
+    late = t.late;
+    holder = t.holder;
+    opens = t.opens;
+    settled = settled;
+    logged = λ h u. joined (slice_index cells.words word) h j;
+    fresh = λ h u. agrees_more cells.words e.fresh _ (t.fresh h) (slice_get-get_or cells.words word 0 inside, tt);
+  }
+
   pub hands : (step : Step) → IsLawful e step → AllFit (cells_after cells step).words → Joins e (found cells step) new
       → IsMid (cells_after cells step) (handed_to e (Some step) (found cells step)) new
   hands (Load zero) l fit j = record {
@@ -231,16 +254,7 @@ module _ (cells : Cells) (e new : Core) (t : IsTied cells e) (settled : IsSettle
     logged = λ h u. joined cells.clock h j;
     fresh = λ h u. tt;
   }
-  hands (Load (suc word)) l fit j = record {
-    words = t.words;
-    fit = fit;
-    late = t.late;
-    holder = t.holder;
-    opens = t.opens;
-    settled = settled;
-    logged = λ h u. joined (slice_index cells.words word) h j;
-    fresh = λ h u. agrees_more cells.words e.fresh _ (t.fresh h) (let w = l.0 in let n = t.words in slice_get-get_or cells.words word 0 (omega arith), tt);
-  }
+  hands (Load (suc word)) l fit j = word_taken word fit j e.holds refl (let w = l.0 in let n = t.words in omega arith)
   hands (Store zero value) l fit j = record {
     words = t.words;
     fit = fit;

@@ -1,12 +1,13 @@
 -- One actor whose attempts are those of its player alone, also in the middle of a block.
-use Rattle.std.specs.Prelude.{◌≡◌, ℕ, ◌+◌, ◌*◌, ◌<◌, ◌/◌, ◌%◌, true, false, List, [], ◌∷◌, ◌++◌, length, Option, Some}
+use Rattle.std.specs.Prelude.{◌≡◌, ℕ, ◌+◌, ◌*◌, ◌<◌, ◌/◌, ◌%◌, true, false, List, [], ◌∷◌, ◌++◌, length, slice_get, Option, Some}
 use Rattle.itm_types.specs.declared.call.Call.{Call}
 use Rattle.itm_types.specs.declared.call.Reply.{Reply}
 use Rattle.itm_types.specs.Memory.{bytes_of, IsMemory, Agrees}
 use Rattle.itm_model.specs.declared.limits.TheConstants.{MAX_DEPTH}
 use Rattle.itm_model.specs.Machine.{opened}
 use Rattle.norec_engine.specs.Core.{Core}
-use Rattle.norec_engine.specs.Proceeds.{backed}
+use Rattle.norec_engine.specs.Proceeds.{backed, Got}
+use Rattle.norec_engine.specs.Rows.{write_at}
 use Rattle.norec_engine.specs.Stands.{stands_for}
 use Rattle.norec_world.specs.declared.attempt.Entry.{Entry}
 use Rattle.norec_world.specs.declared.attempt.Attempt.{Attempt}
@@ -57,6 +58,7 @@ module _ {P : Type 0} (next : P → Option Call) (answered : P → Reply → P) 
       pub even : e.clock % 2 ≡ 0
       pub free : e.holds ≡ false → (cells.clock ≡ 2 * b.commits) × (cells.words ≡ M)
       pub held : e.holds ≡ true → (cells.clock ≡ 2 * b.commits + 1) × (cells.words ≡ backed e M) × (b.commits < max_commits)
+      pub got : e.holds ≡ true → Got e.got (slice_get cells.words (write_at e.writes e.done).word)
       pub closed : e.is_open ≡ false → (rows ≡ past) × (p ≡ b.player)
       pub opens : e.is_open ≡ true → (start : Beginning P) × (xs : List Entry) × (rows ≡ past ++ row_of b start xs Unfinished ∷ []) × IsInBlock b start xs M p e
 

@@ -2,6 +2,7 @@
 
 ghost use Rattle.std.specs.Prelude.{◌≡◌, ◌%◌, ◌^◌, ◌<◌, ◌≤◌, length, IfOk};
 
+mod barriers;
 mod planned;
 
 use crate::{Attempt, Bytes, End, Outcome, Passes, Setup, World, WorldFault};

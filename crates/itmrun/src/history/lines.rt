@@ -6,7 +6,7 @@ ghost use Rattle.itmrun.specs.Histories.{outcome_name, head_line, arena_line, bo
 
 use crate::history::pieces::Piece;
 use crate::history::stream::Stream;
-use itm_types::{Call, Reply};
+use itm_types::{Call, Entry as Function, Reply, name_of};
 use norec_world::{Attempt, Entry, Outcome};
 use std::io::Write;
 
@@ -65,9 +65,14 @@ fn put_body<W: Write>(stream: &mut Stream<'_, W>, call: &Call)
     match call {
         Call::Begin { .. } => stream.put(&[Piece::Text(b"_ITM_beginTransaction -")]),
         Call::Commit => stream.put(&[Piece::Text(b"_ITM_commitTransaction")]),
-        Call::Read { at, .. } => stream.put(&[Piece::Text(b"_ITM_RU8 "), Piece::Number(*at)]),
-        Call::Write { at, value, .. } => stream.put(&[
-            Piece::Text(b"_ITM_WU8 "),
+        Call::Read { hint, width, at } => stream.put(&[
+            Piece::Text(name_of(Function::Read(*hint, *width)).as_bytes()),
+            Piece::Text(b" "),
+            Piece::Number(*at),
+        ]),
+        Call::Write { hint, at, value } => stream.put(&[
+            Piece::Text(name_of(Function::Write(*hint, value.width)).as_bytes()),
+            Piece::Text(b" "),
             Piece::Number(*at),
             Piece::Text(b" "),
             Piece::Hex(value.bytes.as_slice()),

@@ -90,6 +90,27 @@ end
 final 4 03000000000000000500000000000000
 ";
 
+/// A write and a read over the end of a word.
+const ACROSS_WORDS: &[u8] = b".memory 16
+.thread
+set r1 72623859790382856
+_ITM_beginTransaction r0 -
+_ITM_WU8 3 r1
+_ITM_RU8 r2 5
+_ITM_commitTransaction
+";
+
+const ACROSS_WORDS_HISTORY: &[u8] = b"itm-history 1
+memory 00000000000000000000000000000000
+attempt 0 1 0 committed -
+arena -
+call _ITM_WU8 3 0807060504030201 = ok
+call _ITM_RU8 5 = 0605040302010000
+call _ITM_commitTransaction = ok
+end
+final 2 00000008070605040302010000000000
+";
+
 #[test]
 fn worked_scripts(rt: HostRuntime) -> Result<(), Fail> {
     let rows = [
@@ -97,6 +118,7 @@ fn worked_scripts(rt: HostRuntime) -> Result<(), Fail> {
         (EMPTY_BLOCK, EMPTY_BLOCK_HISTORY, 1),
         (BOUNDARY, BOUNDARY_HISTORY, 4),
         (TWO_BLOCKS, TWO_BLOCKS_HISTORY, 10),
+        (ACROSS_WORDS, ACROSS_WORDS_HISTORY, 9),
         (
             b".memory 8\n.thread",
             b"itm-history 1\nmemory 0000000000000000\nfinal 0 0000000000000000\n",

@@ -1,58 +1,105 @@
-use Rattle.std.proofs.Common.{ℕ, List, refl, sym, ap, subst, ◌∙◌, arith, ◌*◌}
+use Rattle.std.proofs.Common.{ℕ, ◌==◌, List, [], ◌∷◌, ◌++◌, length, take, refl, sym, ap, subst, ◌∙◌, arith, eq-eqb, add-one, inl, inr}
+use Rattle.std.proofs.lemmas.Bool.{cond-true}
+use Rattle.std.proofs.lemmas.List.{length-append}
+use Rattle.std.specs.Prelude.{slice_index}
 use Rattle.itm_types.specs.declared.row.LogRow.{LogRow}
-use Rattle.itm_types.specs.declared.call.Reply.TheVariants.{Bytes}
-use Rattle.itm_types.specs.Memory.{Agrees, IsMemory}
+use Rattle.itm_types.specs.Memory.{Agrees}
+use Rattle.word_pieces.specs.declared.piece.Piece.{Piece}
+use Rattle.word_pieces.specs.Pieces.{gathered, part_of}
+use Rattle.write_set.specs.Rows.{overlay}
 use Rattle.norec_engine.specs.Rows.{AllWithin}
-use Rattle.norec_engine.proofs.Overlays.{AllWithin-push, Agrees-last, overlay-unwritten}
-use Rattle.norec_engine.proofs.Machines.{reads}
+use Rattle.norec_engine.specs.declared.phase.Phase.TheVariants.{Confirm}
+use Rattle.norec_engine.specs.Proceeds.{Settles}
+use Rattle.norec_engine.specs.Fields.{core, parts}
+use Rattle.norec_engine.specs.Order.{load_stage, tries_after}
+use Rattle.norec_engine.proofs.Overlays.{AllWithin-push, Agrees-last, Agrees-front, index_of}
+use Rattle.norec_engine.proofs.Readings.{none_left, part_is, length-part_of, tries_loading, after_log, after_open, after_snapshot}
 use Rattle.norec_engine.proofs.read.confirmed.Goals as goal
 
-pub returns-then-seen-state-clause-sound : goal.returns-then-seen-state-clause-sound
-returns-then-seen-state-clause-sound c =
-    let s = c.requires.sound in
-    let opened = s.in_phase.0 in
-    record {
-      asked = tt;
-      sound = record {
-        patient = s.patient;
-        commits = s.commits;
-        small = s.small;
-        even = s.even;
-        reached = omega (arith, c.if-seen-state.true);
-        in_phase = (
-          λ o. (
-            record {
-              is_open = o;
-              log = subst (AllWithin c.args.state.now.words) (sym c.push_reserved.ensures.items) (AllWithin-push _ _ _ opened.log s.in_phase.1.within);
-              writes = opened.writes;
-              apart = opened.apart;
-              fit = opened.fit;
-              tries = opened.tries;
-            },
-            c.if-seen-state.true,
-          ),
-          λ o. (let yes = opened.is_open in absurd (cc)),
-        );
+pub unreachable-requires : goal.unreachable-requires
+unreachable-requires c = (let none = none_left c.args.reading (sym c.piece.ensures.value ∙ c.in_default.is) in let some = c.requires.sound.in_phase.1.some in absurd (omega arith))
+
+pub next_piece-requires : goal.next_piece-requires
+next_piece-requires c =
+    let s = c.args.state.now in
+    let r = c.args.reading in
+    let phase = c.requires.sound.in_phase in
+    let reading = phase.1.reading in
+    let p = c.in-Some.piece in
+    let row : LogRow = record { word = p.word; value = c.args.value } in
+    let left = phase.1.some in
+    let word = c.in-Some.ensures.in_memory s.words reading.within in
+    let pushed = c.push_reserved.ensures.items in
+    let more = λ (m : List ℕ). c.in-Some.ensures.reads_on m in
+    let gone = c.gather.ensures in
+    rw c.next.ensures (record {
+      may = record {
+        patient = c.requires.sound.patient;
+        commits = c.requires.sound.commits;
+        small = c.requires.sound.small;
+        even = c.requires.sound.even;
+        is_open = record {
+          is_open = phase.0.is_open;
+          log = subst (AllWithin s.words) (sym pushed) (AllWithin-push s.words s.log.items row phase.0.log word);
+          writes = phase.0.writes;
+          rows = phase.0.rows;
+          tries = phase.0.tries;
+        };
+        reading = record {
+          within = reading.within;
+          far = omega (arith, left);
+          room = omega (arith, left, reading.room, ap (length {A = LogRow}) pushed, length-append s.log.items (row ∷ []), c.push_reserved.ensures.capacity);
+          grown = omega (arith, reading.grown, ap (length {A = LogRow}) pushed, length-append s.log.items (row ∷ []));
+          has = λ m mem agrees.
+              (let all = subst (Agrees m) pushed agrees in
+              let here = Agrees-last m s.log.items row all in
+              let now = index_of (overlay m s.writes) p.word c.overlaid-word.result (c.overlaid-word.ensures m here) in
+              gone ∙ ((λ i. reading.has m mem (Agrees-front m s.log.items row all) i ++ part_of p (sym now i)) ∙ sym (more (overlay m s.writes))));
+          sized =
+              (let parts_are = more [] in
+              let in_word = c.in-Some.ensures.piece.in_word in
+              omega (
+                arith,
+                ap (length {A = ℕ}) gone,
+                length-append s.gathered.items (part_of p c.overlaid-word.result),
+                reading.sized,
+                ap (length {A = ℕ}) parts_are,
+                length-append (gathered [] (take r.number (parts r))) (part_of p (slice_index [] p.word)),
+                length-part_of p c.overlaid-word.result in_word,
+                length-part_of p (slice_index [] p.word) in_word,
+              ));
+        };
+        settled = c.if-seen-state.true;
+        spent = omega (arith, phase.3);
       };
+    })
+
+pub returns-in-Some-clause-joins : goal.returns-in-Some-clause-joins
+returns-in-Some-clause-joins c =
+    let s = c.args.state.now in
+    let r = c.args.reading in
+    let phase = c.requires.sound.in_phase in
+    let result = c.next_piece.result in
+    let new = c.next_piece.new.state in
+    let stays = c.next_piece.ensures.stays in
+    let p = c.in-Some.piece in
+    let word = ap (λ (x : Piece). x.word) (part_is r p (sym c.piece.ensures.value ∙ c.in-Some.is)) in
+    let settles : Settles (core s (Confirm r c.args.value)) c.args.seen = record { load = refl; same = c.if-seen-state.true ∙ sym phase.2; even = omega (arith, c.requires.sound.even, c.if-seen-state.true) } in
+    record {
+      log = λ o. inr (
+        settles,
+        after_log result new ∙ (stays.log (sym (after_open result new) ∙ o) ∙ (c.push_reserved.ensures.items ∙ ap (λ (n : ℕ). s.log.items ++ record { word = n; value = c.args.value } ∷ []) word)),
+        after_snapshot result new ∙ (stays.snapshot ∙ sym c.if-seen-state.true),
+      );
+      begins = λ closed o. absurd (let yes = phase.0.is_open in cc);
+      snapshot = λ o. inl (after_snapshot result new ∙ stays.snapshot);
     }
 
-pub returns-then-seen-state-clause-proceeds : goal.returns-then-seen-state-clause-proceeds
-returns-then-seen-state-clause-proceeds c =
-    let s = c.args.state.now in
-    let phase = c.requires.sound.in_phase in
-    let r = c.args.reading in
-    let row : LogRow = record { word = r.word; value = c.args.value } in
-    let pushed = λ (m : List ℕ) (agrees : Agrees m c.push_reserved.new.self.items). subst (Agrees m) c.push_reserved.ensures.items agrees in
-    let all = λ (m : List ℕ) (mem : IsMemory s.words m) (agrees : Agrees m c.push_reserved.new.self.items).
-    reads s.writes.items s.is_open s.props s.arena m s.words r.hint r.width (r.word * 8) r.word c.args.value refl phase.0.is_open mem phase.1.within
-    (overlay-unwritten m s.writes.items r.word phase.1.unwritten ∙ Agrees-last m s.log.items row (pushed m agrees)) in
-    record {
-      meets = λ m mem agrees. (all m mem agrees).0;
-      reply_is = λ m mem agrees. ap (λ (bs : List ℕ). Bytes (record { items = bs })) c.bytes_of.ensures ∙ (all m mem agrees).1;
-      stays = refl;
-      writes = refl;
-      free = refl;
-      unfreed = refl;
-      still = λ o. o;
-      settled = λ o. (c.if-seen-state.true, c.requires.sound.even);
-    }
+pub returns-in-Some-clause-order : goal.returns-in-Some-clause-order
+returns-in-Some-clause-order c =
+    c.next_piece.ensures.order ∙ (ap (load_stage c.args.state.now.writes) c.next.ensures ∙ (ap (λ (n : ℕ). load_stage c.args.state.now.writes (record c.args.reading { number = n })) (add-one c.args.reading.number)
+    ∙ sym (cond-true (c.args.seen == c.args.state.now.snapshot) _ _ (eq-eqb c.args.seen c.args.state.now.snapshot c.if-seen-state.true))))
+
+pub returns-in-Some-clause-tries : goal.returns-in-Some-clause-tries
+returns-in-Some-clause-tries c =
+    c.next_piece.ensures.tries ∙ sym (ap (λ x. tries_after x c.args.state.now.tries) c.next_piece.ensures.order ∙ tries_loading c.args.state.now.writes c.next.result c.args.state.now.tries)

@@ -1,10 +1,13 @@
-use Rattle.std.proofs.Common.{◌≡◌, arith, ap}
+use Rattle.std.proofs.Common.{◌≡◌, arith, ap, sym, ◌∙◌}
 use Rattle.std.proofs.lemmas.List.{get_or_read}
 use Rattle.itm_types.specs.declared.row.LogRow.{LogRow}
-use Rattle.itm_types.specs.declared.row.WriteRow.{WriteRow}
-use Rattle.norec_engine.specs.Rows.{row_at, write_at}
-use Rattle.norec_engine.proofs.Overlays.{AllWithin-at, AllWritesWithin-at}
+use Rattle.write_set.specs.declared.row.Row.{Row}
+use Rattle.norec_engine.specs.Rows.{row_at, write_at, value_into}
+use Rattle.norec_engine.proofs.Overlays.{AllWithin-at, AllWritesWithin-at, write_at_of}
+use Rattle.norec_engine.specs.Fields.{counted}
+use Rattle.norec_engine.proofs.Phases.{store_row, stores_as, loads_as}
 use Rattle.norec_engine.proofs.steps.step_of.Goals as goal
+use Rattle.norec_engine.proofs.steps.step_of.Goals.{in-Some, in-None}
 
 pub overflow_add-result-in-RoundRow : goal.overflow_add-result-in-RoundRow
 overflow_add-result-in-RoundRow c =
@@ -12,8 +15,28 @@ overflow_add-result-in-RoundRow c =
     let logged : c.index-logged.result.now ≡ row_at c.args.state.now.log.items c.in-RoundRow.row = get_or_read c.args.state.now.log.items c.in-RoundRow.row _ s.in_phase.2 c.index-logged.ensures _ in
     omega (arith, AllWithin-at c.args.state.now.words c.args.state.now.log.items c.in-RoundRow.row s.in_phase.0.is_open.log s.in_phase.2, ap (λ (r : LogRow). r.word) logged, s.small)
 
+pub overflow_add-result-in-BackLoad : goal.overflow_add-result-in-BackLoad
+overflow_add-result-in-BackLoad c =
+    let s = rw c.in-BackLoad.is at c.requires.sound in
+    let written = write_at_of c.args.state.now.writes c.in-BackLoad.row c.row-written.result c.row-written.ensures.row in
+    omega (arith, AllWritesWithin-at c.args.state.now.words c.args.state.now.writes c.in-BackLoad.row s.in_phase.0.is_open.writes s.in_phase.1, ap (λ (r : Row). r.word) written, s.small)
+
 pub overflow_add-result-in-Store : goal.overflow_add-result-in-Store
 overflow_add-result-in-Store c =
     let s = rw c.in-Store.is at c.requires.sound in
-    let written : c.index-written.result.now ≡ write_at c.args.state.now.writes.items c.in-Store.row = get_or_read c.args.state.now.writes.items c.in-Store.row _ s.in_phase.1 c.index-written.ensures _ in
-    omega (arith, AllWritesWithin-at c.args.state.now.words c.args.state.now.writes.items c.in-Store.row s.in_phase.0.is_open.writes s.in_phase.1, ap (λ (r : WriteRow). r.word) written, s.small)
+    let facts = store_row (counted c.args.state.now) c.in-Store.row c.in-Store.got s.in_phase in
+    let written = write_at_of c.args.state.now.writes c.in-Store.row c.row-written-in-Store.result c.row-written-in-Store.ensures.row in
+    omega (arith, AllWritesWithin-at c.args.state.now.words c.args.state.now.writes c.in-Store.row facts.0.writes facts.1, ap (λ (r : Row). r.word) written, s.small)
+
+pub returns-in-BackLoad : goal.returns-in-BackLoad
+returns-in-BackLoad c =
+    rw c.in-BackLoad.is (loads_as c.row-written.result (write_at c.args.state.now.writes c.in-BackLoad.row) (write_at_of c.args.state.now.writes c.in-BackLoad.row c.row-written.result c.row-written.ensures.row))
+
+pub returns-after-got : goal.returns-after-got
+returns-after-got c =
+    let r = c.row-written-in-Store.result in
+    let written = write_at_of c.args.state.now.writes c.in-Store.row r c.row-written-in-Store.ensures.row in
+    rw c.in-Store.is (elim c.match-got.branch [
+      | in-Some w ↦ stores_as r (write_at c.args.state.now.writes c.in-Store.row) written c.in-Store.got c.match-got.value (w.value-is ∙ w.merge-value.ensures.value ∙ ap (value_into r) (sym w.in-Some.is))
+      | in-None w ↦ stores_as r (write_at c.args.state.now.writes c.in-Store.row) written c.in-Store.got c.match-got.value (w.value-is ∙ ap (value_into r) (sym w.in-None.is))
+    ])

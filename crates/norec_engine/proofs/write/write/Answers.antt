@@ -1,17 +1,25 @@
-use Rattle.std.proofs.Common.{◌≡◌, rules, ℕ, List, refl, sym, ap, subst, ◌∙◌, arith, ◌/◌}
-use Rattle.itm_types.specs.Memory.{IsMemory}
-use Rattle.norec_engine.specs.Rows.{put, AllWritesWithin, AllWritesFit, AreApart}
-use Rattle.norec_engine.specs.Stands.{state_over}
-use Rattle.norec_engine.proofs.Overlays.{AllWritesWithin-put, AllWritesFit-put, AreApart-put}
-use Rattle.norec_engine.proofs.Machines.{writes, writes_not}
+use Rattle.std.proofs.Common.{◌≡◌, ℕ, ◌+◌, ◌*◌, ◌<◌, ◌≤◌, List, length, IsSome, All, refl, sym, ap, subst, ◌∙◌, arith, rules}
+use Rattle.word_pieces.specs.declared.piece.Piece.{Piece}
+use Rattle.write_set.specs.declared.row.Row.{Row}
+use Rattle.write_set.specs.Rows.{lookup, overlay, AreRows}
+use Rattle.norec_engine.specs.Stands.{is_some_row}
+use Rattle.norec_engine.specs.Rows.{reserved_all, put_all, AllWritesWithin}
+use Rattle.std.proofs.lemmas.Bool.{leb-false, leb-true}
+use Rattle.itm_types.specs.Access.{size_of}
+use Rattle.itm_types.specs.Memory.{bytes_of, IsMemory}
+use Rattle.norec_engine.proofs.Machines.{writes, writes_not, some_put, some_bytes}
+use Rattle.std.proofs.lemmas.List.Elements.{All-from_recursion}
+use Rattle.word_pieces.specs.Pieces.{pieces_of}
+use Rattle.itm_types.specs.Slices.{AreBytes}
+use Rattle.norec_engine.proofs.Writings.{AllFitIn, all_reserved, some_pieces, bytes_of-put_all, fit_pieces, AllWritesWithin-put_all, AllWritesWithin-reserved_all, AreRows-put_all, AreRows-reserved_all}
 use Rattle.norec_engine.proofs.write.write.Goals as goal
 
-pub returns-in_default-clause-proceeds : goal.returns-in_default-clause-proceeds
-returns-in_default-clause-proceeds c =
+pub returns-then-not-is_within-clause-proceeds : goal.returns-then-not-is_within-clause-proceeds
+returns-then-not-is_within-clause-proceeds c =
     let s = c.args.state.now in
     let idle = c.requires.sound.in_phase.0 c.if-not-state.false in
-    let all = λ (m : List ℕ) (mem : IsMemory s.words m).
-    writes_not s.writes.items s.is_open s.props s.arena m s.words c.args.hint c.args.value.now c.args.at c.if-not-state.false mem c.in_default.ensures in
+    let out : 8 * s.words < c.args.at + size_of c.args.value.now.width = subst (λ (n : ℕ). 8 * s.words < c.args.at + n) c.size.ensures.value (leb-false (c.args.at + c.size.result) (8 * s.words) (sym c.is_within.ensures ∙ c.if-not-is_within.true)) in
+    let all = λ (m : List ℕ) (mem : IsMemory s.words m). writes_not s.writes s.is_open s.props s.arena m s.words c.args.hint c.args.value.now c.args.at c.if-not-state.false mem out in
     record {
       meets = λ m mem agrees. (all m mem).0;
       reply_is = λ m mem agrees. (all m mem).1;
@@ -23,26 +31,43 @@ returns-in_default-clause-proceeds c =
       settled = λ o. (idle.1, c.requires.sound.even);
     }
 
+pub put_all-requires-clause-room : goal.put_all-requires-clause-room
+put_all-requires-clause-room c =
+    let s = c.args.state.now in
+    let ps = c.deref-2.result.now in
+    let same : c.reserve_all.new.writes ≡ reserved_all s.writes ps = c.in_ok-reserve_all.ensures.ok ∙ ap (reserved_all s.writes) (c.deref.ensures.0 ∙ sym c.deref-2.ensures.0) in
+    subst (λ (rows : List Row). All (λ (p : Piece). IsSome (lookup p.word rows)) ps) (sym same)
+    (All-from_recursion (λ (p : Piece). IsSome (lookup p.word (reserved_all s.writes ps))) ps (all_reserved s.writes ps))
+
 pub returns-clause-sound : goal.returns-clause-sound
 returns-clause-sound c =
-    let s = c.requires.sound in
-    let idle = s.in_phase.0 c.if-not-state.false in
+    let s = c.args.state.now in
+    let w = c.args.value.now.width in
+    let bytes = c.args.value.now.bytes.items in
+    let ps = pieces_of c.args.at (size_of w) in
+    let sound = c.requires.sound in
+    let idle = sound.in_phase.0 c.if-not-state.false in
+    let pieces_are : c.pieces-pieces.result.items ≡ ps = c.pieces-pieces.ensures.value ∙ ap (pieces_of c.args.at) c.size-2.ensures.value in
+    let rows : c.put_all.new.writes ≡ put_all (reserved_all s.writes ps) ps bytes =
+    c.put_all.ensures.rows ∙ (λ i. put_all ((c.in_ok-reserve_all.ensures.ok ∙ ap (reserved_all s.writes) (c.deref.ensures.0 ∙ pieces_are)) i) ((c.deref-2.ensures.0 ∙ pieces_are) i) (c.as_slice.ensures.value i)) in
+    let fit : AllFitIn s.words ps bytes = fit_pieces s.words c.args.at (size_of w) bytes
+    (subst (λ (n : ℕ). c.args.at + n ≤ 8 * s.words) c.size.ensures.value (leb-true (c.args.at + c.size.result) (8 * s.words) (sym c.is_within.ensures ∙ c.if-not-is_within.false)))
+    (omega (arith, c.size.ensures.value, c.size.ensures.most)) (subst AreBytes c.as_slice.ensures.value c.put_all.ensures.bytes) in
     record {
       asked = tt;
       sound = record {
-        patient = s.patient;
-        commits = s.commits;
-        small = s.small;
-        even = s.even;
-        reached = s.reached;
+        patient = sound.patient;
+        commits = sound.commits;
+        small = sound.small;
+        even = sound.even;
+        reached = sound.reached;
         in_phase = (
           λ o. (
             record {
               is_open = o;
               log = idle.0.log;
-              writes = subst (AllWritesWithin c.args.state.now.words) (sym c.in_ok-put.ensures.ok) (AllWritesWithin-put _ _ _ _ idle.0.writes c.in-Some.ensures.1);
-              apart = subst AreApart (sym c.in_ok-put.ensures.ok) (AreApart-put _ _ _ idle.0.apart);
-              fit = subst AllWritesFit (sym c.in_ok-put.ensures.ok) (AllWritesFit-put _ _ _ idle.0.fit c.word_of.ensures.fits);
+              writes = subst (AllWritesWithin s.words) (sym rows) (AllWritesWithin-put_all s.words (reserved_all s.writes ps) ps bytes (AllWritesWithin-reserved_all s.words s.writes ps bytes idle.0.writes fit) fit);
+              rows = subst AreRows (sym rows) (AreRows-put_all s.words (reserved_all s.writes ps) ps bytes (AreRows-reserved_all s.writes ps idle.0.rows) fit);
               tries = idle.0.tries;
             },
             idle.1,
@@ -55,16 +80,26 @@ returns-clause-sound c =
 pub returns-clause-proceeds : goal.returns-clause-proceeds
 returns-clause-proceeds c =
     let s = c.args.state.now in
-    let place_of : c.in-Some.word ≡ c.args.at / 8 = omega (arith, c.in-Some.ensures.0) in
+    let value = c.args.value.now in
+    let bytes = value.bytes.items in
+    let size = size_of value.width in
+    let ps = pieces_of c.args.at size in
     let idle = c.requires.sound.in_phase.0 c.if-not-state.false in
+    let pieces_are : c.pieces-pieces.result.items ≡ ps = c.pieces-pieces.ensures.value ∙ ap (pieces_of c.args.at) c.size-2.ensures.value in
+    let rows : c.put_all.new.writes ≡ put_all (reserved_all s.writes ps) ps bytes =
+    c.put_all.ensures.rows ∙ (λ i. put_all ((c.in_ok-reserve_all.ensures.ok ∙ ap (reserved_all s.writes) (c.deref.ensures.0 ∙ pieces_are)) i) ((c.deref-2.ensures.0 ∙ pieces_are) i) (c.as_slice.ensures.value i)) in
+    let within : c.args.at + size ≤ 8 * s.words = subst (λ (n : ℕ). c.args.at + n ≤ 8 * s.words) c.size.ensures.value (leb-true (c.args.at + c.size.result) (8 * s.words) (sym c.is_within.ensures ∙ c.if-not-is_within.false)) in
+    let some : 0 < length ps = some_pieces c.args.at size (some_bytes value.width) in
     let all = λ (m : List ℕ) (mem : IsMemory s.words m).
-    writes s.writes.items s.is_open s.props s.arena m s.words c.args.hint c.args.value.now c.args.at c.in-Some.word c.word_of.result c.in-Some.ensures.0 c.if-not-state.false mem c.in-Some.ensures.1
-    c.word_of.ensures.bytes idle.0.apart in
+    writes s.writes s.is_open s.props s.arena m s.words c.args.hint value c.args.at c.if-not-state.false mem c.put_all.new.writes within
+    (ap is_some_row rows ∙ some_put (reserved_all s.writes ps) ps bytes some)
+    (ap (λ (xs : List Row). bytes_of (overlay m xs)) rows
+    ∙ bytes_of-put_all m s.writes c.args.at size bytes mem.1 idle.0.rows (omega (arith, within, mem.0)) (omega (arith, c.size.ensures.value, c.size.ensures.most)) (subst AreBytes c.as_slice.ensures.value c.put_all.ensures.bytes) value.sized) in
     record {
-      meets = λ m mem agrees. ap (λ x. state_over x s.is_open s.props s.arena m) c.in_ok-put.ensures.ok ∙ (all m mem).0;
+      meets = λ m mem agrees. (all m mem).0;
       reply_is = λ m mem agrees. (all m mem).1;
       stays = search rules;
-      writes = c.in_ok-put.ensures.ok ∙ (λ i. put s.writes.items (place_of i) (c.word_of.ensures.value i));
+      writes = rows;
       free = refl;
       unfreed = refl;
       still = λ o. o;
