@@ -82,6 +82,104 @@ cp "$work/input" "$work/-x"
 status=$?
 check 'a file whose name begins with a dash' 0
 
+cp "$root/examples/lost_update.history" "$work/want_output"
+run sched "$root/examples/lost_update.itm"
+check 'two threads and a schedule' 0
+
+# threads that give up: one that waits for a commit that stands still, and all but the first of those that may commit
+cat >"$work/input" <<'END'
+.memory 16
+.patience 2
+.retries 0
+.schedule 1x1 0x3 1!
+.thread
+set r1 1
+_ITM_beginTransaction r0 -
+_ITM_WU8 0 r1
+_ITM_WU8 8 r1
+_ITM_commitTransaction
+.thread
+_ITM_beginTransaction r0 -
+_ITM_RU8 r1 0
+_ITM_commitTransaction
+END
+cat >"$work/want_output" <<'END'
+itm-history 1
+memory 00000000000000000000000000000000
+attempt 1 1 0 conflict -
+arena -
+end
+attempt 0 1 0 unfinished -
+arena -
+call _ITM_WU8 0 0100000000000000 = ok
+call _ITM_WU8 8 0100000000000000 = ok
+end
+final 1 01000000000000000000000000000000
+END
+echo 'itmrun: thread 1 gave up' >"$work/want_errors"
+run sched -
+check 'a thread that gives up' 4
+cat >"$work/input" <<'END'
+.memory 8
+.init 0 1122
+.commits 1
+.schedule 3! 2! 1! 0!
+.thread 4
+set r1 1
+_ITM_beginTransaction r0 -
+_ITM_WU8 0 r1
+_ITM_commitTransaction
+END
+awk 'BEGIN {
+    print "itm-history 1\nmemory 1122000000000000"
+    for (i = 3; i >= 0; i--) {
+        print "attempt " i " 1 " (i < 3) " " (i < 3 ? "full" : "committed") " -\narena -\ncall _ITM_WU8 0 0100000000000000 = ok"
+        if (i == 3) print "call _ITM_commitTransaction = ok"
+        print "end"
+    }
+    print "final 2 0100000000000000"
+}' >"$work/want_output"
+printf 'itmrun: thread %s gave up\n' 0 1 2 >"$work/want_errors"
+run sched -
+check 'three threads that give up' 4
+: >"$work/want_output"
+echo 'itmrun: writing failed' >"$work/want_errors"
+"$program" sched - <"$work/input" >&- 2>"$work/errors"
+status=$?
+: >"$work/output"
+check 'closed output, and threads that give up' 5
+
+# as many threads as may be, each in its turn
+: >"$work/want_errors"
+{
+    printf '.memory 8\n.thread 32\n'
+    tail -n 6 "$root/examples/counter.itm"
+} >"$work/input"
+awk 'function word(n) { return sprintf("%02x00000000000000", n) }
+BEGIN {
+    print "itm-history 1\nmemory " word(0)
+    for (i = 0; i < 32; i++)
+        print "attempt " i " 1 " i " committed -\narena -\ncall _ITM_RU8 0 = " word(i) "\ncall _ITM_WU8 0 " word(i + 1) " = ok\ncall _ITM_commitTransaction = ok\nend"
+    print "final 64 " word(32)
+}' >"$work/want_output"
+run sched -
+check 'as many threads as may be' 0
+
+# as many items as may be; all but the first one are passed over
+awk 'BEGIN {
+    print ".memory 8"
+    for (i = 0; i < 65536; i += 16) {
+        printf ".schedule"
+        for (j = 0; j < 16; j++) printf " 0x1000000"
+        print ""
+    }
+    print ".thread"
+}' >"$work/input"
+tail -n 6 "$root/examples/counter.itm" >>"$work/input"
+cp "$root/examples/counter.history" "$work/want_output"
+run sched -
+check 'as many items as may be' 0
+
 # as many instructions as may be: blocks that do nothing, and blocks that count
 : >"$work/want_errors"
 awk 'BEGIN {

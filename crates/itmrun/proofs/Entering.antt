@@ -1,7 +1,7 @@
 -- A begin that is accepted.
 use Rattle.std.proofs.Common.{◌≡◌, ℕ, zero, suc, ◌+◌, List, drop, Some, refl, add-one}
 use Rattle.std.proofs.lemmas.List.{drop-drop}
-use Rattle.itmrun.specs.declared.asm.program.Instruction.{Instruction}
+use Rattle.script_asm.specs.declared.instruction.Instruction.{Instruction}
 use Rattle.itmrun.specs.Threads.{Thread, deeper, block_at}
 
 -- what the fields of a script's player show

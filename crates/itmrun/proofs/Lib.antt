@@ -1,13 +1,12 @@
-pub mod Cutting
-pub mod Digits
-pub mod Looking
 pub mod Worked
 pub mod WorkedPages
+pub mod WorkedRuns
 pub mod Padding
 pub mod Entering
 pub mod Putting
 pub mod Growing
+pub mod Telling
 pub mod Taking
-pub mod Playing
-pub mod Refusing
+pub mod Scheduling
 pub mod Paging
+pub mod Playing

@@ -1,56 +1,88 @@
--- A program's world shows its page.
-use Rattle.std.proofs.Common.{◌≡◌, ℕ, ◌*◌, ◌/◌, ◌%◌, List, [], ◌∷◌, replicate, Some, refl, sym, ap, subst, ◌∙◌, arith}
+-- What is told of a program's world is what its one thread does alone.
+use Rattle.std.proofs.Common.{◌≡◌, ℕ, ◌*◌, ◌/◌, ◌%◌, List, [], ◌∷◌, length, map, replicate, Option, None, Some, refl, sym, ap, subst, ◌∙◌, arith}
+use Rattle.std.specs.Prelude.{slice_index_or}
+use Rattle.std.proofs.lemmas.List.{length-map}
 use Rattle.itm_model.specs.declared.limits.TheConstants.{MAX_DEPTH}
+use Rattle.norec_world.specs.declared.attempt.Attempt.{Attempt}
 use Rattle.norec_world.specs.declared.attempt.End.{End}
 use Rattle.norec_world.specs.declared.attempt.End.TheVariants.{Finished, GaveUp, NoMemory}
+use Rattle.norec_world.specs.declared.attempt.Outcome.{Outcome}
 use Rattle.norec_world.specs.declared.attempt.Outcome.TheVariants as outcomes
 use Rattle.norec_world.specs.Solo.{Solo, solo}
 use Rattle.norec_world.specs.SoFar.{IsSoFar}
-use Rattle.norec_world.specs.World.{World, ShowsAlone, DoneBy, ending_at, memory_of}
-use Rattle.norec_world.specs.Tracks.{HasEnded}
-use Rattle.itmrun.specs.Listing.{Listing}
+use Rattle.norec_world.specs.Commits.{CommitsInOrder}
+use Rattle.norec_world.specs.World.{World, ShowsAlone, DoneBy, attempts_of, ending_at, memory_of}
+use Rattle.script_asm.specs.declared.instruction.Instruction.{Instruction}
+use Rattle.script_asm.specs.Listing.{Listing, opening_of, threads_of}
 use Rattle.itmrun.specs.Threads.{Thread, opening, next_call, answered, calls_left}
-use Rattle.itmrun.specs.Pages.{limit, solo_of, page, IsOf, IsWorldOf, history_of}
+use Rattle.itmrun.specs.Scheduled.{Leaves, schedule_of, players_of}
+use Rattle.itmrun.specs.Pages.{first_thread, solo_of, page, IsOf, IsWorldOf, history_of}
+use Rattle.itmrun.proofs.Scheduling.{items_keep}
 
-head_is : (x y : Thread) → x ∷ [] ≡ y ∷ [] → x ≡ y
-head_is x y e = cc
+first_is : (threads : List (List Instruction)) (x : Thread) → map opening threads ≡ x ∷ [] → x ≡ opening (slice_index_or threads 0 [])
+first_is [] x e = absurd cc
+first_is (t ∷ threads) x e = cc
 
 doubled : (n : ℕ) → n % 2 ≡ 0 → n ≡ 2 * (n / 2)
 doubled n e = omega (arith, e)
 
-module _ (p : Listing) (w : World Thread) (run : IsWorldOf p w) (a : ShowsAlone next_call answered calls_left w) where
-  player_is : a.0 ≡ opening p.code
-  player_is = head_is a.0 (opening p.code) (sym a.1 ∙ run.opening_is)
+-- the world began with the program's memory, limits and threads
+record BeganAs (p : Listing) (w : World Thread) : Type 0 where
+  pub players : w.opening ≡ players_of p
+  pub base : w.base ≡ opening_of p
+  pub arena : w.arena ≡ 0
+  pub limit : w.max_commits ≡ p.commits
 
+began_as : (p : Listing) (w : World Thread) → Leaves p w → BeganAs p w
+began_as p w (first, begins, leads) =
+    let kept = items_keep first w (schedule_of p) leads in
+    record {
+      players = kept.opening.opening ∙ begins.players;
+      base = kept.opening.base ∙ begins.base;
+      arena = kept.opening.arena ∙ begins.arena;
+      limit = kept.opening.max_commits ∙ begins.limit;
+    }
+
+module _ (p : Listing) (w : World Thread) (began : BeganAs p w) (player : Thread) (player_is : player ≡ first_thread p) where
   -- what the player does alone is what the program's thread does
-  alone_is : solo next_call answered calls_left MAX_DEPTH w.max_commits 0 a.0 w.base (replicate w.arena 0) ≡ solo_of p
+  alone_is : solo next_call answered calls_left MAX_DEPTH w.max_commits 0 player w.base (replicate w.arena 0) ≡ solo_of p
   unfolding solo_of
-  alone_is = λ i. solo next_call answered calls_left MAX_DEPTH (run.limit_is i) 0 (player_is i) (run.base i) (replicate (run.arena i) 0)
+  alone_is = λ i. solo next_call answered calls_left MAX_DEPTH (began.limit i) 0 (player_is i) (began.base i) (replicate (began.arena i) 0)
 
-  shows : (end : End) → solo_of p ≡ record { attempts = w.attempts; memory = memory_of w; commits = w.cells.clock / 2; ending = end } → w.cells.clock % 2 ≡ 0
-      → ((solo_of p).ending ≡ end) × (history_of (replicate p.memory 0) w ≡ page p)
+  so_far : (commits : ℕ) (memory : List ℕ) (outcome : Outcome) (rows : List Attempt)
+      → IsSoFar next_call answered calls_left w.max_commits 0 player w.base (replicate w.arena 0) commits memory outcome rows
+      → IsSoFar next_call answered calls_left p.commits 0 (first_thread p) (opening_of p) [] commits memory outcome rows
+  so_far commits memory outcome rows s =
+      subst (λ (n : ℕ). IsSoFar next_call answered calls_left p.commits 0 (first_thread p) (opening_of p) (replicate n 0) commits memory outcome rows) began.arena
+      (subst (λ (base : List ℕ). IsSoFar next_call answered calls_left p.commits 0 (first_thread p) base (replicate w.arena 0) commits memory outcome rows) began.base
+      (subst (λ (t : Thread). IsSoFar next_call answered calls_left p.commits 0 t w.base (replicate w.arena 0) commits memory outcome rows) player_is
+      (subst (λ (n : ℕ). IsSoFar next_call answered calls_left n 0 player w.base (replicate w.arena 0) commits memory outcome rows) began.limit s)))
+
+  shows : (end : End) → solo_of p ≡ record { attempts = attempts_of w; memory = memory_of w; commits = w.cells.clock / 2; ending = end } → w.cells.clock % 2 ≡ 0
+      → ((solo_of p).ending ≡ end) × (history_of (opening_of p) w ≡ page p)
   unfolding page
   shows end all even = (
     ap (λ (s : Solo). s.ending) all,
     (λ i. record {
-      memory = replicate p.memory 0;
+      memory = opening_of p;
       attempts = (ap (λ (s : Solo). s.attempts) (sym all)) i;
       clock = (doubled w.cells.clock even ∙ ap (λ (s : Solo). 2 * s.commits) (sym all)) i;
       bytes = (ap (λ (s : Solo). s.memory) (sym all)) i;
     }),
   )
 
-  of_end : (end : End) → HasEnded next_call answered calls_left w.max_commits a.0 w.base (replicate w.arena 0) w.cells w.attempts end → IsOf p end (history_of (replicate p.memory 0) w)
-  of_end Finished all = shows Finished (sym alone_is ∙ all.all) all.even
-  of_end GaveUp all = shows GaveUp (sym alone_is ∙ all.all) all.even
-  of_end NoMemory part = (
-    refl,
-    part.0,
-    subst (λ (n : ℕ). IsSoFar next_call answered calls_left limit 0 (opening p.code) (replicate p.memory 0) (replicate n 0) (w.cells.clock / 2) (memory_of w) outcomes.NoMemory w.attempts) run.arena
-        (subst (λ (base : List ℕ). IsSoFar next_call answered calls_left limit 0 (opening p.code) base (replicate w.arena 0) (w.cells.clock / 2) (memory_of w) outcomes.NoMemory w.attempts) run.base
-        (subst (λ (t : Thread). IsSoFar next_call answered calls_left limit 0 t w.base (replicate w.arena 0) (w.cells.clock / 2) (memory_of w) outcomes.NoMemory w.attempts) player_is
-        (subst (λ (n : ℕ). IsSoFar next_call answered calls_left n 0 a.0 w.base (replicate w.arena 0) (w.cells.clock / 2) (memory_of w) outcomes.NoMemory w.attempts) run.limit_is part.1))),
-  )
+  of_ending : (ending : Option End) → DoneBy next_call answered calls_left w player ending → IsOf p ending (history_of (opening_of p) w)
+  of_ending None (memory, part, told) = (refl, memory, so_far (w.cells.clock / 2) memory outcomes.Unfinished (attempts_of w) part, told)
+  of_ending (Some Finished) all = shows Finished (sym alone_is ∙ all.all) all.even
+  of_ending (Some GaveUp) all = shows GaveUp (sym alone_is ∙ all.all) all.even
+  of_ending (Some NoMemory) part = (refl, part.0, so_far (w.cells.clock / 2) (memory_of w) outcomes.NoMemory (attempts_of w) part.1)
 
-  pub page_of_run : (end : End) → ending_at w 0 ≡ Some end → IsOf p end (history_of (replicate p.memory 0) w)
-  page_of_run end e = of_end end (subst (DoneBy next_call answered calls_left w a.0) e a.2)
+pub world_of_run : (p : Listing) (w : World Thread) → Leaves p w → CommitsInOrder w → ShowsAlone next_call answered calls_left w → IsWorldOf p w
+world_of_run p w leaves commits shown = record {
+  leaves = leaves;
+  commits = commits;
+  alone = λ one.
+      let began = began_as p w leaves in
+      let a = shown (ap (λ (l : List Thread). length l) began.players ∙ length-map (threads_of p) opening ∙ one) in
+      of_ending p w began a.0 (first_is (threads_of p) a.0 (sym began.players ∙ a.1)) (ending_at w 0) a.2;
+}

@@ -5,9 +5,9 @@ use Rattle.std.proofs.KnownBytes.{Consumes-trans}
 use Rattle.std.proofs.lemmas.Bool.{cases_lt, lt-ltb}
 use Rattle.std.proofs.lemmas.List.{length-append, length-take}
 use Rattle.std.proofs.lemmas.Grind.{common_steps}
-use Rattle.itmrun.specs.declared.asm.fault.AsmFault.{AsmFault}
-use Rattle.itmrun.specs.Listing.{Listing}
-use Rattle.itmrun.specs.Assembly.{program_of}
+use Rattle.script_asm.specs.declared.fault.AsmFault.{AsmFault}
+use Rattle.script_asm.specs.Listing.{Listing}
+use Rattle.script_asm.specs.Assembly.{program_of}
 use Rattle.itmrun.specs.Input.{IsFront}
 
 pub few_more : (a b c : Option (List ℕ)) (x y : List ℕ) (limit : ℕ) → Consumes a b x → Consumes b c y → length x + length y ≤ limit → IsFront a c limit

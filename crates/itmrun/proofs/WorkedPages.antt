@@ -1,22 +1,39 @@
 -- Worked programs with the texts of their histories, by computation.
-use Rattle.std.proofs.Common.{◌≡◌, List, ℕ, [], ◌∷◌, ◌++◌, replicate, refl, arith}
-use Rattle.std.specs.Prelude.{codes, map}
+use Rattle.std.proofs.Common.{◌≡◌, List, ℕ, [], ◌∷◌, ◌++◌, refl, arith}
+use Rattle.std.specs.Prelude.{codes}
 use Rattle.std.proofs.lemmas.Fmt.{decimal_digit}
 use Rattle.hex.specs.Hex.{encode_with}
-use Rattle.itm_model.specs.declared.limits.TheConstants.{MAX_DEPTH}
 use Rattle.norec_world.specs.declared.attempt.End.TheVariants.{GaveUp}
-use Rattle.norec_world.specs.Solo.{Solo, solo}
-use Rattle.itmrun.specs.declared.asm.program.Instruction.TheVariants as code
-use Rattle.itmrun.specs.Threads.{datum, opening, next_call, answered, calls_left}
+use Rattle.script_asm.specs.declared.instruction.Instruction.{Instruction}
+use Rattle.script_asm.specs.declared.instruction.Instruction.TheVariants as code
+use Rattle.script_asm.specs.Listing.{Listing, bytes_of, codes_of}
+use Rattle.itmrun.specs.Threads.{datum}
 use Rattle.itmrun.specs.Histories.{history_text, first_lines, attempt_lines, head_line, arena_line, call_line, body_text, reply_text, last_line}
-use Rattle.itmrun.specs.Listing.{Listing}
 use Rattle.itmrun.specs.Pages.{solo_of, page}
 
-abbrev line : List ℕ → List ℕ
+abbrev pub line : List ℕ → List ℕ
 line t = t ++ 10 ∷ []
 
+-- a program of so many threads with one code, of which a script says nothing else but the memory
+abbrev pub listing : ℕ → ℕ → List Instruction → Listing
+listing memory threads instructions = record {
+  memory = memory;
+  inits = [];
+  patience = 8;
+  retries = 100;
+  commits = 4611686018427387903;
+  schedule = [];
+  parts = record { count = threads; code = instructions } ∷ [];
+}
+
+abbrev one_thread : ℕ → List Instruction → Listing
+one_thread memory instructions = listing memory 1 instructions
+
+abbrev pub counter_code : List Instruction
+counter_code = code.Set 1 1 ∷ code.Begin 0 ∷ code.Read 2 0 ∷ code.Add 2 2 1 ∷ code.Write 0 2 ∷ code.Commit ∷ []
+
 abbrev pub counter : Listing
-counter = record { memory = 8; code = code.Set 1 1 ∷ code.Begin 0 ∷ code.Read 2 0 ∷ code.Add 2 2 1 ∷ code.Write 0 2 ∷ code.Commit ∷ [] }
+counter = one_thread 8 counter_code
 
 counter_page : history_text (page counter) ≡
     line (codes "itm-history 1")
@@ -28,11 +45,11 @@ counter_page : history_text (page counter) ≡
     ++ line (codes "call _ITM_commitTransaction = ok")
     ++ line (codes "end")
     ++ line (codes "final 2 0100000000000000")
-unfolding page solo_of datum history_text first_lines attempt_lines head_line arena_line call_line body_text reply_text last_line encode_with
+unfolding page solo_of bytes_of codes_of datum history_text first_lines attempt_lines head_line arena_line call_line body_text reply_text last_line encode_with
 counter_page = rw (decimal_digit 0 (omega arith), decimal_digit 1 (omega arith), decimal_digit 2 (omega arith)) refl
 
 abbrev pub empty_block : Listing
-empty_block = record { memory = 8; code = code.Begin 0 ∷ code.Commit ∷ [] }
+empty_block = one_thread 8 (code.Begin 0 ∷ code.Commit ∷ [])
 
 empty_block_page : history_text (page empty_block) ≡
     line (codes "itm-history 1")
@@ -42,12 +59,12 @@ empty_block_page : history_text (page empty_block) ≡
     ++ line (codes "call _ITM_commitTransaction = ok")
     ++ line (codes "end")
     ++ line (codes "final 0 0000000000000000")
-unfolding page solo_of datum history_text first_lines attempt_lines head_line arena_line call_line body_text reply_text last_line encode_with
+unfolding page solo_of bytes_of codes_of datum history_text first_lines attempt_lines head_line arena_line call_line body_text reply_text last_line encode_with
 empty_block_page = rw (decimal_digit 0 (omega arith), decimal_digit 1 (omega arith)) refl
 
 -- a read beyond the memory is refused, and its register stays
 abbrev pub beyond : Listing
-beyond = record { memory = 8; code = code.Set 1 5 ∷ code.Begin 0 ∷ code.Read 1 8 ∷ code.Write 0 1 ∷ code.Commit ∷ [] }
+beyond = one_thread 8 (code.Set 1 5 ∷ code.Begin 0 ∷ code.Read 1 8 ∷ code.Write 0 1 ∷ code.Commit ∷ [])
 
 beyond_page : history_text (page beyond) ≡
     line (codes "itm-history 1")
@@ -59,40 +76,57 @@ beyond_page : history_text (page beyond) ≡
     ++ line (codes "call _ITM_commitTransaction = ok")
     ++ line (codes "end")
     ++ line (codes "final 2 0500000000000000")
-unfolding page solo_of datum history_text first_lines attempt_lines head_line arena_line call_line body_text reply_text last_line encode_with
+unfolding page solo_of bytes_of codes_of datum history_text first_lines attempt_lines head_line arena_line call_line body_text reply_text last_line encode_with
 beyond_page = rw (decimal_digit 0 (omega arith), decimal_digit 1 (omega arith), decimal_digit 2 (omega arith), decimal_digit 8 (omega arith)) refl
 
--- three blocks where one writer may commit: one that writes, one that reads what it wrote, and one that is full
-one_commit : Solo
-one_commit = solo next_call answered calls_left MAX_DEPTH 1 0 (opening (
+-- bytes that lie over one another at the start, read and written over the end of a word
+abbrev pub laid_in : Listing
+laid_in = record (one_thread 16 (code.Begin 0 ∷ code.Read 1 4 ∷ code.Write 8 1 ∷ code.Commit ∷ [])) {
+  inits = record { at = 6; bytes = 161 ∷ 178 ∷ 195 ∷ [] } ∷ record { at = 8; bytes = 0 ∷ [] } ∷ [];
+}
+
+laid_in_page : history_text (page laid_in) ≡
+    line (codes "itm-history 1")
+    ++ line (codes "memory 000000000000a1b20000000000000000")
+    ++ line (codes "attempt 0 1 0 committed -")
+    ++ line (codes "arena -")
+    ++ line (codes "call _ITM_RU8 4 = 0000a1b200000000")
+    ++ line (codes "call _ITM_WU8 8 0000a1b200000000 = ok")
+    ++ line (codes "call _ITM_commitTransaction = ok")
+    ++ line (codes "end")
+    ++ line (codes "final 2 000000000000a1b20000a1b200000000")
+unfolding page solo_of bytes_of codes_of datum history_text first_lines attempt_lines head_line arena_line call_line body_text reply_text last_line encode_with
+laid_in_page = rw (decimal_digit 0 (omega arith), decimal_digit 1 (omega arith), decimal_digit 2 (omega arith), decimal_digit 4 (omega arith), decimal_digit 8 (omega arith)) refl
+
+-- blocks where one writer may commit: one that writes, one that reads what it wrote, and one that is full, after which none begins
+abbrev pub one_commit : Listing
+one_commit = record (one_thread 8 (
     code.Set 1 1 ∷ code.Begin 0 ∷ code.Write 0 1 ∷ code.Commit
     ∷ code.Begin 0 ∷ code.Read 2 0 ∷ code.Commit
     ∷ code.Begin 0 ∷ code.Write 0 2 ∷ code.Commit
-    ∷ code.Begin 0 ∷ code.Commit ∷ [])) (replicate 8 0) []
+    ∷ code.Begin 0 ∷ code.Commit ∷ [])) { commits = 1 }
 
-one_commit_attempts : map attempt_lines one_commit.attempts ≡
-    (line (codes "attempt 0 1 0 committed -")
+one_commit_page : history_text (page one_commit) ≡
+    line (codes "itm-history 1")
+    ++ line (codes "memory 0000000000000000")
+    ++ line (codes "attempt 0 1 0 committed -")
     ++ line (codes "arena -")
     ++ line (codes "call _ITM_WU8 0 0100000000000000 = ok")
     ++ line (codes "call _ITM_commitTransaction = ok")
-    ++ line (codes "end"))
-    ∷ (line (codes "attempt 0 1 1 readonly -")
+    ++ line (codes "end")
+    ++ line (codes "attempt 0 1 1 readonly -")
     ++ line (codes "arena -")
     ++ line (codes "call _ITM_RU8 0 = 0100000000000000")
     ++ line (codes "call _ITM_commitTransaction = ok")
-    ++ line (codes "end"))
-    ∷ (line (codes "attempt 0 1 1 full -")
+    ++ line (codes "end")
+    ++ line (codes "attempt 0 1 1 full -")
     ++ line (codes "arena -")
     ++ line (codes "call _ITM_WU8 0 0100000000000000 = ok")
-    ++ line (codes "end"))
-    ∷ []
-unfolding one_commit datum attempt_lines head_line arena_line call_line body_text reply_text encode_with
-one_commit_attempts = rw (decimal_digit 0 (omega arith), decimal_digit 1 (omega arith)) refl
+    ++ line (codes "end")
+    ++ line (codes "final 2 0100000000000000")
+unfolding page solo_of bytes_of codes_of datum history_text first_lines attempt_lines head_line arena_line call_line body_text reply_text last_line encode_with
+one_commit_page = rw (decimal_digit 0 (omega arith), decimal_digit 1 (omega arith), decimal_digit 2 (omega arith)) refl
 
-one_commit_ending : one_commit.ending ≡ GaveUp
-unfolding one_commit datum
+one_commit_ending : (solo_of one_commit).ending ≡ GaveUp
+unfolding solo_of bytes_of codes_of datum
 one_commit_ending = refl
-
-one_commit_commits : one_commit.commits ≡ 1
-unfolding one_commit datum
-one_commit_commits = refl

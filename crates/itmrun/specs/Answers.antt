@@ -1,63 +1,78 @@
 -- What a script is answered.
-use Rattle.std.specs.Prelude.{◌≡◌, ◌⊎◌, ℕ, List, ◌++◌, take, decimal, codes, Option, Result, Ok, Err}
+use Rattle.std.specs.Prelude.{◌≡◌, ◌⊎◌, ℕ, ◌+◌, Bool, true, false, List, [], ◌∷◌, ◌++◌, length, take, decimal, codes, Option, None, Some, Result, Ok, Err, if◌then◌else◌}
+use Rattle.std.specs.List.{list_any}
 use Rattle.std.specs.Io.KnownBytes.{Appends, Keeps}
 use Rattle.norec_world.specs.declared.attempt.End.{End}
 use Rattle.norec_world.specs.declared.attempt.End.TheVariants.{Finished, GaveUp, NoMemory}
-use Rattle.itmrun.specs.declared.asm.fault.AsmFault.{AsmFault}
-use Rattle.itmrun.specs.declared.sched.Finish.{Finish}
-use Rattle.itmrun.specs.declared.sched.Finish.TheVariants as ends
-use Rattle.itmrun.specs.Faults.{kind_text}
-use Rattle.itmrun.specs.Listing.{Listing}
+use Rattle.norec_world.specs.World.{World}
+use Rattle.script_asm.specs.declared.fault.AsmFault.{AsmFault}
+use Rattle.script_asm.specs.Faults.{kind_text}
+use Rattle.script_asm.specs.Listing.{Listing, opening_of, threads_of}
+use Rattle.itmrun.specs.declared.finish.Finish.{Finish}
+use Rattle.itmrun.specs.declared.finish.Finish.TheVariants as ends
+use Rattle.itmrun.specs.Threads.{Thread}
 use Rattle.itmrun.specs.Spelling.{IsCut}
-use Rattle.itmrun.specs.Histories.{History, history_text}
-use Rattle.itmrun.specs.Pages.{IsOf}
+use Rattle.itmrun.specs.Histories.{history_text}
+use Rattle.itmrun.specs.Scheduled.{endings_of}
+use Rattle.itmrun.specs.Pages.{IsWorldOf, history_of}
 
--- the text of the history of a run that ended so is written
-abbrev pub Told : Result Listing AsmFault → End → Option (List ℕ) → Option (List ℕ) → Type 0
-Told (Ok p) end old new = (h : History) × IsOf p end h × Appends old new (history_text h)
-Told (Err f) end old new = ⊥
+-- the text of the history of a run after which the threads stand so is written
+abbrev pub Told : Result Listing AsmFault → List (Option End) → Option (List ℕ) → Option (List ℕ) → Type 0
+Told (Ok p) endings old new = (w : World Thread) × IsWorldOf p w × (endings ≡ endings_of (length (threads_of p)) w) × Appends old new (history_text (history_of (opening_of p) w))
+Told (Err f) endings old new = ⊥
 
--- a beginning of it is
+-- a beginning of the text of a run's history is
 abbrev pub Begun : Result Listing AsmFault → Option (List ℕ) → Option (List ℕ) → Type 0
-Begun (Ok p) old new = (h : History) × (n : ℕ) × (end : End) × IsOf p end h × Appends old new (take n (history_text h))
+Begun (Ok p) old new = (w : World Thread) × (n : ℕ) × IsWorldOf p w × Appends old new (take n (history_text (history_of (opening_of p) w)))
 Begun (Err f) old new = ⊥
-
--- how the end of its thread ends the run
-abbrev pub finish_of : End → Finish
-finish_of Finished = ends.Good
-finish_of GaveUp = ends.GaveUp 0
-finish_of NoMemory = ends.Starved 0
 
 -- what the writer got, by how the run ended and by what the script says
 abbrev pub Runs : Finish → Result Listing AsmFault → Option (List ℕ) → Option (List ℕ) → Type 0
-Runs ends.Good read old new = Told read Finished old new
-Runs (ends.GaveUp n) read old new = (n ≡ 0) × Told read GaveUp old new
-Runs (ends.Starved n) read old new = (n ≡ 0) × Told read NoMemory old new
+Runs (ends.Ran endings) read old new = Told read endings.items old new
 Runs (ends.Refused f) read old new = (read ≡ Err f) × Keeps old new
 Runs ends.NoMemory read old new = Keeps old new
 Runs ends.Reading read old new = Keeps old new
 Runs ends.Writing read old new = Begun read old new
 
+-- the thread gave up or found no memory
+abbrev pub fell_short : Option End → Bool
+fell_short None = false
+fell_short (Some Finished) = false
+fell_short (Some GaveUp) = true
+fell_short (Some NoMemory) = true
+
 abbrev pub status_of : Finish → ℕ
-status_of ends.Good = 0
-status_of (ends.GaveUp n) = 4
-status_of (ends.Starved n) = 4
+status_of (ends.Ran endings) = if list_any fell_short endings.items then 4 else 0
 status_of (ends.Refused f) = 2
 status_of ends.NoMemory = 4
 status_of ends.Reading = 5
 status_of ends.Writing = 5
 
+-- a line on a thread
+unfoldable pub thread_line : ℕ → List ℕ → List ℕ
+thread_line thread words = codes "itmrun: thread " ++ decimal thread ++ words
+
+-- what is said of a thread that fell short
+unfoldable pub ending_line : ℕ → Option End → List ℕ
+ending_line thread None = codes ""
+ending_line thread (Some Finished) = codes ""
+ending_line thread (Some GaveUp) = thread_line thread (codes " gave up\n")
+ending_line thread (Some NoMemory) = thread_line thread (codes " found no memory\n")
+
+-- the lines of threads that are numbered from this one on
+abbrev pub ending_lines : ℕ → List (Option End) → List ℕ
+ending_lines thread [] = []
+ending_lines thread (ending ∷ endings) = ending_line thread ending ++ ending_lines (thread + 1) endings
+
 -- what is said of it on the error writer
 unfoldable pub error_text : Finish → List ℕ
-error_text ends.Good = codes ""
-error_text (ends.GaveUp n) = codes "itmrun: thread " ++ decimal n ++ codes " gave up\n"
-error_text (ends.Starved n) = codes "itmrun: thread " ++ decimal n ++ codes " found no memory\n"
+error_text (ends.Ran endings) = ending_lines 0 endings.items
 error_text (ends.Refused f) = codes "itmrun: line " ++ decimal f.line ++ codes ": " ++ kind_text f.kind ++ codes "\n"
 error_text ends.NoMemory = codes "itmrun: no memory\n"
 error_text ends.Reading = codes "itmrun: reading failed\n"
 error_text ends.Writing = codes "itmrun: writing failed\n"
 
--- the status, and what the error writer got: its line, or, where writing that failed, a part of the line and status 5
+-- the status, and what the error writer got: the lines, or, where writing them failed, a part of them and status 5
 abbrev pub Says : Finish → ℕ → Option (List ℕ) → Option (List ℕ) → Type 0
 Says finish status old new =
     ((status ≡ status_of finish) × Appends old new (error_text finish)) ⊎ ((status ≡ 5) × IsCut old new (error_text finish))

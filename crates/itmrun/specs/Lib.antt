@@ -1,16 +1,9 @@
-pub mod Text
-pub mod Sizes
-pub mod Listing
-pub mod Faults
-pub mod Words
-pub mod Operands
-pub mod Items
-pub mod Assembly
 pub mod Registers
 pub mod Threads
 pub mod ThreadLaws
 pub mod Spelling
 pub mod Histories
 pub mod Input
+pub mod Scheduled
 pub mod Pages
 pub mod Answers

@@ -1,44 +1,47 @@
--- The page of a program: what its thread does alone on a memory of zeros.
-use Rattle.std.specs.Prelude.{◌≡◌, ℕ, ◌*◌, ◌/◌, ◌%◌, List, [], ◌∷◌, replicate, IsSome}
+-- What is told of a run, and the page of a program: what its first thread does alone on the memory that the program begins with.
+use Rattle.std.specs.Prelude.{◌≡◌, ℕ, ◌*◌, ◌/◌, ◌%◌, List, [], length, slice_index_or, Option, None, Some}
 use Rattle.itm_model.specs.declared.limits.TheConstants.{MAX_DEPTH}
 use Rattle.norec_world.specs.declared.attempt.End.{End}
 use Rattle.norec_world.specs.declared.attempt.End.TheVariants.{Finished, GaveUp, NoMemory}
 use Rattle.norec_world.specs.declared.attempt.Outcome.TheVariants as outcomes
 use Rattle.norec_world.specs.Solo.{Solo, solo}
 use Rattle.norec_world.specs.SoFar.{IsSoFar}
-use Rattle.norec_world.specs.World.{World, ending_at, memory_of}
-use Rattle.itmrun.specs.Listing.{Listing}
+use Rattle.norec_world.specs.Commits.{CommitsInOrder}
+use Rattle.norec_world.specs.World.{World, attempts_of, ending_at, memory_of}
+use Rattle.script_asm.specs.Listing.{Listing, opening_of, threads_of}
 use Rattle.itmrun.specs.Threads.{Thread, opening, next_call, answered, calls_left}
 use Rattle.itmrun.specs.Histories.{History}
+use Rattle.itmrun.specs.Scheduled.{Leaves}
 
--- so many writers may commit
-abbrev pub limit : ℕ
-limit = 4611686018427387903
+abbrev pub first_thread : Listing → Thread
+first_thread p = opening (slice_index_or (threads_of p) 0 [])
 
--- all that the program's thread does alone
+-- all that the first thread does alone
 unfoldable pub solo_of : Listing → Solo
-solo_of p = solo next_call answered calls_left MAX_DEPTH limit 0 (opening p.code) (replicate p.memory 0) []
+solo_of p = solo next_call answered calls_left MAX_DEPTH p.commits 0 (first_thread p) (opening_of p) []
 
 -- its history
 unfoldable pub page : Listing → History
-page p = record { memory = replicate p.memory 0; attempts = (solo_of p).attempts; clock = 2 * (solo_of p).commits; bytes = (solo_of p).memory }
+page p = record { memory = opening_of p; attempts = (solo_of p).attempts; clock = 2 * (solo_of p).commits; bytes = (solo_of p).memory }
 
--- The history of a run that ended so: the page, or, where the thread found no memory, a beginning of what it does, with what the commits so far left.
-abbrev pub IsOf : Listing → End → History → Type 0
-IsOf p Finished h = ((solo_of p).ending ≡ Finished) × (h ≡ page p)
-IsOf p GaveUp h = ((solo_of p).ending ≡ GaveUp) × (h ≡ page p)
-IsOf p NoMemory h = (h.memory ≡ replicate p.memory 0) × (h.clock % 2 ≡ 0)
-    × IsSoFar next_call answered calls_left limit 0 (opening p.code) (replicate p.memory 0) [] (h.clock / 2) h.bytes outcomes.NoMemory h.attempts
+-- The history of a run after which the one thread stands so: the page, where it ran to its end; a beginning of what it does, with what the commits so far left, where it found no memory or has not ended.
+abbrev pub IsOf : Listing → Option End → History → Type 0
+IsOf p (Some Finished) h = ((solo_of p).ending ≡ Finished) × (h ≡ page p)
+IsOf p (Some GaveUp) h = ((solo_of p).ending ≡ GaveUp) × (h ≡ page p)
+IsOf p (Some NoMemory) h = (h.memory ≡ opening_of p) × (h.clock % 2 ≡ 0)
+    × IsSoFar next_call answered calls_left p.commits 0 (first_thread p) (opening_of p) [] (h.clock / 2) h.bytes outcomes.NoMemory h.attempts
+IsOf p None h = (h.memory ≡ opening_of p) × (memory : List ℕ)
+    × IsSoFar next_call answered calls_left p.commits 0 (first_thread p) (opening_of p) [] (h.clock / 2) memory outcomes.Unfinished h.attempts
+    × (h.clock % 2 ≡ 0 → h.bytes ≡ memory)
 
--- ## The world of a program
-
-pub record IsWorldOf (p : Listing) (w : World Thread) : Type 0 where
-  pub opening_is : w.opening ≡ opening p.code ∷ []
-  pub base : w.base ≡ replicate p.memory 0
-  pub arena : w.arena ≡ 0
-  pub limit_is : w.max_commits ≡ limit
-  pub ended : IsSome (ending_at w 0)
+-- ## The run of a program
 
 -- what is told of a world that began with these bytes
 abbrev pub history_of : List ℕ → World Thread → History
-history_of memory w = record { memory = memory; attempts = w.attempts; clock = w.cells.clock; bytes = memory_of w }
+history_of memory w = record { memory = memory; attempts = attempts_of w; clock = w.cells.clock; bytes = memory_of w }
+
+-- The schedule leads to this world, whose commits are in order; and where the program has one thread, what is told of it is what that one does alone.
+pub record IsWorldOf (p : Listing) (w : World Thread) : Type 0 where
+  pub leaves : Leaves p w
+  pub commits : CommitsInOrder w
+  pub alone : length (threads_of p) ≡ 1 → IsOf p (ending_at w 0) (history_of (opening_of p) w)

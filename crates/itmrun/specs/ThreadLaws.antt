@@ -11,8 +11,8 @@ use Rattle.itm_types.specs.declared.access.WriteHint.TheVariants.{W}
 use Rattle.itm_types.specs.declared.access.Width.TheVariants.{U8}
 use Rattle.itm_types.specs.declared.datum.Datum.{Datum}
 use Rattle.script_vm.specs.Depth.{depth_after, opens}
-use Rattle.itmrun.specs.declared.asm.program.Instruction.{Instruction}
-use Rattle.itmrun.specs.declared.asm.program.Instruction.TheVariants as code
+use Rattle.script_asm.specs.declared.instruction.Instruction.{Instruction}
+use Rattle.script_asm.specs.declared.instruction.Instruction.TheVariants as code
 use Rattle.itmrun.specs.Registers.{of_number, of_bytes}
 use Rattle.itmrun.specs.Threads.{Thread, Block, next_call, answered, restarted, calls_left, depth_of, depth_in, call_at, answered_at, settled, sum_of, room, left_over, begun, ended, took, goes_on, datum}
 

@@ -9,8 +9,8 @@ use Rattle.itm_types.specs.declared.call.Call.TheVariants as calls
 use Rattle.itm_types.specs.declared.call.Reply.{Reply}
 use Rattle.itm_types.specs.declared.call.Reply.TheVariants.{Done, Bytes, Code, Refused}
 use Rattle.std.specs.Int.{to_le_bytes, w64}
-use Rattle.itmrun.specs.declared.asm.program.Instruction.{Instruction}
-use Rattle.itmrun.specs.declared.asm.program.Instruction.TheVariants as code
+use Rattle.script_asm.specs.declared.instruction.Instruction.{Instruction}
+use Rattle.script_asm.specs.declared.instruction.Instruction.TheVariants as code
 use Rattle.itmrun.specs.Registers.{number_at, of_number, of_bytes, zeros}
 
 -- a block that is open, with so many more in it: the code and the registers as its begin was called

@@ -1,10 +1,11 @@
 //! The program `itmrun`: scripts of transactional calls, run to histories.
 #![tactic(auto)]
 
-mod asm;
 mod command;
+mod finish;
 mod history;
 mod input;
+mod running;
 mod sched;
 mod script;
 

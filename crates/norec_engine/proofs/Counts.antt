@@ -44,7 +44,7 @@ more t p k l h =
     let e : (t - 1 + 1) * k ≤ p * k = mul-le-mul_right {m = t - 1 + 1} {n = p} k (omega arith) in
     omega (arith, e)
 
-rounds : (d : Data) (aim : Aim) (steps : ℕ) → InRound d aim steps → steps ≤ length d.log.items + 3 → d.spent ≤ most (core d (at.RoundStart aim)) (doing_of (at.RoundStart aim))
+rounds : (d : Data) (aim : Aim) (steps : ℕ) → InRound d aim steps → steps ≤ length d.log.rows + 3 → d.spent ≤ most (core d (at.RoundStart aim)) (doing_of (at.RoundStart aim))
 rounds d (aims.Read r) steps round l =
     omega (arith, more d.tries d.limits.patience (d.entry + count r + 4) round.tried round.is_open.tries, round.spent, round.may.reading.grown, round.may.some)
 rounds d aims.Commit steps round l =
@@ -58,7 +58,7 @@ within d (at.Load r) s w = omega (arith, s.in_phase.3, s.in_phase.1.some, mul-le
 within d (at.Confirm r value) s w = omega (arith, s.in_phase.3, s.in_phase.1.some, mul-le-mul_right {m = d.tries} {n = d.limits.patience} (d.entry + count r + 4) s.in_phase.0.tries)
 within d (at.RoundStart aim) s w = rounds d aim 1 s.in_phase (omega arith)
 within d (at.RoundRow aim row) s w = rounds d aim (row + 2) s.in_phase.0 (omega (arith, s.in_phase.2))
-within d (at.RoundEnd aim) s w = rounds d aim (length d.log.items + 2) s.in_phase.0 (omega arith)
+within d (at.RoundEnd aim) s w = rounds d aim (length d.log.rows + 2) s.in_phase.0 (omega arith)
 within d at.Exchange s w = omega (arith, s.in_phase.4, mul-le-mul_right {m = d.tries} {n = d.limits.patience} (d.entry + 3) s.in_phase.0.tries)
 within d (at.BackLoad row) s w = omega (arith, s.in_phase.1, s.in_phase.0.spent, mul-le-mul_right {m = d.tries} {n = d.limits.patience} (d.entry + 3) s.in_phase.0.is_open.tries)
 within d (at.Store row None) s w = omega (arith, s.in_phase.1, s.in_phase.0.spent, mul-le-mul_right {m = d.tries} {n = d.limits.patience} (d.entry + 3) s.in_phase.0.is_open.tries)

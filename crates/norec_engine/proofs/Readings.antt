@@ -98,7 +98,7 @@ pub tries_loading : (writes : List Row) (r : Reading) (tries : ℕ) → tries_af
 tries_loading writes r tries = tries_among writes r (drop r.number (pieces_of r.at (size_of r.width))) tries
 
 -- what a turn leaves, as callers see it
-pub after_log : (turn : Turn) (d : Data) → (core_after turn d).log ≡ d.log.items
+pub after_log : (turn : Turn) (d : Data) → (core_after turn d).log ≡ d.log.rows
 after_log (Wait phase) d = refl
 after_log (End a) d = refl
 

@@ -1,5 +1,5 @@
 -- The engine's fields as what its callers see, and what is true of them.
-use Rattle.std.specs.Prelude.{◌≡◌, ◌≢◌, ℕ, ◌+◌, ◌-◌, ◌*◌, ◌/◌, ◌%◌, ◌^◌, ◌<◌, ◌≤◌, suc, Bool, true, false, List, [], ◌∷◌, length, take, Option, None, Some, vec_capacity}
+use Rattle.std.specs.Prelude.{◌≡◌, ◌≢◌, ℕ, ◌+◌, ◌-◌, ◌*◌, ◌/◌, ◌%◌, ◌^◌, ◌<◌, ◌≤◌, suc, Bool, true, false, List, [], ◌∷◌, length, take, Option, None, Some}
 use Rattle.itm_types.specs.declared.row.LogRow.{LogRow}
 use Rattle.write_set.specs.declared.row.Row.{Row}
 use Rattle.itm_types.specs.declared.call.Call.{Call}
@@ -70,7 +70,7 @@ step_of d (at.Begin b) = Load 0
 step_of d (at.Load r) = Load (suc (word_of r))
 step_of d (at.Confirm r value) = Load 0
 step_of d (at.RoundStart aim) = Load 0
-step_of d (at.RoundRow aim row) = Load (suc (row_at d.log.items row).word)
+step_of d (at.RoundRow aim row) = Load (suc (row_at d.log.rows row).word)
 step_of d (at.RoundEnd aim) = Load 0
 step_of d at.Exchange = Cas 0 d.snapshot (d.snapshot + 1)
 step_of d (at.BackLoad row) = Load (suc (write_at d.writes row).word)
@@ -128,8 +128,8 @@ core d phase = record {
   arena = d.arena;
   snapshot = d.snapshot;
   clock = d.clock;
-  fresh = fresh_of d.log.items phase;
-  log = d.log.items;
+  fresh = fresh_of d.log.rows phase;
+  log = d.log.rows;
   writes = d.writes;
   is_open = d.is_open;
   props = d.props;
@@ -160,14 +160,14 @@ first_of aims.Commit = 1
 -- a transaction is open, and its words lie within the memory
 pub record IsOpen (d : Data) : Type 0 where
   pub is_open : d.is_open ≡ true
-  pub log : AllWithin d.words d.log.items
+  pub log : AllWithin d.words d.log.rows
   pub writes : AllWritesWithin d.words d.writes
   pub rows : AreRows d.writes
   pub tries : d.tries ≤ d.limits.patience
 
 pub record IsOutside (d : Data) : Type 0 where
   pub is_open : d.is_open ≡ false
-  pub log : d.log.items ≡ []
+  pub log : d.log.rows ≡ []
   pub writes : d.writes ≡ []
   pub tries : d.tries ≤ d.limits.patience
 
@@ -175,9 +175,9 @@ pub record IsOutside (d : Data) : Type 0 where
 pub record IsReading (d : Data) (r : Reading) : Type 0 where
   pub within : r.at + size_of r.width ≤ 8 * d.words
   pub far : r.number ≤ count r
-  pub room : length d.log.items + (count r - r.number) ≤ vec_capacity d.log
-  pub grown : length d.log.items ≤ d.entry + r.number
-  pub has : (m : List ℕ) → IsMemory d.words m → Agrees m d.log.items → d.gathered.items ≡ gathered (overlay m d.writes) (take r.number (parts r))
+  pub room : count r - r.number ≤ d.log.room
+  pub grown : length d.log.rows ≤ d.entry + r.number
+  pub has : (m : List ℕ) → IsMemory d.words m → Agrees m d.log.rows → d.gathered.items ≡ gathered (overlay m d.writes) (take r.number (parts r))
   pub sized : length d.gathered.items ≡ length (gathered [] (take r.number (parts r)))
 
 -- the write set does not have all of this piece
@@ -189,7 +189,7 @@ pub record MayRead (d : Data) (r : Reading) : Type 0 where
 -- there is something to write
 pub record MayCommit (d : Data) : Type 0 where
   pub some : d.writes ≢ []
-  pub grown : length d.log.items ≤ d.entry
+  pub grown : length d.log.rows ≤ d.entry
 
 abbrev pub Aims : Data → Aim → Type 0
 Aims d (aims.Read r) = MayRead d r
@@ -216,8 +216,8 @@ InPhase d (at.Begin b) = IsOutside d × (d.spent ≤ d.tries)
 InPhase d (at.Load r) = IsOpen d × MayRead d r × (d.clock ≡ d.snapshot) × (d.spent ≤ 2 * r.number + 1 + d.tries * round_of (aims.Read r) d)
 InPhase d (at.Confirm r value) = IsOpen d × MayRead d r × (d.clock ≡ d.snapshot) × (d.spent ≤ 2 * r.number + 2 + d.tries * round_of (aims.Read r) d)
 InPhase d (at.RoundStart aim) = InRound d aim 1
-InPhase d (at.RoundRow aim row) = InRound d aim (row + 2) × (d.clock % 2 ≡ 0) × (row < length d.log.items)
-InPhase d (at.RoundEnd aim) = InRound d aim (length d.log.items + 2) × (d.clock % 2 ≡ 0)
+InPhase d (at.RoundRow aim row) = InRound d aim (row + 2) × (d.clock % 2 ≡ 0) × (row < length d.log.rows)
+InPhase d (at.RoundEnd aim) = InRound d aim (length d.log.rows + 2) × (d.clock % 2 ≡ 0)
 InPhase d at.Exchange = IsOpen d × MayCommit d × (d.clock ≡ d.snapshot) × (d.snapshot / 2 < d.limits.max_commits) × (d.spent ≤ 1 + d.tries * round_of aims.Commit d)
 InPhase d (at.BackLoad row) = IsHolding d (2 * row + 1) × (row < length d.writes) × ((write_at d.writes row).mask ≢ whole)
 InPhase d (at.Store row None) = IsHolding d (2 * row + 1) × (row < length d.writes) × ((write_at d.writes row).mask ≡ whole)
@@ -292,13 +292,13 @@ in_rows d aim row = record (core d (at.RoundRow aim row)) { waits = None; stage 
 -- the log and the snapshot stay, unless the transaction ended
 pub record Stays (old new : Data) : Type 0 where
   pub opens : new.is_open ≡ true → old.is_open ≡ true
-  pub log : new.is_open ≡ true → new.log.items ≡ old.log.items
+  pub log : new.is_open ≡ true → new.log.rows ≡ old.log.rows
   pub snapshot : new.snapshot ≡ old.snapshot
 
 -- the transaction is over, and all else as before
 pub record IsEnded (old new : Data) : Type 0 where
   pub is_open : new.is_open ≡ false
-  pub log : new.log.items ≡ []
+  pub log : new.log.rows ≡ []
   pub writes : new.writes ≡ []
   pub words : new.words ≡ old.words
   pub limits : new.limits ≡ old.limits
@@ -340,7 +340,7 @@ pub record InRows (d : Data) (aim : Aim) (row : ℕ) : Type 0 where
   pub even : d.snapshot % 2 ≡ 0
   pub round : InRound d aim (row + 1)
   pub steady : d.clock % 2 ≡ 0
-  pub far : row ≤ length d.log.items
+  pub far : row ≤ length d.log.rows
 
 -- the clock may be taken
 pub record MayExchange (d : Data) : Type 0 where

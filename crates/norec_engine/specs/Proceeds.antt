@@ -43,10 +43,10 @@ abbrev pub StoresOrFrees : Core → ℕ → ℕ → Type 0
 StoresOrFrees c zero value = (value ≡ c.clock + 2) × (c.done ≡ length c.writes)
 StoresOrFrees c (suc word) value = StoresNext c word value
 
--- the clock is loaded by one that does not hold it; the holder loads the word that it stores next
+-- the clock is loaded by one that does not hold it; a word by an open transaction, and by the holder the one that it stores next
 abbrev pub LoadsOwn : Core → ℕ → Type 0
 LoadsOwn c zero = c.holds ≡ false
-LoadsOwn c (suc word) = c.holds ≡ true → word ≡ (write_at c.writes c.done).word
+LoadsOwn c (suc word) = (c.is_open ≡ true) × (c.holds ≡ true → word ≡ (write_at c.writes c.done).word)
 
 -- the step of an engine that asks for it is one of the algorithm's
 abbrev pub IsLawful : Core → Step → Type 0
@@ -81,6 +81,19 @@ writes_after writes (Write hint at value) (Bytes bytes) = writes
 writes_after writes (Write hint at value) (Code n) = writes
 writes_after writes (Write hint at value) (Refused refusal) = writes
 
+-- whether a transaction is open before a call's reply and after it: an accepted begin opens one, and no other reply opens or closes one
+abbrev pub OpensBy : Bool → Call → Replied → Bool → Type 0
+OpensBy was (Begin props room) Done now = ⊥
+OpensBy was (Begin props room) (Bytes value) now = ⊥
+OpensBy was (Begin props room) (Code n) now = (was ≡ false) × (now ≡ true)
+OpensBy was (Begin props room) (Refused refusal) now = now ≡ was
+OpensBy was Commit Done now = ⊥
+OpensBy was Commit (Bytes value) now = ⊥
+OpensBy was Commit (Code n) now = ⊥
+OpensBy was Commit (Refused refusal) now = now ≡ was
+OpensBy was (Read hint width at) r now = now ≡ was
+OpensBy was (Write hint at value) r now = now ≡ was
+
 -- at a reply the engine and the reply are the plain machine's, over every memory that agrees with the log
 pub record Replies (mid : Core) (call : Call) (r : Replied) (new : Core) : Type 0 where
   pub meets : (m : List ℕ) → IsMemory mid.words m → Agrees m new.log → stands_for new m ≡ after MAX_DEPTH (stands_for mid m) call
@@ -103,6 +116,7 @@ pub record Replies (mid : Core) (call : Call) (r : Replied) (new : Core) : Type 
   pub free : mid.holds ≡ false
   pub unfreed : mid.freed ≡ false
   pub still : mid.is_open ≡ true → new.is_open ≡ true
+  pub opens : OpensBy mid.is_open call r new.is_open
   pub settled : new.is_open ≡ true → (new.clock ≡ new.snapshot) × (new.snapshot % 2 ≡ 0)
 
 -- the call is a commit: over every memory that agrees with the log, the stores leave the plain machine's memory

@@ -2,7 +2,8 @@
 
 use crate::arena::Arena;
 use crate::limits::Limits;
-use itm_types::{LogRow, Props, Value};
+use itm_types::{Props, Value};
+use value_log::ValueLog;
 use write_set::WriteSet;
 
 /// The fields that the phases share.
@@ -17,7 +18,7 @@ pub struct Data {
     pub clock: u64,
     pub is_open: bool,
     pub props: Props,
-    pub log: Vec<LogRow>,
+    pub log: ValueLog,
     pub writes: WriteSet,
     /// The bytes that the read in progress has so far.
     pub gathered: Value,

@@ -21,6 +21,7 @@ use crate::write::write;
 use itm_types::{Call, Props, Value};
 use std::alloc::{AllocError, Global};
 use std::marker::Model;
+use value_log::ValueLog;
 use write_set::WriteSet;
 
 /// The transactions of one thread, one after the other.
@@ -62,7 +63,7 @@ impl Engine {
                 clock: 0,
                 is_open: false,
                 props: Props {},
-                log: Vec::new(alloc),
+                log: ValueLog::new(alloc),
                 writes: WriteSet::new(alloc),
                 gathered: Value::new(),
                 entry: 0,

@@ -151,10 +151,11 @@ pub(crate) fn confirmed(state: &mut Data, reading: Reading, value: u64, seen: u6
         let Some(piece) = reading.piece() else {
             unreachable!();
         };
-        state.log.push_reserved(LogRow {
+        let row = LogRow {
             word: piece.word,
             value,
-        });
+        };
+        state.log.add(row);
         let word = overlaid(state, piece.word, value);
         piece.gather(word, &mut state.gathered);
         next_piece(state, reading.next())

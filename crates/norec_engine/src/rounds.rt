@@ -65,7 +65,7 @@ fn next_row(state: &mut Data, aim: Aim, row: usize) -> Turn
     ensures sound { IsSoundTurn result state.new }
     ensures proceeds { Turns (in_rows state.old aim row) result state.new }
     ensures stays { Stays state.old state.new }
-    ensures order { phase_after result ≡ row_stage (length state.old.log.items) aim row }
+    ensures order { phase_after result ≡ row_stage (length state.old.log.rows) aim row }
     ensures tries { state.new.tries ≡ tries_after (phase_after result) state.old.tries }
 {
     if row < state.log.len() {
@@ -84,7 +84,8 @@ pub(crate) fn row_seen(state: &mut Data, aim: Aim, row: usize, seen: u64) -> Tur
     ensures order { phase_after result ≡ stage_after (core state.old (Phase.RoundRow aim row)) seen }
     ensures tries { state.new.tries ≡ tries_after (phase_after result) state.old.tries }
 {
-    let logged = state.log[row];
+    let _rows = state.log.len();
+    let logged = state.log.row(row);
     if logged.value == seen {
         next_row(state, aim, row + 1)
     } else {

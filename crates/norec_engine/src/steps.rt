@@ -22,7 +22,7 @@ pub(crate) fn step_of(state: &Data, phase: Phase) -> Step
         | Phase::RoundEnd(_) => Step::Load(0),
         Phase::Load(reading) => Step::Load(reading.word() + 1),
         Phase::RoundRow(_, row) => {
-            let logged = state.log[row];
+            let logged = state.log.row(row);
             Step::Load(logged.word + 1)
         }
         Phase::Exchange => Step::Cas(0, state.snapshot, state.snapshot + 1),

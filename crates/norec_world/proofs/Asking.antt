@@ -3,22 +3,23 @@ use Rattle.std.proofs.Common.{◌≡◌, ℕ, ◌<◌, ◌/◌, Bool, true, fals
 use Rattle.itm_types.specs.declared.call.Call.{Call}
 use Rattle.itm_types.specs.declared.call.Reply.{Reply as Replied}
 use Rattle.itm_types.specs.declared.step.Step.{Step}
-use Rattle.norec_engine.specs.Core.{Core}
+use Rattle.norec_engine.specs.Core.{Core, came}
 use Rattle.norec_engine.specs.declared.answer.Answer.{Answer}
 use Rattle.norec_engine.specs.declared.answer.Next.{Next}
 use Rattle.norec_engine.specs.declared.answer.Next.TheVariants.{Step as Steps, Answer as Answers}
-use Rattle.norec_world.specs.declared.attempt.Attempt.{Attempt}
 use Rattle.norec_world.specs.declared.attempt.End.TheVariants.{Finished, NoMemory}
 use Rattle.norec_world.specs.declared.attempt.Outcome.TheVariants as outcomes
-use Rattle.norec_world.specs.declared.recorded.Recorded.{Recorded}
+use Rattle.norec_world.specs.Rows.{Rows}
 use Rattle.norec_world.specs.declared.actor.Actor.{Actor}
 use Rattle.norec_world.specs.declared.actor.Status.{Status}
 use Rattle.norec_world.specs.declared.actor.Status.TheVariants.{Ready, Waits, Ended}
 use Rattle.norec_world.specs.Cells.{Cells}
 use Rattle.norec_world.specs.Sound.{IsTied, IsReady, IsSound, StatusIs, IsAsked, IsAnswered, IsSettledBy}
-use Rattle.norec_world.specs.Records.{Asks, Records, StopsAt}
+use Rattle.norec_world.specs.Records.{Asks, Records, StopsAt, begins_again}
+use Rattle.norec_world.specs.Follows.{Follows}
+use Rattle.norec_engine.specs.Proceeds.{Proceeds}
 use Rattle.norec_world.specs.Tracks.{IsOnWay, TracksAs, Tracks}
-use Rattle.norec_world.proofs.Following.{finishes}
+use Rattle.norec_world.proofs.Following.{finishes, roomed_on}
 use Rattle.norec_world.proofs.Parts.{starved}
 use Rattle.norec_world.proofs.Tracking.{told, came_now, call_told, call_on, call_asks}
 use Rattle.norec_world.proofs.Calling.{asked_tied, at_once}
@@ -26,65 +27,89 @@ use Rattle.norec_world.proofs.Calling.{asked_tied, at_once}
 module _ {P : Type 0} (next : P → Option Call) (answered : P → Replied → P) (restarted : P → P) (left : P → ℕ) (depth : P → ℕ)
     (nearer : (p : P) (c : Call) (r : Replied) → next p ≡ Some c → left (answered p r) < left p)
     (max_commits : ℕ) (p0 : P) (base arena : List ℕ)
-    (cells : Cells) (r0 : Recorded) (old : Actor P)
+    (cells : Cells) (r0 : Rows) (old : Actor P)
     (sound : IsSound next answered restarted left depth cells r0 old) (ready : old.status ≡ Ready) (thread : old.thread ≡ 0)
-    (tracks : Tracks next answered left max_commits p0 base arena cells r0.rows.items old) where
-  abbrev As : List Attempt → Actor P → Status → Type 0
+    (tracks : Tracks next answered left max_commits p0 base arena cells r0 old) where
+  abbrev As : Rows → Actor P → Status → Type 0
   As rows a s = TracksAs next answered left max_commits p0 base arena cells rows a s
 
-  way : IsOnWay next answered left max_commits p0 base arena cells r0.rows.items old
-  way = subst (As r0.rows.items old) ready tracks
+  way : IsOnWay next answered left max_commits p0 base arena cells r0 old
+  way = subst (As r0 old) ready tracks
 
   rests : IsReady next answered restarted left depth old
   rests = (let Is : Status → Type 0 = StatusIs next answered restarted left depth r0 old in subst Is ready sound.status)
 
   -- the player has no more calls
-  pub call_ends : next old.player ≡ None → (last : Actor P) → last.status ≡ Ended Finished → Tracks next answered left max_commits p0 base arena cells r0.rows.items last
+  pub call_ends : next old.player ≡ None → (last : Actor P) → last.status ≡ Ended Finished → Tracks next answered left max_commits p0 base arena cells r0 last
   call_ends none last is =
-      subst (As r0.rows.items last) (sym is)
-      (finishes next answered left nearer max_commits 0 p0 base arena way.before way.past way.memory cells r0.rows.items old.player old.engine way.follows none rests.free)
+      subst (As r0 last) (sym is)
+      (finishes next answered left nearer max_commits 0 p0 base arena way.before way.past way.memory cells r0 old.player old.engine way.follows none rests.free)
 
   -- memory was refused
-  pub call_starved : (rows0 rows : List Attempt) (mid last : Actor P) → mid.engine ≡ old.engine → rows0 ≡ r0.rows.items → last.status ≡ Ended NoMemory
-      → (mid.engine.is_open ≡ true → StopsAt rows0 (mid.engine.snapshot / 2) outcomes.NoMemory rows) → (mid.engine.is_open ≡ false → rows ≡ rows0)
+  pub call_starved : (rows0 rows : Rows) (mid last : Actor P) → mid.engine ≡ old.engine → mid.thread ≡ old.thread → rows0 ≡ record r0 { room = rows0.room } → last.status ≡ Ended NoMemory
+      → (mid.engine.is_open ≡ true → StopsAt mid.thread rows0 (mid.engine.snapshot / 2) outcomes.NoMemory rows) → (mid.engine.is_open ≡ false → rows ≡ rows0)
       → Tracks next answered left max_commits p0 base arena cells rows last
-  call_starved rows0 rows mid last engine same is stops none =
-      let row : (e : Core) → mid.engine ≡ e → e.is_open ≡ true → StopsAt r0.rows.items (e.snapshot / 2) outcomes.NoMemory rows =
-      λ e h. subst (λ (x : Core). x.is_open ≡ true → StopsAt r0.rows.items (x.snapshot / 2) outcomes.NoMemory rows) h (subst (λ (xs : List Attempt). mid.engine.is_open ≡ true → StopsAt xs (mid.engine.snapshot / 2) outcomes.NoMemory rows) same stops) in
+  call_starved rows0 rows mid last engine same_thread same is stops none =
+      let thread_is : mid.thread ≡ 0 = same_thread ∙ thread in
+      let row : mid.engine.is_open ≡ true → StopsAt 0 rows0 (mid.engine.snapshot / 2) outcomes.NoMemory rows = λ o. subst (λ (n : ℕ). StopsAt n rows0 (mid.engine.snapshot / 2) outcomes.NoMemory rows) thread_is (stops o) in
+      let follows = subst (λ (x : Rows). Follows next answered left max_commits 0 p0 base arena way.before way.past way.memory cells x old.player mid.engine) (sym same)
+      (roomed_on next answered left nearer max_commits 0 p0 base arena way.before way.past way.memory cells r0 old.player mid.engine rows0.room
+      (subst (Follows next answered left max_commits 0 p0 base arena way.before way.past way.memory cells r0 old.player) (sym engine) way.follows)) in
       subst (As rows last) (sym is)
-      (starved next answered left max_commits 0 p0 base arena way.before way.past way.memory cells r0.rows.items old.player old.engine way.follows rows rests.free (row old.engine engine)
-      (λ o. none (ap (λ (e : Core). e.is_open) engine ∙ o) ∙ same))
+      (starved next answered left max_commits 0 p0 base arena way.before way.past way.memory cells rows0 old.player mid.engine follows rows (ap (λ (e : Core). e.holds) engine ∙ rests.free) row none)
 
-  module _ (r : Recorded) (new : Actor P) (call : Call) (what : Next)
-      (asked : IsAsked next answered restarted left depth r old new call what) (asks : Asks cells.clock r0.rows.items r.rows.items old new call what) where
+  module _ (r : Rows) (new : Actor P) (call : Call) (what : Next)
+      (asked : IsAsked next answered restarted left depth r old new call what) (asks : Asks cells.clock r0 r old new call what) where
     tied : IsTied cells new.engine
     tied = asked_tied next answered restarted left depth cells r old new call sound.tied rests what asked
 
     calls : next old.player ≡ Some call
     calls = ap next (sym asked.same.player) ∙ asked.in_call.asks
 
+    -- there may be more room
+    way' : IsOnWay next answered left max_commits p0 base arena cells r old
+    way' = record {
+      before = way.before;
+      past = way.past;
+      memory = way.memory;
+      follows = subst (λ (x : Rows). Follows next answered left max_commits 0 p0 base arena way.before way.past way.memory cells x old.player old.engine) (sym asks.rows_are)
+          (roomed_on next answered left nearer max_commits 0 p0 base arena way.before way.past way.memory cells r0 old.player old.engine r.room way.follows);
+      first = way.first;
+      anew = way.anew;
+    }
+
+    asks_as : (w : Next) → what ≡ w → Asks cells.clock r r old new call w
+    asks_as w is = record {
+      pending = asks.pending;
+      again = asks.again;
+      player = asks.player;
+      nth = asks.nth;
+      thread = asks.thread;
+      rows_are = refl;
+      proceeds = subst (λ (n : Next). Proceeds (came old.engine call (begins_again old.engine.is_open old.again call)) n new.engine) is asks.proceeds;
+    }
+
     -- it waits for its first step
-    pub call_waits : (s : Step) → what ≡ Steps s → Tracks next answered left max_commits p0 base arena cells r.rows.items (record new { status = Waits call s })
+    pub call_waits : (s : Step) → what ≡ Steps s → Tracks next answered left max_commits p0 base arena cells r (record new { status = Waits call s })
     call_waits s is =
-        let asks' : Asks cells.clock r0.rows.items r.rows.items old new call (Steps s) = subst (Asks cells.clock r0.rows.items r.rows.items old new call) is asks in
-        subst (λ (rows : List Attempt). As rows (record new { status = Waits call s }) (Waits call s)) (sym asks.rows_are)
-        (call_asks next answered restarted left nearer max_commits p0 base arena cells r0.rows.items r.rows.items old new call (Steps s) way sound.tied rests.free thread rests.nothing calls asks' asked.stays tied asked.settled
-        s asks'.proceeds)
+        let asks' : Asks cells.clock r r old new call (Steps s) = asks_as (Steps s) is in
+        call_asks next answered restarted left nearer max_commits p0 base arena cells r r old new call (Steps s) way' sound.tied rests.free thread rests.nothing calls asks' asked.stays tied asked.settled
+        s asks'.proceeds
 
     -- it is answered at once
-    module _ (a : Answer) (is : what ≡ Answers a) (r' : Recorded) (last : Actor P)
+    module _ (a : Answer) (is : what ≡ Answers a) (r' : Rows) (last : Actor P)
         (settles : (was : Bool) → IsAnswered next answered restarted left depth was r new call a → IsSettledBy next answered restarted left depth was r' new last)
-        (notes : (was : Bool) → IsAnswered next answered restarted left depth was r new call a → Records answered restarted was r.rows.items r'.rows.items new last call a) where
+        (notes : (was : Bool) → IsAnswered next answered restarted left depth was r new call a → Records answered restarted was r r' new last call a) where
       answered_so : IsAnswered next answered restarted left depth old.engine.is_open r new call a
       answered_so = at_once next answered restarted left depth cells r0 r r old new new call sound ready what a is asked
 
-      pub call_answered : Tracks next answered left max_commits p0 base arena cells r'.rows.items last
+      pub call_answered : Tracks next answered left max_commits p0 base arena cells r' last
       call_answered =
-          let asks' : Asks cells.clock r0.rows.items r.rows.items old new call (Answers a) = subst (Asks cells.clock r0.rows.items r.rows.items old new call) is asks in
-          told next answered restarted left nearer max_commits p0 base arena cells r0.rows.items r'.rows.items new last
-          (came_now next answered restarted left nearer max_commits p0 base arena cells r0.rows.items r.rows.items old new call (Answers a) way sound.tied rests.free thread rests.nothing calls asks' asked.stays tied asked.settled)
-          way.before way.past way.memory call a
-          (call_on next answered restarted left nearer max_commits p0 base arena cells r0.rows.items r.rows.items old new call (Answers a) way sound.tied rests.free thread rests.nothing calls asks' asked.stays tied asked.settled)
-          (call_told next answered restarted left nearer max_commits p0 base arena cells r0.rows.items r.rows.items old new call (Answers a) way sound.tied rests.free thread rests.nothing calls asks' asked.stays tied asked.settled (asked.same.status ∙ ready))
+          let asks' : Asks cells.clock r r old new call (Answers a) = asks_as (Answers a) is in
+          told next answered restarted left nearer max_commits p0 base arena cells r r' new last
+          (came_now next answered restarted left nearer max_commits p0 base arena cells r r old new call (Answers a) way' sound.tied rests.free thread rests.nothing calls asks' asked.stays tied asked.settled)
+          way'.before way'.past way'.memory call a
+          (call_on next answered restarted left nearer max_commits p0 base arena cells r r old new call (Answers a) way' sound.tied rests.free thread rests.nothing calls asks' asked.stays tied asked.settled)
+          (call_told next answered restarted left nearer max_commits p0 base arena cells r r old new call (Answers a) way' sound.tied rests.free thread rests.nothing calls asks' asked.stays tied asked.settled (asked.same.status ∙ ready))
           asks'.proceeds refl (settles old.engine.is_open answered_so).engine
-          (subst (λ (rows : List Attempt). Records answered restarted old.engine.is_open rows r'.rows.items new last call a) asks.rows_are (notes old.engine.is_open answered_so))
+          (notes old.engine.is_open answered_so)

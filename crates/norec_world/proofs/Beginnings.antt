@@ -1,20 +1,26 @@
 -- An actor that has made no call tracks what its player does alone.
-use Rattle.std.proofs.Common.{◌≡◌, ℕ, false, List, [], length, replicate, Option, refl, sym, subst}
+use Rattle.std.proofs.Common.{◌≡◌, ℕ, zero, suc, false, None, Some, List, [], ◌∷◌, ◌++◌, length, replicate, Option, refl, sym, ap, subst, ◌∙◌}
 use Rattle.itm_types.specs.declared.call.Call.{Call}
 use Rattle.itm_types.specs.declared.call.Reply.{Reply}
 use Rattle.itm_types.specs.Memory.{bytes_of, AllFit}
 use Rattle.norec_engine.specs.Core.{opening}
-use Rattle.norec_world.specs.declared.attempt.Attempt.{Attempt}
+use Rattle.norec_world.specs.Rows.{Rows, active_of}
 use Rattle.norec_world.specs.declared.actor.Actor.{Actor}
 use Rattle.norec_world.specs.declared.actor.Status.TheVariants.{Ready}
+use Rattle.norec_world.specs.declared.attempt.End.TheVariants.{NoMemory}
+use Rattle.norec_world.specs.Status.{ending_of}
+use Rattle.norec_world.specs.World.{ending_in}
 use Rattle.norec_world.specs.Cells.{Cells}
+use Rattle.norec_world.specs.declared.attempt.Attempt.{Attempt}
+use Rattle.norec_world.specs.Starts.{IsFirst}
+use Rattle.norec_world.specs.Tries.{Prior, Tries, between, begins, runs, over, turned_away, IsBetween, current_of}
 use Rattle.norec_world.specs.Solo.{Progress}
 use Rattle.norec_world.specs.Follows.{Follows}
 use Rattle.norec_world.specs.Tracks.{TracksAs, Tracks}
 
 module _ {P : Type 0} (next : P → Option Call) (answered : P → Reply → P) (left : P → ℕ) where
-  pub fresh_tracks : (cells : Cells) (rows : List Attempt) (a : Actor P) (size patience max_commits : ℕ)
-      → a.engine ≡ opening (length cells.words) (replicate size 0) patience max_commits → AllFit cells.words → cells.clock ≡ 0 → rows ≡ [] → a.nth ≡ 1 → a.again ≡ false → a.status ≡ Ready
+  pub fresh_tracks : (cells : Cells) (rows : Rows) (a : Actor P) (size patience max_commits : ℕ)
+      → a.engine ≡ opening (length cells.words) (replicate size 0) patience max_commits → AllFit cells.words → cells.clock ≡ 0 → (rows.ended ≡ []) × (rows.active ≡ []) → a.nth ≡ 1 → a.again ≡ false → a.status ≡ Ready
       → Tracks next answered left max_commits a.player (bytes_of cells.words) (replicate size 0) cells rows a
   fresh_tracks cells rows a size patience max_commits is fit clock none first anew ready =
       let start : Progress P = record { player = a.player; arena = replicate size 0; memory = bytes_of cells.words; commits = 0 } in
@@ -30,13 +36,42 @@ module _ {P : Type 0} (next : P → Option Call) (answered : P → Reply → P) 
           limit = refl;
           first = refl;
           logged = tt;
+          fresh = λ h. tt;
           even = refl;
           free = λ h. (clock, refl);
           held = λ h. absurd (cc);
           got = λ h. tt;
-          closed = λ h. (none, refl);
+          closed = λ h. (none.0, none.1, refl);
           opens = λ h. absurd (cc);
         });
         first = first;
         anew = λ h. anew;
       })
+
+-- none found no memory
+pub fed_joined : {P : Type 0} (actors : List (Actor P)) (a : Actor P) → ((place : ℕ) → ending_in actors place ≡ Some NoMemory → ⊥) → (ending_of a.status ≡ Some NoMemory → ⊥)
+    → (place : ℕ) → ending_in (actors ++ a ∷ []) place ≡ Some NoMemory → ⊥
+fed_joined [] a before last zero e = last e
+fed_joined [] a before last (suc place) e = absurd (cc)
+fed_joined (x ∷ xs) a before last zero e = before 0 e
+fed_joined (x ∷ xs) a before last (suc place) e = fed_joined xs a (λ n. before (suc n)) last place e
+
+-- an actor with no try under way is still between two tries after its local work
+pub starts_between : {P : Type 0} (clock nth : ℕ) (p : Prior) (r : Rows) (a : Actor P) → Tries clock p clock r a → p.active ≡ None → p.pending ≡ None → p.nth ≡ nth → IsBetween clock nth r a × (r.ended ≡ p.ended)
+starts_between {P} clock nth p r a t none nothing first = by_try t
+  where
+    idle : current_of p.active p.pending ≡ None
+    idle = ap (λ (o : Option Attempt). current_of o p.pending) none ∙ nothing
+
+    by_try : Tries clock p clock r a → IsBetween clock nth r a × (r.ended ≡ p.ended)
+    by_try (between t) = (subst (λ (n : ℕ). IsBetween clock n r a) first t.between, t.ended)
+    by_try (begins t) = absurd (let n = sym nothing ∙ t.was in cc)
+    by_try (runs t) = absurd (let n = sym idle ∙ t.was in cc)
+    by_try (over t) = absurd (let n = sym idle ∙ t.was in cc)
+    by_try (turned_away t) = absurd (let n = sym nothing ∙ t.was in cc)
+
+-- another actor's attempts leave it there
+pub first_still : {P : Type 0} (clock patience max_commits retries : ℕ) (r r' : Rows) (a : Actor P) → active_of a.thread r'.active ≡ active_of a.thread r.active → IsFirst clock patience max_commits retries r a → IsFirst clock patience max_commits retries r' a
+first_still clock patience max_commits retries r r' a same f =
+    let b = f.between in
+    record { between = record { none = same ∙ b.none; tries = b.tries; opens = b.opens; goes_on = b.goes_on }; patience_is = f.patience_is; limit = f.limit; retries_are = f.retries_are }

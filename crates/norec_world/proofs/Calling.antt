@@ -6,7 +6,7 @@ use Rattle.norec_engine.specs.Core.{came}
 use Rattle.norec_engine.specs.declared.answer.Answer.{Answer}
 use Rattle.norec_engine.specs.declared.answer.Next.{Next}
 use Rattle.norec_engine.specs.declared.answer.Next.TheVariants.{Answer as Answers}
-use Rattle.norec_world.specs.declared.recorded.Recorded.{Recorded}
+use Rattle.norec_world.specs.Rows.{Rows}
 use Rattle.norec_world.specs.declared.actor.Actor.{Actor}
 use Rattle.norec_world.specs.declared.actor.Status.{Status}
 use Rattle.norec_world.specs.declared.actor.Status.TheVariants.{Ready, Waits, Ended}
@@ -16,7 +16,7 @@ use Rattle.norec_world.specs.Sound.{IsTied, IsNested, IsReady, IsSound, StatusIs
 use Rattle.norec_world.proofs.Tying.{comes, tied, rests, answer_fits}
 
 module _ {P : Type 0} (next : P → Option Call) (answered : P → Replied → P) (restarted : P → P) (left : P → ℕ) (depth : P → ℕ)
-    (cells : Cells) (r : Recorded) (old new : Actor P) (call : Call) (t : IsTied cells old.engine) (ready : IsReady next answered restarted left depth old) where
+    (cells : Cells) (r : Rows) (old new : Actor P) (call : Call) (t : IsTied cells old.engine) (ready : IsReady next answered restarted left depth old) where
   pub asked_tied : (what : Next) → IsAsked next answered restarted left depth r old new call what → IsTied cells new.engine
   asked_tied what k = tied cells (came old.engine call k.again) new.engine what (comes cells old.engine new.engine t ready.free k.settled call k.again k.stays) k.proceeds
 
@@ -30,7 +30,7 @@ module _ {P : Type 0} (next : P → Option Call) (answered : P → Replied → P
         kept = k.kept;
         nested = subst (IsNested next answered restarted left depth old.engine.is_open) (sym k.same.player) ready.nested;
         in_call = k.in_call;
-        fits = answer_fits cells (came old.engine call k.again) new.engine m call a refl k.proceeds;
+        fits = answer_fits (came old.engine call k.again) new.engine call a refl k.proceeds;
         idle = rest.idle;
         free = rest.holds;
         status = k.same.status ∙ status;
@@ -50,7 +50,7 @@ module _ {P : Type 0} (next : P → Option Call) (answered : P → Replied → P
       same_rank n = λ i. (whole next answered restarted left depth old.engine.is_open (k.same.player i) * (k.same.retries i + 1) + (k.same.retries i + 1 - k.same.nth i)) * (n + 1) + left (k.same.player i)
 
   -- an actor that has settled is sound
-  pub settled_sound : (was : Bool) (r' : Recorded) (last : Actor P) → IsTied cells new.engine → IsSettledBy next answered restarted left depth was r' new last
+  pub settled_sound : (was : Bool) (r' : Rows) (last : Actor P) → IsTied cells new.engine → IsSettledBy next answered restarted left depth was r' new last
       → IsSound next answered restarted left depth cells r' last
   settled_sound was r' last tied' s = record {
     tied = subst (IsTied cells) (sym s.engine) tied';
@@ -65,7 +65,7 @@ module _ {P : Type 0} (next : P → Option Call) (answered : P → Replied → P
 
 -- the same, of an actor that is sound and ready
 module _ {P : Type 0} (next : P → Option Call) (answered : P → Replied → P) (restarted : P → P) (left : P → ℕ) (depth : P → ℕ)
-    (cells : Cells) (r0 r r' : Recorded) (old new last : Actor P) (call : Call) (sound : IsSound next answered restarted left depth cells r0 old) (ready : old.status ≡ Ready)
+    (cells : Cells) (r0 r r' : Rows) (old new last : Actor P) (call : Call) (sound : IsSound next answered restarted left depth cells r0 old) (ready : old.status ≡ Ready)
     (what : Next) (a : Answer) (is : what ≡ Answers a) (asked : IsAsked next answered restarted left depth r old new call what) where
   is_ready' : IsReady next answered restarted left depth old
   is_ready' = let Is : Status → Type 0 = StatusIs next answered restarted left depth r0 old in subst Is ready sound.status

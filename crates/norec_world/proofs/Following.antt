@@ -1,6 +1,7 @@
 -- The actor goes on as its player alone, whatever the engine does next.
-use Rattle.std.proofs.Common.{◌≡◌, ◌≢◌, ◌⊎◌, inl, inr, ℕ, zero, suc, ◌+◌, ◌*◌, ◌/◌, ◌%◌, ◌<◌, ◌≤◌, Bool, true, false, ◌&&◌, not, ◌==◌, eq-eqb, nat_le, slice_set, slice_get, slice_index, List, [], ◌∷◌, ◌++◌, length, Option, None, Some, refl, sym, ap, subst, ◌∙◌, arith, append_assoc, if◌then◌else◌}
+use Rattle.std.proofs.Common.{◌≡◌, ◌≢◌, ◌⊎◌, inl, inr, ℕ, zero, suc, ◌+◌, ◌*◌, ◌/◌, ◌%◌, ◌<◌, ◌≤◌, Bool, true, false, ◌&&◌, not, ◌==◌, eq-eqb, nat_le, nat_lt, slice_set, slice_get, slice_index, List, [], ◌∷◌, ◌++◌, length, Option, None, Some, refl, sym, ap, subst, ◌∙◌, arith, append_assoc, if◌then◌else◌}
 use Rattle.std.proofs.lemmas.Bool.{cond-true, and_from, le-leb}
+use Rattle.itm_types.specs.declared.row.LogRow.{LogRow}
 use Rattle.write_set.specs.declared.row.Row.{Row}
 use Rattle.write_set.specs.Rows.{overlay}
 use Rattle.itm_types.specs.declared.step.Step.{Step}
@@ -30,8 +31,9 @@ use Rattle.norec_world.specs.Opacity.{Beginning, begin_code, begin_of, begin_wit
 use Rattle.norec_world.specs.Alone.{state_then, player_then, IsAlone}
 use Rattle.norec_world.specs.Solo.{Progress, Solo, solo, solo_within, with_first, ended_as, one_if}
 use Rattle.norec_world.specs.Follows.{with_all, IsInBlock, Follows, IsAll, row_of}
+use Rattle.norec_world.specs.Rows.{Rows, all_of, is_of, active_of, changed, without, with_one, with_changed, with_opened}
+use Rattle.norec_world.specs.Records.{AddsCall, EndsBy, StopsAt}
 use Rattle.norec_engine.proofs.Machines.{commits}
-use Rattle.norec_world.specs.declared.attempt.Outcome.{Outcome}
 use Rattle.norec_world.specs.declared.attempt.End.{End}
 use Rattle.norec_world.specs.declared.attempt.End.TheVariants.{GaveUp, Finished}
 use Rattle.std.proofs.lemmas.List.{append-nil, take_all, length-set}
@@ -48,6 +50,21 @@ is_free (Cas cell from to) = false
 
 abbrev entry : Call → Reply → Entry
 entry c r = record { call = c; reply = r }
+
+-- ## The one active attempt
+
+pub one_changed : (thread : ℕ) (f : Attempt → Attempt) (row : Attempt) (r : Rows) → r.active ≡ row ∷ [] → row.thread ≡ thread → (with_changed thread f r).active ≡ f row ∷ []
+one_changed thread f row r e same = ap (changed (is_of thread) f) e ∙ cond-true (row.thread == thread) (f row ∷ []) (row ∷ []) (eq-eqb row.thread thread same)
+
+pub one_found : (thread : ℕ) (row : Attempt) (r : Rows) → r.active ≡ row ∷ [] → row.thread ≡ thread → active_of thread r.active ≡ Some row
+one_found thread row r e same = ap (active_of thread) e ∙ cond-true (row.thread == thread) (Some row) None (eq-eqb row.thread thread same)
+
+pub one_gone : (thread : ℕ) (row : Attempt) (r : Rows) → r.active ≡ row ∷ [] → row.thread ≡ thread → without (is_of thread) r.active ≡ []
+one_gone thread row r e same = ap (without (is_of thread)) e ∙ cond-true (row.thread == thread) [] (row ∷ []) (eq-eqb row.thread thread same)
+
+pub agrees_more : (m : List ℕ) (xs ys : List LogRow) → Agrees m xs → Agrees m ys → Agrees m (xs ++ ys)
+agrees_more m [] ys a b = b
+agrees_more m (x ∷ xs) ys a b = (a.0, agrees_more m xs ys a.1 b)
 
 -- ## One call more
 
@@ -82,14 +99,14 @@ module _ {P : Type 0} (next : P → Option Call) (answered : P → Reply → P) 
   -- ## The engine goes on in an open block
 
   module _ (max_commits thread : ℕ) (p0 : P) (base arena : List ℕ) where
-    abbrev On : Progress P → List Attempt → List ℕ → Cells → List Attempt → P → Core → Type 0
+    abbrev On : Progress P → List Attempt → List ℕ → Cells → Rows → P → Core → Type 0
     On b past M cells rows p e = Follows next answered left max_commits thread p0 base arena b past M cells rows p e
 
     abbrev Whole : Cells → List Attempt → End → Type 0
     Whole cells rows ending = IsAll next answered left max_commits thread p0 base arena cells rows ending
 
     -- a step is asked for, and the snapshot stays or is the clock
-    pub asks_on : (b : Progress P) (past : List Attempt) (M : List ℕ) (cells : Cells) (rows : List Attempt) (p : P) (mid new : Core) (step : Step)
+    pub asks_on : (b : Progress P) (past : List Attempt) (M : List ℕ) (cells : Cells) (rows : Rows) (p : P) (mid new : Core) (step : Step)
         → On b past M cells rows p mid → AsksFor mid step new → (mid.is_open ≡ true → (new.snapshot ≡ mid.snapshot) ⊎ (new.snapshot ≡ 2 * b.commits)) → Agrees M new.log → On b past M cells rows p new
     asks_on b past M cells rows p mid new step f g moved agrees =
         let same = g.stays in
@@ -105,15 +122,17 @@ module _ {P : Type 0} (next : P → Option Call) (answered : P → Reply → P) 
           limit = ap (λ (c : Core). c.max_commits) same ∙ f.limit;
           first = ap (λ (c : Core). c.again) same ∙ f.first;
           logged = agrees;
+          fresh = λ h. subst (Agrees M) (sym (ap (λ (c : Core). c.fresh) same)) (f.fresh (sym holds ∙ h));
           even = ap (λ (c : Core). c.clock % 2) same ∙ f.even;
           free = λ h. f.free (sym holds ∙ h);
           held = λ h. (let l = f.held (sym holds ∙ h) in (l.0, l.1 ∙ sym backs, l.2));
           got = λ h. subst (λ (c : Core). Got c.got (slice_get cells.words (write_at c.writes c.done).word)) (sym same) (f.got (sym holds ∙ h));
           closed = λ h. f.closed (sym opens ∙ h);
-          opens = λ h. (let o = f.opens (sym opens ∙ h) in let k = o.3 in (
+          opens = λ h. (let o = f.opens (sym opens ∙ h) in let k = o.4 in (
             o.0,
             o.1,
             o.2,
+            o.3,
             record {
               comes = k.comes;
               player = k.player;
@@ -124,20 +143,16 @@ module _ {P : Type 0} (next : P → Option Call) (answered : P → Reply → P) 
           ));
         }
 
-    -- the row of the open attempt has one call more
-    abbrev Adds : List Attempt → Entry → List Attempt → Type 0
-    Adds rows x rows' = (past : List Attempt) (row : Attempt) → rows ≡ past ++ row ∷ [] → rows' ≡ past ++ record row { calls = row.calls ++ x ∷ [] } ∷ []
-
     -- a call is answered in the open block
-    pub replies_on : (b : Progress P) (past : List Attempt) (M : List ℕ) (cells : Cells) (rows rows' : List Attempt) (p : P) (mid new : Core) (c : Call) (r : Reply)
+    pub replies_on : (b : Progress P) (past : List Attempt) (M : List ℕ) (cells : Cells) (rows rows' : Rows) (p : P) (mid new : Core) (c : Call) (r : Reply)
         → On b past M cells rows p mid → Replies mid c r new → mid.is_open ≡ true → next p ≡ Some c → (new.snapshot ≡ mid.snapshot) ⊎ (new.snapshot ≡ 2 * b.commits)
-        → mid.words ≡ length M → Agrees M new.log → Adds rows (entry c r) rows' → On b past M cells rows' (answered p r) new
+        → mid.words ≡ length M → Agrees M new.log → AddsCall thread rows c r rows' → On b past M cells rows' (answered p r) new
     replies_on b past M cells rows rows' p mid new c r f g o n moved long agrees adds =
         let same = g.stays in
         let block = f.opens o in
         let start = block.0 in
         let xs = block.1 in
-        let k = block.3 in
+        let k = block.4 in
         let mem : IsMemory mid.words M = (sym long, f.memory.1) in
         let s0 : State = opened b.memory start.arena start.props in
         let t : State = state_then MAX_DEPTH s0 xs in
@@ -159,6 +174,7 @@ module _ {P : Type 0} (next : P → Option Call) (answered : P → Reply → P) 
           limit = ap (λ (e : Core). e.max_commits) same ∙ f.limit;
           first = ap (λ (e : Core). e.again) same;
           logged = agrees;
+          fresh = λ h. subst (Agrees M) (sym (ap (λ (e : Core). e.fresh) same)) tt;
           even = ap (λ (e : Core). e.clock % 2) same ∙ f.even;
           free = λ h. f.free free;
           held = λ h. absurd (let a : true ≡ false = sym h ∙ holds in (cc));
@@ -167,7 +183,8 @@ module _ {P : Type 0} (next : P → Option Call) (answered : P → Reply → P) 
           opens = λ h. (
             start,
             xs ++ entry c r ∷ [],
-            adds past (row_of next answered left max_commits thread b start xs Unfinished) block.2,
+            ap (λ (x : Rows). x.ended) adds ∙ block.2,
+            ap (λ (x : Rows). x.active) adds ∙ one_changed thread _ (row_of next answered left max_commits thread b start xs Unfinished) rows block.3 refl,
             record {
               comes = k.comes;
               player = ap (λ (q : P). answered q r) k.player ∙ sym (player_snoc answered p1 xs (entry c r));
@@ -191,35 +208,30 @@ module _ {P : Type 0} (next : P → Option Call) (answered : P → Reply → P) 
     outcome_is true = refl
     outcome_is false = refl
 
-    -- the open attempt has its commit, and is over
-    abbrev Ends : List Attempt → ℕ → Bool → List Attempt → Type 0
-    Ends rows at wrote rows' = (past : List Attempt) (row : Attempt) → rows ≡ past ++ row ∷ []
-        → rows' ≡ past ++ record row { calls = row.calls ++ entry Commit Done ∷ []; at = at; outcome = if wrote then Committed else ReadOnly } ∷ []
-
     -- an open block, of an engine that may have freed the clock
-    pub record IsClosing (b : Progress P) (past : List Attempt) (M : List ℕ) (rows : List Attempt) (p : P) (e : Core) : Type 0 where
+    pub record IsClosing (b : Progress P) (past : List Attempt) (M : List ℕ) (rows : Rows) (p : P) (e : Core) : Type 0 where
       pub whole : solo next answered left MAX_DEPTH max_commits thread p0 base arena ≡ with_all past (solo_within next answered left MAX_DEPTH max_commits thread (left b.player) b)
       pub bytes : b.memory ≡ bytes_of M
       pub arena_is : e.arena ≡ b.arena
       pub limit : e.max_commits ≡ max_commits
       pub logged : Agrees M e.log
       pub even : e.clock % 2 ≡ 0
-      pub opens : (start : Beginning P) × (xs : List Entry) × (rows ≡ past ++ row_of next answered left max_commits thread b start xs Unfinished ∷ []) × IsInBlock next answered left b start xs M p e
+      pub opens : (start : Beginning P) × (xs : List Entry) × (rows.ended ≡ past) × (rows.active ≡ row_of next answered left max_commits thread b start xs Unfinished ∷ []) × IsInBlock next answered left b start xs M p e
 
     commit_reply : (s : State) → is_open s ≡ true → Done ≡ reply MAX_DEPTH s Commit
     commit_reply s o = sym (ap (λ (b : Bool). reply_unless (unless b Outside) Done) o)
 
-    pub commits_on : (b : Progress P) (past : List Attempt) (M : List ℕ) (cells : Cells) (rows rows' : List Attempt) (p : P) (mid new : Core) (at : ℕ) (wrote : Bool)
-        → IsClosing b past M rows p mid → Commits mid at wrote new → next p ≡ Some Commit → IsMemory mid.words M → Ends rows at wrote rows'
+    pub commits_on : (b : Progress P) (past : List Attempt) (M : List ℕ) (cells : Cells) (rows rows' : Rows) (p : P) (mid new : Core) (at : ℕ) (wrote : Bool)
+        → IsClosing b past M rows p mid → Commits mid at wrote new → next p ≡ Some Commit → IsMemory mid.words M → EndsBy thread rows at wrote Commit rows'
         → IsMemory (length cells.words) (overlay M mid.writes) → cells.clock ≡ 2 * (b.commits + one_if (is_some_row mid.writes)) → cells.words ≡ overlay M mid.writes
         → (is_some_row mid.writes && nat_le max_commits b.commits) ≡ false
-        → (c : Progress P) × On c rows' (overlay M mid.writes) cells rows' (answered p Done) new
+        → (c : Progress P) × On c rows'.ended (overlay M mid.writes) cells rows' (answered p Done) new
     commits_on b past M cells rows rows' p mid new at wrote f g n mem ends fits clock words full =
         let same = g.stays in
         let block = f.opens in
         let start = block.0 in
         let xs = block.1 in
-        let k = block.3 in
+        let k = block.4 in
         let s0 : State = opened b.memory start.arena start.props in
         let t : State = state_then MAX_DEPTH s0 xs in
         let p1 : P = answered start.player (begin_code false) in
@@ -242,8 +254,10 @@ module _ {P : Type 0} (next : P → Option Call) (answered : P → Reply → P) 
         (ap (λ (s : State). s.wrote && nat_le max_commits b.commits) ended ∙ full) (omega arith) in
         let wrote_is : wrote ≡ w = g.wrote_is M mem f.logged ∙ ap (λ (s : State). s.wrote) (commits mid.writes mid.is_open mid.props mid.arena M g.is_open) in
         let at_is : at ≡ b.commits = g.at_is ∙ (let h = k.at in omega arith) in
-        let row_is : rows' ≡ past ++ row_of next answered left max_commits thread b start all (ended_as (state_then MAX_DEPTH s0 all).wrote) ∷ [] =
-        ends past (row_of next answered left max_commits thread b start xs Unfinished) block.2
+        let row : Attempt = row_of next answered left max_commits thread b start xs Unfinished in
+        let over = ends row (one_found thread row rows block.3 refl) in
+        let row_is : rows'.ended ≡ past ++ row_of next answered left max_commits thread b start all (ended_as (state_then MAX_DEPTH s0 all).wrote) ∷ [] =
+        ap (λ (x : Rows). x.ended) over ∙ ap (λ (ys : List Attempt). ys ++ record row { calls = row.calls ++ entry Commit Done ∷ []; at = at; outcome = if wrote then Committed else ReadOnly } ∷ []) block.2
         ∙ (λ i. past ++ record (row_of next answered left max_commits thread b start all Unfinished) { at = at_is i; outcome = (ap (λ (v : Bool). if v then Committed else ReadOnly) wrote_is ∙ (outcome_is w ∙ ap (λ (s : State). ended_as s.wrote) (sym ended))) i } ∷ []) in
         let b' : Progress P = record { player = q; arena = (state_then MAX_DEPTH s0 all).arena; memory = (state_then MAX_DEPTH s0 all).memory; commits = b.commits + one_if (state_then MAX_DEPTH s0 all).wrote } in
         let closed_new : new.is_open ≡ false = ap (λ (e : Core). e.is_open) same in
@@ -258,20 +272,17 @@ module _ {P : Type 0} (next : P → Option Call) (answered : P → Reply → P) 
             limit = ap (λ (e : Core). e.max_commits) same ∙ f.limit;
             first = ap (λ (e : Core). e.again) same;
             logged = subst (Agrees (overlay M mid.writes)) (sym no_log) tt;
+            fresh = λ h. subst (Agrees (overlay M mid.writes)) (sym (ap (λ (e : Core). e.fresh) same)) tt;
             even = ap (λ (e : Core). e.clock % 2) same ∙ f.even;
             free = λ h. (clock ∙ ap (λ (s : State). 2 * (b.commits + one_if s.wrote)) (sym ended), words);
             held = λ h. absurd (let a : true ≡ false = sym h ∙ free_new in (cc));
             got = λ h. absurd (let a : true ≡ false = sym h ∙ free_new in (cc));
-            closed = λ h. (refl, ap (λ (r : P). answered r Done) k.player ∙ sym (player_snoc answered p1 xs x));
+            closed = λ h. (refl, ap (λ (x : Rows). x.active) over ∙ one_gone thread row rows block.3 refl, ap (λ (r : P). answered r Done) k.player ∙ sym (player_snoc answered p1 xs x));
             opens = λ h. absurd (let a : true ≡ false = sym h ∙ closed_new in (cc));
           },
         )
 
     -- ## The clock's limit
-
-    -- the open attempt ends without its commit
-    abbrev Stops : List Attempt → ℕ → Outcome → List Attempt → Type 0
-    Stops rows at outcome rows' = (past : List Attempt) (row : Attempt) → rows ≡ past ++ row ∷ [] → rows' ≡ past ++ record row { at = at; outcome = outcome } ∷ []
 
     some_rows : (rows : List Row) → rows ≢ [] → is_some_row rows ≡ true
     some_rows [] n = absurd (n refl)
@@ -280,14 +291,14 @@ module _ {P : Type 0} (next : P → Option Call) (answered : P → Reply → P) 
     pub half : (n k : ℕ) → n ≡ 2 * k → n / 2 ≡ k
     half n k e = omega arith
 
-    pub full_on : (b : Progress P) (past : List Attempt) (M : List ℕ) (cells : Cells) (rows rows' : List Attempt) (p : P) (mid new : Core) (at : ℕ)
-        → On b past M cells rows p mid → IsFull mid at new → next p ≡ Some Commit → (new.snapshot ≡ mid.snapshot) ⊎ (new.snapshot ≡ 2 * b.commits) → Stops rows at Full rows'
-        → Whole cells rows' GaveUp
+    pub full_on : (b : Progress P) (past : List Attempt) (M : List ℕ) (cells : Cells) (rows rows' : Rows) (p : P) (mid new : Core) (at : ℕ)
+        → On b past M cells rows p mid → IsFull mid at new → next p ≡ Some Commit → (new.snapshot ≡ mid.snapshot) ⊎ (new.snapshot ≡ 2 * b.commits) → StopsAt thread rows at Full rows'
+        → Whole cells (all_of rows') GaveUp
     full_on b past M cells rows rows' p mid new at f g n moved stops =
         let block = f.opens g.is_open in
         let start = block.0 in
         let xs = block.1 in
-        let k = block.3 in
+        let k = block.4 in
         let s0 : State = opened b.memory start.arena start.props in
         let t : State = state_then MAX_DEPTH s0 xs in
         let p1 : P = answered start.player (begin_code false) in
@@ -307,11 +318,15 @@ module _ {P : Type 0} (next : P → Option Call) (answered : P → Reply → P) 
         ∙ and_from (is_some_row mid.writes) (nat_le max_commits b.commits) (some_rows mid.writes g.some) (le-leb max_commits b.commits (omega arith)) in
         let free = f.free g.free in
         let clock = free.0 in
+        let row : Attempt = row_of next answered left max_commits thread b start xs Unfinished in
+        let over = stops row (one_found thread row rows block.3 refl) in
+        let all_is : all_of rows' ≡ past ++ record row { at = at; outcome = Full } ∷ [] =
+        ap all_of over ∙ ((λ i. (block.2 i ++ record row { at = at; outcome = Full } ∷ []) ++ one_gone thread row rows block.3 refl i) ∙ append-nil (past ++ record row { at = at; outcome = Full } ∷ [])) in
         record {
           all = f.whole
               ∙ (ap (with_all past) (full_block next answered left nearer MAX_DEPTH max_commits thread b start xs x k.comes alone (ap is_open ended) full)
               ∙ (λ i. record {
-                attempts = (sym (stops past (row_of next answered left max_commits thread b start xs Unfinished) block.2
+                attempts = (sym (all_is
                     ∙ ap (λ (j : ℕ). past ++ record (row_of next answered left max_commits thread b start xs Full) { at = j } ∷ []) at_is)) i;
                 memory = (f.bytes ∙ ap bytes_of (sym free.1)) i;
                 commits = (sym (half cells.clock b.commits clock)) i;
@@ -339,16 +354,16 @@ module _ {P : Type 0} (next : P → Option Call) (answered : P → Reply → P) 
     closes_so true e m s o h t = (let bad : true ≡ false = sym (stands_open e m o) ∙ (ap is_open h ∙ t) in absurd (cc))
 
     -- an outermost begin that is answered opens the engine
-    pub begin_opens : (b : Progress P) (past : List Attempt) (M : List ℕ) (cells : Cells) (rows : List Attempt) (p : P) (mid new : Core) (props : Props) (room : ℕ) (r : Reply)
+    pub begin_opens : (b : Progress P) (past : List Attempt) (M : List ℕ) (cells : Cells) (rows : Rows) (p : P) (mid new : Core) (props : Props) (room : ℕ) (r : Reply)
         → On b past M cells rows p mid → Replies mid (Begin props room) r new → mid.is_open ≡ false → mid.writes ≡ [] → mid.words ≡ length M → Agrees M new.log → new.is_open ≡ true
     begin_opens b past M cells rows p mid new props room r f g o w long agrees =
         opens_so new.is_open new M (opened (bytes_of M) mid.arena props) refl
         (g.meets M (sym long, f.memory.1) agrees ∙ ap (λ (x : State). after MAX_DEPTH x (Begin props room)) (closed_stands mid M o w)) refl
 
-    pub begins_on : (b : Progress P) (past : List Attempt) (M : List ℕ) (cells : Cells) (rows rows' : List Attempt) (p : P) (mid new : Core) (props : Props) (room : ℕ) (r : Reply) (row : Attempt)
+    pub begins_on : (b : Progress P) (past : List Attempt) (M : List ℕ) (cells : Cells) (rows rows' : Rows) (p : P) (mid new : Core) (props : Props) (room : ℕ) (r : Reply) (row : Attempt)
         → On b past M cells rows p mid → Replies mid (Begin props room) r new → mid.is_open ≡ false → mid.writes ≡ [] → next p ≡ Some (Begin props room)
         → new.snapshot ≡ 2 * b.commits → mid.words ≡ length M → Agrees M new.log
-        → row ≡ row_of next answered left max_commits thread b (record { player = b.player; arena = b.arena; props = props }) [] Unfinished → (new.is_open ≡ true → rows' ≡ rows ++ row ∷ [])
+        → row ≡ row_of next answered left max_commits thread b (record { player = b.player; arena = b.arena; props = props }) [] Unfinished → (new.is_open ≡ true → rows' ≡ with_opened row rows)
         → (r ≡ Code 5) × (new.is_open ≡ true) × On b past M cells rows' (answered p r) new
     begins_on b past M cells rows rows' p mid new props room r row f g o w n at long agrees row_is rows_are =
         let same = g.stays in
@@ -361,7 +376,7 @@ module _ {P : Type 0} (next : P → Option Call) (answered : P → Reply → P) 
         g.reply_is M mem agrees ∙ (ap (λ (a : Bool). recoded a (reply MAX_DEPTH (stands_for mid M) (Begin props room))) f.first ∙ ap (λ (x : State). reply MAX_DEPTH x (Begin props room)) was) in
         let opens : new.is_open ≡ true = opens_so new.is_open new M (opened (bytes_of M) mid.arena props) refl meets refl in
         let start : Beginning P = record { player = b.player; arena = b.arena; props = props } in
-        let asks : next b.player ≡ Some (Begin props room) = ap next (sym closed.1) ∙ n in
+        let asks : next b.player ≡ Some (Begin props room) = ap next (sym closed.2) ∙ n in
         let l = nearer b.player (Begin props room) (Code 5) asks in
         let holds : new.holds ≡ false = ap (λ (e : Core). e.holds) same ∙ g.free in (
           code,
@@ -374,6 +389,7 @@ module _ {P : Type 0} (next : P → Option Call) (answered : P → Reply → P) 
             limit = ap (λ (e : Core). e.max_commits) same ∙ f.limit;
             first = ap (λ (e : Core). e.again) same;
             logged = agrees;
+            fresh = λ h. subst (Agrees M) (sym (ap (λ (e : Core). e.fresh) same)) tt;
             even = ap (λ (e : Core). e.clock % 2) same ∙ f.even;
             free = λ h. f.free g.free;
             held = λ h. absurd (let a : true ≡ false = sym h ∙ holds in (cc));
@@ -382,10 +398,11 @@ module _ {P : Type 0} (next : P → Option Call) (answered : P → Reply → P) 
             opens = λ h. (
               start,
               [],
-              rows_are opens ∙ (λ i. closed.0 i ++ row_is i ∷ []),
+              ap (λ (x : Rows). x.ended) (rows_are opens) ∙ closed.0,
+              ap (λ (x : Rows). x.active) (rows_are opens) ∙ (ap (with_one (λ a. nat_lt row.thread a.thread) row) closed.1 ∙ (λ i. row_is i ∷ [])),
               record {
                 comes = begin_comes (left b.player) b.player b.arena props room (omega arith) asks;
-                player = λ i. answered (closed.1 i) (code i);
+                player = λ i. answered (closed.2 i) (code i);
                 alone = tt;
                 stands = meets ∙ (λ i. opened (sym f.bytes i) (f.arena_is i) props);
                 at = at;
@@ -412,7 +429,7 @@ module _ {P : Type 0} (next : P → Option Call) (answered : P → Reply → P) 
     outside_after s (Write hint at value) nb o =
         ap (λ (b : Bool). after_unless (or_else (unless b Outside) (in_shared s at (size_of value.width))) s (effect s (Write hint at value))) o
 
-    pub passes_on : (b : Progress P) (past : List Attempt) (M : List ℕ) (cells : Cells) (rows : List Attempt) (p : P) (mid new : Core) (c : Call) (r : Reply)
+    pub passes_on : (b : Progress P) (past : List Attempt) (M : List ℕ) (cells : Cells) (rows : Rows) (p : P) (mid new : Core) (c : Call) (r : Reply)
         → On b past M cells rows p mid → Replies mid c r new → mid.is_open ≡ false → mid.writes ≡ [] → next p ≡ Some c → is_begin c ≡ false
         → mid.words ≡ length M → Agrees M new.log
         → (new.is_open ≡ false) × ((d : Progress P) × On d past M cells rows (answered p r) new)
@@ -427,7 +444,7 @@ module _ {P : Type 0} (next : P → Option Call) (answered : P → Reply → P) 
         g.reply_is M mem agrees ∙ (ap (λ (a : Bool). recoded a (reply MAX_DEPTH s c)) f.first ∙ outside_reply s b.arena c nb shut) in
         let closed_new : new.is_open ≡ false = closes_so new.is_open new M s refl meets shut in
         let holds : new.holds ≡ false = ap (λ (e : Core). e.holds) same ∙ g.free in
-        let asks : next b.player ≡ Some c = ap next (sym closed.1) ∙ n in
+        let asks : next b.player ≡ Some c = ap next (sym closed.2) ∙ n in
         let q : Progress P = passing next answered left nearer MAX_DEPTH max_commits thread b c in (
           closed_new,
           (
@@ -440,11 +457,12 @@ module _ {P : Type 0} (next : P → Option Call) (answered : P → Reply → P) 
               limit = ap (λ (e : Core). e.max_commits) same ∙ f.limit;
               first = ap (λ (e : Core). e.again) same;
               logged = agrees;
+              fresh = λ h. subst (Agrees M) (sym (ap (λ (e : Core). e.fresh) same)) tt;
               even = ap (λ (e : Core). e.clock % 2) same ∙ f.even;
               free = λ h. f.free g.free;
               held = λ h. absurd (let a : true ≡ false = sym h ∙ holds in (cc));
               got = λ h. absurd (let a : true ≡ false = sym h ∙ holds in (cc));
-              closed = λ h. (closed.0, λ i. answered (closed.1 i) (reply_is i));
+              closed = λ h. (closed.0, closed.1, λ i. answered (closed.2 i) (reply_is i));
               opens = λ h. absurd (let a : true ≡ false = sym h ∙ closed_new in (cc));
             },
           ),
@@ -452,17 +470,17 @@ module _ {P : Type 0} (next : P → Option Call) (answered : P → Reply → P) 
 
     -- ## What never comes where nobody else takes a step
 
-    pub no_conflict : (b : Progress P) (past : List Attempt) (M : List ℕ) (cells : Cells) (rows : List Attempt) (p : P) (mid new : Core) (clock : ℕ) (word : Option ℕ)
+    pub no_conflict : (b : Progress P) (past : List Attempt) (M : List ℕ) (cells : Cells) (rows : Rows) (p : P) (mid new : Core) (clock : ℕ) (word : Option ℕ)
         → On b past M cells rows p mid → Conflicts mid clock word new → mid.clock ≤ cells.clock → ⊥
     no_conflict b past M cells rows p mid new clock word f g late =
-        let k = (f.opens g.is_open).3 in
+        let k = (f.opens g.is_open).4 in
         let at = k.at in
         let later = g.later in
         let clock_is = g.clock_is in
         let now = (f.free g.free).0 in
         absurd (omega arith)
 
-    pub no_busy : (b : Progress P) (past : List Attempt) (M : List ℕ) (cells : Cells) (rows : List Attempt) (p : P) (mid new : Core) (clock : ℕ)
+    pub no_busy : (b : Progress P) (past : List Attempt) (M : List ℕ) (cells : Cells) (rows : Rows) (p : P) (mid new : Core) (clock : ℕ)
         → On b past M cells rows p mid → IsBusy mid clock new → ⊥
     no_busy b past M cells rows p mid new clock f g =
         let odd = g.odd in
@@ -472,8 +490,8 @@ module _ {P : Type 0} (next : P → Option Call) (answered : P → Reply → P) 
 
     -- ## The end of the player
 
-    pub finishes : (b : Progress P) (past : List Attempt) (M : List ℕ) (cells : Cells) (rows : List Attempt) (p : P) (e : Core)
-        → On b past M cells rows p e → next p ≡ None → e.holds ≡ false → Whole cells rows Finished
+    pub finishes : (b : Progress P) (past : List Attempt) (M : List ℕ) (cells : Cells) (rows : Rows) (p : P) (e : Core)
+        → On b past M cells rows p e → next p ≡ None → e.holds ≡ false → Whole cells (all_of rows) Finished
     finishes b past M cells rows p e f n free = by_case e.is_open refl
       where
         clock : cells.clock ≡ 2 * b.commits
@@ -482,7 +500,7 @@ module _ {P : Type 0} (next : P → Option Call) (answered : P → Reply → P) 
         last : List Attempt → Solo
         last ys = record { attempts = ys; memory = b.memory; commits = b.commits; ending = Finished }
 
-        rest_is : (ys : List Attempt) → rows ≡ ys → solo next answered left MAX_DEPTH max_commits thread p0 base arena ≡ record { attempts = ys; memory = b.memory; commits = b.commits; ending = Finished } → Whole cells rows Finished
+        rest_is : (ys : List Attempt) → all_of rows ≡ ys → solo next answered left MAX_DEPTH max_commits thread p0 base arena ≡ record { attempts = ys; memory = b.memory; commits = b.commits; ending = Finished } → Whole cells (all_of rows) Finished
         rest_is ys same all = record {
           all = all ∙ (λ i. record { attempts = sym same i; memory = (f.bytes ∙ ap bytes_of (sym (f.free free).1)) i; commits = (sym (half cells.clock b.commits clock)) i; ending = Finished });
           even = omega (arith, clock);
@@ -492,26 +510,26 @@ module _ {P : Type 0} (next : P → Option Call) (answered : P → Reply → P) 
         none_comes zero q a = refl
         none_comes (suc k) q a = refl
 
-        by_case : (o : Bool) → e.is_open ≡ o → Whole cells rows Finished
+        by_case : (o : Bool) → e.is_open ≡ o → Whole cells (all_of rows) Finished
         by_case true o =
             let block = f.opens o in
-            let k = block.3 in
+            let k = block.4 in
             let start = block.0 in
             let xs = block.1 in
             let open_t = ap is_open (sym k.stands) ∙ stands_open e M o in
-            rest_is (past ++ row_of next answered left max_commits thread b start xs Unfinished ∷ []) block.2
+            rest_is (past ++ row_of next answered left max_commits thread b start xs Unfinished ∷ []) (λ i. block.2 i ++ block.3 i)
             (f.whole ∙ ap (with_all past) (open_block next answered left nearer MAX_DEPTH max_commits thread b start xs k.comes k.alone open_t (ap next (sym k.player) ∙ n)))
         by_case false o =
             let closed = f.closed o in
             let none : begin_of next answered left MAX_DEPTH b.player b.arena ≡ None =
-            ap (begin_within next answered left MAX_DEPTH (left b.player) b.player b.arena) (ap next (sym closed.1) ∙ n) ∙ none_comes (left b.player) b.player b.arena in
-            rest_is past closed.0
+            ap (begin_within next answered left MAX_DEPTH (left b.player) b.player b.arena) (ap next (sym closed.2) ∙ n) ∙ none_comes (left b.player) b.player b.arena in
+            rest_is past ((λ i. closed.0 i ++ closed.1 i) ∙ append-nil past)
             (f.whole ∙ (ap (with_all past) (no_block next answered left nearer MAX_DEPTH max_commits thread b none) ∙ ap last (append-nil past)))
 
     -- ## The operation
 
     -- the value is handed in, of any step but the store that frees the clock
-    pub hands_on : (b : Progress P) (past : List Attempt) (M : List ℕ) (cells : Cells) (rows : List Attempt) (p : P) (e : Core) (step : Step)
+    pub hands_on : (b : Progress P) (past : List Attempt) (M : List ℕ) (cells : Cells) (rows : Rows) (p : P) (e : Core) (step : Step)
         → On b past M cells rows p e → e.words ≡ length cells.words → IsLawful e step → e.waits ≡ Some step → is_free step ≡ false → On b past M (cells_after cells step) rows p (handed e (found cells step))
     hands_on b past M cells rows p e step f long l w n = subst (λ (o : Option Step). On b past M (cells_after cells step) rows p (handed_to e o (found cells step))) (sym w) (by_step step l n)
       where
@@ -526,12 +544,13 @@ module _ {P : Type 0} (next : P → Option Call) (answered : P → Reply → P) 
           limit = f.limit;
           first = f.first;
           logged = f.logged;
+          fresh = λ g. absurd (let a : true ≡ false = sym h ∙ g in (cc));
           even = f.even;
           free = f.free;
           held = f.held;
           got = λ g. ap (slice_get cells.words) (sym (own g)) ∙ slice_get-get_or cells.words word 0 inside;
           closed = f.closed;
-          opens = λ h. (let o = f.opens h in let k = o.3 in (o.0, o.1, o.2, record { comes = k.comes; player = k.player; alone = k.alone; stands = k.stands; at = k.at }));
+          opens = λ h. (let o = f.opens h in let k = o.4 in (o.0, o.1, o.2, o.3, record { comes = k.comes; player = k.player; alone = k.alone; stands = k.stands; at = k.at }));
         }
         loads_word word inside false h own = record {
           whole = f.whole;
@@ -541,12 +560,13 @@ module _ {P : Type 0} (next : P → Option Call) (answered : P → Reply → P) 
           limit = f.limit;
           first = f.first;
           logged = f.logged;
+          fresh = λ g. agrees_more M e.fresh _ (f.fresh h) (subst (λ (m : List ℕ). slice_get m word ≡ Some (slice_index cells.words word)) (f.free h).1 (slice_get-get_or cells.words word 0 inside), tt);
           even = f.even;
           free = f.free;
           held = f.held;
           got = λ g. absurd (let a : true ≡ false = sym g ∙ h in (cc));
           closed = f.closed;
-          opens = λ h. (let o = f.opens h in let k = o.3 in (o.0, o.1, o.2, record { comes = k.comes; player = k.player; alone = k.alone; stands = k.stands; at = k.at }));
+          opens = λ h. (let o = f.opens h in let k = o.4 in (o.0, o.1, o.2, o.3, record { comes = k.comes; player = k.player; alone = k.alone; stands = k.stands; at = k.at }));
         }
 
         by_step : (s : Step) → IsLawful e s → is_free s ≡ false → On b past M (cells_after cells s) rows p (handed_to e (Some s) (found cells s))
@@ -558,14 +578,15 @@ module _ {P : Type 0} (next : P → Option Call) (answered : P → Reply → P) 
           limit = f.limit;
           first = f.first;
           logged = f.logged;
+          fresh = λ h. tt;
           even = (let now = (f.free l.1).0 in omega arith);
           free = f.free;
           held = λ h. absurd (let a : true ≡ false = sym h ∙ l.1 in (cc));
           got = λ h. absurd (let a : true ≡ false = sym h ∙ l.1 in (cc));
           closed = f.closed;
-          opens = λ h. (let o = f.opens h in let k = o.3 in (o.0, o.1, o.2, record { comes = k.comes; player = k.player; alone = k.alone; stands = k.stands; at = k.at }));
+          opens = λ h. (let o = f.opens h in let k = o.4 in (o.0, o.1, o.2, o.3, record { comes = k.comes; player = k.player; alone = k.alone; stands = k.stands; at = k.at }));
         }
-        by_step (Load (suc word)) l n = loads_word word (let k = l.0 in omega arith) e.holds refl (λ h. l.1 h)
+        by_step (Load (suc word)) l n = loads_word word (let k = l.0 in omega arith) e.holds refl (λ h. l.1.1 h)
         by_step (Store zero value) l n = absurd (cc)
         by_step (Store (suc word) value) l n = (
             let held = f.held l.1 in
@@ -579,15 +600,16 @@ module _ {P : Type 0} (next : P → Option Call) (answered : P → Reply → P) 
               limit = f.limit;
               first = f.first;
               logged = f.logged;
+              fresh = λ h. absurd (let a : true ≡ false = sym l.1 ∙ h in (cc));
               even = f.even;
               free = λ h. absurd (let a : true ≡ false = sym l.1 ∙ h in (cc));
               held = λ h. (held.0, ap (λ (m : List ℕ). slice_set m word value) held.1 ∙ sym (l.2.value_is M mem (subst (λ (m : List ℕ). Got e.got (slice_get m word)) held.1 got)), held.2);
               got = λ h. tt;
               closed = f.closed;
-              opens = λ h. (let o = f.opens h in let k = o.3 in (o.0, o.1, o.2, record { comes = k.comes; player = k.player; alone = k.alone; stands = k.stands; at = k.at }));
+              opens = λ h. (let o = f.opens h in let k = o.4 in (o.0, o.1, o.2, o.3, record { comes = k.comes; player = k.player; alone = k.alone; stands = k.stands; at = k.at }));
             })
         by_step (Cas cell from to) l n = (
-            let k0 = (f.opens l.2).3 in
+            let k0 = (f.opens l.2).4 in
             let free = f.free l.1 in
             let from_is : from ≡ 2 * b.commits = l.3 ∙ k0.at in
             let same : cells.clock ≡ from = free.0 ∙ sym from_is in
@@ -602,16 +624,17 @@ module _ {P : Type 0} (next : P → Option Call) (answered : P → Reply → P) 
               limit = f.limit;
               first = f.first;
               logged = f.logged;
+              fresh = λ h. tt;
               even = (let now = free.0 in omega arith);
               free = λ h. absurd (let a : true ≡ false = sym yes ∙ h in (cc));
               held = λ h. (cond-true (cells.clock == from) to cells.clock yes ∙ (l.6 ∙ ap (λ (j : ℕ). j + 1) from_is), free.1, omega arith);
               got = λ h. tt;
               closed = f.closed;
-              opens = λ h. (let o = f.opens h in let k = o.3 in (o.0, o.1, o.2, record { comes = k.comes; player = k.player; alone = k.alone; stands = k.stands; at = k.at }));
+              opens = λ h. (let o = f.opens h in let k = o.4 in (o.0, o.1, o.2, o.3, record { comes = k.comes; player = k.player; alone = k.alone; stands = k.stands; at = k.at }));
             })
 
     -- the store that frees the clock: what a commit needs then
-    pub frees_on : (b : Progress P) (past : List Attempt) (M : List ℕ) (cells : Cells) (rows : List Attempt) (p : P) (e : Core) (value : ℕ)
+    pub frees_on : (b : Progress P) (past : List Attempt) (M : List ℕ) (cells : Cells) (rows : Rows) (p : P) (e : Core) (value : ℕ)
         → On b past M cells rows p e → IsLawful e (Store 0 value) → e.waits ≡ Some (Store 0 value) → cells.clock ≡ e.clock + 1 → e.is_open ≡ true
         → IsClosing b past M rows p (handed e 0) × ((cells_after cells (Store 0 value)).clock ≡ 2 * (b.commits + 1)) × ((cells_after cells (Store 0 value)).words ≡ overlay M e.writes) × (b.commits < max_commits)
     frees_on b past M cells rows p e value f l w late o =
@@ -619,7 +642,7 @@ module _ {P : Type 0} (next : P → Option Call) (answered : P → Reply → P) 
         let clock = held.0 in
         let value_is = l.2.0 in
         let block = f.opens o in
-        let k = block.3 in
+        let k = block.4 in
         let closing : IsClosing b past M rows p (handed_to e (Some (Store 0 value)) 0) = record {
           whole = f.whole;
           bytes = f.bytes;
@@ -627,7 +650,7 @@ module _ {P : Type 0} (next : P → Option Call) (answered : P → Reply → P) 
           limit = f.limit;
           logged = f.logged;
           even = (let old = f.even in omega arith);
-          opens = (block.0, block.1, block.2, record { comes = k.comes; player = k.player; alone = k.alone; stands = k.stands; at = k.at });
+          opens = (block.0, block.1, block.2, block.3, record { comes = k.comes; player = k.player; alone = k.alone; stands = k.stands; at = k.at });
         } in (
           subst (λ (s : Option Step). IsClosing b past M rows p (handed_to e s 0)) (sym w) closing,
           omega arith,
@@ -635,8 +658,27 @@ module _ {P : Type 0} (next : P → Option Call) (answered : P → Reply → P) 
           held.2,
         )
 
+    -- with other room for attempts
+    pub roomed_on : (b : Progress P) (past : List Attempt) (M : List ℕ) (cells : Cells) (rows : Rows) (p : P) (e : Core) (room : ℕ) → On b past M cells rows p e → On b past M cells (record rows { room = room }) p e
+    roomed_on b past M cells rows p e room f = record {
+      whole = f.whole;
+      bytes = f.bytes;
+      memory = f.memory;
+      arena_is = f.arena_is;
+      limit = f.limit;
+      first = f.first;
+      logged = f.logged;
+      fresh = f.fresh;
+      even = f.even;
+      free = f.free;
+      held = f.held;
+      got = f.got;
+      closed = f.closed;
+      opens = f.opens;
+    }
+
     -- the call comes
-    pub comes_on : (b : Progress P) (past : List Attempt) (M : List ℕ) (cells : Cells) (rows : List Attempt) (p : P) (e : Core) (c : Call) (again : Bool)
+    pub comes_on : (b : Progress P) (past : List Attempt) (M : List ℕ) (cells : Cells) (rows : Rows) (p : P) (e : Core) (c : Call) (again : Bool)
         → On b past M cells rows p e → e.holds ≡ false → again ≡ false → On b past M cells rows p (came e c again)
     comes_on b past M cells rows p e c again f free anew = record {
       whole = f.whole;
@@ -646,10 +688,11 @@ module _ {P : Type 0} (next : P → Option Call) (answered : P → Reply → P) 
       limit = f.limit;
       first = ap (λ (a : Bool). a && not e.is_open) anew;
       logged = f.logged;
+      fresh = λ h. tt;
       even = f.even;
       free = f.free;
       held = λ h. absurd (let a : true ≡ false = sym h ∙ free in (cc));
       got = λ h. tt;
       closed = f.closed;
-      opens = λ h. (let o = f.opens h in let k = o.3 in (o.0, o.1, o.2, record { comes = k.comes; player = k.player; alone = k.alone; stands = k.stands; at = k.at }));
+      opens = λ h. (let o = f.opens h in let k = o.4 in (o.0, o.1, o.2, o.3, record { comes = k.comes; player = k.player; alone = k.alone; stands = k.stands; at = k.at }));
     }

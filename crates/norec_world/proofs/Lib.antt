@@ -1,16 +1,26 @@
 mod Examples
 pub mod WordLists
-pub mod RowLists
+pub mod ActiveRows
+pub mod Owning
+pub mod TryEnds
 pub mod Answering
 pub mod Tying
+pub mod Clocking
+pub mod Frames
+pub mod CommitCounts
 pub mod Playing
 pub mod Settling
 pub mod Recording
 pub mod Calling
+pub mod TryCalls
+pub mod TryChains
+pub mod Events
 pub mod Stepping
+pub mod TrySteps
 pub mod Falling
 pub mod Worlds
 pub mod Goings
+pub mod Refusals
 pub mod Stretching
 pub mod Outing
 pub mod Alones

@@ -12,6 +12,9 @@ use Rattle.norec_world.specs.Solo.{Progress}
 use Rattle.norec_world.specs.Follows.{Follows, row_of}
 use Rattle.norec_world.specs.SoFar.{IsBegun, IsSoFar}
 use Rattle.norec_world.specs.Records.{StopsAt}
+use Rattle.norec_world.specs.Rows.{Rows, all_of}
+use Rattle.std.proofs.lemmas.List.{append-nil}
+use Rattle.norec_world.proofs.Following.{one_found, one_gone}
 
 half_even : (n k : ℕ) → n ≡ 2 * k → (n / 2 ≡ k) × (n % 2 ≡ 0)
 half_even n k e = (omega (arith, e), omega (arith, e))
@@ -20,7 +23,7 @@ half_odd : (n k : ℕ) → n ≡ 2 * k + 1 → (n / 2 ≡ k) × (n % 2 ≡ 0 →
 half_odd n k e = (omega (arith, e), λ z. omega (arith, e, z))
 
 module _ {P : Type 0} (next : P → Option Call) (answered : P → Reply → P) (left : P → ℕ) (max_commits thread : ℕ) (p0 : P) (base arena : List ℕ)
-    (b : Progress P) (past : List Attempt) (M : List ℕ) (cells : Cells) (rows : List Attempt) (p : P) (e : Core) (f : Follows next answered left max_commits thread p0 base arena b past M cells rows p e) where
+    (b : Progress P) (past : List Attempt) (M : List ℕ) (cells : Cells) (rows : Rows) (p : P) (e : Core) (f : Follows next answered left max_commits thread p0 base arena b past M cells rows p e) where
   abbrev SoFar : ℕ → List ℕ → Outcome → List Attempt → Type 0
   SoFar commits memory outcome rows' = IsSoFar next answered left max_commits thread p0 base arena commits memory outcome rows'
 
@@ -45,7 +48,7 @@ module _ {P : Type 0} (next : P → Option Call) (answered : P → Reply → P) 
 
   begun : (outcome : Outcome) (rows' : List Attempt) (o : e.is_open ≡ true) → rows' ≡ past ++ row_of next answered left max_commits thread b (f.opens o).0 (f.opens o).1 outcome ∷ []
       → IsBegun next answered left max_commits thread b past outcome rows'
-  begun outcome rows' o is = (let block = f.opens o in record { start = block.0; calls = block.1; rows_are = is; begins = block.3.comes; alone = block.3.alone })
+  begun outcome rows' o is = (let block = f.opens o in record { start = block.0; calls = block.1; rows_are = is; begins = block.4.comes; alone = block.4.alone })
 
   -- half the clock is the number of commits, also while the clock is held
   halves : (cells.clock / 2 ≡ b.commits) × (cells.clock % 2 ≡ 0 → bytes_of cells.words ≡ b.memory)
@@ -55,17 +58,28 @@ module _ {P : Type 0} (next : P → Option Call) (answered : P → Reply → P) 
       by_case true h = (let odd = half_odd cells.clock b.commits (f.held h).0 in (odd.0, λ z. absurd (odd.1 z)))
       by_case false h = (let free = f.free h in ((half_even cells.clock b.commits free.0).0, λ z. ap bytes_of free.1 ∙ sym f.bytes))
 
-  pub unfinished : (memory : List ℕ) × SoFar (cells.clock / 2) memory Unfinished rows × (cells.clock % 2 ≡ 0 → bytes_of cells.words ≡ memory)
-  unfinished = (b.memory, so_far (cells.clock / 2) b.memory Unfinished rows halves.0 refl (λ o. (f.closed o).0) (λ o. begun Unfinished rows o (f.opens o).2), halves.1)
+  -- outside a block all attempts have ended
+  past_only : e.is_open ≡ false → all_of rows ≡ past
+  past_only o = (let closed = f.closed o in (λ i. closed.0 i ++ closed.1 i) ∙ append-nil past)
+
+  pub unfinished : (memory : List ℕ) × SoFar (cells.clock / 2) memory Unfinished (all_of rows) × (cells.clock % 2 ≡ 0 → bytes_of cells.words ≡ memory)
+  unfinished = (b.memory, so_far (cells.clock / 2) b.memory Unfinished (all_of rows) halves.0 refl past_only (λ o. begun Unfinished (all_of rows) o (let block = f.opens o in λ i. block.2 i ++ block.3 i)), halves.1)
 
   -- memory was refused, and the open row, if there is one, says so
-  pub starved : (rows' : List Attempt) → e.holds ≡ false → (e.is_open ≡ true → StopsAt rows (e.snapshot / 2) NoMemory rows') → (e.is_open ≡ false → rows' ≡ rows)
-      → (cells.clock % 2 ≡ 0) × SoFar (cells.clock / 2) (bytes_of cells.words) NoMemory rows'
+  pub starved : (rows' : Rows) → e.holds ≡ false → (e.is_open ≡ true → StopsAt thread rows (e.snapshot / 2) NoMemory rows') → (e.is_open ≡ false → rows' ≡ rows)
+      → (cells.clock % 2 ≡ 0) × SoFar (cells.clock / 2) (bytes_of cells.words) NoMemory (all_of rows')
   starved rows' free stops none =
       let even = half_even cells.clock b.commits (f.free free).0 in (
         even.1,
-        so_far (cells.clock / 2) (bytes_of cells.words) NoMemory rows' even.0 (halves.1 even.1) (λ o. none o ∙ (f.closed o).0)
-            (λ o. (let block = f.opens o in begun NoMemory rows' o (
-            stops o past (row_of next answered left max_commits thread b block.0 block.1 Unfinished) block.2
-            ∙ ap (λ (at : ℕ). past ++ record (row_of next answered left max_commits thread b block.0 block.1 NoMemory) { at = at } ∷ []) (half_even e.snapshot b.commits block.3.at).0))),
+        so_far (cells.clock / 2) (bytes_of cells.words) NoMemory (all_of rows') even.0 (halves.1 even.1) (λ o. ap all_of (none o) ∙ past_only o)
+            (λ o. (
+            let block = f.opens o in
+            let row : Attempt = row_of next answered left max_commits thread b block.0 block.1 Unfinished in
+            let stopped : Attempt = record row { at = e.snapshot / 2; outcome = NoMemory } in
+            begun NoMemory (all_of rows') o (
+            ap all_of (stops o row (one_found thread row rows block.3 refl))
+            ∙ ((λ i. (block.2 i ++ stopped ∷ []) ++ one_gone thread row rows block.3 refl i)
+            ∙ (append-nil (past ++ stopped ∷ [])
+            ∙ ap (λ (at : ℕ). past ++ record (row_of next answered left max_commits thread b block.0 block.1 NoMemory) { at = at } ∷ []) (half_even e.snapshot b.commits block.4.at).0)))
+            )),
       )

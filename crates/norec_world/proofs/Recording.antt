@@ -1,16 +1,21 @@
 -- What stands in the rows of attempts, after an answer.
-use Rattle.std.proofs.Common.{◌≡◌, ℕ, ◌+◌, ◌≤◌, ◌&&◌, Bool, true, false, List, [], ◌∷◌, ◌++◌, length, refl, ap, ◌∙◌, arith, vec_len, length-append}
+use Rattle.std.proofs.Common.{None, Some, Option, ◌==◌, sym, subst, ◌≡◌, ℕ, ◌&&◌, Bool, true, false, List, [], ◌∷◌, length, refl, ap, ◌∙◌, arith}
 use Rattle.itm_types.specs.declared.call.Call.{Call}
 use Rattle.itm_types.specs.declared.call.Reply.{Reply as Replied}
 use Rattle.script_vm.specs.Depth.{depth_after, is_begin, is_code, opens}
 use Rattle.norec_world.specs.declared.attempt.Attempt.{Attempt}
 use Rattle.norec_world.specs.declared.attempt.Outcome.TheVariants.{Unfinished}
-use Rattle.norec_world.specs.declared.recorded.Recorded.{Recorded}
-use Rattle.norec_world.specs.Sound.{depth_if, HasRow}
+use Rattle.norec_world.specs.Rows.{Rows, is_of, active_of, changed, without, with_changed, with_opened, with_ended}
+use Rattle.norec_world.proofs.ActiveRows.{opened_here, changed_here}
+use Rattle.norec_world.specs.declared.actor.Actor.{Actor}
+use Rattle.norec_world.specs.declared.actor.Status.{Status}
+use Rattle.norec_world.specs.declared.actor.Status.TheVariants.{Ready, Waits, Ended}
+use Rattle.norec_world.specs.Sound.{depth_if, HasRow, IsKept, StatusIs}
+use Rattle.std.proofs.lemmas.Bool.{cond-true, cond-false}
 use Rattle.norec_world.proofs.Playing.{opens_at_begin}
 
 -- nothing is open, and was not
-pub row_stays : (r : Recorded) (thread : ℕ) (was now : Bool) → (was ≡ true → now ≡ true) → now ≡ false → HasRow was r thread → HasRow now r thread
+pub row_stays : (r : Rows) (thread : ℕ) (was now : Bool) → (was ≡ true → now ≡ true) → now ≡ false → HasRow was r thread → HasRow now r thread
 row_stays r thread true true still e h = absurd (cc)
 row_stays r thread true false still e h = absurd (let f : false ≡ true = still refl in cc)
 row_stays r thread false true still e h = absurd (cc)
@@ -24,21 +29,87 @@ was_open false now call reply begins fits e =
     let no : opens 0 call reply ≡ false = ap (λ (b : Bool). b && is_code reply) (begins refl) in
     absurd (cc)
 
--- one row more is the open one
-pub row_opened : (r' : Recorded) (thread : ℕ) (now : Bool) (rows : List Attempt) (row : Attempt) → now ≡ true → length rows ≡ r'.ended → r'.rows.items ≡ rows ++ row ∷ [] → row.thread ≡ thread → row.outcome ≡ Unfinished
-    → HasRow now r' thread
-row_opened r' thread false rows row e count is mine fresh = absurd (cc)
-row_opened r' thread true rows row e count is mine fresh = (rows, row, record { count = count; rows_are = is; thread_is = mine }, fresh)
+-- one more is active
+pub row_opened : (r r' : Rows) (thread : ℕ) (now : Bool) (row : Attempt) → now ≡ true → r' ≡ with_opened row r → active_of thread r.active ≡ None → row.thread ≡ thread → row.outcome ≡ Unfinished → HasRow now r' thread
+row_opened r r' thread false row e is none mine fresh = absurd (cc)
+row_opened r r' thread true row e is none mine fresh =
+    let before : active_of row.thread r.active ≡ None = ap (λ (t : ℕ). active_of t r.active) mine ∙ none in (
+      row,
+      ap (λ (x : Rows). active_of thread x.active) is ∙ (ap (λ (t : ℕ). active_of t (with_opened row r).active) (sym mine) ∙ opened_here row r.active before),
+      fresh,
+    )
 
--- the ended ones stand within
-pub within_last : (r' : Recorded) (rows : List Attempt) (row : Attempt) → length rows ≡ r'.ended → r'.rows.items ≡ rows ++ row ∷ [] → r'.ended ≤ vec_len r'.rows
-within_last r' rows row count is = let n = r'.rows.ok.0 in let l = ap length is in omega (arith, length-append rows (row ∷ []))
+-- the active one is another
+pub row_changed : (r r' : Rows) (thread : ℕ) (now : Bool) (f : Attempt → Attempt) → ((a : Attempt) → (f a).thread ≡ a.thread) → ((a : Attempt) → (f a).outcome ≡ a.outcome) → r' ≡ with_changed thread f r
+    → HasRow true r thread → now ≡ true → HasRow now r' thread
+row_changed r r' thread false f same keeps is h e = absurd (cc)
+row_changed r r' thread true f same keeps is h e = (
+  f h.0,
+  ap (λ (x : Rows). active_of thread x.active) is ∙ changed_here thread f r.active h.0 same h.1,
+  keeps h.0 ∙ h.2,
+)
 
--- the last row has ended too
-pub all_ended : (r' : Recorded) (rows : List Attempt) (row : Attempt) → r'.ended ≡ length rows + 1 → r'.rows.items ≡ rows ++ row ∷ [] → r'.ended ≡ vec_len r'.rows
-all_ended r' rows row count is = let n = r'.rows.ok.0 in let l = ap length is in omega (arith, length-append rows (row ∷ []))
-
--- no row is open where none was
-pub row_none : (r : Recorded) (thread : ℕ) (was : Bool) → (was ≡ true → ⊥) → HasRow was r thread → vec_len r.rows ≡ r.ended
+-- none is active where none was
+pub row_none : (r : Rows) (thread : ℕ) (was : Bool) → (was ≡ true → ⊥) → HasRow was r thread → active_of thread r.active ≡ None
 row_none r thread true shut h = absurd (shut refl)
 row_none r thread false shut h = h
+
+without_changed : (thread : ℕ) (f : Attempt → Attempt) (xs : List Attempt) → ((b : Attempt) → (f b).thread ≡ b.thread) → without (is_of thread) (changed (is_of thread) f xs) ≡ without (is_of thread) xs
+without_changed thread f [] same = refl
+without_changed thread f (x ∷ xs) same = by_case (is_of thread x) refl (without_changed thread f xs same)
+  where
+    by_case : (b : Bool) → is_of thread x ≡ b → without (is_of thread) (changed (is_of thread) f xs) ≡ without (is_of thread) xs
+        → without (is_of thread) (changed (is_of thread) f (x ∷ xs)) ≡ without (is_of thread) (x ∷ xs)
+    by_case true e rest =
+        ap (without (is_of thread)) (cond-true (is_of thread x) (f x ∷ xs) (x ∷ changed (is_of thread) f xs) e)
+        ∙ (cond-true (is_of thread (f x)) xs (f x ∷ without (is_of thread) xs) (ap (λ (n : ℕ). n == thread) (same x) ∙ e) ∙ sym (cond-true (is_of thread x) xs (x ∷ without (is_of thread) xs) e))
+    by_case false e rest =
+        ap (without (is_of thread)) (cond-false (is_of thread x) (f x ∷ xs) (x ∷ changed (is_of thread) f xs) e)
+        ∙ (cond-false (is_of thread x) (changed (is_of thread) f xs) (x ∷ without (is_of thread) (changed (is_of thread) f xs)) e
+        ∙ (ap (λ (ys : List Attempt). x ∷ ys) rest ∙ sym (cond-false (is_of thread x) xs (x ∷ without (is_of thread) xs) e)))
+
+-- ended where it was changed before
+pub ended_changed : (r : Rows) (thread : ℕ) (f : Attempt → Attempt) (a : Attempt) → ((b : Attempt) → (f b).thread ≡ b.thread) → with_ended thread a (with_changed thread f r) ≡ with_ended thread a r
+ended_changed r thread f a same = λ i. record (with_ended thread a r) { active = without_changed thread f r.active same i }
+
+-- ## The active attempt is told where it reads
+
+-- what stands in it stays
+pub record KeepsCalls (f : Attempt → Attempt) : Type 0 where
+  pub thread : (a : Attempt) → (f a).thread ≡ a.thread
+  pub outcome : (a : Attempt) → (f a).outcome ≡ a.outcome
+  pub calls : (a : Attempt) → (f a).calls ≡ a.calls
+
+module _ {P : Type 0} (next : P → Option Call) (answered : P → Replied → P) (restarted : P → P) (left : P → ℕ) (depth : P → ℕ)
+    (r r' : Rows) (a : Actor P) (f : Attempt → Attempt) (k : KeepsCalls f) (is : r' ≡ with_changed a.thread f r) (opened : a.engine.is_open ≡ true) (kept : IsKept a.engine.is_open r a) where
+  had : HasRow true r a.thread
+  had = subst (λ (b : Bool). HasRow b r a.thread) opened kept.row
+
+  pub told_kept : IsKept a.engine.is_open r' a
+  told_kept = record { row = row_changed r r' a.thread a.engine.is_open f k.thread k.outcome is had opened; empty = kept.empty; tried = kept.tried; tries = kept.tries; retries = kept.retries }
+
+  told_calls : (row : Attempt) → active_of a.thread r'.active ≡ Some row → row.calls ≡ had.0.calls
+  told_calls row e =
+      let there : active_of a.thread r'.active ≡ Some (f had.0) = ap (λ (x : Rows). active_of a.thread x.active) is ∙ changed_here a.thread f r.active had.0 k.thread had.1 in
+      let same : row ≡ f had.0 = (let both : Some row ≡ Some (f had.0) = sym e ∙ there in cc) in
+      ap (λ (x : Attempt). x.calls) same ∙ k.calls had.0
+
+  pub told_status : (status : Status) → StatusIs next answered restarted left depth r a status → StatusIs next answered restarted left depth r' a status
+  told_status Ready s = record { nested = s.nested; idle = s.idle; free = s.free; nothing = s.nothing }
+  told_status (Waits call step) s =
+      let i = s.in_call in
+      record {
+        nested = s.nested;
+        in_call = record {
+          asks = i.asks;
+          begins = i.begins;
+          inside = i.inside;
+          opens = λ row e. (let p = i.opens row e in record { thread = p.thread; nth = p.nth; outcome = p.outcome; room = (let same : r'.room ≡ r.room = ap (λ (x : Rows). x.room) is in let some = p.room in omega arith) });
+          room = λ row o e. (let same = ap length (told_calls row e) in let some = i.room had.0 o had.1 in omega arith);
+        };
+        doing = s.doing;
+        waits = s.waits;
+        lawful = s.lawful;
+        within = s.within;
+      }
+  told_status (Ended end) s = tt

@@ -1,5 +1,5 @@
 -- What comes of an answer is recorded, and the actor is between calls again, or has ended.
-use Rattle.std.proofs.Common.{◌≡◌, ℕ, ◌+◌, ◌-◌, ◌*◌, ◌<◌, ◌≤◌, Bool, true, false, nat_lt, [], Option, None, Some, refl, sym, ap, subst, arith, if◌then◌else◌, vec_len, Vec, Global}
+use Rattle.std.proofs.Common.{◌≡◌, ℕ, ◌+◌, ◌-◌, ◌*◌, ◌<◌, ◌≤◌, Bool, true, false, nat_lt, [], Option, None, Some, refl, sym, ap, subst, arith, if◌then◌else◌, Vec, Global}
 use Rattle.std.proofs.lemmas.Bool.{ltb-false}
 use Rattle.itm_types.specs.declared.call.Call.{Call}
 use Rattle.itm_types.specs.declared.call.Reply.{Reply as Replied}
@@ -10,7 +10,7 @@ use Rattle.norec_world.specs.declared.attempt.Entry.{Entry}
 use Rattle.norec_world.specs.declared.attempt.Attempt.{Attempt}
 use Rattle.norec_world.specs.declared.attempt.End.{End}
 use Rattle.norec_world.specs.declared.attempt.End.TheVariants.{GaveUp}
-use Rattle.norec_world.specs.declared.recorded.Recorded.{Recorded}
+use Rattle.norec_world.specs.Rows.{Rows, active_of}
 use Rattle.norec_world.specs.declared.actor.Actor.{Actor}
 use Rattle.norec_world.specs.declared.actor.Status.{Status}
 use Rattle.norec_world.specs.declared.actor.Status.TheVariants.{Ready, Ended}
@@ -21,13 +21,13 @@ module _ {P : Type 0} (next : P → Option Call) (answered : P → Replied → P
     (nearer : (p : P) (c : Call) (r : Replied) → next p ≡ Some c → left (answered p r) < left p)
     (nests : (p : P) (c : Call) (r : Replied) → next p ≡ Some c → depth (answered p r) ≡ depth_after (depth p) c r)
     (restarts : (p : P) (c : Call) (r : Replied) → next p ≡ Some c → 0 < depth_after (depth p) c r → restarted (answered p r) ≡ (if opens (depth p) c r then p else restarted p))
-    (r r' : Recorded) (a : Actor P) (call : Call) where
+    (r r' : Rows) (a : Actor P) (call : Call) where
   -- a reply
   pub after_reply : (was : Bool) (reply : Replied) → IsAnswered next answered restarted left depth was r a call (Reply reply)
       → (player : P) → player ≡ answered a.player reply → (spare : Vec Entry Global) → spare.items ≡ [] → (pending : Option Attempt) → pending ≡ None → (again : Bool)
-      → HasRow a.engine.is_open r' a.thread → r'.ended ≤ vec_len r'.rows
+      → HasRow a.engine.is_open r' a.thread
       → IsSettledBy next answered restarted left depth was r' a (record a { player = player; spare = spare; pending = pending; again = again })
-  after_reply was reply d player is spare empty pending nothing again row within =
+  after_reply was reply d player is spare empty pending nothing again row =
       let now = a.engine.is_open in
       let k = d.kept in
       let played : Played next answered restarted left depth nearer nests restarts was now a.player player =
@@ -38,7 +38,7 @@ module _ {P : Type 0} (next : P → Option Call) (answered : P → Replied → P
         engine = refl;
         thread = refl;
         retries = refl;
-        kept = record { row = row; within = within; empty = empty; tried = k.tried; tries = k.tries; retries = k.retries };
+        kept = record { row = row; empty = empty; tried = k.tried; tries = k.tries; retries = k.retries };
         rests = subst (λ (s : Status). RestsAs next answered restarted left depth s new) (sym d.status)
             (record { nested = played.nested; idle = d.idle; free = d.free; nothing = nothing });
         falls = λ e. record {
@@ -49,7 +49,7 @@ module _ {P : Type 0} (next : P → Option Call) (answered : P → Replied → P
 
   -- the block is done
   pub after_commit : (was : Bool) (at : ℕ) (wrote : Bool) → IsAnswered next answered restarted left depth was r a call (Committed at wrote)
-      → (player : P) → player ≡ answered a.player Done → (spare : Vec Entry Global) → spare.items ≡ [] → r'.ended ≡ vec_len r'.rows
+      → (player : P) → player ≡ answered a.player Done → (spare : Vec Entry Global) → spare.items ≡ [] → active_of a.thread r'.active ≡ None
       → IsSettledBy next answered restarted left depth was r' a (record a { player = player; spare = spare; nth = 1; again = false })
   after_commit false at wrote d player is spare empty row = absurd (let f : false ≡ true = d.fits.0 in cc)
   after_commit true at wrote d player is spare empty row =
@@ -68,8 +68,7 @@ module _ {P : Type 0} (next : P → Option Call) (answered : P → Replied → P
         thread = refl;
         retries = refl;
         kept = record {
-          row = subst HasIt closed (sym row);
-          within = (let e = row in omega arith);
+          row = subst HasIt closed row;
           empty = empty;
           tried = (let o : 0 < 1 = omega arith in o);
           tries = (let o : 1 ≤ a.retries + 1 = omega arith in o);
@@ -86,7 +85,7 @@ module _ {P : Type 0} (next : P → Option Call) (answered : P → Replied → P
   -- a try came to nothing, and the player is where it began the block
   pub after_try : (was : Bool) → IsKept was r a → IsNested next answered restarted left depth was a.player → a.engine.waits ≡ None → a.engine.holds ≡ false → a.status ≡ Ready
       → (pending : Option Attempt) → pending ≡ None → (player : P) → depth player ≡ 0 → left player ≡ whole next answered restarted left depth was a.player
-      → a.engine.is_open ≡ false → r'.ended ≡ vec_len r'.rows
+      → a.engine.is_open ≡ false → active_of a.thread r'.active ≡ None
       → IsSettledBy next answered restarted left depth was r' a (retried (record a { player = player; pending = pending }))
   after_try was k nested idle free ready pending nothing player outside same closed row = tries (nat_lt a.retries a.nth) refl
     where
@@ -99,7 +98,7 @@ module _ {P : Type 0} (next : P → Option Call) (answered : P → Replied → P
         engine = refl;
         thread = refl;
         retries = refl;
-        kept = record { row = subst HasIt (sym closed) (sym row); within = (let x = row in omega arith); empty = k.empty; tried = k.tried; tries = k.tries; retries = k.retries };
+        kept = record { row = subst HasIt (sym closed) row; empty = k.empty; tried = k.tried; tries = k.tries; retries = k.retries };
         rests = tt;
         falls = λ over. absurd (cc);
       }
@@ -113,7 +112,7 @@ module _ {P : Type 0} (next : P → Option Call) (answered : P → Replied → P
             engine = refl;
             thread = refl;
             retries = refl;
-            kept = record { row = subst HasIt (sym closed) (sym row); within = (let x = row in omega arith); empty = k.empty; tried = (let o : 0 < a.nth + 1 = omega arith in o); tries = (let o : a.nth + 1 ≤ a.retries + 1 = omega arith in o); retries = k.retries };
+            kept = record { row = subst HasIt (sym closed) row; empty = k.empty; tried = (let o : 0 < a.nth + 1 = omega arith in o); tries = (let o : a.nth + 1 ≤ a.retries + 1 = omega arith in o); retries = k.retries };
             rests = subst (λ (s : Status). RestsAs next answered restarted left depth s new) (sym ready)
                 (record { nested = subst NestedIf (sym closed) nested'; idle = idle; free = free; nothing = nothing });
             falls = λ over. subst FallsTo (sym closed) (record {
@@ -125,7 +124,7 @@ module _ {P : Type 0} (next : P → Option Call) (answered : P → Replied → P
           }
 
   -- no more tries: the actor has ended
-  pub after_end : (was : Bool) (end : End) → IsKept was r a → a.engine.is_open ≡ false → r'.ended ≡ vec_len r'.rows
+  pub after_end : (was : Bool) (end : End) → IsKept was r a → a.engine.is_open ≡ false → active_of a.thread r'.active ≡ None
       → IsSettledBy next answered restarted left depth was r' a (record a { status = Ended end })
   after_end was end k closed row =
       let HasIt : Bool → Type 0 = λ b. HasRow b r' a.thread in
@@ -133,7 +132,7 @@ module _ {P : Type 0} (next : P → Option Call) (answered : P → Replied → P
         engine = refl;
         thread = refl;
         retries = refl;
-        kept = record { row = subst HasIt (sym closed) (sym row); within = (let x = row in omega arith); empty = k.empty; tried = k.tried; tries = k.tries; retries = k.retries };
+        kept = record { row = subst HasIt (sym closed) row; empty = k.empty; tried = k.tried; tries = k.tries; retries = k.retries };
         rests = tt;
         falls = λ over. absurd (cc);
       }

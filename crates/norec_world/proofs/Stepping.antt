@@ -13,14 +13,16 @@ use Rattle.norec_engine.specs.Proceeds.{AsksFor, Ends, Proceeds, Joins, IsSettle
 use Rattle.norec_engine.specs.declared.answer.Answer.{Answer}
 use Rattle.norec_engine.specs.declared.answer.Next.{Next}
 use Rattle.norec_engine.specs.declared.answer.Next.TheVariants.{Step as Asks, Answer as Answers}
-use Rattle.norec_world.specs.declared.recorded.Recorded.{Recorded}
+use Rattle.norec_world.specs.Rows.{Rows}
 use Rattle.norec_world.specs.declared.actor.Actor.{Actor}
 use Rattle.norec_world.specs.declared.actor.Status.{Status}
 use Rattle.norec_world.specs.declared.actor.Status.TheVariants.{Ready, Waits, Ended}
 use Rattle.norec_world.specs.Cells.{Cells, found, cells_after}
 use Rattle.norec_world.specs.Status.{is_waiting, is_ready}
 use Rattle.norec_world.specs.Sound.{IsTied, HasRow, IsKept, IsNested, IsInCall, IsWaiting, IsSound, StatusIs, IsAnswered, IsSettledBy, RestsAs, IsDue, IsDone, GoesOn, Falls, whole, rank, AnswerFits, steps_left}
-use Rattle.norec_world.proofs.Tying.{IsMid, hands, tied, rests, answer_fits}
+use Rattle.norec_world.proofs.Tying.{IsMid, hands, tied, rests, answer_fits, limit_same, holds_same, holds_handed}
+use Rattle.norec_world.proofs.Clocking.{clocks_of, clocks_still, clocks_twice}
+use Rattle.norec_world.specs.Holding.{HoldsOn, ClocksOn}
 
 -- what the value does not change
 pub record IsHanded (e mid : Core) : Type 0 where
@@ -48,10 +50,10 @@ handed_is e (Store (suc word) value) seen = record { is_open = refl; doing = ref
 handed_is e (Cas cell from to) seen = record { is_open = refl; doing = refl; spent = refl; most_same = most_of e (handed_to e (Some (Cas cell from to)) seen) e.doing refl refl refl }
 
 module _ {P : Type 0} (next : P → Option Call) (answered : P → Replied → P) (restarted : P → P) (left : P → ℕ) (depth : P → ℕ)
-    (cells : Cells) (r : Recorded) (old : Actor P) (sound : IsSound next answered restarted left depth cells r old) (call : Call) (step : Step) (waiting : old.status ≡ Waits call step)
+    (cells : Cells) (r : Rows) (old : Actor P) (sound : IsSound next answered restarted left depth cells r old) (call : Call) (step : Step) (waiting : old.status ≡ Waits call step)
     (seen : ℕ) (seen_is : seen ≡ found cells step) (cells' : Cells) (cells_are : cells' ≡ cells_after cells step) (fit : AllFit cells'.words)
     (new : Core) (joins : Joins old.engine seen new) (settled : IsSettled new) (within : IsWithin new) where
-  waits : IsWaiting next answered restarted left depth r old call step
+  pub waits : IsWaiting next answered restarted left depth r old call step
   waits = let Is : Status → Type 0 = StatusIs next answered restarted left depth r old in subst Is waiting sound.status
 
   mid : Core
@@ -60,21 +62,22 @@ module _ {P : Type 0} (next : P → Option Call) (answered : P → Replied → P
   mid_is : handed old.engine seen ≡ handed_to old.engine (Some step) seen
   mid_is = ap (λ (o : Option Step). handed_to old.engine o seen) waits.waits
 
-  is_mid : IsMid cells' (handed_to old.engine (Some step) seen) new
+  pub is_mid : IsMid cells' (handed_to old.engine (Some step) seen) new
   is_mid =
       let Fits : Cells → Type 0 = λ c. AllFit c.words in
-      let m = hands cells old.engine new sound.tied settled step waits.lawful (subst Fits cells_are fit) (subst (λ (n : ℕ). Joins old.engine n new) seen_is joins) in
+      let joined : Joins old.engine (found cells step) new = subst (λ (n : ℕ). Joins old.engine n new) seen_is joins in
+      let m = hands cells old.engine new sound.tied settled step waits.waits joined waits.lawful (subst Fits cells_are fit) in
       let Mid : Cells → ℕ → Type 0 = λ c n. IsMid c (handed_to old.engine (Some step) n) new in
       subst (λ (c : Cells). Mid c seen) (sym cells_are) (subst (λ (n : ℕ). Mid (cells_after cells step) n) (sym seen_is) m)
 
   module _ (what : Next) (proceeds : Proceeds (handed old.engine seen) what new) where
-    went : Proceeds (handed_to old.engine (Some step) seen) what new
+    pub went : Proceeds (handed_to old.engine (Some step) seen) what new
     went = let Went : Core → Type 0 = λ m. Proceeds m what new in subst Went mid_is proceeds
 
     pub step_tied : IsTied cells' new
     step_tied = tied cells' (handed_to old.engine (Some step) seen) new what is_mid went
 
-  same : IsHanded old.engine (handed_to old.engine (Some step) seen)
+  pub same : IsHanded old.engine (handed_to old.engine (Some step) seen)
   same = handed_is old.engine step seen
 
   -- the call is answered
@@ -83,12 +86,12 @@ module _ {P : Type 0} (next : P → Option Call) (answered : P → Replied → P
   step_answered a g =
       let w : Ends (handed_to old.engine (Some step) seen) a new = went (Answers a) g in
       let rest = rests (handed_to old.engine (Some step) seen) new a is_mid.opens w in
-      let fits : AnswerFits (handed_to old.engine (Some step) seen).is_open new.is_open call a = answer_fits cells' (handed_to old.engine (Some step) seen) new is_mid call a (same.doing ∙ waits.doing) w in
+      let fits : AnswerFits (handed_to old.engine (Some step) seen).is_open new.is_open call a = answer_fits (handed_to old.engine (Some step) seen) new call a (same.doing ∙ waits.doing) w in
       let Fits : Bool → Type 0 = λ b. AnswerFits b new.is_open call a in
       let k = sound.kept in
       let i = waits.in_call in
       record {
-        kept = record { row = k.row; within = k.within; empty = k.empty; tried = k.tried; tries = k.tries; retries = k.retries };
+        kept = record { row = k.row; empty = k.empty; tried = k.tried; tries = k.tries; retries = k.retries };
         nested = waits.nested;
         in_call = record {
           asks = i.asks;
@@ -118,7 +121,7 @@ module _ {P : Type 0} (next : P → Option Call) (answered : P → Replied → P
     step_kept =
         let k = sound.kept in
         let Row : Bool → Type 0 = λ b. HasRow b r old.thread in
-        record { row = subst Row opens k.row; within = k.within; empty = k.empty; tried = k.tried; tries = k.tries; retries = k.retries }
+        record { row = subst Row opens k.row; empty = k.empty; tried = k.tried; tries = k.tries; retries = k.retries }
 
     pub step_waiting : IsWaiting next answered restarted left depth r (record old { engine = new; status = Waits call step' }) call step'
     step_waiting =
@@ -159,6 +162,17 @@ module _ {P : Type 0} (next : P → Option Call) (answered : P → Replied → P
       };
     }
 
+  -- ## The clock
+
+  pub step_clocks : (what : Next) → Proceeds (handed old.engine seen) what new → (last : Core) → last ≡ new → ClocksOn cells old.engine cells' last
+  step_clocks what g last same =
+      let h = holds_handed cells old.engine step sound.tied waits.lawful in
+      let moved = subst (λ (c : Cells). HoldsOn cells old.engine c (handed_to old.engine (Some step) (found cells step))) (sym cells_are) h in
+      let taken = subst (λ (n : ℕ). HoldsOn cells old.engine cells' (handed_to old.engine (Some step) n)) (sym seen_is) moved in
+      clocks_twice cells cells' cells' old.engine (handed_to old.engine (Some step) seen) last (clocks_of cells cells' old.engine (handed_to old.engine (Some step) seen) taken (λ h. (let held = is_mid.holder h in let even = is_mid.even h in omega arith)))
+      (clocks_still cells' (handed_to old.engine (Some step) seen) last (ap (λ (c : Core). c.holds) same ∙ holds_same (handed_to old.engine (Some step) seen) new what is_mid.opens (went what g))
+      (let kept = limit_same (handed_to old.engine (Some step) seen) new what (went what g) in (ap (λ (c : Core). c.max_commits) same ∙ kept.0, ap (λ (c : Core). c.patience) same ∙ kept.1)))
+
   -- ## Both
 
   pub step_due : (what : Next) → Proceeds (handed old.engine seen) what new → (status : Status) → status ≡ Ready
@@ -169,31 +183,37 @@ module _ {P : Type 0} (next : P → Option Call) (answered : P → Replied → P
       subst Answered (sym e) (step_answered a g)
 
   -- what is true of the actor then, before its open attempt is told where it reads
-  pub record Stepped (r' : Recorded) (last : Actor P) : Type 0 where
+  pub record Stepped (r' : Rows) (last : Actor P) : Type 0 where
+    pub engine : last.engine ≡ new
     pub tied : IsTied cells' last.engine
     pub kept : IsKept last.engine.is_open r' last
     pub status : StatusIs next answered restarted left depth r' last last.status
     pub thread : last.thread ≡ old.thread
+    pub retries : last.retries ≡ old.retries
     pub goes_on : is_waiting last.status ≡ true → GoesOn next answered restarted left depth old last
     pub falls : is_ready last.status ≡ true → Falls next answered restarted left depth old.engine.is_open last.engine.is_open old last
 
   went_on : (step' : Step) → Proceeds (handed old.engine seen) (Asks step') new → Stepped r (record old { engine = new; status = Waits call step' })
   went_on step' g = record {
+    engine = refl;
     tied = step_tied (Asks step') g;
     kept = step_kept step' g;
     status = step_waiting step' g;
     thread = refl;
+    retries = refl;
     goes_on = λ e. step_goes_on step' g;
     falls = λ e. absurd (cc);
   }
 
-  settled_to : (a : Answer) → Proceeds (handed old.engine seen) (Answers a) new → (status : Status) → (r' : Recorded) (last : Actor P)
+  settled_to : (a : Answer) → Proceeds (handed old.engine seen) (Answers a) new → (status : Status) → (r' : Rows) (last : Actor P)
       → IsSettledBy next answered restarted left depth old.engine.is_open r' (record old { engine = new; status = status }) last → Stepped r' last
   settled_to a g status r' last s = record {
+    engine = s.engine;
     tied = subst (IsTied cells') (sym s.engine) (step_tied (Answers a) g);
     kept = s.kept;
     status = status_of last.status s.rests;
     thread = s.thread;
+    retries = s.retries;
     goes_on = λ e. waiting_of last.status s.rests e;
     falls = λ e. (let f = s.falls (ready_of last.status e) in record { whole_falls = f.whole_falls; rank_falls = f.rank_falls });
   }
@@ -213,9 +233,9 @@ module _ {P : Type 0} (next : P → Option Call) (answered : P → Replied → P
       ready_of (Waits c step') e = absurd (cc)
       ready_of (Ended end) e = absurd (cc)
 
-  pub step_done : (what : Next) → Proceeds (handed old.engine seen) what new → (status : Status) → (r' : Recorded) (last : Actor P)
+  pub step_done : (what : Next) → Proceeds (handed old.engine seen) what new → (status : Status) → (r' : Rows) (last : Actor P)
       → IsDone next answered restarted left depth old.engine.is_open r r' (record old { engine = new; status = status }) last call what → Stepped r' last
   step_done (Asks step') g status r' last d =
-      let Made : Recorded → Actor P → Type 0 = λ x y. Stepped x y in
-      subst (λ (x : Recorded). Made x last) (sym d.1) (subst (λ (y : Actor P). Made r y) (sym d.0) (went_on step' g))
+      let Made : Rows → Actor P → Type 0 = λ x y. Stepped x y in
+      subst (λ (x : Rows). Made x last) (sym d.1) (subst (λ (y : Actor P). Made r y) (sym d.0) (went_on step' g))
   step_done (Answers a) g status r' last d = settled_to a g status r' last d

@@ -1,5 +1,5 @@
 -- The one actor of a world tracks what its player does alone, over each answer and each step.
-use Rattle.std.proofs.Common.{◌≡◌, ◌⊎◌, inl, inr, ℕ, zero, suc, ◌+◌, ◌*◌, ◌/◌, ◌<◌, ◌≤◌, Bool, true, false, ◌&&◌, ◌==◌, cond, nat_le, is_some, if◌then◌else◌, List, [], ◌∷◌, ◌++◌, length, Option, None, Some, slice_index, refl, sym, ap, subst, ◌∙◌, arith}
+use Rattle.std.proofs.Common.{◌≡◌, ◌⊎◌, inl, inr, ℕ, zero, suc, ◌+◌, ◌*◌, ◌/◌, ◌<◌, ◌≤◌, Bool, true, false, ◌&&◌, ◌==◌, cond, nat_le, is_some, List, [], length, Option, None, Some, slice_index, refl, sym, ap, subst, ◌∙◌, arith}
 use Rattle.std.proofs.lemmas.Bool.{cond-true, cond-false, eqb-true, and_left, and_right, lt-leb}
 use Rattle.itm_types.specs.declared.step.Step.{Step}
 use Rattle.itm_types.specs.declared.step.Step.TheVariants.{Load, Store, Cas}
@@ -30,9 +30,10 @@ use Rattle.norec_world.specs.Sound.{IsTied}
 use Rattle.norec_world.proofs.Tying.{IsMid}
 use Rattle.norec_world.specs.Solo.{Progress, one_if}
 use Rattle.norec_world.specs.Follows.{Follows, row_of}
-use Rattle.norec_world.specs.Records.{Records, Opens, again_after, Asks, begins_again, asked_pending}
+use Rattle.norec_world.specs.Records.{Records, Opens, AddsCall, EndsBy, StopsAt, again_after, Asks, begins_again, asked_pending}
+use Rattle.norec_world.specs.Rows.{Rows, with_opened}
 use Rattle.norec_world.specs.Tracks.{OpensNext, IsOnWay, IsUnderWay, TracksAs}
-use Rattle.norec_world.proofs.Following.{IsClosing, is_free, comes_on, asks_on, replies_on, commits_on, full_on, begins_on, begin_opens, passes_on, no_conflict, no_busy, no_rows}
+use Rattle.norec_world.proofs.Following.{IsClosing, is_free, agrees_more, comes_on, asks_on, replies_on, commits_on, full_on, begins_on, begin_opens, passes_on, no_conflict, no_busy, no_rows}
 
 pub halved : (n k : ℕ) → n ≡ 2 * k → n / 2 ≡ k
 halved n k e = omega arith
@@ -41,12 +42,12 @@ some_of : {A : Type 0} (o : Option A) → is_some o ≡ true → (x : A) × (o �
 some_of None e = absurd (cc)
 some_of (Some x) e = (x, refl)
 
-opened_rows : (b : Bool) (rows rows' : List Attempt) (pending : Option Attempt) (row : Attempt) (at : ℕ) → pending ≡ Some row → Opens b rows pending at rows' → b ≡ true → rows' ≡ rows ++ record row { at = at } ∷ []
-opened_rows true rows rows' (Some x) row at e h t = (let same : x ≡ row = cc in h ∙ ap (λ (r : Attempt). rows ++ record r { at = at } ∷ []) same)
+opened_rows : (b : Bool) (rows rows' : Rows) (pending : Option Attempt) (row : Attempt) (at : ℕ) → pending ≡ Some row → Opens b rows pending at rows' → b ≡ true → rows' ≡ with_opened (record row { at = at }) rows
+opened_rows true rows rows' (Some x) row at e h t = (let same : x ≡ row = cc in h ∙ ap (λ (r : Attempt). with_opened (record r { at = at }) rows) same)
 opened_rows true rows rows' None row at e h t = absurd (cc)
 opened_rows false rows rows' pending row at e h t = absurd (cc)
 
-unopened_rows : (b : Bool) (rows rows' : List Attempt) (pending : Option Attempt) (at : ℕ) → Opens b rows pending at rows' → b ≡ false → rows' ≡ rows
+unopened_rows : (b : Bool) (rows rows' : Rows) (pending : Option Attempt) (at : ℕ) → Opens b rows pending at rows' → b ≡ false → rows' ≡ rows
 unopened_rows true rows rows' pending at h f = absurd (cc)
 unopened_rows false rows rows' pending at h f = h
 
@@ -91,14 +92,14 @@ freed_by e (Cas cell from to) seen f = f
 module _ {P : Type 0} (next : P → Option Call) (answered : P → Replied → P) (restarted : P → P) (left : P → ℕ)
     (nearer : (p : P) (c : Call) (r : Replied) → next p ≡ Some c → left (answered p r) < left p)
     (max_commits : ℕ) (p0 : P) (base arena : List ℕ) where
-  abbrev On : Progress P → List Attempt → List ℕ → Cells → List Attempt → P → Core → Type 0
+  abbrev On : Progress P → List Attempt → List ℕ → Cells → Rows → P → Core → Type 0
   On b past M cells rows p e = Follows next answered left max_commits 0 p0 base arena b past M cells rows p e
 
-  abbrev As : Cells → List Attempt → Actor P → Status → Type 0
+  abbrev As : Cells → Rows → Actor P → Status → Type 0
   As cells rows a s = TracksAs next answered left max_commits p0 base arena cells rows a s
 
   -- the call that is answered, by an engine that was mid before
-  pub record IsTold (cells : Cells) (rows : List Attempt) (old : Actor P) (mid : Core) (b : Progress P) (past : List Attempt) (M : List ℕ) (call : Call) : Type 0 where
+  pub record IsTold (cells : Cells) (rows : Rows) (old : Actor P) (mid : Core) (b : Progress P) (past : List Attempt) (M : List ℕ) (call : Call) : Type 0 where
     pub doing : mid.doing ≡ Some call
     pub asks : next old.player ≡ Some call
     pub first : old.nth ≡ 1
@@ -112,8 +113,9 @@ module _ {P : Type 0} (next : P → Option Call) (answered : P → Replied → P
     pub empty : mid.is_open ≡ false → mid.writes ≡ []
     pub late : mid.clock ≤ cells.clock
     pub ready : old.status ≡ Ready
+    pub mine : old.thread ≡ 0
 
-  on_way : (cells : Cells) (rows : List Attempt) (new : Actor P) (b : Progress P) (past : List Attempt) (M : List ℕ) (p : P) (e : Core) → On b past M cells rows p e → new.player ≡ p → new.engine ≡ e → new.nth ≡ 1
+  on_way : (cells : Cells) (rows : Rows) (new : Actor P) (b : Progress P) (past : List Attempt) (M : List ℕ) (p : P) (e : Core) → On b past M cells rows p e → new.player ≡ p → new.engine ≡ e → new.nth ≡ 1
       → (e.is_open ≡ false → new.again ≡ false) → new.status ≡ Ready → As cells rows new new.status
   on_way cells rows new b past M p e f player engine nth again ready =
       subst (As cells rows new) (sym ready) (record {
@@ -125,12 +127,12 @@ module _ {P : Type 0} (next : P → Option Call) (answered : P → Replied → P
         anew = λ o. again (ap (λ (c : Core). c.is_open) (sym engine) ∙ o);
       })
 
-  told_open : (cells : Cells) (rows rows' : List Attempt) (old new : Actor P) (mid : Core) (b : Progress P) (past : List Attempt) (M : List ℕ) (call : Call) (r : Replied)
+  told_open : (cells : Cells) (rows rows' : Rows) (old new : Actor P) (mid : Core) (b : Progress P) (past : List Attempt) (M : List ℕ) (call : Call) (r : Replied)
       → On b past M cells rows old.player mid → IsTold cells rows old mid b past M call → Replies mid call r old.engine → new.engine ≡ old.engine → mid.is_open ≡ true
       → Records answered restarted true rows rows' old new call (Reply r) → As cells rows' new new.status
   told_open cells rows rows' old new mid b past M call r f t g engine o h =
       on_way cells rows' new b past M (answered old.player r) old.engine
-      (replies_on next answered left nearer max_commits 0 p0 base arena b past M cells rows rows' old.player mid old.engine call r f g o t.asks (t.moved o) t.words t.agrees h.0)
+      (replies_on next answered left nearer max_commits 0 p0 base arena b past M cells rows rows' old.player mid old.engine call r f g o t.asks (t.moved o) t.words t.agrees (subst (λ (n : ℕ). AddsCall n rows call r rows') t.mine h.0))
       h.1 engine (h.3 ∙ t.first) (λ c. absurd (let a : true ≡ false = sym (g.still o) ∙ c in (cc))) (h.4 ∙ t.ready)
 
   -- an accepted begin's row
@@ -140,7 +142,7 @@ module _ {P : Type 0} (next : P → Option Call) (answered : P → Replied → P
   row_at b row props n k e h same =
       (λ i. record (e i) { at = n / 2 }) ∙ ap (λ (j : ℕ). record (row_of next answered left max_commits 0 b (record { player = b.player; arena = b.arena; props = props }) [] Unfinished) { at = j }) (halved n k h ∙ same)
 
-  told_begin : (cells : Cells) (rows rows' : List Attempt) (old new : Actor P) (mid : Core) (b : Progress P) (past : List Attempt) (M : List ℕ) (call : Call) (r : Replied)
+  told_begin : (cells : Cells) (rows rows' : Rows) (old new : Actor P) (mid : Core) (b : Progress P) (past : List Attempt) (M : List ℕ) (call : Call) (r : Replied)
       → On b past M cells rows old.player mid → IsTold cells rows old mid b past M call → Replies mid call r old.engine → new.engine ≡ old.engine → mid.is_open ≡ false → is_begin call ≡ true
       → Records answered restarted false rows rows' old new call (Reply r) → As cells rows' new new.status
   told_begin cells rows rows' old new mid b past M call r f t g engine o nb h =
@@ -151,7 +153,7 @@ module _ {P : Type 0} (next : P → Option Call) (answered : P → Replied → P
       let room : ℕ = next_row.room in
       let call_is : call ≡ Begin props room = next_row.call_is in
       let at : ℕ = new.engine.snapshot / 2 in
-      let opened : new.engine.is_open ≡ true → rows' ≡ rows ++ record row { at = at } ∷ [] = opened_rows new.engine.is_open rows rows' old.pending row at some.1 h.0 in
+      let opened : new.engine.is_open ≡ true → rows' ≡ with_opened (record row { at = at }) rows = opened_rows new.engine.is_open rows rows' old.pending row at some.1 h.0 in
       let g' : Replies mid (Begin props room) r old.engine = subst (λ (c : Call). Replies mid c r old.engine) call_is g in
       let asks : next old.player ≡ Some (Begin props room) = t.asks ∙ ap Some call_is in
       let opens : old.engine.is_open ≡ true = begin_opens next answered left nearer max_commits 0 p0 base arena b past M cells rows old.player mid old.engine props room r f g' o (t.empty o) t.words t.agrees in
@@ -163,7 +165,7 @@ module _ {P : Type 0} (next : P → Option Call) (answered : P → Replied → P
       (λ w. opened (ap (λ (c : Core). c.is_open) engine ∙ w)) in
       on_way cells rows' new b past M (answered old.player r) old.engine done.2 h.1 engine (h.3 ∙ t.first) (λ c. absurd (let a : true ≡ false = sym opens ∙ c in (cc))) (h.4 ∙ t.ready)
 
-  told_outside : (cells : Cells) (rows rows' : List Attempt) (old new : Actor P) (mid : Core) (b : Progress P) (past : List Attempt) (M : List ℕ) (call : Call) (r : Replied)
+  told_outside : (cells : Cells) (rows rows' : Rows) (old new : Actor P) (mid : Core) (b : Progress P) (past : List Attempt) (M : List ℕ) (call : Call) (r : Replied)
       → On b past M cells rows old.player mid → IsTold cells rows old mid b past M call → Replies mid call r old.engine → new.engine ≡ old.engine → mid.is_open ≡ false → is_begin call ≡ false
       → Records answered restarted false rows rows' old new call (Reply r) → As cells rows' new new.status
   told_outside cells rows rows' old new mid b past M call r f t g engine o nb h =
@@ -172,10 +174,10 @@ module _ {P : Type 0} (next : P → Option Call) (answered : P → Replied → P
       let same : rows' ≡ rows = unopened_rows new.engine.is_open rows rows' old.pending (new.engine.snapshot / 2) h.0 shut in
       let again : new.again ≡ false = h.2 ∙ (ap (λ (x : Bool). again_after x old.pending old.again) shut ∙ t.anew o) in
       on_way cells rows' new passed.1.0 past M (answered old.player r) old.engine
-      (subst (λ (ys : List Attempt). On passed.1.0 past M cells ys (answered old.player r) old.engine) (sym same) passed.1.1) h.1 engine (h.3 ∙ t.first) (λ c. again) (h.4 ∙ t.ready)
+      (subst (λ (ys : Rows). On passed.1.0 past M cells ys (answered old.player r) old.engine) (sym same) passed.1.1) h.1 engine (h.3 ∙ t.first) (λ c. again) (h.4 ∙ t.ready)
 
   -- the reply to a call
-  told_reply : (cells : Cells) (rows rows' : List Attempt) (old new : Actor P) (mid : Core) (b : Progress P) (past : List Attempt) (M : List ℕ) (call : Call) (r : Replied) (was begins : Bool)
+  told_reply : (cells : Cells) (rows rows' : Rows) (old new : Actor P) (mid : Core) (b : Progress P) (past : List Attempt) (M : List ℕ) (call : Call) (r : Replied) (was begins : Bool)
       → On b past M cells rows old.player mid → IsTold cells rows old mid b past M call → Replies mid call r old.engine → new.engine ≡ old.engine → mid.is_open ≡ was → is_begin call ≡ begins
       → Records answered restarted was rows rows' old new call (Reply r) → As cells rows' new new.status
   told_reply cells rows rows' old new mid b past M call r true begins f t g engine o nb h = told_open cells rows rows' old new mid b past M call r f t g engine o h
@@ -187,20 +189,20 @@ module _ {P : Type 0} (next : P → Option Call) (answered : P → Replied → P
   replied_to mid new (Some c) call r e h = (let same : c ≡ call = cc in subst (λ (x : Call). Replies mid x r new) same h)
 
   -- a commit: the words are those that the write set makes of M
-  told_commit : (cells : Cells) (rows rows' : List Attempt) (old new : Actor P) (mid : Core) (b : Progress P) (past : List Attempt) (M : List ℕ) (call : Call) (at : ℕ) (wrote : Bool)
-      → IsClosing next answered left nearer max_commits 0 p0 base arena b past M rows old.player mid → mid.doing ≡ Some call → next old.player ≡ Some call → old.status ≡ Ready → mid.words ≡ length M → IsMemory (length cells.words) M
+  told_commit : (cells : Cells) (rows rows' : Rows) (old new : Actor P) (mid : Core) (b : Progress P) (past : List Attempt) (M : List ℕ) (call : Call) (at : ℕ) (wrote : Bool)
+      → IsClosing next answered left nearer max_commits 0 p0 base arena b past M rows old.player mid → mid.doing ≡ Some call → next old.player ≡ Some call → old.status ≡ Ready → old.thread ≡ 0 → mid.words ≡ length M → IsMemory (length cells.words) M
       → Commits mid at wrote old.engine → new.engine ≡ old.engine
       → IsMemory (length cells.words) (overlay M mid.writes) → cells.clock ≡ 2 * (b.commits + one_if (is_some_row mid.writes)) → cells.words ≡ overlay M mid.writes
       → (is_some_row mid.writes && nat_le max_commits b.commits) ≡ false
       → Records answered restarted mid.is_open rows rows' old new call (Committed at wrote) → As cells rows' new new.status
-  told_commit cells rows rows' old new mid b past M call at wrote f doing asks ready words mem g engine fits clock words_are room h =
+  told_commit cells rows rows' old new mid b past M call at wrote f doing asks ready mine words mem g engine fits clock words_are room h =
       let call_is : call ≡ Commit = (let both : Some call ≡ Some Commit = sym doing ∙ g.doing in cc) in
       let done = commits_on next answered left nearer max_commits 0 p0 base arena b past M cells rows rows' old.player mid old.engine at wrote f g (asks ∙ ap Some call_is) (sym words, mem.1)
-      (λ before row e. h.0 before row e ∙ ap (λ (c : Call). before ++ record row { calls = row.calls ++ record { call = c; reply = Done } ∷ []; at = at; outcome = if wrote then outcomes.Committed else outcomes.ReadOnly } ∷ []) call_is)
+      (subst (λ (c : Call). EndsBy 0 rows at wrote c rows') call_is (subst (λ (n : ℕ). EndsBy n rows at wrote call rows') mine h.0))
       fits clock words_are room in
-      on_way cells rows' new done.0 rows' (overlay M mid.writes) (answered old.player Done) old.engine done.1 h.1 engine h.3 (λ c. h.2) (h.4 ∙ ready)
+      on_way cells rows' new done.0 rows'.ended (overlay M mid.writes) (answered old.player Done) old.engine done.1 h.1 engine h.3 (λ c. h.2) (h.4 ∙ ready)
 
-  closing_of : (cells : Cells) (rows : List Attempt) (p : P) (mid : Core) (b : Progress P) (past : List Attempt) (M : List ℕ) → On b past M cells rows p mid → mid.is_open ≡ true
+  closing_of : (cells : Cells) (rows : Rows) (p : P) (mid : Core) (b : Progress P) (past : List Attempt) (M : List ℕ) → On b past M cells rows p mid → mid.is_open ≡ true
       → IsClosing next answered left nearer max_commits 0 p0 base arena b past M rows p mid
   closing_of cells rows p mid b past M f o = record { whole = f.whole; bytes = f.bytes; arena_is = f.arena_is; limit = f.limit; logged = f.logged; even = f.even; opens = f.opens o }
 
@@ -209,7 +211,7 @@ module _ {P : Type 0} (next : P → Option Call) (answered : P → Replied → P
   mark_is mid new M at wrote g mem agrees = g.wrote_is M mem agrees ∙ ap (λ (s : State). s.wrote) (commits mid.writes mid.is_open mid.props mid.arena M g.is_open)
 
   -- the answer to a call, the last step of which did not free the clock
-  pub told : (cells : Cells) (rows rows' : List Attempt) (old new : Actor P) (mid : Core) (b : Progress P) (past : List Attempt) (M : List ℕ) (call : Call) (answer : Answer)
+  pub told : (cells : Cells) (rows rows' : Rows) (old new : Actor P) (mid : Core) (b : Progress P) (past : List Attempt) (M : List ℕ) (call : Call) (answer : Answer)
       → On b past M cells rows old.player mid → IsTold cells rows old mid b past M call → Ends mid answer old.engine → mid.freed ≡ false → new.engine ≡ old.engine
       → Records answered restarted mid.is_open rows rows' old new call answer → As cells rows' new new.status
   told cells rows rows' old new mid b past M call (Reply r) f t g u engine h =
@@ -220,7 +222,7 @@ module _ {P : Type 0} (next : P → Option Call) (answered : P → Replied → P
       let same : M ≡ overlay M mid.writes = ap (overlay M) (sym empty) in
       let free = f.free g.free in
       let clock = free.0 in
-      told_commit cells rows rows' old new mid b past M call at wrote (closing_of cells rows old.player mid b past M f g.is_open) t.doing t.asks t.ready t.words f.memory g engine
+      told_commit cells rows rows' old new mid b past M call at wrote (closing_of cells rows old.player mid b past M f g.is_open) t.doing t.asks t.ready t.mine t.words f.memory g engine
       (subst (IsMemory (length cells.words)) same f.memory)
       (let less : cells.clock ≡ 2 * (b.commits + one_if false) = omega arith in less ∙ ap (λ (w : Bool). 2 * (b.commits + one_if w)) (sym none))
       (free.1 ∙ same) (and_left (is_some_row mid.writes) (nat_le max_commits b.commits) none) h
@@ -231,26 +233,26 @@ module _ {P : Type 0} (next : P → Option Call) (answered : P → Replied → P
   told cells rows rows' old new mid b past M call (Full at) f t g u engine h =
       let call_is : call ≡ Commit = (let both : Some call ≡ Some Commit = sym t.doing ∙ g.doing in cc) in
       subst (As cells rows' new) (sym h.1)
-      (full_on next answered left nearer max_commits 0 p0 base arena b past M cells rows rows' old.player mid old.engine at f g (t.asks ∙ ap Some call_is) (t.moved g.is_open) h.0)
+      (full_on next answered left nearer max_commits 0 p0 base arena b past M cells rows rows' old.player mid old.engine at f g (t.asks ∙ ap Some call_is) (t.moved g.is_open) (subst (λ (n : ℕ). StopsAt n rows at outcomes.Full rows') t.mine h.0))
 
   -- the answer after the store that frees the clock
-  pub told_freed : (cells : Cells) (rows rows' : List Attempt) (old new : Actor P) (mid : Core) (b : Progress P) (past : List Attempt) (M : List ℕ) (call : Call) (answer : Answer)
-      → IsClosing next answered left nearer max_commits 0 p0 base arena b past M rows old.player mid → mid.doing ≡ Some call → next old.player ≡ Some call → old.status ≡ Ready → mid.words ≡ length M → IsMemory (length cells.words) M
+  pub told_freed : (cells : Cells) (rows rows' : Rows) (old new : Actor P) (mid : Core) (b : Progress P) (past : List Attempt) (M : List ℕ) (call : Call) (answer : Answer)
+      → IsClosing next answered left nearer max_commits 0 p0 base arena b past M rows old.player mid → mid.doing ≡ Some call → next old.player ≡ Some call → old.status ≡ Ready → old.thread ≡ 0 → mid.words ≡ length M → IsMemory (length cells.words) M
       → IsMemory (length cells.words) (overlay M mid.writes) → cells.clock ≡ 2 * (b.commits + 1) → cells.words ≡ overlay M mid.writes → b.commits < max_commits
       → Ends mid answer old.engine → mid.freed ≡ true → new.engine ≡ old.engine
       → Records answered restarted mid.is_open rows rows' old new call answer → As cells rows' new new.status
-  told_freed cells rows rows' old new mid b past M call (Reply r) f doing asks ready words mem fits clock words_are less g u engine h =
+  told_freed cells rows rows' old new mid b past M call (Reply r) f doing asks ready mine words mem fits clock words_are less g u engine h =
       absurd (let k = replied_to mid old.engine mid.doing call r doing g in let a : true ≡ false = sym u ∙ k.unfreed in (cc))
-  told_freed cells rows rows' old new mid b past M call (Committed at wrote) f doing asks ready words mem fits clock words_are less g u engine h =
+  told_freed cells rows rows' old new mid b past M call (Committed at wrote) f doing asks ready mine words mem fits clock words_are less g u engine h =
       let some : is_some_row mid.writes ≡ true = sym (mark_is mid old.engine M at wrote g (sym words, mem.1) f.logged) ∙ (sym g.freed ∙ u) in
-      told_commit cells rows rows' old new mid b past M call at wrote f doing asks ready words mem g engine fits
+      told_commit cells rows rows' old new mid b past M call at wrote f doing asks ready mine words mem g engine fits
       (clock ∙ ap (λ (w : Bool). 2 * (b.commits + one_if w)) (sym some)) words_are
       (and_right (is_some_row mid.writes) (nat_le max_commits b.commits) (lt-leb max_commits b.commits less)) h
-  told_freed cells rows rows' old new mid b past M call (Conflict clock word) f doing asks ready words mem fits now words_are less g u engine h =
+  told_freed cells rows rows' old new mid b past M call (Conflict clock word) f doing asks ready mine words mem fits now words_are less g u engine h =
       absurd (let a : true ≡ false = sym u ∙ g.unfreed in (cc))
-  told_freed cells rows rows' old new mid b past M call (Busy clock) f doing asks ready words mem fits now words_are less g u engine h =
+  told_freed cells rows rows' old new mid b past M call (Busy clock) f doing asks ready mine words mem fits now words_are less g u engine h =
       absurd (let a : true ≡ false = sym u ∙ g.unfreed in (cc))
-  told_freed cells rows rows' old new mid b past M call (Full at) f doing asks ready words mem fits clock words_are less g u engine h =
+  told_freed cells rows rows' old new mid b past M call (Full at) f doing asks ready mine words mem fits clock words_are less g u engine h =
       absurd (let a : true ≡ false = sym u ∙ g.unfreed in (cc))
 
   -- ## The operation
@@ -267,16 +269,16 @@ module _ {P : Type 0} (next : P → Option Call) (answered : P → Replied → P
       by_case false e' = (let no_one = cond-false (cells.clock == from) to cells.clock e' in omega arith)
 
   -- the value of a clock load that settles is the clock
-  settled_at : (cells : Cells) (rows : List Attempt) (p : P) (e : Core) (b : Progress P) (past : List Attempt) (M : List ℕ) (s : Step) → On b past M cells rows p e → IsLawful e s → e.waits ≡ Some s → e.waits ≡ Some (Load 0) → found cells s ≡ 2 * b.commits
+  settled_at : (cells : Cells) (rows : Rows) (p : P) (e : Core) (b : Progress P) (past : List Attempt) (M : List ℕ) (s : Step) → On b past M cells rows p e → IsLawful e s → e.waits ≡ Some s → e.waits ≡ Some (Load 0) → found cells s ≡ 2 * b.commits
   settled_at cells rows p e b past M s f l w z =
       let same : s ≡ Load 0 = (let both : Some s ≡ Some (Load 0) = sym w ∙ z in cc) in
       let free : e.holds ≡ false = (subst (IsLawful e) same l).1 in
       ap (found cells) same ∙ (f.free free).0
 
-  module _ (cells : Cells) (rows : List Attempt) (a : Actor P) (call : Call) (s : Step) (new : Core)
+  module _ (cells : Cells) (rows : Rows) (a : Actor P) (call : Call) (s : Step) (new : Core)
       (w : IsUnderWay next answered left max_commits p0 base arena cells rows a call)
       (tied : IsTied cells a.engine) (lawful : IsLawful a.engine s) (waits : a.engine.waits ≡ Some s) (doing : a.engine.doing ≡ Some call)
-      (asks : next a.player ≡ Some call) (begins : a.engine.is_open ≡ false → is_some a.pending ≡ is_begin call)
+      (thread : a.thread ≡ 0) (asks : next a.player ≡ Some call) (begins : a.engine.is_open ≡ false → is_some a.pending ≡ is_begin call)
       (joins : Joins a.engine (found cells s) new) (m : IsMid (cells_after cells s) (handed a.engine (found cells s)) new) where
     abbrev b : Progress P
     b = w.way.before
@@ -310,22 +312,20 @@ module _ {P : Type 0} (next : P → Option Call) (answered : P → Replied → P
     words = same.words ∙ (tied.words ∙ sym w.way.follows.memory.0)
 
     module _ (on : On b past M cells' rows a.player mid) (unfreed : mid.freed ≡ false) where
-      settles_free : a.engine.waits ≡ Some (Load 0) → mid.holds ≡ false
+      settles_free : a.engine.waits ≡ Some (Load 0) → a.engine.holds ≡ false
       settles_free z =
           let is_load : s ≡ Load 0 = (let both : Some s ≡ Some (Load 0) = sym waits ∙ z in cc) in
-          let free : a.engine.holds ≡ false = (subst (IsLawful a.engine) is_load lawful).1 in
-          ap (λ (o : Option Step). (handed_to a.engine o (found cells s)).holds) z ∙ free
+          (subst (IsLawful a.engine) is_load lawful).1
 
-      free_log : mid.holds ≡ false → Agrees M new.log
-      free_log h = subst (λ (ws : List ℕ). Agrees ws new.log) (on.free h).1 (m.logged h unfreed)
-
-      log_by : (h : Bool) → mid.holds ≡ h → (o : Bool) → new.is_open ≡ o → Agrees M new.log
-      log_by false e o n = free_log e
-      log_by true e false n = subst (Agrees M) (sym (m.settled.closed n).0) tt
-      log_by true e true n = elim (joins.log n) [ inl k ↦ subst (Agrees M) (sym k) w.way.follows.logged | inr k ↦ free_log (settles_free k.0.load) ]
+      agrees_by : (o : Bool) → new.is_open ≡ o → Agrees M new.log
+      agrees_by false n = subst (Agrees M) (sym (m.settled.closed n).0) tt
+      agrees_by true n = elim (joins.log n) [
+        | inl k ↦ subst (Agrees M) (sym k) w.way.follows.logged
+        | inr k ↦ subst (Agrees M) (sym k.1) (agrees_more M a.engine.log a.engine.fresh w.way.follows.logged (w.way.follows.fresh (settles_free k.0.load)))
+      ]
 
       agrees : Agrees M new.log
-      agrees = log_by mid.holds refl new.is_open refl
+      agrees = agrees_by new.is_open refl
 
       -- another step is asked for
       pub hand_asks : (s' : Step) → AsksFor mid s' new → IsUnderWay next answered left max_commits p0 base arena cells' rows (record a { engine = new; status = Waits call s' }) call
@@ -356,11 +356,12 @@ module _ {P : Type 0} (next : P → Option Call) (answered : P → Replied → P
         empty = λ o. same.writes ∙ (tied.settled.closed (sym same.is_open ∙ o)).1;
         late = m.late;
         ready = refl;
+        mine = thread;
       }
 
   -- ## A call comes
 
-  module _ (cells : Cells) (rows rows' : List Attempt) (old new : Actor P) (call : Call) (what : Next)
+  module _ (cells : Cells) (rows rows' : Rows) (old new : Actor P) (call : Call) (what : Next)
       (w : IsOnWay next answered left max_commits p0 base arena cells rows old) (tied : IsTied cells old.engine) (free : old.engine.holds ≡ false) (thread : old.thread ≡ 0) (nothing : old.pending ≡ None)
       (asks : next old.player ≡ Some call) (told_so : Asks cells.clock rows rows' old new call what) (stays : StaysOn old.engine new.engine) (tied' : IsTied cells new.engine) (settled : IsSettled new.engine) where
     abbrev again : Bool
@@ -426,6 +427,7 @@ module _ {P : Type 0} (next : P → Option Call) (answered : P → Replied → P
       empty = λ o. (tied.settled.closed o).1;
       late = tied.late;
       ready = status;
+      mine = told_so.thread ∙ thread;
     }
 
     -- the player is as it was

@@ -1,13 +1,11 @@
 -- The engine and the cells, over one event: the engine's data stay as the cells have them.
-use Rattle.std.proofs.Common.{◌≡◌, ◌⊎◌, inl, inr, ℕ, zero, suc, ◌+◌, ◌<◌, ◌≤◌, ◌==◌, Bool, true, false, List, [], ◌∷◌, ◌++◌, length, Option, None, Some, slice_index, refl, sym, ap, subst, ◌∙◌, arith, if◌then◌else◌, eqb-true, length-set}
-use Rattle.std.proofs.lemmas.Option.{slice_get-get_or}
-use Rattle.itm_types.specs.declared.row.LogRow.{LogRow}
+use Rattle.std.proofs.Common.{◌≡◌, inl, inr, ℕ, zero, suc, ◌+◌, ◌*◌, ◌/◌, ◌%◌, ◌<◌, ◌≤◌, ◌==◌, Bool, true, false, length, Option, None, Some, slice_index, refl, sym, ap, subst, ◌∙◌, arith, if◌then◌else◌, eqb-true, length-set}
 use Rattle.itm_types.specs.declared.step.Step.{Step}
 use Rattle.itm_types.specs.declared.step.Step.TheVariants.{Load, Store, Cas}
 use Rattle.itm_types.specs.declared.call.Call.{Call}
 use Rattle.itm_types.specs.declared.call.Call.TheVariants.{Commit}
 use Rattle.itm_types.specs.declared.call.Reply.{Reply as Replied}
-use Rattle.itm_types.specs.Memory.{AllFit, Agrees, IsMemory}
+use Rattle.itm_types.specs.Memory.{AllFit}
 use Rattle.norec_engine.specs.Core.{Core, came, handed_to, word_loaded}
 use Rattle.norec_engine.specs.Proceeds.{IsLawful, IsSettled, Proceeds, Joins, StaysOn, AsksFor, Replies, RepliesTo, Ends, FitsStep}
 use Rattle.norec_engine.specs.declared.answer.Next.{Next}
@@ -16,14 +14,11 @@ use Rattle.norec_engine.specs.declared.answer.Answer.{Answer}
 use Rattle.norec_engine.specs.declared.answer.Answer.TheVariants.{Reply, Committed, Conflict, Busy, Full}
 use Rattle.norec_world.specs.Cells.{Cells, IsCell, found, cells_after}
 use Rattle.norec_world.specs.Sound.{IsTied, AnswerFits}
+use Rattle.norec_world.specs.Holding.{HoldsOn}
 use Rattle.norec_world.proofs.Answering.{reply_fits}
 
 both : (n : Bool) → n ≡ true → n ≡ false → ⊥
 both n t f = absurd (cc)
-
-agrees_more : (m : List ℕ) (xs ys : List LogRow) → Agrees m xs → Agrees m ys → Agrees m (xs ++ ys)
-agrees_more m [] ys a b = b
-agrees_more m (x ∷ xs) ys a b = (a.0, agrees_more m xs ys a.1 b)
 
 -- ## What the operation asks and gives
 
@@ -49,8 +44,9 @@ pub record IsMid (cells : Cells) (mid new : Core) : Type 0 where
   pub late : mid.clock ≤ cells.clock
   pub holder : mid.holds ≡ true → cells.clock ≡ mid.clock + 1
   pub opens : mid.holds ≡ true → mid.is_open ≡ true
-  pub logged : mid.holds ≡ false → mid.freed ≡ false → Agrees cells.words new.log
-  pub fresh : mid.holds ≡ false → mid.freed ≡ false → Agrees cells.words mid.fresh
+  pub even : mid.holds ≡ true → mid.clock % 2 ≡ 0
+  pub reached : mid.holds ≡ true → mid.clock ≡ new.snapshot
+  pub below : mid.holds ≡ true → mid.clock / 2 < mid.max_commits
   pub settled : IsSettled new
 
 -- a step is asked for
@@ -61,28 +57,26 @@ asked cells mid new step m g =
     let clock : new.clock ≡ mid.clock = ap (λ (c : Core). c.clock) same in
     let holds : new.holds ≡ mid.holds = ap (λ (c : Core). c.holds) same in
     let open_same : new.is_open ≡ mid.is_open = ap (λ (c : Core). c.is_open) same in
-    let fresh : new.fresh ≡ mid.fresh = ap (λ (c : Core). c.fresh) same in
     record {
       words = words ∙ m.words;
       fit = m.fit;
       late = (let l = m.late in omega arith);
       holder = λ h. (let l = m.holder (sym holds ∙ h) in omega arith);
       opens = λ h. open_same ∙ m.opens (sym holds ∙ h);
-      logged = λ h. m.logged (sym holds ∙ h) g.unfreed;
-      fresh = λ h. subst (Agrees cells.words) (sym fresh) (m.fresh (sym holds ∙ h) g.unfreed);
+      even = λ h. ap (λ (n : ℕ). n % 2) clock ∙ m.even (sym holds ∙ h);
+      reached = λ h. clock ∙ m.reached (sym holds ∙ h);
+      below = λ h. (let limit : new.max_commits ≡ mid.max_commits = ap (λ (c : Core). c.max_commits) same in let l = m.below (sym holds ∙ h) in omega arith);
       unfreed = ap (λ (c : Core). c.freed) same ∙ g.unfreed;
       settled = m.settled;
     }
 
--- an engine that has answered: it holds nothing, and has no rows that were not joined
+-- an engine that has answered: it holds nothing
 pub record IsAtRest (mid new : Core) : Type 0 where
   pub words : new.words ≡ mid.words
   pub clock : new.clock ≡ mid.clock
   pub holds : new.holds ≡ false
-  pub fresh : new.fresh ≡ []
   pub freed : new.freed ≡ false
   pub idle : new.waits ≡ None
-  pub log : (mid.freed ≡ false) ⊎ (new.log ≡ [])
   pub free : mid.holds ≡ false
 
 replied : (mid new : Core) (call : Call) (r : Replied) → Replies mid call r new → IsAtRest mid new
@@ -92,10 +86,8 @@ replied mid new call r g =
       words = ap (λ (c : Core). c.words) same;
       clock = ap (λ (c : Core). c.clock) same;
       holds = ap (λ (c : Core). c.holds) same ∙ g.free;
-      fresh = ap (λ (c : Core). c.fresh) same;
       freed = ap (λ (c : Core). c.freed) same ∙ g.unfreed;
       idle = ap (λ (c : Core). c.waits) same;
-      log = inl g.unfreed;
       free = g.free;
     }
 
@@ -115,10 +107,8 @@ rests mid new (Committed at wrote) o g =
       words = ap (λ (c : Core). c.words) same;
       clock = ap (λ (c : Core). c.clock) same;
       holds = ap (λ (c : Core). c.holds) same ∙ g.free;
-      fresh = ap (λ (c : Core). c.fresh) same;
       freed = ap (λ (c : Core). c.freed) same;
       idle = ap (λ (c : Core). c.waits) same;
-      log = inr (ap (λ (c : Core). c.log) same);
       free = g.free;
     }
 rests mid new (Conflict clock word) o g =
@@ -127,10 +117,8 @@ rests mid new (Conflict clock word) o g =
       words = ap (λ (c : Core). c.words) same;
       clock = ap (λ (c : Core). c.clock) same;
       holds = ap (λ (c : Core). c.holds) same ∙ g.free;
-      fresh = ap (λ (c : Core). c.fresh) same;
       freed = ap (λ (c : Core). c.freed) same;
       idle = ap (λ (c : Core). c.waits) same;
-      log = inl g.unfreed;
       free = g.free;
     }
 rests mid new (Busy clock) o g =
@@ -140,10 +128,8 @@ rests mid new (Busy clock) o g =
       words = ap (λ (c : Core). c.words) same;
       clock = ap (λ (c : Core). c.clock) same;
       holds = ap (λ (c : Core). c.holds) same ∙ free;
-      fresh = ap (λ (c : Core). c.fresh) same;
       freed = ap (λ (c : Core). c.freed) same;
       idle = ap (λ (c : Core). c.waits) same;
-      log = inl g.unfreed;
       free = free;
     }
 rests mid new (Full at) o g =
@@ -152,10 +138,8 @@ rests mid new (Full at) o g =
       words = ap (λ (c : Core). c.words) same;
       clock = ap (λ (c : Core). c.clock) same;
       holds = ap (λ (c : Core). c.holds) same ∙ g.free;
-      fresh = ap (λ (c : Core). c.fresh) same;
       freed = ap (λ (c : Core). c.freed) same;
       idle = ap (λ (c : Core). c.waits) same;
-      log = inl g.unfreed;
       free = g.free;
     }
 
@@ -169,8 +153,9 @@ ended cells mid new a m g =
       late = (let l = m.late in omega arith);
       holder = λ h. absurd (both new.holds h r.holds);
       opens = λ h. absurd (both new.holds h r.holds);
-      logged = λ h. elim r.log [ inl u ↦ m.logged r.free u | inr e ↦ subst (Agrees cells.words) (sym e) tt ];
-      fresh = λ h. subst (Agrees cells.words) (sym r.fresh) tt;
+      even = λ h. absurd (both new.holds h r.holds);
+      reached = λ h. absurd (both new.holds h r.holds);
+      below = λ h. absurd (both new.holds h r.holds);
       unfreed = r.freed;
       settled = m.settled;
     }
@@ -183,10 +168,6 @@ tied cells mid new (Answers a) m g = ended cells mid new a m g
 -- ## A call comes
 
 module _ (cells : Cells) (e new : Core) (t : IsTied cells e) (free : e.holds ≡ false) (settled : IsSettled new) where
-  log_stays : (b : Bool) → new.is_open ≡ b → StaysOn e new → Agrees cells.words new.log
-  log_stays true o stays = subst (Agrees cells.words) (sym (stays.log o)) (t.logged free)
-  log_stays false o stays = subst (Agrees cells.words) (sym (settled.closed o).0) tt
-
   pub comes : (call : Call) (again : Bool) → StaysOn e new → IsMid cells (came e call again) new
   comes call again stays = record {
     words = t.words;
@@ -194,23 +175,25 @@ module _ (cells : Cells) (e new : Core) (t : IsTied cells e) (free : e.holds ≡
     late = t.late;
     holder = λ h. absurd (both e.holds h free);
     opens = t.opens;
-    logged = λ h u. log_stays new.is_open refl stays;
-    fresh = λ h u. tt;
+    even = t.even;
+    reached = λ h. absurd (both e.holds h free);
+    below = λ h. absurd (both e.holds h free);
     settled = settled;
   }
 
 -- ## A value is handed in
 
-module _ (cells : Cells) (e new : Core) (t : IsTied cells e) (settled : IsSettled new) where
-  logs_join : (seen : ℕ) (b : Bool) → new.is_open ≡ b → e.holds ≡ false → Joins e seen new → Agrees cells.words new.log
-  logs_join seen true o free j = elim (j.log o) [
-    | inl same ↦ subst (Agrees cells.words) (sym same) (t.logged free)
-    | inr more ↦ subst (Agrees cells.words) (sym more.1) (agrees_more cells.words e.log e.fresh (t.logged free) (t.fresh free))
-  ]
-  logs_join seen false o free j = subst (Agrees cells.words) (sym (settled.closed o).0) tt
+-- the snapshot of an open transaction moves at a clock load alone
+snapshot_kept : (e new : Core) (step : Step) (seen : ℕ) → e.waits ≡ Some step → e.is_open ≡ true → (step ≡ Load 0 → ⊥) → Joins e seen new → e.snapshot ≡ new.snapshot
+snapshot_kept e new step seen waits is_open other joins = elim (joins.snapshot is_open) [
+  | inl same ↦ sym same
+  | inr moved ↦ absurd (other (let s : Some step ≡ Some (Load 0) = sym waits ∙ moved.0.load in cc))
+]
 
-  joined : (seen : ℕ) → e.holds ≡ false → Joins e seen new → Agrees cells.words new.log
-  joined seen free j = logs_join seen new.is_open refl free j
+module _ (cells : Cells) (e new : Core) (t : IsTied cells e) (settled : IsSettled new) where
+  -- the clock of one that holds it is its snapshot still
+  stays_reached : (step : Step) (seen : ℕ) → e.waits ≡ Some step → (step ≡ Load 0 → ⊥) → Joins e seen new → e.holds ≡ true → e.clock ≡ new.snapshot
+  stays_reached step seen waits other joins h = t.reached h ∙ snapshot_kept e new step seen waits (t.opens h) other joins
 
   taken_late : (b : Bool) (clock from to : ℕ) → (b ≡ true → clock ≡ from) → to ≡ from + 1 → clock ≤ (if b then to else clock)
   taken_late true clock from to is up = let k = is refl in omega arith
@@ -219,86 +202,160 @@ module _ (cells : Cells) (e new : Core) (t : IsTied cells e) (settled : IsSettle
   taken : (b : Bool) (clock from to : ℕ) → b ≡ true → clock ≡ from → to ≡ from + 1 → (if b then to else clock) ≡ clock + 1
   taken b clock from to hit is up = ap (λ (x : Bool). if x then to else clock) hit ∙ (let k : to ≡ clock + 1 = omega arith in k)
 
-  word_taken : (word : ℕ) → AllFit cells.words → Joins e (slice_index cells.words word) new → (holds : Bool) → e.holds ≡ holds → word < length cells.words
-      → IsMid cells (word_loaded e holds word (slice_index cells.words word)) new
-  word_taken word fit j true held inside = record {
-    words = t.words;
-    fit = fit;
-    late = t.late;
-    holder = t.holder;
-    opens = t.opens;
-    settled = settled;
-    logged = λ h u. absurd (both e.holds held h);
-    fresh = λ h u. absurd (both e.holds held h);
-  }
-  word_taken word fit j false free inside = record {
-    words = t.words;
-    fit = fit;
-    late = t.late;
-    holder = t.holder;
-    opens = t.opens;
-    settled = settled;
-    logged = λ h u. joined (slice_index cells.words word) h j;
-    fresh = λ h u. agrees_more cells.words e.fresh _ (t.fresh h) (slice_get-get_or cells.words word 0 inside, tt);
-  }
+  word_taken : (word seen : ℕ) → AllFit cells.words → (e.holds ≡ true → e.clock ≡ new.snapshot) → (holds : Bool) → IsMid cells (word_loaded e holds word seen) new
+  word_taken word seen fit reached true = record { words = t.words; fit = fit; late = t.late; holder = t.holder; opens = t.opens; even = t.even; reached = reached; below = t.below; settled = settled }
+  word_taken word seen fit reached false = record { words = t.words; fit = fit; late = t.late; holder = t.holder; opens = t.opens; even = t.even; reached = reached; below = t.below; settled = settled }
 
-  pub hands : (step : Step) → IsLawful e step → AllFit (cells_after cells step).words → Joins e (found cells step) new
+  pub hands : (step : Step) → e.waits ≡ Some step → Joins e (found cells step) new → IsLawful e step → AllFit (cells_after cells step).words
       → IsMid (cells_after cells step) (handed_to e (Some step) (found cells step)) new
-  hands (Load zero) l fit j = record {
+  hands (Load zero) waits joins l fit = record {
     words = t.words;
     fit = fit;
     late = (let k : cells.clock ≤ cells.clock = omega arith in k);
     settled = settled;
     holder = λ h. absurd (both e.holds h l.1);
     opens = t.opens;
-    logged = λ h u. joined cells.clock h j;
-    fresh = λ h u. tt;
+    even = λ h. absurd (both e.holds h l.1);
+    reached = λ h. absurd (both e.holds h l.1);
+    below = λ h. absurd (both e.holds h l.1);
   }
-  hands (Load (suc word)) l fit j = word_taken word fit j e.holds refl (let w = l.0 in let n = t.words in omega arith)
-  hands (Store zero value) l fit j = record {
+  hands (Load (suc word)) waits joins l fit = word_taken word (slice_index cells.words word) fit (stays_reached (Load (suc word)) (found cells (Load (suc word))) waits (λ e. absurd (cc)) joins) e.holds
+  hands (Store zero value) waits joins l fit = record {
     words = t.words;
     fit = fit;
     late = (let k : value ≤ value = omega arith in k);
     settled = settled;
     holder = λ h. absurd (cc);
     opens = λ h. absurd (cc);
-    logged = λ h u. absurd (cc);
-    fresh = λ h u. tt;
+    even = λ h. absurd (cc);
+    reached = λ h. absurd (cc);
+    below = λ h. absurd (cc);
   }
-  hands (Store (suc word) value) l fit j = record {
+  hands (Store (suc word) value) waits joins l fit = record {
     words = t.words ∙ sym (length-set cells.words word value);
     fit = fit;
     late = t.late;
     holder = t.holder;
     opens = t.opens;
+    even = t.even;
+    reached = stays_reached (Store (suc word) value) 0 waits (λ e. absurd (cc)) joins;
+    below = t.below;
     settled = settled;
-    logged = λ h u. absurd (both e.holds l.1 h);
-    fresh = λ h u. absurd (both e.holds l.1 h);
   }
-  hands (Cas cell from to) l fit j = record {
+  hands (Cas cell from to) waits joins l fit = record {
     words = t.words;
     fit = fit;
     settled = settled;
     late = taken_late (cells.clock == from) cells.clock from to (λ y. eqb-true cells.clock from y) l.6;
     holder = λ h. taken (cells.clock == from) cells.clock from to h (eqb-true cells.clock from h) l.6;
     opens = λ h. l.2;
-    logged = λ h u. joined cells.clock l.1 j;
-    fresh = λ h u. tt;
+    even = λ h. (let same = eqb-true cells.clock from h in let even = l.4 in omega arith);
+    reached = λ h. eqb-true cells.clock from h ∙ (l.3 ∙ snapshot_kept e new (Cas cell from to) cells.clock waits l.2 (λ e. absurd (cc)) joins);
+    below = λ h. (let same = eqb-true cells.clock from h in let few = l.5 in omega arith);
   }
+
+-- ## Who holds the clock
+
+-- how many writers may commit stays, and the patience
+pub limit_same : (mid new : Core) (what : Next) → Proceeds mid what new → (new.max_commits ≡ mid.max_commits) × (new.patience ≡ mid.patience)
+limit_same mid new (Asks step) g = (ap (λ (c : Core). c.max_commits) g.stays, ap (λ (c : Core). c.patience) g.stays)
+limit_same mid new (Answers (Reply r)) g = of_reply mid.doing g
+  where
+    of_reply : (o : Option Call) → RepliesTo mid o r new → (new.max_commits ≡ mid.max_commits) × (new.patience ≡ mid.patience)
+    of_reply None g = absurd g
+    of_reply (Some call) g = (ap (λ (c : Core). c.max_commits) g.stays, ap (λ (c : Core). c.patience) g.stays)
+limit_same mid new (Answers (Committed at wrote)) g = (ap (λ (c : Core). c.max_commits) g.stays, ap (λ (c : Core). c.patience) g.stays)
+limit_same mid new (Answers (Conflict clock word)) g = (ap (λ (c : Core). c.max_commits) g.stays, ap (λ (c : Core). c.patience) g.stays)
+limit_same mid new (Answers (Busy clock)) g = (ap (λ (c : Core). c.max_commits) g.stays, ap (λ (c : Core). c.patience) g.stays)
+limit_same mid new (Answers (Full at)) g = (ap (λ (c : Core). c.max_commits) g.stays, ap (λ (c : Core). c.patience) g.stays)
+
+-- what the engine goes on to leaves that as it is
+pub holds_same : (mid new : Core) (what : Next) → (mid.holds ≡ true → mid.is_open ≡ true) → Proceeds mid what new → new.holds ≡ mid.holds
+holds_same mid new (Asks step) o g = ap (λ (c : Core). c.holds) g.stays
+holds_same mid new (Answers a) o g = (let r = rests mid new a o g in r.holds ∙ sym r.free)
+
+taken_capped : (b : Bool) (clock from to max_commits : ℕ) → from % 2 ≡ 0 → from / 2 < max_commits → to ≡ from + 1 → clock ≤ 2 * max_commits → (if b then to else clock) ≤ 2 * max_commits
+taken_capped true clock from to max_commits even few up l = omega arith
+taken_capped false clock from to max_commits even few up l = l
+
+-- the step's value came
+pub holds_handed : (cells : Cells) (e : Core) (step : Step) → IsTied cells e → IsLawful e step → HoldsOn cells e (cells_after cells step) (handed_to e (Some step) (found cells step))
+holds_handed cells e (Load zero) t l = record {
+  takes = λ f h. absurd (both e.holds h f);
+  frees = λ h f. absurd (both e.holds h f);
+  stores = λ h k. refl;
+  leaves = λ f k. refl;
+  late = (let k : cells.clock ≤ cells.clock = omega arith in k);
+  long = refl;
+  limit = (refl, refl);
+  capped = λ l. l;
+}
+holds_handed cells e (Load (suc word)) t l = by_holder e.holds refl
+  where
+    by_holder : (h : Bool) → e.holds ≡ h → HoldsOn cells e cells (word_loaded e h word (slice_index cells.words word))
+    by_holder true is = record {
+      takes = λ f h. absurd (both e.holds is f);
+      frees = λ h f. absurd (both e.holds is f);
+      stores = λ h k. refl;
+      leaves = λ f k. refl;
+      late = (let k : cells.clock ≤ cells.clock = omega arith in k);
+      long = refl;
+      limit = (refl, refl);
+      capped = λ l. l;
+    }
+    by_holder false is = record {
+      takes = λ f h. absurd (both e.holds h is);
+      frees = λ h f. absurd (both e.holds h is);
+      stores = λ h k. refl;
+      leaves = λ f k. refl;
+      late = (let k : cells.clock ≤ cells.clock = omega arith in k);
+      long = refl;
+      limit = (refl, refl);
+      capped = λ l. l;
+    }
+holds_handed cells e (Store zero value) t l =
+    let even = t.even l.1 in
+    let held = t.holder l.1 in
+    let value_is = l.2.0 in
+    record {
+      takes = λ f h. absurd (both e.holds l.1 f);
+      frees = λ h f. ((let z : value % 2 ≡ 0 = omega arith in z), refl);
+      stores = λ h k. absurd (cc);
+      leaves = λ f k. absurd (both e.holds l.1 f);
+      late = (let k : cells.clock ≤ value = omega arith in k);
+      long = refl;
+      limit = (refl, refl);
+      capped = λ m. (let few = t.below l.1 in omega arith);
+    }
+holds_handed cells e (Store (suc word) value) t l = record {
+  takes = λ f h. absurd (both e.holds l.1 f);
+  frees = λ h f. absurd (both e.holds h f);
+  stores = λ h k. refl;
+  leaves = λ f k. absurd (both e.holds l.1 f);
+  late = (let k : cells.clock ≤ cells.clock = omega arith in k);
+  long = length-set cells.words word value;
+  limit = (refl, refl);
+  capped = λ l. l;
+}
+holds_handed cells e (Cas cell from to) t l = record {
+  takes = λ f h. ((let same = eqb-true cells.clock from h in let even = l.4 in omega arith), refl);
+  frees = λ h f. absurd (both e.holds h l.1);
+  stores = λ h k. absurd (both e.holds h l.1);
+  leaves = λ f k. ap (λ (b : Bool). record cells { clock = if b then to else cells.clock }) k;
+  late = taken_late cells e e t t.settled (cells.clock == from) cells.clock from to (λ y. eqb-true cells.clock from y) l.6;
+  long = refl;
+  limit = (refl, refl);
+  capped = taken_capped (cells.clock == from) cells.clock from to e.max_commits l.4 l.5 l.6;
+}
 
 -- ## What the answer says
 
-module _ (cells : Cells) (mid new : Core) (m : IsMid cells mid new) where
+module _ (mid new : Core) where
   pub answer_fits : (call : Call) (a : Answer) → mid.doing ≡ Some call → Ends mid a new → AnswerFits mid.is_open new.is_open call a
   answer_fits call (Reply r) doing g =
       let Told : Option Call → Type 0 = λ o. RepliesTo mid o r new in
       let told : Replies mid call r new = subst Told doing g in
-      let memory : IsMemory mid.words cells.words = (sym m.words, m.fit) in
-      let agrees : Agrees cells.words new.log = m.logged told.free told.unfreed in (
-        reply_fits mid.writes new.writes mid.props new.props mid.arena new.arena cells.words mid.again r mid.is_open new.is_open call
-            (told.meets cells.words memory agrees) (told.reply_is cells.words memory agrees) told.still,
-        told.still,
-      )
+      (reply_fits mid.is_open new.is_open call r told.opens, told.still)
   answer_fits call (Committed at wrote) doing g =
       let same : Some call ≡ Some Commit = sym doing ∙ g.doing in
       let is : call ≡ Commit = cc in

@@ -1,110 +1,81 @@
--- The one actor of a world, over one event.
-use Rattle.std.proofs.Common.{◌≡◌, ℕ, zero, suc, ◌<◌, ◌≤◌, Bool, false, List, [], ◌∷◌, length, Option, None, Some, IsSome, slice_get, slice_set, replicate, refl, sym, ap, subst, ◌∙◌, arith, vec_len}
+-- The actors of a world, over one event.
+use Rattle.std.proofs.Common.{◌≡◌, ℕ, zero, suc, ◌<◌, ◌≤◌, Bool, true, false, List, [], ◌∷◌, length, Option, None, Some, IsSome, slice_get, slice_set, replicate, refl, sym, ap, subst, ◌∙◌, arith}
 use Rattle.std.specs.List.{slice_index_or}
 use Rattle.std.specs.Option.{option_and_then}
 use Rattle.itm_types.specs.declared.call.Call.{Call}
 use Rattle.itm_types.specs.declared.call.Reply.{Reply as Replied}
 use Rattle.itm_types.specs.declared.step.Step.{Step}
-use Rattle.norec_world.specs.declared.recorded.Recorded.{Recorded}
+use Rattle.norec_world.specs.Rows.{Rows, active_of}
 use Rattle.norec_world.specs.declared.actor.Actor.{Actor}
 use Rattle.norec_world.specs.Cells.{Cells}
 use Rattle.norec_world.specs.declared.actor.Status.{Status}
 use Rattle.norec_world.specs.declared.actor.Status.TheVariants.{Ready, Waits, Ended}
-use Rattle.norec_world.specs.Status.{is_ready, waiting_step, ending_of}
+use Rattle.norec_world.specs.Status.{is_ready, is_waiting, waiting_step, ending_of}
 use Rattle.itm_types.specs.Memory.{AllFit}
 use Rattle.norec_engine.specs.Core.{Core, opening}
 use Rattle.norec_engine.specs.Proceeds.{IsLawful}
 use Rattle.norec_world.specs.Sound.{IsTied, IsKept, IsNested, StatusIs, IsSound}
 use Rattle.norec_world.specs.Tracks.{Tracks, StillTracks}
-use Rattle.norec_world.specs.World.{World, IsSoundWorld, IsSoloWorld}
+use Rattle.norec_world.specs.World.{World, IsSoloWorld}
+use Rattle.norec_world.specs.Actors.{AreActors}
+use Rattle.std.proofs.lemmas.Option.{slice_get-get_or}
 
-module _ {P : Type 0} where
-  only_first : (actors : List (Actor P)) (a : Actor P) (i : ℕ) → actors ≡ a ∷ [] → IsSome (option_and_then (λ x. waiting_step x.status) (slice_get actors i)) → i ≡ 0
-  only_first actors a i e h = first i (subst (λ (l : List (Actor P)). IsSome (option_and_then (λ x. waiting_step x.status) (slice_get l i))) e h)
-    where
-      first : (i : ℕ) → IsSome (option_and_then (λ x. waiting_step x.status) (slice_get (a ∷ []) i)) → i ≡ 0
-      first zero h = refl
-      first (suc i) h = absurd (cc)
+-- the actor at a place
+pub got_at : {A : Type 0} (xs : List A) (i : ℕ) (got : A) → i < length xs → got ≡ slice_index_or xs i got → slice_get xs i ≡ Some got
+got_at xs i got within is = slice_get-get_or xs i got within ∙ ap Some (sym is)
 
-  got_first : (actors : List (Actor P)) (a : Actor P) (i : ℕ) → actors ≡ a ∷ [] → i ≡ 0 → (got : Actor P) → got ≡ slice_index_or actors i got → got ≡ a
-  got_first actors a i e z got is = is ∙ ((λ k. slice_index_or (e k) (z k) got))
-
-  module _ (next : P → Option Call) (answered : P → Replied → P) (restarted : P → P) (left : P → ℕ) (depth : P → ℕ)
-      (cells cells' : Cells) (r r' : Recorded) (actors : List (Actor P)) (s : IsSoundWorld next answered restarted left depth cells r actors) (i : ℕ) (h : IsSome (option_and_then (λ x. waiting_step x.status) (slice_get actors i)))
-      (got : Actor P) (is : got ≡ slice_index_or actors i got) where
-    pub got_is : got ≡ s.actor
-    got_is = got_first actors s.actor i s.alone (only_first actors s.actor i s.alone h) got is
-
-    pub event_sound : (new : Actor P) → IsSound next answered restarted left depth cells' r' new → is_ready new.status ≡ false → new.thread ≡ got.thread
-        → IsSoundWorld next answered restarted left depth cells' r' (slice_set actors i new)
-    event_sound new sound done thread = record {
-      actor = new;
-      alone = (λ k. slice_set (s.alone k) (only_first actors s.actor i s.alone h k) new);
-      sound = sound;
-      done = done;
-      thread = thread ∙ (ap (λ (x : Actor P). x.thread) got_is ∙ s.thread);
-    }
-
-    pub event_within : i < length actors
-    event_within = (let z = only_first actors s.actor i s.alone h in let n : length actors ≡ 1 = ap length s.alone in omega arith)
-
-    pub waits_same : (step : Step) → option_and_then (λ x. waiting_step x.status) (slice_get actors i) ≡ Some step → waiting_step got.status ≡ Some step
-    waits_same step w =
-        let at : option_and_then (λ x. waiting_step x.status) (slice_get actors i) ≡ waiting_step s.actor.status =
-        (λ k. option_and_then (λ (x : Actor P). waiting_step x.status) (slice_get (s.alone k) (only_first actors s.actor i s.alone h k))) in
-        ap (λ (x : Actor P). waiting_step x.status) got_is ∙ (sym at ∙ w)
+pub within_some : {A B : Type 0} (f : A → Option B) (xs : List A) (i : ℕ) → IsSome (option_and_then f (slice_get xs i)) → i < length xs
+within_some f [] i h = absurd (cc)
+within_some f (x ∷ xs) zero h = omega arith
+within_some f (x ∷ xs) (suc i) h = (let l = within_some f xs i h in omega arith)
 
 -- the step that a sound actor waits for is one of the algorithm's
 module _ {P : Type 0} (next : P → Option Call) (answered : P → Replied → P) (restarted : P → P) (left : P → ℕ) (depth : P → ℕ) where
-  pub lawful_as : (r : Recorded) (a : Actor P) (s : Status) (step : Step) → StatusIs next answered restarted left depth r a s → waiting_step s ≡ Some step → IsLawful a.engine step
+  pub lawful_as : (r : Rows) (a : Actor P) (s : Status) (step : Step) → StatusIs next answered restarted left depth r a s → waiting_step s ≡ Some step → IsLawful a.engine step
   lawful_as r a Ready step i w = absurd (cc)
   lawful_as r a (Waits call other) step i w = (let same : other ≡ step = cc in subst (IsLawful a.engine) same i.lawful)
   lawful_as r a (Ended end) step i w = absurd (cc)
 
-  pub lawful_at : (w : World P) (r : Recorded) → IsSoundWorld next answered restarted left depth w.cells r w.actors → (i : ℕ) (a : Actor P) (step : Step)
+  pub lawful_at : (w : World P) (r : Rows) → AreActors next answered restarted left depth w.cells r w.actors → (i : ℕ) (a : Actor P) (step : Step)
       → slice_get w.actors i ≡ Some a → waiting_step a.status ≡ Some step → IsLawful a.engine step
-  lawful_at w r s i a step e waits = first i (ap (λ (l : List (Actor P)). slice_get l i) (sym s.alone) ∙ e)
-    where
-      first : (i : ℕ) → slice_get (s.actor ∷ []) i ≡ Some a → IsLawful a.engine step
-      first zero h =
-          let same : s.actor ≡ a = cc in
-          subst (λ (x : Actor P). IsLawful x.engine step) same (lawful_as r s.actor s.actor.status step s.sound.status (ap (λ (x : Actor P). waiting_step x.status) same ∙ waits))
-      first (suc i) h = absurd (cc)
+  lawful_at w r s i a step e waits = lawful_as r a a.status step (s.each i a e).sound.status waits
 
 -- an actor at its place, in a world of one
-module _ {P : Type 0} (next : P → Option Call) (answered : P → Replied → P) (restarted : P → P) (left : P → ℕ) (depth : P → ℕ)
-    (cells cells' : Cells) (r r' : Recorded) (actors : List (Actor P)) (s : IsSoundWorld next answered restarted left depth cells r actors) (i : ℕ) (within : i < length actors)
-    (got : Actor P) (is : got ≡ slice_index_or actors i got) where
+module _ {P : Type 0} (next : P → Option Call) (answered : P → Replied → P) (left : P → ℕ)
+    (cells cells' : Cells) (r r' : Rows) (actors : List (Actor P)) (op : List P) (base : List ℕ) (arena max_commits : ℕ)
+    (w : IsSoloWorld next answered left op base arena max_commits cells r actors) (i : ℕ) (within : i < length actors) (got : Actor P) (is : slice_get actors i ≡ Some got) where
   pub place_is : i ≡ 0
-  place_is = let n : length actors ≡ 1 = ap length s.alone in omega arith
+  place_is = let n : length actors ≡ 1 = ap length w.one in omega arith
 
-  pub place_got : got ≡ s.actor
-  place_got = got_first actors s.actor i s.alone place_is got is
+  pub place_got : got ≡ w.actor
+  place_got = (let both : Some got ≡ Some w.actor = sym is ∙ (λ k. slice_get (w.one k) (place_is k)) in cc)
 
-  pub place_sound : (new : Actor P) → IsSound next answered restarted left depth cells' r' new → is_ready new.status ≡ false → new.thread ≡ got.thread
-      → IsSoundWorld next answered restarted left depth cells' r' (slice_set actors i new)
-  place_sound new sound done thread = record {
-    actor = new;
-    alone = (λ k. slice_set (s.alone k) (place_is k) new);
-    sound = sound;
-    done = done;
-    thread = thread ∙ (ap (λ (x : Actor P). x.thread) place_got ∙ s.thread);
-  }
+  pub place_tracks : Tracks next answered left max_commits w.player base (replicate arena 0) cells r got
+  place_tracks = subst (Tracks next answered left max_commits w.player base (replicate arena 0) cells r) (sym place_got) w.tracks
 
-  pub place_tracks : (op : List P) (base : List ℕ) (arena max_commits : ℕ) (w : IsSoloWorld next answered left op base arena max_commits cells r.rows.items actors)
-      → Tracks next answered left max_commits w.player base (replicate arena 0) cells r.rows.items got
-  place_tracks op base arena max_commits w =
-      subst (Tracks next answered left max_commits w.player base (replicate arena 0) cells r.rows.items) (sym (got_first actors w.actor i w.one place_is got is)) w.tracks
-
-  pub place_alone : (op : List P) (base : List ℕ) (arena max_commits : ℕ) → IsSoloWorld next answered left op base arena max_commits cells r.rows.items actors
-      → (new : Actor P) → StillTracks next answered left cells r.rows.items got cells' r'.rows.items new → IsSoloWorld next answered left op base arena max_commits cells' r'.rows.items (slice_set actors i new)
-  place_alone op base arena max_commits w new still = record {
+  pub place_alone : (new : Actor P) → StillTracks next answered left cells r got cells' r' new → IsSoloWorld next answered left op base arena max_commits cells' r' (slice_set actors i new)
+  place_alone new still = record {
     player = w.player;
     actor = new;
     players = w.players;
     one = (λ k. slice_set (w.one k) (place_is k) new);
-    tracks = still max_commits w.player base (replicate arena 0) (place_tracks op base arena max_commits w);
+    tracks = still max_commits w.player base (replicate arena 0) place_tracks;
   }
+
+pub waiting_some : (s : Status) → IsSome (waiting_step s) → is_waiting s ≡ true
+waiting_some Ready e = absurd (cc)
+waiting_some (Waits call step) e = refl
+waiting_some (Ended end) e = absurd (cc)
+
+pub some_waiting : (s : Status) → is_waiting s ≡ true → IsSome (waiting_step s)
+some_waiting Ready e = absurd (cc)
+some_waiting (Waits call step) e = refl
+some_waiting (Ended end) e = absurd (cc)
+
+pub some_ended : (s : Status) → is_waiting s ≡ false → is_ready s ≡ false → IsSome (ending_of s)
+some_ended Ready e r = absurd (cc)
+some_ended (Waits call step) e r = absurd (cc)
+some_ended (Ended end) e r = refl
 
 pub ended_ready : (s : Status) → IsSome (ending_of s) → is_ready s ≡ false
 ended_ready Ready e = absurd (cc)
@@ -113,8 +84,8 @@ ended_ready (Ended end) e = refl
 
 -- an actor that has made no call, over cells whose clock is 0
 module _ {P : Type 0} (next : P → Option Call) (answered : P → Replied → P) (restarted : P → P) (left : P → ℕ) (depth : P → ℕ) where
-  pub fresh_sound : (cells : Cells) (r : Recorded) (a : Actor P) (arena : List ℕ) (patience max_commits : ℕ)
-      → a.engine ≡ opening (length cells.words) arena patience max_commits → AllFit cells.words → vec_len r.rows ≡ r.ended → a.spare.items ≡ [] → a.nth ≡ 1 → a.retries ≤ 10000
+  pub fresh_sound : (cells : Cells) (r : Rows) (a : Actor P) (arena : List ℕ) (patience max_commits : ℕ)
+      → a.engine ≡ opening (length cells.words) arena patience max_commits → AllFit cells.words → active_of a.thread r.active ≡ None → a.spare.items ≡ [] → a.nth ≡ 1 → a.retries ≤ 10000
       → a.pending ≡ None → a.status ≡ Ready → depth a.player ≡ 0 → IsSound next answered restarted left depth cells r a
   fresh_sound cells r a arena patience max_commits is fit none empty first few nothing ready outside =
       let Tied : Core → Type 0 = IsTied cells in
@@ -129,12 +100,13 @@ module _ {P : Type 0} (next : P → Option Call) (answered : P → Replied → P
           late = (let z : 0 ≤ cells.clock = omega arith in z);
           holder = λ h. absurd (cc);
           opens = λ h. absurd (cc);
-          logged = λ h. tt;
-          fresh = λ h. tt;
+          even = λ h. absurd (cc);
+          reached = λ h. absurd (cc);
+          below = λ h. absurd (cc);
           unfreed = refl;
           settled = record { closed = λ h. (refl, refl); reached = (let z : 0 ≤ 0 = omega arith in z); inside = λ w o. absurd (cc) };
         });
-        kept = subst Kept (sym shut) (record { row = none; within = (let e = none in omega arith); empty = empty; tried = (let e = first in omega arith); tries = (let e = first in omega arith); retries = few });
+        kept = subst Kept (sym shut) (record { row = none; empty = empty; tried = (let e = first in omega arith); tries = (let e = first in omega arith); retries = few });
         status = subst Is (sym ready) (record {
           nested = subst Nested (sym shut) (record { depth_is = outside; begun = λ o. absurd (cc); less = λ o. absurd (cc) });
           idle = ap (λ (c : Core). c.waits) is;

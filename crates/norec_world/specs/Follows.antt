@@ -15,6 +15,7 @@ use Rattle.norec_world.specs.declared.attempt.Outcome.{Outcome}
 use Rattle.norec_world.specs.declared.attempt.Outcome.TheVariants.{Unfinished}
 use Rattle.norec_world.specs.declared.attempt.End.{End}
 use Rattle.norec_world.specs.Cells.{Cells}
+use Rattle.norec_world.specs.Rows.{Rows}
 use Rattle.norec_world.specs.Opacity.{Beginning, begin_code, begin_of}
 use Rattle.norec_world.specs.Alone.{state_then, player_then, IsAlone}
 use Rattle.norec_world.specs.Solo.{Progress, Solo, solo_within, solo}
@@ -47,7 +48,7 @@ module _ {P : Type 0} (next : P → Option Call) (answered : P → Reply → P) 
     }
 
     -- the player, its engine and the rows of its attempts, over these cells: b is where it stood before the present block
-    pub record Follows (p0 : P) (base arena : List ℕ) (b : Progress P) (past : List Attempt) (M : List ℕ) (cells : Cells) (rows : List Attempt) (p : P) (e : Core) : Type 0 where
+    pub record Follows (p0 : P) (base arena : List ℕ) (b : Progress P) (past : List Attempt) (M : List ℕ) (cells : Cells) (r : Rows) (p : P) (e : Core) : Type 0 where
       pub whole : solo next answered left MAX_DEPTH max_commits thread p0 base arena ≡ with_all past (solo_within next answered left MAX_DEPTH max_commits thread (left b.player) b)
       pub bytes : b.memory ≡ bytes_of M
       pub memory : IsMemory (length cells.words) M
@@ -55,12 +56,13 @@ module _ {P : Type 0} (next : P → Option Call) (answered : P → Reply → P) 
       pub limit : e.max_commits ≡ max_commits
       pub first : e.again ≡ false
       pub logged : Agrees M e.log
+      pub fresh : e.holds ≡ false → Agrees M e.fresh
       pub even : e.clock % 2 ≡ 0
       pub free : e.holds ≡ false → (cells.clock ≡ 2 * b.commits) × (cells.words ≡ M)
       pub held : e.holds ≡ true → (cells.clock ≡ 2 * b.commits + 1) × (cells.words ≡ backed e M) × (b.commits < max_commits)
       pub got : e.holds ≡ true → Got e.got (slice_get cells.words (write_at e.writes e.done).word)
-      pub closed : e.is_open ≡ false → (rows ≡ past) × (p ≡ b.player)
-      pub opens : e.is_open ≡ true → (start : Beginning P) × (xs : List Entry) × (rows ≡ past ++ row_of b start xs Unfinished ∷ []) × IsInBlock b start xs M p e
+      pub closed : e.is_open ≡ false → (r.ended ≡ past) × (r.active ≡ []) × (p ≡ b.player)
+      pub opens : e.is_open ≡ true → (start : Beginning P) × (xs : List Entry) × (r.ended ≡ past) × (r.active ≡ row_of b start xs Unfinished ∷ []) × IsInBlock b start xs M p e
 
     -- all that the player does alone, where its actor has ended
     pub record IsAll (p0 : P) (base arena : List ℕ) (cells : Cells) (rows : List Attempt) (ending : End) : Type 0 where

@@ -1,5 +1,5 @@
 -- What one event does to a world, and what many in a row do.
-use Rattle.std.specs.Prelude.{◌≡◌, ℕ, zero, suc, ◌≤◌, ◌↔◌, Bool, true, false, IsTrue, List, [], ◌∷◌, length, count_by, Option, Some, IsSome, Result, Ok, Err, slice_get}
+use Rattle.std.specs.Prelude.{◌≡◌, ℕ, zero, suc, ◌≤◌, ◌↔◌, Bool, true, false, IsTrue, List, [], ◌∷◌, length, count_by, Option, Some, IsSome, Result, Ok, Err, slice_get, slice_set}
 use Rattle.itm_types.specs.declared.call.Call.{Call}
 use Rattle.itm_types.specs.declared.call.Reply.{Reply}
 use Rattle.itm_types.specs.declared.step.Step.{Step}
@@ -10,6 +10,8 @@ use Rattle.norec_engine.specs.Proceeds.{IsLawful}
 use Rattle.norec_world.specs.declared.actor.Actor.{Actor}
 use Rattle.norec_world.specs.Cells.{cells_after}
 use Rattle.norec_world.specs.Status.{waiting_step}
+use Rattle.norec_world.specs.Events.{IsEvent}
+use Rattle.norec_world.specs.Commits.{CommitsInOrder}
 use Rattle.norec_world.specs.World.{World, SameOpening, ShowsAlone, ending_at, waits_at, told, is_event, counted}
 
 module _ {P : Type 0} (next : P → Option Call) (answered : P → Reply → P) (left : P → ℕ) where
@@ -23,6 +25,9 @@ module _ {P : Type 0} (next : P → Option Call) (answered : P → Reply → P) 
     pub operation : (step : Step) → waits_at old actor ≡ Some step → new.cells ≡ cells_after old.cells step  -- it is done, and changes no other cell
     pub counts : IsTrue (is_event result) → new.events ≡ counted old.events 1  -- an event is counted
     pub unchanged : is_event result ≡ false → new ≡ old  -- without one the world is as it was
+    -- its actor alone has changed, by this event
+    pub event_of : (a : Actor P) → slice_get old.actors actor ≡ Some a → IsTrue (is_event result) → (a' : Actor P) × (new.actors ≡ slice_set old.actors actor a') × IsEvent next old.cells old.attempts a new.cells new.attempts a'
+    pub commits : CommitsInOrder old → CommitsInOrder new  -- the commits are still in order
     pub opening : SameOpening old new  -- the world keeps its beginning
     pub actors : length new.actors ≡ length old.actors  -- and its number of actors
     pub alone : ShowsAlone next answered left new  -- its attempts, bytes and clock are still those of its player alone

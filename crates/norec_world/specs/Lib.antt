@@ -2,6 +2,12 @@ pub mod Attempts
 pub mod Opacity
 pub mod Cells
 pub mod Rows
+pub mod Own
+pub mod Tries
+pub mod Events
+pub mod Starts
+pub mod Actors
+pub mod Holding
 pub mod Status
 pub mod Sound
 pub mod Plan
@@ -13,6 +19,7 @@ pub mod Records
 pub mod SoFar
 pub mod Tracks
 pub mod World
+pub mod Commits
 pub mod Going
 pub mod Stretches
 pub mod Views

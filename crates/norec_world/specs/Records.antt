@@ -1,5 +1,5 @@
 -- What the actor's rows, player and counts are once an answer is recorded.
-use Rattle.std.specs.Prelude.{◌≡◌, ℕ, ◌/◌, Bool, true, false, List, [], ◌∷◌, ◌++◌, Option, None, Some, if◌then◌else◌}
+use Rattle.std.specs.Prelude.{◌≡◌, ℕ, ◌+◌, ◌/◌, nat_lt, Bool, true, false, [], ◌∷◌, ◌++◌, Option, None, Some, if◌then◌else◌}
 use Rattle.itm_types.specs.declared.call.Call.{Call}
 use Rattle.itm_types.specs.declared.call.Call.TheVariants.{Begin, Commit, Read, Write}
 use Rattle.norec_engine.specs.Core.{came}
@@ -11,36 +11,41 @@ use Rattle.itm_types.specs.declared.call.Reply.TheVariants.{Done}
 use Rattle.norec_engine.specs.declared.answer.Answer.{Answer}
 use Rattle.norec_engine.specs.declared.answer.Answer.TheVariants.{Reply, Committed, Conflict, Busy, Full}
 use Rattle.norec_world.specs.declared.attempt.Attempt.{Attempt}
+use Rattle.norec_world.specs.Rows.{Rows, active_of, with_changed, with_opened, with_ended}
 use Rattle.norec_world.specs.declared.attempt.Outcome.{Outcome}
 use Rattle.norec_world.specs.declared.attempt.Outcome.TheVariants as outcomes
 use Rattle.norec_world.specs.declared.attempt.End.TheVariants.{GaveUp}
 use Rattle.norec_world.specs.declared.actor.Actor.{Actor}
 use Rattle.norec_world.specs.declared.actor.Status.TheVariants.{Ended}
 
--- the row of the open attempt, which is the last one, has one call more
-abbrev pub AddsCall : List Attempt → Call → Replied → List Attempt → Type 0
-AddsCall rows call reply rows' = (past : List Attempt) (row : Attempt) → rows ≡ past ++ row ∷ []
-    → rows' ≡ past ++ record row { calls = row.calls ++ record { call = call; reply = reply } ∷ [] } ∷ []
+-- the actor's open attempt has one call more
+abbrev pub AddsCall : ℕ → Rows → Call → Replied → Rows → Type 0
+AddsCall thread r call reply r' = r' ≡ with_changed thread (λ row. record row { calls = row.calls ++ record { call = call; reply = reply } ∷ [] }) r
 
 -- it has its commit, and is over
-abbrev pub EndsBy : List Attempt → ℕ → Bool → Call → List Attempt → Type 0
-EndsBy rows at wrote call rows' = (past : List Attempt) (row : Attempt) → rows ≡ past ++ row ∷ []
-    → rows' ≡ past ++ record row { calls = row.calls ++ record { call = call; reply = Done } ∷ []; at = at; outcome = if wrote then outcomes.Committed else outcomes.ReadOnly } ∷ []
+abbrev pub EndsBy : ℕ → Rows → ℕ → Bool → Call → Rows → Type 0
+EndsBy thread r at wrote call r' = (row : Attempt) → active_of thread r.active ≡ Some row
+    → r' ≡ with_ended thread (record row { calls = row.calls ++ record { call = call; reply = Done } ∷ []; at = at; outcome = if wrote then outcomes.Committed else outcomes.ReadOnly }) r
 
 -- it is over without its commit
-abbrev pub StopsAt : List Attempt → ℕ → Outcome → List Attempt → Type 0
-StopsAt rows at outcome rows' = (past : List Attempt) (row : Attempt) → rows ≡ past ++ row ∷ [] → rows' ≡ past ++ record row { at = at; outcome = outcome } ∷ []
+abbrev pub StopsAt : ℕ → Rows → ℕ → Outcome → Rows → Type 0
+StopsAt thread r at outcome r' = (row : Attempt) → active_of thread r.active ≡ Some row → r' ≡ with_ended thread (record row { at = at; outcome = outcome }) r
 
 -- it is told where it reads, if there is one
-pub record IsTold (is_open : Bool) (rows : List Attempt) (at : ℕ) (rows' : List Attempt) : Type 0 where
-  pub moves : is_open ≡ true → (past : List Attempt) (row : Attempt) → rows ≡ past ++ row ∷ [] → rows' ≡ past ++ record row { at = at } ∷ []
-  pub stays : is_open ≡ false → rows' ≡ rows
+pub record IsTold (thread : ℕ) (is_open : Bool) (r : Rows) (at : ℕ) (r' : Rows) : Type 0 where
+  pub moves : is_open ≡ true → r' ≡ with_changed thread (λ row. record row { at = at }) r
+  pub stays : is_open ≡ false → r' ≡ r
 
 -- a begin's attempt is opened, where the begin was accepted
-abbrev pub Opens : Bool → List Attempt → Option Attempt → ℕ → List Attempt → Type 0
-Opens true rows (Some row) at rows' = rows' ≡ rows ++ record row { at = at } ∷ []
-Opens true rows None at rows' = Unit {0}
-Opens false rows pending at rows' = rows' ≡ rows
+abbrev pub Opens : Bool → Rows → Option Attempt → ℕ → Rows → Type 0
+Opens true r (Some row) at r' = r' ≡ with_opened (record row { at = at }) r
+Opens true r None at r' = Unit {0}
+Opens false r pending at r' = r' ≡ r
+
+-- one try more, or the end where it was the last one
+pub record CountsTry {P : Type 0} (old new : Actor P) : Type 0 where
+  pub nth : new.nth ≡ (if nat_lt old.retries old.nth then old.nth else old.nth + 1)
+  pub status : new.status ≡ (if nat_lt old.retries old.nth then Ended GaveUp else old.status)
 
 -- the block was entered, and a later try of it enters it again
 abbrev pub again_after : Bool → Option Attempt → Bool → Bool
@@ -50,22 +55,22 @@ again_after false pending again = again
 
 module _ {P : Type 0} (answered : P → Replied → P) (restarted : P → P) where
   -- of an answer to a call that came where the block was open, or not
-  abbrev pub Records : Bool → List Attempt → List Attempt → Actor P → Actor P → Call → Answer → Type 0
-  Records true rows rows' old new call (Reply r) =
-      AddsCall rows call r rows' × (new.player ≡ answered old.player r) × (new.again ≡ old.again) × (new.nth ≡ old.nth) × (new.status ≡ old.status)
-  Records false rows rows' old new call (Reply r) =
-      Opens new.engine.is_open rows old.pending (new.engine.snapshot / 2) rows' × (new.player ≡ answered old.player r)
+  abbrev pub Records : Bool → Rows → Rows → Actor P → Actor P → Call → Answer → Type 0
+  Records true r r' old new call (Reply reply) =
+      AddsCall old.thread r call reply r' × (new.player ≡ answered old.player reply) × (new.again ≡ old.again) × (new.nth ≡ old.nth) × (new.status ≡ old.status)
+  Records false r r' old new call (Reply reply) =
+      Opens new.engine.is_open r old.pending (new.engine.snapshot / 2) r' × (new.player ≡ answered old.player reply)
       × (new.again ≡ again_after new.engine.is_open old.pending old.again) × (new.nth ≡ old.nth) × (new.status ≡ old.status)
-  Records was rows rows' old new call (Committed at wrote) =
-      EndsBy rows at wrote call rows' × (new.player ≡ answered old.player Done) × (new.again ≡ false) × (new.nth ≡ 1) × (new.status ≡ old.status)
-  Records was rows rows' old new call (Conflict clock word) = StopsAt rows (new.engine.snapshot / 2) outcomes.Conflict rows' × (new.player ≡ restarted old.player)
-  Records was rows rows' old new call (Busy clock) = (rows' ≡ rows) × (new.player ≡ old.player)
-  Records was rows rows' old new call (Full at) = StopsAt rows at outcomes.Full rows' × (new.status ≡ Ended GaveUp)
+  Records was r r' old new call (Committed at wrote) =
+      EndsBy old.thread r at wrote call r' × (new.player ≡ answered old.player Done) × (new.again ≡ false) × (new.nth ≡ 1) × (new.status ≡ old.status)
+  Records was r r' old new call (Conflict clock word) = StopsAt old.thread r (new.engine.snapshot / 2) outcomes.Conflict r' × (new.player ≡ restarted old.player) × CountsTry old new
+  Records was r r' old new call (Busy clock) = (r' ≡ r) × (new.player ≡ old.player) × CountsTry old new
+  Records was r r' old new call (Full at) = StopsAt old.thread r at outcomes.Full r' × (new.status ≡ Ended GaveUp)
 
   -- of what the engine gave for the call
-  abbrev pub Tells : Bool → List Attempt → List Attempt → Actor P → Actor P → Call → Next → Type 0
-  Tells was rows rows' old new call (Steps step) = Unit {0}
-  Tells was rows rows' old new call (Answers answer) = Records was rows rows' old new call answer
+  abbrev pub Tells : Bool → Rows → Rows → Actor P → Actor P → Call → Next → Type 0
+  Tells was r r' old new call (Steps step) = Unit {0}
+  Tells was r r' old new call (Answers answer) = Records was r r' old new call answer
 
 -- ## A call goes to the engine
 
@@ -95,11 +100,11 @@ begins_again false again (Read hint width at) = false
 begins_again false again (Write hint at value) = false
 
 -- the call went to the engine, and nothing is recorded yet
-pub record Asks {P : Type 0} (clock : ℕ) (rows rows' : List Attempt) (old new : Actor P) (call : Call) (what : Next) : Type 0 where
+pub record Asks {P : Type 0} (clock : ℕ) (r r' : Rows) (old new : Actor P) (call : Call) (what : Next) : Type 0 where
   pub pending : new.pending ≡ asked_pending old.engine.is_open clock old call
   pub again : new.again ≡ old.again
   pub player : new.player ≡ old.player
   pub nth : new.nth ≡ old.nth
   pub thread : new.thread ≡ old.thread
-  pub rows_are : rows' ≡ rows
+  pub rows_are : r' ≡ record r { room = r'.room }
   pub proceeds : Proceeds (came old.engine call (begins_again old.engine.is_open old.again call)) what new.engine

@@ -1,13 +1,13 @@
 -- What is true of an actor between two events. So far there is one actor, and nobody else takes a step.
-use Rattle.std.specs.Prelude.{◌≡◌, ℕ, ◌+◌, ◌-◌, ◌*◌, ◌<◌, ◌≤◌, Bool, true, false, nat_lt, if◌then◌else◌, is_some, List, [], length, Option, None, Some, vec_len, vec_capacity}
+use Rattle.std.specs.Prelude.{◌≡◌, ℕ, ◌+◌, ◌-◌, ◌*◌, ◌/◌, ◌%◌, ◌<◌, ◌≤◌, Bool, true, false, nat_lt, if◌then◌else◌, is_some, [], length, Option, None, Some, vec_capacity}
 use Rattle.itm_types.specs.declared.call.Call.{Call}
 use Rattle.itm_types.specs.declared.call.Call.TheVariants.{Commit}
 use Rattle.itm_types.specs.declared.call.Reply.{Reply as Replied}
 use Rattle.itm_types.specs.declared.step.Step.{Step}
-use Rattle.itm_types.specs.Memory.{AllFit, Agrees}
+use Rattle.itm_types.specs.Memory.{AllFit}
 use Rattle.script_vm.specs.Depth.{depth_after, is_begin}
 use Rattle.norec_engine.specs.Core.{Core, came}
-use Rattle.norec_engine.specs.Proceeds.{IsLawful, IsSettled, IsWithin, Proceeds, StaysOn, most}
+use Rattle.norec_engine.specs.Proceeds.{IsAtOnce, IsLawful, IsSettled, IsWithin, Proceeds, StaysOn, most}
 use Rattle.norec_engine.specs.declared.answer.Next.{Next}
 use Rattle.norec_engine.specs.declared.answer.Next.TheVariants.{Step as Asks, Answer as Answers}
 use Rattle.norec_engine.specs.declared.answer.Answer.{Answer}
@@ -15,12 +15,11 @@ use Rattle.norec_engine.specs.declared.answer.Answer.TheVariants.{Reply, Committ
 use Rattle.norec_world.specs.declared.attempt.Attempt.{Attempt}
 use Rattle.norec_world.specs.declared.attempt.Outcome.TheVariants.{Unfinished}
 use Rattle.norec_world.specs.declared.attempt.End.TheVariants.{GaveUp}
-use Rattle.norec_world.specs.declared.recorded.Recorded.{Recorded}
 use Rattle.norec_world.specs.declared.actor.Actor.{Actor}
 use Rattle.norec_world.specs.declared.actor.Status.{Status}
 use Rattle.norec_world.specs.declared.actor.Status.TheVariants.{Ready, Waits, Ended}
 use Rattle.norec_world.specs.Cells.{Cells}
-use Rattle.norec_world.specs.Rows.{IsLast}
+use Rattle.norec_world.specs.Rows.{Rows, active_of}
 use Rattle.norec_world.specs.Status.{is_ready, is_waiting}
 
 -- ## The engine and the cells
@@ -32,8 +31,9 @@ pub record IsTied (cells : Cells) (e : Core) : Type 0 where
   pub late : e.clock ≤ cells.clock
   pub holder : e.holds ≡ true → cells.clock ≡ e.clock + 1
   pub opens : e.holds ≡ true → e.is_open ≡ true
-  pub logged : e.holds ≡ false → Agrees cells.words e.log
-  pub fresh : e.holds ≡ false → Agrees cells.words e.fresh
+  pub even : e.holds ≡ true → e.clock % 2 ≡ 0
+  pub reached : e.holds ≡ true → e.clock ≡ e.snapshot
+  pub below : e.holds ≡ true → e.clock / 2 < e.max_commits
   pub unfreed : e.freed ≡ false
   pub settled : IsSettled e
 
@@ -43,26 +43,25 @@ steps_left e = most e e.doing - e.spent
 
 -- ## What is recorded
 
--- the attempts of an actor that has an open one, or none
-abbrev pub HasRow : Bool → Recorded → ℕ → Type 0
-HasRow false r thread = vec_len r.rows ≡ r.ended
-HasRow true r thread = (past : List Attempt) × (row : Attempt) × IsLast r.rows.items r.ended thread past row × (row.outcome ≡ Unfinished)
+-- the actor has an open attempt, or none
+abbrev pub HasRow : Bool → Rows → ℕ → Type 0
+HasRow false r thread = active_of thread r.active ≡ None
+HasRow true r thread = (row : Attempt) × (active_of thread r.active ≡ Some row) × (row.outcome ≡ Unfinished)
 
 module _ {P : Type 0} where
-  pub record IsKept (is_open : Bool) (r : Recorded) (a : Actor P) : Type 0 where
+  pub record IsKept (is_open : Bool) (r : Rows) (a : Actor P) : Type 0 where
     pub row : HasRow is_open r a.thread
-    pub within : r.ended ≤ vec_len r.rows
     pub empty : a.spare.items ≡ []
     pub tried : 0 < a.nth
     pub tries : a.nth ≤ a.retries + 1
     pub retries : a.retries ≤ 10000
 
   -- the attempt that a begin is to open
-  pub record IsPending (r : Recorded) (a : Actor P) (row : Attempt) : Type 0 where
+  pub record IsPending (r : Rows) (a : Actor P) (row : Attempt) : Type 0 where
     pub thread : row.thread ≡ a.thread
     pub nth : row.nth ≡ a.nth
     pub outcome : row.outcome ≡ Unfinished
-    pub room : vec_len r.rows < vec_capacity r.rows
+    pub room : 0 < r.room
 
   -- a try of its block came to nothing: the next one, or the end
   abbrev pub retried : Actor P → Actor P
@@ -96,14 +95,14 @@ module _ {P : Type 0} (next : P → Option Call) (answered : P → Replied → P
     pub less : is_open ≡ true → left p < left (restarted p)
 
   -- the call came from the player, and there is room for what comes of it
-  pub record IsInCall (is_open : Bool) (r : Recorded) (a : Actor P) (call : Call) : Type 0 where
+  pub record IsInCall (is_open : Bool) (r : Rows) (a : Actor P) (call : Call) : Type 0 where
     pub asks : next a.player ≡ Some call
     pub begins : is_open ≡ false → is_some a.pending ≡ is_begin call
     pub inside : is_open ≡ true → a.pending ≡ None
     pub opens : (row : Attempt) → a.pending ≡ Some row → IsPending r a row
-    pub room : (past : List Attempt) (row : Attempt) → is_open ≡ true → IsLast r.rows.items r.ended a.thread past row → length row.calls < vec_capacity a.spare
+    pub room : (row : Attempt) → is_open ≡ true → active_of a.thread r.active ≡ Some row → length row.calls < vec_capacity a.spare
 
-  pub record IsWaiting (r : Recorded) (a : Actor P) (call : Call) (step : Step) : Type 0 where
+  pub record IsWaiting (r : Rows) (a : Actor P) (call : Call) (step : Step) : Type 0 where
     pub nested : IsNested a.engine.is_open a.player
     pub in_call : IsInCall a.engine.is_open r a call
     pub doing : a.engine.doing ≡ Some call
@@ -117,13 +116,13 @@ module _ {P : Type 0} (next : P → Option Call) (answered : P → Replied → P
     pub free : a.engine.holds ≡ false
     pub nothing : a.pending ≡ None
 
-  abbrev pub StatusIs : Recorded → Actor P → Status → Type 0
+  abbrev pub StatusIs : Rows → Actor P → Status → Type 0
   StatusIs r a Ready = IsReady a
   StatusIs r a (Waits call step) = IsWaiting r a call step
   StatusIs r a (Ended end) = Unit {0}
 
   -- between two events, and within local work
-  pub record IsSound (cells : Cells) (r : Recorded) (a : Actor P) : Type 0 where
+  pub record IsSound (cells : Cells) (r : Rows) (a : Actor P) : Type 0 where
     pub tied : IsTied cells a.engine
     pub kept : IsKept a.engine.is_open r a
     pub status : StatusIs r a a.status
@@ -147,7 +146,7 @@ module _ {P : Type 0} (next : P → Option Call) (answered : P → Replied → P
   -- ## Answers
 
   -- the call is answered, and nothing is recorded of that yet
-  pub record IsAnswered (was : Bool) (r : Recorded) (a : Actor P) (call : Call) (answer : Answer) : Type 0 where
+  pub record IsAnswered (was : Bool) (r : Rows) (a : Actor P) (call : Call) (answer : Answer) : Type 0 where
     pub kept : IsKept was r a
     pub nested : IsNested was a.player
     pub in_call : IsInCall was r a call
@@ -163,7 +162,7 @@ module _ {P : Type 0} (next : P → Option Call) (answered : P → Replied → P
   RestsAs (Ended end) a = Unit {0}
 
   -- the answer is recorded
-  pub record IsSettledBy (was : Bool) (r : Recorded) (old new : Actor P) : Type 0 where
+  pub record IsSettledBy (was : Bool) (r : Rows) (old new : Actor P) : Type 0 where
     pub engine : new.engine ≡ old.engine
     pub thread : new.thread ≡ old.thread
     pub retries : new.retries ≡ old.retries
@@ -182,10 +181,11 @@ module _ {P : Type 0} (next : P → Option Call) (answered : P → Replied → P
     pub status : new.status ≡ old.status
 
   -- the engine went on with the call, and there is room for what comes of it
-  pub record IsAsked (r : Recorded) (old new : Actor P) (call : Call) (what : Next) : Type 0 where
+  pub record IsAsked (r : Rows) (old new : Actor P) (call : Call) (what : Next) : Type 0 where
     pub same : SameBeside old new
     pub again : Bool
     pub proceeds : Proceeds (came old.engine call again) what new.engine
+    pub at_once : IsAtOnce what
     pub stays : StaysOn old.engine new.engine
     pub within : IsWithin new.engine
     pub settled : IsSettled new.engine
@@ -193,9 +193,10 @@ module _ {P : Type 0} (next : P → Option Call) (answered : P → Replied → P
     pub in_call : IsInCall old.engine.is_open r new call
 
   -- memory was refused before the call came to the engine
-  pub record IsUnasked (r : Recorded) (old new : Actor P) : Type 0 where
+  pub record IsUnasked (r : Rows) (old new : Actor P) : Type 0 where
     pub same : SameBeside old new
     pub engine : new.engine ≡ old.engine
+    pub pending : new.pending ≡ old.pending
     pub kept : IsKept new.engine.is_open r new
 
   -- no more is left to do than before
@@ -215,11 +216,11 @@ module _ {P : Type 0} (next : P → Option Call) (answered : P → Replied → P
   -- ## What comes next for a call
 
   -- nothing is recorded yet of what the engine gave for the call
-  abbrev pub IsDue : Bool → Recorded → Actor P → Call → Next → Type 0
+  abbrev pub IsDue : Bool → Rows → Actor P → Call → Next → Type 0
   IsDue was r a call (Asks step) = a.status ≡ Ready
   IsDue was r a call (Answers answer) = IsAnswered was r a call answer
 
-  abbrev pub IsDone : Bool → Recorded → Recorded → Actor P → Actor P → Call → Next → Type 0
+  abbrev pub IsDone : Bool → Rows → Rows → Actor P → Actor P → Call → Next → Type 0
   IsDone was r r' old new call (Asks step) = (new ≡ record old { status = Waits call step }) × (r' ≡ r)
   IsDone was r r' old new call (Answers answer) = IsSettledBy was r' old new
 

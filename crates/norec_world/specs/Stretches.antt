@@ -4,19 +4,20 @@ use Rattle.itm_types.specs.declared.call.Call.{Call}
 use Rattle.itm_types.specs.declared.call.Reply.{Reply}
 use Rattle.itm_types.specs.declared.step.Step.{Step}
 use Rattle.norec_engine.specs.Proceeds.{IsLawful}
-use Rattle.norec_world.specs.declared.recorded.Recorded.{Recorded}
+use Rattle.norec_world.specs.Rows.{Rows}
 use Rattle.norec_world.specs.declared.actor.Actor.{Actor}
 use Rattle.norec_world.specs.Cells.{Cells, cells_after}
 use Rattle.norec_world.specs.Status.{waiting_step}
+use Rattle.norec_world.specs.Events.{IsEvent}
 use Rattle.norec_world.specs.Tracks.{StillTracks}
 
 -- where an actor stands
 pub record Standing (P : Type 0) : Type 0 where
   pub cells : Cells
-  pub recorded : Recorded
+  pub recorded : Rows
   pub actor : Actor P
 
-abbrev pub standing : {P : Type 0} → Cells → Recorded → Actor P → Standing P
+abbrev pub standing : {P : Type 0} → Cells → Rows → Actor P → Standing P
 standing cells recorded actor = record { cells = cells; recorded = recorded; actor = actor }
 
 module _ {P : Type 0} (next : P → Option Call) (answered : P → Reply → P) (left : P → ℕ) where
@@ -27,7 +28,8 @@ module _ {P : Type 0} (next : P → Option Call) (answered : P → Reply → P) 
     pub lawful : IsLawful old.actor.engine step
     pub cells_are : new.cells ≡ cells_after old.cells step
     pub thread : new.actor.thread ≡ old.actor.thread
-    pub tracks : old.actor.thread ≡ 0 → StillTracks next answered left old.cells old.recorded.rows.items old.actor new.cells new.recorded.rows.items new.actor
+    pub event : IsEvent next old.cells old.recorded old.actor new.cells new.recorded new.actor
+    pub tracks : old.actor.thread ≡ 0 → StillTracks next answered left old.cells old.recorded old.actor new.cells new.recorded new.actor
 
   -- so many times in a row
   abbrev pub StepsOn : ℕ → Standing P → Standing P → Type 0

@@ -14,6 +14,7 @@ use Rattle.norec_world.specs.declared.actor.Actor.{Actor}
 use Rattle.norec_world.specs.declared.actor.Status.{Status}
 use Rattle.norec_world.specs.declared.actor.Status.TheVariants.{Ready, Waits, Ended}
 use Rattle.norec_world.specs.Cells.{Cells}
+use Rattle.norec_world.specs.Rows.{Rows, all_of}
 use Rattle.norec_world.specs.Solo.{Progress}
 use Rattle.norec_world.specs.Follows.{Follows, IsAll, row_of}
 use Rattle.norec_world.specs.SoFar.{IsSoFar}
@@ -27,17 +28,17 @@ module _ {P : Type 0} (next : P → Option Call) (answered : P → Reply → P) 
     pub row_is : row ≡ record (row_of next answered left max_commits 0 b (record { player = b.player; arena = b.arena; props = props }) [] Unfinished) { at = 0 }
 
   -- it goes on as its player alone
-  pub record IsOnWay (cells : Cells) (rows : List Attempt) (a : Actor P) : Type 0 where
+  pub record IsOnWay (cells : Cells) (r : Rows) (a : Actor P) : Type 0 where
     pub before : Progress P  -- where the player stood before the present block
     pub past : List Attempt
     pub memory : List ℕ  -- the words that the last commit left
-    pub follows : Follows next answered left max_commits 0 p0 base arena before past memory cells rows a.player a.engine
+    pub follows : Follows next answered left max_commits 0 p0 base arena before past memory cells r a.player a.engine
     pub first : a.nth ≡ 1
     pub anew : a.engine.is_open ≡ false → a.again ≡ false
 
   -- it waits for a step of this call
-  pub record IsUnderWay (cells : Cells) (rows : List Attempt) (a : Actor P) (call : Call) : Type 0 where
-    pub way : IsOnWay cells rows a
+  pub record IsUnderWay (cells : Cells) (r : Rows) (a : Actor P) (call : Call) : Type 0 where
+    pub way : IsOnWay cells r a
     pub opens : (row : Attempt) → a.pending ≡ Some row → OpensNext way.before call row
 
   -- It has ended: all that its player does alone is done, or, where memory was refused, a beginning of that.
@@ -47,16 +48,16 @@ module _ {P : Type 0} (next : P → Option Call) (answered : P → Reply → P) 
   HasEnded cells rows NoMemory = (cells.clock % 2 ≡ 0) × IsSoFar next answered left max_commits 0 p0 base arena (cells.clock / 2) (bytes_of cells.words) outcomes.NoMemory rows
 
   -- by how it stands, its rows, engine and player are those of its player alone
-  abbrev pub TracksAs : Cells → List Attempt → Actor P → Status → Type 0
-  TracksAs cells rows a Ready = IsOnWay cells rows a
-  TracksAs cells rows a (Waits call step) = IsUnderWay cells rows a call
-  TracksAs cells rows a (Ended end) = HasEnded cells rows end
+  abbrev pub TracksAs : Cells → Rows → Actor P → Status → Type 0
+  TracksAs cells r a Ready = IsOnWay cells r a
+  TracksAs cells r a (Waits call step) = IsUnderWay cells r a call
+  TracksAs cells r a (Ended end) = HasEnded cells (all_of r) end
 
-  abbrev pub Tracks : Cells → List Attempt → Actor P → Type 0
-  Tracks cells rows a = TracksAs cells rows a a.status
+  abbrev pub Tracks : Cells → Rows → Actor P → Type 0
+  Tracks cells r a = TracksAs cells r a a.status
 
 -- an actor that tracks its player before tracks it afterwards too
 module _ {P : Type 0} (next : P → Option Call) (answered : P → Reply → P) (left : P → ℕ) where
-  abbrev pub StillTracks : Cells → List Attempt → Actor P → Cells → List Attempt → Actor P → Type 0
-  StillTracks cells rows a cells' rows' a' = (max_commits : ℕ) (p0 : P) (base arena : List ℕ)
-      → Tracks next answered left max_commits p0 base arena cells rows a → Tracks next answered left max_commits p0 base arena cells' rows' a'
+  abbrev pub StillTracks : Cells → Rows → Actor P → Cells → Rows → Actor P → Type 0
+  StillTracks cells r a cells' r' a' = (max_commits : ℕ) (p0 : P) (base arena : List ℕ)
+      → Tracks next answered left max_commits p0 base arena cells r a → Tracks next answered left max_commits p0 base arena cells' r' a'

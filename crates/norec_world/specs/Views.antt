@@ -7,10 +7,11 @@ world_of w = record {
   opening = w.opening.items;
   base = w.base;
   arena = w.terms.arena;
+  patience = w.terms.limits.patience;
   max_commits = w.terms.limits.max_commits;
+  retries = w.terms.retries;
   cells = w.memory;
   actors = w.actors.items;
-  attempts = w.recorded.rows.items;
-  ended = w.recorded.ended;
+  attempts = w.recorded;
   events = w.events;
 }

@@ -1,5 +1,5 @@
 -- What contracts see of a world.
-use Rattle.std.specs.Prelude.{◌≡◌, ℕ, ◌+◌, ◌-◌, ◌^◌, min, Bool, true, false, List, [], ◌∷◌, Option, None, Some, Result, Ok, Err, slice_get, replicate, ◌/◌, ◌%◌}
+use Rattle.std.specs.Prelude.{◌≡◌, ℕ, ◌+◌, ◌-◌, ◌^◌, min, Bool, true, false, List, [], ◌∷◌, length, Option, None, Some, Result, Ok, Err, slice_get, replicate, ◌/◌, ◌%◌}
 use Rattle.std.specs.Option.{option_and_then}
 use Rattle.itm_types.specs.declared.call.Call.{Call}
 use Rattle.itm_types.specs.declared.call.Reply.{Reply}
@@ -11,11 +11,10 @@ use Rattle.norec_world.specs.declared.attempt.End.{End}
 use Rattle.norec_world.specs.declared.attempt.End.TheVariants.{Finished, GaveUp, NoMemory}
 use Rattle.norec_world.specs.declared.fault.WorldFault.{WorldFault}
 use Rattle.norec_world.specs.declared.fault.WorldFault.TheVariants as faults
-use Rattle.norec_world.specs.declared.recorded.Recorded.{Recorded}
+use Rattle.norec_world.specs.Rows.{Rows, all_of}
 use Rattle.norec_world.specs.declared.actor.Actor.{Actor}
 use Rattle.norec_world.specs.Cells.{Cells}
-use Rattle.norec_world.specs.Status.{ending_of, is_ready, waiting_step}
-use Rattle.norec_world.specs.Sound.{IsSound}
+use Rattle.norec_world.specs.Status.{ending_of, waiting_step}
 use Rattle.norec_world.specs.SoFar.{IsSoFar}
 use Rattle.norec_world.specs.Tracks.{HasEnded, Tracks}
 
@@ -23,11 +22,12 @@ pub record World (P : Type 0) : Type 0 where
   pub opening : List P  -- the players as they were handed in
   pub base : List ℕ  -- the memory as it was handed in
   pub arena : ℕ  -- the bytes of each actor's arena
+  pub patience : ℕ
   pub max_commits : ℕ
+  pub retries : ℕ
   pub cells : Cells
   pub actors : List (Actor P)
-  pub attempts : List Attempt
-  pub ended : ℕ  -- so many of them have ended
+  pub attempts : Rows
   pub events : ℕ
 
 -- it is a world of the same beginning
@@ -35,11 +35,17 @@ pub record SameOpening {P : Type 0} (old new : World P) : Type 0 where
   pub opening : new.opening ≡ old.opening
   pub base : new.base ≡ old.base
   pub arena : new.arena ≡ old.arena
+  pub patience : new.patience ≡ old.patience
   pub max_commits : new.max_commits ≡ old.max_commits
+  pub retries : new.retries ≡ old.retries
 
 -- so many events more, standing still at the highest number
 abbrev pub counted : ℕ → ℕ → ℕ
 counted events more = min (events + more) (2 ^ 64 - 1)
+
+-- the attempts that have ended, and then the open ones
+abbrev pub attempts_of : {P : Type 0} → World P → List Attempt
+attempts_of w = all_of w.attempts
 
 -- the shared memory
 abbrev pub memory_of : {P : Type 0} → World P → List ℕ
@@ -71,34 +77,25 @@ is_event (Err faults.NoMemory) = true
 abbrev pub waits_at : {P : Type 0} → World P → ℕ → Option Step
 waits_at w actor = option_and_then (λ a. waiting_step a.status) (slice_get w.actors actor)
 
-module _ {P : Type 0} (next : P → Option Call) (answered : P → Reply → P) (restarted : P → P) (left : P → ℕ) (depth : P → ℕ) where
-  -- between two events there is the one actor, and its local work is done
-  pub record IsSoundWorld (cells : Cells) (r : Recorded) (actors : List (Actor P)) : Type 0 where
-    pub actor : Actor P
-    pub alone : actors ≡ actor ∷ []
-    pub sound : IsSound next answered restarted left depth cells r actor
-    pub done : is_ready actor.status ≡ false
-    pub thread : actor.thread ≡ 0
-
--- what the one actor did is what its player does alone on the memory that was handed in, up to refused memory
+-- what one actor by itself did is what its player does alone on the memory that was handed in, up to refused memory
 module _ {P : Type 0} (next : P → Option Call) (answered : P → Reply → P) (left : P → ℕ) where
-  pub record IsSoloWorld (opening : List P) (base : List ℕ) (arena max_commits : ℕ) (cells : Cells) (rows : List Attempt) (actors : List (Actor P)) : Type 0 where
+  pub record IsSoloWorld (opening : List P) (base : List ℕ) (arena max_commits : ℕ) (cells : Cells) (r : Rows) (actors : List (Actor P)) : Type 0 where
     pub player : P
     pub actor : Actor P
     pub players : opening ≡ player ∷ []
     pub one : actors ≡ actor ∷ []
-    pub tracks : Tracks next answered left max_commits player base (replicate arena 0) cells rows actor
+    pub tracks : Tracks next answered left max_commits player base (replicate arena 0) cells r actor
 
-  -- the same of a world
+  -- the same of a world, if it has one player
   abbrev pub RunsAlone : World P → Type 0
-  RunsAlone w = IsSoloWorld w.opening w.base w.arena w.max_commits w.cells w.attempts w.actors
+  RunsAlone w = length w.opening ≡ 1 → IsSoloWorld w.opening w.base w.arena w.max_commits w.cells w.attempts w.actors
 
   -- What its player has done alone: a beginning before its end, where the memory is told only of an even clock; all of it at its end, or a beginning where memory was refused.
   abbrev pub DoneBy : World P → P → Option End → Type 0
-  DoneBy w p None = (memory : List ℕ) × IsSoFar next answered left w.max_commits 0 p w.base (replicate w.arena 0) (w.cells.clock / 2) memory Unfinished w.attempts
+  DoneBy w p None = (memory : List ℕ) × IsSoFar next answered left w.max_commits 0 p w.base (replicate w.arena 0) (w.cells.clock / 2) memory Unfinished (attempts_of w)
       × (w.cells.clock % 2 ≡ 0 → memory_of w ≡ memory)
-  DoneBy w p (Some end) = HasEnded next answered left w.max_commits p w.base (replicate w.arena 0) w.cells w.attempts end
+  DoneBy w p (Some end) = HasEnded next answered left w.max_commits p w.base (replicate w.arena 0) w.cells (attempts_of w) end
 
-  -- the players are one, and so far the world shows what that one has done alone
+  -- where there is one player, the world so far shows what that one has done alone
   abbrev pub ShowsAlone : World P → Type 0
-  ShowsAlone w = (p : P) × (w.opening ≡ p ∷ []) × DoneBy w p (ending_at w 0)
+  ShowsAlone w = length w.opening ≡ 1 → (p : P) × (w.opening ≡ p ∷ []) × DoneBy w p (ending_at w 0)

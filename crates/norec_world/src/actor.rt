@@ -45,6 +45,9 @@ impl<P: Player> Actor<P> {
     ghost use Rattle.norec_world.specs.Status.{ending_of, is_waiting, is_ready, waiting_step};
     ghost use Rattle.norec_world.specs.Records.{Tells, IsTold};
     ghost use Rattle.norec_world.specs.Tracks.{StillTracks};
+    ghost use Rattle.norec_world.specs.Own.{KeepsOthers};
+    ghost use Rattle.norec_world.specs.Tries.{Tries, prior_of};
+    ghost use Rattle.norec_world.specs.Holding.{ClocksOn};
     ghost use Rattle.norec_world.specs.Sound.{IsKept, IsSound, IsDue, IsDone, StatusIs, GoesOn, Falls};
 
     /// An actor that has made no call.
@@ -92,8 +95,13 @@ impl<P: Player> Actor<P> {
         requires waits { is_waiting self.old.status ≡ true }
         ensures sound { IsSound P.next_call P.answered P.restarted P.calls_left P.depth memory.new recorded.new self.new }
         ensures thread { self.new.thread ≡ self.old.thread }
+        ensures others { KeepsOthers self.old recorded.old self.new recorded.new }
+        ensures clocks { ClocksOn memory.old self.old.engine memory.new self.new.engine }
+        ensures retries { self.new.retries ≡ self.old.retries }
+        ensures tries { Tries memory.old.clock (prior_of recorded.old self.old) memory.new.clock recorded.new self.new }
+        ensures unfinished { ending_of self.new.status ≡ Some End.Finished → ⊥ }
         ensures cells { (step : Step) → waiting_step self.old.status ≡ Some step → memory.new ≡ cells_after memory.old step }
-        ensures tracks { StillTracks P.next_call P.answered P.calls_left memory.old recorded.old.rows.items self.old memory.new recorded.new.rows.items self.new }
+        ensures tracks { self.old.thread ≡ 0 → StillTracks P.next_call P.answered P.calls_left memory.old recorded.old self.old memory.new recorded.new self.new }
         ensures goes_on { is_waiting self.new.status ≡ true → GoesOn P.next_call P.answered P.restarted P.calls_left P.depth self.old self.new }
         ensures falls { is_ready self.new.status ≡ true → Falls P.next_call P.answered P.restarted P.calls_left P.depth self.old.engine.is_open self.new.engine.is_open self.old self.new }
     {
@@ -114,7 +122,8 @@ impl<P: Player> Actor<P> {
         ensures done { (was : Bool) → IsDue P.next_call P.answered P.restarted P.calls_left P.depth was recorded.old self.old call next
             → IsDone P.next_call P.answered P.restarted P.calls_left P.depth was recorded.old recorded.new self.old self.new call next }
         ensures tells { (was : Bool) → IsDue P.next_call P.answered P.restarted P.calls_left P.depth was recorded.old self.old call next
-            → Tells P.answered P.restarted was recorded.old.rows.items recorded.new.rows.items self.old self.new call next }
+            → Tells P.answered P.restarted was recorded.old recorded.new self.old self.new call next }
+        ensures others { (was : Bool) → IsDue P.next_call P.answered P.restarted P.calls_left P.depth was recorded.old self.old call next → KeepsOthers self.old recorded.old self.new recorded.new }
     {
         match next {
             Next::Step(step) => self.status = Status::Waits { call, step },
@@ -126,7 +135,8 @@ impl<P: Player> Actor<P> {
     fn follow(&self, recorded: &mut Recorded)
         requires { IsKept self.now.engine.is_open recorded.old self.now }
         ensures kept { IsKept self.now.engine.is_open recorded.new self.now }
-        ensures told { IsTold self.now.engine.is_open recorded.old.rows.items (self.now.engine.snapshot / 2) recorded.new.rows.items }
+        ensures told { IsTold self.now.thread self.now.engine.is_open recorded.old (self.now.engine.snapshot / 2) recorded.new }
+        ensures others { KeepsOthers self.now recorded.old self.now recorded.new }
         ensures status { (status : Status) → StatusIs P.next_call P.answered P.restarted P.calls_left P.depth recorded.old self.now status
             → StatusIs P.next_call P.answered P.restarted P.calls_left P.depth recorded.new self.now status }
     {

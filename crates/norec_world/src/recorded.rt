@@ -1,25 +1,37 @@
 //! The attempts so far.
 
-ghost use Rattle.std.specs.Prelude.{◌≡◌, ◌==◌, ◌+◌, ◌<◌, ◌≤◌, ◌++◌, ◌∷◌, [], List, length, position, IfSome, vec_len, vec_capacity};
+ghost use Rattle.std.specs.Prelude.{◌≡◌, ◌==◌, ◌+◌, ◌-◌, ◌<◌, ◌≤◌, ◌++◌, ◌∷◌, [], List, length, position, insert, nat_lt, Some, None, IfSome, IfOk, OnErr, vec_len, vec_capacity};
 ghost use Rattle.norec_world.specs.declared.attempt.Attempt.{Attempt};
-ghost use Rattle.norec_world.specs.Rows.{open_place, IsLast};
+ghost use Rattle.norec_world.specs.Rows.{Rows, AreFrom, all_of, active_of, is_of, with_changed, with_opened, with_ended};
 
 use crate::attempt::{Attempt, Entry, Outcome};
 use std::alloc::{AllocError, Global};
+use std::marker::Model;
 
 /// The attempts that have ended, in the order in which they did, and then the open ones by actor.
 #[derive(Drop)]
 pub(crate) struct Recorded {
-    pub(crate) rows: Vec<Attempt>,
+    rows: Vec<Attempt>,
     /// How many have ended.
-    pub(crate) ended: usize,
+    ended: usize,
+}
+
+impl Model for Recorded {
+    ghost use Rattle.std.specs.Prelude.{drop, ◌≤◌, vec_len};
+    ghost use Rattle.norec_world.specs.Rows.{Rows, rows_of, AreFrom};
+
+    ghost Value = { Rows };
+
+    ghost view = { rows_of };
+
+    ghost invariant = { λ r. (r.ended ≤ vec_len r.rows) × AreFrom 0 (drop r.ended r.rows.items) };
 }
 
 impl Recorded {
     /// No attempts. Takes no memory.
     pub(crate) fn new(alloc: Global) -> Self
-        ensures rows { result.rows.items ≡ [] }
-        ensures ended { result.ended ≡ 0 }
+        ensures ended { result.ended ≡ [] }
+        ensures open { result.active ≡ [] }
     {
         Recorded {
             rows: Vec::new(alloc),
@@ -27,54 +39,51 @@ impl Recorded {
         }
     }
 
-    /// An attempt opens, of an actor that has no open one; there has to be room for it.
-    pub(crate) fn open(&mut self, attempt: Attempt)
-        requires within { self.old.ended ≤ vec_len self.old.rows }
-        requires room { vec_len self.old.rows < vec_capacity self.old.rows }
-        ensures ended { self.new.ended ≡ self.old.ended }
-        ensures alone { vec_len self.old.rows ≡ self.old.ended → self.new.rows.items ≡ self.old.rows.items ++ attempt ∷ [] }
+    /// All of them.
+    pub(crate) fn all(&self) -> &[Attempt]
+        ensures value { result.now ≡ all_of self.now }
+        ensures by_actor { AreFrom 0 self.now.active }
     {
-        let thread = attempt.thread;
-        let open = &self.rows[self.ended..];
-        let before = open
-            .iter()
-            .position(|a| thread < a.thread)
-            .unwrap_or(open.len());
-        let _ = self.rows.insert(self.ended + before, attempt);
+        &self.rows
     }
 
-    /// Where the actor's open attempt stands.
-    fn place_of(&self, thread: u8) -> Option<usize>
-        requires { self.now.ended ≤ vec_len self.now.rows }
-        ensures { result ≡ open_place self.now.rows.items self.now.ended thread }
+    /// Makes room for so many more.
+    pub(crate) fn reserve(&mut self, more: usize) -> Result<(), AllocError>
+        ensures same { self.new ≡ record self.old { room = self.new.room } }
+        ensures room { IfOk result (λ done. more ≤ self.new.room) }
+        ensures kept { self.old.room ≤ self.new.room }
     {
-        match position_of(&self.rows[self.ended..], thread) {
-            Some(place) => Some(self.ended + place),
-            None => None,
-        }
+        self.rows.reserve(more)?;
+        Ok(())
+    }
+
+    /// An attempt opens, of an actor that has no open one; there has to be room for it.
+    pub(crate) fn open(&mut self, attempt: Attempt)
+        requires room { 0 < self.old.room }
+        requires none { active_of attempt.thread self.old.active ≡ None }
+        ensures { self.new ≡ with_opened attempt self.old }
+    {
+        let open = &self.rows[self.ended..];
+        let place = first_after(open, attempt.thread).unwrap_or(open.len());
+        insert_within(&mut self.rows, self.ended + place, attempt);
     }
 
     /// How many calls with replies the actor's open attempt has.
     pub(crate) fn calls_of(&self, thread: u8) -> usize
-        requires { self.now.ended ≤ vec_len self.now.rows }
-        ensures { (past : List Attempt) (row : Attempt) → IsLast self.now.rows.items self.now.ended thread past row → result ≡ length row.calls }
+        ensures { (row : Attempt) → active_of thread self.now.active ≡ Some row → result ≡ length row.calls }
     {
-        match self.place_of(thread) {
-            Some(place) => self.rows[place].calls.as_slice().len(),
+        match position_of(&self.rows[self.ended..], thread) {
+            Some(place) => self.rows[self.ended + place].calls.as_slice().len(),
             None => 0,
         }
     }
 
     /// The actor's open attempt reads at this position.
     pub(crate) fn move_to(&mut self, thread: u8, at: u64)
-        requires { self.old.ended ≤ vec_len self.old.rows }
-        ensures ended { self.new.ended ≡ self.old.ended }
-        ensures moved { (past : List Attempt) (row : Attempt) → IsLast self.old.rows.items self.old.ended thread past row
-            → self.new.rows.items ≡ past ++ record row { at = at } ∷ [] }
-        ensures room { vec_capacity self.new.rows ≡ vec_capacity self.old.rows }
+        ensures { self.new ≡ with_changed thread (λ row. record row { at = at }) self.old }
     {
-        if let Some(place) = self.place_of(thread) {
-            let row = &mut self.rows[place];
+        if let Some(place) = position_of(&self.rows[self.ended..], thread) {
+            let row = &mut self.rows[self.ended + place];
             row.at = at;
         }
     }
@@ -82,30 +91,26 @@ impl Recorded {
     /// A call of the actor's open attempt has a reply.
     pub(crate) fn add(&mut self, thread: u8, spare: &mut Vec<Entry>, entry: Entry)
         requires empty { spare.old.items ≡ [] }
-        requires open { (past : List Attempt) × (row : Attempt) × IsLast self.old.rows.items self.old.ended thread past row × (length row.calls < vec_capacity spare.old) }
-        ensures ended { self.new.ended ≡ self.old.ended }
-        ensures added { (past : List Attempt) (row : Attempt) → IsLast self.old.rows.items self.old.ended thread past row
-            → self.new.rows.items ≡ past ++ record row { calls = row.calls ++ entry ∷ [] } ∷ [] }
+        requires room { (row : Attempt) → active_of thread self.old.active ≡ Some row → length row.calls < vec_capacity spare.old }
+        ensures added { self.new ≡ with_changed thread (λ row. record row { calls = row.calls ++ entry ∷ [] }) self.old }
         ensures empty { spare.new.items ≡ [] }
     {
-        if let Some(place) = self.place_of(thread) {
-            let row = &mut self.rows[place];
+        if let Some(place) = position_of(&self.rows[self.ended..], thread) {
+            let row = &mut self.rows[self.ended + place];
             row.calls.push(spare, entry);
         }
     }
 
     /// The actor's open attempt ends, at this position.
     pub(crate) fn end(&mut self, thread: u8, at: u64, outcome: Outcome)
-        requires open { (past : List Attempt) × (row : Attempt) × IsLast self.old.rows.items self.old.ended thread past row }
-        ensures ended { self.new.ended ≡ self.old.ended + 1 }
-        ensures rows { (past : List Attempt) (row : Attempt) → IsLast self.old.rows.items self.old.ended thread past row
-            → self.new.rows.items ≡ past ++ record row { at = at; outcome = outcome } ∷ [] }
+        ensures gone { active_of thread self.new.active ≡ None }
+        ensures ended { (row : Attempt) → active_of thread self.old.active ≡ Some row → self.new ≡ with_ended thread (record row { at = at; outcome = outcome }) self.old }
     {
-        if let Some(place) = self.place_of(thread) {
-            let mut row = self.rows.remove(place);
+        if let Some(place) = position_of(&self.rows[self.ended..], thread) {
+            let mut row = self.rows.remove(self.ended + place);
             row.at = at;
             row.outcome = outcome;
-            let _ = self.rows.insert(self.ended, row);
+            insert_within(&mut self.rows, self.ended, row);
             self.ended += 1;
         }
     }
@@ -113,8 +118,27 @@ impl Recorded {
 
 /// Which of these is the first of the actor.
 fn position_of(rows: &[Attempt], thread: u8) -> Option<usize>
-    ensures value { result ≡ position (λ a. a.thread == thread) rows.now }
+    ensures value { result ≡ position (is_of thread) rows.now }
     ensures within { IfSome result (λ place. place < length rows.now) }
 {
     rows.iter().position(|a| a.thread == thread)
+}
+
+/// Which of these is the first of an actor after this one.
+fn first_after(rows: &[Attempt], thread: u8) -> Option<usize>
+    ensures value { result ≡ position (λ a. nat_lt thread a.thread) rows.now }
+    ensures within { IfSome result (λ place. place < length rows.now) }
+{
+    rows.iter().position(|a| thread < a.thread)
+}
+
+/// One more at this place, which there has to be room for.
+fn insert_within(rows: &mut Vec<Attempt>, place: usize, attempt: Attempt)
+    requires room { vec_len rows.old < vec_capacity rows.old }
+    requires within { place ≤ vec_len rows.old }
+    ensures items { rows.new.items ≡ insert rows.old.items place attempt }
+    ensures len { vec_len rows.new ≡ vec_len rows.old + 1 }
+    ensures capacity { vec_capacity rows.new ≡ vec_capacity rows.old }
+{
+    let _ = rows.insert(place, attempt);
 }

@@ -11,6 +11,8 @@ use std::alloc::Global;
 impl<P: Player> Actor<P> {
     ghost use Rattle.norec_world.specs.Status.{is_ready, is_waiting, ending_of};
     ghost use Rattle.norec_world.specs.Tracks.{StillTracks};
+    ghost use Rattle.norec_world.specs.Own.{KeepsOthers};
+    ghost use Rattle.norec_world.specs.Holding.{ClocksOn};
     ghost use Rattle.norec_world.specs.World.{counted};
     ghost use Rattle.norec_world.specs.Stretches.{standing, StepsOn};
     ghost use Rattle.norec_world.specs.Sound.{IsSound, IsNoMore, Falls};
@@ -28,7 +30,9 @@ impl<P: Player> Actor<P> {
         ensures ended { IsSome (ending_of self.new.status) }
         ensures took { (n : ℕ) × StepsOn P.next_call P.answered P.calls_left n (standing memory.old recorded.old self.old) (standing memory.new recorded.new self.new) × (result ≡ counted 0 n) }
         ensures thread { self.new.thread ≡ self.old.thread }
-        ensures tracks { self.old.thread ≡ 0 → StillTracks P.next_call P.answered P.calls_left memory.old recorded.old.rows.items self.old memory.new recorded.new.rows.items self.new }
+        ensures others { KeepsOthers self.old recorded.old self.new recorded.new }
+        ensures clocks { ClocksOn memory.old self.old.engine memory.new self.new.engine }
+        ensures tracks { self.old.thread ≡ 0 → StillTracks P.next_call P.answered P.calls_left memory.old recorded.old self.old memory.new recorded.new self.new }
     {
         let mut taken = 0u64;
         while self.waits() {
@@ -46,7 +50,9 @@ impl<P: Player> Actor<P> {
         ensures over { is_waiting self.new.status ≡ false }
         ensures took { (n : ℕ) × StepsOn P.next_call P.answered P.calls_left n (standing memory.old recorded.old self.old) (standing memory.new recorded.new self.new) × (result ≡ counted 0 n) }
         ensures thread { self.new.thread ≡ self.old.thread }
-        ensures tracks { StillTracks P.next_call P.answered P.calls_left memory.old recorded.old.rows.items self.old memory.new recorded.new.rows.items self.new }
+        ensures others { KeepsOthers self.old recorded.old self.new recorded.new }
+        ensures clocks { ClocksOn memory.old self.old.engine memory.new self.new.engine }
+        ensures tracks { self.old.thread ≡ 0 → StillTracks P.next_call P.answered P.calls_left memory.old recorded.old self.old memory.new recorded.new self.new }
         ensures falls { is_ready self.new.status ≡ true → Falls P.next_call P.answered P.restarted P.calls_left P.depth self.old.engine.is_open self.new.engine.is_open self.old self.new }
     {
         let mut taken = 0u64;

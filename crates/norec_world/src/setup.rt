@@ -3,6 +3,9 @@
 use crate::lists::Bytes;
 use norec_engine::Limits;
 
+/// How many actors a world may have.
+pub const MAX_ACTORS: usize = 32;
+
 /// What a world begins with, beside its players.
 #[derive(Debug, Drop)]
 pub struct Setup {

@@ -1,16 +1,22 @@
 //! How actors begin.
 
-ghost use Rattle.std.specs.Prelude.{◌≡◌, ◌^◌, ◌<◌, ◌≤◌, false, [], length, replicate, vec_len, Some, IfOk, All};
+ghost use Rattle.std.specs.Prelude.{◌≡◌, ℕ, ◌^◌, ◌<◌, ◌≤◌, false, [], length, replicate, slice_get, None, Some, IfOk, All};
 ghost use Rattle.itm_types.specs.Memory.{AllFit, bytes_of};
 ghost use Rattle.norec_world.specs.Tracks.{Tracks};
 ghost use Rattle.norec_world.specs.Status.{ending_of, is_ready};
 ghost use Rattle.norec_world.specs.Sound.{IsSound};
-ghost use Rattle.norec_world.specs.World.{IsSoundWorld, IsSoloWorld, ending_in};
+ghost use Rattle.norec_world.specs.Rows.{active_of};
+ghost use Rattle.norec_world.specs.Own.{KeepsOthers};
+ghost use Rattle.norec_world.specs.Actors.{AreActors};
+ghost use Rattle.norec_world.specs.World.{IsSoloWorld, ending_in};
+ghost use Rattle.norec_world.specs.Starts.{IsFirst};
+ghost use Rattle.norec_world.specs.declared.actor.Actor.{Actor};
 
 use crate::actor::Actor;
 use crate::attempt::End;
 use crate::memory::Memory;
 use crate::recorded::Recorded;
+use crate::setup::MAX_ACTORS;
 use norec_engine::{Arena, Engine, Limits};
 use script_vm::Player;
 use std::alloc::{AllocError, Global};
@@ -37,20 +43,24 @@ pub(crate) fn start_all<P: Player>(
     recorded: &mut Recorded,
     players: Vec<P>,
 ) -> Result<Vec<Actor<P>>, AllocError>
-    requires one { length players.items ≡ 1 }
+    requires few { length players.items ≤ MAX_ACTORS }
     requires outside { All (λ p. P.depth p ≡ 0) players.items }
     requires size { (0 < length memory.now.words) × (length memory.now.words ≤ 8192) }
     requires fit { AllFit memory.now.words }
-    requires none { vec_len recorded.old.rows ≡ recorded.old.ended }
-    requires empty { recorded.old.rows.items ≡ [] }
+    requires empty { (recorded.old.ended ≡ []) × (recorded.old.active ≡ []) }
     requires clock { memory.now.clock ≡ 0 }
-    ensures alone { IfOk result (λ actors. IsSoloWorld P.next_call P.answered P.calls_left players.items (bytes_of memory.now.words) terms.arena terms.limits.max_commits memory.now recorded.new.rows.items actors.items) }
-    ensures fed { IfOk result (λ actors. ending_in actors.items 0 ≡ Some End.NoMemory → ⊥) }
-    ensures sound { IfOk result (λ actors. IsSoundWorld P.next_call P.answered P.restarted P.calls_left P.depth memory.now recorded.new actors.items) }
+    ensures count { IfOk result (λ actors. length actors.items ≡ length players.items) }
+    ensures sound { IfOk result (λ actors. AreActors P.next_call P.answered P.restarted P.calls_left P.depth memory.now recorded.new actors.items) }
+    ensures first { IfOk result (λ actors. (place : ℕ) (a : Actor P) → slice_get actors.items place ≡ Some a → IsFirst memory.now.clock terms.limits.patience terms.limits.max_commits terms.retries recorded.new a) }
+    ensures none { IfOk result (λ actors. (recorded.new.ended ≡ []) × (recorded.new.active ≡ [])) }
+    ensures alone { IfOk result (λ actors. length players.items ≡ 1
+        → IsSoloWorld P.next_call P.answered P.calls_left players.items (bytes_of memory.now.words) terms.arena terms.limits.max_commits memory.now recorded.new actors.items) }
+    ensures fed { IfOk result (λ actors. (place : ℕ) → ending_in actors.items place ≡ Some End.NoMemory → ⊥) }
 {
     let mut actors = Vec::new(alloc);
     for player in players {
-        let actor = start(alloc, terms, memory, recorded, player)?;
+        let thread = actors.len() as u8;
+        let actor = start(alloc, terms, memory, recorded, thread, player)?;
         actors.push(actor)?;
     }
     Ok(actors)
@@ -62,23 +72,28 @@ fn start<P: Player>(
     terms: Terms,
     memory: &Memory,
     recorded: &mut Recorded,
+    thread: u8,
     player: P,
 ) -> Result<Actor<P>, AllocError>
     requires outside { P.depth player ≡ 0 }
     requires size { (0 < length memory.now.words) × (length memory.now.words ≤ 8192) }
     requires fit { AllFit memory.now.words }
-    requires none { vec_len recorded.old.rows ≡ recorded.old.ended }
-    requires empty { recorded.old.rows.items ≡ [] }
+    requires none { active_of thread recorded.old.active ≡ None }
     requires clock { memory.now.clock ≡ 0 }
-    ensures tracks { IfOk result (Tracks P.next_call P.answered P.calls_left terms.limits.max_commits player (bytes_of memory.now.words) (replicate terms.arena 0) memory.now recorded.new.rows.items) }
+    ensures tracks { IfOk result (λ a. thread ≡ 0 → (recorded.old.ended ≡ []) × (recorded.old.active ≡ [])
+        → Tracks P.next_call P.answered P.calls_left terms.limits.max_commits player (bytes_of memory.now.words) (replicate terms.arena 0) memory.now recorded.new a) }
     ensures sound { IfOk result (IsSound P.next_call P.answered P.restarted P.calls_left P.depth memory.now recorded.new) }
     ensures fed { IfOk result (λ a. ending_of a.status ≡ Some End.NoMemory → ⊥) }
     ensures done { IfOk result (λ a. is_ready a.status ≡ false) }
-    ensures thread { IfOk result (λ a. a.thread ≡ 0) }
+    ensures thread { IfOk result (λ a. a.thread ≡ thread) }
+    ensures first { IfOk result (λ a. IsFirst memory.now.clock terms.limits.patience terms.limits.max_commits terms.retries recorded.new a) }
+    ensures ended { IfOk result (λ a. recorded.new.ended ≡ recorded.old.ended) }
+    ensures free { IfOk result (λ a. a.engine.holds ≡ false) }
+    ensures others { IfOk result (λ a. (fresh : Actor P) × (fresh.thread ≡ thread) × (fresh.pending ≡ None) × KeepsOthers fresh recorded.old a recorded.new) }
 {
     let arena = Arena::new(alloc, terms.arena)?;
     let engine = Engine::new(alloc, memory.words(), arena, terms.limits);
-    let mut actor = Actor::new(alloc, 0, terms.retries, player, engine);
+    let mut actor = Actor::new(alloc, thread, terms.retries, player, engine);
     actor.work(alloc, memory, recorded);
     match actor.ending() {
         Some(End::NoMemory) => Err(AllocError),

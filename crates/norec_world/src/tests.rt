@@ -1,8 +1,9 @@
-//! Worlds with one actor.
+//! Worlds with one actor, and with two.
 
 ghost use Rattle.std.specs.Prelude.{◌≡◌, ◌%◌, ◌^◌, ◌<◌, ◌≤◌, length, IfOk};
 
 mod barriers;
+mod many;
 mod planned;
 
 use crate::{Attempt, Bytes, End, Outcome, Passes, Setup, World, WorldFault};
@@ -66,11 +67,23 @@ fn write(at: u64, value: u64) -> Call {
     }
 }
 
-/// The first of these attempts ended so, at this position, with so many calls.
+/// The first of these attempts, of actor 0, ended so, at this position, with so many calls.
 fn expect(rt: &impl Abort, attempts: &[Attempt], outcome: Outcome, at: u64, calls: usize) {
-    let attempt = attempts.first().expect(rt, "an attempt");
+    expect_of(rt, attempts.first(), 0, outcome, at, calls);
+}
+
+/// This attempt, the first try of this actor, ended so, at this position, with so many calls.
+fn expect_of(
+    rt: &impl Abort,
+    attempt: Option<&Attempt>,
+    thread: u8,
+    outcome: Outcome,
+    at: u64,
+    calls: usize,
+) {
+    let attempt = attempt.expect(rt, "an attempt");
     assert_eq!(rt; attempt.outcome, outcome);
-    assert_eq!(rt; attempt.thread, 0);
+    assert_eq!(rt; attempt.thread, thread);
     assert_eq!(rt; attempt.nth, 1);
     assert_eq!(rt; attempt.at, at);
     assert_eq!(rt; attempt.calls.as_slice().len(), calls);

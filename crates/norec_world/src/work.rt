@@ -7,6 +7,7 @@ use crate::attempt::{Attempt, End, Entry, Outcome};
 use crate::lists::{Bytes, Calls};
 use crate::memory::Memory;
 use crate::recorded::Recorded;
+use crate::setup::MAX_ACTORS;
 use itm_types::{Call, Props, Reply};
 use norec_engine::{Answer, Next, Undone};
 use script_vm::Player;
@@ -17,6 +18,8 @@ impl<P: Player> Actor<P> {
     ghost use Rattle.norec_world.specs.Status.{is_ready, ending_of};
     ghost use Rattle.norec_world.specs.Records.{Asks, Records, StopsAt};
     ghost use Rattle.norec_world.specs.Tracks.{StillTracks};
+    ghost use Rattle.norec_world.specs.Own.{KeepsOthers};
+    ghost use Rattle.norec_world.specs.Tries.{Tries, prior_of};
     ghost use Rattle.norec_world.specs.Sound.{IsTied, IsKept, IsReady, IsSound, IsAnswered, IsSettledBy, IsAsked, IsUnasked, IsNoMore, Falls, retried};
 
     /// Calls are made until one waits for a step or the actor has ended.
@@ -24,9 +27,15 @@ impl<P: Player> Actor<P> {
         requires { IsSound P.next_call P.answered P.restarted P.calls_left P.depth memory.now recorded.old self.old }
         ensures sound { IsSound P.next_call P.answered P.restarted P.calls_left P.depth memory.now recorded.new self.new }
         ensures done { is_ready self.new.status ≡ false }
-        ensures still { is_ready self.old.status ≡ false → self.new.status ≡ self.old.status }
+        ensures still { is_ready self.old.status ≡ false → (self.new ≡ self.old) × (recorded.new ≡ recorded.old) }
         ensures thread { self.new.thread ≡ self.old.thread }
-        ensures tracks { self.old.thread ≡ 0 → StillTracks P.next_call P.answered P.calls_left memory.now recorded.old.rows.items self.old memory.now recorded.new.rows.items self.new }
+        ensures others { KeepsOthers self.old recorded.old self.new recorded.new }
+        ensures holds { self.new.engine.holds ≡ self.old.engine.holds }
+        ensures limit { (self.new.engine.max_commits ≡ self.old.engine.max_commits) × (self.new.engine.patience ≡ self.old.engine.patience) }
+        ensures retries { self.new.retries ≡ self.old.retries }
+        ensures tries { is_ready self.old.status ≡ true → Tries memory.now.clock (prior_of recorded.old self.old) memory.now.clock recorded.new self.new }
+        ensures finishes { is_ready self.old.status ≡ true → ending_of self.new.status ≡ Some End.Finished → P.next_call self.new.player ≡ None }
+        ensures tracks { self.old.thread ≡ 0 → StillTracks P.next_call P.answered P.calls_left memory.now recorded.old self.old memory.now recorded.new self.new }
         ensures less { ending_of self.new.status ≡ None → IsNoMore P.next_call P.answered P.restarted P.calls_left P.depth self.old self.new }
     {
         while let Status::Ready = self.status {
@@ -40,7 +49,13 @@ impl<P: Player> Actor<P> {
         requires ready { self.old.status ≡ Status.Ready }
         ensures sound { IsSound P.next_call P.answered P.restarted P.calls_left P.depth memory.now recorded.new self.new }
         ensures thread { self.new.thread ≡ self.old.thread }
-        ensures tracks { self.old.thread ≡ 0 → StillTracks P.next_call P.answered P.calls_left memory.now recorded.old.rows.items self.old memory.now recorded.new.rows.items self.new }
+        ensures others { KeepsOthers self.old recorded.old self.new recorded.new }
+        ensures holds { self.new.engine.holds ≡ self.old.engine.holds }
+        ensures limit { (self.new.engine.max_commits ≡ self.old.engine.max_commits) × (self.new.engine.patience ≡ self.old.engine.patience) }
+        ensures retries { self.new.retries ≡ self.old.retries }
+        ensures tries { Tries memory.now.clock (prior_of recorded.old self.old) memory.now.clock recorded.new self.new }
+        ensures finishes { ending_of self.new.status ≡ Some End.Finished → P.next_call self.new.player ≡ None }
+        ensures tracks { self.old.thread ≡ 0 → StillTracks P.next_call P.answered P.calls_left memory.now recorded.old self.old memory.now recorded.new self.new }
         ensures less { ending_of self.new.status ≡ None → IsNoMore P.next_call P.answered P.restarted P.calls_left P.depth self.old self.new }
         ensures falls { self.new.status ≡ Status.Ready → Falls P.next_call P.answered P.restarted P.calls_left P.depth self.old.engine.is_open self.new.engine.is_open self.old self.new }
     {
@@ -67,13 +82,14 @@ impl<P: Player> Actor<P> {
         requires ready { IsReady P.next_call P.answered P.restarted P.calls_left P.depth self.old }
         requires asks { P.next_call self.old.player ≡ Some call.now }
         ensures asked { IfOk result (λ next. IsAsked P.next_call P.answered P.restarted P.calls_left P.depth recorded.new self.old self.new call.now next) }
-        ensures told { IfOk result (λ next. Asks memory.now.clock recorded.old.rows.items recorded.new.rows.items self.old self.new call.now next) }
+        ensures told { IfOk result (λ next. Asks memory.now.clock recorded.old recorded.new self.old self.new call.now next) }
         ensures unasked { OnErr result (IsUnasked P.next_call P.answered P.restarted P.calls_left P.depth recorded.new self.old self.new) }
-        ensures rows { recorded.new.rows.items ≡ recorded.old.rows.items }
+        ensures rows { recorded.new ≡ record recorded.old { room = recorded.new.room } }
+        ensures others { KeepsOthers self.old recorded.old self.new recorded.new }
     {
         match call {
             Call::Begin { props, room } if !self.engine.is_open() => {
-                recorded.rows.reserve(1)?;
+                recorded.reserve(MAX_ACTORS)?;
                 let attempt = self.attempt(alloc, memory.clock(), *props)?;
                 let next = self.engine.begin(*props, *room, self.again)?;
                 self.pending = Some(attempt);
@@ -119,7 +135,8 @@ impl<P: Player> Actor<P> {
         ensures settled { (was : Bool) → IsAnswered P.next_call P.answered P.restarted P.calls_left P.depth was recorded.old self.old call answer
             → IsSettledBy P.next_call P.answered P.restarted P.calls_left P.depth was recorded.new self.old self.new }
         ensures records { (was : Bool) → IsAnswered P.next_call P.answered P.restarted P.calls_left P.depth was recorded.old self.old call answer
-            → Records P.answered P.restarted was recorded.old.rows.items recorded.new.rows.items self.old self.new call answer }
+            → Records P.answered P.restarted was recorded.old recorded.new self.old self.new call answer }
+        ensures others { (was : Bool) → IsAnswered P.next_call P.answered P.restarted P.calls_left P.depth was recorded.old self.old call answer → KeepsOthers self.old recorded.old self.new recorded.new }
     {
         match answer {
             Answer::Reply(reply) => self.replied(recorded, call, reply),
@@ -146,7 +163,8 @@ impl<P: Player> Actor<P> {
         ensures settled { (was : Bool) → IsAnswered P.next_call P.answered P.restarted P.calls_left P.depth was recorded.old self.old call (Answer.Reply reply)
             → IsSettledBy P.next_call P.answered P.restarted P.calls_left P.depth was recorded.new self.old self.new }
         ensures records { (was : Bool) → IsAnswered P.next_call P.answered P.restarted P.calls_left P.depth was recorded.old self.old call (Answer.Reply reply)
-            → Records P.answered P.restarted was recorded.old.rows.items recorded.new.rows.items self.old self.new call (Answer.Reply reply) }
+            → Records P.answered P.restarted was recorded.old recorded.new self.old self.new call (Answer.Reply reply) }
+        ensures others { (was : Bool) → IsAnswered P.next_call P.answered P.restarted P.calls_left P.depth was recorded.old self.old call (Answer.Reply reply) → KeepsOthers self.old recorded.old self.new recorded.new }
     {
         self.player.answer(&reply);
         let is_open = self.engine.is_open();
@@ -172,7 +190,8 @@ impl<P: Player> Actor<P> {
         ensures settled { (was : Bool) → IsAnswered P.next_call P.answered P.restarted P.calls_left P.depth was recorded.old self.old call (Answer.Committed at wrote)
             → IsSettledBy P.next_call P.answered P.restarted P.calls_left P.depth was recorded.new self.old self.new }
         ensures records { (was : Bool) → IsAnswered P.next_call P.answered P.restarted P.calls_left P.depth was recorded.old self.old call (Answer.Committed at wrote)
-            → Records P.answered P.restarted was recorded.old.rows.items recorded.new.rows.items self.old self.new call (Answer.Committed at wrote) }
+            → Records P.answered P.restarted was recorded.old recorded.new self.old self.new call (Answer.Committed at wrote) }
+        ensures others { (was : Bool) → IsAnswered P.next_call P.answered P.restarted P.calls_left P.depth was recorded.old self.old call (Answer.Committed at wrote) → KeepsOthers self.old recorded.old self.new recorded.new }
     {
         self.player.answer(&Reply::Done);
         let entry = Entry {
@@ -207,9 +226,13 @@ impl<P: Player> Actor<P> {
         ensures thread { self.new.thread ≡ self.old.thread }
         ensures player { self.new.player ≡ self.old.player }
         ensures closed { self.new.engine.is_open ≡ false }
+        ensures holds { self.new.engine.holds ≡ self.old.engine.holds }
         ensures same { (self.new.nth ≡ self.old.nth) × (self.new.retries ≡ self.old.retries) }
-        ensures row { self.old.engine.is_open ≡ true → StopsAt recorded.old.rows.items (self.old.engine.snapshot / 2) Outcome.NoMemory recorded.new.rows.items }
-        ensures none { self.old.engine.is_open ≡ false → recorded.new.rows.items ≡ recorded.old.rows.items }
+        ensures limit { (self.new.engine.max_commits ≡ self.old.engine.max_commits) × (self.new.engine.patience ≡ self.old.engine.patience) }
+        ensures pending { self.new.pending ≡ self.old.pending }
+        ensures row { self.old.engine.is_open ≡ true → StopsAt self.old.thread recorded.old (self.old.engine.snapshot / 2) Outcome.NoMemory recorded.new }
+        ensures none { self.old.engine.is_open ≡ false → recorded.new ≡ recorded.old }
+        ensures others { KeepsOthers self.old recorded.old self.new recorded.new }
     {
         if let Undone::Done = self.engine.abort() {
             recorded.end(self.thread, self.engine.snapshot() / 2, Outcome::NoMemory);

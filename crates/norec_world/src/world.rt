@@ -1,6 +1,6 @@
 //! Actors over one memory.
 
-ghost use Rattle.std.specs.Prelude.{◌≡◌, ℕ, ◌%◌, ◌^◌, ◌<◌, ◌≤◌, length, IfOk, Some, IsSome, All};
+ghost use Rattle.std.specs.Prelude.{◌≡◌, ℕ, ◌%◌, ◌^◌, ◌<◌, ◌≤◌, [], length, IfOk, Some, IsSome, All};
 ghost use Rattle.norec_world.specs.World.{told};
 
 use crate::actor::Actor;
@@ -9,7 +9,7 @@ use crate::fault::WorldFault;
 use crate::lists::Bytes;
 use crate::memory::Memory;
 use crate::recorded::Recorded;
-use crate::setup::Setup;
+use crate::setup::{MAX_ACTORS, Setup};
 use crate::start::{Terms, start_all};
 use itm_types::Step;
 use script_vm::Player;
@@ -35,16 +35,28 @@ impl<P: Player> Model for World<P> {
     ghost Value = { World P };
 
     ghost use Rattle.norec_world.specs.Views.{world_of};
-    ghost use Rattle.norec_world.specs.World.{IsSoundWorld, RunsAlone};
+    ghost use Rattle.std.specs.Prelude.{◌≡◌, length};
+    ghost use Rattle.norec_world.specs.World.{RunsAlone};
+    ghost use Rattle.norec_world.specs.Actors.{AreActors};
+    ghost use Rattle.norec_world.specs.Commits.{CommitsInOrder};
 
     ghost view = { world_of };
 
-    ghost invariant = { λ w. IsSoundWorld P.next_call P.answered P.restarted P.calls_left P.depth w.memory w.recorded w.actors.items × RunsAlone P.next_call P.answered P.calls_left (world_of w) };
+    ghost invariant = { λ w. AreActors P.next_call P.answered P.restarted P.calls_left P.depth w.memory w.recorded w.actors.items × (length w.actors.items ≡ length w.opening.items) × RunsAlone P.next_call P.answered P.calls_left (world_of w) × CommitsInOrder (world_of w) };
 }
 
 impl<P: Player> World<P> {
     ghost use Rattle.norec_world.specs.Cells.{cells_after};
-    ghost use Rattle.norec_world.specs.World.{counted, ending_at, waits_at, memory_of, SameOpening, RunsAlone, ShowsAlone};
+    ghost use Rattle.norec_world.specs.World.{counted, ending_at, waits_at, memory_of, attempts_of, SameOpening, RunsAlone, ShowsAlone};
+    ghost use Rattle.std.specs.Prelude.{slice_get, slice_set};
+    ghost use Rattle.std.specs.Option.{option_map};
+    ghost use Rattle.norec_world.specs.Status.{is_waiting};
+    ghost use Rattle.norec_world.specs.Actors.{AreActors};
+    ghost use Rattle.norec_world.specs.Events.{IsEvent};
+    ghost use Rattle.norec_world.specs.Rows.{AreOpen};
+    ghost use Rattle.norec_world.specs.Tries.{IsBetween};
+    ghost use Rattle.norec_world.specs.declared.actor.Actor.{Actor};
+    ghost use Rattle.norec_world.specs.Commits.{CommitsInOrder};
     ghost use Rattle.norec_world.specs.Going.{Goes, Takes};
 
     /// A world over this memory, with the clock at 0. Each actor's local work up to its first operation is done.
@@ -54,17 +66,23 @@ impl<P: Player> World<P> {
         requires patience { (0 < setup.limits.patience) × (setup.limits.patience ≤ 1000) }
         requires commits { (0 < setup.limits.max_commits) × (setup.limits.max_commits < 2 ^ 62) }
         requires retries { setup.retries ≤ 10000 }
-        requires one { length players.items ≡ 1 }
+        requires some { 0 < length players.items }
+        requires few { length players.items ≤ MAX_ACTORS }
         requires outside { All (λ p. P.depth p ≡ 0) players.items }
         ensures opening { IfOk result (λ w. w.opening ≡ players.items) }
         ensures memory { IfOk result (λ w. memory_of w ≡ setup.bytes) }
         ensures base { IfOk result (λ w. w.base ≡ setup.bytes) }
         ensures arena { IfOk result (λ w. w.arena ≡ setup.arena) }
+        ensures patience { IfOk result (λ w. w.patience ≡ setup.limits.patience) }
         ensures limit { IfOk result (λ w. w.max_commits ≡ setup.limits.max_commits) }
+        ensures retries { IfOk result (λ w. w.retries ≡ setup.retries) }
         ensures clock { IfOk result (λ w. w.cells.clock ≡ 0) }
+        ensures none { IfOk result (λ w. attempts_of w ≡ []) }
+        ensures first { IfOk result (λ w. (place : ℕ) (a : Actor P) → slice_get w.actors place ≡ Some a → IsBetween 0 1 w.attempts a) }
+        ensures commits { IfOk result (λ w. CommitsInOrder w) }
         ensures events { IfOk result (λ w. w.events ≡ 0) }
-        ensures actors { IfOk result (λ w. length w.actors ≡ 1) }
-        ensures fed { IfOk result (λ w. ending_at w 0 ≡ Some End.NoMemory → ⊥) }
+        ensures actors { IfOk result (λ w. length w.actors ≡ length players.items) }
+        ensures fed { IfOk result (λ w. (actor : ℕ) → ending_at w actor ≡ Some End.NoMemory → ⊥) }
     {
         let opening = copies(alloc, &players)?;
         let base = Bytes::new(setup.bytes.as_slice().to_vec(alloc)?);
@@ -89,19 +107,27 @@ impl<P: Player> World<P> {
 
     /// One event of the actor: the operation that comes next from it, and its local work up to the next one.
     pub fn go(&mut self, alloc: Global, actor: u8) -> Result<(), WorldFault>
-        ensures { Goes P.next_call P.answered P.calls_left actor self.old result self.new }
+        ensures goes { Goes P.next_call P.answered P.calls_left actor self.old result self.new }
+        ensures commits { CommitsInOrder self.new }
     {
-        match self.actors.get(actor as usize) {
+        match self.waits(actor) {
             None => Err(WorldFault::NoSuchActor),
-            Some(a) => {
-                if a.waits() {
-                    self.event(alloc, actor as usize);
-                    told(self.ending(actor))
-                } else {
-                    Err(WorldFault::Ended)
-                }
+            Some(true) => {
+                self.event(alloc, actor as usize);
+                told(self.ending(actor))
             }
+            Some(false) => Err(WorldFault::Ended),
         }
+    }
+
+    /// Whether the actor waits for an operation, where there is such an actor.
+    fn waits(&self, actor: u8) -> Option<bool>
+        ensures value { result ≡ option_map (λ a. is_waiting a.status) (slice_get self.now.actors actor) }
+        ensures sound { AreActors P.next_call P.answered P.restarted P.calls_left P.depth self.now.cells self.now.attempts self.now.actors }
+        ensures commits { CommitsInOrder self.now }
+        ensures alone { RunsAlone P.next_call P.answered P.calls_left self.now }
+    {
+        Some(self.actors.get(actor as usize)?.waits())
     }
 
     /// The operation that the actor waits for, and its local work.
@@ -111,6 +137,9 @@ impl<P: Player> World<P> {
         ensures counts { self.new.events ≡ counted self.old.events 1 }
         ensures opening { SameOpening self.old self.new }
         ensures actors { length self.new.actors ≡ length self.old.actors }
+        ensures event { (a : Actor P) → slice_get self.old.actors actor ≡ Some a
+            → (a' : Actor P) × (self.new.actors ≡ slice_set self.old.actors actor a') × IsEvent P.next_call self.old.cells self.old.attempts a self.new.cells self.new.attempts a' }
+        ensures commits { CommitsInOrder self.new }
         ensures alone { RunsAlone P.next_call P.answered P.calls_left self.new }
     {
         let a = &mut self.actors[actor];
@@ -123,6 +152,7 @@ impl<P: Player> World<P> {
     pub fn run_out(&mut self, alloc: Global, actor: u8) -> u64
         ensures no_such { length self.old.actors ≤ actor → (result ≡ 0) × (self.new ≡ self.old) }
         ensures ended { actor < length self.old.actors → IsSome (ending_at self.new actor) }
+        ensures commits { CommitsInOrder self.new }
         ensures took { (n : ℕ) × Takes P.next_call P.answered P.calls_left actor n self.old self.new × (result ≡ counted 0 n) }
         ensures counts { self.new.events ≡ counted self.old.events result }
         ensures opening { SameOpening self.old self.new }
@@ -145,15 +175,18 @@ impl<P: Player> World<P> {
         &self.opening
     }
 
-    /// The attempts that have ended, in the order in which they did, and then the open ones by actor. They are those
-    /// of the player alone on the memory that was handed in: all of them once its actor has ended, and the first ones
-    /// before, or where the actor found no memory.
+    /// The attempts that have ended, in the order in which they did, and then the open ones by actor. Each position
+    /// below half the clock is that of one that committed. With a single player they are those of the player alone on
+    /// the memory that was handed in: all of them once its actor has ended, and the first ones before, or where the
+    /// actor found no memory.
     #[tactic(auto, using(crate::proofs::Ends::shows_alone))]
     pub fn attempts(&self) -> &[Attempt]
-        ensures value { result.now ≡ self.now.attempts }
+        ensures value { result.now ≡ attempts_of self.now }
+        ensures unfinished { AreOpen self.now.attempts.active }
+        ensures commits { CommitsInOrder self.now }
         ensures alone { ShowsAlone P.next_call P.answered P.calls_left self.now }
     {
-        &self.recorded.rows
+        self.recorded.all()
     }
 
     /// The shared memory.
@@ -165,14 +198,16 @@ impl<P: Player> World<P> {
 
     /// The sequence clock.
     pub fn clock(&self) -> u64
-        ensures { result ≡ self.now.cells.clock }
+        ensures value { result ≡ self.now.cells.clock }
+        ensures commits { CommitsInOrder self.now }
     {
         self.memory.clock()
     }
 
     /// How many events there were; 2^64 - 1 where there were more.
     pub fn events(&self) -> u64
-        ensures { result ≡ self.now.events }
+        ensures value { result ≡ self.now.events }
+        ensures commits { CommitsInOrder self.now }
     {
         self.events
     }

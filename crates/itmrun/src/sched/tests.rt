@@ -1,4 +1,12 @@
+//! Scripts from their bytes to what is written, said and answered.
+
+mod schedules;
+mod threads;
+
 use super::*;
+use std::alloc::AllocError;
+use std::io;
+use std::process::Abort;
 use std::test::*;
 
 const COUNTER: &[u8] = b".memory 8
@@ -22,253 +30,83 @@ end
 final 2 0100000000000000
 ";
 
-const EMPTY_BLOCK: &[u8] =
-    b".memory 8\n.thread\n_ITM_beginTransaction r0 -\n_ITM_commitTransaction\n";
+/// What a script is answered.
+#[derive(Drop)]
+struct Answer {
+    output: Vec<u8>,
+    errors: Vec<u8>,
+    status: u8,
+}
 
-const EMPTY_BLOCK_HISTORY: &[u8] = b"itm-history 1
-memory 0000000000000000
-attempt 0 1 0 readonly -
-arena -
-call _ITM_commitTransaction = ok
-end
-final 0 0000000000000000
-";
-
-const BOUNDARY: &[u8] = b".memory 8
-.thread
-set r1 5
-_ITM_beginTransaction r0 -
-_ITM_RU8 r1 8
-_ITM_WU8 0 r1
-_ITM_commitTransaction
-";
-
-const BOUNDARY_HISTORY: &[u8] = b"itm-history 1
-memory 0000000000000000
-attempt 0 1 0 committed -
-arena -
-call _ITM_RU8 8 = refused 2
-call _ITM_WU8 0 0500000000000000 = ok
-call _ITM_commitTransaction = ok
-end
-final 2 0500000000000000
-";
-
-/// Two blocks, with sums between them that pass the end of 64 bits, tabs, comments and carriage returns.
-const TWO_BLOCKS: &[u8] = b"; two blocks\r
-.memory\t16 ; \xff\r
-.thread
-set r15 18446744073709551615
-add r15 r15 r15
-_ITM_beginTransaction r1 -
-_ITM_WU8 8 r15
-_ITM_WU8 8 r1
-_ITM_RU8 r2 8
-_ITM_commitTransaction
-_ITM_RU8 r3 0
-add r2 r2 r15
-_ITM_beginTransaction r1 -
-_ITM_WU8 0 r2
-_ITM_RU8 r9 8
-_ITM_commitTransaction";
-
-const TWO_BLOCKS_HISTORY: &[u8] = b"itm-history 1
-memory 00000000000000000000000000000000
-attempt 0 1 0 committed -
-arena -
-call _ITM_WU8 8 feffffffffffffff = ok
-call _ITM_WU8 8 0500000000000000 = ok
-call _ITM_RU8 8 = 0500000000000000
-call _ITM_commitTransaction = ok
-end
-attempt 0 1 1 committed -
-arena -
-call _ITM_WU8 0 0300000000000000 = ok
-call _ITM_RU8 8 = 0500000000000000
-call _ITM_commitTransaction = ok
-end
-final 4 03000000000000000500000000000000
-";
-
-/// A write and a read over the end of a word.
-const ACROSS_WORDS: &[u8] = b".memory 16
-.thread
-set r1 72623859790382856
-_ITM_beginTransaction r0 -
-_ITM_WU8 3 r1
-_ITM_RU8 r2 5
-_ITM_commitTransaction
-";
-
-const ACROSS_WORDS_HISTORY: &[u8] = b"itm-history 1
-memory 00000000000000000000000000000000
-attempt 0 1 0 committed -
-arena -
-call _ITM_WU8 3 0807060504030201 = ok
-call _ITM_RU8 5 = 0605040302010000
-call _ITM_commitTransaction = ok
-end
-final 2 00000008070605040302010000000000
-";
-
-#[test]
-fn worked_scripts(rt: HostRuntime) -> Result<(), Fail> {
-    let rows = [
-        (COUNTER, COUNTER_HISTORY, 6),
-        (EMPTY_BLOCK, EMPTY_BLOCK_HISTORY, 1),
-        (BOUNDARY, BOUNDARY_HISTORY, 4),
-        (TWO_BLOCKS, TWO_BLOCKS_HISTORY, 10),
-        (ACROSS_WORDS, ACROSS_WORDS_HISTORY, 9),
-        (
-            b".memory 8\n.thread",
-            b"itm-history 1\nmemory 0000000000000000\nfinal 0 0000000000000000\n",
-            0,
-        ),
-    ];
-    for (script, history, events) in rows {
-        let mut reader = script;
-        let mut output = Vec::new(rt.alloc());
-        let mut errors = Vec::new(rt.alloc());
-        assert_eq!(rt; sched(rt.alloc(), &mut reader, &mut output, &mut errors), 0);
-        assert_eq!(rt; output.as_slice(), history);
-        assert!(rt; errors.is_empty());
-        let program = assemble(rt.alloc(), script)?;
-        assert_eq!(rt; run_program(rt.alloc(), &program)?.events(), events);
+/// What the reader's script is answered where nothing fails but the reader.
+fn answer_to<R: Read>(alloc: Global, reader: &mut R) -> Answer {
+    let mut output = Vec::new(alloc);
+    let mut errors = Vec::new(alloc);
+    let status = sched(alloc, reader, &mut output, &mut errors);
+    Answer {
+        output,
+        errors,
+        status,
     }
+}
+
+/// A script, and what it has to be answered.
+#[derive(Clone, Copy)]
+struct Row<'a> {
+    script: &'a [u8],
+    history: &'a [u8],
+    errors: &'a [u8],
+    status: u8,
+    /// How many events its world has taken in the end.
+    events: u64,
+}
+
+fn expect(rt: &impl Abort, alloc: Global, row: Row<'_>) -> Result<(), Fail> {
+    let mut reader = row.script;
+    let answer = answer_to(alloc, &mut reader);
+    assert_eq!(rt; answer.output.as_slice(), row.history);
+    assert_eq!(rt; answer.errors.as_slice(), row.errors);
+    assert_eq!(rt; answer.status, row.status);
+    let program = assemble(alloc, row.script)?;
+    assert_eq!(rt; run_program(alloc, &program)?.events(), row.events);
     Ok(())
 }
 
-/// Each kind of fault, with its line, and the order of several on one line.
+/// One script of each kind of fault, with its line.
 #[test]
 fn refused_scripts(rt: HostRuntime) -> Result<(), Fail> {
-    let rows: [(&[u8], &[u8]); 44] = [
-        (
-            b".memory 8\n.thread\nset \x01r16 1",
-            b"line 3: bad character",
-        ),
-        (b"\xc3\xa9", b"line 1: bad character"),
-        (
-            b".memory 8\n.thread\n_ITM_commitTransaction\r",
-            b"line 3: bad character",
-        ),
-        (b".memory 8\r\r\n.thread", b"line 1: bad character"),
+    let rows: [(&[u8], &[u8]); 8] = [
+        (b"\xc3\xa9", b"itmrun: line 1: bad character\n"),
         (
             b".memory 8\n.thread\n_ITM_RaRU8 r0 0",
-            b"line 3: unknown name",
-        ),
-        (b".init 0 00", b"line 1: unknown name"),
-        (b"\n\n  Set r1 1", b"line 3: unknown name"),
-        (b"setr1 1", b"line 1: unknown name"),
-        (b".memory 8\n.thread 2", b"line 2: wrong operand"),
-        (b".memory", b"line 1: wrong operand"),
-        (b".memory 8 8", b"line 1: wrong operand"),
-        (b".memory +8", b"line 1: wrong operand"),
-        (b".memory 08", b"line 1: wrong operand"),
-        (b".memory 8\n.thread\nset r16 1", b"line 3: wrong operand"),
-        (b".memory 8\n.thread\nset r01 1", b"line 3: wrong operand"),
-        (b".memory 8\n.thread\nset r1", b"line 3: wrong operand"),
-        (b".memory 8\n.thread\nset r1 -1", b"line 3: wrong operand"),
-        (b".memory 8\n.thread\nset r1 1_0", b"line 3: wrong operand"),
-        (b".memory 8\n.thread\nadd r1 r2 3", b"line 3: wrong operand"),
-        (
-            b".memory 8\n.thread\nadd r1 r2 r3 r4",
-            b"line 3: wrong operand",
+            b"itmrun: line 3: unknown name\n",
         ),
         (
-            b".memory 8\n.thread\n_ITM_beginTransaction r0",
-            b"line 3: wrong operand",
+            b".memory 8\n.schedule 0\n.thread",
+            b"itmrun: line 2: wrong operand\n",
         ),
         (
-            b".memory 8\n.thread\n_ITM_beginTransaction r0 pr_hasNoAbort",
-            b"line 3: wrong operand",
+            b".memory 8\n.schedule 0! 1!\n.thread",
+            b"itmrun: line 2: out of range\n",
         ),
         (
-            b".memory 8\n.thread\n_ITM_commitTransaction r0",
-            b"line 3: wrong operand",
+            b".memory 8\n.thread\n.init 0 00",
+            b"itmrun: line 3: misplaced\n",
         ),
-        (
-            b".memory 8\n.thread\n_ITM_RU8 r1 r2",
-            b"line 3: wrong operand",
-        ),
-        (
-            b".memory 8\n.thread\n_ITM_WU8 r2 r1",
-            b"line 3: wrong operand",
-        ),
-        (
-            b".memory 8\n.thread\n_ITM_RU8 r16 99999999999999999999",
-            b"line 3: wrong operand",
-        ),
-        (b".memory 0\n.thread", b"line 1: out of range"),
-        (b".memory 12\n.thread", b"line 1: out of range"),
-        (b".memory 65544\n.thread", b"line 1: out of range"),
-        (
-            b".memory 18446744073709551624\n.thread",
-            b"line 1: out of range",
-        ),
-        (
-            b".memory 8\n.thread\nset r1 18446744073709551616",
-            b"line 3: out of range",
-        ),
-        (b"", b"line 0: misplaced"),
-        (b".memory 8", b"line 0: misplaced"),
-        (b".thread", b"line 1: misplaced"),
-        (b".memory 8\n.memory 9", b"line 2: misplaced"),
-        (b".memory 8\n.thread\n.memory 8", b"line 3: misplaced"),
-        (b"set r16 1", b"line 1: misplaced"),
-        (b"_ITM_commitTransaction", b"line 1: misplaced"),
-        (b".memory 8\n.thread\n.thread x", b"line 3: misplaced"),
-        (
-            b".memory 8\n.thread\n_ITM_beginTransaction r0 -\n_ITM_beginTransaction r16 +",
-            b"line 4: misplaced",
-        ),
+        (b".memory 8", b"itmrun: line 0: misplaced\n"),
         (
             b".memory 8\n.thread\n_ITM_commitTransaction",
-            b"line 3: unbalanced",
+            b"itmrun: line 3: unbalanced\n",
         ),
-        (
-            b".memory 8\n.thread\n\n_ITM_beginTransaction r0 -\nset r1 1",
-            b"line 4: unbalanced",
-        ),
-        (
-            b".memory 8\n.thread\n_ITM_beginTransaction r0 -\n.thread",
-            b"line 3: unbalanced",
-        ),
-        (
-            b".memory 8\n.thread\n_ITM_beginTransaction r0 -\n.thread 2",
-            b"line 4: wrong operand",
-        ),
+        (b".memory 8\n.thread 33", b"itmrun: line 2: too long\n"),
     ];
-    for (script, fault) in rows {
+    for (script, line) in rows {
         let mut reader = script;
-        let mut output = Vec::new(rt.alloc());
-        let mut errors = Vec::new(rt.alloc());
-        assert_eq!(rt; sched(rt.alloc(), &mut reader, &mut output, &mut errors), 2);
-        assert!(rt; output.is_empty());
-        let mut line = Vec::from_slice(rt.alloc(), b"itmrun: ")?;
-        line.extend_from_slice(fault)?;
-        line.push(b'\n')?;
-        assert_eq!(rt; errors.as_slice(), line.as_slice());
+        let answer = answer_to(rt.alloc(), &mut reader);
+        assert_eq!(rt; answer.status, 2);
+        assert!(rt; answer.output.is_empty());
+        assert_eq!(rt; answer.errors.as_slice(), line);
     }
-    Ok(())
-}
-
-/// As many instructions as may be, and one more.
-#[test]
-fn too_many_instructions(rt: HostRuntime) -> Result<(), Fail> {
-    let mut script = Vec::from_slice(rt.alloc(), b".memory 8\n.thread\n")?;
-    for _ in 0..65_536 {
-        script.extend_from_slice(b"set r0 0\n")?;
-    }
-    assert!(rt; assemble(rt.alloc(), script.as_slice()).is_ok());
-    script.extend_from_slice(b"\nset r0 0")?;
-    let fault = assemble(rt.alloc(), script.as_slice());
-    assert_eq!(rt;
-        fault.err(),
-        Some(AsmFault {
-            line: 65_540,
-            kind: AsmKind::TooLong
-        })
-    );
     Ok(())
 }
 
@@ -296,7 +134,7 @@ impl Read for Comment {
 
 /// A read that fails, and a text of which no more is read than makes it too long.
 #[test]
-fn failing_reads(rt: HostRuntime) -> Result<(), Fail> {
+fn failing_reads(rt: HostRuntime) {
     let rows: [(usize, u8, &[u8]); 3] = [
         (0, 5, b"itmrun: reading failed\n"),
         (16_777_216, 5, b"itmrun: reading failed\n"),
@@ -307,16 +145,11 @@ fn failing_reads(rt: HostRuntime) -> Result<(), Fail> {
             left,
             failed: false,
         };
-        let mut output = Vec::new(rt.alloc());
-        let mut errors = Vec::new(rt.alloc());
-        assert_eq!(rt;
-            sched(rt.alloc(), &mut reader, &mut output, &mut errors),
-            status
-        );
-        assert!(rt; output.is_empty());
-        assert_eq!(rt; errors.as_slice(), line);
+        let answer = answer_to(rt.alloc(), &mut reader);
+        assert_eq!(rt; answer.status, status);
+        assert!(rt; answer.output.is_empty());
+        assert_eq!(rt; answer.errors.as_slice(), line);
     }
-    Ok(())
 }
 
 /// Takes at most `most` bytes a write, so many writes. The write after them fails or takes nothing, and only that one;
@@ -357,39 +190,58 @@ impl Write for Meagre {
     }
 }
 
-/// Each write of the counter's history fails in turn, and then its flush; what was taken before is a beginning of it.
-#[test]
-fn failing_writes(rt: HostRuntime) -> Result<(), Fail> {
-    for fails in [true, false] {
-        let mut unflushed = false;
-        for writes in 0..1000 {
-            let mut reader = COUNTER;
-            let mut writer = Meagre {
-                taken: Vec::new(rt.alloc()),
-                writes,
-                most: usize::MAX,
-                fails,
-            };
-            let mut errors = Vec::new(rt.alloc());
-            let status = sched(rt.alloc(), &mut reader, &mut writer, &mut errors);
-            assert!(rt; COUNTER_HISTORY.starts_with(&writer.taken));
-            if status == 0 {
-                assert!(rt; 9 <= writes);
-                break;
-            }
-            assert_eq!(rt; status, 5);
-            assert!(rt; !unflushed);
-            unflushed = writer.taken.len() == COUNTER_HISTORY.len();
-            assert_eq!(rt; errors.as_slice(), b"itmrun: writing failed\n".as_slice());
+/// Each write of a script's history fails in turn, and then its flush: what was taken before is a beginning of it, and
+/// the errors get the one line, also where threads gave up.
+fn fails_in_turn(
+    rt: &impl Abort,
+    alloc: Global,
+    script: &[u8],
+    history: &[u8],
+    fails: bool,
+    good: u8,
+) {
+    let mut unflushed = false;
+    for writes in 0..1000 {
+        let mut reader = script;
+        let mut writer = Meagre {
+            taken: Vec::new(alloc),
+            writes,
+            most: usize::MAX,
+            fails,
+        };
+        let mut errors = Vec::new(alloc);
+        let status = sched(alloc, &mut reader, &mut writer, &mut errors);
+        assert!(rt; history.starts_with(&writer.taken));
+        if status == good {
+            assert!(rt; 9 <= writes);
+            break;
         }
-        assert_eq!(rt; unflushed, fails);
+        assert_eq!(rt; status, 5);
+        assert!(rt; !unflushed);
+        unflushed = writer.taken.len() == history.len();
+        assert_eq!(rt; errors.as_slice(), b"itmrun: writing failed\n".as_slice());
     }
-    Ok(())
+    assert_eq!(rt; unflushed, fails);
+}
+
+#[test]
+fn failing_writes(rt: HostRuntime) {
+    for fails in [true, false] {
+        fails_in_turn(&rt, rt.alloc(), COUNTER, COUNTER_HISTORY, fails, 0);
+        fails_in_turn(
+            &rt,
+            rt.alloc(),
+            schedules::PARTIAL_WRITE_BACK,
+            schedules::PARTIAL_WRITE_BACK_HISTORY,
+            fails,
+            4,
+        );
+    }
 }
 
 /// A writer that takes one byte at a time gets the whole history, and one that fails on the errors gives status 5.
 #[test]
-fn meagre_writers(rt: HostRuntime) -> Result<(), Fail> {
+fn meagre_writers(rt: HostRuntime) {
     let mut reader = COUNTER;
     let mut writer = Meagre {
         taken: Vec::new(rt.alloc()),
@@ -400,15 +252,24 @@ fn meagre_writers(rt: HostRuntime) -> Result<(), Fail> {
     let mut errors = Vec::new(rt.alloc());
     assert_eq!(rt; sched(rt.alloc(), &mut reader, &mut writer, &mut errors), 0);
     assert_eq!(rt; writer.taken.as_slice(), COUNTER_HISTORY);
-    let mut reader = b"no script".as_slice();
-    let mut writer = Meagre {
-        taken: Vec::new(rt.alloc()),
-        writes: 2,
-        most: 4,
-        fails: false,
-    };
-    assert_eq!(rt; sched(rt.alloc(), &mut reader, &mut errors, &mut writer), 5);
-    assert_eq!(rt; writer.taken.as_slice(), b"itmrun: ".as_slice());
-    assert!(rt; errors.is_empty());
-    Ok(())
+    let rows: [(&[u8], usize, &[u8]); 2] = [
+        (b"no script", 2, b"itmrun: "),
+        (
+            schedules::TWO_GAVE_UP,
+            10,
+            b"itmrun: thread 0 gave up\nitmrun: ",
+        ),
+    ];
+    for (script, writes, taken) in rows {
+        let mut reader = script;
+        let mut output = Vec::new(rt.alloc());
+        let mut writer = Meagre {
+            taken: Vec::new(rt.alloc()),
+            writes,
+            most: 4,
+            fails: false,
+        };
+        assert_eq!(rt; sched(rt.alloc(), &mut reader, &mut output, &mut writer), 5);
+        assert_eq!(rt; writer.taken.as_slice(), taken);
+    }
 }

@@ -3,9 +3,9 @@
 ghost use Rattle.std.specs.Prelude.{◌≡◌, ◌≤◌, length, drop, position};
 ghost use Rattle.itmrun.specs.Threads.{settled, room, call_at, datum, is_commit};
 
-use crate::asm::{Instruction, Register};
 use crate::script::registers::Registers;
 use itm_types::{Call, Datum, Props, ReadHint, Width, WriteHint};
+use script_asm::{Instruction, Register};
 
 /// Does the work up to the next call, or to the end; answers where that stands.
 pub fn settle(code: &[Instruction], from: usize, registers: &mut Registers) -> usize

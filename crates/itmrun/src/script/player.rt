@@ -2,10 +2,10 @@
 
 ghost use Rattle.std.specs.Prelude.{◌≡◌, ◌<◌, ◌≤◌, length, IfOk};
 
-use crate::asm::{Instruction, Program, Register};
 use crate::script::local::{call_at, room, settle};
 use crate::script::registers::Registers;
 use itm_types::{Call, Reply};
+use script_asm::{Instruction, Program, Register};
 use script_vm::Player;
 use std::alloc::{AllocError, Global};
 use std::marker::Model;
@@ -33,15 +33,16 @@ impl Model for Script {
 }
 
 impl Script {
-    ghost use Rattle.std.specs.Prelude.{◌≡◌, ◌<◌, ◌≤◌, length, drop, IfOk};
+    ghost use Rattle.std.specs.Prelude.{◌≡◌, ◌<◌, ◌≤◌, [], length, drop, slice_index_or, IfOk};
+    ghost use Rattle.script_asm.specs.Listing.{threads_of};
     ghost use Rattle.itmrun.specs.Threads.{opening, goes_on, begun, ended, took, deeper};
 
-    /// The program's thread before its first call. A program has the one thread 0.
-    pub fn new(alloc: Global, program: &Program, thread: u8) -> Result<Self, AllocError>
-        requires { thread ≡ 0 }
-        ensures { IfOk result (λ s. s ≡ opening program.now.code) }
+    /// A thread of the program before its first call.
+    pub fn new(alloc: Global, program: &Program, thread: usize) -> Result<Self, AllocError>
+        requires { thread < length (threads_of program.now) }
+        ensures { IfOk result (λ s. s ≡ opening (slice_index_or (threads_of program.now) thread [])) }
     {
-        let code = Vec::from_slice(alloc, program.code())?;
+        let code = Vec::from_slice(alloc, program.code(thread))?;
         let mut registers = Registers::new();
         let position = settle(&code, 0, &mut registers);
         Ok(Script {

@@ -4,7 +4,7 @@ ghost use Rattle.std.specs.Prelude.{◌≡◌, ◌≤◌, length, slice_set};
 ghost use Rattle.std.specs.Int.{to_le_bytes, w64};
 ghost use Rattle.itmrun.specs.Registers.{zeros, number_at, of_number, of_bytes};
 
-use crate::asm::Register;
+use script_asm::Register;
 use std::marker::Model;
 
 /// The 16 registers, of 32 bytes each.

@@ -1,6 +1,6 @@
 use Rattle.std.proofs.Common.{◌≡◌, Result}
-use Rattle.itmrun.specs.declared.asm.fault.AsmFault.{AsmFault}
-use Rattle.itmrun.specs.Listing.{Listing}
+use Rattle.script_asm.specs.declared.fault.AsmFault.{AsmFault}
+use Rattle.script_asm.specs.Listing.{Listing}
 use Rattle.itmrun.specs.Answers.{Runs}
 use Rattle.std.specs.Io.KnownBytes.{Keeps}
 use Rattle.std.proofs.KnownBytes.{Keeps-refl}

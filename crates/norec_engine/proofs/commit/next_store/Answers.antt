@@ -59,7 +59,7 @@ returns-else-written-clause-proceeds c =
     let within : c.args.row < length rows = omega (arith, c.if-row-len.true, c.len.ensures.len) in
     record {
       unfreed = refl;
-      lawful = (omega (arith, AllWritesWithin-at c.args.state.now.words rows c.args.row c.requires.may.holding.is_open.writes within), λ h. refl);
+      lawful = (omega (arith, AllWritesWithin-at c.args.state.now.words rows c.args.row c.requires.may.holding.is_open.writes within), (c.requires.may.holding.is_open.is_open, λ h. refl));
       stays = refl;
     }
 

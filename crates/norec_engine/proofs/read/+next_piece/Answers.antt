@@ -21,10 +21,10 @@ returns-in_default-clause-proceeds t c log =
     let r = c.args.reading in
     let may = c.requires.may in
     let none = sym c.piece.ensures.value ∙ c.in_default.is in
-    let bytes = λ (m : List ℕ) (mem : IsMemory s.words m) (agrees : Agrees m s.log.items).
+    let bytes = λ (m : List ℕ) (mem : IsMemory s.words m) (agrees : Agrees m s.log.rows).
     (let size : length (overlay m s.writes) ≡ s.words = length-overlay m s.writes ∙ mem.0 in
     may.reading.has m mem agrees ∙ (ap (gathered (overlay m s.writes)) (none_take (parts r) r.number none) ∙ gathered-pieces_of (overlay m s.writes) r.at (size_of r.width) (omega (arith, size, may.reading.within)))) in
-    let all = λ (m : List ℕ) (mem : IsMemory s.words m) (agrees : Agrees m s.log.items).
+    let all = λ (m : List ℕ) (mem : IsMemory s.words m) (agrees : Agrees m s.log.rows).
     reads s.writes s.is_open s.props s.arena m s.words r.hint r.width r.at may.is_open.is_open mem c.replace-bytes.result.items may.reading.within (ap (λ v. v.items) c.replace-bytes.ensures.value ∙ bytes m mem agrees) in
     record {
       meets = λ m mem agrees. (all m mem agrees).0;
@@ -34,6 +34,7 @@ returns-in_default-clause-proceeds t c log =
       free = refl;
       unfreed = refl;
       still = λ o. o;
+      opens = refl;
       settled = λ o. (may.settled, may.even);
     }
 
@@ -126,7 +127,7 @@ returns-in-None-clause-proceeds t c log = record {
   lawful = (
     (let in_memory = c.in-Some.ensures.in_memory c.args.state.now.words c.requires.may.reading.within in
         let word = ap (λ (p : Piece). p.word) (part_is c.args.reading c.in-Some.piece (sym c.piece.ensures.value ∙ c.in-Some.is)) in omega arith),
-    λ h. absurd (cc),
+    (c.requires.may.is_open.is_open, λ h. absurd (cc)),
   );
   unfreed = refl;
   stays = refl;

@@ -29,7 +29,7 @@ next_piece-requires c =
     let row : LogRow = record { word = p.word; value = c.args.value } in
     let left = phase.1.some in
     let word = c.in-Some.ensures.in_memory s.words reading.within in
-    let pushed = c.push_reserved.ensures.items in
+    let added = c.add.ensures.rows in
     let more = λ (m : List ℕ). c.in-Some.ensures.reads_on m in
     let gone = c.gather.ensures in
     rw c.next.ensures (record {
@@ -40,7 +40,7 @@ next_piece-requires c =
         even = c.requires.sound.even;
         is_open = record {
           is_open = phase.0.is_open;
-          log = subst (AllWithin s.words) (sym pushed) (AllWithin-push s.words s.log.items row phase.0.log word);
+          log = subst (AllWithin s.words) (sym added) (AllWithin-push s.words s.log.rows row phase.0.log word);
           writes = phase.0.writes;
           rows = phase.0.rows;
           tries = phase.0.tries;
@@ -48,13 +48,13 @@ next_piece-requires c =
         reading = record {
           within = reading.within;
           far = omega (arith, left);
-          room = omega (arith, left, reading.room, ap (length {A = LogRow}) pushed, length-append s.log.items (row ∷ []), c.push_reserved.ensures.capacity);
-          grown = omega (arith, reading.grown, ap (length {A = LogRow}) pushed, length-append s.log.items (row ∷ []));
+          room = omega (arith, left, reading.room, c.add.ensures.room);
+          grown = omega (arith, reading.grown, ap (length {A = LogRow}) added, length-append s.log.rows (row ∷ []));
           has = λ m mem agrees.
-              (let all = subst (Agrees m) pushed agrees in
-              let here = Agrees-last m s.log.items row all in
+              (let all = subst (Agrees m) added agrees in
+              let here = Agrees-last m s.log.rows row all in
               let now = index_of (overlay m s.writes) p.word c.overlaid-word.result (c.overlaid-word.ensures m here) in
-              gone ∙ ((λ i. reading.has m mem (Agrees-front m s.log.items row all) i ++ part_of p (sym now i)) ∙ sym (more (overlay m s.writes))));
+              gone ∙ ((λ i. reading.has m mem (Agrees-front m s.log.rows row all) i ++ part_of p (sym now i)) ∙ sym (more (overlay m s.writes))));
           sized =
               (let parts_are = more [] in
               let in_word = c.in-Some.ensures.piece.in_word in
@@ -88,7 +88,7 @@ returns-in-Some-clause-joins c =
     record {
       log = λ o. inr (
         settles,
-        after_log result new ∙ (stays.log (sym (after_open result new) ∙ o) ∙ (c.push_reserved.ensures.items ∙ ap (λ (n : ℕ). s.log.items ++ record { word = n; value = c.args.value } ∷ []) word)),
+        after_log result new ∙ (stays.log (sym (after_open result new) ∙ o) ∙ (c.add.ensures.rows ∙ ap (λ (n : ℕ). s.log.rows ++ record { word = n; value = c.args.value } ∷ []) word)),
         after_snapshot result new ∙ (stays.snapshot ∙ sym c.if-seen-state.true),
       );
       begins = λ closed o. absurd (let yes = phase.0.is_open in cc);

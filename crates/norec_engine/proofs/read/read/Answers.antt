@@ -19,5 +19,6 @@ returns-then-not-is_within-clause-proceeds c =
       free = refl;
       unfreed = refl;
       still = λ o. o;
+      opens = refl;
       settled = λ o. (idle.1, c.requires.sound.even);
     }

@@ -1,5 +1,5 @@
 use Rattle.std.proofs.Common.{◌≡◌, arith, ap, sym, ◌∙◌}
-use Rattle.std.proofs.lemmas.List.{get_or_read}
+use Rattle.std.proofs.lemmas.Option.{get_or_from_slice_get}
 use Rattle.itm_types.specs.declared.row.LogRow.{LogRow}
 use Rattle.write_set.specs.declared.row.Row.{Row}
 use Rattle.norec_engine.specs.Rows.{row_at, write_at, value_into}
@@ -12,8 +12,8 @@ use Rattle.norec_engine.proofs.steps.step_of.Goals.{in-Some, in-None}
 pub overflow_add-result-in-RoundRow : goal.overflow_add-result-in-RoundRow
 overflow_add-result-in-RoundRow c =
     let s = rw c.in-RoundRow.is at c.requires.sound in
-    let logged : c.index-logged.result.now ≡ row_at c.args.state.now.log.items c.in-RoundRow.row = get_or_read c.args.state.now.log.items c.in-RoundRow.row _ s.in_phase.2 c.index-logged.ensures _ in
-    omega (arith, AllWithin-at c.args.state.now.words c.args.state.now.log.items c.in-RoundRow.row s.in_phase.0.is_open.log s.in_phase.2, ap (λ (r : LogRow). r.word) logged, s.small)
+    let logged : row_at c.args.state.now.log.rows c.in-RoundRow.row ≡ c.row-logged.result = get_or_from_slice_get c.args.state.now.log.rows c.in-RoundRow.row c.row-logged.result _ c.row-logged.ensures in
+    omega (arith, AllWithin-at c.args.state.now.words c.args.state.now.log.rows c.in-RoundRow.row s.in_phase.0.is_open.log s.in_phase.2, ap (λ (r : LogRow). r.word) logged, s.small)
 
 pub overflow_add-result-in-BackLoad : goal.overflow_add-result-in-BackLoad
 overflow_add-result-in-BackLoad c =

@@ -28,6 +28,7 @@ returns-then-not-is_within-clause-proceeds c =
       free = refl;
       unfreed = refl;
       still = λ o. o;
+      opens = refl;
       settled = λ o. (idle.1, c.requires.sound.even);
     }
 
@@ -103,5 +104,6 @@ returns-clause-proceeds c =
       free = refl;
       unfreed = refl;
       still = λ o. o;
+      opens = refl;
       settled = λ o. (idle.1, c.requires.sound.even);
     }

@@ -1,17 +1,42 @@
-use Rattle.std.proofs.Common.{◌≡◌, replicate, length, ◌∙◌, subst}
+use Rattle.std.proofs.Common.{◌≡◌, ℕ, true, replicate, length, ◌∙◌, ap, subst}
 use Rattle.itm_types.specs.Memory.{bytes_of}
-use Rattle.norec_engine.specs.Core.{opening}
+use Rattle.norec_engine.specs.Core.{Core, opening}
 use Rattle.norec_world.specs.Tracks.{Tracks}
-use Rattle.norec_world.proofs.Beginnings.{fresh_tracks}
+use Rattle.norec_world.specs.Status.{is_ready}
+use Rattle.norec_world.specs.Rows.{active_of}
+use Rattle.norec_world.specs.Tries.{prior_of}
+use Rattle.norec_world.proofs.Beginnings.{fresh_tracks, starts_between}
 use Rattle.norec_world.proofs.start.start.Goals as goal
 
 pub returns-in_default-clause-tracks : goal.returns-in_default-clause-tracks
-returns-in_default-clause-tracks g c =
+returns-in_default-clause-tracks g c zero empty =
     let cells = c.args.memory.now in
     let engine : c.new-actor.result.engine ≡ opening (length c.args.memory.now.words) (replicate c.args.terms.arena 0) c.args.terms.limits.patience c.args.terms.limits.max_commits =
     c.new-actor.ensures.parts.3 ∙ (c.new-engine.ensures ∙ (λ i. opening (c.words.ensures i) (c.in_ok-arena.ensures i) c.args.terms.limits.patience c.args.terms.limits.max_commits)) in
-    c.work.ensures.tracks c.new-actor.ensures.parts.0 c.args.terms.limits.max_commits c.args.player (bytes_of c.args.memory.now.words) (replicate c.args.terms.arena 0)
-    (subst (λ (p : g.row.P.Denot). Tracks g.P.Player.next_call g.P.Player.answered g.P.Player.calls_left c.args.terms.limits.max_commits p (bytes_of c.args.memory.now.words) (replicate c.args.terms.arena 0) c.args.memory.now c.args.recorded.now.rows.items c.new-actor.result)
+    c.work.ensures.tracks (c.new-actor.ensures.parts.0 ∙ zero) c.args.terms.limits.max_commits c.args.player (bytes_of c.args.memory.now.words) (replicate c.args.terms.arena 0)
+    (subst (λ (p : g.row.P.Denot). Tracks g.P.Player.next_call g.P.Player.answered g.P.Player.calls_left c.args.terms.limits.max_commits p (bytes_of c.args.memory.now.words) (replicate c.args.terms.arena 0) c.args.memory.now c.args.recorded.now c.new-actor.result)
     c.new-actor.ensures.parts.2
-    (fresh_tracks g.P.Player.next_call g.P.Player.answered g.P.Player.calls_left c.args.memory.now c.args.recorded.now.rows.items c.new-actor.result c.args.terms.arena c.args.terms.limits.patience c.args.terms.limits.max_commits
-    engine c.requires.fit c.requires.clock c.requires.empty c.new-actor.ensures.tries.0 c.new-actor.ensures.tries.1 c.new-actor.ensures.nothing.2))
+    (fresh_tracks g.P.Player.next_call g.P.Player.answered g.P.Player.calls_left c.args.memory.now c.args.recorded.now c.new-actor.result c.args.terms.arena c.args.terms.limits.patience c.args.terms.limits.max_commits
+    engine c.requires.fit c.requires.clock empty c.new-actor.ensures.tries.0 c.new-actor.ensures.tries.1 c.new-actor.ensures.nothing.2))
+
+pub returns-in_default-clause-first : goal.returns-in_default-clause-first
+returns-in_default-clause-first g c =
+    let a = c.new-actor.result in
+    let engine : a.engine ≡ opening (length c.args.memory.now.words) (replicate c.args.terms.arena 0) c.args.terms.limits.patience c.args.terms.limits.max_commits =
+    c.new-actor.ensures.parts.3 ∙ (c.new-engine.ensures ∙ (λ i. opening (c.words.ensures i) (c.in_ok-arena.ensures i) c.args.terms.limits.patience c.args.terms.limits.max_commits)) in
+    let ready : is_ready a.status ≡ true = ap is_ready c.new-actor.ensures.nothing.2 in
+    let s = starts_between c.args.memory.now.clock 1 (prior_of c.args.recorded.now a) c.work.new.recorded c.work.new.self (c.work.ensures.tries ready)
+    (ap (λ (n : ℕ). active_of n c.args.recorded.now.active) c.new-actor.ensures.parts.0 ∙ c.requires.none) c.new-actor.ensures.nothing.1 c.new-actor.ensures.tries.0 in
+    record {
+      between = s.0;
+      retries_are = c.work.ensures.retries ∙ c.new-actor.ensures.parts.1;
+      patience_is = c.work.ensures.limit.1 ∙ ap (λ (e : Core). e.patience) engine;
+      limit = c.work.ensures.limit.0 ∙ ap (λ (e : Core). e.max_commits) engine;
+    }
+
+pub returns-in_default-clause-ended : goal.returns-in_default-clause-ended
+returns-in_default-clause-ended g c =
+    let a = c.new-actor.result in
+    let ready : is_ready a.status ≡ true = ap is_ready c.new-actor.ensures.nothing.2 in
+    (starts_between c.args.memory.now.clock 1 (prior_of c.args.recorded.now a) c.work.new.recorded c.work.new.self (c.work.ensures.tries ready)
+    (ap (λ (n : ℕ). active_of n c.args.recorded.now.active) c.new-actor.ensures.parts.0 ∙ c.requires.none) c.new-actor.ensures.nothing.1 c.new-actor.ensures.tries.0).1

@@ -1,18 +1,22 @@
-use Rattle.std.proofs.Common.{◌≡◌, ◌≤◌, [], length, vec_len, All, Some}
+use Rattle.std.proofs.Common.{◌≡◌, ℕ, ◌+◌, ◌≤◌, [], length, slice_get, All, Some}
 use Rattle.itm_types.specs.Memory.{bytes_of}
-use Rattle.norec_world.specs.World.{IsSoundWorld, IsSoloWorld, ending_in}
+use Rattle.norec_world.specs.Actors.{AreActors}
+use Rattle.norec_world.specs.World.{IsSoloWorld, ending_in}
 use Rattle.norec_world.specs.declared.attempt.End.TheVariants.{NoMemory}
+use Rattle.norec_world.specs.declared.actor.Actor.{Actor}
+use Rattle.norec_world.specs.Starts.{IsFirst}
 use Rattle.norec_world.proofs.start.start_all.Given as goal
 
 abbrev pub invariant-loop-player : goal.invariant-loop-player
 invariant-loop-player g l = record {
-  rest : length l.player-iterator.rest.items ≤ 1;
+  count : length l.actors.items + length l.player-iterator.rest.items ≡ length l.initial.player-iterator.rest.items;
+  few : length l.initial.player-iterator.rest.items ≤ 32;
   outside : All (λ p. g.P.Player.depth p ≡ 0) l.player-iterator.rest.items;
-  actors : length l.player-iterator.rest.items ≡ 1 → l.actors.items ≡ [];
-  rows : length l.player-iterator.rest.items ≡ 1 → vec_len l.recorded.rows ≡ l.recorded.ended;
-  one : length l.player-iterator.rest.items ≡ 0 → IsSoundWorld g.P.Player.next_call g.P.Player.answered g.P.Player.restarted g.P.Player.calls_left g.P.Player.depth l.memory l.recorded l.actors.items;
-  empty : length l.player-iterator.rest.items ≡ 1 → l.recorded.rows.items ≡ [];
-  all : length l.player-iterator.rest.items ≡ 1 → l.player-iterator.rest.items ≡ l.initial.player-iterator.rest.items;
-  fed : length l.player-iterator.rest.items ≡ 0 → ending_in l.actors.items 0 ≡ Some NoMemory → ⊥;
-  alone : length l.player-iterator.rest.items ≡ 0 → IsSoloWorld g.P.Player.next_call g.P.Player.answered g.P.Player.calls_left l.initial.player-iterator.rest.items (bytes_of l.memory.words) l.terms.arena l.terms.limits.max_commits l.memory l.recorded.rows.items l.actors.items;
+  sound : AreActors g.P.Player.next_call g.P.Player.answered g.P.Player.restarted g.P.Player.calls_left g.P.Player.depth l.memory l.recorded l.actors.items;
+  ended : l.recorded.ended ≡ [];
+  tries : (place : ℕ) (a : Actor g.row.P.Denot) → slice_get l.actors.items place ≡ Some a → IsFirst l.memory.clock l.terms.limits.patience l.terms.limits.max_commits l.terms.retries l.recorded a;
+  first : length l.actors.items ≡ 0 → (l.player-iterator.rest.items ≡ l.initial.player-iterator.rest.items) × (l.recorded.ended ≡ []) × (l.recorded.active ≡ []);
+  fed : (place : ℕ) → ending_in l.actors.items place ≡ Some NoMemory → ⊥;
+  alone : length l.actors.items ≡ 1 → length l.initial.player-iterator.rest.items ≡ 1
+      → IsSoloWorld g.P.Player.next_call g.P.Player.answered g.P.Player.calls_left l.initial.player-iterator.rest.items (bytes_of l.memory.words) l.terms.arena l.terms.limits.max_commits l.memory l.recorded l.actors.items;
 }

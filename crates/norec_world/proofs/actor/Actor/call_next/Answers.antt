@@ -1,8 +1,14 @@
-use Rattle.std.proofs.Common.{refl, sym, ◌∙◌}
+use Rattle.norec_world.proofs.Owning.{others_twice}
+use Rattle.std.proofs.Common.{Bool, refl, sym, ap, subst, ◌∙◌}
 use Rattle.norec_world.specs.declared.actor.Status.TheVariants.{Ended}
 use Rattle.norec_world.specs.declared.attempt.End.TheVariants.{Finished}
 use Rattle.norec_world.proofs.Asking.{call_answered, call_waits, call_ends, call_starved}
 use Rattle.norec_world.proofs.Calling.{at_once, then_sound, then_thread, then_falls, then_less}
+use Rattle.norec_world.specs.Sound.{HasRow}
+use Rattle.norec_world.proofs.TryCalls.{finish_tries, starve_tries, ask_tries, answer_tries}
+use Rattle.norec_engine.specs.Core.{Core, came}
+use Rattle.norec_world.proofs.Tying.{limit_same}
+use Rattle.norec_world.proofs.TryEnds.{not_finished}
 use Rattle.norec_world.proofs.actor.Actor.call_next.Goals as goal
 
 pub settle-requires : goal.settle-requires
@@ -50,4 +56,54 @@ returns-in_default-clause-tracks g c z max_commits p0 base arena t =
 pub returns-in-Err-clause-tracks : goal.returns-in-Err-clause-tracks
 returns-in-Err-clause-tracks g c z max_commits p0 base arena t =
     call_starved g.P.Player.next_call g.P.Player.answered g.P.Player.restarted g.P.Player.calls_left g.P.Player.depth g.met.P.Player.nearer max_commits p0 base arena c.args.memory.now c.args.recorded.now c.args.self.now c.requires.sound c.requires.ready z t
-    c.ask.new.recorded.rows.items c.starve.new.recorded.rows.items c.ask.new.self c.starve.new.self c.in-Err.ensures.unasked.engine c.ask.ensures.rows c.starve.ensures.status c.starve.ensures.row c.starve.ensures.none
+    c.ask.new.recorded c.starve.new.recorded c.ask.new.self c.starve.new.self c.in-Err.ensures.unasked.engine c.in-Err.ensures.unasked.same.thread c.ask.ensures.rows c.starve.ensures.status c.starve.ensures.row c.starve.ensures.none
+
+pub returns-in-Ok-Answer-clause-others : goal.returns-in-Ok-Answer-clause-others
+returns-in-Ok-Answer-clause-others g c =
+    others_twice c.args.self.now c.ask.new.self c.settle.new.self c.args.recorded.now c.ask.new.recorded c.settle.new.recorded c.ask.ensures.others
+    (c.settle.ensures.others c.args.self.now.engine.is_open
+    (at_once g.P.Player.next_call g.P.Player.answered g.P.Player.restarted g.P.Player.calls_left g.P.Player.depth c.args.memory.now c.args.recorded.now c.ask.new.recorded c.ask.new.recorded
+    c.args.self.now c.ask.new.self c.ask.new.self c.in-Some.call c.requires.sound c.requires.ready c.in-Ok-Answer.field-0 c.in-Ok-Answer.answer c.in-Ok-Answer.field-0-is c.in-Ok-Answer.ensures.asked))
+
+pub returns-in-Err-clause-others : goal.returns-in-Err-clause-others
+returns-in-Err-clause-others g c =
+    others_twice c.args.self.now c.ask.new.self c.starve.new.self c.args.recorded.now c.ask.new.recorded c.starve.new.recorded c.ask.ensures.others c.starve.ensures.others
+
+pub returns-in-Ok-Answer-clause-tries : goal.returns-in-Ok-Answer-clause-tries
+returns-in-Ok-Answer-clause-tries g c =
+    answer_tries g.P.Player.next_call g.P.Player.answered g.P.Player.restarted g.P.Player.calls_left g.P.Player.depth c.args.memory.now c.args.recorded.now c.args.self.now c.requires.sound c.requires.ready
+    c.ask.new.recorded c.ask.new.self c.in-Some.call c.in-Ok-Answer.field-0 c.in-Ok-Answer.ensures.asked c.in-Ok-Answer.ensures.told c.in-Ok-Answer.answer c.in-Ok-Answer.field-0-is
+    c.settle.new.recorded c.settle.new.self c.settle.ensures.settled c.settle.ensures.records
+
+pub returns-in-Ok-Step-clause-tries : goal.returns-in-Ok-Step-clause-tries
+returns-in-Ok-Step-clause-tries g c =
+    ask_tries g.P.Player.next_call g.P.Player.answered g.P.Player.restarted g.P.Player.calls_left g.P.Player.depth c.args.memory.now c.args.recorded.now c.args.self.now c.requires.sound c.requires.ready
+    c.ask.new.recorded c.ask.new.self c.in-Some.call c.in-Ok-Step.field-0 c.in-Ok-Step.ensures.asked c.in-Ok-Step.ensures.told c.in-Ok-Step.step c.in-Ok-Step.field-0-is
+
+pub returns-in_default-clause-tries : goal.returns-in_default-clause-tries
+returns-in_default-clause-tries g c =
+    finish_tries g.P.Player.next_call g.P.Player.answered g.P.Player.restarted g.P.Player.calls_left g.P.Player.depth c.args.memory.now c.args.recorded.now c.args.self.now c.requires.sound c.requires.ready (record c.args.self.now { status = Ended Finished }) refl
+
+pub returns-in-Err-clause-tries : goal.returns-in-Err-clause-tries
+returns-in-Err-clause-tries g c =
+    let u = c.in-Err.ensures.unasked in
+    starve_tries g.P.Player.next_call g.P.Player.answered g.P.Player.restarted g.P.Player.calls_left g.P.Player.depth c.args.memory.now c.args.recorded.now c.args.self.now c.requires.sound c.requires.ready
+    c.ask.new.recorded c.starve.new.recorded c.ask.new.self c.starve.new.self u.engine u.same.thread u.same.nth u.pending c.ask.ensures.rows
+    c.starve.ensures.status c.starve.ensures.thread c.starve.ensures.same.0 c.starve.ensures.pending
+    (subst (λ (b : Bool). HasRow b c.starve.new.recorded c.starve.new.self.thread) c.starve.ensures.closed c.starve.ensures.kept.row) c.starve.ensures.row c.starve.ensures.none
+
+pub returns-in-Ok-Answer-clause-finishes : goal.returns-in-Ok-Answer-clause-finishes
+returns-in-Ok-Answer-clause-finishes g c e =
+    let d = at_once g.P.Player.next_call g.P.Player.answered g.P.Player.restarted g.P.Player.calls_left g.P.Player.depth c.args.memory.now c.args.recorded.now c.ask.new.recorded c.ask.new.recorded
+    c.args.self.now c.ask.new.self c.ask.new.self c.in-Some.call c.requires.sound c.requires.ready c.in-Ok-Answer.field-0 c.in-Ok-Answer.answer c.in-Ok-Answer.field-0-is c.in-Ok-Answer.ensures.asked in
+    absurd (not_finished g.P.Player.next_call g.P.Player.answered g.P.Player.restarted g.P.Player.calls_left g.P.Player.depth c.ask.new.recorded c.settle.new.recorded c.ask.new.self c.settle.new.self c.in-Some.call
+    c.args.self.now.engine.is_open d.status c.in-Ok-Answer.answer (c.settle.ensures.records c.args.self.now.engine.is_open d) e)
+
+pub returns-in-Ok-Answer-clause-limit : goal.returns-in-Ok-Answer-clause-limit
+returns-in-Ok-Answer-clause-limit g c =
+    let asked = c.in-Ok-Answer.ensures.asked in
+    let d = at_once g.P.Player.next_call g.P.Player.answered g.P.Player.restarted g.P.Player.calls_left g.P.Player.depth c.args.memory.now c.args.recorded.now c.ask.new.recorded c.ask.new.recorded
+    c.args.self.now c.ask.new.self c.ask.new.self c.in-Some.call c.requires.sound c.requires.ready c.in-Ok-Answer.field-0 c.in-Ok-Answer.answer c.in-Ok-Answer.field-0-is asked in
+    let engine = (c.settle.ensures.settled c.args.self.now.engine.is_open d).engine in
+    let kept = limit_same (came c.args.self.now.engine c.in-Some.call asked.again) c.ask.new.self.engine c.in-Ok-Answer.field-0 asked.proceeds in
+    (ap (λ (e : Core). e.max_commits) engine ∙ kept.0, ap (λ (e : Core). e.patience) engine ∙ kept.1)

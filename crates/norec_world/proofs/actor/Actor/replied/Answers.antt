@@ -1,8 +1,10 @@
-use Rattle.std.proofs.Common.{◌≡◌, ◌/◌, length, vec_len, Some, subst, ◌++◌, ◌∷◌, [], List, ap, ◌∙◌, sym, Bool, true, false, None, is_some}
+use Rattle.norec_world.proofs.Owning.{others_opened, others_changed}
+use Rattle.std.proofs.Common.{◌≡◌, ◌/◌, refl, Some, subst, ◌++◌, ◌∷◌, [], ap, ◌∙◌, sym, Bool, true, false, None, is_some}
 use Rattle.norec_world.specs.declared.attempt.Attempt.{Attempt}
 use Rattle.norec_world.proofs.Settling.{after_reply}
-use Rattle.norec_world.proofs.Recording.{row_stays, was_open, row_opened, row_none, within_last}
+use Rattle.norec_world.proofs.Recording.{row_stays, was_open, row_opened, row_changed, row_none}
 use Rattle.norec_world.specs.Sound.{HasRow}
+use Rattle.norec_world.specs.Rows.{active_of}
 use Rattle.norec_world.proofs.actor.Actor.replied.Goals as goal
 
 pub returns-else-is_open-clause-settled : goal.returns-else-is_open-clause-settled
@@ -13,7 +15,7 @@ returns-else-is_open-clause-settled g c was d =
     let closed : a.engine.is_open ≡ false = sym c.is_open-is_open.ensures ∙ c.if-is_open.false in
     after_reply g.P.Player.next_call g.P.Player.answered g.P.Player.restarted g.P.Player.calls_left g.P.Player.depth l.nearer l.nests l.restarts r r a c.args.call
     was c.args.reply d c.answer.new.self c.answer.ensures a.spare d.kept.empty c.take.new.self c.take.ensures.after a.again
-    (row_stays r a.thread was a.engine.is_open d.fits.1 closed d.kept.row) d.kept.within
+    (row_stays r a.thread was a.engine.is_open d.fits.1 closed d.kept.row)
 
 pub returns-then-is_open-clause-settled : goal.returns-then-is_open-clause-settled
 returns-then-is_open-clause-settled g c was d =
@@ -25,13 +27,11 @@ returns-then-is_open-clause-settled g c was d =
     let some : a.pending ≡ Some c.in-Some.attempt = sym c.in-Some.ensures.value in
     let p = d.in_call.opens c.in-Some.attempt some in
     let shut : was ≡ true → ⊥ = λ e. (let n = d.in_call.inside e in absurd (cc)) in
-    let none : vec_len r.rows ≡ r.ended = row_none r a.thread was shut d.kept.row in
-    let items : r'.rows.items ≡ r.rows.items ++ row ∷ [] = c.open.ensures.alone none in
-    let count : length r.rows.items ≡ r'.ended = sym r.rows.ok.0 ∙ (none ∙ sym c.open.ensures.ended) in
+    let none : active_of a.thread r.active ≡ None = row_none r a.thread was shut d.kept.row in
     let opened : a.engine.is_open ≡ true = sym c.is_open-is_open.ensures ∙ c.if-is_open.true in
     after_reply g.P.Player.next_call g.P.Player.answered g.P.Player.restarted g.P.Player.calls_left g.P.Player.depth l.nearer l.nests l.restarts r r' a c.args.call
     was c.args.reply d c.answer.new.self c.answer.ensures a.spare d.kept.empty c.take.new.self c.take.ensures.after true
-    (row_opened r' a.thread a.engine.is_open r.rows.items row opened count items p.thread p.outcome) (within_last r' r.rows.items row count items)
+    (row_opened r r' a.thread a.engine.is_open row opened c.open.ensures none p.thread p.outcome)
 
 pub returns-then-is_open-2-clause-settled : goal.returns-then-is_open-2-clause-settled
 returns-then-is_open-2-clause-settled g c was d =
@@ -43,14 +43,9 @@ returns-then-is_open-2-clause-settled g c was d =
     let none : a.pending ≡ None = sym c.in-None.ensures.value in
     let open_before : was ≡ true = was_open was a.engine.is_open c.args.call c.args.reply (λ e. sym (d.in_call.begins e) ∙ ap is_some none) d.fits.0 opened in
     let h : HasRow true r a.thread = subst (λ (b : Bool). HasRow b r a.thread) open_before d.kept.row in
-    let past : List Attempt = h.0 in
-    let old : Attempt = h.1 in
-    let row : Attempt = record old { calls = old.calls ++ record { call = c.args.call; reply = c.args.reply } ∷ [] } in
-    let items : r'.rows.items ≡ past ++ row ∷ [] = c.add.ensures.added past old h.2 in
-    let count : length past ≡ r'.ended = h.2.count ∙ sym c.add.ensures.ended in
     after_reply g.P.Player.next_call g.P.Player.answered g.P.Player.restarted g.P.Player.calls_left g.P.Player.depth l.nearer l.nests l.restarts r r' a c.args.call
     was c.args.reply d c.answer.new.self c.answer.ensures c.add.new.spare c.add.ensures.empty c.take.new.self c.take.ensures.after a.again
-    (row_opened r' a.thread a.engine.is_open past row opened count items h.2.thread_is h.3) (within_last r' past row count items)
+    (row_changed r r' a.thread a.engine.is_open (λ row. record row { calls = row.calls ++ record { call = c.args.call; reply = c.args.reply } ∷ [] }) (λ x. refl) (λ x. refl) c.add.ensures.added h opened)
 
 pub returns-else-is_open-2-clause-settled : goal.returns-else-is_open-2-clause-settled
 returns-else-is_open-2-clause-settled g c was d =
@@ -60,4 +55,16 @@ returns-else-is_open-2-clause-settled g c was d =
     let closed : a.engine.is_open ≡ false = sym c.is_open-is_open.ensures ∙ c.if-is_open-2.false in
     after_reply g.P.Player.next_call g.P.Player.answered g.P.Player.restarted g.P.Player.calls_left g.P.Player.depth l.nearer l.nests l.restarts r r a c.args.call
     was c.args.reply d c.answer.new.self c.answer.ensures a.spare d.kept.empty c.take.new.self c.take.ensures.after a.again
-    (row_stays r a.thread was a.engine.is_open d.fits.1 closed d.kept.row) d.kept.within
+    (row_stays r a.thread was a.engine.is_open d.fits.1 closed d.kept.row)
+
+pub returns-then-is_open-clause-others : goal.returns-then-is_open-clause-others
+returns-then-is_open-clause-others g c was d =
+    let row : Attempt = record c.in-Some.attempt { at = c.snapshot.result / 2 } in
+    let some : c.args.self.now.pending ≡ Some c.in-Some.attempt = sym c.in-Some.ensures.value in
+    others_opened c.args.self.now _ c.args.recorded.now c.open.new.self row c.in-Some.attempt (d.in_call.opens c.in-Some.attempt some).thread refl some c.take.ensures.after c.open.ensures
+
+pub returns-then-is_open-2-clause-others : goal.returns-then-is_open-2-clause-others
+returns-then-is_open-2-clause-others g c was d =
+    let none : c.args.self.now.pending ≡ None = sym c.in-None.ensures.value in
+    others_changed c.args.self.now _ c.args.recorded.now c.add.new.self (λ row. record row { calls = row.calls ++ record { call = c.args.call; reply = c.args.reply } ∷ [] }) (λ x. refl) refl
+    (c.take.ensures.after ∙ sym none) c.add.ensures.added

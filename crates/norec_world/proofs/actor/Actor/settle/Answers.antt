@@ -1,10 +1,14 @@
-use Rattle.std.proofs.Common.{◌≡◌, ◌+◌, List, ap, ◌∙◌, refl, sym, subst, ℕ, length, Bool, true, false, None}
+use Rattle.norec_world.proofs.Owning.{others_ended, retried_thread, retried_pending, retried_player, retried_engine, retried_counts}
+use Rattle.std.proofs.Common.{◌≡◌, ◌/◌, ap, ◌∙◌, refl, sym, subst, Bool, true, false, None}
 use Rattle.norec_engine.specs.declared.answer.Answer.TheVariants.{Conflict, Busy, Full}
-use Rattle.norec_world.specs.declared.attempt.Attempt.{Attempt}
+use Rattle.norec_world.specs.declared.actor.Actor.{Actor}
+use Rattle.norec_world.specs.declared.attempt.Outcome.TheVariants as outcomes
+use Rattle.norec_engine.specs.Core.{Core}
+use Rattle.norec_world.specs.Rows.{with_ended}
+use Rattle.norec_world.specs.Records.{Records}
 use Rattle.norec_world.specs.declared.attempt.End.TheVariants.{GaveUp}
 use Rattle.norec_world.specs.Sound.{depth_if, HasRow, AnswerFits, IsSettledBy, whole}
 use Rattle.norec_world.proofs.Settling.{after_try, after_end}
-use Rattle.norec_world.proofs.Recording.{all_ended}
 use Rattle.norec_world.proofs.actor.Actor.settle.Goals as goal
 
 pub returns-in-Conflict-clause-settled : goal.returns-in-Conflict-clause-settled
@@ -14,17 +18,12 @@ returns-in-Conflict-clause-settled g c was d =
     let r = c.args.recorded.now in
     let r' = c.end.new.self in
     let fits : AnswerFits was a.engine.is_open c.args.call (Conflict c.in-Conflict.clock c.in-Conflict.word) = subst (AnswerFits was a.engine.is_open c.args.call) c.in-Conflict.is d.fits in
-    let h : HasRow true r a.thread = subst (λ (b : Bool). HasRow b r a.thread) fits.0 d.kept.row in
-    let past : List Attempt = h.0 in
-    let old : Attempt = h.1 in
-    let items = c.end.ensures.rows past old h.2 in
-    let count : r'.ended ≡ length past + 1 = c.end.ensures.ended ∙ ap (λ (n : ℕ). n + 1) (sym h.2.count) in
     subst (IsSettledBy g.P.Player.next_call g.P.Player.answered g.P.Player.restarted g.P.Player.calls_left g.P.Player.depth was r' a) (sym c.retry.ensures)
     (after_try g.P.Player.next_call g.P.Player.answered g.P.Player.restarted g.P.Player.calls_left g.P.Player.depth l.nearer l.nests l.restarts r r' a c.args.call
     was d.kept d.nested d.idle d.free d.status a.pending (d.in_call.inside fits.0) c.restart.new.self
     (ap g.P.Player.depth c.restart.ensures ∙ d.nested.begun fits.0)
     (ap g.P.Player.calls_left c.restart.ensures ∙ sym (ap (λ (b : Bool). whole g.P.Player.next_call g.P.Player.answered g.P.Player.restarted g.P.Player.calls_left g.P.Player.depth b a.player) fits.0))
-    fits.1 (all_ended r' past _ count items))
+    fits.1 c.end.ensures.gone)
 
 pub returns-in-Busy-clause-settled : goal.returns-in-Busy-clause-settled
 returns-in-Busy-clause-settled g c was d =
@@ -38,7 +37,7 @@ returns-in-Busy-clause-settled g c was d =
     was d.kept d.nested d.idle d.free d.status None refl a.player
     (d.nested.depth_is ∙ ap depth_if fits.0)
     (sym (ap (λ (b : Bool). whole g.P.Player.next_call g.P.Player.answered g.P.Player.restarted g.P.Player.calls_left g.P.Player.depth b a.player) fits.0))
-    fits.1 (sym h))
+    fits.1 h)
 
 pub returns-in-Full-clause-settled : goal.returns-in-Full-clause-settled
 returns-in-Full-clause-settled g c was d =
@@ -47,8 +46,45 @@ returns-in-Full-clause-settled g c was d =
     let r = c.args.recorded.now in
     let r' = c.end-in-Full.new.self in
     let fits : AnswerFits was a.engine.is_open c.args.call (Full c.in-Full.at) = subst (AnswerFits was a.engine.is_open c.args.call) c.in-Full.is d.fits in
-    let h : HasRow true r a.thread = subst (λ (b : Bool). HasRow b r a.thread) fits.0 d.kept.row in
-    let items = c.end-in-Full.ensures.rows h.0 h.1 h.2 in
-    let count : r'.ended ≡ length h.0 + 1 = c.end-in-Full.ensures.ended ∙ ap (λ (n : ℕ). n + 1) (sym h.2.count) in
     after_end g.P.Player.next_call g.P.Player.answered g.P.Player.restarted g.P.Player.calls_left g.P.Player.depth l.nearer l.nests l.restarts r r' a c.args.call
-    was GaveUp d.kept fits.1 (all_ended r' h.0 _ count items)
+    was GaveUp d.kept fits.1 c.end-in-Full.ensures.gone
+
+pub returns-in-Conflict-clause-others : goal.returns-in-Conflict-clause-others
+returns-in-Conflict-clause-others g c was d =
+    let a = c.args.self.now in
+    let r = c.args.recorded.now in
+    let fits : AnswerFits was a.engine.is_open c.args.call (Conflict c.in-Conflict.clock c.in-Conflict.word) = subst (AnswerFits was a.engine.is_open c.args.call) c.in-Conflict.is d.fits in
+    let h : HasRow true r a.thread = subst (λ (b : Bool). HasRow b r a.thread) fits.0 d.kept.row in
+    others_ended a c.retry.new.self r c.end.new.self h.0 _ h.1 refl (ap (λ (x : _). x.thread) c.retry.ensures ∙ retried_thread _) (ap (λ (x : _). x.pending) c.retry.ensures ∙ retried_pending _) (c.end.ensures.ended h.0 h.1)
+
+pub returns-in-Full-clause-others : goal.returns-in-Full-clause-others
+returns-in-Full-clause-others g c was d =
+    let a = c.args.self.now in
+    let r = c.args.recorded.now in
+    let fits : AnswerFits was a.engine.is_open c.args.call (Full c.in-Full.at) = subst (AnswerFits was a.engine.is_open c.args.call) c.in-Full.is d.fits in
+    let h : HasRow true r a.thread = subst (λ (b : Bool). HasRow b r a.thread) fits.0 d.kept.row in
+    others_ended a _ r c.end-in-Full.new.self h.0 _ h.1 refl refl refl (c.end-in-Full.ensures.ended h.0 h.1)
+
+pub returns-in-Conflict-clause-records : goal.returns-in-Conflict-clause-records
+returns-in-Conflict-clause-records g c was d =
+    let a = c.args.self.now in
+    let counts = retried_counts (record a { player = c.restart.new.self }) in
+    let snapshot : c.snapshot.result ≡ c.retry.new.self.engine.snapshot =
+    c.snapshot.ensures ∙ sym (ap (λ (x : Actor g.row.P.Denot). x.engine.snapshot) c.retry.ensures ∙ ap (λ (e : Core). e.snapshot) (retried_engine (record a { player = c.restart.new.self }))) in
+    let told : Records g.P.Player.answered g.P.Player.restarted was c.args.recorded.now c.end.new.self a c.retry.new.self c.args.call (Conflict c.in-Conflict.clock c.in-Conflict.word) = (
+      λ row e. c.end.ensures.ended row e ∙ (λ i. with_ended a.thread (record row { at = snapshot i / 2; outcome = outcomes.Conflict }) c.args.recorded.now),
+      ap (λ (x : Actor g.row.P.Denot). x.player) c.retry.ensures ∙ (retried_player (record a { player = c.restart.new.self }) ∙ c.restart.ensures),
+      record { nth = ap (λ (x : Actor g.row.P.Denot). x.nth) c.retry.ensures ∙ counts.nth; status = ap (λ (x : Actor g.row.P.Denot). x.status) c.retry.ensures ∙ counts.status },
+    ) in
+    subst (Records g.P.Player.answered g.P.Player.restarted was c.args.recorded.now c.end.new.self a c.retry.new.self c.args.call) (sym c.in-Conflict.is) told
+
+pub returns-in-Busy-clause-records : goal.returns-in-Busy-clause-records
+returns-in-Busy-clause-records g c was d =
+    let a = c.args.self.now in
+    let counts = retried_counts (record a { pending = None }) in
+    let told : Records g.P.Player.answered g.P.Player.restarted was c.args.recorded.now c.args.recorded.now a c.retry-in-Busy.new.self c.args.call (Busy c.in-Busy.clock) = (
+      refl,
+      ap (λ (x : Actor g.row.P.Denot). x.player) c.retry-in-Busy.ensures ∙ retried_player (record a { pending = None }),
+      record { nth = ap (λ (x : Actor g.row.P.Denot). x.nth) c.retry-in-Busy.ensures ∙ counts.nth; status = ap (λ (x : Actor g.row.P.Denot). x.status) c.retry-in-Busy.ensures ∙ counts.status },
+    ) in
+    subst (Records g.P.Player.answered g.P.Player.restarted was c.args.recorded.now c.args.recorded.now a c.retry-in-Busy.new.self c.args.call) (sym c.in-Busy.is) told

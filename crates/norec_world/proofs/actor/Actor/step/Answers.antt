@@ -1,5 +1,7 @@
+use Rattle.norec_world.proofs.Owning.{others_twice}
 use Rattle.std.proofs.Common.{sym}
-use Rattle.norec_world.proofs.Stepping.{step_due, step_done}
+use Rattle.norec_world.proofs.Stepping.{step_due, step_done, step_clocks}
+use Rattle.norec_world.proofs.TrySteps.{step_tries, step_unfinished}
 use Rattle.norec_world.proofs.Handing.{stepped}
 use Rattle.norec_world.proofs.actor.Actor.step.Goals as goal
 
@@ -73,7 +75,7 @@ returns-in-Waits-clause-falls g c =
     s.falls
 
 pub returns-in-Waits-clause-tracks : goal.returns-in-Waits-clause-tracks
-returns-in-Waits-clause-tracks g c max_commits p0 base arena t =
+returns-in-Waits-clause-tracks g c z max_commits p0 base arena t =
     stepped g.P.Player.next_call g.P.Player.answered g.P.Player.restarted g.P.Player.calls_left g.P.Player.depth g.met.P.Player.nearer max_commits p0 base arena c.args.memory.now c.args.recorded.now c.args.self.now c.requires.sound
     c.in-Waits.call c.in-Waits.step (sym c.in-Waits.ensures.value) c.apply-seen.result c.apply-seen.ensures.found c.apply-seen.new.self c.apply-seen.ensures.cells c.apply-seen.ensures.fit
     c.resume-next.new.self c.resume-next.ensures.joins c.resume-next.ensures.settled c.resume-next.ensures.count
@@ -86,4 +88,69 @@ returns-in-Waits-clause-tracks g c max_commits p0 base arena t =
     c.in-Waits.call c.in-Waits.step (sym c.in-Waits.ensures.value) c.apply-seen.result c.apply-seen.ensures.found c.apply-seen.new.self c.apply-seen.ensures.cells c.apply-seen.ensures.fit
     c.resume-next.new.self c.resume-next.ensures.joins c.resume-next.ensures.settled c.resume-next.ensures.count
     c.resume-next.result c.resume-next.ensures.proceeds c.replace.new.dest c.replace.ensures.after))
-    c.follow.new.recorded.rows.items c.follow.ensures.told t
+    c.follow.new.recorded c.follow.ensures.told z t
+
+pub returns-in-Waits-clause-others : goal.returns-in-Waits-clause-others
+returns-in-Waits-clause-others g c =
+    others_twice c.args.self.now c.proceed.new.self c.proceed.new.self c.args.recorded.now c.proceed.new.recorded c.follow.new.recorded
+    (let d = c.proceed.ensures.others c.args.self.now.engine.is_open (step_due g.P.Player.next_call g.P.Player.answered g.P.Player.restarted g.P.Player.calls_left g.P.Player.depth c.args.memory.now c.args.recorded.now c.args.self.now c.requires.sound
+    c.in-Waits.call c.in-Waits.step (sym c.in-Waits.ensures.value) c.apply-seen.result c.apply-seen.ensures.found c.apply-seen.new.self c.apply-seen.ensures.cells c.apply-seen.ensures.fit
+    c.resume-next.new.self c.resume-next.ensures.joins c.resume-next.ensures.settled c.resume-next.ensures.count
+    c.resume-next.result c.resume-next.ensures.proceeds c.replace.new.dest c.replace.ensures.after) in record { thread = d.thread; own = d.own; room = d.room }) c.follow.ensures.others
+
+pub returns-in-Waits-clause-clocks : goal.returns-in-Waits-clause-clocks
+returns-in-Waits-clause-clocks g c =
+    let s = step_done g.P.Player.next_call g.P.Player.answered g.P.Player.restarted g.P.Player.calls_left g.P.Player.depth c.args.memory.now c.args.recorded.now c.args.self.now c.requires.sound
+    c.in-Waits.call c.in-Waits.step (sym c.in-Waits.ensures.value) c.apply-seen.result c.apply-seen.ensures.found c.apply-seen.new.self c.apply-seen.ensures.cells c.apply-seen.ensures.fit
+    c.resume-next.new.self c.resume-next.ensures.joins c.resume-next.ensures.settled c.resume-next.ensures.count
+    c.resume-next.result c.resume-next.ensures.proceeds c.replace.new.dest c.proceed.new.recorded c.proceed.new.self
+    (c.proceed.ensures.done c.args.self.now.engine.is_open (step_due g.P.Player.next_call g.P.Player.answered g.P.Player.restarted g.P.Player.calls_left g.P.Player.depth c.args.memory.now c.args.recorded.now c.args.self.now c.requires.sound
+    c.in-Waits.call c.in-Waits.step (sym c.in-Waits.ensures.value) c.apply-seen.result c.apply-seen.ensures.found c.apply-seen.new.self c.apply-seen.ensures.cells c.apply-seen.ensures.fit
+    c.resume-next.new.self c.resume-next.ensures.joins c.resume-next.ensures.settled c.resume-next.ensures.count
+    c.resume-next.result c.resume-next.ensures.proceeds c.replace.new.dest c.replace.ensures.after)) in
+    step_clocks g.P.Player.next_call g.P.Player.answered g.P.Player.restarted g.P.Player.calls_left g.P.Player.depth c.args.memory.now c.args.recorded.now c.args.self.now c.requires.sound
+    c.in-Waits.call c.in-Waits.step (sym c.in-Waits.ensures.value) c.apply-seen.result c.apply-seen.ensures.found c.apply-seen.new.self c.apply-seen.ensures.cells c.apply-seen.ensures.fit
+    c.resume-next.new.self c.resume-next.ensures.joins c.resume-next.ensures.settled c.resume-next.ensures.count
+    c.resume-next.result c.resume-next.ensures.proceeds c.proceed.new.self.engine s.engine
+
+pub returns-in-Waits-clause-retries : goal.returns-in-Waits-clause-retries
+returns-in-Waits-clause-retries g c =
+    (step_done g.P.Player.next_call g.P.Player.answered g.P.Player.restarted g.P.Player.calls_left g.P.Player.depth c.args.memory.now c.args.recorded.now c.args.self.now c.requires.sound
+    c.in-Waits.call c.in-Waits.step (sym c.in-Waits.ensures.value) c.apply-seen.result c.apply-seen.ensures.found c.apply-seen.new.self c.apply-seen.ensures.cells c.apply-seen.ensures.fit
+    c.resume-next.new.self c.resume-next.ensures.joins c.resume-next.ensures.settled c.resume-next.ensures.count
+    c.resume-next.result c.resume-next.ensures.proceeds c.replace.new.dest c.proceed.new.recorded c.proceed.new.self
+    (c.proceed.ensures.done c.args.self.now.engine.is_open (step_due g.P.Player.next_call g.P.Player.answered g.P.Player.restarted g.P.Player.calls_left g.P.Player.depth c.args.memory.now c.args.recorded.now c.args.self.now c.requires.sound
+    c.in-Waits.call c.in-Waits.step (sym c.in-Waits.ensures.value) c.apply-seen.result c.apply-seen.ensures.found c.apply-seen.new.self c.apply-seen.ensures.cells c.apply-seen.ensures.fit
+    c.resume-next.new.self c.resume-next.ensures.joins c.resume-next.ensures.settled c.resume-next.ensures.count
+    c.resume-next.result c.resume-next.ensures.proceeds c.replace.new.dest c.replace.ensures.after))).retries
+
+pub returns-in-Waits-clause-tries : goal.returns-in-Waits-clause-tries
+returns-in-Waits-clause-tries g c =
+    step_tries g.P.Player.next_call g.P.Player.answered g.P.Player.restarted g.P.Player.calls_left g.P.Player.depth c.args.memory.now c.args.recorded.now c.args.self.now c.requires.sound
+    c.in-Waits.call c.in-Waits.step (sym c.in-Waits.ensures.value) c.apply-seen.result c.apply-seen.ensures.found c.apply-seen.new.self c.apply-seen.ensures.cells c.apply-seen.ensures.fit
+    c.resume-next.new.self c.resume-next.ensures.joins c.resume-next.ensures.settled c.resume-next.ensures.count
+    c.resume-next.result c.resume-next.ensures.proceeds c.replace.new.dest c.replace.ensures.after c.proceed.new.recorded c.proceed.new.self
+    (c.proceed.ensures.done c.args.self.now.engine.is_open (step_due g.P.Player.next_call g.P.Player.answered g.P.Player.restarted g.P.Player.calls_left g.P.Player.depth c.args.memory.now c.args.recorded.now c.args.self.now c.requires.sound
+    c.in-Waits.call c.in-Waits.step (sym c.in-Waits.ensures.value) c.apply-seen.result c.apply-seen.ensures.found c.apply-seen.new.self c.apply-seen.ensures.cells c.apply-seen.ensures.fit
+    c.resume-next.new.self c.resume-next.ensures.joins c.resume-next.ensures.settled c.resume-next.ensures.count
+    c.resume-next.result c.resume-next.ensures.proceeds c.replace.new.dest c.replace.ensures.after))
+    (c.proceed.ensures.tells c.args.self.now.engine.is_open (step_due g.P.Player.next_call g.P.Player.answered g.P.Player.restarted g.P.Player.calls_left g.P.Player.depth c.args.memory.now c.args.recorded.now c.args.self.now c.requires.sound
+    c.in-Waits.call c.in-Waits.step (sym c.in-Waits.ensures.value) c.apply-seen.result c.apply-seen.ensures.found c.apply-seen.new.self c.apply-seen.ensures.cells c.apply-seen.ensures.fit
+    c.resume-next.new.self c.resume-next.ensures.joins c.resume-next.ensures.settled c.resume-next.ensures.count
+    c.resume-next.result c.resume-next.ensures.proceeds c.replace.new.dest c.replace.ensures.after))
+    c.follow.new.recorded c.follow.ensures.told
+
+pub returns-in-Waits-clause-unfinished : goal.returns-in-Waits-clause-unfinished
+returns-in-Waits-clause-unfinished g c e =
+    step_unfinished g.P.Player.next_call g.P.Player.answered g.P.Player.restarted g.P.Player.calls_left g.P.Player.depth c.args.memory.now c.args.recorded.now c.args.self.now c.requires.sound
+    c.in-Waits.call c.in-Waits.step (sym c.in-Waits.ensures.value) c.apply-seen.result c.apply-seen.ensures.found c.apply-seen.new.self c.apply-seen.ensures.cells c.apply-seen.ensures.fit
+    c.resume-next.new.self c.resume-next.ensures.joins c.resume-next.ensures.settled c.resume-next.ensures.count
+    c.resume-next.result c.replace.new.dest c.replace.ensures.after c.proceed.new.recorded c.proceed.new.self
+    (c.proceed.ensures.done c.args.self.now.engine.is_open (step_due g.P.Player.next_call g.P.Player.answered g.P.Player.restarted g.P.Player.calls_left g.P.Player.depth c.args.memory.now c.args.recorded.now c.args.self.now c.requires.sound
+    c.in-Waits.call c.in-Waits.step (sym c.in-Waits.ensures.value) c.apply-seen.result c.apply-seen.ensures.found c.apply-seen.new.self c.apply-seen.ensures.cells c.apply-seen.ensures.fit
+    c.resume-next.new.self c.resume-next.ensures.joins c.resume-next.ensures.settled c.resume-next.ensures.count
+    c.resume-next.result c.resume-next.ensures.proceeds c.replace.new.dest c.replace.ensures.after))
+    (c.proceed.ensures.tells c.args.self.now.engine.is_open (step_due g.P.Player.next_call g.P.Player.answered g.P.Player.restarted g.P.Player.calls_left g.P.Player.depth c.args.memory.now c.args.recorded.now c.args.self.now c.requires.sound
+    c.in-Waits.call c.in-Waits.step (sym c.in-Waits.ensures.value) c.apply-seen.result c.apply-seen.ensures.found c.apply-seen.new.self c.apply-seen.ensures.cells c.apply-seen.ensures.fit
+    c.resume-next.new.self c.resume-next.ensures.joins c.resume-next.ensures.settled c.resume-next.ensures.count
+    c.resume-next.result c.resume-next.ensures.proceeds c.replace.new.dest c.replace.ensures.after)) e

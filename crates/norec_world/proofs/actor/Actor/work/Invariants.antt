@@ -1,4 +1,7 @@
-use Rattle.std.proofs.Common.{◌≡◌, None, false}
+use Rattle.norec_world.specs.declared.attempt.End.TheVariants.{Finished}
+use Rattle.norec_world.specs.Tries.{Tries, prior_of}
+use Rattle.norec_world.specs.Own.{KeepsOthers}
+use Rattle.std.proofs.Common.{◌≡◌, None, Some, true, false}
 use Rattle.norec_world.specs.Status.{ending_of, is_ready}
 use Rattle.norec_world.specs.Tracks.{StillTracks}
 use Rattle.norec_world.specs.Sound.{IsSound, IsNoMore, whole, work_left}
@@ -7,9 +10,15 @@ use Rattle.norec_world.proofs.actor.Actor.work.Given as goal
 abbrev pub invariant-loop-self : goal.invariant-loop-self
 invariant-loop-self g l = record {
   sound : IsSound g.P.Player.next_call g.P.Player.answered g.P.Player.restarted g.P.Player.calls_left g.P.Player.depth l.memory l.recorded l.self;
-  tracks : l.initial.self.thread ≡ 0 → StillTracks g.P.Player.next_call g.P.Player.answered g.P.Player.calls_left l.memory l.initial.recorded.rows.items l.initial.self l.memory l.recorded.rows.items l.self;
+  tracks : l.initial.self.thread ≡ 0 → StillTracks g.P.Player.next_call g.P.Player.answered g.P.Player.calls_left l.memory l.initial.recorded l.initial.self l.memory l.recorded l.self;
+  others : KeepsOthers l.initial.self l.initial.recorded l.self l.recorded;
+  holds : l.self.engine.holds ≡ l.initial.self.engine.holds;
   thread : l.self.thread ≡ l.initial.self.thread;
-  still : is_ready l.initial.self.status ≡ false → l.self.status ≡ l.initial.self.status;
+  limit : (l.self.engine.max_commits ≡ l.initial.self.engine.max_commits) × (l.self.engine.patience ≡ l.initial.self.engine.patience);
+  retries : l.self.retries ≡ l.initial.self.retries;
+  tries : is_ready l.initial.self.status ≡ true → Tries l.memory.clock (prior_of l.initial.recorded l.initial.self) l.memory.clock l.recorded l.self;
+  finishes : is_ready l.initial.self.status ≡ true → ending_of l.self.status ≡ Some Finished → g.P.Player.next_call l.self.player ≡ None;
+  still : is_ready l.initial.self.status ≡ false → (l.self ≡ l.initial.self) × (l.recorded ≡ l.initial.recorded);
   less : ending_of l.self.status ≡ None → IsNoMore g.P.Player.next_call g.P.Player.answered g.P.Player.restarted g.P.Player.calls_left g.P.Player.depth l.initial.self l.self;
 }
 

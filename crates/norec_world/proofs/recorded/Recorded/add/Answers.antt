@@ -1,11 +1,35 @@
-use Rattle.std.proofs.Common.{◌≡◌, ◌++◌, ◌∷◌, [], List, ap, ◌∙◌}
-use Rattle.norec_world.specs.declared.attempt.Attempt.{Attempt}
-use Rattle.norec_world.proofs.RowLists.{row_at_last, set_at_last}
+use Rattle.std.proofs.Common.{◌++◌, ◌∷◌, [], refl, ap, ◌∙◌, drop}
+use Rattle.norec_world.specs.Rows.{Rows, is_of, with_changed}
+use Rattle.norec_world.proofs.ActiveRows.{IsFirstAt, place_first, place_none, row_at_place, put_from, put_rows, same_rows}
 use Rattle.norec_world.proofs.recorded.Recorded.add.Goals as goal
 
+first : (c : goal.After-push-arg-in-Some-1) → IsFirstAt (is_of c.args.thread) (drop c.self.inside.ended c.self.inside.rows.items) c.in-Some.place
+first c = place_first c.self.inside.rows.items c.self.inside.ended c.deref.result.now c.args.thread c.in-Some.place c.deref.ensures.value c.in-Some.ensures.value
+
+first_pushed : (c : goal.After-self-1) → IsFirstAt (is_of c.args.thread) (drop c.self.inside.ended c.self.inside.rows.items) c.in-Some.place
+first_pushed c = place_first c.self.inside.rows.items c.self.inside.ended c.deref.result.now c.args.thread c.in-Some.place c.deref.ensures.value c.in-Some.ensures.value
+
+pub push-requires-clause-room : goal.push-requires-clause-room
+push-requires-clause-room c =
+    c.requires.room c.index_mut-row.result.now
+    (row_at_place c.self.inside.rows.items c.self.inside.ended c.args.thread c.in-Some.place (first c) c.index_mut-row.result.now c.index_mut-row.ensures.value _ c.args.self.now c.self.view_is)
+
+pub invariant_of-self : goal.invariant_of-self
+invariant_of-self c = (
+  c.self.invariant.0,
+  put_from c.self.inside.rows.items c.self.inside.ended c.args.thread c.in-Some.place (first_pushed c) c.index_mut-row.result.now c.index_mut-row.ensures.value
+      (λ row. record row { calls = c.push.new.self }) (λ row. refl) c.self.invariant.1,
+)
+
 pub returns-in-Some-clause-added : goal.returns-in-Some-clause-added
-returns-in-Some-clause-added c past row l =
-    let rows : List Attempt = c.args.self.now.rows.items in
-    let got : c.index_mut-row.result.now ≡ row = row_at_last rows c.args.self.now.ended c.args.thread past row l c.in-Some.place c.in-Some.ensures c.index_mut-row.result.now c.index_mut-row.ensures.value in
-    set_at_last rows c.args.self.now.ended c.args.thread past row l c.in-Some.place c.in-Some.ensures (record c.index_mut-row.result.now { calls = c.push.new.self })
-    ∙ (λ i. past ++ record (got i) { calls = (c.push.ensures.added ∙ ap (λ (x : Attempt). x.calls ++ c.args.entry ∷ []) got) i } ∷ [])
+returns-in-Some-clause-added c =
+    rw c.push.ensures.added
+    (put_rows c.self.inside.rows.items c.self.inside.ended c.args.thread c.in-Some.place (first_pushed c) c.index_mut-row.result.now c.index_mut-row.ensures.value
+    (λ row. record row { calls = row.calls ++ c.args.entry ∷ [] }) _
+    ∙ ap (λ (r : Rows). with_changed c.args.thread (λ row. record row { calls = row.calls ++ c.args.entry ∷ [] }) r) c.self.view_is)
+
+pub returns-in_default-clause-added : goal.returns-in_default-clause-added
+returns-in_default-clause-added c =
+    same_rows c.self.inside.rows.items c.self.inside.ended c.args.thread
+    (place_none c.self.inside.rows.items c.self.inside.ended c.deref.result.now c.args.thread c.deref.ensures.value c.in_default.ensures.value)
+    _ c.args.self.now c.self.view_is (λ row. record row { calls = row.calls ++ c.args.entry ∷ [] })

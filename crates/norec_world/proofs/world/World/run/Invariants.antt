@@ -1,6 +1,7 @@
 use Rattle.std.proofs.Common.{◌≡◌, ◌+◌, List, length, take, Result}
 use Rattle.norec_world.specs.declared.fault.WorldFault.{WorldFault}
 use Rattle.norec_world.specs.World.{counted, SameOpening}
+use Rattle.norec_world.specs.Commits.{CommitsInOrder}
 use Rattle.norec_world.specs.Going.{Leads, passes_of}
 use Rattle.norec_world.proofs.world.World.run.Given as goal
 
@@ -9,6 +10,7 @@ invariant-loop-actor g l = record {
   led : (results : List (Result (Unit {0}) WorldFault)) × Leads g.P.Player.next_call g.P.Player.answered g.P.Player.calls_left l.initial.self (take l.actor-index l.schedule) results l.self × (l.passes ≡ passes_of results);
   all : l.passes.taken + l.passes.passed + l.passes.starved ≡ l.actor-index;
   counts : l.self.events ≡ counted l.initial.self.events (l.passes.taken + l.passes.starved);
+  commits : CommitsInOrder l.self;
   opening : SameOpening l.initial.self l.self;
   actors : length l.self.actors ≡ length l.initial.self.actors;
 }

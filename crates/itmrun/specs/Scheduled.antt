@@ -1,0 +1,68 @@
+-- The run of a program: its players, the world that begins with them, and what its schedule makes of that world.
+use Rattle.std.specs.Prelude.{◌≡◌, ℕ, List, [], ◌∷◌, length, map, replicate, Option, Some, IsSome, Result, slice_get}
+use Rattle.std.specs.List.{range_with_len}
+use Rattle.norec_world.specs.declared.attempt.End.{End}
+use Rattle.norec_world.specs.declared.attempt.End.TheVariants.{NoMemory}
+use Rattle.norec_world.specs.declared.fault.WorldFault.{WorldFault}
+use Rattle.norec_world.specs.declared.actor.Actor.{Actor}
+use Rattle.norec_world.specs.World.{World, attempts_of, ending_at, memory_of}
+use Rattle.norec_world.specs.Commits.{CommitsInOrder}
+use Rattle.norec_world.specs.Tries.{IsBetween}
+use Rattle.norec_world.specs.Going.{Leads, Takes}
+use Rattle.script_asm.specs.declared.schedule.Item.{Item}
+use Rattle.script_asm.specs.declared.schedule.Item.TheVariants.{Take, Out}
+use Rattle.script_asm.specs.Listing.{Listing, opening_of, threads_of}
+use Rattle.itmrun.specs.Threads.{Thread, opening, next_call, answered, calls_left}
+
+-- the players of its threads, by number
+abbrev pub players_of : Listing → List Thread
+players_of p = map opening (threads_of p)
+
+-- the world has these players and just began
+pub record Begins (p : Listing) (w : World Thread) : Type 0 where
+  pub players : w.opening ≡ players_of p
+  pub base : w.base ≡ opening_of p
+  pub memory : memory_of w ≡ opening_of p
+  pub arena : w.arena ≡ 0
+  pub patience : w.patience ≡ p.patience
+  pub limit : w.max_commits ≡ p.commits
+  pub retries : w.retries ≡ p.retries
+  pub clock : w.cells.clock ≡ 0
+  pub events : w.events ≡ 0
+  pub actors : length w.actors ≡ length (threads_of p)
+  pub none : attempts_of w ≡ []
+  pub first : (place : ℕ) (a : Actor Thread) → slice_get w.actors place ≡ Some a → IsBetween 0 1 w.attempts a  -- each is before its first try
+  pub commits : CommitsInOrder w
+  pub fed : (actor : ℕ) → ending_at w actor ≡ Some NoMemory → ⊥  -- none of them has found no memory
+
+-- ## The schedule
+
+-- each thread to its end, by number
+abbrev pub each_out : ℕ → List Item
+each_out threads = map Out (range_with_len 0 threads)
+
+-- the items that there are, or, where there is none, each thread to its end
+abbrev pub items_or_each : List Item → ℕ → List Item
+items_or_each [] threads = each_out threads
+items_or_each (item ∷ items) threads = item ∷ items
+
+abbrev pub schedule_of : Listing → List Item
+schedule_of p = items_or_each p.schedule (length (threads_of p))
+
+-- What an item asks for leads from the one world to the other: so many events of the thread, of which those after its end are passed over; or as many as lead to its end.
+abbrev pub ItemLeads : Item → World Thread → World Thread → Type 0
+ItemLeads (Take thread count) old new = (results : List (Result (Unit {0}) WorldFault)) × Leads next_call answered calls_left old (replicate count thread) results new
+ItemLeads (Out thread) old new = (n : ℕ) × Takes next_call answered calls_left thread n old new × IsSome (ending_at new thread)
+
+-- one item after the other leads from the one world to the other
+abbrev pub ItemsLead : List Item → World Thread → World Thread → Type 0
+ItemsLead [] old new = new ≡ old
+ItemsLead (item ∷ items) old new = (between : World Thread) × ItemLeads item old between × ItemsLead items between new
+
+-- the program's schedule leads to this world from one that begins with its players
+abbrev pub Leaves : Listing → World Thread → Type 0
+Leaves p w = (first : World Thread) × Begins p first × ItemsLead (schedule_of p) first w
+
+-- how its threads stand then, by number
+abbrev pub endings_of : ℕ → World Thread → List (Option End)
+endings_of threads w = map (ending_at w) (range_with_len 0 threads)

@@ -1,0 +1,123 @@
+//! How a run of a script ended, and what is said of that.
+
+ghost use Rattle.std.specs.Prelude.{◌≡◌};
+ghost use Rattle.std.specs.List.{list_any};
+ghost use Rattle.itmrun.specs.Spelling.{Puts};
+ghost use Rattle.itmrun.specs.Answers.{thread_line, ending_line, ending_lines, error_text, fell_short, status_of};
+
+use crate::history::{Piece, put_pieces};
+use arrayvec::ArrayVec;
+use norec_world::End;
+use script_asm::AsmFault;
+use std::io;
+use std::io::Write;
+
+/// How the threads of a program stand, by number; `None` for one that has not ended.
+pub type Endings = ArrayVec<Option<End>, 32>;
+
+/// How a run of a script ended.
+#[derive(Drop)]
+pub enum Finish {
+    /// Its schedule was run, and the history is written.
+    Ran(Endings),
+    /// The script is no program.
+    Refused(AsmFault),
+    /// Memory was refused before the run.
+    NoMemory,
+    /// A read failed.
+    Reading,
+    /// A write failed.
+    Writing,
+}
+
+/// Writes a line on a thread.
+#[tactic(auto, unfolding(crate::specs::Answers::thread_line), using(crate::proofs::Putting::put_as))]
+fn put_thread<E: Write>(errors: &mut E, thread: usize, words: &[u8]) -> io::Result<()>
+    ensures { Puts (E.contents errors.old) (E.contents errors.new) result (thread_line thread words.now) }
+{
+    put_pieces(
+        errors,
+        &[
+            Piece::Text(b"itmrun: thread "),
+            Piece::Number(thread as u64),
+            Piece::Text(words),
+        ],
+    )
+}
+
+/// Writes the line of a thread that gave up or found no memory; of another one there is none.
+#[tactic(auto, unfolding(crate::specs::Answers::ending_line))]
+fn put_ending<E: Write>(errors: &mut E, thread: usize, ending: Option<End>) -> io::Result<()>
+    ensures { Puts (E.contents errors.old) (E.contents errors.new) result (ending_line thread ending) }
+{
+    match ending {
+        None | Some(End::Finished) => Ok(()),
+        Some(End::GaveUp) => put_thread(errors, thread, b" gave up\n"),
+        Some(End::NoMemory) => put_thread(errors, thread, b" found no memory\n"),
+    }
+}
+
+/// Writes the lines of the threads that gave up or found no memory, by number.
+#[tactic(auto, using(crate::proofs::Telling::no_lines, crate::proofs::Telling::more_lines, crate::proofs::Telling::lines_stop, crate::proofs::Telling::all_lines))]
+fn put_endings<E: Write>(errors: &mut E, endings: &[Option<End>]) -> io::Result<()>
+    ensures { Puts (E.contents errors.old) (E.contents errors.new) result (ending_lines 0 endings.now) }
+{
+    for (thread, ending) in endings.iter().enumerate() {
+        put_ending(errors, thread, *ending)?;
+    }
+    Ok(())
+}
+
+/// Writes what is to be said of how a run ended.
+#[tactic(auto, unfolding(crate::specs::Answers::error_text), using(crate::proofs::Putting::put_as))]
+pub fn write_error<E: Write>(errors: &mut E, finish: &Finish) -> io::Result<()>
+    ensures { Puts (E.contents errors.old) (E.contents errors.new) result (error_text finish.now) }
+{
+    match finish {
+        Finish::Ran(endings) => put_endings(errors, endings.as_slice()),
+        Finish::Refused(fault) => put_pieces(
+            errors,
+            &[
+                Piece::Text(b"itmrun: line "),
+                Piece::Number(fault.line as u64),
+                Piece::Text(b": "),
+                Piece::Text(fault.kind.text().as_bytes()),
+                Piece::Text(b"\n"),
+            ],
+        ),
+        Finish::NoMemory => put_pieces(errors, &[Piece::Text(b"itmrun: no memory\n")]),
+        Finish::Reading => put_pieces(errors, &[Piece::Text(b"itmrun: reading failed\n")]),
+        Finish::Writing => put_pieces(errors, &[Piece::Text(b"itmrun: writing failed\n")]),
+    }
+}
+
+/// Whether the thread gave up or found no memory.
+fn fell_short(ending: &Option<End>) -> bool
+    ensures { result ≡ fell_short ending.now }
+{
+    matches!(ending, Some(End::GaveUp | End::NoMemory))
+}
+
+fn any_fell_short(endings: &[Option<End>]) -> bool
+    ensures { result ≡ list_any fell_short endings.now }
+{
+    endings.iter().any(fell_short)
+}
+
+/// The status of the program.
+pub fn status(finish: &Finish) -> u8
+    ensures { result ≡ status_of finish.now }
+{
+    match finish {
+        Finish::Ran(endings) => {
+            if any_fell_short(endings.as_slice()) {
+                4
+            } else {
+                0
+            }
+        }
+        Finish::Refused(_) => 2,
+        Finish::NoMemory => 4,
+        Finish::Reading | Finish::Writing => 5,
+    }
+}

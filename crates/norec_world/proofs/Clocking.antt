@@ -1,0 +1,58 @@
+-- An actor's steps, as the others see the clock.
+use Rattle.std.proofs.Common.{◌≡◌, ℕ, ◌*◌, ◌≤◌, ◌%◌, Bool, true, false, refl, sym, ap, subst, ◌∙◌, arith}
+use Rattle.norec_engine.specs.Core.{Core}
+use Rattle.norec_world.specs.Cells.{Cells}
+use Rattle.norec_world.specs.Holding.{HoldsOn, ClocksOn}
+
+both : (n : Bool) → n ≡ true → n ≡ false → ⊥
+both n t f = absurd (cc)
+
+odd_even : (n : ℕ) → n % 2 ≡ 1 → n % 2 ≡ 0 → ⊥
+odd_even n o e = absurd (omega arith)
+
+-- one step
+pub clocks_of : (cells cells' : Cells) (e e' : Core) → HoldsOn cells e cells' e' → (e'.holds ≡ true → cells'.clock % 2 ≡ 1) → ClocksOn cells e cells' e'
+clocks_of cells cells' e e' h odd = record {
+  odd = λ before. odd;
+  apart = λ odd free. by_new odd free e'.holds refl;
+  alone = λ mine odd. by_both mine odd e.holds refl e'.holds refl;
+  late = h.late;
+  long = h.long;
+  limit = h.limit;
+  capped = h.capped;
+}
+  where
+    by_new : cells.clock % 2 ≡ 1 → e.holds ≡ false → (b : Bool) → e'.holds ≡ b → (cells' ≡ cells) × (e'.holds ≡ false)
+    by_new odd free true n = absurd (odd_even cells.clock odd (h.takes free n).0)
+    by_new odd free false n = (h.leaves free n, n)
+
+    by_both : (cells.clock % 2 ≡ 1 → e.holds ≡ true) → cells'.clock % 2 ≡ 1 → (a : Bool) → e.holds ≡ a → (b : Bool) → e'.holds ≡ b → e'.holds ≡ true
+    by_both mine odd a o true n = n
+    by_both mine odd true o false n = absurd (odd_even cells'.clock odd (h.frees o n).0)
+    by_both mine odd false o false n = absurd (both e.holds (mine (ap (λ (c : Cells). c.clock % 2) (sym (h.leaves o n)) ∙ odd)) o)
+
+-- no step
+pub clocks_still : (cells : Cells) (e e' : Core) → e'.holds ≡ e.holds → (e'.max_commits ≡ e.max_commits) × (e'.patience ≡ e.patience) → ClocksOn cells e cells e'
+clocks_still cells e e' same limit = record {
+  apart = λ odd free. (refl, same ∙ free);
+  alone = λ mine odd. same ∙ mine odd;
+  odd = λ before h. before (sym same ∙ h);
+  late = (let k : cells.clock ≤ cells.clock = omega arith in k);
+  long = refl;
+  limit = limit;
+  capped = λ l. l;
+}
+
+pub clocks_twice : (c0 c1 c2 : Cells) (e0 e1 e2 : Core) → ClocksOn c0 e0 c1 e1 → ClocksOn c1 e1 c2 e2 → ClocksOn c0 e0 c2 e2
+clocks_twice c0 c1 c2 e0 e1 e2 x y = record {
+  apart = λ odd free.
+      (let a = x.apart odd free in
+      let b = y.apart (ap (λ (c : Cells). c.clock % 2) a.0 ∙ odd) a.1 in
+      (b.0 ∙ a.0, b.1));
+  alone = λ mine. y.alone (x.alone mine);
+  odd = λ before. y.odd (x.odd before);
+  late = (let a = x.late in let b = y.late in omega arith);
+  long = y.long ∙ x.long;
+  limit = (y.limit.0 ∙ x.limit.0, y.limit.1 ∙ x.limit.1);
+  capped = λ l. subst (λ (n : ℕ). c2.clock ≤ 2 * n) x.limit.0 (y.capped (subst (λ (n : ℕ). c1.clock ≤ 2 * n) (sym x.limit.0) (x.capped l)));
+}

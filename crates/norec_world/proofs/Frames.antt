@@ -1,0 +1,377 @@
+-- An event of one actor leaves the others sound.
+use Rattle.std.proofs.Common.{◌≡◌, ◌≢◌, ◌⊎◌, inl, inr, ℕ, zero, suc, ◌+◌, ◌%◌, ◌<◌, ◌≤◌, Bool, true, false, List, [], ◌∷◌, ◌++◌, length, length-append, Option, None, Some, slice_get, slice_set, refl, sym, ap, subst, ◌∙◌, arith, eq-eqb, eqb-true, ◌==◌, length-set, if◌then◌else◌}
+use Rattle.itm_types.specs.declared.call.Call.{Call}
+use Rattle.itm_types.specs.declared.call.Reply.{Reply}
+use Rattle.itm_types.specs.Memory.{AllFit}
+use Rattle.itm_types.proofs.Words.{slice_get-set_same, slice_get-set_other}
+use Rattle.norec_world.specs.declared.attempt.Attempt.{Attempt}
+use Rattle.norec_world.specs.declared.actor.Actor.{Actor}
+use Rattle.norec_world.specs.declared.actor.Status.{Status}
+use Rattle.norec_world.specs.declared.actor.Status.TheVariants.{Ready, Waits, Ended}
+use Rattle.norec_world.specs.Cells.{Cells}
+use Rattle.norec_world.specs.declared.attempt.Outcome.TheVariants.{Unfinished}
+use Rattle.norec_world.specs.Rows.{Rows, active_of, AreFrom, AreUnfinished, AreOpen}
+use Rattle.norec_world.specs.Status.{is_ready}
+use Rattle.norec_world.specs.Own.{ChangesOwn, KeepsOthers, count_pending, pending_in}
+use Rattle.norec_world.specs.Holding.{ClocksOn}
+use Rattle.norec_world.specs.Sound.{IsTied, HasRow, StatusIs, IsSound}
+use Rattle.norec_world.specs.Actors.{IsActor, AreActors}
+
+both : (n : Bool) → n ≡ true → n ≡ false → ⊥
+both n t f = absurd (cc)
+
+true_or_false : (b : Bool) → (b ≡ true → ⊥) → b ≡ false
+true_or_false true h = absurd (h refl)
+true_or_false false h = refl
+
+has_row_same : (b : Bool) (r r' : Rows) (thread : ℕ) → active_of thread r'.active ≡ active_of thread r.active → HasRow b r thread → HasRow b r' thread
+has_row_same false r r' thread same h = same ∙ h
+has_row_same true r r' thread same h = (h.0, same ∙ h.1, h.2)
+
+pending_some : (o : Option Attempt) (row : Attempt) (room : ℕ) → o ≡ Some row → count_pending o ≤ room → 0 < room
+pending_some None row room e l = absurd (cc)
+pending_some (Some x) row room e l = omega arith
+
+module _ {P : Type 0} (next : P → Option Call) (answered : P → Reply → P) (restarted : P → P) (left : P → ℕ) (depth : P → ℕ) where
+  -- another one, where the cells of the clock that it holds did not change
+  pub tied_still : (cells cells' : Cells) (b : Actor P) → IsTied cells b.engine → AllFit cells'.words → cells.clock ≤ cells'.clock → length cells'.words ≡ length cells.words → (b.engine.holds ≡ true → cells' ≡ cells) → IsTied cells' b.engine
+  tied_still cells cells' b t fit late long held = record {
+    words = t.words ∙ sym long;
+    fit = fit;
+    late = (let l = t.late in omega arith);
+    holder = λ h. ap (λ (c : Cells). c.clock) (held h) ∙ t.holder h;
+    opens = t.opens;
+    even = t.even;
+    reached = t.reached;
+    below = t.below;
+    unfreed = t.unfreed;
+    settled = t.settled;
+  }
+
+  status_still : (r r' : Rows) (b : Actor P) → active_of b.thread r'.active ≡ active_of b.thread r.active → count_pending b.pending ≤ r'.room → (s : Status) → StatusIs next answered restarted left depth r b s → StatusIs next answered restarted left depth r' b s
+  status_still r r' b same room Ready s = s
+  status_still r r' b same room (Waits call step) s =
+      let i = s.in_call in
+      record {
+        nested = s.nested;
+        in_call = record {
+          asks = i.asks;
+          begins = i.begins;
+          inside = i.inside;
+          opens = λ row e. (let p = i.opens row e in record { thread = p.thread; nth = p.nth; outcome = p.outcome; room = pending_some b.pending row r'.room e room });
+          room = λ row o e. i.room row o (sym same ∙ e);
+        };
+        doing = s.doing;
+        waits = s.waits;
+        lawful = s.lawful;
+        within = s.within;
+      }
+  status_still r r' b same room (Ended end) s = tt
+
+  pub sound_still : (cells cells' : Cells) (r r' : Rows) (b : Actor P) → IsSound next answered restarted left depth cells r b
+      → AllFit cells'.words → cells.clock ≤ cells'.clock → length cells'.words ≡ length cells.words → (b.engine.holds ≡ true → cells' ≡ cells)
+      → active_of b.thread r'.active ≡ active_of b.thread r.active → count_pending b.pending ≤ r'.room → IsSound next answered restarted left depth cells' r' b
+  sound_still cells cells' r r' b s fit late long held same room =
+      let k = s.kept in
+      record {
+        tied = tied_still cells cells' b s.tied fit late long held;
+        kept = record { row = has_row_same b.engine.is_open r r' b.thread same k.row; empty = k.empty; tried = k.tried; tries = k.tries; retries = k.retries };
+        status = status_still r r' b same room b.status s.status;
+      }
+
+-- ## Sums
+
+pending_le : {P : Type 0} (actors : List (Actor P)) → pending_in actors ≤ length actors
+pending_le [] = (let z : 0 ≤ 0 = omega arith in z)
+pending_le (a ∷ rest) = (let l = pending_le rest in let m = one_at_most a.pending in omega arith)
+  where
+    one_at_most : (o : Option Attempt) → count_pending o ≤ 1
+    one_at_most None = (let z : 0 ≤ 1 = omega arith in z)
+    one_at_most (Some x) = (let z : 1 ≤ 1 = omega arith in z)
+
+-- the others' sum, where one is replaced
+replaced_sum : {P : Type 0} (actors : List (Actor P)) (i : ℕ) (got new : Actor P) → slice_get actors i ≡ Some got
+    → (others : ℕ) × (others + count_pending got.pending ≡ pending_in actors) × (others + count_pending new.pending ≡ pending_in (slice_set actors i new)) × (others < length actors)
+replaced_sum [] i got new e = absurd (cc)
+replaced_sum (a ∷ rest) zero got new e =
+    let same : a ≡ got = cc in
+    let few = pending_le rest in (
+      pending_in rest,
+      (let p : count_pending a.pending ≡ count_pending got.pending = ap (λ x. count_pending x.pending) same in omega arith),
+      omega arith,
+      omega arith,
+    )
+replaced_sum (a ∷ rest) (suc i) got new e =
+    let those = replaced_sum rest i got new e in
+    let first = those.1 in
+    let second = those.2 in
+    let fewer = those.3 in
+    let one = pending_one a.pending in (
+      count_pending a.pending + those.0,
+      omega arith,
+      omega arith,
+      omega arith,
+    )
+  where
+    pending_one : (o : Option Attempt) → count_pending o ≤ 1
+    pending_one None = (let z : 0 ≤ 1 = omega arith in z)
+    pending_one (Some x) = (let z : 1 ≤ 1 = omega arith in z)
+
+-- one's share of the sum
+pending_share : {P : Type 0} (actors : List (Actor P)) (i : ℕ) (a : Actor P) → slice_get actors i ≡ Some a → count_pending a.pending ≤ pending_in actors
+pending_share actors i a e = (let s = replaced_sum actors i a a e in let l = s.1 in omega arith)
+
+pub within_of : {A : Type 0} (xs : List A) (i : ℕ) (x : A) → slice_get xs i ≡ Some x → i < length xs
+within_of [] i x e = absurd (cc)
+within_of (y ∷ ys) zero x e = omega arith
+within_of (y ∷ ys) (suc i) x e = (let l = within_of ys i x e in omega arith)
+
+odd_or_even : (n : ℕ) → (n % 2 ≡ 0) ⊎ (n % 2 ≡ 1)
+odd_or_even n = by_rest (n % 2) refl
+  where
+    by_rest : (k : ℕ) → n % 2 ≡ k → (n % 2 ≡ 0) ⊎ (n % 2 ≡ 1)
+    by_rest zero e = inl e
+    by_rest (suc zero) e = inr e
+    by_rest (suc (suc k)) e = absurd (omega arith)
+
+-- who stands where, once one is replaced
+pub set_place : {A : Type 0} (xs : List A) (i : ℕ) (got new : A) → slice_get xs i ≡ Some got → (j : ℕ) (b : A) → slice_get (slice_set xs i new) j ≡ Some b → ((i ≡ j) × (b ≡ new)) ⊎ ((i ≢ j) × (slice_get xs j ≡ Some b))
+set_place xs i got new here j b e = by_place (i == j) refl
+  where
+    by_place : (c : Bool) → (i == j) ≡ c → ((i ≡ j) × (b ≡ new)) ⊎ ((i ≢ j) × (slice_get xs j ≡ Some b))
+    by_place true h =
+        let same : i ≡ j = eqb-true i j h in
+        let found : Some b ≡ Some new = sym e ∙ (ap (slice_get (slice_set xs i new)) (sym same) ∙ slice_get-set_same xs i new (within_of xs i got here)) in
+        inl (same, cc)
+    by_place false h =
+        let apart : i ≢ j = λ same. both (i == j) (eq-eqb i j same) h in
+        inr (apart, sym (slice_get-set_other xs i j new apart) ∙ e)
+
+first_found : (x : Attempt) (xs : List Attempt) → active_of x.thread (x ∷ xs) ≡ Some x
+first_found x xs = ap (λ (b : Bool). if b then Some x else active_of x.thread xs) (eq-eqb x.thread x.thread refl)
+
+there_is : {A : Type 0} (xs : List A) (i : ℕ) → i < length xs → (x : A) × (slice_get xs i ≡ Some x)
+there_is [] i l = absurd (omega arith)
+there_is (x ∷ xs) zero l = (x, refl)
+there_is (x ∷ xs) (suc i) l = there_is xs i (omega arith)
+
+-- ## One event
+
+module _ {P : Type 0} (next : P → Option Call) (answered : P → Reply → P) (restarted : P → P) (left : P → ℕ) (depth : P → ℕ)
+    (cells cells' : Cells) (r r' : Rows) (actors : List (Actor P)) (s : AreActors next answered restarted left depth cells r actors)
+    (i : ℕ) (got new : Actor P) (here : slice_get actors i ≡ Some got)
+    (sound : IsSound next answered restarted left depth cells' r' new) (done : is_ready new.status ≡ false)
+    (others : KeepsOthers got r new r') (clocks : ClocksOn cells got.engine cells' new.engine) where
+  mine : IsActor next answered restarted left depth cells r i got
+  mine = s.each i got here
+
+  -- one that holds the clock and is not this one sees no change
+  held_apart : (j : ℕ) (b : Actor P) → i ≢ j → slice_get actors j ≡ Some b → b.engine.holds ≡ true → (cells' ≡ cells) × (new.engine.holds ≡ false)
+  held_apart j b apart e h =
+      let t = (s.each j b e).sound.tied in
+      let odd : cells.clock % 2 ≡ 1 = (let k = t.holder h in let even = t.even h in omega arith) in
+      clocks.apart odd (true_or_false got.engine.holds (λ g. apart (s.one i j got b here e g h)))
+
+  room_after : pending_in (slice_set actors i new) ≤ r'.room
+  room_after =
+      let w = replaced_sum actors i got new here in
+      let few = s.few in
+      let fewer = w.3 in
+      let before = w.1 in
+      let total = s.room in
+      let left_over = others.room w.0 (omega arith) (omega arith) in
+      let after = w.2 in
+      omega arith
+
+  -- the world goes on
+  pub actors_after : AreActors next answered restarted left depth cells' r' (slice_set actors i new)
+  actors_after = record {
+    few = (let n = length-set actors i new in let l = s.few in omega arith);
+    each = each_after;
+    one = one_after;
+    held = held_after;
+    room = room_after;
+    listed = listed_after;
+  }
+    where
+      each_after : (j : ℕ) (b : Actor P) → slice_get (slice_set actors i new) j ≡ Some b → IsActor next answered restarted left depth cells' r' j b
+      each_after j b e = elim (set_place actors i got new here j b e) [
+        | inl h ↦ subst (IsActor next answered restarted left depth cells' r' j) (sym h.1) (record { sound = sound; done = done; thread = others.thread ∙ (mine.thread ∙ h.0) })
+        | inr h ↦
+            (let was = s.each j b h.1 in
+            let not_mine : b.thread ≡ got.thread → ⊥ = λ same. h.0 (sym mine.thread ∙ (sym same ∙ was.thread)) in
+            record {
+              sound = sound_still next answered restarted left depth cells cells' r r' b was.sound sound.tied.fit clocks.late clocks.long (λ holds. (held_apart j b h.0 h.1 holds).0)
+                  (others.own.others b.thread not_mine) (let share = pending_share (slice_set actors i new) j b e in let all = room_after in omega arith);
+              done = was.done;
+              thread = was.thread;
+            })
+      ]
+
+      one_after : (j k : ℕ) (a b : Actor P) → slice_get (slice_set actors i new) j ≡ Some a → slice_get (slice_set actors i new) k ≡ Some b → a.engine.holds ≡ true → b.engine.holds ≡ true → j ≡ k
+      one_after j k a b ea eb ha hb = elim (set_place actors i got new here j a ea) [
+        | inl x ↦ elim (set_place actors i got new here k b eb) [
+          | inl y ↦ sym x.0 ∙ y.0
+          | inr y ↦ absurd (both new.engine.holds (ap (λ (z : Actor P). z.engine.holds) (sym x.1) ∙ ha) (held_apart k b y.0 y.1 hb).1)
+        ]
+        | inr x ↦ elim (set_place actors i got new here k b eb) [
+          | inl y ↦ absurd (both new.engine.holds (ap (λ (z : Actor P). z.engine.holds) (sym y.1) ∙ hb) (held_apart j a x.0 x.1 ha).1)
+          | inr y ↦ s.one j k a b x.1 y.1 ha hb
+        ]
+      ]
+
+      here_after : slice_get (slice_set actors i new) i ≡ Some new
+      here_after = slice_get-set_same actors i new (within_of actors i got here)
+
+      held_after : cells'.clock % 2 ≡ 1 → (place : ℕ) × (a : Actor P) × (slice_get (slice_set actors i new) place ≡ Some a) × (a.engine.holds ≡ true)
+      held_after odd = elim (odd_or_even cells.clock) [
+        | inl even ↦ (i, new, here_after, clocks.alone (λ o. absurd (let z : 0 ≡ 1 = sym even ∙ o in omega arith)) odd)
+        | inr was_odd ↦
+            (let h = s.held was_odd in
+            by_place h.0 h.1 h.2 h.3 (i == h.0) refl)
+      ]
+        where
+          by_place : (j : ℕ) (a : Actor P) → slice_get actors j ≡ Some a → a.engine.holds ≡ true → (c : Bool) → (i == j) ≡ c
+              → (place : ℕ) × (x : Actor P) × (slice_get (slice_set actors i new) place ≡ Some x) × (x.engine.holds ≡ true)
+          by_place j a e h true c =
+              let same : got ≡ a = (let found : Some got ≡ Some a = sym here ∙ (ap (slice_get actors) (eqb-true i j c) ∙ e) in cc) in
+              (i, new, here_after, clocks.alone (λ o. ap (λ (z : Actor P). z.engine.holds) same ∙ h) odd)
+          by_place j a e h false c = (j, a, slice_get-set_other actors i j new (λ same. both (i == j) (eq-eqb i j same) c) ∙ e, h)
+
+      listed_after : (thread : ℕ) (row : Attempt) → active_of thread r'.active ≡ Some row → thread < length (slice_set actors i new)
+      listed_after thread row e = by_thread (thread == i) refl
+        where
+          by_thread : (c : Bool) → (thread == i) ≡ c → thread < length (slice_set actors i new)
+          by_thread true h = (let same : thread ≡ i = eqb-true thread i h in let l = within_of actors i got here in let n = length-set actors i new in omega arith)
+          by_thread false h =
+              let apart : thread ≡ got.thread → ⊥ = λ same. both (thread == i) (eq-eqb thread i (same ∙ mine.thread)) h in
+              let l = s.listed thread row (sym (others.own.others thread apart) ∙ e) in
+              let n = length-set actors i new in
+              omega arith
+
+-- ## One actor more
+
+pub last_or_before : {A : Type 0} (xs : List A) (y : A) (j : ℕ) (b : A) → slice_get (xs ++ y ∷ []) j ≡ Some b → (slice_get xs j ≡ Some b) ⊎ ((j ≡ length xs) × (b ≡ y))
+last_or_before [] y zero b e = inr (refl, cc)
+last_or_before [] y (suc j) b e = absurd (cc)
+last_or_before (x ∷ xs) y zero b e = inl e
+last_or_before (x ∷ xs) y (suc j) b e = elim (last_or_before xs y j b e) [ inl h ↦ inl h | inr h ↦ inr (ap (λ n. suc n) h.0, h.1) ]
+
+still_there : {A : Type 0} (xs ys : List A) (j : ℕ) (b : A) → slice_get xs j ≡ Some b → slice_get (xs ++ ys) j ≡ Some b
+still_there [] ys j b e = absurd (cc)
+still_there (x ∷ xs) ys zero b e = e
+still_there (x ∷ xs) ys (suc j) b e = still_there xs ys j b e
+
+pending_more : {P : Type 0} (actors : List (Actor P)) (new : Actor P) → pending_in (actors ++ new ∷ []) ≡ pending_in actors + count_pending new.pending
+pending_more [] new = (let e : count_pending new.pending + 0 ≡ 0 + count_pending new.pending = omega arith in e)
+pending_more (a ∷ rest) new = (let e = pending_more rest new in omega arith)
+
+module _ {P : Type 0} (next : P → Option Call) (answered : P → Reply → P) (restarted : P → P) (left : P → ℕ) (depth : P → ℕ)
+    (cells : Cells) (r r' : Rows) (actors : List (Actor P)) (s : AreActors next answered restarted left depth cells r actors) (new : Actor P)
+    (sound : IsSound next answered restarted left depth cells r' new) (done : is_ready new.status ≡ false) (thread : new.thread ≡ length actors) (fewer : length actors < 32)
+    (own : ChangesOwn new.thread r r') (roomy : (others : ℕ) → others < 32 → others ≤ r.room → others + count_pending new.pending ≤ r'.room) (free : new.engine.holds ≡ false) where
+  room_joined : pending_in (actors ++ new ∷ []) ≤ r'.room
+  room_joined =
+      let all = pending_more actors new in
+      let few = pending_le actors in
+      let total = s.room in
+      let more = roomy (pending_in actors) (omega arith) total in
+      omega arith
+
+  pub actors_joined : AreActors next answered restarted left depth cells r' (actors ++ new ∷ [])
+  actors_joined = record {
+    few = (let n = length-append actors (new ∷ []) in omega arith);
+    each = each_joined;
+    one = one_joined;
+    held = λ odd. (let h = s.held odd in (h.0, h.1, still_there actors (new ∷ []) h.0 h.1 h.2, h.3));
+    room = room_joined;
+    listed = listed_joined;
+  }
+    where
+      each_joined : (j : ℕ) (b : Actor P) → slice_get (actors ++ new ∷ []) j ≡ Some b → IsActor next answered restarted left depth cells r' j b
+      each_joined j b e = elim (last_or_before actors new j b e) [
+        | inl h ↦
+            (let was = s.each j b h in
+            let within = within_of actors j b h in
+            let mine = was.thread in
+            let not_new : b.thread ≡ new.thread → ⊥ = λ same. absurd (omega arith) in
+            record {
+              sound = sound_still next answered restarted left depth cells cells r r' b was.sound sound.tied.fit (let k : cells.clock ≤ cells.clock = omega arith in k) refl (λ holds. refl)
+                  (own.others b.thread not_new) (let share = pending_share (actors ++ new ∷ []) j b e in let all = room_joined in omega arith);
+              done = was.done;
+              thread = was.thread;
+            })
+        | inr h ↦ subst (IsActor next answered restarted left depth cells r' j) (sym h.1) (record { sound = sound; done = done; thread = thread ∙ sym h.0 })
+      ]
+
+      one_joined : (j k : ℕ) (a b : Actor P) → slice_get (actors ++ new ∷ []) j ≡ Some a → slice_get (actors ++ new ∷ []) k ≡ Some b → a.engine.holds ≡ true → b.engine.holds ≡ true → j ≡ k
+      one_joined j k a b ea eb ha hb = elim (last_or_before actors new j a ea) [
+        | inl x ↦ elim (last_or_before actors new k b eb) [
+          | inl y ↦ s.one j k a b x y ha hb
+          | inr y ↦ absurd (both new.engine.holds (ap (λ (z : Actor P). z.engine.holds) (sym y.1) ∙ hb) free)
+        ]
+        | inr x ↦ absurd (both new.engine.holds (ap (λ (z : Actor P). z.engine.holds) (sym x.1) ∙ ha) free)
+      ]
+
+      listed_joined : (other : ℕ) (row : Attempt) → active_of other r'.active ≡ Some row → other < length (actors ++ new ∷ [])
+      listed_joined other row e = by_thread (other == new.thread) refl
+        where
+          by_thread : (c : Bool) → (other == new.thread) ≡ c → other < length (actors ++ new ∷ [])
+          by_thread true h = (let same : other ≡ new.thread = eqb-true other new.thread h in let n = length-append actors (new ∷ []) in omega arith)
+          by_thread false h =
+              let apart : other ≡ new.thread → ⊥ = λ same. both (other == new.thread) (eq-eqb other new.thread same) h in
+              let l = s.listed other row (sym (own.others other apart) ∙ e) in
+              let n = length-append actors (new ∷ []) in
+              omega arith
+
+  -- nobody else has an attempt under its number
+  pub none_yet : active_of (length actors) r.active ≡ None
+  none_yet = by_found (active_of (length actors) r.active) refl
+    where
+      by_found : (o : Option Attempt) → active_of (length actors) r.active ≡ o → active_of (length actors) r.active ≡ None
+      by_found None e = e
+      by_found (Some row) e = absurd (let l = s.listed (length actors) row e in omega arith)
+
+-- where no actor has an open attempt, nobody has
+pub none_active : {P : Type 0} (next : P → Option Call) (answered : P → Reply → P) (restarted : P → P) (left : P → ℕ) (depth : P → ℕ) (cells : Cells) (r : Rows) (actors : List (Actor P))
+    → AreActors next answered restarted left depth cells r actors → ((place : ℕ) (a : Actor P) → slice_get actors place ≡ Some a → active_of a.thread r.active ≡ None) → r.active ≡ []
+none_active {P} next answered restarted left depth cells r actors s none = by_rows r.active refl
+  where
+    by_rows : (rows : List Attempt) → r.active ≡ rows → r.active ≡ []
+    by_rows [] e = e
+    by_rows (x ∷ xs) e =
+        let some : active_of x.thread r.active ≡ Some x = ap (active_of x.thread) e ∙ first_found x xs in
+        let here = there_is actors x.thread (s.listed x.thread x some) in
+        let mine = (s.each x.thread here.0 here.1).thread in
+        absurd (let n : active_of x.thread r.active ≡ None = ap (λ (t : ℕ). active_of t r.active) (sym mine) ∙ none x.thread here.0 here.1 in let f = sym n ∙ some in cc)
+
+-- open attempts have not ended
+all_unfinished : (n : ℕ) (xs : List Attempt) → AreFrom n xs → ((t : ℕ) (row : Attempt) → n ≤ t → active_of t xs ≡ Some row → row.outcome ≡ Unfinished) → AreUnfinished xs
+all_unfinished n [] from each = tt
+all_unfinished n (x ∷ xs) from each = (
+  each x.thread x from.0 (first_found x xs),
+  all_unfinished (x.thread + 1) xs from.1 (λ t row l e. each t row (let first = from.0 in omega arith) (passed t l ∙ e)),
+)
+  where
+    passed : (t : ℕ) → x.thread + 1 ≤ t → active_of t (x ∷ xs) ≡ active_of t xs
+    passed t l = ap (λ (b : Bool). if b then Some x else active_of t xs) (other (x.thread == t) refl)
+      where
+        other : (b : Bool) → (x.thread == t) ≡ b → (x.thread == t) ≡ false
+        other true e = absurd (let same = eqb-true x.thread t e in omega arith)
+        other false e = e
+
+pub are_open : {P : Type 0} (next : P → Option Call) (answered : P → Reply → P) (restarted : P → P) (left : P → ℕ) (depth : P → ℕ) (cells : Cells) (r : Rows) (actors : List (Actor P))
+    → AreActors next answered restarted left depth cells r actors → AreFrom 0 r.active → AreOpen r.active
+are_open {P} next answered restarted left depth cells r actors s from = record { by_actor = from; unfinished = all_unfinished 0 r.active from (λ t row l e. each t row e) }
+  where
+    of_row : (b : Bool) (a : Actor P) (t : ℕ) (row : Attempt) → a.thread ≡ t → active_of t r.active ≡ Some row → HasRow b r a.thread → row.outcome ≡ Unfinished
+    of_row false a t row mine e h = absurd (let n : active_of t r.active ≡ None = ap (λ (k : ℕ). active_of k r.active) (sym mine) ∙ h in let f = sym n ∙ e in cc)
+    of_row true a t row mine e h =
+        let same : h.0 ≡ row = (let found : Some h.0 ≡ Some row = sym h.1 ∙ (ap (λ (k : ℕ). active_of k r.active) mine ∙ e) in cc) in
+        ap (λ (x : Attempt). x.outcome) (sym same) ∙ h.2
+
+    each : (t : ℕ) (row : Attempt) → active_of t r.active ≡ Some row → row.outcome ≡ Unfinished
+    each t row e =
+        let here = there_is actors t (s.listed t row e) in
+        let a = s.each t here.0 here.1 in
+        of_row here.0.engine.is_open here.0 t row a.thread e a.sound.kept.row

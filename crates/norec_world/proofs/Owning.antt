@@ -1,0 +1,143 @@
+-- One actor's work leaves the others' attempts.
+use Rattle.std.proofs.Common.{◌≡◌, ℕ, ◌-◌, Bool, true, false, if◌then◌else◌, ◌+◌, ◌≤◌, subst, arith, List, [], ◌∷◌, ◌++◌, None, Some, refl, sym, ap, ◌∙◌, append_assoc, nat_lt}
+use Rattle.std.proofs.lemmas.List.{append-nil}
+use Rattle.norec_world.specs.declared.attempt.Attempt.{Attempt}
+use Rattle.norec_world.specs.Rows.{Rows, active_of, with_changed, with_opened, with_ended}
+use Rattle.norec_world.specs.declared.actor.Actor.{Actor}
+use Rattle.norec_world.specs.declared.actor.Status.TheVariants.{Ended}
+use Rattle.norec_world.specs.declared.attempt.Outcome.{Outcome}
+use Rattle.norec_world.specs.declared.attempt.End.TheVariants.{GaveUp}
+use Rattle.norec_world.specs.Records.{StopsAt, CountsTry}
+use Rattle.norec_world.specs.Sound.{HasRow, retried}
+use Rattle.norec_world.specs.Own.{AllOf, ChangesOwn, KeepsOthers, count_pending}
+use Rattle.norec_world.proofs.ActiveRows.{row_is_of, changed_elsewhere, without_elsewhere, opened_elsewhere}
+
+all_both : (thread : ℕ) (xs ys : List Attempt) → AllOf thread xs → AllOf thread ys → AllOf thread (xs ++ ys)
+all_both thread [] ys a b = b
+all_both thread (x ∷ xs) ys a b = (a.0, all_both thread xs ys a.1 b)
+
+-- nothing ended, and the active ones are the same
+pub own_same : (thread : ℕ) (r r' : Rows) → r'.ended ≡ r.ended → r'.active ≡ r.active → ChangesOwn thread r r'
+own_same thread r r' ended active = record { more = []; ended = ended ∙ sym (append-nil r.ended); mine = tt; others = λ other n. ap (active_of other) active }
+
+pub own_twice : (thread : ℕ) (r r1 r2 : Rows) → ChangesOwn thread r r1 → ChangesOwn thread r1 r2 → ChangesOwn thread r r2
+own_twice thread r r1 r2 a b = record {
+  more = a.more ++ b.more;
+  ended = b.ended ∙ (ap (λ (xs : List Attempt). xs ++ b.more) a.ended ∙ append_assoc r.ended a.more b.more);
+  mine = all_both thread a.more b.more a.mine b.mine;
+  others = λ other n. b.others other n ∙ a.others other n;
+}
+
+pub own_changed : (thread : ℕ) (f : Attempt → Attempt) (r r' : Rows) → ((a : Attempt) → (f a).thread ≡ a.thread) → r' ≡ with_changed thread f r → ChangesOwn thread r r'
+own_changed thread f r r' same is = record {
+  more = [];
+  ended = ap (λ (x : Rows). x.ended) is ∙ sym (append-nil r.ended);
+  mine = tt;
+  others = λ other n. ap (λ (x : Rows). active_of other x.active) is ∙ changed_elsewhere thread other f r.active same n;
+}
+
+pub own_opened : (a : Attempt) (r r' : Rows) → r' ≡ with_opened a r → ChangesOwn a.thread r r'
+own_opened a r r' is = record {
+  more = [];
+  ended = ap (λ (x : Rows). x.ended) is ∙ sym (append-nil r.ended);
+  mine = tt;
+  others = λ other n. ap (λ (x : Rows). active_of other x.active) is ∙ opened_elsewhere a other r.active n;
+}
+
+pub own_ended : (thread : ℕ) (a : Attempt) (r r' : Rows) → a.thread ≡ thread → r' ≡ with_ended thread a r → ChangesOwn thread r r'
+own_ended thread a r r' mine is = record {
+  more = a ∷ [];
+  ended = ap (λ (x : Rows). x.ended) is;
+  mine = (mine, tt);
+  others = λ other n. ap (λ (x : Rows). active_of other x.active) is ∙ without_elsewhere thread other r.active n;
+}
+
+module _ {P : Type 0} where
+  -- nothing changed but the room, which is no less for the same pending attempt
+  pub others_same : (a a' : Actor P) (r r' : Rows) → a'.thread ≡ a.thread → a'.pending ≡ a.pending → r'.ended ≡ r.ended → r'.active ≡ r.active → r.room ≤ r'.room → KeepsOthers a r a' r'
+  others_same a a' r r' thread pending ended active room = record {
+    thread = thread;
+    own = own_same a.thread r r' ended active;
+    room = λ k few l. (let same : count_pending a'.pending ≡ count_pending a.pending = ap count_pending pending in omega arith);
+  }
+
+  pub others_twice : (a b c : Actor P) (r r1 r2 : Rows) → KeepsOthers a r b r1 → KeepsOthers b r1 c r2 → KeepsOthers a r c r2
+  others_twice a b c r r1 r2 x y = record {
+    thread = y.thread ∙ x.thread;
+    own = own_twice a.thread r r1 r2 x.own (subst (λ (n : ℕ). ChangesOwn n r1 r2) x.thread y.own);
+    room = λ k few l. y.room k few (x.room k few l);
+  }
+
+  pub others_changed : (a a' : Actor P) (r r' : Rows) (f : Attempt → Attempt) → ((x : Attempt) → (f x).thread ≡ x.thread) → a'.thread ≡ a.thread → a'.pending ≡ a.pending → r' ≡ with_changed a.thread f r → KeepsOthers a r a' r'
+  others_changed a a' r r' f same thread pending is = record {
+    thread = thread;
+    own = own_changed a.thread f r r' same is;
+    room = λ k few l. (let kept : count_pending a'.pending ≡ count_pending a.pending = ap count_pending pending in let roomy : r'.room ≡ r.room = ap (λ (x : Rows). x.room) is in omega arith);
+  }
+
+  pub others_ended : (a a' : Actor P) (r r' : Rows) (row x : Attempt) → active_of a.thread r.active ≡ Some row → x.thread ≡ row.thread → a'.thread ≡ a.thread → a'.pending ≡ a.pending → r' ≡ with_ended a.thread x r
+      → KeepsOthers a r a' r'
+  others_ended a a' r r' row x found same thread pending is = record {
+    thread = thread;
+    own = own_ended a.thread x r r' (same ∙ row_is_of a.thread r.active row found) is;
+    room = λ k few l. (let kept : count_pending a'.pending ≡ count_pending a.pending = ap count_pending pending in let roomy : r'.room ≡ r.room = ap (λ (y : Rows). y.room) is in omega arith);
+  }
+
+  pub others_opened : (a a' : Actor P) (r r' : Rows) (row pending : Attempt) → row.thread ≡ a.thread → a'.thread ≡ a.thread → a.pending ≡ Some pending → a'.pending ≡ None → r' ≡ with_opened row r → KeepsOthers a r a' r'
+  others_opened a a' r r' row pending mine thread before after is = record {
+    thread = thread;
+    own = subst (λ (n : ℕ). ChangesOwn n r r') mine (own_opened row r r' is);
+    room = λ k few l.
+        (let one : count_pending a.pending ≡ 1 = ap count_pending before in
+        let none : count_pending a'.pending ≡ 0 = ap count_pending after in
+        let less : r'.room ≡ r.room - 1 = ap (λ (x : Rows). x.room) is in
+        omega arith);
+  }
+
+  -- a try that came to nothing changes neither
+  pub retried_thread : (a : Actor P) → (retried a).thread ≡ a.thread
+  retried_thread a = by_case (nat_lt a.retries a.nth)
+    where
+      by_case : (b : Bool) → (if b then record a { status = Ended GaveUp } else record a { nth = a.nth + 1 }).thread ≡ a.thread
+      by_case true = refl
+      by_case false = refl
+
+  pub retried_pending : (a : Actor P) → (retried a).pending ≡ a.pending
+  retried_pending a = by_case (nat_lt a.retries a.nth)
+    where
+      by_case : (b : Bool) → (if b then record a { status = Ended GaveUp } else record a { nth = a.nth + 1 }).pending ≡ a.pending
+      by_case true = refl
+      by_case false = refl
+
+  pub retried_player : (a : Actor P) → (retried a).player ≡ a.player
+  retried_player a = by_case (nat_lt a.retries a.nth)
+    where
+      by_case : (b : Bool) → (if b then record a { status = Ended GaveUp } else record a { nth = a.nth + 1 }).player ≡ a.player
+      by_case true = refl
+      by_case false = refl
+
+  pub retried_engine : (a : Actor P) → (retried a).engine ≡ a.engine
+  retried_engine a = by_case (nat_lt a.retries a.nth)
+    where
+      by_case : (b : Bool) → (if b then record a { status = Ended GaveUp } else record a { nth = a.nth + 1 }).engine ≡ a.engine
+      by_case true = refl
+      by_case false = refl
+
+  pub retried_counts : (a : Actor P) → CountsTry a (retried a)
+  retried_counts a = record { nth = nths (nat_lt a.retries a.nth); status = statuses (nat_lt a.retries a.nth) }
+    where
+      nths : (b : Bool) → (if b then record a { status = Ended GaveUp } else record a { nth = a.nth + 1 }).nth ≡ (if b then a.nth else a.nth + 1)
+      nths true = refl
+      nths false = refl
+
+      statuses : (b : Bool) → (if b then record a { status = Ended GaveUp } else record a { nth = a.nth + 1 }).status ≡ (if b then Ended GaveUp else a.status)
+      statuses true = refl
+      statuses false = refl
+
+  -- memory was refused
+  pub others_starved : (a a' : Actor P) (r r' : Rows) (is_open : Bool) (at : ℕ) (outcome : Outcome) → HasRow is_open r a.thread → a'.thread ≡ a.thread → a'.pending ≡ a.pending
+      → (is_open ≡ true → StopsAt a.thread r at outcome r') → (is_open ≡ false → r' ≡ r) → KeepsOthers a r a' r'
+  others_starved a a' r r' true at outcome row thread pending stops none = others_ended a a' r r' row.0 (record row.0 { at = at; outcome = outcome }) row.1 refl thread pending (stops refl row.0 row.1)
+  others_starved a a' r r' false at outcome row thread pending stops none =
+      let same = none refl in
+      others_same a a' r r' thread pending (ap (λ (x : Rows). x.ended) same) (ap (λ (x : Rows). x.active) same) (let roomy : r'.room ≡ r.room = ap (λ (x : Rows). x.room) same in omega arith)

@@ -1,0 +1,160 @@
+-- Local work after an event, or after other local work: what becomes of the try.
+use Rattle.std.proofs.Common.{◌≡◌, ℕ, ◌+◌, ◌/◌, Bool, true, false, nat_lt, List, [], ◌∷◌, ◌++◌, append_assoc, Option, None, Some, refl, sym, ap, subst, ◌∙◌, arith}
+use Rattle.std.proofs.lemmas.List.{append-nil}
+use Rattle.itm_types.specs.declared.call.Call.{Call}
+use Rattle.itm_types.specs.declared.call.Reply.{Reply as Replied}
+use Rattle.norec_world.specs.declared.attempt.Attempt.{Attempt}
+use Rattle.norec_world.specs.declared.attempt.Entry.{Entry}
+use Rattle.norec_world.specs.declared.attempt.Outcome.{Outcome}
+use Rattle.norec_world.specs.declared.attempt.Outcome.TheVariants as outcomes
+use Rattle.norec_world.specs.declared.attempt.End.TheVariants as ends
+use Rattle.norec_world.specs.declared.actor.Actor.{Actor}
+use Rattle.norec_world.specs.declared.actor.Status.{Status}
+use Rattle.norec_world.specs.declared.actor.Status.TheVariants.{Ready, Ended}
+use Rattle.norec_world.specs.Cells.{Cells}
+use Rattle.norec_world.specs.Rows.{Rows, active_of}
+use Rattle.norec_world.specs.Status.{ending_of}
+use Rattle.norec_world.specs.Sound.{HasRow, IsReady, IsSound, StatusIs}
+use Rattle.norec_world.specs.Tries.{Continues, EndsAt, IsBetween, TriesAgain, GoesOnAfter, Prior, Tries, between, begins, runs, over, turned_away, prior_of, current_of}
+
+continues_twice : (a b c : Attempt) → Continues a b → Continues b c → Continues a c
+continues_twice a b c x y = record {
+  thread = y.thread ∙ x.thread;
+  nth = y.nth ∙ x.nth;
+  began = y.began ∙ x.began;
+  props = y.props ∙ x.props;
+  arena = y.arena ∙ x.arena;
+  more = x.more ++ y.more;
+  calls = y.calls ∙ (ap (λ (l : List Entry). l ++ y.more) x.calls ∙ append_assoc a.calls x.more y.more);
+}
+
+-- with no step an attempt ends as it would have at the event before
+ends_on : (max_commits clock clock1 at : ℕ) (o : Outcome) → clock1 / 2 ≡ clock / 2 → EndsAt max_commits clock1 clock1 at o → EndsAt max_commits clock clock1 at o
+ends_on max_commits clock clock1 at outcomes.Committed half e = absurd (let x = e.0 in let y = e.1 in omega arith)
+ends_on max_commits clock clock1 at outcomes.ReadOnly half e = (half, e.1)
+ends_on max_commits clock clock1 at outcomes.Conflict half e = (half, e.1)
+ends_on max_commits clock clock1 at outcomes.Full half e = (half, e.1, e.2)
+ends_on max_commits clock clock1 at outcomes.NoMemory half e = (half, e.1)
+ends_on max_commits clock clock1 at outcomes.Unfinished half e = absurd e
+
+module _ {P : Type 0} (clock clock1 : ℕ) (p : Prior) (r1 r2 : Rows) (a1 a2 : Actor P) (ready : a1.status ≡ Ready) (nothing : a1.pending ≡ None)
+    (limit : a1.engine.max_commits ≡ p.max_commits) (retries : a1.retries ≡ p.retries) (work : Tries clock1 (prior_of r1 a1) clock1 r2 a2) where
+  -- the attempt that the work begins with is the open one
+  open_one : (row : Attempt) (o : Option Attempt) → active_of a1.thread r1.active ≡ o → current_of o a1.pending ≡ Some row → active_of a1.thread r1.active ≡ Some row
+  open_one row None e c = absurd (let n = sym nothing ∙ c in cc)
+  open_one row (Some x) e c = e ∙ c
+
+  was_open : (row : Attempt) → current_of (active_of a1.thread r1.active) a1.pending ≡ Some row → active_of a1.thread r1.active ≡ Some row
+  was_open row c = open_one row (active_of a1.thread r1.active) refl c
+
+  -- between two tries, it stays there
+  from_between : (nth : ℕ) → IsBetween clock1 nth r1 a1 → IsBetween clock1 nth r2 a2 × (r2.ended ≡ r1.ended)
+  from_between nth b = by_work work
+    where
+      by_work : Tries clock1 (prior_of r1 a1) clock1 r2 a2 → IsBetween clock1 nth r2 a2 × (r2.ended ≡ r1.ended)
+      by_work (between t) = (subst (λ (n : ℕ). IsBetween clock1 n r2 a2) b.tries t.between, t.ended)
+      by_work (begins t) = absurd (let n = sym nothing ∙ t.was in cc)
+      by_work (runs t) = absurd (let n = sym b.none ∙ was_open t.row t.was in cc)
+      by_work (over t) = absurd (let n = sym b.none ∙ was_open t.row t.was in cc)
+      by_work (turned_away t) = absurd (let n = sym nothing ∙ t.was in cc)
+
+  not_stopped : {A : Type 0} (end : _) → a1.status ≡ Ended end → A
+  not_stopped end e = absurd (let n = sym ready ∙ e in cc)
+
+  again : (b : Bool) → TriesAgain b clock1 p.nth r1 a1 → TriesAgain b clock1 p.nth r2 a2 × (r2.ended ≡ r1.ended)
+  again true t = not_stopped ends.GaveUp t.status
+  again false t = from_between (p.nth + 1) t
+
+  after : (o : Outcome) → GoesOnAfter o clock1 p r1 a1 → GoesOnAfter o clock1 p r2 a2 × (r2.ended ≡ r1.ended)
+  after outcomes.Committed t = from_between 1 t
+  after outcomes.ReadOnly t = from_between 1 t
+  after outcomes.Conflict t = again (nat_lt p.retries p.nth) t
+  after outcomes.Full t = not_stopped ends.GaveUp t.status
+  after outcomes.NoMemory t = not_stopped ends.NoMemory t.status
+  after outcomes.Unfinished t = absurd t
+
+  -- the tries left and the limit are what they were
+  after_same : (o : Outcome) → (nth : ℕ) → nth ≡ p.nth → GoesOnAfter o clock1 (record { ended = r1.ended; active = active_of a1.thread r1.active; pending = a1.pending; nth = nth; retries = a1.retries; max_commits = a1.engine.max_commits }) r2 a2
+      → GoesOnAfter o clock1 p r2 a2
+  after_same outcomes.Committed nth e t = t
+  after_same outcomes.ReadOnly nth e t = t
+  after_same outcomes.Conflict nth e t = subst (λ (k : ℕ). TriesAgain (nat_lt k p.nth) clock1 p.nth r2 a2) retries (subst (λ (k : ℕ). TriesAgain (nat_lt a1.retries k) clock1 k r2 a2) e t)
+  after_same outcomes.Full nth e t = t
+  after_same outcomes.NoMemory nth e t = t
+  after_same outcomes.Unfinished nth e t = t
+
+  pub tries_then : Tries clock p clock1 r1 a1 → Tries clock p clock1 r2 a2
+  tries_then (between t) = (let b = from_between p.nth t.between in between (record { idle = t.idle; ended = b.1 ∙ t.ended; half = t.half; between = b.0 }))
+  tries_then (begins t) = absurd (let n = sym nothing ∙ t.now in cc)
+  tries_then (over t) =
+      let b = after t.row'.outcome t.after in
+      over (record { row = t.row; row' = t.row'; was = t.was; ended = b.1 ∙ t.ended; continues = t.continues; at = t.at; closed = t.closed; after = b.0 })
+  tries_then (turned_away t) =
+      let b = again (nat_lt p.retries p.nth) t.after in
+      turned_away (record { none = t.none; row = t.row; was = t.was; ended = b.1 ∙ t.ended; odd = t.odd; same = t.same; after = b.0 })
+  tries_then (runs t) = by_work work
+    where
+      same_row : (row : Attempt) → current_of (active_of a1.thread r1.active) a1.pending ≡ Some row → t.row' ≡ row
+      same_row row c = (let e : Some t.row' ≡ Some row = sym t.now ∙ was_open row c in cc)
+
+      by_work : Tries clock1 (prior_of r1 a1) clock1 r2 a2 → Tries clock p clock1 r2 a2
+      by_work (between w) = absurd (let n = sym (ap (λ (o : Option Attempt). current_of o a1.pending) t.now) ∙ w.idle in cc)
+      by_work (begins w) = absurd (let n = sym nothing ∙ w.was in cc)
+      by_work (turned_away w) = absurd (let n = sym nothing ∙ w.was in cc)
+      by_work (runs w) = runs (record {
+        row = t.row;
+        row' = w.row';
+        was = t.was;
+        now = w.now;
+        continues = continues_twice t.row t.row' w.row' t.continues (subst (λ (x : Attempt). Continues x w.row') (sym (same_row w.row w.was)) w.continues);
+        ended = w.ended ∙ t.ended;
+        half = t.half;
+        tries = w.tries ∙ t.tries;
+        goes_on = w.goes_on;
+        fed = w.fed;
+      })
+      by_work (over w) = over (record {
+        row = t.row;
+        row' = w.row';
+        was = t.was;
+        ended = w.ended ∙ ap (λ (l : List Attempt). l ++ w.row' ∷ []) t.ended;
+        continues = continues_twice t.row t.row' w.row' t.continues (subst (λ (x : Attempt). Continues x w.row') (sym (same_row w.row w.was)) w.continues);
+        at = subst (λ (n : ℕ). EndsAt n clock clock1 w.row'.at w.row'.outcome) limit (ends_on a1.engine.max_commits clock clock1 w.row'.at w.row'.outcome t.half w.at);
+        closed = w.closed;
+        after = after_same w.row'.outcome a1.nth t.tries w.after;
+      })
+
+-- no work
+module _ {P : Type 0} (next : P → Option Call) (answered : P → Replied → P) (restarted : P → P) (left : P → ℕ) (depth : P → ℕ)
+    (cells : Cells) (r : Rows) (a : Actor P) (sound : IsSound next answered restarted left depth cells r a) (ready : a.status ≡ Ready) where
+  rests : IsReady next answered restarted left depth a
+  rests = subst (λ (s : Status). StatusIs next answered restarted left depth r a s) ready sound.status
+
+  pub no_pending : a.pending ≡ None
+  no_pending = rests.nothing
+
+  pub tries_still : Tries cells.clock (prior_of r a) cells.clock r a
+  tries_still = by_row a.engine.is_open sound.kept.row
+    where
+      goes_on : {end : _} → ending_of a.status ≡ Some end → ⊥
+      goes_on e = absurd (let n = sym (ap ending_of ready) ∙ e in cc)
+
+      by_row : (b : Bool) → HasRow b r a.thread → Tries cells.clock (prior_of r a) cells.clock r a
+      by_row true h = runs (record {
+        row = h.0;
+        row' = h.0;
+        was = ap (λ (o : Option Attempt). current_of o a.pending) h.1;
+        now = h.1;
+        continues = record { thread = refl; nth = refl; began = refl; props = refl; arena = refl; more = []; calls = sym (append-nil h.0.calls) };
+        ended = refl;
+        half = refl;
+        tries = refl;
+        goes_on = goes_on;
+        fed = goes_on;
+      })
+      by_row false h = between (record {
+        idle = ap (λ (o : Option Attempt). current_of o a.pending) h ∙ rests.nothing;
+        ended = refl;
+        half = refl;
+        between = record { none = h; tries = refl; opens = λ row e. absurd (let n = sym rests.nothing ∙ e in cc); goes_on = goes_on };
+      })

@@ -1,0 +1,326 @@
+-- What an answer does to the try that its call belongs to.
+use Rattle.std.proofs.Common.{◌≡◌, ℕ, ◌+◌, ◌*◌, ◌/◌, ◌%◌, ◌≤◌, Bool, true, false, nat_lt, if◌then◌else◌, is_some, List, [], ◌∷◌, ◌++◌, length, Option, None, Some, refl, sym, ap, subst, ◌∙◌, arith}
+use Rattle.std.proofs.lemmas.List.{append-nil}
+use Rattle.itm_types.specs.declared.call.Call.{Call}
+use Rattle.itm_types.specs.declared.call.Call.TheVariants.{Begin}
+use Rattle.itm_types.specs.declared.call.Call.TheVariants as calls
+use Rattle.itm_types.specs.declared.call.Props.{Props}
+use Rattle.itm_types.specs.declared.call.Reply.{Reply as Replied}
+use Rattle.itm_types.specs.declared.call.Reply.TheVariants as replies
+use Rattle.itm_types.specs.Memory.{IsMemory, Agrees}
+use Rattle.script_vm.specs.Depth.{is_begin}
+use Rattle.itm_model.specs.declared.limits.TheConstants.{MAX_DEPTH}
+use Rattle.itm_model.specs.State.{State}
+use Rattle.itm_model.specs.Machine.{after}
+use Rattle.norec_engine.specs.Stands.{state_over, stands_for}
+use Rattle.norec_engine.specs.Core.{Core}
+use Rattle.norec_engine.specs.Proceeds.{Ends, Replies, RepliesTo, IsBegin}
+use Rattle.norec_engine.specs.declared.answer.Answer.{Answer}
+use Rattle.norec_engine.specs.declared.answer.Answer.TheVariants.{Reply, Committed, Conflict, Busy, Full}
+use Rattle.norec_world.specs.declared.attempt.Attempt.{Attempt}
+use Rattle.norec_world.specs.declared.attempt.Outcome.{Outcome}
+use Rattle.norec_world.specs.declared.attempt.Outcome.TheVariants as outcomes
+use Rattle.norec_world.specs.declared.attempt.End.TheVariants as ends
+use Rattle.norec_world.specs.declared.actor.Actor.{Actor}
+use Rattle.norec_world.specs.declared.actor.Status.{Status}
+use Rattle.norec_world.specs.declared.actor.Status.TheVariants.{Ready, Ended}
+use Rattle.norec_world.specs.Cells.{Cells}
+use Rattle.norec_world.specs.Rows.{Rows, active_of}
+use Rattle.norec_world.specs.Status.{ending_of}
+use Rattle.norec_world.specs.Records.{Records, Opens, IsTold, CountsTry}
+use Rattle.norec_world.specs.Sound.{IsTied, HasRow, IsAnswered, IsSettledBy, RestsAs, IsReady}
+use Rattle.norec_world.specs.Tries.{EndsAt, IsBetween, TriesAgain, GoesOnAfter, Prior, Tries, between, begins, runs, over, turned_away, prior_of, current_of}
+use Rattle.norec_world.proofs.ActiveRows.{changed_here, opened_here}
+use Rattle.norec_world.proofs.Recording.{was_open}
+
+-- no row where the engine is outside
+pub no_row : (b : Bool) (r : Rows) (thread : ℕ) → b ≡ false → HasRow b r thread → active_of thread r.active ≡ None
+no_row true r thread e h = absurd (cc)
+no_row false r thread e h = h
+
+unfreed_to : (mid new : Core) (o : Option Call) (r : Replied) → RepliesTo mid o r new → mid.freed ≡ false
+unfreed_to mid new None r g = absurd g
+unfreed_to mid new (Some call) r g = g.unfreed
+
+module _ {P : Type 0} (next : P → Option Call) (answered : P → Replied → P) (restarted : P → P) (left : P → ℕ) (depth : P → ℕ)
+    (r r1 : Rows) (a last : Actor P) (was : Bool) (settled : IsSettledBy next answered restarted left depth was r1 a last) where
+  none_active : a.engine.is_open ≡ false → active_of last.thread r1.active ≡ None
+  none_active closed = no_row last.engine.is_open r1 last.thread (ap (λ (c : Core). c.is_open) settled.engine ∙ closed) settled.kept.row
+
+  none_pending : last.status ≡ Ready → last.pending ≡ None
+  none_pending ready = (let rest : IsReady next answered restarted left depth last = subst (λ (s : Status). RestsAs next answered restarted left depth s last) ready settled.rests in rest.nothing)
+
+  -- the actor is between two tries
+  pub is_between : (clock nth : ℕ) → a.engine.is_open ≡ false → last.status ≡ Ready → last.nth ≡ nth → IsBetween clock nth r1 last
+  is_between clock nth closed ready tries = record {
+    none = none_active closed;
+    tries = tries;
+    opens = λ row e. absurd (let n : Some row ≡ None = sym e ∙ none_pending ready in cc);
+    goes_on = λ e. absurd (let n = ap ending_of ready in cc);
+  }
+
+  -- a try came to nothing
+  pub tries_again : (clock : ℕ) → a.engine.is_open ≡ false → a.status ≡ Ready → CountsTry a last → TriesAgain (nat_lt a.retries a.nth) clock a.nth r1 last
+  tries_again clock closed ready counts = by_case (nat_lt a.retries a.nth) counts.nth counts.status
+    where
+      by_case : (b : Bool) → last.nth ≡ (if b then a.nth else a.nth + 1) → last.status ≡ (if b then Ended ends.GaveUp else a.status) → TriesAgain b clock a.nth r1 last
+      by_case true n s = record { none = none_active closed; status = s }
+      by_case false n s = is_between clock (a.nth + 1) closed (s ∙ ready) n
+
+-- ## A call of an open transaction is answered
+
+-- what the clock is over the event, by whether the engine freed it
+pub record ClockMoves (cells cells' : Cells) (mid : Core) : Type 0 where
+  pub frees : mid.freed ≡ true → (cells.clock ≡ 2 * (mid.snapshot / 2) + 1) × (cells'.clock ≡ 2 * (mid.snapshot / 2) + 2)
+  pub keeps : mid.freed ≡ false → cells'.clock / 2 ≡ cells.clock / 2
+
+module _ {P : Type 0} (next : P → Option Call) (answered : P → Replied → P) (restarted : P → P) (left : P → ℕ) (depth : P → ℕ)
+    (cells cells' : Cells) (r r1 : Rows) (a last : Actor P) (call : Call) (mid : Core) (tied : IsTied cells' a.engine) (moves : ClockMoves cells cells' mid) where
+  -- half the snapshot is no later than the clock
+  seen : 2 * (a.engine.snapshot / 2) ≤ cells'.clock
+  seen = (let reached = tied.settled.reached in let late = tied.late in omega arith)
+
+  pub open_tries : (ans : Answer) → IsAnswered next answered restarted left depth true r a call ans → Ends mid ans a.engine → Records answered restarted true r r1 a last call ans
+      → IsSettledBy next answered restarted left depth true r1 a last → Tries cells.clock (prior_of r a) cells'.clock r1 last
+  open_tries (Reply reply) d g told s =
+      let row = d.kept.row in
+      let with_call : Attempt → Attempt = λ x. record x { calls = x.calls ++ record { call = call; reply = reply } ∷ [] } in
+      runs (record {
+        row = row.0;
+        row' = with_call row.0;
+        was = ap (λ (o : Option Attempt). current_of o a.pending) row.1;
+        now = ap (λ (t : ℕ). active_of t r1.active) s.thread ∙ (ap (λ (x : Rows). active_of a.thread x.active) told.0 ∙ changed_here a.thread with_call r.active row.0 (λ x. refl) row.1);
+        continues = record { thread = refl; nth = refl; began = refl; props = refl; arena = refl; more = record { call = call; reply = reply } ∷ []; calls = refl };
+        ended = ap (λ (x : Rows). x.ended) told.0;
+        half = moves.keeps (unfreed_to mid a.engine mid.doing reply g);
+        tries = told.3;
+        goes_on = λ e. absurd (let n = ap ending_of (told.4 ∙ d.status) in cc);
+        fed = λ e. absurd (let n = ap ending_of (told.4 ∙ d.status) in cc);
+      })
+  open_tries (Committed at wrote) d g told s =
+      let row = d.kept.row in
+      let closed : a.engine.is_open ≡ false = d.fits.1 in
+      let ready : last.status ≡ Ready = told.4 ∙ d.status in
+      let done : Attempt = record row.0 { calls = row.0.calls ++ record { call = call; reply = replies.Done } ∷ []; at = at; outcome = if wrote then outcomes.Committed else outcomes.ReadOnly } in
+      over (record {
+        row = row.0;
+        row' = done;
+        was = ap (λ (o : Option Attempt). current_of o a.pending) row.1;
+        ended = ap (λ (x : Rows). x.ended) (told.0 row.0 row.1);
+        continues = record { thread = refl; nth = refl; began = refl; props = refl; arena = refl; more = record { call = call; reply = replies.Done } ∷ []; calls = refl };
+        at = at_end wrote refl;
+        closed = λ e. (row.0.calls, (λ i. row.0.calls ++ record { call = d.fits.2 i; reply = replies.Done } ∷ []));
+        after = after_end wrote (is_between next answered restarted left depth r r1 a last true s cells'.clock 1 closed ready told.3);
+      })
+    where
+      at_end : (b : Bool) → wrote ≡ b → EndsAt a.engine.max_commits cells.clock cells'.clock at (if b then outcomes.Committed else outcomes.ReadOnly)
+      at_end true e = subst (λ (n : ℕ). (cells.clock ≡ 2 * n + 1) × (cells'.clock ≡ 2 * n + 2)) (sym g.at_is) (moves.frees (g.freed ∙ e))
+      at_end false e =
+          let same : a.engine.snapshot ≡ mid.snapshot = ap (λ (c : Core). c.snapshot) g.stays in
+          let is = g.at_is in
+          let l = seen in
+          (moves.keeps (g.freed ∙ e), omega arith)
+
+      after_end : (b : Bool) → IsBetween cells'.clock 1 r1 last → GoesOnAfter (if b then outcomes.Committed else outcomes.ReadOnly) cells'.clock (prior_of r a) r1 last
+      after_end true x = x
+      after_end false x = x
+  open_tries (Conflict clock word) d g told s =
+      let row = d.kept.row in
+      let same : last.engine.snapshot ≡ mid.snapshot = ap (λ (c : Core). c.snapshot) (s.engine ∙ g.stays) in
+      let now : a.engine.clock ≡ mid.clock = ap (λ (c : Core). c.clock) g.stays in
+      let later = g.later in
+      let clock_is = g.clock_is in
+      let late = tied.late in
+      over (record {
+        row = row.0;
+        row' = record row.0 { at = last.engine.snapshot / 2; outcome = outcomes.Conflict };
+        was = ap (λ (o : Option Attempt). current_of o a.pending) row.1;
+        ended = ap (λ (x : Rows). x.ended) (told.0 row.0 row.1);
+        continues = record { thread = refl; nth = refl; began = refl; props = refl; arena = refl; more = []; calls = sym (append-nil row.0.calls) };
+        at = (moves.keeps g.unfreed, omega arith);
+        closed = λ e. absurd (cc);
+        after = tries_again next answered restarted left depth r r1 a last true s cells'.clock d.fits.1 d.status told.2;
+      })
+  open_tries (Busy clock) d g told s = absurd (let f : true ≡ false = d.fits.0 in cc)
+  open_tries (Full at) d g told s =
+      let row = d.kept.row in
+      let limit : a.engine.max_commits ≡ mid.max_commits = ap (λ (c : Core). c.max_commits) g.stays in
+      let full = g.full in
+      let is = g.at_is in
+      let l = seen in
+      over (record {
+        row = row.0;
+        row' = record row.0 { at = at; outcome = outcomes.Full };
+        was = ap (λ (o : Option Attempt). current_of o a.pending) row.1;
+        ended = ap (λ (x : Rows). x.ended) (told.0 row.0 row.1);
+        continues = record { thread = refl; nth = refl; began = refl; props = refl; arena = refl; more = []; calls = sym (append-nil row.0.calls) };
+        at = (moves.keeps g.unfreed, omega arith, omega arith);
+        closed = λ e. absurd (cc);
+        after = record { none = none_active next answered restarted left depth r r1 a last true s d.fits.1; status = told.1 };
+      })
+
+-- ## A begin is answered
+
+-- the plain machine refuses no outermost begin, so the engine's reply to one opens
+begin_opens : (mid new : Core) (m : List ℕ) (props : Props) (room : ℕ) (reply : Replied) → Replies mid (Begin props room) reply new → mid.is_open ≡ false → IsMemory mid.words m → Agrees m new.log → new.is_open ≡ false → ⊥
+begin_opens mid new m props room reply g outside memory agrees closed =
+    let opened_blocks = ap (λ (b : Bool). (after MAX_DEPTH (state_over mid.writes b mid.props mid.arena m) (Begin props room)).blocks) outside in
+    let blocks = ap (λ (s : State). s.blocks) (g.meets m memory agrees) in
+    let none : (stands_for new m).blocks ≡ [] = ap (λ (b : Bool). (state_over new.writes b new.props new.arena m).blocks) closed in
+    let some = sym none ∙ (blocks ∙ opened_blocks) in
+    absurd (cc)
+
+begin_call : (call : Call) → is_begin call ≡ true → (props : Props) × (room : ℕ) × (call ≡ Begin props room)
+begin_call (Begin props room) e = (props, room, refl)
+begin_call calls.Commit e = absurd (cc)
+begin_call (calls.Read hint width at) e = absurd (cc)
+begin_call (calls.Write hint at value) e = absurd (cc)
+
+call_begins : (call : Call) → IsBegin (Some call) → is_begin call ≡ true
+call_begins (Begin props room) b = refl
+call_begins calls.Commit b = absurd b
+call_begins (calls.Read hint width at) b = absurd b
+call_begins (calls.Write hint at value) b = absurd b
+
+module _ {P : Type 0} (next : P → Option Call) (answered : P → Replied → P) (restarted : P → P) (left : P → ℕ) (depth : P → ℕ)
+    (cells cells' : Cells) (r r1 : Rows) (a last : Actor P) (call : Call) (mid : Core) (tied : IsTied cells' a.engine)
+    (outside : mid.is_open ≡ false) (doing : mid.doing ≡ Some call) (words : mid.words ≡ length cells'.words) (same : cells'.clock ≡ cells.clock) (loaded : mid.clock ≡ cells'.clock) where
+  half_same : cells'.clock / 2 ≡ cells.clock / 2
+  half_same = ap (λ (n : ℕ). n / 2) same
+
+  pub begin_tries : (ans : Answer) → IsAnswered next answered restarted left depth false r a call ans → Ends mid ans a.engine → Records answered restarted false r r1 a last call ans
+      → IsSettledBy next answered restarted left depth false r1 a last → Tries cells.clock (prior_of r a) cells'.clock r1 last
+  begin_tries (Reply reply) d g told s = by_open last.engine.is_open refl a.pending refl told.0
+    where
+      none : active_of a.thread r.active ≡ None
+      none = d.kept.row
+
+      ready : last.status ≡ Ready
+      ready = told.4 ∙ d.status
+
+      opens_now : (now : Bool) → last.engine.is_open ≡ now → a.engine.is_open ≡ now
+      opens_now now e = sym (ap (λ (c : Core). c.is_open) s.engine) ∙ e
+
+      by_open : (now : Bool) → last.engine.is_open ≡ now → (p : Option Attempt) → a.pending ≡ p → Opens now r p (last.engine.snapshot / 2) r1 → Tries cells.clock (prior_of r a) cells'.clock r1 last
+      by_open true e (Some row) p told_so =
+          let q = d.in_call.opens row p in
+          let new_row : Attempt = record row { at = last.engine.snapshot / 2 } in
+          let free : active_of row.thread r.active ≡ None = ap (λ (t : ℕ). active_of t r.active) q.thread ∙ none in
+          runs (record {
+            row = row;
+            row' = new_row;
+            was = ap (λ (o : Option Attempt). current_of o a.pending) none ∙ p;
+            now = ap (λ (t : ℕ). active_of t r1.active) (s.thread ∙ sym q.thread) ∙ (ap (λ (x : Rows). active_of row.thread x.active) told_so ∙ opened_here new_row r.active free);
+            continues = record { thread = refl; nth = refl; began = refl; props = refl; arena = refl; more = []; calls = sym (append-nil row.calls) };
+            ended = ap (λ (x : Rows). x.ended) told_so;
+            half = half_same;
+            tries = told.3;
+            goes_on = λ x. absurd (let n = ap ending_of ready in cc);
+            fed = λ x. absurd (let n = ap ending_of ready in cc);
+          })
+      by_open true e None p told_so = absurd (let f : false ≡ true = was_open false a.engine.is_open call reply (λ x. sym (d.in_call.begins x) ∙ ap is_some p) d.fits.0 (opens_now true e) in cc)
+      by_open false e (Some row) p told_so =
+          let b = begin_call call (sym (d.in_call.begins refl) ∙ ap is_some p) in
+          let g' : Replies mid (Begin b.0 b.1) reply a.engine = subst (λ (o : Option Call). RepliesTo mid o reply a.engine) (doing ∙ ap (λ (x : Call). Some x) b.2) g in
+          let closed = opens_now false e in
+          absurd (begin_opens mid a.engine cells'.words b.0 b.1 reply g' outside (sym words, tied.fit) (subst (Agrees cells'.words) (sym (tied.settled.closed closed).0) tt) closed)
+      by_open false e None p told_so =
+          between (record {
+            idle = ap (λ (o : Option Attempt). current_of o a.pending) none ∙ p;
+            ended = ap (λ (x : Rows). x.ended) told_so;
+            half = half_same;
+            between = is_between next answered restarted left depth r r1 a last false s cells'.clock a.nth (opens_now false e) ready told.3;
+          })
+  begin_tries (Committed at wrote) d g told s = absurd (let f : false ≡ true = d.fits.0 in cc)
+  begin_tries (Conflict clock word) d g told s = absurd (let f : false ≡ true = d.fits.0 in cc)
+  begin_tries (Busy clock) d g told s = by_pending a.pending refl
+    where
+      by_pending : (p : Option Attempt) → a.pending ≡ p → Tries cells.clock (prior_of r a) cells'.clock r1 last
+      by_pending None p = absurd (let b = call_begins call (subst IsBegin doing g.begins) in let f : false ≡ true = ap is_some (sym p) ∙ (d.in_call.begins refl ∙ b) in cc)
+      by_pending (Some row) p = turned_away (record {
+        none = d.kept.row;
+        row = row;
+        was = p;
+        ended = ap (λ (x : Rows). x.ended) told.0;
+        odd = ap (λ (n : ℕ). n % 2) (sym loaded ∙ sym g.clock_is) ∙ g.odd;
+        same = same;
+        after = tries_again next answered restarted left depth r r1 a last false s cells'.clock d.fits.1 d.status told.2;
+      })
+  begin_tries (Full at) d g told s = absurd (let f : false ≡ true = d.fits.0 in cc)
+
+-- ## An answer does not finish the actor
+
+module _ {P : Type 0} (next : P → Option Call) (answered : P → Replied → P) (restarted : P → P) (left : P → ℕ) (depth : P → ℕ) (r r1 : Rows) (a last : Actor P) (call : Call) (was : Bool) (ready : a.status ≡ Ready) where
+  tried_on : CountsTry a last → ending_of last.status ≡ Some ends.Finished → ⊥
+  tried_on counts e = by_case (nat_lt a.retries a.nth) counts.status
+    where
+      by_case : (b : Bool) → last.status ≡ (if b then Ended ends.GaveUp else a.status) → ⊥
+      by_case true s = absurd (let n = sym (ap ending_of s) ∙ e in cc)
+      by_case false s = absurd (let n = sym (ap ending_of (s ∙ ready)) ∙ e in cc)
+
+  pub not_finished : (ans : Answer) → Records answered restarted was r r1 a last call ans → ending_of last.status ≡ Some ends.Finished → ⊥
+  not_finished (Reply reply) told e = by_was was told
+    where
+      by_was : (b : Bool) → Records answered restarted b r r1 a last call (Reply reply) → ⊥
+      by_was true told = absurd (let n = sym (ap ending_of (told.4 ∙ ready)) ∙ e in cc)
+      by_was false told = absurd (let n = sym (ap ending_of (told.4 ∙ ready)) ∙ e in cc)
+  not_finished (Committed at wrote) told e = absurd (let n = sym (ap ending_of (told.4 ∙ ready)) ∙ e in cc)
+  not_finished (Conflict clock word) told e = tried_on told.2 e
+  not_finished (Busy clock) told e = tried_on told.2 e
+  not_finished (Full at) told e = absurd (let n = sym (ap ending_of told.1) ∙ e in cc)
+
+-- ## The open attempt is told where it reads
+
+module _ {P : Type 0} (clock clock' : ℕ) (p : Prior) (r r' : Rows) (a : Actor P) (row : HasRow a.engine.is_open r a.thread) (told : IsTold a.thread a.engine.is_open r (a.engine.snapshot / 2) r') where
+  -- with none open nothing is told
+  stays_none : active_of a.thread r.active ≡ None → r' ≡ r
+  stays_none none = by_open a.engine.is_open refl row
+    where
+      by_open : (b : Bool) → a.engine.is_open ≡ b → HasRow b r a.thread → r' ≡ r
+      by_open true e h = absurd (let n = sym none ∙ h.1 in cc)
+      by_open false e h = told.stays e
+
+  opened_so : (x : Attempt) → active_of a.thread r.active ≡ Some x → a.engine.is_open ≡ true
+  opened_so x some = by_open a.engine.is_open refl row
+    where
+      by_open : (b : Bool) → a.engine.is_open ≡ b → HasRow b r a.thread → a.engine.is_open ≡ true
+      by_open true e h = e
+      by_open false e h = absurd (let n = sym h ∙ some in cc)
+
+  unchanged : active_of a.thread r.active ≡ None → Tries clock p clock' r a → Tries clock p clock' r' a
+  unchanged none t = subst (λ (x : Rows). Tries clock p clock' x a) (sym (stays_none none)) t
+
+  -- no row where one has stopped or is between two tries
+  none_again : (b : Bool) → TriesAgain b clock' p.nth r a → active_of a.thread r.active ≡ None
+  none_again true t = t.none
+  none_again false t = t.none
+
+  none_after : (o : Outcome) → GoesOnAfter o clock' p r a → active_of a.thread r.active ≡ None
+  none_after outcomes.Committed t = t.none
+  none_after outcomes.ReadOnly t = t.none
+  none_after outcomes.Conflict t = none_again (nat_lt p.retries p.nth) t
+  none_after outcomes.Full t = t.none
+  none_after outcomes.NoMemory t = t.none
+  none_after outcomes.Unfinished t = absurd t
+
+  pub told_tries : Tries clock p clock' r a → Tries clock p clock' r' a
+  told_tries (between t) = unchanged t.between.none (between t)
+  told_tries (begins t) = unchanged t.still (begins t)
+  told_tries (over t) = unchanged (none_after t.row'.outcome t.after) (over t)
+  told_tries (turned_away t) = unchanged (none_again (nat_lt p.retries p.nth) t.after) (turned_away t)
+  told_tries (runs t) =
+      let at : Attempt → Attempt = λ x. record x { at = a.engine.snapshot / 2 } in
+      let moved = told.moves (opened_so t.row' t.now) in
+      let k = t.continues in
+      runs (record {
+        row = t.row;
+        row' = at t.row';
+        was = t.was;
+        now = ap (λ (x : Rows). active_of a.thread x.active) moved ∙ changed_here a.thread at r.active t.row' (λ x. refl) t.now;
+        continues = record { thread = k.thread; nth = k.nth; began = k.began; props = k.props; arena = k.arena; more = k.more; calls = k.calls };
+        ended = ap (λ (x : Rows). x.ended) moved ∙ t.ended;
+        half = t.half;
+        tries = t.tries;
+        goes_on = t.goes_on;
+        fed = t.fed;
+      })

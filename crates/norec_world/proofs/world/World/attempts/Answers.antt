@@ -1,0 +1,10 @@
+use Rattle.std.proofs.Common.{subst}
+use Rattle.norec_world.specs.World.{World}
+use Rattle.norec_world.specs.Rows.{AreOpen}
+use Rattle.norec_world.proofs.Frames.{are_open}
+use Rattle.norec_world.proofs.world.World.attempts.Goals as goal
+
+pub returns-clause-unfinished : goal.returns-clause-unfinished
+returns-clause-unfinished g c =
+    subst (λ (w : World g.row.P.Denot). AreOpen w.attempts.active) c.self.view_is
+    (are_open g.P.Player.next_call g.P.Player.answered g.P.Player.restarted g.P.Player.calls_left g.P.Player.depth c.self.inside.memory c.self.inside.recorded c.self.inside.actors.items c.self.invariant.0 c.all.ensures.by_actor)

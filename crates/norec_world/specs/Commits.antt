@@ -1,0 +1,40 @@
+-- The commits of a world, as its attempts and its clock count them.
+use Rattle.std.specs.Prelude.{◌≡◌, ℕ, ◌+◌, ◌*◌, ◌/◌, ◌%◌, ◌≤◌, Bool, true, false, nat_lt, List, [], ◌∷◌, Some, slice_get}
+use Rattle.norec_world.specs.declared.attempt.Attempt.{Attempt}
+use Rattle.norec_world.specs.declared.actor.Actor.{Actor}
+use Rattle.norec_world.specs.Attempts.{is_committed, is_at}
+use Rattle.norec_world.specs.World.{World}
+
+abbrev pub one_where : Bool → ℕ
+one_where true = 1
+one_where false = 0
+
+-- how many committed at this position
+abbrev pub count_at : ℕ → List Attempt → ℕ
+count_at position [] = 0
+count_at position (a ∷ rest) = one_where (is_at position a) + count_at position rest
+
+-- how many committed
+abbrev pub count_committed : List Attempt → ℕ
+count_committed [] = 0
+count_committed (a ∷ rest) = one_where (is_committed a.outcome) + count_committed rest
+
+-- as many committed as half the clock says, each position below that once
+pub record AreCounted (clock : ℕ) (attempts : List Attempt) : Type 0 where
+  pub all : count_committed attempts ≡ clock / 2
+  pub each : (position : ℕ) → count_at position attempts ≡ one_where (nat_lt position (clock / 2))
+
+-- an actor has the limits of its world
+pub record HasLimits {P : Type 0} (w : World P) (a : Actor P) : Type 0 where
+  pub retries : a.retries ≡ w.retries
+  pub patience : a.engine.patience ≡ w.patience
+  pub max_commits : a.engine.max_commits ≡ w.max_commits
+
+-- the committed attempts, the clock and its holder go together
+pub record CommitsInOrder {P : Type 0} (w : World P) : Type 0 where
+  pub counted : AreCounted w.cells.clock w.attempts.ended
+  pub few : w.cells.clock ≤ 2 * w.max_commits  -- no more than may
+  pub held : w.cells.clock % 2 ≡ 1 → (place : ℕ) × (a : Actor P) × (slice_get w.actors place ≡ Some a) × (a.engine.holds ≡ true)  -- an odd clock is held
+  pub free : w.cells.clock % 2 ≡ 0 → (place : ℕ) (a : Actor P) → slice_get w.actors place ≡ Some a → a.engine.holds ≡ false  -- an even one is not
+  pub one : (i j : ℕ) (a b : Actor P) → slice_get w.actors i ≡ Some a → slice_get w.actors j ≡ Some b → a.engine.holds ≡ true → b.engine.holds ≡ true → i ≡ j  -- by one actor alone
+  pub limits : (place : ℕ) (a : Actor P) → slice_get w.actors place ≡ Some a → HasLimits w a

@@ -1,0 +1,19 @@
+-- One event of an actor, with the local work that follows it.
+use Rattle.std.specs.Prelude.{◌≡◌, Option, None, Some}
+use Rattle.itm_types.specs.declared.call.Call.{Call}
+use Rattle.norec_world.specs.declared.attempt.End.TheVariants.{Finished}
+use Rattle.norec_world.specs.declared.actor.Actor.{Actor}
+use Rattle.norec_world.specs.Cells.{Cells}
+use Rattle.norec_world.specs.Rows.{Rows}
+use Rattle.norec_world.specs.Status.{ending_of}
+use Rattle.norec_world.specs.Own.{KeepsOthers}
+use Rattle.norec_world.specs.Holding.{ClocksOn}
+use Rattle.norec_world.specs.Tries.{Tries, prior_of}
+
+module _ {P : Type 0} (next : P → Option Call) where
+  pub record IsEvent (cells : Cells) (r : Rows) (a : Actor P) (cells' : Cells) (r' : Rows) (a' : Actor P) : Type 0 where
+    pub tries : Tries cells.clock (prior_of r a) cells'.clock r' a'  -- what becomes of its try
+    pub finishes : ending_of a'.status ≡ Some Finished → next a'.player ≡ None  -- it finishes only where its player has no more calls
+    pub others : KeepsOthers a r a' r'  -- the others' attempts stay
+    pub clocks : ClocksOn cells a.engine cells' a'.engine
+    pub retries : a'.retries ≡ a.retries

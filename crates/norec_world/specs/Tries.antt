@@ -1,0 +1,159 @@
+-- What an event, or the local work of an actor, does to the try that the actor makes of its block.
+use Rattle.std.specs.Prelude.{◌≡◌, ℕ, ◌+◌, ◌*◌, ◌/◌, ◌%◌, ◌<◌, ◌≤◌, Bool, true, false, nat_lt, List, [], ◌∷◌, ◌++◌, Option, None, Some}
+use Rattle.itm_types.specs.declared.call.Call.TheVariants.{Commit}
+use Rattle.itm_types.specs.declared.call.Reply.TheVariants.{Done}
+use Rattle.norec_world.specs.declared.attempt.Attempt.{Attempt}
+use Rattle.norec_world.specs.declared.attempt.Entry.{Entry}
+use Rattle.norec_world.specs.declared.attempt.Outcome.{Outcome}
+use Rattle.norec_world.specs.declared.attempt.Outcome.TheVariants.{Committed, ReadOnly, Conflict, Full, NoMemory, Unfinished}
+use Rattle.norec_world.specs.declared.attempt.End.{End}
+use Rattle.norec_world.specs.declared.attempt.End.TheVariants as ends
+use Rattle.norec_world.specs.declared.actor.Actor.{Actor}
+use Rattle.norec_world.specs.declared.actor.Status.TheVariants.{Ended}
+use Rattle.norec_world.specs.Rows.{Rows, active_of}
+use Rattle.norec_world.specs.Status.{ending_of}
+
+-- it is the same attempt later: it has the calls that it had, and perhaps more
+pub record Continues (row row' : Attempt) : Type 0 where
+  pub thread : row'.thread ≡ row.thread
+  pub nth : row'.nth ≡ row.nth
+  pub began : row'.began ≡ row.began
+  pub props : row'.props ≡ row.props
+  pub arena : row'.arena ≡ row.arena
+  pub more : List Entry
+  pub calls : row'.calls ≡ row.calls ++ more
+
+-- how the clock stands before and after an attempt of this position ends so: a writer's own event frees the clock, and no other one's does
+abbrev pub EndsAt : ℕ → ℕ → ℕ → ℕ → Outcome → Type 0
+EndsAt max_commits clock clock' at Committed = (clock ≡ 2 * at + 1) × (clock' ≡ 2 * at + 2)
+EndsAt max_commits clock clock' at ReadOnly = (clock' / 2 ≡ clock / 2) × (2 * at ≤ clock')
+EndsAt max_commits clock clock' at Conflict = (clock' / 2 ≡ clock / 2) × (2 * at < clock')
+EndsAt max_commits clock clock' at Full = (clock' / 2 ≡ clock / 2) × (2 * at ≤ clock') × (max_commits ≤ at)
+EndsAt max_commits clock clock' at NoMemory = (clock' / 2 ≡ clock / 2) × (2 * at ≤ clock')
+EndsAt max_commits clock clock' at Unfinished = ⊥
+
+-- it ended by its commit
+abbrev pub is_done : Outcome → Bool
+is_done Committed = true
+is_done ReadOnly = true
+is_done Conflict = false
+is_done Full = false
+is_done NoMemory = false
+is_done Unfinished = false
+
+-- the last of these calls is a commit that was accepted
+abbrev pub ByCommit : List Entry → Type 0
+ByCommit calls = (before : List Entry) × (calls ≡ before ++ record { call = Commit; reply = Done } ∷ [])
+
+-- the attempts and the tries of an actor before an event
+pub record Prior : Type 0 where
+  pub ended : List Attempt  -- of all actors
+  pub active : Option Attempt  -- its open one
+  pub pending : Option Attempt  -- the one that its begin, which is in progress, is to open
+  pub nth : ℕ  -- which try of its block is under way or comes next
+  pub retries : ℕ
+  pub max_commits : ℕ
+
+abbrev pub prior_of : {P : Type 0} → Rows → Actor P → Prior
+prior_of r a = record {
+  ended = r.ended;
+  active = active_of a.thread r.active;
+  pending = a.pending;
+  nth = a.nth;
+  retries = a.retries;
+  max_commits = a.engine.max_commits;
+}
+
+-- the attempt that is open, or else the one that is to be opened
+abbrev pub current_of : Option Attempt → Option Attempt → Option Attempt
+current_of None pending = pending
+current_of (Some row) pending = Some row
+
+module _ {P : Type 0} where
+  -- no try is open, and the next one is the nth of its block: if its begin was called, that was at this clock
+  pub record IsBetween (clock nth : ℕ) (r : Rows) (a : Actor P) : Type 0 where
+    pub none : active_of a.thread r.active ≡ None
+    pub tries : a.nth ≡ nth
+    pub opens : (row : Attempt) → a.pending ≡ Some row
+        → row ≡ record { thread = a.thread; nth = nth; began = clock / 2; at = 0; props = row.props; arena = a.engine.arena; calls = []; outcome = Unfinished }
+    pub goes_on : ending_of a.status ≡ Some ends.GaveUp → ⊥
+
+  -- it has ended so, with no try open
+  pub record HasStopped (end : End) (r : Rows) (a : Actor P) : Type 0 where
+    pub none : active_of a.thread r.active ≡ None
+    pub status : a.status ≡ Ended end
+
+  -- a try came to nothing: it was the last one, or one more comes
+  abbrev pub TriesAgain : Bool → ℕ → ℕ → Rows → Actor P → Type 0
+  TriesAgain true clock nth r a = HasStopped ends.GaveUp r a
+  TriesAgain false clock nth r a = IsBetween clock (nth + 1) r a
+
+  -- what comes after an attempt that ended so
+  abbrev pub GoesOnAfter : Outcome → ℕ → Prior → Rows → Actor P → Type 0
+  GoesOnAfter Committed clock p r a = IsBetween clock 1 r a
+  GoesOnAfter ReadOnly clock p r a = IsBetween clock 1 r a
+  GoesOnAfter Conflict clock p r a = TriesAgain (nat_lt p.retries p.nth) clock p.nth r a
+  GoesOnAfter Full clock p r a = HasStopped ends.GaveUp r a
+  GoesOnAfter NoMemory clock p r a = HasStopped ends.NoMemory r a
+  GoesOnAfter Unfinished clock p r a = ⊥
+
+  -- no try was under way
+  pub record StaysBetween (clock : ℕ) (p : Prior) (clock' : ℕ) (r : Rows) (a : Actor P) : Type 0 where
+    pub idle : current_of p.active p.pending ≡ None
+    pub ended : r.ended ≡ p.ended
+    pub half : clock' / 2 ≡ clock / 2
+    pub between : IsBetween clock' p.nth r a
+
+  -- its begin goes on
+  pub record StaysAtBegin (clock : ℕ) (p : Prior) (clock' : ℕ) (r : Rows) (a : Actor P) : Type 0 where
+    pub none : p.active ≡ None
+    pub row : Attempt
+    pub was : p.pending ≡ Some row
+    pub now : a.pending ≡ Some row
+    pub ended : r.ended ≡ p.ended
+    pub still : active_of a.thread r.active ≡ None
+    pub half : clock' / 2 ≡ clock / 2
+    pub tries : a.nth ≡ p.nth
+    pub on : ending_of a.status ≡ None
+
+  -- the attempt is open, or was opened
+  pub record StaysOpen (clock : ℕ) (p : Prior) (clock' : ℕ) (r : Rows) (a : Actor P) : Type 0 where
+    pub row : Attempt
+    pub row' : Attempt
+    pub was : current_of p.active p.pending ≡ Some row
+    pub now : active_of a.thread r.active ≡ Some row'
+    pub continues : Continues row row'
+    pub ended : r.ended ≡ p.ended
+    pub half : clock' / 2 ≡ clock / 2
+    pub tries : a.nth ≡ p.nth
+    pub goes_on : ending_of a.status ≡ Some ends.GaveUp → ⊥
+    pub fed : ending_of a.status ≡ Some ends.NoMemory → ⊥
+
+  -- it has ended
+  pub record EndsIt (clock : ℕ) (p : Prior) (clock' : ℕ) (r : Rows) (a : Actor P) : Type 0 where
+    pub row : Attempt
+    pub row' : Attempt
+    pub was : current_of p.active p.pending ≡ Some row
+    pub ended : r.ended ≡ p.ended ++ row' ∷ []
+    pub continues : Continues row row'
+    pub at : EndsAt p.max_commits clock clock' row'.at row'.outcome
+    pub closed : is_done row'.outcome ≡ true → ByCommit row'.calls
+    pub after : GoesOnAfter row'.outcome clock' p r a
+
+  -- its begin found the clock odd once too often
+  pub record IsTurnedAway (clock : ℕ) (p : Prior) (clock' : ℕ) (r : Rows) (a : Actor P) : Type 0 where
+    pub none : p.active ≡ None
+    pub row : Attempt
+    pub was : p.pending ≡ Some row
+    pub ended : r.ended ≡ p.ended
+    pub odd : clock' % 2 ≡ 1
+    pub same : clock' ≡ clock
+    pub after : TriesAgain (nat_lt p.retries p.nth) clock' p.nth r a
+
+  -- one of these
+  pub data Tries (clock : ℕ) (p : Prior) (clock' : ℕ) (r : Rows) (a : Actor P) : Type 0 where
+    between : StaysBetween clock p clock' r a → Tries clock p clock' r a
+    begins : StaysAtBegin clock p clock' r a → Tries clock p clock' r a
+    runs : StaysOpen clock p clock' r a → Tries clock p clock' r a
+    over : EndsIt clock p clock' r a → Tries clock p clock' r a
+    turned_away : IsTurnedAway clock p clock' r a → Tries clock p clock' r a

@@ -1,0 +1,11 @@
+pub mod Cutting
+pub mod Digits
+pub mod Looking
+pub mod Refusing
+pub mod Adding
+pub mod Keeping
+pub mod Picking
+pub mod Straying
+pub mod Laying
+pub mod OnLiterals
+pub mod Worked

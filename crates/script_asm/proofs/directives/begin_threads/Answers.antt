@@ -1,0 +1,9 @@
+use Rattle.std.proofs.Common.{◌≤◌, ◌+◌, arith}
+use Rattle.script_asm.specs.Sections.{thread_total}
+use Rattle.script_asm.proofs.Keeping.{section_kept}
+use Rattle.script_asm.proofs.directives.begin_threads.Goals as goal
+
+pub returns-in-Err : goal.returns-in-Err
+returns-in-Err c =
+    let fits : thread_total c.args.state.now.threads + c.args.count ≤ 32 = omega (arith, c.count.ensures.value, c.count.ensures.few, c.if-count.false) in
+    section_kept c.args.state.now c.args.line c.args.count c.args.state.now.block c.in_default.is fits c.in-Err.ensures.refused

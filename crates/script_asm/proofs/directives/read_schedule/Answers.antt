@@ -1,0 +1,10 @@
+use Rattle.std.proofs.Common.{◌+◌, ◌≤◌, length, arith}
+use Rattle.script_asm.specs.Text.{fields}
+use Rattle.script_asm.specs.Items.{items_in}
+use Rattle.script_asm.proofs.Keeping.{items_kept}
+use Rattle.script_asm.proofs.directives.read_schedule.Goals as goal
+
+pub returns-in-Err-add_items : goal.returns-in-Err-add_items
+returns-in-Err-add_items c =
+    let fits : length c.args.state.now.schedule.items + length (items_in (fields c.args.rest.now)) ≤ 65536 = omega (arith, c.len.ensures, c.saturating_add-total.ensures, c.if-total-gt65536.false, c.in-Ok.ensures.count) in
+    items_kept c.args.state.now c.args.line (fields c.args.rest.now) (items_in (fields c.args.rest.now)) c.in-Ok.ensures.items fits

@@ -1,0 +1,11 @@
+pub mod Sizes
+pub mod Listing
+pub mod Sections
+pub mod Schedules
+pub mod Text
+pub mod Faults
+pub mod Words
+pub mod Operands
+pub mod Items
+pub mod Code
+pub mod Assembly

@@ -1,0 +1,85 @@
+//! The operands of `.schedule`.
+
+ghost use Rattle.std.specs.Prelude.{◌≡◌, Ok, Err, IfErr, IfOk, OnOk, length, position};
+ghost use Rattle.script_asm.specs.Text.{fields};
+ghost use Rattle.script_asm.specs.Schedules.{planned};
+ghost use Rattle.script_asm.specs.Items.{is_times, thread_number, events, item_of, items_in, schedule_of};
+
+use crate::fault::AsmKind;
+use crate::operands::{both, number, within};
+use crate::schedule::{Item, Plan};
+use crate::text::first_field;
+use std::alloc::AllocError;
+
+fn times_at(field: &[u8]) -> Option<usize>
+    ensures { result ≡ position is_times field.now }
+{
+    field.iter().position(|b| *b == b'x')
+}
+
+fn thread_number(n: u64) -> u8
+    ensures { result ≡ thread_number n }
+{
+    n.min(255) as u8
+}
+
+#[tactic(auto, unfolding(crate::specs::Items::events))]
+fn events(field: &[u8]) -> Result<u32, AsmKind>
+    ensures { result ≡ events field.now }
+{
+    Ok(within(1, 1_000_000, number(field)?)? as u32)
+}
+
+#[tactic(auto, unfolding(crate::specs::Items::item_of))]
+fn item_of(field: &[u8]) -> Result<Item, AsmKind>
+    ensures { result ≡ item_of field.now }
+{
+    if let [front @ .., b'!'] = field {
+        return Ok(Item::Out(thread_number(number(front)?)));
+    }
+    let Some(at) = times_at(field) else {
+        return Err(AsmKind::Operand);
+    };
+    let (thread, _) = field.split_at(at);
+    let (_, count) = field.split_at(at + 1);
+    let (thread, count) = both(number(thread), events(count))?;
+    Ok(Item::Take(thread_number(thread), count))
+}
+
+/// How many items there are.
+pub fn count_items(rest: &[u8]) -> Result<usize, AsmKind>
+    ensures items { OnOk result (schedule_of (fields rest.now) ≡ Ok (items_in (fields rest.now))) }
+    ensures count { IfOk result (λ n. n ≡ length (items_in (fields rest.now))) }
+    ensures refused { IfErr result (λ k. schedule_of (fields rest.now) ≡ Err k) }
+{
+    let mut rest = rest;
+    let mut count = 0;
+    let mut beyond = None;
+    while let Some((field, after)) = first_field(rest) {
+        match item_of(field) {
+            Ok(_) => count += 1,
+            Err(AsmKind::Operand) => return Err(AsmKind::Operand),
+            Err(kind) => beyond = Some(kind),
+        }
+        rest = after;
+    }
+    match beyond {
+        Some(kind) => Err(kind),
+        None if count == 0 => Err(AsmKind::Operand),
+        None => Ok(count),
+    }
+}
+
+/// Puts the items that stand in the line.
+pub fn add_items(plan: &mut Plan, line: usize, rest: &[u8]) -> Result<(), AllocError>
+    ensures { OnOk result (plan.new ≡ planned plan.old line (items_in (fields rest.now))) }
+{
+    let mut rest = rest;
+    while let Some((field, after)) = first_field(rest) {
+        if let Ok(item) = item_of(field) {
+            plan.push(line, item)?;
+        }
+        rest = after;
+    }
+    Ok(())
+}

@@ -1,0 +1,18 @@
+//! What has been read of a script.
+
+use crate::limits::Limits;
+use crate::opening::Opening;
+use crate::schedule::Plan;
+use crate::threads::Threads;
+
+/// What the lines so far say.
+#[derive(Drop)]
+pub struct State {
+    /// Shared memory, once its size is said.
+    pub memory: Option<Opening>,
+    pub limits: Limits,
+    pub schedule: Plan,
+    pub threads: Threads,
+    /// The line of the begin whose block is open.
+    pub block: Option<usize>,
+}

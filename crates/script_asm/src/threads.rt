@@ -1,0 +1,140 @@
+//! The threads of a script: sections of code, each for one thread or for several.
+
+ghost use Rattle.std.specs.Prelude.{◌≡◌, ◌+◌, ◌<◌, ◌≤◌, [], ◌∷◌, ◌++◌, Some, OnErr, OnOk, length, nat_le, nat_lt, slice_get};
+ghost use Rattle.script_asm.specs.Listing.{codes_of};
+ghost use Rattle.script_asm.specs.Sections.{parts_of, thread_total, instruction_total, begun};
+
+use crate::instruction::Instruction;
+use std::alloc::{AllocError, Global};
+use std::marker::Model;
+use std::mem;
+
+/// The code of so many threads.
+#[derive(Drop)]
+struct Section {
+    count: usize,
+    code: Vec<Instruction>,
+}
+
+impl Model for Section {
+    ghost use Rattle.std.specs.Prelude.{◌≤◌, length};
+    ghost use Rattle.script_asm.specs.Listing.{Part};
+
+    ghost Value = { Part };
+
+    ghost view = { λ s. record { count = s.count; code = s.code.items } };
+
+    ghost invariant = { λ s. length s.code.items ≤ 65536 };
+}
+
+/// The sections of a script: those that have ended, and the one that is read.
+#[derive(Drop)]
+pub struct Threads {
+    ended: Vec<Section>,
+    count: usize,
+    code: Vec<Instruction>,
+    threads: usize,
+    instructions: usize,
+}
+
+impl Model for Threads {
+    ghost use Rattle.std.specs.Prelude.{◌≡◌, ◌≤◌};
+    ghost use Rattle.script_asm.specs.Sections.{Sections, thread_total, instruction_total};
+
+    ghost Value = { Sections };
+
+    ghost view = { λ t. record { ended = t.ended.items; count = t.count; code = t.code.items } };
+
+    ghost invariant = { λ t. (t.threads ≡ thread_total (record { ended = t.ended.items; count = t.count; code = t.code.items }))
+        × (t.instructions ≡ instruction_total (record { ended = t.ended.items; count = t.count; code = t.code.items }))
+        × (t.threads ≤ 32) × (t.instructions ≤ 65536) };
+}
+
+impl Threads {
+    /// No section has begun. Takes no memory.
+    #[tactic(auto, unfolding(crate::specs::Sections::thread_total, crate::specs::Sections::instruction_total))]
+    pub fn new(alloc: Global) -> Self
+        ensures { result ≡ record { ended = []; count = 0; code = [] } }
+    {
+        Threads {
+            ended: Vec::new(alloc),
+            count: 0,
+            code: Vec::new(alloc),
+            threads: 0,
+            instructions: 0,
+        }
+    }
+
+    /// Whether a section has begun.
+    pub fn has_begun(&self) -> bool
+        ensures { result ≡ nat_lt 0 self.now.count }
+    {
+        0 < self.count
+    }
+
+    /// How many threads there are.
+    pub fn count(&self) -> usize
+        ensures value { result ≡ thread_total self.now }
+        ensures few { result ≤ 32 }
+    {
+        self.threads
+    }
+
+    /// Whether there are as many instructions as may be.
+    pub fn is_full(&self) -> bool
+        ensures { result ≡ nat_le 65536 (instruction_total self.now) }
+    {
+        65_536 <= self.instructions
+    }
+
+    /// The section of so many threads begins.
+    #[tactic(auto, unfolding(crate::specs::Sections::thread_total, crate::specs::Sections::instruction_total), using(crate::proofs::Adding::threads_more, crate::proofs::Adding::code_more))]
+    pub fn begin(&mut self, alloc: Global, count: usize) -> Result<(), AllocError>
+        requires { thread_total self.old + count ≤ 32 }
+        ensures ok { OnOk result (self.new ≡ begun self.old count) }
+        ensures refused { OnErr result (0 < self.old.count) }
+    {
+        if 0 < self.count {
+            let code = mem::replace(&mut self.code, Vec::new(alloc));
+            let section = Section {
+                count: self.count,
+                code,
+            };
+            if let Err(failed) = self.ended.push(section) {
+                let Section { code, .. } = failed.value;
+                self.code = code;
+                return Err(AllocError);
+            }
+        }
+        self.count = count;
+        self.threads += count;
+        Ok(())
+    }
+
+    /// One more line of the code that is read.
+    #[tactic(auto, unfolding(crate::specs::Sections::thread_total, crate::specs::Sections::instruction_total))]
+    pub fn push(&mut self, instruction: Instruction) -> Result<(), AllocError>
+        requires { instruction_total self.old < 65536 }
+        ensures { OnOk result (self.new ≡ record self.old { code = self.old.code ++ instruction ∷ [] }) }
+    {
+        self.code.push(instruction)?;
+        self.instructions += 1;
+        Ok(())
+    }
+
+    /// The code of a thread.
+    pub fn code(&self, thread: usize) -> &[Instruction]
+        requires { thread < thread_total self.now }
+        ensures value { slice_get (codes_of (parts_of self.now)) thread ≡ Some result.now }
+        ensures few { length result.now ≤ 65536 }
+    {
+        let mut left = thread;
+        for section in &self.ended {
+            if left < section.count {
+                return &section.code;
+            }
+            left -= section.count;
+        }
+        &self.code
+    }
+}

@@ -1,0 +1,76 @@
+//! Whole texts.
+
+ghost use Rattle.std.specs.Prelude.{◌≡◌, ◌≤◌, length, IfErr};
+ghost use Rattle.std.specs.Str.Lines.{lines};
+ghost use Rattle.script_asm.specs.Assembly.{Gives, program_of, lines_say, initial, RunsOut, IsAnswer};
+ghost use Rattle.script_asm.specs.declared.stop.Stop.TheVariants.{Memory};
+
+use crate::fault::{AsmFault, AsmKind};
+use crate::limits::Limits;
+use crate::program::Program;
+use crate::reading::{finish, read_line};
+use crate::schedule::Plan;
+use crate::state::State;
+use crate::stop::Stop;
+use crate::text::first_line;
+use crate::threads::Threads;
+use std::alloc::Global;
+
+/// What the lines say, one after the other; `number` is the line that was read last.
+#[tactic(auto, using(crate::proofs::Refusing::read_on, crate::proofs::Refusing::drop_on, crate::proofs::Refusing::runs_out))]
+fn read_lines(alloc: Global, text: &[u8], number: &mut usize) -> Result<State, Stop>
+    requires small { length text.now ≤ 16777216 }
+    requires first { number.old ≡ 0 }
+    ensures read { Gives result (lines_say initial 1 (lines text.now)) }
+    ensures refused { IfErr result (λ e. e ≡ Memory → RunsOut text.now number.new) }
+{
+    let mut state = State {
+        memory: None,
+        limits: Limits::new(),
+        schedule: Plan::new(alloc),
+        threads: Threads::new(alloc),
+        block: None,
+    };
+    let mut rest = text;
+    while let Some((line, after)) = first_line(rest) {
+        *number += 1;
+        read_line(alloc, &mut state, *number, line)?;
+        rest = after;
+    }
+    Ok(state)
+}
+
+#[tactic(auto, unfolding(crate::specs::Assembly::program_of))]
+fn read_text(alloc: Global, text: &[u8], number: &mut usize) -> Result<Program, Stop>
+    requires { number.old ≡ 0 }
+    ensures read { Gives result (program_of text.now) }
+    ensures refused { IfErr result (λ e. e ≡ Memory → RunsOut text.now number.new) }
+{
+    if 16_777_216 < text.len() {
+        return Err(Stop::Fault(AsmFault {
+            line: 0,
+            kind: AsmKind::TooLong,
+        }));
+    }
+    Ok(finish(read_lines(alloc, text, number)?)?)
+}
+
+/// The program that the text says, or its first fault.
+///
+/// Lines are read in order, and the first that has a fault decides. What is wrong with the whole is told after the
+/// last line: a block that is left open, in the line of its begin; no `.thread`, in line 0; an item of `.schedule`
+/// whose thread is not there, in the first such line. A text of more than 16,777,216 bytes is too long in line 0.
+/// Where memory is refused, the fault is `AsmKind::Memory` in the line that was read.
+pub fn assemble(alloc: Global, text: &[u8]) -> Result<Program, AsmFault>
+    ensures { IsAnswer result text.now }
+{
+    let mut number = 0;
+    match read_text(alloc, text, &mut number) {
+        Ok(program) => Ok(program),
+        Err(Stop::Fault(fault)) => Err(fault),
+        Err(Stop::Memory) => Err(AsmFault {
+            line: number,
+            kind: AsmKind::Memory,
+        }),
+    }
+}
