@@ -11,10 +11,11 @@ use Rattle.norec_world.specs.declared.attempt.Outcome.TheVariants as outcomes
 use Rattle.norec_world.specs.Solo.{Solo, solo}
 use Rattle.norec_world.specs.SoFar.{IsSoFar}
 use Rattle.norec_world.specs.Commits.{CommitsInOrder}
+use Rattle.norec_world.specs.Opaque.{AreOpaque}
 use Rattle.norec_world.specs.World.{World, ShowsAlone, DoneBy, attempts_of, ending_at, memory_of}
 use Rattle.script_asm.specs.declared.instruction.Instruction.{Instruction}
 use Rattle.script_asm.specs.Listing.{Listing, opening_of, threads_of}
-use Rattle.itmrun.specs.Threads.{Thread, opening, next_call, answered, calls_left}
+use Rattle.itmrun.specs.Threads.{Thread, opening, next_call, answered, restarted, calls_left}
 use Rattle.itmrun.specs.Scheduled.{Leaves, schedule_of, players_of}
 use Rattle.itmrun.specs.Pages.{first_thread, solo_of, page, IsOf, IsWorldOf, history_of}
 use Rattle.itmrun.proofs.Scheduling.{items_keep}
@@ -77,10 +78,11 @@ module _ (p : Listing) (w : World Thread) (began : BeganAs p w) (player : Thread
   of_ending (Some GaveUp) all = shows GaveUp (sym alone_is ∙ all.all) all.even
   of_ending (Some NoMemory) part = (refl, part.0, so_far (w.cells.clock / 2) (memory_of w) outcomes.NoMemory (attempts_of w) part.1)
 
-pub world_of_run : (p : Listing) (w : World Thread) → Leaves p w → CommitsInOrder w → ShowsAlone next_call answered calls_left w → IsWorldOf p w
-world_of_run p w leaves commits shown = record {
+pub world_of_run : (p : Listing) (w : World Thread) → Leaves p w → CommitsInOrder w → AreOpaque next_call answered restarted calls_left w → ShowsAlone next_call answered calls_left w → IsWorldOf p w
+world_of_run p w leaves commits opaque shown = record {
   leaves = leaves;
   commits = commits;
+  opaque = opaque;
   alone = λ one.
       let began = began_as p w leaves in
       let a = shown (ap (λ (l : List Thread). length l) began.players ∙ length-map (threads_of p) opening ∙ one) in

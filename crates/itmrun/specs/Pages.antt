@@ -7,9 +7,10 @@ use Rattle.norec_world.specs.declared.attempt.Outcome.TheVariants as outcomes
 use Rattle.norec_world.specs.Solo.{Solo, solo}
 use Rattle.norec_world.specs.SoFar.{IsSoFar}
 use Rattle.norec_world.specs.Commits.{CommitsInOrder}
+use Rattle.norec_world.specs.Opaque.{AreOpaque}
 use Rattle.norec_world.specs.World.{World, attempts_of, ending_at, memory_of}
 use Rattle.script_asm.specs.Listing.{Listing, opening_of, threads_of}
-use Rattle.itmrun.specs.Threads.{Thread, opening, next_call, answered, calls_left}
+use Rattle.itmrun.specs.Threads.{Thread, opening, next_call, answered, restarted, calls_left}
 use Rattle.itmrun.specs.Histories.{History}
 use Rattle.itmrun.specs.Scheduled.{Leaves}
 
@@ -40,8 +41,9 @@ IsOf p None h = (h.memory ≡ opening_of p) × (memory : List ℕ)
 abbrev pub history_of : List ℕ → World Thread → History
 history_of memory w = record { memory = memory; attempts = attempts_of w; clock = w.cells.clock; bytes = memory_of w }
 
--- The schedule leads to this world, whose commits are in order; and where the program has one thread, what is told of it is what that one does alone.
+-- The schedule leads to this world, whose commits are in order and whose attempts are opaque; and where the program has one thread, what is told of it is what that one does alone.
 pub record IsWorldOf (p : Listing) (w : World Thread) : Type 0 where
   pub leaves : Leaves p w
   pub commits : CommitsInOrder w
+  pub opaque : AreOpaque next_call answered restarted calls_left w
   pub alone : length (threads_of p) ≡ 1 → IsOf p (ending_at w 0) (history_of (opening_of p) w)

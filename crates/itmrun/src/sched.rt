@@ -5,7 +5,8 @@ ghost use Rattle.itmrun.specs.Spelling.{Grows};
 ghost use Rattle.script_asm.specs.Assembly.{program_of};
 ghost use Rattle.norec_world.specs.World.{ShowsAlone};
 ghost use Rattle.norec_world.specs.Commits.{CommitsInOrder};
-ghost use Rattle.itmrun.specs.Threads.{next_call, answered, calls_left};
+ghost use Rattle.norec_world.specs.Opaque.{AreOpaque};
+ghost use Rattle.itmrun.specs.Threads.{next_call, answered, restarted, calls_left};
 ghost use Rattle.itmrun.specs.Histories.{history_text};
 ghost use Rattle.itmrun.specs.Pages.{history_of};
 ghost use Rattle.itmrun.specs.Input.{IsFront};
@@ -25,6 +26,7 @@ use std::io::{Read, Write};
 fn write_world<W: Write>(writer: &mut W, opening: &[u8], world: &World<Script>) -> bool
     ensures text { Grows false (W.contents writer.old) result (W.contents writer.new) (history_text (history_of opening.now world.now)) }
     ensures commits { CommitsInOrder world.now }
+    ensures opaque { AreOpaque next_call answered restarted calls_left world.now }
     ensures alone { ShowsAlone next_call answered calls_left world.now }
 {
     let mut stream = Stream {

@@ -68,17 +68,17 @@ agrees_more m (x ∷ xs) ys a b = (a.0, agrees_more m xs ys a.1 b)
 
 -- ## One call more
 
-player_snoc : {P : Type 0} (answered : P → Reply → P) (p : P) (xs : List Entry) (x : Entry) → player_then answered p (xs ++ x ∷ []) ≡ answered (player_then answered p xs) x.reply
+pub player_snoc : {P : Type 0} (answered : P → Reply → P) (p : P) (xs : List Entry) (x : Entry) → player_then answered p (xs ++ x ∷ []) ≡ answered (player_then answered p xs) x.reply
 player_snoc answered p [] x = refl
 player_snoc answered p (y ∷ ys) x = player_snoc answered (answered p y.reply) ys x
 
-state_snoc : (deepest : ℕ) (s : State) (xs : List Entry) (x : Entry) → state_then deepest s (xs ++ x ∷ []) ≡ after deepest (state_then deepest s xs) x.call
+pub state_snoc : (deepest : ℕ) (s : State) (xs : List Entry) (x : Entry) → state_then deepest s (xs ++ x ∷ []) ≡ after deepest (state_then deepest s xs) x.call
 state_snoc deepest s [] x = refl
 state_snoc deepest s (y ∷ ys) x = state_snoc deepest (after deepest s y.call) ys x
 
 module _ {P : Type 0} (next : P → Option Call) (answered : P → Reply → P) (left : P → ℕ)
     (nearer : (p : P) (c : Call) (r : Reply) → next p ≡ Some c → left (answered p r) < left p) where
-  alone_snoc : (deepest : ℕ) (p : P) (s : State) (xs : List Entry) (x : Entry) → IsAlone next answered left deepest p s xs
+  pub alone_snoc : (deepest : ℕ) (p : P) (s : State) (xs : List Entry) (x : Entry) → IsAlone next answered left deepest p s xs
       → turn next answered left (player_then answered p xs) (state_then deepest s xs) ≡ Some x.call → x.reply ≡ reply deepest (state_then deepest s xs) x.call
       → IsAlone next answered left deepest p s (xs ++ x ∷ [])
   alone_snoc deepest p s [] x h t r = (t, r, tt)
@@ -93,7 +93,7 @@ module _ {P : Type 0} (next : P → Option Call) (answered : P → Reply → P) 
       omega arith
 
   -- an open engine stands for an open block
-  stands_open : (e : Core) (m : List ℕ) → e.is_open ≡ true → is_open (stands_for e m) ≡ true
+  pub stands_open : (e : Core) (m : List ℕ) → e.is_open ≡ true → is_open (stands_for e m) ≡ true
   stands_open e m o = ap (λ (b : Bool). is_open (state_over e.writes b e.props e.arena m)) o
 
   -- ## The engine goes on in an open block

@@ -150,7 +150,7 @@ set_place xs i got new here j b e = by_place (i == j) refl
 first_found : (x : Attempt) (xs : List Attempt) → active_of x.thread (x ∷ xs) ≡ Some x
 first_found x xs = ap (λ (b : Bool). if b then Some x else active_of x.thread xs) (eq-eqb x.thread x.thread refl)
 
-there_is : {A : Type 0} (xs : List A) (i : ℕ) → i < length xs → (x : A) × (slice_get xs i ≡ Some x)
+pub there_is : {A : Type 0} (xs : List A) (i : ℕ) → i < length xs → (x : A) × (slice_get xs i ≡ Some x)
 there_is [] i l = absurd (omega arith)
 there_is (x ∷ xs) zero l = (x, refl)
 there_is (x ∷ xs) (suc i) l = there_is xs i (omega arith)

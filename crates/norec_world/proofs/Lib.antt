@@ -8,6 +8,16 @@ pub mod Tying
 pub mod Clocking
 pub mod Frames
 pub mod CommitCounts
+pub mod Memories
+pub mod RunLists
+pub mod Seeing
+pub mod InTries
+pub mod RunAnswers
+pub mod RunBegins
+pub mod RunSteps
+pub mod RunTurns
+pub mod RunCalls
+pub mod RunFrames
 pub mod Playing
 pub mod Settling
 pub mod Recording

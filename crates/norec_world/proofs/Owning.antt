@@ -2,7 +2,7 @@
 use Rattle.std.proofs.Common.{◌≡◌, ℕ, ◌-◌, Bool, true, false, if◌then◌else◌, ◌+◌, ◌≤◌, subst, arith, List, [], ◌∷◌, ◌++◌, None, Some, refl, sym, ap, ◌∙◌, append_assoc, nat_lt}
 use Rattle.std.proofs.lemmas.List.{append-nil}
 use Rattle.norec_world.specs.declared.attempt.Attempt.{Attempt}
-use Rattle.norec_world.specs.Rows.{Rows, active_of, with_changed, with_opened, with_ended}
+use Rattle.norec_world.specs.Rows.{Rows, is_of, AreFrom, active_of, with_changed, with_opened, with_ended}
 use Rattle.norec_world.specs.declared.actor.Actor.{Actor}
 use Rattle.norec_world.specs.declared.actor.Status.TheVariants.{Ended}
 use Rattle.norec_world.specs.declared.attempt.Outcome.{Outcome}
@@ -10,7 +10,7 @@ use Rattle.norec_world.specs.declared.attempt.End.TheVariants.{GaveUp}
 use Rattle.norec_world.specs.Records.{StopsAt, CountsTry}
 use Rattle.norec_world.specs.Sound.{HasRow, retried}
 use Rattle.norec_world.specs.Own.{AllOf, ChangesOwn, KeepsOthers, count_pending}
-use Rattle.norec_world.proofs.ActiveRows.{row_is_of, changed_elsewhere, without_elsewhere, opened_elsewhere}
+use Rattle.norec_world.proofs.ActiveRows.{row_is_of, changed_elsewhere, without_elsewhere, opened_elsewhere, from_changed, from_without, from_with_one}
 
 all_both : (thread : ℕ) (xs ys : List Attempt) → AllOf thread xs → AllOf thread ys → AllOf thread (xs ++ ys)
 all_both thread [] ys a b = b
@@ -18,7 +18,7 @@ all_both thread (x ∷ xs) ys a b = (a.0, all_both thread xs ys a.1 b)
 
 -- nothing ended, and the active ones are the same
 pub own_same : (thread : ℕ) (r r' : Rows) → r'.ended ≡ r.ended → r'.active ≡ r.active → ChangesOwn thread r r'
-own_same thread r r' ended active = record { more = []; ended = ended ∙ sym (append-nil r.ended); mine = tt; others = λ other n. ap (active_of other) active }
+own_same thread r r' ended active = record { more = []; ended = ended ∙ sym (append-nil r.ended); mine = tt; others = λ other n. ap (active_of other) active; ordered = subst (AreFrom 0) (sym active) }
 
 pub own_twice : (thread : ℕ) (r r1 r2 : Rows) → ChangesOwn thread r r1 → ChangesOwn thread r1 r2 → ChangesOwn thread r r2
 own_twice thread r r1 r2 a b = record {
@@ -26,6 +26,7 @@ own_twice thread r r1 r2 a b = record {
   ended = b.ended ∙ (ap (λ (xs : List Attempt). xs ++ b.more) a.ended ∙ append_assoc r.ended a.more b.more);
   mine = all_both thread a.more b.more a.mine b.mine;
   others = λ other n. b.others other n ∙ a.others other n;
+  ordered = λ f. b.ordered (a.ordered f);
 }
 
 pub own_changed : (thread : ℕ) (f : Attempt → Attempt) (r r' : Rows) → ((a : Attempt) → (f a).thread ≡ a.thread) → r' ≡ with_changed thread f r → ChangesOwn thread r r'
@@ -34,14 +35,16 @@ own_changed thread f r r' same is = record {
   ended = ap (λ (x : Rows). x.ended) is ∙ sym (append-nil r.ended);
   mine = tt;
   others = λ other n. ap (λ (x : Rows). active_of other x.active) is ∙ changed_elsewhere thread other f r.active same n;
+  ordered = λ from. subst (λ (x : Rows). AreFrom 0 x.active) (sym is) (from_changed 0 (is_of thread) f r.active same from);
 }
 
-pub own_opened : (a : Attempt) (r r' : Rows) → r' ≡ with_opened a r → ChangesOwn a.thread r r'
-own_opened a r r' is = record {
+pub own_opened : (a : Attempt) (r r' : Rows) → active_of a.thread r.active ≡ None → r' ≡ with_opened a r → ChangesOwn a.thread r r'
+own_opened a r r' none is = record {
   more = [];
   ended = ap (λ (x : Rows). x.ended) is ∙ sym (append-nil r.ended);
   mine = tt;
   others = λ other n. ap (λ (x : Rows). active_of other x.active) is ∙ opened_elsewhere a other r.active n;
+  ordered = λ from. subst (λ (x : Rows). AreFrom 0 x.active) (sym is) (from_with_one a r.active 0 (omega arith) none from);
 }
 
 pub own_ended : (thread : ℕ) (a : Attempt) (r r' : Rows) → a.thread ≡ thread → r' ≡ with_ended thread a r → ChangesOwn thread r r'
@@ -50,6 +53,7 @@ own_ended thread a r r' mine is = record {
   ended = ap (λ (x : Rows). x.ended) is;
   mine = (mine, tt);
   others = λ other n. ap (λ (x : Rows). active_of other x.active) is ∙ without_elsewhere thread other r.active n;
+  ordered = λ from. subst (λ (x : Rows). AreFrom 0 x.active) (sym is) (from_without 0 (is_of thread) r.active from);
 }
 
 module _ {P : Type 0} where
@@ -83,10 +87,10 @@ module _ {P : Type 0} where
     room = λ k few l. (let kept : count_pending a'.pending ≡ count_pending a.pending = ap count_pending pending in let roomy : r'.room ≡ r.room = ap (λ (y : Rows). y.room) is in omega arith);
   }
 
-  pub others_opened : (a a' : Actor P) (r r' : Rows) (row pending : Attempt) → row.thread ≡ a.thread → a'.thread ≡ a.thread → a.pending ≡ Some pending → a'.pending ≡ None → r' ≡ with_opened row r → KeepsOthers a r a' r'
-  others_opened a a' r r' row pending mine thread before after is = record {
+  pub others_opened : (a a' : Actor P) (r r' : Rows) (row pending : Attempt) → row.thread ≡ a.thread → active_of a.thread r.active ≡ None → a'.thread ≡ a.thread → a.pending ≡ Some pending → a'.pending ≡ None → r' ≡ with_opened row r → KeepsOthers a r a' r'
+  others_opened a a' r r' row pending mine none thread before after is = record {
     thread = thread;
-    own = subst (λ (n : ℕ). ChangesOwn n r r') mine (own_opened row r r' is);
+    own = subst (λ (n : ℕ). ChangesOwn n r r') mine (own_opened row r r' (ap (λ (t : ℕ). active_of t r.active) mine ∙ none) is);
     room = λ k few l.
         (let one : count_pending a.pending ≡ 1 = ap count_pending before in
         let none : count_pending a'.pending ≡ 0 = ap count_pending after in
@@ -124,7 +128,7 @@ module _ {P : Type 0} where
       by_case false = refl
 
   pub retried_counts : (a : Actor P) → CountsTry a (retried a)
-  retried_counts a = record { nth = nths (nat_lt a.retries a.nth); status = statuses (nat_lt a.retries a.nth) }
+  retried_counts a = record { nth = nths (nat_lt a.retries a.nth); status = statuses (nat_lt a.retries a.nth); again = agains (nat_lt a.retries a.nth) }
     where
       nths : (b : Bool) → (if b then record a { status = Ended GaveUp } else record a { nth = a.nth + 1 }).nth ≡ (if b then a.nth else a.nth + 1)
       nths true = refl
@@ -133,6 +137,10 @@ module _ {P : Type 0} where
       statuses : (b : Bool) → (if b then record a { status = Ended GaveUp } else record a { nth = a.nth + 1 }).status ≡ (if b then Ended GaveUp else a.status)
       statuses true = refl
       statuses false = refl
+
+      agains : (b : Bool) → (if b then record a { status = Ended GaveUp } else record a { nth = a.nth + 1 }).again ≡ a.again
+      agains true = refl
+      agains false = refl
 
   -- memory was refused
   pub others_starved : (a a' : Actor P) (r r' : Rows) (is_open : Bool) (at : ℕ) (outcome : Outcome) → HasRow is_open r a.thread → a'.thread ≡ a.thread → a'.pending ≡ a.pending

@@ -302,7 +302,7 @@ module _ {P : Type 0} (next : P → Option Call) (answered : P → Reply → P) 
     steps_past n b (Read hint width at) e = refl
     steps_past n b (Write hint at value) e = refl
 
-    comes_past : (n : ℕ) (b : Progress P) (c : Call) → next b.player ≡ Some c → is_begin c ≡ false → left b.player ≤ n
+    pub comes_past : (n : ℕ) (b : Progress P) (c : Call) → next b.player ≡ Some c → is_begin c ≡ false → left b.player ≤ n
         → comes n b.player b.arena (next b.player) ≡ comes (left (passing b c).player) (passing b c).player (passing b c).arena (next (passing b c).player)
     comes_past zero b c e nb l = (let k = nearer b.player c (reply deepest (outside [] b.arena) c) e in absurd (omega arith))
     comes_past (suc n) b c e nb l =

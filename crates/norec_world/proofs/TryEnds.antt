@@ -20,6 +20,7 @@ use Rattle.norec_engine.specs.declared.answer.Answer.TheVariants.{Reply, Committ
 use Rattle.norec_world.specs.declared.attempt.Attempt.{Attempt}
 use Rattle.norec_world.specs.declared.attempt.Outcome.{Outcome}
 use Rattle.norec_world.specs.declared.attempt.Outcome.TheVariants as outcomes
+use Rattle.norec_world.specs.declared.attempt.End.{End}
 use Rattle.norec_world.specs.declared.attempt.End.TheVariants as ends
 use Rattle.norec_world.specs.declared.actor.Actor.{Actor}
 use Rattle.norec_world.specs.declared.actor.Status.{Status}
@@ -47,7 +48,7 @@ module _ {P : Type 0} (next : P → Option Call) (answered : P → Replied → P
   none_active : a.engine.is_open ≡ false → active_of last.thread r1.active ≡ None
   none_active closed = no_row last.engine.is_open r1 last.thread (ap (λ (c : Core). c.is_open) settled.engine ∙ closed) settled.kept.row
 
-  none_pending : last.status ≡ Ready → last.pending ≡ None
+  pub none_pending : last.status ≡ Ready → last.pending ≡ None
   none_pending ready = (let rest : IsReady next answered restarted left depth last = subst (λ (s : Status). RestsAs next answered restarted left depth s last) ready settled.rests in rest.nothing)
 
   -- the actor is between two tries
@@ -162,7 +163,7 @@ module _ {P : Type 0} (next : P → Option Call) (answered : P → Replied → P
 -- ## A begin is answered
 
 -- the plain machine refuses no outermost begin, so the engine's reply to one opens
-begin_opens : (mid new : Core) (m : List ℕ) (props : Props) (room : ℕ) (reply : Replied) → Replies mid (Begin props room) reply new → mid.is_open ≡ false → IsMemory mid.words m → Agrees m new.log → new.is_open ≡ false → ⊥
+pub begin_opens : (mid new : Core) (m : List ℕ) (props : Props) (room : ℕ) (reply : Replied) → Replies mid (Begin props room) reply new → mid.is_open ≡ false → IsMemory mid.words m → Agrees m new.log → new.is_open ≡ false → ⊥
 begin_opens mid new m props room reply g outside memory agrees closed =
     let opened_blocks = ap (λ (b : Bool). (after MAX_DEPTH (state_over mid.writes b mid.props mid.arena m) (Begin props room)).blocks) outside in
     let blocks = ap (λ (s : State). s.blocks) (g.meets m memory agrees) in
@@ -170,7 +171,7 @@ begin_opens mid new m props room reply g outside memory agrees closed =
     let some = sym none ∙ (blocks ∙ opened_blocks) in
     absurd (cc)
 
-begin_call : (call : Call) → is_begin call ≡ true → (props : Props) × (room : ℕ) × (call ≡ Begin props room)
+pub begin_call : (call : Call) → is_begin call ≡ true → (props : Props) × (room : ℕ) × (call ≡ Begin props room)
 begin_call (Begin props room) e = (props, room, refl)
 begin_call calls.Commit e = absurd (cc)
 begin_call (calls.Read hint width at) e = absurd (cc)
@@ -248,26 +249,39 @@ module _ {P : Type 0} (next : P → Option Call) (answered : P → Replied → P
       })
   begin_tries (Full at) d g told s = absurd (let f : false ≡ true = d.fits.0 in cc)
 
--- ## An answer does not finish the actor
+-- ## An answer ends no actor but one that gives up
 
 module _ {P : Type 0} (next : P → Option Call) (answered : P → Replied → P) (restarted : P → P) (left : P → ℕ) (depth : P → ℕ) (r r1 : Rows) (a last : Actor P) (call : Call) (was : Bool) (ready : a.status ≡ Ready) where
-  tried_on : CountsTry a last → ending_of last.status ≡ Some ends.Finished → ⊥
-  tried_on counts e = by_case (nat_lt a.retries a.nth) counts.status
-    where
-      by_case : (b : Bool) → last.status ≡ (if b then Ended ends.GaveUp else a.status) → ⊥
-      by_case true s = absurd (let n = sym (ap ending_of s) ∙ e in cc)
-      by_case false s = absurd (let n = sym (ap ending_of (s ∙ ready)) ∙ e in cc)
+  module _ (end : End) (other : end ≡ ends.GaveUp → ⊥) where
+    gave_up_not : last.status ≡ Ended ends.GaveUp → ending_of last.status ≡ Some end → ⊥
+    gave_up_not s e = other (let z : Some end ≡ Some ends.GaveUp = sym e ∙ ap ending_of s in cc)
+
+    ready_not : last.status ≡ Ready → ending_of last.status ≡ Some end → ⊥
+    ready_not s e = absurd (let n = sym (ap ending_of s) ∙ e in cc)
+
+    tried_on : CountsTry a last → ending_of last.status ≡ Some end → ⊥
+    tried_on counts e = by_case (nat_lt a.retries a.nth) counts.status
+      where
+        by_case : (b : Bool) → last.status ≡ (if b then Ended ends.GaveUp else a.status) → ⊥
+        by_case true s = gave_up_not s e
+        by_case false s = ready_not (s ∙ ready) e
+
+    pub not_ended : (ans : Answer) → Records answered restarted was r r1 a last call ans → ending_of last.status ≡ Some end → ⊥
+    not_ended (Reply reply) told e = by_was was told
+      where
+        by_was : (b : Bool) → Records answered restarted b r r1 a last call (Reply reply) → ⊥
+        by_was true told = ready_not (told.4 ∙ ready) e
+        by_was false told = ready_not (told.4 ∙ ready) e
+    not_ended (Committed at wrote) told e = ready_not (told.4 ∙ ready) e
+    not_ended (Conflict clock word) told e = tried_on told.2 e
+    not_ended (Busy clock) told e = tried_on told.2 e
+    not_ended (Full at) told e = gave_up_not told.1 e
 
   pub not_finished : (ans : Answer) → Records answered restarted was r r1 a last call ans → ending_of last.status ≡ Some ends.Finished → ⊥
-  not_finished (Reply reply) told e = by_was was told
-    where
-      by_was : (b : Bool) → Records answered restarted b r r1 a last call (Reply reply) → ⊥
-      by_was true told = absurd (let n = sym (ap ending_of (told.4 ∙ ready)) ∙ e in cc)
-      by_was false told = absurd (let n = sym (ap ending_of (told.4 ∙ ready)) ∙ e in cc)
-  not_finished (Committed at wrote) told e = absurd (let n = sym (ap ending_of (told.4 ∙ ready)) ∙ e in cc)
-  not_finished (Conflict clock word) told e = tried_on told.2 e
-  not_finished (Busy clock) told e = tried_on told.2 e
-  not_finished (Full at) told e = absurd (let n = sym (ap ending_of told.1) ∙ e in cc)
+  not_finished = not_ended ends.Finished (λ e. absurd (cc))
+
+  pub not_starved : (ans : Answer) → Records answered restarted was r r1 a last call ans → ending_of last.status ≡ Some ends.NoMemory → ⊥
+  not_starved = not_ended ends.NoMemory (λ e. absurd (cc))
 
 -- ## The open attempt is told where it reads
 

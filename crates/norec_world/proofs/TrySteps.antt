@@ -55,7 +55,7 @@ moves_of cells e (Cas cell from to) t l = record {
 }
 
 -- outside a transaction a step loads the clock
-loads_clock : (cells : Cells) (e : Core) (step : Step) → IsTied cells e → IsLawful e step → e.is_open ≡ false
+pub loads_clock : (cells : Cells) (e : Core) (step : Step) → IsTied cells e → IsLawful e step → e.is_open ≡ false
     → ((cells_after cells step).clock ≡ cells.clock) × ((handed_to e (Some step) (found cells step)).clock ≡ (cells_after cells step).clock)
 loads_clock cells e (Load zero) t l outside = (refl, refl)
 loads_clock cells e (Load (suc word)) t l outside = absurd (both e.is_open l.1.0 outside)
@@ -71,7 +71,7 @@ module _ {P : Type 0} (next : P → Option Call) (answered : P → Replied → P
   mid : Core
   mid = handed_to old.engine (Some step) seen
 
-  moves : ClockMoves cells cells' (handed_to old.engine (Some step) seen)
+  pub moves : ClockMoves cells cells' (handed_to old.engine (Some step) seen)
   moves =
       let w = waits next answered restarted left depth cells r old sound call step waiting seen seen_is cells' cells_are fit new joins settled within in
       let m = moves_of cells old.engine step sound.tied w.lawful in

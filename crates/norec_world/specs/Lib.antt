@@ -21,5 +21,9 @@ pub mod Tracks
 pub mod World
 pub mod Commits
 pub mod Going
+pub mod Memories
+pub mod Sees
+pub mod Runs
+pub mod Opaque
 pub mod Stretches
 pub mod Views

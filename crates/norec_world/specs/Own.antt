@@ -3,7 +3,7 @@ use Rattle.std.specs.Prelude.{◌≡◌, ℕ, ◌+◌, ◌<◌, ◌≤◌, List,
 use Rattle.norec_world.specs.declared.attempt.Attempt.{Attempt}
 use Rattle.norec_world.specs.declared.actor.Actor.{Actor}
 use Rattle.norec_world.specs.declared.setup.TheConstants.{MAX_ACTORS}
-use Rattle.norec_world.specs.Rows.{Rows, active_of}
+use Rattle.norec_world.specs.Rows.{Rows, active_of, AreFrom}
 
 -- each of these is the actor's
 abbrev pub AllOf : ℕ → List Attempt → Type 0
@@ -16,6 +16,7 @@ pub record ChangesOwn (thread : ℕ) (r r' : Rows) : Type 0 where
   pub ended : r'.ended ≡ r.ended ++ more
   pub mine : AllOf thread more
   pub others : (other : ℕ) → (other ≡ thread → ⊥) → active_of other r'.active ≡ active_of other r.active
+  pub ordered : AreFrom 0 r.active → AreFrom 0 r'.active  -- the open ones still stand by actor
 
 -- how many attempts are to be opened
 abbrev pub count_pending : Option Attempt → ℕ

@@ -46,6 +46,7 @@ Opens false r pending at r' = r' ≡ r
 pub record CountsTry {P : Type 0} (old new : Actor P) : Type 0 where
   pub nth : new.nth ≡ (if nat_lt old.retries old.nth then old.nth else old.nth + 1)
   pub status : new.status ≡ (if nat_lt old.retries old.nth then Ended GaveUp else old.status)
+  pub again : new.again ≡ old.again
 
 -- the block was entered, and a later try of it enters it again
 abbrev pub again_after : Bool → Option Attempt → Bool → Bool

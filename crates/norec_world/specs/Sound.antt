@@ -197,6 +197,7 @@ module _ {P : Type 0} (next : P → Option Call) (answered : P → Replied → P
     pub same : SameBeside old new
     pub engine : new.engine ≡ old.engine
     pub pending : new.pending ≡ old.pending
+    pub again : new.again ≡ old.again
     pub kept : IsKept new.engine.is_open r new
 
   -- no more is left to do than before

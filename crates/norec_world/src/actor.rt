@@ -47,6 +47,7 @@ impl<P: Player> Actor<P> {
     ghost use Rattle.norec_world.specs.Tracks.{StillTracks};
     ghost use Rattle.norec_world.specs.Own.{KeepsOthers};
     ghost use Rattle.norec_world.specs.Tries.{Tries, prior_of};
+    ghost use Rattle.norec_world.specs.Runs.{StillRuns};
     ghost use Rattle.norec_world.specs.Holding.{ClocksOn};
     ghost use Rattle.norec_world.specs.Sound.{IsKept, IsSound, IsDue, IsDone, StatusIs, GoesOn, Falls};
 
@@ -99,6 +100,7 @@ impl<P: Player> Actor<P> {
         ensures clocks { ClocksOn memory.old self.old.engine memory.new self.new.engine }
         ensures retries { self.new.retries ≡ self.old.retries }
         ensures tries { Tries memory.old.clock (prior_of recorded.old self.old) memory.new.clock recorded.new self.new }
+        ensures runs { StillRuns P.next_call P.answered P.restarted P.calls_left memory.old recorded.old self.old memory.new recorded.new self.new }
         ensures unfinished { ending_of self.new.status ≡ Some End.Finished → ⊥ }
         ensures cells { (step : Step) → waiting_step self.old.status ≡ Some step → memory.new ≡ cells_after memory.old step }
         ensures tracks { self.old.thread ≡ 0 → StillTracks P.next_call P.answered P.calls_left memory.old recorded.old self.old memory.new recorded.new self.new }

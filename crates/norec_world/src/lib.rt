@@ -4,6 +4,7 @@
 mod actor;
 mod attempt;
 mod fault;
+mod laws;
 mod lists;
 mod memory;
 mod recorded;
@@ -18,6 +19,7 @@ mod world;
 
 pub use attempt::{Attempt, End, Entry, Outcome};
 pub use fault::WorldFault;
+pub use laws::isolation;
 pub use lists::{Bytes, Calls};
 pub use schedule::Passes;
 pub use setup::Setup;

@@ -12,6 +12,7 @@ impl<P: Player> Actor<P> {
     ghost use Rattle.norec_world.specs.Status.{is_ready, is_waiting, ending_of};
     ghost use Rattle.norec_world.specs.Tracks.{StillTracks};
     ghost use Rattle.norec_world.specs.Own.{KeepsOthers};
+    ghost use Rattle.norec_world.specs.Runs.{StillRuns};
     ghost use Rattle.norec_world.specs.Holding.{ClocksOn};
     ghost use Rattle.norec_world.specs.World.{counted};
     ghost use Rattle.norec_world.specs.Stretches.{standing, StepsOn};
@@ -32,6 +33,7 @@ impl<P: Player> Actor<P> {
         ensures thread { self.new.thread ≡ self.old.thread }
         ensures others { KeepsOthers self.old recorded.old self.new recorded.new }
         ensures clocks { ClocksOn memory.old self.old.engine memory.new self.new.engine }
+        ensures runs { StillRuns P.next_call P.answered P.restarted P.calls_left memory.old recorded.old self.old memory.new recorded.new self.new }
         ensures tracks { self.old.thread ≡ 0 → StillTracks P.next_call P.answered P.calls_left memory.old recorded.old self.old memory.new recorded.new self.new }
     {
         let mut taken = 0u64;
@@ -52,6 +54,7 @@ impl<P: Player> Actor<P> {
         ensures thread { self.new.thread ≡ self.old.thread }
         ensures others { KeepsOthers self.old recorded.old self.new recorded.new }
         ensures clocks { ClocksOn memory.old self.old.engine memory.new self.new.engine }
+        ensures runs { StillRuns P.next_call P.answered P.restarted P.calls_left memory.old recorded.old self.old memory.new recorded.new self.new }
         ensures tracks { self.old.thread ≡ 0 → StillTracks P.next_call P.answered P.calls_left memory.old recorded.old self.old memory.new recorded.new self.new }
         ensures falls { is_ready self.new.status ≡ true → Falls P.next_call P.answered P.restarted P.calls_left P.depth self.old.engine.is_open self.new.engine.is_open self.old self.new }
     {

@@ -22,6 +22,7 @@ impl<P: Player> World<P> {
     ghost use Rattle.norec_world.specs.declared.fault.WorldFault.{WorldFault};
     ghost use Rattle.norec_world.specs.World.{counted, SameOpening};
     ghost use Rattle.norec_world.specs.Commits.{CommitsInOrder};
+    ghost use Rattle.norec_world.specs.Opaque.{AreOpaque};
     ghost use Rattle.norec_world.specs.Going.{Leads, passes_of};
 
     /// An event for each entry in turn, passing over those that name no actor or one that has ended.
@@ -29,6 +30,7 @@ impl<P: Player> World<P> {
         ensures led { (results : List (Result (Unit {0}) WorldFault)) × Leads P.next_call P.answered P.calls_left self.old schedule.now results self.new × (result ≡ passes_of results) }
         ensures all { result.taken + result.passed + result.starved ≡ length schedule.now }
         ensures commits { CommitsInOrder self.new }
+        ensures opaque { AreOpaque P.next_call P.answered P.restarted P.calls_left self.new }
         ensures counts { self.new.events ≡ counted self.old.events (result.taken + result.starved) }
         ensures opening { SameOpening self.old self.new }
         ensures actors { length self.new.actors ≡ length self.old.actors }

@@ -20,6 +20,7 @@ impl<P: Player> Actor<P> {
     ghost use Rattle.norec_world.specs.Tracks.{StillTracks};
     ghost use Rattle.norec_world.specs.Own.{KeepsOthers};
     ghost use Rattle.norec_world.specs.Tries.{Tries, prior_of};
+    ghost use Rattle.norec_world.specs.Runs.{StillRuns};
     ghost use Rattle.norec_world.specs.Sound.{IsTied, IsKept, IsReady, IsSound, IsAnswered, IsSettledBy, IsAsked, IsUnasked, IsNoMore, Falls, retried};
 
     /// Calls are made until one waits for a step or the actor has ended.
@@ -34,6 +35,7 @@ impl<P: Player> Actor<P> {
         ensures limit { (self.new.engine.max_commits ≡ self.old.engine.max_commits) × (self.new.engine.patience ≡ self.old.engine.patience) }
         ensures retries { self.new.retries ≡ self.old.retries }
         ensures tries { is_ready self.old.status ≡ true → Tries memory.now.clock (prior_of recorded.old self.old) memory.now.clock recorded.new self.new }
+        ensures runs { StillRuns P.next_call P.answered P.restarted P.calls_left memory.now recorded.old self.old memory.now recorded.new self.new }
         ensures finishes { is_ready self.old.status ≡ true → ending_of self.new.status ≡ Some End.Finished → P.next_call self.new.player ≡ None }
         ensures tracks { self.old.thread ≡ 0 → StillTracks P.next_call P.answered P.calls_left memory.now recorded.old self.old memory.now recorded.new self.new }
         ensures less { ending_of self.new.status ≡ None → IsNoMore P.next_call P.answered P.restarted P.calls_left P.depth self.old self.new }
@@ -54,6 +56,7 @@ impl<P: Player> Actor<P> {
         ensures limit { (self.new.engine.max_commits ≡ self.old.engine.max_commits) × (self.new.engine.patience ≡ self.old.engine.patience) }
         ensures retries { self.new.retries ≡ self.old.retries }
         ensures tries { Tries memory.now.clock (prior_of recorded.old self.old) memory.now.clock recorded.new self.new }
+        ensures runs { StillRuns P.next_call P.answered P.restarted P.calls_left memory.now recorded.old self.old memory.now recorded.new self.new }
         ensures finishes { ending_of self.new.status ≡ Some End.Finished → P.next_call self.new.player ≡ None }
         ensures tracks { self.old.thread ≡ 0 → StillTracks P.next_call P.answered P.calls_left memory.now recorded.old self.old memory.now recorded.new self.new }
         ensures less { ending_of self.new.status ≡ None → IsNoMore P.next_call P.answered P.restarted P.calls_left P.depth self.old self.new }
@@ -230,6 +233,7 @@ impl<P: Player> Actor<P> {
         ensures same { (self.new.nth ≡ self.old.nth) × (self.new.retries ≡ self.old.retries) }
         ensures limit { (self.new.engine.max_commits ≡ self.old.engine.max_commits) × (self.new.engine.patience ≡ self.old.engine.patience) }
         ensures pending { self.new.pending ≡ self.old.pending }
+        ensures again { self.new.again ≡ self.old.again }
         ensures row { self.old.engine.is_open ≡ true → StopsAt self.old.thread recorded.old (self.old.engine.snapshot / 2) Outcome.NoMemory recorded.new }
         ensures none { self.old.engine.is_open ≡ false → recorded.new ≡ recorded.old }
         ensures others { KeepsOthers self.old recorded.old self.new recorded.new }

@@ -39,10 +39,11 @@ impl<P: Player> Model for World<P> {
     ghost use Rattle.norec_world.specs.World.{RunsAlone};
     ghost use Rattle.norec_world.specs.Actors.{AreActors};
     ghost use Rattle.norec_world.specs.Commits.{CommitsInOrder};
+    ghost use Rattle.norec_world.specs.Opaque.{AreRunning};
 
     ghost view = { world_of };
 
-    ghost invariant = { λ w. AreActors P.next_call P.answered P.restarted P.calls_left P.depth w.memory w.recorded w.actors.items × (length w.actors.items ≡ length w.opening.items) × RunsAlone P.next_call P.answered P.calls_left (world_of w) × CommitsInOrder (world_of w) };
+    ghost invariant = { λ w. AreActors P.next_call P.answered P.restarted P.calls_left P.depth w.memory w.recorded w.actors.items × (length w.actors.items ≡ length w.opening.items) × RunsAlone P.next_call P.answered P.calls_left (world_of w) × CommitsInOrder (world_of w) × AreRunning P.next_call P.answered P.restarted P.calls_left (world_of w) };
 }
 
 impl<P: Player> World<P> {
@@ -57,6 +58,7 @@ impl<P: Player> World<P> {
     ghost use Rattle.norec_world.specs.Tries.{IsBetween};
     ghost use Rattle.norec_world.specs.declared.actor.Actor.{Actor};
     ghost use Rattle.norec_world.specs.Commits.{CommitsInOrder};
+    ghost use Rattle.norec_world.specs.Opaque.{AreOpaque};
     ghost use Rattle.norec_world.specs.Going.{Goes, Takes};
 
     /// A world over this memory, with the clock at 0. Each actor's local work up to its first operation is done.
@@ -80,6 +82,7 @@ impl<P: Player> World<P> {
         ensures none { IfOk result (λ w. attempts_of w ≡ []) }
         ensures first { IfOk result (λ w. (place : ℕ) (a : Actor P) → slice_get w.actors place ≡ Some a → IsBetween 0 1 w.attempts a) }
         ensures commits { IfOk result (λ w. CommitsInOrder w) }
+        ensures opaque { IfOk result (AreOpaque P.next_call P.answered P.restarted P.calls_left) }
         ensures events { IfOk result (λ w. w.events ≡ 0) }
         ensures actors { IfOk result (λ w. length w.actors ≡ length players.items) }
         ensures fed { IfOk result (λ w. (actor : ℕ) → ending_at w actor ≡ Some End.NoMemory → ⊥) }
@@ -109,6 +112,7 @@ impl<P: Player> World<P> {
     pub fn go(&mut self, alloc: Global, actor: u8) -> Result<(), WorldFault>
         ensures goes { Goes P.next_call P.answered P.calls_left actor self.old result self.new }
         ensures commits { CommitsInOrder self.new }
+        ensures opaque { AreOpaque P.next_call P.answered P.restarted P.calls_left self.new }
     {
         match self.waits(actor) {
             None => Err(WorldFault::NoSuchActor),
@@ -125,6 +129,7 @@ impl<P: Player> World<P> {
         ensures value { result ≡ option_map (λ a. is_waiting a.status) (slice_get self.now.actors actor) }
         ensures sound { AreActors P.next_call P.answered P.restarted P.calls_left P.depth self.now.cells self.now.attempts self.now.actors }
         ensures commits { CommitsInOrder self.now }
+        ensures opaque { AreOpaque P.next_call P.answered P.restarted P.calls_left self.now }
         ensures alone { RunsAlone P.next_call P.answered P.calls_left self.now }
     {
         Some(self.actors.get(actor as usize)?.waits())
@@ -140,6 +145,7 @@ impl<P: Player> World<P> {
         ensures event { (a : Actor P) → slice_get self.old.actors actor ≡ Some a
             → (a' : Actor P) × (self.new.actors ≡ slice_set self.old.actors actor a') × IsEvent P.next_call self.old.cells self.old.attempts a self.new.cells self.new.attempts a' }
         ensures commits { CommitsInOrder self.new }
+        ensures opaque { AreOpaque P.next_call P.answered P.restarted P.calls_left self.new }
         ensures alone { RunsAlone P.next_call P.answered P.calls_left self.new }
     {
         let a = &mut self.actors[actor];
@@ -153,6 +159,7 @@ impl<P: Player> World<P> {
         ensures no_such { length self.old.actors ≤ actor → (result ≡ 0) × (self.new ≡ self.old) }
         ensures ended { actor < length self.old.actors → IsSome (ending_at self.new actor) }
         ensures commits { CommitsInOrder self.new }
+        ensures opaque { AreOpaque P.next_call P.answered P.restarted P.calls_left self.new }
         ensures took { (n : ℕ) × Takes P.next_call P.answered P.calls_left actor n self.old self.new × (result ≡ counted 0 n) }
         ensures counts { self.new.events ≡ counted self.old.events result }
         ensures opening { SameOpening self.old self.new }
@@ -184,6 +191,7 @@ impl<P: Player> World<P> {
         ensures value { result.now ≡ attempts_of self.now }
         ensures unfinished { AreOpen self.now.attempts.active }
         ensures commits { CommitsInOrder self.now }
+        ensures opaque { AreOpaque P.next_call P.answered P.restarted P.calls_left self.now }
         ensures alone { ShowsAlone P.next_call P.answered P.calls_left self.now }
     {
         self.recorded.all()
@@ -208,6 +216,7 @@ impl<P: Player> World<P> {
     pub fn events(&self) -> u64
         ensures value { result ≡ self.now.events }
         ensures commits { CommitsInOrder self.now }
+        ensures opaque { AreOpaque P.next_call P.answered P.restarted P.calls_left self.now }
     {
         self.events
     }

@@ -1,10 +1,13 @@
-use Rattle.std.proofs.Common.{◌≡◌, ℕ, true, replicate, length, ◌∙◌, ap, subst}
+use Rattle.std.proofs.Common.{◌≡◌, ℕ, true, refl, replicate, length, ◌∙◌, ap, subst}
 use Rattle.itm_types.specs.Memory.{bytes_of}
 use Rattle.norec_engine.specs.Core.{Core, opening}
 use Rattle.norec_world.specs.Tracks.{Tracks}
 use Rattle.norec_world.specs.Status.{is_ready}
 use Rattle.norec_world.specs.Rows.{active_of}
 use Rattle.norec_world.specs.Tries.{prior_of}
+use Rattle.norec_world.specs.Runs.{RunsFrom}
+use Rattle.norec_world.specs.Opaque.{first_of}
+use Rattle.norec_world.proofs.RunFrames.{fresh_runs, laid_first}
 use Rattle.norec_world.proofs.Beginnings.{fresh_tracks, starts_between}
 use Rattle.norec_world.proofs.start.start.Goals as goal
 
@@ -40,3 +43,14 @@ returns-in_default-clause-ended g c =
     let ready : is_ready a.status ≡ true = ap is_ready c.new-actor.ensures.nothing.2 in
     (starts_between c.args.memory.now.clock 1 (prior_of c.args.recorded.now a) c.work.new.recorded c.work.new.self (c.work.ensures.tries ready)
     (ap (λ (n : ℕ). active_of n c.args.recorded.now.active) c.new-actor.ensures.parts.0 ∙ c.requires.none) c.new-actor.ensures.nothing.1 c.new-actor.ensures.tries.0).1
+
+pub returns-in_default-clause-runs : goal.returns-in_default-clause-runs
+returns-in_default-clause-runs g c none =
+    let a = c.new-actor.result in
+    let cells = c.args.memory.now in
+    let engine : a.engine ≡ opening (length cells.words) (replicate c.args.terms.arena 0) c.args.terms.limits.patience c.args.terms.limits.max_commits =
+    c.new-actor.ensures.parts.3 ∙ (c.new-engine.ensures ∙ (λ i. opening (c.words.ensures i) (c.in_ok-arena.ensures i) c.args.terms.limits.patience c.args.terms.limits.max_commits)) in
+    let fresh = fresh_runs g.P.Player.next_call g.P.Player.answered g.P.Player.restarted g.P.Player.calls_left g.met.P.Player.nearer cells c.args.recorded.now a (bytes_of cells.words) c.args.terms.arena c.args.terms.limits.patience c.args.terms.limits.max_commits
+    engine none c.new-actor.ensures.tries.0 c.new-actor.ensures.tries.1 c.new-actor.ensures.nothing.1 c.new-actor.ensures.nothing.2 in
+    (c.work.ensures.runs (first_of c.args.player c.args.terms.arena) (bytes_of cells.words) (laid_first (bytes_of cells.words) cells c.args.recorded.now refl c.requires.fit c.requires.clock none)
+    (subst (λ (p : g.row.P.Denot). RunsFrom g.P.Player.next_call g.P.Player.answered g.P.Player.restarted g.P.Player.calls_left (first_of p c.args.terms.arena) (bytes_of cells.words) cells c.args.recorded.now a) c.new-actor.ensures.parts.2 fresh)).1

@@ -1,9 +1,13 @@
-use Rattle.std.proofs.Common.{◌≡◌, ◌+◌, ◌<◌, ℕ, suc, [], ◌∷◌, ◌++◌, inl, inr, slice_get, List, length, length-append, ap, sym, subst, refl, ◌∙◌, arith}
+use Rattle.std.proofs.Common.{rules, ◌≡◌, ◌+◌, ◌<◌, ◌≤◌, ℕ, zero, suc, Some, [], ◌∷◌, ◌++◌, inl, inr, slice_get, drop, List, length, length-append, ap, sym, subst, refl, ◌∙◌, arith}
 use Rattle.norec_world.specs.declared.actor.Actor.{Actor}
 use Rattle.norec_world.specs.Actors.{AreActors}
 use Rattle.norec_world.specs.World.{ending_in}
 use Rattle.norec_world.specs.Own.{ChangesOwn, count_pending}
 use Rattle.norec_world.specs.Starts.{IsFirst}
+use Rattle.itm_types.specs.Memory.{bytes_of}
+use Rattle.norec_world.specs.Runs.{RunsFrom}
+use Rattle.norec_world.specs.Opaque.{first_of}
+use Rattle.norec_world.proofs.RunFrames.{other_runs, laid_first}
 use Rattle.norec_world.proofs.Beginnings.{fed_joined, first_still}
 use Rattle.std.specs.List.{slice_index_or}
 use Rattle.norec_world.proofs.Frames.{actors_joined, last_or_before, within_of, none_active}
@@ -12,6 +16,13 @@ use Rattle.norec_world.proofs.start.start_all.Goals as goal
 nil_of : {A : Type 0} (xs : List A) → length xs ≡ 0 → xs ≡ []
 nil_of [] e = refl
 nil_of (x ∷ xs) e = absurd (omega arith)
+
+-- the next one of a list
+drop_head : {A : Type 0} (xs : List A) (k : ℕ) (x : A) (ys : List A) → drop k xs ≡ x ∷ ys → (slice_get xs k ≡ Some x) × (drop (suc k) xs ≡ ys)
+drop_head [] zero x ys e = absurd (cc)
+drop_head [] (suc k) x ys e = absurd (cc)
+drop_head (y ∷ xs) zero x ys e = ((let same : y ≡ x = cc in ap (λ (z : _). Some z) same), (let same : xs ≡ ys = cc in same))
+drop_head (y ∷ xs) (suc k) x ys e = drop_head xs k x ys e
 
 pub loop-player-preserved : goal.loop-player-preserved
 loop-player-preserved g c =
@@ -29,6 +40,7 @@ loop-player-preserved g c =
     let numbered = c.in_ok-actor.ensures.thread in
     let thread : actor.thread ≡ length before = omega arith in
     let o = c.in_ok-actor.ensures.others in
+    let here = drop_head c.into_iter-player-iterator.result.rest.items (length before) c.in-Some.player c.next.new.self.rest.items (sym i.rest ∙ steps) in
     let own : ChangesOwn actor.thread c.loop-player.recorded c.start.new.recorded = subst (λ (n : ℕ). ChangesOwn n c.loop-player.recorded c.start.new.recorded) (sym o.3.thread) o.3.own in
     record {
       count = omega arith;
@@ -44,6 +56,18 @@ loop-player-preserved g c =
             first_still c.args.memory.now.clock c.args.terms.limits.patience c.args.terms.limits.max_commits c.args.terms.retries c.loop-player.recorded c.start.new.recorded a
             (own.others a.thread (λ same. absurd (let l = within_of before place a h in let mine = (i.sound.each place a h).thread in omega arith))) (i.tries place a h)
         | inr h ↦ subst (IsFirst c.args.memory.now.clock c.args.terms.limits.patience c.args.terms.limits.max_commits c.args.terms.retries c.start.new.recorded) (sym h.1) c.in_ok-actor.ensures.first
+      ];
+      rest = sym here.1 ∙ ap (λ (k : ℕ). drop k c.into_iter-player-iterator.result.rest.items) (let e : suc (length before) ≡ length c.push.new.self.items = omega arith in e);
+      runs = λ place p a e f. elim (last_or_before before actor place a (ap (λ (xs : List (Actor g.row.P.Denot)). slice_get xs place) (sym items) ∙ f)) [
+        | inl h ↦
+            other_runs g.P.Player.next_call g.P.Player.answered g.P.Player.restarted g.P.Player.calls_left g.met.P.Player.nearer (first_of p c.args.terms.arena) (bytes_of c.args.memory.now.words) c.args.memory.now c.args.memory.now
+            c.loop-player.recorded c.start.new.recorded actor.thread a (laid_first (bytes_of c.args.memory.now.words) c.args.memory.now c.loop-player.recorded refl c.requires.fit c.requires.clock i.ended) (i.sound.each place a h).sound.tied own
+            (λ same. absurd (let l = within_of before place a h in let mine = (i.sound.each place a h).thread in omega arith)) (let z : c.args.memory.now.clock ≤ c.args.memory.now.clock = omega arith in z) (λ x. refl) (i.runs place p a e h)
+        | inr h ↦
+            (let same : c.in-Some.player ≡ p = (let z : Some c.in-Some.player ≡ Some p = sym here.0 ∙ (ap (slice_get c.into_iter-player-iterator.result.rest.items) (sym h.0) ∙ e) in cc) in
+            subst (λ (x : Actor g.row.P.Denot). RunsFrom g.P.Player.next_call g.P.Player.answered g.P.Player.restarted g.P.Player.calls_left (first_of p c.args.terms.arena) (bytes_of c.args.memory.now.words) c.args.memory.now c.start.new.recorded x) (sym h.1)
+            (subst (λ (q : g.row.P.Denot). RunsFrom g.P.Player.next_call g.P.Player.answered g.P.Player.restarted g.P.Player.calls_left (first_of q c.args.terms.arena) (bytes_of c.args.memory.now.words) c.args.memory.now c.start.new.recorded actor) same
+            (c.in_ok-actor.ensures.runs i.ended)))
       ];
       first = λ e. absurd (omega arith);
       fed = λ place e. fed_joined before actor i.fed c.in_ok-actor.ensures.fed place (ap (λ (xs : List (Actor g.row.P.Denot)). ending_in xs place) (sym items) ∙ e);
@@ -66,3 +90,8 @@ returns-clause-none g c = (
   none_active g.P.Player.next_call g.P.Player.answered g.P.Player.restarted g.P.Player.calls_left g.P.Player.depth c.args.memory.now c.loop-player.recorded c.loop-player.actors.items c.loop-player.invariant.sound
       (λ place a e. (c.loop-player.invariant.tries place a e).between.none),
 )
+
+pub returns-clause-runs : goal.returns-clause-runs
+returns-clause-runs g c place p a e f =
+    let same : c.into_iter-player-iterator.result.rest.items ≡ c.args.players.items = search rules in
+    c.loop-player.invariant.runs place p a (ap (λ (xs : List g.row.P.Denot). slice_get xs place) same ∙ e) f

@@ -1,10 +1,12 @@
-use Rattle.std.proofs.Common.{◌≡◌, ℕ, ◌+◌, ◌≤◌, [], length, slice_get, All, Some}
+use Rattle.std.proofs.Common.{◌≡◌, ℕ, ◌+◌, ◌≤◌, [], length, slice_get, drop, All, Some}
 use Rattle.itm_types.specs.Memory.{bytes_of}
 use Rattle.norec_world.specs.Actors.{AreActors}
 use Rattle.norec_world.specs.World.{IsSoloWorld, ending_in}
 use Rattle.norec_world.specs.declared.attempt.End.TheVariants.{NoMemory}
 use Rattle.norec_world.specs.declared.actor.Actor.{Actor}
 use Rattle.norec_world.specs.Starts.{IsFirst}
+use Rattle.norec_world.specs.Runs.{RunsFrom}
+use Rattle.norec_world.specs.Opaque.{first_of}
 use Rattle.norec_world.proofs.start.start_all.Given as goal
 
 abbrev pub invariant-loop-player : goal.invariant-loop-player
@@ -15,6 +17,9 @@ invariant-loop-player g l = record {
   sound : AreActors g.P.Player.next_call g.P.Player.answered g.P.Player.restarted g.P.Player.calls_left g.P.Player.depth l.memory l.recorded l.actors.items;
   ended : l.recorded.ended ≡ [];
   tries : (place : ℕ) (a : Actor g.row.P.Denot) → slice_get l.actors.items place ≡ Some a → IsFirst l.memory.clock l.terms.limits.patience l.terms.limits.max_commits l.terms.retries l.recorded a;
+  rest : l.player-iterator.rest.items ≡ drop (length l.actors.items) l.initial.player-iterator.rest.items;
+  runs : (place : ℕ) (p : g.row.P.Denot) (a : Actor g.row.P.Denot) → slice_get l.initial.player-iterator.rest.items place ≡ Some p → slice_get l.actors.items place ≡ Some a
+      → RunsFrom g.P.Player.next_call g.P.Player.answered g.P.Player.restarted g.P.Player.calls_left (first_of p l.terms.arena) (bytes_of l.memory.words) l.memory l.recorded a;
   first : length l.actors.items ≡ 0 → (l.player-iterator.rest.items ≡ l.initial.player-iterator.rest.items) × (l.recorded.ended ≡ []) × (l.recorded.active ≡ []);
   fed : (place : ℕ) → ending_in l.actors.items place ≡ Some NoMemory → ⊥;
   alone : length l.actors.items ≡ 1 → length l.initial.player-iterator.rest.items ≡ 1

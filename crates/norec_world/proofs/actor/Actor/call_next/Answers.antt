@@ -5,6 +5,10 @@ use Rattle.norec_world.specs.declared.attempt.End.TheVariants.{Finished}
 use Rattle.norec_world.proofs.Asking.{call_answered, call_waits, call_ends, call_starved}
 use Rattle.norec_world.proofs.Calling.{at_once, then_sound, then_thread, then_falls, then_less}
 use Rattle.norec_world.specs.Sound.{HasRow}
+use Rattle.norec_world.specs.declared.actor.Status.TheVariants.{Waits}
+use Rattle.norec_world.specs.Tries.{prior_of}
+use Rattle.norec_world.proofs.CommitCounts.{counted_after}
+use Rattle.norec_world.proofs.RunCalls.{finish_runs, ask_runs, answer_runs, starve_runs, laid_calls}
 use Rattle.norec_world.proofs.TryCalls.{finish_tries, starve_tries, ask_tries, answer_tries}
 use Rattle.norec_engine.specs.Core.{Core, came}
 use Rattle.norec_world.proofs.Tying.{limit_same}
@@ -107,3 +111,37 @@ returns-in-Ok-Answer-clause-limit g c =
     let engine = (c.settle.ensures.settled c.args.self.now.engine.is_open d).engine in
     let kept = limit_same (came c.args.self.now.engine c.in-Some.call asked.again) c.ask.new.self.engine c.in-Ok-Answer.field-0 asked.proceeds in
     (ap (λ (e : Core). e.max_commits) engine ∙ kept.0, ap (λ (e : Core). e.patience) engine ∙ kept.1)
+
+pub returns-in_default-clause-runs : goal.returns-in_default-clause-runs
+returns-in_default-clause-runs g c first base laid runs = (laid, finish_runs g.P.Player.next_call g.P.Player.answered g.P.Player.restarted g.P.Player.calls_left g.P.Player.depth g.met.P.Player.nearer c.args.memory.now c.args.recorded.now c.args.self.now c.requires.sound c.requires.ready first base laid runs)
+
+pub returns-in-Ok-Step-clause-runs : goal.returns-in-Ok-Step-clause-runs
+returns-in-Ok-Step-clause-runs g c first base laid runs =
+    let own = c.ask.ensures.others.own in (
+      laid_calls g.P.Player.next_call g.P.Player.answered g.P.Player.restarted g.P.Player.calls_left g.P.Player.depth g.met.P.Player.nearer c.args.memory.now c.args.recorded.now c.args.self.now c.requires.sound c.requires.ready first base laid runs c.ask.new.recorded own.more own.ended
+          (counted_after c.args.memory.now.clock c.args.memory.now.clock (prior_of c.args.recorded.now c.args.self.now) c.ask.new.recorded (record c.ask.new.self { status = Waits c.in-Some.call c.in-Ok-Step.step }) (returns-in-Ok-Step-clause-tries g c) laid.counted),
+      ask_runs g.P.Player.next_call g.P.Player.answered g.P.Player.restarted g.P.Player.calls_left g.P.Player.depth g.met.P.Player.nearer c.args.memory.now c.args.recorded.now c.args.self.now c.requires.sound c.requires.ready first base laid runs c.ask.new.recorded c.ask.new.self c.in-Some.call c.in-Ok-Step.field-0 c.in-Ok-Step.ensures.asked c.in-Ok-Step.ensures.told c.in-Ok-Step.step c.in-Ok-Step.field-0-is,
+    )
+
+pub returns-in-Ok-Answer-clause-runs : goal.returns-in-Ok-Answer-clause-runs
+returns-in-Ok-Answer-clause-runs g c first base laid runs =
+    let own = (returns-in-Ok-Answer-clause-others g c).own in
+    let d = at_once g.P.Player.next_call g.P.Player.answered g.P.Player.restarted g.P.Player.calls_left g.P.Player.depth c.args.memory.now c.args.recorded.now c.ask.new.recorded c.ask.new.recorded
+    c.args.self.now c.ask.new.self c.ask.new.self c.in-Some.call c.requires.sound c.requires.ready c.in-Ok-Answer.field-0 c.in-Ok-Answer.answer c.in-Ok-Answer.field-0-is c.in-Ok-Answer.ensures.asked in
+    let settled = (c.settle.ensures.others c.args.self.now.engine.is_open d).own in (
+      laid_calls g.P.Player.next_call g.P.Player.answered g.P.Player.restarted g.P.Player.calls_left g.P.Player.depth g.met.P.Player.nearer c.args.memory.now c.args.recorded.now c.args.self.now c.requires.sound c.requires.ready first base laid runs c.settle.new.recorded own.more own.ended
+          (counted_after c.args.memory.now.clock c.args.memory.now.clock (prior_of c.args.recorded.now c.args.self.now) c.settle.new.recorded c.settle.new.self (returns-in-Ok-Answer-clause-tries g c) laid.counted),
+      answer_runs g.P.Player.next_call g.P.Player.answered g.P.Player.restarted g.P.Player.calls_left g.P.Player.depth g.met.P.Player.nearer c.args.memory.now c.args.recorded.now c.args.self.now c.requires.sound c.requires.ready first base laid runs c.ask.new.recorded c.ask.new.self c.in-Some.call c.in-Ok-Answer.field-0 c.in-Ok-Answer.ensures.asked c.in-Ok-Answer.ensures.told c.in-Ok-Answer.answer c.in-Ok-Answer.field-0-is
+          c.settle.new.recorded c.settle.new.self settled.more settled.ended c.settle.ensures.settled c.settle.ensures.records,
+    )
+
+pub returns-in-Err-clause-runs : goal.returns-in-Err-clause-runs
+returns-in-Err-clause-runs g c first base laid runs =
+    let own = (returns-in-Err-clause-others g c).own in
+    let starved = c.starve.ensures.others.own in
+    let u = c.in-Err.ensures.unasked in (
+      laid_calls g.P.Player.next_call g.P.Player.answered g.P.Player.restarted g.P.Player.calls_left g.P.Player.depth g.met.P.Player.nearer c.args.memory.now c.args.recorded.now c.args.self.now c.requires.sound c.requires.ready first base laid runs c.starve.new.recorded own.more own.ended
+          (counted_after c.args.memory.now.clock c.args.memory.now.clock (prior_of c.args.recorded.now c.args.self.now) c.starve.new.recorded c.starve.new.self (returns-in-Err-clause-tries g c) laid.counted),
+      starve_runs g.P.Player.next_call g.P.Player.answered g.P.Player.restarted g.P.Player.calls_left g.P.Player.depth g.met.P.Player.nearer c.args.memory.now c.args.recorded.now c.args.self.now c.requires.sound c.requires.ready first base laid runs c.ask.new.recorded c.starve.new.recorded c.ask.new.self c.starve.new.self starved.more u.engine u.same.thread u.same.player u.same.nth u.again c.ask.ensures.rows
+          c.starve.ensures.status c.starve.ensures.thread c.starve.ensures.closed starved.ended c.starve.ensures.row c.starve.ensures.none,
+    )

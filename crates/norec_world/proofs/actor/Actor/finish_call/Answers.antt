@@ -37,6 +37,7 @@ loop-self-preserved g c =
         counted_one c.loop-self.invariant.took.0 c.loop-self.taken c.saturating_add-taken.result c.loop-self.invariant.took.2 c.saturating_add-taken.ensures,
       );
       tracks = λ z max_commits p0 base arena t. c.step.ensures.tracks (c.loop-self.invariant.thread ∙ z) max_commits p0 base arena (c.loop-self.invariant.tracks z max_commits p0 base arena t);
+      runs = λ first base laid runs. (let x = c.loop-self.invariant.runs first base laid runs in c.step.ensures.runs first base x.0 x.1);
       others = others_twice c.args.self.now c.loop-self.self c.step.new.self c.args.recorded.now c.loop-self.recorded c.step.new.recorded c.loop-self.invariant.others c.step.ensures.others;
       clocks = clocks_twice c.args.memory.now c.loop-self.memory c.step.new.memory c.args.self.now.engine c.loop-self.self.engine c.step.new.self.engine c.loop-self.invariant.clocks c.step.ensures.clocks;
       thread = c.step.ensures.thread ∙ c.loop-self.invariant.thread;

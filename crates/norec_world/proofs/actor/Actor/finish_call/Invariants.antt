@@ -1,5 +1,6 @@
 use Rattle.norec_world.specs.Holding.{ClocksOn}
 use Rattle.norec_world.specs.Own.{KeepsOthers}
+use Rattle.norec_world.specs.Runs.{StillRuns}
 use Rattle.std.proofs.Common.{◌≡◌, ℕ, true}
 use Rattle.norec_world.specs.Status.{is_waiting, is_ready}
 use Rattle.norec_world.specs.Tracks.{StillTracks}
@@ -13,6 +14,7 @@ invariant-loop-self g l = record {
   sound : IsSound g.P.Player.next_call g.P.Player.answered g.P.Player.restarted g.P.Player.calls_left g.P.Player.depth l.memory l.recorded l.self;
   tracks : l.initial.self.thread ≡ 0 → StillTracks g.P.Player.next_call g.P.Player.answered g.P.Player.calls_left l.initial.memory l.initial.recorded l.initial.self l.memory l.recorded l.self;
   took : (n : ℕ) × StepsOn g.P.Player.next_call g.P.Player.answered g.P.Player.calls_left n (standing l.initial.memory l.initial.recorded l.initial.self) (standing l.memory l.recorded l.self) × (l.taken ≡ counted 0 n);
+  runs : StillRuns g.P.Player.next_call g.P.Player.answered g.P.Player.restarted g.P.Player.calls_left l.initial.memory l.initial.recorded l.initial.self l.memory l.recorded l.self;
   others : KeepsOthers l.initial.self l.initial.recorded l.self l.recorded;
   clocks : ClocksOn l.initial.memory l.initial.self.engine l.memory l.self.engine;
   thread : l.self.thread ≡ l.initial.self.thread;

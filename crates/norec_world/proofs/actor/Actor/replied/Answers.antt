@@ -61,7 +61,8 @@ pub returns-then-is_open-clause-others : goal.returns-then-is_open-clause-others
 returns-then-is_open-clause-others g c was d =
     let row : Attempt = record c.in-Some.attempt { at = c.snapshot.result / 2 } in
     let some : c.args.self.now.pending ≡ Some c.in-Some.attempt = sym c.in-Some.ensures.value in
-    others_opened c.args.self.now _ c.args.recorded.now c.open.new.self row c.in-Some.attempt (d.in_call.opens c.in-Some.attempt some).thread refl some c.take.ensures.after c.open.ensures
+    others_opened c.args.self.now _ c.args.recorded.now c.open.new.self row c.in-Some.attempt (d.in_call.opens c.in-Some.attempt some).thread
+    (row_none c.args.recorded.now c.args.self.now.thread was (λ e. (let n = d.in_call.inside e in absurd (cc))) d.kept.row) refl some c.take.ensures.after c.open.ensures
 
 pub returns-then-is_open-2-clause-others : goal.returns-then-is_open-2-clause-others
 returns-then-is_open-2-clause-others g c was d =

@@ -38,6 +38,7 @@ loop-alloc-preserved g c =
           (standing c.finish_call.new.memory c.work.new.recorded c.work.new.self) c.loop-alloc.invariant.took.1 turn in
           (both.0, both.2, counted_both c.loop-alloc.invariant.took.0 f.0 both.0 c.loop-alloc.taken c.finish_call.result c.saturating_add-taken.result c.loop-alloc.invariant.took.2 f.2 both.1 c.saturating_add-taken.ensures));
       ready = c.work.ensures.done;
+      runs = λ first base laid runs. (let x = c.loop-alloc.invariant.runs first base laid runs in let y = c.finish_call.ensures.runs first base x.0 x.1 in c.work.ensures.runs first base y.0 y.1);
       others = others_twice c.args.self.now c.loop-alloc.self c.work.new.self c.args.recorded.now c.loop-alloc.recorded c.work.new.recorded c.loop-alloc.invariant.others
           (others_twice c.loop-alloc.self c.finish_call.new.self c.work.new.self c.loop-alloc.recorded c.finish_call.new.recorded c.work.new.recorded c.finish_call.ensures.others c.work.ensures.others);
       clocks = clocks_twice c.args.memory.now c.loop-alloc.memory c.finish_call.new.memory c.args.self.now.engine c.loop-alloc.self.engine c.work.new.self.engine c.loop-alloc.invariant.clocks

@@ -1,5 +1,6 @@
 use Rattle.norec_world.specs.Holding.{ClocksOn}
 use Rattle.norec_world.specs.Own.{KeepsOthers}
+use Rattle.norec_world.specs.Runs.{StillRuns}
 use Rattle.std.proofs.Common.{◌≡◌, ℕ, true, false}
 use Rattle.norec_world.specs.Status.{is_waiting, is_ready}
 use Rattle.norec_world.specs.Tracks.{StillTracks}
@@ -14,6 +15,7 @@ invariant-loop-alloc g l = record {
   ready : is_ready l.self.status ≡ false;
   tracks : l.initial.self.thread ≡ 0 → StillTracks g.P.Player.next_call g.P.Player.answered g.P.Player.calls_left l.initial.memory l.initial.recorded l.initial.self l.memory l.recorded l.self;
   took : (n : ℕ) × StepsOn g.P.Player.next_call g.P.Player.answered g.P.Player.calls_left n (standing l.initial.memory l.initial.recorded l.initial.self) (standing l.memory l.recorded l.self) × (l.taken ≡ counted 0 n);
+  runs : StillRuns g.P.Player.next_call g.P.Player.answered g.P.Player.restarted g.P.Player.calls_left l.initial.memory l.initial.recorded l.initial.self l.memory l.recorded l.self;
   others : KeepsOthers l.initial.self l.initial.recorded l.self l.recorded;
   clocks : ClocksOn l.initial.memory l.initial.self.engine l.memory l.self.engine;
   thread : l.self.thread ≡ l.initial.self.thread;

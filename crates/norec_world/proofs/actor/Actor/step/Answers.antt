@@ -2,6 +2,9 @@ use Rattle.norec_world.proofs.Owning.{others_twice}
 use Rattle.std.proofs.Common.{sym}
 use Rattle.norec_world.proofs.Stepping.{step_due, step_done, step_clocks}
 use Rattle.norec_world.proofs.TrySteps.{step_tries, step_unfinished}
+use Rattle.norec_world.specs.Tries.{prior_of}
+use Rattle.norec_world.proofs.CommitCounts.{counted_after}
+use Rattle.norec_world.proofs.RunTurns.{step_runs}
 use Rattle.norec_world.proofs.Handing.{stepped}
 use Rattle.norec_world.proofs.actor.Actor.step.Goals as goal
 
@@ -154,3 +157,22 @@ returns-in-Waits-clause-unfinished g c e =
     c.in-Waits.call c.in-Waits.step (sym c.in-Waits.ensures.value) c.apply-seen.result c.apply-seen.ensures.found c.apply-seen.new.self c.apply-seen.ensures.cells c.apply-seen.ensures.fit
     c.resume-next.new.self c.resume-next.ensures.joins c.resume-next.ensures.settled c.resume-next.ensures.count
     c.resume-next.result c.resume-next.ensures.proceeds c.replace.new.dest c.replace.ensures.after)) e
+
+pub returns-in-Waits-clause-runs : goal.returns-in-Waits-clause-runs
+returns-in-Waits-clause-runs g c first base laid runs =
+    let own = (returns-in-Waits-clause-others g c).own in
+    step_runs g.P.Player.next_call g.P.Player.answered g.P.Player.restarted g.P.Player.calls_left g.P.Player.depth g.met.P.Player.nearer c.args.memory.now c.args.recorded.now c.args.self.now c.requires.sound
+    c.in-Waits.call c.in-Waits.step (sym c.in-Waits.ensures.value) c.apply-seen.result c.apply-seen.ensures.found c.apply-seen.new.self c.apply-seen.ensures.cells c.apply-seen.ensures.fit
+    c.resume-next.new.self c.resume-next.ensures.joins c.resume-next.ensures.settled c.resume-next.ensures.count
+    first base laid runs
+    c.resume-next.result c.resume-next.ensures.proceeds c.replace.new.dest c.replace.ensures.after c.proceed.new.recorded c.proceed.new.self
+    (c.proceed.ensures.done c.args.self.now.engine.is_open (step_due g.P.Player.next_call g.P.Player.answered g.P.Player.restarted g.P.Player.calls_left g.P.Player.depth c.args.memory.now c.args.recorded.now c.args.self.now c.requires.sound
+    c.in-Waits.call c.in-Waits.step (sym c.in-Waits.ensures.value) c.apply-seen.result c.apply-seen.ensures.found c.apply-seen.new.self c.apply-seen.ensures.cells c.apply-seen.ensures.fit
+    c.resume-next.new.self c.resume-next.ensures.joins c.resume-next.ensures.settled c.resume-next.ensures.count
+    c.resume-next.result c.resume-next.ensures.proceeds c.replace.new.dest c.replace.ensures.after))
+    (c.proceed.ensures.tells c.args.self.now.engine.is_open (step_due g.P.Player.next_call g.P.Player.answered g.P.Player.restarted g.P.Player.calls_left g.P.Player.depth c.args.memory.now c.args.recorded.now c.args.self.now c.requires.sound
+    c.in-Waits.call c.in-Waits.step (sym c.in-Waits.ensures.value) c.apply-seen.result c.apply-seen.ensures.found c.apply-seen.new.self c.apply-seen.ensures.cells c.apply-seen.ensures.fit
+    c.resume-next.new.self c.resume-next.ensures.joins c.resume-next.ensures.settled c.resume-next.ensures.count
+    c.resume-next.result c.resume-next.ensures.proceeds c.replace.new.dest c.replace.ensures.after))
+    c.follow.new.recorded c.follow.ensures.told own.more own.ended
+    (counted_after c.args.memory.now.clock c.apply-seen.new.self.clock (prior_of c.args.recorded.now c.args.self.now) c.follow.new.recorded c.proceed.new.self (returns-in-Waits-clause-tries g c) laid.counted)

@@ -19,6 +19,7 @@ loop-self-preserved g c =
           tries_then c.args.memory.now.clock c.args.memory.now.clock (prior_of c.args.recorded.now c.args.self.now) c.loop-self.recorded c.call_next.new.recorded c.loop-self.self c.call_next.new.self c.in-Ready.is
           (no_pending g.P.Player.next_call g.P.Player.answered g.P.Player.restarted g.P.Player.calls_left g.P.Player.depth c.args.memory.now c.loop-self.recorded c.loop-self.self c.loop-self.invariant.sound c.in-Ready.is)
           c.loop-self.invariant.limit.0 c.loop-self.invariant.retries c.call_next.ensures.tries (c.loop-self.invariant.tries was);
+      runs = λ first base laid runs. (let x = c.loop-self.invariant.runs first base laid runs in c.call_next.ensures.runs first base x.0 x.1);
       finishes = λ was. c.call_next.ensures.finishes;
       thread = c.call_next.ensures.thread ∙ c.loop-self.invariant.thread;
       still = λ n. absurd (let both : true ≡ false = ap is_ready (sym c.in-Ready.is) ∙ (ap (λ (a : _). is_ready a.status) (c.loop-self.invariant.still n).0 ∙ n) in (cc));

@@ -1,6 +1,7 @@
 use Rattle.norec_world.specs.declared.attempt.End.TheVariants.{Finished}
 use Rattle.norec_world.specs.Tries.{Tries, prior_of}
 use Rattle.norec_world.specs.Own.{KeepsOthers}
+use Rattle.norec_world.specs.Runs.{StillRuns}
 use Rattle.std.proofs.Common.{◌≡◌, None, Some, true, false}
 use Rattle.norec_world.specs.Status.{ending_of, is_ready}
 use Rattle.norec_world.specs.Tracks.{StillTracks}
@@ -11,6 +12,7 @@ abbrev pub invariant-loop-self : goal.invariant-loop-self
 invariant-loop-self g l = record {
   sound : IsSound g.P.Player.next_call g.P.Player.answered g.P.Player.restarted g.P.Player.calls_left g.P.Player.depth l.memory l.recorded l.self;
   tracks : l.initial.self.thread ≡ 0 → StillTracks g.P.Player.next_call g.P.Player.answered g.P.Player.calls_left l.memory l.initial.recorded l.initial.self l.memory l.recorded l.self;
+  runs : StillRuns g.P.Player.next_call g.P.Player.answered g.P.Player.restarted g.P.Player.calls_left l.memory l.initial.recorded l.initial.self l.memory l.recorded l.self;
   others : KeepsOthers l.initial.self l.initial.recorded l.self l.recorded;
   holds : l.self.engine.holds ≡ l.initial.self.engine.holds;
   thread : l.self.thread ≡ l.initial.self.thread;

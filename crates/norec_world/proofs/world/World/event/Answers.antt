@@ -7,6 +7,7 @@ use Rattle.norec_world.specs.Views.{world_of}
 use Rattle.norec_world.proofs.Worlds.{got_at, within_some, waiting_some, place_is, place_alone}
 use Rattle.norec_world.specs.Events.{IsEvent}
 use Rattle.norec_world.proofs.Frames.{actors_after}
+use Rattle.norec_world.proofs.RunFrames.{running_after, world_opaque}
 use Rattle.norec_world.proofs.Events.{event_then}
 use Rattle.norec_world.proofs.CommitCounts.{commits_after}
 use Rattle.norec_world.proofs.Owning.{others_twice}
@@ -57,6 +58,12 @@ invariant_of-self g c =
           c.self.inside.recorded c.step.new.recorded c.work.new.recorded got c.step.new.self c.work.new.self c.step.ensures.sound
           (record { tries = c.step.ensures.tries; finishes = λ e. absurd (c.step.ensures.unfinished e); others = c.step.ensures.others; clocks = c.step.ensures.clocks; retries = c.step.ensures.retries })
           c.work.ensures.others c.work.ensures.holds c.work.ensures.limit c.work.ensures.retries c.work.ensures.tries c.work.ensures.finishes c.work.ensures.still),
+      running_after g.P.Player.next_call g.P.Player.answered g.P.Player.restarted g.P.Player.calls_left g.met.P.Player.nearer g.P.Player.depth (world_of c.self.inside) sound c.self.invariant.1 c.self.invariant.3 c.self.invariant.4
+          c.args.actor got c.work.new.self here c.step.new.memory c.work.new.recorded c.saturating_add-self-inside.result
+          (others_twice got c.step.new.self c.work.new.self c.self.inside.recorded c.step.new.recorded c.work.new.recorded c.step.ensures.others c.work.ensures.others)
+          (clocks_twice c.self.inside.memory c.step.new.memory c.step.new.memory got.engine c.step.new.self.engine c.work.new.self.engine c.step.ensures.clocks
+          (clocks_still c.step.new.memory c.step.new.self.engine c.work.new.self.engine c.work.ensures.holds c.work.ensures.limit))
+          (λ first base laid runs. (let x = c.step.ensures.runs first base laid runs in c.work.ensures.runs first base x.0 x.1)),
     )
 
 -- the step and the local work after it
@@ -95,3 +102,8 @@ returns-clause-alone g c = (invariant_of-self g c).2
 
 pub returns-clause-commits : goal.returns-clause-commits
 returns-clause-commits g c = (invariant_of-self g c).3
+
+pub returns-clause-opaque : goal.returns-clause-opaque
+returns-clause-opaque g c =
+    let x = invariant_of-self g c in
+    world_opaque g.P.Player.next_call g.P.Player.answered g.P.Player.restarted g.P.Player.calls_left g.met.P.Player.nearer g.P.Player.depth _ x.0 x.1 x.4

@@ -1,5 +1,10 @@
-use Rattle.std.proofs.Common.{rules, ℕ, subst}
+use Rattle.std.proofs.Common.{rules, ◌≡◌, ℕ, List, slice_get, sym, ap, subst, ◌∙◌}
 use Rattle.norec_world.specs.Tries.{IsBetween}
+use Rattle.itm_types.specs.Memory.{bytes_of}
+use Rattle.norec_world.specs.Rows.{AreFrom}
+use Rattle.norec_world.specs.Runs.{RunsFrom}
+use Rattle.norec_world.specs.Opaque.{first_of}
+use Rattle.norec_world.proofs.RunFrames.{laid_first, world_opaque}
 use Rattle.norec_world.proofs.CommitCounts.{commits_first}
 use Rattle.norec_world.proofs.world.World.new.Goals as goal
 
@@ -10,6 +15,15 @@ invariant_of-result g c = (
   search rules,
   commits_first g.P.Player.next_call g.P.Player.answered g.P.Player.restarted g.P.Player.calls_left g.P.Player.depth _
       c.in_ok-actors.ensures.sound c.new-memory.ensures.clock c.in_ok-actors.ensures.none.0 c.in_ok-actors.ensures.first,
+  record {
+    laid = laid_first c.new-base.result c.new-memory.result c.start_all.new.recorded (search rules) c.new-memory.ensures.fit c.new-memory.ensures.clock c.in_ok-actors.ensures.none.0;
+    ordered = subst (AreFrom 0) (sym c.in_ok-actors.ensures.none.1) tt;
+    each = λ place p a e f.
+        (let based : c.new-base.result ≡ bytes_of c.new-memory.result.words = search rules in
+        let players : c.in_ok-opening.opening.items ≡ c.args.players.items = search rules in
+        subst (λ (base : List ℕ). RunsFrom g.P.Player.next_call g.P.Player.answered g.P.Player.restarted g.P.Player.calls_left (first_of p c.args.setup.arena) base c.new-memory.result c.start_all.new.recorded a) (sym based)
+        (c.in_ok-actors.ensures.runs place p a (ap (λ (xs : List g.row.P.Denot). slice_get xs place) (sym players) ∙ e) f));
+  },
 )
 
 pub returns-clause-first : goal.returns-clause-first
@@ -17,3 +31,8 @@ returns-clause-first g c place a e = subst (λ (n : ℕ). IsBetween n 1 c.start_
 
 pub returns-clause-commits : goal.returns-clause-commits
 returns-clause-commits g c = (invariant_of-result g c).3
+
+pub returns-clause-opaque : goal.returns-clause-opaque
+returns-clause-opaque g c =
+    let x = invariant_of-result g c in
+    world_opaque g.P.Player.next_call g.P.Player.answered g.P.Player.restarted g.P.Player.calls_left g.met.P.Player.nearer g.P.Player.depth _ x.0 x.1 x.4

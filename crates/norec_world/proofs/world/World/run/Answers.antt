@@ -12,6 +12,7 @@ loop-actor-preserved g c =
         all = search rules;
         counts = search rules;
         commits = c.go.ensures.commits;
+        opaque = c.go.ensures.opaque;
         opening = search rules;
         actors = search rules;
       }
@@ -21,6 +22,7 @@ loop-actor-preserved g c =
         all = search rules;
         counts = search rules;
         commits = c.go.ensures.commits;
+        opaque = c.go.ensures.opaque;
         opening = search rules;
         actors = search rules;
       }
@@ -30,6 +32,7 @@ loop-actor-preserved g c =
         all = search rules;
         counts = search rules;
         commits = c.go.ensures.commits;
+        opaque = c.go.ensures.opaque;
         opening = search rules;
         actors = search rules;
       }
@@ -39,6 +42,7 @@ loop-actor-preserved g c =
         all = search rules;
         counts = search rules;
         commits = c.go.ensures.commits;
+        opaque = c.go.ensures.opaque;
         opening = search rules;
         actors = search rules;
       }

@@ -2,6 +2,7 @@ use Rattle.std.proofs.Common.{◌≡◌, ◌+◌, List, length, take, Result}
 use Rattle.norec_world.specs.declared.fault.WorldFault.{WorldFault}
 use Rattle.norec_world.specs.World.{counted, SameOpening}
 use Rattle.norec_world.specs.Commits.{CommitsInOrder}
+use Rattle.norec_world.specs.Opaque.{AreOpaque}
 use Rattle.norec_world.specs.Going.{Leads, passes_of}
 use Rattle.norec_world.proofs.world.World.run.Given as goal
 
@@ -11,6 +12,7 @@ invariant-loop-actor g l = record {
   all : l.passes.taken + l.passes.passed + l.passes.starved ≡ l.actor-index;
   counts : l.self.events ≡ counted l.initial.self.events (l.passes.taken + l.passes.starved);
   commits : CommitsInOrder l.self;
+  opaque : AreOpaque g.P.Player.next_call g.P.Player.answered g.P.Player.restarted g.P.Player.calls_left l.self;
   opening : SameOpening l.initial.self l.self;
   actors : length l.self.actors ≡ length l.initial.self.actors;
 }

@@ -5,6 +5,8 @@ use Rattle.norec_world.specs.Status.{ending_of}
 use Rattle.std.proofs.Common.{◌≡◌, ◌<◌, Some, IsSome, subst, length, length-set, slice_get, sym, ap, ◌∙◌, rules}
 use Rattle.norec_world.proofs.Worlds.{got_at, place_is, place_tracks, place_alone, ended_ready}
 use Rattle.norec_world.proofs.Frames.{actors_after}
+use Rattle.norec_world.specs.Opaque.{AreOpaque}
+use Rattle.norec_world.proofs.RunFrames.{running_after, world_opaque}
 use Rattle.norec_world.specs.Views.{world_of}
 use Rattle.norec_world.specs.Stretches.{standing}
 use Rattle.norec_world.proofs.Outing.{took_all, commits_on}
@@ -45,6 +47,9 @@ invariant_of-self g c =
       commits_on g.P.Player.next_call g.P.Player.answered g.P.Player.calls_left (world_of c.self.inside) c.args.actor within c.self.invariant.3
           got c.index_mut-a.ensures.value c.run_out-taken.ensures.took.0 c.saturating_add-self-inside.result
           (standing c.run_out-taken.new.memory c.run_out-taken.new.recorded c.run_out-taken.new.self) c.run_out-taken.ensures.took.1,
+      running_after g.P.Player.next_call g.P.Player.answered g.P.Player.restarted g.P.Player.calls_left g.met.P.Player.nearer g.P.Player.depth (world_of c.self.inside) c.self.invariant.0 c.self.invariant.1 c.self.invariant.3 c.self.invariant.4
+          c.args.actor got c.run_out-taken.new.self here c.run_out-taken.new.memory c.run_out-taken.new.recorded c.saturating_add-self-inside.result
+          c.run_out-taken.ensures.others c.run_out-taken.ensures.clocks c.run_out-taken.ensures.runs,
     )
 
 pub returns-clause-took : goal.returns-clause-took
@@ -74,3 +79,13 @@ returns-clause-took g c =
 
 pub returns-clause-commits : goal.returns-clause-commits
 returns-clause-commits g c = (invariant_of-self g c).3
+
+pub returns-clause-opaque : goal.returns-clause-opaque
+returns-clause-opaque g c =
+    let x = invariant_of-self g c in
+    world_opaque g.P.Player.next_call g.P.Player.answered g.P.Player.restarted g.P.Player.calls_left g.met.P.Player.nearer g.P.Player.depth _ x.0 x.1 x.4
+
+pub returns-then-index-len-clause-opaque : goal.returns-then-index-len-clause-opaque
+returns-then-index-len-clause-opaque g c =
+    subst (AreOpaque g.P.Player.next_call g.P.Player.answered g.P.Player.restarted g.P.Player.calls_left) c.self.view_is
+    (world_opaque g.P.Player.next_call g.P.Player.answered g.P.Player.restarted g.P.Player.calls_left g.met.P.Player.nearer g.P.Player.depth (world_of c.self.inside) c.self.invariant.0 c.self.invariant.1 c.self.invariant.4)

@@ -1,0 +1,246 @@
+-- The open attempt, as its calls go on.
+use Rattle.std.proofs.Common.{◌≡◌, ℕ, zero, suc, ◌/◌, ◌<◌, ◌≤◌, Bool, true, false, if◌then◌else◌, List, [], ◌∷◌, ◌++◌, map, Option, None, Some, refl, sym, ap, subst, ◌∙◌, arith}
+use Rattle.std.proofs.lemmas.List.{append-nil}
+use Rattle.itm_types.specs.declared.call.Call.{Call}
+use Rattle.itm_types.specs.declared.call.Call.TheVariants.{Begin, Commit}
+use Rattle.itm_types.specs.declared.call.Props.{Props}
+use Rattle.write_set.specs.Rows.{overlay}
+use Rattle.itm_types.specs.declared.call.Reply.{Reply as Replied}
+use Rattle.itm_types.specs.declared.call.Reply.TheVariants.{Done, Code}
+use Rattle.itm_types.specs.declared.step.Step.{Step}
+use Rattle.itm_types.specs.declared.step.Step.TheVariants.{Load, Store, Cas}
+use Rattle.itm_types.specs.Memory.{bytes_of, IsMemory, Agrees}
+use Rattle.itm_model.specs.declared.limits.TheConstants.{MAX_DEPTH}
+use Rattle.itm_model.specs.State.{State}
+use Rattle.itm_model.specs.Machine.{opened, is_open, after, reply}
+use Rattle.itm_model.specs.Runs.{turn, answers, answers_within}
+use Rattle.norec_engine.specs.Core.{Core, handed_to, word_loaded}
+use Rattle.norec_engine.specs.Stands.{state_over, stands_for}
+use Rattle.norec_engine.specs.Proceeds.{AsksFor, Replies, Commits, recoded}
+use Rattle.norec_world.specs.declared.attempt.Attempt.{Attempt}
+use Rattle.norec_world.specs.declared.attempt.Entry.{Entry}
+use Rattle.norec_world.specs.declared.attempt.Outcome.{Outcome}
+use Rattle.norec_world.specs.declared.attempt.Outcome.TheVariants as outcomes
+use Rattle.norec_world.specs.Memories.{bytes_at, words_at}
+use Rattle.norec_world.specs.Attempts.{pair_of, alone}
+use Rattle.norec_world.specs.Alone.{state_then, player_then, IsAlone}
+use Rattle.norec_world.specs.Opacity.{Beginning, Between, begin_code, EndsAs, IsTryAt}
+use Rattle.norec_world.specs.Runs.{begins_at, IsInTry}
+use Rattle.norec_world.proofs.Alones.{begins_alone}
+use Rattle.norec_world.proofs.Following.{alone_snoc, player_snoc, state_snoc, stands_open}
+
+module _ {P : Type 0} (next : P → Option Call) (answered : P → Replied → P) (restarted : P → P) (left : P → ℕ)
+    (nearer : (p : P) (c : Call) (r : Replied) → next p ≡ Some c → left (answered p r) < left p) where
+  abbrev InTry : Between P → Attempt → P → Core → Type 0
+  InTry b row p e = IsInTry next answered restarted left b row p e
+
+  -- ## A step
+
+  word_handed : (b : Between P) (row : Attempt) (p : P) (e : Core) (holds : Bool) (word seen : ℕ) → InTry b row p e → InTry b row p (word_loaded e holds word seen)
+  word_handed b row p e true word seen t =
+      record { start = t.start; begins = t.begins; arena = t.arena; props = t.props; tries = t.tries; began = t.began; anew = t.anew; player = t.player; alone = t.alone; stands = t.stands }
+  word_handed b row p e false word seen t =
+      record { start = t.start; begins = t.begins; arena = t.arena; props = t.props; tries = t.tries; began = t.began; anew = t.anew; player = t.player; alone = t.alone; stands = t.stands }
+
+  pub try_handed : (b : Between P) (row : Attempt) (p : P) (e : Core) (step : Step) (seen : ℕ) → InTry b row p e → InTry b row p (handed_to e (Some step) seen)
+  try_handed b row p e (Load zero) seen t =
+      record { start = t.start; begins = t.begins; arena = t.arena; props = t.props; tries = t.tries; began = t.began; anew = t.anew; player = t.player; alone = t.alone; stands = t.stands }
+  try_handed b row p e (Load (suc word)) seen t = word_handed b row p e e.holds word seen t
+  try_handed b row p e (Store zero value) seen t =
+      record { start = t.start; begins = t.begins; arena = t.arena; props = t.props; tries = t.tries; began = t.began; anew = t.anew; player = t.player; alone = t.alone; stands = t.stands }
+  try_handed b row p e (Store (suc word) value) seen t =
+      record { start = t.start; begins = t.begins; arena = t.arena; props = t.props; tries = t.tries; began = t.began; anew = t.anew; player = t.player; alone = t.alone; stands = t.stands }
+  try_handed b row p e (Cas cell from to) seen t =
+      record { start = t.start; begins = t.begins; arena = t.arena; props = t.props; tries = t.tries; began = t.began; anew = t.anew; player = t.player; alone = t.alone; stands = t.stands }
+
+  -- the attempt is told where it reads
+  pub try_told : (b : Between P) (row : Attempt) (p : P) (e : Core) (at : ℕ) → InTry b row p e → InTry b (record row { at = at }) p e
+  try_told b row p e at t =
+      record { start = t.start; begins = t.begins; arena = t.arena; props = t.props; tries = t.tries; began = t.began; anew = t.anew; player = t.player; alone = t.alone; stands = t.stands }
+
+  -- a step is asked for
+  pub try_asks : (b : Between P) (row : Attempt) (p : P) (mid new : Core) (step : Step) → InTry b row p mid → AsksFor mid step new → row.began ≤ new.snapshot / 2 → ((m : List ℕ) → Agrees m new.log → Agrees m mid.log) → InTry b row p new
+  try_asks b row p mid new step t g began less =
+      let words : new.words ≡ mid.words = ap (λ (c : Core). c.words) g.stays in
+      record {
+        start = t.start;
+        begins = t.begins;
+        arena = t.arena;
+        props = t.props;
+        tries = t.tries;
+        began = began;
+        anew = ap (λ (c : Core). c.again) g.stays ∙ t.anew;
+        player = t.player;
+        alone = λ m mem agrees. t.alone m (subst (λ (n : ℕ). IsMemory n m) words mem) (less m agrees);
+        stands = λ m mem agrees. ap (λ (c : Core). stands_for c m) g.stays ∙ t.stands m (subst (λ (n : ℕ). IsMemory n m) words mem) (less m agrees);
+      }
+
+  -- ## A reply
+
+  module _ (b : Between P) (row : Attempt) (p : P) (mid new : Core) (call : Call) (r : Replied) (t : InTry b row p mid) (inside : mid.is_open ≡ true) (asks : next p ≡ Some call)
+      (g : Replies mid call r new) (began : row.began ≤ new.snapshot / 2) (less : (m : List ℕ) → Agrees m new.log → Agrees m mid.log) where
+    begun : P
+    begun = answered t.start.player (begin_code b.again)
+
+    state : List ℕ → State
+    state m = opened (bytes_of m) t.start.arena t.start.props
+
+    pub try_replies : InTry b (record row { calls = row.calls ++ record { call = call; reply = r } ∷ [] }) (answered p r) new
+    unfolding begun state
+    try_replies =
+        let words : new.words ≡ mid.words = ap (λ (c : Core). c.words) g.stays in
+        record {
+          start = t.start;
+          begins = t.begins;
+          arena = t.arena;
+          props = t.props;
+          tries = t.tries;
+          began = began;
+          anew = ap (λ (c : Core). c.again) g.stays;
+          player = ap (λ (q : P). answered q r) t.player ∙ sym (player_snoc answered begun row.calls (record { call = call; reply = r }));
+          alone = λ m mem agrees.
+              (let memory : IsMemory mid.words m = subst (λ (n : ℕ). IsMemory n m) words mem in
+              let old = less m agrees in
+              let stands = t.stands m memory old in
+              let open_then : is_open (state_then MAX_DEPTH (state m) row.calls) ≡ true = ap is_open (sym stands) ∙ stands_open next answered left nearer mid m inside in
+              let turns : turn next answered left (player_then answered begun row.calls) (state_then MAX_DEPTH (state m) row.calls) ≡ Some call =
+              ap (λ (o : Bool). if o then next (player_then answered begun row.calls) else None) open_then ∙ (ap next (sym t.player) ∙ asks) in
+              let replied : r ≡ reply MAX_DEPTH (state_then MAX_DEPTH (state m) row.calls) call =
+              g.reply_is m memory agrees ∙ (ap (λ (a : Bool). recoded a (reply MAX_DEPTH (stands_for mid m) call)) t.anew ∙ ap (λ (s : State). reply MAX_DEPTH s call) stands) in
+              alone_snoc next answered left nearer MAX_DEPTH begun (state m) row.calls (record { call = call; reply = r }) (t.alone m memory old) turns replied);
+          stands = λ m mem agrees.
+              (let memory : IsMemory mid.words m = subst (λ (n : ℕ). IsMemory n m) words mem in
+              g.meets m memory agrees ∙ (ap (λ (s : State). after MAX_DEPTH s call) (t.stands m memory (less m agrees)) ∙ sym (state_snoc MAX_DEPTH (state m) row.calls (record { call = call; reply = r }))));
+        }
+
+  -- ## The attempt is over
+
+  -- its calls are the first of those that its player makes alone on the memory of its position, and all of them where its block has ended
+  module _ (n : ℕ) (memory : ℕ → List ℕ) (b : Between P) (start : Beginning P) (row : Attempt) (arena : row.arena ≡ start.arena) (props : row.props ≡ start.props) (tries : b.tries < row.nth)
+      (older : row.began ≤ row.at) (newer : row.at ≤ n) where
+    begun_by : P
+    begun_by = answered start.player (begin_code b.again)
+
+    state_by : State
+    state_by = opened (memory row.at) start.arena start.props
+
+    same_state : opened (memory row.at) row.arena row.props ≡ opened (memory row.at) start.arena start.props
+    same_state = λ i. opened (memory row.at) (arena i) (props i)
+
+    pub is_try : IsAlone next answered left MAX_DEPTH (answered start.player (begin_code b.again)) (opened (memory row.at) start.arena start.props) row.calls
+        → EndsAs row.outcome (state_then MAX_DEPTH (opened (memory row.at) start.arena start.props) row.calls)
+        → IsTryAt next answered restarted left MAX_DEPTH n memory b (Some start) row
+    is_try h ends =
+        let p : P = answered start.player (begin_code b.again) in
+        let s : State = opened (memory row.at) start.arena start.props in
+        let gets = begins_alone next answered left nearer MAX_DEPTH (left p) p s row.calls (omega arith) h in
+        let all : answers next answered left MAX_DEPTH p (memory row.at) row.arena row.props ≡ answers next answered left MAX_DEPTH p (memory row.at) start.arena start.props =
+        λ i. answers next answered left MAX_DEPTH p (memory row.at) (arena i) (props i) in (
+          arena,
+          props,
+          tries,
+          record {
+            no_older = older;
+            no_newer = newer;
+            beginning = (_, sym (all ∙ gets));
+            whole = λ closed.
+                (let shut : is_open (state_then MAX_DEPTH s row.calls) ≡ false = ap (λ (x : State). is_open (state_then MAX_DEPTH x row.calls)) (sym same_state) ∙ closed in
+                sym (all ∙ (gets ∙ (ap (λ (rest : List (Call × Replied)). map pair_of row.calls ++ rest) (no_more (left p) (player_then answered p row.calls) (state_then MAX_DEPTH s row.calls) shut) ∙ append-nil (map pair_of row.calls)))));
+            ends = subst (λ (x : State). EndsAs row.outcome (state_then MAX_DEPTH x row.calls)) (sym same_state) ends;
+          },
+        )
+      where
+        no_more : (k : ℕ) (q : P) (s : State) → is_open s ≡ false → answers_within next answered left MAX_DEPTH k q s (turn next answered left q s) ≡ []
+        no_more k q s shut = ap (λ (o : Bool). answers_within next answered left MAX_DEPTH k q s (if o then next q else None)) shut ∙ none_more k
+          where
+            none_more : (k : ℕ) → answers_within next answered left MAX_DEPTH k q s None ≡ []
+            none_more zero = refl
+            none_more (suc k) = refl
+
+  -- without a commit: in conflict, full, for want of memory, or not ended yet
+  pub try_stops : (n : ℕ) (base : List ℕ) (attempts : List Attempt) (b : Between P) (row : Attempt) (p : P) (e : Core) (t : InTry b row p e) (k : ℕ) (outcome : Outcome)
+      → (is_open_still : EndsAs outcome (stands_for e (words_at base attempts k))) → row.began ≤ k → k ≤ n → IsMemory e.words (words_at base attempts k) → bytes_of (words_at base attempts k) ≡ bytes_at base attempts k
+      → Agrees (words_at base attempts k) e.log → IsTryAt next answered restarted left MAX_DEPTH n (bytes_at base attempts) b (Some t.start) (record row { at = k; outcome = outcome })
+  try_stops n base attempts b row p e t k outcome ends older newer memory same agrees =
+      let bytes : opened (bytes_of (words_at base attempts k)) t.start.arena t.start.props ≡ opened (bytes_at base attempts k) t.start.arena t.start.props = ap (λ (m : List ℕ). opened m t.start.arena t.start.props) same in
+      is_try n (bytes_at base attempts) b t.start (record row { at = k; outcome = outcome }) t.arena t.props t.tries older newer
+      (subst (λ (s : State). IsAlone next answered left MAX_DEPTH (answered t.start.player (begin_code b.again)) s row.calls) bytes (t.alone (words_at base attempts k) memory agrees))
+      (subst (λ (s : State). EndsAs outcome (state_then MAX_DEPTH s row.calls)) bytes (subst (EndsAs outcome) (t.stands (words_at base attempts k) memory agrees) ends))
+
+  -- by its commit: the state that it leaves is that of the commit over its memory
+  module _ (n : ℕ) (memory : ℕ → List ℕ) (b : Between P) (row : Attempt) (p : P) (mid new : Core) (call : Call) (at : ℕ) (wrote : Bool) (m : List ℕ) (t : InTry b row p mid) (inside : mid.is_open ≡ true)
+      (asks : next p ≡ Some call) (is : call ≡ Commit) (g : Commits mid at wrote new) (older : row.began ≤ at) (newer : at ≤ n) (mem : IsMemory mid.words m) (same : bytes_of m ≡ memory at) (agrees : Agrees m mid.log) where
+    abbrev last : Entry
+    last = record { call = call; reply = Done }
+
+    abbrev pub done : Attempt
+    done = record row { calls = row.calls ++ record { call = call; reply = Done } ∷ []; at = at; outcome = if wrote then outcomes.Committed else outcomes.ReadOnly }
+
+    abbrev by : P
+    by = answered t.start.player (begin_code b.again)
+
+    abbrev from : List ℕ → State
+    from bytes = opened bytes t.start.arena t.start.props
+
+    commit_state : state_then MAX_DEPTH (from (memory at)) (row.calls ++ last ∷ []) ≡ after MAX_DEPTH (stands_for mid m) Commit
+    commit_state =
+        state_snoc MAX_DEPTH (from (memory at)) row.calls last
+        ∙ (ap (after MAX_DEPTH (state_then MAX_DEPTH (from (memory at)) row.calls)) is
+        ∙ (ap (λ (bytes : List ℕ). after MAX_DEPTH (state_then MAX_DEPTH (from bytes) row.calls) Commit) (sym same)
+        ∙ ap (λ (s : State). after MAX_DEPTH s Commit) (sym (t.stands m mem agrees))))
+
+    closes : is_open (after MAX_DEPTH (stands_for mid m) Commit) ≡ false
+    closes = ap (λ (o : Bool). is_open (after MAX_DEPTH (state_over mid.writes o mid.props mid.arena m) Commit)) inside
+
+    ends_so : (w : Bool) → wrote ≡ w → EndsAs (if w then outcomes.Committed else outcomes.ReadOnly) (after MAX_DEPTH (stands_for mid m) Commit)
+    ends_so true e = (closes, sym (g.wrote_is m mem agrees) ∙ e)
+    ends_so false e = (closes, sym (g.wrote_is m mem agrees) ∙ e)
+
+    commit_alone : IsAlone next answered left MAX_DEPTH by (from (memory at)) (row.calls ++ last ∷ [])
+    commit_alone =
+        let stands = t.stands m mem agrees ∙ ap (λ (bytes : List ℕ). state_then MAX_DEPTH (from bytes) row.calls) same in
+        let open_then : is_open (state_then MAX_DEPTH (from (memory at)) row.calls) ≡ true = ap is_open (sym stands) ∙ stands_open next answered left nearer mid m inside in
+        let turns : turn next answered left (player_then answered by row.calls) (state_then MAX_DEPTH (from (memory at)) row.calls) ≡ Some call =
+        ap (λ (o : Bool). if o then next (player_then answered by row.calls) else None) open_then ∙ (ap next (sym t.player) ∙ asks) in
+        let replied : Done ≡ reply MAX_DEPTH (state_then MAX_DEPTH (from (memory at)) row.calls) call =
+        ap (λ (o : Bool). reply MAX_DEPTH (state_over mid.writes o mid.props mid.arena m) Commit) (sym inside) ∙ (ap (λ (s : State). reply MAX_DEPTH s Commit) stands ∙ ap (reply MAX_DEPTH (state_then MAX_DEPTH (from (memory at)) row.calls)) (sym is)) in
+        alone_snoc next answered left nearer MAX_DEPTH by (from (memory at)) row.calls last
+        (subst (λ (bytes : List ℕ). IsAlone next answered left MAX_DEPTH by (from bytes) row.calls) same (t.alone m mem agrees)) turns replied
+
+    pub try_commits : IsTryAt next answered restarted left MAX_DEPTH n memory b (Some t.start) (record row { calls = row.calls ++ record { call = call; reply = Done } ∷ []; at = at; outcome = if wrote then outcomes.Committed else outcomes.ReadOnly })
+    try_commits = is_try n memory b t.start done t.arena t.props t.tries older newer commit_alone (subst (EndsAs (if wrote then outcomes.Committed else outcomes.ReadOnly)) (sym commit_state) (ends_so wrote refl))
+
+    pub left_state : alone MAX_DEPTH (memory at) (record row { calls = row.calls ++ record { call = call; reply = Done } ∷ []; at = at; outcome = if wrote then outcomes.Committed else outcomes.ReadOnly }) ≡ after MAX_DEPTH (stands_for mid m) Commit
+    left_state = (λ i. state_then MAX_DEPTH (opened (memory at) (t.arena i) (t.props i)) (row.calls ++ last ∷ [])) ∙ commit_state
+
+  -- ## A begin is accepted
+
+  module _ (b : Between P) (row : Attempt) (p : P) (mid new : Core) (props : Props) (room : ℕ) (r : Replied) (comes : begins_at next answered restarted left b ≡ Some (record { player = p; arena = b.arena; props = row.props }))
+      (row_arena : row.arena ≡ b.arena) (row_props : row.props ≡ props) (row_calls : row.calls ≡ []) (tries : b.tries < row.nth) (outside : mid.is_open ≡ false) (empty : mid.writes ≡ []) (arena : mid.arena ≡ b.arena) (again : mid.again ≡ b.again)
+      (g : Replies mid (Begin props room) r new) (began : row.began ≤ new.snapshot / 2) (words : List ℕ) (mem : IsMemory mid.words words) (agrees : Agrees words new.log) where
+    entered : (w : Bool) → mid.again ≡ w → r ≡ begin_code w
+    entered w e =
+        g.reply_is words mem agrees ∙ (ap (λ (o : Bool). recoded mid.again (reply MAX_DEPTH (state_over mid.writes o mid.props mid.arena words) (Begin props room))) outside ∙ (ap (λ (a : Bool). recoded a (Code 5)) e ∙ coded w))
+      where
+        coded : (w : Bool) → recoded w (Code 5) ≡ begin_code w
+        coded true = refl
+        coded false = refl
+
+    pub try_begins : (at : ℕ) → IsInTry next answered restarted left b (record row { at = at }) (answered p r) new
+    try_begins at =
+        let same : new.words ≡ mid.words = ap (λ (c : Core). c.words) g.stays in
+        record {
+          start = record { player = p; arena = b.arena; props = row.props };
+          begins = comes;
+          arena = row_arena;
+          props = refl;
+          tries = tries;
+          began = began;
+          anew = ap (λ (c : Core). c.again) g.stays;
+          player = ap (answered p) (entered b.again again) ∙ ap (λ (xs : List Entry). player_then answered (answered p (begin_code b.again)) xs) (sym row_calls);
+          alone = λ m memory a. subst (λ (xs : List Entry). IsAlone next answered left MAX_DEPTH (answered p (begin_code b.again)) (opened (bytes_of m) b.arena row.props) xs) (sym row_calls) tt;
+          stands = λ m memory a.
+              g.meets m (subst (λ (n : ℕ). IsMemory n m) same memory) a
+              ∙ (ap (λ (o : Bool). after MAX_DEPTH (state_over mid.writes o mid.props mid.arena m) (Begin props room)) outside
+              ∙ ((λ i. opened (bytes_of (overlay m (empty i))) (arena i) (sym row_props i)) ∙ ap (λ (xs : List Entry). state_then MAX_DEPTH (opened (bytes_of m) b.arena row.props) xs) (sym row_calls)));
+        }

@@ -1,0 +1,262 @@
+-- An actor's run, once an answer is recorded.
+use Rattle.std.proofs.Common.{◌≡◌, ℕ, ◌+◌, ◌/◌, ◌<◌, ◌≤◌, Bool, true, false, nat_lt, if◌then◌else◌, List, [], ◌∷◌, ◌++◌, map, Option, None, Some, refl, sym, ap, subst, ◌∙◌, arith}
+use Rattle.itm_types.specs.declared.call.Call.{Call}
+use Rattle.itm_types.specs.declared.call.Call.TheVariants.{Commit}
+use Rattle.itm_types.specs.declared.call.Reply.{Reply as Replied}
+use Rattle.itm_types.specs.declared.call.Reply.TheVariants.{Done}
+use Rattle.itm_types.specs.Memory.{bytes_of, IsMemory, Agrees}
+use Rattle.itm_model.specs.declared.limits.TheConstants.{MAX_DEPTH}
+use Rattle.itm_model.specs.State.{State}
+use Rattle.itm_model.specs.Machine.{after, is_open, opened, undone, undone_from}
+use Rattle.itm_model.specs.State.{Block}
+use Rattle.norec_engine.specs.Core.{Core}
+use Rattle.norec_engine.specs.Stands.{stands_for}
+use Rattle.norec_engine.specs.Proceeds.{Replies, Commits, Conflicts}
+use Rattle.norec_engine.specs.declared.answer.Answer.TheVariants.{Reply, Committed, Conflict, Full}
+use Rattle.norec_world.specs.declared.attempt.Attempt.{Attempt}
+use Rattle.norec_world.specs.declared.attempt.Outcome.TheVariants as outcomes
+use Rattle.norec_world.specs.declared.attempt.End.TheVariants.{GaveUp}
+use Rattle.norec_world.specs.declared.actor.Actor.{Actor}
+use Rattle.norec_world.specs.declared.actor.Status.TheVariants.{Ready, Ended}
+use Rattle.norec_world.specs.Attempts.{of_thread, alone}
+use Rattle.norec_world.specs.declared.attempt.Entry.{Entry}
+use Rattle.norec_world.specs.declared.attempt.Outcome.{Outcome}
+use Rattle.norec_world.specs.Alone.{state_then}
+use Rattle.norec_world.specs.Cells.{words_of}
+use Rattle.norec_world.specs.Opacity.{Between, EndsAs, answered_all, begin_code, follows, after_try, IsRunOf, IsTryAt}
+use Rattle.norec_world.specs.Rows.{Rows, active_of}
+use Rattle.norec_world.specs.Status.{ending_of}
+use Rattle.norec_world.specs.Records.{Records, StopsAt}
+use Rattle.norec_world.specs.Sound.{IsAnswered, IsSettledBy}
+use Rattle.norec_world.specs.Memories.{bytes_at, words_at}
+use Rattle.norec_world.specs.Runs.{run_after, begins_at, IsInTry, IsRun}
+use Rattle.norec_world.proofs.ActiveRows.{changed_here, row_is_of}
+use Rattle.norec_world.proofs.Following.{player_snoc, stands_open}
+use Rattle.norec_world.proofs.TryEnds.{none_pending}
+use Rattle.norec_world.proofs.RunLists.{of_thread_own, run_more, run_still}
+use Rattle.norec_world.proofs.InTries.{try_replies, try_stops, try_commits, left_state}
+
+both : (n : Bool) → n ≡ true → n ≡ false → ⊥
+both n t f = absurd (cc)
+
+-- a rollback leaves the arena
+undone_arena_from : (s : State) (blocks : List Block) → (undone_from s blocks).arena ≡ s.arena
+undone_arena_from s [] = refl
+undone_arena_from s (b ∷ bs) = undone_arena_from (record s { memory = b.saved.memory; blocks = bs; wrote = b.saved.wrote }) bs
+
+undone_arena : (s : State) → (undone s).arena ≡ s.arena
+undone_arena s = undone_arena_from s s.blocks
+
+module _ {P : Type 0} (next : P → Option Call) (answered : P → Replied → P) (restarted : P → P) (left : P → ℕ) (depth : P → ℕ)
+    (nearer : (p : P) (c : Call) (r : Replied) → next p ≡ Some c → left (answered p r) < left p)
+    (first : Between P) (base : List ℕ) (n : ℕ) (r r1 : Rows) (a last : Actor P) (call : Call) (mid : Core) where
+  abbrev Run : ℕ → Rows → Actor P → Type 0
+  Run k rows x = IsRun next answered restarted left first base k rows x
+
+  abbrev RunOf : List Attempt → ℕ → Type 0
+  RunOf ended thread = IsRunOf next answered restarted left MAX_DEPTH n (bytes_at base ended) (Some first) (of_thread thread ended)
+
+  abbrev now_at : List Attempt → ℕ → Option (Between P)
+  now_at ended thread = run_after next answered restarted left (bytes_at base ended) (Some first) (of_thread thread ended)
+
+  run_same : (xs ys : List Attempt) (t u : ℕ) → ys ≡ xs → u ≡ t → RunOf xs t → RunOf ys u
+  run_same xs ys t u e f h = subst (λ (l : List Attempt). RunOf l u) (sym e) (subst (RunOf xs) (sym f) h)
+
+  -- ## A call of an open transaction has its reply
+
+  module _ (reply : Replied) (run : Run n r (record a { engine = mid })) (d : IsAnswered next answered restarted left depth true r a call (Reply reply)) (inside : mid.is_open ≡ true) (g : Replies mid call reply a.engine)
+      (told : Records answered restarted true r r1 a last call (Reply reply)) (s : IsSettledBy next answered restarted left depth true r1 a last)
+      (snapshot : mid.snapshot / 2 ≤ a.engine.snapshot / 2) (less : (m : List ℕ) → Agrees m a.engine.log → Agrees m mid.log) where
+    with_call : Attempt → Attempt
+    with_call x = record x { calls = x.calls ++ record { call = call; reply = reply } ∷ [] }
+
+    pub reply_runs : Run n r1 last
+    unfolding with_call
+    reply_runs =
+        let t = run.inside inside in
+        let ended : r1.ended ≡ r.ended = ap (λ (x : Rows). x.ended) told.0 in
+        let earlier = t.4.began in
+        let try = try_replies next answered restarted left nearer t.0 t.1 a.player mid a.engine call reply t.4 inside d.in_call.asks g (omega arith) less in
+        let row : Attempt = with_call t.1 in
+        let still_open : last.engine.is_open ≡ true = ap (λ (c : Core). c.is_open) s.engine ∙ g.still inside in
+        record {
+          run = run_same r.ended r1.ended a.thread last.thread ended s.thread run.run;
+          inside = λ o. (
+            t.0,
+            row,
+            (λ i. now_at (ended i) (s.thread i)) ∙ t.2,
+            ap (λ (k : ℕ). active_of k r1.active) s.thread ∙ (ap (λ (x : Rows). active_of a.thread x.active) told.0 ∙ changed_here a.thread with_call r.active t.1 (λ x. refl) t.3),
+            subst (λ (c : Core). IsInTry next answered restarted left t.0 row last.player c) (sym s.engine) (subst (λ (q : P). IsInTry next answered restarted left t.0 row q a.engine) (sym told.1) try),
+            told.2 ∙ t.5,
+            t.6 ∙ sym told.3,
+          );
+          between = λ o. absurd (both last.engine.is_open still_open o);
+        }
+
+  -- ## An attempt ends
+
+  -- the run with it, over perhaps more commits
+  module _ (n' : ℕ) (later : n ≤ n') (still : (k : ℕ) → k ≤ n → bytes_at base r1.ended k ≡ bytes_at base r.ended k) (run : Run n r (record a { engine = mid })) (inside : mid.is_open ≡ true) where
+    b : Between P
+    b = (run.inside inside).0
+
+    row : Attempt
+    row = (run.inside inside).1
+
+    pub ended_run : (over : Attempt) → over.thread ≡ a.thread → r1.ended ≡ r.ended ++ over ∷ [] → last.thread ≡ a.thread → IsTryAt next answered restarted left MAX_DEPTH n' (bytes_at base r1.ended) (run.inside inside).0 (Some (run.inside inside).4.start) over
+        → IsRunOf next answered restarted left MAX_DEPTH n' (bytes_at base r1.ended) (Some first) (of_thread last.thread r1.ended)
+        × (run_after next answered restarted left (bytes_at base r1.ended) (Some first) (of_thread last.thread r1.ended)
+        ≡ after_try next answered restarted left MAX_DEPTH (bytes_at base r1.ended) (run.inside inside).0 (Some (run.inside inside).4.start) over)
+    ended_run over mine ended thread try =
+        let t = run.inside inside in
+        let memory = bytes_at base r1.ended in
+        let on = run_still next answered restarted left n n' (bytes_at base r.ended) memory later still (Some first) (of_thread a.thread r.ended) run.run in
+        let here : IsTryAt next answered restarted left MAX_DEPTH n' memory t.0 (begins_at next answered restarted left t.0) over = subst (λ (o : _). IsTryAt next answered restarted left MAX_DEPTH n' memory t.0 o over) (sym t.4.begins) try in
+        let more = run_more next answered restarted left n' memory (Some first) (of_thread a.thread r.ended) t.0 over on.0 (on.1 ∙ t.2) here in
+        let rows : of_thread last.thread r1.ended ≡ of_thread a.thread r.ended ++ over ∷ [] = (λ i. of_thread (thread i) (ended i)) ∙ of_thread_own a.thread r.ended over mine in (
+          subst (IsRunOf next answered restarted left MAX_DEPTH n' memory (Some first)) (sym rows) more.0,
+          ap (run_after next answered restarted left memory (Some first)) rows ∙ (more.1 ∙ ap (λ (o : _). after_try next answered restarted left MAX_DEPTH memory t.0 o over) t.4.begins),
+        )
+
+    -- by its commit
+    module _ (at : ℕ) (wrote : Bool) (d : IsAnswered next answered restarted left depth true r a call (Committed at wrote)) (g : Commits mid at wrote a.engine)
+        (told : Records answered restarted true r r1 a last call (Committed at wrote)) (s : IsSettledBy next answered restarted left depth true r1 a last)
+        (older : mid.snapshot / 2 ≤ n) (m : List ℕ) (mem : IsMemory mid.words m) (same : bytes_of m ≡ bytes_at base r.ended at) (agrees : Agrees m mid.log) where
+      done : Attempt
+      done = record (run.inside inside).1 { calls = (run.inside inside).1.calls ++ record { call = call; reply = Done } ∷ []; at = at; outcome = if wrote then outcomes.Committed else outcomes.ReadOnly }
+
+      at_most : at ≤ n
+      at_most = (let is = g.at_is in omega arith)
+
+      bytes_same : bytes_of m ≡ bytes_at base r1.ended at
+      bytes_same = same ∙ sym (still at at_most)
+
+      pub commit_ended : r1.ended ≡ r.ended ++ record (run.inside inside).1 { calls = (run.inside inside).1.calls ++ record { call = call; reply = Done } ∷ []; at = at; outcome = if wrote then outcomes.Committed else outcomes.ReadOnly } ∷ []
+      commit_ended = ap (λ (x : Rows). x.ended) (told.0 (run.inside inside).1 (run.inside inside).3)
+
+      pub commit_left : alone MAX_DEPTH (bytes_at base r1.ended at) (record (run.inside inside).1 { calls = (run.inside inside).1.calls ++ record { call = call; reply = Done } ∷ []; at = at; outcome = if wrote then outcomes.Committed else outcomes.ReadOnly })
+          ≡ after MAX_DEPTH (stands_for mid m) Commit
+      commit_left =
+          let t = run.inside inside in
+          left_state next answered restarted left nearer n' (bytes_at base r1.ended) t.0 t.1 a.player mid a.engine call at wrote m t.4 inside d.in_call.asks d.fits.2 g (let e = t.4.began in let is = g.at_is in omega arith) (omega (arith, at_most, later)) mem bytes_same agrees
+
+      pub commit_runs : Run n' r1 last
+      commit_runs =
+          let t = run.inside inside in
+          let try = try_commits next answered restarted left nearer n' (bytes_at base r1.ended) t.0 t.1 a.player mid a.engine call at wrote m t.4 inside d.in_call.asks d.fits.2 g (let e = t.4.began in let is = g.at_is in omega arith) (omega (arith, at_most, later)) mem bytes_same agrees in
+          let over = ended_run _ (row_is_of a.thread r.active t.1 t.3) commit_ended s.thread try in
+          let closed : last.engine.is_open ≡ false = ap (λ (c : Core). c.is_open) s.engine ∙ d.fits.1 in
+          let ready : last.status ≡ Ready = told.4 ∙ d.status in
+          let nothing = none_pending next answered restarted left depth r r1 a last true s ready in
+          let arena : (alone MAX_DEPTH (bytes_at base r1.ended at) (record t.1 { calls = t.1.calls ++ record { call = call; reply = Done } ∷ []; at = at; outcome = if wrote then outcomes.Committed else outcomes.ReadOnly })).arena ≡ last.engine.arena =
+          ap (λ (x : State). x.arena) commit_left ∙ (sym (g.arena_is m) ∙ ap (λ (c : Core). c.arena) (sym s.engine)) in
+          let player : answered_all answered (answered t.4.start.player (begin_code t.0.again)) (map (λ (x : Entry). x.reply) (t.1.calls ++ record { call = call; reply = Done } ∷ [])) ≡ last.player =
+          player_snoc answered (answered t.4.start.player (begin_code t.0.again)) t.1.calls (record { call = call; reply = Done }) ∙ (ap (λ (q : P). answered q Done) (sym t.4.player) ∙ sym told.1) in
+          record {
+            run = over.0;
+            inside = λ o. absurd (both last.engine.is_open o closed);
+            between = λ o gave_up starved. (
+              record { player = last.player; arena = last.engine.arena; again = false; tries = 0 },
+              over.1 ∙ (follows_commit wrote (answered t.4.start.player (begin_code t.0.again)) _ _ ∙ (λ i. Some (record { player = player i; arena = arena i; again = false; tries = 0 }))),
+              record {
+                leads = refl;
+                arena = refl;
+                again = told.2;
+                tries = (let one = told.3 in omega arith);
+                pending = λ x e. absurd (let none = sym nothing ∙ e in cc);
+              },
+            );
+          }
+        where
+          follows_commit : (w : Bool) (p : P) (x : Attempt) (st : State) → follows next answered restarted left MAX_DEPTH (if w then outcomes.Committed else outcomes.ReadOnly) p x st ≡ Some (record { player = answered_all answered p (map (λ (y : Entry). y.reply) x.calls); arena = st.arena; again = false; tries = 0 })
+          follows_commit true p x st = refl
+          follows_commit false p x st = refl
+
+    -- without one: the memory of its position agrees with its log
+    module _ (k : ℕ) (outcome : Outcome) (ends : (x : State) → is_open x ≡ true → EndsAs outcome x) (thread : last.thread ≡ a.thread) (stops : StopsAt a.thread r k outcome r1)
+        (older : (run.inside inside).1.began ≤ k) (newer : k ≤ n) (mem : IsMemory mid.words (words_at base r.ended k)) (same : bytes_of (words_at base r.ended k) ≡ bytes_at base r.ended k) (agrees : Agrees (words_at base r.ended k) mid.log) where
+      words_same : words_at base r1.ended k ≡ words_at base r.ended k
+      words_same = ap words_of (still k newer)
+
+      pub stop_ended : r1.ended ≡ r.ended ++ record (run.inside inside).1 { at = k; outcome = outcome } ∷ []
+      stop_ended = ap (λ (x : Rows). x.ended) (stops (run.inside inside).1 (run.inside inside).3)
+
+      memory_now : IsMemory mid.words (words_at base r1.ended k)
+      memory_now = subst (IsMemory mid.words) (sym words_same) mem
+
+      same_now : bytes_of (words_at base r1.ended k) ≡ bytes_at base r1.ended k
+      same_now = ap bytes_of words_same ∙ (same ∙ sym (still k newer))
+
+      agrees_now : Agrees (words_at base r1.ended k) mid.log
+      agrees_now = subst (λ (m : List ℕ). Agrees m mid.log) (sym words_same) agrees
+
+      pub stop_run : IsRunOf next answered restarted left MAX_DEPTH n' (bytes_at base r1.ended) (Some first) (of_thread last.thread r1.ended)
+          × (run_after next answered restarted left (bytes_at base r1.ended) (Some first) (of_thread last.thread r1.ended)
+          ≡ after_try next answered restarted left MAX_DEPTH (bytes_at base r1.ended) (run.inside inside).0 (Some (run.inside inside).4.start) (record (run.inside inside).1 { at = k; outcome = outcome }))
+      stop_run =
+          let t = run.inside inside in
+          ended_run (record t.1 { at = k; outcome = outcome }) (row_is_of a.thread r.active t.1 t.3) stop_ended thread
+          (try_stops next answered restarted left nearer n' base r1.ended t.0 t.1 a.player mid t.4 k outcome
+          (ends (stands_for mid (words_at base r1.ended k)) (stands_open next answered left nearer mid (words_at base r1.ended k) inside)) older (omega (arith, newer, later)) memory_now same_now agrees_now)
+
+      -- the plain state that it leaves
+      pub stop_left : alone MAX_DEPTH (bytes_at base r1.ended k) (record (run.inside inside).1 { at = k; outcome = outcome }) ≡ stands_for mid (words_at base r1.ended k)
+      stop_left =
+          let t = (run.inside inside).4 in
+          let row = (run.inside inside).1 in
+          (λ i. state_then MAX_DEPTH (opened (bytes_at base r1.ended k) (t.arena i) (t.props i)) row.calls)
+          ∙ (ap (λ (m : List ℕ). state_then MAX_DEPTH (opened m t.start.arena t.start.props) row.calls) (sym same_now) ∙ sym (t.stands (words_at base r1.ended k) memory_now agrees_now))
+
+    -- in conflict: its player goes back to its begin
+    module _ (clock : ℕ) (word : Option ℕ) (d : IsAnswered next answered restarted left depth true r a call (Conflict clock word)) (g : Conflicts mid clock word a.engine)
+        (told : Records answered restarted true r r1 a last call (Conflict clock word)) (s : IsSettledBy next answered restarted left depth true r1 a last)
+        (older : (run.inside inside).1.began ≤ last.engine.snapshot / 2) (newer : last.engine.snapshot / 2 ≤ n) (mem : IsMemory mid.words (words_at base r.ended (last.engine.snapshot / 2)))
+        (same : bytes_of (words_at base r.ended (last.engine.snapshot / 2)) ≡ bytes_at base r.ended (last.engine.snapshot / 2)) (agrees : Agrees (words_at base r.ended (last.engine.snapshot / 2)) mid.log) where
+      pub conflict_runs : Run n' r1 last
+      conflict_runs =
+          let t = run.inside inside in
+          let k : ℕ = last.engine.snapshot / 2 in
+          let over = stop_run k outcomes.Conflict (λ x o. o) s.thread told.0 older newer mem same agrees in
+          let state = stop_left k outcomes.Conflict (λ x o. o) s.thread told.0 older newer mem same agrees in
+          let closed : last.engine.is_open ≡ false = ap (λ (c : Core). c.is_open) s.engine ∙ d.fits.1 in
+          let player : restarted (answered_all answered (answered t.4.start.player (begin_code t.0.again)) (map (λ (x : Entry). x.reply) t.1.calls)) ≡ last.player = ap restarted (sym t.4.player) ∙ sym told.1 in
+          let arena : (undone (alone MAX_DEPTH (bytes_at base r1.ended k) (record t.1 { at = k; outcome = outcomes.Conflict }))).arena ≡ last.engine.arena =
+          undone_arena (alone MAX_DEPTH (bytes_at base r1.ended k) (record t.1 { at = k; outcome = outcomes.Conflict })) ∙ (ap (λ (x : State). x.arena) state ∙ (ap (λ (c : Core). c.arena) (sym g.stays) ∙ ap (λ (c : Core). c.arena) (sym s.engine))) in
+          record {
+            run = over.0;
+            inside = λ o. absurd (both last.engine.is_open o closed);
+            between = λ o gave_up starved. (
+              record { player = last.player; arena = last.engine.arena; again = true; tries = t.1.nth },
+              over.1 ∙ (λ i. Some (record { player = player i; arena = arena i; again = true; tries = t.1.nth })),
+              record {
+                leads = refl;
+                arena = refl;
+                again = told.2.again ∙ t.5;
+                tries = (let more = one_more (nat_lt a.retries a.nth) told.2.nth told.2.status gave_up in let same_try = t.6 in omega arith);
+                pending = λ x e. absurd (let none = sym (nothing gave_up) ∙ e in cc);
+              },
+            );
+          }
+        where
+          one_more : (w : Bool) → last.nth ≡ (if w then a.nth else a.nth + 1) → last.status ≡ (if w then Ended GaveUp else a.status) → (ending_of last.status ≡ Some GaveUp → ⊥) → last.nth ≡ a.nth + 1
+          one_more true e f gave_up = absurd (gave_up (ap ending_of f))
+          one_more false e f gave_up = e
+
+          ready : (w : Bool) → last.status ≡ (if w then Ended GaveUp else a.status) → (ending_of last.status ≡ Some GaveUp → ⊥) → last.status ≡ Ready
+          ready true f gave_up = absurd (gave_up (ap ending_of f))
+          ready false f gave_up = f ∙ d.status
+
+          nothing : (ending_of last.status ≡ Some GaveUp → ⊥) → last.pending ≡ None
+          nothing gave_up = none_pending next answered restarted left depth r r1 a last true s (ready (nat_lt a.retries a.nth) told.2.status gave_up)
+
+    -- as full: the actor gives up
+    module _ (at : ℕ) (d : IsAnswered next answered restarted left depth true r a call (Full at)) (told : Records answered restarted true r r1 a last call (Full at)) (s : IsSettledBy next answered restarted left depth true r1 a last)
+        (older : (run.inside inside).1.began ≤ at) (newer : at ≤ n) (mem : IsMemory mid.words (words_at base r.ended at)) (same : bytes_of (words_at base r.ended at) ≡ bytes_at base r.ended at) (agrees : Agrees (words_at base r.ended at) mid.log) where
+      pub full_runs : Run n' r1 last
+      full_runs =
+          let closed : last.engine.is_open ≡ false = ap (λ (c : Core). c.is_open) s.engine ∙ d.fits.1 in
+          record {
+            run = (stop_run at outcomes.Full (λ x o. o) s.thread told.0 older newer mem same agrees).0;
+            inside = λ o. absurd (both last.engine.is_open o closed);
+            between = λ o gave_up starved. absurd (gave_up (ap ending_of told.1));
+          }

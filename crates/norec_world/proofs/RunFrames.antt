@@ -1,0 +1,310 @@
+-- The actors' runs: one's event leaves the others', and together they are the headline.
+use Rattle.std.proofs.Common.{◌≡◌, ◌≢◌, inl, inr, ℕ, ◌+◌, ◌/◌, ◌%◌, ◌<◌, ◌≤◌, ◌==◌, Bool, true, false, if◌then◌else◌, List, [], ◌∷◌, ◌++◌, length, replicate, Option, None, Some, slice_get, slice_set, refl, sym, ap, subst, ◌∙◌, arith, eqb-true, nat_lt, ltb-true}
+use Rattle.std.proofs.lemmas.List.{append-nil}
+use Rattle.itm_types.specs.declared.call.Call.{Call}
+use Rattle.itm_types.specs.declared.call.Reply.{Reply}
+use Rattle.itm_types.specs.Memory.{bytes_of, IsMemory, Agrees, AllFit}
+use Rattle.itm_model.specs.declared.limits.TheConstants.{MAX_DEPTH}
+use Rattle.norec_engine.specs.Core.{Core, opening}
+use Rattle.norec_engine.specs.Proceeds.{backed, Got}
+use Rattle.norec_engine.specs.Rows.{write_at}
+use Rattle.norec_world.specs.declared.attempt.End.TheVariants.{NoMemory}
+use Rattle.norec_world.specs.Status.{ending_of}
+use Rattle.norec_world.specs.declared.attempt.Attempt.{Attempt}
+use Rattle.norec_world.specs.declared.attempt.Outcome.TheVariants as outcomes
+use Rattle.norec_world.specs.declared.actor.Actor.{Actor}
+use Rattle.norec_world.specs.Attempts.{of_thread}
+use Rattle.norec_world.specs.Cells.{Cells, words_of}
+use Rattle.norec_world.specs.Commits.{one_where, count_at, count_committed, CommitsInOrder}
+use Rattle.norec_world.specs.Holding.{ClocksOn}
+use Rattle.norec_world.specs.declared.actor.Status.TheVariants.{Ready}
+use Rattle.norec_world.proofs.WordLists.{words_of-bytes_of}
+use Rattle.norec_world.specs.Opacity.{Between, IsRunOf, IsTryAt}
+use Rattle.norec_world.specs.Own.{AllOf, ChangesOwn, KeepsOthers}
+use Rattle.norec_world.specs.Rows.{Rows, active_of, AreFrom, AreOpen}
+use Rattle.norec_world.specs.Sound.{IsTied, HasRow}
+use Rattle.norec_world.specs.Actors.{AreActors}
+use Rattle.norec_world.specs.World.{World, attempts_of}
+use Rattle.norec_world.specs.Memories.{bytes_at, words_at}
+use Rattle.norec_world.specs.Sees.{AreLaid}
+use Rattle.norec_world.specs.Runs.{run_after, begins_at, RunsFrom, StillRuns}
+use Rattle.norec_world.specs.Opaque.{first_of, AreOpaque, AreRunning}
+use Rattle.norec_world.proofs.Frames.{set_place, within_of, there_is, are_open}
+use Rattle.norec_world.proofs.Following.{stands_open}
+use Rattle.norec_world.proofs.InTries.{try_stops}
+use Rattle.norec_world.proofs.Memories.{bytes_still}
+use Rattle.norec_world.proofs.RunLists.{run_still, run_more}
+
+-- ## The attempts of one thread
+
+of_thread_both : (thread : ℕ) (xs ys : List Attempt) → of_thread thread (xs ++ ys) ≡ of_thread thread xs ++ of_thread thread ys
+of_thread_both thread [] ys = refl
+of_thread_both thread (x ∷ xs) ys = by_case (x.thread == thread) (of_thread_both thread xs ys)
+  where
+    by_case : (b : Bool) → of_thread thread (xs ++ ys) ≡ of_thread thread xs ++ of_thread thread ys → (if b then x ∷ of_thread thread (xs ++ ys) else of_thread thread (xs ++ ys)) ≡ (if b then x ∷ of_thread thread xs else of_thread thread xs) ++ of_thread thread ys
+    by_case true more = ap (λ (l : List Attempt). x ∷ l) more
+    by_case false more = more
+
+-- of another one's attempts none
+of_thread_none : (thread other : ℕ) (xs : List Attempt) → AllOf other xs → (other ≡ thread → ⊥) → of_thread thread xs ≡ []
+of_thread_none thread other [] all apart = refl
+of_thread_none thread other (x ∷ xs) all apart = by_case (x.thread == thread) refl (of_thread_none thread other xs all.1 apart)
+  where
+    by_case : (b : Bool) → (x.thread == thread) ≡ b → of_thread thread xs ≡ [] → (if b then x ∷ of_thread thread xs else of_thread thread xs) ≡ []
+    by_case true e rest = absurd (apart (sym all.0 ∙ eqb-true x.thread thread e))
+    by_case false e rest = rest
+
+-- of open attempts the actor's one
+past_from : (n thread : ℕ) (xs : List Attempt) → AreFrom n xs → thread < n → of_thread thread xs ≡ []
+past_from n thread [] from l = refl
+past_from n thread (x ∷ xs) from l = by_case (x.thread == thread) refl (past_from (x.thread + 1) thread xs from.1 (let first = from.0 in omega arith))
+  where
+    by_case : (b : Bool) → (x.thread == thread) ≡ b → of_thread thread xs ≡ [] → (if b then x ∷ of_thread thread xs else of_thread thread xs) ≡ []
+    by_case true e rest = absurd (let same = eqb-true x.thread thread e in let first = from.0 in omega arith)
+    by_case false e rest = rest
+
+open_none : (n thread : ℕ) (xs : List Attempt) → AreFrom n xs → active_of thread xs ≡ None → of_thread thread xs ≡ []
+open_none n thread [] from e = refl
+open_none n thread (x ∷ xs) from e = by_case (x.thread == thread) e (λ f. open_none (x.thread + 1) thread xs from.1 f)
+  where
+    by_case : (b : Bool) → (if b then Some x else active_of thread xs) ≡ None → (active_of thread xs ≡ None → of_thread thread xs ≡ []) → (if b then x ∷ of_thread thread xs else of_thread thread xs) ≡ []
+    by_case true e rest = absurd (cc)
+    by_case false e rest = rest e
+
+open_one : (n thread : ℕ) (xs : List Attempt) (row : Attempt) → AreFrom n xs → active_of thread xs ≡ Some row → of_thread thread xs ≡ row ∷ []
+open_one n thread [] row from e = absurd (cc)
+open_one n thread (x ∷ xs) row from e = by_case (x.thread == thread) refl e (λ f. open_one (x.thread + 1) thread xs row from.1 f)
+  where
+    by_case : (b : Bool) → (x.thread == thread) ≡ b → (if b then Some x else active_of thread xs) ≡ Some row → (active_of thread xs ≡ Some row → of_thread thread xs ≡ row ∷ []) → (if b then x ∷ of_thread thread xs else of_thread thread xs) ≡ row ∷ []
+    by_case true h e rest =
+        let same : x ≡ row = (let z : Some x ≡ Some row = e in cc) in
+        let none = past_from (x.thread + 1) thread xs from.1 (let is = eqb-true x.thread thread h in omega arith) in
+        (λ i. same i ∷ none i)
+    by_case false h e rest = rest e
+
+module _ {P : Type 0} (next : P → Option Call) (answered : P → Reply → P) (restarted : P → P) (left : P → ℕ)
+    (nearer : (p : P) (c : Call) (r : Reply) → next p ≡ Some c → left (answered p r) < left p) where
+  -- ## Another one's event
+
+  pub other_runs : (first : Between P) (base : List ℕ) (cells cells' : Cells) (r r' : Rows) (thread : ℕ) (b : Actor P) → AreLaid base cells r → IsTied cells b.engine → ChangesOwn thread r r' → (b.thread ≡ thread → ⊥)
+      → cells.clock ≤ cells'.clock → (b.engine.holds ≡ true → cells' ≡ cells) → RunsFrom next answered restarted left first base cells r b → RunsFrom next answered restarted left first base cells' r' b
+  other_runs first base cells cells' r r' thread b laid tied own apart later held x =
+      record {
+        runs = record {
+          run = subst (IsRunOf next answered restarted left MAX_DEPTH (cells'.clock / 2) (bytes_at base r'.ended) (Some first)) (sym rows) on.0;
+          inside = λ o. (let t = x.runs.inside o in (t.0, t.1, now ∙ t.2, own.others b.thread apart ∙ t.3, t.4, t.5, t.6));
+          between = λ o gave_up starved.
+              (let t = x.runs.between o gave_up starved in let k = t.2 in (
+                t.0,
+                now ∙ t.1,
+                record { leads = k.leads; arena = k.arena; again = k.again; tries = k.tries; pending = λ row e. (let p = k.pending row e in ((let early = p.0 in omega arith), p.1, p.2, p.3, p.4)) },
+              ));
+        };
+        sees = λ fed. (let s = x.sees fed in record {
+          loaded = record {
+            fresh = λ even same f.
+                (let clock : cells'.clock ≡ cells.clock = (let late = tied.late in omega arith) in
+                let words : words_at base r'.ended (cells'.clock / 2) ≡ words_at base r.ended (cells.clock / 2) = ap (λ (k : ℕ). words_at base r'.ended (k / 2)) clock ∙ ap words_of (still (cells.clock / 2) (let l : cells.clock / 2 ≤ cells.clock / 2 = omega arith in l)) in
+                subst (λ (m : List ℕ). Agrees m b.engine.fresh) (sym words) (s.loaded.fresh (ap (λ (k : ℕ). k % 2) (sym clock) ∙ even) (same ∙ clock) f));
+            held = λ h.
+                (let is = held h in
+                ap (λ (c : Cells). c.words) is ∙ (s.loaded.held h ∙ (ap (λ (m : List ℕ). backed b.engine m) (ap words_of (sym (still (cells.clock / 2) (let l : cells.clock / 2 ≤ cells.clock / 2 = omega arith in l))))
+                ∙ ap (λ (c : Cells). backed b.engine (words_at base r'.ended (c.clock / 2))) (sym is))));
+            got = λ h. subst (λ (c : Cells). Got b.engine.got (slice_get c.words (write_at b.engine.writes b.engine.done).word)) (sym (held h)) (s.loaded.got h);
+          };
+          logged = λ o. subst (λ (m : List ℕ). Agrees m b.engine.log) (sym (ap words_of (still (b.engine.snapshot / 2) (let reached = tied.settled.reached in let late = tied.late in omega arith)))) (s.logged o);
+        });
+        starved = x.starved;
+        reads = λ o row e. x.reads o row (sym (own.others b.thread apart) ∙ e);
+      }
+    where
+      still : (k : ℕ) → k ≤ cells.clock / 2 → bytes_at base r'.ended k ≡ bytes_at base r.ended k
+      still k l = ap (λ (l : List Attempt). bytes_at base l k) own.ended ∙ bytes_still base cells.clock r.ended laid.counted own.more k l
+
+      rows : of_thread b.thread r'.ended ≡ of_thread b.thread r.ended
+      rows =
+          ap (of_thread b.thread) own.ended ∙ (of_thread_both b.thread r.ended own.more
+          ∙ (ap (λ (l : List Attempt). of_thread b.thread r.ended ++ l) (of_thread_none b.thread thread own.more own.mine (λ e. apart (sym e))) ∙ append-nil (of_thread b.thread r.ended)))
+
+      on : IsRunOf next answered restarted left MAX_DEPTH (cells'.clock / 2) (bytes_at base r'.ended) (Some first) (of_thread b.thread r.ended)
+          × (run_after next answered restarted left (bytes_at base r'.ended) (Some first) (of_thread b.thread r.ended) ≡ run_after next answered restarted left (bytes_at base r.ended) (Some first) (of_thread b.thread r.ended))
+      on = run_still next answered restarted left (cells.clock / 2) (cells'.clock / 2) (bytes_at base r.ended) (bytes_at base r'.ended) (omega (arith, later)) still (Some first) (of_thread b.thread r.ended) x.runs.run
+
+      now : run_after next answered restarted left (bytes_at base r'.ended) (Some first) (of_thread b.thread r'.ended) ≡ run_after next answered restarted left (bytes_at base r.ended) (Some first) (of_thread b.thread r.ended)
+      now = ap (run_after next answered restarted left (bytes_at base r'.ended) (Some first)) rows ∙ on.1
+
+  -- ## The headline
+
+  module _ (depth : P → ℕ) (w : World P) (sound : AreActors next answered restarted left depth w.cells w.attempts w.actors) (open_rows : AreOpen w.attempts.active) (long : length w.actors ≡ length w.opening)
+      (running : AreRunning next answered restarted left w) where
+    n : ℕ
+    n = w.cells.clock / 2
+
+    shown_still : (k : ℕ) → k ≤ w.cells.clock / 2 → bytes_at w.base (attempts_of w) k ≡ bytes_at w.base w.attempts.ended k
+    shown_still k l = bytes_still w.base w.cells.clock w.attempts.ended running.laid.counted w.attempts.active k l
+
+    of_actor : (place : ℕ) (p : P) (a : Actor P) → slice_get w.opening place ≡ Some p → slice_get w.actors place ≡ Some a
+        → IsRunOf next answered restarted left MAX_DEPTH (w.cells.clock / 2) (bytes_at w.base (attempts_of w)) (Some (first_of p w.arena)) (of_thread place (attempts_of w))
+    of_actor place p a e f =
+        let x = running.each place p a e f in
+        let s = sound.each place a f in
+        let on = run_still next answered restarted left (w.cells.clock / 2) (w.cells.clock / 2) (bytes_at w.base w.attempts.ended) (bytes_at w.base (attempts_of w)) (let l : w.cells.clock / 2 ≤ w.cells.clock / 2 = omega arith in l) shown_still
+        (Some (first_of p w.arena)) (of_thread a.thread w.attempts.ended) x.runs.run in
+        subst (λ (t : ℕ). IsRunOf next answered restarted left MAX_DEPTH (w.cells.clock / 2) (bytes_at w.base (attempts_of w)) (Some (first_of p w.arena)) (of_thread t (attempts_of w))) s.thread
+        (by_open a.engine.is_open refl x on s.sound.kept.row s.sound.tied)
+      where
+        Is : ℕ → Type 0
+        Is t = IsRunOf next answered restarted left MAX_DEPTH (w.cells.clock / 2) (bytes_at w.base (attempts_of w)) (Some (first_of p w.arena)) (of_thread t (attempts_of w))
+
+        by_open : (b : Bool) → a.engine.is_open ≡ b → RunsFrom next answered restarted left (first_of p w.arena) w.base w.cells w.attempts a
+            → IsRunOf next answered restarted left MAX_DEPTH (w.cells.clock / 2) (bytes_at w.base (attempts_of w)) (Some (first_of p w.arena)) (of_thread a.thread w.attempts.ended)
+            × (run_after next answered restarted left (bytes_at w.base (attempts_of w)) (Some (first_of p w.arena)) (of_thread a.thread w.attempts.ended) ≡ run_after next answered restarted left (bytes_at w.base w.attempts.ended) (Some (first_of p w.arena)) (of_thread a.thread w.attempts.ended))
+            → HasRow b w.attempts a.thread → IsTied w.cells a.engine
+            → IsRunOf next answered restarted left MAX_DEPTH (w.cells.clock / 2) (bytes_at w.base (attempts_of w)) (Some (first_of p w.arena)) (of_thread a.thread (attempts_of w))
+        by_open false o x on none tied =
+            let rows : of_thread a.thread (attempts_of w) ≡ of_thread a.thread w.attempts.ended =
+            of_thread_both a.thread w.attempts.ended w.attempts.active ∙ (ap (λ (l : List Attempt). of_thread a.thread w.attempts.ended ++ l) (open_none 0 a.thread w.attempts.active open_rows.by_actor none) ∙ append-nil (of_thread a.thread w.attempts.ended)) in
+            subst (IsRunOf next answered restarted left MAX_DEPTH (w.cells.clock / 2) (bytes_at w.base (attempts_of w)) (Some (first_of p w.arena))) (sym rows) on.0
+        by_open true o x on some tied =
+            let t = x.runs.inside o in
+            let k : ℕ = a.engine.snapshot / 2 in
+            let k_late : k ≤ w.cells.clock / 2 = (let reached = tied.settled.reached in let late = tied.late in omega arith) in
+            let fed : ending_of a.status ≡ Some NoMemory → ⊥ = λ e. absurd (let shut = x.starved e in let z = sym o ∙ shut in cc) in
+            let sees = x.sees fed in
+            let fits = running.laid.memories.fits k k_late in
+            let words : words_at w.base (attempts_of w) k ≡ words_at w.base w.attempts.ended k = ap words_of (shown_still k k_late) in
+            let row : Attempt = t.1 in
+            let same_row : some.0 ≡ row = (let z : Some some.0 ≡ Some row = sym some.1 ∙ t.3 in cc) in
+            let unfinished : row.outcome ≡ outcomes.Unfinished = ap (λ (y : Attempt). y.outcome) (sym same_row) ∙ some.2 in
+            let at : row.at ≡ k = x.reads o row t.3 in
+            let early = t.4.began in
+            let try = try_stops next answered restarted left nearer (w.cells.clock / 2) w.base (attempts_of w) t.0 row a.player a.engine t.4 k outcomes.Unfinished (stands_open next answered left nearer a.engine (words_at w.base (attempts_of w) k) o) early k_late
+            (subst (IsMemory a.engine.words) (sym words) (fits.0 ∙ sym tied.words, fits.1)) (ap bytes_of words ∙ (running.laid.memories.same k k_late ∙ sym (shown_still k k_late)))
+            (subst (λ (m : List ℕ). Agrees m a.engine.log) (sym words) (sees.logged o)) in
+            let as_it_is : record row { at = k; outcome = outcomes.Unfinished } ≡ row = λ i. record row { at = (sym at) i; outcome = (sym unfinished) i } in
+            let here : IsTryAt next answered restarted left MAX_DEPTH (w.cells.clock / 2) (bytes_at w.base (attempts_of w)) t.0 (begins_at next answered restarted left t.0) row =
+            subst (λ (y : _). IsTryAt next answered restarted left MAX_DEPTH (w.cells.clock / 2) (bytes_at w.base (attempts_of w)) t.0 y row) (sym t.4.begins)
+            (subst (IsTryAt next answered restarted left MAX_DEPTH (w.cells.clock / 2) (bytes_at w.base (attempts_of w)) t.0 (Some t.4.start)) as_it_is try) in
+            let more = run_more next answered restarted left (w.cells.clock / 2) (bytes_at w.base (attempts_of w)) (Some (first_of p w.arena)) (of_thread a.thread w.attempts.ended) t.0 row on.0 (on.1 ∙ t.2) here in
+            let rows : of_thread a.thread (attempts_of w) ≡ of_thread a.thread w.attempts.ended ++ row ∷ [] =
+            of_thread_both a.thread w.attempts.ended w.attempts.active ∙ ap (λ (l : List Attempt). of_thread a.thread w.attempts.ended ++ l) (open_one 0 a.thread w.attempts.active row open_rows.by_actor t.3) in
+            subst (IsRunOf next answered restarted left MAX_DEPTH (w.cells.clock / 2) (bytes_at w.base (attempts_of w)) (Some (first_of p w.arena))) (sym rows) more.0
+
+    pub are_opaque : AreOpaque next answered restarted left w
+    are_opaque = record {
+      runs = λ place p e. (let l = within_of w.opening place p e in let here = there_is w.actors place (omega (arith, long)) in of_actor place p here.0 e here.1);
+      players = λ place p a e f. (running.each place p a e f).runs;
+      free = λ even.
+          (let top : w.cells.clock / 2 ≤ w.cells.clock / 2 = omega arith in
+          ap bytes_of (running.laid.free even) ∙ (running.laid.memories.same (w.cells.clock / 2) top ∙ sym (shown_still (w.cells.clock / 2) top)));
+      held = λ place a e h.
+          (let l = within_of w.actors place a e in
+          let top : w.cells.clock / 2 ≤ w.cells.clock / 2 = omega arith in
+          let here = there_is w.opening place (omega (arith, long)) in
+          let x = running.each place here.0 a here.1 e in
+          let fed : ending_of a.status ≡ Some NoMemory → ⊥ = λ z. absurd (let shut = x.starved z in let inside = (sound.each place a e).sound.tied.opens h in let q = sym inside ∙ shut in cc) in
+          (x.sees fed).loaded.held h ∙ ap (λ (m : List ℕ). backed a.engine (words_of m)) (sym (shown_still (w.cells.clock / 2) top)));
+    }
+
+  pub world_opaque : (depth : P → ℕ) (w : World P) (sound : AreActors next answered restarted left depth w.cells w.attempts w.actors) → length w.actors ≡ length w.opening → AreRunning next answered restarted left w → AreOpaque next answered restarted left w
+  world_opaque depth w sound long running = are_opaque depth w sound (are_open next answered restarted left depth w.cells w.attempts w.actors sound running.ordered) long running
+
+  -- ## An actor's work in a world
+
+  module _ (depth : P → ℕ) (w : World P) (sound : AreActors next answered restarted left depth w.cells w.attempts w.actors) (long : length w.actors ≡ length w.opening) (commits : CommitsInOrder w) (running : AreRunning next answered restarted left w)
+      (i : ℕ) (got new : Actor P) (here : slice_get w.actors i ≡ Some got) (cells' : Cells) (r' : Rows) (events : ℕ) (others : KeepsOthers got w.attempts new r') (clocks : ClocksOn w.cells got.engine cells' new.engine)
+      (runs : StillRuns next answered restarted left w.cells w.attempts got cells' r' new) where
+    mine : got.thread ≡ i
+    mine = (sound.each i got here).thread
+
+    player : (p : P) × (slice_get w.opening i ≡ Some p)
+    player = there_is w.opening i (let l = within_of w.actors i got here in omega (arith, long))
+
+    went : AreLaid w.base cells' r' × RunsFrom next answered restarted left (first_of player.0 w.arena) w.base cells' r' new
+    went = runs (first_of player.0 w.arena) w.base running.laid (running.each i player.0 got player.1 here)
+
+    -- another one that holds the clock sees no change
+    others_held : (j : ℕ) (b : Actor P) → i ≢ j → slice_get w.actors j ≡ Some b → b.engine.holds ≡ true → cells' ≡ w.cells
+    others_held j b apart e h =
+        let tied = (sound.each j b e).sound.tied in
+        let odd : w.cells.clock % 2 ≡ 1 = (let held = tied.holder h in let even = tied.even h in omega arith) in
+        (clocks.apart odd (not_holding got.engine.holds refl)).0
+      where
+        not_holding : (x : Bool) → got.engine.holds ≡ x → got.engine.holds ≡ false
+        not_holding true g = absurd (apart (commits.one i j got b here e g h))
+        not_holding false g = g
+
+    pub running_after : AreRunning next answered restarted left (record w { cells = cells'; actors = slice_set w.actors i new; attempts = r'; events = events })
+    running_after = record { laid = went.0; ordered = others.own.ordered running.ordered; each = each_after }
+      where
+        each_after : (place : ℕ) (p : P) (a : Actor P) → slice_get w.opening place ≡ Some p → slice_get (slice_set w.actors i new) place ≡ Some a → RunsFrom next answered restarted left (first_of p w.arena) w.base cells' r' a
+        each_after place p a e f = elim (set_place w.actors i got new here place a f) [
+          | inl h ↦
+              (let same_player : player.0 ≡ p = (let z : Some player.0 ≡ Some p = sym player.1 ∙ (ap (slice_get w.opening) h.0 ∙ e) in cc) in
+              subst (λ (x : Actor P). RunsFrom next answered restarted left (first_of p w.arena) w.base cells' r' x) (sym h.1)
+              (subst (λ (q : P). RunsFrom next answered restarted left (first_of q w.arena) w.base cells' r' new) same_player went.1))
+          | inr h ↦
+              (let b = sound.each place a h.1 in
+              other_runs (first_of p w.arena) w.base w.cells cells' w.attempts r' got.thread a running.laid b.sound.tied others.own
+              (λ same. h.0 (sym mine ∙ (sym same ∙ b.thread))) clocks.late (others_held place a h.0 h.1) (running.each place p a e h.1))
+        ]
+
+  -- ## Beginnings
+
+  -- an actor that has made no call
+  pub fresh_runs : (cells : Cells) (r : Rows) (a : Actor P) (base : List ℕ) (size patience max_commits : ℕ) → a.engine ≡ opening (length cells.words) (replicate size 0) patience max_commits → r.ended ≡ [] → a.nth ≡ 1 → a.again ≡ false → a.pending ≡ None → a.status ≡ Ready
+      → RunsFrom next answered restarted left (first_of a.player size) base cells r a
+  fresh_runs cells r a base size patience max_commits is none first anew nothing ready =
+      let shut : a.engine.is_open ≡ false = ap (λ (c : Core). c.is_open) is in
+      let free : a.engine.holds ≡ false = ap (λ (c : Core). c.holds) is in
+      let rows : of_thread a.thread r.ended ≡ [] = ap (of_thread a.thread) none in
+      record {
+        runs = record {
+          run = subst (IsRunOf next answered restarted left MAX_DEPTH (cells.clock / 2) (bytes_at base r.ended) (Some (first_of a.player size))) (sym rows) tt;
+          inside = λ o. absurd (let z = sym o ∙ shut in cc);
+          between = λ o gave_up starved. (
+            first_of a.player size,
+            ap (run_after next answered restarted left (bytes_at base r.ended) (Some (first_of a.player size))) rows,
+            record {
+              leads = refl;
+              arena = ap (λ (c : Core). c.arena) is;
+              again = anew;
+              tries = (let one = first in omega arith);
+              pending = λ row e. absurd (let z = sym nothing ∙ e in cc);
+            },
+          );
+        };
+        sees = λ fed. record {
+          loaded = record {
+            fresh = λ even same f. subst (Agrees (words_at base r.ended (cells.clock / 2))) (sym (ap (λ (c : Core). c.fresh) is)) tt;
+            held = λ h. absurd (let z = sym h ∙ free in cc);
+            got = λ h. absurd (let z = sym h ∙ free in cc);
+          };
+          logged = λ o. absurd (let z = sym o ∙ shut in cc);
+        };
+        starved = λ e. shut;
+        reads = λ o. absurd (let z = sym o ∙ shut in cc);
+      }
+
+-- no commit has been done
+pub laid_first : (base : List ℕ) (cells : Cells) (r : Rows) → base ≡ bytes_of cells.words → AllFit cells.words → cells.clock ≡ 0 → r.ended ≡ [] → AreLaid base cells r
+laid_first base cells r is fit zero_clock none =
+    let words : words_of base ≡ cells.words = ap words_of is ∙ words_of-bytes_of cells.words fit in
+    record {
+      counted = record {
+        all = ap count_committed none ∙ ap (λ (k : ℕ). k / 2) (sym zero_clock);
+        each = λ position. ap (count_at position) none ∙ (sym (ap one_where (none_below position (nat_lt position 0) refl)) ∙ ap (λ (k : ℕ). one_where (nat_lt position (k / 2))) (sym zero_clock));
+      };
+      memories = record {
+        fits = λ k l. subst (λ (j : ℕ). IsMemory (length cells.words) (words_at base r.ended j)) (sym (at_zero k l)) (subst (IsMemory (length cells.words)) (sym words) (refl, fit));
+        same = λ k l. subst (λ (j : ℕ). bytes_of (words_at base r.ended j) ≡ bytes_at base r.ended j) (sym (at_zero k l)) (ap bytes_of words ∙ sym is);
+      };
+      free = λ even. sym words ∙ ap (λ (k : ℕ). words_at base r.ended (k / 2)) (sym zero_clock);
+    }
+  where
+    at_zero : (k : ℕ) → k ≤ cells.clock / 2 → k ≡ 0
+    at_zero k l = omega (arith, l, zero_clock)
+
+    none_below : (position : ℕ) (b : Bool) → nat_lt position 0 ≡ b → nat_lt position 0 ≡ false
+    none_below position false e = e
+    none_below position true e = absurd (let l : position < 0 = ltb-true position 0 e in omega arith)

@@ -1,0 +1,110 @@
+-- What an engine has seen, over a step.
+use Rattle.std.proofs.Common.{◌≡◌, inl, inr, ℕ, zero, suc, ◌/◌, ◌%◌, ◌<◌, ◌==◌, Bool, true, false, List, [], ◌∷◌, ◌++◌, length, slice_get, slice_set, slice_index, Some, refl, sym, ap, subst, ◌∙◌, arith, if◌then◌else◌, eqb-true}
+use Rattle.std.proofs.lemmas.List.{take_all}
+use Rattle.std.proofs.lemmas.Bool.{cond-true}
+use Rattle.std.proofs.lemmas.Option.{slice_get-get_or}
+use Rattle.itm_types.specs.declared.step.Step.{Step}
+use Rattle.itm_types.specs.declared.step.Step.TheVariants.{Load, Store, Cas}
+use Rattle.itm_types.specs.declared.row.LogRow.{LogRow}
+use Rattle.itm_types.specs.Memory.{Agrees, IsMemory}
+use Rattle.write_set.specs.Rows.{overlay}
+use Rattle.norec_engine.specs.Core.{Core, handed_to, word_loaded}
+use Rattle.norec_engine.specs.Proceeds.{IsLawful, Joins, Settles, Got}
+use Rattle.norec_engine.specs.Rows.{write_at}
+use Rattle.norec_world.specs.Cells.{Cells, found, cells_after}
+use Rattle.norec_world.specs.Sound.{IsTied}
+use Rattle.norec_world.specs.Sees.{Loaded, Sees}
+use Rattle.norec_world.proofs.Following.{is_free, agrees_more}
+
+both : (n : Bool) → n ≡ true → n ≡ false → ⊥
+both n t f = absurd (cc)
+
+module _ (memory : ℕ → List ℕ) (cells : Cells) (e : Core) (t : IsTied cells e) (free : cells.clock % 2 ≡ 0 → cells.words ≡ memory (cells.clock / 2)) (fits : IsMemory (length cells.words) (memory (cells.clock / 2))) where
+  -- ## The value is handed in
+
+  word_handed : Loaded memory cells e → (word : ℕ) → word < length cells.words → (holds : Bool) → e.holds ≡ holds → (e.holds ≡ true → word ≡ (write_at e.writes e.done).word)
+      → Loaded memory cells (word_loaded e holds word (slice_index cells.words word))
+  word_handed s word inside true h own = record {
+    fresh = λ even same f. absurd (both e.holds h f);
+    held = s.held;
+    got = λ g. ap (slice_get cells.words) (sym (own g)) ∙ slice_get-get_or cells.words word 0 inside;
+  }
+  word_handed s word inside false h own = record {
+    fresh = λ even same f. agrees_more (memory (cells.clock / 2)) e.fresh _ (s.fresh even same f)
+        (subst (λ (m : List ℕ). slice_get m word ≡ Some (slice_index cells.words word)) (free even) (slice_get-get_or cells.words word 0 inside), tt);
+    held = s.held;
+    got = λ g. absurd (both e.holds g h);
+  }
+
+  -- any step but the store that frees the clock
+  pub loaded_handed : Loaded memory cells e → (step : Step) → IsLawful e step → is_free step ≡ false → Loaded memory (cells_after cells step) (handed_to e (Some step) (found cells step))
+  loaded_handed s (Load zero) l n = record { fresh = λ even same f. tt; held = λ h. absurd (both e.holds h l.1); got = λ h. absurd (both e.holds h l.1) }
+  loaded_handed s (Load (suc word)) l n = word_handed s word (let k = l.0 in let w = t.words in omega arith) e.holds refl (λ h. l.1.1 h)
+  loaded_handed s (Store zero value) l n = absurd (cc)
+  loaded_handed s (Store (suc word) value) l n =
+      let held = s.held l.1 in
+      let mem : IsMemory e.words (memory (cells.clock / 2)) = (fits.0 ∙ sym t.words, fits.1) in
+      let got : Got e.got (slice_get cells.words word) = subst (λ (k : ℕ). Got e.got (slice_get cells.words k)) (sym l.2.word_is) (s.got l.1) in
+      record {
+        fresh = λ even same f. absurd (both e.holds l.1 f);
+        held = λ h. ap (λ (m : List ℕ). slice_set m word value) held ∙ sym (l.2.value_is (memory (cells.clock / 2)) mem (subst (λ (m : List ℕ). Got e.got (slice_get m word)) held got));
+        got = λ h. tt;
+      }
+  loaded_handed s (Cas cell from to) l n = record {
+    fresh = λ even same f. tt;
+    held = λ h.
+        (let same : cells.clock ≡ from = eqb-true cells.clock from h in
+        let even = l.4 in
+        let now : (if cells.clock == from then to else cells.clock) ≡ to = cond-true (cells.clock == from) to cells.clock h in
+        let up = l.6 in
+        let half : cells.clock / 2 ≡ (if cells.clock == from then to else cells.clock) / 2 = omega arith in
+        let was_even : cells.clock % 2 ≡ 0 = omega arith in
+        free was_even ∙ ap memory half);
+    got = λ h. tt;
+  }
+
+  -- the store that frees the clock: all rows are stored
+  pub freed_words : Loaded memory cells e → (value : ℕ) → IsLawful e (Store 0 value) → cells.words ≡ overlay (memory (cells.clock / 2)) e.writes
+  freed_words s value l = s.held l.1 ∙ ap (overlay (memory (cells.clock / 2))) (take_all e.done e.writes (omega (arith, l.2.1)))
+
+  -- ## The log
+
+  module _ (s : Sees memory cells e) (step : Step) (waits : e.waits ≡ Some step) (lawful : IsLawful e step) (new : Core) (joins : Joins e (found cells step) new) where
+    -- what is settled was loaded from the last memory
+    settled_fresh : Settles e (found cells step) → Agrees (memory (found cells step / 2)) e.fresh
+    settled_fresh k =
+        let is : step ≡ Load 0 = (let x : Some step ≡ Some (Load 0) = sym waits ∙ k.load in cc) in
+        let seen : found cells step ≡ cells.clock = ap (found cells) is in
+        let own : e.holds ≡ false = (subst (IsLawful e) is lawful).1 in
+        let even : cells.clock % 2 ≡ 0 = ap (λ (n : ℕ). n % 2) (sym seen) ∙ k.even in
+        subst (λ (n : ℕ). Agrees (memory (n / 2)) e.fresh) (sym seen) (s.loaded.fresh even (sym k.same ∙ seen) own)
+
+    -- the log of before is of the new snapshot's memory too
+    pub still_logged : e.is_open ≡ true → Agrees (memory (new.snapshot / 2)) e.log
+    still_logged o = elim (joins.snapshot o) [
+      | inl same ↦ subst (λ (n : ℕ). Agrees (memory (n / 2)) e.log) (sym same) (s.logged o)
+      | inr moved ↦ subst (λ (n : ℕ). Agrees (memory (n / 2)) e.log) (sym moved.2) (subst (Agrees (memory (found cells step / 2))) moved.1 (settled_fresh moved.0))
+    ]
+
+    was_logged : (b : Bool) → e.is_open ≡ b → Agrees (memory (new.snapshot / 2)) e.log
+    was_logged true o = still_logged o
+    was_logged false o = subst (Agrees (memory (new.snapshot / 2))) (sym (t.settled.closed o).0) tt
+
+    pub log_now : new.is_open ≡ true → Agrees (memory (new.snapshot / 2)) new.log
+    log_now o = elim (joins.log o) [
+      | inl same ↦ subst (Agrees (memory (new.snapshot / 2))) (sym same) (was_logged e.is_open refl)
+      | inr more ↦
+          subst (Agrees (memory (new.snapshot / 2))) (sym more.1)
+          (agrees_more (memory (new.snapshot / 2)) e.log e.fresh (was_logged e.is_open refl) (subst (λ (n : ℕ). Agrees (memory (n / 2)) e.fresh) (sym more.2) (settled_fresh more.0)))
+    ]
+
+    -- one that agrees with the log now agrees with the log of before
+    pub less_logged : new.is_open ≡ true → (m : List ℕ) → Agrees m new.log → Agrees m e.log
+    less_logged o m a = elim (joins.log o) [
+      | inl same ↦ subst (Agrees m) same a
+      | inr more ↦ agrees_less m e.log e.fresh (subst (Agrees m) more.1 a)
+    ]
+      where
+        agrees_less : (m : List ℕ) (xs ys : List LogRow) → Agrees m (xs ++ ys) → Agrees m xs
+        agrees_less m [] ys a = tt
+        agrees_less m (x ∷ xs) ys a = (a.0, agrees_less m xs ys a.1)

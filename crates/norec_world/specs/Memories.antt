@@ -1,0 +1,20 @@
+-- The memories that the commits left, as words.
+use Rattle.std.specs.Prelude.{◌≡◌, ℕ, ◌≤◌, List}
+use Rattle.itm_model.specs.declared.limits.TheConstants.{MAX_DEPTH}
+use Rattle.itm_types.specs.Memory.{bytes_of, IsMemory}
+use Rattle.norec_world.specs.declared.attempt.Attempt.{Attempt}
+use Rattle.norec_world.specs.Attempts.{memory_after}
+use Rattle.norec_world.specs.Cells.{words_of}
+
+-- the bytes that the first commits left
+abbrev pub bytes_at : List ℕ → List Attempt → ℕ → List ℕ
+bytes_at base attempts k = memory_after MAX_DEPTH base attempts k
+
+-- and their words
+abbrev pub words_at : List ℕ → List Attempt → ℕ → List ℕ
+words_at base attempts k = words_of (bytes_at base attempts k)
+
+-- each of them, up to the last one, is a memory of so many words
+pub record AreMemories (words : ℕ) (base : List ℕ) (attempts : List Attempt) (last : ℕ) : Type 0 where
+  pub fits : (k : ℕ) → k ≤ last → IsMemory words (words_at base attempts k)
+  pub same : (k : ℕ) → k ≤ last → bytes_of (words_at base attempts k) ≡ bytes_at base attempts k

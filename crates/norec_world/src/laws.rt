@@ -1,0 +1,18 @@
+//! Laws of the definitions that the contracts speak with.
+
+ghost use Rattle.std.specs.Prelude.{◌≡◌, ◌⊎◌, ℕ, List};
+ghost use Rattle.itm_model.specs.declared.limits.TheConstants.{MAX_DEPTH};
+ghost use Rattle.norec_world.specs.declared.attempt.Attempt.{Attempt};
+ghost use Rattle.norec_world.specs.Attempts.{pairs_of};
+ghost use Rattle.norec_world.specs.Opacity.{IsBeginningOf, IsOpaque};
+
+use script_vm::Player;
+
+/// Isolation: of two opaque attempts, in any two worlds, whose players, properties and arenas at the begin are equal
+/// and which read equal memories, the shorter list of calls with replies is a beginning of the longer one. Does
+/// nothing.
+pub fn isolation<P: Player>()
+    ensures { (p : P) (a b : Attempt) (n m : ℕ) (memory : List ℕ)
+        → IsOpaque P.next_call P.answered P.restarted P.calls_left MAX_DEPTH p a n memory → IsOpaque P.next_call P.answered P.restarted P.calls_left MAX_DEPTH p b m memory
+        → a.arena ≡ b.arena → a.props ≡ b.props → IsBeginningOf (pairs_of a) (pairs_of b) ⊎ IsBeginningOf (pairs_of b) (pairs_of a) }
+{}

@@ -1,0 +1,28 @@
+#!/bin/sh
+# Random scripts through `itmrun sched`: what their histories say is worked out again in Python, from the documents
+# alone (docs/SCRIPTS.md and docs/HISTORIES.md). Outside the gate; needs python3.
+#
+#   sh tests/soak.sh [COUNT [SEED]]     so many scripts, 3000 where it is not said, of a seed, 1 where it is not said
+#   sh tests/soak.sh FILE               the script in FILE, as one that failed
+#
+# ITMRUN=PROGRAM takes another built program than this tree's. The exit status is 0 where every history was right. At
+# the first one that was not, the script and what came of it are kept, and the status is 1.
+
+root=$(CDPATH= cd -- "$(dirname -- "$0")/.." && pwd) || exit 1
+program=${ITMRUN:-}
+if [ -z "$program" ]; then
+    # builds the program, if it has to be
+    "$root/itmrun" sched "$root/examples/counter.itm" >/dev/null || exit 1
+    program=$root/crates/itmrun/out/itmrun
+fi
+work=$(mktemp -d) || exit 1
+export PYTHONDONTWRITEBYTECODE=1
+
+if [ -f "${1:-}" ]; then
+    python3 "$root/tests/soak/check.py" "$program" "$work" "$1"
+else
+    python3 "$root/tests/soak/check.py" "$program" "$work" "${1:-3000}" "${2:-1}"
+fi
+status=$?
+rmdir "$work" 2>/dev/null
+[ "$status" = 0 ] || exit 1
