@@ -7,12 +7,14 @@ use Rattle.norec_world.specs.declared.fault.WorldFault.{WorldFault}
 use Rattle.norec_world.specs.declared.actor.Actor.{Actor}
 use Rattle.norec_world.specs.World.{World, attempts_of, ending_at, memory_of}
 use Rattle.norec_world.specs.Commits.{CommitsInOrder}
+use Rattle.norec_world.specs.Opaque.{AreOpaque}
 use Rattle.norec_world.specs.Tries.{IsBetween}
+use Rattle.norec_world.specs.Starts.{AreStarted}
 use Rattle.norec_world.specs.Going.{Leads, Takes}
 use Rattle.script_asm.specs.declared.schedule.Item.{Item}
 use Rattle.script_asm.specs.declared.schedule.Item.TheVariants.{Take, Out}
 use Rattle.script_asm.specs.Listing.{Listing, opening_of, threads_of}
-use Rattle.itmrun.specs.Threads.{Thread, opening, next_call, answered, calls_left}
+use Rattle.itmrun.specs.Threads.{Thread, opening, next_call, answered, restarted, calls_left}
 
 -- the players of its threads, by number
 abbrev pub players_of : Listing → List Thread
@@ -32,7 +34,9 @@ pub record Begins (p : Listing) (w : World Thread) : Type 0 where
   pub actors : length w.actors ≡ length (threads_of p)
   pub none : attempts_of w ≡ []
   pub first : (place : ℕ) (a : Actor Thread) → slice_get w.actors place ≡ Some a → IsBetween 0 1 w.attempts a  -- each is before its first try
+  pub starts : AreStarted next_call answered restarted w  -- and has done its local work up to its first step
   pub commits : CommitsInOrder w
+  pub opaque : AreOpaque next_call answered restarted calls_left w
   pub fed : (actor : ℕ) → ending_at w actor ≡ Some NoMemory → ⊥  -- none of them has found no memory
 
 -- ## The schedule
@@ -51,8 +55,8 @@ schedule_of p = items_or_each p.schedule (length (threads_of p))
 
 -- What an item asks for leads from the one world to the other: so many events of the thread, of which those after its end are passed over; or as many as lead to its end.
 abbrev pub ItemLeads : Item → World Thread → World Thread → Type 0
-ItemLeads (Take thread count) old new = (results : List (Result (Unit {0}) WorldFault)) × Leads next_call answered calls_left old (replicate count thread) results new
-ItemLeads (Out thread) old new = (n : ℕ) × Takes next_call answered calls_left thread n old new × IsSome (ending_at new thread)
+ItemLeads (Take thread count) old new = (results : List (Result (Unit {0}) WorldFault)) × Leads next_call answered restarted calls_left old (replicate count thread) results new
+ItemLeads (Out thread) old new = (n : ℕ) × Takes next_call answered restarted calls_left thread n old new × IsSome (ending_at new thread)
 
 -- one item after the other leads from the one world to the other
 abbrev pub ItemsLead : List Item → World Thread → World Thread → Type 0

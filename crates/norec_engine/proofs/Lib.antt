@@ -5,3 +5,6 @@ pub mod Counts
 pub mod Phases
 pub mod Readings
 pub mod Writings
+pub mod Keeping
+pub mod Resting
+pub mod Logs

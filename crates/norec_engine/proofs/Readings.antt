@@ -13,7 +13,7 @@ use Rattle.norec_engine.specs.Fields.{part, parts, count, word_of, core_after}
 use Rattle.norec_engine.specs.declared.phase.Phase.TheVariants.{Idle, Load}
 use Rattle.norec_engine.specs.declared.phase.Reading.{Reading}
 use Rattle.norec_engine.specs.Rows.{is_covered}
-use Rattle.norec_engine.specs.Order.{load_among, load_stage, tries_after}
+use Rattle.norec_engine.specs.Order.{load_among, load_stage, tries_after, tries_at}
 use Rattle.norec_engine.specs.declared.phase.Turn.{Turn}
 use Rattle.norec_engine.specs.declared.phase.Turn.TheVariants.{Wait, End}
 use Rattle.norec_engine.specs.declared.data.Data.{Data}
@@ -89,13 +89,13 @@ pub none_left : (r : Reading) → slice_get (parts r) r.number ≡ None → coun
 none_left r e = (let l = none_count (parts r) r.number e in let n = length-parts r.at (size_of r.width) in omega arith)
 
 -- no round starts as pieces are passed over
-tries_among : (writes : List Row) (r : Reading) (ps : List Piece) (tries : ℕ) → tries_after (load_among writes r ps) tries ≡ tries
-tries_among writes r [] tries = refl
-tries_among writes r (p ∷ ps) tries =
-    cond_both (is_covered writes p) (load_among writes (record r { number = suc r.number }) ps) (Load r) (λ x. tries_after x tries ≡ tries) (λ e. tries_among writes (record r { number = suc r.number }) ps tries) (λ e. refl)
+tries_among : (writes : List Row) (r : Reading) (ps : List Piece) → tries_after (load_among writes r ps) 0 ≡ tries_at (load_among writes r ps)
+tries_among writes r [] = refl
+tries_among writes r (p ∷ ps) =
+    cond_both (is_covered writes p) (load_among writes (record r { number = suc r.number }) ps) (Load r) (λ x. tries_after x 0 ≡ tries_at x) (λ e. tries_among writes (record r { number = suc r.number }) ps) (λ e. refl)
 
-pub tries_loading : (writes : List Row) (r : Reading) (tries : ℕ) → tries_after (load_stage writes r) tries ≡ tries
-tries_loading writes r tries = tries_among writes r (drop r.number (pieces_of r.at (size_of r.width))) tries
+pub tries_loading : (writes : List Row) (r : Reading) → tries_after (load_stage writes r) 0 ≡ tries_at (load_stage writes r)
+tries_loading writes r = tries_among writes r (drop r.number (pieces_of r.at (size_of r.width)))
 
 -- what a turn leaves, as callers see it
 pub after_log : (turn : Turn) (d : Data) → (core_after turn d).log ≡ d.log.rows

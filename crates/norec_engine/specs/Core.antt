@@ -30,7 +30,7 @@ pub record Core : Type 0 where
   pub waits : Option Step  -- the step that it asked for
   pub spent : ℕ  -- how many steps the present or last call has asked for
   pub stage : Phase  -- where the call in progress stands
-  pub tries : ℕ  -- validation rounds that it started, or clock loads of a begin
+  pub tries : ℕ  -- validation rounds that the call in progress has started, or clock loads of a begin
   pub entry : ℕ  -- how many rows were logged as the call came
 
 abbrev pub no_props : Props

@@ -19,12 +19,14 @@ use Rattle.norec_engine.specs.declared.phase.Reading.{Reading}
 use Rattle.norec_engine.specs.declared.phase.Turn.{Turn}
 use Rattle.norec_engine.specs.declared.phase.Turn.TheVariants.{Wait, End}
 use Rattle.norec_engine.specs.declared.data.Data.{Data}
+use Rattle.norec_engine.specs.declared.answer.Answer.{Answer}
 use Rattle.norec_engine.specs.declared.answer.Next.{Next}
 use Rattle.norec_engine.specs.declared.answer.Next.TheVariants.{Step as Asks, Answer as Answers}
 use Rattle.norec_engine.specs.Rows.{row_at, write_at, value_into, is_covered, AllWithin, AllWritesWithin}
 use Rattle.write_set.specs.Rows.{overlay, AreRows}
 use Rattle.norec_engine.specs.Core.{Core}
 use Rattle.norec_engine.specs.Proceeds.{Proceeds}
+use Rattle.norec_engine.specs.Endings.{IsEnding}
 
 -- ## What callers see
 
@@ -119,6 +121,11 @@ abbrev pub got_of : Phase → Option ℕ
 got_of (at.Store row got) = got
 got_of _ = None
 
+-- tries are of the call in progress
+abbrev pub tries_of : Phase → ℕ → ℕ
+tries_of at.Idle tries = 0
+tries_of _ tries = tries
+
 -- the engine with these fields, in this phase
 abbrev pub core : Data → Phase → Core
 core d phase = record {
@@ -142,7 +149,7 @@ core d phase = record {
   waits = waits_of d phase;
   spent = d.spent;
   stage = phase;
-  tries = d.tries;
+  tries = tries_of phase d.tries;
   entry = d.entry;
 }
 
@@ -266,6 +273,11 @@ pub record IsSoundTurn (turn : Turn) (d : Data) : Type 0 where
 
 abbrev pub Turns : Core → Turn → Data → Type 0
 Turns mid turn d = Proceeds mid (next_of turn d) (core_after turn d)
+
+-- if the turn ends the call, it does so by this end
+abbrev pub TurnEndsSo : Option Answer → Turn → Type 0
+TurnEndsSo end (Wait phase) = Unit {0}
+TurnEndsSo end (End a) = IsEnding end a
 
 -- ## Between two steps
 

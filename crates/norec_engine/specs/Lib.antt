@@ -2,6 +2,9 @@ pub mod Rows
 pub mod Core
 pub mod Stands
 pub mod Order
+pub mod Endings
 pub mod Proceeds
+pub mod Moves
 pub mod Fields
 pub mod Undoing
+pub mod Keeping

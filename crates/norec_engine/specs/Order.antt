@@ -1,5 +1,6 @@
 -- The order of the steps: where a call stands once it has come, and after each value that is handed in.
-use Rattle.std.specs.Prelude.{◌≡◌, ℕ, suc, ◌+◌, ◌*◌, ◌/◌, ◌%◌, ◌==◌, ◌&&◌, nat_le, nat_lt, Bool, if◌then◌else◌, List, [], ◌∷◌, drop, length, None, Some}
+use Rattle.std.specs.Prelude.{◌≡◌, ℕ, suc, ◌+◌, ◌*◌, ◌/◌, ◌%◌, ◌==◌, ◌&&◌, nat_le, nat_lt, Bool, if◌then◌else◌, List, [], ◌∷◌, ◌++◌, drop, length, Option, None, Some}
+use Rattle.itm_types.specs.declared.row.LogRow.{LogRow}
 use Rattle.itm_types.specs.declared.call.Call.{Call}
 use Rattle.itm_types.specs.declared.call.Call.TheVariants as calls
 use Rattle.norec_engine.specs.declared.phase.Aim.{Aim}
@@ -12,7 +13,9 @@ use Rattle.write_set.specs.declared.row.Row.{Row}
 use Rattle.word_pieces.specs.declared.piece.Piece.{Piece}
 use Rattle.word_pieces.specs.Masks.{whole}
 use Rattle.word_pieces.specs.Pieces.{pieces_of}
-use Rattle.norec_engine.specs.Rows.{row_at, write_at, is_covered}
+use Rattle.norec_engine.specs.Rows.{row_at, write_at, value_into, is_covered}
+use Rattle.itm_types.specs.declared.step.Step.{Step}
+use Rattle.itm_types.specs.declared.step.Step.TheVariants as steps
 use Rattle.norec_engine.specs.Core.{Core}
 
 -- one more round, or the end
@@ -78,9 +81,9 @@ stage_at c (calls.Write hint at value) again = Idle
 
 -- ## Tries
 
--- each round that starts, and each further load of a begin, is one try more
+-- each round that starts, and each further load of a begin, is one try more; outside a call there is none
 abbrev pub tries_after : Phase → ℕ → ℕ
-tries_after Idle tries = tries
+tries_after Idle tries = 0
 tries_after (Begin b) tries = suc tries
 tries_after (Load r) tries = tries
 tries_after (Confirm r value) tries = tries
@@ -92,19 +95,10 @@ tries_after (BackLoad row) tries = tries
 tries_after (Store row got) tries = tries
 tries_after Free tries = tries
 
--- a call that goes on starts with none, but for the first load of a begin
-abbrev pub AreFirst : Phase → ℕ → Type 0
-AreFirst Idle tries = Unit {0}
-AreFirst (Begin b) tries = tries ≡ 1
-AreFirst (Load r) tries = tries ≡ 0
-AreFirst (Confirm r value) tries = tries ≡ 0
-AreFirst (RoundStart aim) tries = tries ≡ 0
-AreFirst (RoundRow aim row) tries = tries ≡ 0
-AreFirst (RoundEnd aim) tries = tries ≡ 0
-AreFirst Exchange tries = tries ≡ 0
-AreFirst (BackLoad row) tries = tries ≡ 0
-AreFirst (Store row got) tries = tries ≡ 0
-AreFirst Free tries = tries ≡ 0
+-- a call starts with none, but for the first load of a begin
+abbrev pub tries_at : Phase → ℕ
+tries_at (Begin b) = 1
+tries_at _ = 0
 
 -- ## The snapshot
 
@@ -124,3 +118,33 @@ snapshot_from c Free seen = c.snapshot
 
 abbrev pub snapshot_after : Core → ℕ → ℕ
 snapshot_after c seen = snapshot_from c c.stage seen
+
+-- ## The log
+
+-- a word that was confirmed joins it
+abbrev pub log_from : Core → Phase → ℕ → List LogRow
+log_from c (Confirm r value) seen = if seen == c.snapshot then c.log ++ c.fresh else c.log
+log_from c _ seen = c.log
+
+abbrev pub log_after : Core → ℕ → List LogRow
+log_after c seen = log_from c c.stage seen
+
+-- ## The steps
+
+-- the step that a stage asks for
+abbrev pub asked_from : Core → Phase → Option Step
+asked_from c Idle = None
+asked_from c (Begin b) = Some (steps.Load 0)
+asked_from c (Load r) = Some (steps.Load (suc (r.at / 8 + r.number)))
+asked_from c (Confirm r value) = Some (steps.Load 0)
+asked_from c (RoundStart aim) = Some (steps.Load 0)
+asked_from c (RoundRow aim row) = Some (steps.Load (suc (row_at c.log row).word))
+asked_from c (RoundEnd aim) = Some (steps.Load 0)
+asked_from c Exchange = Some (steps.Cas 0 c.snapshot (c.snapshot + 1))
+asked_from c (BackLoad row) = Some (steps.Load (suc (write_at c.writes row).word))
+asked_from c (Store row got) = Some (steps.Store (suc (write_at c.writes row).word) (value_into (write_at c.writes row) got))
+asked_from c Free = Some (steps.Store 0 (c.snapshot + 2))
+
+-- and the engine, by its stage
+abbrev pub asked : Core → Option Step
+asked c = asked_from c c.stage

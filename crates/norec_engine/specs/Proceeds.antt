@@ -1,8 +1,9 @@
 -- What an engine may do next. `mid` is the engine with a call that came, or with the value of the step that it waited for.
-use Rattle.std.specs.Prelude.{◌≡◌, ◌≢◌, ◌⊎◌, ℕ, zero, suc, ◌+◌, ◌*◌, ◌/◌, ◌%◌, ◌<◌, ◌≤◌, Bool, true, false, List, [], ◌∷◌, ◌++◌, Option, None, Some, slice_get, slice_set, take, length}
+use Rattle.std.specs.Prelude.{◌≡◌, ◌≢◌, ◌^◌, ◌⊎◌, ℕ, zero, suc, ◌+◌, ◌*◌, ◌/◌, ◌%◌, ◌<◌, ◌≤◌, Bool, true, false, List, [], ◌∷◌, ◌++◌, Option, None, Some, slice_get, slice_set, take, length}
 use Rattle.itm_types.specs.declared.row.LogRow.{LogRow}
 use Rattle.write_set.specs.declared.row.Row.{Row}
 use Rattle.itm_types.specs.declared.call.Call.{Call}
+use Rattle.itm_types.specs.declared.call.Props.{Props}
 use Rattle.itm_types.specs.declared.call.Call.TheVariants.{Begin, Commit, Read, Write}
 use Rattle.itm_types.specs.declared.call.Reply.{Reply as Replied}
 use Rattle.itm_types.specs.declared.call.Reply.TheVariants.{Done, Bytes, Code, Refused}
@@ -12,7 +13,7 @@ use Rattle.itm_types.specs.Access.{size_of}
 use Rattle.word_pieces.specs.Pieces.{pieces_of, count_of}
 use Rattle.itm_model.specs.declared.limits.TheConstants.{MAX_DEPTH}
 use Rattle.itm_types.specs.Memory.{bytes_of, IsMemory, Agrees}
-use Rattle.itm_model.specs.Machine.{after, reply}
+use Rattle.itm_model.specs.Machine.{after, reply, undone}
 use Rattle.norec_engine.specs.declared.answer.Answer.{Answer as Answered}
 use Rattle.norec_engine.specs.declared.answer.Answer.TheVariants.{Reply, Committed, Conflict, Busy, Full}
 use Rattle.norec_engine.specs.declared.answer.Next.{Next}
@@ -35,6 +36,7 @@ Got (Some seen) word = word ≡ Some seen
 
 -- a store by the holder is of the next row, and brings the memory on by that row
 pub record StoresNext (c : Core) (word value : ℕ) : Type 0 where
+  pub some : c.done < length c.writes  -- a row is left
   pub word_is : word ≡ (write_at c.writes c.done).word
   pub value_is : (m : List ℕ) → IsMemory c.words m → Got c.got (slice_get (backed c m) word) → overlay m (take (c.done + 1) c.writes) ≡ slice_set (backed c m) word value
 
@@ -46,7 +48,7 @@ StoresOrFrees c (suc word) value = StoresNext c word value
 -- the clock is loaded by one that does not hold it; a word by an open transaction, and by the holder the one that it stores next
 abbrev pub LoadsOwn : Core → ℕ → Type 0
 LoadsOwn c zero = c.holds ≡ false
-LoadsOwn c (suc word) = (c.is_open ≡ true) × (c.holds ≡ true → word ≡ (write_at c.writes c.done).word)
+LoadsOwn c (suc word) = (c.is_open ≡ true) × (c.holds ≡ true → (c.done < length c.writes) × (word ≡ (write_at c.writes c.done).word))
 
 -- the step of an engine that asks for it is one of the algorithm's
 abbrev pub IsLawful : Core → Step → Type 0
@@ -94,6 +96,16 @@ OpensBy was Commit (Refused refusal) now = now ≡ was
 OpensBy was (Read hint width at) r now = now ≡ was
 OpensBy was (Write hint at value) r now = now ≡ was
 
+-- an accepted begin gives the open block's properties
+abbrev pub props_after : Props → Call → Replied → Props
+props_after was (Begin props room) Done = was
+props_after was (Begin props room) (Bytes value) = was
+props_after was (Begin props room) (Code n) = props
+props_after was (Begin props room) (Refused refusal) = was
+props_after was Commit r = was
+props_after was (Read hint width at) r = was
+props_after was (Write hint at value) r = was
+
 -- at a reply the engine and the reply are the plain machine's, over every memory that agrees with the log
 pub record Replies (mid : Core) (call : Call) (r : Replied) (new : Core) : Type 0 where
   pub meets : (m : List ℕ) → IsMemory mid.words m → Agrees m new.log → stands_for new m ≡ after MAX_DEPTH (stands_for mid m) call
@@ -117,6 +129,7 @@ pub record Replies (mid : Core) (call : Call) (r : Replied) (new : Core) : Type 
   pub unfreed : mid.freed ≡ false
   pub still : mid.is_open ≡ true → new.is_open ≡ true
   pub opens : OpensBy mid.is_open call r new.is_open
+  pub props : new.props ≡ props_after mid.props call r
   pub settled : new.is_open ≡ true → (new.clock ≡ new.snapshot) × (new.snapshot % 2 ≡ 0)
 
 -- the call is a commit: over every memory that agrees with the log, the stores leave the plain machine's memory
@@ -131,6 +144,10 @@ pub record Commits (mid : Core) (at : ℕ) (wrote : Bool) (new : Core) : Type 0 
   pub freed : mid.freed ≡ wrote
   pub stays : new ≡ record (ended mid) { stage = new.stage; tries = new.tries }
 
+-- the engine stands for the state with every open block rolled back
+abbrev pub IsUndone : Core → Core → Type 0
+IsUndone mid new = (m : List ℕ) → IsMemory mid.words m → stands_for new m ≡ undone (stands_for mid m)
+
 -- the word that differs was the last one loaded
 abbrev pub Differs : List LogRow → List LogRow → Option ℕ → Type 0
 Differs fresh log None = fresh ≡ []
@@ -138,7 +155,7 @@ Differs fresh log (Some word) =
     (before : List LogRow) × (found : ℕ) × (logged : LogRow) × (place : ℕ)
     × (fresh ≡ before ++ record { word = word; value = found } ∷ []) × (slice_get log place ≡ Some logged) × (logged.word ≡ word) × (logged.value ≢ found)
 
--- the clock that was seen last is later than the snapshot
+-- the clock that was seen last is later than the snapshot, and the transaction is undone
 pub record Conflicts (mid : Core) (clock : ℕ) (word : Option ℕ) (new : Core) : Type 0 where
   pub is_open : mid.is_open ≡ true
   pub clock_is : clock ≡ mid.clock
@@ -147,6 +164,7 @@ pub record Conflicts (mid : Core) (clock : ℕ) (word : Option ℕ) (new : Core)
   pub free : mid.holds ≡ false
   pub unfreed : mid.freed ≡ false
   pub stays : new ≡ record (ended mid) { stage = new.stage; tries = new.tries }
+  pub undone : IsUndone mid new
 
 abbrev pub IsBegin : Option Call → Type 0
 IsBegin None = ⊥
@@ -161,10 +179,11 @@ pub record IsBusy (mid : Core) (clock : ℕ) (new : Core) : Type 0 where
   pub closed : mid.is_open ≡ false
   pub clock_is : clock ≡ mid.clock
   pub odd : clock % 2 ≡ 1
+  pub free : mid.holds ≡ false
   pub unfreed : mid.freed ≡ false
   pub stays : new ≡ record (ended mid) { stage = new.stage; tries = new.tries }
 
--- there is something to write, and as many commits are done as may be
+-- there is something to write, and as many commits are done as may be; the transaction is undone
 pub record IsFull (mid : Core) (at : ℕ) (new : Core) : Type 0 where
   pub doing : mid.doing ≡ Some Commit
   pub is_open : mid.is_open ≡ true
@@ -174,6 +193,7 @@ pub record IsFull (mid : Core) (at : ℕ) (new : Core) : Type 0 where
   pub free : mid.holds ≡ false
   pub unfreed : mid.freed ≡ false
   pub stays : new ≡ record (ended mid) { stage = new.stage; tries = new.tries; snapshot = new.snapshot }
+  pub undone : IsUndone mid new
 
 abbrev pub RepliesTo : Core → Option Call → Replied → Core → Type 0
 RepliesTo mid None r new = ⊥
@@ -198,9 +218,9 @@ pub record Settles (old : Core) (seen : ℕ) : Type 0 where
   pub same : seen ≡ old.clock
   pub even : seen % 2 ≡ 0
 
--- rows join the log, and the snapshot moves, only there: the rows that join, or at a move all rows, were loaded between the two loads
+-- rows join the log, and the snapshot moves, only there, and never both: the rows that join, or at a move all rows, were loaded between the two loads
 pub record Joins (old : Core) (seen : ℕ) (new : Core) : Type 0 where
-  pub log : new.is_open ≡ true → (new.log ≡ old.log) ⊎ (Settles old seen × (new.log ≡ old.log ++ old.fresh) × (new.snapshot ≡ seen))
+  pub log : new.is_open ≡ true → (new.log ≡ old.log) ⊎ (Settles old seen × (new.log ≡ old.log ++ old.fresh) × (new.snapshot ≡ seen) × (old.snapshot ≡ seen))
   pub begins : old.is_open ≡ false → new.is_open ≡ true → (old.waits ≡ Some (Load 0)) × (new.snapshot ≡ seen) × (seen % 2 ≡ 0)
   pub snapshot : old.is_open ≡ true → (new.snapshot ≡ old.snapshot) ⊎ (Settles old seen × (old.fresh ≡ old.log) × (new.snapshot ≡ seen))
 
@@ -218,6 +238,13 @@ IsAtOnce (Answers (Committed at wrote)) = Unit {0}
 IsAtOnce (Answers (Conflict clock word)) = ⊥
 IsAtOnce (Answers (Busy clock)) = ⊥
 IsAtOnce (Answers (Full at)) = Unit {0}
+
+-- memory is asked for by a read or a write alone, and by no refused one
+abbrev pub MayStarve : Core → Call → Type 0
+MayStarve c (Begin props room) = ⊥
+MayStarve c Commit = ⊥
+MayStarve c (Read hint width at) = (c.is_open ≡ true) × (at + size_of width ≤ 8 * c.words)
+MayStarve c (Write hint at value) = (c.is_open ≡ true) × (at + size_of value.width ≤ 8 * c.words)
 
 -- ## Values and counts
 
@@ -249,3 +276,7 @@ pub record IsSettled (c : Core) : Type 0 where
   pub closed : c.is_open ≡ false → (c.log ≡ []) × (c.writes ≡ [])
   pub reached : c.snapshot ≤ c.clock
   pub inside : c.waits ≡ None → c.is_open ≡ true → (c.clock ≡ c.snapshot) × (c.snapshot % 2 ≡ 0)
+  pub unfreed : c.freed ≡ false
+  pub even : c.snapshot % 2 ≡ 0
+  pub holder : c.holds ≡ true → (c.is_open ≡ true) × (c.clock ≡ c.snapshot) × (c.snapshot / 2 < c.max_commits)
+  pub limit : c.max_commits < 2 ^ 62

@@ -1,5 +1,5 @@
 -- Giving a transaction up.
-use Rattle.std.specs.Prelude.{ℕ, if◌then◌else◌}
+use Rattle.std.specs.Prelude.{if◌then◌else◌}
 use Rattle.norec_engine.specs.declared.answer.Undone.{Undone}
 use Rattle.norec_engine.specs.declared.answer.Undone.TheVariants.{Nothing, Done, Held}
 use Rattle.norec_engine.specs.declared.phase.Phase.TheVariants.{Idle}
@@ -9,5 +9,5 @@ abbrev pub undone_of : Core → Undone
 undone_of c = if c.holds then Held else (if c.is_open then Done else Nothing)
 
 -- the engine outside, unless the clock is held
-abbrev pub after_undoing : Core → ℕ → Core
-after_undoing c tries = if c.holds then c else record (ended c) { stage = Idle; tries = tries }
+abbrev pub after_undoing : Core → Core
+after_undoing c = if c.holds then c else record (ended c) { stage = Idle; tries = 0 }

@@ -1,9 +1,10 @@
 //! Begins of outermost blocks.
 
-ghost use Rattle.std.specs.Prelude.{◌≡◌, ◌≤◌};
-ghost use Rattle.norec_engine.specs.Fields.{core, core_after, phase_after, IsSound, IsSoundTurn, Turns, Stays};
+ghost use Rattle.std.specs.Prelude.{◌≡◌, ◌≤◌, true};
+ghost use Rattle.norec_engine.specs.Fields.{core, core_after, phase_after, IsSound, IsSoundTurn, Turns, TurnEndsSo, Stays};
 ghost use Rattle.norec_engine.specs.Core.{came, handed};
-ghost use Rattle.norec_engine.specs.Order.{AreFirst, snapshot_after, stage_after, stage_at, tries_after};
+ghost use Rattle.norec_engine.specs.Order.{log_after, snapshot_after, stage_after, stage_at, tries_after, tries_at};
+ghost use Rattle.norec_engine.specs.Endings.{ending_at, ending_after};
 ghost use Rattle.norec_engine.specs.Proceeds.{Joins};
 
 use crate::answer::Answer;
@@ -23,7 +24,8 @@ pub(crate) fn begin(state: &mut Data, props: Props, room: u32, again: bool) -> T
     ensures proceeds { Turns (came (core state.old Phase.Idle) (Call.Begin props room) again) result state.new }
     ensures stays { Stays state.old state.new }
     ensures order { phase_after result ≡ stage_at (core state.old Phase.Idle) (Call.Begin props room) again }
-    ensures tries { AreFirst (phase_after result) state.new.tries }
+    ensures ends { TurnEndsSo (ending_at (core state.old Phase.Idle) (Call.Begin props room)) result }
+    ensures tries { (core_after result state.new).tries ≡ tries_at (phase_after result) }
 {
     let rows = state.log.len();
     state.spent = 0;
@@ -44,8 +46,10 @@ pub(crate) fn begin_seen(state: &mut Data, opening: Opening, seen: u64) -> Turn
     ensures proceeds { Turns (handed (core state.old (Phase.Begin opening)) seen) result state.new }
     ensures joins { Joins (core state.old (Phase.Begin opening)) seen (core_after result state.new) }
     ensures order { phase_after result ≡ stage_after (core state.old (Phase.Begin opening)) seen }
+    ensures ends { TurnEndsSo (ending_after (core state.old (Phase.Begin opening)) seen) result }
     ensures snapshot { state.new.snapshot ≡ snapshot_after (core state.old (Phase.Begin opening)) seen }
-    ensures tries { state.new.tries ≡ tries_after (phase_after result) state.old.tries }
+    ensures log { state.new.is_open ≡ true → state.new.log.rows ≡ log_after (core state.old (Phase.Begin opening)) seen }
+    ensures tries { (core_after result state.new).tries ≡ tries_after (phase_after result) state.old.tries }
 {
     state.clock = seen;
     if seen % 2 == 0 {

@@ -1,9 +1,10 @@
 //! Commits: the clock is taken, the write set is stored in the order of first writing, and the clock is freed.
 
-ghost use Rattle.std.specs.Prelude.{◌≡◌, ◌≤◌, length, ℕ, false};
-ghost use Rattle.norec_engine.specs.Fields.{core, phase_after, between, moved, in_stores, IsSound, IsSoundTurn, Turns, Stays, MayExchange, InStores};
+ghost use Rattle.std.specs.Prelude.{◌≡◌, ◌≤◌, ◌/◌, length, ℕ, false, Option, Some};
+ghost use Rattle.norec_engine.specs.Fields.{core, core_after, phase_after, between, moved, in_stores, IsSound, IsSoundTurn, Turns, TurnEndsSo, Stays, MayExchange, InStores};
 ghost use Rattle.norec_engine.specs.Core.{came, handed};
-ghost use Rattle.norec_engine.specs.Order.{AreFirst, exchange_stage, stage_after, stage_at, store_stage, tries_after};
+ghost use Rattle.norec_engine.specs.Endings.{ending_at, ending_after};
+ghost use Rattle.norec_engine.specs.Order.{exchange_stage, stage_after, stage_at, store_stage, tries_after, tries_at};
 
 use crate::answer::Answer;
 use crate::data::Data;
@@ -18,7 +19,8 @@ pub(crate) fn commit(state: &mut Data) -> Turn
     ensures proceeds { Turns (came (core state.old Phase.Idle) Call.Commit false) result state.new }
     ensures stays { Stays state.old state.new }
     ensures order { phase_after result ≡ stage_at (core state.old Phase.Idle) Call.Commit false }
-    ensures tries { AreFirst (phase_after result) state.new.tries }
+    ensures ends { TurnEndsSo (ending_at (core state.old Phase.Idle) Call.Commit) result }
+    ensures tries { (core_after result state.new).tries ≡ tries_at (phase_after result) }
 {
     let rows = state.log.len();
     state.spent = 0;
@@ -44,7 +46,8 @@ pub(crate) fn exchange(state: &mut Data) -> Turn
     ensures proceeds { (was : ℕ) → Turns (moved (between state.old Aim.Commit) was) result state.new }
     ensures stays { Stays state.old state.new }
     ensures order { phase_after result ≡ exchange_stage state.old.limits.max_commits state.old.snapshot }
-    ensures tries { state.new.tries ≡ state.old.tries }
+    ensures ends { TurnEndsSo (Some (Answer.Full (state.old.snapshot / 2))) result }
+    ensures tries { (core_after result state.new).tries ≡ tries_after (phase_after result) state.old.tries }
 {
     let at = state.snapshot / 2;
     if at < state.limits.max_commits {
@@ -63,7 +66,8 @@ pub(crate) fn exchanged(state: &mut Data, seen: u64) -> Turn
     ensures proceeds { Turns (handed (core state.old Phase.Exchange) seen) result state.new }
     ensures stays { Stays state.old state.new }
     ensures order { phase_after result ≡ stage_after (core state.old Phase.Exchange) seen }
-    ensures tries { state.new.tries ≡ tries_after (phase_after result) state.old.tries }
+    ensures ends { TurnEndsSo (ending_after (core state.old Phase.Exchange) seen) result }
+    ensures tries { (core_after result state.new).tries ≡ tries_after (phase_after result) state.old.tries }
 {
     state.clock = seen;
     if seen == state.snapshot {
@@ -80,7 +84,8 @@ fn next_store(state: &mut Data, row: usize) -> Turn
     ensures proceeds { Turns (in_stores state.old row) result state.new }
     ensures stays { Stays state.old state.new }
     ensures order { phase_after result ≡ store_stage state.old.writes row }
-    ensures tries { state.new.tries ≡ tries_after (phase_after result) state.old.tries }
+    ensures ends { (end : Option Answer) → TurnEndsSo end result }
+    ensures tries { (core_after result state.new).tries ≡ tries_after (phase_after result) state.old.tries }
 {
     if row < state.writes.len() {
         let written = state.writes.row(row);
@@ -101,7 +106,8 @@ pub(crate) fn back_loaded(state: &mut Data, row: usize, seen: u64) -> Turn
     ensures proceeds { Turns (handed (core state.old (Phase.BackLoad row)) seen) result state.new }
     ensures stays { Stays state.old state.new }
     ensures order { phase_after result ≡ stage_after (core state.old (Phase.BackLoad row)) seen }
-    ensures tries { state.new.tries ≡ tries_after (phase_after result) state.old.tries }
+    ensures ends { TurnEndsSo (ending_after (core state.old (Phase.BackLoad row)) seen) result }
+    ensures tries { (core_after result state.new).tries ≡ tries_after (phase_after result) state.old.tries }
 {
     Turn::Wait(Phase::Store(row, Some(seen)))
 }
@@ -113,7 +119,8 @@ pub(crate) fn stored(state: &mut Data, row: usize, got: Option<u64>) -> Turn
     ensures proceeds { Turns (handed (core state.old (Phase.Store row got)) 0) result state.new }
     ensures stays { Stays state.old state.new }
     ensures order { phase_after result ≡ stage_after (core state.old (Phase.Store row got)) 0 }
-    ensures tries { state.new.tries ≡ tries_after (phase_after result) state.old.tries }
+    ensures ends { TurnEndsSo (ending_after (core state.old (Phase.Store row got)) 0) result }
+    ensures tries { (core_after result state.new).tries ≡ tries_after (phase_after result) state.old.tries }
 {
     let _rows = state.writes.len();
     next_store(state, row + 1)
@@ -126,7 +133,8 @@ pub(crate) fn freed(state: &mut Data) -> Turn
     ensures proceeds { Turns (handed (core state.old Phase.Free) 0) result state.new }
     ensures stays { Stays state.old state.new }
     ensures order { phase_after result ≡ stage_after (core state.old Phase.Free) 0 }
-    ensures tries { state.new.tries ≡ tries_after (phase_after result) state.old.tries }
+    ensures ends { TurnEndsSo (ending_after (core state.old Phase.Free) 0) result }
+    ensures tries { (core_after result state.new).tries ≡ tries_after (phase_after result) state.old.tries }
 {
     let at = state.snapshot / 2;
     state.clock = state.snapshot + 2;

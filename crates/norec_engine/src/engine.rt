@@ -1,10 +1,11 @@
 //! One thread's transactions over shared cells that someone else steps on.
 
-ghost use Rattle.std.specs.Prelude.{◌≡◌, ◌≢◌, ◌<◌, ◌≤◌, ◌^◌, IfOk, OnOk, OnErr, IsSome, IsTrue, ◌↔◌, is_some, false};
+ghost use Rattle.std.specs.Prelude.{◌≡◌, ◌≢◌, ◌<◌, ◌≤◌, ◌^◌, IfOk, IsOk, OnOk, OnErr, IsSome, true, IsTrue, ◌↔◌, is_some, false};
 ghost use Rattle.norec_engine.specs.Core.{opening, came, handed};
-ghost use Rattle.norec_engine.specs.Order.{stage_at, stage_after, snapshot_after, tries_after, AreFirst};
-ghost use Rattle.norec_engine.specs.Proceeds.{Proceeds, Joins, StaysOn, IsAtOnce, Fits, IsWithin, IsSettled};
-ghost use Rattle.norec_engine.specs.Fields.{core, core_after, phase_after, data_after, next_of, waits_of, IsSound, IsSoundTurn, Turns, Stays};
+ghost use Rattle.norec_engine.specs.Order.{asked, log_after, snapshot_after, stage_after, stage_at, tries_after, tries_at};
+ghost use Rattle.norec_engine.specs.Endings.{ending_at, ending_after, EndsSo};
+ghost use Rattle.norec_engine.specs.Proceeds.{Proceeds, Joins, StaysOn, IsAtOnce, IsUndone, MayStarve, Fits, IsWithin, IsSettled};
+ghost use Rattle.norec_engine.specs.Fields.{core, core_after, phase_after, data_after, next_of, waits_of, IsSound, IsSoundTurn, Turns, TurnEndsSo, Stays};
 ghost use Rattle.norec_engine.specs.Undoing.{undone_of, after_undoing};
 
 use crate::answer::{Answer, Next, Undone};
@@ -77,11 +78,14 @@ impl Engine {
     /// An outermost block begins, `again` where an earlier try of it got past its begin; inside a transaction this is `call`.
     pub fn begin(&mut self, props: Props, room: u32, again: bool) -> Result<Next, AllocError>
         requires idle { self.old.waits ≡ None }
+        ensures ok { IsOk result }
         ensures proceeds { IfOk result (λ next. Proceeds (came self.old (Call.Begin props room) again) next self.new) }
         ensures at_once { IfOk result IsAtOnce }
         ensures stays { OnOk result (StaysOn self.old self.new) }
         ensures order { OnOk result (self.new.stage ≡ stage_at self.old (Call.Begin props room) again) }
-        ensures tries { OnOk result (AreFirst self.new.stage self.new.tries) }
+        ensures ends { IfOk result (EndsSo (ending_at self.old (Call.Begin props room))) }
+        ensures tries { OnOk result (self.new.tries ≡ tries_at self.new.stage) }
+        ensures asks { OnOk result (self.new.waits ≡ asked self.new) }
         ensures count { OnOk result (IsWithin self.new) }
         ensures settled { OnOk result (IsSettled self.new) }
         ensures err { OnErr result (self.new ≡ self.old) }
@@ -98,10 +102,13 @@ impl Engine {
         ensures at_once { IfOk result IsAtOnce }
         ensures stays { OnOk result (StaysOn self.old self.new) }
         ensures order { OnOk result (self.new.stage ≡ stage_at self.old call.now false) }
-        ensures tries { OnOk result (AreFirst self.new.stage self.new.tries) }
+        ensures ends { IfOk result (EndsSo (ending_at self.old call.now)) }
+        ensures tries { OnOk result (self.new.tries ≡ tries_at self.new.stage) }
+        ensures asks { OnOk result (self.new.waits ≡ asked self.new) }
         ensures count { OnOk result (IsWithin self.new) }
         ensures settled { OnOk result (IsSettled self.new) }
         ensures err { OnErr result (self.new ≡ self.old) }
+        ensures starves { OnErr result (MayStarve self.old call.now) }
     {
         let turn = called(&mut self.state, call)?;
         self.phase = phase_of(&turn);
@@ -115,8 +122,11 @@ impl Engine {
         ensures proceeds { Proceeds (handed self.old seen) result self.new }
         ensures joins { Joins self.old seen self.new }
         ensures order { self.new.stage ≡ stage_after self.old seen }
+        ensures ends { EndsSo (ending_after self.old seen) result }
         ensures tries { self.new.tries ≡ tries_after self.new.stage self.old.tries }
         ensures snapshot { self.new.snapshot ≡ snapshot_after self.old seen }
+        ensures log { self.new.is_open ≡ true → self.new.log ≡ log_after self.old seen }
+        ensures asks { self.new.waits ≡ asked self.new }
         ensures count { IsWithin self.new }
         ensures settled { IsSettled self.new }
     {
@@ -128,7 +138,8 @@ impl Engine {
     /// Gives the transaction up, with the call in progress. While the clock is held, nothing is changed.
     pub fn abort(&mut self) -> Undone
         ensures undone { result ≡ undone_of self.old }
-        ensures after { self.new ≡ after_undoing self.old self.new.tries }
+        ensures after { self.new ≡ after_undoing self.old }
+        ensures rolled_back { self.old.holds ≡ false → IsUndone self.old self.new }
     {
         match self.phase {
             Phase::BackLoad(_) | Phase::Store(_, _) | Phase::Free => Undone::Held,
@@ -191,6 +202,14 @@ impl Engine {
         &self.state.arena
     }
 
+    /// The thread's private bytes, once the engine is no longer wanted. Takes no memory.
+    pub fn into_arena(self) -> Arena
+        ensures { result ≡ self.arena }
+    {
+        let Engine { state, phase: _ } = self;
+        state.arena
+    }
+
     /// The number of steps asked for since a call last came.
     pub fn spent(&self) -> u128
         ensures { result ≡ self.now.spent }
@@ -236,8 +255,10 @@ fn turned(state: &mut Data, phase: Phase, seen: u64) -> Turn
     ensures proceeds { Turns (handed (core state.old phase) seen) result state.new }
     ensures joins { Joins (core state.old phase) seen (core_after result state.new) }
     ensures order { phase_after result ≡ stage_after (core state.old phase) seen }
-    ensures tries { state.new.tries ≡ tries_after (phase_after result) state.old.tries }
+    ensures ends { TurnEndsSo (ending_after (core state.old phase) seen) result }
+    ensures tries { (core_after result state.new).tries ≡ tries_after (phase_after result) (core state.old phase).tries }
     ensures snapshot { state.new.snapshot ≡ snapshot_after (core state.old phase) seen }
+    ensures log { state.new.is_open ≡ true → state.new.log.rows ≡ log_after (core state.old phase) seen }
 {
     match phase {
         Phase::Idle => unreachable!(),
@@ -262,8 +283,10 @@ fn called(state: &mut Data, call: &Call) -> Result<Turn, AllocError>
     ensures stays { OnOk result (Stays state.old state.new) }
     ensures err_sound { OnErr result (IsSound state.new Phase.Idle) }
     ensures err { OnErr result (core state.new Phase.Idle ≡ core state.old Phase.Idle) }
+    ensures starves { OnErr result (MayStarve (core state.old Phase.Idle) call.now) }
     ensures order { IfOk result (λ turn. phase_after turn ≡ stage_at (core state.old Phase.Idle) call.now false) }
-    ensures tries { IfOk result (λ turn. AreFirst (phase_after turn) state.new.tries) }
+    ensures ends { IfOk result (TurnEndsSo (ending_at (core state.old Phase.Idle) call.now)) }
+    ensures tries { IfOk result (λ turn. (core_after turn state.new).tries ≡ tries_at (phase_after turn)) }
 {
     match call {
         Call::Begin { props, room } => Ok(begin(state, *props, *room, false)),

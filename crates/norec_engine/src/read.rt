@@ -1,16 +1,17 @@
 //! Reads: piece by piece upwards a word is loaded, and logged once the clock confirms that its value stood at the
 //! snapshot. A piece that the write set has takes no step.
 
-ghost use Rattle.std.specs.Prelude.{◌≡◌, ◌<◌, ◌≤◌, ◌+◌, ◌*◌, nat_le, ℕ, false, IfOk, IfSome, OnOk, OnErr, List, Some, is_some, length, slice_get, slice_index};
+ghost use Rattle.std.specs.Prelude.{◌≡◌, ◌<◌, ◌≤◌, ◌+◌, ◌*◌, nat_le, ℕ, false, true, IfOk, IfSome, OnOk, OnErr, List, None, Some, is_some, length, slice_get, slice_index};
 ghost use Rattle.itm_types.specs.Memory.{AllFit};
 ghost use Rattle.word_pieces.specs.Pieces.{IsPiece, part_of};
 ghost use Rattle.write_set.specs.Rows.{overlay, AreRows};
 ghost use Rattle.norec_engine.specs.Rows.{is_covered};
 ghost use Rattle.itm_types.specs.Access.{size_of};
-ghost use Rattle.norec_engine.specs.Fields.{core, core_after, phase_after, between, logged, IsSound, IsSoundTurn, Turns, Stays, MayGather};
+ghost use Rattle.norec_engine.specs.Fields.{core, core_after, phase_after, between, logged, IsSound, IsSoundTurn, Turns, TurnEndsSo, Stays, MayGather};
 ghost use Rattle.norec_engine.specs.Core.{came, handed};
-ghost use Rattle.norec_engine.specs.Order.{AreFirst, load_stage, snapshot_after, stage_after, stage_at, tries_after};
-ghost use Rattle.norec_engine.specs.Proceeds.{Joins};
+ghost use Rattle.norec_engine.specs.Order.{load_stage, log_after, snapshot_after, stage_after, stage_at, tries_after, tries_at};
+ghost use Rattle.norec_engine.specs.Endings.{ending_at, ending_after};
+ghost use Rattle.norec_engine.specs.Proceeds.{Joins, MayStarve};
 
 use crate::answer::Answer;
 use crate::data::Data;
@@ -37,8 +38,10 @@ pub(crate) fn read(
     ensures stays { OnOk result (Stays state.old state.new) }
     ensures err_sound { OnErr result (IsSound state.new Phase.Idle) }
     ensures err { OnErr result (core state.new Phase.Idle ≡ core state.old Phase.Idle) }
+    ensures starves { OnErr result (MayStarve (core state.old Phase.Idle) (Call.Read hint width at)) }
     ensures order { IfOk result (λ turn. phase_after turn ≡ stage_at (core state.old Phase.Idle) (Call.Read hint width at) false) }
-    ensures tries { IfOk result (λ turn. AreFirst (phase_after turn) state.new.tries) }
+    ensures ends { IfOk result (TurnEndsSo (ending_at (core state.old Phase.Idle) (Call.Read hint width at))) }
+    ensures tries { IfOk result (λ turn. (core_after turn state.new).tries ≡ tries_at (phase_after turn)) }
 {
     let rows = state.log.len();
     if !state.is_open {
@@ -85,7 +88,8 @@ fn next_piece(state: &mut Data, reading: Reading) -> Turn
     ensures proceeds { (log : List LogRow) → Turns (logged (between state.old (Aim.Read reading)) log) result state.new }
     ensures stays { Stays state.old state.new }
     ensures order { phase_after result ≡ load_stage state.old.writes reading }
-    ensures tries { state.new.tries ≡ state.old.tries }
+    ensures ends { TurnEndsSo None result }
+    ensures tries { (core_after result state.new).tries ≡ tries_after (phase_after result) state.old.tries }
 {
     let Some(piece) = reading.piece() else {
         let bytes = mem::replace(&mut state.gathered, Value::new());
@@ -130,7 +134,8 @@ pub(crate) fn loaded(state: &mut Data, reading: Reading, seen: u64) -> Turn
     ensures proceeds { Turns (handed (core state.old (Phase.Load reading)) seen) result state.new }
     ensures stays { Stays state.old state.new }
     ensures order { phase_after result ≡ stage_after (core state.old (Phase.Load reading)) seen }
-    ensures tries { state.new.tries ≡ tries_after (phase_after result) state.old.tries }
+    ensures ends { TurnEndsSo (ending_after (core state.old (Phase.Load reading)) seen) result }
+    ensures tries { (core_after result state.new).tries ≡ tries_after (phase_after result) state.old.tries }
 {
     Turn::Wait(Phase::Confirm(reading, seen))
 }
@@ -143,8 +148,10 @@ pub(crate) fn confirmed(state: &mut Data, reading: Reading, value: u64, seen: u6
     ensures proceeds { Turns (handed (core state.old (Phase.Confirm reading value)) seen) result state.new }
     ensures joins { Joins (core state.old (Phase.Confirm reading value)) seen (core_after result state.new) }
     ensures order { phase_after result ≡ stage_after (core state.old (Phase.Confirm reading value)) seen }
+    ensures ends { TurnEndsSo (ending_after (core state.old (Phase.Confirm reading value)) seen) result }
     ensures snapshot { state.new.snapshot ≡ snapshot_after (core state.old (Phase.Confirm reading value)) seen }
-    ensures tries { state.new.tries ≡ tries_after (phase_after result) state.old.tries }
+    ensures log { state.new.is_open ≡ true → state.new.log.rows ≡ log_after (core state.old (Phase.Confirm reading value)) seen }
+    ensures tries { (core_after result state.new).tries ≡ tries_after (phase_after result) state.old.tries }
 {
     state.clock = seen;
     if seen == state.snapshot {

@@ -1,9 +1,10 @@
 //! Validation rounds: the value log is compared with the memory between two equal even clocks.
 
-ghost use Rattle.std.specs.Prelude.{◌≡◌, ◌≤◌, length, ℕ};
-ghost use Rattle.norec_engine.specs.Fields.{core, core_after, phase_after, between, in_rows, IsSound, IsSoundTurn, Turns, Stays, IsEnded, MayTry, InRows};
+ghost use Rattle.std.specs.Prelude.{◌≡◌, ◌≤◌, length, ℕ, true, Option, None, Some};
+ghost use Rattle.norec_engine.specs.Fields.{core, core_after, phase_after, between, in_rows, IsSound, IsSoundTurn, Turns, TurnEndsSo, Stays, IsEnded, MayTry, InRows};
 ghost use Rattle.norec_engine.specs.Core.{handed};
-ghost use Rattle.norec_engine.specs.Order.{AreFirst, row_stage, snapshot_after, stage_after, tries_after, try_stage};
+ghost use Rattle.norec_engine.specs.Order.{log_after, row_stage, snapshot_after, stage_after, tries_after, try_stage};
+ghost use Rattle.norec_engine.specs.Endings.{ending_after};
 ghost use Rattle.norec_engine.specs.Proceeds.{Joins};
 
 use crate::answer::Answer;
@@ -18,7 +19,8 @@ pub(crate) fn try_round(state: &mut Data, aim: Aim) -> Turn
     ensures proceeds { Turns (between state.old aim) result state.new }
     ensures stays { Stays state.old state.new }
     ensures order { phase_after result ≡ try_stage state.old.tries state.old.limits.patience aim }
-    ensures tries { state.new.tries ≡ tries_after (phase_after result) state.old.tries }
+    ensures ends { TurnEndsSo (Some (Answer.Conflict state.old.clock None)) result }
+    ensures tries { (core_after result state.new).tries ≡ tries_after (phase_after result) state.old.tries }
 {
     if state.tries < state.limits.patience {
         state.tries += 1;
@@ -49,7 +51,8 @@ pub(crate) fn round_started(state: &mut Data, aim: Aim, seen: u64) -> Turn
     ensures proceeds { Turns (handed (core state.old (Phase.RoundStart aim)) seen) result state.new }
     ensures stays { Stays state.old state.new }
     ensures order { phase_after result ≡ stage_after (core state.old (Phase.RoundStart aim)) seen }
-    ensures tries { state.new.tries ≡ tries_after (phase_after result) state.old.tries }
+    ensures ends { TurnEndsSo (ending_after (core state.old (Phase.RoundStart aim)) seen) result }
+    ensures tries { (core_after result state.new).tries ≡ tries_after (phase_after result) state.old.tries }
 {
     state.clock = seen;
     if seen % 2 == 0 {
@@ -66,7 +69,8 @@ fn next_row(state: &mut Data, aim: Aim, row: usize) -> Turn
     ensures proceeds { Turns (in_rows state.old aim row) result state.new }
     ensures stays { Stays state.old state.new }
     ensures order { phase_after result ≡ row_stage (length state.old.log.rows) aim row }
-    ensures tries { state.new.tries ≡ tries_after (phase_after result) state.old.tries }
+    ensures ends { (end : Option Answer) → TurnEndsSo end result }
+    ensures tries { (core_after result state.new).tries ≡ tries_after (phase_after result) state.old.tries }
 {
     if row < state.log.len() {
         Turn::Wait(Phase::RoundRow(aim, row))
@@ -82,7 +86,8 @@ pub(crate) fn row_seen(state: &mut Data, aim: Aim, row: usize, seen: u64) -> Tur
     ensures proceeds { Turns (handed (core state.old (Phase.RoundRow aim row)) seen) result state.new }
     ensures stays { Stays state.old state.new }
     ensures order { phase_after result ≡ stage_after (core state.old (Phase.RoundRow aim row)) seen }
-    ensures tries { state.new.tries ≡ tries_after (phase_after result) state.old.tries }
+    ensures ends { TurnEndsSo (ending_after (core state.old (Phase.RoundRow aim row)) seen) result }
+    ensures tries { (core_after result state.new).tries ≡ tries_after (phase_after result) state.old.tries }
 {
     let _rows = state.log.len();
     let logged = state.log.row(row);
@@ -105,8 +110,10 @@ pub(crate) fn round_ended(state: &mut Data, aim: Aim, seen: u64) -> Turn
     ensures proceeds { Turns (handed (core state.old (Phase.RoundEnd aim)) seen) result state.new }
     ensures joins { Joins (core state.old (Phase.RoundEnd aim)) seen (core_after result state.new) }
     ensures order { phase_after result ≡ stage_after (core state.old (Phase.RoundEnd aim)) seen }
+    ensures ends { TurnEndsSo (ending_after (core state.old (Phase.RoundEnd aim)) seen) result }
     ensures snapshot { state.new.snapshot ≡ snapshot_after (core state.old (Phase.RoundEnd aim)) seen }
-    ensures tries { state.new.tries ≡ tries_after (phase_after result) state.old.tries }
+    ensures log { state.new.is_open ≡ true → state.new.log.rows ≡ log_after (core state.old (Phase.RoundEnd aim)) seen }
+    ensures tries { (core_after result state.new).tries ≡ tries_after (phase_after result) state.old.tries }
 {
     let is_steady = seen == state.clock;
     state.clock = seen;

@@ -1,13 +1,15 @@
 //! Writes: a value goes into the write set, piece by piece upwards, and no step is taken.
 
-ghost use Rattle.std.specs.Prelude.{◌≡◌, ◌≤◌, ◌+◌, false, IfOk, OnOk, OnErr, IsSome, All, length};
+ghost use Rattle.std.specs.Prelude.{◌≡◌, ◌≤◌, ◌+◌, false, true, IfOk, OnOk, OnErr, IsSome, All, length};
 ghost use Rattle.word_pieces.specs.Pieces.{IsPiece};
 ghost use Rattle.itm_types.specs.Slices.{AreBytes};
 ghost use Rattle.write_set.specs.Rows.{lookup};
 ghost use Rattle.norec_engine.specs.Rows.{reserved_all, put_all};
-ghost use Rattle.norec_engine.specs.Fields.{core, phase_after, IsSound, IsSoundTurn, Turns, Stays};
+ghost use Rattle.norec_engine.specs.Fields.{core, core_after, phase_after, IsSound, IsSoundTurn, Turns, TurnEndsSo, Stays};
 ghost use Rattle.norec_engine.specs.Core.{came};
-ghost use Rattle.norec_engine.specs.Order.{stage_at, AreFirst};
+ghost use Rattle.norec_engine.specs.Order.{stage_at, tries_at};
+ghost use Rattle.norec_engine.specs.Endings.{ending_at};
+ghost use Rattle.norec_engine.specs.Proceeds.{MayStarve};
 
 use crate::answer::Answer;
 use crate::data::Data;
@@ -31,8 +33,10 @@ pub(crate) fn write(
     ensures stays { OnOk result (Stays state.old state.new) }
     ensures err_sound { OnErr result (IsSound state.new Phase.Idle) }
     ensures err { OnErr result (core state.new Phase.Idle ≡ core state.old Phase.Idle) }
+    ensures starves { OnErr result (MayStarve (core state.old Phase.Idle) (Call.Write hint at value.now)) }
     ensures order { IfOk result (λ turn. phase_after turn ≡ stage_at (core state.old Phase.Idle) (Call.Write hint at value.now) false) }
-    ensures tries { IfOk result (λ turn. AreFirst (phase_after turn) state.new.tries) }
+    ensures ends { IfOk result (TurnEndsSo (ending_at (core state.old Phase.Idle) (Call.Write hint at value.now))) }
+    ensures tries { IfOk result (λ turn. (core_after turn state.new).tries ≡ tries_at (phase_after turn)) }
 {
     let rows = state.log.len();
     if !state.is_open {

@@ -3,7 +3,7 @@ use Rattle.std.proofs.Common.{◌≡◌, ℕ, ◌<◌, ◌/◌, Bool, true, fals
 use Rattle.itm_types.specs.declared.call.Call.{Call}
 use Rattle.itm_types.specs.declared.call.Reply.{Reply as Replied}
 use Rattle.itm_types.specs.declared.step.Step.{Step}
-use Rattle.norec_engine.specs.Core.{Core, came}
+use Rattle.norec_engine.specs.Core.{Core}
 use Rattle.norec_engine.specs.declared.answer.Answer.{Answer}
 use Rattle.norec_engine.specs.declared.answer.Next.{Next}
 use Rattle.norec_engine.specs.declared.answer.Next.TheVariants.{Step as Steps, Answer as Answers}
@@ -15,9 +15,9 @@ use Rattle.norec_world.specs.declared.actor.Status.{Status}
 use Rattle.norec_world.specs.declared.actor.Status.TheVariants.{Ready, Waits, Ended}
 use Rattle.norec_world.specs.Cells.{Cells}
 use Rattle.norec_world.specs.Sound.{IsTied, IsReady, IsSound, StatusIs, IsAsked, IsAnswered, IsSettledBy}
+use Rattle.norec_engine.specs.Moves.{IsCalled}
 use Rattle.norec_world.specs.Records.{Asks, Records, StopsAt, begins_again}
 use Rattle.norec_world.specs.Follows.{Follows}
-use Rattle.norec_engine.specs.Proceeds.{Proceeds}
 use Rattle.norec_world.specs.Tracks.{IsOnWay, TracksAs, Tracks}
 use Rattle.norec_world.proofs.Following.{finishes, roomed_on}
 use Rattle.norec_world.proofs.Parts.{starved}
@@ -86,7 +86,7 @@ module _ {P : Type 0} (next : P → Option Call) (answered : P → Replied → P
       nth = asks.nth;
       thread = asks.thread;
       rows_are = refl;
-      proceeds = subst (λ (n : Next). Proceeds (came old.engine call (begins_again old.engine.is_open old.again call)) n new.engine) is asks.proceeds;
+      called = subst (λ (n : Next). IsCalled old.engine call (begins_again old.engine.is_open old.again call) n new.engine) is asks.called;
     }
 
     -- it waits for its first step
@@ -94,7 +94,7 @@ module _ {P : Type 0} (next : P → Option Call) (answered : P → Replied → P
     call_waits s is =
         let asks' : Asks cells.clock r r old new call (Steps s) = asks_as (Steps s) is in
         call_asks next answered restarted left nearer max_commits p0 base arena cells r r old new call (Steps s) way' sound.tied rests.free thread rests.nothing calls asks' asked.stays tied asked.settled
-        s asks'.proceeds
+        s asks'.called.proceeds
 
     -- it is answered at once
     module _ (a : Answer) (is : what ≡ Answers a) (r' : Rows) (last : Actor P)
@@ -111,5 +111,5 @@ module _ {P : Type 0} (next : P → Option Call) (answered : P → Replied → P
           way'.before way'.past way'.memory call a
           (call_on next answered restarted left nearer max_commits p0 base arena cells r r old new call (Answers a) way' sound.tied rests.free thread rests.nothing calls asks' asked.stays tied asked.settled)
           (call_told next answered restarted left nearer max_commits p0 base arena cells r r old new call (Answers a) way' sound.tied rests.free thread rests.nothing calls asks' asked.stays tied asked.settled (asked.same.status ∙ ready))
-          asks'.proceeds refl (settles old.engine.is_open answered_so).engine
+          asks'.called.proceeds refl (settles old.engine.is_open answered_so).engine
           (notes old.engine.is_open answered_so)

@@ -13,7 +13,8 @@ use Rattle.norec_world.specs.declared.actor.Status.TheVariants.{Ready, Waits, En
 use Rattle.norec_world.specs.Cells.{Cells}
 use Rattle.norec_world.specs.Status.{ending_of}
 use Rattle.norec_world.specs.Sound.{IsTied, IsNested, IsReady, IsSound, StatusIs, IsAnswered, IsSettledBy, IsAsked, IsNoMore, RestsAs, Falls, whole, rank}
-use Rattle.norec_world.proofs.Tying.{comes, tied, rests, answer_fits}
+use Rattle.norec_world.proofs.Tying.{comes, tied, answer_fits}
+use Rattle.norec_engine.proofs.Resting.{rests}
 
 module _ {P : Type 0} (next : P → Option Call) (answered : P → Replied → P) (restarted : P → P) (left : P → ℕ) (depth : P → ℕ)
     (cells : Cells) (r : Rows) (old new : Actor P) (call : Call) (t : IsTied cells old.engine) (ready : IsReady next answered restarted left depth old) where
@@ -25,7 +26,7 @@ module _ {P : Type 0} (next : P → Option Call) (answered : P → Replied → P
       → IsAnswered next answered restarted left depth old.engine.is_open r new call a
   asked_answered a k status =
       let m = comes cells old.engine new.engine t ready.free k.settled call k.again k.stays in
-      let rest = rests (came old.engine call k.again) new.engine a m.opens k.proceeds in
+      let rest = rests (came old.engine call k.again) new.engine a k.proceeds in
       record {
         kept = k.kept;
         nested = subst (IsNested next answered restarted left depth old.engine.is_open) (sym k.same.player) ready.nested;

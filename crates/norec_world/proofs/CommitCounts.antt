@@ -106,8 +106,8 @@ false_of : (b : Bool) → (b ≡ true → ⊥) → b ≡ false
 false_of true h = absurd (h refl)
 false_of false h = refl
 
-module _ {P : Type 0} (next : P → Option Call) (w : World P) (c : CommitsInOrder w) (i : ℕ) (got new : Actor P) (here : slice_get w.actors i ≡ Some got) (cells' : Cells) (r' : Rows) (events : ℕ)
-    (event : IsEvent next w.cells w.attempts got cells' r' new) where
+module _ {P : Type 0} (next : P → Option Call) (answered : P → Reply → P) (restarted : P → P) (w : World P) (c : CommitsInOrder w) (i : ℕ) (got new : Actor P) (here : slice_get w.actors i ≡ Some got) (cells' : Cells) (r' : Rows) (events : ℕ)
+    (event : IsEvent next answered restarted w.cells w.attempts got cells' r' new) where
   abbrev after : World P
   after = record w { cells = cells'; actors = slice_set w.actors i new; attempts = r'; events = events }
 

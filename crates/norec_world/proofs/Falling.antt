@@ -1,12 +1,12 @@
 -- Less and less is left to do.
-use Rattle.std.proofs.Common.{◌≡◌, ℕ, ◌+◌, ◌<◌, ◌≤◌, Bool, true, false, Option, None, refl, ap, ◌∙◌, arith, if◌then◌else◌}
+use Rattle.std.proofs.Common.{◌≡◌, ℕ, ◌+◌, ◌<◌, ◌≤◌, Bool, true, false, Option, None, refl, sym, ap, subst, ◌∙◌, arith, if◌then◌else◌}
 use Rattle.itm_types.specs.declared.call.Call.{Call}
 use Rattle.itm_types.specs.declared.call.Reply.{Reply as Replied}
 use Rattle.norec_world.specs.declared.actor.Actor.{Actor}
 use Rattle.norec_world.specs.declared.actor.Status.{Status}
 use Rattle.norec_world.specs.declared.actor.Status.TheVariants.{Ready, Waits, Ended}
 use Rattle.norec_world.specs.Status.{ending_of, is_ready, is_waiting}
-use Rattle.norec_world.specs.Sound.{IsNoMore, Falls, whole, rank, run_left}
+use Rattle.norec_world.specs.Sound.{GoesOn, IsNoMore, Falls, HasLess, steps_left, whole, rank, run_left}
 
 module _ {P : Type 0} (next : P → Option Call) (answered : P → Replied → P) (restarted : P → P) (left : P → ℕ) (depth : P → ℕ) where
   pub same_less : (a : Actor P) → IsNoMore next answered restarted left depth a a
@@ -33,7 +33,7 @@ waiting_goes_on Ready e = absurd (cc)
 waiting_goes_on (Waits call step) e = refl
 waiting_goes_on (Ended end) e = absurd (cc)
 
--- one turn of a run: the call of a is finished at b, and local work leads to c
+-- one event: the call of a is over at b, and local work leads to c
 module _ {P : Type 0} (next : P → Option Call) (answered : P → Replied → P) (restarted : P → P) (left : P → ℕ) (depth : P → ℕ) (a b c : Actor P)
     (waits : is_waiting a.status ≡ true) (over : is_waiting b.status ≡ false)
     (falls : is_ready b.status ≡ true → Falls next answered restarted left depth a.engine.is_open b.engine.is_open a b)
@@ -67,3 +67,53 @@ module _ {P : Type 0} (next : P → Option Call) (answered : P → Replied → P
           let after : run_left next answered restarted left depth k c ≡ 0 = ap (λ (x : Bool). if x then rank next answered restarted left depth k c.engine.is_open c + 1 else 0) e in
           let u = before in
           omega arith
+
+module _ {P : Type 0} (next : P → Option Call) (answered : P → Replied → P) (restarted : P → P) (left : P → ℕ) (depth : P → ℕ) where
+  -- one event: the step leads to b, and local work to c
+  module _ (a b c : Actor P) (waits : is_waiting a.status ≡ true) (goes_on : is_waiting b.status ≡ true → GoesOn next answered restarted left depth a b)
+      (falls : is_ready b.status ≡ true → Falls next answered restarted left depth a.engine.is_open b.engine.is_open a b) (still : is_ready b.status ≡ false → c ≡ b)
+      (less : ending_of c.status ≡ None → IsNoMore next answered restarted left depth b c) where
+    stays : is_waiting b.status ≡ true → c ≡ b
+    stays w = still (unready b.status w)
+      where
+        unready : (s : Status) → is_waiting s ≡ true → is_ready s ≡ false
+        unready Ready e = absurd (cc)
+        unready (Waits call step) e = refl
+        unready (Ended end) e = refl
+
+    pub event_less : (on : Bool) → is_waiting b.status ≡ on → HasLess next answered restarted left depth on a c
+    event_less true w =
+        let same = stays w in
+        let on = goes_on w in record {
+          on = λ e. (ap (λ (x : Actor P). is_waiting x.status) same ∙ w, (let s = ap (λ (x : Actor P). steps_left x.engine) same in let f = on.steps in omega arith));
+          less = λ e. subst (IsNoMore next answered restarted left depth a) (sym same) on.less;
+          over = λ e. absurd (cc);
+        }
+    event_less false w = record {
+      on = λ e. absurd (cc);
+      less = λ e. turn_less next answered restarted left depth a b c waits w falls (λ n. ap (λ (x : Actor P). x.status) (still n)) less e;
+      over = λ e k l. turn_falls next answered restarted left depth a b c waits w falls (λ n. ap (λ (x : Actor P). x.status) (still n)) less k l;
+    }
+
+  -- a call so far: it goes on, or is over
+  abbrev pub HasLessSoFar : Bool → Actor P → Actor P → Type 0
+  HasLessSoFar true a b = (is_waiting a.status ≡ true) × (is_waiting b.status ≡ true) × IsNoMore next answered restarted left depth a b
+  HasLessSoFar false a b = HasLess next answered restarted left depth false a b
+
+  run_left_is : (k : ℕ) (a : Actor P) → is_waiting a.status ≡ true → run_left next answered restarted left depth k a ≡ rank next answered restarted left depth k a.engine.is_open a + 1
+  run_left_is k a w = ap (λ (x : Bool). if x then rank next answered restarted left depth k a.engine.is_open a + 1 else 0) w
+
+  -- with one event more
+  pub less_so_far : (on : Bool) (a b c : Actor P) → HasLessSoFar true a b → HasLess next answered restarted left depth on b c → HasLessSoFar on a c
+  less_so_far true a b c f g = (let o = g.on refl in (f.0, o.0, less_less next answered restarted left depth a b c f.2 (g.less o.0)))
+  less_so_far false a b c f g = record {
+    on = λ e. absurd (cc);
+    less = λ w. less_less next answered restarted left depth a b c f.2 (g.less w);
+    over = λ e k l.
+        (let x = f.2.whole_falls in
+        let r = f.2.rank_falls k l in
+        let o = g.over refl k (omega arith) in
+        let u = run_left_is k a f.0 in
+        let v = run_left_is k b f.1 in
+        omega arith);
+  }

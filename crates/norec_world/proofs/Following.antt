@@ -586,7 +586,7 @@ module _ {P : Type 0} (next : P → Option Call) (answered : P → Reply → P) 
           closed = f.closed;
           opens = λ h. (let o = f.opens h in let k = o.4 in (o.0, o.1, o.2, o.3, record { comes = k.comes; player = k.player; alone = k.alone; stands = k.stands; at = k.at }));
         }
-        by_step (Load (suc word)) l n = loads_word word (let k = l.0 in omega arith) e.holds refl (λ h. l.1.1 h)
+        by_step (Load (suc word)) l n = loads_word word (let k = l.0 in omega arith) e.holds refl (λ h. (l.1.1 h).1)
         by_step (Store zero value) l n = absurd (cc)
         by_step (Store (suc word) value) l n = (
             let held = f.held l.1 in

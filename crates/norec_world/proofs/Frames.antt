@@ -14,6 +14,7 @@ use Rattle.norec_world.specs.Rows.{Rows, active_of, AreFrom, AreUnfinished, AreO
 use Rattle.norec_world.specs.Status.{is_ready}
 use Rattle.norec_world.specs.Own.{ChangesOwn, KeepsOthers, count_pending, pending_in}
 use Rattle.norec_world.specs.Holding.{ClocksOn}
+use Rattle.norec_world.proofs.Tying.{held_even}
 use Rattle.norec_world.specs.Sound.{IsTied, HasRow, StatusIs, IsSound}
 use Rattle.norec_world.specs.Actors.{IsActor, AreActors}
 
@@ -40,11 +41,6 @@ module _ {P : Type 0} (next : P → Option Call) (answered : P → Reply → P) 
     fit = fit;
     late = (let l = t.late in omega arith);
     holder = λ h. ap (λ (c : Cells). c.clock) (held h) ∙ t.holder h;
-    opens = t.opens;
-    even = t.even;
-    reached = t.reached;
-    below = t.below;
-    unfreed = t.unfreed;
     settled = t.settled;
   }
 
@@ -169,7 +165,7 @@ module _ {P : Type 0} (next : P → Option Call) (answered : P → Reply → P) 
   held_apart : (j : ℕ) (b : Actor P) → i ≢ j → slice_get actors j ≡ Some b → b.engine.holds ≡ true → (cells' ≡ cells) × (new.engine.holds ≡ false)
   held_apart j b apart e h =
       let t = (s.each j b e).sound.tied in
-      let odd : cells.clock % 2 ≡ 1 = (let k = t.holder h in let even = t.even h in omega arith) in
+      let odd : cells.clock % 2 ≡ 1 = (let k = t.holder h in let even = held_even b.engine t.settled h in omega arith) in
       clocks.apart odd (true_or_false got.engine.holds (λ g. apart (s.one i j got b here e g h)))
 
   room_after : pending_in (slice_set actors i new) ≤ r'.room

@@ -14,8 +14,14 @@ use Rattle.norec_world.specs.declared.actor.Actor.{Actor}
 use Rattle.norec_world.specs.declared.actor.Status.{Status}
 use Rattle.norec_world.specs.declared.actor.Status.TheVariants.{Ready, Waits, Ended}
 use Rattle.norec_world.specs.Status.{ending_of, waiting_step}
-use Rattle.norec_world.specs.World.{World, ending_at, waits_at, told, is_event}
-use Rattle.norec_world.specs.Going.{Goes, Leads, is_taken, is_passed, is_starved, passes_of}
+use Rattle.norec_world.specs.World.{World, SameOpening, ShowsAlone, ending_at, waits_at, told, is_event, counted}
+use Rattle.norec_engine.specs.Proceeds.{IsLawful}
+use Rattle.itm_types.specs.declared.step.Step.{Step}
+use Rattle.norec_world.specs.Cells.{cells_after}
+use Rattle.norec_world.specs.Commits.{CommitsInOrder}
+use Rattle.norec_world.specs.Opaque.{AreOpaque}
+use Rattle.norec_world.proofs.Worlds.{within_some}
+use Rattle.norec_world.specs.Going.{ActorGoes, Goes, Leads, is_taken, is_passed, is_starved, passes_of}
 
 -- an event is answered by no fault of the other two
 pub told_event : (e : Option End) → IsTrue (is_event (told e))
@@ -49,14 +55,38 @@ waits_not_ended {P} w actor = of_got (slice_get w.actors actor)
     of_got None x e = cc
     of_got (Some a) x e = ending_waits a.status x e
 
+-- an event is one of the world
+module _ {P : Type 0} (next : P → Option Call) (answered : P → Reply → P) (restarted : P → P) (left : P → ℕ) (old new : World P) (actor : ℕ) (waits : IsSome (waits_at old actor))
+    (lawful : (a : Actor P) (step : Step) → slice_get old.actors actor ≡ Some a → waiting_step a.status ≡ Some step → IsLawful a.engine step)
+    (operation : (step : Step) → waits_at old actor ≡ Some step → new.cells ≡ cells_after old.cells step) (counts : new.events ≡ counted old.events 1)
+    (event_of : (a : Actor P) → slice_get old.actors actor ≡ Some a → ActorGoes next answered restarted left actor old a new)
+    (commits : CommitsInOrder new) (opaque : AreOpaque next answered restarted left new) (same : SameOpening old new) (long : length new.actors ≡ length old.actors) (alone : ShowsAlone next answered left new) where
+  pub event_goes : Goes next answered restarted left actor old (told (ending_at new actor)) new
+  event_goes = record {
+    no_such = (λ e. absurd (told_no_such (ending_at new actor) e), λ l. absurd (let n = within_some (λ (a : Actor P). waiting_step a.status) old.actors actor waits in omega arith));
+    ended = (λ e. absurd (told_ended (ending_at new actor) e), λ e. absurd (waits_not_ended old actor waits e));
+    event = (λ e. waits, λ e. told_event (ending_at new actor));
+    answer = λ e. refl;
+    lawful = lawful;
+    operation = operation;
+    counts = λ e. counts;
+    unchanged = λ e. absurd (let u = told_event (ending_at new actor) in cc);
+    event_of = λ a here taken. event_of a here;
+    commits = commits;
+    opaque = opaque;
+    opening = same;
+    actors = long;
+    alone = alone;
+  }
+
 -- ## Many in a row
 
-module _ {P : Type 0} (next : P → Option Call) (answered : P → Reply → P) (left : P → ℕ) where
+module _ {P : Type 0} (next : P → Option Call) (answered : P → Reply → P) (restarted : P → P) (left : P → ℕ) where
   -- one entry more
   pub leads_on : (old between new : World P) (schedule : List ℕ) (results : List (Result (Unit {0}) WorldFault)) (actor : ℕ) (result : Result (Unit {0}) WorldFault)
-      → Leads next answered left old schedule results between → Goes next answered left actor between result new
-      → Leads next answered left old (schedule ++ actor ∷ []) (results ++ result ∷ []) new
-  leads_on old between new [] [] actor result l g = (new, subst (λ (w : World P). Goes next answered left actor w result new) l g, refl)
+      → Leads next answered restarted left old schedule results between → Goes next answered restarted left actor between result new
+      → Leads next answered restarted left old (schedule ++ actor ∷ []) (results ++ result ∷ []) new
+  leads_on old between new [] [] actor result l g = (new, subst (λ (w : World P). Goes next answered restarted left actor w result new) l g, refl)
   leads_on old between new [] (r ∷ rs) actor result l g = absurd l
   leads_on old between new (a ∷ rest) [] actor result l g = absurd l
   leads_on old between new (a ∷ rest) (r ∷ rs) actor result l g = (l.0, l.1, leads_on l.0 between new rest rs actor result l.2 g)
@@ -88,17 +118,17 @@ passes_more results (Err faults.Ended) = (λ i. record { taken = count_no is_tak
 passes_more results (Err faults.NoMemory) = (λ i. record { taken = count_no is_taken results (Err faults.NoMemory) refl i; passed = count_no is_passed results (Err faults.NoMemory) refl i; starved = count_yes is_starved results (Err faults.NoMemory) refl i })
 
 -- an entry of a schedule more, and its result
-module _ {P : Type 0} (next : P → Option Call) (answered : P → Reply → P) (left : P → ℕ) where
+module _ {P : Type 0} (next : P → Option Call) (answered : P → Reply → P) (restarted : P → P) (left : P → ℕ) where
   -- what has come of the schedule so far
   abbrev pub HasLed : World P → List ℕ → World P → Passes → Type 0
-  HasLed old schedule new passes = (results : List (Result (Unit {0}) WorldFault)) × Leads next answered left old schedule results new × (passes ≡ passes_of results)
+  HasLed old schedule new passes = (results : List (Result (Unit {0}) WorldFault)) × Leads next answered restarted left old schedule results new × (passes ≡ passes_of results)
 
   pub led_on : (old between new : World P) (schedule : List ℕ) (i d : ℕ) → i < length schedule → (passes passes' : Passes) (result : Result (Unit {0}) WorldFault)
-      → HasLed old (take i schedule) between passes → Goes next answered left (get_or schedule i d) between result new → passes' ≡ noted passes result
+      → HasLed old (take i schedule) between passes → Goes next answered restarted left (get_or schedule i d) between result new → passes' ≡ noted passes result
       → HasLed old (take (i + 1) schedule) new passes'
   led_on old between new schedule i d within passes passes' result led goes is = (
     led.0 ++ result ∷ [],
-    subst (λ (entries : List ℕ). Leads next answered left old entries (led.0 ++ result ∷ []) new) (sym (take_more schedule i d within))
-        (leads_on next answered left old between new (take i schedule) led.0 (get_or schedule i d) result led.1 goes),
+    subst (λ (entries : List ℕ). Leads next answered restarted left old entries (led.0 ++ result ∷ []) new) (sym (take_more schedule i d within))
+        (leads_on next answered restarted left old between new (take i schedule) led.0 (get_or schedule i d) result led.1 goes),
     is ∙ (ap (λ (p : Passes). noted p result) led.2 ∙ sym (passes_more led.0 result)),
   )

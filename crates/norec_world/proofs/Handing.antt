@@ -89,10 +89,10 @@ module _ {P : Type 0} (next : P → Option Call) (answered : P → Replied → P
 
     is_mid : IsMid cells' mid new
     is_mid = subst (λ (o : Option Step). IsMid cells' (handed_to old.engine o (found cells step)) new) (sym waits.waits)
-        (hands cells old.engine new sound.tied settled step waits.waits joins waits.lawful fit)
+        (hands cells old.engine new sound.tied settled step waits.lawful fit)
 
     freed_is : mid.freed ≡ is_free step
-    freed_is = ap (λ (o : Option Step). (handed_to old.engine o (found cells step)).freed) waits.waits ∙ freed_by old.engine step (found cells step) sound.tied.unfreed
+    freed_is = ap (λ (o : Option Step). (handed_to old.engine o (found cells step)).freed) waits.waits ∙ freed_by old.engine step (found cells step) sound.tied.settled.unfreed
 
     on : is_free step ≡ false → Follows next answered left max_commits 0 p0 base arena way.way.before way.way.past way.way.memory cells' r old.player mid
     on unfree = hands_on next answered left nearer max_commits 0 p0 base arena way.way.before way.way.past way.way.memory cells r old.player old.engine step way.way.follows sound.tied.words waits.lawful waits.waits unfree
@@ -119,7 +119,7 @@ module _ {P : Type 0} (next : P → Option Call) (answered : P → Replied → P
       by_step (Store zero value) is true frees =
           let lawful : IsLawful old.engine (Store 0 value) = subst (IsLawful old.engine) is waits.lawful in
           let freed = frees_on next answered left nearer max_commits 0 p0 base arena way.way.before way.way.past way.way.memory cells r old.player old.engine value way.way.follows
-          lawful (waits.waits ∙ ap Some is) (sound.tied.holder lawful.1) (sound.tied.opens lawful.1) in
+          lawful (waits.waits ∙ ap Some is) (sound.tied.holder lawful.1) (sound.tied.settled.holder lawful.1).0 in
           let memory : IsMemory (length cells.words) way.way.memory = way.way.follows.memory in
           let words_are : cells'.words ≡ overlay way.way.memory mid.writes =
           ap (λ (x : Step). (cells_after cells x).words) is ∙ (freed.2 ∙ ap (overlay way.way.memory) (sym same.writes)) in

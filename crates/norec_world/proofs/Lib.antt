@@ -24,6 +24,7 @@ pub mod Recording
 pub mod Calling
 pub mod TryCalls
 pub mod TryChains
+pub mod Working
 pub mod Events
 pub mod Stepping
 pub mod TrySteps
@@ -31,8 +32,7 @@ pub mod Falling
 pub mod Worlds
 pub mod Goings
 pub mod Refusals
-pub mod Stretching
-pub mod Outing
+pub mod CallEvents
 pub mod Alones
 pub mod Solos
 pub mod Following
@@ -43,3 +43,4 @@ pub mod Asking
 pub mod Handing
 pub mod Beginnings
 pub mod Ends
+pub mod Pinned

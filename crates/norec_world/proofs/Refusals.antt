@@ -7,6 +7,8 @@ use Rattle.norec_world.specs.declared.actor.Actor.{Actor}
 use Rattle.norec_world.specs.declared.fault.WorldFault.TheVariants.{NoSuchActor, Ended}
 use Rattle.norec_world.specs.Status.{ending_of, is_ready, is_waiting, waiting_step}
 use Rattle.norec_world.specs.World.{World, ShowsAlone, ending_at, waits_at}
+use Rattle.norec_world.specs.Commits.{CommitsInOrder}
+use Rattle.norec_world.specs.Opaque.{AreOpaque}
 use Rattle.norec_world.specs.Going.{Goes}
 use Rattle.norec_world.proofs.Worlds.{some_ended, waiting_some}
 use Rattle.norec_world.proofs.Frames.{within_of}
@@ -27,8 +29,9 @@ past_end (x ∷ xs) (suc i) e = (let l = past_end xs i e in omega arith)
 both : (b : Bool) → b ≡ true → b ≡ false → ⊥
 both b t f = absurd (cc)
 
-module _ {P : Type 0} (next : P → Option Call) (answered : P → Reply → P) (left : P → ℕ) (w : World P) (i : ℕ) (alone : ShowsAlone next answered left w) where
-  pub goes_nowhere : slice_get w.actors i ≡ None → Goes next answered left i w (Err NoSuchActor) w
+module _ {P : Type 0} (next : P → Option Call) (answered : P → Reply → P) (restarted : P → P) (left : P → ℕ) (w : World P) (i : ℕ) (alone : ShowsAlone next answered left w)
+    (commits : CommitsInOrder w) (opaque : AreOpaque next answered restarted left w) where
+  pub goes_nowhere : slice_get w.actors i ≡ None → Goes next answered restarted left i w (Err NoSuchActor) w
   goes_nowhere none =
       let no_step : waits_at w i ≡ None = ap (option_and_then (λ (a : Actor P). waiting_step a.status)) none in
       let no_end : ending_at w i ≡ None = ap (option_and_then (λ (a : Actor P). ending_of a.status)) none in
@@ -42,13 +45,14 @@ module _ {P : Type 0} (next : P → Option Call) (answered : P → Reply → P) 
         counts = λ e. absurd (cc);
         unchanged = λ e. refl;
         event_of = λ x is e. absurd (cc);
-        commits = λ c. c;
+        commits = commits;
+        opaque = opaque;
         opening = record { opening = refl; base = refl; arena = refl; patience = refl; max_commits = refl; retries = refl };
         actors = refl;
         alone = alone;
       }
 
-  pub goes_no_more : (a : Actor P) → slice_get w.actors i ≡ Some a → is_waiting a.status ≡ false → is_ready a.status ≡ false → Goes next answered left i w (Err Ended) w
+  pub goes_no_more : (a : Actor P) → slice_get w.actors i ≡ Some a → is_waiting a.status ≡ false → is_ready a.status ≡ false → Goes next answered restarted left i w (Err Ended) w
   goes_no_more a here still done =
       let step_is : waits_at w i ≡ waiting_step a.status = ap (option_and_then (λ (x : Actor P). waiting_step x.status)) here in
       let end_is : ending_at w i ≡ ending_of a.status = ap (option_and_then (λ (x : Actor P). ending_of x.status)) here in
@@ -63,7 +67,8 @@ module _ {P : Type 0} (next : P → Option Call) (answered : P → Reply → P) 
         counts = λ e. absurd (cc);
         unchanged = λ e. refl;
         event_of = λ x is e. absurd (cc);
-        commits = λ c. c;
+        commits = commits;
+        opaque = opaque;
         opening = record { opening = refl; base = refl; arena = refl; patience = refl; max_commits = refl; retries = refl };
         actors = refl;
         alone = alone;

@@ -39,7 +39,7 @@ use Rattle.norec_world.proofs.RunTurns.{laid_on}
 use Rattle.norec_world.proofs.RunAnswers.{reply_runs, commit_runs, full_runs, stop_run}
 use Rattle.norec_world.proofs.RunBegins.{begin_here, outside_runs}
 use Rattle.norec_world.proofs.TryEnds.{begin_call, begin_opens, not_starved}
-use Rattle.norec_world.proofs.Tying.{comes, rests}
+use Rattle.norec_engine.proofs.Resting.{rests}
 
 both : (n : Bool) → n ≡ true → n ≡ false → ⊥
 both n t f = absurd (cc)
@@ -172,7 +172,7 @@ module _ {P : Type 0} (next : P → Option Call) (answered : P → Replied → P
         }
 
     proceeds_as : (x : Next) → what ≡ x → Proceeds (came old.engine call (begins_again old.engine.is_open old.again call)) x new.engine
-    proceeds_as x is = subst (λ (y : Next). Proceeds (came old.engine call (begins_again old.engine.is_open old.again call)) y new.engine) is asks.proceeds
+    proceeds_as x is = subst (λ (y : Next). Proceeds (came old.engine call (begins_again old.engine.is_open old.again call)) y new.engine) is asks.called.proceeds
 
     log_kept : new.engine.is_open ≡ true → new.engine.log ≡ old.engine.log
     log_kept o = asked.stays.log o
@@ -340,7 +340,7 @@ module _ {P : Type 0} (next : P → Option Call) (answered : P → Replied → P
       answer_runs =
           let s = settles old.engine.is_open d in
           let told = notes old.engine.is_open d in
-          let rest = rests mid new.engine a (comes cells old.engine new.engine sound.tied free asked.settled call (begins_again old.engine.is_open old.again call) asked.stays).opens e in
+          let rest = rests mid new.engine a e in
           let none = no_fresh a e in
           let rows = row_now old.engine.is_open a refl d told in
           record {

@@ -1,5 +1,5 @@
 -- The actors' runs: one's event leaves the others', and together they are the headline.
-use Rattle.std.proofs.Common.{◌≡◌, ◌≢◌, inl, inr, ℕ, ◌+◌, ◌/◌, ◌%◌, ◌<◌, ◌≤◌, ◌==◌, Bool, true, false, if◌then◌else◌, List, [], ◌∷◌, ◌++◌, length, replicate, Option, None, Some, slice_get, slice_set, refl, sym, ap, subst, ◌∙◌, arith, eqb-true, nat_lt, ltb-true}
+use Rattle.std.proofs.Common.{◌≡◌, ◌≢◌, inl, inr, ℕ, ◌+◌, ◌/◌, ◌%◌, ◌<◌, ◌≤◌, ◌==◌, Bool, true, false, if◌then◌else◌, List, [], ◌∷◌, ◌++◌, length, length-set, replicate, Option, None, Some, slice_get, slice_set, refl, sym, ap, subst, ◌∙◌, arith, eqb-true, eq-eqb, nat_lt, ltb-true}
 use Rattle.std.proofs.lemmas.List.{append-nil}
 use Rattle.itm_types.specs.declared.call.Call.{Call}
 use Rattle.itm_types.specs.declared.call.Reply.{Reply}
@@ -21,7 +21,8 @@ use Rattle.norec_world.specs.declared.actor.Status.TheVariants.{Ready}
 use Rattle.norec_world.proofs.WordLists.{words_of-bytes_of}
 use Rattle.norec_world.specs.Opacity.{Between, IsRunOf, IsTryAt}
 use Rattle.norec_world.specs.Own.{AllOf, ChangesOwn, KeepsOthers}
-use Rattle.norec_world.specs.Rows.{Rows, active_of, AreFrom, AreOpen}
+use Rattle.norec_world.specs.Rows.{Rows, active_of, AreFrom, AreOfActors, AreOpen}
+use Rattle.norec_world.proofs.Tying.{held_even}
 use Rattle.norec_world.specs.Sound.{IsTied, HasRow}
 use Rattle.norec_world.specs.Actors.{AreActors}
 use Rattle.norec_world.specs.World.{World, attempts_of}
@@ -29,6 +30,7 @@ use Rattle.norec_world.specs.Memories.{bytes_at, words_at}
 use Rattle.norec_world.specs.Sees.{AreLaid}
 use Rattle.norec_world.specs.Runs.{run_after, begins_at, RunsFrom, StillRuns}
 use Rattle.norec_world.specs.Opaque.{first_of, AreOpaque, AreRunning}
+use Rattle.norec_world.specs.Going.{HasRead}
 use Rattle.norec_world.proofs.Frames.{set_place, within_of, there_is, are_open}
 use Rattle.norec_world.proofs.Following.{stands_open}
 use Rattle.norec_world.proofs.InTries.{try_stops}
@@ -81,6 +83,32 @@ open_one n thread (x ∷ xs) row from e = by_case (x.thread == thread) refl e (�
         let none = past_from (x.thread + 1) thread xs from.1 (let is = eqb-true x.thread thread h in omega arith) in
         (λ i. same i ∷ none i)
     by_case false h e rest = rest e
+
+-- ## The actors of attempts
+
+of_actors_both : (n : ℕ) (xs ys : List Attempt) → AreOfActors n xs → AreOfActors n ys → AreOfActors n (xs ++ ys)
+of_actors_both n [] ys f g = g
+of_actors_both n (x ∷ xs) ys f g = (f.0, of_actors_both n xs ys f.1 g)
+
+of_actors_all : (n thread : ℕ) (xs : List Attempt) → thread < n → AllOf thread xs → AreOfActors n xs
+of_actors_all n thread [] l all = tt
+of_actors_all n thread (x ∷ xs) l all = ((let same = all.0 in omega arith), of_actors_all n thread xs l all.1)
+
+of_actors_active : (n : ℕ) (xs : List Attempt) → ((thread : ℕ) (row : Attempt) → active_of thread xs ≡ Some row → thread < n) → AreOfActors n xs
+of_actors_active n [] listed = tt
+of_actors_active n (x ∷ xs) listed = (listed x.thread x (here (x.thread == x.thread) (eq-eqb x.thread x.thread refl)), of_actors_active n xs (λ thread row e. later thread row e (x.thread == thread) refl))
+  where
+    here : (b : Bool) → b ≡ true → (if b then Some x else active_of x.thread xs) ≡ Some x
+    here true e = refl
+    here false e = absurd (cc)
+
+    later : (thread : ℕ) (row : Attempt) → active_of thread xs ≡ Some row → (b : Bool) → (x.thread == thread) ≡ b → thread < n
+    later thread row e true is = listed thread x (ap (λ (b : Bool). if b then Some x else active_of thread xs) is)
+    later thread row e false is = listed thread row (ap (λ (b : Bool). if b then Some x else active_of thread xs) is ∙ e)
+
+row_open : (b : Bool) (r : Rows) (thread : ℕ) (row : Attempt) → HasRow b r thread → active_of thread r.active ≡ Some row → b ≡ true
+row_open true r thread row h some = refl
+row_open false r thread row h some = absurd (let z = sym h ∙ some in cc)
 
 module _ {P : Type 0} (next : P → Option Call) (answered : P → Reply → P) (restarted : P → P) (left : P → ℕ)
     (nearer : (p : P) (c : Call) (r : Reply) → next p ≡ Some c → left (answered p r) < left p) where
@@ -194,6 +222,13 @@ module _ {P : Type 0} (next : P → Option Call) (answered : P → Reply → P) 
     are_opaque = record {
       runs = λ place p e. (let l = within_of w.opening place p e in let here = there_is w.actors place (omega (arith, long)) in of_actor place p here.0 e here.1);
       players = λ place p a e f. (running.each place p a e f).runs;
+      threads = of_actors_both (length w.actors) w.attempts.ended w.attempts.active running.threads (of_actors_active (length w.actors) w.attempts.active sound.listed);
+      reads = λ place a row e some.
+          (let l = within_of w.actors place a e in
+          let here = there_is w.opening place (omega (arith, long)) in
+          let own = sound.each place a e in
+          let mine : active_of a.thread w.attempts.active ≡ Some row = ap (λ (t : ℕ). active_of t w.attempts.active) own.thread ∙ some in
+          (running.each place here.0 a here.1 e).reads (row_open a.engine.is_open w.attempts a.thread row own.sound.kept.row mine) row mine);
       free = λ even.
           (let top : w.cells.clock / 2 ≤ w.cells.clock / 2 = omega arith in
           ap bytes_of (running.laid.free even) ∙ (running.laid.memories.same (w.cells.clock / 2) top ∙ sym (shown_still (w.cells.clock / 2) top)));
@@ -202,7 +237,7 @@ module _ {P : Type 0} (next : P → Option Call) (answered : P → Reply → P) 
           let top : w.cells.clock / 2 ≤ w.cells.clock / 2 = omega arith in
           let here = there_is w.opening place (omega (arith, long)) in
           let x = running.each place here.0 a here.1 e in
-          let fed : ending_of a.status ≡ Some NoMemory → ⊥ = λ z. absurd (let shut = x.starved z in let inside = (sound.each place a e).sound.tied.opens h in let q = sym inside ∙ shut in cc) in
+          let fed : ending_of a.status ≡ Some NoMemory → ⊥ = λ z. absurd (let shut = x.starved z in let inside = ((sound.each place a e).sound.tied.settled.holder h).0 in let q = sym inside ∙ shut in cc) in
           (x.sees fed).loaded.held h ∙ ap (λ (m : List ℕ). backed a.engine (words_of m)) (sym (shown_still (w.cells.clock / 2) top)));
     }
 
@@ -223,11 +258,19 @@ module _ {P : Type 0} (next : P → Option Call) (answered : P → Reply → P) 
     went : AreLaid w.base cells' r' × RunsFrom next answered restarted left (first_of player.0 w.arena) w.base cells' r' new
     went = runs (first_of player.0 w.arena) w.base running.laid (running.each i player.0 got player.1 here)
 
+    -- what its transaction has read is of one memory
+    pub has_read : IsTied cells' new.engine → HasRead w.base r' new
+    has_read tied o =
+        let k_late : new.engine.snapshot / 2 ≤ cells'.clock / 2 = (let reached = tied.settled.reached in let late = tied.late in omega arith) in
+        let fits = went.0.memories.fits (new.engine.snapshot / 2) k_late in
+        let fed : ending_of new.status ≡ Some NoMemory → ⊥ = λ e. absurd (let shut = went.1.starved e in let z = sym o ∙ shut in cc) in
+        ((fits.0 ∙ sym tied.words, fits.1), (went.1.sees fed).logged o)
+
     -- another one that holds the clock sees no change
     others_held : (j : ℕ) (b : Actor P) → i ≢ j → slice_get w.actors j ≡ Some b → b.engine.holds ≡ true → cells' ≡ w.cells
     others_held j b apart e h =
         let tied = (sound.each j b e).sound.tied in
-        let odd : w.cells.clock % 2 ≡ 1 = (let held = tied.holder h in let even = tied.even h in omega arith) in
+        let odd : w.cells.clock % 2 ≡ 1 = (let held = tied.holder h in let even = held_even b.engine tied.settled h in omega arith) in
         (clocks.apart odd (not_holding got.engine.holds refl)).0
       where
         not_holding : (x : Bool) → got.engine.holds ≡ x → got.engine.holds ≡ false
@@ -235,7 +278,13 @@ module _ {P : Type 0} (next : P → Option Call) (answered : P → Reply → P) 
         not_holding false g = g
 
     pub running_after : AreRunning next answered restarted left (record w { cells = cells'; actors = slice_set w.actors i new; attempts = r'; events = events })
-    running_after = record { laid = went.0; ordered = others.own.ordered running.ordered; each = each_after }
+    running_after = record {
+      laid = went.0;
+      ordered = others.own.ordered running.ordered;
+      threads = subst (λ (n : ℕ). AreOfActors n r'.ended) (sym (length-set w.actors i new)) (subst (AreOfActors (length w.actors)) (sym others.own.ended)
+          (of_actors_both (length w.actors) w.attempts.ended others.own.more running.threads (of_actors_all (length w.actors) got.thread others.own.more (let l = within_of w.actors i got here in let t = mine in omega arith) others.own.mine)));
+      each = each_after;
+    }
       where
         each_after : (place : ℕ) (p : P) (a : Actor P) → slice_get w.opening place ≡ Some p → slice_get (slice_set w.actors i new) place ≡ Some a → RunsFrom next answered restarted left (first_of p w.arena) w.base cells' r' a
         each_after place p a e f = elim (set_place w.actors i got new here place a f) [

@@ -38,7 +38,8 @@ use Rattle.norec_world.proofs.Following.{is_free}
 use Rattle.norec_world.proofs.Memories.{bytes_still, none_next, found_later}
 use Rattle.norec_world.proofs.Seeing.{loaded_handed, still_logged, log_now, less_logged}
 use Rattle.norec_world.proofs.Tracking.{HandedSame, handed_same, freed_by}
-use Rattle.norec_world.proofs.Tying.{rests}
+use Rattle.norec_engine.proofs.Resting.{rests}
+use Rattle.norec_world.proofs.Tying.{held_even}
 use Rattle.norec_world.proofs.Recording.{was_open}
 use Rattle.norec_world.proofs.InTries.{try_asks}
 use Rattle.norec_world.proofs.RunAnswers.{reply_runs, commit_runs, commit_left, conflict_runs, full_runs}
@@ -175,7 +176,7 @@ module _ {P : Type 0} (next : P → Option Call) (answered : P → Replied → P
 
   module _ (s : Step) (g : AsksFor mid s new) where
     asks_unfreed : is_free step ≡ false
-    asks_unfreed = sym (freed_by old.engine step seen sound.tied.unfreed) ∙ g.unfreed
+    asks_unfreed = sym (freed_by old.engine step seen sound.tied.settled.unfreed) ∙ g.unfreed
 
     open_on : new.is_open ≡ mid.is_open
     open_on = ap (λ (c : Core). c.is_open) g.stays
@@ -368,8 +369,7 @@ module _ {P : Type 0} (next : P → Option Call) (answered : P → Replied → P
   pub answer_sees : (ans : Answer) → Proceeds (handed old.engine seen) (Answers ans) new → (r1 : Rows) (last : Actor P) (more : List Attempt) → r1.ended ≡ r.ended ++ more → last.engine ≡ new → (new.is_open ≡ true → r1.ended ≡ r.ended)
       → Sees (words_at base r1.ended) cells' last.engine
   answer_sees ans g r1 last more ended engine same_ended =
-      let rest = rests (handed_to old.engine (Some step) seen) new ans
-      (is_mid next answered restarted left depth cells r old sound call step waiting seen seen_is cells' cells_are fit new joins settled within).opens (ends ans g r1 last more ended) in
+      let rest = rests (handed_to old.engine (Some step) seen) new ans (ends ans g r1 last more ended) in
       let none : new.fresh ≡ [] = no_fresh ans (ends ans g r1 last more ended) in
       subst (Sees (words_at base r1.ended) cells') (sym engine) (record {
         loaded = record {
@@ -413,11 +413,11 @@ module _ {P : Type 0} (next : P → Option Call) (answered : P → Replied → P
       by_step : (s : Step) → IsLawful old.engine s → is_free s ≡ false → (cells_after cells s).clock % 2 ≡ 0 → cells_after cells s ≡ cells
       by_step (Load cell) l k even = refl
       by_step (Store zero value) l k even = absurd (cc)
-      by_step (Store (suc word) value) l k even = absurd (let held = sound.tied.holder l.1 in let e = sound.tied.even l.1 in omega arith)
+      by_step (Store (suc word) value) l k even = absurd (let held = sound.tied.holder l.1 in let e = held_even old.engine sound.tied.settled l.1 in omega arith)
       by_step (Cas cell from to) l k even = exchanged_same (cells.clock == from) from to refl l.4 l.6 even
 
   kind_of : mid.freed ≡ false → is_free step ≡ false
-  kind_of f = sym (freed_by old.engine step seen sound.tied.unfreed) ∙ f
+  kind_of f = sym (freed_by old.engine step seen sound.tied.settled.unfreed) ∙ f
 
   pub laid_still : (r2 : Rows) (more : List Attempt) → r2.ended ≡ r.ended ++ more → AreCounted cells'.clock r2.ended → mid.freed ≡ false → AreLaid base cells' r2
   laid_still r2 more ended counted unfreed =
@@ -444,7 +444,7 @@ module _ {P : Type 0} (next : P → Option Call) (answered : P → Replied → P
 
     -- the words as they are
     backed_words : cells'.words ≡ backed mid (words_at base r.ended at)
-    backed_words = by_step step refl (sym (freed_by old.engine step seen sound.tied.unfreed) ∙ freed)
+    backed_words = by_step step refl (sym (freed_by old.engine step seen sound.tied.settled.unfreed) ∙ freed)
       where
         by_step : (s : Step) → step ≡ s → is_free s ≡ true → cells'.words ≡ backed mid (words_at base r.ended at)
         by_step (Load cell) is k = absurd (cc)

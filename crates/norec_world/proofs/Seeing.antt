@@ -11,6 +11,7 @@ use Rattle.write_set.specs.Rows.{overlay}
 use Rattle.norec_engine.specs.Core.{Core, handed_to, word_loaded}
 use Rattle.norec_engine.specs.Proceeds.{IsLawful, Joins, Settles, Got}
 use Rattle.norec_engine.specs.Rows.{write_at}
+use Rattle.norec_engine.proofs.Logs as logs
 use Rattle.norec_world.specs.Cells.{Cells, found, cells_after}
 use Rattle.norec_world.specs.Sound.{IsTied}
 use Rattle.norec_world.specs.Sees.{Loaded, Sees}
@@ -39,7 +40,7 @@ module _ (memory : ℕ → List ℕ) (cells : Cells) (e : Core) (t : IsTied cell
   -- any step but the store that frees the clock
   pub loaded_handed : Loaded memory cells e → (step : Step) → IsLawful e step → is_free step ≡ false → Loaded memory (cells_after cells step) (handed_to e (Some step) (found cells step))
   loaded_handed s (Load zero) l n = record { fresh = λ even same f. tt; held = λ h. absurd (both e.holds h l.1); got = λ h. absurd (both e.holds h l.1) }
-  loaded_handed s (Load (suc word)) l n = word_handed s word (let k = l.0 in let w = t.words in omega arith) e.holds refl (λ h. l.1.1 h)
+  loaded_handed s (Load (suc word)) l n = word_handed s word (let k = l.0 in let w = t.words in omega arith) e.holds refl (λ h. (l.1.1 h).1)
   loaded_handed s (Store zero value) l n = absurd (cc)
   loaded_handed s (Store (suc word) value) l n =
       let held = s.held l.1 in
@@ -81,30 +82,11 @@ module _ (memory : ℕ → List ℕ) (cells : Cells) (e : Core) (t : IsTied cell
 
     -- the log of before is of the new snapshot's memory too
     pub still_logged : e.is_open ≡ true → Agrees (memory (new.snapshot / 2)) e.log
-    still_logged o = elim (joins.snapshot o) [
-      | inl same ↦ subst (λ (n : ℕ). Agrees (memory (n / 2)) e.log) (sym same) (s.logged o)
-      | inr moved ↦ subst (λ (n : ℕ). Agrees (memory (n / 2)) e.log) (sym moved.2) (subst (Agrees (memory (found cells step / 2))) moved.1 (settled_fresh moved.0))
-    ]
-
-    was_logged : (b : Bool) → e.is_open ≡ b → Agrees (memory (new.snapshot / 2)) e.log
-    was_logged true o = still_logged o
-    was_logged false o = subst (Agrees (memory (new.snapshot / 2))) (sym (t.settled.closed o).0) tt
+    still_logged o = logs.still_logged e new (found cells step) joins t.settled memory s.logged settled_fresh o
 
     pub log_now : new.is_open ≡ true → Agrees (memory (new.snapshot / 2)) new.log
-    log_now o = elim (joins.log o) [
-      | inl same ↦ subst (Agrees (memory (new.snapshot / 2))) (sym same) (was_logged e.is_open refl)
-      | inr more ↦
-          subst (Agrees (memory (new.snapshot / 2))) (sym more.1)
-          (agrees_more (memory (new.snapshot / 2)) e.log e.fresh (was_logged e.is_open refl) (subst (λ (n : ℕ). Agrees (memory (n / 2)) e.fresh) (sym more.2) (settled_fresh more.0)))
-    ]
+    log_now o = logs.log_now e new (found cells step) joins t.settled memory s.logged settled_fresh o
 
     -- one that agrees with the log now agrees with the log of before
     pub less_logged : new.is_open ≡ true → (m : List ℕ) → Agrees m new.log → Agrees m e.log
-    less_logged o m a = elim (joins.log o) [
-      | inl same ↦ subst (Agrees m) same a
-      | inr more ↦ agrees_less m e.log e.fresh (subst (Agrees m) more.1 a)
-    ]
-      where
-        agrees_less : (m : List ℕ) (xs ys : List LogRow) → Agrees m (xs ++ ys) → Agrees m xs
-        agrees_less m [] ys a = tt
-        agrees_less m (x ∷ xs) ys a = (a.0, agrees_less m xs ys a.1)
+    less_logged o m a = let more = logs.log_longer e new (found cells step) joins t.settled o in logs.agrees_less m e.log more.0 (subst (Agrees m) more.1 a)

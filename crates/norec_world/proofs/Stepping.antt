@@ -20,34 +20,12 @@ use Rattle.norec_world.specs.declared.actor.Status.TheVariants.{Ready, Waits, En
 use Rattle.norec_world.specs.Cells.{Cells, found, cells_after}
 use Rattle.norec_world.specs.Status.{is_waiting, is_ready}
 use Rattle.norec_world.specs.Sound.{IsTied, HasRow, IsKept, IsNested, IsInCall, IsWaiting, IsSound, StatusIs, IsAnswered, IsSettledBy, RestsAs, IsDue, IsDone, GoesOn, Falls, whole, rank, AnswerFits, steps_left}
-use Rattle.norec_world.proofs.Tying.{IsMid, hands, tied, rests, answer_fits, limit_same, holds_same, holds_handed}
+use Rattle.norec_engine.proofs.Resting.{rests}
+use Rattle.norec_engine.specs.Keeping.{Keeps}
+use Rattle.norec_engine.proofs.Keeping.{handed_is, most_same}
+use Rattle.norec_world.proofs.Tying.{IsMid, hands, tied, answer_fits, limit_same, holds_same, holds_handed}
 use Rattle.norec_world.proofs.Clocking.{clocks_of, clocks_still, clocks_twice}
 use Rattle.norec_world.specs.Holding.{HoldsOn, ClocksOn}
-
--- what the value does not change
-pub record IsHanded (e mid : Core) : Type 0 where
-  pub is_open : mid.is_open ≡ e.is_open
-  pub doing : mid.doing ≡ e.doing
-  pub spent : mid.spent ≡ e.spent
-  pub most_same : most mid mid.doing ≡ most e e.doing
-
-most_of : (e mid : Core) (o : Option Call) → mid.patience ≡ e.patience → mid.entry ≡ e.entry → mid.writes ≡ e.writes → most mid o ≡ most e o
-most_of e mid None p n w = refl
-most_of e mid (Some (Begin props room)) p n w = λ i. 2 * p i
-most_of e mid (Some Commit) p n w = λ i. p i * (n i + 3) + 2 * length (w i) + 2
-most_of e mid (Some (Read hint width at)) p n w = λ i. 2 * count_of at (size_of width) + p i * (n i + count_of at (size_of width) + 4)
-most_of e mid (Some (Write hint at value)) p n w = refl
-
-loaded_is : (e : Core) (holds : Bool) (word seen : ℕ) → IsHanded e (word_loaded e holds word seen)
-loaded_is e true word seen = record { is_open = refl; doing = refl; spent = refl; most_same = most_of e (word_loaded e true word seen) e.doing refl refl refl }
-loaded_is e false word seen = record { is_open = refl; doing = refl; spent = refl; most_same = most_of e (word_loaded e false word seen) e.doing refl refl refl }
-
-handed_is : (e : Core) (step : Step) (seen : ℕ) → IsHanded e (handed_to e (Some step) seen)
-handed_is e (Load zero) seen = record { is_open = refl; doing = refl; spent = refl; most_same = most_of e (handed_to e (Some (Load zero)) seen) e.doing refl refl refl }
-handed_is e (Load (suc word)) seen = loaded_is e e.holds word seen
-handed_is e (Store zero value) seen = record { is_open = refl; doing = refl; spent = refl; most_same = most_of e (handed_to e (Some (Store zero value)) seen) e.doing refl refl refl }
-handed_is e (Store (suc word) value) seen = record { is_open = refl; doing = refl; spent = refl; most_same = most_of e (handed_to e (Some (Store (suc word) value)) seen) e.doing refl refl refl }
-handed_is e (Cas cell from to) seen = record { is_open = refl; doing = refl; spent = refl; most_same = most_of e (handed_to e (Some (Cas cell from to)) seen) e.doing refl refl refl }
 
 module _ {P : Type 0} (next : P → Option Call) (answered : P → Replied → P) (restarted : P → P) (left : P → ℕ) (depth : P → ℕ)
     (cells : Cells) (r : Rows) (old : Actor P) (sound : IsSound next answered restarted left depth cells r old) (call : Call) (step : Step) (waiting : old.status ≡ Waits call step)
@@ -65,8 +43,7 @@ module _ {P : Type 0} (next : P → Option Call) (answered : P → Replied → P
   pub is_mid : IsMid cells' (handed_to old.engine (Some step) seen) new
   is_mid =
       let Fits : Cells → Type 0 = λ c. AllFit c.words in
-      let joined : Joins old.engine (found cells step) new = subst (λ (n : ℕ). Joins old.engine n new) seen_is joins in
-      let m = hands cells old.engine new sound.tied settled step waits.waits joined waits.lawful (subst Fits cells_are fit) in
+      let m = hands cells old.engine new sound.tied settled step waits.lawful (subst Fits cells_are fit) in
       let Mid : Cells → ℕ → Type 0 = λ c n. IsMid c (handed_to old.engine (Some step) n) new in
       subst (λ (c : Cells). Mid c seen) (sym cells_are) (subst (λ (n : ℕ). Mid (cells_after cells step) n) (sym seen_is) m)
 
@@ -77,15 +54,15 @@ module _ {P : Type 0} (next : P → Option Call) (answered : P → Replied → P
     pub step_tied : IsTied cells' new
     step_tied = tied cells' (handed_to old.engine (Some step) seen) new what is_mid went
 
-  pub same : IsHanded old.engine (handed_to old.engine (Some step) seen)
-  same = handed_is old.engine step seen
+  pub same : Keeps old.engine (handed_to old.engine (Some step) seen)
+  same = (handed_is old.engine step seen).keeps
 
   -- the call is answered
   pub step_answered : (a : Answer) → Proceeds (handed old.engine seen) (Answers a) new
       → IsAnswered next answered restarted left depth old.engine.is_open r (record old { engine = new; status = Ready }) call a
   step_answered a g =
       let w : Ends (handed_to old.engine (Some step) seen) a new = went (Answers a) g in
-      let rest = rests (handed_to old.engine (Some step) seen) new a is_mid.opens w in
+      let rest = rests (handed_to old.engine (Some step) seen) new a w in
       let fits : AnswerFits (handed_to old.engine (Some step) seen).is_open new.is_open call a = answer_fits (handed_to old.engine (Some step) seen) new call a (same.doing ∙ waits.doing) w in
       let Fits : Bool → Type 0 = λ b. AnswerFits b new.is_open call a in
       let k = sound.kept in
@@ -145,8 +122,8 @@ module _ {P : Type 0} (next : P → Option Call) (answered : P → Replied → P
 
     spends : steps_left new < steps_left old.engine
     spends =
-        let spent : new.spent ≡ old.engine.spent + 1 = ap (λ (c : Core). c.spent) asks.stays ∙ ap (λ (n : ℕ). n + 1) same.spent in
-        let most_is : most new new.doing ≡ most old.engine old.engine.doing = ap (λ (c : Core). most c c.doing) asks.stays ∙ same.most_same in
+        let spent : new.spent ≡ old.engine.spent + 1 = ap (λ (c : Core). c.spent) asks.stays ∙ ap (λ (n : ℕ). n + 1) (handed_is old.engine step seen).spent in
+        let most_is : most new new.doing ≡ most old.engine old.engine.doing = ap (λ (c : Core). most c c.doing) asks.stays ∙ (ap (most (handed_to old.engine (Some step) seen)) same.doing ∙ most_same old.engine (handed_to old.engine (Some step) seen) same old.engine.doing) in
         let waited : new.waits ≡ Some step' = ap (λ (c : Core). c.waits) asks.stays in
         let enough : new.spent ≤ most new new.doing = within (λ e. absurd (let f : Some step' ≡ None = sym waited ∙ e in cc)) in
         omega arith
@@ -170,7 +147,7 @@ module _ {P : Type 0} (next : P → Option Call) (answered : P → Replied → P
       let moved = subst (λ (c : Cells). HoldsOn cells old.engine c (handed_to old.engine (Some step) (found cells step))) (sym cells_are) h in
       let taken = subst (λ (n : ℕ). HoldsOn cells old.engine cells' (handed_to old.engine (Some step) n)) (sym seen_is) moved in
       clocks_twice cells cells' cells' old.engine (handed_to old.engine (Some step) seen) last (clocks_of cells cells' old.engine (handed_to old.engine (Some step) seen) taken (λ h. (let held = is_mid.holder h in let even = is_mid.even h in omega arith)))
-      (clocks_still cells' (handed_to old.engine (Some step) seen) last (ap (λ (c : Core). c.holds) same ∙ holds_same (handed_to old.engine (Some step) seen) new what is_mid.opens (went what g))
+      (clocks_still cells' (handed_to old.engine (Some step) seen) last (ap (λ (c : Core). c.holds) same ∙ holds_same (handed_to old.engine (Some step) seen) new what (went what g))
       (let kept = limit_same (handed_to old.engine (Some step) seen) new what (went what g) in (ap (λ (c : Core). c.max_commits) same ∙ kept.0, ap (λ (c : Core). c.patience) same ∙ kept.1)))
 
   -- ## Both

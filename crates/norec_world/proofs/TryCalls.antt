@@ -64,10 +64,10 @@ module _ {P : Type 0} (next : P → Option Call) (answered : P → Replied → P
 
   -- ## Memory was refused
 
-  pub starve_tries : (r r1 : Rows) (mid last : Actor P) → mid.engine ≡ old.engine → mid.thread ≡ old.thread → mid.nth ≡ old.nth → mid.pending ≡ old.pending → r ≡ record r0 { room = r.room }
+  pub starve_tries : (r r1 : Rows) (mid last : Actor P) → mid.engine ≡ old.engine → last.engine.snapshot ≡ mid.engine.snapshot → mid.thread ≡ old.thread → mid.nth ≡ old.nth → mid.pending ≡ old.pending → r ≡ record r0 { room = r.room }
       → last.status ≡ Ended ends.NoMemory → last.thread ≡ mid.thread → last.nth ≡ mid.nth → last.pending ≡ mid.pending → HasRow false r1 last.thread
       → (mid.engine.is_open ≡ true → StopsAt mid.thread r (mid.engine.snapshot / 2) outcomes.NoMemory r1) → (mid.engine.is_open ≡ false → r1 ≡ r) → Tries cells.clock (prior_of r0 old) cells.clock r1 last
-  starve_tries r r1 mid last engine thread nth pending rows status thread' nth' pending' none stops stays = by_row old.engine.is_open refl sound.kept.row
+  starve_tries r r1 mid last engine snapshot thread nth pending rows status thread' nth' pending' none stops stays = by_row old.engine.is_open refl sound.kept.row
     where
       is_open : mid.engine.is_open ≡ old.engine.is_open
       is_open = ap (λ (c : Core). c.is_open) engine
@@ -87,6 +87,7 @@ module _ {P : Type 0} (next : P → Option Call) (answered : P → Replied → P
             was = ap (λ (o : Option Attempt). current_of o old.pending) h.1;
             ended = ap (λ (x : Rows). x.ended) (stops (is_open ∙ e) h.0 (active ∙ h.1)) ∙ ap (λ (x : Rows). x.ended ++ done ∷ []) rows;
             continues = record { thread = refl; nth = refl; began = refl; props = refl; arena = refl; more = []; calls = sym (append-nil h.0.calls) };
+            reads = ap (λ (n : ℕ). n / 2) (sym snapshot);
             at = (refl, omega arith);
             closed = λ e. absurd (cc);
             after = record { none = none; status = status };

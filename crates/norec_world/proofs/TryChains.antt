@@ -38,7 +38,7 @@ ends_on max_commits clock clock1 at outcomes.NoMemory half e = (half, e.1)
 ends_on max_commits clock clock1 at outcomes.Unfinished half e = absurd e
 
 module _ {P : Type 0} (clock clock1 : ℕ) (p : Prior) (r1 r2 : Rows) (a1 a2 : Actor P) (ready : a1.status ≡ Ready) (nothing : a1.pending ≡ None)
-    (limit : a1.engine.max_commits ≡ p.max_commits) (retries : a1.retries ≡ p.retries) (work : Tries clock1 (prior_of r1 a1) clock1 r2 a2) where
+    (limit : a1.engine.max_commits ≡ p.max_commits) (retries : a1.retries ≡ p.retries) (still : a2.engine.snapshot ≡ a1.engine.snapshot) (work : Tries clock1 (prior_of r1 a1) clock1 r2 a2) where
   -- the attempt that the work begins with is the open one
   open_one : (row : Attempt) (o : Option Attempt) → active_of a1.thread r1.active ≡ o → current_of o a1.pending ≡ Some row → active_of a1.thread r1.active ≡ Some row
   open_one row None e c = absurd (let n = sym nothing ∙ c in cc)
@@ -88,7 +88,7 @@ module _ {P : Type 0} (clock clock1 : ℕ) (p : Prior) (r1 r2 : Rows) (a1 a2 : A
   tries_then (begins t) = absurd (let n = sym nothing ∙ t.now in cc)
   tries_then (over t) =
       let b = after t.row'.outcome t.after in
-      over (record { row = t.row; row' = t.row'; was = t.was; ended = b.1 ∙ t.ended; continues = t.continues; at = t.at; closed = t.closed; after = b.0 })
+      over (record { row = t.row; row' = t.row'; was = t.was; ended = b.1 ∙ t.ended; continues = t.continues; reads = t.reads ∙ ap (λ (n : ℕ). n / 2) (sym still); at = t.at; closed = t.closed; after = b.0 })
   tries_then (turned_away t) =
       let b = again (nat_lt p.retries p.nth) t.after in
       turned_away (record { none = t.none; row = t.row; was = t.was; ended = b.1 ∙ t.ended; odd = t.odd; same = t.same; after = b.0 })
@@ -119,6 +119,7 @@ module _ {P : Type 0} (clock clock1 : ℕ) (p : Prior) (r1 r2 : Rows) (a1 a2 : A
         was = t.was;
         ended = w.ended ∙ ap (λ (l : List Attempt). l ++ w.row' ∷ []) t.ended;
         continues = continues_twice t.row t.row' w.row' t.continues (subst (λ (x : Attempt). Continues x w.row') (sym (same_row w.row w.was)) w.continues);
+        reads = w.reads;
         at = subst (λ (n : ℕ). EndsAt n clock clock1 w.row'.at w.row'.outcome) limit (ends_on a1.engine.max_commits clock clock1 w.row'.at w.row'.outcome t.half w.at);
         closed = w.closed;
         after = after_same w.row'.outcome a1.nth t.tries w.after;

@@ -109,6 +109,7 @@ module _ {P : Type 0} (next : P → Option Call) (answered : P → Replied → P
         was = ap (λ (o : Option Attempt). current_of o a.pending) row.1;
         ended = ap (λ (x : Rows). x.ended) (told.0 row.0 row.1);
         continues = record { thread = refl; nth = refl; began = refl; props = refl; arena = refl; more = record { call = call; reply = replies.Done } ∷ []; calls = refl };
+        reads = g.at_is ∙ ap (λ (n : ℕ). n / 2) (sym (ap (λ (c : Core). c.snapshot) (s.engine ∙ g.stays)));
         at = at_end wrote refl;
         closed = λ e. (row.0.calls, (λ i. row.0.calls ++ record { call = d.fits.2 i; reply = replies.Done } ∷ []));
         after = after_end wrote (is_between next answered restarted left depth r r1 a last true s cells'.clock 1 closed ready told.3);
@@ -138,6 +139,7 @@ module _ {P : Type 0} (next : P → Option Call) (answered : P → Replied → P
         was = ap (λ (o : Option Attempt). current_of o a.pending) row.1;
         ended = ap (λ (x : Rows). x.ended) (told.0 row.0 row.1);
         continues = record { thread = refl; nth = refl; began = refl; props = refl; arena = refl; more = []; calls = sym (append-nil row.0.calls) };
+        reads = refl;
         at = (moves.keeps g.unfreed, omega arith);
         closed = λ e. absurd (cc);
         after = tries_again next answered restarted left depth r r1 a last true s cells'.clock d.fits.1 d.status told.2;
@@ -155,6 +157,7 @@ module _ {P : Type 0} (next : P → Option Call) (answered : P → Replied → P
         was = ap (λ (o : Option Attempt). current_of o a.pending) row.1;
         ended = ap (λ (x : Rows). x.ended) (told.0 row.0 row.1);
         continues = record { thread = refl; nth = refl; began = refl; props = refl; arena = refl; more = []; calls = sym (append-nil row.0.calls) };
+        reads = g.at_is ∙ ap (λ (n : ℕ). n / 2) (sym (ap (λ (c : Core). c.snapshot) s.engine));
         at = (moves.keeps g.unfreed, omega arith, omega arith);
         closed = λ e. absurd (cc);
         after = record { none = none_active next answered restarted left depth r r1 a last true s d.fits.1; status = told.1 };

@@ -22,7 +22,7 @@ use Rattle.norec_world.specs.Status.{ending_of}
 use Rattle.norec_world.specs.Records.{Records, Tells, IsTold}
 use Rattle.norec_world.specs.Sound.{IsTied, HasRow, IsAnswered, IsSettledBy, IsDone, IsSound}
 use Rattle.norec_world.specs.Tries.{Tries, between, begins, runs, prior_of, current_of}
-use Rattle.norec_world.proofs.Tying.{limit_same, holds_handed}
+use Rattle.norec_world.proofs.Tying.{held_even, limit_same, holds_handed}
 use Rattle.norec_world.proofs.Stepping.{waits, went, same, is_mid, step_tied, step_answered, step_done}
 use Rattle.norec_world.proofs.TryEnds.{ClockMoves, open_tries, begin_tries, told_tries, not_finished}
 
@@ -40,17 +40,17 @@ half_taken true clock from to is even up = (let same = is refl in omega arith)
 half_taken false clock from to is even up = refl
 
 moves_of : (cells : Cells) (e : Core) (step : Step) → IsTied cells e → IsLawful e step → ClockMoves cells (cells_after cells step) (handed_to e (Some step) (found cells step))
-moves_of cells e (Load zero) t l = record { frees = λ f. absurd (both e.freed f t.unfreed); keeps = λ f. refl }
-moves_of cells e (Load (suc word)) t l = record { frees = λ f. absurd (both e.freed (sym (word_freed e e.holds word (found cells (Load (suc word)))) ∙ f) t.unfreed); keeps = λ f. refl }
+moves_of cells e (Load zero) t l = record { frees = λ f. absurd (both e.freed f t.settled.unfreed); keeps = λ f. refl }
+moves_of cells e (Load (suc word)) t l = record { frees = λ f. absurd (both e.freed (sym (word_freed e e.holds word (found cells (Load (suc word)))) ∙ f) t.settled.unfreed); keeps = λ f. refl }
 moves_of cells e (Store zero value) t l =
     let held = t.holder l.1 in
-    let even = t.even l.1 in
+    let even = held_even e t.settled l.1 in
     let value_is = l.2.0 in
-    let half : e.clock / 2 ≡ e.snapshot / 2 = ap (λ (n : ℕ). n / 2) (t.reached l.1) in
+    let half : e.clock / 2 ≡ e.snapshot / 2 = ap (λ (n : ℕ). n / 2) (t.settled.holder l.1).1 in
     record { frees = λ f. ((let x : cells.clock ≡ 2 * (e.snapshot / 2) + 1 = omega arith in x), (let y : value ≡ 2 * (e.snapshot / 2) + 2 = omega arith in y)); keeps = λ f. absurd (cc) }
-moves_of cells e (Store (suc word) value) t l = record { frees = λ f. absurd (both e.freed f t.unfreed); keeps = λ f. refl }
+moves_of cells e (Store (suc word) value) t l = record { frees = λ f. absurd (both e.freed f t.settled.unfreed); keeps = λ f. refl }
 moves_of cells e (Cas cell from to) t l = record {
-  frees = λ f. absurd (both e.freed f t.unfreed);
+  frees = λ f. absurd (both e.freed f t.settled.unfreed);
   keeps = λ f. half_taken (cells.clock == from) cells.clock from to (λ y. eqb-true cells.clock from y) l.4 l.6;
 }
 
@@ -59,7 +59,7 @@ pub loads_clock : (cells : Cells) (e : Core) (step : Step) → IsTied cells e �
     → ((cells_after cells step).clock ≡ cells.clock) × ((handed_to e (Some step) (found cells step)).clock ≡ (cells_after cells step).clock)
 loads_clock cells e (Load zero) t l outside = (refl, refl)
 loads_clock cells e (Load (suc word)) t l outside = absurd (both e.is_open l.1.0 outside)
-loads_clock cells e (Store cell value) t l outside = absurd (both e.is_open (t.opens l.1) outside)
+loads_clock cells e (Store cell value) t l outside = absurd (both e.is_open (t.settled.holder l.1).0 outside)
 loads_clock cells e (Cas cell from to) t l outside = absurd (both e.is_open l.2 outside)
 
 -- ## The step

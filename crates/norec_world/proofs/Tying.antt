@@ -7,12 +7,16 @@ use Rattle.itm_types.specs.declared.call.Call.TheVariants.{Commit}
 use Rattle.itm_types.specs.declared.call.Reply.{Reply as Replied}
 use Rattle.itm_types.specs.Memory.{AllFit}
 use Rattle.norec_engine.specs.Core.{Core, came, handed_to, word_loaded}
+use Rattle.norec_engine.specs.Core as core
 use Rattle.norec_engine.specs.Proceeds.{IsLawful, IsSettled, Proceeds, Joins, StaysOn, AsksFor, Replies, RepliesTo, Ends, FitsStep}
 use Rattle.norec_engine.specs.declared.answer.Next.{Next}
 use Rattle.norec_engine.specs.declared.answer.Next.TheVariants.{Step as Asks, Answer as Answers}
 use Rattle.norec_engine.specs.declared.answer.Answer.{Answer}
 use Rattle.norec_engine.specs.declared.answer.Answer.TheVariants.{Reply, Committed, Conflict, Busy, Full}
 use Rattle.norec_world.specs.Cells.{Cells, IsCell, found, cells_after}
+use Rattle.norec_engine.proofs.Resting.{rests}
+use Rattle.norec_engine.specs.Undoing.{after_undoing}
+use Rattle.norec_engine.specs.declared.phase.Phase.TheVariants.{Idle}
 use Rattle.norec_world.specs.Sound.{IsTied, AnswerFits}
 use Rattle.norec_world.specs.Holding.{HoldsOn}
 use Rattle.norec_world.proofs.Answering.{reply_fits}
@@ -37,16 +41,20 @@ seen_fits e cells (Cas cell from to) l = l
 
 -- ## The engine with a call that came, or with the value of its step
 
+-- the clock that the holder has seen is its snapshot
+pub held_even : (e : Core) → IsSettled e → e.holds ≡ true → e.clock % 2 ≡ 0
+held_even e s h = (let same = (s.holder h).1 in let even = s.even in omega arith)
+
+pub held_below : (e : Core) → IsSettled e → e.holds ≡ true → e.clock / 2 < e.max_commits
+held_below e s h = (let same = (s.holder h).1 in let few = (s.holder h).2 in omega arith)
+
 -- mid is such an engine, over these cells, and goes on to new
 pub record IsMid (cells : Cells) (mid new : Core) : Type 0 where
   pub words : mid.words ≡ length cells.words
   pub fit : AllFit cells.words
   pub late : mid.clock ≤ cells.clock
   pub holder : mid.holds ≡ true → cells.clock ≡ mid.clock + 1
-  pub opens : mid.holds ≡ true → mid.is_open ≡ true
   pub even : mid.holds ≡ true → mid.clock % 2 ≡ 0
-  pub reached : mid.holds ≡ true → mid.clock ≡ new.snapshot
-  pub below : mid.holds ≡ true → mid.clock / 2 < mid.max_commits
   pub settled : IsSettled new
 
 -- a step is asked for
@@ -56,107 +64,24 @@ asked cells mid new step m g =
     let words : new.words ≡ mid.words = ap (λ (c : Core). c.words) same in
     let clock : new.clock ≡ mid.clock = ap (λ (c : Core). c.clock) same in
     let holds : new.holds ≡ mid.holds = ap (λ (c : Core). c.holds) same in
-    let open_same : new.is_open ≡ mid.is_open = ap (λ (c : Core). c.is_open) same in
     record {
       words = words ∙ m.words;
       fit = m.fit;
       late = (let l = m.late in omega arith);
       holder = λ h. (let l = m.holder (sym holds ∙ h) in omega arith);
-      opens = λ h. open_same ∙ m.opens (sym holds ∙ h);
-      even = λ h. ap (λ (n : ℕ). n % 2) clock ∙ m.even (sym holds ∙ h);
-      reached = λ h. clock ∙ m.reached (sym holds ∙ h);
-      below = λ h. (let limit : new.max_commits ≡ mid.max_commits = ap (λ (c : Core). c.max_commits) same in let l = m.below (sym holds ∙ h) in omega arith);
-      unfreed = ap (λ (c : Core). c.freed) same ∙ g.unfreed;
       settled = m.settled;
     }
 
--- an engine that has answered: it holds nothing
-pub record IsAtRest (mid new : Core) : Type 0 where
-  pub words : new.words ≡ mid.words
-  pub clock : new.clock ≡ mid.clock
-  pub holds : new.holds ≡ false
-  pub freed : new.freed ≡ false
-  pub idle : new.waits ≡ None
-  pub free : mid.holds ≡ false
-
-replied : (mid new : Core) (call : Call) (r : Replied) → Replies mid call r new → IsAtRest mid new
-replied mid new call r g =
-    let same = g.stays in
-    record {
-      words = ap (λ (c : Core). c.words) same;
-      clock = ap (λ (c : Core). c.clock) same;
-      holds = ap (λ (c : Core). c.holds) same ∙ g.free;
-      freed = ap (λ (c : Core). c.freed) same ∙ g.unfreed;
-      idle = ap (λ (c : Core). c.waits) same;
-      free = g.free;
-    }
-
-replied_to : (mid new : Core) (doing : Option Call) (r : Replied) → RepliesTo mid doing r new → IsAtRest mid new
-replied_to mid new None r g = absurd g
-replied_to mid new (Some call) r g = replied mid new call r g
-
-false_of : (b : Bool) → (b ≡ true → ⊥) → b ≡ false
-false_of true h = absurd (h refl)
-false_of false h = refl
-
-pub rests : (mid new : Core) (a : Answer) → (mid.holds ≡ true → mid.is_open ≡ true) → Ends mid a new → IsAtRest mid new
-rests mid new (Reply r) o g = replied_to mid new mid.doing r g
-rests mid new (Committed at wrote) o g =
-    let same = g.stays in
-    record {
-      words = ap (λ (c : Core). c.words) same;
-      clock = ap (λ (c : Core). c.clock) same;
-      holds = ap (λ (c : Core). c.holds) same ∙ g.free;
-      freed = ap (λ (c : Core). c.freed) same;
-      idle = ap (λ (c : Core). c.waits) same;
-      free = g.free;
-    }
-rests mid new (Conflict clock word) o g =
-    let same = g.stays in
-    record {
-      words = ap (λ (c : Core). c.words) same;
-      clock = ap (λ (c : Core). c.clock) same;
-      holds = ap (λ (c : Core). c.holds) same ∙ g.free;
-      freed = ap (λ (c : Core). c.freed) same;
-      idle = ap (λ (c : Core). c.waits) same;
-      free = g.free;
-    }
-rests mid new (Busy clock) o g =
-    let same = g.stays in
-    let free : mid.holds ≡ false = false_of mid.holds (λ h. both mid.is_open (o h) g.closed) in
-    record {
-      words = ap (λ (c : Core). c.words) same;
-      clock = ap (λ (c : Core). c.clock) same;
-      holds = ap (λ (c : Core). c.holds) same ∙ free;
-      freed = ap (λ (c : Core). c.freed) same;
-      idle = ap (λ (c : Core). c.waits) same;
-      free = free;
-    }
-rests mid new (Full at) o g =
-    let same = g.stays in
-    record {
-      words = ap (λ (c : Core). c.words) same;
-      clock = ap (λ (c : Core). c.clock) same;
-      holds = ap (λ (c : Core). c.holds) same ∙ g.free;
-      freed = ap (λ (c : Core). c.freed) same;
-      idle = ap (λ (c : Core). c.waits) same;
-      free = g.free;
-    }
-
+-- an engine that has answered holds nothing
 ended : (cells : Cells) (mid new : Core) (a : Answer) → IsMid cells mid new → Ends mid a new → IsTied cells new
 ended cells mid new a m g =
-    let r = rests mid new a m.opens g in
+    let r = rests mid new a g in
     let clock = r.clock in
     record {
       words = r.words ∙ m.words;
       fit = m.fit;
       late = (let l = m.late in omega arith);
       holder = λ h. absurd (both new.holds h r.holds);
-      opens = λ h. absurd (both new.holds h r.holds);
-      even = λ h. absurd (both new.holds h r.holds);
-      reached = λ h. absurd (both new.holds h r.holds);
-      below = λ h. absurd (both new.holds h r.holds);
-      unfreed = r.freed;
       settled = m.settled;
     }
 
@@ -174,27 +99,13 @@ module _ (cells : Cells) (e new : Core) (t : IsTied cells e) (free : e.holds ≡
     fit = t.fit;
     late = t.late;
     holder = λ h. absurd (both e.holds h free);
-    opens = t.opens;
-    even = t.even;
-    reached = λ h. absurd (both e.holds h free);
-    below = λ h. absurd (both e.holds h free);
+    even = held_even e t.settled;
     settled = settled;
   }
 
 -- ## A value is handed in
 
--- the snapshot of an open transaction moves at a clock load alone
-snapshot_kept : (e new : Core) (step : Step) (seen : ℕ) → e.waits ≡ Some step → e.is_open ≡ true → (step ≡ Load 0 → ⊥) → Joins e seen new → e.snapshot ≡ new.snapshot
-snapshot_kept e new step seen waits is_open other joins = elim (joins.snapshot is_open) [
-  | inl same ↦ sym same
-  | inr moved ↦ absurd (other (let s : Some step ≡ Some (Load 0) = sym waits ∙ moved.0.load in cc))
-]
-
 module _ (cells : Cells) (e new : Core) (t : IsTied cells e) (settled : IsSettled new) where
-  -- the clock of one that holds it is its snapshot still
-  stays_reached : (step : Step) (seen : ℕ) → e.waits ≡ Some step → (step ≡ Load 0 → ⊥) → Joins e seen new → e.holds ≡ true → e.clock ≡ new.snapshot
-  stays_reached step seen waits other joins h = t.reached h ∙ snapshot_kept e new step seen waits (t.opens h) other joins
-
   taken_late : (b : Bool) (clock from to : ℕ) → (b ≡ true → clock ≡ from) → to ≡ from + 1 → clock ≤ (if b then to else clock)
   taken_late true clock from to is up = let k = is refl in omega arith
   taken_late false clock from to is up = omega arith
@@ -202,56 +113,44 @@ module _ (cells : Cells) (e new : Core) (t : IsTied cells e) (settled : IsSettle
   taken : (b : Bool) (clock from to : ℕ) → b ≡ true → clock ≡ from → to ≡ from + 1 → (if b then to else clock) ≡ clock + 1
   taken b clock from to hit is up = ap (λ (x : Bool). if x then to else clock) hit ∙ (let k : to ≡ clock + 1 = omega arith in k)
 
-  word_taken : (word seen : ℕ) → AllFit cells.words → (e.holds ≡ true → e.clock ≡ new.snapshot) → (holds : Bool) → IsMid cells (word_loaded e holds word seen) new
-  word_taken word seen fit reached true = record { words = t.words; fit = fit; late = t.late; holder = t.holder; opens = t.opens; even = t.even; reached = reached; below = t.below; settled = settled }
-  word_taken word seen fit reached false = record { words = t.words; fit = fit; late = t.late; holder = t.holder; opens = t.opens; even = t.even; reached = reached; below = t.below; settled = settled }
+  word_taken : (word seen : ℕ) → AllFit cells.words → (holds : Bool) → IsMid cells (word_loaded e holds word seen) new
+  word_taken word seen fit true = record { words = t.words; fit = fit; late = t.late; holder = t.holder; even = held_even e t.settled; settled = settled }
+  word_taken word seen fit false = record { words = t.words; fit = fit; late = t.late; holder = t.holder; even = held_even e t.settled; settled = settled }
 
-  pub hands : (step : Step) → e.waits ≡ Some step → Joins e (found cells step) new → IsLawful e step → AllFit (cells_after cells step).words
+  pub hands : (step : Step) → IsLawful e step → AllFit (cells_after cells step).words
       → IsMid (cells_after cells step) (handed_to e (Some step) (found cells step)) new
-  hands (Load zero) waits joins l fit = record {
+  hands (Load zero) l fit = record {
     words = t.words;
     fit = fit;
     late = (let k : cells.clock ≤ cells.clock = omega arith in k);
     settled = settled;
     holder = λ h. absurd (both e.holds h l.1);
-    opens = t.opens;
     even = λ h. absurd (both e.holds h l.1);
-    reached = λ h. absurd (both e.holds h l.1);
-    below = λ h. absurd (both e.holds h l.1);
   }
-  hands (Load (suc word)) waits joins l fit = word_taken word (slice_index cells.words word) fit (stays_reached (Load (suc word)) (found cells (Load (suc word))) waits (λ e. absurd (cc)) joins) e.holds
-  hands (Store zero value) waits joins l fit = record {
+  hands (Load (suc word)) l fit = word_taken word (slice_index cells.words word) fit e.holds
+  hands (Store zero value) l fit = record {
     words = t.words;
     fit = fit;
     late = (let k : value ≤ value = omega arith in k);
     settled = settled;
     holder = λ h. absurd (cc);
-    opens = λ h. absurd (cc);
     even = λ h. absurd (cc);
-    reached = λ h. absurd (cc);
-    below = λ h. absurd (cc);
   }
-  hands (Store (suc word) value) waits joins l fit = record {
+  hands (Store (suc word) value) l fit = record {
     words = t.words ∙ sym (length-set cells.words word value);
     fit = fit;
     late = t.late;
     holder = t.holder;
-    opens = t.opens;
-    even = t.even;
-    reached = stays_reached (Store (suc word) value) 0 waits (λ e. absurd (cc)) joins;
-    below = t.below;
+    even = held_even e t.settled;
     settled = settled;
   }
-  hands (Cas cell from to) waits joins l fit = record {
+  hands (Cas cell from to) l fit = record {
     words = t.words;
     fit = fit;
     settled = settled;
     late = taken_late (cells.clock == from) cells.clock from to (λ y. eqb-true cells.clock from y) l.6;
     holder = λ h. taken (cells.clock == from) cells.clock from to h (eqb-true cells.clock from h) l.6;
-    opens = λ h. l.2;
     even = λ h. (let same = eqb-true cells.clock from h in let even = l.4 in omega arith);
-    reached = λ h. eqb-true cells.clock from h ∙ (l.3 ∙ snapshot_kept e new (Cas cell from to) cells.clock waits l.2 (λ e. absurd (cc)) joins);
-    below = λ h. (let same = eqb-true cells.clock from h in let few = l.5 in omega arith);
   }
 
 -- ## Who holds the clock
@@ -259,20 +158,20 @@ module _ (cells : Cells) (e new : Core) (t : IsTied cells e) (settled : IsSettle
 -- how many writers may commit stays, and the patience
 pub limit_same : (mid new : Core) (what : Next) → Proceeds mid what new → (new.max_commits ≡ mid.max_commits) × (new.patience ≡ mid.patience)
 limit_same mid new (Asks step) g = (ap (λ (c : Core). c.max_commits) g.stays, ap (λ (c : Core). c.patience) g.stays)
-limit_same mid new (Answers (Reply r)) g = of_reply mid.doing g
+limit_same mid new (Answers a) g = (let r = rests mid new a g in (r.max_commits, r.patience))
+
+-- giving up leaves the snapshot
+pub snapshot_still : (e new : Core) → new ≡ after_undoing e → new.snapshot ≡ e.snapshot
+snapshot_still e new is = ap (λ (c : Core). c.snapshot) is ∙ by_holds e.holds
   where
-    of_reply : (o : Option Call) → RepliesTo mid o r new → (new.max_commits ≡ mid.max_commits) × (new.patience ≡ mid.patience)
-    of_reply None g = absurd g
-    of_reply (Some call) g = (ap (λ (c : Core). c.max_commits) g.stays, ap (λ (c : Core). c.patience) g.stays)
-limit_same mid new (Answers (Committed at wrote)) g = (ap (λ (c : Core). c.max_commits) g.stays, ap (λ (c : Core). c.patience) g.stays)
-limit_same mid new (Answers (Conflict clock word)) g = (ap (λ (c : Core). c.max_commits) g.stays, ap (λ (c : Core). c.patience) g.stays)
-limit_same mid new (Answers (Busy clock)) g = (ap (λ (c : Core). c.max_commits) g.stays, ap (λ (c : Core). c.patience) g.stays)
-limit_same mid new (Answers (Full at)) g = (ap (λ (c : Core). c.max_commits) g.stays, ap (λ (c : Core). c.patience) g.stays)
+    by_holds : (b : Bool) → (if b then e else record (core.ended e) { stage = Idle; tries = 0 }).snapshot ≡ e.snapshot
+    by_holds true = refl
+    by_holds false = refl
 
 -- what the engine goes on to leaves that as it is
-pub holds_same : (mid new : Core) (what : Next) → (mid.holds ≡ true → mid.is_open ≡ true) → Proceeds mid what new → new.holds ≡ mid.holds
-holds_same mid new (Asks step) o g = ap (λ (c : Core). c.holds) g.stays
-holds_same mid new (Answers a) o g = (let r = rests mid new a o g in r.holds ∙ sym r.free)
+pub holds_same : (mid new : Core) (what : Next) → Proceeds mid what new → new.holds ≡ mid.holds
+holds_same mid new (Asks step) g = ap (λ (c : Core). c.holds) g.stays
+holds_same mid new (Answers a) g = (let r = rests mid new a g in r.holds ∙ sym r.free)
 
 taken_capped : (b : Bool) (clock from to max_commits : ℕ) → from % 2 ≡ 0 → from / 2 < max_commits → to ≡ from + 1 → clock ≤ 2 * max_commits → (if b then to else clock) ≤ 2 * max_commits
 taken_capped true clock from to max_commits even few up l = omega arith
@@ -314,7 +213,7 @@ holds_handed cells e (Load (suc word)) t l = by_holder e.holds refl
       capped = λ l. l;
     }
 holds_handed cells e (Store zero value) t l =
-    let even = t.even l.1 in
+    let even = held_even e t.settled l.1 in
     let held = t.holder l.1 in
     let value_is = l.2.0 in
     record {
@@ -325,7 +224,7 @@ holds_handed cells e (Store zero value) t l =
       late = (let k : cells.clock ≤ value = omega arith in k);
       long = refl;
       limit = (refl, refl);
-      capped = λ m. (let few = t.below l.1 in omega arith);
+      capped = λ m. (let few = held_below e t.settled l.1 in omega arith);
     }
 holds_handed cells e (Store (suc word) value) t l = record {
   takes = λ f h. absurd (both e.holds l.1 f);

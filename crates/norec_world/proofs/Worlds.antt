@@ -1,5 +1,5 @@
 -- The actors of a world, over one event.
-use Rattle.std.proofs.Common.{◌≡◌, ℕ, zero, suc, ◌<◌, ◌≤◌, Bool, true, false, List, [], ◌∷◌, length, Option, None, Some, IsSome, slice_get, slice_set, replicate, refl, sym, ap, subst, ◌∙◌, arith}
+use Rattle.std.proofs.Common.{◌≡◌, ◌^◌, ℕ, zero, suc, ◌<◌, ◌≤◌, Bool, true, false, List, [], ◌∷◌, length, Option, None, Some, IsSome, slice_get, slice_set, replicate, refl, sym, ap, subst, ◌∙◌, arith}
 use Rattle.std.specs.List.{slice_index_or}
 use Rattle.std.specs.Option.{option_and_then}
 use Rattle.itm_types.specs.declared.call.Call.{Call}
@@ -86,8 +86,8 @@ ended_ready (Ended end) e = refl
 module _ {P : Type 0} (next : P → Option Call) (answered : P → Replied → P) (restarted : P → P) (left : P → ℕ) (depth : P → ℕ) where
   pub fresh_sound : (cells : Cells) (r : Rows) (a : Actor P) (arena : List ℕ) (patience max_commits : ℕ)
       → a.engine ≡ opening (length cells.words) arena patience max_commits → AllFit cells.words → active_of a.thread r.active ≡ None → a.spare.items ≡ [] → a.nth ≡ 1 → a.retries ≤ 10000
-      → a.pending ≡ None → a.status ≡ Ready → depth a.player ≡ 0 → IsSound next answered restarted left depth cells r a
-  fresh_sound cells r a arena patience max_commits is fit none empty first few nothing ready outside =
+      → a.pending ≡ None → a.status ≡ Ready → depth a.player ≡ 0 → max_commits < 2 ^ 62 → IsSound next answered restarted left depth cells r a
+  fresh_sound cells r a arena patience max_commits is fit none empty first few nothing ready outside limit =
       let Tied : Core → Type 0 = IsTied cells in
       let Kept : Bool → Type 0 = λ b. IsKept b r a in
       let Is : Status → Type 0 = StatusIs next answered restarted left depth r a in
@@ -99,12 +99,7 @@ module _ {P : Type 0} (next : P → Option Call) (answered : P → Replied → P
           fit = fit;
           late = (let z : 0 ≤ cells.clock = omega arith in z);
           holder = λ h. absurd (cc);
-          opens = λ h. absurd (cc);
-          even = λ h. absurd (cc);
-          reached = λ h. absurd (cc);
-          below = λ h. absurd (cc);
-          unfreed = refl;
-          settled = record { closed = λ h. (refl, refl); reached = (let z : 0 ≤ 0 = omega arith in z); inside = λ w o. absurd (cc) };
+          settled = record { closed = λ h. (refl, refl); reached = (let z : 0 ≤ 0 = omega arith in z); inside = λ w o. absurd (cc); unfreed = refl; even = refl; holder = λ h. absurd (cc); limit = limit };
         });
         kept = subst Kept (sym shut) (record { row = none; empty = empty; tried = (let e = first in omega arith); tries = (let e = first in omega arith); retries = few });
         status = subst Is (sym ready) (record {

@@ -1,6 +1,7 @@
--- One event of an actor, with the local work that follows it.
+-- One event of an actor: its step, with the local work that follows it.
 use Rattle.std.specs.Prelude.{◌≡◌, Option, None, Some}
 use Rattle.itm_types.specs.declared.call.Call.{Call}
+use Rattle.itm_types.specs.declared.call.Reply.{Reply}
 use Rattle.norec_world.specs.declared.attempt.End.TheVariants.{Finished}
 use Rattle.norec_world.specs.declared.actor.Actor.{Actor}
 use Rattle.norec_world.specs.Cells.{Cells}
@@ -9,9 +10,14 @@ use Rattle.norec_world.specs.Status.{ending_of}
 use Rattle.norec_world.specs.Own.{KeepsOthers}
 use Rattle.norec_world.specs.Holding.{ClocksOn}
 use Rattle.norec_world.specs.Tries.{Tries, prior_of}
+use Rattle.norec_world.specs.Working.{TakesIn, Works}
 
-module _ {P : Type 0} (next : P → Option Call) where
+module _ {P : Type 0} (next : P → Option Call) (answered : P → Reply → P) (restarted : P → P) where
   pub record IsEvent (cells : Cells) (r : Rows) (a : Actor P) (cells' : Cells) (r' : Rows) (a' : Actor P) : Type 0 where
+    pub rows : Rows
+    pub stepped : Actor P
+    pub takes : TakesIn answered restarted cells r a rows stepped  -- its step is done, and the value goes to its engine
+    pub works : Works next answered restarted cells'.clock rows stepped r' a'  -- and then it does its local work
     pub tries : Tries cells.clock (prior_of r a) cells'.clock r' a'  -- what becomes of its try
     pub finishes : ending_of a'.status ≡ Some Finished → next a'.player ≡ None  -- it finishes only where its player has no more calls
     pub others : KeepsOthers a r a' r'  -- the others' attempts stay

@@ -1,20 +1,33 @@
 -- What one event does to a world, and what many in a row do.
-use Rattle.std.specs.Prelude.{◌≡◌, ℕ, zero, suc, ◌≤◌, ◌↔◌, Bool, true, false, IsTrue, List, [], ◌∷◌, length, count_by, Option, Some, IsSome, Result, Ok, Err, slice_get, slice_set}
+use Rattle.std.specs.Prelude.{◌≡◌, ℕ, zero, suc, ◌≤◌, ◌/◌, ◌↔◌, Bool, true, false, IsTrue, List, [], ◌∷◌, length, count_by, Option, Some, IsSome, Result, Ok, Err, slice_get, slice_set}
 use Rattle.itm_types.specs.declared.call.Call.{Call}
 use Rattle.itm_types.specs.declared.call.Reply.{Reply}
 use Rattle.itm_types.specs.declared.step.Step.{Step}
+use Rattle.itm_types.specs.Memory.{IsMemory, Agrees}
 use Rattle.norec_world.specs.declared.fault.WorldFault.{WorldFault}
 use Rattle.norec_world.specs.declared.fault.WorldFault.TheVariants.{NoSuchActor, Ended, NoMemory}
 use Rattle.norec_world.specs.declared.schedule.Passes.{Passes}
 use Rattle.norec_engine.specs.Proceeds.{IsLawful}
 use Rattle.norec_world.specs.declared.actor.Actor.{Actor}
 use Rattle.norec_world.specs.Cells.{cells_after}
-use Rattle.norec_world.specs.Status.{waiting_step}
+use Rattle.norec_world.specs.Status.{waiting_step, is_ready}
 use Rattle.norec_world.specs.Events.{IsEvent}
 use Rattle.norec_world.specs.Commits.{CommitsInOrder}
+use Rattle.norec_world.specs.Opaque.{AreOpaque}
+use Rattle.norec_world.specs.Rows.{Rows}
+use Rattle.norec_world.specs.Memories.{words_at}
 use Rattle.norec_world.specs.World.{World, SameOpening, ShowsAlone, ending_at, waits_at, told, is_event, counted}
 
-module _ {P : Type 0} (next : P → Option Call) (answered : P → Reply → P) (left : P → ℕ) where
+-- what a transaction has read is of one memory, which the first commits left
+abbrev pub HasRead : {P : Type 0} → List ℕ → Rows → Actor P → Type 0
+HasRead base r a = a.engine.is_open ≡ true → let memory = words_at base r.ended (a.engine.snapshot / 2) in IsMemory a.engine.words memory × Agrees memory a.engine.log
+
+module _ {P : Type 0} (next : P → Option Call) (answered : P → Reply → P) (restarted : P → P) (left : P → ℕ) where
+  -- the actor has changed by an event, and no other one has
+  abbrev pub ActorGoes : ℕ → World P → Actor P → World P → Type 0
+  ActorGoes actor old a new = (a' : Actor P) × (new.actors ≡ slice_set old.actors actor a')
+      × (event : IsEvent next answered restarted old.cells old.attempts a new.cells new.attempts a') × (is_ready a'.status ≡ false) × HasRead old.base event.rows event.stepped
+
   -- the actor is asked for one event, and this comes of it
   pub record Goes (actor : ℕ) (old : World P) (result : Result (Unit {0}) WorldFault) (new : World P) : Type 0 where
     pub no_such : (result ≡ Err NoSuchActor) ↔ (length old.actors ≤ actor)  -- told exactly where there is no such actor
@@ -25,9 +38,10 @@ module _ {P : Type 0} (next : P → Option Call) (answered : P → Reply → P) 
     pub operation : (step : Step) → waits_at old actor ≡ Some step → new.cells ≡ cells_after old.cells step  -- it is done, and changes no other cell
     pub counts : IsTrue (is_event result) → new.events ≡ counted old.events 1  -- an event is counted
     pub unchanged : is_event result ≡ false → new ≡ old  -- without one the world is as it was
-    -- its actor alone has changed, by this event
-    pub event_of : (a : Actor P) → slice_get old.actors actor ≡ Some a → IsTrue (is_event result) → (a' : Actor P) × (new.actors ≡ slice_set old.actors actor a') × IsEvent next old.cells old.attempts a new.cells new.attempts a'
-    pub commits : CommitsInOrder old → CommitsInOrder new  -- the commits are still in order
+    -- its actor alone has changed, by this event, and waits for its next operation or has ended
+    pub event_of : (a : Actor P) → slice_get old.actors actor ≡ Some a → IsTrue (is_event result) → ActorGoes actor old a new
+    pub commits : CommitsInOrder new  -- the commits are in order
+    pub opaque : AreOpaque next answered restarted left new  -- and the attempts opaque
     pub opening : SameOpening old new  -- the world keeps its beginning
     pub actors : length new.actors ≡ length old.actors  -- and its number of actors
     pub alone : ShowsAlone next answered left new  -- its attempts, bytes and clock are still those of its player alone

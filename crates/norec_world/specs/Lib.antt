@@ -16,6 +16,7 @@ pub mod Alone
 pub mod Solo
 pub mod Follows
 pub mod Records
+pub mod Working
 pub mod SoFar
 pub mod Tracks
 pub mod World
@@ -25,5 +26,5 @@ pub mod Memories
 pub mod Sees
 pub mod Runs
 pub mod Opaque
-pub mod Stretches
+pub mod Places
 pub mod Views

@@ -1,12 +1,13 @@
 -- The headline, of a world: what every attempt was answered, and what the commits left.
-use Rattle.std.specs.Prelude.{◌≡◌, ℕ, ◌/◌, ◌%◌, true, false, replicate, Option, Some, slice_get}
+use Rattle.std.specs.Prelude.{◌≡◌, ℕ, ◌/◌, ◌%◌, true, false, length, replicate, Option, Some, slice_get}
 use Rattle.itm_types.specs.declared.call.Call.{Call}
 use Rattle.itm_types.specs.declared.call.Reply.{Reply}
 use Rattle.itm_model.specs.declared.limits.TheConstants.{MAX_DEPTH}
 use Rattle.norec_engine.specs.Proceeds.{backed}
 use Rattle.norec_world.specs.declared.actor.Actor.{Actor}
 use Rattle.norec_world.specs.Attempts.{of_thread}
-use Rattle.norec_world.specs.Rows.{AreFrom}
+use Rattle.norec_world.specs.declared.attempt.Attempt.{Attempt}
+use Rattle.norec_world.specs.Rows.{AreFrom, AreOfActors, active_of}
 use Rattle.norec_world.specs.Opacity.{Between, IsRunOf}
 use Rattle.norec_world.specs.World.{World, attempts_of, memory_of}
 use Rattle.norec_world.specs.Memories.{bytes_at, words_at}
@@ -23,6 +24,8 @@ module _ {P : Type 0} (next : P → Option Call) (answered : P → Reply → P) 
     pub runs : (place : ℕ) (p : P) → slice_get w.opening place ≡ Some p
         → IsRunOf next answered restarted left MAX_DEPTH (w.cells.clock / 2) (bytes_at w.base (attempts_of w)) (Some (first_of p w.arena)) (of_thread place (attempts_of w))
     pub players : (place : ℕ) (p : P) (a : Actor P) → slice_get w.opening place ≡ Some p → slice_get w.actors place ≡ Some a → IsRun next answered restarted left (first_of p w.arena) w.base (w.cells.clock / 2) w.attempts a  -- and its player stands where they have led it
+    pub threads : AreOfActors (length w.actors) (attempts_of w)  -- there are no others
+    pub reads : (place : ℕ) (a : Actor P) (row : Attempt) → slice_get w.actors place ≡ Some a → active_of place w.attempts.active ≡ Some row → row.at ≡ a.engine.snapshot / 2  -- an open one is at half its engine's snapshot
     pub free : w.cells.clock % 2 ≡ 0 → memory_of w ≡ bytes_at w.base (attempts_of w) (w.cells.clock / 2)
     pub held : (place : ℕ) (a : Actor P) → slice_get w.actors place ≡ Some a → a.engine.holds ≡ true → w.cells.words ≡ backed a.engine (words_at w.base (attempts_of w) (w.cells.clock / 2))
 
@@ -30,4 +33,5 @@ module _ {P : Type 0} (next : P → Option Call) (answered : P → Reply → P) 
   pub record AreRunning (w : World P) : Type 0 where
     pub laid : AreLaid w.base w.cells w.attempts
     pub ordered : AreFrom 0 w.attempts.active
+    pub threads : AreOfActors (length w.actors) w.attempts.ended
     pub each : (place : ℕ) (p : P) (a : Actor P) → slice_get w.opening place ≡ Some p → slice_get w.actors place ≡ Some a → RunsFrom next answered restarted left (first_of p w.arena) w.base w.cells w.attempts a

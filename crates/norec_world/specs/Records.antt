@@ -2,8 +2,7 @@
 use Rattle.std.specs.Prelude.{◌≡◌, ℕ, ◌+◌, ◌/◌, nat_lt, Bool, true, false, [], ◌∷◌, ◌++◌, Option, None, Some, if◌then◌else◌}
 use Rattle.itm_types.specs.declared.call.Call.{Call}
 use Rattle.itm_types.specs.declared.call.Call.TheVariants.{Begin, Commit, Read, Write}
-use Rattle.norec_engine.specs.Core.{came}
-use Rattle.norec_engine.specs.Proceeds.{Proceeds}
+use Rattle.norec_engine.specs.Moves.{IsCalled}
 use Rattle.norec_engine.specs.declared.answer.Next.{Next}
 use Rattle.norec_engine.specs.declared.answer.Next.TheVariants.{Step as Steps, Answer as Answers}
 use Rattle.itm_types.specs.declared.call.Reply.{Reply as Replied}
@@ -16,7 +15,7 @@ use Rattle.norec_world.specs.declared.attempt.Outcome.{Outcome}
 use Rattle.norec_world.specs.declared.attempt.Outcome.TheVariants as outcomes
 use Rattle.norec_world.specs.declared.attempt.End.TheVariants.{GaveUp}
 use Rattle.norec_world.specs.declared.actor.Actor.{Actor}
-use Rattle.norec_world.specs.declared.actor.Status.TheVariants.{Ended}
+use Rattle.norec_world.specs.declared.actor.Status.TheVariants.{Waits, Ended}
 
 -- the actor's open attempt has one call more
 abbrev pub AddsCall : ℕ → Rows → Call → Replied → Rows → Type 0
@@ -68,9 +67,9 @@ module _ {P : Type 0} (answered : P → Replied → P) (restarted : P → P) whe
   Records was r r' old new call (Busy clock) = (r' ≡ r) × (new.player ≡ old.player) × CountsTry old new
   Records was r r' old new call (Full at) = StopsAt old.thread r at outcomes.Full r' × (new.status ≡ Ended GaveUp)
 
-  -- of what the engine gave for the call
+  -- of what the engine gave for the call: it waits for the step, or its answer is recorded
   abbrev pub Tells : Bool → Rows → Rows → Actor P → Actor P → Call → Next → Type 0
-  Tells was r r' old new call (Steps step) = Unit {0}
+  Tells was r r' old new call (Steps step) = (new ≡ record old { status = Waits call step }) × (r' ≡ r)
   Tells was r r' old new call (Answers answer) = Records was r r' old new call answer
 
 -- ## A call goes to the engine
@@ -108,4 +107,4 @@ pub record Asks {P : Type 0} (clock : ℕ) (r r' : Rows) (old new : Actor P) (ca
   pub nth : new.nth ≡ old.nth
   pub thread : new.thread ≡ old.thread
   pub rows_are : r' ≡ record r { room = r'.room }
-  pub proceeds : Proceeds (came old.engine call (begins_again old.engine.is_open old.again call)) what new.engine
+  pub called : IsCalled old.engine call (begins_again old.engine.is_open old.again call) what new.engine

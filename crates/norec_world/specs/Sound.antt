@@ -30,11 +30,6 @@ pub record IsTied (cells : Cells) (e : Core) : Type 0 where
   pub fit : AllFit cells.words
   pub late : e.clock ≤ cells.clock
   pub holder : e.holds ≡ true → cells.clock ≡ e.clock + 1
-  pub opens : e.holds ≡ true → e.is_open ≡ true
-  pub even : e.holds ≡ true → e.clock % 2 ≡ 0
-  pub reached : e.holds ≡ true → e.clock ≡ e.snapshot
-  pub below : e.holds ≡ true → e.clock / 2 < e.max_commits
-  pub unfreed : e.freed ≡ false
   pub settled : IsSettled e
 
 -- the steps that the call in progress may still ask for
@@ -232,3 +227,9 @@ module _ {P : Type 0} (next : P → Option Call) (answered : P → Replied → P
   -- what is left to do until the actor has ended
   abbrev pub run_left : ℕ → Actor P → ℕ
   run_left k a = if is_waiting a.status then rank k a.engine.is_open a + 1 else 0
+
+  -- what an event leaves to do: the same call goes on, or, where it is over, less is left
+  pub record HasLess (goes_on : Bool) (old new : Actor P) : Type 0 where
+    pub on : goes_on ≡ true → (is_waiting new.status ≡ true) × (steps_left new.engine < steps_left old.engine)
+    pub less : is_waiting new.status ≡ true → IsNoMore old new
+    pub over : goes_on ≡ false → (k : ℕ) → whole old.engine.is_open old.player ≤ k → run_left k new < run_left k old

@@ -1,8 +1,16 @@
--- Actors that have made no try.
-use Rattle.std.specs.Prelude.{◌≡◌, ℕ}
+-- Actors that have taken no step.
+use Rattle.std.specs.Prelude.{◌≡◌, ℕ, ◌/◌, false, length, replicate, slice_get, Option, None, Some}
+use Rattle.itm_types.specs.declared.call.Call.{Call}
+use Rattle.itm_types.specs.declared.call.Reply.{Reply}
+use Rattle.norec_engine.specs.Core.{Core, opening}
+use Rattle.norec_world.specs.declared.attempt.End.TheVariants.{Finished}
+use Rattle.norec_world.specs.declared.actor.Status.TheVariants.{Ready}
 use Rattle.norec_world.specs.declared.actor.Actor.{Actor}
 use Rattle.norec_world.specs.Rows.{Rows}
+use Rattle.norec_world.specs.Status.{ending_of, is_ready}
 use Rattle.norec_world.specs.Tries.{IsBetween}
+use Rattle.norec_world.specs.Working.{Works}
+use Rattle.norec_world.specs.World.{World}
 
 -- an actor with these limits, before or at the begin of its first try
 pub record IsFirst {P : Type 0} (clock patience max_commits retries : ℕ) (r : Rows) (a : Actor P) : Type 0 where
@@ -10,3 +18,25 @@ pub record IsFirst {P : Type 0} (clock patience max_commits retries : ℕ) (r : 
   pub patience_is : a.engine.patience ≡ patience
   pub limit : a.engine.max_commits ≡ max_commits
   pub retries_are : a.retries ≡ retries
+
+-- the actor at its place, of this player and with this engine, whose local work up to its first step is done; it has ended only where its player has no call
+pub record HasStarted {P : Type 0} (next : P → Option Call) (answered : P → Reply → P) (restarted : P → P) (clock : ℕ) (engine : Core) (retries place : ℕ) (p : P) (a : Actor P) : Type 0 where
+  pub fresh : Actor P
+  pub player : fresh.player ≡ p
+  pub engine_is : fresh.engine ≡ engine
+  pub place_is : fresh.thread ≡ place
+  pub retries_are : fresh.retries ≡ retries
+  pub tries : (fresh.nth ≡ 1) × (fresh.again ≡ false)
+  pub pending : fresh.pending ≡ None
+  pub ready : fresh.status ≡ Ready
+  pub rows : Rows
+  pub rows' : Rows
+  pub works : Works next answered restarted clock rows fresh rows' a
+  pub done : is_ready a.status ≡ false
+  pub finishes : ending_of a.status ≡ Some Finished → next a.player ≡ None
+  pub thread : a.thread ≡ place
+
+-- each actor of a world has, with the world's own limits
+abbrev pub AreStarted : {P : Type 0} → (P → Option Call) → (P → Reply → P) → (P → P) → World P → Type 0
+AreStarted {P} next answered restarted w = (place : ℕ) (p : P) (a : Actor P) → slice_get w.opening place ≡ Some p → slice_get w.actors place ≡ Some a
+    → HasStarted next answered restarted w.cells.clock (opening (length w.base / 8) (replicate w.arena 0) w.patience w.max_commits) w.retries place p a

@@ -136,6 +136,7 @@ module _ {P : Type 0} where
     pub was : current_of p.active p.pending ≡ Some row
     pub ended : r.ended ≡ p.ended ++ row' ∷ []
     pub continues : Continues row row'
+    pub reads : row'.at ≡ a.engine.snapshot / 2  -- where the engine read last
     pub at : EndsAt p.max_commits clock clock' row'.at row'.outcome
     pub closed : is_done row'.outcome ≡ true → ByCommit row'.calls
     pub after : GoesOnAfter row'.outcome clock' p r a

@@ -44,6 +44,7 @@ impl<P: Player> Actor<P> {
     ghost use Rattle.norec_world.specs.Cells.{cells_after};
     ghost use Rattle.norec_world.specs.Status.{ending_of, is_waiting, is_ready, waiting_step};
     ghost use Rattle.norec_world.specs.Records.{Tells, IsTold};
+    ghost use Rattle.norec_world.specs.Working.{TakesIn};
     ghost use Rattle.norec_world.specs.Tracks.{StillTracks};
     ghost use Rattle.norec_world.specs.Own.{KeepsOthers};
     ghost use Rattle.norec_world.specs.Tries.{Tries, prior_of};
@@ -97,6 +98,7 @@ impl<P: Player> Actor<P> {
         ensures sound { IsSound P.next_call P.answered P.restarted P.calls_left P.depth memory.new recorded.new self.new }
         ensures thread { self.new.thread ≡ self.old.thread }
         ensures others { KeepsOthers self.old recorded.old self.new recorded.new }
+        ensures takes { TakesIn P.answered P.restarted memory.old recorded.old self.old recorded.new self.new }
         ensures clocks { ClocksOn memory.old self.old.engine memory.new self.new.engine }
         ensures retries { self.new.retries ≡ self.old.retries }
         ensures tries { Tries memory.old.clock (prior_of recorded.old self.old) memory.new.clock recorded.new self.new }

@@ -8,7 +8,6 @@ mod laws;
 mod lists;
 mod memory;
 mod recorded;
-mod running;
 mod schedule;
 mod setup;
 mod start;

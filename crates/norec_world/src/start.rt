@@ -9,7 +9,8 @@ ghost use Rattle.norec_world.specs.Rows.{active_of};
 ghost use Rattle.norec_world.specs.Own.{KeepsOthers};
 ghost use Rattle.norec_world.specs.Actors.{AreActors};
 ghost use Rattle.norec_world.specs.World.{IsSoloWorld, ending_in};
-ghost use Rattle.norec_world.specs.Starts.{IsFirst};
+ghost use Rattle.norec_engine.specs.Core.{opening};
+ghost use Rattle.norec_world.specs.Starts.{IsFirst, HasStarted};
 ghost use Rattle.norec_world.specs.Runs.{RunsFrom};
 ghost use Rattle.norec_world.specs.Opaque.{first_of};
 ghost use Rattle.norec_world.specs.declared.actor.Actor.{Actor};
@@ -54,6 +55,8 @@ pub(crate) fn start_all<P: Player>(
     ensures count { IfOk result (λ actors. length actors.items ≡ length players.items) }
     ensures sound { IfOk result (λ actors. AreActors P.next_call P.answered P.restarted P.calls_left P.depth memory.now recorded.new actors.items) }
     ensures first { IfOk result (λ actors. (place : ℕ) (a : Actor P) → slice_get actors.items place ≡ Some a → IsFirst memory.now.clock terms.limits.patience terms.limits.max_commits terms.retries recorded.new a) }
+    ensures starts { IfOk result (λ actors. (place : ℕ) (p : P) (a : Actor P) → slice_get players.items place ≡ Some p → slice_get actors.items place ≡ Some a
+        → HasStarted P.next_call P.answered P.restarted memory.now.clock (opening (length memory.now.words) (replicate terms.arena 0) terms.limits.patience terms.limits.max_commits) terms.retries place p a) }
     ensures runs { IfOk result (λ actors. (place : ℕ) (p : P) (a : Actor P) → slice_get players.items place ≡ Some p → slice_get actors.items place ≡ Some a
         → RunsFrom P.next_call P.answered P.restarted P.calls_left (first_of p terms.arena) (bytes_of memory.now.words) memory.now recorded.new a) }
     ensures none { IfOk result (λ actors. (recorded.new.ended ≡ []) × (recorded.new.active ≡ [])) }
@@ -91,6 +94,7 @@ fn start<P: Player>(
     ensures done { IfOk result (λ a. is_ready a.status ≡ false) }
     ensures thread { IfOk result (λ a. a.thread ≡ thread) }
     ensures first { IfOk result (λ a. IsFirst memory.now.clock terms.limits.patience terms.limits.max_commits terms.retries recorded.new a) }
+    ensures starts { IfOk result (HasStarted P.next_call P.answered P.restarted memory.now.clock (opening (length memory.now.words) (replicate terms.arena 0) terms.limits.patience terms.limits.max_commits) terms.retries thread player) }
     ensures ended { IfOk result (λ a. recorded.new.ended ≡ recorded.old.ended) }
     ensures runs { IfOk result (λ a. recorded.old.ended ≡ [] → RunsFrom P.next_call P.answered P.restarted P.calls_left (first_of player terms.arena) (bytes_of memory.now.words) memory.now recorded.new a) }
     ensures free { IfOk result (λ a. a.engine.holds ≡ false) }

@@ -17,6 +17,8 @@ impl<P: Player> Actor<P> {
     ghost use Rattle.norec_world.specs.Cells.{Cells};
     ghost use Rattle.norec_world.specs.Status.{is_ready, ending_of};
     ghost use Rattle.norec_world.specs.Records.{Asks, Records, StopsAt};
+    ghost use Rattle.norec_engine.specs.Undoing.{after_undoing};
+    ghost use Rattle.norec_world.specs.Working.{Acts, Works};
     ghost use Rattle.norec_world.specs.Tracks.{StillTracks};
     ghost use Rattle.norec_world.specs.Own.{KeepsOthers};
     ghost use Rattle.norec_world.specs.Tries.{Tries, prior_of};
@@ -29,10 +31,12 @@ impl<P: Player> Actor<P> {
         ensures sound { IsSound P.next_call P.answered P.restarted P.calls_left P.depth memory.now recorded.new self.new }
         ensures done { is_ready self.new.status ≡ false }
         ensures still { is_ready self.old.status ≡ false → (self.new ≡ self.old) × (recorded.new ≡ recorded.old) }
+        ensures works { Works P.next_call P.answered P.restarted memory.now.clock recorded.old self.old recorded.new self.new }
         ensures thread { self.new.thread ≡ self.old.thread }
         ensures others { KeepsOthers self.old recorded.old self.new recorded.new }
         ensures holds { self.new.engine.holds ≡ self.old.engine.holds }
         ensures limit { (self.new.engine.max_commits ≡ self.old.engine.max_commits) × (self.new.engine.patience ≡ self.old.engine.patience) }
+        ensures snapshot { self.new.engine.snapshot ≡ self.old.engine.snapshot }
         ensures retries { self.new.retries ≡ self.old.retries }
         ensures tries { is_ready self.old.status ≡ true → Tries memory.now.clock (prior_of recorded.old self.old) memory.now.clock recorded.new self.new }
         ensures runs { StillRuns P.next_call P.answered P.restarted P.calls_left memory.now recorded.old self.old memory.now recorded.new self.new }
@@ -50,10 +54,12 @@ impl<P: Player> Actor<P> {
         requires sound { IsSound P.next_call P.answered P.restarted P.calls_left P.depth memory.now recorded.old self.old }
         requires ready { self.old.status ≡ Status.Ready }
         ensures sound { IsSound P.next_call P.answered P.restarted P.calls_left P.depth memory.now recorded.new self.new }
+        ensures acts { Acts P.next_call P.answered P.restarted memory.now.clock recorded.old self.old recorded.new self.new }
         ensures thread { self.new.thread ≡ self.old.thread }
         ensures others { KeepsOthers self.old recorded.old self.new recorded.new }
         ensures holds { self.new.engine.holds ≡ self.old.engine.holds }
         ensures limit { (self.new.engine.max_commits ≡ self.old.engine.max_commits) × (self.new.engine.patience ≡ self.old.engine.patience) }
+        ensures snapshot { self.new.engine.snapshot ≡ self.old.engine.snapshot }
         ensures retries { self.new.retries ≡ self.old.retries }
         ensures tries { Tries memory.now.clock (prior_of recorded.old self.old) memory.now.clock recorded.new self.new }
         ensures runs { StillRuns P.next_call P.answered P.restarted P.calls_left memory.now recorded.old self.old memory.now recorded.new self.new }
@@ -229,6 +235,7 @@ impl<P: Player> Actor<P> {
         ensures thread { self.new.thread ≡ self.old.thread }
         ensures player { self.new.player ≡ self.old.player }
         ensures closed { self.new.engine.is_open ≡ false }
+        ensures engine { self.new.engine ≡ after_undoing self.old.engine }
         ensures holds { self.new.engine.holds ≡ self.old.engine.holds }
         ensures same { (self.new.nth ≡ self.old.nth) × (self.new.retries ≡ self.old.retries) }
         ensures limit { (self.new.engine.max_commits ≡ self.old.engine.max_commits) × (self.new.engine.patience ≡ self.old.engine.patience) }

@@ -1,6 +1,6 @@
 //! Actors over one memory.
 
-ghost use Rattle.std.specs.Prelude.{◌≡◌, ℕ, ◌%◌, ◌^◌, ◌<◌, ◌≤◌, [], length, IfOk, Some, IsSome, All};
+ghost use Rattle.std.specs.Prelude.{◌≡◌, ℕ, ◌%◌, ◌^◌, ◌<◌, ◌≤◌, true, false, [], length, IfOk, Some, IsSome, All};
 ghost use Rattle.norec_world.specs.World.{told};
 
 use crate::actor::Actor;
@@ -47,19 +47,19 @@ impl<P: Player> Model for World<P> {
 }
 
 impl<P: Player> World<P> {
-    ghost use Rattle.norec_world.specs.Cells.{cells_after};
     ghost use Rattle.norec_world.specs.World.{counted, ending_at, waits_at, memory_of, attempts_of, SameOpening, RunsAlone, ShowsAlone};
-    ghost use Rattle.std.specs.Prelude.{slice_get, slice_set};
+    ghost use Rattle.std.specs.Prelude.{slice_get};
     ghost use Rattle.std.specs.Option.{option_map};
     ghost use Rattle.norec_world.specs.Status.{is_waiting};
     ghost use Rattle.norec_world.specs.Actors.{AreActors};
-    ghost use Rattle.norec_world.specs.Events.{IsEvent};
     ghost use Rattle.norec_world.specs.Rows.{AreOpen};
     ghost use Rattle.norec_world.specs.Tries.{IsBetween};
+    ghost use Rattle.norec_world.specs.Starts.{AreStarted};
     ghost use Rattle.norec_world.specs.declared.actor.Actor.{Actor};
     ghost use Rattle.norec_world.specs.Commits.{CommitsInOrder};
     ghost use Rattle.norec_world.specs.Opaque.{AreOpaque};
     ghost use Rattle.norec_world.specs.Going.{Goes, Takes};
+    ghost use Rattle.norec_world.specs.Sound.{HasLess};
 
     /// A world over this memory, with the clock at 0. Each actor's local work up to its first operation is done.
     pub fn new(alloc: Global, setup: Setup, players: Vec<P>) -> Result<Self, AllocError>
@@ -81,6 +81,7 @@ impl<P: Player> World<P> {
         ensures clock { IfOk result (λ w. w.cells.clock ≡ 0) }
         ensures none { IfOk result (λ w. attempts_of w ≡ []) }
         ensures first { IfOk result (λ w. (place : ℕ) (a : Actor P) → slice_get w.actors place ≡ Some a → IsBetween 0 1 w.attempts a) }
+        ensures starts { IfOk result (AreStarted P.next_call P.answered P.restarted) }
         ensures commits { IfOk result (λ w. CommitsInOrder w) }
         ensures opaque { IfOk result (AreOpaque P.next_call P.answered P.restarted P.calls_left) }
         ensures events { IfOk result (λ w. w.events ≡ 0) }
@@ -110,14 +111,14 @@ impl<P: Player> World<P> {
 
     /// One event of the actor: the operation that comes next from it, and its local work up to the next one.
     pub fn go(&mut self, alloc: Global, actor: u8) -> Result<(), WorldFault>
-        ensures goes { Goes P.next_call P.answered P.calls_left actor self.old result self.new }
+        ensures goes { Goes P.next_call P.answered P.restarted P.calls_left actor self.old result self.new }
         ensures commits { CommitsInOrder self.new }
         ensures opaque { AreOpaque P.next_call P.answered P.restarted P.calls_left self.new }
     {
         match self.waits(actor) {
             None => Err(WorldFault::NoSuchActor),
             Some(true) => {
-                self.event(alloc, actor as usize);
+                let _goes_on = self.event(alloc, actor as usize);
                 told(self.ending(actor))
             }
             Some(false) => Err(WorldFault::Ended),
@@ -135,23 +136,31 @@ impl<P: Player> World<P> {
         Some(self.actors.get(actor as usize)?.waits())
     }
 
-    /// The operation that the actor waits for, and its local work.
-    fn event(&mut self, alloc: Global, actor: usize)
+    /// Whether there is such an actor, and it waits for an operation.
+    fn is_waiting(&self, actor: u8) -> bool
+        ensures waits { result ≡ true → IsSome (waits_at self.now actor) }
+        ensures ended { result ≡ false → actor < length self.now.actors → IsSome (ending_at self.now actor) }
+        ensures commits { CommitsInOrder self.now }
+        ensures opaque { AreOpaque P.next_call P.answered P.restarted P.calls_left self.now }
+    {
+        match self.waits(actor) {
+            None => false,
+            Some(waits) => waits,
+        }
+    }
+
+    /// The operation that the actor waits for, and its local work; tells whether the same call goes on.
+    fn event(&mut self, alloc: Global, actor: usize) -> bool
         requires { IsSome (waits_at self.old actor) }
-        ensures operation { (step : Step) → waits_at self.old actor ≡ Some step → self.new.cells ≡ cells_after self.old.cells step }
-        ensures counts { self.new.events ≡ counted self.old.events 1 }
-        ensures opening { SameOpening self.old self.new }
-        ensures actors { length self.new.actors ≡ length self.old.actors }
-        ensures event { (a : Actor P) → slice_get self.old.actors actor ≡ Some a
-            → (a' : Actor P) × (self.new.actors ≡ slice_set self.old.actors actor a') × IsEvent P.next_call self.old.cells self.old.attempts a self.new.cells self.new.attempts a' }
-        ensures commits { CommitsInOrder self.new }
-        ensures opaque { AreOpaque P.next_call P.answered P.restarted P.calls_left self.new }
-        ensures alone { RunsAlone P.next_call P.answered P.calls_left self.new }
+        ensures goes { Goes P.next_call P.answered P.restarted P.calls_left actor self.old (told (ending_at self.new actor)) self.new }
+        ensures less { (a a' : Actor P) → slice_get self.old.actors actor ≡ Some a → slice_get self.new.actors actor ≡ Some a' → HasLess P.next_call P.answered P.restarted P.calls_left P.depth result a a' }
     {
         let a = &mut self.actors[actor];
         a.step(&mut self.memory, &mut self.recorded);
+        let goes_on = a.waits();
         a.work(alloc, &self.memory, &mut self.recorded);
         self.events = self.events.saturating_add(1);
+        goes_on
     }
 
     /// Takes events until the actor has ended, and tells how many, up to 2^64 - 1; 0 for no such actor.
@@ -160,18 +169,35 @@ impl<P: Player> World<P> {
         ensures ended { actor < length self.old.actors → IsSome (ending_at self.new actor) }
         ensures commits { CommitsInOrder self.new }
         ensures opaque { AreOpaque P.next_call P.answered P.restarted P.calls_left self.new }
-        ensures took { (n : ℕ) × Takes P.next_call P.answered P.calls_left actor n self.old self.new × (result ≡ counted 0 n) }
+        ensures took { (n : ℕ) × Takes P.next_call P.answered P.restarted P.calls_left actor n self.old self.new × (result ≡ counted 0 n) }
         ensures counts { self.new.events ≡ counted self.old.events result }
         ensures opening { SameOpening self.old self.new }
         ensures actors { length self.new.actors ≡ length self.old.actors }
     {
-        let index = actor as usize;
-        if index >= self.actors.len() {
-            return 0;
+        let _events = self.events();
+        let mut taken = 0u64;
+        while self.is_waiting(actor) {
+            taken = taken.saturating_add(self.finish_call(alloc, actor as usize));
         }
-        let a = &mut self.actors[index];
-        let taken = a.run_out(alloc, &mut self.memory, &mut self.recorded);
-        self.events = self.events.saturating_add(taken);
+        taken
+    }
+
+    /// Takes the events of the call in progress, and tells how many, up to 2^64 - 1.
+    fn finish_call(&mut self, alloc: Global, actor: usize) -> u64
+        requires { IsSome (waits_at self.old actor) }
+        ensures took { (n : ℕ) × Takes P.next_call P.answered P.restarted P.calls_left actor n self.old self.new × (result ≡ counted 0 n) }
+        ensures counts { self.new.events ≡ counted self.old.events result }
+        ensures opening { SameOpening self.old self.new }
+        ensures actors { length self.new.actors ≡ length self.old.actors }
+        ensures less { (a a' : Actor P) → slice_get self.old.actors actor ≡ Some a → slice_get self.new.actors actor ≡ Some a' → HasLess P.next_call P.answered P.restarted P.calls_left P.depth false a a' }
+    {
+        let _events = self.events();
+        let mut taken = 0u64;
+        let mut goes_on = true;
+        while goes_on {
+            goes_on = self.event(alloc, actor);
+            taken = taken.saturating_add(1);
+        }
         taken
     }
 

@@ -18,7 +18,7 @@ returns-then-written-clause-proceeds c =
       lawful = (
         omega (arith, AllWritesWithin-at c.args.state.now.words rows c.args.row c.requires.may.holding.is_open.writes within),
         refl,
-        record { word_is = refl; value_is = λ m mem got. stores_whole m rows c.args.row within c.requires.may.holding.is_open.rows mask },
+        record { some = within; word_is = refl; value_is = λ m mem got. stores_whole m rows c.args.row within c.requires.may.holding.is_open.rows mask },
       );
       stays = refl;
     }
@@ -59,7 +59,7 @@ returns-else-written-clause-proceeds c =
     let within : c.args.row < length rows = omega (arith, c.if-row-len.true, c.len.ensures.len) in
     record {
       unfreed = refl;
-      lawful = (omega (arith, AllWritesWithin-at c.args.state.now.words rows c.args.row c.requires.may.holding.is_open.writes within), (c.requires.may.holding.is_open.is_open, λ h. refl));
+      lawful = (omega (arith, AllWritesWithin-at c.args.state.now.words rows c.args.row c.requires.may.holding.is_open.writes within), (c.requires.may.holding.is_open.is_open, λ h. (within, refl)));
       stays = refl;
     }
 

@@ -35,6 +35,7 @@ returns-in_default-clause-proceeds t c log =
       unfreed = refl;
       still = λ o. o;
       opens = refl;
+      props = refl;
       settled = λ o. (may.settled, may.even);
     }
 

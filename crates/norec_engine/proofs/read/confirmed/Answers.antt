@@ -11,9 +11,9 @@ use Rattle.norec_engine.specs.Rows.{AllWithin}
 use Rattle.norec_engine.specs.declared.phase.Phase.TheVariants.{Confirm}
 use Rattle.norec_engine.specs.Proceeds.{Settles}
 use Rattle.norec_engine.specs.Fields.{core, parts}
-use Rattle.norec_engine.specs.Order.{load_stage, tries_after}
+use Rattle.norec_engine.specs.Order.{load_stage}
 use Rattle.norec_engine.proofs.Overlays.{AllWithin-push, Agrees-last, Agrees-front, index_of}
-use Rattle.norec_engine.proofs.Readings.{none_left, part_is, length-part_of, tries_loading, after_log, after_open, after_snapshot}
+use Rattle.norec_engine.proofs.Readings.{none_left, part_is, length-part_of, after_log, after_open, after_snapshot}
 use Rattle.norec_engine.proofs.read.confirmed.Goals as goal
 
 pub unreachable-requires : goal.unreachable-requires
@@ -90,6 +90,7 @@ returns-in-Some-clause-joins c =
         settles,
         after_log result new ∙ (stays.log (sym (after_open result new) ∙ o) ∙ (c.add.ensures.rows ∙ ap (λ (n : ℕ). s.log.rows ++ record { word = n; value = c.args.value } ∷ []) word)),
         after_snapshot result new ∙ (stays.snapshot ∙ sym c.if-seen-state.true),
+        sym c.if-seen-state.true,
       );
       begins = λ closed o. absurd (let yes = phase.0.is_open in cc);
       snapshot = λ o. inl (after_snapshot result new ∙ stays.snapshot);
@@ -100,6 +101,9 @@ returns-in-Some-clause-order c =
     c.next_piece.ensures.order ∙ (ap (load_stage c.args.state.now.writes) c.next.ensures ∙ (ap (λ (n : ℕ). load_stage c.args.state.now.writes (record c.args.reading { number = n })) (add-one c.args.reading.number)
     ∙ sym (cond-true (c.args.seen == c.args.state.now.snapshot) _ _ (eq-eqb c.args.seen c.args.state.now.snapshot c.if-seen-state.true))))
 
-pub returns-in-Some-clause-tries : goal.returns-in-Some-clause-tries
-returns-in-Some-clause-tries c =
-    c.next_piece.ensures.tries ∙ sym (ap (λ x. tries_after x c.args.state.now.tries) c.next_piece.ensures.order ∙ tries_loading c.args.state.now.writes c.next.result c.args.state.now.tries)
+pub returns-in-Some-clause-log : goal.returns-in-Some-clause-log
+returns-in-Some-clause-log c o =
+    let s = c.args.state.now in
+    let word = ap (λ (x : Piece). x.word) (part_is c.args.reading c.in-Some.piece (sym c.piece.ensures.value ∙ c.in-Some.is)) in
+    c.next_piece.ensures.stays.log o ∙ (c.add.ensures.rows ∙ (ap (λ (n : ℕ). s.log.rows ++ record { word = n; value = c.args.value } ∷ []) word
+    ∙ sym (cond-true (c.args.seen == s.snapshot) _ _ (eq-eqb c.args.seen s.snapshot c.if-seen-state.true))))

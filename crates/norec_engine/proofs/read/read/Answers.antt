@@ -1,7 +1,10 @@
-use Rattle.std.proofs.Common.{ℕ, ◌+◌, ◌*◌, ◌<◌, List, refl, sym, subst, ◌∙◌, rules}
+use Rattle.std.proofs.Common.{ℕ, ◌+◌, ◌*◌, ◌<◌, List, refl, sym, ap, subst, ◌∙◌, rules}
 use Rattle.std.proofs.lemmas.Bool.{leb-false}
 use Rattle.itm_types.specs.Access.{size_of}
 use Rattle.itm_types.specs.Memory.{IsMemory}
+use Rattle.norec_engine.specs.declared.phase.Phase.{Phase}
+use Rattle.norec_engine.specs.Order.{tries_after, tries_at}
+use Rattle.norec_engine.proofs.Readings.{tries_loading}
 use Rattle.norec_engine.proofs.Machines.{reads_not}
 use Rattle.norec_engine.proofs.read.read.Goals as goal
 
@@ -20,5 +23,9 @@ returns-then-not-is_within-clause-proceeds c =
       unfreed = refl;
       still = λ o. o;
       opens = refl;
+      props = refl;
       settled = λ o. (idle.1, c.requires.sound.even);
     }
+
+pub returns-clause-tries : goal.returns-clause-tries
+returns-clause-tries c = c.next_piece.ensures.tries ∙ (ap (λ (x : Phase). tries_after x 0) c.next_piece.ensures.order ∙ (tries_loading c.args.state.now.writes (record { hint = c.args.hint; width = c.args.width; at = c.args.at; number = 0 }) ∙ sym (ap tries_at c.next_piece.ensures.order)))

@@ -3,9 +3,11 @@ use Rattle.std.proofs.lemmas.Bool.{cond-true, cond-false, ne_eqb}
 use Rattle.std.proofs.lemmas.List.{take_more}
 use Rattle.std.proofs.lemmas.Option.{get_or_from_slice_get}
 use Rattle.itm_types.specs.declared.row.LogRow.{LogRow}
+use Rattle.norec_engine.specs.declared.phase.Phase.TheVariants.{Idle, RoundRow}
+use Rattle.norec_engine.specs.Core.{handed}
 use Rattle.norec_engine.specs.Rows.{row_at}
-use Rattle.norec_engine.specs.Fields.{in_rows, Turns}
-use Rattle.norec_engine.proofs.Ended.{core_ended}
+use Rattle.norec_engine.specs.Fields.{core, in_rows, Turns}
+use Rattle.norec_engine.proofs.Ended.{core_ended, ended_undone}
 use Rattle.norec_engine.proofs.rounds.row_seen.Goals as goal
 
 pub returns-then-logged-seen-clause-proceeds : goal.returns-then-logged-seen-clause-proceeds
@@ -46,6 +48,7 @@ returns-else-logged-seen-clause-proceeds c =
       free = refl;
       unfreed = refl;
       stays = core_ended _ _ c.end.ensures;
+      undone = ended_undone (handed (core c.args.state.now (RoundRow c.args.aim c.args.row)) c.args.seen) (core c.end.new.state Idle) Idle 0 c.args.state.now.snapshot c.requires.sound.in_phase.0.is_open.is_open (core_ended _ _ c.end.ensures);
     }
 
 pub returns-else-logged-seen-clause-order : goal.returns-else-logged-seen-clause-order

@@ -29,6 +29,7 @@ returns-then-not-is_within-clause-proceeds c =
       unfreed = refl;
       still = λ o. o;
       opens = refl;
+      props = refl;
       settled = λ o. (idle.1, c.requires.sound.even);
     }
 
@@ -105,5 +106,6 @@ returns-clause-proceeds c =
       unfreed = refl;
       still = λ o. o;
       opens = refl;
+      props = refl;
       settled = λ o. (idle.1, c.requires.sound.even);
     }

@@ -54,3 +54,22 @@ returns-in_default-clause-runs g c none =
     engine none c.new-actor.ensures.tries.0 c.new-actor.ensures.tries.1 c.new-actor.ensures.nothing.1 c.new-actor.ensures.nothing.2 in
     (c.work.ensures.runs (first_of c.args.player c.args.terms.arena) (bytes_of cells.words) (laid_first (bytes_of cells.words) cells c.args.recorded.now refl c.requires.fit c.requires.clock none)
     (subst (λ (p : g.row.P.Denot). RunsFrom g.P.Player.next_call g.P.Player.answered g.P.Player.restarted g.P.Player.calls_left (first_of p c.args.terms.arena) (bytes_of cells.words) cells c.args.recorded.now a) c.new-actor.ensures.parts.2 fresh)).1
+
+pub returns-in_default-clause-starts : goal.returns-in_default-clause-starts
+returns-in_default-clause-starts g c =
+    let made = c.new-actor.ensures in record {
+      fresh = c.new-actor.result;
+      player = made.parts.2;
+      engine_is = made.parts.3 ∙ (c.new-engine.ensures ∙ (λ i. opening (c.words.ensures i) (c.in_ok-arena.ensures i) c.args.terms.limits.patience c.args.terms.limits.max_commits));
+      place_is = made.parts.0;
+      retries_are = made.parts.1;
+      tries = made.tries;
+      pending = made.nothing.1;
+      ready = made.nothing.2;
+      rows = c.args.recorded.now;
+      rows' = c.work.new.recorded;
+      works = c.work.ensures.works;
+      done = c.work.ensures.done;
+      finishes = c.work.ensures.finishes (ap is_ready made.nothing.2);
+      thread = c.work.ensures.thread ∙ made.parts.0;
+    }

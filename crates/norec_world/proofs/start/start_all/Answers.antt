@@ -1,9 +1,10 @@
-use Rattle.std.proofs.Common.{rules, ◌≡◌, ◌+◌, ◌<◌, ◌≤◌, ℕ, zero, suc, Some, [], ◌∷◌, ◌++◌, inl, inr, slice_get, drop, List, length, length-append, ap, sym, subst, refl, ◌∙◌, arith}
+use Rattle.std.proofs.Common.{rules, ◌≡◌, ◌+◌, ◌<◌, ◌≤◌, ℕ, zero, suc, Some, [], ◌∷◌, ◌++◌, inl, inr, slice_get, drop, replicate, List, length, length-append, ap, sym, subst, refl, ◌∙◌, arith}
 use Rattle.norec_world.specs.declared.actor.Actor.{Actor}
 use Rattle.norec_world.specs.Actors.{AreActors}
 use Rattle.norec_world.specs.World.{ending_in}
 use Rattle.norec_world.specs.Own.{ChangesOwn, count_pending}
-use Rattle.norec_world.specs.Starts.{IsFirst}
+use Rattle.norec_world.specs.Starts.{IsFirst, HasStarted}
+use Rattle.norec_engine.specs.Core.{opening}
 use Rattle.itm_types.specs.Memory.{bytes_of}
 use Rattle.norec_world.specs.Runs.{RunsFrom}
 use Rattle.norec_world.specs.Opaque.{first_of}
@@ -69,6 +70,16 @@ loop-player-preserved g c =
             (subst (λ (q : g.row.P.Denot). RunsFrom g.P.Player.next_call g.P.Player.answered g.P.Player.restarted g.P.Player.calls_left (first_of q c.args.terms.arena) (bytes_of c.args.memory.now.words) c.args.memory.now c.start.new.recorded actor) same
             (c.in_ok-actor.ensures.runs i.ended)))
       ];
+      starts = λ place p a e f. elim (last_or_before before actor place a (ap (λ (xs : List (Actor g.row.P.Denot)). slice_get xs place) (sym items) ∙ f)) [
+        | inl h ↦ i.starts place p a e h
+        | inr h ↦
+            (let same : c.in-Some.player ≡ p = (let z : Some c.in-Some.player ≡ Some p = sym here.0 ∙ (ap (slice_get c.into_iter-player-iterator.result.rest.items) (sym h.0) ∙ e) in cc) in
+            let Started : ℕ → g.row.P.Denot → Actor g.row.P.Denot → Type 0 =
+            HasStarted g.P.Player.next_call g.P.Player.answered g.P.Player.restarted c.args.memory.now.clock
+            (opening (length c.args.memory.now.words) (replicate c.args.terms.arena 0) c.args.terms.limits.patience c.args.terms.limits.max_commits) c.args.terms.retries in
+            subst (Started place p) (sym h.1) (subst (λ (q : g.row.P.Denot). Started place q actor) same
+            (subst (λ (n : ℕ). Started n c.in-Some.player actor) (sym numbered ∙ (thread ∙ sym h.0)) c.in_ok-actor.ensures.starts)))
+      ];
       first = λ e. absurd (omega arith);
       fed = λ place e. fed_joined before actor i.fed c.in_ok-actor.ensures.fed place (ap (λ (xs : List (Actor g.row.P.Denot)). ending_in xs place) (sym items) ∙ e);
       alone = λ one single.
@@ -95,3 +106,8 @@ pub returns-clause-runs : goal.returns-clause-runs
 returns-clause-runs g c place p a e f =
     let same : c.into_iter-player-iterator.result.rest.items ≡ c.args.players.items = search rules in
     c.loop-player.invariant.runs place p a (ap (λ (xs : List g.row.P.Denot). slice_get xs place) same ∙ e) f
+
+pub returns-clause-starts : goal.returns-clause-starts
+returns-clause-starts g c place p a e f =
+    let same : c.into_iter-player-iterator.result.rest.items ≡ c.args.players.items = search rules in
+    c.loop-player.invariant.starts place p a (ap (λ (xs : List g.row.P.Denot). slice_get xs place) same ∙ e) f

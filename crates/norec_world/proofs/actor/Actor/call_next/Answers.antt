@@ -1,5 +1,11 @@
 use Rattle.norec_world.proofs.Owning.{others_twice}
-use Rattle.std.proofs.Common.{Bool, refl, sym, ap, subst, ◌∙◌}
+use Rattle.std.proofs.Common.{◌≡◌, ◌/◌, ℕ, Bool, true, refl, sym, ap, subst, ◌∙◌}
+use Rattle.norec_engine.specs.declared.answer.Next.{Next}
+use Rattle.norec_world.specs.declared.attempt.Outcome.TheVariants as outcomes
+use Rattle.norec_world.specs.Rows.{Rows}
+use Rattle.norec_world.specs.Records.{Tells, StopsAt}
+use Rattle.norec_world.proofs.Working.{nothing_rests}
+use Rattle.norec_world.specs.Working.{calls, finishes, starves}
 use Rattle.norec_world.specs.declared.actor.Status.TheVariants.{Ended}
 use Rattle.norec_world.specs.declared.attempt.End.TheVariants.{Finished}
 use Rattle.norec_world.proofs.Asking.{call_answered, call_waits, call_ends, call_starved}
@@ -11,7 +17,8 @@ use Rattle.norec_world.proofs.CommitCounts.{counted_after}
 use Rattle.norec_world.proofs.RunCalls.{finish_runs, ask_runs, answer_runs, starve_runs, laid_calls}
 use Rattle.norec_world.proofs.TryCalls.{finish_tries, starve_tries, ask_tries, answer_tries}
 use Rattle.norec_engine.specs.Core.{Core, came}
-use Rattle.norec_world.proofs.Tying.{limit_same}
+use Rattle.norec_engine.specs.Undoing.{after_undoing}
+use Rattle.norec_world.proofs.Tying.{limit_same, snapshot_still}
 use Rattle.norec_world.proofs.TryEnds.{not_finished}
 use Rattle.norec_world.proofs.actor.Actor.call_next.Goals as goal
 
@@ -92,7 +99,7 @@ pub returns-in-Err-clause-tries : goal.returns-in-Err-clause-tries
 returns-in-Err-clause-tries g c =
     let u = c.in-Err.ensures.unasked in
     starve_tries g.P.Player.next_call g.P.Player.answered g.P.Player.restarted g.P.Player.calls_left g.P.Player.depth c.args.memory.now c.args.recorded.now c.args.self.now c.requires.sound c.requires.ready
-    c.ask.new.recorded c.starve.new.recorded c.ask.new.self c.starve.new.self u.engine u.same.thread u.same.nth u.pending c.ask.ensures.rows
+    c.ask.new.recorded c.starve.new.recorded c.ask.new.self c.starve.new.self u.engine (snapshot_still c.ask.new.self.engine c.starve.new.self.engine c.starve.ensures.engine) u.same.thread u.same.nth u.pending c.ask.ensures.rows
     c.starve.ensures.status c.starve.ensures.thread c.starve.ensures.same.0 c.starve.ensures.pending
     (subst (λ (b : Bool). HasRow b c.starve.new.recorded c.starve.new.self.thread) c.starve.ensures.closed c.starve.ensures.kept.row) c.starve.ensures.row c.starve.ensures.none
 
@@ -111,6 +118,16 @@ returns-in-Ok-Answer-clause-limit g c =
     let engine = (c.settle.ensures.settled c.args.self.now.engine.is_open d).engine in
     let kept = limit_same (came c.args.self.now.engine c.in-Some.call asked.again) c.ask.new.self.engine c.in-Ok-Answer.field-0 asked.proceeds in
     (ap (λ (e : Core). e.max_commits) engine ∙ kept.0, ap (λ (e : Core). e.patience) engine ∙ kept.1)
+
+pub returns-in-Ok-Answer-clause-snapshot : goal.returns-in-Ok-Answer-clause-snapshot
+returns-in-Ok-Answer-clause-snapshot g c =
+    let asked = c.in-Ok-Answer.ensures.asked in
+    let d = at_once g.P.Player.next_call g.P.Player.answered g.P.Player.restarted g.P.Player.calls_left g.P.Player.depth c.args.memory.now c.args.recorded.now c.ask.new.recorded c.ask.new.recorded
+    c.args.self.now c.ask.new.self c.ask.new.self c.in-Some.call c.requires.sound c.requires.ready c.in-Ok-Answer.field-0 c.in-Ok-Answer.answer c.in-Ok-Answer.field-0-is asked in
+    ap (λ (e : Core). e.snapshot) (c.settle.ensures.settled c.args.self.now.engine.is_open d).engine ∙ asked.stays.snapshot
+
+pub returns-in-Err-clause-snapshot : goal.returns-in-Err-clause-snapshot
+returns-in-Err-clause-snapshot g c = snapshot_still c.ask.new.self.engine c.starve.new.self.engine c.starve.ensures.engine ∙ ap (λ (e : Core). e.snapshot) c.in-Err.ensures.unasked.engine
 
 pub returns-in_default-clause-runs : goal.returns-in_default-clause-runs
 returns-in_default-clause-runs g c first base laid runs = (laid, finish_runs g.P.Player.next_call g.P.Player.answered g.P.Player.restarted g.P.Player.calls_left g.P.Player.depth g.met.P.Player.nearer c.args.memory.now c.args.recorded.now c.args.self.now c.requires.sound c.requires.ready first base laid runs)
@@ -145,3 +162,66 @@ returns-in-Err-clause-runs g c first base laid runs =
       starve_runs g.P.Player.next_call g.P.Player.answered g.P.Player.restarted g.P.Player.calls_left g.P.Player.depth g.met.P.Player.nearer c.args.memory.now c.args.recorded.now c.args.self.now c.requires.sound c.requires.ready first base laid runs c.ask.new.recorded c.starve.new.recorded c.ask.new.self c.starve.new.self starved.more u.engine u.same.thread u.same.player u.same.nth u.again c.ask.ensures.rows
           c.starve.ensures.status c.starve.ensures.thread c.starve.ensures.closed starved.ended c.starve.ensures.row c.starve.ensures.none,
     )
+
+pub returns-in_default-clause-acts : goal.returns-in_default-clause-acts
+returns-in_default-clause-acts g c = finishes (record { none = sym c.next.ensures ∙ c.in_default.is; actor = refl; rows = refl })
+
+pub returns-in-Ok-Step-clause-acts : goal.returns-in-Ok-Step-clause-acts
+returns-in-Ok-Step-clause-acts g c =
+    let asked = c.in-Ok-Step.ensures.asked in
+    calls (record {
+      call = c.in-Some.call;
+      next_is = sym c.next.ensures ∙ c.in-Some.is;
+      what = c.in-Ok-Step.field-0;
+      rows = c.ask.new.recorded;
+      asked = c.ask.new.self;
+      asks = c.in-Ok-Step.ensures.told;
+      ready = asked.same.status ∙ c.requires.ready;
+      tells = subst (λ (n : Next). Tells g.P.Player.answered g.P.Player.restarted c.args.self.now.engine.is_open c.ask.new.recorded c.ask.new.recorded c.ask.new.self (record c.ask.new.self { status = Waits c.in-Some.call c.in-Ok-Step.step }) c.in-Some.call n)
+          (sym c.in-Ok-Step.field-0-is) (refl, refl);
+      engine = refl;
+      same = record { thread = asked.same.thread; retries = asked.same.retries; nothing = λ e. absurd (cc) };
+    })
+
+pub returns-in-Ok-Answer-clause-acts : goal.returns-in-Ok-Answer-clause-acts
+returns-in-Ok-Answer-clause-acts g c =
+    let asked = c.in-Ok-Answer.ensures.asked in
+    let d = at_once g.P.Player.next_call g.P.Player.answered g.P.Player.restarted g.P.Player.calls_left g.P.Player.depth c.args.memory.now c.args.recorded.now c.ask.new.recorded c.ask.new.recorded
+    c.args.self.now c.ask.new.self c.ask.new.self c.in-Some.call c.requires.sound c.requires.ready c.in-Ok-Answer.field-0 c.in-Ok-Answer.answer c.in-Ok-Answer.field-0-is asked in
+    let settled = c.settle.ensures.settled c.args.self.now.engine.is_open d in
+    calls (record {
+      call = c.in-Some.call;
+      next_is = sym c.next.ensures ∙ c.in-Some.is;
+      what = c.in-Ok-Answer.field-0;
+      rows = c.ask.new.recorded;
+      asked = c.ask.new.self;
+      asks = c.in-Ok-Answer.ensures.told;
+      ready = asked.same.status ∙ c.requires.ready;
+      tells = subst (λ (n : Next). Tells g.P.Player.answered g.P.Player.restarted c.args.self.now.engine.is_open c.ask.new.recorded c.settle.new.recorded c.ask.new.self c.settle.new.self c.in-Some.call n)
+          (sym c.in-Ok-Answer.field-0-is) (c.settle.ensures.records c.args.self.now.engine.is_open d);
+      engine = settled.engine;
+      same = record {
+        thread = settled.thread ∙ asked.same.thread;
+        retries = settled.retries ∙ asked.same.retries;
+        nothing = nothing_rests g.P.Player.next_call g.P.Player.answered g.P.Player.restarted g.P.Player.calls_left g.P.Player.depth c.settle.new.self c.settle.new.self.status settled.rests;
+      };
+    })
+
+pub returns-in-Err-clause-acts : goal.returns-in-Err-clause-acts
+returns-in-Err-clause-acts g c =
+    let u = c.in-Err.ensures.unasked in
+    let roomy : c.ask.new.recorded ≡ record c.args.recorded.now { room = c.ask.new.recorded.room } = c.ask.ensures.rows in
+    let thread : c.ask.new.self.thread ≡ c.args.self.now.thread = u.same.thread in
+    starves (record {
+      call = c.in-Some.call;
+      next_is = sym c.next.ensures ∙ c.in-Some.is;
+      status = c.starve.ensures.status;
+      player = c.starve.ensures.player ∙ u.same.player;
+      engine = c.starve.ensures.engine ∙ ap after_undoing u.engine;
+      room = c.ask.new.recorded.room;
+      stops = λ o. (let o' : c.ask.new.self.engine.is_open ≡ true = ap (λ (e : Core). e.is_open) u.engine ∙ o in
+          subst (λ (e : Core). StopsAt c.args.self.now.thread (record c.args.recorded.now { room = c.ask.new.recorded.room }) (e.snapshot / 2) outcomes.NoMemory c.starve.new.recorded) u.engine
+          (subst (λ (x : Rows). StopsAt c.args.self.now.thread x (c.ask.new.self.engine.snapshot / 2) outcomes.NoMemory c.starve.new.recorded) roomy
+          (subst (λ (n : ℕ). StopsAt n c.ask.new.recorded (c.ask.new.self.engine.snapshot / 2) outcomes.NoMemory c.starve.new.recorded) thread (c.starve.ensures.row o'))));
+      stays = λ o. c.starve.ensures.none (ap (λ (e : Core). e.is_open) u.engine ∙ o) ∙ roomy;
+    })

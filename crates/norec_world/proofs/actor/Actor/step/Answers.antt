@@ -1,5 +1,6 @@
 use Rattle.norec_world.proofs.Owning.{others_twice}
 use Rattle.std.proofs.Common.{sym}
+use Rattle.norec_world.proofs.Working.{takes_in, nothing_ready}
 use Rattle.norec_world.proofs.Stepping.{step_due, step_done, step_clocks}
 use Rattle.norec_world.proofs.TrySteps.{step_tries, step_unfinished}
 use Rattle.norec_world.specs.Tries.{prior_of}
@@ -176,3 +177,19 @@ returns-in-Waits-clause-runs g c first base laid runs =
     c.resume-next.result c.resume-next.ensures.proceeds c.replace.new.dest c.replace.ensures.after))
     c.follow.new.recorded c.follow.ensures.told own.more own.ended
     (counted_after c.args.memory.now.clock c.apply-seen.new.self.clock (prior_of c.args.recorded.now c.args.self.now) c.follow.new.recorded c.proceed.new.self (returns-in-Waits-clause-tries g c) laid.counted)
+
+pub returns-in-Waits-clause-takes : goal.returns-in-Waits-clause-takes
+returns-in-Waits-clause-takes g c =
+    let resume = c.resume-next.ensures in
+    let due = step_due g.P.Player.next_call g.P.Player.answered g.P.Player.restarted g.P.Player.calls_left g.P.Player.depth c.args.memory.now c.args.recorded.now c.args.self.now c.requires.sound
+    c.in-Waits.call c.in-Waits.step (sym c.in-Waits.ensures.value) c.apply-seen.result c.apply-seen.ensures.found c.apply-seen.new.self c.apply-seen.ensures.cells c.apply-seen.ensures.fit
+    c.resume-next.new.self resume.joins resume.settled resume.count c.resume-next.result resume.proceeds c.replace.new.dest c.replace.ensures.after in
+    let s = step_done g.P.Player.next_call g.P.Player.answered g.P.Player.restarted g.P.Player.calls_left g.P.Player.depth c.args.memory.now c.args.recorded.now c.args.self.now c.requires.sound
+    c.in-Waits.call c.in-Waits.step (sym c.in-Waits.ensures.value) c.apply-seen.result c.apply-seen.ensures.found c.apply-seen.new.self c.apply-seen.ensures.cells c.apply-seen.ensures.fit
+    c.resume-next.new.self resume.joins resume.settled resume.count c.resume-next.result resume.proceeds c.replace.new.dest c.proceed.new.recorded c.proceed.new.self
+    (c.proceed.ensures.done c.args.self.now.engine.is_open due) in
+    takes_in g.P.Player.answered g.P.Player.restarted c.args.memory.now c.args.recorded.now c.args.self.now c.in-Waits.call c.in-Waits.step (sym c.in-Waits.ensures.value)
+    c.apply-seen.result c.apply-seen.ensures.found c.resume-next.new.self c.resume-next.result
+    (record { proceeds = resume.proceeds; joins = resume.joins; order = resume.order; ends = resume.ends; tries = resume.tries; snapshot = resume.snapshot; log = resume.log; asks = resume.asks })
+    c.replace.new.dest c.replace.ensures.after c.proceed.new.recorded c.follow.new.recorded c.proceed.new.self s.engine (c.proceed.ensures.tells c.args.self.now.engine.is_open due) c.follow.ensures.told
+    (record { thread = s.thread; retries = s.retries; nothing = nothing_ready g.P.Player.next_call g.P.Player.answered g.P.Player.restarted g.P.Player.calls_left g.P.Player.depth c.proceed.new.recorded c.proceed.new.self c.proceed.new.self.status s.status })

@@ -1,18 +1,23 @@
-use Rattle.std.proofs.Common.{◌≡◌, ◌<◌, Some, ap, ◌∙◌, sym, subst, length, length-set, IsSome, slice_get, slice_set}
+use Rattle.std.proofs.Common.{◌≡◌, ◌<◌, true, Some, refl, ap, ◌∙◌, sym, subst, length, length-set, IsSome, slice_get, slice_set}
+use Rattle.std.specs.Option.{option_and_then}
+use Rattle.itm_types.proofs.Words.{slice_get-set_same}
 use Rattle.norec_world.specs.declared.actor.Actor.{Actor}
-use Rattle.norec_world.specs.Cells.{cells_after}
-use Rattle.norec_world.specs.Status.{waiting_step}
-use Rattle.norec_world.specs.World.{World, waits_at}
+use Rattle.norec_world.specs.Status.{is_waiting, waiting_step}
+use Rattle.norec_world.specs.Sound.{HasLess}
+use Rattle.norec_world.specs.World.{World, ending_at, told, waits_at}
+use Rattle.norec_world.specs.Going.{ActorGoes, Goes}
 use Rattle.norec_world.specs.Views.{world_of}
-use Rattle.norec_world.proofs.Worlds.{got_at, within_some, waiting_some, place_is, place_alone}
-use Rattle.norec_world.specs.Events.{IsEvent}
+use Rattle.norec_world.proofs.Worlds.{got_at, within_some, waiting_some, place_is, place_alone, lawful_at}
 use Rattle.norec_world.proofs.Frames.{actors_after}
-use Rattle.norec_world.proofs.RunFrames.{running_after, world_opaque}
+use Rattle.norec_world.proofs.RunFrames.{has_read, running_after, world_opaque}
 use Rattle.norec_world.proofs.Events.{event_then}
+use Rattle.norec_world.proofs.Ends.{shows_alone}
+use Rattle.norec_world.proofs.Goings.{event_goes}
 use Rattle.norec_world.proofs.CommitCounts.{commits_after}
+use Rattle.norec_world.proofs.Falling.{event_less}
+use Rattle.norec_world.proofs.Working.{works_none}
 use Rattle.norec_world.proofs.Owning.{others_twice}
 use Rattle.norec_world.proofs.Clocking.{clocks_twice, clocks_still}
-use Rattle.std.specs.Option.{option_and_then}
 use Rattle.norec_world.proofs.world.World.event.Goals as goal
 
 pub step-requires-clause-sound : goal.step-requires-clause-sound
@@ -39,7 +44,13 @@ invariant_of-self g c =
     let got = c.index_mut-a.result.now in
     let here : slice_get actors c.args.actor ≡ Some got = got_at actors c.args.actor got within c.index_mut-a.ensures.value in
     let sound = c.self.invariant.0 in
-    let mine = (sound.each c.args.actor got here).thread in (
+    let mine = (sound.each c.args.actor got here).thread in
+    let read = has_read g.P.Player.next_call g.P.Player.answered g.P.Player.restarted g.P.Player.calls_left g.met.P.Player.nearer g.P.Player.depth (world_of c.self.inside) c.self.invariant.0 c.self.invariant.1 c.self.invariant.3 c.self.invariant.4
+    c.args.actor got c.step.new.self here c.step.new.memory c.step.new.recorded c.self.inside.events c.step.ensures.others c.step.ensures.clocks c.step.ensures.runs c.step.ensures.sound.tied in
+    let event = event_then g.P.Player.next_call g.P.Player.answered g.P.Player.restarted g.P.Player.calls_left g.P.Player.depth c.self.inside.base c.self.inside.memory c.step.new.memory
+    c.self.inside.recorded c.step.new.recorded c.work.new.recorded got c.step.new.self c.work.new.self c.step.ensures.sound
+    (record { rows = c.step.new.recorded; stepped = c.step.new.self; takes = c.step.ensures.takes; works = works_none g.P.Player.next_call g.P.Player.answered g.P.Player.restarted c.step.new.memory.clock c.step.new.recorded c.step.new.self; tries = c.step.ensures.tries; finishes = λ e. absurd (c.step.ensures.unfinished e); others = c.step.ensures.others; clocks = c.step.ensures.clocks; retries = c.step.ensures.retries })
+    read c.work.ensures.others c.work.ensures.holds c.work.ensures.limit c.work.ensures.retries c.work.ensures.snapshot c.work.ensures.tries c.work.ensures.finishes c.work.ensures.still c.work.ensures.works in (
       actors_after g.P.Player.next_call g.P.Player.answered g.P.Player.restarted g.P.Player.calls_left g.P.Player.depth c.self.inside.memory c.step.new.memory c.self.inside.recorded c.work.new.recorded
           actors sound c.args.actor got c.work.new.self here c.work.ensures.sound c.work.ensures.done
           (others_twice got c.step.new.self c.work.new.self c.self.inside.recorded c.step.new.recorded c.work.new.recorded c.step.ensures.others c.work.ensures.others)
@@ -53,11 +64,8 @@ invariant_of-self g c =
           place_alone g.P.Player.next_call g.P.Player.answered g.P.Player.calls_left c.self.inside.memory c.step.new.memory c.self.inside.recorded c.work.new.recorded actors
           c.self.inside.opening.items c.self.inside.base c.self.inside.terms.arena c.self.inside.terms.limits.max_commits alone c.args.actor within got here c.work.new.self
           (λ max_commits p0 base arena t. c.work.ensures.tracks (c.step.ensures.thread ∙ zero) max_commits p0 base arena (c.step.ensures.tracks zero max_commits p0 base arena t))),
-      commits_after g.P.Player.next_call (world_of c.self.inside) c.self.invariant.3 c.args.actor got c.work.new.self here c.step.new.memory c.work.new.recorded c.saturating_add-self-inside.result
-          (event_then g.P.Player.next_call g.P.Player.answered g.P.Player.restarted g.P.Player.calls_left g.P.Player.depth c.self.inside.memory c.step.new.memory
-          c.self.inside.recorded c.step.new.recorded c.work.new.recorded got c.step.new.self c.work.new.self c.step.ensures.sound
-          (record { tries = c.step.ensures.tries; finishes = λ e. absurd (c.step.ensures.unfinished e); others = c.step.ensures.others; clocks = c.step.ensures.clocks; retries = c.step.ensures.retries })
-          c.work.ensures.others c.work.ensures.holds c.work.ensures.limit c.work.ensures.retries c.work.ensures.tries c.work.ensures.finishes c.work.ensures.still),
+      commits_after g.P.Player.next_call g.P.Player.answered g.P.Player.restarted (world_of c.self.inside) c.self.invariant.3 c.args.actor got c.work.new.self here c.step.new.memory c.work.new.recorded c.saturating_add-self-inside.result
+          event.0,
       running_after g.P.Player.next_call g.P.Player.answered g.P.Player.restarted g.P.Player.calls_left g.met.P.Player.nearer g.P.Player.depth (world_of c.self.inside) sound c.self.invariant.1 c.self.invariant.3 c.self.invariant.4
           c.args.actor got c.work.new.self here c.step.new.memory c.work.new.recorded c.saturating_add-self-inside.result
           (others_twice got c.step.new.self c.work.new.self c.self.inside.recorded c.step.new.recorded c.work.new.recorded c.step.ensures.others c.work.ensures.others)
@@ -66,44 +74,49 @@ invariant_of-self g c =
           (λ first base laid runs. (let x = c.step.ensures.runs first base laid runs in c.work.ensures.runs first base x.0 x.1)),
     )
 
--- the step and the local work after it
-pub returns-clause-event : goal.returns-clause-event
-returns-clause-event g c a is =
+-- the step and the local work after it are one event of the world
+pub returns-clause-goes : goal.returns-clause-goes
+returns-clause-goes g c =
     let actors = c.self.inside.actors.items in
-    let W : World g.row.P.Denot → Type 0 = λ w. IsSome (waits_at w c.args.actor) in
-    let within : c.args.actor < length actors = within_some (λ (x : Actor g.row.P.Denot). waiting_step x.status) actors c.args.actor (subst W (sym c.self.view_is) c.requires) in
+    let old : World g.row.P.Denot = world_of c.self.inside in
+    let waits : IsSome (waits_at old c.args.actor) = subst (λ (w : World g.row.P.Denot). IsSome (waits_at w c.args.actor)) (sym c.self.view_is) c.requires in
+    let within : c.args.actor < length actors = within_some (λ (x : Actor g.row.P.Denot). waiting_step x.status) actors c.args.actor waits in
+    let got = c.index_mut-a.result.now in
+    let here : slice_get actors c.args.actor ≡ Some got = got_at actors c.args.actor got within c.index_mut-a.ensures.value in
+    let read = has_read g.P.Player.next_call g.P.Player.answered g.P.Player.restarted g.P.Player.calls_left g.met.P.Player.nearer g.P.Player.depth (world_of c.self.inside) c.self.invariant.0 c.self.invariant.1 c.self.invariant.3 c.self.invariant.4
+    c.args.actor got c.step.new.self here c.step.new.memory c.step.new.recorded c.self.inside.events c.step.ensures.others c.step.ensures.clocks c.step.ensures.runs c.step.ensures.sound.tied in
+    let event = event_then g.P.Player.next_call g.P.Player.answered g.P.Player.restarted g.P.Player.calls_left g.P.Player.depth c.self.inside.base c.self.inside.memory c.step.new.memory
+    c.self.inside.recorded c.step.new.recorded c.work.new.recorded got c.step.new.self c.work.new.self c.step.ensures.sound
+    (record { rows = c.step.new.recorded; stepped = c.step.new.self; takes = c.step.ensures.takes; works = works_none g.P.Player.next_call g.P.Player.answered g.P.Player.restarted c.step.new.memory.clock c.step.new.recorded c.step.new.self; tries = c.step.ensures.tries; finishes = λ e. absurd (c.step.ensures.unfinished e); others = c.step.ensures.others; clocks = c.step.ensures.clocks; retries = c.step.ensures.retries })
+    read c.work.ensures.others c.work.ensures.holds c.work.ensures.limit c.work.ensures.retries c.work.ensures.snapshot c.work.ensures.tries c.work.ensures.finishes c.work.ensures.still c.work.ensures.works in
+    let kept = invariant_of-self g c in
+    let new : World g.row.P.Denot = record old { cells = c.step.new.memory; actors = slice_set actors c.args.actor c.work.new.self; attempts = c.work.new.recorded; events = c.saturating_add-self-inside.result } in
+    subst (λ (w : World g.row.P.Denot). Goes g.P.Player.next_call g.P.Player.answered g.P.Player.restarted g.P.Player.calls_left c.args.actor w (told (ending_at new c.args.actor)) new) c.self.view_is
+    (event_goes g.P.Player.next_call g.P.Player.answered g.P.Player.restarted g.P.Player.calls_left old new c.args.actor waits
+    (lawful_at g.P.Player.next_call g.P.Player.answered g.P.Player.restarted g.P.Player.calls_left g.P.Player.depth old old.attempts c.self.invariant.0 c.args.actor)
+    (λ step w. c.step.ensures.cells step (sym (ap (option_and_then (λ (a : Actor g.row.P.Denot). waiting_step a.status)) here) ∙ w))
+    c.saturating_add-self-inside.ensures
+    (λ a is.
+    (let same : got ≡ a = (let found : Some got ≡ Some a = sym here ∙ is in cc) in
+    subst (λ (x : Actor g.row.P.Denot). ActorGoes g.P.Player.next_call g.P.Player.answered g.P.Player.restarted g.P.Player.calls_left c.args.actor old x new) same (c.work.new.self, refl, event.0, c.work.ensures.done, event.1)))
+    kept.3
+    (world_opaque g.P.Player.next_call g.P.Player.answered g.P.Player.restarted g.P.Player.calls_left g.met.P.Player.nearer g.P.Player.depth new kept.0 kept.1 kept.4)
+    (record { opening = refl; base = refl; arena = refl; patience = refl; max_commits = refl; retries = refl })
+    (length-set actors c.args.actor c.work.new.self)
+    (shows_alone g.P.Player.next_call g.P.Player.answered g.P.Player.calls_left new kept.2))
+
+pub returns-clause-less : goal.returns-clause-less
+returns-clause-less g c a b is is' =
+    let actors = c.self.inside.actors.items in
+    let waits : IsSome (waits_at (world_of c.self.inside) c.args.actor) = subst (λ (w : World g.row.P.Denot). IsSome (waits_at w c.args.actor)) (sym c.self.view_is) c.requires in
+    let within : c.args.actor < length actors = within_some (λ (x : Actor g.row.P.Denot). waiting_step x.status) actors c.args.actor waits in
     let got = c.index_mut-a.result.now in
     let here : slice_get actors c.args.actor ≡ Some got = got_at actors c.args.actor got within c.index_mut-a.ensures.value in
     let a_here : slice_get actors c.args.actor ≡ Some a = ap (λ (w : World g.row.P.Denot). slice_get w.actors c.args.actor) c.self.view_is ∙ is in
-    let same : got ≡ a = (let found : Some got ≡ Some a = sym here ∙ a_here in cc) in (
-      c.work.new.self,
-      ap (λ (w : World g.row.P.Denot). slice_set w.actors c.args.actor c.work.new.self) c.self.view_is,
-      subst (λ (w : World g.row.P.Denot). IsEvent g.P.Player.next_call w.cells w.attempts a c.step.new.memory c.work.new.recorded c.work.new.self) c.self.view_is
-          (subst (λ (x : Actor g.row.P.Denot). IsEvent g.P.Player.next_call c.self.inside.memory c.self.inside.recorded x c.step.new.memory c.work.new.recorded c.work.new.self) same
-          (event_then g.P.Player.next_call g.P.Player.answered g.P.Player.restarted g.P.Player.calls_left g.P.Player.depth c.self.inside.memory c.step.new.memory
-          c.self.inside.recorded c.step.new.recorded c.work.new.recorded got c.step.new.self c.work.new.self c.step.ensures.sound
-          (record { tries = c.step.ensures.tries; finishes = λ e. absurd (c.step.ensures.unfinished e); others = c.step.ensures.others; clocks = c.step.ensures.clocks; retries = c.step.ensures.retries })
-          c.work.ensures.others c.work.ensures.holds c.work.ensures.limit c.work.ensures.retries c.work.ensures.tries c.work.ensures.finishes c.work.ensures.still)),
-    )
-
-pub returns-clause-operation : goal.returns-clause-operation
-returns-clause-operation g c step w =
-    let W : World g.row.P.Denot → Type 0 = λ x. IsSome (waits_at x c.args.actor) in
-    let actors = c.self.inside.actors.items in
-    let within : c.args.actor < length actors = within_some (λ (a : Actor g.row.P.Denot). waiting_step a.status) actors c.args.actor (subst W (sym c.self.view_is) c.requires) in
-    let got = c.index_mut-a.result.now in
-    let here : slice_get actors c.args.actor ≡ Some got = got_at actors c.args.actor got within c.index_mut-a.ensures.value in
-    let waits : waits_at (world_of c.self.inside) c.args.actor ≡ Some step = ap (λ (x : World g.row.P.Denot). waits_at x c.args.actor) c.self.view_is ∙ w in
-    c.step.ensures.cells step (sym (ap (option_and_then (λ (a : Actor g.row.P.Denot). waiting_step a.status)) here) ∙ waits)
-    ∙ ap (λ (x : World g.row.P.Denot). cells_after x.cells step) c.self.view_is
-
-pub returns-clause-alone : goal.returns-clause-alone
-returns-clause-alone g c = (invariant_of-self g c).2
-
-pub returns-clause-commits : goal.returns-clause-commits
-returns-clause-commits g c = (invariant_of-self g c).3
-
-pub returns-clause-opaque : goal.returns-clause-opaque
-returns-clause-opaque g c =
-    let x = invariant_of-self g c in
-    world_opaque g.P.Player.next_call g.P.Player.answered g.P.Player.restarted g.P.Player.calls_left g.met.P.Player.nearer g.P.Player.depth _ x.0 x.1 x.4
+    let first : got ≡ a = (let found : Some got ≡ Some a = sym here ∙ a_here in cc) in
+    let last : c.work.new.self ≡ b = (let found : Some c.work.new.self ≡ Some b = sym (slice_get-set_same actors c.args.actor c.work.new.self within) ∙ is' in cc) in
+    let waiting : is_waiting got.status ≡ true = waiting_some got.status (subst IsSome (ap (option_and_then (λ (x : Actor g.row.P.Denot). waiting_step x.status)) here) waits) in
+    subst (λ (x : Actor g.row.P.Denot). HasLess g.P.Player.next_call g.P.Player.answered g.P.Player.restarted g.P.Player.calls_left g.P.Player.depth c.waits-goes_on.result x b) first
+    (subst (λ (x : Actor g.row.P.Denot). HasLess g.P.Player.next_call g.P.Player.answered g.P.Player.restarted g.P.Player.calls_left g.P.Player.depth c.waits-goes_on.result got x) last
+    (event_less g.P.Player.next_call g.P.Player.answered g.P.Player.restarted g.P.Player.calls_left g.P.Player.depth got c.step.new.self c.work.new.self waiting c.step.ensures.goes_on c.step.ensures.falls (λ e. (c.work.ensures.still e).0) c.work.ensures.less
+    c.waits-goes_on.result (sym c.waits-goes_on.ensures)))

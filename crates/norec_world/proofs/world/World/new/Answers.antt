@@ -1,7 +1,9 @@
-use Rattle.std.proofs.Common.{rules, ◌≡◌, ℕ, List, slice_get, sym, ap, subst, ◌∙◌}
+use Rattle.std.proofs.Common.{rules, ◌≡◌, ◌/◌, ℕ, length, replicate, List, slice_get, sym, ap, subst, ◌∙◌}
+use Rattle.norec_engine.specs.Core.{opening}
+use Rattle.norec_world.specs.Starts.{HasStarted}
 use Rattle.norec_world.specs.Tries.{IsBetween}
 use Rattle.itm_types.specs.Memory.{bytes_of}
-use Rattle.norec_world.specs.Rows.{AreFrom}
+use Rattle.norec_world.specs.Rows.{AreFrom, AreOfActors}
 use Rattle.norec_world.specs.Runs.{RunsFrom}
 use Rattle.norec_world.specs.Opaque.{first_of}
 use Rattle.norec_world.proofs.RunFrames.{laid_first, world_opaque}
@@ -18,6 +20,7 @@ invariant_of-result g c = (
   record {
     laid = laid_first c.new-base.result c.new-memory.result c.start_all.new.recorded (search rules) c.new-memory.ensures.fit c.new-memory.ensures.clock c.in_ok-actors.ensures.none.0;
     ordered = subst (AreFrom 0) (sym c.in_ok-actors.ensures.none.1) tt;
+    threads = subst (AreOfActors (length c.in_ok-actors.actors.items)) (sym c.in_ok-actors.ensures.none.0) tt;
     each = λ place p a e f.
         (let based : c.new-base.result ≡ bytes_of c.new-memory.result.words = search rules in
         let players : c.in_ok-opening.opening.items ≡ c.args.players.items = search rules in
@@ -36,3 +39,11 @@ pub returns-clause-opaque : goal.returns-clause-opaque
 returns-clause-opaque g c =
     let x = invariant_of-result g c in
     world_opaque g.P.Player.next_call g.P.Player.answered g.P.Player.restarted g.P.Player.calls_left g.met.P.Player.nearer g.P.Player.depth _ x.0 x.1 x.4
+
+pub returns-clause-starts : goal.returns-clause-starts
+returns-clause-starts g c place p a e f =
+    let based : c.new-base.result ≡ c.args.setup.bytes = search rules in
+    let players : c.in_ok-opening.opening.items ≡ c.args.players.items = search rules in
+    let words : length c.new-memory.result.words ≡ length c.args.setup.bytes / 8 = search rules in
+    subst (λ (n : ℕ). HasStarted g.P.Player.next_call g.P.Player.answered g.P.Player.restarted c.new-memory.result.clock (opening n (replicate c.args.setup.arena 0) c.args.setup.limits.patience c.args.setup.limits.max_commits) c.args.setup.retries place p a)
+    (words ∙ ap (λ (b : List ℕ). length b / 8) (sym based)) (c.in_ok-actors.ensures.starts place p a (ap (λ (xs : List g.row.P.Denot). slice_get xs place) (sym players) ∙ e) f)

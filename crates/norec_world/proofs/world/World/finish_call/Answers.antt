@@ -1,0 +1,34 @@
+use Rattle.std.proofs.Common.{suc, ◌<◌, Bool, sym, subst, ◌∙◌}
+use Rattle.norec_world.proofs.CallEvents.{counted_one, events_both, opening_both, takes_one, leaves_on, call_left_at, call_falls, waits_still, over_less}
+use Rattle.norec_world.proofs.Goings.{told_event}
+use Rattle.norec_world.proofs.world.World.finish_call.Goals as goal
+
+pub event-goes_on-requires : goal.event-goes_on-requires
+event-goes_on-requires g c = c.loop-goes_on.invariant.waits c.loop-goes_on-test.true
+
+pub loop-goes_on-smaller : goal.loop-goes_on-smaller
+loop-goes_on-smaller g c =
+    subst (λ (on : Bool). call_left_at g.P.Player.next_call g.P.Player.answered g.P.Player.restarted g.P.Player.calls_left g.P.Player.depth c.args.actor c.event-goes_on.result c.event-goes_on.new.self < call_left_at g.P.Player.next_call g.P.Player.answered g.P.Player.restarted g.P.Player.calls_left g.P.Player.depth c.args.actor on c.loop-goes_on.self) (sym c.loop-goes_on-test.true)
+    (call_falls g.P.Player.next_call g.P.Player.answered g.P.Player.restarted g.P.Player.calls_left g.P.Player.depth c.args.actor c.event-goes_on.result c.loop-goes_on.self c.event-goes_on.new.self
+    (c.loop-goes_on.invariant.waits c.loop-goes_on-test.true) c.event-goes_on.ensures.goes.actors c.event-goes_on.ensures.less)
+
+pub loop-goes_on-preserved : goal.loop-goes_on-preserved
+loop-goes_on-preserved g c =
+    let before = c.loop-goes_on.invariant in
+    let waits = before.waits c.loop-goes_on-test.true in
+    let goes = c.event-goes_on.ensures.goes in
+    record {
+      took = (
+        suc before.took.0,
+        takes_one g.P.Player.next_call g.P.Player.answered g.P.Player.restarted g.P.Player.calls_left c.args.actor before.took.0 c.args.self.now c.loop-goes_on.self c.event-goes_on.new.self before.took.1 goes,
+        counted_one before.took.0 c.loop-goes_on.taken c.saturating_add-taken.result before.took.2 c.saturating_add-taken.ensures,
+      );
+      counts = events_both c.args.self.now.events c.loop-goes_on.self.events c.event-goes_on.new.self.events c.loop-goes_on.taken 1 c.saturating_add-taken.result before.counts (goes.counts (told_event _)) c.saturating_add-taken.ensures;
+      opening = opening_both c.args.self.now c.loop-goes_on.self c.event-goes_on.new.self before.opening goes.opening;
+      actors = goes.actors ∙ before.actors;
+      waits = waits_still g.P.Player.next_call g.P.Player.answered g.P.Player.restarted g.P.Player.calls_left g.P.Player.depth c.args.actor c.event-goes_on.result c.loop-goes_on.self c.event-goes_on.new.self waits goes.actors c.event-goes_on.ensures.less;
+      less = leaves_on g.P.Player.next_call g.P.Player.answered g.P.Player.restarted g.P.Player.calls_left g.P.Player.depth c.args.actor c.loop-goes_on.goes_on c.event-goes_on.result c.args.self.now c.loop-goes_on.self c.event-goes_on.new.self c.loop-goes_on-test.true waits before.less c.event-goes_on.ensures.less;
+    }
+
+pub returns-clause-less : goal.returns-clause-less
+returns-clause-less g c = over_less g.P.Player.next_call g.P.Player.answered g.P.Player.restarted g.P.Player.calls_left g.P.Player.depth c.args.actor c.loop-goes_on.goes_on c.args.self.now c.loop-goes_on.self c.loop-goes_on-test.false c.loop-goes_on.invariant.less

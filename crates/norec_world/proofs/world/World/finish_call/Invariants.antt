@@ -1,0 +1,18 @@
+use Rattle.std.proofs.Common.{◌≡◌, ℕ, length, true, IsSome}
+use Rattle.norec_world.specs.World.{counted, waits_at, SameOpening}
+use Rattle.norec_world.specs.Going.{Takes}
+use Rattle.norec_world.proofs.CallEvents.{LeavesLessSoFar, call_left_at}
+use Rattle.norec_world.proofs.world.World.finish_call.Given as goal
+
+abbrev pub invariant-loop-goes_on : goal.invariant-loop-goes_on
+invariant-loop-goes_on g l = record {
+  took : (n : ℕ) × Takes g.P.Player.next_call g.P.Player.answered g.P.Player.restarted g.P.Player.calls_left l.actor n l.initial.self l.self × (l.taken ≡ counted 0 n);
+  counts : l.self.events ≡ counted l.initial.self.events l.taken;
+  opening : SameOpening l.initial.self l.self;
+  actors : length l.self.actors ≡ length l.initial.self.actors;
+  waits : l.goes_on ≡ true → IsSome (waits_at l.self l.actor);
+  less : LeavesLessSoFar g.P.Player.next_call g.P.Player.answered g.P.Player.restarted g.P.Player.calls_left g.P.Player.depth l.actor l.goes_on l.initial.self l.self;
+}
+
+abbrev pub decreases-loop-goes_on : goal.decreases-loop-goes_on
+decreases-loop-goes_on g l = call_left_at g.P.Player.next_call g.P.Player.answered g.P.Player.restarted g.P.Player.calls_left g.P.Player.depth l.actor l.goes_on l.self

@@ -1,0 +1,23 @@
+use Rattle.std.proofs.Common.{◌≡◌, true, false, Some, slice_get, IsSome, sym, ap, subst, ◌∙◌, refl}
+use Rattle.std.specs.Option.{option_and_then}
+use Rattle.norec_world.specs.declared.actor.Actor.{Actor}
+use Rattle.norec_world.specs.Status.{is_waiting, waiting_step}
+use Rattle.norec_world.specs.World.{waits_at}
+use Rattle.norec_world.proofs.Worlds.{some_waiting}
+use Rattle.norec_world.proofs.Refusals.{mapped_none, mapped_some}
+use Rattle.norec_world.proofs.CallEvents.{ended_there, not_there}
+use Rattle.norec_world.proofs.world.World.is_waiting.Goals as goal
+
+pub returns-in-None-clause-ended : goal.returns-in-None-clause-ended
+returns-in-None-clause-ended g c off within =
+    not_there c.args.self.now c.args.actor within (mapped_none (λ (a : Actor g.row.P.Denot). is_waiting a.status) (slice_get c.args.self.now.actors c.args.actor) (sym c.in-None.is ∙ c.waits.ensures.value))
+
+pub returns-in-Some-clause-waits : goal.returns-in-Some-clause-waits
+returns-in-Some-clause-waits g c on =
+    let found = mapped_some (λ (a : Actor g.row.P.Denot). is_waiting a.status) (slice_get c.args.self.now.actors c.args.actor) c.in-Some.waits (sym c.in-Some.is ∙ c.waits.ensures.value) in
+    subst IsSome (sym (ap (option_and_then (λ (a : Actor g.row.P.Denot). waiting_step a.status)) found.1)) (some_waiting found.0.status (found.2 ∙ on))
+
+pub returns-in-Some-clause-ended : goal.returns-in-Some-clause-ended
+returns-in-Some-clause-ended g c off within =
+    let found = mapped_some (λ (a : Actor g.row.P.Denot). is_waiting a.status) (slice_get c.args.self.now.actors c.args.actor) c.in-Some.waits (sym c.in-Some.is ∙ c.waits.ensures.value) in
+    ended_there g.P.Player.next_call g.P.Player.answered g.P.Player.restarted g.P.Player.calls_left g.P.Player.depth c.args.self.now c.args.actor c.waits.ensures.sound found.0 found.1 (found.2 ∙ off)

@@ -1,0 +1,79 @@
+-- What an actor does with the value of its step, and in the local work that follows, up to its next step or its end.
+use Rattle.std.specs.Prelude.{◌≡◌, ℕ, zero, suc, ◌/◌, true, false, Option, None, Some}
+use Rattle.itm_types.specs.declared.call.Call.{Call}
+use Rattle.itm_types.specs.declared.call.Reply.{Reply}
+use Rattle.itm_types.specs.declared.step.Step.{Step}
+use Rattle.norec_engine.specs.declared.answer.Next.{Next}
+use Rattle.norec_engine.specs.Moves.{IsResumed}
+use Rattle.norec_engine.specs.Undoing.{after_undoing}
+use Rattle.norec_world.specs.declared.attempt.Outcome.TheVariants as outcomes
+use Rattle.norec_world.specs.declared.attempt.End.TheVariants.{Finished, NoMemory}
+use Rattle.norec_world.specs.declared.actor.Actor.{Actor}
+use Rattle.norec_world.specs.declared.actor.Status.TheVariants.{Ready, Waits, Ended}
+use Rattle.norec_world.specs.Cells.{Cells, found}
+use Rattle.norec_world.specs.Rows.{Rows}
+use Rattle.norec_world.specs.Records.{Asks, Tells, IsTold, StopsAt}
+
+-- it is the same actor, and where its player is to be asked, no attempt is to be opened
+pub record SameActor {P : Type 0} (a a' : Actor P) : Type 0 where
+  pub thread : a'.thread ≡ a.thread
+  pub retries : a'.retries ≡ a.retries
+  pub nothing : a'.status ≡ Ready → a'.pending ≡ None
+
+-- its step was done on these cells: its engine is handed what was found, and of what comes the call waits for the next step, or is answered
+pub record TakesIn {P : Type 0} (answered : P → Reply → P) (restarted : P → P) (cells : Cells) (r : Rows) (a : Actor P) (r' : Rows) (a' : Actor P) : Type 0 where
+  pub call : Call
+  pub step : Step
+  pub waits : a.status ≡ Waits call step
+  pub what : Next
+  pub resumed : IsResumed a.engine (found cells step) what a'.engine
+  pub rows : Rows
+  pub tells : Tells answered restarted a.engine.is_open r rows (record a { engine = a'.engine; status = Ready }) a' call what
+  pub told : IsTold a.thread a'.engine.is_open rows (a'.engine.snapshot / 2) r'
+  pub same : SameActor a a'
+
+module _ {P : Type 0} (next : P → Option Call) (answered : P → Reply → P) (restarted : P → P) where
+  -- its player's next call goes to its engine, and waits for its first step, or is answered at once
+  pub record Calls (clock : ℕ) (r : Rows) (a : Actor P) (r' : Rows) (a' : Actor P) : Type 0 where
+    pub call : Call
+    pub next_is : next a.player ≡ Some call
+    pub what : Next
+    pub rows : Rows
+    pub asked : Actor P
+    pub asks : Asks clock r rows a asked call what
+    pub ready : asked.status ≡ Ready
+    pub tells : Tells answered restarted a.engine.is_open rows r' asked a' call what
+    pub engine : a'.engine ≡ asked.engine
+    pub same : SameActor a a'
+
+  -- its player has no more calls
+  pub record Finishes (r : Rows) (a : Actor P) (r' : Rows) (a' : Actor P) : Type 0 where
+    pub none : next a.player ≡ None
+    pub actor : a' ≡ record a { status = Ended Finished }
+    pub rows : r' ≡ r
+
+  -- memory was refused to its player's next call
+  pub record Starves (r : Rows) (a : Actor P) (r' : Rows) (a' : Actor P) : Type 0 where
+    pub call : Call
+    pub next_is : next a.player ≡ Some call
+    pub status : a'.status ≡ Ended NoMemory
+    pub player : a'.player ≡ a.player
+    pub engine : a'.engine ≡ after_undoing a.engine
+    pub room : ℕ
+    pub stops : a.engine.is_open ≡ true → StopsAt a.thread (record r { room = room }) (a.engine.snapshot / 2) outcomes.NoMemory r'
+    pub stays : a.engine.is_open ≡ false → r' ≡ record r { room = room }
+
+  -- one of these
+  pub data Acts (clock : ℕ) (r : Rows) (a : Actor P) (r' : Rows) (a' : Actor P) : Type 0 where
+    calls : Calls clock r a r' a' → Acts clock r a r' a'
+    finishes : Finishes r a r' a' → Acts clock r a r' a'
+    starves : Starves r a r' a' → Acts clock r a r' a'
+
+  -- so many of them in a row, none of which takes a step on the cells
+  abbrev pub ActsOn : ℕ → ℕ → Rows → Actor P → Rows → Actor P → Type 0
+  ActsOn clock zero r a r' a' = (r' ≡ r) × (a' ≡ a)
+  ActsOn clock (suc n) r a r' a' = (rows : Rows) × (last : Actor P) × ActsOn clock n r a rows last × (last.status ≡ Ready) × Acts clock rows last r' a'
+
+  -- local work at this clock
+  abbrev pub Works : ℕ → Rows → Actor P → Rows → Actor P → Type 0
+  Works clock r a r' a' = (n : ℕ) × ActsOn clock n r a r' a'
