@@ -8,3 +8,4 @@ pub mod Writings
 pub mod Keeping
 pub mod Resting
 pub mod Logs
+pub mod Examples

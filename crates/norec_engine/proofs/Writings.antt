@@ -1,5 +1,5 @@
 -- The pieces of a value go into the write set.
-use Rattle.std.proofs.Common.{◌≡◌, ℕ, ◌+◌, ◌^◌, ◌<◌, ◌≤◌, ◌*◌, ◌/◌, ◌%◌, ◌==◌, replicate, List, [], ◌∷◌, ◌++◌, length, map, true, false, is_some, is_err, IsSome, Result, Ok, Err, OnOk, OnErr, refl, sym, ap, ◌∙◌, inl, inr, arith}
+use Rattle.std.proofs.Common.{◌≡◌, ℕ, ◌+◌, ◌^◌, ◌<◌, ◌≤◌, ◌*◌, ◌/◌, ◌%◌, ◌==◌, replicate, List, [], ◌∷◌, ◌++◌, length, map, true, false, is_some, is_err, IsSome, Result, Ok, Err, IsOk, OnOk, OnErr, refl, sym, ap, ◌∙◌, inl, inr, arith}
 use Rattle.std.specs.Int.{w64, from_le_bytes}
 use Rattle.itm_types.specs.Slices.{slice, with_slice, AreBytes}
 use Rattle.word_pieces.proofs.MaskBytes.{mask_of-lt}
@@ -69,6 +69,10 @@ pub on_err : {A E : Type 0} {P : Type 0} (r : Result A E) → OnErr r P → is_e
 on_err (Ok x) h e = absurd (cc)
 on_err (Err x) h e = h
 
+pub not_ok : {A E : Type 0} (r : Result A E) → is_err r ≡ true → IsOk r → ⊥
+not_ok (Ok x) e h = absurd (cc)
+not_ok (Err x) e h = absurd (cc)
+
 pub on_ok : {A E : Type 0} {P : Type 0} (r : Result A E) → OnOk r P → is_err r ≡ false → P
 on_ok (Ok x) h e = h
 on_ok (Err x) h e = absurd (cc)
@@ -110,7 +114,7 @@ some_kept (r ∷ rs) w v h =
       | inr other ↦ ap is_some (lookup_there r (reserved rs v) w other) ∙ some_kept rs w v (ap is_some (sym (lookup_there r rs w other)) ∙ h)
     ])
 
-some_kept_all : (rows : List Row) (ps : List Piece) (w : ℕ) → IsSome (lookup w rows) → IsSome (lookup w (reserved_all rows ps))
+pub some_kept_all : (rows : List Row) (ps : List Piece) (w : ℕ) → IsSome (lookup w rows) → IsSome (lookup w (reserved_all rows ps))
 some_kept_all rows [] w h = h
 some_kept_all rows (p ∷ ps) w h = some_kept_all (reserved rows p.word) ps w (some_kept rows w p.word h)
 

@@ -1,5 +1,5 @@
 -- How a call is over where no step is left: by a reply, which is the plain machine's, or by the end of its transaction or of its try.
-use Rattle.std.specs.Prelude.{◌≡◌, ℕ, ◌/◌, ◌%◌, ◌==◌, Bool, true, false, if◌then◌else◌, length, Option, None, Some}
+use Rattle.std.specs.Prelude.{◌≡◌, ℕ, ◌/◌, ◌%◌, ◌==◌, true, false, if◌then◌else◌, length, Option, None, Some}
 use Rattle.itm_types.specs.declared.call.Call.{Call}
 use Rattle.itm_types.specs.declared.call.Call.TheVariants as calls
 use Rattle.norec_engine.specs.declared.answer.Answer.{Answer}

@@ -19,7 +19,7 @@ use Rattle.norec_engine.specs.declared.answer.Answer.TheVariants.{Reply, Committ
 use Rattle.norec_engine.specs.declared.answer.Next.{Next}
 use Rattle.norec_engine.specs.declared.answer.Next.TheVariants.{Step as Asks, Answer as Answers}
 use Rattle.write_set.specs.Rows.{overlay}
-use Rattle.norec_engine.specs.Rows.{write_at, reserved_all, put_all}
+use Rattle.norec_engine.specs.Rows.{HaveRows, write_at, reserved_all, put_all}
 use Rattle.norec_engine.specs.Core.{Core, ended}
 use Rattle.norec_engine.specs.Stands.{stands_for}
 
@@ -239,12 +239,12 @@ IsAtOnce (Answers (Conflict clock word)) = ⊥
 IsAtOnce (Answers (Busy clock)) = ⊥
 IsAtOnce (Answers (Full at)) = Unit {0}
 
--- memory is asked for by a read or a write alone, and by no refused one
+-- memory is asked for by a read or a write alone, by no refused one, and by no write to words that have rows
 abbrev pub MayStarve : Core → Call → Type 0
 MayStarve c (Begin props room) = ⊥
 MayStarve c Commit = ⊥
 MayStarve c (Read hint width at) = (c.is_open ≡ true) × (at + size_of width ≤ 8 * c.words)
-MayStarve c (Write hint at value) = (c.is_open ≡ true) × (at + size_of value.width ≤ 8 * c.words)
+MayStarve c (Write hint at value) = (c.is_open ≡ true) × (at + size_of value.width ≤ 8 * c.words) × (HaveRows c.writes (pieces_of at (size_of value.width)) → ⊥)
 
 -- ## Values and counts
 

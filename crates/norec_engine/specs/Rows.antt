@@ -1,5 +1,5 @@
 -- Rows of the value log, and of the write set as the engine uses it.
-use Rattle.std.specs.Prelude.{ℕ, ◌<◌, ◌==◌, Bool, false, List, [], ◌∷◌, Option, Some, None, slice_index_or}
+use Rattle.std.specs.Prelude.{ℕ, ◌<◌, ◌==◌, Bool, false, List, [], ◌∷◌, Option, Some, None, slice_index_or, All, IsSome}
 use Rattle.std.specs.Int.Bits.{bit_and}
 use Rattle.itm_types.specs.declared.row.LogRow.{LogRow}
 use Rattle.word_pieces.specs.declared.piece.Piece.{Piece}
@@ -17,6 +17,10 @@ reserved_all rows (p ∷ ps) = reserved_all (reserved rows p.word) ps
 abbrev pub put_all : List Row → List Piece → List ℕ → List Row
 put_all rows [] bytes = rows
 put_all rows (p ∷ ps) bytes = put_all (put rows p.word (mask_of p.first p.count) (scattered p bytes)) ps bytes
+
+-- each piece's word has a row
+abbrev pub HaveRows : List Row → List Piece → Type 0
+HaveRows rows pieces = All (λ p. IsSome (lookup p.word rows)) pieces
 
 -- whether a row has all bytes of the mask
 abbrev pub has_mask : Option Row → ℕ → Bool

@@ -4,7 +4,7 @@ ghost use Rattle.std.specs.Prelude.{◌≡◌, ◌≤◌, ◌+◌, false, true, 
 ghost use Rattle.word_pieces.specs.Pieces.{IsPiece};
 ghost use Rattle.itm_types.specs.Slices.{AreBytes};
 ghost use Rattle.write_set.specs.Rows.{lookup};
-ghost use Rattle.norec_engine.specs.Rows.{reserved_all, put_all};
+ghost use Rattle.norec_engine.specs.Rows.{HaveRows, reserved_all, put_all};
 ghost use Rattle.norec_engine.specs.Fields.{core, core_after, phase_after, IsSound, IsSoundTurn, Turns, TurnEndsSo, Stays};
 ghost use Rattle.norec_engine.specs.Core.{came};
 ghost use Rattle.norec_engine.specs.Order.{stage_at, tries_at};
@@ -61,6 +61,7 @@ pub(crate) fn write(
 fn reserve_all(writes: &mut WriteSet, pieces: &[Piece]) -> Result<(), AllocError>
     ensures ok { OnOk result (writes.new ≡ reserved_all writes.old pieces.now) }
     ensures err { OnErr result (writes.new ≡ writes.old) }
+    ensures grows { OnErr result (HaveRows writes.old pieces.now → ⊥) }
 {
     let len = writes.len();
     for piece in pieces {
@@ -74,7 +75,7 @@ fn reserve_all(writes: &mut WriteSet, pieces: &[Piece]) -> Result<(), AllocError
 
 /// Puts the pieces of a value in the write set, where each has a row.
 fn put_all(writes: &mut WriteSet, pieces: &[Piece], bytes: &[u8])
-    requires room { All (λ p. IsSome (lookup p.word writes.old)) pieces.now }
+    requires room { HaveRows writes.old pieces.now }
     requires pieces { All IsPiece pieces.now }
     requires bytes { All (λ p. p.at + p.count ≤ length bytes.now) pieces.now }
     ensures rows { writes.new ≡ put_all writes.old pieces.now bytes.now }

@@ -6,6 +6,7 @@ use Rattle.itm_types.specs.declared.step.Step.{Step}
 use Rattle.norec_engine.specs.declared.answer.Next.{Next}
 use Rattle.norec_engine.specs.Moves.{IsResumed}
 use Rattle.norec_engine.specs.Undoing.{after_undoing}
+use Rattle.script_vm.specs.Depth.{is_begin}
 use Rattle.norec_world.specs.declared.attempt.Outcome.TheVariants as outcomes
 use Rattle.norec_world.specs.declared.attempt.End.TheVariants.{Finished, NoMemory}
 use Rattle.norec_world.specs.declared.actor.Actor.{Actor}
@@ -56,6 +57,7 @@ module _ {P : Type 0} (next : P → Option Call) (answered : P → Reply → P) 
   pub record Starves (r : Rows) (a : Actor P) (r' : Rows) (a' : Actor P) : Type 0 where
     pub call : Call
     pub next_is : next a.player ≡ Some call
+    pub grows : a.engine.is_open ≡ false → is_begin call ≡ true  -- outside a block memory is wanted for a begin alone
     pub status : a'.status ≡ Ended NoMemory
     pub player : a'.player ≡ a.player
     pub engine : a'.engine ≡ after_undoing a.engine

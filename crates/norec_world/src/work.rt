@@ -18,6 +18,7 @@ impl<P: Player> Actor<P> {
     ghost use Rattle.norec_world.specs.Status.{is_ready, ending_of};
     ghost use Rattle.norec_world.specs.Records.{Asks, Records, StopsAt};
     ghost use Rattle.norec_engine.specs.Undoing.{after_undoing};
+    ghost use Rattle.script_vm.specs.Depth.{is_begin};
     ghost use Rattle.norec_world.specs.Working.{Acts, Works};
     ghost use Rattle.norec_world.specs.Tracks.{StillTracks};
     ghost use Rattle.norec_world.specs.Own.{KeepsOthers};
@@ -94,6 +95,7 @@ impl<P: Player> Actor<P> {
         ensures told { IfOk result (λ next. Asks memory.now.clock recorded.old recorded.new self.old self.new call.now next) }
         ensures unasked { OnErr result (IsUnasked P.next_call P.answered P.restarted P.calls_left P.depth recorded.new self.old self.new) }
         ensures rows { recorded.new ≡ record recorded.old { room = recorded.new.room } }
+        ensures grows { OnErr result (self.old.engine.is_open ≡ false → is_begin call.now ≡ true) }
         ensures others { KeepsOthers self.old recorded.old self.new recorded.new }
     {
         match call {
@@ -104,6 +106,7 @@ impl<P: Player> Actor<P> {
                 self.pending = Some(attempt);
                 Ok(next)
             }
+            _ if !self.engine.is_open() => self.engine.call(call),
             _ => {
                 let calls = recorded.calls_of(self.thread);
                 self.spare.reserve(calls.saturating_add(1))?;

@@ -1,10 +1,10 @@
-use Rattle.std.proofs.Common.{ℕ, ◌≤◌, List, length, take, drop, get_or, refl, ap, sym, subst, ◌∙◌, arith}
+use Rattle.std.proofs.Common.{ℕ, ◌≤◌, List, length, take, drop, get_or, IsSome, refl, ap, sym, subst, ◌∙◌, arith}
 use Rattle.std.proofs.lemmas.List.{take_more, take_all, drop_all, length-take}
 use Rattle.word_pieces.specs.declared.piece.Piece.{Piece}
 use Rattle.write_set.specs.declared.row.Row.{Row}
-use Rattle.write_set.specs.Rows.{reserved, AreEmpty}
+use Rattle.write_set.specs.Rows.{lookup, reserved, AreEmpty}
 use Rattle.norec_engine.specs.Rows.{reserved_all}
-use Rattle.norec_engine.proofs.Writings.{reserved_all_more, on_err, on_ok}
+use Rattle.norec_engine.proofs.Writings.{reserved_all_more, some_kept_all, not_ok, on_err, on_ok}
 use Rattle.norec_engine.proofs.write.reserve_all.Goals as goal
 
 pub loop-piece-init : goal.loop-piece-init
@@ -42,3 +42,10 @@ loop-piece-preserved c =
 
 pub returns-clause-ok : goal.returns-clause-ok
 returns-clause-ok c = c.loop-piece.invariant.rows ∙ ap (reserved_all c.args.writes.now) (take_all c.loop-piece.piece-index c.args.pieces.now (omega (arith, c.loop-piece-test.false)))
+
+pub returns-then-is_err-clause-grows : goal.returns-then-is_err-clause-grows
+returns-then-is_err-clause-grows c all =
+    let none : Piece = record { word = 0; first = 0; count = 0; at = 0 } in
+    let p : Piece = get_or c.args.pieces.now c.loop-piece.piece-index none in
+    let before = some_kept_all c.args.writes.now (take c.loop-piece.piece-index c.args.pieces.now) p.word (all c.loop-piece.piece-index none c.loop-piece-test.true) in
+    absurd (not_ok c.reserve.result (sym c.is_err.ensures.value ∙ c.if-is_err.true) (c.reserve.ensures.has_row (subst (λ (rows : List Row). IsSome (lookup p.word rows)) (sym c.loop-piece.invariant.rows) before)))

@@ -215,6 +215,7 @@ returns-in-Err-clause-acts g c =
     starves (record {
       call = c.in-Some.call;
       next_is = sym c.next.ensures ∙ c.in-Some.is;
+      grows = c.in-Err.ensures.grows;
       status = c.starve.ensures.status;
       player = c.starve.ensures.player ∙ u.same.player;
       engine = c.starve.ensures.engine ∙ ap after_undoing u.engine;
