@@ -29,7 +29,8 @@ use Rattle.norec_world.specs.World.{World, attempts_of}
 use Rattle.norec_world.specs.Memories.{bytes_at, words_at}
 use Rattle.norec_world.specs.Sees.{AreLaid}
 use Rattle.norec_world.specs.Runs.{run_after, begins_at, RunsFrom, StillRuns}
-use Rattle.norec_world.specs.Opaque.{first_of, AreOpaque, AreRunning}
+use Rattle.norec_world.specs.Opaque.{first_of, AreOpaque}
+use Rattle.norec_world.specs.Invariant.{AreRunning, IsWorld}
 use Rattle.norec_world.specs.Going.{HasRead}
 use Rattle.norec_world.proofs.Frames.{set_place, within_of, there_is, are_open}
 use Rattle.norec_world.proofs.Following.{stands_open}
@@ -241,22 +242,22 @@ module _ {P : Type 0} (next : P → Option Call) (answered : P → Reply → P) 
           (x.sees fed).loaded.held h ∙ ap (λ (m : List ℕ). backed a.engine (words_of m)) (sym (shown_still (w.cells.clock / 2) top)));
     }
 
-  pub world_opaque : (depth : P → ℕ) (w : World P) (sound : AreActors next answered restarted left depth w.cells w.attempts w.actors) → length w.actors ≡ length w.opening → AreRunning next answered restarted left w → AreOpaque next answered restarted left w
-  world_opaque depth w sound long running = are_opaque depth w sound (are_open next answered restarted left depth w.cells w.attempts w.actors sound running.ordered) long running
+  pub world_opaque : (depth : P → ℕ) (w : World P) → IsWorld next answered restarted left depth w → AreOpaque next answered restarted left w
+  world_opaque depth w kept = are_opaque depth w kept.actors (are_open next answered restarted left depth w.cells w.attempts w.actors kept.actors kept.running.ordered) kept.long kept.running
 
   -- ## An actor's work in a world
 
-  module _ (depth : P → ℕ) (w : World P) (sound : AreActors next answered restarted left depth w.cells w.attempts w.actors) (long : length w.actors ≡ length w.opening) (commits : CommitsInOrder w) (running : AreRunning next answered restarted left w)
+  module _ (depth : P → ℕ) (w : World P) (kept : IsWorld next answered restarted left depth w)
       (i : ℕ) (got new : Actor P) (here : slice_get w.actors i ≡ Some got) (cells' : Cells) (r' : Rows) (events : ℕ) (others : KeepsOthers got w.attempts new r') (clocks : ClocksOn w.cells got.engine cells' new.engine)
       (runs : StillRuns next answered restarted left w.cells w.attempts got cells' r' new) where
     mine : got.thread ≡ i
-    mine = (sound.each i got here).thread
+    mine = (kept.actors.each i got here).thread
 
     player : (p : P) × (slice_get w.opening i ≡ Some p)
-    player = there_is w.opening i (let l = within_of w.actors i got here in omega (arith, long))
+    player = there_is w.opening i (let l = within_of w.actors i got here in omega (arith, kept.long))
 
     went : AreLaid w.base cells' r' × RunsFrom next answered restarted left (first_of player.0 w.arena) w.base cells' r' new
-    went = runs (first_of player.0 w.arena) w.base running.laid (running.each i player.0 got player.1 here)
+    went = runs (first_of player.0 w.arena) w.base kept.running.laid (kept.running.each i player.0 got player.1 here)
 
     -- what its transaction has read is of one memory
     pub has_read : IsTied cells' new.engine → HasRead w.base r' new
@@ -269,20 +270,20 @@ module _ {P : Type 0} (next : P → Option Call) (answered : P → Reply → P) 
     -- another one that holds the clock sees no change
     others_held : (j : ℕ) (b : Actor P) → i ≢ j → slice_get w.actors j ≡ Some b → b.engine.holds ≡ true → cells' ≡ w.cells
     others_held j b apart e h =
-        let tied = (sound.each j b e).sound.tied in
+        let tied = (kept.actors.each j b e).sound.tied in
         let odd : w.cells.clock % 2 ≡ 1 = (let held = tied.holder h in let even = held_even b.engine tied.settled h in omega arith) in
         (clocks.apart odd (not_holding got.engine.holds refl)).0
       where
         not_holding : (x : Bool) → got.engine.holds ≡ x → got.engine.holds ≡ false
-        not_holding true g = absurd (apart (commits.one i j got b here e g h))
+        not_holding true g = absurd (apart (kept.commits.one i j got b here e g h))
         not_holding false g = g
 
     pub running_after : AreRunning next answered restarted left (record w { cells = cells'; actors = slice_set w.actors i new; attempts = r'; events = events })
     running_after = record {
       laid = went.0;
-      ordered = others.own.ordered running.ordered;
+      ordered = others.own.ordered kept.running.ordered;
       threads = subst (λ (n : ℕ). AreOfActors n r'.ended) (sym (length-set w.actors i new)) (subst (AreOfActors (length w.actors)) (sym others.own.ended)
-          (of_actors_both (length w.actors) w.attempts.ended others.own.more running.threads (of_actors_all (length w.actors) got.thread others.own.more (let l = within_of w.actors i got here in let t = mine in omega arith) others.own.mine)));
+          (of_actors_both (length w.actors) w.attempts.ended others.own.more kept.running.threads (of_actors_all (length w.actors) got.thread others.own.more (let l = within_of w.actors i got here in let t = mine in omega arith) others.own.mine)));
       each = each_after;
     }
       where
@@ -293,9 +294,9 @@ module _ {P : Type 0} (next : P → Option Call) (answered : P → Reply → P) 
               subst (λ (x : Actor P). RunsFrom next answered restarted left (first_of p w.arena) w.base cells' r' x) (sym h.1)
               (subst (λ (q : P). RunsFrom next answered restarted left (first_of q w.arena) w.base cells' r' new) same_player went.1))
           | inr h ↦
-              (let b = sound.each place a h.1 in
-              other_runs (first_of p w.arena) w.base w.cells cells' w.attempts r' got.thread a running.laid b.sound.tied others.own
-              (λ same. h.0 (sym mine ∙ (sym same ∙ b.thread))) clocks.late (others_held place a h.0 h.1) (running.each place p a e h.1))
+              (let b = kept.actors.each place a h.1 in
+              other_runs (first_of p w.arena) w.base w.cells cells' w.attempts r' got.thread a kept.running.laid b.sound.tied others.own
+              (λ same. h.0 (sym mine ∙ (sym same ∙ b.thread))) clocks.late (others_held place a h.0 h.1) (kept.running.each place p a e h.1))
         ]
 
   -- ## Beginnings

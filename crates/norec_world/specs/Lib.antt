@@ -26,5 +26,6 @@ pub mod Memories
 pub mod Sees
 pub mod Runs
 pub mod Opaque
+pub mod Invariant
 pub mod Places
 pub mod Views

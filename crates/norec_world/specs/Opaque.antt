@@ -7,12 +7,11 @@ use Rattle.norec_engine.specs.Proceeds.{backed}
 use Rattle.norec_world.specs.declared.actor.Actor.{Actor}
 use Rattle.norec_world.specs.Attempts.{of_thread}
 use Rattle.norec_world.specs.declared.attempt.Attempt.{Attempt}
-use Rattle.norec_world.specs.Rows.{AreFrom, AreOfActors, active_of}
+use Rattle.norec_world.specs.Rows.{AreOfActors, active_of}
 use Rattle.norec_world.specs.Opacity.{Between, IsRunOf}
 use Rattle.norec_world.specs.World.{World, attempts_of, memory_of}
 use Rattle.norec_world.specs.Memories.{bytes_at, words_at}
-use Rattle.norec_world.specs.Sees.{AreLaid}
-use Rattle.norec_world.specs.Runs.{IsRun, RunsFrom}
+use Rattle.norec_world.specs.Runs.{IsRun}
 
 -- a player before its first try, with an arena of so many bytes
 abbrev pub first_of : {P : Type 0} → P → ℕ → Between P
@@ -28,10 +27,3 @@ module _ {P : Type 0} (next : P → Option Call) (answered : P → Reply → P) 
     pub reads : (place : ℕ) (a : Actor P) (row : Attempt) → slice_get w.actors place ≡ Some a → active_of place w.attempts.active ≡ Some row → row.at ≡ a.engine.snapshot / 2  -- an open one is at half its engine's snapshot
     pub free : w.cells.clock % 2 ≡ 0 → memory_of w ≡ bytes_at w.base (attempts_of w) (w.cells.clock / 2)
     pub held : (place : ℕ) (a : Actor P) → slice_get w.actors place ≡ Some a → a.engine.holds ≡ true → w.cells.words ≡ backed a.engine (words_at w.base (attempts_of w) (w.cells.clock / 2))
-
-  -- the same between two events, with what the actors have not recorded yet
-  pub record AreRunning (w : World P) : Type 0 where
-    pub laid : AreLaid w.base w.cells w.attempts
-    pub ordered : AreFrom 0 w.attempts.active
-    pub threads : AreOfActors (length w.actors) w.attempts.ended
-    pub each : (place : ℕ) (p : P) (a : Actor P) → slice_get w.opening place ≡ Some p → slice_get w.actors place ≡ Some a → RunsFrom next answered restarted left (first_of p w.arena) w.base w.cells w.attempts a

@@ -35,15 +35,11 @@ impl<P: Player> Model for World<P> {
     ghost Value = { World P };
 
     ghost use Rattle.norec_world.specs.Views.{world_of};
-    ghost use Rattle.std.specs.Prelude.{◌≡◌, length};
-    ghost use Rattle.norec_world.specs.World.{RunsAlone};
-    ghost use Rattle.norec_world.specs.Actors.{AreActors};
-    ghost use Rattle.norec_world.specs.Commits.{CommitsInOrder};
-    ghost use Rattle.norec_world.specs.Opaque.{AreRunning};
+    ghost use Rattle.norec_world.specs.Invariant.{IsWorld};
 
     ghost view = { world_of };
 
-    ghost invariant = { λ w. AreActors P.next_call P.answered P.restarted P.calls_left P.depth w.memory w.recorded w.actors.items × (length w.actors.items ≡ length w.opening.items) × RunsAlone P.next_call P.answered P.calls_left (world_of w) × CommitsInOrder (world_of w) × AreRunning P.next_call P.answered P.restarted P.calls_left (world_of w) };
+    ghost invariant = { λ w. IsWorld P.next_call P.answered P.restarted P.calls_left P.depth (world_of w) };
 }
 
 impl<P: Player> World<P> {

@@ -25,7 +25,7 @@ step-requires-clause-sound g c =
     let W : World g.row.P.Denot → Type 0 = λ w. IsSome (waits_at w c.args.actor) in
     let actors = c.self.inside.actors.items in
     let within : c.args.actor < length actors = within_some (λ (a : Actor g.row.P.Denot). waiting_step a.status) actors c.args.actor (subst W (sym c.self.view_is) c.requires) in
-    (c.self.invariant.0.each c.args.actor c.index_mut-a.result.now (got_at actors c.args.actor c.index_mut-a.result.now within c.index_mut-a.ensures.value)).sound
+    (c.self.invariant.actors.each c.args.actor c.index_mut-a.result.now (got_at actors c.args.actor c.index_mut-a.result.now within c.index_mut-a.ensures.value)).sound
 
 pub step-requires-clause-waits : goal.step-requires-clause-waits
 step-requires-clause-waits g c =
@@ -43,36 +43,36 @@ invariant_of-self g c =
     let within : c.args.actor < length actors = within_some (λ (a : Actor g.row.P.Denot). waiting_step a.status) actors c.args.actor (subst W (sym c.self.view_is) c.requires) in
     let got = c.index_mut-a.result.now in
     let here : slice_get actors c.args.actor ≡ Some got = got_at actors c.args.actor got within c.index_mut-a.ensures.value in
-    let sound = c.self.invariant.0 in
+    let sound = c.self.invariant.actors in
     let mine = (sound.each c.args.actor got here).thread in
-    let read = has_read g.P.Player.next_call g.P.Player.answered g.P.Player.restarted g.P.Player.calls_left g.met.P.Player.nearer g.P.Player.depth (world_of c.self.inside) c.self.invariant.0 c.self.invariant.1 c.self.invariant.3 c.self.invariant.4
+    let read = has_read g.P.Player.next_call g.P.Player.answered g.P.Player.restarted g.P.Player.calls_left g.met.P.Player.nearer g.P.Player.depth (world_of c.self.inside) c.self.invariant
     c.args.actor got c.step.new.self here c.step.new.memory c.step.new.recorded c.self.inside.events c.step.ensures.others c.step.ensures.clocks c.step.ensures.runs c.step.ensures.sound.tied in
     let event = event_then g.P.Player.next_call g.P.Player.answered g.P.Player.restarted g.P.Player.calls_left g.P.Player.depth c.self.inside.base c.self.inside.memory c.step.new.memory
     c.self.inside.recorded c.step.new.recorded c.work.new.recorded got c.step.new.self c.work.new.self c.step.ensures.sound
     (record { rows = c.step.new.recorded; stepped = c.step.new.self; takes = c.step.ensures.takes; works = works_none g.P.Player.next_call g.P.Player.answered g.P.Player.restarted c.step.new.memory.clock c.step.new.recorded c.step.new.self; tries = c.step.ensures.tries; finishes = λ e. absurd (c.step.ensures.unfinished e); others = c.step.ensures.others; clocks = c.step.ensures.clocks; retries = c.step.ensures.retries })
-    read c.work.ensures.others c.work.ensures.holds c.work.ensures.limit c.work.ensures.retries c.work.ensures.snapshot c.work.ensures.tries c.work.ensures.finishes c.work.ensures.still c.work.ensures.works in (
-      actors_after g.P.Player.next_call g.P.Player.answered g.P.Player.restarted g.P.Player.calls_left g.P.Player.depth c.self.inside.memory c.step.new.memory c.self.inside.recorded c.work.new.recorded
+    read c.work.ensures.others c.work.ensures.holds c.work.ensures.limit c.work.ensures.retries c.work.ensures.snapshot c.work.ensures.tries c.work.ensures.finishes c.work.ensures.still c.work.ensures.works in record {
+      actors = actors_after g.P.Player.next_call g.P.Player.answered g.P.Player.restarted g.P.Player.calls_left g.P.Player.depth c.self.inside.memory c.step.new.memory c.self.inside.recorded c.work.new.recorded
           actors sound c.args.actor got c.work.new.self here c.work.ensures.sound c.work.ensures.done
           (others_twice got c.step.new.self c.work.new.self c.self.inside.recorded c.step.new.recorded c.work.new.recorded c.step.ensures.others c.work.ensures.others)
           (clocks_twice c.self.inside.memory c.step.new.memory c.step.new.memory got.engine c.step.new.self.engine c.work.new.self.engine c.step.ensures.clocks
-          (clocks_still c.step.new.memory c.step.new.self.engine c.work.new.self.engine c.work.ensures.holds c.work.ensures.limit)),
-      length-set actors c.args.actor c.work.new.self ∙ c.self.invariant.1,
-      λ one.
-          (let alone = c.self.invariant.2 one in
+          (clocks_still c.step.new.memory c.step.new.self.engine c.work.new.self.engine c.work.ensures.holds c.work.ensures.limit));
+      long = length-set actors c.args.actor c.work.new.self ∙ c.self.invariant.long;
+      alone = λ one.
+          (let alone = c.self.invariant.alone one in
           let zero : got.thread ≡ 0 = mine ∙ place_is g.P.Player.next_call g.P.Player.answered g.P.Player.calls_left c.self.inside.memory c.step.new.memory c.self.inside.recorded c.work.new.recorded actors
           c.self.inside.opening.items c.self.inside.base c.self.inside.terms.arena c.self.inside.terms.limits.max_commits alone c.args.actor within got here in
           place_alone g.P.Player.next_call g.P.Player.answered g.P.Player.calls_left c.self.inside.memory c.step.new.memory c.self.inside.recorded c.work.new.recorded actors
           c.self.inside.opening.items c.self.inside.base c.self.inside.terms.arena c.self.inside.terms.limits.max_commits alone c.args.actor within got here c.work.new.self
-          (λ max_commits p0 base arena t. c.work.ensures.tracks (c.step.ensures.thread ∙ zero) max_commits p0 base arena (c.step.ensures.tracks zero max_commits p0 base arena t))),
-      commits_after g.P.Player.next_call g.P.Player.answered g.P.Player.restarted (world_of c.self.inside) c.self.invariant.3 c.args.actor got c.work.new.self here c.step.new.memory c.work.new.recorded c.saturating_add-self-inside.result
-          event.0,
-      running_after g.P.Player.next_call g.P.Player.answered g.P.Player.restarted g.P.Player.calls_left g.met.P.Player.nearer g.P.Player.depth (world_of c.self.inside) sound c.self.invariant.1 c.self.invariant.3 c.self.invariant.4
+          (λ max_commits p0 base arena t. c.work.ensures.tracks (c.step.ensures.thread ∙ zero) max_commits p0 base arena (c.step.ensures.tracks zero max_commits p0 base arena t)));
+      commits = commits_after g.P.Player.next_call g.P.Player.answered g.P.Player.restarted (world_of c.self.inside) c.self.invariant.commits c.args.actor got c.work.new.self here c.step.new.memory c.work.new.recorded c.saturating_add-self-inside.result
+          event.0;
+      running = running_after g.P.Player.next_call g.P.Player.answered g.P.Player.restarted g.P.Player.calls_left g.met.P.Player.nearer g.P.Player.depth (world_of c.self.inside) c.self.invariant
           c.args.actor got c.work.new.self here c.step.new.memory c.work.new.recorded c.saturating_add-self-inside.result
           (others_twice got c.step.new.self c.work.new.self c.self.inside.recorded c.step.new.recorded c.work.new.recorded c.step.ensures.others c.work.ensures.others)
           (clocks_twice c.self.inside.memory c.step.new.memory c.step.new.memory got.engine c.step.new.self.engine c.work.new.self.engine c.step.ensures.clocks
           (clocks_still c.step.new.memory c.step.new.self.engine c.work.new.self.engine c.work.ensures.holds c.work.ensures.limit))
-          (λ first base laid runs. (let x = c.step.ensures.runs first base laid runs in c.work.ensures.runs first base x.0 x.1)),
-    )
+          (λ first base laid runs. (let x = c.step.ensures.runs first base laid runs in c.work.ensures.runs first base x.0 x.1));
+    }
 
 -- the step and the local work after it are one event of the world
 pub returns-clause-goes : goal.returns-clause-goes
@@ -83,7 +83,7 @@ returns-clause-goes g c =
     let within : c.args.actor < length actors = within_some (λ (x : Actor g.row.P.Denot). waiting_step x.status) actors c.args.actor waits in
     let got = c.index_mut-a.result.now in
     let here : slice_get actors c.args.actor ≡ Some got = got_at actors c.args.actor got within c.index_mut-a.ensures.value in
-    let read = has_read g.P.Player.next_call g.P.Player.answered g.P.Player.restarted g.P.Player.calls_left g.met.P.Player.nearer g.P.Player.depth (world_of c.self.inside) c.self.invariant.0 c.self.invariant.1 c.self.invariant.3 c.self.invariant.4
+    let read = has_read g.P.Player.next_call g.P.Player.answered g.P.Player.restarted g.P.Player.calls_left g.met.P.Player.nearer g.P.Player.depth (world_of c.self.inside) c.self.invariant
     c.args.actor got c.step.new.self here c.step.new.memory c.step.new.recorded c.self.inside.events c.step.ensures.others c.step.ensures.clocks c.step.ensures.runs c.step.ensures.sound.tied in
     let event = event_then g.P.Player.next_call g.P.Player.answered g.P.Player.restarted g.P.Player.calls_left g.P.Player.depth c.self.inside.base c.self.inside.memory c.step.new.memory
     c.self.inside.recorded c.step.new.recorded c.work.new.recorded got c.step.new.self c.work.new.self c.step.ensures.sound
@@ -93,17 +93,17 @@ returns-clause-goes g c =
     let new : World g.row.P.Denot = record old { cells = c.step.new.memory; actors = slice_set actors c.args.actor c.work.new.self; attempts = c.work.new.recorded; events = c.saturating_add-self-inside.result } in
     subst (λ (w : World g.row.P.Denot). Goes g.P.Player.next_call g.P.Player.answered g.P.Player.restarted g.P.Player.calls_left c.args.actor w (told (ending_at new c.args.actor)) new) c.self.view_is
     (event_goes g.P.Player.next_call g.P.Player.answered g.P.Player.restarted g.P.Player.calls_left old new c.args.actor waits
-    (lawful_at g.P.Player.next_call g.P.Player.answered g.P.Player.restarted g.P.Player.calls_left g.P.Player.depth old old.attempts c.self.invariant.0 c.args.actor)
+    (lawful_at g.P.Player.next_call g.P.Player.answered g.P.Player.restarted g.P.Player.calls_left g.P.Player.depth old old.attempts c.self.invariant.actors c.args.actor)
     (λ step w. c.step.ensures.cells step (sym (ap (option_and_then (λ (a : Actor g.row.P.Denot). waiting_step a.status)) here) ∙ w))
     c.saturating_add-self-inside.ensures
     (λ a is.
     (let same : got ≡ a = (let found : Some got ≡ Some a = sym here ∙ is in cc) in
     subst (λ (x : Actor g.row.P.Denot). ActorGoes g.P.Player.next_call g.P.Player.answered g.P.Player.restarted g.P.Player.calls_left c.args.actor old x new) same (c.work.new.self, refl, event.0, c.work.ensures.done, event.1)))
-    kept.3
-    (world_opaque g.P.Player.next_call g.P.Player.answered g.P.Player.restarted g.P.Player.calls_left g.met.P.Player.nearer g.P.Player.depth new kept.0 kept.1 kept.4)
+    kept.commits
+    (world_opaque g.P.Player.next_call g.P.Player.answered g.P.Player.restarted g.P.Player.calls_left g.met.P.Player.nearer g.P.Player.depth new kept)
     (record { opening = refl; base = refl; arena = refl; patience = refl; max_commits = refl; retries = refl })
     (length-set actors c.args.actor c.work.new.self)
-    (shows_alone g.P.Player.next_call g.P.Player.answered g.P.Player.calls_left new kept.2))
+    (shows_alone g.P.Player.next_call g.P.Player.answered g.P.Player.calls_left new kept.alone))
 
 pub returns-clause-less : goal.returns-clause-less
 returns-clause-less g c a b is is' =

@@ -7,4 +7,4 @@ use Rattle.norec_world.proofs.world.World.events.Goals as goal
 pub returns-clause-opaque : goal.returns-clause-opaque
 returns-clause-opaque g c =
     subst (AreOpaque g.P.Player.next_call g.P.Player.answered g.P.Player.restarted g.P.Player.calls_left) c.self.view_is
-    (world_opaque g.P.Player.next_call g.P.Player.answered g.P.Player.restarted g.P.Player.calls_left g.met.P.Player.nearer g.P.Player.depth (world_of c.self.inside) c.self.invariant.0 c.self.invariant.1 c.self.invariant.4)
+    (world_opaque g.P.Player.next_call g.P.Player.answered g.P.Player.restarted g.P.Player.calls_left g.met.P.Player.nearer g.P.Player.depth (world_of c.self.inside) c.self.invariant)

@@ -11,13 +11,13 @@ use Rattle.norec_world.proofs.CommitCounts.{commits_first}
 use Rattle.norec_world.proofs.world.World.new.Goals as goal
 
 pub invariant_of-result : goal.invariant_of-result
-invariant_of-result g c = (
-  search rules,
-  search rules,
-  search rules,
-  commits_first g.P.Player.next_call g.P.Player.answered g.P.Player.restarted g.P.Player.calls_left g.P.Player.depth _
-      c.in_ok-actors.ensures.sound c.new-memory.ensures.clock c.in_ok-actors.ensures.none.0 c.in_ok-actors.ensures.first,
-  record {
+invariant_of-result g c = record {
+  actors = search rules;
+  long = search rules;
+  alone = search rules;
+  commits = commits_first g.P.Player.next_call g.P.Player.answered g.P.Player.restarted g.P.Player.calls_left g.P.Player.depth _
+      c.in_ok-actors.ensures.sound c.new-memory.ensures.clock c.in_ok-actors.ensures.none.0 c.in_ok-actors.ensures.first;
+  running = record {
     laid = laid_first c.new-base.result c.new-memory.result c.start_all.new.recorded (search rules) c.new-memory.ensures.fit c.new-memory.ensures.clock c.in_ok-actors.ensures.none.0;
     ordered = subst (AreFrom 0) (sym c.in_ok-actors.ensures.none.1) tt;
     threads = subst (AreOfActors (length c.in_ok-actors.actors.items)) (sym c.in_ok-actors.ensures.none.0) tt;
@@ -26,19 +26,19 @@ invariant_of-result g c = (
         let players : c.in_ok-opening.opening.items ≡ c.args.players.items = search rules in
         subst (λ (base : List ℕ). RunsFrom g.P.Player.next_call g.P.Player.answered g.P.Player.restarted g.P.Player.calls_left (first_of p c.args.setup.arena) base c.new-memory.result c.start_all.new.recorded a) (sym based)
         (c.in_ok-actors.ensures.runs place p a (ap (λ (xs : List g.row.P.Denot). slice_get xs place) (sym players) ∙ e) f));
-  },
-)
+  };
+}
 
 pub returns-clause-first : goal.returns-clause-first
 returns-clause-first g c place a e = subst (λ (n : ℕ). IsBetween n 1 c.start_all.new.recorded a) c.new-memory.ensures.clock (c.in_ok-actors.ensures.first place a e).between
 
 pub returns-clause-commits : goal.returns-clause-commits
-returns-clause-commits g c = (invariant_of-result g c).3
+returns-clause-commits g c = (invariant_of-result g c).commits
 
 pub returns-clause-opaque : goal.returns-clause-opaque
 returns-clause-opaque g c =
     let x = invariant_of-result g c in
-    world_opaque g.P.Player.next_call g.P.Player.answered g.P.Player.restarted g.P.Player.calls_left g.met.P.Player.nearer g.P.Player.depth _ x.0 x.1 x.4
+    world_opaque g.P.Player.next_call g.P.Player.answered g.P.Player.restarted g.P.Player.calls_left g.met.P.Player.nearer g.P.Player.depth _ x
 
 pub returns-clause-starts : goal.returns-clause-starts
 returns-clause-starts g c place p a e f =
