@@ -9,7 +9,7 @@ use Rattle.norec_world.specs.World.{World, attempts_of, ending_at, memory_of}
 use Rattle.norec_world.specs.Commits.{CommitsInOrder}
 use Rattle.norec_world.specs.Opaque.{AreOpaque}
 use Rattle.norec_world.specs.Tries.{IsBetween}
-use Rattle.norec_world.specs.Starts.{AreStarted}
+use Rattle.norec_world.specs.Starts.{IsNew}
 use Rattle.norec_world.specs.Going.{Leads, Takes}
 use Rattle.script_asm.specs.declared.schedule.Item.{Item}
 use Rattle.script_asm.specs.declared.schedule.Item.TheVariants.{Take, Out}
@@ -29,15 +29,10 @@ pub record Begins (p : Listing) (w : World Thread) : Type 0 where
   pub patience : w.patience ≡ p.patience
   pub limit : w.max_commits ≡ p.commits
   pub retries : w.retries ≡ p.retries
-  pub clock : w.cells.clock ≡ 0
-  pub events : w.events ≡ 0
-  pub actors : length w.actors ≡ length (threads_of p)
-  pub none : attempts_of w ≡ []
+  pub anew : IsNew next_call answered restarted w  -- before its first event, each thread having done its local work up to its first step
   pub first : (place : ℕ) (a : Actor Thread) → slice_get w.actors place ≡ Some a → IsBetween 0 1 w.attempts a  -- each is before its first try
-  pub starts : AreStarted next_call answered restarted w  -- and has done its local work up to its first step
   pub commits : CommitsInOrder w
   pub opaque : AreOpaque next_call answered restarted calls_left w
-  pub fed : (actor : ℕ) → ending_at w actor ≡ Some NoMemory → ⊥  -- none of them has found no memory
 
 -- ## The schedule
 

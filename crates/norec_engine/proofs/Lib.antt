@@ -9,3 +9,4 @@ pub mod Keeping
 pub mod Resting
 pub mod Logs
 pub mod Examples
+pub mod OneOutcome

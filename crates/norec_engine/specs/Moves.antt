@@ -5,7 +5,7 @@ use Rattle.norec_engine.specs.declared.answer.Next.{Next}
 use Rattle.norec_engine.specs.Core.{Core, came, handed}
 use Rattle.norec_engine.specs.Order.{stage_at, stage_after, snapshot_after, log_after, tries_after, tries_at, asked}
 use Rattle.norec_engine.specs.Endings.{ending_at, ending_after, EndsSo}
-use Rattle.norec_engine.specs.Proceeds.{Proceeds, Joins, StaysOn, IsAtOnce}
+use Rattle.norec_engine.specs.Proceeds.{Proceeds, Joins, StaysOn, IsAtOnce, IsSettled}
 
 -- the call came, and this came of it
 pub record IsCalled (old : Core) (call : Call) (again : Bool) (what : Next) (new : Core) : Type 0 where
@@ -16,6 +16,7 @@ pub record IsCalled (old : Core) (call : Call) (again : Bool) (what : Next) (new
   pub ends : EndsSo (ending_at old call) what
   pub tries : new.tries ≡ tries_at new.stage
   pub asks : new.waits ≡ asked new
+  pub settled : IsSettled new
 
 -- the step that it waited for found this value, and this came of it
 pub record IsResumed (old : Core) (seen : ℕ) (what : Next) (new : Core) : Type 0 where
@@ -27,3 +28,4 @@ pub record IsResumed (old : Core) (seen : ℕ) (what : Next) (new : Core) : Type
   pub snapshot : new.snapshot ≡ snapshot_after old seen
   pub log : new.is_open ≡ true → new.log ≡ log_after old seen
   pub asks : new.waits ≡ asked new
+  pub settled : IsSettled new

@@ -1,8 +1,8 @@
 -- What an engine means over a memory: a state of the plain machine.
-use Rattle.std.specs.Prelude.{ℕ, Bool, true, false, if◌then◌else◌, List, [], ◌∷◌}
+use Rattle.std.specs.Prelude.{◌≡◌, ℕ, Bool, true, false, if◌then◌else◌, List, [], ◌∷◌}
 use Rattle.write_set.specs.declared.row.Row.{Row}
 use Rattle.itm_types.specs.declared.call.Props.{Props}
-use Rattle.itm_types.specs.Memory.{bytes_of}
+use Rattle.itm_types.specs.Memory.{bytes_of, IsMemory, Agrees}
 use Rattle.write_set.specs.Rows.{overlay}
 use Rattle.itm_model.specs.State.{Block, State}
 use Rattle.norec_engine.specs.Core.{Core}
@@ -26,3 +26,7 @@ state_over writes is_open props arena m = record {
 -- the memory is this one with the write set laid over it
 abbrev pub stands_for : Core → List ℕ → State
 stands_for c m = state_over c.writes c.is_open c.props c.arena m
+
+-- where a transaction is open, one memory agrees with its log
+abbrev pub SeesOne : Core → Type 0
+SeesOne c = c.is_open ≡ true → (m : List ℕ) × IsMemory c.words m × Agrees m c.log

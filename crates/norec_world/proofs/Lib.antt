@@ -44,3 +44,10 @@ pub mod Handing
 pub mod Beginnings
 pub mod Ends
 pub mod Pinned
+pub mod AlikeAnswers
+pub mod HeldAttempts
+pub mod AlikeCalls
+pub mod AlikeWork
+pub mod AlikeWorlds
+pub mod AlikeSchedules
+pub mod AlikeStarts

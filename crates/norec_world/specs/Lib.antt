@@ -29,3 +29,6 @@ pub mod Opaque
 pub mod Invariant
 pub mod Places
 pub mod Views
+pub mod Alike
+pub mod SameWorlds
+pub mod ScheduleDecides

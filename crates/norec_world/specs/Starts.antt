@@ -1,16 +1,17 @@
 -- Actors that have taken no step.
-use Rattle.std.specs.Prelude.{◌≡◌, ℕ, ◌/◌, false, length, replicate, slice_get, Option, None, Some}
+use Rattle.std.specs.Prelude.{◌≡◌, ℕ, ◌/◌, false, [], length, replicate, slice_get, Option, None, Some}
 use Rattle.itm_types.specs.declared.call.Call.{Call}
 use Rattle.itm_types.specs.declared.call.Reply.{Reply}
 use Rattle.norec_engine.specs.Core.{Core, opening}
-use Rattle.norec_world.specs.declared.attempt.End.TheVariants.{Finished}
+use Rattle.norec_world.specs.declared.attempt.End.TheVariants.{Finished, NoMemory}
 use Rattle.norec_world.specs.declared.actor.Status.TheVariants.{Ready}
 use Rattle.norec_world.specs.declared.actor.Actor.{Actor}
 use Rattle.norec_world.specs.Rows.{Rows}
 use Rattle.norec_world.specs.Status.{ending_of, is_ready}
 use Rattle.norec_world.specs.Tries.{IsBetween}
 use Rattle.norec_world.specs.Working.{Works}
-use Rattle.norec_world.specs.World.{World}
+use Rattle.norec_world.specs.Cells.{words_of}
+use Rattle.norec_world.specs.World.{World, attempts_of, ending_at}
 
 -- an actor with these limits, before or at the begin of its first try
 pub record IsFirst {P : Type 0} (clock patience max_commits retries : ℕ) (r : Rows) (a : Actor P) : Type 0 where
@@ -40,3 +41,13 @@ pub record HasStarted {P : Type 0} (next : P → Option Call) (answered : P → 
 abbrev pub AreStarted : {P : Type 0} → (P → Option Call) → (P → Reply → P) → (P → P) → World P → Type 0
 AreStarted {P} next answered restarted w = (place : ℕ) (p : P) (a : Actor P) → slice_get w.opening place ≡ Some p → slice_get w.actors place ≡ Some a
     → HasStarted next answered restarted w.cells.clock (opening (length w.base / 8) (replicate w.arena 0) w.patience w.max_commits) w.retries place p a
+
+-- a world before its first event, to which no memory was refused
+pub record IsNew {P : Type 0} (next : P → Option Call) (answered : P → Reply → P) (restarted : P → P) (w : World P) : Type 0 where
+  pub starts : AreStarted next answered restarted w
+  pub clock : w.cells.clock ≡ 0
+  pub words : w.cells.words ≡ words_of w.base
+  pub none : attempts_of w ≡ []
+  pub events : w.events ≡ 0
+  pub actors : length w.actors ≡ length w.opening
+  pub fed : (actor : ℕ) → ending_at w actor ≡ Some NoMemory → ⊥

@@ -5,6 +5,7 @@ ghost use Rattle.itm_model.specs.declared.limits.TheConstants.{MAX_DEPTH};
 ghost use Rattle.norec_world.specs.declared.attempt.Attempt.{Attempt};
 ghost use Rattle.norec_world.specs.Attempts.{pairs_of};
 ghost use Rattle.norec_world.specs.Opacity.{IsBeginningOf, IsOpaque};
+ghost use Rattle.norec_world.specs.ScheduleDecides.{BeginningDecides, EventDecides, EntriesDecide, RunDecides, SameShows, ScheduleDecides};
 
 use script_vm::Player;
 
@@ -15,4 +16,16 @@ pub fn isolation<P: Player>()
     ensures { (p : P) (a b : Attempt) (n m : ℕ) (memory : List ℕ)
         → IsOpaque P.next_call P.answered P.restarted P.calls_left MAX_DEPTH p a n memory → IsOpaque P.next_call P.answered P.restarted P.calls_left MAX_DEPTH p b m memory
         → a.arena ≡ b.arena → a.props ≡ b.props → IsBeginningOf (pairs_of a) (pairs_of b) ⊎ IsBeginningOf (pairs_of b) (pairs_of a) }
+{}
+
+/// A schedule decides everything: two worlds of equal beginning, led on by the same entries with no memory refused,
+/// have equal attempts, bytes, clock, events and endings. The other clauses are its steps, for worlds that were led on
+/// in turn by events, by schedules and by actors that ran to their ends. Does nothing.
+pub fn decided<P: Player>()
+    ensures begins { BeginningDecides P.next_call P.answered P.restarted P.calls_left }
+    ensures goes { EventDecides P.next_call P.answered P.restarted P.calls_left }
+    ensures led { EntriesDecide P.next_call P.answered P.restarted P.calls_left }
+    ensures ran_out { RunDecides P.next_call P.answered P.restarted P.calls_left }
+    ensures shows { SameShows P.next_call P.answered P.restarted P.calls_left }
+    ensures decided { ScheduleDecides P.next_call P.answered P.restarted P.calls_left }
 {}

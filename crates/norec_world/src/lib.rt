@@ -18,7 +18,7 @@ mod world;
 
 pub use attempt::{Attempt, End, Entry, Outcome};
 pub use fault::WorldFault;
-pub use laws::isolation;
+pub use laws::{decided, isolation};
 pub use lists::{Bytes, Calls};
 pub use schedule::Passes;
 pub use setup::Setup;

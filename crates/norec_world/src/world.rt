@@ -50,7 +50,7 @@ impl<P: Player> World<P> {
     ghost use Rattle.norec_world.specs.Actors.{AreActors};
     ghost use Rattle.norec_world.specs.Rows.{AreOpen};
     ghost use Rattle.norec_world.specs.Tries.{IsBetween};
-    ghost use Rattle.norec_world.specs.Starts.{AreStarted};
+    ghost use Rattle.norec_world.specs.Starts.{IsNew};
     ghost use Rattle.norec_world.specs.declared.actor.Actor.{Actor};
     ghost use Rattle.norec_world.specs.Commits.{CommitsInOrder};
     ghost use Rattle.norec_world.specs.Opaque.{AreOpaque};
@@ -74,15 +74,10 @@ impl<P: Player> World<P> {
         ensures patience { IfOk result (λ w. w.patience ≡ setup.limits.patience) }
         ensures limit { IfOk result (λ w. w.max_commits ≡ setup.limits.max_commits) }
         ensures retries { IfOk result (λ w. w.retries ≡ setup.retries) }
-        ensures clock { IfOk result (λ w. w.cells.clock ≡ 0) }
-        ensures none { IfOk result (λ w. attempts_of w ≡ []) }
         ensures first { IfOk result (λ w. (place : ℕ) (a : Actor P) → slice_get w.actors place ≡ Some a → IsBetween 0 1 w.attempts a) }
-        ensures starts { IfOk result (AreStarted P.next_call P.answered P.restarted) }
         ensures commits { IfOk result (λ w. CommitsInOrder w) }
         ensures opaque { IfOk result (AreOpaque P.next_call P.answered P.restarted P.calls_left) }
-        ensures events { IfOk result (λ w. w.events ≡ 0) }
-        ensures actors { IfOk result (λ w. length w.actors ≡ length players.items) }
-        ensures fed { IfOk result (λ w. (actor : ℕ) → ending_at w actor ≡ Some End.NoMemory → ⊥) }
+        ensures anew { IfOk result (IsNew P.next_call P.answered P.restarted) }
     {
         let opening = copies(alloc, &players)?;
         let base = Bytes::new(setup.bytes.as_slice().to_vec(alloc)?);

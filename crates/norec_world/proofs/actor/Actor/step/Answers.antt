@@ -190,6 +190,6 @@ returns-in-Waits-clause-takes g c =
     (c.proceed.ensures.done c.args.self.now.engine.is_open due) in
     takes_in g.P.Player.answered g.P.Player.restarted c.args.memory.now c.args.recorded.now c.args.self.now c.in-Waits.call c.in-Waits.step (sym c.in-Waits.ensures.value)
     c.apply-seen.result c.apply-seen.ensures.found c.resume-next.new.self c.resume-next.result
-    (record { proceeds = resume.proceeds; joins = resume.joins; order = resume.order; ends = resume.ends; tries = resume.tries; snapshot = resume.snapshot; log = resume.log; asks = resume.asks })
+    (record { proceeds = resume.proceeds; joins = resume.joins; order = resume.order; ends = resume.ends; tries = resume.tries; snapshot = resume.snapshot; log = resume.log; asks = resume.asks; settled = resume.settled })
     c.replace.new.dest c.replace.ensures.after c.proceed.new.recorded c.follow.new.recorded c.proceed.new.self s.engine (c.proceed.ensures.tells c.args.self.now.engine.is_open due) c.follow.ensures.told
     (record { thread = s.thread; retries = s.retries; nothing = nothing_ready g.P.Player.next_call g.P.Player.answered g.P.Player.restarted g.P.Player.calls_left g.P.Player.depth c.proceed.new.recorded c.proceed.new.self c.proceed.new.self.status s.status })

@@ -3,6 +3,8 @@ use Rattle.norec_engine.specs.Core.{opening}
 use Rattle.norec_world.specs.Starts.{HasStarted}
 use Rattle.norec_world.specs.Tries.{IsBetween}
 use Rattle.itm_types.specs.Memory.{bytes_of}
+use Rattle.norec_world.specs.Cells.{words_of}
+use Rattle.norec_world.proofs.WordLists.{words_of-bytes_of}
 use Rattle.norec_world.specs.Rows.{AreFrom, AreOfActors}
 use Rattle.norec_world.specs.Runs.{RunsFrom}
 use Rattle.norec_world.specs.Opaque.{first_of}
@@ -40,10 +42,20 @@ returns-clause-opaque g c =
     let x = invariant_of-result g c in
     world_opaque g.P.Player.next_call g.P.Player.answered g.P.Player.restarted g.P.Player.calls_left g.met.P.Player.nearer g.P.Player.depth _ x
 
-pub returns-clause-starts : goal.returns-clause-starts
-returns-clause-starts g c place p a e f =
-    let based : c.new-base.result ≡ c.args.setup.bytes = search rules in
-    let players : c.in_ok-opening.opening.items ≡ c.args.players.items = search rules in
-    let words : length c.new-memory.result.words ≡ length c.args.setup.bytes / 8 = search rules in
-    subst (λ (n : ℕ). HasStarted g.P.Player.next_call g.P.Player.answered g.P.Player.restarted c.new-memory.result.clock (opening n (replicate c.args.setup.arena 0) c.args.setup.limits.patience c.args.setup.limits.max_commits) c.args.setup.retries place p a)
-    (words ∙ ap (λ (b : List ℕ). length b / 8) (sym based)) (c.in_ok-actors.ensures.starts place p a (ap (λ (xs : List g.row.P.Denot). slice_get xs place) (sym players) ∙ e) f)
+pub returns-clause-anew : goal.returns-clause-anew
+returns-clause-anew g c =
+    let based : c.new-base.result ≡ bytes_of c.new-memory.result.words = search rules in
+    record {
+      starts = λ place p a e f.
+          (let based : c.new-base.result ≡ c.args.setup.bytes = search rules in
+          let players : c.in_ok-opening.opening.items ≡ c.args.players.items = search rules in
+          let words : length c.new-memory.result.words ≡ length c.args.setup.bytes / 8 = search rules in
+          subst (λ (n : ℕ). HasStarted g.P.Player.next_call g.P.Player.answered g.P.Player.restarted c.new-memory.result.clock (opening n (replicate c.args.setup.arena 0) c.args.setup.limits.patience c.args.setup.limits.max_commits) c.args.setup.retries place p a)
+          (words ∙ ap (λ (b : List ℕ). length b / 8) (sym based)) (c.in_ok-actors.ensures.starts place p a (ap (λ (xs : List g.row.P.Denot). slice_get xs place) (sym players) ∙ e) f));
+      clock = c.new-memory.ensures.clock;
+      words = sym (ap words_of based ∙ words_of-bytes_of c.new-memory.result.words c.new-memory.ensures.fit);
+      none = search rules;
+      events = search rules;
+      actors = search rules;
+      fed = search rules;
+    }

@@ -1,0 +1,162 @@
+-- Two actors that are alike are alike after a step, and after a call of their players.
+use Rattle.std.proofs.Common.{◌≡◌, ℕ, ◌/◌, Bool, true, false, [], Option, Some, refl, sym, ap, subst, ◌∙◌}
+use Rattle.itm_types.specs.declared.call.Call.{Call}
+use Rattle.itm_types.specs.declared.call.Call.TheVariants as requests
+use Rattle.itm_types.specs.declared.call.Reply.{Reply as Replied}
+use Rattle.itm_types.specs.declared.step.Step.{Step}
+use Rattle.norec_engine.specs.Core.{Core, came, handed}
+use Rattle.norec_engine.specs.Stands.{SeesOne}
+use Rattle.norec_engine.specs.Proceeds.{Proceeds, IsAtOnce}
+use Rattle.norec_engine.specs.Moves.{IsCalled, IsResumed}
+use Rattle.norec_engine.specs.declared.answer.Answer.{Answer}
+use Rattle.norec_engine.specs.declared.answer.Answer.TheVariants.{Reply, Committed, Conflict, Busy, Full}
+use Rattle.norec_engine.specs.declared.answer.Next.{Next}
+use Rattle.norec_engine.specs.declared.answer.Next.TheVariants.{Step as Steps, Answer as Answers}
+use Rattle.norec_engine.proofs.OneOutcome.{called_once, resumed_once, sees_still}
+use Rattle.norec_world.specs.declared.attempt.Outcome.TheVariants as outcomes
+use Rattle.norec_world.specs.declared.actor.Actor.{Actor}
+use Rattle.norec_world.specs.declared.actor.Status.TheVariants.{Ready, Waits}
+use Rattle.norec_world.specs.Cells.{Cells, found}
+use Rattle.norec_world.specs.Rows.{Rows}
+use Rattle.norec_world.specs.Status.{ending_of}
+use Rattle.norec_world.specs.Records.{Tells, asked_pending, begins_again}
+use Rattle.norec_world.specs.Working.{TakesIn, Calls}
+use Rattle.norec_world.specs.Alike.{SameRows, SameParts, AreAlike, HasAttempt}
+use Rattle.norec_world.proofs.AlikeAnswers.{told_same, told_alike, Counts, IsGroundedNext}
+use Rattle.norec_world.proofs.HeldAttempts.{handed_open, ends_inside, roomed, opens_none}
+
+-- ## A step
+
+module _ {P : Type 0} (answered : P → Replied → P) (restarted : P → P) (cells : Cells) (r s r' s' : Rows) (a b a' b' : Actor P)
+    (same : SameRows r s) (alike : AreAlike a b) (held : HasAttempt r a)
+    (t : TakesIn answered restarted cells r a r' a') (u : TakesIn answered restarted cells s b s' b') (sees : SeesOne a'.engine) (sees' : SeesOne b'.engine) where
+  waiting : Waits t.call t.step ≡ Waits u.call u.step
+  waiting = sym t.waits ∙ (alike.status ∙ u.waits)
+
+  parts : SameParts a b
+  parts = alike.parts (ap ending_of t.waits)
+
+  step_same : t.step ≡ u.step
+  step_same = let e = waiting in cc
+
+  call_same : t.call ≡ u.call
+  call_same = let e = waiting in cc
+
+  resumed : IsResumed a.engine (found cells t.step) u.what b'.engine
+  resumed = subst (λ (x : Step). IsResumed a.engine (found cells x) u.what b'.engine) (sym step_same) (subst (λ (e : Core). IsResumed e (found cells u.step) u.what b'.engine) (sym parts.engine) u.resumed)
+
+  one : (t.what ≡ u.what) × (a'.engine ≡ b'.engine)
+  one = resumed_once a.engine (found cells t.step) t.what u.what a'.engine b'.engine t.resumed resumed sees sees'
+
+  tells : Tells answered restarted a.engine.is_open s u.rows (record b { engine = b'.engine; status = Ready }) b' t.call t.what
+  tells = subst (λ (w : Next). Tells answered restarted a.engine.is_open s u.rows (record b { engine = b'.engine; status = Ready }) b' t.call w) (sym one.0)
+      (subst (λ (c : Call). Tells answered restarted a.engine.is_open s u.rows (record b { engine = b'.engine; status = Ready }) b' c u.what) (sym call_same)
+      (subst (λ (e : Core). Tells answered restarted e.is_open s u.rows (record b { engine = b'.engine; status = Ready }) b' u.call u.what) (sym parts.engine) u.tells))
+
+  grounded : (what : Next) → Proceeds (handed a.engine (found cells t.step)) what a'.engine
+      → IsGroundedNext answered restarted r s same (record a { engine = a'.engine; status = Ready }) (record b { engine = b'.engine; status = Ready }) a' b' alike.thread parts.player parts.pending parts.nth parts.again refl refl one.1
+      (t.same.thread ∙ (alike.thread ∙ sym u.same.thread)) (t.same.retries ∙ (parts.retries ∙ sym u.same.retries)) t.same.nothing u.same.nothing t.rows u.rows t.call a.engine.is_open what
+  grounded (Steps step) g = tt
+  grounded (Answers answer) g = record {
+    retries = λ k. parts.retries;
+    inside = λ k. held.inside (sym (handed_open a.engine a.engine.waits (found cells t.step)) ∙ ends_inside (handed a.engine (found cells t.step)) a'.engine answer k g);
+    begins = λ shut o. (let h = held.begins t.call t.step t.waits shut in (h.0, h.1));
+  }
+
+  pub step_alike : SameRows r' s' × AreAlike a' b'
+  step_alike =
+      let x = told_alike answered restarted r s same (record a { engine = a'.engine; status = Ready }) (record b { engine = b'.engine; status = Ready }) a' b' alike.thread parts.player parts.pending parts.nth parts.again refl refl one.1
+      (t.same.thread ∙ (alike.thread ∙ sym u.same.thread)) (t.same.retries ∙ (parts.retries ∙ sym u.same.retries)) t.same.nothing u.same.nothing t.rows u.rows t.call a.engine.is_open t.what
+      (grounded t.what t.resumed.proceeds) t.tells tells in (
+        told_same t.rows u.rows x.0 a.thread b.thread a'.engine.is_open b'.engine.is_open (a'.engine.snapshot / 2) (b'.engine.snapshot / 2) r' s' alike.thread
+            (ap (λ (c : Core). c.is_open) one.1) (ap (λ (c : Core). c.snapshot / 2) one.1) t.told u.told,
+        x.1,
+      )
+
+-- ## A call
+
+pending_same : {P : Type 0} (o : Bool) (clock : ℕ) (a b : Actor P) (call : Call) → a.thread ≡ b.thread → SameParts a b → asked_pending o clock a call ≡ asked_pending o clock b call
+pending_same true clock a b call thread p = p.pending
+pending_same false clock a b (requests.Begin props room) thread p = λ i. Some (record {
+  thread = thread i;
+  nth = p.nth i;
+  began = clock / 2;
+  at = 0;
+  props = props;
+  arena = (p.engine i).arena;
+  calls = [];
+  outcome = outcomes.Unfinished;
+})
+pending_same false clock a b requests.Commit thread p = p.pending
+pending_same false clock a b (requests.Read hint width at) thread p = p.pending
+pending_same false clock a b (requests.Write hint at value) thread p = p.pending
+
+-- no try comes to nothing at once
+counts_none : (answer : Answer) → IsAtOnce (Answers answer) → Counts answer → ⊥
+counts_none (Reply r) x k = k
+counts_none (Committed at wrote) x k = k
+counts_none (Conflict clock word) x k = x
+counts_none (Busy clock) x k = x
+counts_none (Full at) x k = k
+
+module _ {P : Type 0} (next : P → Option Call) (answered : P → Replied → P) (restarted : P → P) (clock : ℕ) where
+  module _ (r s r' s' : Rows) (a b a' b' : Actor P) (same : SameRows r s) (thread : a.thread ≡ b.thread) (parts : SameParts a b) (held : HasAttempt r a) (sees : SeesOne a.engine)
+      (f : Calls next answered restarted clock r a r' a') (g : Calls next answered restarted clock s b s' b') where
+    request_same : f.call ≡ g.call
+    request_same = let e : Some f.call ≡ Some g.call = sym f.next_is ∙ (ap next parts.player ∙ g.next_is) in cc
+
+    called : IsCalled a.engine f.call (begins_again a.engine.is_open a.again f.call) g.what g.asked.engine
+    called = subst (λ (c : Call). IsCalled a.engine c (begins_again a.engine.is_open a.again c) g.what g.asked.engine) (sym request_same)
+        (subst (λ (x : Bool). IsCalled a.engine g.call (begins_again a.engine.is_open x g.call) g.what g.asked.engine) (sym parts.again)
+        (subst (λ (e : Core). IsCalled e g.call (begins_again e.is_open b.again g.call) g.what g.asked.engine) (sym parts.engine) g.asks.called))
+
+    outcome : (f.what ≡ g.what) × (f.asked.engine ≡ g.asked.engine)
+    outcome = called_once a.engine f.call (begins_again a.engine.is_open a.again f.call) f.what g.what f.asked.engine g.asked.engine f.asks.called called sees
+
+    rows_now : SameRows f.rows g.rows
+    rows_now = record {
+      ended = ap (λ (x : Rows). x.ended) f.asks.rows_are ∙ (same.ended ∙ sym (ap (λ (x : Rows). x.ended) g.asks.rows_are));
+      active = ap (λ (x : Rows). x.active) f.asks.rows_are ∙ (same.active ∙ sym (ap (λ (x : Rows). x.active) g.asks.rows_are));
+    }
+
+    pending_now : f.asked.pending ≡ g.asked.pending
+    pending_now = f.asks.pending ∙ (pending_same a.engine.is_open clock a b f.call thread parts
+        ∙ ((λ i. asked_pending (parts.engine i).is_open clock b (request_same i)) ∙ sym g.asks.pending))
+
+    tells_now : Tells answered restarted a.engine.is_open g.rows s' g.asked b' f.call f.what
+    tells_now = subst (λ (w : Next). Tells answered restarted a.engine.is_open g.rows s' g.asked b' f.call w) (sym outcome.0)
+        (subst (λ (c : Call). Tells answered restarted a.engine.is_open g.rows s' g.asked b' c g.what) (sym request_same)
+        (subst (λ (e : Core). Tells answered restarted e.is_open g.rows s' g.asked b' g.call g.what) (sym parts.engine) g.tells))
+
+    thread_now : f.asked.thread ≡ g.asked.thread
+    thread_now = f.asks.thread ∙ (thread ∙ sym g.asks.thread)
+
+    player_now : f.asked.player ≡ g.asked.player
+    player_now = f.asks.player ∙ (parts.player ∙ sym g.asks.player)
+
+    nth_now : f.asked.nth ≡ g.asked.nth
+    nth_now = f.asks.nth ∙ (parts.nth ∙ sym g.asks.nth)
+
+    again_now : f.asked.again ≡ g.asked.again
+    again_now = f.asks.again ∙ (parts.again ∙ sym g.asks.again)
+
+    engine_now : a'.engine ≡ b'.engine
+    engine_now = f.engine ∙ (outcome.1 ∙ sym g.engine)
+
+    grounded_now : (what : Next) → IsAtOnce what → Proceeds (came a.engine f.call (begins_again a.engine.is_open a.again f.call)) what f.asked.engine
+        → IsGroundedNext answered restarted f.rows g.rows rows_now f.asked g.asked a' b' thread_now player_now pending_now nth_now again_now f.ready g.ready engine_now
+        (f.same.thread ∙ (thread ∙ sym g.same.thread)) (f.same.retries ∙ (parts.retries ∙ sym g.same.retries)) f.same.nothing g.same.nothing r' s' f.call a.engine.is_open what
+    grounded_now (Steps step) x p = tt
+    grounded_now (Answers answer) x p = record {
+      retries = λ k. absurd (counts_none answer x k);
+      inside = λ k. roomed next answered restarted clock r r' a a' held f (ends_inside (came a.engine f.call (begins_again a.engine.is_open a.again f.call)) f.asked.engine answer k p);
+      begins = λ shut o. absurd (opens_none next answered restarted clock r r' a a' held f shut o);
+    }
+
+    pub call_alike : SameRows r' s' × AreAlike a' b'
+    call_alike = told_alike answered restarted f.rows g.rows rows_now f.asked g.asked a' b' thread_now player_now pending_now nth_now again_now f.ready g.ready engine_now
+        (f.same.thread ∙ (thread ∙ sym g.same.thread)) (f.same.retries ∙ (parts.retries ∙ sym g.same.retries)) f.same.nothing g.same.nothing r' s' f.call a.engine.is_open f.what
+        (grounded_now f.what f.asks.called.at_once f.asks.called.proceeds) f.tells tells_now
+
+    pub sees_now : SeesOne a'.engine
+    sees_now = subst SeesOne (sym f.engine) (sees_still a.engine f.call (begins_again a.engine.is_open a.again f.call) f.what f.asked.engine f.asks.called sees)

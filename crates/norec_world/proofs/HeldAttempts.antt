@@ -1,0 +1,198 @@
+-- Within a transaction the actor has an open attempt, over a step and over a call.
+use Rattle.std.proofs.Common.{◌≡◌, ℕ, ◌+◌, ◌/◌, nat_lt, ◌==◌, ◌&&◌, ◌*◌, ◌⊎◌, nat_le, if◌then◌else◌, Bool, true, false, List, [], ◌∷◌, Option, None, Some, inl, inr, refl, sym, ap, subst, ◌∙◌, eq-eqb}
+use Rattle.std.proofs.lemmas.Bool.{cases_Bool}
+use Rattle.itm_types.specs.declared.call.Call.{Call}
+use Rattle.itm_types.specs.declared.call.Call.TheVariants as calls
+use Rattle.itm_types.specs.declared.call.Reply.{Reply as Replied}
+use Rattle.itm_types.specs.declared.step.Step.{Step}
+use Rattle.itm_types.specs.Access.{size_of}
+use Rattle.norec_engine.specs.Core.{Core, came, handed, handed_to}
+use Rattle.norec_engine.specs.Order.{asked, asked_from, stage_at, commit_stage, load_stage}
+use Rattle.norec_engine.specs.Proceeds.{Proceeds, Ends, IsBegin}
+use Rattle.norec_engine.specs.declared.answer.Answer.{Answer}
+use Rattle.norec_engine.specs.declared.answer.Answer.TheVariants.{Reply, Committed, Conflict, Busy, Full}
+use Rattle.norec_engine.specs.declared.answer.Next.{Next}
+use Rattle.norec_engine.specs.declared.answer.Next.TheVariants.{Step as Steps, Answer as Answers}
+use Rattle.norec_engine.specs.declared.phase.Phase.TheVariants as at
+use Rattle.norec_engine.proofs.Keeping.{handed_is}
+use Rattle.norec_world.specs.declared.attempt.Attempt.{Attempt}
+use Rattle.norec_world.specs.declared.attempt.End.TheVariants.{GaveUp}
+use Rattle.norec_world.specs.declared.actor.Actor.{Actor}
+use Rattle.norec_world.specs.declared.actor.Status.TheVariants.{Ready, Waits, Ended}
+use Rattle.norec_world.specs.Cells.{Cells, found}
+use Rattle.norec_world.specs.Rows.{Rows, active_of, with_one, with_changed}
+use Rattle.norec_world.specs.Records.{Records, Tells, Opens, IsTold, CountsTry, asked_pending, begins_again}
+use Rattle.norec_world.specs.Working.{TakesIn, Calls}
+use Rattle.norec_world.specs.Alike.{HasAttempt}
+use Rattle.norec_world.proofs.ActiveRows.{changed_here}
+use Rattle.norec_world.proofs.AlikeAnswers.{Closes}
+
+both : (n : Bool) → n ≡ true → n ≡ false → ⊥
+both n t f = absurd (cc)
+
+-- ## The engine
+
+pub handed_open : (e : Core) (o : Option Step) (n : ℕ) → (handed_to e o n).is_open ≡ e.is_open
+handed_open e None n = refl
+handed_open e (Some step) n = (handed_is e step n).keeps.is_open
+
+pub ends_inside : (mid new : Core) (a : Answer) → Closes a → Ends mid a new → mid.is_open ≡ true
+ends_inside mid new (Reply r) k g = absurd k
+ends_inside mid new (Committed at wrote) k g = g.is_open
+ends_inside mid new (Conflict clock word) k g = g.is_open
+ends_inside mid new (Busy clock) k g = absurd k
+ends_inside mid new (Full at) k g = g.is_open
+
+-- outside a transaction only a begin asks for a step
+idle_outside : (c : Core) (call : Call) (again : Bool) → c.is_open ≡ false → (stage_at c call again ≡ at.Idle) ⊎ IsBegin (Some call)
+idle_outside c (calls.Begin props room) again shut = inr tt
+idle_outside c calls.Commit again shut = inl (ap (λ (b : Bool). if b then commit_stage c else at.Idle) shut)
+idle_outside c (calls.Read hint width place) again shut =
+    inl (ap (λ (b : Bool). if b && nat_le (place + size_of width) (8 * c.words) then load_stage c.writes (record { hint = hint; width = width; at = place; number = 0 }) else at.Idle) shut)
+idle_outside c (calls.Write hint at value) again shut = inl refl
+
+begin_asks : (c new : Core) (call : Call) (again : Bool) (step : Step) → c.is_open ≡ false → new.stage ≡ stage_at c call again → new.waits ≡ asked new → new.waits ≡ Some step → IsBegin (Some call)
+begin_asks c new call again step shut order asks waits = elim (idle_outside c call again shut) [
+  | inl idle ↦ absurd (let none : new.waits ≡ None = asks ∙ ap (asked_from new) (order ∙ idle) in let z = sym waits ∙ none in cc)
+  | inr is ↦ is
+]
+
+-- ## Rows
+
+-- the actor has an open attempt there
+abbrev pub HasRowIn : Rows → ℕ → Type 0
+HasRowIn r thread = (row : Attempt) × (active_of thread r.active ≡ Some row)
+
+changed_in : (thread : ℕ) (f : Attempt → Attempt) (r r' : Rows) → ((a : Attempt) → (f a).thread ≡ a.thread) → r' ≡ with_changed thread f r → HasRowIn r thread → HasRowIn r' thread
+changed_in thread f r r' keeps is h = (f h.0, ap (λ (x : Rows). active_of thread x.active) is ∙ changed_here thread f r.active h.0 keeps h.1)
+
+one_in : (a : Attempt) (xs : List Attempt) → (row : Attempt) × (active_of a.thread (with_one (λ b. nat_lt a.thread b.thread) a xs) ≡ Some row)
+one_in a [] = (a, ap (λ (k : Bool). if k then Some a else None) (eq-eqb a.thread a.thread refl))
+one_in a (x ∷ xs) = by_case (nat_lt a.thread x.thread) (x.thread == a.thread) (one_in a xs)
+  where
+    by_case : (k l : Bool) → (row : Attempt) × (active_of a.thread (with_one (λ b. nat_lt a.thread b.thread) a xs) ≡ Some row)
+        → (row : Attempt) × (active_of a.thread (if k then a ∷ x ∷ xs else x ∷ with_one (λ b. nat_lt a.thread b.thread) a xs) ≡ Some row)
+    by_case true l h = (a, ap (λ (m : Bool). if m then Some a else active_of a.thread (x ∷ xs)) (eq-eqb a.thread a.thread refl))
+    by_case false l h = elim (cases_Bool (x.thread == a.thread)) [
+      | inl e ↦ (x, ap (λ (m : Bool). if m then Some x else active_of a.thread (with_one (λ b. nat_lt a.thread b.thread) a xs)) e)
+      | inr e ↦ (h.0, ap (λ (m : Bool). if m then Some x else active_of a.thread (with_one (λ b. nat_lt a.thread b.thread) a xs)) e ∙ h.1)
+    ]
+
+opened_in : (thread : ℕ) (r r' : Rows) (q : Option Attempt) (at : ℕ) (row : Attempt) → q ≡ Some row → row.thread ≡ thread → Opens true r q at r' → HasRowIn r' thread
+opened_in thread r r' None at row e t x = absurd (cc)
+opened_in thread r r' (Some one) at row e t x =
+    let same : one ≡ row = (cc) in
+    let here = one_in (record one { at = at }) r.active in
+    (here.0, ap (λ (y : Rows). active_of thread y.active) x ∙ (ap (λ (n : ℕ). active_of n (with_one (λ b. nat_lt one.thread b.thread) (record one { at = at }) r.active)) (sym t ∙ sym (ap (λ (y : Attempt). y.thread) same)) ∙ here.1))
+
+told_in : (thread : ℕ) (o : Bool) (r : Rows) (at : ℕ) (r' : Rows) → o ≡ true → IsTold thread o r at r' → HasRowIn r thread → HasRowIn r' thread
+told_in thread o r at r' e t h = changed_in thread (λ row. record row { at = at }) r r' (λ a. refl) (t.moves e) h
+
+-- ## Answers
+
+module _ {P : Type 0} (answered : P → Replied → P) (restarted : P → P) (r r' : Rows) (a a' : Actor P) (call : Call) where
+  recorded_in : (mid : Core) (was : Bool) (answer : Answer) → Records answered restarted was r r' a a' call answer → Ends mid answer a'.engine
+      → (was ≡ true → HasRowIn r a.thread) → (was ≡ false → a'.engine.is_open ≡ true → (row : Attempt) × (a.pending ≡ Some row) × (row.thread ≡ a.thread))
+      → a'.engine.is_open ≡ true → HasRowIn r' a.thread
+  recorded_in mid true (Reply reply) x g inside begins o = changed_in a.thread _ r r' (λ y. refl) x.0 (inside refl)
+  recorded_in mid false (Reply reply) x g inside begins o =
+      let k = begins refl o in
+      opened_in a.thread r r' a.pending (a'.engine.snapshot / 2) k.0 k.1 k.2 (subst (λ (b : Bool). Opens b r a.pending (a'.engine.snapshot / 2) r') o x.0)
+  recorded_in mid was (Committed at wrote) x g inside begins o = absurd (both a'.engine.is_open o (ap (λ (c : Core). c.is_open) g.stays))
+  recorded_in mid was (Conflict clock word) x g inside begins o = absurd (both a'.engine.is_open o (ap (λ (c : Core). c.is_open) g.stays))
+  recorded_in mid was (Busy clock) x g inside begins o = absurd (both a'.engine.is_open o (ap (λ (c : Core). c.is_open) g.stays))
+  recorded_in mid was (Full at) x g inside begins o = absurd (both a'.engine.is_open o (ap (λ (c : Core). c.is_open) g.stays))
+
+  counted_waits : (c : Call) (s : Step) → a.status ≡ Ready → CountsTry a a' → a'.status ≡ Waits c s → ⊥
+  counted_waits c s ready k w = by_last (nat_lt a.retries a.nth) k.status
+    where
+      by_last : (b : Bool) → a'.status ≡ (if b then Ended GaveUp else a.status) → ⊥
+      by_last true e = absurd (let z = sym w ∙ e in cc)
+      by_last false e = absurd (let z = sym w ∙ (e ∙ ready) in cc)
+
+  -- who was answered does not wait
+  recorded_waits : (was : Bool) (answer : Answer) (c : Call) (s : Step) → a.status ≡ Ready → Records answered restarted was r r' a a' call answer → a'.status ≡ Waits c s → ⊥
+  recorded_waits true (Reply reply) c s ready x w = absurd (let z = sym w ∙ (x.4 ∙ ready) in cc)
+  recorded_waits false (Reply reply) c s ready x w = absurd (let z = sym w ∙ (x.4 ∙ ready) in cc)
+  recorded_waits was (Committed at wrote) c s ready x w = absurd (let z = sym w ∙ (x.4 ∙ ready) in cc)
+  recorded_waits was (Conflict clock word) c s ready x w = counted_waits c s ready x.2 w
+  recorded_waits was (Busy clock) c s ready x w = counted_waits c s ready x.2 w
+  recorded_waits was (Full at) c s ready x w = absurd (let z = sym w ∙ x.1 in cc)
+
+-- ## A step
+
+module _ {P : Type 0} (answered : P → Replied → P) (restarted : P → P) (cells : Cells) (r r' : Rows) (a a' : Actor P) (held : HasAttempt r a) (t : TakesIn answered restarted cells r a r' a') where
+  seen : ℕ
+  seen = found cells t.step
+
+  step_in : (what : Next) → Proceeds (handed a.engine (found cells t.step)) what a'.engine → Tells answered restarted a.engine.is_open r t.rows (record a { engine = a'.engine; status = Ready }) a' t.call what
+      → a'.engine.is_open ≡ true → HasRowIn t.rows a.thread
+  step_in (Steps step) g x o =
+      let h = held.inside (sym (handed_open a.engine a.engine.waits (found cells t.step)) ∙ (sym (ap (λ (c : Core). c.is_open) g.stays) ∙ o)) in
+      (h.0, ap (λ (y : Rows). active_of a.thread y.active) x.1 ∙ h.1)
+  step_in (Answers answer) g x o =
+      recorded_in answered restarted r t.rows (record a { engine = a'.engine; status = Ready }) a' t.call (handed a.engine (found cells t.step)) a.engine.is_open answer x g
+      held.inside (λ shut z. held.begins t.call t.step t.waits shut) o
+
+  step_begins : (what : Next) → Proceeds (handed a.engine (found cells t.step)) what a'.engine → Tells answered restarted a.engine.is_open r t.rows (record a { engine = a'.engine; status = Ready }) a' t.call what
+      → (c : Call) (s : Step) → a'.status ≡ Waits c s → a'.engine.is_open ≡ false → (row : Attempt) × (a'.pending ≡ Some row) × (row.thread ≡ a'.thread)
+  step_begins (Steps step) g x c s w shut =
+      let k = held.begins t.call t.step t.waits (sym (handed_open a.engine a.engine.waits (found cells t.step)) ∙ (sym (ap (λ (y : Core). y.is_open) g.stays) ∙ shut)) in
+      (k.0, ap (λ (y : Actor P). y.pending) x.0 ∙ k.1, k.2 ∙ sym t.same.thread)
+  step_begins (Answers answer) g x c s w shut = absurd (recorded_waits answered restarted r t.rows (record a { engine = a'.engine; status = Ready }) a' t.call a.engine.is_open answer c s refl x w)
+
+  pub step_held : HasAttempt r' a'
+  step_held = record {
+    inside = λ o. subst (HasRowIn r') (sym t.same.thread) (told_in a.thread a'.engine.is_open t.rows (a'.engine.snapshot / 2) r' o t.told (step_in t.what t.resumed.proceeds t.tells o));
+    begins = λ c s w shut. step_begins t.what t.resumed.proceeds t.tells c s w shut;
+  }
+
+-- ## A call
+
+module _ {P : Type 0} (next : P → Option Call) (answered : P → Replied → P) (restarted : P → P) (clock : ℕ) (r r' : Rows) (a a' : Actor P) (held : HasAttempt r a)
+    (f : Calls next answered restarted clock r a r' a') where
+  -- the rows of before, with more room
+  pub roomed : a.engine.is_open ≡ true → HasRowIn f.rows f.asked.thread
+  roomed o =
+      let h = held.inside o in
+      (h.0, ap (λ (y : Rows). active_of f.asked.thread y.active) f.asks.rows_are ∙ (ap (λ (t : ℕ). active_of t r.active) f.asks.thread ∙ h.1))
+
+  -- a call opens no transaction
+  pub opens_none : a.engine.is_open ≡ false → a'.engine.is_open ≡ true → ⊥
+  opens_none shut o = both a.engine.is_open (f.asks.called.stays.opens (sym (ap (λ (c : Core). c.is_open) f.engine) ∙ o)) shut
+
+  abbrev again_of : Bool
+  again_of = begins_again a.engine.is_open a.again f.call
+
+  call_in : (what : Next) → Proceeds (came a.engine f.call again_of) what f.asked.engine → Tells answered restarted a.engine.is_open f.rows r' f.asked a' f.call what
+      → a'.engine.is_open ≡ true → HasRowIn r' f.asked.thread
+  call_in (Steps step) g x o =
+      let h = roomed (f.asks.called.stays.opens (sym (ap (λ (c : Core). c.is_open) f.engine) ∙ o)) in
+      (h.0, ap (λ (y : Rows). active_of f.asked.thread y.active) x.1 ∙ h.1)
+  call_in (Answers answer) g x o =
+      recorded_in answered restarted f.rows r' f.asked a' f.call (came a.engine f.call again_of) a.engine.is_open answer x
+      (subst (Ends (came a.engine f.call again_of) answer) (sym f.engine) g) roomed (λ shut z. absurd (opens_none shut z)) o
+
+  opening_of : (o : Bool) (call : Call) → o ≡ false → IsBegin (Some call) → (row : Attempt) × (asked_pending o clock a call ≡ Some row) × (row.thread ≡ a.thread)
+  opening_of true call e is = absurd (cc)
+  opening_of false (calls.Begin props room) e is = (_, refl, refl)
+  opening_of false calls.Commit e is = absurd is
+  opening_of false (calls.Read hint width at) e is = absurd is
+  opening_of false (calls.Write hint at value) e is = absurd is
+
+  waits_begin : (row : Attempt) × (asked_pending a.engine.is_open clock a f.call ≡ Some row) × (row.thread ≡ a.thread) → a'.pending ≡ f.asked.pending → (row : Attempt) × (a'.pending ≡ Some row) × (row.thread ≡ a'.thread)
+  waits_begin k same = (k.0, same ∙ (f.asks.pending ∙ k.1), k.2 ∙ sym f.same.thread)
+
+  call_begins : (what : Next) → Proceeds (came a.engine f.call again_of) what f.asked.engine → Tells answered restarted a.engine.is_open f.rows r' f.asked a' f.call what
+      → (c : Call) (s : Step) → a'.status ≡ Waits c s → a'.engine.is_open ≡ false → (row : Attempt) × (a'.pending ≡ Some row) × (row.thread ≡ a'.thread)
+  call_begins (Steps step) g x c s w shut =
+      let outside : a.engine.is_open ≡ false = sym (ap (λ (y : Core). y.is_open) g.stays) ∙ (sym (ap (λ (y : Core). y.is_open) f.engine) ∙ shut) in
+      let is = begin_asks a.engine f.asked.engine f.call again_of step outside f.asks.called.order f.asks.called.asks (ap (λ (y : Core). y.waits) g.stays) in
+      waits_begin (opening_of a.engine.is_open f.call outside is) (ap (λ (y : Actor P). y.pending) x.0)
+  call_begins (Answers answer) g x c s w shut = absurd (recorded_waits answered restarted f.rows r' f.asked a' f.call a.engine.is_open answer c s f.ready x w)
+
+  pub call_held : HasAttempt r' a'
+  call_held = record {
+    inside = λ o. subst (HasRowIn r') (f.asks.thread ∙ sym f.same.thread) (call_in f.what f.asks.called.proceeds f.tells o);
+    begins = λ c s w shut. call_begins f.what f.asks.called.proceeds f.tells c s w shut;
+  }
