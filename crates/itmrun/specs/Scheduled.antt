@@ -10,7 +10,7 @@ use Rattle.norec_world.specs.Commits.{CommitsInOrder}
 use Rattle.norec_world.specs.Opaque.{AreOpaque}
 use Rattle.norec_world.specs.Tries.{IsBetween}
 use Rattle.norec_world.specs.Starts.{IsNew}
-use Rattle.norec_world.specs.Going.{Leads, Takes}
+use Rattle.norec_world.specs.WorldEvents.{Leads, Takes}
 use Rattle.script_asm.specs.declared.schedule.Item.{Item}
 use Rattle.script_asm.specs.declared.schedule.Item.TheVariants.{Take, Out}
 use Rattle.script_asm.specs.Listing.{Listing, opening_of, threads_of}

@@ -31,7 +31,7 @@ pub enum Finish {
 }
 
 /// Writes a line on a thread.
-#[tactic(auto, unfolding(crate::specs::Answers::thread_line), using(crate::proofs::Putting::put_as))]
+#[tactic(auto, unfolding(crate::specs::Answers::thread_line), using(crate::proofs::TextPieces::put_as))]
 fn put_thread<E: Write>(errors: &mut E, thread: usize, words: &[u8]) -> io::Result<()>
     ensures { Puts (E.contents errors.old) (E.contents errors.new) result (thread_line thread words.now) }
 {
@@ -58,7 +58,7 @@ fn put_ending<E: Write>(errors: &mut E, thread: usize, ending: Option<End>) -> i
 }
 
 /// Writes the lines of the threads that gave up or found no memory, by number.
-#[tactic(auto, using(crate::proofs::Telling::no_lines, crate::proofs::Telling::more_lines, crate::proofs::Telling::lines_stop, crate::proofs::Telling::all_lines))]
+#[tactic(auto, using(crate::proofs::EndingLines::no_lines, crate::proofs::EndingLines::more_lines, crate::proofs::EndingLines::lines_stop, crate::proofs::EndingLines::all_lines))]
 fn put_endings<E: Write>(errors: &mut E, endings: &[Option<End>]) -> io::Result<()>
     ensures { Puts (E.contents errors.old) (E.contents errors.new) result (ending_lines 0 endings.now) }
 {
@@ -69,7 +69,7 @@ fn put_endings<E: Write>(errors: &mut E, endings: &[Option<End>]) -> io::Result<
 }
 
 /// Writes what is to be said of how a run ended.
-#[tactic(auto, unfolding(crate::specs::Answers::error_text), using(crate::proofs::Putting::put_as))]
+#[tactic(auto, unfolding(crate::specs::Answers::error_text), using(crate::proofs::TextPieces::put_as))]
 pub fn write_error<E: Write>(errors: &mut E, finish: &Finish) -> io::Result<()>
     ensures { Puts (E.contents errors.old) (E.contents errors.new) result (error_text finish.now) }
 {

@@ -26,7 +26,7 @@ impl From<AllocError> for InputFault {
 }
 
 /// Reads to the end, or up to the limit.
-#[tactic(auto, using(crate::proofs::Taking::few_more))]
+#[tactic(auto, using(crate::proofs::ReadTexts::few_more))]
 pub fn read_up_to<R: Read>(
     alloc: Global,
     reader: &mut R,

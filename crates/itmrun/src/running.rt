@@ -56,7 +56,7 @@ fn begin(alloc: Global, program: &Program) -> Result<World<Script>, AllocError>
 }
 
 /// So many events of the thread, or as many as it takes until it has ended.
-#[tactic(auto, using(crate::proofs::Scheduling::led_none))]
+#[tactic(auto, using(crate::proofs::ScheduleItems::led_none))]
 fn take_events(alloc: Global, world: &mut World<Script>, thread: u8, count: u32)
     ensures leads { ItemLeads (Take thread count) world.old world.new }
     ensures actors { length world.new.actors ≡ length world.old.actors }
@@ -83,7 +83,7 @@ fn take_item(alloc: Global, world: &mut World<Script>, item: Item)
 }
 
 /// One item after the other.
-#[tactic(auto, using(crate::proofs::Scheduling::items_none, crate::proofs::Scheduling::items_more))]
+#[tactic(auto, using(crate::proofs::ScheduleItems::items_none, crate::proofs::ScheduleItems::items_more))]
 fn take_items(alloc: Global, world: &mut World<Script>, items: &[Item])
     requires { All (λ i. thread_of i < length world.old.actors) items.now }
     ensures { ItemsLead items.now world.old world.new }
@@ -94,7 +94,7 @@ fn take_items(alloc: Global, world: &mut World<Script>, items: &[Item])
 }
 
 /// Each thread to its end, by number.
-#[tactic(auto, using(crate::proofs::Scheduling::each_none, crate::proofs::Scheduling::each_more))]
+#[tactic(auto, using(crate::proofs::ScheduleItems::each_none, crate::proofs::ScheduleItems::each_more))]
 fn run_out_each(alloc: Global, world: &mut World<Script>, threads: u8)
     requires { threads ≤ length world.old.actors }
     ensures { ItemsLead (each_out threads) world.old world.new }

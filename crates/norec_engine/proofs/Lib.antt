@@ -5,8 +5,8 @@ pub mod Counts
 pub mod Phases
 pub mod Readings
 pub mod Writings
-pub mod Keeping
-pub mod Resting
+pub mod KeptFields
+pub mod AnsweredEngines
 pub mod Logs
 pub mod Examples
 pub mod OneOutcome

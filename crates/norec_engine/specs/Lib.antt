@@ -7,4 +7,4 @@ pub mod Proceeds
 pub mod Moves
 pub mod Fields
 pub mod Undoing
-pub mod Keeping
+pub mod Keeps

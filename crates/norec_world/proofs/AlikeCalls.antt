@@ -20,7 +20,7 @@ use Rattle.norec_world.specs.Cells.{Cells, found}
 use Rattle.norec_world.specs.Rows.{Rows}
 use Rattle.norec_world.specs.Status.{ending_of}
 use Rattle.norec_world.specs.Records.{Tells, asked_pending, begins_again}
-use Rattle.norec_world.specs.Working.{TakesIn, Calls}
+use Rattle.norec_world.specs.LocalWork.{TakesIn, Calls}
 use Rattle.norec_world.specs.Alike.{SameRows, SameParts, AreAlike, HasAttempt}
 use Rattle.norec_world.proofs.AlikeAnswers.{told_same, told_alike, Counts, IsGroundedNext}
 use Rattle.norec_world.proofs.HeldAttempts.{handed_open, ends_inside, roomed, opens_none}

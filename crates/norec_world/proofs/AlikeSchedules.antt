@@ -11,9 +11,9 @@ use Rattle.norec_world.specs.declared.fault.WorldFault.{WorldFault}
 use Rattle.norec_world.specs.declared.fault.WorldFault.TheVariants as faults
 use Rattle.norec_world.specs.Cells.{Cells}
 use Rattle.norec_world.specs.World.{World, ending_at, waits_at, told, is_event}
-use Rattle.norec_world.specs.Going.{Goes, Leads, Takes, is_starved}
+use Rattle.norec_world.specs.WorldEvents.{Goes, Leads, Takes, is_starved}
 use Rattle.norec_world.specs.SameWorlds.{SameWorld, ShowSame}
-use Rattle.norec_world.proofs.Goings.{waits_not_ended}
+use Rattle.norec_world.proofs.WorldEvents.{waits_not_ended}
 use Rattle.norec_world.proofs.AlikeWorlds.{waits_same, ending_same, goes_alike}
 
 pub shows_same : {P : Type 0} (v w : World P) → SameWorld v w → ShowSame v w

@@ -15,13 +15,13 @@ use Rattle.norec_world.specs.Cells.{words_of}
 use Rattle.norec_world.specs.Rows.{Rows}
 use Rattle.norec_world.specs.Status.{ending_of}
 use Rattle.norec_world.specs.Records.{Tells, Records, Opens, begins_again}
-use Rattle.norec_world.specs.Working.{Calls, Acts, calls, finishes, starves, ActsOn}
+use Rattle.norec_world.specs.LocalWork.{Calls, Acts, calls, finishes, starves, ActsOn}
 use Rattle.norec_world.specs.Starts.{HasStarted, IsNew}
 use Rattle.norec_world.specs.World.{World, SameOpening}
 use Rattle.norec_world.specs.Alike.{SameRows, AreAlike, HasAttempt}
 use Rattle.norec_world.specs.SameWorlds.{SameWorld}
 use Rattle.norec_world.proofs.AlikeWork.{IsFed, GoAlike, ready_fed, work_alike}
-use Rattle.norec_world.proofs.Frames.{there_is, within_of}
+use Rattle.norec_world.proofs.SoundOthers.{there_is, within_of}
 
 -- ## Outside a transaction local work leaves the rows
 

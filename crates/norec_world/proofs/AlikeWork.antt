@@ -11,7 +11,7 @@ use Rattle.norec_world.specs.declared.actor.Status.TheVariants.{Ready, Ended}
 use Rattle.norec_world.specs.Cells.{Cells}
 use Rattle.norec_world.specs.Rows.{Rows, active_of}
 use Rattle.norec_world.specs.Status.{ending_of, is_ready}
-use Rattle.norec_world.specs.Working.{Finishes, Acts, calls, finishes, starves, ActsOn, Works}
+use Rattle.norec_world.specs.LocalWork.{Finishes, Acts, calls, finishes, starves, ActsOn, Works}
 use Rattle.norec_world.specs.Events.{IsEvent}
 use Rattle.norec_world.specs.Alike.{SameRows, AreAlike, HasAttempt}
 use Rattle.norec_world.proofs.AlikeAnswers.{rows_same}

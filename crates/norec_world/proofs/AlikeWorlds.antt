@@ -16,10 +16,10 @@ use Rattle.norec_world.specs.Status.{ending_of, waiting_step}
 use Rattle.norec_world.specs.Memories.{words_at}
 use Rattle.norec_world.specs.Events.{IsEvent}
 use Rattle.norec_world.specs.World.{World, SameOpening, ending_at, waits_at, told, is_event, counted}
-use Rattle.norec_world.specs.Going.{Goes, HasRead}
+use Rattle.norec_world.specs.WorldEvents.{Goes, HasRead}
 use Rattle.norec_world.specs.Alike.{AreAlike, HasAttempt}
 use Rattle.norec_world.specs.SameWorlds.{SameWorld}
-use Rattle.norec_world.proofs.Frames.{set_place, there_is, within_of}
+use Rattle.norec_world.proofs.SoundOthers.{set_place, there_is, within_of}
 use Rattle.norec_world.proofs.Worlds.{within_some}
 use Rattle.norec_world.proofs.AlikeWork.{IsFed, GoAlike, event_alike}
 

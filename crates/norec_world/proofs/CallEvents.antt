@@ -10,11 +10,11 @@ use Rattle.norec_world.specs.Places.{at_place}
 use Rattle.norec_world.specs.Actors.{AreActors}
 use Rattle.norec_world.specs.Sound.{HasLess, IsNoMore, steps_left, whole, run_left}
 use Rattle.norec_world.specs.World.{World, SameOpening, counted, told, is_event, ending_at, waits_at}
-use Rattle.norec_world.specs.Going.{Goes, Takes}
-use Rattle.norec_world.proofs.Frames.{there_is, within_of}
-use Rattle.norec_world.proofs.Goings.{told_event}
+use Rattle.norec_world.specs.WorldEvents.{Goes, Takes}
+use Rattle.norec_world.proofs.SoundOthers.{there_is, within_of}
+use Rattle.norec_world.proofs.WorldEvents.{told_event}
 use Rattle.norec_world.proofs.Worlds.{waiting_some, some_waiting, some_ended, within_some}
-use Rattle.norec_world.proofs.Falling.{HasLessSoFar, less_so_far, same_less, less_less}
+use Rattle.norec_world.proofs.LessLeft.{HasLessSoFar, less_so_far, same_less, less_less}
 
 -- ## Counts that stand still at the highest number
 

@@ -16,7 +16,7 @@ use Rattle.itm_types.specs.declared.call.Reply.{Reply}
 use Rattle.norec_world.specs.Starts.{IsFirst}
 use Rattle.norec_world.specs.Actors.{AreActors}
 use Rattle.norec_world.specs.Commits.{one_where, count_at, count_committed, AreCounted, HasLimits, CommitsInOrder}
-use Rattle.norec_world.proofs.Frames.{set_place, within_of}
+use Rattle.norec_world.proofs.SoundOthers.{set_place, within_of}
 
 -- ## Counts
 

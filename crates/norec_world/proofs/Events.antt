@@ -9,15 +9,15 @@ use Rattle.norec_world.specs.declared.actor.Status.TheVariants.{Ready, Waits, En
 use Rattle.norec_world.specs.Cells.{Cells}
 use Rattle.norec_world.specs.Rows.{Rows}
 use Rattle.norec_world.specs.Status.{ending_of, is_ready}
-use Rattle.norec_world.specs.Own.{KeepsOthers}
+use Rattle.norec_world.specs.OthersAttempts.{KeepsOthers}
 use Rattle.norec_world.specs.Sound.{IsSound}
 use Rattle.norec_world.specs.Tries.{Tries, prior_of}
 use Rattle.norec_world.specs.Events.{IsEvent}
-use Rattle.norec_world.specs.Going.{HasRead}
-use Rattle.norec_world.proofs.Owning.{others_twice}
-use Rattle.norec_world.proofs.Clocking.{clocks_twice, clocks_still}
-use Rattle.norec_world.specs.Working.{Works}
-use Rattle.norec_world.proofs.Working.{works_both}
+use Rattle.norec_world.specs.WorldEvents.{HasRead}
+use Rattle.norec_world.proofs.OthersAttempts.{others_twice}
+use Rattle.norec_world.proofs.ClockHolders.{clocks_twice, clocks_still}
+use Rattle.norec_world.specs.LocalWork.{Works}
+use Rattle.norec_world.proofs.LocalWork.{works_both}
 use Rattle.norec_world.proofs.TryChains.{tries_then, no_pending}
 
 ready_of : (s : Status) → is_ready s ≡ true → s ≡ Ready

@@ -14,7 +14,7 @@ use Rattle.norec_world.specs.declared.attempt.Outcome.TheVariants.{Committed, Co
 use Rattle.norec_world.specs.declared.attempt.Attempt.{Attempt}
 use Rattle.norec_world.specs.declared.fault.WorldFault.TheVariants as faults
 use Rattle.norec_world.specs.Attempts.{memory_after}
-use Rattle.norec_world.specs.Going.{passes_of}
+use Rattle.norec_world.specs.WorldEvents.{passes_of}
 use Rattle.norec_world.specs.Opacity.{IsOpaque, IsRunOf, Between}
 
 -- ## A player that adds one to the counter at place 0

@@ -14,7 +14,7 @@ use Rattle.norec_engine.specs.declared.answer.Answer.TheVariants.{Reply, Committ
 use Rattle.norec_engine.specs.declared.answer.Next.{Next}
 use Rattle.norec_engine.specs.declared.answer.Next.TheVariants.{Step as Steps, Answer as Answers}
 use Rattle.norec_engine.specs.declared.phase.Phase.TheVariants as at
-use Rattle.norec_engine.proofs.Keeping.{handed_is}
+use Rattle.norec_engine.proofs.KeptFields.{handed_is}
 use Rattle.norec_world.specs.declared.attempt.Attempt.{Attempt}
 use Rattle.norec_world.specs.declared.attempt.End.TheVariants.{GaveUp}
 use Rattle.norec_world.specs.declared.actor.Actor.{Actor}
@@ -22,7 +22,7 @@ use Rattle.norec_world.specs.declared.actor.Status.TheVariants.{Ready, Waits, En
 use Rattle.norec_world.specs.Cells.{Cells, found}
 use Rattle.norec_world.specs.Rows.{Rows, active_of, with_one, with_changed}
 use Rattle.norec_world.specs.Records.{Records, Tells, Opens, IsTold, CountsTry, asked_pending, begins_again}
-use Rattle.norec_world.specs.Working.{TakesIn, Calls}
+use Rattle.norec_world.specs.LocalWork.{TakesIn, Calls}
 use Rattle.norec_world.specs.Alike.{HasAttempt}
 use Rattle.norec_world.proofs.ActiveRows.{changed_here}
 use Rattle.norec_world.proofs.AlikeAnswers.{Closes}

@@ -27,7 +27,7 @@ use Rattle.norec_world.specs.Alone.{state_then, player_then, IsAlone}
 use Rattle.norec_world.specs.Opacity.{Beginning, Between, begin_code, EndsAs, IsTryAt}
 use Rattle.norec_world.specs.Runs.{begins_at, IsInTry}
 use Rattle.norec_world.proofs.Alones.{begins_alone}
-use Rattle.norec_world.proofs.Following.{alone_snoc, player_snoc, state_snoc, stands_open}
+use Rattle.norec_world.proofs.SoloRuns.{alone_snoc, player_snoc, state_snoc, stands_open}
 
 module _ {P : Type 0} (next : P → Option Call) (answered : P → Replied → P) (restarted : P → P) (left : P → ℕ)
     (nearer : (p : P) (c : Call) (r : Replied) → next p ≡ Some c → left (answered p r) < left p) where

@@ -14,7 +14,7 @@ use Rattle.norec_world.specs.SoFar.{IsBegun, IsSoFar}
 use Rattle.norec_world.specs.Records.{StopsAt}
 use Rattle.norec_world.specs.Rows.{Rows, all_of}
 use Rattle.std.proofs.lemmas.List.{append-nil}
-use Rattle.norec_world.proofs.Following.{one_found, one_gone}
+use Rattle.norec_world.proofs.SoloRuns.{one_found, one_gone}
 
 half_even : (n k : ℕ) → n ≡ 2 * k → (n / 2 ≡ k) × (n % 2 ≡ 0)
 half_even n k e = (omega (arith, e), omega (arith, e))

@@ -19,7 +19,7 @@ use Rattle.norec_world.specs.declared.actor.Status.TheVariants.{Ready, Waits}
 use Rattle.norec_world.specs.Cells.{Cells, found}
 use Rattle.norec_world.specs.Rows.{Rows}
 use Rattle.norec_world.specs.Records.{Tells}
-use Rattle.norec_world.specs.Working.{ActsOn}
+use Rattle.norec_world.specs.LocalWork.{ActsOn}
 use Rattle.norec_world.specs.Events.{IsEvent}
 
 -- who asks for no step is idle

@@ -9,9 +9,9 @@ use Rattle.norec_world.specs.Status.{ending_of, is_ready, is_waiting, waiting_st
 use Rattle.norec_world.specs.World.{World, ShowsAlone, ending_at, waits_at}
 use Rattle.norec_world.specs.Commits.{CommitsInOrder}
 use Rattle.norec_world.specs.Opaque.{AreOpaque}
-use Rattle.norec_world.specs.Going.{Goes}
+use Rattle.norec_world.specs.WorldEvents.{Goes}
 use Rattle.norec_world.proofs.Worlds.{some_ended, waiting_some}
-use Rattle.norec_world.proofs.Frames.{within_of}
+use Rattle.norec_world.proofs.SoundOthers.{within_of}
 
 pub mapped_none : {A B : Type 0} (f : A → B) (o : Option A) → None ≡ option_map f o → o ≡ None
 mapped_none f None e = refl

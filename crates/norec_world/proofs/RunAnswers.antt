@@ -31,7 +31,7 @@ use Rattle.norec_world.specs.Sound.{IsAnswered, IsSettledBy}
 use Rattle.norec_world.specs.Memories.{bytes_at, words_at}
 use Rattle.norec_world.specs.Runs.{run_after, begins_at, IsInTry, IsRun}
 use Rattle.norec_world.proofs.ActiveRows.{changed_here, row_is_of}
-use Rattle.norec_world.proofs.Following.{player_snoc, stands_open}
+use Rattle.norec_world.proofs.SoloRuns.{player_snoc, stands_open}
 use Rattle.norec_world.proofs.TryEnds.{none_pending}
 use Rattle.norec_world.proofs.RunLists.{of_thread_own, run_more, run_still}
 use Rattle.norec_world.proofs.InTries.{try_replies, try_stops, try_commits, left_state}

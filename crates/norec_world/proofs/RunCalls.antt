@@ -28,10 +28,10 @@ use Rattle.norec_world.specs.Status.{ending_of}
 use Rattle.norec_world.specs.Records.{Asks as CallAsks, Records, Opens, StopsAt, asked_pending, begins_again}
 use Rattle.norec_world.specs.Sound.{IsTied, IsReady, IsSound, StatusIs, IsAsked, IsAnswered, IsSettledBy}
 use Rattle.norec_world.specs.Memories.{bytes_at, words_at}
-use Rattle.norec_world.specs.Sees.{Loaded, Sees, AreLaid}
+use Rattle.norec_world.specs.LogAgreement.{Loaded, Sees, AreLaid}
 use Rattle.norec_world.specs.Runs.{run_after, begins_at, IsInTry, IsBeforeTry, IsRun, RunsFrom}
 use Rattle.norec_world.proofs.ActiveRows.{changed_here}
-use Rattle.norec_world.proofs.Calling.{asked_tied, at_once}
+use Rattle.norec_world.proofs.SoundCalls.{asked_tied, at_once}
 use Rattle.norec_world.proofs.Memories.{bytes_still}
 use Rattle.norec_world.proofs.InTries.{try_asks}
 use Rattle.norec_world.specs.Commits.{AreCounted}
@@ -39,7 +39,7 @@ use Rattle.norec_world.proofs.RunTurns.{laid_on}
 use Rattle.norec_world.proofs.RunAnswers.{reply_runs, commit_runs, full_runs, stop_run}
 use Rattle.norec_world.proofs.RunBegins.{begin_here, outside_runs}
 use Rattle.norec_world.proofs.TryEnds.{begin_call, begin_opens, not_starved}
-use Rattle.norec_engine.proofs.Resting.{rests}
+use Rattle.norec_engine.proofs.AnsweredEngines.{rests}
 
 both : (n : Bool) → n ≡ true → n ≡ false → ⊥
 both n t f = absurd (cc)

@@ -32,20 +32,20 @@ use Rattle.norec_world.specs.Status.{ending_of}
 use Rattle.norec_world.specs.Records.{Records, Opens, Tells, IsTold}
 use Rattle.norec_world.specs.Sound.{IsTied, HasRow, IsSound, IsWaiting, IsAnswered, IsSettledBy, IsDone}
 use Rattle.norec_world.specs.Memories.{bytes_at, words_at}
-use Rattle.norec_world.specs.Sees.{Loaded, Sees, AreLaid}
+use Rattle.norec_world.specs.LogAgreement.{Loaded, Sees, AreLaid}
 use Rattle.norec_world.specs.Runs.{IsRun, RunsFrom}
-use Rattle.norec_world.proofs.Following.{is_free}
+use Rattle.norec_world.proofs.SoloRuns.{is_free}
 use Rattle.norec_world.proofs.Memories.{bytes_still, none_next, found_later}
-use Rattle.norec_world.proofs.Seeing.{loaded_handed, still_logged, log_now, less_logged}
-use Rattle.norec_world.proofs.Tracking.{HandedSame, handed_same, freed_by}
-use Rattle.norec_engine.proofs.Resting.{rests}
-use Rattle.norec_world.proofs.Tying.{held_even}
-use Rattle.norec_world.proofs.Recording.{was_open}
+use Rattle.norec_world.proofs.LogAgreement.{loaded_handed, still_logged, log_now, less_logged}
+use Rattle.norec_world.proofs.SoloTracks.{HandedSame, handed_same, freed_by}
+use Rattle.norec_engine.proofs.AnsweredEngines.{rests}
+use Rattle.norec_world.proofs.TiedEngines.{held_even}
+use Rattle.norec_world.proofs.RecordedRows.{was_open}
 use Rattle.norec_world.proofs.InTries.{try_asks}
 use Rattle.norec_world.proofs.RunAnswers.{reply_runs, commit_runs, commit_left, conflict_runs, full_runs}
 use Rattle.norec_world.proofs.RunBegins.{begin_runs, busy_runs, outside_runs}
 use Rattle.norec_world.proofs.RunSteps.{handed_kept, run_handed, run_told}
-use Rattle.norec_world.proofs.Stepping.{waits, went, same, is_mid, step_tied, step_answered, step_done}
+use Rattle.norec_world.proofs.SoundSteps.{waits, went, same, is_mid, step_tied, step_answered, step_done}
 use Rattle.norec_world.proofs.TryEnds.{ClockMoves, begin_call, begin_opens, not_starved}
 use Rattle.norec_world.proofs.TrySteps.{moves, loads_clock}
 use Rattle.norec_world.proofs.WordLists.{words_of-bytes_of}

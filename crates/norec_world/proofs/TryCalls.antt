@@ -23,8 +23,8 @@ use Rattle.norec_world.specs.Status.{ending_of}
 use Rattle.norec_world.specs.Records.{Asks as CallAsks, Records, Opens, StopsAt, asked_pending}
 use Rattle.norec_world.specs.Sound.{IsTied, HasRow, IsReady, IsSound, StatusIs, IsAsked, IsAnswered, IsSettledBy}
 use Rattle.norec_world.specs.Tries.{Prior, Tries, IsBetween, between, runs, over, prior_of, current_of}
-use Rattle.norec_world.proofs.Tying.{limit_same}
-use Rattle.norec_world.proofs.Calling.{asked_tied, at_once}
+use Rattle.norec_world.proofs.TiedEngines.{limit_same}
+use Rattle.norec_world.proofs.SoundCalls.{asked_tied, at_once}
 use Rattle.norec_world.proofs.TryEnds.{ClockMoves, is_between, open_tries}
 
 module _ {P : Type 0} (next : P → Option Call) (answered : P → Replied → P) (restarted : P → P) (left : P → ℕ) (depth : P → ℕ)

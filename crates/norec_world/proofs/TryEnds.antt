@@ -32,7 +32,7 @@ use Rattle.norec_world.specs.Records.{Records, Opens, IsTold, CountsTry}
 use Rattle.norec_world.specs.Sound.{IsTied, HasRow, IsAnswered, IsSettledBy, RestsAs, IsReady}
 use Rattle.norec_world.specs.Tries.{EndsAt, IsBetween, TriesAgain, GoesOnAfter, Prior, Tries, between, begins, runs, over, turned_away, prior_of, current_of}
 use Rattle.norec_world.proofs.ActiveRows.{changed_here, opened_here}
-use Rattle.norec_world.proofs.Recording.{was_open}
+use Rattle.norec_world.proofs.RecordedRows.{was_open}
 
 -- no row where the engine is outside
 pub no_row : (b : Bool) (r : Rows) (thread : ℕ) → b ≡ false → HasRow b r thread → active_of thread r.active ≡ None

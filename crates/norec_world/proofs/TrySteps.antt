@@ -22,8 +22,8 @@ use Rattle.norec_world.specs.Status.{ending_of}
 use Rattle.norec_world.specs.Records.{Records, Tells, IsTold}
 use Rattle.norec_world.specs.Sound.{IsTied, HasRow, IsAnswered, IsSettledBy, IsDone, IsSound}
 use Rattle.norec_world.specs.Tries.{Tries, between, begins, runs, prior_of, current_of}
-use Rattle.norec_world.proofs.Tying.{held_even, limit_same, holds_handed}
-use Rattle.norec_world.proofs.Stepping.{waits, went, same, is_mid, step_tied, step_answered, step_done}
+use Rattle.norec_world.proofs.TiedEngines.{held_even, limit_same, holds_handed}
+use Rattle.norec_world.proofs.SoundSteps.{waits, went, same, is_mid, step_tied, step_answered, step_done}
 use Rattle.norec_world.proofs.TryEnds.{ClockMoves, open_tries, begin_tries, told_tries, not_finished}
 
 both : (n : Bool) → n ≡ true → n ≡ false → ⊥

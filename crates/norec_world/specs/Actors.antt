@@ -8,7 +8,7 @@ use Rattle.norec_world.specs.declared.setup.TheConstants.{MAX_ACTORS}
 use Rattle.norec_world.specs.Cells.{Cells}
 use Rattle.norec_world.specs.Rows.{Rows, active_of}
 use Rattle.norec_world.specs.Status.{is_ready}
-use Rattle.norec_world.specs.Own.{pending_in}
+use Rattle.norec_world.specs.OthersAttempts.{pending_in}
 use Rattle.norec_world.specs.Sound.{IsSound}
 
 module _ {P : Type 0} (next : P → Option Call) (answered : P → Reply → P) (restarted : P → P) (left : P → ℕ) (depth : P → ℕ) where

@@ -7,10 +7,10 @@ use Rattle.norec_world.specs.declared.actor.Actor.{Actor}
 use Rattle.norec_world.specs.Cells.{Cells}
 use Rattle.norec_world.specs.Rows.{Rows}
 use Rattle.norec_world.specs.Status.{ending_of}
-use Rattle.norec_world.specs.Own.{KeepsOthers}
-use Rattle.norec_world.specs.Holding.{ClocksOn}
+use Rattle.norec_world.specs.OthersAttempts.{KeepsOthers}
+use Rattle.norec_world.specs.ClockHolder.{ClocksOn}
 use Rattle.norec_world.specs.Tries.{Tries, prior_of}
-use Rattle.norec_world.specs.Working.{TakesIn, Works}
+use Rattle.norec_world.specs.LocalWork.{TakesIn, Works}
 
 module _ {P : Type 0} (next : P → Option Call) (answered : P → Reply → P) (restarted : P → P) where
   pub record IsEvent (cells : Cells) (r : Rows) (a : Actor P) (cells' : Cells) (r' : Rows) (a' : Actor P) : Type 0 where

@@ -6,7 +6,7 @@ use Rattle.norec_world.specs.declared.actor.Actor.{Actor}
 use Rattle.norec_world.specs.Rows.{AreFrom, AreOfActors}
 use Rattle.norec_world.specs.Actors.{AreActors}
 use Rattle.norec_world.specs.Commits.{CommitsInOrder}
-use Rattle.norec_world.specs.Sees.{AreLaid}
+use Rattle.norec_world.specs.LogAgreement.{AreLaid}
 use Rattle.norec_world.specs.Runs.{RunsFrom}
 use Rattle.norec_world.specs.Opaque.{first_of}
 use Rattle.norec_world.specs.World.{World, RunsAlone}

@@ -17,7 +17,7 @@ use Rattle.norec_world.specs.Cells.{Cells}
 use Rattle.norec_world.specs.Rows.{Rows, active_of}
 use Rattle.norec_world.specs.Status.{ending_of}
 use Rattle.norec_world.specs.Memories.{bytes_at, words_at}
-use Rattle.norec_world.specs.Sees.{Sees, AreLaid}
+use Rattle.norec_world.specs.LogAgreement.{Sees, AreLaid}
 
 module _ {P : Type 0} (next : P → Option Call) (answered : P → Reply → P) (restarted : P → P) (left : P → ℕ) where
   -- where the player's blocks lead from here

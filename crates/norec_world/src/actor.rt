@@ -44,12 +44,12 @@ impl<P: Player> Actor<P> {
     ghost use Rattle.norec_world.specs.Cells.{cells_after};
     ghost use Rattle.norec_world.specs.Status.{ending_of, is_waiting, is_ready, waiting_step};
     ghost use Rattle.norec_world.specs.Records.{Tells, IsTold};
-    ghost use Rattle.norec_world.specs.Working.{TakesIn};
+    ghost use Rattle.norec_world.specs.LocalWork.{TakesIn};
     ghost use Rattle.norec_world.specs.Tracks.{StillTracks};
-    ghost use Rattle.norec_world.specs.Own.{KeepsOthers};
+    ghost use Rattle.norec_world.specs.OthersAttempts.{KeepsOthers};
     ghost use Rattle.norec_world.specs.Tries.{Tries, prior_of};
     ghost use Rattle.norec_world.specs.Runs.{StillRuns};
-    ghost use Rattle.norec_world.specs.Holding.{ClocksOn};
+    ghost use Rattle.norec_world.specs.ClockHolder.{ClocksOn};
     ghost use Rattle.norec_world.specs.Sound.{IsKept, IsSound, IsDue, IsDone, StatusIs, GoesOn, Falls};
 
     /// An actor that has made no call.

@@ -23,7 +23,7 @@ impl<P: Player> World<P> {
     ghost use Rattle.norec_world.specs.World.{counted, SameOpening};
     ghost use Rattle.norec_world.specs.Commits.{CommitsInOrder};
     ghost use Rattle.norec_world.specs.Opaque.{AreOpaque};
-    ghost use Rattle.norec_world.specs.Going.{Leads, passes_of};
+    ghost use Rattle.norec_world.specs.WorldEvents.{Leads, passes_of};
 
     /// An event for each entry in turn, passing over those that name no actor or one that has ended.
     pub fn run(&mut self, alloc: Global, schedule: &[u8]) -> Passes

@@ -6,7 +6,7 @@ ghost use Rattle.norec_world.specs.Tracks.{Tracks};
 ghost use Rattle.norec_world.specs.Status.{ending_of, is_ready};
 ghost use Rattle.norec_world.specs.Sound.{IsSound};
 ghost use Rattle.norec_world.specs.Rows.{active_of};
-ghost use Rattle.norec_world.specs.Own.{KeepsOthers};
+ghost use Rattle.norec_world.specs.OthersAttempts.{KeepsOthers};
 ghost use Rattle.norec_world.specs.Actors.{AreActors};
 ghost use Rattle.norec_world.specs.World.{IsSoloWorld, ending_in};
 ghost use Rattle.norec_engine.specs.Core.{opening};

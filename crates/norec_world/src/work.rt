@@ -19,9 +19,9 @@ impl<P: Player> Actor<P> {
     ghost use Rattle.norec_world.specs.Records.{Asks, Records, StopsAt};
     ghost use Rattle.norec_engine.specs.Undoing.{after_undoing};
     ghost use Rattle.script_vm.specs.Depth.{is_begin};
-    ghost use Rattle.norec_world.specs.Working.{Acts, Works};
+    ghost use Rattle.norec_world.specs.LocalWork.{Acts, Works};
     ghost use Rattle.norec_world.specs.Tracks.{StillTracks};
-    ghost use Rattle.norec_world.specs.Own.{KeepsOthers};
+    ghost use Rattle.norec_world.specs.OthersAttempts.{KeepsOthers};
     ghost use Rattle.norec_world.specs.Tries.{Tries, prior_of};
     ghost use Rattle.norec_world.specs.Runs.{StillRuns};
     ghost use Rattle.norec_world.specs.Sound.{IsTied, IsKept, IsReady, IsSound, IsAnswered, IsSettledBy, IsAsked, IsUnasked, IsNoMore, Falls, retried};

@@ -54,7 +54,7 @@ impl<P: Player> World<P> {
     ghost use Rattle.norec_world.specs.declared.actor.Actor.{Actor};
     ghost use Rattle.norec_world.specs.Commits.{CommitsInOrder};
     ghost use Rattle.norec_world.specs.Opaque.{AreOpaque};
-    ghost use Rattle.norec_world.specs.Going.{Goes, Takes};
+    ghost use Rattle.norec_world.specs.WorldEvents.{Goes, Takes};
     ghost use Rattle.norec_world.specs.Sound.{HasLess};
 
     /// A world over this memory, with the clock at 0. Each actor's local work up to its first operation is done.

@@ -192,7 +192,7 @@ fn push_code(state: &mut State, line: usize, instruction: Instruction) -> Result
     }
 }
 
-#[tactic(auto, unfolding(crate::specs::Assembly::run_code), using(crate::proofs::Keeping::adds_then))]
+#[tactic(auto, unfolding(crate::specs::Assembly::run_code), using(crate::proofs::KeptLines::adds_then))]
 fn run_code(state: &mut State, line: usize, instruction: Instruction) -> Result<(), Stop>
     ensures { Steps result state.old state.new (run_code state.old line instruction) }
 {

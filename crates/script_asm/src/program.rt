@@ -113,7 +113,7 @@ impl Program {
     }
 
     /// How many threads it has.
-    #[tactic(auto, using(crate::proofs::Adding::codes_length), unfolding(crate::specs::Sections::thread_total))]
+    #[tactic(auto, using(crate::proofs::AddedSections::codes_length), unfolding(crate::specs::Sections::thread_total))]
     pub fn threads(&self) -> usize
         ensures value { result ≡ length (threads_of self.now) }
         ensures low { 1 ≤ result }
@@ -123,7 +123,7 @@ impl Program {
     }
 
     /// What a thread does, line by line. Threads are counted from 0.
-    #[tactic(auto, using(crate::proofs::Adding::codes_length))]
+    #[tactic(auto, using(crate::proofs::AddedSections::codes_length))]
     pub fn code(&self, thread: usize) -> &[Instruction]
         requires { thread < length (threads_of self.now) }
         ensures value { slice_get (threads_of self.now) thread ≡ Some result.now }
@@ -133,7 +133,7 @@ impl Program {
     }
 
     /// Which thread takes the next events, in the order of the script.
-    #[tactic(auto, using(crate::proofs::Adding::codes_length))]
+    #[tactic(auto, using(crate::proofs::AddedSections::codes_length))]
     pub fn schedule(&self) -> &[Item]
         ensures value { result.now ≡ self.now.schedule }
 

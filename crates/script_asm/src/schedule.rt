@@ -77,7 +77,7 @@ impl Plan {
     }
 
     /// The line of the first item whose thread is not below the number.
-    #[tactic(auto, using(crate::proofs::Straying::stray_found, crate::proofs::Straying::stray_end))]
+    #[tactic(auto, using(crate::proofs::StrayItems::stray_found, crate::proofs::StrayItems::stray_end))]
     pub fn stray(&self, threads: usize) -> Option<usize>
         ensures value { result ≡ stray_of threads self.now.items self.now.lines }
         ensures named { IfNone result (All (λ i. thread_of i < threads) self.now.items) }

@@ -39,7 +39,7 @@ fn semicolon_at(line: &[u8]) -> Option<usize>
 }
 
 /// The first line, and what stands after it.
-#[tactic(auto, using(crate::proofs::Cutting::line_first, crate::proofs::Cutting::line_last))]
+#[tactic(auto, using(crate::proofs::FirstLines::line_first, crate::proofs::FirstLines::line_last))]
 pub fn first_line(text: &[u8]) -> Option<(&[u8], &[u8])>
     ensures lines { MatchOption result (lines text.now ≡ []) (λ x. lines text.now ≡ x.0.now ∷ lines x.1.now) }
     ensures shorter { IfSome result (λ x. length x.1.now < length text.now) }
@@ -58,7 +58,7 @@ pub fn first_line(text: &[u8]) -> Option<(&[u8], &[u8])>
 }
 
 /// The first field, and what stands after it.
-#[tactic(auto, using(crate::proofs::Cutting::field_first, crate::proofs::Cutting::field_last, crate::proofs::Cutting::field_none))]
+#[tactic(auto, using(crate::proofs::FirstLines::field_first, crate::proofs::FirstLines::field_last, crate::proofs::FirstLines::field_none))]
 pub fn first_field(line: &[u8]) -> Option<(&[u8], &[u8])>
     ensures fields { MatchOption result (fields line.now ≡ []) (λ x. fields line.now ≡ x.0.now ∷ fields x.1.now) }
     ensures shorter { IfSome result (λ x. length x.1.now < length line.now) }
@@ -76,7 +76,7 @@ pub fn first_field(line: &[u8]) -> Option<(&[u8], &[u8])>
 }
 
 /// The line without its comment.
-#[tactic(auto, unfolding(crate::specs::Text::without_comment), using(crate::proofs::Cutting::before_at, crate::proofs::Cutting::before_none))]
+#[tactic(auto, unfolding(crate::specs::Text::without_comment), using(crate::proofs::FirstLines::before_at, crate::proofs::FirstLines::before_none))]
 pub fn code_part(line: &[u8]) -> &[u8]
     ensures { result.now ≡ without_comment line.now }
 {

@@ -88,7 +88,7 @@ impl Threads {
     }
 
     /// The section of so many threads begins.
-    #[tactic(auto, unfolding(crate::specs::Sections::thread_total, crate::specs::Sections::instruction_total), using(crate::proofs::Adding::threads_more, crate::proofs::Adding::code_more))]
+    #[tactic(auto, unfolding(crate::specs::Sections::thread_total, crate::specs::Sections::instruction_total), using(crate::proofs::AddedSections::threads_more, crate::proofs::AddedSections::code_more))]
     pub fn begin(&mut self, alloc: Global, count: usize) -> Result<(), AllocError>
         requires { thread_total self.old + count ≤ 32 }
         ensures ok { OnOk result (self.new ≡ begun self.old count) }

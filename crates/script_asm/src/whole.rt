@@ -17,7 +17,7 @@ use crate::threads::Threads;
 use std::alloc::Global;
 
 /// What the lines say, one after the other; `number` is the line that was read last.
-#[tactic(auto, using(crate::proofs::Refusing::read_on, crate::proofs::Refusing::drop_on, crate::proofs::Refusing::runs_out))]
+#[tactic(auto, using(crate::proofs::RefusedLines::read_on, crate::proofs::RefusedLines::drop_on, crate::proofs::RefusedLines::runs_out))]
 fn read_lines(alloc: Global, text: &[u8], number: &mut usize) -> Result<State, Stop>
     requires small { length text.now ≤ 16777216 }
     requires first { number.old ≡ 0 }

@@ -44,7 +44,7 @@ pub const WORDS: [(&[u8], Word); 13] = [
     (b"_ITM_WU8", Word::Code(Mnemonic::Write)),
 ];
 
-#[tactic(auto, using(crate::proofs::Looking::goes_on, crate::proofs::Looking::found, crate::proofs::Looking::ended))]
+#[tactic(auto, using(crate::proofs::FieldLookup::goes_on, crate::proofs::FieldLookup::found, crate::proofs::FieldLookup::ended))]
 fn lookup(rows: &[(&[u8], Word)], field: &[u8]) -> Option<Word>
     ensures { result ≡ lookup (map row rows.now) field.now }
 {

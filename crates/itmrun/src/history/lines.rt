@@ -23,7 +23,7 @@ fn outcome_name(outcome: Outcome) -> &'static [u8]
     }
 }
 
-#[tactic(auto, unfolding(crate::specs::Histories::head_line), using(crate::proofs::Growing::grows_as))]
+#[tactic(auto, unfolding(crate::specs::Histories::head_line), using(crate::proofs::AppendedTexts::grows_as))]
 fn put_head<W: Write>(stream: &mut Stream<'_, W>, attempt: &Attempt)
     ensures same { stream.new.writer.ghost_name ≡ stream.old.writer.ghost_name }
     ensures grows { Grows stream.old.failed (W.contents stream.old.writer.now) stream.new.failed (W.contents stream.new.writer.now) (head_line attempt.now) }
@@ -41,7 +41,7 @@ fn put_head<W: Write>(stream: &mut Stream<'_, W>, attempt: &Attempt)
     ]);
 }
 
-#[tactic(auto, unfolding(crate::specs::Histories::arena_line), using(crate::proofs::Growing::grows_as))]
+#[tactic(auto, unfolding(crate::specs::Histories::arena_line), using(crate::proofs::AppendedTexts::grows_as))]
 fn put_arena<W: Write>(stream: &mut Stream<'_, W>, bytes: &[u8])
     ensures same { stream.new.writer.ghost_name ≡ stream.old.writer.ghost_name }
     ensures grows { Grows stream.old.failed (W.contents stream.old.writer.now) stream.new.failed (W.contents stream.new.writer.now) (arena_line bytes.now) }
@@ -57,7 +57,7 @@ fn put_arena<W: Write>(stream: &mut Stream<'_, W>, bytes: &[u8])
     }
 }
 
-#[tactic(auto, unfolding(crate::specs::Histories::body_text), using(crate::proofs::Growing::grows_as))]
+#[tactic(auto, unfolding(crate::specs::Histories::body_text), using(crate::proofs::AppendedTexts::grows_as))]
 fn put_body<W: Write>(stream: &mut Stream<'_, W>, call: &Call)
     ensures same { stream.new.writer.ghost_name ≡ stream.old.writer.ghost_name }
     ensures grows { Grows stream.old.failed (W.contents stream.old.writer.now) stream.new.failed (W.contents stream.new.writer.now) (body_text call.now) }
@@ -80,7 +80,7 @@ fn put_body<W: Write>(stream: &mut Stream<'_, W>, call: &Call)
     }
 }
 
-#[tactic(auto, unfolding(crate::specs::Histories::reply_text), using(crate::proofs::Growing::grows_as))]
+#[tactic(auto, unfolding(crate::specs::Histories::reply_text), using(crate::proofs::AppendedTexts::grows_as))]
 fn put_reply<W: Write>(stream: &mut Stream<'_, W>, reply: &Reply)
     ensures same { stream.new.writer.ghost_name ≡ stream.old.writer.ghost_name }
     ensures grows { Grows stream.old.failed (W.contents stream.old.writer.now) stream.new.failed (W.contents stream.new.writer.now) (reply_text reply.now) }
@@ -107,7 +107,7 @@ fn put_call<W: Write>(stream: &mut Stream<'_, W>, entry: &Entry)
     stream.put(&[Piece::Text(b"\n")]);
 }
 
-#[tactic(auto, using(crate::proofs::Growing::grows_none, crate::proofs::Growing::grows_call))]
+#[tactic(auto, using(crate::proofs::AppendedTexts::grows_none, crate::proofs::AppendedTexts::grows_call))]
 fn put_calls<W: Write>(stream: &mut Stream<'_, W>, calls: &[Entry])
     ensures same { stream.new.writer.ghost_name ≡ stream.old.writer.ghost_name }
     ensures grows { Grows stream.old.failed (W.contents stream.old.writer.now) stream.new.failed (W.contents stream.new.writer.now) (flat_map call_line calls.now) }
@@ -118,7 +118,7 @@ fn put_calls<W: Write>(stream: &mut Stream<'_, W>, calls: &[Entry])
 }
 
 /// Writes the lines before the first attempt: the format's name, and the memory as it was.
-#[tactic(auto, unfolding(crate::specs::Histories::first_lines), using(crate::proofs::Growing::grows_as))]
+#[tactic(auto, unfolding(crate::specs::Histories::first_lines), using(crate::proofs::AppendedTexts::grows_as))]
 fn put_first<W: Write>(stream: &mut Stream<'_, W>, memory: &[u8])
     ensures same { stream.new.writer.ghost_name ≡ stream.old.writer.ghost_name }
     ensures grows { Grows stream.old.failed (W.contents stream.old.writer.now) stream.new.failed (W.contents stream.new.writer.now) (first_lines memory.now) }
@@ -140,7 +140,7 @@ fn put_attempt<W: Write>(stream: &mut Stream<'_, W>, attempt: &Attempt)
     stream.put(&[Piece::Text(b"end\n")]);
 }
 
-#[tactic(auto, using(crate::proofs::Growing::grows_no_attempt, crate::proofs::Growing::grows_attempt))]
+#[tactic(auto, using(crate::proofs::AppendedTexts::grows_no_attempt, crate::proofs::AppendedTexts::grows_attempt))]
 fn put_attempts<W: Write>(stream: &mut Stream<'_, W>, attempts: &[Attempt])
     ensures same { stream.new.writer.ghost_name ≡ stream.old.writer.ghost_name }
     ensures grows { Grows stream.old.failed (W.contents stream.old.writer.now) stream.new.failed (W.contents stream.new.writer.now) (flat_map attempt_lines attempts.now) }
@@ -151,7 +151,7 @@ fn put_attempts<W: Write>(stream: &mut Stream<'_, W>, attempts: &[Attempt])
 }
 
 /// Writes the last line: the clock, and the memory as it is.
-#[tactic(auto, unfolding(crate::specs::Histories::last_line), using(crate::proofs::Growing::grows_as))]
+#[tactic(auto, unfolding(crate::specs::Histories::last_line), using(crate::proofs::AppendedTexts::grows_as))]
 fn put_last<W: Write>(stream: &mut Stream<'_, W>, clock: u64, bytes: &[u8])
     ensures same { stream.new.writer.ghost_name ≡ stream.old.writer.ghost_name }
     ensures grows { Grows stream.old.failed (W.contents stream.old.writer.now) stream.new.failed (W.contents stream.new.writer.now) (last_line clock bytes.now) }

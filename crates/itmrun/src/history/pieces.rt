@@ -20,7 +20,7 @@ pub enum Piece<'a> {
 }
 
 /// Writes the bytes. Where a write fails, what the writer took is a beginning of them.
-#[tactic(auto, using(crate::proofs::Putting::starts, crate::proofs::Putting::grown, crate::proofs::Putting::stays, crate::proofs::Putting::whole))]
+#[tactic(auto, using(crate::proofs::TextPieces::starts, crate::proofs::TextPieces::grown, crate::proofs::TextPieces::stays, crate::proofs::TextPieces::whole))]
 pub fn put_bytes<W: Write>(writer: &mut W, bytes: &[u8]) -> io::Result<()>
     ensures { Puts (W.contents writer.old) (W.contents writer.new) result bytes.now }
 {
@@ -55,7 +55,7 @@ fn put_chunk<W: Write>(writer: &mut W, chunk: &[u8]) -> io::Result<()>
     put_bytes(writer, digits)
 }
 
-#[tactic(auto, using(crate::proofs::Putting::hex_starts, crate::proofs::Putting::hex_grown, crate::proofs::Putting::hex_stays, crate::proofs::Putting::hex_whole))]
+#[tactic(auto, using(crate::proofs::TextPieces::hex_starts, crate::proofs::TextPieces::hex_grown, crate::proofs::TextPieces::hex_stays, crate::proofs::TextPieces::hex_whole))]
 fn put_hex<W: Write>(writer: &mut W, bytes: &[u8]) -> io::Result<()>
     ensures { Puts (W.contents writer.old) (W.contents writer.new) result (encode_lower bytes.now) }
 {
@@ -81,7 +81,7 @@ fn put_piece<W: Write>(writer: &mut W, piece: &Piece<'_>) -> io::Result<()>
 }
 
 /// Writes the pieces one after the other.
-#[tactic(auto, using(crate::proofs::Putting::starts, crate::proofs::Putting::more_pieces, crate::proofs::Putting::pieces_stop, crate::proofs::Putting::whole_pieces))]
+#[tactic(auto, using(crate::proofs::TextPieces::starts, crate::proofs::TextPieces::more_pieces, crate::proofs::TextPieces::pieces_stop, crate::proofs::TextPieces::whole_pieces))]
 pub fn put_pieces<W: Write>(writer: &mut W, pieces: &[Piece<'_>]) -> io::Result<()>
     ensures { Puts (W.contents writer.old) (W.contents writer.new) result (flat_map spelled pieces.now) }
 {

@@ -15,7 +15,7 @@ pub struct Stream<'a, W: Write> {
 
 impl<W: Write> Stream<'_, W> {
     /// Writes the pieces one after the other.
-    #[tactic(auto, using(crate::proofs::Putting::remembered))]
+    #[tactic(auto, using(crate::proofs::TextPieces::remembered))]
     pub fn put(&mut self, pieces: &[Piece<'_>])
         ensures same { self.new.writer.ghost_name ≡ self.old.writer.ghost_name }
         ensures grows { Grows self.old.failed (W.contents self.old.writer.now) self.new.failed (W.contents self.new.writer.now) (flat_map spelled pieces.now) }

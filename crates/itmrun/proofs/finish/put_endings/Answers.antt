@@ -1,6 +1,6 @@
 use Rattle.std.proofs.Common.{None}
 use Rattle.std.proofs.lemmas.Result.{err_from_is_err_and}
-use Rattle.itmrun.proofs.Telling.{lines_stop}
+use Rattle.itmrun.proofs.EndingLines.{lines_stop}
 use Rattle.itmrun.proofs.finish.put_endings.Goals as goal
 
 pub returns-in_err-put_ending : goal.returns-in_err-put_ending

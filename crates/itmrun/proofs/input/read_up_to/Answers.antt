@@ -1,6 +1,6 @@
 use Rattle.std.proofs.Common.{arith, take}
 use Rattle.std.proofs.lemmas.List.{length-take}
-use Rattle.itmrun.proofs.Taking.{few_more}
+use Rattle.itmrun.proofs.ReadTexts.{few_more}
 use Rattle.itmrun.proofs.input.read_up_to.Goals as goal
 
 pub returns-in_err-extend_from_slice-clause-few : goal.returns-in_err-extend_from_slice-clause-few

@@ -3,7 +3,7 @@ use Rattle.std.proofs.lemmas.List.Elements.{All-from_recursion}
 use Rattle.script_asm.specs.Listing.{threads_of}
 use Rattle.itmrun.specs.Threads.{Thread, depth_of}
 use Rattle.itmrun.specs.Scheduled.{players_of}
-use Rattle.itmrun.proofs.Scheduling.{outside}
+use Rattle.itmrun.proofs.ScheduleItems.{outside}
 use Rattle.itmrun.proofs.running.begin.Goals as goal
 
 pub new-requires-2-clause-outside : goal.new-requires-2-clause-outside

@@ -1,5 +1,5 @@
 use Rattle.std.proofs.Common.{◌∙◌, arith}
-use Rattle.itmrun.proofs.Scheduling.{endings_more}
+use Rattle.itmrun.proofs.ScheduleItems.{endings_more}
 use Rattle.itmrun.proofs.running.endings.Goals as goal
 
 pub loop-thread-preserved : goal.loop-thread-preserved

@@ -1,8 +1,8 @@
 use Rattle.std.proofs.Common.{◌≡◌, ◌∙◌, Err, ap, arith, subst}
 use Rattle.norec_world.specs.declared.fault.WorldFault.TheVariants.{Ended}
-use Rattle.norec_world.specs.Going.{Goes}
+use Rattle.norec_world.specs.WorldEvents.{Goes}
 use Rattle.itmrun.specs.Threads.{next_call, answered, restarted, calls_left}
-use Rattle.itmrun.proofs.Scheduling.{led_on, led_to_end}
+use Rattle.itmrun.proofs.ScheduleItems.{led_on, led_to_end}
 use Rattle.itmrun.proofs.running.take_events.Goals as goal
 
 pub returns-in-Err-Ended-clause-leads : goal.returns-in-Err-Ended-clause-leads

@@ -1,5 +1,5 @@
 use Rattle.std.proofs.Common.{◌≡◌, length, replicate}
-use Rattle.itmrun.proofs.Scheduling.{IsLed}
+use Rattle.itmrun.proofs.ScheduleItems.{IsLed}
 use Rattle.itmrun.proofs.running.take_events.Given as goal
 
 abbrev pub invariant-loop-taken : goal.invariant-loop-taken

@@ -1,7 +1,7 @@
 use Rattle.std.proofs.Common.{ℕ, ◌∙◌, ap}
 use Rattle.itmrun.specs.Scheduled.{endings_of}
-use Rattle.itmrun.proofs.Paging.{world_of_run}
-use Rattle.itmrun.proofs.Playing.{told, begun}
+use Rattle.itmrun.proofs.ProgramPages.{world_of_run}
+use Rattle.itmrun.proofs.WrittenWorlds.{told, begun}
 use Rattle.itmrun.proofs.sched.play.Goals as goal
 
 pub returns-then-write_world : goal.returns-then-write_world

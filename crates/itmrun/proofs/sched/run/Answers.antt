@@ -4,7 +4,7 @@ use Rattle.script_asm.specs.Listing.{Listing}
 use Rattle.itmrun.specs.Answers.{Runs}
 use Rattle.std.specs.Io.KnownBytes.{Keeps}
 use Rattle.std.proofs.KnownBytes.{Keeps-refl}
-use Rattle.itmrun.proofs.Taking.{cut, unread}
+use Rattle.itmrun.proofs.ReadTexts.{cut, unread}
 use Rattle.itmrun.proofs.sched.run.Goals as goal
 
 pub returns-in-Ok-clause-answer : goal.returns-in-Ok-clause-answer

@@ -2,16 +2,16 @@ use Rattle.std.proofs.Common.{rules, ◌≡◌, ◌+◌, ◌<◌, ◌≤◌, ℕ
 use Rattle.norec_world.specs.declared.actor.Actor.{Actor}
 use Rattle.norec_world.specs.Actors.{AreActors}
 use Rattle.norec_world.specs.World.{ending_in}
-use Rattle.norec_world.specs.Own.{ChangesOwn, count_pending}
+use Rattle.norec_world.specs.OthersAttempts.{ChangesOwn, count_pending}
 use Rattle.norec_world.specs.Starts.{IsFirst, HasStarted}
 use Rattle.norec_engine.specs.Core.{opening}
 use Rattle.itm_types.specs.Memory.{bytes_of}
 use Rattle.norec_world.specs.Runs.{RunsFrom}
 use Rattle.norec_world.specs.Opaque.{first_of}
-use Rattle.norec_world.proofs.RunFrames.{other_runs, laid_first}
+use Rattle.norec_world.proofs.RunOthers.{other_runs, laid_first}
 use Rattle.norec_world.proofs.Beginnings.{fed_joined, first_still}
 use Rattle.std.specs.List.{slice_index_or}
-use Rattle.norec_world.proofs.Frames.{actors_joined, last_or_before, within_of, none_active}
+use Rattle.norec_world.proofs.SoundOthers.{actors_joined, last_or_before, within_of, none_active}
 use Rattle.norec_world.proofs.start.start_all.Goals as goal
 
 nil_of : {A : Type 0} (xs : List A) → length xs ≡ 0 → xs ≡ []

@@ -1,6 +1,6 @@
 use Rattle.std.proofs.Common.{◌≤◌, ◌+◌, arith}
 use Rattle.script_asm.specs.Sections.{thread_total}
-use Rattle.script_asm.proofs.Keeping.{section_kept}
+use Rattle.script_asm.proofs.KeptLines.{section_kept}
 use Rattle.script_asm.proofs.directives.begin_threads.Goals as goal
 
 pub returns-in-Err : goal.returns-in-Err

@@ -1,6 +1,6 @@
 use Rattle.std.proofs.Common.{sym}
 use Rattle.std.proofs.lemmas.Bool.{leb-false}
-use Rattle.script_asm.proofs.Keeping.{code_kept}
+use Rattle.script_asm.proofs.KeptLines.{code_kept}
 use Rattle.script_asm.proofs.directives.push_code.Goals as goal
 
 pub returns-in-Err : goal.returns-in-Err

@@ -1,7 +1,7 @@
 use Rattle.std.proofs.Common.{◌+◌, ◌≤◌, length, arith}
 use Rattle.script_asm.specs.Text.{fields}
 use Rattle.script_asm.specs.Items.{items_in}
-use Rattle.script_asm.proofs.Keeping.{items_kept}
+use Rattle.script_asm.proofs.KeptLines.{items_kept}
 use Rattle.script_asm.proofs.directives.read_schedule.Goals as goal
 
 pub returns-in-Err-add_items : goal.returns-in-Err-add_items

@@ -1,5 +1,5 @@
 use Rattle.itmrun.specs.Histories.{call_line}
-use Rattle.itmrun.proofs.Growing.{grows_then}
+use Rattle.itmrun.proofs.AppendedTexts.{grows_then}
 use Rattle.itmrun.proofs.history.lines.put_call.Goals as goal
 
 pub returns-clause-grows : goal.returns-clause-grows

@@ -1,5 +1,5 @@
 use Rattle.itmrun.specs.Histories.{history_text}
-use Rattle.itmrun.proofs.Growing.{grows_then, grows_end}
+use Rattle.itmrun.proofs.AppendedTexts.{grows_then, grows_end}
 use Rattle.itmrun.proofs.history.lines.put_history.Goals as goal
 
 pub returns-clause-grows : goal.returns-clause-grows

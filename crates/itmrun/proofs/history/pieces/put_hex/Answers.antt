@@ -1,6 +1,6 @@
 use Rattle.std.proofs.Common.{◌≡◌, arith, take, drop}
 use Rattle.std.proofs.lemmas.Result.{err_from_is_err_and}
-use Rattle.itmrun.proofs.Putting.{hex_stays, hex_grown}
+use Rattle.itmrun.proofs.TextPieces.{hex_stays, hex_grown}
 use Rattle.itmrun.proofs.history.pieces.put_hex.Goals as goal
 
 pub returns-in_err-put_chunk : goal.returns-in_err-put_chunk

@@ -1,5 +1,5 @@
 use Rattle.std.proofs.lemmas.Result.{err_from_is_err_and}
-use Rattle.itmrun.proofs.Putting.{pieces_stop}
+use Rattle.itmrun.proofs.TextPieces.{pieces_stop}
 use Rattle.itmrun.proofs.history.pieces.put_pieces.Goals as goal
 
 pub returns-in_err-put_piece : goal.returns-in_err-put_piece

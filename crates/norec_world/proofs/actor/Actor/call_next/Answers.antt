@@ -1,15 +1,15 @@
-use Rattle.norec_world.proofs.Owning.{others_twice}
+use Rattle.norec_world.proofs.OthersAttempts.{others_twice}
 use Rattle.std.proofs.Common.{◌≡◌, ◌/◌, ℕ, Bool, true, refl, sym, ap, subst, ◌∙◌}
 use Rattle.norec_engine.specs.declared.answer.Next.{Next}
 use Rattle.norec_world.specs.declared.attempt.Outcome.TheVariants as outcomes
 use Rattle.norec_world.specs.Rows.{Rows}
 use Rattle.norec_world.specs.Records.{Tells, StopsAt}
-use Rattle.norec_world.proofs.Working.{nothing_rests}
-use Rattle.norec_world.specs.Working.{calls, finishes, starves}
+use Rattle.norec_world.proofs.LocalWork.{nothing_rests}
+use Rattle.norec_world.specs.LocalWork.{calls, finishes, starves}
 use Rattle.norec_world.specs.declared.actor.Status.TheVariants.{Ended}
 use Rattle.norec_world.specs.declared.attempt.End.TheVariants.{Finished}
-use Rattle.norec_world.proofs.Asking.{call_answered, call_waits, call_ends, call_starved}
-use Rattle.norec_world.proofs.Calling.{at_once, then_sound, then_thread, then_falls, then_less}
+use Rattle.norec_world.proofs.SoloCalls.{call_answered, call_waits, call_ends, call_starved}
+use Rattle.norec_world.proofs.SoundCalls.{at_once, then_sound, then_thread, then_falls, then_less}
 use Rattle.norec_world.specs.Sound.{HasRow}
 use Rattle.norec_world.specs.declared.actor.Status.TheVariants.{Waits}
 use Rattle.norec_world.specs.Tries.{prior_of}
@@ -18,7 +18,7 @@ use Rattle.norec_world.proofs.RunCalls.{finish_runs, ask_runs, answer_runs, star
 use Rattle.norec_world.proofs.TryCalls.{finish_tries, starve_tries, ask_tries, answer_tries}
 use Rattle.norec_engine.specs.Core.{Core, came}
 use Rattle.norec_engine.specs.Undoing.{after_undoing}
-use Rattle.norec_world.proofs.Tying.{limit_same, snapshot_still}
+use Rattle.norec_world.proofs.TiedEngines.{limit_same, snapshot_still}
 use Rattle.norec_world.proofs.TryEnds.{not_finished}
 use Rattle.norec_world.proofs.actor.Actor.call_next.Goals as goal
 

@@ -1,6 +1,6 @@
-use Rattle.norec_world.proofs.Owning.{others_changed}
+use Rattle.norec_world.proofs.OthersAttempts.{others_changed}
 use Rattle.std.proofs.Common.{refl, sym, ◌∙◌, ◌/◌}
-use Rattle.norec_world.proofs.Recording.{told_kept, told_status}
+use Rattle.norec_world.proofs.RecordedRows.{told_kept, told_status}
 use Rattle.norec_world.proofs.actor.Actor.follow.Goals as goal
 
 pub returns-then-is_open-clause-kept : goal.returns-then-is_open-clause-kept

@@ -1,6 +1,6 @@
 use Rattle.std.proofs.Common.{refl, rules, ◌/◌}
 use Rattle.norec_world.specs.declared.attempt.Outcome.TheVariants.{NoMemory}
-use Rattle.norec_world.proofs.Owning.{others_starved}
+use Rattle.norec_world.proofs.OthersAttempts.{others_starved}
 use Rattle.norec_world.proofs.actor.Actor.starve.Goals as goal
 
 pub returns-clause-others : goal.returns-clause-others

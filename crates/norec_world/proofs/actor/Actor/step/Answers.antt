@@ -1,12 +1,12 @@
-use Rattle.norec_world.proofs.Owning.{others_twice}
+use Rattle.norec_world.proofs.OthersAttempts.{others_twice}
 use Rattle.std.proofs.Common.{sym}
-use Rattle.norec_world.proofs.Working.{takes_in, nothing_ready}
-use Rattle.norec_world.proofs.Stepping.{step_due, step_done, step_clocks}
+use Rattle.norec_world.proofs.LocalWork.{takes_in, nothing_ready}
+use Rattle.norec_world.proofs.SoundSteps.{step_due, step_done, step_clocks}
 use Rattle.norec_world.proofs.TrySteps.{step_tries, step_unfinished}
 use Rattle.norec_world.specs.Tries.{prior_of}
 use Rattle.norec_world.proofs.CommitCounts.{counted_after}
 use Rattle.norec_world.proofs.RunTurns.{step_runs}
-use Rattle.norec_world.proofs.Handing.{stepped}
+use Rattle.norec_world.proofs.SoloSteps.{stepped}
 use Rattle.norec_world.proofs.actor.Actor.step.Goals as goal
 
 pub proceed-requires : goal.proceed-requires

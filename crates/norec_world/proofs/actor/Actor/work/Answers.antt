@@ -1,10 +1,10 @@
-use Rattle.norec_world.proofs.Working.{works_more}
-use Rattle.norec_world.proofs.Owning.{others_twice}
+use Rattle.norec_world.proofs.LocalWork.{works_more}
+use Rattle.norec_world.proofs.OthersAttempts.{others_twice}
 use Rattle.std.proofs.Common.{◌≡◌, true, false, ap, sym, ◌∙◌}
 use Rattle.norec_world.specs.Status.{is_ready, ending_of}
 use Rattle.norec_world.specs.Tries.{prior_of}
 use Rattle.norec_world.proofs.TryChains.{tries_then, no_pending}
-use Rattle.norec_world.proofs.Falling.{less_less}
+use Rattle.norec_world.proofs.LessLeft.{less_less}
 use Rattle.norec_world.proofs.actor.Actor.work.Goals as goal
 
 pub loop-self-preserved : goal.loop-self-preserved

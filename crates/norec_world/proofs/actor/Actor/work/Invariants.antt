@@ -1,8 +1,8 @@
 use Rattle.norec_world.specs.declared.attempt.End.TheVariants.{Finished}
 use Rattle.norec_world.specs.Tries.{Tries, prior_of}
-use Rattle.norec_world.specs.Own.{KeepsOthers}
+use Rattle.norec_world.specs.OthersAttempts.{KeepsOthers}
 use Rattle.norec_world.specs.Runs.{StillRuns}
-use Rattle.norec_world.specs.Working.{Works}
+use Rattle.norec_world.specs.LocalWork.{Works}
 use Rattle.std.proofs.Common.{◌≡◌, None, Some, true, false}
 use Rattle.norec_world.specs.Status.{ending_of, is_ready}
 use Rattle.norec_world.specs.Tracks.{StillTracks}

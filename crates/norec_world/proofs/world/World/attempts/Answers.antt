@@ -1,10 +1,10 @@
 use Rattle.std.proofs.Common.{subst}
 use Rattle.norec_world.specs.Views.{world_of}
 use Rattle.norec_world.specs.Opaque.{AreOpaque}
-use Rattle.norec_world.proofs.RunFrames.{world_opaque}
+use Rattle.norec_world.proofs.RunOthers.{world_opaque}
 use Rattle.norec_world.specs.World.{World}
 use Rattle.norec_world.specs.Rows.{AreOpen}
-use Rattle.norec_world.proofs.Frames.{are_open}
+use Rattle.norec_world.proofs.SoundOthers.{are_open}
 use Rattle.norec_world.proofs.world.World.attempts.Goals as goal
 
 pub returns-clause-unfinished : goal.returns-clause-unfinished

@@ -5,19 +5,19 @@ use Rattle.norec_world.specs.declared.actor.Actor.{Actor}
 use Rattle.norec_world.specs.Status.{is_waiting, waiting_step}
 use Rattle.norec_world.specs.Sound.{HasLess}
 use Rattle.norec_world.specs.World.{World, ending_at, told, waits_at}
-use Rattle.norec_world.specs.Going.{ActorGoes, Goes}
+use Rattle.norec_world.specs.WorldEvents.{ActorGoes, Goes}
 use Rattle.norec_world.specs.Views.{world_of}
 use Rattle.norec_world.proofs.Worlds.{got_at, within_some, waiting_some, place_is, place_alone, lawful_at}
-use Rattle.norec_world.proofs.Frames.{actors_after}
-use Rattle.norec_world.proofs.RunFrames.{has_read, running_after, world_opaque}
+use Rattle.norec_world.proofs.SoundOthers.{actors_after}
+use Rattle.norec_world.proofs.RunOthers.{has_read, running_after, world_opaque}
 use Rattle.norec_world.proofs.Events.{event_then}
 use Rattle.norec_world.proofs.Ends.{shows_alone}
-use Rattle.norec_world.proofs.Goings.{event_goes}
+use Rattle.norec_world.proofs.WorldEvents.{event_goes}
 use Rattle.norec_world.proofs.CommitCounts.{commits_after}
-use Rattle.norec_world.proofs.Falling.{event_less}
-use Rattle.norec_world.proofs.Working.{works_none}
-use Rattle.norec_world.proofs.Owning.{others_twice}
-use Rattle.norec_world.proofs.Clocking.{clocks_twice, clocks_still}
+use Rattle.norec_world.proofs.LessLeft.{event_less}
+use Rattle.norec_world.proofs.LocalWork.{works_none}
+use Rattle.norec_world.proofs.OthersAttempts.{others_twice}
+use Rattle.norec_world.proofs.ClockHolders.{clocks_twice, clocks_still}
 use Rattle.norec_world.proofs.world.World.event.Goals as goal
 
 pub step-requires-clause-sound : goal.step-requires-clause-sound

@@ -1,7 +1,7 @@
 use Rattle.std.proofs.Common.{subst}
 use Rattle.norec_world.specs.Views.{world_of}
 use Rattle.norec_world.specs.Opaque.{AreOpaque}
-use Rattle.norec_world.proofs.RunFrames.{world_opaque}
+use Rattle.norec_world.proofs.RunOthers.{world_opaque}
 use Rattle.norec_world.proofs.world.World.events.Goals as goal
 
 pub returns-clause-opaque : goal.returns-clause-opaque

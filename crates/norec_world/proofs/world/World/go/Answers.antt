@@ -4,7 +4,7 @@ use Rattle.norec_world.specs.declared.actor.Actor.{Actor}
 use Rattle.norec_world.specs.declared.fault.WorldFault.{WorldFault}
 use Rattle.norec_world.specs.Status.{is_waiting, waiting_step}
 use Rattle.norec_world.specs.World.{told}
-use Rattle.norec_world.specs.Going.{Goes}
+use Rattle.norec_world.specs.WorldEvents.{Goes}
 use Rattle.norec_world.proofs.Worlds.{some_waiting}
 use Rattle.norec_world.proofs.Ends.{shows_alone}
 use Rattle.norec_world.proofs.Refusals.{mapped_none, mapped_some, goes_nowhere, goes_no_more}

@@ -8,7 +8,7 @@ use Rattle.norec_world.proofs.WordLists.{words_of-bytes_of}
 use Rattle.norec_world.specs.Rows.{AreFrom, AreOfActors}
 use Rattle.norec_world.specs.Runs.{RunsFrom}
 use Rattle.norec_world.specs.Opaque.{first_of}
-use Rattle.norec_world.proofs.RunFrames.{laid_first, world_opaque}
+use Rattle.norec_world.proofs.RunOthers.{laid_first, world_opaque}
 use Rattle.norec_world.proofs.CommitCounts.{commits_first}
 use Rattle.norec_world.proofs.world.World.new.Goals as goal
 

@@ -1,5 +1,5 @@
 use Rattle.std.proofs.Common.{rules, ap, sym, ◌∙◌, Err}
-use Rattle.norec_world.proofs.Goings.{noted, led_on}
+use Rattle.norec_world.proofs.WorldEvents.{noted, led_on}
 use Rattle.norec_world.proofs.world.World.run.Goals as goal
 use Rattle.norec_world.proofs.world.World.run.Goals.{in-Ok, in-Err-NoMemory, in-Err-NoSuchActor, in-Err-Ended}
 

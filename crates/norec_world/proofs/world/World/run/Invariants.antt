@@ -3,7 +3,7 @@ use Rattle.norec_world.specs.declared.fault.WorldFault.{WorldFault}
 use Rattle.norec_world.specs.World.{counted, SameOpening}
 use Rattle.norec_world.specs.Commits.{CommitsInOrder}
 use Rattle.norec_world.specs.Opaque.{AreOpaque}
-use Rattle.norec_world.specs.Going.{Leads, passes_of}
+use Rattle.norec_world.specs.WorldEvents.{Leads, passes_of}
 use Rattle.norec_world.proofs.world.World.run.Given as goal
 
 abbrev pub invariant-loop-actor : goal.invariant-loop-actor

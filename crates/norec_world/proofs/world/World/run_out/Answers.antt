@@ -1,5 +1,5 @@
 use Rattle.std.proofs.Common.{refl, ◌∙◌, arith, rules}
-use Rattle.norec_world.proofs.Frames.{within_of}
+use Rattle.norec_world.proofs.SoundOthers.{within_of}
 use Rattle.norec_world.proofs.CallEvents.{counted_both, events_both, opening_same, opening_both, takes_both, waits_there, run_falls, no_more_on, no_more_first}
 use Rattle.norec_world.proofs.world.World.run_out.Goals as goal
 

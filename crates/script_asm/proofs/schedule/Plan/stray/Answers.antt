@@ -2,7 +2,7 @@ use Rattle.std.proofs.Common.{◌≡◌, ◌<◌, ◌≤◌, length, get_or, ari
 use Rattle.script_asm.specs.declared.schedule.Item.{Item}
 use Rattle.script_asm.specs.declared.schedule.Item.TheVariants.{Take}
 use Rattle.script_asm.specs.Listing.{thread_of}
-use Rattle.script_asm.proofs.Straying.{stray_next, named_next, named_all}
+use Rattle.script_asm.proofs.StrayItems.{stray_next, named_next, named_all}
 use Rattle.script_asm.proofs.schedule.Plan.stray.Goals as goal
 
 pub loop-i-preserved : goal.loop-i-preserved

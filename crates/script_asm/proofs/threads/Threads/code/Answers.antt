@@ -4,7 +4,7 @@ use Rattle.std.specs.List.{sum_by}
 use Rattle.script_asm.specs.declared.instruction.Instruction.{Instruction}
 use Rattle.script_asm.specs.Listing.{Part, codes_of}
 use Rattle.script_asm.specs.Sections.{Sections, thread_total, instruction_total}
-use Rattle.script_asm.proofs.Adding.{code_here, found_here, goes_on, threads_taken, past_all}
+use Rattle.script_asm.proofs.AddedSections.{code_here, found_here, goes_on, threads_taken, past_all}
 use Rattle.script_asm.proofs.threads.Threads.code.Goals as goal
 
 pub returns-then-left-section-clause-value : goal.returns-then-left-section-clause-value

@@ -1,5 +1,5 @@
 use Rattle.std.proofs.Common.{drop, ap, ◌∙◌}
-use Rattle.itmrun.proofs.Entering.{entered, outermost, inner}
+use Rattle.itmrun.proofs.BegunBlocks.{entered, outermost, inner}
 use Rattle.itmrun.proofs.script.player.Script.enter.Goals as goal
 use Rattle.itmrun.proofs.script.player.Script.enter.Goals.{then-self-eq0, else-self-eq0}
 

@@ -21,7 +21,7 @@ use Rattle.norec_world.specs.Cells.{cells_after}
 use Rattle.norec_world.specs.Commits.{CommitsInOrder}
 use Rattle.norec_world.specs.Opaque.{AreOpaque}
 use Rattle.norec_world.proofs.Worlds.{within_some}
-use Rattle.norec_world.specs.Going.{ActorGoes, Goes, Leads, is_taken, is_passed, is_starved, passes_of}
+use Rattle.norec_world.specs.WorldEvents.{ActorGoes, Goes, Leads, is_taken, is_passed, is_starved, passes_of}
 
 -- an event is answered by no fault of the other two
 pub told_event : (e : Option End) → IsTrue (is_event (told e))

@@ -11,8 +11,8 @@ use Rattle.script_asm.specs.Sections.{Sections, thread_total, instruction_total,
 use Rattle.script_asm.specs.Schedules.{planned}
 use Rattle.script_asm.specs.Assembly.{Adds, init_count, counted, threaded, obeyed, ◌>>=◌}
 use Rattle.script_asm.specs.Items.{schedule_of}
-use Rattle.script_asm.proofs.Adding.{code_more}
-use Rattle.script_asm.proofs.Picking.{some_items}
+use Rattle.script_asm.proofs.AddedSections.{code_more}
+use Rattle.script_asm.proofs.LineItems.{some_items}
 
 pub adds_init : (s : State) (m : Shared) (i : Placed) → s.memory ≡ Some m → Adds s (Ok (record s { memory = Some (record m { inits = m.inits ++ i ∷ [] }) }))
 adds_init s m i e = (record s { memory = Some (record m { inits = m.inits ++ i ∷ [] }) }, refl, omega (arith, ap init_count e, length-append m.inits (i ∷ [])))

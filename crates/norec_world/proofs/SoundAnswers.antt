@@ -15,7 +15,7 @@ use Rattle.norec_world.specs.declared.actor.Actor.{Actor}
 use Rattle.norec_world.specs.declared.actor.Status.{Status}
 use Rattle.norec_world.specs.declared.actor.Status.TheVariants.{Ready, Ended}
 use Rattle.norec_world.specs.Sound.{HasRow, IsKept, IsNested, IsAnswered, IsSettledBy, RestsAs, Falls, whole, tries_left, retried}
-use Rattle.norec_world.proofs.Playing.{Played, plays, closes, rank_less, rank_same, block_less, block_same}
+use Rattle.norec_world.proofs.PlayerLaws.{Played, plays, closes, rank_less, rank_same, block_less, block_same}
 
 module _ {P : Type 0} (next : P → Option Call) (answered : P → Replied → P) (restarted : P → P) (left : P → ℕ) (depth : P → ℕ)
     (nearer : (p : P) (c : Call) (r : Replied) → next p ≡ Some c → left (answered p r) < left p)

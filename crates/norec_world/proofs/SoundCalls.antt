@@ -13,8 +13,8 @@ use Rattle.norec_world.specs.declared.actor.Status.TheVariants.{Ready, Waits, En
 use Rattle.norec_world.specs.Cells.{Cells}
 use Rattle.norec_world.specs.Status.{ending_of}
 use Rattle.norec_world.specs.Sound.{IsTied, IsNested, IsReady, IsSound, StatusIs, IsAnswered, IsSettledBy, IsAsked, IsNoMore, RestsAs, Falls, whole, rank}
-use Rattle.norec_world.proofs.Tying.{comes, tied, answer_fits}
-use Rattle.norec_engine.proofs.Resting.{rests}
+use Rattle.norec_world.proofs.TiedEngines.{comes, tied, answer_fits}
+use Rattle.norec_engine.proofs.AnsweredEngines.{rests}
 
 module _ {P : Type 0} (next : P → Option Call) (answered : P → Replied → P) (restarted : P → P) (left : P → ℕ) (depth : P → ℕ)
     (cells : Cells) (r : Rows) (old new : Actor P) (call : Call) (t : IsTied cells old.engine) (ready : IsReady next answered restarted left depth old) where

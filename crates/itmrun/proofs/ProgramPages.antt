@@ -18,7 +18,7 @@ use Rattle.script_asm.specs.Listing.{Listing, opening_of, threads_of}
 use Rattle.itmrun.specs.Threads.{Thread, opening, next_call, answered, restarted, calls_left}
 use Rattle.itmrun.specs.Scheduled.{Leaves, schedule_of, players_of}
 use Rattle.itmrun.specs.Pages.{first_thread, solo_of, page, IsOf, IsWorldOf, history_of}
-use Rattle.itmrun.proofs.Scheduling.{items_keep}
+use Rattle.itmrun.proofs.ScheduleItems.{items_keep}
 
 first_is : (threads : List (List Instruction)) (x : Thread) → map opening threads ≡ x ∷ [] → x ≡ opening (slice_index_or threads 0 [])
 first_is [] x e = absurd cc

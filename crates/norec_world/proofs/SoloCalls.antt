@@ -19,10 +19,10 @@ use Rattle.norec_engine.specs.Moves.{IsCalled}
 use Rattle.norec_world.specs.Records.{Asks, Records, StopsAt, begins_again}
 use Rattle.norec_world.specs.Follows.{Follows}
 use Rattle.norec_world.specs.Tracks.{IsOnWay, TracksAs, Tracks}
-use Rattle.norec_world.proofs.Following.{finishes, roomed_on}
+use Rattle.norec_world.proofs.SoloRuns.{finishes, roomed_on}
 use Rattle.norec_world.proofs.Parts.{starved}
-use Rattle.norec_world.proofs.Tracking.{told, came_now, call_told, call_on, call_asks}
-use Rattle.norec_world.proofs.Calling.{asked_tied, at_once}
+use Rattle.norec_world.proofs.SoloTracks.{told, came_now, call_told, call_on, call_asks}
+use Rattle.norec_world.proofs.SoundCalls.{asked_tied, at_once}
 
 module _ {P : Type 0} (next : P → Option Call) (answered : P → Replied → P) (restarted : P → P) (left : P → ℕ) (depth : P → ℕ)
     (nearer : (p : P) (c : Call) (r : Replied) → next p ≡ Some c → left (answered p r) < left p)

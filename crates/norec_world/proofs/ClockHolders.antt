@@ -2,7 +2,7 @@
 use Rattle.std.proofs.Common.{◌≡◌, ℕ, ◌*◌, ◌≤◌, ◌%◌, Bool, true, false, refl, sym, ap, subst, ◌∙◌, arith}
 use Rattle.norec_engine.specs.Core.{Core}
 use Rattle.norec_world.specs.Cells.{Cells}
-use Rattle.norec_world.specs.Holding.{HoldsOn, ClocksOn}
+use Rattle.norec_world.specs.ClockHolder.{HoldsOn, ClocksOn}
 
 both : (n : Bool) → n ≡ true → n ≡ false → ⊥
 both n t f = absurd (cc)

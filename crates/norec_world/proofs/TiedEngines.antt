@@ -14,12 +14,12 @@ use Rattle.norec_engine.specs.declared.answer.Next.TheVariants.{Step as Asks, An
 use Rattle.norec_engine.specs.declared.answer.Answer.{Answer}
 use Rattle.norec_engine.specs.declared.answer.Answer.TheVariants.{Reply, Committed, Conflict, Busy, Full}
 use Rattle.norec_world.specs.Cells.{Cells, IsCell, found, cells_after}
-use Rattle.norec_engine.proofs.Resting.{rests}
+use Rattle.norec_engine.proofs.AnsweredEngines.{rests}
 use Rattle.norec_engine.specs.Undoing.{after_undoing}
 use Rattle.norec_engine.specs.declared.phase.Phase.TheVariants.{Idle}
 use Rattle.norec_world.specs.Sound.{IsTied, AnswerFits}
-use Rattle.norec_world.specs.Holding.{HoldsOn}
-use Rattle.norec_world.proofs.Answering.{reply_fits}
+use Rattle.norec_world.specs.ClockHolder.{HoldsOn}
+use Rattle.norec_world.proofs.PlayerDepths.{reply_fits}
 
 both : (n : Bool) → n ≡ true → n ≡ false → ⊥
 both n t f = absurd (cc)

@@ -20,12 +20,12 @@ use Rattle.norec_world.specs.declared.actor.Status.TheVariants.{Ready, Waits, En
 use Rattle.norec_world.specs.Cells.{Cells, found, cells_after}
 use Rattle.norec_world.specs.Status.{is_waiting, is_ready}
 use Rattle.norec_world.specs.Sound.{IsTied, HasRow, IsKept, IsNested, IsInCall, IsWaiting, IsSound, StatusIs, IsAnswered, IsSettledBy, RestsAs, IsDue, IsDone, GoesOn, Falls, whole, rank, AnswerFits, steps_left}
-use Rattle.norec_engine.proofs.Resting.{rests}
-use Rattle.norec_engine.specs.Keeping.{Keeps}
-use Rattle.norec_engine.proofs.Keeping.{handed_is, most_same}
-use Rattle.norec_world.proofs.Tying.{IsMid, hands, tied, answer_fits, limit_same, holds_same, holds_handed}
-use Rattle.norec_world.proofs.Clocking.{clocks_of, clocks_still, clocks_twice}
-use Rattle.norec_world.specs.Holding.{HoldsOn, ClocksOn}
+use Rattle.norec_engine.proofs.AnsweredEngines.{rests}
+use Rattle.norec_engine.specs.Keeps.{Keeps}
+use Rattle.norec_engine.proofs.KeptFields.{handed_is, most_same}
+use Rattle.norec_world.proofs.TiedEngines.{IsMid, hands, tied, answer_fits, limit_same, holds_same, holds_handed}
+use Rattle.norec_world.proofs.ClockHolders.{clocks_of, clocks_still, clocks_twice}
+use Rattle.norec_world.specs.ClockHolder.{HoldsOn, ClocksOn}
 
 module _ {P : Type 0} (next : P → Option Call) (answered : P → Replied → P) (restarted : P → P) (left : P → ℕ) (depth : P → ℕ)
     (cells : Cells) (r : Rows) (old : Actor P) (sound : IsSound next answered restarted left depth cells r old) (call : Call) (step : Step) (waiting : old.status ≡ Waits call step)

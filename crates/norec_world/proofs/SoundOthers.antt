@@ -12,9 +12,9 @@ use Rattle.norec_world.specs.Cells.{Cells}
 use Rattle.norec_world.specs.declared.attempt.Outcome.TheVariants.{Unfinished}
 use Rattle.norec_world.specs.Rows.{Rows, active_of, AreFrom, AreUnfinished, AreOpen}
 use Rattle.norec_world.specs.Status.{is_ready}
-use Rattle.norec_world.specs.Own.{ChangesOwn, KeepsOthers, count_pending, pending_in}
-use Rattle.norec_world.specs.Holding.{ClocksOn}
-use Rattle.norec_world.proofs.Tying.{held_even}
+use Rattle.norec_world.specs.OthersAttempts.{ChangesOwn, KeepsOthers, count_pending, pending_in}
+use Rattle.norec_world.specs.ClockHolder.{ClocksOn}
+use Rattle.norec_world.proofs.TiedEngines.{held_even}
 use Rattle.norec_world.specs.Sound.{IsTied, HasRow, StatusIs, IsSound}
 use Rattle.norec_world.specs.Actors.{IsActor, AreActors}
 

@@ -14,7 +14,7 @@ use Rattle.norec_world.specs.Rows.{Rows}
 use Rattle.norec_world.specs.Status.{is_ready, waiting_step}
 use Rattle.norec_world.specs.Records.{Tells, IsTold}
 use Rattle.norec_world.specs.Sound.{StatusIs, RestsAs}
-use Rattle.norec_world.specs.Working.{SameActor, TakesIn, Acts, ActsOn, Works}
+use Rattle.norec_world.specs.LocalWork.{SameActor, TakesIn, Acts, ActsOn, Works}
 
 -- who waits is not ready
 pub not_ready : (s : Status) (step : Step) → waiting_step s ≡ Some step → is_ready s ≡ false

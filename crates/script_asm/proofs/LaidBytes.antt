@@ -12,7 +12,7 @@ use Rattle.script_asm.specs.declared.state.State.{State}
 use Rattle.script_asm.specs.Listing.{Shared}
 use Rattle.script_asm.specs.Operands.{is_hex, decoded}
 use Rattle.script_asm.specs.Assembly.{laid_in, fault, Adds}
-use Rattle.script_asm.proofs.Keeping.{adds_init}
+use Rattle.script_asm.proofs.KeptLines.{adds_init}
 
 and_true : (a b : Bool) → (a && b) ≡ true → (a ≡ true) × (b ≡ true)
 and_true true b h = (refl, h)

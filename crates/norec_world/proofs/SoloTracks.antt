@@ -27,13 +27,13 @@ use Rattle.norec_world.specs.declared.actor.Status.{Status}
 use Rattle.norec_world.specs.declared.actor.Status.TheVariants.{Ready, Waits}
 use Rattle.norec_world.specs.Cells.{Cells, found, cells_after}
 use Rattle.norec_world.specs.Sound.{IsTied}
-use Rattle.norec_world.proofs.Tying.{IsMid}
+use Rattle.norec_world.proofs.TiedEngines.{IsMid}
 use Rattle.norec_world.specs.Solo.{Progress, one_if}
 use Rattle.norec_world.specs.Follows.{Follows, row_of}
 use Rattle.norec_world.specs.Records.{Records, Opens, AddsCall, EndsBy, StopsAt, again_after, Asks, begins_again, asked_pending}
 use Rattle.norec_world.specs.Rows.{Rows, with_opened}
 use Rattle.norec_world.specs.Tracks.{OpensNext, IsOnWay, IsUnderWay, TracksAs}
-use Rattle.norec_world.proofs.Following.{IsClosing, is_free, agrees_more, comes_on, asks_on, replies_on, commits_on, full_on, begins_on, begin_opens, passes_on, no_conflict, no_busy, no_rows}
+use Rattle.norec_world.proofs.SoloRuns.{IsClosing, is_free, agrees_more, comes_on, asks_on, replies_on, commits_on, full_on, begins_on, begin_opens, passes_on, no_conflict, no_busy, no_rows}
 
 pub halved : (n k : ℕ) → n ≡ 2 * k → n / 2 ≡ k
 halved n k e = omega arith

@@ -6,7 +6,7 @@ use Rattle.norec_world.specs.declared.attempt.Entry.{Entry}
 use Rattle.norec_world.specs.declared.attempt.Attempt.{Attempt}
 use Rattle.itmrun.specs.Histories.{call_line, attempt_lines}
 use Rattle.itmrun.specs.Spelling.{Grows}
-use Rattle.itmrun.proofs.Putting.{stopped}
+use Rattle.itmrun.proofs.TextPieces.{stopped}
 
 pub grows_nil : (f : Bool) (a : Option (List ℕ)) → Grows f a f a []
 grows_nil false a = Appends-nil a

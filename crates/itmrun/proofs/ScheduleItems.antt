@@ -7,7 +7,7 @@ use Rattle.norec_world.specs.declared.fault.WorldFault.{WorldFault}
 use Rattle.norec_world.specs.declared.fault.WorldFault.TheVariants.{Ended}
 use Rattle.norec_world.specs.declared.attempt.End.{End}
 use Rattle.norec_world.specs.World.{World, SameOpening, ending_at}
-use Rattle.norec_world.specs.Going.{Goes, Leads, Takes}
+use Rattle.norec_world.specs.WorldEvents.{Goes, Leads, Takes}
 use Rattle.script_asm.specs.declared.schedule.Item.{Item}
 use Rattle.script_asm.specs.declared.schedule.Item.TheVariants.{Take, Out}
 use Rattle.script_asm.specs.declared.instruction.Instruction.{Instruction}

@@ -10,7 +10,7 @@ use Rattle.norec_engine.specs.declared.phase.Phase.TheVariants as at
 use Rattle.norec_engine.specs.Core.{Core, handed_to, word_loaded}
 use Rattle.norec_engine.specs.Proceeds.{AsksFor, most}
 use Rattle.norec_engine.specs.Stands.{stands_for}
-use Rattle.norec_engine.specs.Keeping.{Keeps}
+use Rattle.norec_engine.specs.Keeps.{Keeps}
 
 pub keeps_self : (e : Core) → Keeps e e
 keeps_self e = record { words = refl; patience = refl; max_commits = refl; arena = refl; writes = refl; is_open = refl; props = refl; doing = refl; again = refl; entry = refl }

@@ -16,24 +16,24 @@ use Rattle.norec_world.specs.declared.actor.Actor.{Actor}
 use Rattle.norec_world.specs.Attempts.{of_thread}
 use Rattle.norec_world.specs.Cells.{Cells, words_of}
 use Rattle.norec_world.specs.Commits.{one_where, count_at, count_committed, CommitsInOrder}
-use Rattle.norec_world.specs.Holding.{ClocksOn}
+use Rattle.norec_world.specs.ClockHolder.{ClocksOn}
 use Rattle.norec_world.specs.declared.actor.Status.TheVariants.{Ready}
 use Rattle.norec_world.proofs.WordLists.{words_of-bytes_of}
 use Rattle.norec_world.specs.Opacity.{Between, IsRunOf, IsTryAt}
-use Rattle.norec_world.specs.Own.{AllOf, ChangesOwn, KeepsOthers}
+use Rattle.norec_world.specs.OthersAttempts.{AllOf, ChangesOwn, KeepsOthers}
 use Rattle.norec_world.specs.Rows.{Rows, active_of, AreFrom, AreOfActors, AreOpen}
-use Rattle.norec_world.proofs.Tying.{held_even}
+use Rattle.norec_world.proofs.TiedEngines.{held_even}
 use Rattle.norec_world.specs.Sound.{IsTied, HasRow}
 use Rattle.norec_world.specs.Actors.{AreActors}
 use Rattle.norec_world.specs.World.{World, attempts_of}
 use Rattle.norec_world.specs.Memories.{bytes_at, words_at}
-use Rattle.norec_world.specs.Sees.{AreLaid}
+use Rattle.norec_world.specs.LogAgreement.{AreLaid}
 use Rattle.norec_world.specs.Runs.{run_after, begins_at, RunsFrom, StillRuns}
 use Rattle.norec_world.specs.Opaque.{first_of, AreOpaque}
 use Rattle.norec_world.specs.Invariant.{AreRunning, IsWorld}
-use Rattle.norec_world.specs.Going.{HasRead}
-use Rattle.norec_world.proofs.Frames.{set_place, within_of, there_is, are_open}
-use Rattle.norec_world.proofs.Following.{stands_open}
+use Rattle.norec_world.specs.WorldEvents.{HasRead}
+use Rattle.norec_world.proofs.SoundOthers.{set_place, within_of, there_is, are_open}
+use Rattle.norec_world.proofs.SoloRuns.{stands_open}
 use Rattle.norec_world.proofs.InTries.{try_stops}
 use Rattle.norec_world.proofs.Memories.{bytes_still}
 use Rattle.norec_world.proofs.RunLists.{run_still, run_more}

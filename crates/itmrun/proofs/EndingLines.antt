@@ -7,7 +7,7 @@ use Rattle.std.proofs.KnownBytes.{Appends-nil, Appends-trans}
 use Rattle.norec_world.specs.declared.attempt.End.{End}
 use Rattle.itmrun.specs.Spelling.{IsCut}
 use Rattle.itmrun.specs.Answers.{ending_line, ending_lines}
-use Rattle.itmrun.proofs.Putting.{cut_short}
+use Rattle.itmrun.proofs.TextPieces.{cut_short}
 
 lines_append : (thread : ℕ) (xs ys : List (Option End)) → ending_lines thread (xs ++ ys) ≡ ending_lines thread xs ++ ending_lines (thread + length xs) ys
 lines_append thread [] ys = ap (λ (n : ℕ). ending_lines n ys) (omega arith)

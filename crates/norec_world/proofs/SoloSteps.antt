@@ -24,10 +24,10 @@ use Rattle.norec_world.specs.Sound.{IsSound, IsWaiting, StatusIs, AnswerFits, Is
 use Rattle.norec_world.specs.Follows.{Follows, row_of}
 use Rattle.norec_world.specs.Records.{Records, Tells, IsTold}
 use Rattle.norec_world.specs.Tracks.{IsOnWay, IsUnderWay, TracksAs, Tracks}
-use Rattle.norec_world.proofs.Tying.{IsMid, hands}
-use Rattle.norec_world.proofs.Stepping.{step_answered}
-use Rattle.norec_world.proofs.Following.{one_changed, is_free, hands_on, frees_on, IsClosing}
-use Rattle.norec_world.proofs.Tracking.{halved, told, told_freed, HandedSame, handed_same, freed_by, hand_asks, hand_told}
+use Rattle.norec_world.proofs.TiedEngines.{IsMid, hands}
+use Rattle.norec_world.proofs.SoundSteps.{step_answered}
+use Rattle.norec_world.proofs.SoloRuns.{one_changed, is_free, hands_on, frees_on, IsClosing}
+use Rattle.norec_world.proofs.SoloTracks.{halved, told, told_freed, HandedSame, handed_same, freed_by, hand_asks, hand_told}
 
 module _ {P : Type 0} (next : P → Option Call) (answered : P → Replied → P) (restarted : P → P) (left : P → ℕ) (depth : P → ℕ)
     (nearer : (p : P) (c : Call) (r : Replied) → next p ≡ Some c → left (answered p r) < left p)

@@ -14,8 +14,8 @@ use Rattle.norec_engine.specs.Rows.{write_at}
 use Rattle.norec_engine.proofs.Logs as logs
 use Rattle.norec_world.specs.Cells.{Cells, found, cells_after}
 use Rattle.norec_world.specs.Sound.{IsTied}
-use Rattle.norec_world.specs.Sees.{Loaded, Sees}
-use Rattle.norec_world.proofs.Following.{is_free, agrees_more}
+use Rattle.norec_world.specs.LogAgreement.{Loaded, Sees}
+use Rattle.norec_world.proofs.SoloRuns.{is_free, agrees_more}
 
 both : (n : Bool) → n ≡ true → n ≡ false → ⊥
 both n t f = absurd (cc)

@@ -9,7 +9,7 @@ use Rattle.norec_world.specs.declared.attempt.Outcome.{Outcome}
 use Rattle.norec_world.specs.declared.attempt.End.TheVariants.{GaveUp}
 use Rattle.norec_world.specs.Records.{StopsAt, CountsTry}
 use Rattle.norec_world.specs.Sound.{HasRow, retried}
-use Rattle.norec_world.specs.Own.{AllOf, ChangesOwn, KeepsOthers, count_pending}
+use Rattle.norec_world.specs.OthersAttempts.{AllOf, ChangesOwn, KeepsOthers, count_pending}
 use Rattle.norec_world.proofs.ActiveRows.{row_is_of, changed_elsewhere, without_elsewhere, opened_elsewhere, from_changed, from_without, from_with_one}
 
 all_both : (thread : ℕ) (xs ys : List Attempt) → AllOf thread xs → AllOf thread ys → AllOf thread (xs ++ ys)

@@ -12,7 +12,7 @@ use Rattle.norec_world.specs.declared.actor.Status.{Status}
 use Rattle.norec_world.specs.declared.actor.Status.TheVariants.{Ready, Waits, Ended}
 use Rattle.norec_world.specs.Sound.{depth_if, HasRow, IsKept, StatusIs}
 use Rattle.std.proofs.lemmas.Bool.{cond-true, cond-false}
-use Rattle.norec_world.proofs.Playing.{opens_at_begin}
+use Rattle.norec_world.proofs.PlayerLaws.{opens_at_begin}
 
 -- nothing is open, and was not
 pub row_stays : (r : Rows) (thread : ℕ) (was now : Bool) → (was ≡ true → now ≡ true) → now ≡ false → HasRow was r thread → HasRow now r thread
