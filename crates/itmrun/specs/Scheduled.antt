@@ -2,10 +2,9 @@
 use Rattle.std.specs.Prelude.{◌≡◌, ℕ, List, [], ◌∷◌, length, map, replicate, Option, Some, IsSome, Result, slice_get}
 use Rattle.std.specs.List.{range_with_len}
 use Rattle.norec_world.specs.declared.attempt.End.{End}
-use Rattle.norec_world.specs.declared.attempt.End.TheVariants.{NoMemory}
 use Rattle.norec_world.specs.declared.fault.WorldFault.{WorldFault}
 use Rattle.norec_world.specs.declared.actor.Actor.{Actor}
-use Rattle.norec_world.specs.World.{World, attempts_of, ending_at, memory_of}
+use Rattle.norec_world.specs.World.{World, ending_at, memory_of}
 use Rattle.norec_world.specs.Commits.{CommitsInOrder}
 use Rattle.norec_world.specs.Opaque.{AreOpaque}
 use Rattle.norec_world.specs.Tries.{IsBetween}

@@ -1,5 +1,5 @@
 -- An engine that has answered.
-use Rattle.std.proofs.Common.{◌≡◌, ℕ, Bool, true, false, Option, None, Some, refl, ap, ◌∙◌}
+use Rattle.std.proofs.Common.{◌≡◌, ℕ, false, Option, None, Some, ap, ◌∙◌}
 use Rattle.itm_types.specs.declared.call.Call.{Call}
 use Rattle.itm_types.specs.declared.call.Reply.{Reply as Replied}
 use Rattle.norec_engine.specs.declared.answer.Answer.{Answer}

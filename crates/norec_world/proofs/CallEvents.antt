@@ -1,15 +1,14 @@
 -- The events of one call of an actor, and of one call after the other, as events of the world.
-use Rattle.std.proofs.Common.{◌≡◌, ℕ, zero, suc, ◌+◌, ◌<◌, ◌≤◌, min, Bool, true, false, List, [], ◌∷◌, length, Option, None, Some, IsTrue, IsSome, Result, slice_get, refl, sym, ap, subst, ◌∙◌, arith, if◌then◌else◌}
+use Rattle.std.proofs.Common.{◌≡◌, ℕ, zero, suc, ◌+◌, ◌<◌, min, Bool, true, false, List, [], ◌∷◌, length, Option, None, Some, IsSome, slice_get, refl, sym, ap, subst, ◌∙◌, arith, if◌then◌else◌}
 use Rattle.std.specs.Option.{option_and_then}
 use Rattle.itm_types.specs.declared.call.Call.{Call}
 use Rattle.itm_types.specs.declared.call.Reply.{Reply}
-use Rattle.norec_world.specs.declared.fault.WorldFault.{WorldFault}
 use Rattle.norec_world.specs.declared.actor.Actor.{Actor}
 use Rattle.norec_world.specs.Status.{is_waiting, waiting_step, ending_of}
 use Rattle.norec_world.specs.Places.{at_place}
 use Rattle.norec_world.specs.Actors.{AreActors}
 use Rattle.norec_world.specs.Sound.{HasLess, IsNoMore, steps_left, whole, run_left}
-use Rattle.norec_world.specs.World.{World, SameOpening, counted, told, is_event, ending_at, waits_at}
+use Rattle.norec_world.specs.World.{World, SameOpening, counted, told, ending_at, waits_at}
 use Rattle.norec_world.specs.WorldEvents.{Goes, Takes}
 use Rattle.norec_world.proofs.SoundOthers.{there_is, within_of}
 use Rattle.norec_world.proofs.WorldEvents.{told_event}

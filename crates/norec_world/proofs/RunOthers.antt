@@ -15,7 +15,7 @@ use Rattle.norec_world.specs.declared.attempt.Outcome.TheVariants as outcomes
 use Rattle.norec_world.specs.declared.actor.Actor.{Actor}
 use Rattle.norec_world.specs.Attempts.{of_thread}
 use Rattle.norec_world.specs.Cells.{Cells, words_of}
-use Rattle.norec_world.specs.Commits.{one_where, count_at, count_committed, CommitsInOrder}
+use Rattle.norec_world.specs.Commits.{one_where, count_at, count_committed}
 use Rattle.norec_world.specs.ClockHolder.{ClocksOn}
 use Rattle.norec_world.specs.declared.actor.Status.TheVariants.{Ready}
 use Rattle.norec_world.proofs.WordLists.{words_of-bytes_of}

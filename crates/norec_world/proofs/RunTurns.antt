@@ -45,7 +45,7 @@ use Rattle.norec_world.proofs.InTries.{try_asks}
 use Rattle.norec_world.proofs.RunAnswers.{reply_runs, commit_runs, commit_left, conflict_runs, full_runs}
 use Rattle.norec_world.proofs.RunBegins.{begin_runs, busy_runs, outside_runs}
 use Rattle.norec_world.proofs.RunSteps.{handed_kept, run_handed, run_told}
-use Rattle.norec_world.proofs.SoundSteps.{waits, went, same, is_mid, step_tied, step_answered, step_done}
+use Rattle.norec_world.proofs.SoundSteps.{waits, went, same, step_tied, step_answered, step_done}
 use Rattle.norec_world.proofs.TryEnds.{ClockMoves, begin_call, begin_opens, not_starved}
 use Rattle.norec_world.proofs.TrySteps.{moves, loads_clock}
 use Rattle.norec_world.proofs.WordLists.{words_of-bytes_of}

@@ -1,14 +1,13 @@
 -- The engine and the cells, over one event: the engine's data stay as the cells have them.
-use Rattle.std.proofs.Common.{◌≡◌, inl, inr, ℕ, zero, suc, ◌+◌, ◌*◌, ◌/◌, ◌%◌, ◌<◌, ◌≤◌, ◌==◌, Bool, true, false, length, Option, None, Some, slice_index, refl, sym, ap, subst, ◌∙◌, arith, if◌then◌else◌, eqb-true, length-set}
+use Rattle.std.proofs.Common.{◌≡◌, ℕ, zero, suc, ◌+◌, ◌*◌, ◌/◌, ◌%◌, ◌<◌, ◌≤◌, ◌==◌, Bool, true, false, length, Option, Some, slice_index, refl, sym, ap, subst, ◌∙◌, arith, if◌then◌else◌, eqb-true, length-set}
 use Rattle.itm_types.specs.declared.step.Step.{Step}
 use Rattle.itm_types.specs.declared.step.Step.TheVariants.{Load, Store, Cas}
 use Rattle.itm_types.specs.declared.call.Call.{Call}
 use Rattle.itm_types.specs.declared.call.Call.TheVariants.{Commit}
-use Rattle.itm_types.specs.declared.call.Reply.{Reply as Replied}
 use Rattle.itm_types.specs.Memory.{AllFit}
 use Rattle.norec_engine.specs.Core.{Core, came, handed_to, word_loaded}
 use Rattle.norec_engine.specs.Core as core
-use Rattle.norec_engine.specs.Proceeds.{IsLawful, IsSettled, Proceeds, Joins, StaysOn, AsksFor, Replies, RepliesTo, Ends, FitsStep}
+use Rattle.norec_engine.specs.Proceeds.{IsLawful, IsSettled, Proceeds, StaysOn, AsksFor, Replies, RepliesTo, Ends, FitsStep}
 use Rattle.norec_engine.specs.declared.answer.Next.{Next}
 use Rattle.norec_engine.specs.declared.answer.Next.TheVariants.{Step as Asks, Answer as Answers}
 use Rattle.norec_engine.specs.declared.answer.Answer.{Answer}

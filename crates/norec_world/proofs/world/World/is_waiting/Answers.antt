@@ -1,8 +1,7 @@
-use Rattle.std.proofs.Common.{◌≡◌, true, false, Some, slice_get, IsSome, sym, ap, subst, ◌∙◌, refl}
+use Rattle.std.proofs.Common.{slice_get, IsSome, sym, ap, subst, ◌∙◌}
 use Rattle.std.specs.Option.{option_and_then}
 use Rattle.norec_world.specs.declared.actor.Actor.{Actor}
 use Rattle.norec_world.specs.Status.{is_waiting, waiting_step}
-use Rattle.norec_world.specs.World.{waits_at}
 use Rattle.norec_world.proofs.Worlds.{some_waiting}
 use Rattle.norec_world.proofs.Refusals.{mapped_none, mapped_some}
 use Rattle.norec_world.proofs.CallEvents.{ended_there, not_there}
