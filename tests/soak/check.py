@@ -17,9 +17,10 @@ import plain
 
 NUMBER, HEX, CALL = "(0|[1-9][0-9]{0,18})", "([0-9a-f]+)", "call ([^=\n]+) = ([^=\n]+)\n"
 OUTCOMES = ["committed", "readonly", "conflict", "full", "unfinished"]
-ATTEMPT = f"attempt {NUMBER} {NUMBER} {NUMBER} ({'|'.join(OUTCOMES)}) -\narena -\n((?:{CALL})*)end\n"
+ATTEMPT = f"attempt {NUMBER} {NUMBER} {NUMBER} ({'|'.join(OUTCOMES)}|nomemory) -\narena -\n((?:{CALL})*)end\n"
 HISTORY = f"itm-history 1\nmemory {HEX}\n((?:{ATTEMPT})*)final (?P<clock>{NUMBER}) (?P<final>{HEX})\n"
-GAVE_UP = f"itmrun: thread {NUMBER} gave up\n"
+GAVE_UP, STARVED = "gave up", "found no memory"
+TOLD = f"itmrun: thread {NUMBER} ({GAVE_UP}|{STARVED})\n"
 COUNTED = ["scripts", "attempts", "calls", *OUTCOMES, "odd clocks", "threads that gave up"]
 
 Attempt = collections.namedtuple("Attempt", "thread nth at outcome calls")
@@ -32,6 +33,11 @@ class Wrong(Exception):
 def expect(holds, *words):
     if not holds:
         raise Wrong(" ".join(str(w) for w in words))
+
+
+def attempts_of(text):
+    """The attempts in a history's lines."""
+    return [Attempt(*map(int, row[:3]), row[3], re.findall(CALL, row[4])) for row in re.findall(ATTEMPT, text)]
 
 
 class Thread:
@@ -60,7 +66,7 @@ class Check:
         """One attempt, in the order of the history, which is that in which attempts ended."""
         expect(attempt.thread < len(self.threads), "no such thread")
         thread, done = self.threads[attempt.thread], len(self.committers)
-        expect(thread.outcome not in ("full", "unfinished"), "the thread had ended")
+        expect(thread.outcome not in ("full", "nomemory", "unfinished"), "the thread had ended")
         expect(thread.tries > 0 or thread.player.to_block(), "the thread has no more blocks")
         expect(thread.tries < attempt.nth <= self.script.retries + 1, "no such try after try", thread.tries)
         # A try without lines met the clock odd, in a commit that was not done when the thread's last attempt ended, and
@@ -104,6 +110,8 @@ class Check:
         if outcome in ("committed", "readonly"):
             expect(call is None, "the block is not over")
             expect(wrote == (outcome == "committed"), "wrote" if wrote else "wrote nothing")
+        elif outcome == "nomemory":
+            expect(call is not None, "the block is over")
         else:
             expect(call is not None and block.takes_steps(*call), "cannot end so where it stands")
         if outcome == "committed":
@@ -143,28 +151,36 @@ class Check:
             memory[8 * word : 8 * word + 8] = block.memory[8 * word : 8 * word + 8]
             yield memory.hex()
 
-    def end(self, number, gave_up, clock):
-        """Whether a thread may have given up, or not."""
+    def end(self, number, told, clock):
+        """Whether of a thread this may be told: that it gave up, that it found no memory, or nothing."""
         thread, steps = self.threads[number], self.script.steps[number]
         expect(thread.least <= steps, "thread", number, "had", steps, "steps")
+        calls = thread.tries > 0 or thread.player.run_to(plain.BEGIN, plain.READ, plain.WRITE) is not None
         left = thread.tries > 0 or thread.player.to_block()
         last_try = thread.outcome == "conflict" and thread.tries == self.script.retries + 1
-        if gave_up:
-            # where it did so after tries without lines, it met the clock odd after its last attempt
-            may = thread.outcome == "full" or last_try or clock > 2 * thread.since and self.script.turns is None
-            expect(may and left and steps > 0 and thread.outcome != "unfinished", "thread", number, "gave up")
+        # where it ended after tries without lines, it met the clock odd after its last attempt
+        met_odd = clock > 2 * thread.since and self.script.turns is None
+        if told == GAVE_UP:
+            may = thread.outcome == "full" or last_try or met_odd
+            expect(may and left and steps > 0, "thread", number, told)
+            expect(thread.outcome not in ("nomemory", "unfinished"), "thread", number, told)
+        elif told == STARVED:
+            # at a call of its last attempt or after it; what comes before its first step is done before the run
+            may = thread.outcome is not None and not last_try or met_odd
+            expect(may and calls and steps > 0, "thread", number, told)
+            expect(thread.outcome not in ("full", "unfinished"), "thread", number, told)
         else:
             expect(thread.outcome != "full" and not last_try, "thread", number, "did not give up")
+            expect(thread.outcome != "nomemory", "thread", number, "found memory")
             expect(not left or steps < plain.ANY, "thread", number, "did not run to its end")
 
-    def run(self, output, errors, status):
-        """Checks all that the program wrote; the counts of it."""
+    def run(self, output, errors, status, starved=0):
+        """Checks all that the program wrote, where so many threads have to have found no memory; the counts of it."""
         expect(status in (0, 4), "status", status)
         history = re.fullmatch(HISTORY, output.decode("ascii"))
         expect(history, "the text is no history")
         expect(history[1] == self.script.opening.hex(), "another memory to begin with")
-        rows = re.findall(ATTEMPT, history[2])
-        attempts = [Attempt(*map(int, row[:3]), row[3], re.findall(CALL, row[4])) for row in rows]
+        attempts = attempts_of(history[2])
         for place, attempt in enumerate(attempts):
             try:
                 self.attempt(attempt)
@@ -175,15 +191,19 @@ class Check:
             expect(turns == sorted(turns), "threads are not in their turns")
         clock = int(history["clock"])
         self.final(clock, history["final"])
-        expect(re.fullmatch(f"({GAVE_UP})*", errors.decode("ascii")), "other errors:", errors)
-        gave_up = [int(number) for number in re.findall(GAVE_UP, errors.decode("ascii"))]
-        expect(gave_up == sorted(set(gave_up) & set(range(len(self.threads)))), "other threads in the errors:", errors)
-        expect(status == (4 if gave_up else 0), "status", status)
+        expect(re.fullmatch(f"({TOLD})*", errors.decode("ascii")), "other errors:", errors)
+        lines = [(int(number), told) for number, told in re.findall(TOLD, errors.decode("ascii"))]
+        told = dict(lines)
+        expect(lines == sorted(told.items()), "the errors are not by thread:", errors)
+        expect(set(told) <= set(range(len(self.threads))), "other threads in the errors:", errors)
+        expect(status == (4 if told else 0), "status", status)
         for number in range(len(self.threads)):
-            self.end(number, number in gave_up, clock)
+            self.end(number, told.get(number), clock)
+        ends = collections.Counter(told.values())
+        expect(ends[STARVED] == starved, "so many threads found no memory:", ends[STARVED])
         counts = collections.Counter(a.outcome for a in attempts)
         counts.update({"scripts": 1, "attempts": len(attempts), "calls": sum(len(a.calls) for a in attempts)})
-        counts.update({"odd clocks": clock % 2, "threads that gave up": len(gave_up)})
+        counts.update({"odd clocks": clock % 2, "threads that gave up": ends[GAVE_UP]})
         return counts
 
 

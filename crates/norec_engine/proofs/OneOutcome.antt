@@ -10,6 +10,7 @@ use Rattle.itm_types.specs.declared.step.Step.{Step}
 use Rattle.itm_types.specs.declared.step.Step.TheVariants as steps
 use Rattle.itm_types.specs.Memory.{IsMemory, AllFit, Agrees}
 use Rattle.write_set.specs.declared.row.Row.{Row}
+use Rattle.norec_engine.proofs.Overlays.{Agrees-drop}
 use Rattle.norec_engine.specs.declared.answer.Answer.{Answer}
 use Rattle.norec_engine.specs.declared.answer.Answer.TheVariants.{Reply, Committed, Conflict, Busy, Full}
 use Rattle.norec_engine.specs.declared.answer.Next.{Next}
@@ -126,7 +127,7 @@ module _ (mid new new' : Core) (end : Option Answer)
       let e = g.stays in
       let e' = g'.stays in
       let m = one_memory (ap (λ (c : Core). c.words) e) (ap (λ (c : Core). c.words) e') in
-      let one : r ≡ r' = g.reply_is m.0 m.1 m.2 ∙ sym (g'.reply_is m.0 m.1 m.3) in
+      let one : r ≡ r' = g.reply_is m.0 m.1 (Agrees-drop m.0 mid.entry new.log m.2) ∙ sym (g'.reply_is m.0 m.1 (Agrees-drop m.0 mid.entry new'.log m.3)) in
       let is_open : new.is_open ≡ new'.is_open = opens_same mid.is_open call r new.is_open new'.is_open g.opens (subst (λ (x : Replied). OpensBy mid.is_open call x new'.is_open) (sym one) g'.opens) in
       let writes : new.writes ≡ new'.writes = g.writes ∙ (ap (writes_after mid.writes call) one ∙ sym g'.writes) in
       let props : new.props ≡ new'.props = g.props ∙ (ap (props_after mid.props call) one ∙ sym g'.props) in

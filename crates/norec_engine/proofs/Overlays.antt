@@ -1,5 +1,5 @@
 -- Rows of words with values, laid over a memory.
-use Rattle.std.proofs.Common.{◌≡◌, ℕ, zero, suc, ◌+◌, ◌^◌, ◌<◌, ◌==◌, List, [], ◌∷◌, ◌++◌, length, take, Some, slice_get, slice_set, refl, sym, ap, subst, ◌∙◌, inl, inr, arith}
+use Rattle.std.proofs.Common.{◌≡◌, ℕ, zero, suc, ◌+◌, ◌^◌, ◌<◌, ◌==◌, List, [], ◌∷◌, ◌++◌, length, take, drop, Some, slice_get, slice_set, refl, sym, ap, subst, ◌∙◌, inl, inr, arith}
 use Rattle.itm_types.specs.declared.row.LogRow.{LogRow}
 use Rattle.write_set.specs.declared.row.Row.{Row}
 use Rattle.itm_types.specs.Memory.{Agrees}
@@ -29,6 +29,11 @@ Agrees-last m (x ∷ xs) r h = Agrees-last m xs r h.1
 pub Agrees-front : (m : List ℕ) (rows : List LogRow) (r : LogRow) → Agrees m (rows ++ r ∷ []) → Agrees m rows
 Agrees-front m [] r h = tt
 Agrees-front m (x ∷ xs) r h = (h.0, Agrees-front m xs r h.1)
+
+pub Agrees-drop : (m : List ℕ) (n : ℕ) (rows : List LogRow) → Agrees m rows → Agrees m (drop n rows)
+Agrees-drop m zero rows h = h
+Agrees-drop m (suc n) [] h = tt
+Agrees-drop m (suc n) (x ∷ xs) h = Agrees-drop m n xs h.1
 
 -- ## The write set
 

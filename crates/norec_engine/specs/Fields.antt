@@ -25,7 +25,7 @@ use Rattle.norec_engine.specs.declared.answer.Next.TheVariants.{Step as Asks, An
 use Rattle.norec_engine.specs.Rows.{row_at, write_at, value_into, is_covered, AllWithin, AllWritesWithin}
 use Rattle.write_set.specs.Rows.{overlay, AreRows}
 use Rattle.norec_engine.specs.Core.{Core}
-use Rattle.norec_engine.specs.Proceeds.{Proceeds}
+use Rattle.norec_engine.specs.Proceeds.{Proceeds, own_rows}
 use Rattle.norec_engine.specs.Endings.{IsEnding}
 
 -- ## What callers see
@@ -183,8 +183,9 @@ pub record IsReading (d : Data) (r : Reading) : Type 0 where
   pub within : r.at + size_of r.width ≤ 8 * d.words
   pub far : r.number ≤ count r
   pub room : count r - r.number ≤ d.log.room
+  pub since : d.entry ≤ length d.log.rows
   pub grown : length d.log.rows ≤ d.entry + r.number
-  pub has : (m : List ℕ) → IsMemory d.words m → Agrees m d.log.rows → d.gathered.items ≡ gathered (overlay m d.writes) (take r.number (parts r))
+  pub has : (m : List ℕ) → IsMemory d.words m → Agrees m (own_rows d.entry d.log.rows) → d.gathered.items ≡ gathered (overlay m d.writes) (take r.number (parts r))
   pub sized : length d.gathered.items ≡ length (gathered [] (take r.number (parts r)))
 
 -- the write set does not have all of this piece

@@ -1,5 +1,5 @@
 -- What an engine may do next. `mid` is the engine with a call that came, or with the value of the step that it waited for.
-use Rattle.std.specs.Prelude.{◌≡◌, ◌≢◌, ◌^◌, ◌⊎◌, ℕ, zero, suc, ◌+◌, ◌*◌, ◌/◌, ◌%◌, ◌<◌, ◌≤◌, Bool, true, false, List, [], ◌∷◌, ◌++◌, Option, None, Some, slice_get, slice_set, take, length}
+use Rattle.std.specs.Prelude.{◌≡◌, ◌≢◌, ◌^◌, ◌⊎◌, ℕ, zero, suc, ◌+◌, ◌*◌, ◌/◌, ◌%◌, ◌<◌, ◌≤◌, Bool, true, false, List, [], ◌∷◌, ◌++◌, Option, None, Some, slice_get, slice_set, take, drop, length}
 use Rattle.itm_types.specs.declared.row.LogRow.{LogRow}
 use Rattle.write_set.specs.declared.row.Row.{Row}
 use Rattle.itm_types.specs.declared.call.Call.{Call}
@@ -106,10 +106,14 @@ props_after was Commit r = was
 props_after was (Read hint width at) r = was
 props_after was (Write hint at value) r = was
 
--- at a reply the engine and the reply are the plain machine's, over every memory that agrees with the log
+-- the rows that the call in progress has logged itself
+abbrev pub own_rows : ℕ → List LogRow → List LogRow
+own_rows entry log = drop entry log
+
+-- at a reply the engine is the plain machine's, over every memory that agrees with the log; the reply too, even over each that agrees with what the call itself has logged
 pub record Replies (mid : Core) (call : Call) (r : Replied) (new : Core) : Type 0 where
   pub meets : (m : List ℕ) → IsMemory mid.words m → Agrees m new.log → stands_for new m ≡ after MAX_DEPTH (stands_for mid m) call
-  pub reply_is : (m : List ℕ) → IsMemory mid.words m → Agrees m new.log → r ≡ recoded mid.again (reply MAX_DEPTH (stands_for mid m) call)
+  pub reply_is : (m : List ℕ) → IsMemory mid.words m → Agrees m (own_rows mid.entry new.log) → r ≡ recoded mid.again (reply MAX_DEPTH (stands_for mid m) call)
   pub stays : new ≡ record mid {
     stage = new.stage;
     tries = new.tries;

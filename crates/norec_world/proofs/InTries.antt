@@ -14,6 +14,7 @@ use Rattle.itm_model.specs.declared.limits.TheConstants.{MAX_DEPTH}
 use Rattle.itm_model.specs.State.{State}
 use Rattle.itm_model.specs.Machine.{opened, is_open, after, reply}
 use Rattle.itm_model.specs.Runs.{turn, answers, answers_within}
+use Rattle.norec_engine.proofs.Overlays.{Agrees-drop}
 use Rattle.norec_engine.specs.Core.{Core, handed_to, word_loaded}
 use Rattle.norec_engine.specs.Stands.{state_over, stands_for}
 use Rattle.norec_engine.specs.Proceeds.{AsksFor, Replies, Commits, recoded}
@@ -106,7 +107,7 @@ module _ {P : Type 0} (next : P → Option Call) (answered : P → Replied → P
               let turns : turn next answered left (player_then answered begun row.calls) (state_then MAX_DEPTH (state m) row.calls) ≡ Some call =
               ap (λ (o : Bool). if o then next (player_then answered begun row.calls) else None) open_then ∙ (ap next (sym t.player) ∙ asks) in
               let replied : r ≡ reply MAX_DEPTH (state_then MAX_DEPTH (state m) row.calls) call =
-              g.reply_is m memory agrees ∙ (ap (λ (a : Bool). recoded a (reply MAX_DEPTH (stands_for mid m) call)) t.anew ∙ ap (λ (s : State). reply MAX_DEPTH s call) stands) in
+              g.reply_is m memory (Agrees-drop m mid.entry new.log agrees) ∙ (ap (λ (a : Bool). recoded a (reply MAX_DEPTH (stands_for mid m) call)) t.anew ∙ ap (λ (s : State). reply MAX_DEPTH s call) stands) in
               alone_snoc next answered left nearer MAX_DEPTH begun (state m) row.calls (record { call = call; reply = r }) (t.alone m memory old) turns replied);
           stands = λ m mem agrees.
               (let memory : IsMemory mid.words m = subst (λ (n : ℕ). IsMemory n m) words mem in
@@ -220,7 +221,7 @@ module _ {P : Type 0} (next : P → Option Call) (answered : P → Replied → P
       (g : Replies mid (Begin props room) r new) (began : row.began ≤ new.snapshot / 2) (words : List ℕ) (mem : IsMemory mid.words words) (agrees : Agrees words new.log) where
     entered : (w : Bool) → mid.again ≡ w → r ≡ begin_code w
     entered w e =
-        g.reply_is words mem agrees ∙ (ap (λ (o : Bool). recoded mid.again (reply MAX_DEPTH (state_over mid.writes o mid.props mid.arena words) (Begin props room))) outside ∙ (ap (λ (a : Bool). recoded a (Code 5)) e ∙ coded w))
+        g.reply_is words mem (Agrees-drop words mid.entry new.log agrees) ∙ (ap (λ (o : Bool). recoded mid.again (reply MAX_DEPTH (state_over mid.writes o mid.props mid.arena words) (Begin props room))) outside ∙ (ap (λ (a : Bool). recoded a (Code 5)) e ∙ coded w))
       where
         coded : (w : Bool) → recoded w (Code 5) ≡ begin_code w
         coded true = refl

@@ -10,6 +10,7 @@ use Rattle.itm_types.specs.Memory.{IsMemory, Agrees}
 use Rattle.itm_model.specs.declared.limits.TheConstants.{MAX_DEPTH}
 use Rattle.itm_model.specs.Machine.{reply}
 use Rattle.script_vm.specs.Depth.{is_begin}
+use Rattle.norec_engine.proofs.Overlays.{Agrees-drop}
 use Rattle.norec_engine.specs.Core.{Core}
 use Rattle.norec_engine.specs.Stands.{state_over}
 use Rattle.norec_engine.specs.Proceeds.{Replies, IsBusy, recoded}
@@ -57,7 +58,7 @@ module _ {P : Type 0} (next : P → Option Call) (answered : P → Replied → P
   -- the engine's reply to such a call
   refused_outside : (mid new : Core) (c : Call) (r : Replied) (m : List ℕ) → Replies mid c r new → is_begin c ≡ false → mid.is_open ≡ false → IsMemory mid.words m → Agrees m new.log → r ≡ Refused Outside
   refused_outside mid new c r m g nb outside mem agrees =
-      g.reply_is m mem agrees ∙ (ap (λ (o : Bool). recoded mid.again (reply MAX_DEPTH (state_over mid.writes o mid.props mid.arena m) c)) outside ∙ (ap (recoded mid.again) (refused c nb) ∙ coded mid.again))
+      g.reply_is m mem (Agrees-drop m mid.entry new.log agrees) ∙ (ap (λ (o : Bool). recoded mid.again (reply MAX_DEPTH (state_over mid.writes o mid.props mid.arena m) c)) outside ∙ (ap (recoded mid.again) (refused c nb) ∙ coded mid.again))
     where
       refused : (c : Call) → is_begin c ≡ false → reply MAX_DEPTH (state_over mid.writes false mid.props mid.arena m) c ≡ Refused Outside
       refused (Begin props room) nb = absurd (cc)

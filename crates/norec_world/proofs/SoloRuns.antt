@@ -19,6 +19,7 @@ use Rattle.itm_model.specs.declared.limits.TheConstants.{MAX_DEPTH}
 use Rattle.itm_model.specs.State.{State}
 use Rattle.itm_model.specs.Machine.{outside, opened, after, after_unless, effect, answer, reply, reply_unless, unless, or_else, in_shared, is_open}
 use Rattle.itm_model.specs.Runs.{turn}
+use Rattle.norec_engine.proofs.Overlays.{Agrees-drop}
 use Rattle.norec_engine.specs.Core.{Core, came, handed, handed_to, word_loaded}
 use Rattle.norec_engine.specs.Stands.{stands_for, state_over, is_some_row}
 use Rattle.norec_engine.specs.Proceeds.{IsLawful, AsksFor, Replies, Commits, Conflicts, IsBusy, IsFull, backed, Got, recoded}
@@ -159,7 +160,7 @@ module _ {P : Type 0} (next : P → Option Call) (answered : P → Reply → P) 
         let p1 : P = answered start.player (begin_code false) in
         let meets : stands_for new M ≡ after MAX_DEPTH t c = g.meets M mem agrees ∙ ap (λ (s : State). after MAX_DEPTH s c) k.stands in
         let reply_is : r ≡ reply MAX_DEPTH t c =
-        g.reply_is M mem agrees ∙ (ap (λ (a : Bool). recoded a (reply MAX_DEPTH (stands_for mid M) c)) f.first ∙ ap (λ (s : State). reply MAX_DEPTH s c) k.stands) in
+        g.reply_is M mem (Agrees-drop M mid.entry new.log agrees) ∙ (ap (λ (a : Bool). recoded a (reply MAX_DEPTH (stands_for mid M) c)) f.first ∙ ap (λ (s : State). reply MAX_DEPTH s c) k.stands) in
         let open_t : is_open t ≡ true = ap is_open (sym k.stands) ∙ stands_open mid M o in
         let asks : turn next answered left (player_then answered p1 xs) t ≡ Some c =
         cond-true (is_open t) (next (player_then answered p1 xs)) None open_t ∙ (ap next (sym k.player) ∙ n) in
@@ -373,7 +374,7 @@ module _ {P : Type 0} (next : P → Option Call) (answered : P → Reply → P) 
         let was : stands_for mid M ≡ s = closed_stands mid M o w in
         let meets : stands_for new M ≡ opened (bytes_of M) mid.arena props = g.meets M mem agrees ∙ ap (λ (x : State). after MAX_DEPTH x (Begin props room)) was in
         let code : r ≡ Code 5 =
-        g.reply_is M mem agrees ∙ (ap (λ (a : Bool). recoded a (reply MAX_DEPTH (stands_for mid M) (Begin props room))) f.first ∙ ap (λ (x : State). reply MAX_DEPTH x (Begin props room)) was) in
+        g.reply_is M mem (Agrees-drop M mid.entry new.log agrees) ∙ (ap (λ (a : Bool). recoded a (reply MAX_DEPTH (stands_for mid M) (Begin props room))) f.first ∙ ap (λ (x : State). reply MAX_DEPTH x (Begin props room)) was) in
         let opens : new.is_open ≡ true = opens_so new.is_open new M (opened (bytes_of M) mid.arena props) refl meets refl in
         let start : Beginning P = record { player = b.player; arena = b.arena; props = props } in
         let asks : next b.player ≡ Some (Begin props room) = ap next (sym closed.2) ∙ n in
@@ -441,7 +442,7 @@ module _ {P : Type 0} (next : P → Option Call) (answered : P → Reply → P) 
         let shut : is_open s ≡ false = ap is_open (closed_stands mid M o w) in
         let meets : stands_for new M ≡ s = g.meets M mem agrees ∙ outside_after s c nb shut in
         let reply_is : r ≡ reply MAX_DEPTH (outside [] b.arena) c =
-        g.reply_is M mem agrees ∙ (ap (λ (a : Bool). recoded a (reply MAX_DEPTH s c)) f.first ∙ outside_reply s b.arena c nb shut) in
+        g.reply_is M mem (Agrees-drop M mid.entry new.log agrees) ∙ (ap (λ (a : Bool). recoded a (reply MAX_DEPTH s c)) f.first ∙ outside_reply s b.arena c nb shut) in
         let closed_new : new.is_open ≡ false = closes_so new.is_open new M s refl meets shut in
         let holds : new.holds ≡ false = ap (λ (e : Core). e.holds) same ∙ g.free in
         let asks : next b.player ≡ Some c = ap next (sym closed.2) ∙ n in

@@ -1,18 +1,20 @@
 -- What an actor does with the value of its step, and in the local work that follows, up to its next step or its end.
-use Rattle.std.specs.Prelude.{◌≡◌, ℕ, zero, suc, ◌/◌, true, false, Option, None, Some}
+use Rattle.std.specs.Prelude.{◌≡◌, ◌⊎◌, ℕ, zero, suc, ◌/◌, ◌≤◌, true, false, length, vec_capacity, Option, None, Some}
 use Rattle.itm_types.specs.declared.call.Call.{Call}
 use Rattle.itm_types.specs.declared.call.Reply.{Reply}
 use Rattle.itm_types.specs.declared.step.Step.{Step}
 use Rattle.norec_engine.specs.declared.answer.Next.{Next}
 use Rattle.norec_engine.specs.Moves.{IsResumed}
+use Rattle.norec_engine.specs.Proceeds.{MayStarve}
 use Rattle.norec_engine.specs.Undoing.{after_undoing}
 use Rattle.script_vm.specs.Depth.{is_begin}
+use Rattle.norec_world.specs.declared.attempt.Attempt.{Attempt}
 use Rattle.norec_world.specs.declared.attempt.Outcome.TheVariants as outcomes
 use Rattle.norec_world.specs.declared.attempt.End.TheVariants.{Finished, NoMemory}
 use Rattle.norec_world.specs.declared.actor.Actor.{Actor}
 use Rattle.norec_world.specs.declared.actor.Status.TheVariants.{Ready, Waits, Ended}
 use Rattle.norec_world.specs.Cells.{Cells, found}
-use Rattle.norec_world.specs.Rows.{Rows}
+use Rattle.norec_world.specs.Rows.{Rows, active_of}
 use Rattle.norec_world.specs.Records.{Asks, Tells, IsTold, StopsAt}
 
 -- it is the same actor, and where its player is to be asked, no attempt is to be opened
@@ -20,6 +22,10 @@ pub record SameActor {P : Type 0} (a a' : Actor P) : Type 0 where
   pub thread : a'.thread ≡ a.thread
   pub retries : a'.retries ≡ a.retries
   pub nothing : a'.status ≡ Ready → a'.pending ≡ None
+
+-- within a block memory is wanted for the call with its reply where there is no room left for them, or by a read or a write for itself
+abbrev pub IsShort : {P : Type 0} → Rows → Actor P → Call → Type 0
+IsShort r a call = (row : Attempt) → active_of a.thread r.active ≡ Some row → (vec_capacity a.spare ≤ length row.calls) ⊎ MayStarve a.engine call
 
 -- its step was done on these cells: its engine is handed what was found, and of what comes the call waits for the next step, or is answered
 pub record TakesIn {P : Type 0} (answered : P → Reply → P) (restarted : P → P) (cells : Cells) (r : Rows) (a : Actor P) (r' : Rows) (a' : Actor P) : Type 0 where
@@ -58,8 +64,10 @@ module _ {P : Type 0} (next : P → Option Call) (answered : P → Reply → P) 
     pub call : Call
     pub next_is : next a.player ≡ Some call
     pub grows : a.engine.is_open ≡ false → is_begin call ≡ true  -- outside a block memory is wanted for a begin alone
+    pub short : a.engine.is_open ≡ true → IsShort r a call
     pub status : a'.status ≡ Ended NoMemory
     pub player : a'.player ≡ a.player
+    pub counts : (a'.nth ≡ a.nth) × (a'.again ≡ a.again) × (a'.pending ≡ a.pending)
     pub engine : a'.engine ≡ after_undoing a.engine
     pub room : ℕ
     pub stops : a.engine.is_open ≡ true → StopsAt a.thread (record r { room = room }) (a.engine.snapshot / 2) outcomes.NoMemory r'

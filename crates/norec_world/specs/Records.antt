@@ -63,9 +63,10 @@ module _ {P : Type 0} (answered : P → Replied → P) (restarted : P → P) whe
       × (new.again ≡ again_after new.engine.is_open old.pending old.again) × (new.nth ≡ old.nth) × (new.status ≡ old.status)
   Records was r r' old new call (Committed at wrote) =
       EndsBy old.thread r at wrote call r' × (new.player ≡ answered old.player Done) × (new.again ≡ false) × (new.nth ≡ 1) × (new.status ≡ old.status)
-  Records was r r' old new call (Conflict clock word) = StopsAt old.thread r (new.engine.snapshot / 2) outcomes.Conflict r' × (new.player ≡ restarted old.player) × CountsTry old new
-  Records was r r' old new call (Busy clock) = (r' ≡ r) × (new.player ≡ old.player) × CountsTry old new
-  Records was r r' old new call (Full at) = StopsAt old.thread r at outcomes.Full r' × (new.status ≡ Ended GaveUp)
+  Records was r r' old new call (Conflict clock word) = StopsAt old.thread r (new.engine.snapshot / 2) outcomes.Conflict r' × (new.player ≡ restarted old.player) × CountsTry old new × (new.pending ≡ old.pending)
+  Records was r r' old new call (Busy clock) = (r' ≡ r) × (new.player ≡ old.player) × CountsTry old new × (new.pending ≡ None)
+  Records was r r' old new call (Full at) =
+      StopsAt old.thread r at outcomes.Full r' × (new.status ≡ Ended GaveUp) × (new.player ≡ old.player) × (new.again ≡ old.again) × (new.nth ≡ old.nth) × (new.pending ≡ old.pending)
 
   -- of what the engine gave for the call: it waits for the step, or its answer is recorded
   abbrev pub Tells : Bool → Rows → Rows → Actor P → Actor P → Call → Next → Type 0

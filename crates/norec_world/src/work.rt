@@ -19,7 +19,7 @@ impl<P: Player> Actor<P> {
     ghost use Rattle.norec_world.specs.Records.{Asks, Records, StopsAt};
     ghost use Rattle.norec_engine.specs.Undoing.{after_undoing};
     ghost use Rattle.script_vm.specs.Depth.{is_begin};
-    ghost use Rattle.norec_world.specs.LocalWork.{Acts, Works};
+    ghost use Rattle.norec_world.specs.LocalWork.{Acts, IsShort, Works};
     ghost use Rattle.norec_world.specs.Tracks.{StillTracks};
     ghost use Rattle.norec_world.specs.OthersAttempts.{KeepsOthers};
     ghost use Rattle.norec_world.specs.Tries.{Tries, prior_of};
@@ -96,6 +96,7 @@ impl<P: Player> Actor<P> {
         ensures unasked { OnErr result (IsUnasked P.next_call P.answered P.restarted P.calls_left P.depth recorded.new self.old self.new) }
         ensures rows { recorded.new ≡ record recorded.old { room = recorded.new.room } }
         ensures grows { OnErr result (self.old.engine.is_open ≡ false → is_begin call.now ≡ true) }
+        ensures short { OnErr result (self.old.engine.is_open ≡ true → IsShort recorded.old self.old call.now) }
         ensures others { KeepsOthers self.old recorded.old self.new recorded.new }
     {
         match call {

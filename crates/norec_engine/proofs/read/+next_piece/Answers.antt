@@ -1,4 +1,4 @@
-use Rattle.std.proofs.Common.{◌≡◌, ℕ, List, [], ◌++◌, length, take, refl, sym, ap, ◌∙◌, arith}
+use Rattle.std.proofs.Common.{◌≡◌, ℕ, List, [], ◌++◌, length, take, drop, refl, sym, ap, ◌∙◌, arith}
 use Rattle.itm_types.specs.Access.{size_of}
 use Rattle.itm_types.specs.Memory.{IsMemory, Agrees}
 use Rattle.word_pieces.specs.Pieces.{gathered, part_of}
@@ -13,6 +13,7 @@ use Rattle.norec_engine.specs.Rows.{is_covered}
 use Rattle.word_pieces.specs.declared.piece.Piece.{Piece}
 use Rattle.norec_engine.proofs.Readings.{none_take, load_ends, load_here, load_next, some_left, part_is, length-part_of}
 use Rattle.norec_engine.proofs.Machines.{reads}
+use Rattle.norec_engine.proofs.Overlays.{Agrees-drop}
 use Rattle.norec_engine.proofs.read.+next_piece.Goals as goal
 
 pub returns-in_default-clause-proceeds : goal.returns-in_default-clause-proceeds
@@ -21,13 +22,13 @@ returns-in_default-clause-proceeds t c log =
     let r = c.args.reading in
     let may = c.requires.may in
     let none = sym c.piece.ensures.value ∙ c.in_default.is in
-    let bytes = λ (m : List ℕ) (mem : IsMemory s.words m) (agrees : Agrees m s.log.rows).
+    let bytes = λ (m : List ℕ) (mem : IsMemory s.words m) (agrees : Agrees m (drop s.entry s.log.rows)).
     (let size : length (overlay m s.writes) ≡ s.words = length-overlay m s.writes ∙ mem.0 in
     may.reading.has m mem agrees ∙ (ap (gathered (overlay m s.writes)) (none_take (parts r) r.number none) ∙ gathered-pieces_of (overlay m s.writes) r.at (size_of r.width) (omega (arith, size, may.reading.within)))) in
-    let all = λ (m : List ℕ) (mem : IsMemory s.words m) (agrees : Agrees m s.log.rows).
+    let all = λ (m : List ℕ) (mem : IsMemory s.words m) (agrees : Agrees m (drop s.entry s.log.rows)).
     reads s.writes s.is_open s.props s.arena m s.words r.hint r.width r.at may.is_open.is_open mem c.replace-bytes.result.items may.reading.within (ap (λ v. v.items) c.replace-bytes.ensures.value ∙ bytes m mem agrees) in
     record {
-      meets = λ m mem agrees. (all m mem agrees).0;
+      meets = λ m mem agrees. (all m mem (Agrees-drop m s.entry s.log.rows agrees)).0;
       reply_is = λ m mem agrees. (all m mem agrees).1;
       stays = refl;
       writes = refl;
@@ -70,6 +71,7 @@ next_piece-requires t c =
           within = may.reading.within;
           far = omega (arith, left);
           room = omega (arith, left, may.reading.room);
+          since = may.reading.since;
           grown = omega (arith, may.reading.grown);
           has = λ m mem agrees.
               (let word = c.in-Some.ensures.in_memory s.words may.reading.within in
@@ -113,7 +115,7 @@ returns-in-None-clause-sound t c =
         in_phase = (
           record { is_open = may.is_open.is_open; log = may.is_open.log; writes = may.is_open.writes; rows = may.is_open.rows; tries = may.is_open.tries },
           record {
-            reading = record { within = may.reading.within; far = may.reading.far; room = may.reading.room; grown = may.reading.grown; has = may.reading.has; sized = may.reading.sized };
+            reading = record { within = may.reading.within; far = may.reading.far; room = may.reading.room; since = may.reading.since; grown = may.reading.grown; has = may.reading.has; sized = may.reading.sized };
             some = some_left c.args.reading c.in-Some.piece (sym c.piece.ensures.value ∙ c.in-Some.is);
             uncovered = ap (is_covered c.args.state.now.writes) (sym (part_is c.args.reading c.in-Some.piece (sym c.piece.ensures.value ∙ c.in-Some.is))) ∙ sym c.in-None.ensures.covered;
           },

@@ -1,6 +1,6 @@
-use Rattle.std.proofs.Common.{ℕ, ◌==◌, List, [], ◌∷◌, ◌++◌, length, take, refl, sym, ap, subst, ◌∙◌, arith, eq-eqb, add-one, inl, inr}
+use Rattle.std.proofs.Common.{ℕ, ◌==◌, List, [], ◌∷◌, ◌++◌, length, take, drop, refl, sym, ap, subst, ◌∙◌, arith, eq-eqb, add-one, inl, inr}
 use Rattle.std.proofs.lemmas.Bool.{cond-true}
-use Rattle.std.proofs.lemmas.List.{length-append}
+use Rattle.std.proofs.lemmas.List.{length-append, drop-append-le}
 use Rattle.std.specs.Prelude.{slice_index}
 use Rattle.itm_types.specs.declared.row.LogRow.{LogRow}
 use Rattle.itm_types.specs.Memory.{Agrees}
@@ -49,12 +49,13 @@ next_piece-requires c =
           within = reading.within;
           far = omega (arith, left);
           room = omega (arith, left, reading.room, c.add.ensures.room);
+          since = omega (arith, reading.since, ap (length {A = LogRow}) added, length-append s.log.rows (row ∷ []));
           grown = omega (arith, reading.grown, ap (length {A = LogRow}) added, length-append s.log.rows (row ∷ []));
           has = λ m mem agrees.
-              (let all = subst (Agrees m) added agrees in
-              let here = Agrees-last m s.log.rows row all in
+              (let all = subst (Agrees m) (ap (drop s.entry) added ∙ drop-append-le s.entry s.log.rows (row ∷ []) reading.since) agrees in
+              let here = Agrees-last m (drop s.entry s.log.rows) row all in
               let now = index_of (overlay m s.writes) p.word c.overlaid-word.result (c.overlaid-word.ensures m here) in
-              gone ∙ ((λ i. reading.has m mem (Agrees-front m s.log.rows row all) i ++ part_of p (sym now i)) ∙ sym (more (overlay m s.writes))));
+              gone ∙ ((λ i. reading.has m mem (Agrees-front m (drop s.entry s.log.rows) row all) i ++ part_of p (sym now i)) ∙ sym (more (overlay m s.writes))));
           sized =
               (let parts_are = more [] in
               let in_word = c.in-Some.ensures.piece.in_word in

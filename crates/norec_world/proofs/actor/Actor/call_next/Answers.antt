@@ -216,8 +216,10 @@ returns-in-Err-clause-acts g c =
       call = c.in-Some.call;
       next_is = sym c.next.ensures ∙ c.in-Some.is;
       grows = c.in-Err.ensures.grows;
+      short = c.in-Err.ensures.short;
       status = c.starve.ensures.status;
       player = c.starve.ensures.player ∙ u.same.player;
+      counts = (c.starve.ensures.same.0 ∙ u.same.nth, c.starve.ensures.again ∙ u.again, c.starve.ensures.pending ∙ u.pending);
       engine = c.starve.ensures.engine ∙ ap after_undoing u.engine;
       room = c.ask.new.recorded.room;
       stops = λ o. (let o' : c.ask.new.self.engine.is_open ≡ true = ap (λ (e : Core). e.is_open) u.engine ∙ o in

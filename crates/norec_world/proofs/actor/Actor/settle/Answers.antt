@@ -75,6 +75,7 @@ returns-in-Conflict-clause-records g c was d =
       λ row e. c.end.ensures.ended row e ∙ (λ i. with_ended a.thread (record row { at = snapshot i / 2; outcome = outcomes.Conflict }) c.args.recorded.now),
       ap (λ (x : Actor g.row.P.Denot). x.player) c.retry.ensures ∙ (retried_player (record a { player = c.restart.new.self }) ∙ c.restart.ensures),
       record { nth = ap (λ (x : Actor g.row.P.Denot). x.nth) c.retry.ensures ∙ counts.nth; status = ap (λ (x : Actor g.row.P.Denot). x.status) c.retry.ensures ∙ counts.status; again = ap (λ (x : Actor g.row.P.Denot). x.again) c.retry.ensures ∙ counts.again },
+      ap (λ (x : Actor g.row.P.Denot). x.pending) c.retry.ensures ∙ retried_pending (record a { player = c.restart.new.self }),
     ) in
     subst (Records g.P.Player.answered g.P.Player.restarted was c.args.recorded.now c.end.new.self a c.retry.new.self c.args.call) (sym c.in-Conflict.is) told
 
@@ -86,5 +87,6 @@ returns-in-Busy-clause-records g c was d =
       refl,
       ap (λ (x : Actor g.row.P.Denot). x.player) c.retry-in-Busy.ensures ∙ retried_player (record a { pending = None }),
       record { nth = ap (λ (x : Actor g.row.P.Denot). x.nth) c.retry-in-Busy.ensures ∙ counts.nth; status = ap (λ (x : Actor g.row.P.Denot). x.status) c.retry-in-Busy.ensures ∙ counts.status; again = ap (λ (x : Actor g.row.P.Denot). x.again) c.retry-in-Busy.ensures ∙ counts.again },
+      ap (λ (x : Actor g.row.P.Denot). x.pending) c.retry-in-Busy.ensures ∙ retried_pending (record a { pending = None }),
     ) in
     subst (Records g.P.Player.answered g.P.Player.restarted was c.args.recorded.now c.args.recorded.now a c.retry-in-Busy.new.self c.args.call) (sym c.in-Busy.is) told
