@@ -43,7 +43,6 @@ pub mod SoloCalls
 pub mod SoloSteps
 pub mod Beginnings
 pub mod Ends
-pub mod Pinned
 pub mod AlikeAnswers
 pub mod HeldAttempts
 pub mod AlikeCalls
