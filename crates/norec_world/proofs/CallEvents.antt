@@ -5,7 +5,6 @@ use Rattle.itm_types.specs.declared.call.Call.{Call}
 use Rattle.itm_types.specs.declared.call.Reply.{Reply}
 use Rattle.norec_world.specs.declared.actor.Actor.{Actor}
 use Rattle.norec_world.specs.Status.{is_waiting, waiting_step, ending_of}
-use Rattle.norec_world.specs.Places.{at_place}
 use Rattle.norec_world.specs.Actors.{AreActors}
 use Rattle.norec_world.specs.Sound.{HasLess, IsNoMore, steps_left, whole, run_left}
 use Rattle.norec_world.specs.World.{World, SameOpening, counted, told, ending_at, waits_at}
@@ -30,6 +29,11 @@ pub events_both : (first between last before more now : ℕ) → between ≡ cou
 events_both first between last before more now b l n = omega arith
 
 -- ## A number of the actor at a place
+
+abbrev pub at_place : {A : Type 0} → (A → ℕ) → List A → ℕ → ℕ
+at_place f [] place = 0
+at_place f (x ∷ xs) zero = f x
+at_place f (x ∷ xs) (suc place) = at_place f xs place
 
 pub at_place_is : {A : Type 0} (f : A → ℕ) (xs : List A) (place : ℕ) (x : A) → slice_get xs place ≡ Some x → at_place f xs place ≡ f x
 at_place_is f [] place x e = absurd (cc)

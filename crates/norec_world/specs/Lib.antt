@@ -27,7 +27,6 @@ pub mod LogAgreement
 pub mod Runs
 pub mod Opaque
 pub mod Invariant
-pub mod Places
 pub mod Views
 pub mod Alike
 pub mod SameWorlds
