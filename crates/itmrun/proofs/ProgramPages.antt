@@ -15,7 +15,7 @@ use Rattle.norec_world.specs.Opaque.{AreOpaque}
 use Rattle.norec_world.specs.World.{World, ShowsAlone, DoneBy, attempts_of, ending_at, memory_of}
 use Rattle.script_asm.specs.declared.instruction.Instruction.{Instruction}
 use Rattle.script_asm.specs.Listing.{Listing, opening_of, threads_of}
-use Rattle.itmrun.specs.Threads.{Thread, opening, next_call, answered, restarted, calls_left}
+use Rattle.itmrun.specs.Threads.{Thread, opening, thread_rules}
 use Rattle.itmrun.specs.Scheduled.{Leaves, schedule_of, players_of}
 use Rattle.itmrun.specs.Pages.{first_thread, solo_of, page, IsOf, IsWorldOf, history_of}
 use Rattle.itmrun.proofs.ScheduleItems.{items_keep}
@@ -46,18 +46,18 @@ began_as p w (first, begins, leads) =
 
 module _ (p : Listing) (w : World Thread) (began : BeganAs p w) (player : Thread) (player_is : player ≡ first_thread p) where
   -- what the player does alone is what the program's thread does
-  alone_is : solo next_call answered calls_left MAX_DEPTH w.max_commits 0 player w.base (replicate w.arena 0) ≡ solo_of p
+  alone_is : solo thread_rules MAX_DEPTH w.max_commits 0 player w.base (replicate w.arena 0) ≡ solo_of p
   unfolding solo_of
-  alone_is = λ i. solo next_call answered calls_left MAX_DEPTH (began.limit i) 0 (player_is i) (began.base i) (replicate (began.arena i) 0)
+  alone_is = λ i. solo thread_rules MAX_DEPTH (began.limit i) 0 (player_is i) (began.base i) (replicate (began.arena i) 0)
 
   so_far : (commits : ℕ) (memory : List ℕ) (outcome : Outcome) (rows : List Attempt)
-      → IsSoFar next_call answered calls_left w.max_commits 0 player w.base (replicate w.arena 0) commits memory outcome rows
-      → IsSoFar next_call answered calls_left p.commits 0 (first_thread p) (opening_of p) [] commits memory outcome rows
+      → IsSoFar thread_rules w.max_commits 0 player w.base (replicate w.arena 0) commits memory outcome rows
+      → IsSoFar thread_rules p.commits 0 (first_thread p) (opening_of p) [] commits memory outcome rows
   so_far commits memory outcome rows s =
-      subst (λ (n : ℕ). IsSoFar next_call answered calls_left p.commits 0 (first_thread p) (opening_of p) (replicate n 0) commits memory outcome rows) began.arena
-      (subst (λ (base : List ℕ). IsSoFar next_call answered calls_left p.commits 0 (first_thread p) base (replicate w.arena 0) commits memory outcome rows) began.base
-      (subst (λ (t : Thread). IsSoFar next_call answered calls_left p.commits 0 t w.base (replicate w.arena 0) commits memory outcome rows) player_is
-      (subst (λ (n : ℕ). IsSoFar next_call answered calls_left n 0 player w.base (replicate w.arena 0) commits memory outcome rows) began.limit s)))
+      subst (λ (n : ℕ). IsSoFar thread_rules p.commits 0 (first_thread p) (opening_of p) (replicate n 0) commits memory outcome rows) began.arena
+      (subst (λ (base : List ℕ). IsSoFar thread_rules p.commits 0 (first_thread p) base (replicate w.arena 0) commits memory outcome rows) began.base
+      (subst (λ (t : Thread). IsSoFar thread_rules p.commits 0 t w.base (replicate w.arena 0) commits memory outcome rows) player_is
+      (subst (λ (n : ℕ). IsSoFar thread_rules n 0 player w.base (replicate w.arena 0) commits memory outcome rows) began.limit s)))
 
   shows : (end : End) → solo_of p ≡ record { attempts = attempts_of w; memory = memory_of w; commits = w.cells.clock / 2; ending = end } → w.cells.clock % 2 ≡ 0
       → ((solo_of p).ending ≡ end) × (history_of (opening_of p) w ≡ page p)
@@ -72,13 +72,13 @@ module _ (p : Listing) (w : World Thread) (began : BeganAs p w) (player : Thread
     }),
   )
 
-  of_ending : (ending : Option End) → DoneBy next_call answered calls_left w player ending → IsOf p ending (history_of (opening_of p) w)
+  of_ending : (ending : Option End) → DoneBy thread_rules w player ending → IsOf p ending (history_of (opening_of p) w)
   of_ending None (memory, part, told) = (refl, memory, so_far (w.cells.clock / 2) memory outcomes.Unfinished (attempts_of w) part, told)
   of_ending (Some Finished) all = shows Finished (sym alone_is ∙ all.all) all.even
   of_ending (Some GaveUp) all = shows GaveUp (sym alone_is ∙ all.all) all.even
   of_ending (Some NoMemory) part = (refl, part.0, so_far (w.cells.clock / 2) (memory_of w) outcomes.NoMemory (attempts_of w) part.1)
 
-pub world_of_run : (p : Listing) (w : World Thread) → Leaves p w → CommitsInOrder w → AreOpaque next_call answered restarted calls_left w → ShowsAlone next_call answered calls_left w → IsWorldOf p w
+pub world_of_run : (p : Listing) (w : World Thread) → Leaves p w → CommitsInOrder w → AreOpaque thread_rules w → ShowsAlone thread_rules w → IsWorldOf p w
 world_of_run p w leaves commits opaque shown = record {
   leaves = leaves;
   commits = commits;

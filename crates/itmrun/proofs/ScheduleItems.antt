@@ -11,14 +11,14 @@ use Rattle.norec_world.specs.WorldEvents.{Goes, Leads, Takes}
 use Rattle.script_asm.specs.declared.schedule.Item.{Item}
 use Rattle.script_asm.specs.declared.schedule.Item.TheVariants.{Take, Out}
 use Rattle.script_asm.specs.declared.instruction.Instruction.{Instruction}
-use Rattle.itmrun.specs.Threads.{Thread, opening, depth_of, next_call, answered, restarted, calls_left}
+use Rattle.itmrun.specs.Threads.{Thread, opening, depth_of, thread_rules}
 use Rattle.itmrun.specs.Scheduled.{ItemLeads, ItemsLead, each_out, endings_of}
 
 abbrev IsEvent : ℕ → World Thread → Result (Unit {0}) WorldFault → World Thread → Type 0
-IsEvent = Goes next_call answered restarted calls_left
+IsEvent = Goes thread_rules
 
 abbrev pub IsLed : World Thread → List ℕ → World Thread → Type 0
-IsLed old schedule new = (results : List (Result (Unit {0}) WorldFault)) × Leads next_call answered restarted calls_left old schedule results new
+IsLed old schedule new = (results : List (Result (Unit {0}) WorldFault)) × Leads thread_rules old schedule results new
 
 -- ## Events of one thread
 
@@ -119,7 +119,7 @@ led_keeps old new [] (r ∷ rs, e) = absurd e
 led_keeps old new (x ∷ xs) ([], e) = absurd e
 led_keeps old new (x ∷ xs) (r ∷ rs, (next, g, rest)) = keeps_then old next new (goes_keeps old next x r g) (led_keeps next new xs (rs, rest))
 
-takes_keeps : (old new : World Thread) (thread n : ℕ) → Takes next_call answered restarted calls_left thread n old new → Keeps old new
+takes_keeps : (old new : World Thread) (thread n : ℕ) → Takes thread_rules thread n old new → Keeps old new
 takes_keeps old new thread zero e = keeps_same old new e
 takes_keeps old new thread (suc n) (last, r, rest, is, g) = keeps_then old last new (takes_keeps old last thread n rest) (goes_keeps last new thread r g)
 

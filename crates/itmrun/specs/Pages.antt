@@ -10,7 +10,7 @@ use Rattle.norec_world.specs.Commits.{CommitsInOrder}
 use Rattle.norec_world.specs.Opaque.{AreOpaque}
 use Rattle.norec_world.specs.World.{World, attempts_of, ending_at, memory_of}
 use Rattle.script_asm.specs.Listing.{Listing, opening_of, threads_of}
-use Rattle.itmrun.specs.Threads.{Thread, opening, next_call, answered, restarted, calls_left}
+use Rattle.itmrun.specs.Threads.{Thread, opening, thread_rules}
 use Rattle.itmrun.specs.Histories.{History}
 use Rattle.itmrun.specs.Scheduled.{Leaves}
 
@@ -19,7 +19,7 @@ first_thread p = opening (slice_index_or (threads_of p) 0 [])
 
 -- all that the first thread does alone
 unfoldable pub solo_of : Listing → Solo
-solo_of p = solo next_call answered calls_left MAX_DEPTH p.commits 0 (first_thread p) (opening_of p) []
+solo_of p = solo thread_rules MAX_DEPTH p.commits 0 (first_thread p) (opening_of p) []
 
 -- its history
 unfoldable pub page : Listing → History
@@ -30,9 +30,9 @@ abbrev pub IsOf : Listing → Option End → History → Type 0
 IsOf p (Some Finished) h = ((solo_of p).ending ≡ Finished) × (h ≡ page p)
 IsOf p (Some GaveUp) h = ((solo_of p).ending ≡ GaveUp) × (h ≡ page p)
 IsOf p (Some NoMemory) h = (h.memory ≡ opening_of p) × (h.clock % 2 ≡ 0)
-    × IsSoFar next_call answered calls_left p.commits 0 (first_thread p) (opening_of p) [] (h.clock / 2) h.bytes outcomes.NoMemory h.attempts
+    × IsSoFar thread_rules p.commits 0 (first_thread p) (opening_of p) [] (h.clock / 2) h.bytes outcomes.NoMemory h.attempts
 IsOf p None h = (h.memory ≡ opening_of p) × (memory : List ℕ)
-    × IsSoFar next_call answered calls_left p.commits 0 (first_thread p) (opening_of p) [] (h.clock / 2) memory outcomes.Unfinished h.attempts
+    × IsSoFar thread_rules p.commits 0 (first_thread p) (opening_of p) [] (h.clock / 2) memory outcomes.Unfinished h.attempts
     × (h.clock % 2 ≡ 0 → h.bytes ≡ memory)
 
 -- ## The run of a program
@@ -45,5 +45,5 @@ history_of memory w = record { memory = memory; attempts = attempts_of w; clock 
 pub record IsWorldOf (p : Listing) (w : World Thread) : Type 0 where
   pub leaves : Leaves p w
   pub commits : CommitsInOrder w
-  pub opaque : AreOpaque next_call answered restarted calls_left w
+  pub opaque : AreOpaque thread_rules w
   pub alone : length (threads_of p) ≡ 1 → IsOf p (ending_at w 0) (history_of (opening_of p) w)

@@ -13,7 +13,7 @@ use Rattle.norec_world.specs.WorldEvents.{Leads, Takes}
 use Rattle.script_asm.specs.declared.schedule.Item.{Item}
 use Rattle.script_asm.specs.declared.schedule.Item.TheVariants.{Take, Out}
 use Rattle.script_asm.specs.Listing.{Listing, opening_of, threads_of}
-use Rattle.itmrun.specs.Threads.{Thread, opening, next_call, answered, restarted, calls_left}
+use Rattle.itmrun.specs.Threads.{Thread, opening, thread_rules}
 
 -- the players of its threads, by number
 abbrev pub players_of : Listing → List Thread
@@ -28,10 +28,10 @@ pub record Begins (p : Listing) (w : World Thread) : Type 0 where
   pub patience : w.patience ≡ p.patience
   pub limit : w.max_commits ≡ p.commits
   pub retries : w.retries ≡ p.retries
-  pub anew : IsNew next_call answered restarted w  -- before its first event, each thread having done its local work up to its first step
+  pub anew : IsNew thread_rules w  -- before its first event, each thread having done its local work up to its first step
   pub first : (place : ℕ) (a : Actor Thread) → slice_get w.actors place ≡ Some a → IsBetween 0 1 w.attempts a  -- each is before its first try
   pub commits : CommitsInOrder w
-  pub opaque : AreOpaque next_call answered restarted calls_left w
+  pub opaque : AreOpaque thread_rules w
 
 -- ## The schedule
 
@@ -49,8 +49,8 @@ schedule_of p = items_or_each p.schedule (length (threads_of p))
 
 -- What an item asks for leads from the one world to the other: so many events of the thread, of which those after its end are passed over; or as many as lead to its end.
 abbrev pub ItemLeads : Item → World Thread → World Thread → Type 0
-ItemLeads (Take thread count) old new = (results : List (Result (Unit {0}) WorldFault)) × Leads next_call answered restarted calls_left old (replicate count thread) results new
-ItemLeads (Out thread) old new = (n : ℕ) × Takes next_call answered restarted calls_left thread n old new × IsSome (ending_at new thread)
+ItemLeads (Take thread count) old new = (results : List (Result (Unit {0}) WorldFault)) × Leads thread_rules old (replicate count thread) results new
+ItemLeads (Out thread) old new = (n : ℕ) × Takes thread_rules thread n old new × IsSome (ending_at new thread)
 
 -- one item after the other leads from the one world to the other
 abbrev pub ItemsLead : List Item → World Thread → World Thread → Type 0

@@ -15,6 +15,8 @@ use Rattle.script_asm.specs.declared.instruction.Instruction.{Instruction}
 use Rattle.script_asm.specs.declared.instruction.Instruction.TheVariants as code
 use Rattle.itmrun.specs.Registers.{of_number, of_bytes}
 use Rattle.itmrun.specs.Threads.{Thread, Block, next_call, answered, restarted, calls_left, depth_of, depth_in, call_at, answered_at, settled, sum_of, room, left_over, begun, ended, took, goes_on, datum}
+use Rattle.script_vm.specs.Rules.{Obeys}
+use Rattle.itmrun.specs.Threads.{thread_rules}
 
 none_is_no_call : (c : Call) → None ≡ Some c → ⊥
 none_is_no_call c e = cc
@@ -52,7 +54,7 @@ nearer_at t (code.Read to at ∷ more) c (Code n) e = omega (arith, settled_shor
 nearer_at t (code.Read to at ∷ more) c (Refused f) e = omega (arith, settled_shorter t.registers more)
 nearer_at t (code.Write at from ∷ more) c r e = omega (arith, settled_shorter t.registers more)
 
-pub nearer : (p : Thread) (c : Call) (r : Reply) → next_call p ≡ Some c → calls_left (answered p r) < calls_left p
+nearer : (p : Thread) (c : Call) (r : Reply) → next_call p ≡ Some c → calls_left (answered p r) < calls_left p
 nearer p c r e = nearer_at p p.rest c r e
 
 -- ## Blocks open and close by begins and commits alone
@@ -95,7 +97,7 @@ nests_at registers (code.Commit ∷ more) block c r e = rw (← same_call _ c e)
 nests_at registers (code.Read to at ∷ more) block c r e = rw (← same_call _ c e) (took_nests registers (code.Read to at ∷ more) block to more r)
 nests_at registers (code.Write at from ∷ more) block c r e = rw (← same_call _ c e) refl
 
-pub nests : (p : Thread) (c : Call) (r : Reply) → next_call p ≡ Some c → depth_of (answered p r) ≡ depth_after (depth_of p) c r
+nests : (p : Thread) (c : Call) (r : Reply) → next_call p ≡ Some c → depth_of (answered p r) ≡ depth_after (depth_of p) c r
 nests p c r e = nests_at p.registers p.rest p.block c r e
 
 -- ## A restart goes back to the begin of the open block
@@ -151,5 +153,8 @@ restarts_at registers (code.Commit ∷ more) block c r e = rw (← same_call _ c
 restarts_at registers (code.Read to at ∷ more) block c r e = rw (← same_call _ c e) (took_restarts registers (code.Read to at ∷ more) block to at more r)
 restarts_at registers (code.Write at from ∷ more) block c r e = rw (← same_call _ c e) (wrote_restarts registers (code.Write at from ∷ more) block at (datum registers from) more r)
 
-pub restarts : (p : Thread) (c : Call) (r : Reply) → next_call p ≡ Some c → 0 < depth_after (depth_of p) c r → restarted (answered p r) ≡ (if opens (depth_of p) c r then p else restarted p)
+restarts : (p : Thread) (c : Call) (r : Reply) → next_call p ≡ Some c → 0 < depth_after (depth_of p) c r → restarted (answered p r) ≡ (if opens (depth_of p) c r then p else restarted p)
 restarts p c r e = restarts_at p.registers p.rest p.block c r e
+
+pub thread_laws : Obeys thread_rules
+thread_laws = record { nearer = nearer; nests = nests; restarts = restarts }

@@ -12,6 +12,7 @@ use Rattle.std.specs.Int.{to_le_bytes, w64}
 use Rattle.script_asm.specs.declared.instruction.Instruction.{Instruction}
 use Rattle.script_asm.specs.declared.instruction.Instruction.TheVariants as code
 use Rattle.itmrun.specs.Registers.{number_at, of_number, of_bytes, zeros}
+use Rattle.script_vm.specs.Rules.{Rules}
 
 -- a block that is open, with so many more in it: the code and the registers as its begin was called
 pub record Block : Type 0 where
@@ -158,3 +159,6 @@ opening rest = goes_on (record { rest = rest; registers = zeros; block = None })
 abbrev pub block_at : ℕ → List Instruction → List (List ℕ) → Option Block
 block_at zero rest registers = None
 block_at (suc n) rest registers = Some (record { more = n; rest = rest; registers = registers })
+
+abbrev pub thread_rules : Rules Thread
+thread_rules = record { next_call = next_call; answered = answered; restarted = restarted; calls_left = calls_left; depth = depth_of }

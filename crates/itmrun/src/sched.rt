@@ -6,7 +6,7 @@ ghost use Rattle.script_asm.specs.Assembly.{program_of};
 ghost use Rattle.norec_world.specs.World.{ShowsAlone};
 ghost use Rattle.norec_world.specs.Commits.{CommitsInOrder};
 ghost use Rattle.norec_world.specs.Opaque.{AreOpaque};
-ghost use Rattle.itmrun.specs.Threads.{next_call, answered, restarted, calls_left};
+ghost use Rattle.itmrun.specs.Threads.{thread_rules};
 ghost use Rattle.itmrun.specs.Histories.{history_text};
 ghost use Rattle.itmrun.specs.Pages.{history_of};
 ghost use Rattle.itmrun.specs.Input.{IsFront};
@@ -26,8 +26,8 @@ use std::io::{Read, Write};
 fn write_world<W: Write>(writer: &mut W, opening: &[u8], world: &World<Script>) -> bool
     ensures text { Grows false (W.contents writer.old) result (W.contents writer.new) (history_text (history_of opening.now world.now)) }
     ensures commits { CommitsInOrder world.now }
-    ensures opaque { AreOpaque next_call answered restarted calls_left world.now }
-    ensures alone { ShowsAlone next_call answered calls_left world.now }
+    ensures opaque { AreOpaque thread_rules world.now }
+    ensures alone { ShowsAlone thread_rules world.now }
 {
     let mut stream = Stream {
         writer,

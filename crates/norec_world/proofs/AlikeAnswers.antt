@@ -1,7 +1,6 @@
 -- What comes of a call is recorded alike of two actors that are alike.
 use Rattle.std.proofs.Common.{◌≡◌, ℕ, ◌+◌, ◌/◌, nat_lt, if◌then◌else◌, Bool, true, false, [], ◌∷◌, ◌++◌, Option, None, Some, refl, sym, ap, subst, ◌∙◌}
 use Rattle.itm_types.specs.declared.call.Call.{Call}
-use Rattle.itm_types.specs.declared.call.Reply.{Reply as Replied}
 use Rattle.itm_types.specs.declared.call.Reply.TheVariants.{Done}
 use Rattle.norec_engine.specs.Core.{Core}
 use Rattle.norec_engine.specs.declared.answer.Answer.{Answer}
@@ -19,6 +18,7 @@ use Rattle.norec_world.specs.Rows.{Rows, active_of, changed, without, with_one, 
 use Rattle.norec_world.specs.Status.{ending_of}
 use Rattle.norec_world.specs.Records.{Records, Tells, EndsBy, StopsAt, IsTold, Opens, CountsTry, again_after}
 use Rattle.norec_world.specs.Alike.{SameRows, AreAlike}
+use Rattle.script_vm.specs.Rules.{Rules}
 
 -- ## Rows
 
@@ -86,7 +86,7 @@ Closes (Full at) = Unit {0}
 ready_none : (s : Status) → s ≡ Ready → ending_of s ≡ None
 ready_none s e = ap ending_of e
 
-module _ {P : Type 0} (answered : P → Replied → P) (restarted : P → P) (r s : Rows) (same : SameRows r s) (a b a' b' : Actor P)
+module _ {P : Type 0} (rules : Rules P) (r s : Rows) (same : SameRows r s) (a b a' b' : Actor P)
     (thread : a.thread ≡ b.thread) (player : a.player ≡ b.player) (pending : a.pending ≡ b.pending) (nth : a.nth ≡ b.nth) (again : a.again ≡ b.again) (ready : a.status ≡ Ready) (ready' : b.status ≡ Ready)
     (engine : a'.engine ≡ b'.engine) (thread' : a'.thread ≡ b'.thread) (retries' : a'.retries ≡ b'.retries) (nothing : a'.status ≡ Ready → a'.pending ≡ None) (nothing' : b'.status ≡ Ready → b'.pending ≡ None) where
   -- the player is to be asked again
@@ -124,26 +124,26 @@ module _ {P : Type 0} (answered : P → Replied → P) (restarted : P → P) (r 
       pub inside : Closes answer → (row : Attempt) × (active_of a.thread r.active ≡ Some row)
       pub begins : was ≡ false → a'.engine.is_open ≡ true → (row : Attempt) × (a.pending ≡ Some row)
 
-    recorded_same : (was : Bool) (answer : Answer) → IsGrounded was answer → Records answered restarted was r r' a a' call answer → Records answered restarted was s s' b b' call answer
+    recorded_same : (was : Bool) (answer : Answer) → IsGrounded was answer → Records rules was r r' a a' call answer → Records rules was s s' b b' call answer
         → SameRows r' s' × AreAlike a' b'
     recorded_same true (Reply reply) k x y = (
       changed_same r s same a.thread b.thread _ _ r' s' thread refl x.0 y.0,
-      asked_again (x.4 ∙ ready) (y.4 ∙ ready') (x.1 ∙ ((λ i. answered (player i) reply) ∙ sym y.1)) (x.3 ∙ (nth ∙ sym y.3)) (x.2 ∙ (again ∙ sym y.2)),
+      asked_again (x.4 ∙ ready) (y.4 ∙ ready') (x.1 ∙ ((λ i. rules.answered (player i) reply) ∙ sym y.1)) (x.3 ∙ (nth ∙ sym y.3)) (x.2 ∙ (again ∙ sym y.2)),
     )
     recorded_same false (Reply reply) k x y = (
       opens_same a'.engine.is_open a.pending (a'.engine.snapshot / 2) (b'.engine.snapshot / 2) r' s' (k.begins refl) (ap (λ (c : Core). c.snapshot / 2) engine) x.0
           (subst (λ (q : Option Attempt). Opens a'.engine.is_open s q (b'.engine.snapshot / 2) s') (sym pending)
           (subst (λ (c : Core). Opens c.is_open s b.pending (b'.engine.snapshot / 2) s') (sym engine) y.0)),
-      asked_again (x.4 ∙ ready) (y.4 ∙ ready') (x.1 ∙ ((λ i. answered (player i) reply) ∙ sym y.1)) (x.3 ∙ (nth ∙ sym y.3))
+      asked_again (x.4 ∙ ready) (y.4 ∙ ready') (x.1 ∙ ((λ i. rules.answered (player i) reply) ∙ sym y.1)) (x.3 ∙ (nth ∙ sym y.3))
           (x.2 ∙ ((λ i. again_after (engine i).is_open (pending i) (again i)) ∙ sym y.2)),
     )
     recorded_same was (Committed at wrote) k x y = (
       ended_by_same r s same a.thread b.thread thread (k.inside tt).0 (k.inside tt).1 at wrote call r' s' x.0 y.0,
-      asked_again (x.4 ∙ ready) (y.4 ∙ ready') (x.1 ∙ ((λ i. answered (player i) Done) ∙ sym y.1)) (x.3 ∙ sym y.3) (x.2 ∙ sym y.2),
+      asked_again (x.4 ∙ ready) (y.4 ∙ ready') (x.1 ∙ ((λ i. rules.answered (player i) Done) ∙ sym y.1)) (x.3 ∙ sym y.3) (x.2 ∙ sym y.2),
     )
     recorded_same was (Conflict clock word) k x y = (
       stopped_same r s same a.thread b.thread thread (k.inside tt).0 (k.inside tt).1 (a'.engine.snapshot / 2) (b'.engine.snapshot / 2) outcomes.Conflict r' s' (ap (λ (c : Core). c.snapshot / 2) engine) x.0 y.0,
-      counted_same (k.retries tt) (x.1 ∙ (ap restarted player ∙ sym y.1)) x.2 y.2,
+      counted_same (k.retries tt) (x.1 ∙ (ap rules.restarted player ∙ sym y.1)) x.2 y.2,
     )
     recorded_same was (Busy clock) k x y = (rows_same r s same r' s' x.0 y.0, counted_same (k.retries tt) (x.1 ∙ (player ∙ sym y.1)) x.2 y.2)
     recorded_same was (Full at) k x y = (
@@ -156,7 +156,7 @@ module _ {P : Type 0} (answered : P → Replied → P) (restarted : P → P) (r 
     IsGroundedNext was (Answers answer) = IsGrounded was answer
 
     -- the call waits for its next step, or its answer is recorded
-    pub told_alike : (was : Bool) (what : Next) → IsGroundedNext was what → Tells answered restarted was r r' a a' call what → Tells answered restarted was s s' b b' call what
+    pub told_alike : (was : Bool) (what : Next) → IsGroundedNext was what → Tells rules was r r' a a' call what → Tells rules was s s' b b' call what
         → SameRows r' s' × AreAlike a' b'
     told_alike was (Steps step) k x y = (
       rows_same r s same r' s' x.1 y.1,

@@ -1,8 +1,7 @@
 -- Two actors that are alike are alike after a step, and after a call of their players.
-use Rattle.std.proofs.Common.{◌≡◌, ℕ, ◌/◌, Bool, true, false, [], Option, Some, refl, sym, ap, subst, ◌∙◌}
+use Rattle.std.proofs.Common.{◌≡◌, ℕ, ◌/◌, Bool, true, false, [], Some, refl, sym, ap, subst, ◌∙◌}
 use Rattle.itm_types.specs.declared.call.Call.{Call}
 use Rattle.itm_types.specs.declared.call.Call.TheVariants as requests
-use Rattle.itm_types.specs.declared.call.Reply.{Reply as Replied}
 use Rattle.itm_types.specs.declared.step.Step.{Step}
 use Rattle.norec_engine.specs.Core.{Core, came, handed}
 use Rattle.norec_engine.specs.Stands.{SeesOne}
@@ -24,12 +23,13 @@ use Rattle.norec_world.specs.LocalWork.{TakesIn, Calls}
 use Rattle.norec_world.specs.Alike.{SameRows, SameParts, AreAlike, HasAttempt}
 use Rattle.norec_world.proofs.AlikeAnswers.{told_same, told_alike, Counts, IsGroundedNext}
 use Rattle.norec_world.proofs.HeldAttempts.{handed_open, ends_inside, roomed, opens_none}
+use Rattle.script_vm.specs.Rules.{Rules}
 
 -- ## A step
 
-module _ {P : Type 0} (answered : P → Replied → P) (restarted : P → P) (cells : Cells) (r s r' s' : Rows) (a b a' b' : Actor P)
+module _ {P : Type 0} (rules : Rules P) (cells : Cells) (r s r' s' : Rows) (a b a' b' : Actor P)
     (same : SameRows r s) (alike : AreAlike a b) (held : HasAttempt r a)
-    (t : TakesIn answered restarted cells r a r' a') (u : TakesIn answered restarted cells s b s' b') (sees : SeesOne a'.engine) (sees' : SeesOne b'.engine) where
+    (t : TakesIn rules cells r a r' a') (u : TakesIn rules cells s b s' b') (sees : SeesOne a'.engine) (sees' : SeesOne b'.engine) where
   waiting : Waits t.call t.step ≡ Waits u.call u.step
   waiting = sym t.waits ∙ (alike.status ∙ u.waits)
 
@@ -48,13 +48,13 @@ module _ {P : Type 0} (answered : P → Replied → P) (restarted : P → P) (ce
   one : (t.what ≡ u.what) × (a'.engine ≡ b'.engine)
   one = resumed_once a.engine (found cells t.step) t.what u.what a'.engine b'.engine t.resumed resumed sees sees'
 
-  tells : Tells answered restarted a.engine.is_open s u.rows (record b { engine = b'.engine; status = Ready }) b' t.call t.what
-  tells = subst (λ (w : Next). Tells answered restarted a.engine.is_open s u.rows (record b { engine = b'.engine; status = Ready }) b' t.call w) (sym one.0)
-      (subst (λ (c : Call). Tells answered restarted a.engine.is_open s u.rows (record b { engine = b'.engine; status = Ready }) b' c u.what) (sym call_same)
-      (subst (λ (e : Core). Tells answered restarted e.is_open s u.rows (record b { engine = b'.engine; status = Ready }) b' u.call u.what) (sym parts.engine) u.tells))
+  tells : Tells rules a.engine.is_open s u.rows (record b { engine = b'.engine; status = Ready }) b' t.call t.what
+  tells = subst (λ (w : Next). Tells rules a.engine.is_open s u.rows (record b { engine = b'.engine; status = Ready }) b' t.call w) (sym one.0)
+      (subst (λ (c : Call). Tells rules a.engine.is_open s u.rows (record b { engine = b'.engine; status = Ready }) b' c u.what) (sym call_same)
+      (subst (λ (e : Core). Tells rules e.is_open s u.rows (record b { engine = b'.engine; status = Ready }) b' u.call u.what) (sym parts.engine) u.tells))
 
   grounded : (what : Next) → Proceeds (handed a.engine (found cells t.step)) what a'.engine
-      → IsGroundedNext answered restarted r s same (record a { engine = a'.engine; status = Ready }) (record b { engine = b'.engine; status = Ready }) a' b' alike.thread parts.player parts.pending parts.nth parts.again refl refl one.1
+      → IsGroundedNext rules r s same (record a { engine = a'.engine; status = Ready }) (record b { engine = b'.engine; status = Ready }) a' b' alike.thread parts.player parts.pending parts.nth parts.again refl refl one.1
       (t.same.thread ∙ (alike.thread ∙ sym u.same.thread)) (t.same.retries ∙ (parts.retries ∙ sym u.same.retries)) t.same.nothing u.same.nothing t.rows u.rows t.call a.engine.is_open what
   grounded (Steps step) g = tt
   grounded (Answers answer) g = record {
@@ -65,7 +65,7 @@ module _ {P : Type 0} (answered : P → Replied → P) (restarted : P → P) (ce
 
   pub step_alike : SameRows r' s' × AreAlike a' b'
   step_alike =
-      let x = told_alike answered restarted r s same (record a { engine = a'.engine; status = Ready }) (record b { engine = b'.engine; status = Ready }) a' b' alike.thread parts.player parts.pending parts.nth parts.again refl refl one.1
+      let x = told_alike rules r s same (record a { engine = a'.engine; status = Ready }) (record b { engine = b'.engine; status = Ready }) a' b' alike.thread parts.player parts.pending parts.nth parts.again refl refl one.1
       (t.same.thread ∙ (alike.thread ∙ sym u.same.thread)) (t.same.retries ∙ (parts.retries ∙ sym u.same.retries)) t.same.nothing u.same.nothing t.rows u.rows t.call a.engine.is_open t.what
       (grounded t.what t.resumed.proceeds) t.tells tells in (
         told_same t.rows u.rows x.0 a.thread b.thread a'.engine.is_open b'.engine.is_open (a'.engine.snapshot / 2) (b'.engine.snapshot / 2) r' s' alike.thread
@@ -99,11 +99,11 @@ counts_none (Conflict clock word) x k = x
 counts_none (Busy clock) x k = x
 counts_none (Full at) x k = k
 
-module _ {P : Type 0} (next : P → Option Call) (answered : P → Replied → P) (restarted : P → P) (clock : ℕ) where
+module _ {P : Type 0} (rules : Rules P) (clock : ℕ) where
   module _ (r s r' s' : Rows) (a b a' b' : Actor P) (same : SameRows r s) (thread : a.thread ≡ b.thread) (parts : SameParts a b) (held : HasAttempt r a) (sees : SeesOne a.engine)
-      (f : Calls next answered restarted clock r a r' a') (g : Calls next answered restarted clock s b s' b') where
+      (f : Calls rules clock r a r' a') (g : Calls rules clock s b s' b') where
     request_same : f.call ≡ g.call
-    request_same = let e : Some f.call ≡ Some g.call = sym f.next_is ∙ (ap next parts.player ∙ g.next_is) in cc
+    request_same = let e : Some f.call ≡ Some g.call = sym f.next_is ∙ (ap rules.next_call parts.player ∙ g.next_is) in cc
 
     called : IsCalled a.engine f.call (begins_again a.engine.is_open a.again f.call) g.what g.asked.engine
     called = subst (λ (c : Call). IsCalled a.engine c (begins_again a.engine.is_open a.again c) g.what g.asked.engine) (sym request_same)
@@ -123,10 +123,10 @@ module _ {P : Type 0} (next : P → Option Call) (answered : P → Replied → P
     pending_now = f.asks.pending ∙ (pending_same a.engine.is_open clock a b f.call thread parts
         ∙ ((λ i. asked_pending (parts.engine i).is_open clock b (request_same i)) ∙ sym g.asks.pending))
 
-    tells_now : Tells answered restarted a.engine.is_open g.rows s' g.asked b' f.call f.what
-    tells_now = subst (λ (w : Next). Tells answered restarted a.engine.is_open g.rows s' g.asked b' f.call w) (sym outcome.0)
-        (subst (λ (c : Call). Tells answered restarted a.engine.is_open g.rows s' g.asked b' c g.what) (sym request_same)
-        (subst (λ (e : Core). Tells answered restarted e.is_open g.rows s' g.asked b' g.call g.what) (sym parts.engine) g.tells))
+    tells_now : Tells rules a.engine.is_open g.rows s' g.asked b' f.call f.what
+    tells_now = subst (λ (w : Next). Tells rules a.engine.is_open g.rows s' g.asked b' f.call w) (sym outcome.0)
+        (subst (λ (c : Call). Tells rules a.engine.is_open g.rows s' g.asked b' c g.what) (sym request_same)
+        (subst (λ (e : Core). Tells rules e.is_open g.rows s' g.asked b' g.call g.what) (sym parts.engine) g.tells))
 
     thread_now : f.asked.thread ≡ g.asked.thread
     thread_now = f.asks.thread ∙ (thread ∙ sym g.asks.thread)
@@ -144,17 +144,17 @@ module _ {P : Type 0} (next : P → Option Call) (answered : P → Replied → P
     engine_now = f.engine ∙ (outcome.1 ∙ sym g.engine)
 
     grounded_now : (what : Next) → IsAtOnce what → Proceeds (came a.engine f.call (begins_again a.engine.is_open a.again f.call)) what f.asked.engine
-        → IsGroundedNext answered restarted f.rows g.rows rows_now f.asked g.asked a' b' thread_now player_now pending_now nth_now again_now f.ready g.ready engine_now
+        → IsGroundedNext rules f.rows g.rows rows_now f.asked g.asked a' b' thread_now player_now pending_now nth_now again_now f.ready g.ready engine_now
         (f.same.thread ∙ (thread ∙ sym g.same.thread)) (f.same.retries ∙ (parts.retries ∙ sym g.same.retries)) f.same.nothing g.same.nothing r' s' f.call a.engine.is_open what
     grounded_now (Steps step) x p = tt
     grounded_now (Answers answer) x p = record {
       retries = λ k. absurd (counts_none answer x k);
-      inside = λ k. roomed next answered restarted clock r r' a a' held f (ends_inside (came a.engine f.call (begins_again a.engine.is_open a.again f.call)) f.asked.engine answer k p);
-      begins = λ shut o. absurd (opens_none next answered restarted clock r r' a a' held f shut o);
+      inside = λ k. roomed rules clock r r' a a' held f (ends_inside (came a.engine f.call (begins_again a.engine.is_open a.again f.call)) f.asked.engine answer k p);
+      begins = λ shut o. absurd (opens_none rules clock r r' a a' held f shut o);
     }
 
     pub call_alike : SameRows r' s' × AreAlike a' b'
-    call_alike = told_alike answered restarted f.rows g.rows rows_now f.asked g.asked a' b' thread_now player_now pending_now nth_now again_now f.ready g.ready engine_now
+    call_alike = told_alike rules f.rows g.rows rows_now f.asked g.asked a' b' thread_now player_now pending_now nth_now again_now f.ready g.ready engine_now
         (f.same.thread ∙ (thread ∙ sym g.same.thread)) (f.same.retries ∙ (parts.retries ∙ sym g.same.retries)) f.same.nothing g.same.nothing r' s' f.call a.engine.is_open f.what
         (grounded_now f.what f.asks.called.at_once f.asks.called.proceeds) f.tells tells_now
 

@@ -1,8 +1,6 @@
 -- Two worlds of equal beginning, before their first event, are the same.
-use Rattle.std.proofs.Common.{◌≡◌, ℕ, zero, suc, ◌/◌, Bool, true, false, List, [], ◌∷◌, ◌++◌, length, replicate, Option, Some, slice_get, refl, sym, ap, subst, ◌∙◌, arith}
+use Rattle.std.proofs.Common.{◌≡◌, ℕ, zero, suc, ◌/◌, Bool, true, false, List, [], ◌∷◌, ◌++◌, length, replicate, Some, slice_get, refl, sym, ap, subst, ◌∙◌, arith}
 use Rattle.std.specs.Option.{option_and_then}
-use Rattle.itm_types.specs.declared.call.Call.{Call}
-use Rattle.itm_types.specs.declared.call.Reply.{Reply as Replied}
 use Rattle.norec_engine.specs.Core.{Core, came, opening}
 use Rattle.norec_engine.specs.Proceeds.{Proceeds, IsAtOnce, Ends}
 use Rattle.norec_engine.specs.declared.answer.Answer.{Answer}
@@ -22,6 +20,7 @@ use Rattle.norec_world.specs.Alike.{SameRows, AreAlike, HasAttempt}
 use Rattle.norec_world.specs.SameWorlds.{SameWorld}
 use Rattle.norec_world.proofs.AlikeWork.{IsFed, GoAlike, ready_fed, work_alike}
 use Rattle.norec_world.proofs.SoundOthers.{there_is, within_of}
+use Rattle.script_vm.specs.Rules.{Rules}
 
 -- ## Outside a transaction local work leaves the rows
 
@@ -32,13 +31,13 @@ shut_of : (b : Bool) → (b ≡ true → ⊥) → b ≡ false
 shut_of true closed = absurd (closed refl)
 shut_of false closed = refl
 
-module _ {P : Type 0} (next : P → Option Call) (answered : P → Replied → P) (restarted : P → P) (clock : ℕ) (q : Rows) where
-  module _ (r r' : Rows) (a a' : Actor P) (shut : a.engine.is_open ≡ false) (f : Calls next answered restarted clock r a r' a') where
+module _ {P : Type 0} (rules : Rules P) (clock : ℕ) (q : Rows) where
+  module _ (r r' : Rows) (a a' : Actor P) (shut : a.engine.is_open ≡ false) (f : Calls rules clock r a r' a') where
     still_shut : a'.engine.is_open ≡ false
     still_shut = shut_of a'.engine.is_open (λ o. both a.engine.is_open (f.asks.called.stays.opens (sym (ap (λ (c : Core). c.is_open) f.engine) ∙ o)) shut)
 
     records_anywhere : (was : Bool) → was ≡ false → (answer : Answer) → IsAtOnce (Answers answer) → Ends (came a.engine f.call (begins_again a.engine.is_open a.again f.call)) answer f.asked.engine
-        → Records answered restarted was f.rows r' f.asked a' f.call answer → Records answered restarted was q q f.asked a' f.call answer
+        → Records rules was f.rows r' f.asked a' f.call answer → Records rules was q q f.asked a' f.call answer
     records_anywhere true e (Reply r) x g k = absurd (cc)
     records_anywhere false e (Reply r) x g k = (subst (λ (b : Bool). Opens b q f.asked.pending (a'.engine.snapshot / 2) q) (sym still_shut) refl, k.1, k.2, k.3, k.4)
     records_anywhere was e (Committed at wrote) x g k = absurd (both a.engine.is_open g.is_open shut)
@@ -47,11 +46,11 @@ module _ {P : Type 0} (next : P → Option Call) (answered : P → Replied → P
     records_anywhere was e (Full at) x g k = absurd (both a.engine.is_open g.is_open shut)
 
     tells_anywhere : (what : Next) → IsAtOnce what → Proceeds (came a.engine f.call (begins_again a.engine.is_open a.again f.call)) what f.asked.engine
-        → Tells answered restarted a.engine.is_open f.rows r' f.asked a' f.call what → Tells answered restarted a.engine.is_open q q f.asked a' f.call what
+        → Tells rules a.engine.is_open f.rows r' f.asked a' f.call what → Tells rules a.engine.is_open q q f.asked a' f.call what
     tells_anywhere (Steps step) x g k = (k.0, refl)
     tells_anywhere (Answers answer) x g k = records_anywhere a.engine.is_open shut answer x g k
 
-    calls_anywhere : Calls next answered restarted clock q a q a'
+    calls_anywhere : Calls rules clock q a q a'
     calls_anywhere = record {
       call = f.call;
       next_is = f.next_is;
@@ -65,13 +64,13 @@ module _ {P : Type 0} (next : P → Option Call) (answered : P → Replied → P
       same = f.same;
     }
 
-  act_anywhere : (r r' : Rows) (a a' : Actor P) → a.engine.is_open ≡ false → Acts next answered restarted clock r a r' a' → IsFed a' → Acts next answered restarted clock q a q a' × (a'.engine.is_open ≡ false)
+  act_anywhere : (r r' : Rows) (a a' : Actor P) → a.engine.is_open ≡ false → Acts rules clock r a r' a' → IsFed a' → Acts rules clock q a q a' × (a'.engine.is_open ≡ false)
   act_anywhere r r' a a' shut (calls f) fed = (calls (calls_anywhere r r' a a' shut f), still_shut r r' a a' shut f)
   act_anywhere r r' a a' shut (finishes f) fed = (finishes (record { none = f.none; actor = f.actor; rows = refl }), ap (λ (x : Actor P). x.engine.is_open) f.actor ∙ shut)
   act_anywhere r r' a a' shut (starves f) fed = absurd (fed (ap ending_of f.status))
 
-  acts_anywhere : (n : ℕ) (r r' : Rows) (a a' : Actor P) → a.engine.is_open ≡ false → ActsOn next answered restarted clock n r a r' a' → IsFed a'
-      → ActsOn next answered restarted clock n q a q a' × (a'.engine.is_open ≡ false)
+  acts_anywhere : (n : ℕ) (r r' : Rows) (a a' : Actor P) → a.engine.is_open ≡ false → ActsOn rules clock n r a r' a' → IsFed a'
+      → ActsOn rules clock n q a q a' × (a'.engine.is_open ≡ false)
   acts_anywhere zero r r' a a' shut f fed = ((refl, f.1), ap (λ (x : Actor P). x.engine.is_open) f.1 ∙ shut)
   acts_anywhere (suc n) r r' a a' shut f fed =
       let before = acts_anywhere n r f.0 a f.1 shut f.2 (ready_fed f.1 f.3) in
@@ -83,18 +82,18 @@ module _ {P : Type 0} (next : P → Option Call) (answered : P → Replied → P
 no_rows : Rows
 no_rows = record { ended = []; active = []; room = 0 }
 
-module _ {P : Type 0} (next : P → Option Call) (answered : P → Replied → P) (restarted : P → P) (clock words size patience max_commits retries place : ℕ) (p : P) (a b : Actor P) where
+module _ {P : Type 0} (rules : Rules P) (clock words size patience max_commits retries place : ℕ) (p : P) (a b : Actor P) where
   abbrev Starts : Actor P → Type 0
-  Starts x = HasStarted next answered restarted clock (opening words (replicate size 0) patience max_commits) retries place p x
+  Starts x = HasStarted rules clock (opening words (replicate size 0) patience max_commits) retries place p x
 
   shut_first : (x : Actor P) (f : Starts x) → f.fresh.engine.is_open ≡ false
   shut_first x f = ap (λ (c : Core). c.is_open) f.engine_is
 
   starts_alike : Starts a → Starts b → IsFed a → IsFed b → (SameRows no_rows no_rows × AreAlike a b) × (a.engine.is_open ≡ false) × HasAttempt no_rows a
   starts_alike f g fed fed' =
-      let x = acts_anywhere next answered restarted clock no_rows f.works.0 f.rows f.rows' f.fresh a (shut_first a f) f.works.1 fed in
-      let y = acts_anywhere next answered restarted clock no_rows g.works.0 g.rows g.rows' g.fresh b (shut_first b g) g.works.1 fed' in
-      let go = work_alike next answered restarted clock no_rows no_rows no_rows no_rows f.fresh g.fresh a b first (f.works.0, x.0) (g.works.0, y.0) f.done g.done fed fed' in
+      let x = acts_anywhere rules clock no_rows f.works.0 f.rows f.rows' f.fresh a (shut_first a f) f.works.1 fed in
+      let y = acts_anywhere rules clock no_rows g.works.0 g.rows g.rows' g.fresh b (shut_first b g) g.works.1 fed' in
+      let go = work_alike rules clock no_rows no_rows no_rows no_rows f.fresh g.fresh a b first (f.works.0, x.0) (g.works.0, y.0) f.done g.done fed fed' in
       ((go.rows, go.alike), x.1, go.held)
     where
       first : GoAlike no_rows no_rows f.fresh g.fresh
@@ -125,8 +124,8 @@ empty_first : (xs ys : List Attempt) → xs ++ ys ≡ [] → (xs ≡ []) × (ys 
 empty_first [] ys e = (refl, e)
 empty_first (x ∷ xs) ys e = absurd (cc)
 
-module _ {P : Type 0} (next : P → Option Call) (answered : P → Replied → P) (restarted : P → P) (v w : World P) (same : SameOpening v w)
-    (f : IsNew next answered restarted v) (g : IsNew next answered restarted w) where
+module _ {P : Type 0} (rules : Rules P) (v w : World P) (same : SameOpening v w)
+    (f : IsNew rules v) (g : IsNew rules w) where
   rows_first : SameRows v.attempts w.attempts
   rows_first =
       let x = empty_first v.attempts.ended v.attempts.active f.none in
@@ -140,25 +139,25 @@ module _ {P : Type 0} (next : P → Option Call) (answered : P → Replied → P
       λ i. record { clock = clock i; words = words i }
 
   -- the actor with its player
-  player_at : (x : World P) → IsNew next answered restarted x → (place : ℕ) (a : Actor P) → slice_get x.actors place ≡ Some a → (p : P) × (slice_get x.opening place ≡ Some p)
+  player_at : (x : World P) → IsNew rules x → (place : ℕ) (a : Actor P) → slice_get x.actors place ≡ Some a → (p : P) × (slice_get x.opening place ≡ Some p)
   player_at x k place a e = there_is x.opening place (let l = within_of x.actors place a e in let n = k.actors in omega arith)
 
-  fed_at : (x : World P) → IsNew next answered restarted x → (place : ℕ) (a : Actor P) → slice_get x.actors place ≡ Some a → IsFed a
+  fed_at : (x : World P) → IsNew rules x → (place : ℕ) (a : Actor P) → slice_get x.actors place ≡ Some a → IsFed a
   fed_at x k place a e z = k.fed place (ap (option_and_then (λ (y : Actor P). ending_of y.status)) e ∙ z)
 
   -- the other one's start, with the limits of this one
   start_of : (place : ℕ) (p : P) (b : Actor P) → slice_get v.opening place ≡ Some p → slice_get w.actors place ≡ Some b
-      → HasStarted next answered restarted v.cells.clock (opening (length v.base / 8) (replicate v.arena 0) v.patience v.max_commits) v.retries place p b
-  start_of place p b e d = subst (λ (n : ℕ). HasStarted next answered restarted n (opening (length v.base / 8) (replicate v.arena 0) v.patience v.max_commits) v.retries place p b) (g.clock ∙ sym f.clock)
-      (subst (λ (n : ℕ). HasStarted next answered restarted w.cells.clock (opening (length v.base / 8) (replicate v.arena 0) v.patience v.max_commits) n place p b) same.retries
-      (subst (λ (c : Core). HasStarted next answered restarted w.cells.clock c w.retries place p b) (λ i. opening (length (same.base i) / 8) (replicate (same.arena i) 0) (same.patience i) (same.max_commits i))
+      → HasStarted rules v.cells.clock (opening (length v.base / 8) (replicate v.arena 0) v.patience v.max_commits) v.retries place p b
+  start_of place p b e d = subst (λ (n : ℕ). HasStarted rules n (opening (length v.base / 8) (replicate v.arena 0) v.patience v.max_commits) v.retries place p b) (g.clock ∙ sym f.clock)
+      (subst (λ (n : ℕ). HasStarted rules w.cells.clock (opening (length v.base / 8) (replicate v.arena 0) v.patience v.max_commits) n place p b) same.retries
+      (subst (λ (c : Core). HasStarted rules w.cells.clock c w.retries place p b) (λ i. opening (length (same.base i) / 8) (replicate (same.arena i) 0) (same.patience i) (same.max_commits i))
       (g.starts place p b (ap (λ (xs : List P). slice_get xs place) same.opening ∙ e) d)))
 
   module _ (place : ℕ) (a b : Actor P) (e : slice_get v.actors place ≡ Some a) (d : slice_get w.actors place ≡ Some b) where
     started : (SameRows no_rows no_rows × AreAlike a b) × (a.engine.is_open ≡ false) × HasAttempt no_rows a
     started =
         let p = player_at v f place a e in
-        starts_alike next answered restarted v.cells.clock (length v.base / 8) v.arena v.patience v.max_commits v.retries place p.0 a b (f.starts place p.0 a p.1 e) (start_of place p.0 b p.1 d)
+        starts_alike rules v.cells.clock (length v.base / 8) v.arena v.patience v.max_commits v.retries place p.0 a b (f.starts place p.0 a p.1 e) (start_of place p.0 b p.1 d)
         (fed_at v f place a e) (fed_at w g place b d)
 
   count_first : length v.actors ≡ length w.actors

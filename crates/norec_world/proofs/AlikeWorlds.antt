@@ -1,8 +1,6 @@
 -- Of two worlds that are the same, one event of the same actor makes two that are the same.
 use Rattle.std.proofs.Common.{◌≡◌, ◌⊎◌, ℕ, ◌/◌, Bool, true, false, IsTrue, List, Option, None, Some, Result, Ok, Err, IsSome, slice_get, slice_set, inl, inr, refl, sym, ap, subst, ◌∙◌, arith}
 use Rattle.std.specs.Option.{option_and_then}
-use Rattle.itm_types.specs.declared.call.Call.{Call}
-use Rattle.itm_types.specs.declared.call.Reply.{Reply as Replied}
 use Rattle.itm_types.specs.declared.step.Step.{Step}
 use Rattle.itm_types.proofs.Words.{slice_get-set_same}
 use Rattle.norec_engine.specs.Stands.{SeesOne}
@@ -22,6 +20,7 @@ use Rattle.norec_world.specs.SameWorlds.{SameWorld}
 use Rattle.norec_world.proofs.SoundOthers.{set_place, there_is, within_of}
 use Rattle.norec_world.proofs.Worlds.{within_some}
 use Rattle.norec_world.proofs.AlikeWork.{IsFed, GoAlike, event_alike}
+use Rattle.script_vm.specs.Rules.{Rules}
 
 is_none : {A : Type 0} (xs : List A) (i : ℕ) → (slice_get xs i ≡ None) ⊎ ((x : A) × (slice_get xs i ≡ Some x))
 is_none {A} xs i = of_got (slice_get xs i) refl
@@ -84,9 +83,9 @@ opening_same v w v' w' s f g = record {
   retries = g.retries ∙ (s.retries ∙ sym f.retries);
 }
 
-module _ {P : Type 0} (next : P → Option Call) (answered : P → Replied → P) (restarted : P → P) (left : P → ℕ) (actor : ℕ) (v w : World P) (s : SameWorld v w)
+module _ {P : Type 0} (rules : Rules P) (actor : ℕ) (v w : World P) (s : SameWorld v w)
     (result result' : Result (Unit {0}) WorldFault) (v' w' : World P)
-    (f : Goes next answered restarted left actor v result v') (g : Goes next answered restarted left actor w result' w') where
+    (f : Goes rules actor v result v') (g : Goes rules actor w result' w') where
   -- ## No event
 
   passed_same : is_event result ≡ false → result ≡ result'
@@ -143,7 +142,7 @@ module _ {P : Type 0} (next : P → Option Call) (answered : P → Replied → P
         let there : slice_get v'.actors actor ≡ Some a' = set_here v v' here.0 a' here.1 x.1 in
         let there' : slice_get w'.actors actor ≡ Some b' = set_here w w' here'.0 b' here'.1 y.1 in
         let other = on_same_cells here'.0 b' y.2 (one_read w.base y.2.rows y.2.stepped y.4) in
-        let go : GoAlike v'.attempts w'.attempts a' b' = event_alike next answered restarted v.cells v'.cells v.attempts w.attempts v'.attempts w'.attempts here.0 here'.0 a' b' s.rows (s.actors actor here.0 here'.0 here.1 here'.1) (s.held actor here.0 here.1)
+        let go : GoAlike v'.attempts w'.attempts a' b' = event_alike rules v.cells v'.cells v.attempts w.attempts v'.attempts w'.attempts here.0 here'.0 a' b' s.rows (s.actors actor here.0 here'.0 here.1 here'.1) (s.held actor here.0 here.1)
         x.2 other.0 (one_read v.base x.2.rows x.2.stepped x.4) other.1 x.3 y.3 (not_starved v' result a' there (f.answer taken) fed) (not_starved w' result' b' there' (g.answer taken') fed') in
         let tells : result ≡ result' = f.answer taken ∙ (ap told (ending_is v' a' there ∙ (ap ending_of go.alike.status ∙ sym (ending_is w' b' there'))) ∙ sym (g.answer taken')) in
         let mine : here.0.thread ≡ actor = s.places actor here.0 here.1 in
@@ -179,11 +178,11 @@ module _ {P : Type 0} (next : P → Option Call) (answered : P → Replied → P
         )
       where
         -- the other world's event, over the cells of this one
-        on_same_cells : (b b' : Actor P) (e : IsEvent next answered restarted w.cells w.attempts b w'.cells w'.attempts b') → SeesOne e.stepped.engine
-            → (d : IsEvent next answered restarted v.cells w.attempts b v'.cells w'.attempts b') × SeesOne d.stepped.engine
+        on_same_cells : (b b' : Actor P) (e : IsEvent rules w.cells w.attempts b w'.cells w'.attempts b') → SeesOne e.stepped.engine
+            → (d : IsEvent rules v.cells w.attempts b v'.cells w'.attempts b') × SeesOne d.stepped.engine
         on_same_cells b b' e sees =
-            subst (λ (c : Cells). (d : IsEvent next answered restarted c w.attempts b v'.cells w'.attempts b') × SeesOne d.stepped.engine) (sym s.cells)
-            (subst (λ (c : Cells). (d : IsEvent next answered restarted w.cells w.attempts b c w'.attempts b') × SeesOne d.stepped.engine) (sym cells_same) (e, sees))
+            subst (λ (c : Cells). (d : IsEvent rules c w.attempts b v'.cells w'.attempts b') × SeesOne d.stepped.engine) (sym s.cells)
+            (subst (λ (c : Cells). (d : IsEvent rules w.cells w.attempts b c w'.attempts b') × SeesOne d.stepped.engine) (sym cells_same) (e, sees))
 
   pub goes_alike : (result ≡ Err faults.NoMemory → ⊥) → (result' ≡ Err faults.NoMemory → ⊥) → (result ≡ result') × SameWorld v' w'
   goes_alike fed fed' = by_event (is_event result) refl

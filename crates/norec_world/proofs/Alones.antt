@@ -1,5 +1,5 @@
 -- What a player gets alone begins with the calls that it made alone.
-use Rattle.std.proofs.Common.{◌≡◌, ℕ, zero, suc, ◌<◌, ◌≤◌, Bool, true, false, List, [], ◌∷◌, ◌++◌, map, Option, None, Some, refl, sym, ap, ◌∙◌, arith, cond}
+use Rattle.std.proofs.Common.{◌≡◌, ℕ, zero, suc, ◌≤◌, Bool, true, false, List, [], ◌∷◌, ◌++◌, map, Option, None, Some, refl, sym, ap, ◌∙◌, arith, cond}
 use Rattle.itm_types.specs.declared.call.Call.{Call}
 use Rattle.itm_types.specs.declared.call.Reply.{Reply}
 use Rattle.itm_model.specs.State.{State}
@@ -8,45 +8,45 @@ use Rattle.itm_model.specs.Runs.{turn, answers_within}
 use Rattle.norec_world.specs.declared.attempt.Entry.{Entry}
 use Rattle.norec_world.specs.Attempts.{pair_of}
 use Rattle.norec_world.specs.Alone.{state_then, player_then, IsAlone}
+use Rattle.script_vm.specs.Rules.{Obeys, Rules}
 
 -- a call that is made in an open block is the player's next
 asked_if : (b : Bool) (o : Option Call) (c : Call) → cond b o None ≡ Some c → o ≡ Some c
 asked_if true o c e = e
 asked_if false o c e = absurd (cc)
 
-module _ {P : Type 0} (next : P → Option Call) (answered : P → Reply → P) (left : P → ℕ)
-    (nearer : (p : P) (c : Call) (r : Reply) → next p ≡ Some c → left (answered p r) < left p) (deepest : ℕ) where
-  pub asked : (p : P) (s : State) (c : Call) → turn next answered left p s ≡ Some c → next p ≡ Some c
-  asked p s c e = asked_if (is_open s) (next p) c e
+module _ {P : Type 0} (rules : Rules P) (laws : Obeys rules) (deepest : ℕ) where
+  pub asked : (p : P) (s : State) (c : Call) → turn rules.next_call rules.answered rules.calls_left p s ≡ Some c → rules.next_call p ≡ Some c
+  asked p s c e = asked_if (is_open s) (rules.next_call p) c e
 
   abbrev gets : ℕ → P → State → Option Call → List (Call × Reply)
-  gets n p s o = answers_within next answered left deepest n p s o
+  gets n p s o = answers_within rules.next_call rules.answered rules.calls_left deepest n p s o
 
   -- so many calls suffice
-  enough : (n k : ℕ) (p : P) (s : State) (o : Option Call) → turn next answered left p s ≡ o → left p ≤ n → left p ≤ k → gets n p s o ≡ gets k p s o
+  enough : (n k : ℕ) (p : P) (s : State) (o : Option Call) → turn rules.next_call rules.answered rules.calls_left p s ≡ o → rules.calls_left p ≤ n → rules.calls_left p ≤ k → gets n p s o ≡ gets k p s o
   enough zero zero p s o e a b = refl
   enough zero (suc k) p s None e a b = refl
-  enough zero (suc k) p s (Some c) e a b = (let l = nearer p c (reply deepest s c) (asked p s c e) in absurd (omega arith))
+  enough zero (suc k) p s (Some c) e a b = (let l = laws.nearer p c (reply deepest s c) (asked p s c e) in absurd (omega arith))
   enough (suc n) zero p s None e a b = refl
-  enough (suc n) zero p s (Some c) e a b = (let l = nearer p c (reply deepest s c) (asked p s c e) in absurd (omega arith))
+  enough (suc n) zero p s (Some c) e a b = (let l = laws.nearer p c (reply deepest s c) (asked p s c e) in absurd (omega arith))
   enough (suc n) (suc k) p s None e a b = refl
   enough (suc n) (suc k) p s (Some c) e a b =
       let r = reply deepest s c in
-      let l = nearer p c r (asked p s c e) in
+      let l = laws.nearer p c r (asked p s c e) in
       ap (λ (xs : List (Call × Reply)). (c, r) ∷ xs)
-      (enough n k (answered p r) (after deepest s c) (turn next answered left (answered p r) (after deepest s c)) refl (omega arith) (omega arith))
+      (enough n k (rules.answered p r) (after deepest s c) (turn rules.next_call rules.answered rules.calls_left (rules.answered p r) (after deepest s c)) refl (omega arith) (omega arith))
 
   -- the calls made alone come first, and then what the player gets after them
-  pub begins_alone : (n : ℕ) (p : P) (s : State) (xs : List Entry) → left p ≤ n → IsAlone next answered left deepest p s xs
-      → gets n p s (turn next answered left p s)
-      ≡ map pair_of xs ++ gets n (player_then answered p xs) (state_then deepest s xs) (turn next answered left (player_then answered p xs) (state_then deepest s xs))
+  pub begins_alone : (n : ℕ) (p : P) (s : State) (xs : List Entry) → rules.calls_left p ≤ n → IsAlone rules deepest p s xs
+      → gets n p s (turn rules.next_call rules.answered rules.calls_left p s)
+      ≡ map pair_of xs ++ gets n (player_then rules.answered p xs) (state_then deepest s xs) (turn rules.next_call rules.answered rules.calls_left (player_then rules.answered p xs) (state_then deepest s xs))
   begins_alone n p s [] l h = refl
-  begins_alone zero p s (x ∷ xs) l h = (let k = nearer p x.call x.reply (asked p s x.call h.0) in absurd (omega arith))
+  begins_alone zero p s (x ∷ xs) l h = (let k = laws.nearer p x.call x.reply (asked p s x.call h.0) in absurd (omega arith))
   begins_alone (suc n) p s (x ∷ xs) l h =
-      let k = nearer p x.call x.reply (asked p s x.call h.0) in
-      let q : P = answered p x.reply in
+      let k = laws.nearer p x.call x.reply (asked p s x.call h.0) in
+      let q : P = rules.answered p x.reply in
       let t : State = after deepest s x.call in
       ap (gets (suc n) p s) h.0
-      ∙ (ap (λ (r : Reply). (x.call, r) ∷ gets n (answered p r) t (turn next answered left (answered p r) t)) (sym h.1)
-      ∙ (ap (λ (ys : List (Call × Reply)). pair_of x ∷ ys) (enough n (suc n) q t (turn next answered left q t) refl (omega arith) (omega arith))
+      ∙ (ap (λ (r : Reply). (x.call, r) ∷ gets n (rules.answered p r) t (turn rules.next_call rules.answered rules.calls_left (rules.answered p r) t)) (sym h.1)
+      ∙ (ap (λ (ys : List (Call × Reply)). pair_of x ∷ ys) (enough n (suc n) q t (turn rules.next_call rules.answered rules.calls_left q t) refl (omega arith) (omega arith))
       ∙ ap (λ (ys : List (Call × Reply)). pair_of x ∷ ys) (begins_alone (suc n) q t xs (omega arith) h.2)))

@@ -1,8 +1,6 @@
 -- The events of one call of an actor, and of one call after the other, as events of the world.
-use Rattle.std.proofs.Common.{◌≡◌, ℕ, zero, suc, ◌+◌, ◌<◌, min, Bool, true, false, List, [], ◌∷◌, length, Option, None, Some, IsSome, slice_get, refl, sym, ap, subst, ◌∙◌, arith, if◌then◌else◌}
+use Rattle.std.proofs.Common.{◌≡◌, ℕ, zero, suc, ◌+◌, ◌<◌, min, Bool, true, false, List, [], ◌∷◌, length, None, Some, IsSome, slice_get, refl, sym, ap, subst, ◌∙◌, arith, if◌then◌else◌}
 use Rattle.std.specs.Option.{option_and_then}
-use Rattle.itm_types.specs.declared.call.Call.{Call}
-use Rattle.itm_types.specs.declared.call.Reply.{Reply}
 use Rattle.norec_world.specs.declared.actor.Actor.{Actor}
 use Rattle.norec_world.specs.Status.{is_waiting, waiting_step, ending_of}
 use Rattle.norec_world.specs.Actors.{AreActors}
@@ -13,6 +11,7 @@ use Rattle.norec_world.proofs.SoundOthers.{there_is, within_of}
 use Rattle.norec_world.proofs.WorldEvents.{told_event}
 use Rattle.norec_world.proofs.Worlds.{waiting_some, some_waiting, some_ended, within_some}
 use Rattle.norec_world.proofs.LessLeft.{HasLessSoFar, less_so_far, same_less, less_less}
+use Rattle.script_vm.specs.Rules.{Rules}
 
 -- ## Counts that stand still at the highest number
 
@@ -55,13 +54,13 @@ opening_both a b c f g = record {
   retries = g.retries ∙ f.retries;
 }
 
-module _ {P : Type 0} (next : P → Option Call) (answered : P → Reply → P) (restarted : P → P) (left : P → ℕ) (actor : ℕ) where
-  pub takes_one : (n : ℕ) (old between new : World P) → Takes next answered restarted left actor n old between → Goes next answered restarted left actor between (told (ending_at new actor)) new
-      → Takes next answered restarted left actor (suc n) old new
+module _ {P : Type 0} (rules : Rules P) (actor : ℕ) where
+  pub takes_one : (n : ℕ) (old between new : World P) → Takes rules actor n old between → Goes rules actor between (told (ending_at new actor)) new
+      → Takes rules actor (suc n) old new
   takes_one n old between new f g = (between, told (ending_at new actor), f, told_event (ending_at new actor), g)
 
-  pub takes_both : (n k : ℕ) (a b c : World P) → Takes next answered restarted left actor n a b → Takes next answered restarted left actor k b c → (m : ℕ) × (m ≡ n + k) × Takes next answered restarted left actor m a c
-  takes_both n zero a b c f g = (n, (let e : n ≡ n + 0 = omega arith in e), subst (λ (w : World P). Takes next answered restarted left actor n a w) (sym g) f)
+  pub takes_both : (n k : ℕ) (a b c : World P) → Takes rules actor n a b → Takes rules actor k b c → (m : ℕ) × (m ≡ n + k) × Takes rules actor m a c
+  takes_both n zero a b c f g = (n, (let e : n ≡ n + 0 = omega arith in e), subst (λ (w : World P). Takes rules actor n a w) (sym g) f)
   takes_both n (suc k) a b c f g =
       let r = takes_both n k a b g.0 f g.2 in
       (suc r.0, (let e = r.1 in omega arith), (g.0, g.1, r.2, g.3, g.4))
@@ -73,20 +72,20 @@ waits_there {P} w actor some =
     let here = there_is w.actors actor within in
     (here.0, here.1, waiting_some here.0.status (subst IsSome (ap (option_and_then (λ (a : Actor P). waiting_step a.status)) here.1) some))
 
-module _ {P : Type 0} (next : P → Option Call) (answered : P → Reply → P) (restarted : P → P) (left : P → ℕ) (depth : P → ℕ) (actor : ℕ) where
+module _ {P : Type 0} (rules : Rules P) (actor : ℕ) where
   -- of the actor there
   abbrev pub LeavesLess : Bool → World P → World P → Type 0
-  LeavesLess on old new = (a b : Actor P) → slice_get old.actors actor ≡ Some a → slice_get new.actors actor ≡ Some b → HasLess next answered restarted left depth on a b
+  LeavesLess on old new = (a b : Actor P) → slice_get old.actors actor ≡ Some a → slice_get new.actors actor ≡ Some b → HasLess rules on a b
 
   abbrev pub LeavesLessSoFar : Bool → World P → World P → Type 0
-  LeavesLessSoFar on old new = (a b : Actor P) → slice_get old.actors actor ≡ Some a → slice_get new.actors actor ≡ Some b → HasLessSoFar next answered restarted left depth on a b
+  LeavesLessSoFar on old new = (a b : Actor P) → slice_get old.actors actor ≡ Some a → slice_get new.actors actor ≡ Some b → HasLessSoFar rules on a b
 
   abbrev pub LeavesNoMore : World P → World P → Type 0
-  LeavesNoMore old new = (a b : Actor P) → slice_get old.actors actor ≡ Some a → slice_get new.actors actor ≡ Some b → is_waiting b.status ≡ true → IsNoMore next answered restarted left depth a b
+  LeavesNoMore old new = (a b : Actor P) → slice_get old.actors actor ≡ Some a → slice_get new.actors actor ≡ Some b → is_waiting b.status ≡ true → IsNoMore rules a b
 
   pub leaves_on : (was on : Bool) (a b c : World P) → was ≡ true → IsSome (waits_at b actor) → LeavesLessSoFar was a b → LeavesLess on b c → LeavesLessSoFar on a c
   leaves_on false on a b c e waits f g x z here there = absurd (cc)
-  leaves_on true on a b c e waits f g x z here there = (let y = waits_there b actor waits in less_so_far next answered restarted left depth on x y.0 z (f x y.0 here y.1) (g y.0 z y.1 there))
+  leaves_on true on a b c e waits f g x z here there = (let y = waits_there b actor waits in less_so_far rules on x y.0 z (f x y.0 here y.1) (g y.0 z y.1 there))
 
   pub leaves_first : (w : World P) → IsSome (waits_at w actor) → LeavesLessSoFar true w w
   leaves_first w waits a b here there =
@@ -94,7 +93,7 @@ module _ {P : Type 0} (next : P → Option Call) (answered : P → Reply → P) 
       let same : a ≡ b = (let z : Some a ≡ Some b = sym here ∙ there in cc) in
       let mine : y.0 ≡ a = (let z : Some y.0 ≡ Some a = sym y.1 ∙ here in cc) in
       let waiting : is_waiting a.status ≡ true = ap (λ (x : Actor P). is_waiting x.status) (sym mine) ∙ y.2 in
-      (waiting, ap (λ (x : Actor P). is_waiting x.status) (sym same) ∙ waiting, subst (IsNoMore next answered restarted left depth a) same (same_less next answered restarted left depth a))
+      (waiting, ap (λ (x : Actor P). is_waiting x.status) (sym same) ∙ waiting, subst (IsNoMore rules a) same (same_less rules a))
 
   -- while the call goes on, it has fewer and fewer steps left
   abbrev pub call_left_at : Bool → World P → ℕ
@@ -114,15 +113,15 @@ module _ {P : Type 0} (next : P → Option Call) (answered : P → Reply → P) 
 
   -- what is left of the whole run, once a call is over
   abbrev pub whole_at : World P → ℕ
-  whole_at w = at_place (λ (a : Actor P). whole next answered restarted left depth a.engine.is_open a.player) w.actors actor
+  whole_at w = at_place (λ (a : Actor P). whole rules a.engine.is_open a.player) w.actors actor
 
   abbrev pub run_left_at : ℕ → World P → ℕ
-  run_left_at k w = at_place (run_left next answered restarted left depth k) w.actors actor
+  run_left_at k w = at_place (run_left rules k) w.actors actor
 
   pub run_falls : (first old new : World P) → length old.actors ≡ length first.actors → length new.actors ≡ length old.actors → IsSome (waits_at old actor) → LeavesNoMore first old → LeavesLess false old new
       → run_left_at (whole_at first) new < run_left_at (whole_at first) old
   run_falls first old new same long waits f g =
-      let whole_of : Actor P → ℕ = λ (a : Actor P). whole next answered restarted left depth a.engine.is_open a.player in
+      let whole_of : Actor P → ℕ = λ (a : Actor P). whole rules a.engine.is_open a.player in
       let k : ℕ = whole_at first in
       let y = waits_there old actor waits in
       let within = within_of old.actors actor y.0 y.1 in
@@ -131,18 +130,18 @@ module _ {P : Type 0} (next : P → Option Call) (answered : P → Reply → P) 
       let top : k ≡ whole_of x.0 = at_place_is whole_of first.actors actor x.0 x.1 in
       let bound = (f x.0 y.0 x.1 y.1 y.2).whole_falls in
       let fell = (g y.0 z.0 y.1 z.1).over refl k (omega arith) in
-      let was = at_place_is (run_left next answered restarted left depth k) old.actors actor y.0 y.1 in
-      let now = at_place_is (run_left next answered restarted left depth k) new.actors actor z.0 z.1 in
+      let was = at_place_is (run_left rules k) old.actors actor y.0 y.1 in
+      let now = at_place_is (run_left rules k) new.actors actor z.0 z.1 in
       omega arith
 
   pub no_more_on : (first old new : World P) → length old.actors ≡ length first.actors → IsSome (waits_at old actor) → LeavesNoMore first old → LeavesLess false old new → LeavesNoMore first new
   no_more_on first old new same waits f g a c here there waiting =
       let y = waits_there old actor waits in
-      less_less next answered restarted left depth a y.0 c (f a y.0 here y.1 y.2) ((g y.0 c y.1 there).less waiting)
+      less_less rules a y.0 c (f a y.0 here y.1 y.2) ((g y.0 c y.1 there).less waiting)
 
   pub no_more_first : (w : World P) → LeavesNoMore w w
   no_more_first w a b here there waiting =
-      (let same : a ≡ b = (let z : Some a ≡ Some b = sym here ∙ there in cc) in subst (IsNoMore next answered restarted left depth a) same (same_less next answered restarted left depth a))
+      (let same : a ≡ b = (let z : Some a ≡ Some b = sym here ∙ there in cc) in subst (IsNoMore rules a) same (same_less rules a))
 
   -- who goes on with its call waits for its next operation
   pub waits_still : (on : Bool) (old new : World P) → IsSome (waits_at old actor) → length new.actors ≡ length old.actors → LeavesLess on old new → on ≡ true → IsSome (waits_at new actor)
@@ -158,8 +157,8 @@ module _ {P : Type 0} (next : P → Option Call) (answered : P → Reply → P) 
   over_less false old new e f = f
 
 -- who does not wait has ended, once all local work is done
-module _ {P : Type 0} (next : P → Option Call) (answered : P → Reply → P) (restarted : P → P) (left : P → ℕ) (depth : P → ℕ) where
-  pub ended_there : (w : World P) (actor : ℕ) → AreActors next answered restarted left depth w.cells w.attempts w.actors → (a : Actor P) → slice_get w.actors actor ≡ Some a → is_waiting a.status ≡ false → IsSome (ending_at w actor)
+module _ {P : Type 0} (rules : Rules P) where
+  pub ended_there : (w : World P) (actor : ℕ) → AreActors rules w.cells w.attempts w.actors → (a : Actor P) → slice_get w.actors actor ≡ Some a → is_waiting a.status ≡ false → IsSome (ending_at w actor)
   ended_there w actor sound a here still =
       subst IsSome (sym (ap (option_and_then (λ (x : Actor P). ending_of x.status)) here)) (some_ended a.status still (sound.each actor a here).done)
 

@@ -1,6 +1,5 @@
 -- The commits stay in order over an event.
-use Rattle.std.proofs.Common.{◌≡◌, ◌≢◌, inl, inr, ℕ, zero, suc, ◌+◌, ◌*◌, ◌/◌, ◌%◌, ◌<◌, ◌≤◌, ◌==◌, ◌&&◌, Bool, true, false, nat_lt, List, [], ◌∷◌, ◌++◌, Option, Some, slice_get, slice_set, refl, sym, ap, subst, ◌∙◌, arith, eqb-true, eq-eqb, lt-ltb, ltb-true, ltb-false}
-use Rattle.itm_types.specs.declared.call.Call.{Call}
+use Rattle.std.proofs.Common.{◌≡◌, ◌≢◌, inl, inr, ℕ, zero, suc, ◌+◌, ◌*◌, ◌/◌, ◌%◌, ◌<◌, ◌≤◌, ◌==◌, ◌&&◌, Bool, true, false, nat_lt, List, [], ◌∷◌, ◌++◌, Some, slice_get, slice_set, refl, sym, ap, subst, ◌∙◌, arith, eqb-true, eq-eqb, lt-ltb, ltb-true, ltb-false}
 use Rattle.itm_types.proofs.Words.{slice_get-set_same, slice_get-set_other}
 use Rattle.norec_world.specs.declared.attempt.Attempt.{Attempt}
 use Rattle.norec_world.specs.declared.attempt.Outcome.{Outcome}
@@ -12,11 +11,11 @@ use Rattle.norec_world.specs.Rows.{Rows}
 use Rattle.norec_world.specs.Tries.{EndsAt, Prior, Tries, between, begins, runs, over, turned_away, prior_of}
 use Rattle.norec_world.specs.Events.{IsEvent}
 use Rattle.norec_world.specs.World.{World}
-use Rattle.itm_types.specs.declared.call.Reply.{Reply}
 use Rattle.norec_world.specs.Starts.{IsFirst}
 use Rattle.norec_world.specs.Actors.{AreActors}
 use Rattle.norec_world.specs.Commits.{one_where, count_at, count_committed, AreCounted, HasLimits, CommitsInOrder}
 use Rattle.norec_world.proofs.SoundOthers.{set_place, within_of}
+use Rattle.script_vm.specs.Rules.{Rules}
 
 -- ## Counts
 
@@ -106,8 +105,8 @@ false_of : (b : Bool) → (b ≡ true → ⊥) → b ≡ false
 false_of true h = absurd (h refl)
 false_of false h = refl
 
-module _ {P : Type 0} (next : P → Option Call) (answered : P → Reply → P) (restarted : P → P) (w : World P) (c : CommitsInOrder w) (i : ℕ) (got new : Actor P) (here : slice_get w.actors i ≡ Some got) (cells' : Cells) (r' : Rows) (events : ℕ)
-    (event : IsEvent next answered restarted w.cells w.attempts got cells' r' new) where
+module _ {P : Type 0} (rules : Rules P) (w : World P) (c : CommitsInOrder w) (i : ℕ) (got new : Actor P) (here : slice_get w.actors i ≡ Some got) (cells' : Cells) (r' : Rows) (events : ℕ)
+    (event : IsEvent rules w.cells w.attempts got cells' r' new) where
   abbrev after : World P
   after = record w { cells = cells'; actors = slice_set w.actors i new; attempts = r'; events = events }
 
@@ -185,8 +184,8 @@ module _ {P : Type 0} (next : P → Option Call) (answered : P → Reply → P) 
       ]
 
 -- a world that has just begun
-module _ {P : Type 0} (next : P → Option Call) (answered : P → Reply → P) (restarted : P → P) (left : P → ℕ) (depth : P → ℕ) (w : World P)
-    (sound : AreActors next answered restarted left depth w.cells w.attempts w.actors) (zero_clock : w.cells.clock ≡ 0) (none : w.attempts.ended ≡ [])
+module _ {P : Type 0} (rules : Rules P) (w : World P)
+    (sound : AreActors rules w.cells w.attempts w.actors) (zero_clock : w.cells.clock ≡ 0) (none : w.attempts.ended ≡ [])
     (first : (place : ℕ) (a : Actor P) → slice_get w.actors place ≡ Some a → IsFirst w.cells.clock w.patience w.max_commits w.retries w.attempts a) where
   pub commits_first : CommitsInOrder w
   commits_first = record {

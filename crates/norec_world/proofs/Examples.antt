@@ -16,6 +16,7 @@ use Rattle.norec_world.specs.declared.fault.WorldFault.TheVariants as faults
 use Rattle.norec_world.specs.Attempts.{memory_after}
 use Rattle.norec_world.specs.WorldEvents.{passes_of}
 use Rattle.norec_world.specs.Opacity.{IsOpaque, IsRunOf, Between}
+use Rattle.script_vm.specs.Rules.{Rules}
 
 -- ## A player that adds one to the counter at place 0
 
@@ -75,6 +76,9 @@ left_at (suc (suc (suc (suc n)))) = 0
 abbrev left : Counter → ℕ
 left p = left_at p.step
 
+abbrev counter_rules : Rules Counter
+counter_rules = record { next_call = next; answered = answered; restarted = restarted; calls_left = left; depth = λ p. 0 }
+
 abbrev fresh : Between Counter
 fresh = record { player = record { step = 0; got = 0 }; arena = []; again = false; tries = 0 }
 
@@ -86,10 +90,10 @@ counter = record { thread = 0; nth = 1; began = 0; at = 0; props = plain; arena 
 counter_memory : memory_after 1 (replicate 8 0) (counter ∷ []) 1 ≡ 1 ∷ replicate 7 0
 counter_memory = refl
 
-counter_is_opaque : IsOpaque next answered restarted left 1 (record { step = 1; got = 0 }) counter 1 (replicate 8 0)
+counter_is_opaque : IsOpaque counter_rules 1 (record { step = 1; got = 0 }) counter 1 (replicate 8 0)
 counter_is_opaque = record { no_older = omega arith; no_newer = omega arith; beginning = ([], refl); whole = λ e. refl; ends = (refl, refl) }
 
-counter_run : IsRunOf next answered restarted left 1 1 (memory_after 1 (replicate 8 0) (counter ∷ [])) (Some fresh) (counter ∷ [])
+counter_run : IsRunOf counter_rules 1 1 (memory_after 1 (replicate 8 0) (counter ∷ [])) (Some fresh) (counter ∷ [])
 counter_run = ((refl, refl, omega arith, counter_is_opaque), tt)
 
 -- ## The lost update: of two counters the first to begin is the last to commit. Its first try conflicts, and is opaque all the same.
@@ -109,16 +113,16 @@ memory = memory_after 1 (replicate 8 0) (other ∷ lost ∷ retried ∷ [])
 lost_update_memory : memory 2 ≡ 2 ∷ replicate 7 0
 lost_update_memory = refl
 
-lost_is_opaque : IsOpaque next answered restarted left 1 (record { step = 1; got = 0 }) lost 2 (memory 0)
+lost_is_opaque : IsOpaque counter_rules 1 (record { step = 1; got = 0 }) lost 2 (memory 0)
 lost_is_opaque = record { no_older = omega arith; no_newer = omega arith; beginning = (commit_pair, refl); whole = λ e. absurd (cc); ends = refl }
   where
     commit_pair : List (Call × Reply)
     commit_pair = (Commit, Done) ∷ []
 
-retried_is_opaque : IsOpaque next answered restarted left 1 (record { step = 1; got = 0 }) retried 2 (memory 1)
+retried_is_opaque : IsOpaque counter_rules 1 (record { step = 1; got = 0 }) retried 2 (memory 1)
 retried_is_opaque = record { no_older = omega arith; no_newer = omega arith; beginning = ([], refl); whole = λ e. refl; ends = (refl, refl) }
 
-lost_update_run : IsRunOf next answered restarted left 1 2 memory (Some fresh) (lost ∷ retried ∷ [])
+lost_update_run : IsRunOf counter_rules 1 2 memory (Some fresh) (lost ∷ retried ∷ [])
 lost_update_run = ((refl, refl, omega arith, lost_is_opaque), ((refl, refl, omega arith, retried_is_opaque), tt))
 
 -- ## A schedule of four entries: an event, an actor that is not there, an event that found no memory, and the same actor again

@@ -3,7 +3,6 @@ use Rattle.std.proofs.Common.{◌≡◌, ℕ, ◌+◌, ◌/◌, nat_lt, ◌==◌
 use Rattle.std.proofs.lemmas.Bool.{cases_Bool}
 use Rattle.itm_types.specs.declared.call.Call.{Call}
 use Rattle.itm_types.specs.declared.call.Call.TheVariants as calls
-use Rattle.itm_types.specs.declared.call.Reply.{Reply as Replied}
 use Rattle.itm_types.specs.declared.step.Step.{Step}
 use Rattle.itm_types.specs.Access.{size_of}
 use Rattle.norec_engine.specs.Core.{Core, came, handed, handed_to}
@@ -26,6 +25,7 @@ use Rattle.norec_world.specs.LocalWork.{TakesIn, Calls}
 use Rattle.norec_world.specs.Alike.{HasAttempt}
 use Rattle.norec_world.proofs.ActiveRows.{changed_here}
 use Rattle.norec_world.proofs.AlikeAnswers.{Closes}
+use Rattle.script_vm.specs.Rules.{Rules}
 
 both : (n : Bool) → n ≡ true → n ≡ false → ⊥
 both n t f = absurd (cc)
@@ -90,8 +90,8 @@ told_in thread o r at r' e t h = changed_in thread (λ row. record row { at = at
 
 -- ## Answers
 
-module _ {P : Type 0} (answered : P → Replied → P) (restarted : P → P) (r r' : Rows) (a a' : Actor P) (call : Call) where
-  recorded_in : (mid : Core) (was : Bool) (answer : Answer) → Records answered restarted was r r' a a' call answer → Ends mid answer a'.engine
+module _ {P : Type 0} (rules : Rules P) (r r' : Rows) (a a' : Actor P) (call : Call) where
+  recorded_in : (mid : Core) (was : Bool) (answer : Answer) → Records rules was r r' a a' call answer → Ends mid answer a'.engine
       → (was ≡ true → HasRowIn r a.thread) → (was ≡ false → a'.engine.is_open ≡ true → (row : Attempt) × (a.pending ≡ Some row) × (row.thread ≡ a.thread))
       → a'.engine.is_open ≡ true → HasRowIn r' a.thread
   recorded_in mid true (Reply reply) x g inside begins o = changed_in a.thread _ r r' (λ y. refl) x.0 (inside refl)
@@ -111,7 +111,7 @@ module _ {P : Type 0} (answered : P → Replied → P) (restarted : P → P) (r 
       by_last false e = absurd (let z = sym w ∙ (e ∙ ready) in cc)
 
   -- who was answered does not wait
-  recorded_waits : (was : Bool) (answer : Answer) (c : Call) (s : Step) → a.status ≡ Ready → Records answered restarted was r r' a a' call answer → a'.status ≡ Waits c s → ⊥
+  recorded_waits : (was : Bool) (answer : Answer) (c : Call) (s : Step) → a.status ≡ Ready → Records rules was r r' a a' call answer → a'.status ≡ Waits c s → ⊥
   recorded_waits true (Reply reply) c s ready x w = absurd (let z = sym w ∙ (x.4 ∙ ready) in cc)
   recorded_waits false (Reply reply) c s ready x w = absurd (let z = sym w ∙ (x.4 ∙ ready) in cc)
   recorded_waits was (Committed at wrote) c s ready x w = absurd (let z = sym w ∙ (x.4 ∙ ready) in cc)
@@ -121,25 +121,25 @@ module _ {P : Type 0} (answered : P → Replied → P) (restarted : P → P) (r 
 
 -- ## A step
 
-module _ {P : Type 0} (answered : P → Replied → P) (restarted : P → P) (cells : Cells) (r r' : Rows) (a a' : Actor P) (held : HasAttempt r a) (t : TakesIn answered restarted cells r a r' a') where
+module _ {P : Type 0} (rules : Rules P) (cells : Cells) (r r' : Rows) (a a' : Actor P) (held : HasAttempt r a) (t : TakesIn rules cells r a r' a') where
   seen : ℕ
   seen = found cells t.step
 
-  step_in : (what : Next) → Proceeds (handed a.engine (found cells t.step)) what a'.engine → Tells answered restarted a.engine.is_open r t.rows (record a { engine = a'.engine; status = Ready }) a' t.call what
+  step_in : (what : Next) → Proceeds (handed a.engine (found cells t.step)) what a'.engine → Tells rules a.engine.is_open r t.rows (record a { engine = a'.engine; status = Ready }) a' t.call what
       → a'.engine.is_open ≡ true → HasRowIn t.rows a.thread
   step_in (Steps step) g x o =
       let h = held.inside (sym (handed_open a.engine a.engine.waits (found cells t.step)) ∙ (sym (ap (λ (c : Core). c.is_open) g.stays) ∙ o)) in
       (h.0, ap (λ (y : Rows). active_of a.thread y.active) x.1 ∙ h.1)
   step_in (Answers answer) g x o =
-      recorded_in answered restarted r t.rows (record a { engine = a'.engine; status = Ready }) a' t.call (handed a.engine (found cells t.step)) a.engine.is_open answer x g
+      recorded_in rules r t.rows (record a { engine = a'.engine; status = Ready }) a' t.call (handed a.engine (found cells t.step)) a.engine.is_open answer x g
       held.inside (λ shut z. held.begins t.call t.step t.waits shut) o
 
-  step_begins : (what : Next) → Proceeds (handed a.engine (found cells t.step)) what a'.engine → Tells answered restarted a.engine.is_open r t.rows (record a { engine = a'.engine; status = Ready }) a' t.call what
+  step_begins : (what : Next) → Proceeds (handed a.engine (found cells t.step)) what a'.engine → Tells rules a.engine.is_open r t.rows (record a { engine = a'.engine; status = Ready }) a' t.call what
       → (c : Call) (s : Step) → a'.status ≡ Waits c s → a'.engine.is_open ≡ false → (row : Attempt) × (a'.pending ≡ Some row) × (row.thread ≡ a'.thread)
   step_begins (Steps step) g x c s w shut =
       let k = held.begins t.call t.step t.waits (sym (handed_open a.engine a.engine.waits (found cells t.step)) ∙ (sym (ap (λ (y : Core). y.is_open) g.stays) ∙ shut)) in
       (k.0, ap (λ (y : Actor P). y.pending) x.0 ∙ k.1, k.2 ∙ sym t.same.thread)
-  step_begins (Answers answer) g x c s w shut = absurd (recorded_waits answered restarted r t.rows (record a { engine = a'.engine; status = Ready }) a' t.call a.engine.is_open answer c s refl x w)
+  step_begins (Answers answer) g x c s w shut = absurd (recorded_waits rules r t.rows (record a { engine = a'.engine; status = Ready }) a' t.call a.engine.is_open answer c s refl x w)
 
   pub step_held : HasAttempt r' a'
   step_held = record {
@@ -149,8 +149,8 @@ module _ {P : Type 0} (answered : P → Replied → P) (restarted : P → P) (ce
 
 -- ## A call
 
-module _ {P : Type 0} (next : P → Option Call) (answered : P → Replied → P) (restarted : P → P) (clock : ℕ) (r r' : Rows) (a a' : Actor P) (held : HasAttempt r a)
-    (f : Calls next answered restarted clock r a r' a') where
+module _ {P : Type 0} (rules : Rules P) (clock : ℕ) (r r' : Rows) (a a' : Actor P) (held : HasAttempt r a)
+    (f : Calls rules clock r a r' a') where
   -- the rows of before, with more room
   pub roomed : a.engine.is_open ≡ true → HasRowIn f.rows f.asked.thread
   roomed o =
@@ -164,13 +164,13 @@ module _ {P : Type 0} (next : P → Option Call) (answered : P → Replied → P
   abbrev again_of : Bool
   again_of = begins_again a.engine.is_open a.again f.call
 
-  call_in : (what : Next) → Proceeds (came a.engine f.call again_of) what f.asked.engine → Tells answered restarted a.engine.is_open f.rows r' f.asked a' f.call what
+  call_in : (what : Next) → Proceeds (came a.engine f.call again_of) what f.asked.engine → Tells rules a.engine.is_open f.rows r' f.asked a' f.call what
       → a'.engine.is_open ≡ true → HasRowIn r' f.asked.thread
   call_in (Steps step) g x o =
       let h = roomed (f.asks.called.stays.opens (sym (ap (λ (c : Core). c.is_open) f.engine) ∙ o)) in
       (h.0, ap (λ (y : Rows). active_of f.asked.thread y.active) x.1 ∙ h.1)
   call_in (Answers answer) g x o =
-      recorded_in answered restarted f.rows r' f.asked a' f.call (came a.engine f.call again_of) a.engine.is_open answer x
+      recorded_in rules f.rows r' f.asked a' f.call (came a.engine f.call again_of) a.engine.is_open answer x
       (subst (Ends (came a.engine f.call again_of) answer) (sym f.engine) g) roomed (λ shut z. absurd (opens_none shut z)) o
 
   opening_of : (o : Bool) (call : Call) → o ≡ false → IsBegin (Some call) → (row : Attempt) × (asked_pending o clock a call ≡ Some row) × (row.thread ≡ a.thread)
@@ -183,13 +183,13 @@ module _ {P : Type 0} (next : P → Option Call) (answered : P → Replied → P
   waits_begin : (row : Attempt) × (asked_pending a.engine.is_open clock a f.call ≡ Some row) × (row.thread ≡ a.thread) → a'.pending ≡ f.asked.pending → (row : Attempt) × (a'.pending ≡ Some row) × (row.thread ≡ a'.thread)
   waits_begin k same = (k.0, same ∙ (f.asks.pending ∙ k.1), k.2 ∙ sym f.same.thread)
 
-  call_begins : (what : Next) → Proceeds (came a.engine f.call again_of) what f.asked.engine → Tells answered restarted a.engine.is_open f.rows r' f.asked a' f.call what
+  call_begins : (what : Next) → Proceeds (came a.engine f.call again_of) what f.asked.engine → Tells rules a.engine.is_open f.rows r' f.asked a' f.call what
       → (c : Call) (s : Step) → a'.status ≡ Waits c s → a'.engine.is_open ≡ false → (row : Attempt) × (a'.pending ≡ Some row) × (row.thread ≡ a'.thread)
   call_begins (Steps step) g x c s w shut =
       let outside : a.engine.is_open ≡ false = sym (ap (λ (y : Core). y.is_open) g.stays) ∙ (sym (ap (λ (y : Core). y.is_open) f.engine) ∙ shut) in
       let is = begin_asks a.engine f.asked.engine f.call again_of step outside f.asks.called.order f.asks.called.asks (ap (λ (y : Core). y.waits) g.stays) in
       waits_begin (opening_of a.engine.is_open f.call outside is) (ap (λ (y : Actor P). y.pending) x.0)
-  call_begins (Answers answer) g x c s w shut = absurd (recorded_waits answered restarted f.rows r' f.asked a' f.call a.engine.is_open answer c s f.ready x w)
+  call_begins (Answers answer) g x c s w shut = absurd (recorded_waits rules f.rows r' f.asked a' f.call a.engine.is_open answer c s f.ready x w)
 
   pub call_held : HasAttempt r' a'
   call_held = record {

@@ -1,5 +1,5 @@
 -- The open attempt, as its calls go on.
-use Rattle.std.proofs.Common.{◌≡◌, ℕ, zero, suc, ◌/◌, ◌<◌, ◌≤◌, Bool, true, false, if◌then◌else◌, List, [], ◌∷◌, ◌++◌, map, Option, None, Some, refl, sym, ap, subst, ◌∙◌, arith}
+use Rattle.std.proofs.Common.{◌≡◌, ℕ, zero, suc, ◌/◌, ◌<◌, ◌≤◌, Bool, true, false, if◌then◌else◌, List, [], ◌∷◌, ◌++◌, map, None, Some, refl, sym, ap, subst, ◌∙◌, arith}
 use Rattle.std.proofs.lemmas.List.{append-nil}
 use Rattle.itm_types.specs.declared.call.Call.{Call}
 use Rattle.itm_types.specs.declared.call.Call.TheVariants.{Begin, Commit}
@@ -29,11 +29,11 @@ use Rattle.norec_world.specs.Opacity.{Beginning, Between, begin_code, EndsAs, Is
 use Rattle.norec_world.specs.Runs.{begins_at, IsInTry}
 use Rattle.norec_world.proofs.Alones.{begins_alone}
 use Rattle.norec_world.proofs.SoloRuns.{alone_snoc, player_snoc, state_snoc, stands_open}
+use Rattle.script_vm.specs.Rules.{Obeys, Rules}
 
-module _ {P : Type 0} (next : P → Option Call) (answered : P → Replied → P) (restarted : P → P) (left : P → ℕ)
-    (nearer : (p : P) (c : Call) (r : Replied) → next p ≡ Some c → left (answered p r) < left p) where
+module _ {P : Type 0} (rules : Rules P) (laws : Obeys rules) where
   abbrev InTry : Between P → Attempt → P → Core → Type 0
-  InTry b row p e = IsInTry next answered restarted left b row p e
+  InTry b row p e = IsInTry rules b row p e
 
   -- ## A step
 
@@ -78,15 +78,15 @@ module _ {P : Type 0} (next : P → Option Call) (answered : P → Replied → P
 
   -- ## A reply
 
-  module _ (b : Between P) (row : Attempt) (p : P) (mid new : Core) (call : Call) (r : Replied) (t : InTry b row p mid) (inside : mid.is_open ≡ true) (asks : next p ≡ Some call)
+  module _ (b : Between P) (row : Attempt) (p : P) (mid new : Core) (call : Call) (r : Replied) (t : InTry b row p mid) (inside : mid.is_open ≡ true) (asks : rules.next_call p ≡ Some call)
       (g : Replies mid call r new) (began : row.began ≤ new.snapshot / 2) (less : (m : List ℕ) → Agrees m new.log → Agrees m mid.log) where
     begun : P
-    begun = answered t.start.player (begin_code b.again)
+    begun = rules.answered t.start.player (begin_code b.again)
 
     state : List ℕ → State
     state m = opened (bytes_of m) t.start.arena t.start.props
 
-    pub try_replies : InTry b (record row { calls = row.calls ++ record { call = call; reply = r } ∷ [] }) (answered p r) new
+    pub try_replies : InTry b (record row { calls = row.calls ++ record { call = call; reply = r } ∷ [] }) (rules.answered p r) new
     unfolding begun state
     try_replies =
         let words : new.words ≡ mid.words = ap (λ (c : Core). c.words) g.stays in
@@ -98,17 +98,17 @@ module _ {P : Type 0} (next : P → Option Call) (answered : P → Replied → P
           tries = t.tries;
           began = began;
           anew = ap (λ (c : Core). c.again) g.stays;
-          player = ap (λ (q : P). answered q r) t.player ∙ sym (player_snoc answered begun row.calls (record { call = call; reply = r }));
+          player = ap (λ (q : P). rules.answered q r) t.player ∙ sym (player_snoc rules.answered begun row.calls (record { call = call; reply = r }));
           alone = λ m mem agrees.
               (let memory : IsMemory mid.words m = subst (λ (n : ℕ). IsMemory n m) words mem in
               let old = less m agrees in
               let stands = t.stands m memory old in
-              let open_then : is_open (state_then MAX_DEPTH (state m) row.calls) ≡ true = ap is_open (sym stands) ∙ stands_open next answered left nearer mid m inside in
-              let turns : turn next answered left (player_then answered begun row.calls) (state_then MAX_DEPTH (state m) row.calls) ≡ Some call =
-              ap (λ (o : Bool). if o then next (player_then answered begun row.calls) else None) open_then ∙ (ap next (sym t.player) ∙ asks) in
+              let open_then : is_open (state_then MAX_DEPTH (state m) row.calls) ≡ true = ap is_open (sym stands) ∙ stands_open rules laws mid m inside in
+              let turns : turn rules.next_call rules.answered rules.calls_left (player_then rules.answered begun row.calls) (state_then MAX_DEPTH (state m) row.calls) ≡ Some call =
+              ap (λ (o : Bool). if o then rules.next_call (player_then rules.answered begun row.calls) else None) open_then ∙ (ap rules.next_call (sym t.player) ∙ asks) in
               let replied : r ≡ reply MAX_DEPTH (state_then MAX_DEPTH (state m) row.calls) call =
               g.reply_is m memory (Agrees-drop m mid.entry new.log agrees) ∙ (ap (λ (a : Bool). recoded a (reply MAX_DEPTH (stands_for mid m) call)) t.anew ∙ ap (λ (s : State). reply MAX_DEPTH s call) stands) in
-              alone_snoc next answered left nearer MAX_DEPTH begun (state m) row.calls (record { call = call; reply = r }) (t.alone m memory old) turns replied);
+              alone_snoc rules laws MAX_DEPTH begun (state m) row.calls (record { call = call; reply = r }) (t.alone m memory old) turns replied);
           stands = λ m mem agrees.
               (let memory : IsMemory mid.words m = subst (λ (n : ℕ). IsMemory n m) words mem in
               g.meets m memory agrees ∙ (ap (λ (s : State). after MAX_DEPTH s call) (t.stands m memory (less m agrees)) ∙ sym (state_snoc MAX_DEPTH (state m) row.calls (record { call = call; reply = r }))));
@@ -120,7 +120,7 @@ module _ {P : Type 0} (next : P → Option Call) (answered : P → Replied → P
   module _ (n : ℕ) (memory : ℕ → List ℕ) (b : Between P) (start : Beginning P) (row : Attempt) (arena : row.arena ≡ start.arena) (props : row.props ≡ start.props) (tries : b.tries < row.nth)
       (older : row.began ≤ row.at) (newer : row.at ≤ n) where
     begun_by : P
-    begun_by = answered start.player (begin_code b.again)
+    begun_by = rules.answered start.player (begin_code b.again)
 
     state_by : State
     state_by = opened (memory row.at) start.arena start.props
@@ -128,15 +128,15 @@ module _ {P : Type 0} (next : P → Option Call) (answered : P → Replied → P
     same_state : opened (memory row.at) row.arena row.props ≡ opened (memory row.at) start.arena start.props
     same_state = λ i. opened (memory row.at) (arena i) (props i)
 
-    pub is_try : IsAlone next answered left MAX_DEPTH (answered start.player (begin_code b.again)) (opened (memory row.at) start.arena start.props) row.calls
+    pub is_try : IsAlone rules MAX_DEPTH (rules.answered start.player (begin_code b.again)) (opened (memory row.at) start.arena start.props) row.calls
         → EndsAs row.outcome (state_then MAX_DEPTH (opened (memory row.at) start.arena start.props) row.calls)
-        → IsTryAt next answered restarted left MAX_DEPTH n memory b (Some start) row
+        → IsTryAt rules MAX_DEPTH n memory b (Some start) row
     is_try h ends =
-        let p : P = answered start.player (begin_code b.again) in
+        let p : P = rules.answered start.player (begin_code b.again) in
         let s : State = opened (memory row.at) start.arena start.props in
-        let gets = begins_alone next answered left nearer MAX_DEPTH (left p) p s row.calls (omega arith) h in
-        let all : answers next answered left MAX_DEPTH p (memory row.at) row.arena row.props ≡ answers next answered left MAX_DEPTH p (memory row.at) start.arena start.props =
-        λ i. answers next answered left MAX_DEPTH p (memory row.at) (arena i) (props i) in (
+        let gets = begins_alone rules laws MAX_DEPTH (rules.calls_left p) p s row.calls (omega arith) h in
+        let all : answers rules.next_call rules.answered rules.calls_left MAX_DEPTH p (memory row.at) row.arena row.props ≡ answers rules.next_call rules.answered rules.calls_left MAX_DEPTH p (memory row.at) start.arena start.props =
+        λ i. answers rules.next_call rules.answered rules.calls_left MAX_DEPTH p (memory row.at) (arena i) (props i) in (
           arena,
           props,
           tries,
@@ -146,31 +146,31 @@ module _ {P : Type 0} (next : P → Option Call) (answered : P → Replied → P
             beginning = (_, sym (all ∙ gets));
             whole = λ closed.
                 (let shut : is_open (state_then MAX_DEPTH s row.calls) ≡ false = ap (λ (x : State). is_open (state_then MAX_DEPTH x row.calls)) (sym same_state) ∙ closed in
-                sym (all ∙ (gets ∙ (ap (λ (rest : List (Call × Replied)). map pair_of row.calls ++ rest) (no_more (left p) (player_then answered p row.calls) (state_then MAX_DEPTH s row.calls) shut) ∙ append-nil (map pair_of row.calls)))));
+                sym (all ∙ (gets ∙ (ap (λ (rest : List (Call × Replied)). map pair_of row.calls ++ rest) (no_more (rules.calls_left p) (player_then rules.answered p row.calls) (state_then MAX_DEPTH s row.calls) shut) ∙ append-nil (map pair_of row.calls)))));
             ends = subst (λ (x : State). EndsAs row.outcome (state_then MAX_DEPTH x row.calls)) (sym same_state) ends;
           },
         )
       where
-        no_more : (k : ℕ) (q : P) (s : State) → is_open s ≡ false → answers_within next answered left MAX_DEPTH k q s (turn next answered left q s) ≡ []
-        no_more k q s shut = ap (λ (o : Bool). answers_within next answered left MAX_DEPTH k q s (if o then next q else None)) shut ∙ none_more k
+        no_more : (k : ℕ) (q : P) (s : State) → is_open s ≡ false → answers_within rules.next_call rules.answered rules.calls_left MAX_DEPTH k q s (turn rules.next_call rules.answered rules.calls_left q s) ≡ []
+        no_more k q s shut = ap (λ (o : Bool). answers_within rules.next_call rules.answered rules.calls_left MAX_DEPTH k q s (if o then rules.next_call q else None)) shut ∙ none_more k
           where
-            none_more : (k : ℕ) → answers_within next answered left MAX_DEPTH k q s None ≡ []
+            none_more : (k : ℕ) → answers_within rules.next_call rules.answered rules.calls_left MAX_DEPTH k q s None ≡ []
             none_more zero = refl
             none_more (suc k) = refl
 
   -- without a commit: in conflict, full, for want of memory, or not ended yet
   pub try_stops : (n : ℕ) (base : List ℕ) (attempts : List Attempt) (b : Between P) (row : Attempt) (p : P) (e : Core) (t : InTry b row p e) (k : ℕ) (outcome : Outcome)
       → (is_open_still : EndsAs outcome (stands_for e (words_at base attempts k))) → row.began ≤ k → k ≤ n → IsMemory e.words (words_at base attempts k) → bytes_of (words_at base attempts k) ≡ bytes_at base attempts k
-      → Agrees (words_at base attempts k) e.log → IsTryAt next answered restarted left MAX_DEPTH n (bytes_at base attempts) b (Some t.start) (record row { at = k; outcome = outcome })
+      → Agrees (words_at base attempts k) e.log → IsTryAt rules MAX_DEPTH n (bytes_at base attempts) b (Some t.start) (record row { at = k; outcome = outcome })
   try_stops n base attempts b row p e t k outcome ends older newer memory same agrees =
       let bytes : opened (bytes_of (words_at base attempts k)) t.start.arena t.start.props ≡ opened (bytes_at base attempts k) t.start.arena t.start.props = ap (λ (m : List ℕ). opened m t.start.arena t.start.props) same in
       is_try n (bytes_at base attempts) b t.start (record row { at = k; outcome = outcome }) t.arena t.props t.tries older newer
-      (subst (λ (s : State). IsAlone next answered left MAX_DEPTH (answered t.start.player (begin_code b.again)) s row.calls) bytes (t.alone (words_at base attempts k) memory agrees))
+      (subst (λ (s : State). IsAlone rules MAX_DEPTH (rules.answered t.start.player (begin_code b.again)) s row.calls) bytes (t.alone (words_at base attempts k) memory agrees))
       (subst (λ (s : State). EndsAs outcome (state_then MAX_DEPTH s row.calls)) bytes (subst (EndsAs outcome) (t.stands (words_at base attempts k) memory agrees) ends))
 
   -- by its commit: the state that it leaves is that of the commit over its memory
   module _ (n : ℕ) (memory : ℕ → List ℕ) (b : Between P) (row : Attempt) (p : P) (mid new : Core) (call : Call) (at : ℕ) (wrote : Bool) (m : List ℕ) (t : InTry b row p mid) (inside : mid.is_open ≡ true)
-      (asks : next p ≡ Some call) (is : call ≡ Commit) (g : Commits mid at wrote new) (older : row.began ≤ at) (newer : at ≤ n) (mem : IsMemory mid.words m) (same : bytes_of m ≡ memory at) (agrees : Agrees m mid.log) where
+      (asks : rules.next_call p ≡ Some call) (is : call ≡ Commit) (g : Commits mid at wrote new) (older : row.began ≤ at) (newer : at ≤ n) (mem : IsMemory mid.words m) (same : bytes_of m ≡ memory at) (agrees : Agrees m mid.log) where
     abbrev last : Entry
     last = record { call = call; reply = Done }
 
@@ -178,7 +178,7 @@ module _ {P : Type 0} (next : P → Option Call) (answered : P → Replied → P
     done = record row { calls = row.calls ++ record { call = call; reply = Done } ∷ []; at = at; outcome = if wrote then outcomes.Committed else outcomes.ReadOnly }
 
     abbrev by : P
-    by = answered t.start.player (begin_code b.again)
+    by = rules.answered t.start.player (begin_code b.again)
 
     abbrev from : List ℕ → State
     from bytes = opened bytes t.start.arena t.start.props
@@ -197,18 +197,18 @@ module _ {P : Type 0} (next : P → Option Call) (answered : P → Replied → P
     ends_so true e = (closes, sym (g.wrote_is m mem agrees) ∙ e)
     ends_so false e = (closes, sym (g.wrote_is m mem agrees) ∙ e)
 
-    commit_alone : IsAlone next answered left MAX_DEPTH by (from (memory at)) (row.calls ++ last ∷ [])
+    commit_alone : IsAlone rules MAX_DEPTH by (from (memory at)) (row.calls ++ last ∷ [])
     commit_alone =
         let stands = t.stands m mem agrees ∙ ap (λ (bytes : List ℕ). state_then MAX_DEPTH (from bytes) row.calls) same in
-        let open_then : is_open (state_then MAX_DEPTH (from (memory at)) row.calls) ≡ true = ap is_open (sym stands) ∙ stands_open next answered left nearer mid m inside in
-        let turns : turn next answered left (player_then answered by row.calls) (state_then MAX_DEPTH (from (memory at)) row.calls) ≡ Some call =
-        ap (λ (o : Bool). if o then next (player_then answered by row.calls) else None) open_then ∙ (ap next (sym t.player) ∙ asks) in
+        let open_then : is_open (state_then MAX_DEPTH (from (memory at)) row.calls) ≡ true = ap is_open (sym stands) ∙ stands_open rules laws mid m inside in
+        let turns : turn rules.next_call rules.answered rules.calls_left (player_then rules.answered by row.calls) (state_then MAX_DEPTH (from (memory at)) row.calls) ≡ Some call =
+        ap (λ (o : Bool). if o then rules.next_call (player_then rules.answered by row.calls) else None) open_then ∙ (ap rules.next_call (sym t.player) ∙ asks) in
         let replied : Done ≡ reply MAX_DEPTH (state_then MAX_DEPTH (from (memory at)) row.calls) call =
         ap (λ (o : Bool). reply MAX_DEPTH (state_over mid.writes o mid.props mid.arena m) Commit) (sym inside) ∙ (ap (λ (s : State). reply MAX_DEPTH s Commit) stands ∙ ap (reply MAX_DEPTH (state_then MAX_DEPTH (from (memory at)) row.calls)) (sym is)) in
-        alone_snoc next answered left nearer MAX_DEPTH by (from (memory at)) row.calls last
-        (subst (λ (bytes : List ℕ). IsAlone next answered left MAX_DEPTH by (from bytes) row.calls) same (t.alone m mem agrees)) turns replied
+        alone_snoc rules laws MAX_DEPTH by (from (memory at)) row.calls last
+        (subst (λ (bytes : List ℕ). IsAlone rules MAX_DEPTH by (from bytes) row.calls) same (t.alone m mem agrees)) turns replied
 
-    pub try_commits : IsTryAt next answered restarted left MAX_DEPTH n memory b (Some t.start) (record row { calls = row.calls ++ record { call = call; reply = Done } ∷ []; at = at; outcome = if wrote then outcomes.Committed else outcomes.ReadOnly })
+    pub try_commits : IsTryAt rules MAX_DEPTH n memory b (Some t.start) (record row { calls = row.calls ++ record { call = call; reply = Done } ∷ []; at = at; outcome = if wrote then outcomes.Committed else outcomes.ReadOnly })
     try_commits = is_try n memory b t.start done t.arena t.props t.tries older newer commit_alone (subst (EndsAs (if wrote then outcomes.Committed else outcomes.ReadOnly)) (sym commit_state) (ends_so wrote refl))
 
     pub left_state : alone MAX_DEPTH (memory at) (record row { calls = row.calls ++ record { call = call; reply = Done } ∷ []; at = at; outcome = if wrote then outcomes.Committed else outcomes.ReadOnly }) ≡ after MAX_DEPTH (stands_for mid m) Commit
@@ -216,7 +216,7 @@ module _ {P : Type 0} (next : P → Option Call) (answered : P → Replied → P
 
   -- ## A begin is accepted
 
-  module _ (b : Between P) (row : Attempt) (p : P) (mid new : Core) (props : Props) (room : ℕ) (r : Replied) (comes : begins_at next answered restarted left b ≡ Some (record { player = p; arena = b.arena; props = row.props }))
+  module _ (b : Between P) (row : Attempt) (p : P) (mid new : Core) (props : Props) (room : ℕ) (r : Replied) (comes : begins_at rules b ≡ Some (record { player = p; arena = b.arena; props = row.props }))
       (row_arena : row.arena ≡ b.arena) (row_props : row.props ≡ props) (row_calls : row.calls ≡ []) (tries : b.tries < row.nth) (outside : mid.is_open ≡ false) (empty : mid.writes ≡ []) (arena : mid.arena ≡ b.arena) (again : mid.again ≡ b.again)
       (g : Replies mid (Begin props room) r new) (began : row.began ≤ new.snapshot / 2) (words : List ℕ) (mem : IsMemory mid.words words) (agrees : Agrees words new.log) where
     entered : (w : Bool) → mid.again ≡ w → r ≡ begin_code w
@@ -227,7 +227,7 @@ module _ {P : Type 0} (next : P → Option Call) (answered : P → Replied → P
         coded true = refl
         coded false = refl
 
-    pub try_begins : (at : ℕ) → IsInTry next answered restarted left b (record row { at = at }) (answered p r) new
+    pub try_begins : (at : ℕ) → IsInTry rules b (record row { at = at }) (rules.answered p r) new
     try_begins at =
         let same : new.words ≡ mid.words = ap (λ (c : Core). c.words) g.stays in
         record {
@@ -238,8 +238,8 @@ module _ {P : Type 0} (next : P → Option Call) (answered : P → Replied → P
           tries = tries;
           began = began;
           anew = ap (λ (c : Core). c.again) g.stays;
-          player = ap (answered p) (entered b.again again) ∙ ap (λ (xs : List Entry). player_then answered (answered p (begin_code b.again)) xs) (sym row_calls);
-          alone = λ m memory a. subst (λ (xs : List Entry). IsAlone next answered left MAX_DEPTH (answered p (begin_code b.again)) (opened (bytes_of m) b.arena row.props) xs) (sym row_calls) tt;
+          player = ap (rules.answered p) (entered b.again again) ∙ ap (λ (xs : List Entry). player_then rules.answered (rules.answered p (begin_code b.again)) xs) (sym row_calls);
+          alone = λ m memory a. subst (λ (xs : List Entry). IsAlone rules MAX_DEPTH (rules.answered p (begin_code b.again)) (opened (bytes_of m) b.arena row.props) xs) (sym row_calls) tt;
           stands = λ m memory a.
               g.meets m (subst (λ (n : ℕ). IsMemory n m) same memory) a
               ∙ (ap (λ (o : Bool). after MAX_DEPTH (state_over mid.writes o mid.props mid.arena m) (Begin props room)) outside

@@ -1,31 +1,30 @@
 -- Less and less is left to do.
-use Rattle.std.proofs.Common.{◌≡◌, ℕ, ◌+◌, ◌<◌, ◌≤◌, Bool, true, false, Option, None, refl, sym, ap, subst, ◌∙◌, arith, if◌then◌else◌}
-use Rattle.itm_types.specs.declared.call.Call.{Call}
-use Rattle.itm_types.specs.declared.call.Reply.{Reply as Replied}
+use Rattle.std.proofs.Common.{◌≡◌, ℕ, ◌+◌, ◌<◌, ◌≤◌, Bool, true, false, None, refl, sym, ap, subst, ◌∙◌, arith, if◌then◌else◌}
 use Rattle.norec_world.specs.declared.actor.Actor.{Actor}
 use Rattle.norec_world.specs.declared.actor.Status.{Status}
 use Rattle.norec_world.specs.declared.actor.Status.TheVariants.{Ready, Waits, Ended}
 use Rattle.norec_world.specs.Status.{ending_of, is_ready, is_waiting}
 use Rattle.norec_world.specs.Sound.{GoesOn, IsNoMore, Falls, HasLess, steps_left, whole, rank, run_left}
+use Rattle.script_vm.specs.Rules.{Rules}
 
-module _ {P : Type 0} (next : P → Option Call) (answered : P → Replied → P) (restarted : P → P) (left : P → ℕ) (depth : P → ℕ) where
-  pub same_less : (a : Actor P) → IsNoMore next answered restarted left depth a a
-  same_less a = record { whole_falls = (let o : whole next answered restarted left depth a.engine.is_open a.player ≤ whole next answered restarted left depth a.engine.is_open a.player = omega arith in o); rank_falls = λ k b. omega arith }
+module _ {P : Type 0} (rules : Rules P) where
+  pub same_less : (a : Actor P) → IsNoMore rules a a
+  same_less a = record { whole_falls = (let o : whole rules a.engine.is_open a.player ≤ whole rules a.engine.is_open a.player = omega arith in o); rank_falls = λ k b. omega arith }
 
-  pub less_less : (a b c : Actor P) → IsNoMore next answered restarted left depth a b → IsNoMore next answered restarted left depth b c → IsNoMore next answered restarted left depth a c
+  pub less_less : (a b c : Actor P) → IsNoMore rules a b → IsNoMore rules b c → IsNoMore rules a c
   less_less a b c f g = let x = f.whole_falls in let y = g.whole_falls in record {
     whole_falls = omega arith;
     rank_falls = λ k l. (let u = f.rank_falls k l in let v = g.rank_falls k (omega arith) in omega arith);
   }
 
-  pub less_falls : (a b c : Actor P) → IsNoMore next answered restarted left depth a b → Falls next answered restarted left depth b.engine.is_open c.engine.is_open b c
-      → Falls next answered restarted left depth a.engine.is_open c.engine.is_open a c
+  pub less_falls : (a b c : Actor P) → IsNoMore rules a b → Falls rules b.engine.is_open c.engine.is_open b c
+      → Falls rules a.engine.is_open c.engine.is_open a c
   less_falls a b c f g = let x = f.whole_falls in let y = g.whole_falls in record {
     whole_falls = omega arith;
     rank_falls = λ k l. (let u = f.rank_falls k l in let v = g.rank_falls k (omega arith) in omega arith);
   }
 
-  pub falls_less : (a b : Actor P) → Falls next answered restarted left depth a.engine.is_open b.engine.is_open a b → IsNoMore next answered restarted left depth a b
+  pub falls_less : (a b : Actor P) → Falls rules a.engine.is_open b.engine.is_open a b → IsNoMore rules a b
   falls_less a b f = record { whole_falls = f.whole_falls; rank_falls = λ k l. (let u = f.rank_falls k l in omega arith) }
 
 waiting_goes_on : (s : Status) → is_waiting s ≡ true → ending_of s ≡ None
@@ -34,45 +33,45 @@ waiting_goes_on (Waits call step) e = refl
 waiting_goes_on (Ended end) e = absurd (cc)
 
 -- one event: the call of a is over at b, and local work leads to c
-module _ {P : Type 0} (next : P → Option Call) (answered : P → Replied → P) (restarted : P → P) (left : P → ℕ) (depth : P → ℕ) (a b c : Actor P)
+module _ {P : Type 0} (rules : Rules P) (a b c : Actor P)
     (waits : is_waiting a.status ≡ true) (over : is_waiting b.status ≡ false)
-    (falls : is_ready b.status ≡ true → Falls next answered restarted left depth a.engine.is_open b.engine.is_open a b)
+    (falls : is_ready b.status ≡ true → Falls rules a.engine.is_open b.engine.is_open a b)
     (still : is_ready b.status ≡ false → c.status ≡ b.status)
-    (less : ending_of c.status ≡ None → IsNoMore next answered restarted left depth b c) where
-  fell : is_waiting c.status ≡ true → Falls next answered restarted left depth a.engine.is_open b.engine.is_open a b
+    (less : ending_of c.status ≡ None → IsNoMore rules b c) where
+  fell : is_waiting c.status ≡ true → Falls rules a.engine.is_open b.engine.is_open a b
   fell w = of_ready (is_ready b.status) refl
     where
-      of_ready : (x : Bool) → is_ready b.status ≡ x → Falls next answered restarted left depth a.engine.is_open b.engine.is_open a b
+      of_ready : (x : Bool) → is_ready b.status ≡ x → Falls rules a.engine.is_open b.engine.is_open a b
       of_ready true e = falls e
       of_ready false e = absurd (let f : is_waiting c.status ≡ false = ap is_waiting (still e) ∙ over in cc)
 
-  pub turn_less : is_waiting c.status ≡ true → IsNoMore next answered restarted left depth a c
-  turn_less w = less_less next answered restarted left depth a b c (falls_less next answered restarted left depth a b (fell w)) (less (waiting_goes_on c.status w))
+  pub turn_less : is_waiting c.status ≡ true → IsNoMore rules a c
+  turn_less w = less_less rules a b c (falls_less rules a b (fell w)) (less (waiting_goes_on c.status w))
 
-  pub turn_falls : (k : ℕ) → whole next answered restarted left depth a.engine.is_open a.player ≤ k → run_left next answered restarted left depth k c < run_left next answered restarted left depth k a
+  pub turn_falls : (k : ℕ) → whole rules a.engine.is_open a.player ≤ k → run_left rules k c < run_left rules k a
   turn_falls k l = of_waiting (is_waiting c.status) refl
     where
-      before : run_left next answered restarted left depth k a ≡ rank next answered restarted left depth k a.engine.is_open a + 1
-      before = ap (λ (x : Bool). if x then rank next answered restarted left depth k a.engine.is_open a + 1 else 0) waits
+      before : run_left rules k a ≡ rank rules k a.engine.is_open a + 1
+      before = ap (λ (x : Bool). if x then rank rules k a.engine.is_open a + 1 else 0) waits
 
-      of_waiting : (x : Bool) → is_waiting c.status ≡ x → run_left next answered restarted left depth k c < run_left next answered restarted left depth k a
+      of_waiting : (x : Bool) → is_waiting c.status ≡ x → run_left rules k c < run_left rules k a
       of_waiting true e =
-          let after : run_left next answered restarted left depth k c ≡ rank next answered restarted left depth k c.engine.is_open c + 1 = ap (λ (x : Bool). if x then rank next answered restarted left depth k c.engine.is_open c + 1 else 0) e in
+          let after : run_left rules k c ≡ rank rules k c.engine.is_open c + 1 = ap (λ (x : Bool). if x then rank rules k c.engine.is_open c + 1 else 0) e in
           let f = (fell e).rank_falls k l in
           let w = (fell e).whole_falls in
           let m = (less (waiting_goes_on c.status e)).rank_falls k (omega arith) in
           let u = before in
           omega arith
       of_waiting false e =
-          let after : run_left next answered restarted left depth k c ≡ 0 = ap (λ (x : Bool). if x then rank next answered restarted left depth k c.engine.is_open c + 1 else 0) e in
+          let after : run_left rules k c ≡ 0 = ap (λ (x : Bool). if x then rank rules k c.engine.is_open c + 1 else 0) e in
           let u = before in
           omega arith
 
-module _ {P : Type 0} (next : P → Option Call) (answered : P → Replied → P) (restarted : P → P) (left : P → ℕ) (depth : P → ℕ) where
+module _ {P : Type 0} (rules : Rules P) where
   -- one event: the step leads to b, and local work to c
-  module _ (a b c : Actor P) (waits : is_waiting a.status ≡ true) (goes_on : is_waiting b.status ≡ true → GoesOn next answered restarted left depth a b)
-      (falls : is_ready b.status ≡ true → Falls next answered restarted left depth a.engine.is_open b.engine.is_open a b) (still : is_ready b.status ≡ false → c ≡ b)
-      (less : ending_of c.status ≡ None → IsNoMore next answered restarted left depth b c) where
+  module _ (a b c : Actor P) (waits : is_waiting a.status ≡ true) (goes_on : is_waiting b.status ≡ true → GoesOn rules a b)
+      (falls : is_ready b.status ≡ true → Falls rules a.engine.is_open b.engine.is_open a b) (still : is_ready b.status ≡ false → c ≡ b)
+      (less : ending_of c.status ≡ None → IsNoMore rules b c) where
     stays : is_waiting b.status ≡ true → c ≡ b
     stays w = still (unready b.status w)
       where
@@ -81,34 +80,34 @@ module _ {P : Type 0} (next : P → Option Call) (answered : P → Replied → P
         unready (Waits call step) e = refl
         unready (Ended end) e = refl
 
-    pub event_less : (on : Bool) → is_waiting b.status ≡ on → HasLess next answered restarted left depth on a c
+    pub event_less : (on : Bool) → is_waiting b.status ≡ on → HasLess rules on a c
     event_less true w =
         let same = stays w in
         let on = goes_on w in record {
           on = λ e. (ap (λ (x : Actor P). is_waiting x.status) same ∙ w, (let s = ap (λ (x : Actor P). steps_left x.engine) same in let f = on.steps in omega arith));
-          less = λ e. subst (IsNoMore next answered restarted left depth a) (sym same) on.less;
+          less = λ e. subst (IsNoMore rules a) (sym same) on.less;
           over = λ e. absurd (cc);
         }
     event_less false w = record {
       on = λ e. absurd (cc);
-      less = λ e. turn_less next answered restarted left depth a b c waits w falls (λ n. ap (λ (x : Actor P). x.status) (still n)) less e;
-      over = λ e k l. turn_falls next answered restarted left depth a b c waits w falls (λ n. ap (λ (x : Actor P). x.status) (still n)) less k l;
+      less = λ e. turn_less rules a b c waits w falls (λ n. ap (λ (x : Actor P). x.status) (still n)) less e;
+      over = λ e k l. turn_falls rules a b c waits w falls (λ n. ap (λ (x : Actor P). x.status) (still n)) less k l;
     }
 
   -- a call so far: it goes on, or is over
   abbrev pub HasLessSoFar : Bool → Actor P → Actor P → Type 0
-  HasLessSoFar true a b = (is_waiting a.status ≡ true) × (is_waiting b.status ≡ true) × IsNoMore next answered restarted left depth a b
-  HasLessSoFar false a b = HasLess next answered restarted left depth false a b
+  HasLessSoFar true a b = (is_waiting a.status ≡ true) × (is_waiting b.status ≡ true) × IsNoMore rules a b
+  HasLessSoFar false a b = HasLess rules false a b
 
-  run_left_is : (k : ℕ) (a : Actor P) → is_waiting a.status ≡ true → run_left next answered restarted left depth k a ≡ rank next answered restarted left depth k a.engine.is_open a + 1
-  run_left_is k a w = ap (λ (x : Bool). if x then rank next answered restarted left depth k a.engine.is_open a + 1 else 0) w
+  run_left_is : (k : ℕ) (a : Actor P) → is_waiting a.status ≡ true → run_left rules k a ≡ rank rules k a.engine.is_open a + 1
+  run_left_is k a w = ap (λ (x : Bool). if x then rank rules k a.engine.is_open a + 1 else 0) w
 
   -- with one event more
-  pub less_so_far : (on : Bool) (a b c : Actor P) → HasLessSoFar true a b → HasLess next answered restarted left depth on b c → HasLessSoFar on a c
-  less_so_far true a b c f g = (let o = g.on refl in (f.0, o.0, less_less next answered restarted left depth a b c f.2 (g.less o.0)))
+  pub less_so_far : (on : Bool) (a b c : Actor P) → HasLessSoFar true a b → HasLess rules on b c → HasLessSoFar on a c
+  less_so_far true a b c f g = (let o = g.on refl in (f.0, o.0, less_less rules a b c f.2 (g.less o.0)))
   less_so_far false a b c f g = record {
     on = λ e. absurd (cc);
-    less = λ w. less_less next answered restarted left depth a b c f.2 (g.less w);
+    less = λ w. less_less rules a b c f.2 (g.less w);
     over = λ e k l.
         (let x = f.2.whole_falls in
         let r = f.2.rank_falls k l in

@@ -1,7 +1,6 @@
 -- A step and local work, as what an event is made of.
-use Rattle.std.proofs.Common.{◌≡◌, ℕ, zero, suc, ◌/◌, false, Option, None, Some, refl, sym, subst}
+use Rattle.std.proofs.Common.{◌≡◌, ℕ, zero, suc, ◌/◌, false, None, Some, refl, sym, subst}
 use Rattle.itm_types.specs.declared.call.Call.{Call}
-use Rattle.itm_types.specs.declared.call.Reply.{Reply}
 use Rattle.itm_types.specs.declared.step.Step.{Step}
 use Rattle.norec_engine.specs.Core.{Core}
 use Rattle.norec_engine.specs.Moves.{IsResumed}
@@ -15,6 +14,7 @@ use Rattle.norec_world.specs.Status.{is_ready, waiting_step}
 use Rattle.norec_world.specs.Records.{Tells, IsTold}
 use Rattle.norec_world.specs.Sound.{StatusIs, RestsAs}
 use Rattle.norec_world.specs.LocalWork.{SameActor, TakesIn, Acts, ActsOn, Works}
+use Rattle.script_vm.specs.Rules.{Rules}
 
 -- who waits is not ready
 pub not_ready : (s : Status) (step : Step) → waiting_step s ≡ Some step → is_ready s ≡ false
@@ -23,11 +23,11 @@ not_ready (Waits call other) step e = refl
 not_ready (Ended end) step e = refl
 
 -- the value came to the engine, and what came of it was taken up
-module _ {P : Type 0} (answered : P → Reply → P) (restarted : P → P) (cells : Cells) (r : Rows) (old : Actor P) (call : Call) (step : Step) (waiting : old.status ≡ Waits call step)
+module _ {P : Type 0} (rules : Rules P) (cells : Cells) (r : Rows) (old : Actor P) (call : Call) (step : Step) (waiting : old.status ≡ Waits call step)
     (seen : ℕ) (seen_is : seen ≡ found cells step) (new : Core) (what : Next) (resumed : IsResumed old.engine seen what new) where
   pub takes_in : (status : Status) → status ≡ Ready → (rows r' : Rows) (last : Actor P) → last.engine ≡ new
-      → Tells answered restarted old.engine.is_open r rows (record old { engine = new; status = status }) last call what
-      → IsTold last.thread last.engine.is_open rows (last.engine.snapshot / 2) r' → SameActor old last → TakesIn answered restarted cells r old r' last
+      → Tells rules old.engine.is_open r rows (record old { engine = new; status = status }) last call what
+      → IsTold last.thread last.engine.is_open rows (last.engine.snapshot / 2) r' → SameActor old last → TakesIn rules cells r old r' last
   takes_in status ready rows r' last engine tells told same = record {
     call = call;
     step = step;
@@ -35,38 +35,38 @@ module _ {P : Type 0} (answered : P → Reply → P) (restarted : P → P) (cell
     what = what;
     resumed = subst (λ (e : Core). IsResumed old.engine (found cells step) what e) (sym engine) (subst (λ (n : ℕ). IsResumed old.engine n what new) seen_is resumed);
     rows = rows;
-    tells = subst (λ (e : Core). Tells answered restarted old.engine.is_open r rows (record old { engine = e; status = Ready }) last call what) (sym engine)
-        (subst (λ (s : Status). Tells answered restarted old.engine.is_open r rows (record old { engine = new; status = s }) last call what) ready tells);
+    tells = subst (λ (e : Core). Tells rules old.engine.is_open r rows (record old { engine = e; status = Ready }) last call what) (sym engine)
+        (subst (λ (s : Status). Tells rules old.engine.is_open r rows (record old { engine = new; status = s }) last call what) ready tells);
     told = subst (λ (n : ℕ). IsTold n last.engine.is_open rows (last.engine.snapshot / 2) r') same.thread told;
     same = same;
   }
 
-module _ {P : Type 0} (next : P → Option Call) (answered : P → Reply → P) (restarted : P → P) (clock : ℕ) where
-  pub works_none : (r : Rows) (a : Actor P) → Works next answered restarted clock r a r a
+module _ {P : Type 0} (rules : Rules P) (clock : ℕ) where
+  pub works_none : (r : Rows) (a : Actor P) → Works rules clock r a r a
   works_none r a = (0, (refl, refl))
 
-  pub works_more : (r r1 r2 : Rows) (a a1 a2 : Actor P) → Works next answered restarted clock r a r1 a1 → a1.status ≡ Ready → Acts next answered restarted clock r1 a1 r2 a2
-      → Works next answered restarted clock r a r2 a2
+  pub works_more : (r r1 r2 : Rows) (a a1 a2 : Actor P) → Works rules clock r a r1 a1 → a1.status ≡ Ready → Acts rules clock r1 a1 r2 a2
+      → Works rules clock r a r2 a2
   works_more r r1 r2 a a1 a2 w ready acts = (suc w.0, (r1, a1, w.1, ready, acts))
 
-  acts_both : (n k : ℕ) (r r1 r2 : Rows) (a a1 a2 : Actor P) → ActsOn next answered restarted clock n r a r1 a1 → ActsOn next answered restarted clock k r1 a1 r2 a2
-      → Works next answered restarted clock r a r2 a2
+  acts_both : (n k : ℕ) (r r1 r2 : Rows) (a a1 a2 : Actor P) → ActsOn rules clock n r a r1 a1 → ActsOn rules clock k r1 a1 r2 a2
+      → Works rules clock r a r2 a2
   acts_both n zero r r1 r2 a a1 a2 f g =
-      subst (λ (x : Rows). Works next answered restarted clock r a x a2) (sym g.0) (subst (λ (x : Actor P). Works next answered restarted clock r a r1 x) (sym g.1) (n, f))
+      subst (λ (x : Rows). Works rules clock r a x a2) (sym g.0) (subst (λ (x : Actor P). Works rules clock r a r1 x) (sym g.1) (n, f))
   acts_both n (suc k) r r1 r2 a a1 a2 f g = works_more r g.0 r2 a g.1 a2 (acts_both n k r r1 g.0 a a1 g.1 f g.2) g.3 g.4
 
-  pub works_both : (r r1 r2 : Rows) (a a1 a2 : Actor P) → Works next answered restarted clock r a r1 a1 → Works next answered restarted clock r1 a1 r2 a2
-      → Works next answered restarted clock r a r2 a2
+  pub works_both : (r r1 r2 : Rows) (a a1 a2 : Actor P) → Works rules clock r a r1 a1 → Works rules clock r1 a1 r2 a2
+      → Works rules clock r a r2 a2
   works_both r r1 r2 a a1 a2 f g = acts_both f.0 g.0 r r1 r2 a a1 a2 f.1 g.1
 
 -- who is ready is to open none
-module _ {P : Type 0} (next : P → Option Call) (answered : P → Reply → P) (restarted : P → P) (left : P → ℕ) (depth : P → ℕ) where
-  pub nothing_ready : (r : Rows) (a : Actor P) (s : Status) → StatusIs next answered restarted left depth r a s → s ≡ Ready → a.pending ≡ None
+module _ {P : Type 0} (rules : Rules P) where
+  pub nothing_ready : (r : Rows) (a : Actor P) (s : Status) → StatusIs rules r a s → s ≡ Ready → a.pending ≡ None
   nothing_ready r a Ready is e = is.nothing
   nothing_ready r a (Waits call step) is e = absurd (cc)
   nothing_ready r a (Ended end) is e = absurd (cc)
 
-  pub nothing_rests : (a : Actor P) (s : Status) → RestsAs next answered restarted left depth s a → s ≡ Ready → a.pending ≡ None
+  pub nothing_rests : (a : Actor P) (s : Status) → RestsAs rules s a → s ≡ Ready → a.pending ≡ None
   nothing_rests a Ready is e = is.nothing
   nothing_rests a (Waits call step) is e = absurd is
   nothing_rests a (Ended end) is e = absurd (cc)

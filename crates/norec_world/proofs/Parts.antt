@@ -1,7 +1,5 @@
 -- What an actor that follows its player has done is a beginning of what the player does alone.
-use Rattle.std.proofs.Common.{◌≡◌, ◌⊎◌, inl, inr, ℕ, ◌+◌, ◌*◌, ◌/◌, ◌%◌, Bool, true, false, List, [], ◌∷◌, ◌++◌, Option, refl, sym, ap, ◌∙◌, arith}
-use Rattle.itm_types.specs.declared.call.Call.{Call}
-use Rattle.itm_types.specs.declared.call.Reply.{Reply}
+use Rattle.std.proofs.Common.{◌≡◌, ◌⊎◌, inl, inr, ℕ, ◌+◌, ◌*◌, ◌/◌, ◌%◌, Bool, true, false, List, [], ◌∷◌, ◌++◌, refl, sym, ap, ◌∙◌, arith}
 use Rattle.itm_types.specs.Memory.{bytes_of}
 use Rattle.norec_engine.specs.Core.{Core}
 use Rattle.norec_world.specs.declared.attempt.Attempt.{Attempt}
@@ -15,6 +13,7 @@ use Rattle.norec_world.specs.Records.{StopsAt}
 use Rattle.norec_world.specs.Rows.{Rows, all_of}
 use Rattle.std.proofs.lemmas.List.{append-nil}
 use Rattle.norec_world.proofs.SoloRuns.{one_found, one_gone}
+use Rattle.script_vm.specs.Rules.{Rules}
 
 half_even : (n k : ℕ) → n ≡ 2 * k → (n / 2 ≡ k) × (n % 2 ≡ 0)
 half_even n k e = (omega (arith, e), omega (arith, e))
@@ -22,21 +21,21 @@ half_even n k e = (omega (arith, e), omega (arith, e))
 half_odd : (n k : ℕ) → n ≡ 2 * k + 1 → (n / 2 ≡ k) × (n % 2 ≡ 0 → ⊥)
 half_odd n k e = (omega (arith, e), λ z. omega (arith, e, z))
 
-module _ {P : Type 0} (next : P → Option Call) (answered : P → Reply → P) (left : P → ℕ) (max_commits thread : ℕ) (p0 : P) (base arena : List ℕ)
-    (b : Progress P) (past : List Attempt) (M : List ℕ) (cells : Cells) (rows : Rows) (p : P) (e : Core) (f : Follows next answered left max_commits thread p0 base arena b past M cells rows p e) where
+module _ {P : Type 0} (rules : Rules P) (max_commits thread : ℕ) (p0 : P) (base arena : List ℕ)
+    (b : Progress P) (past : List Attempt) (M : List ℕ) (cells : Cells) (rows : Rows) (p : P) (e : Core) (f : Follows rules max_commits thread p0 base arena b past M cells rows p e) where
   abbrev SoFar : ℕ → List ℕ → Outcome → List Attempt → Type 0
-  SoFar commits memory outcome rows' = IsSoFar next answered left max_commits thread p0 base arena commits memory outcome rows'
+  SoFar commits memory outcome rows' = IsSoFar rules max_commits thread p0 base arena commits memory outcome rows'
 
-  either : (rows' : List Attempt) (outcome : Outcome) → (e.is_open ≡ false → rows' ≡ past) → (e.is_open ≡ true → IsBegun next answered left max_commits thread b past outcome rows')
-      → (rows' ≡ past) ⊎ IsBegun next answered left max_commits thread b past outcome rows'
+  either : (rows' : List Attempt) (outcome : Outcome) → (e.is_open ≡ false → rows' ≡ past) → (e.is_open ≡ true → IsBegun rules max_commits thread b past outcome rows')
+      → (rows' ≡ past) ⊎ IsBegun rules max_commits thread b past outcome rows'
   either rows' outcome closed opens = by_case e.is_open refl
     where
-      by_case : (o : Bool) → e.is_open ≡ o → (rows' ≡ past) ⊎ IsBegun next answered left max_commits thread b past outcome rows'
+      by_case : (o : Bool) → e.is_open ≡ o → (rows' ≡ past) ⊎ IsBegun rules max_commits thread b past outcome rows'
       by_case true o = inr (opens o)
       by_case false o = inl (closed o)
 
   so_far : (commits : ℕ) (memory : List ℕ) (outcome : Outcome) (rows' : List Attempt) → commits ≡ b.commits → memory ≡ b.memory
-      → (e.is_open ≡ false → rows' ≡ past) → (e.is_open ≡ true → IsBegun next answered left max_commits thread b past outcome rows') → SoFar commits memory outcome rows'
+      → (e.is_open ≡ false → rows' ≡ past) → (e.is_open ≡ true → IsBegun rules max_commits thread b past outcome rows') → SoFar commits memory outcome rows'
   so_far commits memory outcome rows' same_commits same_memory closed opens = record {
     before = b;
     past = past;
@@ -46,8 +45,8 @@ module _ {P : Type 0} (next : P → Option Call) (answered : P → Reply → P) 
     rows_are = either rows' outcome closed opens;
   }
 
-  begun : (outcome : Outcome) (rows' : List Attempt) (o : e.is_open ≡ true) → rows' ≡ past ++ row_of next answered left max_commits thread b (f.opens o).0 (f.opens o).1 outcome ∷ []
-      → IsBegun next answered left max_commits thread b past outcome rows'
+  begun : (outcome : Outcome) (rows' : List Attempt) (o : e.is_open ≡ true) → rows' ≡ past ++ row_of rules max_commits thread b (f.opens o).0 (f.opens o).1 outcome ∷ []
+      → IsBegun rules max_commits thread b past outcome rows'
   begun outcome rows' o is = (let block = f.opens o in record { start = block.0; calls = block.1; rows_are = is; begins = block.4.comes; alone = block.4.alone })
 
   -- half the clock is the number of commits, also while the clock is held
@@ -74,12 +73,12 @@ module _ {P : Type 0} (next : P → Option Call) (answered : P → Reply → P) 
         so_far (cells.clock / 2) (bytes_of cells.words) NoMemory (all_of rows') even.0 (halves.1 even.1) (λ o. ap all_of (none o) ∙ past_only o)
             (λ o. (
             let block = f.opens o in
-            let row : Attempt = row_of next answered left max_commits thread b block.0 block.1 Unfinished in
+            let row : Attempt = row_of rules max_commits thread b block.0 block.1 Unfinished in
             let stopped : Attempt = record row { at = e.snapshot / 2; outcome = NoMemory } in
             begun NoMemory (all_of rows') o (
             ap all_of (stops o row (one_found thread row rows block.3 refl))
             ∙ ((λ i. (block.2 i ++ stopped ∷ []) ++ one_gone thread row rows block.3 refl i)
             ∙ (append-nil (past ++ stopped ∷ [])
-            ∙ ap (λ (at : ℕ). past ++ record (row_of next answered left max_commits thread b block.0 block.1 NoMemory) { at = at } ∷ []) (half_even e.snapshot b.commits block.4.at).0)))
+            ∙ ap (λ (at : ℕ). past ++ record (row_of rules max_commits thread b block.0 block.1 NoMemory) { at = at } ∷ []) (half_even e.snapshot b.commits block.4.at).0)))
             )),
       )

@@ -1,5 +1,5 @@
 -- The player's laws, over one answer: its depth, where it goes back to, and how much is left to do.
-use Rattle.std.proofs.Common.{◌≡◌, ℕ, ◌+◌, ◌*◌, ◌<◌, ◌≤◌, Bool, true, false, Option, Some, refl, ap, subst, ◌∙◌, arith, if◌then◌else◌}
+use Rattle.std.proofs.Common.{◌≡◌, ℕ, ◌+◌, ◌*◌, ◌<◌, ◌≤◌, Bool, true, false, Some, refl, ap, subst, ◌∙◌, arith, if◌then◌else◌}
 use Rattle.std.proofs.Math.Nat.{mul-le-mul_right}
 use Rattle.itm_types.specs.declared.call.Call.{Call}
 use Rattle.itm_types.specs.declared.call.Call.TheVariants.{Begin, Commit, Read, Write}
@@ -7,6 +7,7 @@ use Rattle.itm_types.specs.declared.call.Reply.{Reply as Replied}
 use Rattle.itm_types.specs.declared.call.Reply.TheVariants.{Done, Bytes, Code, Refused}
 use Rattle.script_vm.specs.Depth.{depth_after, opens}
 use Rattle.norec_world.specs.Sound.{depth_if, IsNested, whole}
+use Rattle.script_vm.specs.Rules.{Obeys, Rules}
 
 -- ## Numbers
 
@@ -44,68 +45,65 @@ opens_within c r = refl
 both : (n : Bool) → n ≡ true → n ≡ false → ⊥
 both n t f = absurd (cc)
 
-module _ {P : Type 0} (next : P → Option Call) (answered : P → Replied → P) (restarted : P → P) (left : P → ℕ) (depth : P → ℕ)
-    (nearer : (p : P) (c : Call) (r : Replied) → next p ≡ Some c → left (answered p r) < left p)
-    (nests : (p : P) (c : Call) (r : Replied) → next p ≡ Some c → depth (answered p r) ≡ depth_after (depth p) c r)
-    (restarts : (p : P) (c : Call) (r : Replied) → next p ≡ Some c → 0 < depth_after (depth p) c r → restarted (answered p r) ≡ (if opens (depth p) c r then p else restarted p)) where
+module _ {P : Type 0} (rules : Rules P) (laws : Obeys rules) where
   -- what a player is after a reply, by the blocks that were open and that are now
   pub record Played (was now : Bool) (p q : P) : Type 0 where
-    pub nested : IsNested next answered restarted left depth now q
-    pub whole_falls : whole next answered restarted left depth now q ≤ whole next answered restarted left depth was p
-    pub less : left q < left p
+    pub nested : IsNested rules now q
+    pub whole_falls : whole rules now q ≤ whole rules was p
+    pub less : rules.calls_left q < rules.calls_left p
 
-  module _ (p : P) (c : Call) (r : Replied) (asks : next p ≡ Some c) where
-    goes_back : (d : ℕ) → depth p ≡ d → 0 < depth_after d c r → restarted (answered p r) ≡ (if opens d c r then p else restarted p)
+  module _ (p : P) (c : Call) (r : Replied) (asks : rules.next_call p ≡ Some c) where
+    goes_back : (d : ℕ) → rules.depth p ≡ d → 0 < depth_after d c r → rules.restarted (rules.answered p r) ≡ (if opens d c r then p else rules.restarted p)
     goes_back d e l =
-        let Back : ℕ → Type 0 = λ x. 0 < depth_after x c r → restarted (answered p r) ≡ (if opens x c r then p else restarted p) in
-        subst Back e (restarts p c r asks) l
+        let Back : ℕ → Type 0 = λ x. 0 < depth_after x c r → rules.restarted (rules.answered p r) ≡ (if opens x c r then p else rules.restarted p) in
+        subst Back e (laws.restarts p c r asks) l
 
-    deep : (d : ℕ) → depth p ≡ d → depth (answered p r) ≡ depth_after d c r
-    deep d e = nests p c r asks ∙ ap (λ x. depth_after x c r) e
+    deep : (d : ℕ) → rules.depth p ≡ d → rules.depth (rules.answered p r) ≡ depth_after d c r
+    deep d e = laws.nests p c r asks ∙ ap (λ x. depth_after x c r) e
 
     -- a block opened
-    entered : depth p ≡ 0 → depth_after 0 c r ≡ 1 → Played false true p (answered p r)
+    entered : rules.depth p ≡ 0 → depth_after 0 c r ≡ 1 → Played false true p (rules.answered p r)
     entered e fits =
-        let back : restarted (answered p r) ≡ p = goes_back 0 e (omega arith) ∙ ap (λ (b : Bool). if b then p else restarted p) (opens_at_begin c r fits) in
-        let fewer = nearer p c r asks in
-        let same : left (restarted (answered p r)) ≡ left p = ap left back in
+        let back : rules.restarted (rules.answered p r) ≡ p = goes_back 0 e (omega arith) ∙ ap (λ (b : Bool). if b then p else rules.restarted p) (opens_at_begin c r fits) in
+        let fewer = laws.nearer p c r asks in
+        let same : rules.calls_left (rules.restarted (rules.answered p r)) ≡ rules.calls_left p = ap rules.calls_left back in
         record {
-          nested = record { depth_is = deep 0 e ∙ fits; begun = λ o. ap depth back ∙ e; less = λ o. omega arith };
+          nested = record { depth_is = deep 0 e ∙ fits; begun = λ o. ap rules.depth back ∙ e; less = λ o. omega arith };
           whole_falls = omega arith;
           less = fewer;
         }
 
     -- it stays open
-    within : depth p ≡ 1 → depth (restarted p) ≡ 0 → left p < left (restarted p) → depth_after 1 c r ≡ 1 → Played true true p (answered p r)
+    within : rules.depth p ≡ 1 → rules.depth (rules.restarted p) ≡ 0 → rules.calls_left p < rules.calls_left (rules.restarted p) → depth_after 1 c r ≡ 1 → Played true true p (rules.answered p r)
     within e back0 room fits =
-        let back : restarted (answered p r) ≡ restarted p = goes_back 1 e (omega arith) in
-        let fewer = nearer p c r asks in
-        let same : left (restarted (answered p r)) ≡ left (restarted p) = ap left back in
+        let back : rules.restarted (rules.answered p r) ≡ rules.restarted p = goes_back 1 e (omega arith) in
+        let fewer = laws.nearer p c r asks in
+        let same : rules.calls_left (rules.restarted (rules.answered p r)) ≡ rules.calls_left (rules.restarted p) = ap rules.calls_left back in
         record {
-          nested = record { depth_is = deep 1 e ∙ fits; begun = λ o. ap depth back ∙ back0; less = λ o. omega arith };
+          nested = record { depth_is = deep 1 e ∙ fits; begun = λ o. ap rules.depth back ∙ back0; less = λ o. omega arith };
           whole_falls = omega arith;
           less = fewer;
         }
 
     -- none is open
-    outside : depth p ≡ 0 → depth_after 0 c r ≡ 0 → Played false false p (answered p r)
+    outside : rules.depth p ≡ 0 → depth_after 0 c r ≡ 0 → Played false false p (rules.answered p r)
     outside e fits =
-        let fewer = nearer p c r asks in
+        let fewer = laws.nearer p c r asks in
         record {
           nested = record { depth_is = deep 0 e ∙ fits; begun = λ o. absurd (cc); less = λ o. absurd (cc) };
           whole_falls = omega arith;
           less = fewer;
         }
 
-    pub plays : (was now : Bool) → IsNested next answered restarted left depth was p → depth_after (depth_if was) c r ≡ depth_if now → (was ≡ true → now ≡ true) → Played was now p (answered p r)
+    pub plays : (was now : Bool) → IsNested rules was p → depth_after (depth_if was) c r ≡ depth_if now → (was ≡ true → now ≡ true) → Played was now p (rules.answered p r)
     plays true true n fits still = within n.depth_is (n.begun refl) (n.less refl) fits
     plays true false n fits still = absurd (both false (still refl) refl)
     plays false true n fits still = entered n.depth_is fits
     plays false false n fits still = outside n.depth_is fits
 
     -- the block is done
-    pub closes : IsNested next answered restarted left depth true p → c ≡ Commit → r ≡ Done → IsNested next answered restarted left depth false (answered p r) × (left (answered p r) < left (restarted p))
+    pub closes : IsNested rules true p → c ≡ Commit → r ≡ Done → IsNested rules false (rules.answered p r) × (rules.calls_left (rules.answered p r) < rules.calls_left (rules.restarted p))
     closes n is done =
-        let fewer = nearer p c r asks in
+        let fewer = laws.nearer p c r asks in
         let room = n.less refl in
         (record { depth_is = deep 1 n.depth_is ∙ ((λ i. depth_after 1 (is i) (done i))); begun = λ o. absurd (cc); less = λ o. absurd (cc) }, omega arith)

@@ -1,5 +1,5 @@
 -- What stands in the rows of attempts, after an answer.
-use Rattle.std.proofs.Common.{None, Some, Option, ◌==◌, sym, subst, ◌≡◌, ℕ, ◌&&◌, Bool, true, false, List, [], ◌∷◌, length, refl, ap, ◌∙◌, arith}
+use Rattle.std.proofs.Common.{None, Some, ◌==◌, sym, subst, ◌≡◌, ℕ, ◌&&◌, Bool, true, false, List, [], ◌∷◌, length, refl, ap, ◌∙◌, arith}
 use Rattle.itm_types.specs.declared.call.Call.{Call}
 use Rattle.itm_types.specs.declared.call.Reply.{Reply as Replied}
 use Rattle.script_vm.specs.Depth.{depth_after, is_begin, is_code, opens}
@@ -13,6 +13,7 @@ use Rattle.norec_world.specs.declared.actor.Status.TheVariants.{Ready, Waits, En
 use Rattle.norec_world.specs.Sound.{depth_if, HasRow, IsKept, StatusIs}
 use Rattle.std.proofs.lemmas.Bool.{cond-true, cond-false}
 use Rattle.norec_world.proofs.PlayerLaws.{opens_at_begin}
+use Rattle.script_vm.specs.Rules.{Rules}
 
 -- nothing is open, and was not
 pub row_stays : (r : Rows) (thread : ℕ) (was now : Bool) → (was ≡ true → now ≡ true) → now ≡ false → HasRow was r thread → HasRow now r thread
@@ -80,7 +81,7 @@ pub record KeepsCalls (f : Attempt → Attempt) : Type 0 where
   pub outcome : (a : Attempt) → (f a).outcome ≡ a.outcome
   pub calls : (a : Attempt) → (f a).calls ≡ a.calls
 
-module _ {P : Type 0} (next : P → Option Call) (answered : P → Replied → P) (restarted : P → P) (left : P → ℕ) (depth : P → ℕ)
+module _ {P : Type 0} (rules : Rules P)
     (r r' : Rows) (a : Actor P) (f : Attempt → Attempt) (k : KeepsCalls f) (is : r' ≡ with_changed a.thread f r) (opened : a.engine.is_open ≡ true) (kept : IsKept a.engine.is_open r a) where
   had : HasRow true r a.thread
   had = subst (λ (b : Bool). HasRow b r a.thread) opened kept.row
@@ -94,7 +95,7 @@ module _ {P : Type 0} (next : P → Option Call) (answered : P → Replied → P
       let same : row ≡ f had.0 = (let both : Some row ≡ Some (f had.0) = sym e ∙ there in cc) in
       ap (λ (x : Attempt). x.calls) same ∙ k.calls had.0
 
-  pub told_status : (status : Status) → StatusIs next answered restarted left depth r a status → StatusIs next answered restarted left depth r' a status
+  pub told_status : (status : Status) → StatusIs rules r a status → StatusIs rules r' a status
   told_status Ready s = record { nested = s.nested; idle = s.idle; free = s.free; nothing = s.nothing }
   told_status (Waits call step) s =
       let i = s.in_call in

@@ -1,8 +1,6 @@
 -- What is answered where the actor waits for no operation.
 use Rattle.std.proofs.Common.{◌≡◌, ℕ, ◌≤◌, zero, suc, Bool, true, false, List, [], ◌∷◌, length, Option, None, Some, Err, IsSome, slice_get, refl, sym, ap, subst, ◌∙◌, arith}
 use Rattle.std.specs.Option.{option_and_then, option_map}
-use Rattle.itm_types.specs.declared.call.Call.{Call}
-use Rattle.itm_types.specs.declared.call.Reply.{Reply}
 use Rattle.norec_world.specs.declared.actor.Actor.{Actor}
 use Rattle.norec_world.specs.declared.fault.WorldFault.TheVariants.{NoSuchActor, Ended}
 use Rattle.norec_world.specs.Status.{ending_of, is_ready, is_waiting, waiting_step}
@@ -12,6 +10,7 @@ use Rattle.norec_world.specs.Opaque.{AreOpaque}
 use Rattle.norec_world.specs.WorldEvents.{Goes}
 use Rattle.norec_world.proofs.Worlds.{some_ended, waiting_some}
 use Rattle.norec_world.proofs.SoundOthers.{within_of}
+use Rattle.script_vm.specs.Rules.{Rules}
 
 pub mapped_none : {A B : Type 0} (f : A → B) (o : Option A) → None ≡ option_map f o → o ≡ None
 mapped_none f None e = refl
@@ -29,9 +28,9 @@ past_end (x ∷ xs) (suc i) e = (let l = past_end xs i e in omega arith)
 both : (b : Bool) → b ≡ true → b ≡ false → ⊥
 both b t f = absurd (cc)
 
-module _ {P : Type 0} (next : P → Option Call) (answered : P → Reply → P) (restarted : P → P) (left : P → ℕ) (w : World P) (i : ℕ) (alone : ShowsAlone next answered left w)
-    (commits : CommitsInOrder w) (opaque : AreOpaque next answered restarted left w) where
-  pub goes_nowhere : slice_get w.actors i ≡ None → Goes next answered restarted left i w (Err NoSuchActor) w
+module _ {P : Type 0} (rules : Rules P) (w : World P) (i : ℕ) (alone : ShowsAlone rules w)
+    (commits : CommitsInOrder w) (opaque : AreOpaque rules w) where
+  pub goes_nowhere : slice_get w.actors i ≡ None → Goes rules i w (Err NoSuchActor) w
   goes_nowhere none =
       let no_step : waits_at w i ≡ None = ap (option_and_then (λ (a : Actor P). waiting_step a.status)) none in
       let no_end : ending_at w i ≡ None = ap (option_and_then (λ (a : Actor P). ending_of a.status)) none in
@@ -52,7 +51,7 @@ module _ {P : Type 0} (next : P → Option Call) (answered : P → Reply → P) 
         alone = alone;
       }
 
-  pub goes_no_more : (a : Actor P) → slice_get w.actors i ≡ Some a → is_waiting a.status ≡ false → is_ready a.status ≡ false → Goes next answered restarted left i w (Err Ended) w
+  pub goes_no_more : (a : Actor P) → slice_get w.actors i ≡ Some a → is_waiting a.status ≡ false → is_ready a.status ≡ false → Goes rules i w (Err Ended) w
   goes_no_more a here still done =
       let step_is : waits_at w i ≡ waiting_step a.status = ap (option_and_then (λ (x : Actor P). waiting_step x.status)) here in
       let end_is : ending_at w i ≡ ending_of a.status = ap (option_and_then (λ (x : Actor P). ending_of x.status)) here in

@@ -1,5 +1,5 @@
 -- An actor's run, once an answer is recorded.
-use Rattle.std.proofs.Common.{◌≡◌, ℕ, ◌+◌, ◌/◌, ◌<◌, ◌≤◌, Bool, true, false, nat_lt, if◌then◌else◌, List, [], ◌∷◌, ◌++◌, map, Option, None, Some, refl, sym, ap, subst, ◌∙◌, arith}
+use Rattle.std.proofs.Common.{◌≡◌, ℕ, ◌+◌, ◌/◌, ◌≤◌, Bool, true, false, nat_lt, if◌then◌else◌, List, [], ◌∷◌, ◌++◌, map, Option, None, Some, refl, sym, ap, subst, ◌∙◌, arith}
 use Rattle.itm_types.specs.declared.call.Call.{Call}
 use Rattle.itm_types.specs.declared.call.Call.TheVariants.{Commit}
 use Rattle.itm_types.specs.declared.call.Reply.{Reply as Replied}
@@ -35,6 +35,7 @@ use Rattle.norec_world.proofs.SoloRuns.{player_snoc, stands_open}
 use Rattle.norec_world.proofs.TryEnds.{none_pending}
 use Rattle.norec_world.proofs.RunLists.{of_thread_own, run_more, run_still}
 use Rattle.norec_world.proofs.InTries.{try_replies, try_stops, try_commits, left_state}
+use Rattle.script_vm.specs.Rules.{Obeys, Rules}
 
 both : (n : Bool) → n ≡ true → n ≡ false → ⊥
 both n t f = absurd (cc)
@@ -47,25 +48,24 @@ undone_arena_from s (b ∷ bs) = undone_arena_from (record s { memory = b.saved.
 undone_arena : (s : State) → (undone s).arena ≡ s.arena
 undone_arena s = undone_arena_from s s.blocks
 
-module _ {P : Type 0} (next : P → Option Call) (answered : P → Replied → P) (restarted : P → P) (left : P → ℕ) (depth : P → ℕ)
-    (nearer : (p : P) (c : Call) (r : Replied) → next p ≡ Some c → left (answered p r) < left p)
+module _ {P : Type 0} (rules : Rules P) (laws : Obeys rules)
     (first : Between P) (base : List ℕ) (n : ℕ) (r r1 : Rows) (a last : Actor P) (call : Call) (mid : Core) where
   abbrev Run : ℕ → Rows → Actor P → Type 0
-  Run k rows x = IsRun next answered restarted left first base k rows x
+  Run k rows x = IsRun rules first base k rows x
 
   abbrev RunOf : List Attempt → ℕ → Type 0
-  RunOf ended thread = IsRunOf next answered restarted left MAX_DEPTH n (bytes_at base ended) (Some first) (of_thread thread ended)
+  RunOf ended thread = IsRunOf rules MAX_DEPTH n (bytes_at base ended) (Some first) (of_thread thread ended)
 
   abbrev now_at : List Attempt → ℕ → Option (Between P)
-  now_at ended thread = run_after next answered restarted left (bytes_at base ended) (Some first) (of_thread thread ended)
+  now_at ended thread = run_after rules (bytes_at base ended) (Some first) (of_thread thread ended)
 
   run_same : (xs ys : List Attempt) (t u : ℕ) → ys ≡ xs → u ≡ t → RunOf xs t → RunOf ys u
   run_same xs ys t u e f h = subst (λ (l : List Attempt). RunOf l u) (sym e) (subst (RunOf xs) (sym f) h)
 
   -- ## A call of an open transaction has its reply
 
-  module _ (reply : Replied) (run : Run n r (record a { engine = mid })) (d : IsAnswered next answered restarted left depth true r a call (Reply reply)) (inside : mid.is_open ≡ true) (g : Replies mid call reply a.engine)
-      (told : Records answered restarted true r r1 a last call (Reply reply)) (s : IsSettledBy next answered restarted left depth true r1 a last)
+  module _ (reply : Replied) (run : Run n r (record a { engine = mid })) (d : IsAnswered rules true r a call (Reply reply)) (inside : mid.is_open ≡ true) (g : Replies mid call reply a.engine)
+      (told : Records rules true r r1 a last call (Reply reply)) (s : IsSettledBy rules true r1 a last)
       (snapshot : mid.snapshot / 2 ≤ a.engine.snapshot / 2) (less : (m : List ℕ) → Agrees m a.engine.log → Agrees m mid.log) where
     with_call : Attempt → Attempt
     with_call x = record x { calls = x.calls ++ record { call = call; reply = reply } ∷ [] }
@@ -76,7 +76,7 @@ module _ {P : Type 0} (next : P → Option Call) (answered : P → Replied → P
         let t = run.inside inside in
         let ended : r1.ended ≡ r.ended = ap (λ (x : Rows). x.ended) told.0 in
         let earlier = t.4.began in
-        let try = try_replies next answered restarted left nearer t.0 t.1 a.player mid a.engine call reply t.4 inside d.in_call.asks g (omega arith) less in
+        let try = try_replies rules laws t.0 t.1 a.player mid a.engine call reply t.4 inside d.in_call.asks g (omega arith) less in
         let row : Attempt = with_call t.1 in
         let still_open : last.engine.is_open ≡ true = ap (λ (c : Core). c.is_open) s.engine ∙ g.still inside in
         record {
@@ -86,7 +86,7 @@ module _ {P : Type 0} (next : P → Option Call) (answered : P → Replied → P
             row,
             (λ i. now_at (ended i) (s.thread i)) ∙ t.2,
             ap (λ (k : ℕ). active_of k r1.active) s.thread ∙ (ap (λ (x : Rows). active_of a.thread x.active) told.0 ∙ changed_here a.thread with_call r.active t.1 (λ x. refl) t.3),
-            subst (λ (c : Core). IsInTry next answered restarted left t.0 row last.player c) (sym s.engine) (subst (λ (q : P). IsInTry next answered restarted left t.0 row q a.engine) (sym told.1) try),
+            subst (λ (c : Core). IsInTry rules t.0 row last.player c) (sym s.engine) (subst (λ (q : P). IsInTry rules t.0 row q a.engine) (sym told.1) try),
             told.2 ∙ t.5,
             t.6 ∙ sym told.3,
           );
@@ -103,24 +103,24 @@ module _ {P : Type 0} (next : P → Option Call) (answered : P → Replied → P
     row : Attempt
     row = (run.inside inside).1
 
-    pub ended_run : (over : Attempt) → over.thread ≡ a.thread → r1.ended ≡ r.ended ++ over ∷ [] → last.thread ≡ a.thread → IsTryAt next answered restarted left MAX_DEPTH n' (bytes_at base r1.ended) (run.inside inside).0 (Some (run.inside inside).4.start) over
-        → IsRunOf next answered restarted left MAX_DEPTH n' (bytes_at base r1.ended) (Some first) (of_thread last.thread r1.ended)
-        × (run_after next answered restarted left (bytes_at base r1.ended) (Some first) (of_thread last.thread r1.ended)
-        ≡ after_try next answered restarted left MAX_DEPTH (bytes_at base r1.ended) (run.inside inside).0 (Some (run.inside inside).4.start) over)
+    pub ended_run : (over : Attempt) → over.thread ≡ a.thread → r1.ended ≡ r.ended ++ over ∷ [] → last.thread ≡ a.thread → IsTryAt rules MAX_DEPTH n' (bytes_at base r1.ended) (run.inside inside).0 (Some (run.inside inside).4.start) over
+        → IsRunOf rules MAX_DEPTH n' (bytes_at base r1.ended) (Some first) (of_thread last.thread r1.ended)
+        × (run_after rules (bytes_at base r1.ended) (Some first) (of_thread last.thread r1.ended)
+        ≡ after_try rules MAX_DEPTH (bytes_at base r1.ended) (run.inside inside).0 (Some (run.inside inside).4.start) over)
     ended_run over mine ended thread try =
         let t = run.inside inside in
         let memory = bytes_at base r1.ended in
-        let on = run_still next answered restarted left n n' (bytes_at base r.ended) memory later still (Some first) (of_thread a.thread r.ended) run.run in
-        let here : IsTryAt next answered restarted left MAX_DEPTH n' memory t.0 (begins_at next answered restarted left t.0) over = subst (λ (o : _). IsTryAt next answered restarted left MAX_DEPTH n' memory t.0 o over) (sym t.4.begins) try in
-        let more = run_more next answered restarted left n' memory (Some first) (of_thread a.thread r.ended) t.0 over on.0 (on.1 ∙ t.2) here in
+        let on = run_still rules n n' (bytes_at base r.ended) memory later still (Some first) (of_thread a.thread r.ended) run.run in
+        let here : IsTryAt rules MAX_DEPTH n' memory t.0 (begins_at rules t.0) over = subst (λ (o : _). IsTryAt rules MAX_DEPTH n' memory t.0 o over) (sym t.4.begins) try in
+        let more = run_more rules n' memory (Some first) (of_thread a.thread r.ended) t.0 over on.0 (on.1 ∙ t.2) here in
         let rows : of_thread last.thread r1.ended ≡ of_thread a.thread r.ended ++ over ∷ [] = (λ i. of_thread (thread i) (ended i)) ∙ of_thread_own a.thread r.ended over mine in (
-          subst (IsRunOf next answered restarted left MAX_DEPTH n' memory (Some first)) (sym rows) more.0,
-          ap (run_after next answered restarted left memory (Some first)) rows ∙ (more.1 ∙ ap (λ (o : _). after_try next answered restarted left MAX_DEPTH memory t.0 o over) t.4.begins),
+          subst (IsRunOf rules MAX_DEPTH n' memory (Some first)) (sym rows) more.0,
+          ap (run_after rules memory (Some first)) rows ∙ (more.1 ∙ ap (λ (o : _). after_try rules MAX_DEPTH memory t.0 o over) t.4.begins),
         )
 
     -- by its commit
-    module _ (at : ℕ) (wrote : Bool) (d : IsAnswered next answered restarted left depth true r a call (Committed at wrote)) (g : Commits mid at wrote a.engine)
-        (told : Records answered restarted true r r1 a last call (Committed at wrote)) (s : IsSettledBy next answered restarted left depth true r1 a last)
+    module _ (at : ℕ) (wrote : Bool) (d : IsAnswered rules true r a call (Committed at wrote)) (g : Commits mid at wrote a.engine)
+        (told : Records rules true r r1 a last call (Committed at wrote)) (s : IsSettledBy rules true r1 a last)
         (older : mid.snapshot / 2 ≤ n) (m : List ℕ) (mem : IsMemory mid.words m) (same : bytes_of m ≡ bytes_at base r.ended at) (agrees : Agrees m mid.log) where
       done : Attempt
       done = record (run.inside inside).1 { calls = (run.inside inside).1.calls ++ record { call = call; reply = Done } ∷ []; at = at; outcome = if wrote then outcomes.Committed else outcomes.ReadOnly }
@@ -138,26 +138,26 @@ module _ {P : Type 0} (next : P → Option Call) (answered : P → Replied → P
           ≡ after MAX_DEPTH (stands_for mid m) Commit
       commit_left =
           let t = run.inside inside in
-          left_state next answered restarted left nearer n' (bytes_at base r1.ended) t.0 t.1 a.player mid a.engine call at wrote m t.4 inside d.in_call.asks d.fits.2 g (let e = t.4.began in let is = g.at_is in omega arith) (omega (arith, at_most, later)) mem bytes_same agrees
+          left_state rules laws n' (bytes_at base r1.ended) t.0 t.1 a.player mid a.engine call at wrote m t.4 inside d.in_call.asks d.fits.2 g (let e = t.4.began in let is = g.at_is in omega arith) (omega (arith, at_most, later)) mem bytes_same agrees
 
       pub commit_runs : Run n' r1 last
       commit_runs =
           let t = run.inside inside in
-          let try = try_commits next answered restarted left nearer n' (bytes_at base r1.ended) t.0 t.1 a.player mid a.engine call at wrote m t.4 inside d.in_call.asks d.fits.2 g (let e = t.4.began in let is = g.at_is in omega arith) (omega (arith, at_most, later)) mem bytes_same agrees in
+          let try = try_commits rules laws n' (bytes_at base r1.ended) t.0 t.1 a.player mid a.engine call at wrote m t.4 inside d.in_call.asks d.fits.2 g (let e = t.4.began in let is = g.at_is in omega arith) (omega (arith, at_most, later)) mem bytes_same agrees in
           let over = ended_run _ (row_is_of a.thread r.active t.1 t.3) commit_ended s.thread try in
           let closed : last.engine.is_open ≡ false = ap (λ (c : Core). c.is_open) s.engine ∙ d.fits.1 in
           let ready : last.status ≡ Ready = told.4 ∙ d.status in
-          let nothing = none_pending next answered restarted left depth r r1 a last true s ready in
+          let nothing = none_pending rules r r1 a last true s ready in
           let arena : (alone MAX_DEPTH (bytes_at base r1.ended at) (record t.1 { calls = t.1.calls ++ record { call = call; reply = Done } ∷ []; at = at; outcome = if wrote then outcomes.Committed else outcomes.ReadOnly })).arena ≡ last.engine.arena =
           ap (λ (x : State). x.arena) commit_left ∙ (sym (g.arena_is m) ∙ ap (λ (c : Core). c.arena) (sym s.engine)) in
-          let player : answered_all answered (answered t.4.start.player (begin_code t.0.again)) (map (λ (x : Entry). x.reply) (t.1.calls ++ record { call = call; reply = Done } ∷ [])) ≡ last.player =
-          player_snoc answered (answered t.4.start.player (begin_code t.0.again)) t.1.calls (record { call = call; reply = Done }) ∙ (ap (λ (q : P). answered q Done) (sym t.4.player) ∙ sym told.1) in
+          let player : answered_all rules.answered (rules.answered t.4.start.player (begin_code t.0.again)) (map (λ (x : Entry). x.reply) (t.1.calls ++ record { call = call; reply = Done } ∷ [])) ≡ last.player =
+          player_snoc rules.answered (rules.answered t.4.start.player (begin_code t.0.again)) t.1.calls (record { call = call; reply = Done }) ∙ (ap (λ (q : P). rules.answered q Done) (sym t.4.player) ∙ sym told.1) in
           record {
             run = over.0;
             inside = λ o. absurd (both last.engine.is_open o closed);
             between = λ o gave_up starved. (
               record { player = last.player; arena = last.engine.arena; again = false; tries = 0 },
-              over.1 ∙ (follows_commit wrote (answered t.4.start.player (begin_code t.0.again)) _ _ ∙ (λ i. Some (record { player = player i; arena = arena i; again = false; tries = 0 }))),
+              over.1 ∙ (follows_commit wrote (rules.answered t.4.start.player (begin_code t.0.again)) _ _ ∙ (λ i. Some (record { player = player i; arena = arena i; again = false; tries = 0 }))),
               record {
                 leads = refl;
                 arena = refl;
@@ -168,7 +168,7 @@ module _ {P : Type 0} (next : P → Option Call) (answered : P → Replied → P
             );
           }
         where
-          follows_commit : (w : Bool) (p : P) (x : Attempt) (st : State) → follows next answered restarted left MAX_DEPTH (if w then outcomes.Committed else outcomes.ReadOnly) p x st ≡ Some (record { player = answered_all answered p (map (λ (y : Entry). y.reply) x.calls); arena = st.arena; again = false; tries = 0 })
+          follows_commit : (w : Bool) (p : P) (x : Attempt) (st : State) → follows rules MAX_DEPTH (if w then outcomes.Committed else outcomes.ReadOnly) p x st ≡ Some (record { player = answered_all rules.answered p (map (λ (y : Entry). y.reply) x.calls); arena = st.arena; again = false; tries = 0 })
           follows_commit true p x st = refl
           follows_commit false p x st = refl
 
@@ -190,14 +190,14 @@ module _ {P : Type 0} (next : P → Option Call) (answered : P → Replied → P
       agrees_now : Agrees (words_at base r1.ended k) mid.log
       agrees_now = subst (λ (m : List ℕ). Agrees m mid.log) (sym words_same) agrees
 
-      pub stop_run : IsRunOf next answered restarted left MAX_DEPTH n' (bytes_at base r1.ended) (Some first) (of_thread last.thread r1.ended)
-          × (run_after next answered restarted left (bytes_at base r1.ended) (Some first) (of_thread last.thread r1.ended)
-          ≡ after_try next answered restarted left MAX_DEPTH (bytes_at base r1.ended) (run.inside inside).0 (Some (run.inside inside).4.start) (record (run.inside inside).1 { at = k; outcome = outcome }))
+      pub stop_run : IsRunOf rules MAX_DEPTH n' (bytes_at base r1.ended) (Some first) (of_thread last.thread r1.ended)
+          × (run_after rules (bytes_at base r1.ended) (Some first) (of_thread last.thread r1.ended)
+          ≡ after_try rules MAX_DEPTH (bytes_at base r1.ended) (run.inside inside).0 (Some (run.inside inside).4.start) (record (run.inside inside).1 { at = k; outcome = outcome }))
       stop_run =
           let t = run.inside inside in
           ended_run (record t.1 { at = k; outcome = outcome }) (row_is_of a.thread r.active t.1 t.3) stop_ended thread
-          (try_stops next answered restarted left nearer n' base r1.ended t.0 t.1 a.player mid t.4 k outcome
-          (ends (stands_for mid (words_at base r1.ended k)) (stands_open next answered left nearer mid (words_at base r1.ended k) inside)) older (omega (arith, newer, later)) memory_now same_now agrees_now)
+          (try_stops rules laws n' base r1.ended t.0 t.1 a.player mid t.4 k outcome
+          (ends (stands_for mid (words_at base r1.ended k)) (stands_open rules laws mid (words_at base r1.ended k) inside)) older (omega (arith, newer, later)) memory_now same_now agrees_now)
 
       -- the plain state that it leaves
       pub stop_left : alone MAX_DEPTH (bytes_at base r1.ended k) (record (run.inside inside).1 { at = k; outcome = outcome }) ≡ stands_for mid (words_at base r1.ended k)
@@ -208,8 +208,8 @@ module _ {P : Type 0} (next : P → Option Call) (answered : P → Replied → P
           ∙ (ap (λ (m : List ℕ). state_then MAX_DEPTH (opened m t.start.arena t.start.props) row.calls) (sym same_now) ∙ sym (t.stands (words_at base r1.ended k) memory_now agrees_now))
 
     -- in conflict: its player goes back to its begin
-    module _ (clock : ℕ) (word : Option ℕ) (d : IsAnswered next answered restarted left depth true r a call (Conflict clock word)) (g : Conflicts mid clock word a.engine)
-        (told : Records answered restarted true r r1 a last call (Conflict clock word)) (s : IsSettledBy next answered restarted left depth true r1 a last)
+    module _ (clock : ℕ) (word : Option ℕ) (d : IsAnswered rules true r a call (Conflict clock word)) (g : Conflicts mid clock word a.engine)
+        (told : Records rules true r r1 a last call (Conflict clock word)) (s : IsSettledBy rules true r1 a last)
         (older : (run.inside inside).1.began ≤ last.engine.snapshot / 2) (newer : last.engine.snapshot / 2 ≤ n) (mem : IsMemory mid.words (words_at base r.ended (last.engine.snapshot / 2)))
         (same : bytes_of (words_at base r.ended (last.engine.snapshot / 2)) ≡ bytes_at base r.ended (last.engine.snapshot / 2)) (agrees : Agrees (words_at base r.ended (last.engine.snapshot / 2)) mid.log) where
       pub conflict_runs : Run n' r1 last
@@ -219,7 +219,7 @@ module _ {P : Type 0} (next : P → Option Call) (answered : P → Replied → P
           let over = stop_run k outcomes.Conflict (λ x o. o) s.thread told.0 older newer mem same agrees in
           let state = stop_left k outcomes.Conflict (λ x o. o) s.thread told.0 older newer mem same agrees in
           let closed : last.engine.is_open ≡ false = ap (λ (c : Core). c.is_open) s.engine ∙ d.fits.1 in
-          let player : restarted (answered_all answered (answered t.4.start.player (begin_code t.0.again)) (map (λ (x : Entry). x.reply) t.1.calls)) ≡ last.player = ap restarted (sym t.4.player) ∙ sym told.1 in
+          let player : rules.restarted (answered_all rules.answered (rules.answered t.4.start.player (begin_code t.0.again)) (map (λ (x : Entry). x.reply) t.1.calls)) ≡ last.player = ap rules.restarted (sym t.4.player) ∙ sym told.1 in
           let arena : (undone (alone MAX_DEPTH (bytes_at base r1.ended k) (record t.1 { at = k; outcome = outcomes.Conflict }))).arena ≡ last.engine.arena =
           undone_arena (alone MAX_DEPTH (bytes_at base r1.ended k) (record t.1 { at = k; outcome = outcomes.Conflict })) ∙ (ap (λ (x : State). x.arena) state ∙ (ap (λ (c : Core). c.arena) (sym g.stays) ∙ ap (λ (c : Core). c.arena) (sym s.engine))) in
           record {
@@ -247,10 +247,10 @@ module _ {P : Type 0} (next : P → Option Call) (answered : P → Replied → P
           ready false f gave_up = f ∙ d.status
 
           nothing : (ending_of last.status ≡ Some GaveUp → ⊥) → last.pending ≡ None
-          nothing gave_up = none_pending next answered restarted left depth r r1 a last true s (ready (nat_lt a.retries a.nth) told.2.status gave_up)
+          nothing gave_up = none_pending rules r r1 a last true s (ready (nat_lt a.retries a.nth) told.2.status gave_up)
 
     -- as full: the actor gives up
-    module _ (at : ℕ) (d : IsAnswered next answered restarted left depth true r a call (Full at)) (told : Records answered restarted true r r1 a last call (Full at)) (s : IsSettledBy next answered restarted left depth true r1 a last)
+    module _ (at : ℕ) (d : IsAnswered rules true r a call (Full at)) (told : Records rules true r r1 a last call (Full at)) (s : IsSettledBy rules true r1 a last)
         (older : (run.inside inside).1.began ≤ at) (newer : at ≤ n) (mem : IsMemory mid.words (words_at base r.ended at)) (same : bytes_of (words_at base r.ended at) ≡ bytes_at base r.ended at) (agrees : Agrees (words_at base r.ended at) mid.log) where
       pub full_runs : Run n' r1 last
       full_runs =

@@ -1,8 +1,7 @@
 -- An actor's run over a call, up to its first step.
-use Rattle.std.proofs.Common.{◌≡◌, ℕ, ◌/◌, ◌<◌, ◌≤◌, ◌&&◌, Bool, true, false, not, List, [], ◌∷◌, ◌++◌, length, Option, None, Some, refl, sym, ap, subst, ◌∙◌, arith}
+use Rattle.std.proofs.Common.{◌≡◌, ℕ, ◌/◌, ◌≤◌, ◌&&◌, Bool, true, false, not, List, [], ◌∷◌, ◌++◌, length, None, Some, refl, sym, ap, subst, ◌∙◌, arith}
 use Rattle.itm_types.specs.declared.call.Call.{Call}
 use Rattle.itm_types.specs.declared.call.Call.TheVariants.{Begin, Commit, Read, Write}
-use Rattle.itm_types.specs.declared.call.Reply.{Reply as Replied}
 use Rattle.itm_types.specs.declared.step.Step.{Step}
 use Rattle.itm_types.specs.Memory.{bytes_of, IsMemory, Agrees}
 use Rattle.itm_model.specs.declared.limits.TheConstants.{MAX_DEPTH}
@@ -40,25 +39,25 @@ use Rattle.norec_world.proofs.RunAnswers.{reply_runs, commit_runs, full_runs, st
 use Rattle.norec_world.proofs.RunBegins.{begin_here, outside_runs}
 use Rattle.norec_world.proofs.TryEnds.{begin_call, begin_opens, not_starved}
 use Rattle.norec_engine.proofs.AnsweredEngines.{rests}
+use Rattle.script_vm.specs.Rules.{Obeys, Rules}
 
 both : (n : Bool) → n ≡ true → n ≡ false → ⊥
 both n t f = absurd (cc)
 
-module _ {P : Type 0} (next : P → Option Call) (answered : P → Replied → P) (restarted : P → P) (left : P → ℕ) (depth : P → ℕ)
-    (nearer : (p : P) (c : Call) (r : Replied) → next p ≡ Some c → left (answered p r) < left p)
-    (cells : Cells) (r0 : Rows) (old : Actor P) (sound : IsSound next answered restarted left depth cells r0 old) (ready : old.status ≡ Ready)
-    (first : Between P) (base : List ℕ) (laid : AreLaid base cells r0) (runs : RunsFrom next answered restarted left first base cells r0 old) where
+module _ {P : Type 0} (rules : Rules P) (laws : Obeys rules)
+    (cells : Cells) (r0 : Rows) (old : Actor P) (sound : IsSound rules cells r0 old) (ready : old.status ≡ Ready)
+    (first : Between P) (base : List ℕ) (laid : AreLaid base cells r0) (runs : RunsFrom rules first base cells r0 old) where
   abbrev n : ℕ
   n = cells.clock / 2
 
   abbrev Run : ℕ → Rows → Actor P → Type 0
-  Run k r a = IsRun next answered restarted left first base k r a
+  Run k r a = IsRun rules first base k r a
 
   free : old.engine.holds ≡ false
-  free = (let s : IsReady next answered restarted left depth old = subst (λ (s : Status). StatusIs next answered restarted left depth r0 old s) ready sound.status in s.free)
+  free = (let s : IsReady rules old = subst (λ (s : Status). StatusIs rules r0 old s) ready sound.status in s.free)
 
   nothing : old.pending ≡ None
-  nothing = (let s : IsReady next answered restarted left depth old = subst (λ (s : Status). StatusIs next answered restarted left depth r0 old s) ready sound.status in s.nothing)
+  nothing = (let s : IsReady rules old = subst (λ (s : Status). StatusIs rules r0 old s) ready sound.status in s.nothing)
 
   on_way : (end : End) → ending_of old.status ≡ Some end → ⊥
   on_way end e = absurd (let z = sym (ap ending_of ready) ∙ e in cc)
@@ -71,7 +70,7 @@ module _ {P : Type 0} (next : P → Option Call) (answered : P → Replied → P
 
   -- ## The player has no more calls
 
-  pub finish_runs : RunsFrom next answered restarted left first base cells r0 (record old { status = Ended ends.Finished })
+  pub finish_runs : RunsFrom rules first base cells r0 (record old { status = Ended ends.Finished })
   finish_runs = record {
     runs = (let x = runs.runs in record {
       run = x.run;
@@ -87,7 +86,7 @@ module _ {P : Type 0} (next : P → Option Call) (answered : P → Replied → P
 
   -- ## The call goes to the engine
 
-  module _ (r : Rows) (new : Actor P) (call : Call) (what : Next) (asked : IsAsked next answered restarted left depth r old new call what) (asks : CallAsks cells.clock r0 r old new call what) where
+  module _ (r : Rows) (new : Actor P) (call : Call) (what : Next) (asked : IsAsked rules r old new call what) (asks : CallAsks cells.clock r0 r old new call what) where
     abbrev mid : Core
     mid = came old.engine call (begins_again old.engine.is_open old.again call)
 
@@ -97,8 +96,8 @@ module _ {P : Type 0} (next : P → Option Call) (answered : P → Replied → P
     active_same : active_of new.thread r.active ≡ active_of old.thread r0.active
     active_same = (λ i. active_of (asks.thread i) r.active) ∙ ap (λ (x : Rows). active_of old.thread x.active) asks.rows_are
 
-    calls : next old.player ≡ Some call
-    calls = ap next (sym asked.same.player) ∙ asked.in_call.asks
+    calls : rules.next_call old.player ≡ Some call
+    calls = ap rules.next_call (sym asked.same.player) ∙ asked.in_call.asks
 
     again_shut : (b : Bool) → old.engine.is_open ≡ b → b ≡ false → (c : Call) (p : _) (room : ℕ) → c ≡ Begin p room → (begins_again old.engine.is_open old.again c && not old.engine.is_open) ≡ old.again
     again_shut true e f c p room is = absurd (cc)
@@ -114,11 +113,11 @@ module _ {P : Type 0} (next : P → Option Call) (answered : P → Replied → P
     again_open false w e = absurd (cc)
 
     -- the attempt that is to be opened then
-    fresh_pending : (b : Between P) → IsBeforeTry next answered restarted left n b old → old.engine.is_open ≡ false → (c : Call) → c ≡ call → (row : Attempt) → asked_pending false cells.clock old c ≡ Some row
-        → (row.began ≤ n) × (row.arena ≡ b.arena) × (row.calls ≡ []) × (begins_at next answered restarted left b ≡ Some (record { player = new.player; arena = b.arena; props = row.props })) × (mid.again ≡ b.again)
+    fresh_pending : (b : Between P) → IsBeforeTry rules n b old → old.engine.is_open ≡ false → (c : Call) → c ≡ call → (row : Attempt) → asked_pending false cells.clock old c ≡ Some row
+        → (row.began ≤ n) × (row.arena ≡ b.arena) × (row.calls ≡ []) × (begins_at rules b ≡ Some (record { player = new.player; arena = b.arena; props = row.props })) × (mid.again ≡ b.again)
     fresh_pending b k o (Begin props room) is row e =
         let made : record { thread = old.thread; nth = old.nth; began = cells.clock / 2; at = 0; props = props; arena = old.engine.arena; calls = []; outcome = outcomes.Unfinished } ≡ row = cc in
-        let here = begin_here next answered restarted left nearer old.player b.arena props room (calls ∙ ap (λ (c : Call). Some c) (sym is)) in (
+        let here = begin_here rules laws old.player b.arena props room (calls ∙ ap (λ (c : Call). Some c) (sym is)) in (
           (let began = ap (λ (x : Attempt). x.began) made in omega arith),
           ap (λ (x : Attempt). x.arena) (sym made) ∙ k.arena,
           ap (λ (x : Attempt). x.calls) (sym made),
@@ -134,13 +133,13 @@ module _ {P : Type 0} (next : P → Option Call) (answered : P → Replied → P
     run_came status =
         let x = runs.runs in
         record {
-          run = subst (λ (l : List Attempt). IsRunOf next answered restarted left MAX_DEPTH n (bytes_at base l) (Some first) (of_thread new.thread l)) (sym ended_same)
-              (subst (λ (t : ℕ). IsRunOf next answered restarted left MAX_DEPTH n (bytes_at base r0.ended) (Some first) (of_thread t r0.ended)) (sym asks.thread) x.run);
+          run = subst (λ (l : List Attempt). IsRunOf rules MAX_DEPTH n (bytes_at base l) (Some first) (of_thread new.thread l)) (sym ended_same)
+              (subst (λ (t : ℕ). IsRunOf rules MAX_DEPTH n (bytes_at base r0.ended) (Some first) (of_thread t r0.ended)) (sym asks.thread) x.run);
           inside = λ o.
               (let t = x.inside o in let y = t.4 in (
                 t.0,
                 t.1,
-                (λ i. run_after next answered restarted left (bytes_at base (ended_same i)) (Some first) (of_thread (asks.thread i) (ended_same i))) ∙ t.2,
+                (λ i. run_after rules (bytes_at base (ended_same i)) (Some first) (of_thread (asks.thread i) (ended_same i))) ∙ t.2,
                 active_same ∙ t.3,
                 record {
                   start = y.start;
@@ -160,9 +159,9 @@ module _ {P : Type 0} (next : P → Option Call) (answered : P → Replied → P
           between = λ o gave_up starved.
               (let t = x.between o (on_way ends.GaveUp) (on_way ends.NoMemory) in let k = t.2 in (
                 t.0,
-                (λ i. run_after next answered restarted left (bytes_at base (ended_same i)) (Some first) (of_thread (asks.thread i) (ended_same i))) ∙ t.1,
+                (λ i. run_after rules (bytes_at base (ended_same i)) (Some first) (of_thread (asks.thread i) (ended_same i))) ∙ t.1,
                 record {
-                  leads = k.leads ∙ ap (λ (q : P). begin_of next answered left MAX_DEPTH q t.0.arena) (sym asks.player);
+                  leads = k.leads ∙ ap (λ (q : P). begin_of rules MAX_DEPTH q t.0.arena) (sym asks.player);
                   arena = k.arena;
                   again = asks.again ∙ k.again;
                   tries = (let nth = asks.nth in let fewer = k.tries in omega arith);
@@ -191,13 +190,13 @@ module _ {P : Type 0} (next : P → Option Call) (answered : P → Replied → P
       open_on : new.engine.is_open ≡ old.engine.is_open
       open_on = ap (λ (c : Core). c.is_open) g.stays
 
-      pub ask_runs : RunsFrom next answered restarted left first base cells r (record new { status = Waits call s })
+      pub ask_runs : RunsFrom rules first base cells r (record new { status = Waits call s })
       ask_runs = record {
         runs = (let x = run_came Ready in record {
           run = x.run;
           inside = λ o.
               (let t = x.inside (sym open_on ∙ o) in let early = t.4.began in let snapshot = asked.stays.snapshot in
-              (t.0, t.1, t.2, t.3, try_asks next answered restarted left nearer t.0 t.1 new.player mid new.engine s t.4 g (omega arith) (λ m a. subst (Agrees m) (log_kept o) a), t.5, t.6));
+              (t.0, t.1, t.2, t.3, try_asks rules laws t.0 t.1 new.player mid new.engine s t.4 g (omega arith) (λ m a. subst (Agrees m) (log_kept o) a), t.5, t.6));
           between = λ o gave_up starved.
               (let t = x.between (sym open_on ∙ o) (λ e. absurd (cc)) (λ e. absurd (cc)) in let k = t.2 in (
                 t.0,
@@ -221,10 +220,10 @@ module _ {P : Type 0} (next : P → Option Call) (answered : P → Replied → P
 
     -- it is answered at once
     module _ (a : Answer) (is : what ≡ Answers a) (r1 : Rows) (last : Actor P) (more : List Attempt) (ended : r1.ended ≡ r.ended ++ more)
-        (settles : (was : Bool) → IsAnswered next answered restarted left depth was r new call a → IsSettledBy next answered restarted left depth was r1 new last)
-        (notes : (was : Bool) → IsAnswered next answered restarted left depth was r new call a → Records answered restarted was r r1 new last call a) where
-      d : IsAnswered next answered restarted left depth old.engine.is_open r new call a
-      d = at_once next answered restarted left depth cells r0 r r old new new call sound ready what a is asked
+        (settles : (was : Bool) → IsAnswered rules was r new call a → IsSettledBy rules was r1 new last)
+        (notes : (was : Bool) → IsAnswered rules was r new call a → Records rules was r r1 new last call a) where
+      d : IsAnswered rules old.engine.is_open r new call a
+      d = at_once rules cells r0 r r old new new call sound ready what a is asked
 
       e : Ends (came old.engine call (begins_again old.engine.is_open old.again call)) a new.engine
       e = proceeds_as (Answers a) is
@@ -233,9 +232,9 @@ module _ {P : Type 0} (next : P → Option Call) (answered : P → Replied → P
       soon = subst IsAtOnce is asked.at_once
 
       tied : IsTied cells new.engine
-      tied = asked_tied next answered restarted left depth cells r old new call sound.tied
-          (let s : IsReady next answered restarted left depth old = subst (λ (s : Status). StatusIs next answered restarted left depth r0 old s) ready sound.status in s) (Answers a)
-          (subst (IsAsked next answered restarted left depth r old new call) is asked)
+      tied = asked_tied rules cells r old new call sound.tied
+          (let s : IsReady rules old = subst (λ (s : Status). StatusIs rules r0 old s) ready sound.status in s) (Answers a)
+          (subst (IsAsked rules r old new call) is asked)
 
       run_mid : Run n r (record new { engine = came old.engine call (begins_again old.engine.is_open old.again call) })
       run_mid = run_came new.status
@@ -257,15 +256,15 @@ module _ {P : Type 0} (next : P → Option Call) (answered : P → Replied → P
       up : n ≤ n
       up = omega arith
 
-      open_so : (ans : Answer) → old.engine.is_open ≡ true → IsAtOnce (Answers ans) → IsAnswered next answered restarted left depth true r new call ans → Ends mid ans new.engine → Records answered restarted true r r1 new last call ans
-          → IsSettledBy next answered restarted left depth true r1 new last → Run n r1 last
+      open_so : (ans : Answer) → old.engine.is_open ≡ true → IsAtOnce (Answers ans) → IsAnswered rules true r new call ans → Ends mid ans new.engine → Records rules true r r1 new last call ans
+          → IsSettledBy rules true r1 new last → Run n r1 last
       open_so (Reply reply) o soon d g told s =
-          reply_runs next answered restarted left depth nearer first base n r r1 new last call mid reply run_mid d o g told s (let snapshot = asked.stays.snapshot in omega arith) (λ m x. subst (Agrees m) (log_kept (g.still o)) x)
+          reply_runs rules laws first base n r r1 new last call mid reply run_mid d o g told s (let snapshot = asked.stays.snapshot in omega arith) (λ m x. subst (Agrees m) (log_kept (g.still o)) x)
       open_so (Committed at wrote) o soon d g told s =
           let at_is = g.at_is in
           let late = old_late in
           let at_late : at ≤ n = omega arith in
-          commit_runs next answered restarted left depth nearer first base n r r1 new last call mid n up still run_mid o at wrote d g told s late (words_at base r.ended at) (mem_at at at_late) (same_at at at_late)
+          commit_runs rules laws first base n r r1 new last call mid n up still run_mid o at wrote d g told s late (words_at base r.ended at) (mem_at at at_late) (same_at at at_late)
           (subst (λ (k : ℕ). Agrees (words_at base r.ended k) mid.log) (sym at_is) (logged_mid o))
       open_so (Conflict clock word) o soon d g told s = absurd soon
       open_so (Busy clock) o soon d g told s = absurd soon
@@ -276,11 +275,11 @@ module _ {P : Type 0} (next : P → Option Call) (answered : P → Replied → P
           let at_same : at ≡ old.engine.snapshot / 2 = omega arith in
           let at_late : at ≤ n = omega arith in
           let early = (run_mid.inside o).4.began in
-          full_runs next answered restarted left depth nearer first base n r r1 new last call mid n up still run_mid o at d told s (omega arith) at_late (mem_at at at_late) (same_at at at_late)
+          full_runs rules laws first base n r r1 new last call mid n up still run_mid o at d told s (omega arith) at_late (mem_at at at_late) (same_at at at_late)
           (subst (λ (k : ℕ). Agrees (words_at base r.ended k) mid.log) (sym at_same) (logged_mid o))
 
-      shut_so : (ans : Answer) → old.engine.is_open ≡ false → IsAtOnce (Answers ans) → IsAnswered next answered restarted left depth false r new call ans → Ends mid ans new.engine → Records answered restarted false r r1 new last call ans
-          → IsSettledBy next answered restarted left depth false r1 new last → Run n r1 last
+      shut_so : (ans : Answer) → old.engine.is_open ≡ false → IsAtOnce (Answers ans) → IsAnswered rules false r new call ans → Ends mid ans new.engine → Records rules false r r1 new last call ans
+          → IsSettledBy rules false r1 new last → Run n r1 last
       shut_so (Reply reply) o soon d g told s =
           let shut = stays_shut new.engine.is_open refl in
           let closed : last.engine.is_open ≡ false = ap (λ (c : Core). c.is_open) s.engine ∙ shut in
@@ -295,18 +294,18 @@ module _ {P : Type 0} (next : P → Option Call) (answered : P → Replied → P
           stays_shut false x = x
 
           by_begin : (b : Bool) → is_begin call ≡ b → new.engine.is_open ≡ false → IsMemory mid.words cells.words → Agrees cells.words new.engine.log → last.engine.is_open ≡ false → r1 ≡ r → Replies mid call reply new.engine
-              → IsAnswered next answered restarted left depth false r new call (Reply reply) → Records answered restarted false r r1 new last call (Reply reply) → IsSettledBy next answered restarted left depth false r1 new last → Run n r1 last
+              → IsAnswered rules false r new call (Reply reply) → Records rules false r r1 new last call (Reply reply) → IsSettledBy rules false r1 new last → Run n r1 last
           by_begin true begins shut mem agrees closed rows g d told s =
               let c = begin_call call begins in
               absurd (begin_opens mid new.engine cells.words c.0 c.1 reply (subst (λ (x : Call). Replies mid x reply new.engine) c.2 g) o mem agrees shut)
           by_begin false begins shut mem agrees closed rows g d told s =
-              outside_runs next answered restarted left nearer depth first base n r r1 new last call mid reply run_mid d o g told s cells.words mem agrees begins closed (ap (λ (x : Rows). x.ended) rows)
+              outside_runs rules laws first base n r r1 new last call mid reply run_mid d o g told s cells.words mem agrees begins closed (ap (λ (x : Rows). x.ended) rows)
       shut_so (Committed at wrote) o soon d g told s = absurd (let f : false ≡ true = d.fits.0 in cc)
       shut_so (Conflict clock word) o soon d g told s = absurd soon
       shut_so (Busy clock) o soon d g told s = absurd soon
       shut_so (Full at) o soon d g told s = absurd (let f : false ≡ true = d.fits.0 in cc)
 
-      by_open : (b : Bool) → old.engine.is_open ≡ b → IsAnswered next answered restarted left depth b r new call a → Records answered restarted b r r1 new last call a → IsSettledBy next answered restarted left depth b r1 new last → Run n r1 last
+      by_open : (b : Bool) → old.engine.is_open ≡ b → IsAnswered rules b r new call a → Records rules b r r1 new last call a → IsSettledBy rules b r1 new last → Run n r1 last
       by_open true o d told s = open_so a o soon d e told s
       by_open false o d told s = shut_so a o soon d e told s
 
@@ -318,7 +317,7 @@ module _ {P : Type 0} (next : P → Option Call) (answered : P → Replied → P
       no_fresh (Full at) g = ap (λ (c : Core). c.fresh) g.stays
 
       -- where it is still open, the answer was a reply, and its row has one call more
-      row_now : (b : Bool) (ans : Answer) → old.engine.is_open ≡ b → IsAnswered next answered restarted left depth b r new call ans → Records answered restarted b r r1 new last call ans → new.engine.is_open ≡ true → last.thread ≡ new.thread
+      row_now : (b : Bool) (ans : Answer) → old.engine.is_open ≡ b → IsAnswered rules b r new call ans → Records rules b r r1 new last call ans → new.engine.is_open ≡ true → last.thread ≡ new.thread
           → (r1.ended ≡ r.ended) × ((row : Attempt) → active_of last.thread r1.active ≡ Some row → row.at ≡ old.engine.snapshot / 2)
       row_now true (Reply reply) o d told now thread = (
         ap (λ (x : Rows). x.ended) told.0,
@@ -336,7 +335,7 @@ module _ {P : Type 0} (next : P → Option Call) (answered : P → Replied → P
       row_now b (Busy clock) o d told now thread = absurd (both new.engine.is_open now d.fits.1)
       row_now b (Full at) o d told now thread = absurd (both new.engine.is_open now d.fits.1)
 
-      pub answer_runs : RunsFrom next answered restarted left first base cells r1 last
+      pub answer_runs : RunsFrom rules first base cells r1 last
       answer_runs =
           let s = settles old.engine.is_open d in
           let told = notes old.engine.is_open d in
@@ -353,7 +352,7 @@ module _ {P : Type 0} (next : P → Option Call) (answered : P → Replied → P
               };
               logged = λ o. subst (λ (l : List Attempt). Agrees (words_at base l (new.engine.snapshot / 2)) new.engine.log) (sym (rows o s.thread).0) (logged_now o);
             });
-            starved = λ f. absurd (not_starved next answered restarted left depth r r1 new last call old.engine.is_open d.status a told f);
+            starved = λ f. absurd (not_starved rules r r1 new last call old.engine.is_open d.status a told f);
             reads = λ o row f.
                 (let now : new.engine.is_open ≡ true = ap (λ (c : Core). c.is_open) (sym s.engine) ∙ o in
                 (rows now s.thread).1 row f ∙ ap (λ (k : ℕ). k / 2) (sym (ap (λ (c : Core). c.snapshot) s.engine ∙ asked.stays.snapshot)));
@@ -363,7 +362,7 @@ module _ {P : Type 0} (next : P → Option Call) (answered : P → Replied → P
 
   pub starve_runs : (r r1 : Rows) (mid last : Actor P) (more : List Attempt) → mid.engine ≡ old.engine → mid.thread ≡ old.thread → mid.player ≡ old.player → mid.nth ≡ old.nth → mid.again ≡ old.again → r ≡ record r0 { room = r.room }
       → last.status ≡ Ended ends.NoMemory → last.thread ≡ mid.thread → last.engine.is_open ≡ false → r1.ended ≡ r.ended ++ more
-      → (mid.engine.is_open ≡ true → StopsAt mid.thread r (mid.engine.snapshot / 2) outcomes.NoMemory r1) → (mid.engine.is_open ≡ false → r1 ≡ r) → RunsFrom next answered restarted left first base cells r1 last
+      → (mid.engine.is_open ≡ true → StopsAt mid.thread r (mid.engine.snapshot / 2) outcomes.NoMemory r1) → (mid.engine.is_open ≡ false → r1 ≡ r) → RunsFrom rules first base cells r1 last
   starve_runs r r1 mid last more engine thread player nth again rows status thread' closed ended stops stays = record {
     runs = record {
       run = by_open old.engine.is_open refl;
@@ -385,7 +384,7 @@ module _ {P : Type 0} (next : P → Option Call) (answered : P → Replied → P
       snapshot = ap (λ (c : Core). c.snapshot) engine
 
       RunAt : List Attempt → ℕ → Type 0
-      RunAt l t = IsRunOf next answered restarted left MAX_DEPTH n (bytes_at base l) (Some first) (of_thread t l)
+      RunAt l t = IsRunOf rules MAX_DEPTH n (bytes_at base l) (Some first) (of_thread t l)
 
       run_there : RunAt r.ended mid.thread
       run_there = subst (λ (l : List Attempt). RunAt l mid.thread) (sym ended_same) (subst (RunAt r0.ended) (sym thread) runs.runs.run)
@@ -402,9 +401,9 @@ module _ {P : Type 0} (next : P → Option Call) (answered : P → Replied → P
             (let t = runs.runs.inside o in (
               t.0,
               t.1,
-              (λ i. run_after next answered restarted left (bytes_at base (ended_same i)) (Some first) (of_thread (thread i) (ended_same i))) ∙ t.2,
+              (λ i. run_after rules (bytes_at base (ended_same i)) (Some first) (of_thread (thread i) (ended_same i))) ∙ t.2,
               (λ i. active_of (thread i) r.active) ∙ (ap (λ (x : Rows). active_of old.thread x.active) rows ∙ t.3),
-              subst (λ (c : Core). IsInTry next answered restarted left t.0 t.1 mid.player c) (sym engine) (subst (λ (q : P). IsInTry next answered restarted left t.0 t.1 q old.engine) (sym player) t.4),
+              subst (λ (c : Core). IsInTry rules t.0 t.1 mid.player c) (sym engine) (subst (λ (q : P). IsInTry rules t.0 t.1 q old.engine) (sym player) t.4),
               again ∙ t.5,
               t.6 ∙ sym nth,
             ));
@@ -423,7 +422,7 @@ module _ {P : Type 0} (next : P → Option Call) (answered : P → Replied → P
           let k_late : k ≤ n = omega arith in
           let early = ((run_mid o).inside inside).4.began in
           let fits = laid.memories.fits k k_late in
-          (stop_run next answered restarted left depth nearer first base n r r1 mid last Commit mid.engine n (let l : n ≤ n = omega arith in l) still (run_mid o) inside k outcomes.NoMemory (λ x y. y) thread' (stops inside)
+          (stop_run rules laws first base n r r1 mid last Commit mid.engine n (let l : n ≤ n = omega arith in l) still (run_mid o) inside k outcomes.NoMemory (λ x y. y) thread' (stops inside)
           early k_late
           (subst (λ (l : List Attempt). IsMemory mid.engine.words (words_at base l k)) (sym ended_same) (subst (λ (c : Core). IsMemory c.words (words_at base r0.ended k)) (sym engine) (fits.0 ∙ sym sound.tied.words, fits.1)))
           (subst (λ (l : List Attempt). bytes_of (words_at base l k) ≡ bytes_at base l k) (sym ended_same) (laid.memories.same k k_late))

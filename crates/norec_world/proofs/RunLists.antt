@@ -1,12 +1,11 @@
 -- An actor's run with one attempt more, and over more commits.
 use Rattle.std.proofs.Common.{◌≡◌, ℕ, ◌≤◌, ◌==◌, Bool, true, false, if◌then◌else◌, List, [], ◌∷◌, ◌++◌, Option, None, Some, refl, sym, ap, subst, ◌∙◌, arith, eqb-true, eq-eqb}
-use Rattle.itm_types.specs.declared.call.Call.{Call}
-use Rattle.itm_types.specs.declared.call.Reply.{Reply}
 use Rattle.itm_model.specs.declared.limits.TheConstants.{MAX_DEPTH}
 use Rattle.norec_world.specs.declared.attempt.Attempt.{Attempt}
 use Rattle.norec_world.specs.Attempts.{of_thread}
 use Rattle.norec_world.specs.Opacity.{Beginning, Between, after_try, IsOpaque, IsTryAt, IsRunOf}
 use Rattle.norec_world.specs.Runs.{begins_at, run_after}
+use Rattle.script_vm.specs.Rules.{Rules}
 
 -- ## The attempts of one actor
 
@@ -32,44 +31,44 @@ of_thread_own thread xs a same = of_thread_more thread xs (a ∷ []) ∙ ap (λ 
 
 -- ## Runs
 
-module _ {P : Type 0} (next : P → Option Call) (answered : P → Reply → P) (restarted : P → P) (left : P → ℕ) where
+module _ {P : Type 0} (rules : Rules P) where
   -- over more commits, and memories that are the same as far as there were commits
   module _ (n n' : ℕ) (memory memory' : ℕ → List ℕ) (later : n ≤ n') (same : (k : ℕ) → k ≤ n → memory' k ≡ memory k) where
-    try_still : (b : Between P) (o : Option (Beginning P)) (a : Attempt) → IsTryAt next answered restarted left MAX_DEPTH n memory b o a
-        → IsTryAt next answered restarted left MAX_DEPTH n' memory' b o a × (after_try next answered restarted left MAX_DEPTH memory' b o a ≡ after_try next answered restarted left MAX_DEPTH memory b o a)
+    try_still : (b : Between P) (o : Option (Beginning P)) (a : Attempt) → IsTryAt rules MAX_DEPTH n memory b o a
+        → IsTryAt rules MAX_DEPTH n' memory' b o a × (after_try rules MAX_DEPTH memory' b o a ≡ after_try rules MAX_DEPTH memory b o a)
     try_still b None a t = absurd t
     try_still b (Some start) a t =
         let o = t.3 in
         let bytes : memory' a.at ≡ memory a.at = same a.at o.no_newer in
         let newer = o.no_newer in
-        let opaque : IsOpaque next answered restarted left MAX_DEPTH _ a n' (memory a.at) =
+        let opaque : IsOpaque rules MAX_DEPTH _ a n' (memory a.at) =
         record { no_older = o.no_older; no_newer = (let l : a.at ≤ n' = omega arith in l); beginning = o.beginning; whole = o.whole; ends = o.ends } in (
-          (t.0, t.1, t.2, subst (IsOpaque next answered restarted left MAX_DEPTH _ a n') (sym bytes) opaque),
-          ap (λ (m : List ℕ). after_try next answered restarted left MAX_DEPTH (λ k. m) b (Some start) a) bytes,
+          (t.0, t.1, t.2, subst (IsOpaque rules MAX_DEPTH _ a n') (sym bytes) opaque),
+          ap (λ (m : List ℕ). after_try rules MAX_DEPTH (λ k. m) b (Some start) a) bytes,
         )
 
-    pub run_still : (b : Option (Between P)) (xs : List Attempt) → IsRunOf next answered restarted left MAX_DEPTH n memory b xs
-        → IsRunOf next answered restarted left MAX_DEPTH n' memory' b xs × (run_after next answered restarted left memory' b xs ≡ run_after next answered restarted left memory b xs)
+    pub run_still : (b : Option (Between P)) (xs : List Attempt) → IsRunOf rules MAX_DEPTH n memory b xs
+        → IsRunOf rules MAX_DEPTH n' memory' b xs × (run_after rules memory' b xs ≡ run_after rules memory b xs)
     run_still b [] r = (tt, refl)
     run_still None (a ∷ rest) r = absurd r
     run_still (Some b) (a ∷ rest) r =
-        let t = try_still b (begins_at next answered restarted left b) a r.0 in
-        let more = run_still (after_try next answered restarted left MAX_DEPTH memory b (begins_at next answered restarted left b) a) rest r.1 in (
-          (t.0, subst (λ (o : Option (Between P)). IsRunOf next answered restarted left MAX_DEPTH n' memory' o rest) (sym t.1) more.0),
-          ap (λ (o : Option (Between P)). run_after next answered restarted left memory' o rest) t.1 ∙ more.1,
+        let t = try_still b (begins_at rules b) a r.0 in
+        let more = run_still (after_try rules MAX_DEPTH memory b (begins_at rules b) a) rest r.1 in (
+          (t.0, subst (λ (o : Option (Between P)). IsRunOf rules MAX_DEPTH n' memory' o rest) (sym t.1) more.0),
+          ap (λ (o : Option (Between P)). run_after rules memory' o rest) t.1 ∙ more.1,
         )
 
   -- with one attempt more
-  pub run_more : (n : ℕ) (memory : ℕ → List ℕ) (first : Option (Between P)) (xs : List Attempt) (b : Between P) (a : Attempt) → IsRunOf next answered restarted left MAX_DEPTH n memory first xs
-      → run_after next answered restarted left memory first xs ≡ Some b → IsTryAt next answered restarted left MAX_DEPTH n memory b (begins_at next answered restarted left b) a
-      → IsRunOf next answered restarted left MAX_DEPTH n memory first (xs ++ a ∷ [])
-      × (run_after next answered restarted left memory first (xs ++ a ∷ []) ≡ after_try next answered restarted left MAX_DEPTH memory b (begins_at next answered restarted left b) a)
+  pub run_more : (n : ℕ) (memory : ℕ → List ℕ) (first : Option (Between P)) (xs : List Attempt) (b : Between P) (a : Attempt) → IsRunOf rules MAX_DEPTH n memory first xs
+      → run_after rules memory first xs ≡ Some b → IsTryAt rules MAX_DEPTH n memory b (begins_at rules b) a
+      → IsRunOf rules MAX_DEPTH n memory first (xs ++ a ∷ [])
+      × (run_after rules memory first (xs ++ a ∷ []) ≡ after_try rules MAX_DEPTH memory b (begins_at rules b) a)
   run_more n memory first [] b a r e t =
-      let Run : Option (Between P) → Type 0 = λ o. IsRunOf next answered restarted left MAX_DEPTH n memory o (a ∷ []) in (
+      let Run : Option (Between P) → Type 0 = λ o. IsRunOf rules MAX_DEPTH n memory o (a ∷ []) in (
         subst Run (sym e) (t, tt),
-        ap (λ (o : Option (Between P)). run_after next answered restarted left memory o (a ∷ [])) e,
+        ap (λ (o : Option (Between P)). run_after rules memory o (a ∷ [])) e,
       )
   run_more n memory None (x ∷ xs) b a r e t = absurd r
   run_more n memory (Some c) (x ∷ xs) b a r e t =
-      let more = run_more n memory (after_try next answered restarted left MAX_DEPTH memory c (begins_at next answered restarted left c) x) xs b a r.1 e t in
+      let more = run_more n memory (after_try rules MAX_DEPTH memory c (begins_at rules c) x) xs b a r.1 e t in
       ((r.0, more.0), more.1)

@@ -1,8 +1,6 @@
 -- The actors' runs: one's event leaves the others', and together they are the headline.
-use Rattle.std.proofs.Common.{◌≡◌, ◌≢◌, inl, inr, ℕ, ◌+◌, ◌/◌, ◌%◌, ◌<◌, ◌≤◌, ◌==◌, Bool, true, false, if◌then◌else◌, List, [], ◌∷◌, ◌++◌, length, length-set, replicate, Option, None, Some, slice_get, slice_set, refl, sym, ap, subst, ◌∙◌, arith, eqb-true, eq-eqb, nat_lt, ltb-true}
+use Rattle.std.proofs.Common.{◌≡◌, ◌≢◌, inl, inr, ℕ, ◌+◌, ◌/◌, ◌%◌, ◌<◌, ◌≤◌, ◌==◌, Bool, true, false, if◌then◌else◌, List, [], ◌∷◌, ◌++◌, length, length-set, replicate, None, Some, slice_get, slice_set, refl, sym, ap, subst, ◌∙◌, arith, eqb-true, eq-eqb, nat_lt, ltb-true}
 use Rattle.std.proofs.lemmas.List.{append-nil}
-use Rattle.itm_types.specs.declared.call.Call.{Call}
-use Rattle.itm_types.specs.declared.call.Reply.{Reply}
 use Rattle.itm_types.specs.Memory.{bytes_of, IsMemory, Agrees, AllFit}
 use Rattle.itm_model.specs.declared.limits.TheConstants.{MAX_DEPTH}
 use Rattle.norec_engine.specs.Core.{Core, opening}
@@ -37,6 +35,7 @@ use Rattle.norec_world.proofs.SoloRuns.{stands_open}
 use Rattle.norec_world.proofs.InTries.{try_stops}
 use Rattle.norec_world.proofs.Memories.{bytes_still}
 use Rattle.norec_world.proofs.RunLists.{run_still, run_more}
+use Rattle.script_vm.specs.Rules.{Obeys, Rules}
 
 -- ## The attempts of one thread
 
@@ -111,16 +110,15 @@ row_open : (b : Bool) (r : Rows) (thread : ℕ) (row : Attempt) → HasRow b r t
 row_open true r thread row h some = refl
 row_open false r thread row h some = absurd (let z = sym h ∙ some in cc)
 
-module _ {P : Type 0} (next : P → Option Call) (answered : P → Reply → P) (restarted : P → P) (left : P → ℕ)
-    (nearer : (p : P) (c : Call) (r : Reply) → next p ≡ Some c → left (answered p r) < left p) where
+module _ {P : Type 0} (rules : Rules P) (laws : Obeys rules) where
   -- ## Another one's event
 
   pub other_runs : (first : Between P) (base : List ℕ) (cells cells' : Cells) (r r' : Rows) (thread : ℕ) (b : Actor P) → AreLaid base cells r → IsTied cells b.engine → ChangesOwn thread r r' → (b.thread ≡ thread → ⊥)
-      → cells.clock ≤ cells'.clock → (b.engine.holds ≡ true → cells' ≡ cells) → RunsFrom next answered restarted left first base cells r b → RunsFrom next answered restarted left first base cells' r' b
+      → cells.clock ≤ cells'.clock → (b.engine.holds ≡ true → cells' ≡ cells) → RunsFrom rules first base cells r b → RunsFrom rules first base cells' r' b
   other_runs first base cells cells' r r' thread b laid tied own apart later held x =
       record {
         runs = record {
-          run = subst (IsRunOf next answered restarted left MAX_DEPTH (cells'.clock / 2) (bytes_at base r'.ended) (Some first)) (sym rows) on.0;
+          run = subst (IsRunOf rules MAX_DEPTH (cells'.clock / 2) (bytes_at base r'.ended) (Some first)) (sym rows) on.0;
           inside = λ o. (let t = x.runs.inside o in (t.0, t.1, now ∙ t.2, own.others b.thread apart ∙ t.3, t.4, t.5, t.6));
           between = λ o gave_up starved.
               (let t = x.runs.between o gave_up starved in let k = t.2 in (
@@ -155,17 +153,17 @@ module _ {P : Type 0} (next : P → Option Call) (answered : P → Reply → P) 
           ap (of_thread b.thread) own.ended ∙ (of_thread_both b.thread r.ended own.more
           ∙ (ap (λ (l : List Attempt). of_thread b.thread r.ended ++ l) (of_thread_none b.thread thread own.more own.mine (λ e. apart (sym e))) ∙ append-nil (of_thread b.thread r.ended)))
 
-      on : IsRunOf next answered restarted left MAX_DEPTH (cells'.clock / 2) (bytes_at base r'.ended) (Some first) (of_thread b.thread r.ended)
-          × (run_after next answered restarted left (bytes_at base r'.ended) (Some first) (of_thread b.thread r.ended) ≡ run_after next answered restarted left (bytes_at base r.ended) (Some first) (of_thread b.thread r.ended))
-      on = run_still next answered restarted left (cells.clock / 2) (cells'.clock / 2) (bytes_at base r.ended) (bytes_at base r'.ended) (omega (arith, later)) still (Some first) (of_thread b.thread r.ended) x.runs.run
+      on : IsRunOf rules MAX_DEPTH (cells'.clock / 2) (bytes_at base r'.ended) (Some first) (of_thread b.thread r.ended)
+          × (run_after rules (bytes_at base r'.ended) (Some first) (of_thread b.thread r.ended) ≡ run_after rules (bytes_at base r.ended) (Some first) (of_thread b.thread r.ended))
+      on = run_still rules (cells.clock / 2) (cells'.clock / 2) (bytes_at base r.ended) (bytes_at base r'.ended) (omega (arith, later)) still (Some first) (of_thread b.thread r.ended) x.runs.run
 
-      now : run_after next answered restarted left (bytes_at base r'.ended) (Some first) (of_thread b.thread r'.ended) ≡ run_after next answered restarted left (bytes_at base r.ended) (Some first) (of_thread b.thread r.ended)
-      now = ap (run_after next answered restarted left (bytes_at base r'.ended) (Some first)) rows ∙ on.1
+      now : run_after rules (bytes_at base r'.ended) (Some first) (of_thread b.thread r'.ended) ≡ run_after rules (bytes_at base r.ended) (Some first) (of_thread b.thread r.ended)
+      now = ap (run_after rules (bytes_at base r'.ended) (Some first)) rows ∙ on.1
 
   -- ## The headline
 
-  module _ (depth : P → ℕ) (w : World P) (sound : AreActors next answered restarted left depth w.cells w.attempts w.actors) (open_rows : AreOpen w.attempts.active) (long : length w.actors ≡ length w.opening)
-      (running : AreRunning next answered restarted left w) where
+  module _ (w : World P) (sound : AreActors rules w.cells w.attempts w.actors) (open_rows : AreOpen w.attempts.active) (long : length w.actors ≡ length w.opening)
+      (running : AreRunning rules w) where
     n : ℕ
     n = w.cells.clock / 2
 
@@ -173,27 +171,27 @@ module _ {P : Type 0} (next : P → Option Call) (answered : P → Reply → P) 
     shown_still k l = bytes_still w.base w.cells.clock w.attempts.ended running.laid.counted w.attempts.active k l
 
     of_actor : (place : ℕ) (p : P) (a : Actor P) → slice_get w.opening place ≡ Some p → slice_get w.actors place ≡ Some a
-        → IsRunOf next answered restarted left MAX_DEPTH (w.cells.clock / 2) (bytes_at w.base (attempts_of w)) (Some (first_of p w.arena)) (of_thread place (attempts_of w))
+        → IsRunOf rules MAX_DEPTH (w.cells.clock / 2) (bytes_at w.base (attempts_of w)) (Some (first_of p w.arena)) (of_thread place (attempts_of w))
     of_actor place p a e f =
         let x = running.each place p a e f in
         let s = sound.each place a f in
-        let on = run_still next answered restarted left (w.cells.clock / 2) (w.cells.clock / 2) (bytes_at w.base w.attempts.ended) (bytes_at w.base (attempts_of w)) (let l : w.cells.clock / 2 ≤ w.cells.clock / 2 = omega arith in l) shown_still
+        let on = run_still rules (w.cells.clock / 2) (w.cells.clock / 2) (bytes_at w.base w.attempts.ended) (bytes_at w.base (attempts_of w)) (let l : w.cells.clock / 2 ≤ w.cells.clock / 2 = omega arith in l) shown_still
         (Some (first_of p w.arena)) (of_thread a.thread w.attempts.ended) x.runs.run in
-        subst (λ (t : ℕ). IsRunOf next answered restarted left MAX_DEPTH (w.cells.clock / 2) (bytes_at w.base (attempts_of w)) (Some (first_of p w.arena)) (of_thread t (attempts_of w))) s.thread
+        subst (λ (t : ℕ). IsRunOf rules MAX_DEPTH (w.cells.clock / 2) (bytes_at w.base (attempts_of w)) (Some (first_of p w.arena)) (of_thread t (attempts_of w))) s.thread
         (by_open a.engine.is_open refl x on s.sound.kept.row s.sound.tied)
       where
         Is : ℕ → Type 0
-        Is t = IsRunOf next answered restarted left MAX_DEPTH (w.cells.clock / 2) (bytes_at w.base (attempts_of w)) (Some (first_of p w.arena)) (of_thread t (attempts_of w))
+        Is t = IsRunOf rules MAX_DEPTH (w.cells.clock / 2) (bytes_at w.base (attempts_of w)) (Some (first_of p w.arena)) (of_thread t (attempts_of w))
 
-        by_open : (b : Bool) → a.engine.is_open ≡ b → RunsFrom next answered restarted left (first_of p w.arena) w.base w.cells w.attempts a
-            → IsRunOf next answered restarted left MAX_DEPTH (w.cells.clock / 2) (bytes_at w.base (attempts_of w)) (Some (first_of p w.arena)) (of_thread a.thread w.attempts.ended)
-            × (run_after next answered restarted left (bytes_at w.base (attempts_of w)) (Some (first_of p w.arena)) (of_thread a.thread w.attempts.ended) ≡ run_after next answered restarted left (bytes_at w.base w.attempts.ended) (Some (first_of p w.arena)) (of_thread a.thread w.attempts.ended))
+        by_open : (b : Bool) → a.engine.is_open ≡ b → RunsFrom rules (first_of p w.arena) w.base w.cells w.attempts a
+            → IsRunOf rules MAX_DEPTH (w.cells.clock / 2) (bytes_at w.base (attempts_of w)) (Some (first_of p w.arena)) (of_thread a.thread w.attempts.ended)
+            × (run_after rules (bytes_at w.base (attempts_of w)) (Some (first_of p w.arena)) (of_thread a.thread w.attempts.ended) ≡ run_after rules (bytes_at w.base w.attempts.ended) (Some (first_of p w.arena)) (of_thread a.thread w.attempts.ended))
             → HasRow b w.attempts a.thread → IsTied w.cells a.engine
-            → IsRunOf next answered restarted left MAX_DEPTH (w.cells.clock / 2) (bytes_at w.base (attempts_of w)) (Some (first_of p w.arena)) (of_thread a.thread (attempts_of w))
+            → IsRunOf rules MAX_DEPTH (w.cells.clock / 2) (bytes_at w.base (attempts_of w)) (Some (first_of p w.arena)) (of_thread a.thread (attempts_of w))
         by_open false o x on none tied =
             let rows : of_thread a.thread (attempts_of w) ≡ of_thread a.thread w.attempts.ended =
             of_thread_both a.thread w.attempts.ended w.attempts.active ∙ (ap (λ (l : List Attempt). of_thread a.thread w.attempts.ended ++ l) (open_none 0 a.thread w.attempts.active open_rows.by_actor none) ∙ append-nil (of_thread a.thread w.attempts.ended)) in
-            subst (IsRunOf next answered restarted left MAX_DEPTH (w.cells.clock / 2) (bytes_at w.base (attempts_of w)) (Some (first_of p w.arena))) (sym rows) on.0
+            subst (IsRunOf rules MAX_DEPTH (w.cells.clock / 2) (bytes_at w.base (attempts_of w)) (Some (first_of p w.arena))) (sym rows) on.0
         by_open true o x on some tied =
             let t = x.runs.inside o in
             let k : ℕ = a.engine.snapshot / 2 in
@@ -207,19 +205,19 @@ module _ {P : Type 0} (next : P → Option Call) (answered : P → Reply → P) 
             let unfinished : row.outcome ≡ outcomes.Unfinished = ap (λ (y : Attempt). y.outcome) (sym same_row) ∙ some.2 in
             let at : row.at ≡ k = x.reads o row t.3 in
             let early = t.4.began in
-            let try = try_stops next answered restarted left nearer (w.cells.clock / 2) w.base (attempts_of w) t.0 row a.player a.engine t.4 k outcomes.Unfinished (stands_open next answered left nearer a.engine (words_at w.base (attempts_of w) k) o) early k_late
+            let try = try_stops rules laws (w.cells.clock / 2) w.base (attempts_of w) t.0 row a.player a.engine t.4 k outcomes.Unfinished (stands_open rules laws a.engine (words_at w.base (attempts_of w) k) o) early k_late
             (subst (IsMemory a.engine.words) (sym words) (fits.0 ∙ sym tied.words, fits.1)) (ap bytes_of words ∙ (running.laid.memories.same k k_late ∙ sym (shown_still k k_late)))
             (subst (λ (m : List ℕ). Agrees m a.engine.log) (sym words) (sees.logged o)) in
             let as_it_is : record row { at = k; outcome = outcomes.Unfinished } ≡ row = λ i. record row { at = (sym at) i; outcome = (sym unfinished) i } in
-            let here : IsTryAt next answered restarted left MAX_DEPTH (w.cells.clock / 2) (bytes_at w.base (attempts_of w)) t.0 (begins_at next answered restarted left t.0) row =
-            subst (λ (y : _). IsTryAt next answered restarted left MAX_DEPTH (w.cells.clock / 2) (bytes_at w.base (attempts_of w)) t.0 y row) (sym t.4.begins)
-            (subst (IsTryAt next answered restarted left MAX_DEPTH (w.cells.clock / 2) (bytes_at w.base (attempts_of w)) t.0 (Some t.4.start)) as_it_is try) in
-            let more = run_more next answered restarted left (w.cells.clock / 2) (bytes_at w.base (attempts_of w)) (Some (first_of p w.arena)) (of_thread a.thread w.attempts.ended) t.0 row on.0 (on.1 ∙ t.2) here in
+            let here : IsTryAt rules MAX_DEPTH (w.cells.clock / 2) (bytes_at w.base (attempts_of w)) t.0 (begins_at rules t.0) row =
+            subst (λ (y : _). IsTryAt rules MAX_DEPTH (w.cells.clock / 2) (bytes_at w.base (attempts_of w)) t.0 y row) (sym t.4.begins)
+            (subst (IsTryAt rules MAX_DEPTH (w.cells.clock / 2) (bytes_at w.base (attempts_of w)) t.0 (Some t.4.start)) as_it_is try) in
+            let more = run_more rules (w.cells.clock / 2) (bytes_at w.base (attempts_of w)) (Some (first_of p w.arena)) (of_thread a.thread w.attempts.ended) t.0 row on.0 (on.1 ∙ t.2) here in
             let rows : of_thread a.thread (attempts_of w) ≡ of_thread a.thread w.attempts.ended ++ row ∷ [] =
             of_thread_both a.thread w.attempts.ended w.attempts.active ∙ ap (λ (l : List Attempt). of_thread a.thread w.attempts.ended ++ l) (open_one 0 a.thread w.attempts.active row open_rows.by_actor t.3) in
-            subst (IsRunOf next answered restarted left MAX_DEPTH (w.cells.clock / 2) (bytes_at w.base (attempts_of w)) (Some (first_of p w.arena))) (sym rows) more.0
+            subst (IsRunOf rules MAX_DEPTH (w.cells.clock / 2) (bytes_at w.base (attempts_of w)) (Some (first_of p w.arena))) (sym rows) more.0
 
-    pub are_opaque : AreOpaque next answered restarted left w
+    pub are_opaque : AreOpaque rules w
     are_opaque = record {
       runs = λ place p e. (let l = within_of w.opening place p e in let here = there_is w.actors place (omega (arith, long)) in of_actor place p here.0 e here.1);
       players = λ place p a e f. (running.each place p a e f).runs;
@@ -242,21 +240,21 @@ module _ {P : Type 0} (next : P → Option Call) (answered : P → Reply → P) 
           (x.sees fed).loaded.held h ∙ ap (λ (m : List ℕ). backed a.engine (words_of m)) (sym (shown_still (w.cells.clock / 2) top)));
     }
 
-  pub world_opaque : (depth : P → ℕ) (w : World P) → IsWorld next answered restarted left depth w → AreOpaque next answered restarted left w
-  world_opaque depth w kept = are_opaque depth w kept.actors (are_open next answered restarted left depth w.cells w.attempts w.actors kept.actors kept.running.ordered) kept.long kept.running
+  pub world_opaque : (w : World P) → IsWorld rules w → AreOpaque rules w
+  world_opaque w kept = are_opaque w kept.actors (are_open rules w.cells w.attempts w.actors kept.actors kept.running.ordered) kept.long kept.running
 
   -- ## An actor's work in a world
 
-  module _ (depth : P → ℕ) (w : World P) (kept : IsWorld next answered restarted left depth w)
+  module _ (w : World P) (kept : IsWorld rules w)
       (i : ℕ) (got new : Actor P) (here : slice_get w.actors i ≡ Some got) (cells' : Cells) (r' : Rows) (events : ℕ) (others : KeepsOthers got w.attempts new r') (clocks : ClocksOn w.cells got.engine cells' new.engine)
-      (runs : StillRuns next answered restarted left w.cells w.attempts got cells' r' new) where
+      (runs : StillRuns rules w.cells w.attempts got cells' r' new) where
     mine : got.thread ≡ i
     mine = (kept.actors.each i got here).thread
 
     player : (p : P) × (slice_get w.opening i ≡ Some p)
     player = there_is w.opening i (let l = within_of w.actors i got here in omega (arith, kept.long))
 
-    went : AreLaid w.base cells' r' × RunsFrom next answered restarted left (first_of player.0 w.arena) w.base cells' r' new
+    went : AreLaid w.base cells' r' × RunsFrom rules (first_of player.0 w.arena) w.base cells' r' new
     went = runs (first_of player.0 w.arena) w.base kept.running.laid (kept.running.each i player.0 got player.1 here)
 
     -- what its transaction has read is of one memory
@@ -278,7 +276,7 @@ module _ {P : Type 0} (next : P → Option Call) (answered : P → Reply → P) 
         not_holding true g = absurd (apart (kept.commits.one i j got b here e g h))
         not_holding false g = g
 
-    pub running_after : AreRunning next answered restarted left (record w { cells = cells'; actors = slice_set w.actors i new; attempts = r'; events = events })
+    pub running_after : AreRunning rules (record w { cells = cells'; actors = slice_set w.actors i new; attempts = r'; events = events })
     running_after = record {
       laid = went.0;
       ordered = others.own.ordered kept.running.ordered;
@@ -287,12 +285,12 @@ module _ {P : Type 0} (next : P → Option Call) (answered : P → Reply → P) 
       each = each_after;
     }
       where
-        each_after : (place : ℕ) (p : P) (a : Actor P) → slice_get w.opening place ≡ Some p → slice_get (slice_set w.actors i new) place ≡ Some a → RunsFrom next answered restarted left (first_of p w.arena) w.base cells' r' a
+        each_after : (place : ℕ) (p : P) (a : Actor P) → slice_get w.opening place ≡ Some p → slice_get (slice_set w.actors i new) place ≡ Some a → RunsFrom rules (first_of p w.arena) w.base cells' r' a
         each_after place p a e f = elim (set_place w.actors i got new here place a f) [
           | inl h ↦
               (let same_player : player.0 ≡ p = (let z : Some player.0 ≡ Some p = sym player.1 ∙ (ap (slice_get w.opening) h.0 ∙ e) in cc) in
-              subst (λ (x : Actor P). RunsFrom next answered restarted left (first_of p w.arena) w.base cells' r' x) (sym h.1)
-              (subst (λ (q : P). RunsFrom next answered restarted left (first_of q w.arena) w.base cells' r' new) same_player went.1))
+              subst (λ (x : Actor P). RunsFrom rules (first_of p w.arena) w.base cells' r' x) (sym h.1)
+              (subst (λ (q : P). RunsFrom rules (first_of q w.arena) w.base cells' r' new) same_player went.1))
           | inr h ↦
               (let b = kept.actors.each place a h.1 in
               other_runs (first_of p w.arena) w.base w.cells cells' w.attempts r' got.thread a kept.running.laid b.sound.tied others.own
@@ -303,18 +301,18 @@ module _ {P : Type 0} (next : P → Option Call) (answered : P → Reply → P) 
 
   -- an actor that has made no call
   pub fresh_runs : (cells : Cells) (r : Rows) (a : Actor P) (base : List ℕ) (size patience max_commits : ℕ) → a.engine ≡ opening (length cells.words) (replicate size 0) patience max_commits → r.ended ≡ [] → a.nth ≡ 1 → a.again ≡ false → a.pending ≡ None → a.status ≡ Ready
-      → RunsFrom next answered restarted left (first_of a.player size) base cells r a
+      → RunsFrom rules (first_of a.player size) base cells r a
   fresh_runs cells r a base size patience max_commits is none first anew nothing ready =
       let shut : a.engine.is_open ≡ false = ap (λ (c : Core). c.is_open) is in
       let free : a.engine.holds ≡ false = ap (λ (c : Core). c.holds) is in
       let rows : of_thread a.thread r.ended ≡ [] = ap (of_thread a.thread) none in
       record {
         runs = record {
-          run = subst (IsRunOf next answered restarted left MAX_DEPTH (cells.clock / 2) (bytes_at base r.ended) (Some (first_of a.player size))) (sym rows) tt;
+          run = subst (IsRunOf rules MAX_DEPTH (cells.clock / 2) (bytes_at base r.ended) (Some (first_of a.player size))) (sym rows) tt;
           inside = λ o. absurd (let z = sym o ∙ shut in cc);
           between = λ o gave_up starved. (
             first_of a.player size,
-            ap (run_after next answered restarted left (bytes_at base r.ended) (Some (first_of a.player size))) rows,
+            ap (run_after rules (bytes_at base r.ended) (Some (first_of a.player size))) rows,
             record {
               leads = refl;
               arena = ap (λ (c : Core). c.arena) is;

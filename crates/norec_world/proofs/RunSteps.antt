@@ -1,7 +1,5 @@
 -- An actor's run over a step.
-use Rattle.std.proofs.Common.{◌≡◌, ℕ, zero, suc, ◌/◌, ◌<◌, Bool, true, false, List, Option, None, Some, refl, sym, ap, subst, ◌∙◌}
-use Rattle.itm_types.specs.declared.call.Call.{Call}
-use Rattle.itm_types.specs.declared.call.Reply.{Reply as Replied}
+use Rattle.std.proofs.Common.{◌≡◌, ℕ, zero, suc, ◌/◌, Bool, true, false, List, None, Some, refl, sym, ap, subst, ◌∙◌}
 use Rattle.itm_types.specs.declared.step.Step.{Step}
 use Rattle.itm_types.specs.declared.step.Step.TheVariants.{Load, Store, Cas}
 use Rattle.itm_model.specs.declared.limits.TheConstants.{MAX_DEPTH}
@@ -19,6 +17,7 @@ use Rattle.norec_world.specs.Memories.{bytes_at}
 use Rattle.norec_world.specs.Runs.{run_after, IsRun}
 use Rattle.norec_world.proofs.ActiveRows.{changed_here}
 use Rattle.norec_world.proofs.InTries.{try_handed, try_told}
+use Rattle.script_vm.specs.Rules.{Obeys, Rules}
 
 both : (n : Bool) → n ≡ true → n ≡ false → ⊥
 both n t f = absurd (cc)
@@ -40,10 +39,9 @@ handed_kept e (Store zero value) seen = (refl, refl, refl)
 handed_kept e (Store (suc word) value) seen = (refl, refl, refl)
 handed_kept e (Cas cell from to) seen = (refl, refl, refl)
 
-module _ {P : Type 0} (next : P → Option Call) (answered : P → Replied → P) (restarted : P → P) (left : P → ℕ)
-    (nearer : (p : P) (c : Call) (r : Replied) → next p ≡ Some c → left (answered p r) < left p) (first : Between P) (base : List ℕ) where
+module _ {P : Type 0} (rules : Rules P) (laws : Obeys rules) (first : Between P) (base : List ℕ) where
   abbrev Run : ℕ → Rows → Actor P → Type 0
-  Run n r a = IsRun next answered restarted left first base n r a
+  Run n r a = IsRun rules first base n r a
 
   -- the value is handed in
   pub run_handed : (n : ℕ) (r : Rows) (a : Actor P) (step : Step) (seen : ℕ) (status : Status) → ending_of a.status ≡ None → (handed_to a.engine (Some step) seen).is_open ≡ a.engine.is_open
@@ -52,7 +50,7 @@ module _ {P : Type 0} (next : P → Option Call) (answered : P → Replied → P
       let kept = handed_kept a.engine step seen in
       record {
         run = x.run;
-        inside = λ o. (let t = x.inside (sym same ∙ o) in (t.0, t.1, t.2, t.3, try_handed next answered restarted left nearer t.0 t.1 a.player a.engine step seen t.4, t.5, t.6));
+        inside = λ o. (let t = x.inside (sym same ∙ o) in (t.0, t.1, t.2, t.3, try_handed rules laws t.0 t.1 a.player a.engine step seen t.4, t.5, t.6));
         between = λ o gave_up starved.
             (let t = x.between (sym same ∙ o) (λ e. absurd (let z = sym on ∙ e in cc)) (λ e. absurd (let z = sym on ∙ e in cc)) in
             let k = t.2 in (
@@ -75,13 +73,13 @@ module _ {P : Type 0} (next : P → Option Call) (answered : P → Replied → P
           let t = x.inside o in
           let now : active_of a.thread r'.active ≡ Some (reading (a.engine.snapshot / 2) t.1) = ap (λ (rows : Rows). active_of a.thread rows.active) moved ∙ changed_here a.thread (reading (a.engine.snapshot / 2)) r.active t.1 (λ y. refl) t.3 in (
             record {
-              run = subst (λ (rows : Rows). IsRunOf next answered restarted left MAX_DEPTH n (bytes_at base rows.ended) (Some first) (of_thread a.thread rows.ended)) (sym moved) x.run;
+              run = subst (λ (rows : Rows). IsRunOf rules MAX_DEPTH n (bytes_at base rows.ended) (Some first) (of_thread a.thread rows.ended)) (sym moved) x.run;
               inside = λ y. (
                 t.0,
                 reading (a.engine.snapshot / 2) t.1,
-                ap (λ (rows : Rows). run_after next answered restarted left (bytes_at base rows.ended) (Some first) (of_thread a.thread rows.ended)) moved ∙ t.2,
+                ap (λ (rows : Rows). run_after rules (bytes_at base rows.ended) (Some first) (of_thread a.thread rows.ended)) moved ∙ t.2,
                 now,
-                try_told next answered restarted left nearer t.0 t.1 a.player a.engine (a.engine.snapshot / 2) t.4,
+                try_told rules laws t.0 t.1 a.player a.engine (a.engine.snapshot / 2) t.4,
                 t.5,
                 t.6,
               );

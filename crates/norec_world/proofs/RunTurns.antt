@@ -1,5 +1,5 @@
 -- A step of an actor: its run goes on, and the words are still those that the commits left.
-use Rattle.std.proofs.Common.{◌≡◌, inl, inr, ℕ, zero, suc, ◌+◌, ◌/◌, ◌%◌, ◌<◌, ◌≤◌, ◌==◌, Bool, true, false, if◌then◌else◌, is_some, List, [], ◌∷◌, ◌++◌, length, Option, None, Some, refl, sym, ap, subst, ◌∙◌, arith, eqb-true, eq-eqb, length-set}
+use Rattle.std.proofs.Common.{◌≡◌, inl, inr, ℕ, zero, suc, ◌+◌, ◌/◌, ◌%◌, ◌≤◌, ◌==◌, Bool, true, false, if◌then◌else◌, is_some, List, [], ◌∷◌, ◌++◌, length, Option, None, Some, refl, sym, ap, subst, ◌∙◌, arith, eqb-true, eq-eqb, length-set}
 use Rattle.std.proofs.lemmas.Bool.{cond-true}
 use Rattle.itm_types.specs.declared.call.Call.{Call}
 use Rattle.itm_types.specs.declared.call.Call.TheVariants.{Begin}
@@ -49,6 +49,7 @@ use Rattle.norec_world.proofs.SoundSteps.{waits, went, same, step_tied, step_ans
 use Rattle.norec_world.proofs.TryEnds.{ClockMoves, begin_call, begin_opens, not_starved}
 use Rattle.norec_world.proofs.TrySteps.{moves, loads_clock}
 use Rattle.norec_world.proofs.WordLists.{words_of-bytes_of}
+use Rattle.script_vm.specs.Rules.{Obeys, Rules}
 
 both : (n : Bool) → n ≡ true → n ≡ false → ⊥
 both n t f = absurd (cc)
@@ -109,12 +110,11 @@ laid_more base cells cells' r r' laid counted half long fit still last =
 
 -- ## The step
 
-module _ {P : Type 0} (next : P → Option Call) (answered : P → Replied → P) (restarted : P → P) (left : P → ℕ) (depth : P → ℕ)
-    (nearer : (p : P) (c : Call) (r : Replied) → next p ≡ Some c → left (answered p r) < left p)
-    (cells : Cells) (r : Rows) (old : Actor P) (sound : IsSound next answered restarted left depth cells r old) (call : Call) (step : Step) (waiting : old.status ≡ Waits call step)
+module _ {P : Type 0} (rules : Rules P) (laws : Obeys rules)
+    (cells : Cells) (r : Rows) (old : Actor P) (sound : IsSound rules cells r old) (call : Call) (step : Step) (waiting : old.status ≡ Waits call step)
     (seen : ℕ) (seen_is : seen ≡ found cells step) (cells' : Cells) (cells_are : cells' ≡ cells_after cells step) (fit : AllFit cells'.words)
     (new : Core) (joins : Joins old.engine seen new) (settled : IsSettled new) (within : IsWithin new)
-    (first : Between P) (base : List ℕ) (laid : AreLaid base cells r) (runs : RunsFrom next answered restarted left first base cells r old) where
+    (first : Between P) (base : List ℕ) (laid : AreLaid base cells r) (runs : RunsFrom rules first base cells r old) where
   abbrev n : ℕ
   n = cells.clock / 2
 
@@ -125,10 +125,10 @@ module _ {P : Type 0} (next : P → Option Call) (answered : P → Replied → P
   memory k = words_at base r.ended k
 
   abbrev Run : ℕ → Rows → Actor P → Type 0
-  Run k rows a = IsRun next answered restarted left first base k rows a
+  Run k rows a = IsRun rules first base k rows a
 
-  w : IsWaiting next answered restarted left depth r old call step
-  w = waits next answered restarted left depth cells r old sound call step waiting seen seen_is cells' cells_are fit new joins settled within
+  w : IsWaiting rules r old call step
+  w = waits rules cells r old sound call step waiting seen seen_is cells' cells_are fit new joins settled within
 
   seen_so : Sees (words_at base r.ended) cells old.engine
   seen_so = runs.sees (λ e. absurd (let z = sym (ap ending_of waiting) ∙ e in cc))
@@ -140,7 +140,7 @@ module _ {P : Type 0} (next : P → Option Call) (answered : P → Replied → P
   fits = laid.memories.fits n (let l : n ≤ n = omega arith in l)
 
   open_same : mid.is_open ≡ old.engine.is_open
-  open_same = (same next answered restarted left depth cells r old sound call step waiting seen seen_is cells' cells_are fit new joins settled within).is_open
+  open_same = (same rules cells r old sound call step waiting seen seen_is cells' cells_are fit new joins settled within).is_open
 
   kept : HandedSame old.engine (handed_to old.engine (Some step) seen)
   kept = handed_same old.engine (Some step) seen
@@ -149,7 +149,7 @@ module _ {P : Type 0} (next : P → Option Call) (answered : P → Replied → P
   log_same = (handed_kept old.engine step seen).2
 
   run_mid : Run n r (record old { engine = handed_to old.engine (Some step) seen; status = Ready })
-  run_mid = run_handed next answered restarted left nearer first base n r old step seen Ready (ap ending_of waiting) open_same runs.runs
+  run_mid = run_handed rules laws first base n r old step seen Ready (ap ending_of waiting) open_same runs.runs
 
   -- the snapshot does not fall
   snapshot_up : old.engine.is_open ≡ true → mid.snapshot ≤ new.snapshot
@@ -192,7 +192,7 @@ module _ {P : Type 0} (next : P → Option Call) (answered : P → Replied → P
             t.1,
             t.2,
             t.3,
-            try_asks next answered restarted left nearer t.0 t.1 old.player mid new s t.4 g (omega arith) (fewer o),
+            try_asks rules laws t.0 t.1 old.player mid new s t.4 g (omega arith) (fewer o),
             t.5,
             t.6,
           ));
@@ -224,16 +224,16 @@ module _ {P : Type 0} (next : P → Option Call) (answered : P → Replied → P
     on = record old { engine = new; status = Ready }
 
     ends : Ends (handed_to old.engine (Some step) seen) ans new
-    ends = went next answered restarted left depth cells r old sound call step waiting seen seen_is cells' cells_are fit new joins settled within (Answers ans) g
+    ends = went rules cells r old sound call step waiting seen seen_is cells' cells_are fit new joins settled within (Answers ans) g
 
     tied : IsTied cells' new
-    tied = step_tied next answered restarted left depth cells r old sound call step waiting seen seen_is cells' cells_are fit new joins settled within (Answers ans) g
+    tied = step_tied rules cells r old sound call step waiting seen seen_is cells' cells_are fit new joins settled within (Answers ans) g
 
     clocks : ClockMoves cells cells' (handed_to old.engine (Some step) seen)
-    clocks = moves next answered restarted left depth cells r old sound call step waiting seen seen_is cells' cells_are fit new joins settled within
+    clocks = moves rules cells r old sound call step waiting seen seen_is cells' cells_are fit new joins settled within
 
-    d : IsAnswered next answered restarted left depth old.engine.is_open r (record old { engine = new; status = Ready }) call ans
-    d = step_answered next answered restarted left depth cells r old sound call step waiting seen seen_is cells' cells_are fit new joins settled within ans g
+    d : IsAnswered rules old.engine.is_open r (record old { engine = new; status = Ready }) call ans
+    d = step_answered rules cells r old sound call step waiting seen seen_is cells' cells_are fit new joins settled within ans g
 
     still : (k : ℕ) → k ≤ n → bytes_at base r1.ended k ≡ bytes_at base r.ended k
     still k l = ap (λ (rows : List Attempt). bytes_at base rows k) ended ∙ bytes_still base cells.clock r.ended laid.counted more k l
@@ -262,20 +262,20 @@ module _ {P : Type 0} (next : P → Option Call) (answered : P → Replied → P
     mid_open : mid.is_open ≡ true
     mid_open = open_same ∙ inside
 
-    pub open_runs : (ans : Answer) (g : Proceeds (handed old.engine seen) (Answers ans) new) → IsAnswered next answered restarted left depth true r (record old { engine = new; status = Ready }) call ans
-        → Records answered restarted true r r1 (record old { engine = new; status = Ready }) last call ans → IsSettledBy next answered restarted left depth true r1 (record old { engine = new; status = Ready }) last → Run (cells'.clock / 2) r1 last
+    pub open_runs : (ans : Answer) (g : Proceeds (handed old.engine seen) (Answers ans) new) → IsAnswered rules true r (record old { engine = new; status = Ready }) call ans
+        → Records rules true r r1 (record old { engine = new; status = Ready }) last call ans → IsSettledBy rules true r1 (record old { engine = new; status = Ready }) last → Run (cells'.clock / 2) r1 last
     open_runs (Reply reply) g d told s =
         let e = ends (Reply reply) g r1 last more ended in
-        let g' : Replies mid call reply new = subst (λ (o : Option Call). RepliesTo mid o reply new) ((same next answered restarted left depth cells r old sound call step waiting seen seen_is cells' cells_are fit new joins settled within).doing ∙ w.doing) e in
+        let g' : Replies mid call reply new = subst (λ (o : Option Call). RepliesTo mid o reply new) ((same rules cells r old sound call step waiting seen seen_is cells' cells_are fit new joins settled within).doing ∙ w.doing) e in
         to_now (Reply reply) g r1 last more ended ((clocks (Reply reply) g r1 last more ended).keeps g'.unfreed)
-        (reply_runs next answered restarted left depth nearer first base n r r1 (record old { engine = new; status = Ready }) last call mid reply run_mid d mid_open g' told s
+        (reply_runs rules laws first base n r r1 (record old { engine = new; status = Ready }) last call mid reply run_mid d mid_open g' told s
         (let up = snapshot_up inside in omega arith) (fewer (g'.still mid_open)))
     open_runs (Committed at wrote) g d told s =
         let e = ends (Committed at wrote) g r1 last more ended in
         let at_is = e.at_is in
         let late = mid_late (Committed at wrote) g r1 last more ended in
         let at_late : at ≤ n = omega arith in
-        commit_runs next answered restarted left depth nearer first base n r r1 (record old { engine = new; status = Ready }) last call mid (cells'.clock / 2) (later wrote refl g) (still (Committed at wrote) g r1 last more ended) run_mid mid_open
+        commit_runs rules laws first base n r r1 (record old { engine = new; status = Ready }) last call mid (cells'.clock / 2) (later wrote refl g) (still (Committed at wrote) g r1 last more ended) run_mid mid_open
         at wrote d e told s late (words_at base r.ended at) (mem_at (Committed at wrote) g r1 last more ended at at_late) (laid.memories.same at at_late)
         (subst (λ (k : ℕ). Agrees (words_at base r.ended k) mid.log) (sym at_is) (logged_mid (Committed at wrote) g r1 last more ended inside))
       where
@@ -289,7 +289,7 @@ module _ {P : Type 0} (next : P → Option Call) (answered : P → Replied → P
         let late = mid_late (Conflict clock word) g r1 last more ended in
         let k_late : last.engine.snapshot / 2 ≤ n = omega arith in
         let early = (run_mid.inside mid_open).4.began in
-        conflict_runs next answered restarted left depth nearer first base n r r1 (record old { engine = new; status = Ready }) last call mid (cells'.clock / 2) (omega arith) (still (Conflict clock word) g r1 last more ended) run_mid mid_open
+        conflict_runs rules laws first base n r r1 (record old { engine = new; status = Ready }) last call mid (cells'.clock / 2) (omega arith) (still (Conflict clock word) g r1 last more ended) run_mid mid_open
         clock word d e told s (omega arith) k_late (mem_at (Conflict clock word) g r1 last more ended (last.engine.snapshot / 2) k_late) (laid.memories.same (last.engine.snapshot / 2) k_late)
         (subst (λ (k : ℕ). Agrees (words_at base r.ended (k / 2)) mid.log) (sym snapshot) (logged_mid (Conflict clock word) g r1 last more ended inside))
     open_runs (Busy clock) g d told s = absurd (let f : true ≡ false = d.fits.0 in cc)
@@ -301,7 +301,7 @@ module _ {P : Type 0} (next : P → Option Call) (answered : P → Replied → P
         let at_late : at ≤ n = omega arith in
         let early = (run_mid.inside mid_open).4.began in
         let up = snapshot_up inside in
-        full_runs next answered restarted left depth nearer first base n r r1 (record old { engine = new; status = Ready }) last call mid (cells'.clock / 2) (omega arith) (still (Full at) g r1 last more ended) run_mid mid_open
+        full_runs rules laws first base n r r1 (record old { engine = new; status = Ready }) last call mid (cells'.clock / 2) (omega arith) (still (Full at) g r1 last more ended) run_mid mid_open
         at d told s (omega arith) at_late (mem_at (Full at) g r1 last more ended at at_late) (laid.memories.same at at_late)
         (subst (λ (k : ℕ). Agrees (words_at base r.ended k) mid.log) (sym at_is)
         (subst (Agrees (words_at base r.ended (new.snapshot / 2))) (sym log_same) (still_logged memory cells old.engine sound.tied laid.free fits seen_so step w.waits w.lawful new joined inside)))
@@ -317,12 +317,12 @@ module _ {P : Type 0} (next : P → Option Call) (answered : P → Replied → P
     mid_writes : mid.writes ≡ []
     mid_writes = kept.writes ∙ (sound.tied.settled.closed outside).1
 
-    pub shut_runs : (ans : Answer) (g : Proceeds (handed old.engine seen) (Answers ans) new) → IsAnswered next answered restarted left depth false r (record old { engine = new; status = Ready }) call ans
-        → Records answered restarted false r r1 (record old { engine = new; status = Ready }) last call ans → IsSettledBy next answered restarted left depth false r1 (record old { engine = new; status = Ready }) last → Run (cells'.clock / 2) r1 last
+    pub shut_runs : (ans : Answer) (g : Proceeds (handed old.engine seen) (Answers ans) new) → IsAnswered rules false r (record old { engine = new; status = Ready }) call ans
+        → Records rules false r r1 (record old { engine = new; status = Ready }) last call ans → IsSettledBy rules false r1 (record old { engine = new; status = Ready }) last → Run (cells'.clock / 2) r1 last
     shut_runs (Reply reply) g d told s = by_open last.engine.is_open refl old.pending refl told.0
       where
         g' : Replies mid call reply new
-        g' = subst (λ (o : Option Call). RepliesTo mid o reply new) ((same next answered restarted left depth cells r old sound call step waiting seen seen_is cells' cells_are fit new joins settled within).doing ∙ w.doing) (ends (Reply reply) g r1 last more ended)
+        g' = subst (λ (o : Option Call). RepliesTo mid o reply new) ((same rules cells r old sound call step waiting seen seen_is cells' cells_are fit new joins settled within).doing ∙ w.doing) (ends (Reply reply) g r1 last more ended)
 
         opens_now : (b : Bool) → last.engine.is_open ≡ b → new.is_open ≡ b
         opens_now b e = sym (ap (λ (c : Core). c.is_open) s.engine) ∙ e
@@ -347,7 +347,7 @@ module _ {P : Type 0} (next : P → Option Call) (answered : P → Replied → P
             let now = opens_now true o in
             let late = new_late (Reply reply) g r1 last more ended half_shut in
             to_now (Reply reply) g r1 last more ended half_shut
-            (begin_runs next answered restarted left nearer depth first base n r r1 (record old { engine = new; status = Ready }) last call mid reply run_mid d mid_shut g' told s (memory (new.snapshot / 2))
+            (begin_runs rules laws first base n r r1 (record old { engine = new; status = Ready }) last call mid reply run_mid d mid_shut g' told s (memory (new.snapshot / 2))
             (mem_at (Reply reply) g r1 last more ended (new.snapshot / 2) late) (logs now) row p c.0 c.1 c.2 o mid_writes told_so (seen_late now))
         by_open true o None p told_so = absurd (let f : false ≡ true = was_open false new.is_open call reply (λ x. sym (d.in_call.begins x) ∙ ap is_some p) d.fits.0 (opens_now true o) in cc)
         by_open false o (Some row) p told_so =
@@ -356,12 +356,12 @@ module _ {P : Type 0} (next : P → Option Call) (answered : P → Replied → P
             absurd (begin_opens mid new cells'.words c.0 c.1 reply g'' mid_shut (sym words_mid, fit) (empty_log (opens_now false o) cells'.words) (opens_now false o))
         by_open false o None p told_so =
             to_now (Reply reply) g r1 last more ended half_shut
-            (outside_runs next answered restarted left nearer depth first base n r r1 (record old { engine = new; status = Ready }) last call mid reply run_mid d mid_shut g' told s cells'.words
+            (outside_runs rules laws first base n r r1 (record old { engine = new; status = Ready }) last call mid reply run_mid d mid_shut g' told s cells'.words
             (sym words_mid, fit) (empty_log (opens_now false o) cells'.words) (sym (d.in_call.begins refl) ∙ ap is_some p) o (ap (λ (x : Rows). x.ended) told_so))
     shut_runs (Committed at wrote) g d told s = absurd (let f : false ≡ true = d.fits.0 in cc)
     shut_runs (Conflict clock word) g d told s = absurd (let f : false ≡ true = d.fits.0 in cc)
     shut_runs (Busy clock) g d told s =
-        to_now (Busy clock) g r1 last more ended half_shut (busy_runs next answered restarted left nearer depth first base n r r1 (record old { engine = new; status = Ready }) last call mid clock run_mid d (ends (Busy clock) g r1 last more ended) told s)
+        to_now (Busy clock) g r1 last more ended half_shut (busy_runs rules laws first base n r r1 (record old { engine = new; status = Ready }) last call mid clock run_mid d (ends (Busy clock) g r1 last more ended) told s)
     shut_runs (Full at) g d told s = absurd (let f : false ≡ true = d.fits.0 in cc)
 
   -- ## What the engine has seen, once it has answered
@@ -421,15 +421,15 @@ module _ {P : Type 0} (next : P → Option Call) (answered : P → Replied → P
 
   pub laid_still : (r2 : Rows) (more : List Attempt) → r2.ended ≡ r.ended ++ more → AreCounted cells'.clock r2.ended → mid.freed ≡ false → AreLaid base cells' r2
   laid_still r2 more ended counted unfreed =
-      let m = moves next answered restarted left depth cells r old sound call step waiting seen seen_is cells' cells_are fit new joins settled within in
+      let m = moves rules cells r old sound call step waiting seen seen_is cells' cells_are fit new joins settled within in
       laid_on base cells cells' r r2 laid counted (m.keeps unfreed) long
       (λ k l. ap (λ (rows : List Attempt). bytes_at base rows k) ended ∙ bytes_still base cells.clock r.ended laid.counted more k l) (even_same (kind_of unfreed))
 
   -- a writer's commit: its row's memory is what its stores have made of the words
   module _ (at : ℕ) (g : Proceeds (handed old.engine seen) (Answers (Committed at true)) new) (r1 : Rows) (last : Actor P) (more : List Attempt) (ended : r1.ended ≡ r.ended ++ more) (inside : old.engine.is_open ≡ true)
-      (d : IsAnswered next answered restarted left depth true r (record old { engine = new; status = Ready }) call (Committed at true))
-      (told : Records answered restarted true r r1 (record old { engine = new; status = Ready }) last call (Committed at true))
-      (s : IsSettledBy next answered restarted left depth true r1 (record old { engine = new; status = Ready }) last) where
+      (d : IsAnswered rules true r (record old { engine = new; status = Ready }) call (Committed at true))
+      (told : Records rules true r r1 (record old { engine = new; status = Ready }) last call (Committed at true))
+      (s : IsSettledBy rules true r1 (record old { engine = new; status = Ready }) last) where
     e : Commits mid at true new
     e = ends (Committed at true) g r1 last more ended
 
@@ -468,7 +468,7 @@ module _ {P : Type 0} (next : P → Option Call) (answered : P → Replied → P
         let t = run_mid.inside inner in
         let row : Attempt = record t.1 { calls = t.1.calls ++ record { call = call; reply = Done } ∷ []; at = at; outcome = outcomes.Committed } in
         let rows : r1.ended ≡ r.ended ++ row ∷ [] = ap (λ (x : Rows). x.ended) (told.0 t.1 t.3) in
-        let left_so = commit_left next answered restarted left depth nearer first base n r r1 (record old { engine = new; status = Ready }) last call mid (cells'.clock / 2) up (still (Committed at true) g r1 last more ended) run_mid inner
+        let left_so = commit_left rules laws first base n r r1 (record old { engine = new; status = Ready }) last call mid (cells'.clock / 2) up (still (Committed at true) g r1 last more ended) run_mid inner
         at true d e told s late (words_at base r.ended at) mem same_bytes agrees in
         let found_row : committed_at r1.ended n ≡ Some row =
         ap (λ (x : List Attempt). committed_at x n) rows ∙ (found_later r.ended (row ∷ []) n (none_next base cells.clock r.ended laid.counted n (let l : n ≤ n = omega arith in l)) ∙ cond-true (at == n) (Some row) None (eq-eqb at n position)) in
@@ -489,8 +489,8 @@ module _ {P : Type 0} (next : P → Option Call) (answered : P → Replied → P
   -- ## All of it
 
   -- an open transaction's answer ends no attempt
-  open_ended : (was : Bool) (ans : Answer) (r1 : Rows) (last : Actor P) → IsAnswered next answered restarted left depth was r (record old { engine = new; status = Ready }) call ans
-      → Records answered restarted was r r1 (record old { engine = new; status = Ready }) last call ans → last.engine ≡ new → new.is_open ≡ true → r1.ended ≡ r.ended
+  open_ended : (was : Bool) (ans : Answer) (r1 : Rows) (last : Actor P) → IsAnswered rules was r (record old { engine = new; status = Ready }) call ans
+      → Records rules was r r1 (record old { engine = new; status = Ready }) last call ans → last.engine ≡ new → new.is_open ≡ true → r1.ended ≡ r.ended
   open_ended true (Reply reply) r1 last d told engine o = ap (λ (x : Rows). x.ended) told.0
   open_ended false (Reply reply) r1 last d told engine o = by_pending last.engine.is_open (ap (λ (c : Core). c.is_open) engine ∙ o) old.pending refl told.0
     where
@@ -504,15 +504,15 @@ module _ {P : Type 0} (next : P → Option Call) (answered : P → Replied → P
   open_ended was (Full at) r1 last d told engine o = absurd (both new.is_open o d.fits.1)
 
   module _ (ans : Answer) (g : Proceeds (handed old.engine seen) (Answers ans) new) (r1 : Rows) (last : Actor P) (more : List Attempt) (ended : r1.ended ≡ r.ended ++ more)
-      (told : Records answered restarted old.engine.is_open r r1 (record old { engine = new; status = Ready }) last call ans) (s : IsSettledBy next answered restarted left depth old.engine.is_open r1 (record old { engine = new; status = Ready }) last) where
-    answered_so : IsAnswered next answered restarted left depth old.engine.is_open r (record old { engine = new; status = Ready }) call ans
+      (told : Records rules old.engine.is_open r r1 (record old { engine = new; status = Ready }) last call ans) (s : IsSettledBy rules old.engine.is_open r1 (record old { engine = new; status = Ready }) last) where
+    answered_so : IsAnswered rules old.engine.is_open r (record old { engine = new; status = Ready }) call ans
     answered_so = d ans g r1 last more ended
 
     pub answer_runs : Run (cells'.clock / 2) r1 last
     answer_runs = by_open old.engine.is_open refl answered_so told s
       where
-        by_open : (b : Bool) → old.engine.is_open ≡ b → IsAnswered next answered restarted left depth b r (record old { engine = new; status = Ready }) call ans
-            → Records answered restarted b r r1 (record old { engine = new; status = Ready }) last call ans → IsSettledBy next answered restarted left depth b r1 (record old { engine = new; status = Ready }) last → Run (cells'.clock / 2) r1 last
+        by_open : (b : Bool) → old.engine.is_open ≡ b → IsAnswered rules b r (record old { engine = new; status = Ready }) call ans
+            → Records rules b r r1 (record old { engine = new; status = Ready }) last call ans → IsSettledBy rules b r1 (record old { engine = new; status = Ready }) last → Run (cells'.clock / 2) r1 last
         by_open true o d told s = open_runs r1 last more ended o ans g d told s
         by_open false o d told s = shut_runs r1 last more ended o ans g d told s
 
@@ -527,14 +527,14 @@ module _ {P : Type 0} (next : P → Option Call) (answered : P → Replied → P
         still_laid unfreed = laid_still r2 more (told_same ∙ ended) counted unfreed
 
         by_wrote : (b : Bool) (at : ℕ) → Proceeds (handed old.engine seen) (Answers (Committed at b)) new → Commits mid at b new → (was : Bool) → old.engine.is_open ≡ was
-            → IsAnswered next answered restarted left depth was r (record old { engine = new; status = Ready }) call (Committed at b) → Records answered restarted was r r1 (record old { engine = new; status = Ready }) last call (Committed at b)
-            → IsSettledBy next answered restarted left depth was r1 (record old { engine = new; status = Ready }) last → AreLaid base cells' r2
+            → IsAnswered rules was r (record old { engine = new; status = Ready }) call (Committed at b) → Records rules was r r1 (record old { engine = new; status = Ready }) last call (Committed at b)
+            → IsSettledBy rules was r1 (record old { engine = new; status = Ready }) last → AreLaid base cells' r2
         by_wrote false at g e was o d told s = still_laid e.freed
         by_wrote true at g e true o d told s = laid_freed at g r1 last more ended o d told s r2 told_same counted
         by_wrote true at g e false o d told s = absurd (let f : false ≡ true = d.fits.0 in cc)
 
-        by_answer : (x : Answer) → Proceeds (handed old.engine seen) (Answers x) new → Ends mid x new → IsAnswered next answered restarted left depth old.engine.is_open r (record old { engine = new; status = Ready }) call x
-            → Records answered restarted old.engine.is_open r r1 (record old { engine = new; status = Ready }) last call x → IsSettledBy next answered restarted left depth old.engine.is_open r1 (record old { engine = new; status = Ready }) last → AreLaid base cells' r2
+        by_answer : (x : Answer) → Proceeds (handed old.engine seen) (Answers x) new → Ends mid x new → IsAnswered rules old.engine.is_open r (record old { engine = new; status = Ready }) call x
+            → Records rules old.engine.is_open r r1 (record old { engine = new; status = Ready }) last call x → IsSettledBy rules old.engine.is_open r1 (record old { engine = new; status = Ready }) last → AreLaid base cells' r2
         by_answer (Reply reply) g e d told s = still_laid (reply_unfreed mid.doing reply e)
         by_answer (Committed at wrote) g e d told s = by_wrote wrote at g e old.engine.is_open refl d told s
         by_answer (Conflict clock word) g e d told s = still_laid e.unfreed
@@ -542,26 +542,26 @@ module _ {P : Type 0} (next : P → Option Call) (answered : P → Replied → P
         by_answer (Full at) g e d told s = still_laid e.unfreed
 
   pub step_runs : (what : Next) → Proceeds (handed old.engine seen) what new → (status : Status) → status ≡ Ready → (r1 : Rows) (last : Actor P)
-      → IsDone next answered restarted left depth old.engine.is_open r r1 (record old { engine = new; status = status }) last call what → Tells answered restarted old.engine.is_open r r1 (record old { engine = new; status = status }) last call what
+      → IsDone rules old.engine.is_open r r1 (record old { engine = new; status = status }) last call what → Tells rules old.engine.is_open r r1 (record old { engine = new; status = status }) last call what
       → (rows : Rows) → IsTold last.thread last.engine.is_open r1 (last.engine.snapshot / 2) rows → (more : List Attempt) → rows.ended ≡ r.ended ++ more → AreCounted cells'.clock rows.ended
-      → AreLaid base cells' rows × RunsFrom next answered restarted left first base cells' rows last
+      → AreLaid base cells' rows × RunsFrom rules first base cells' rows last
   step_runs what g status ready r1 last d tells rows told more ended counted =
       by_what what g
-      (subst (λ (s : Status). IsDone next answered restarted left depth old.engine.is_open r r1 (record old { engine = new; status = s }) last call what) ready d)
-      (subst (λ (s : Status). Tells answered restarted old.engine.is_open r r1 (record old { engine = new; status = s }) last call what) ready tells)
-      (step_done next answered restarted left depth cells r old sound call step waiting seen seen_is cells' cells_are fit new joins settled within what g status r1 last d).kept.row
+      (subst (λ (s : Status). IsDone rules old.engine.is_open r r1 (record old { engine = new; status = s }) last call what) ready d)
+      (subst (λ (s : Status). Tells rules old.engine.is_open r r1 (record old { engine = new; status = s }) last call what) ready tells)
+      (step_done rules cells r old sound call step waiting seen seen_is cells' cells_are fit new joins settled within what g status r1 last d).kept.row
     where
       put : (x : Run (cells'.clock / 2) r1 last) → HasRow last.engine.is_open r1 last.thread → (ending_of last.status ≡ Some NoMemory → ⊥) → Sees (words_at base r1.ended) cells' last.engine → ((told_same : rows.ended ≡ r1.ended) → AreLaid base cells' rows)
-          → AreLaid base cells' rows × RunsFrom next answered restarted left first base cells' rows last
+          → AreLaid base cells' rows × RunsFrom rules first base cells' rows last
       put x has fed_still sees laid_so =
-          let t = run_told next answered restarted left nearer first base (cells'.clock / 2) r1 rows last has told x in
+          let t = run_told rules laws first base (cells'.clock / 2) r1 rows last has told x in
           (laid_so t.2, record { runs = t.0; sees = λ fed. subst (λ (l : List Attempt). Sees (words_at base l) cells' last.engine) (sym t.2) sees; starved = λ e. absurd (fed_still e); reads = t.1 })
 
-      by_what : (x : Next) → Proceeds (handed old.engine seen) x new → IsDone next answered restarted left depth old.engine.is_open r r1 (record old { engine = new; status = Ready }) last call x
-          → Tells answered restarted old.engine.is_open r r1 (record old { engine = new; status = Ready }) last call x → HasRow last.engine.is_open r1 last.thread → AreLaid base cells' rows × RunsFrom next answered restarted left first base cells' rows last
+      by_what : (x : Next) → Proceeds (handed old.engine seen) x new → IsDone rules old.engine.is_open r r1 (record old { engine = new; status = Ready }) last call x
+          → Tells rules old.engine.is_open r r1 (record old { engine = new; status = Ready }) last call x → HasRow last.engine.is_open r1 last.thread → AreLaid base cells' rows × RunsFrom rules first base cells' rows last
       by_what (Asks s) g d tells has =
-          let asks : AsksFor mid s new = went next answered restarted left depth cells r old sound call step waiting seen seen_is cells' cells_are fit new joins settled within (Asks s) g in
-          let m = moves next answered restarted left depth cells r old sound call step waiting seen seen_is cells' cells_are fit new joins settled within in
+          let asks : AsksFor mid s new = went rules cells r old sound call step waiting seen seen_is cells' cells_are fit new joins settled within (Asks s) g in
+          let m = moves rules cells r old sound call step waiting seen seen_is cells' cells_are fit new joins settled within in
           let half = m.keeps asks.unfreed in
           let Made : Rows → Actor P → Type 0 = λ x y. Run (cells'.clock / 2) x y in
           put (subst (λ (x : Rows). Made x last) (sym d.1) (subst (λ (y : Actor P). Made r y) (sym d.0) (subst (λ (k : ℕ). Run k r (record old { engine = new; status = Waits call s })) (sym half) (asks_runs s asks)))) has (λ e. absurd (let z = sym (ap (λ (y : Actor P). ending_of y.status) d.0) ∙ e in cc))
@@ -571,7 +571,7 @@ module _ {P : Type 0} (next : P → Option Call) (answered : P → Replied → P
           let ended_before : rows.ended ≡ r1.ended → r1.ended ≡ r.ended ++ more = λ same_ended. sym same_ended ∙ ended in
           let told_ended = ended_told last.engine.is_open told in
           let was = ended_before told_ended in
-          put (answer_runs ans g r1 last more was tells d) has (not_starved next answered restarted left depth r r1 (record old { engine = new; status = Ready }) last call old.engine.is_open refl ans tells)
+          put (answer_runs ans g r1 last more was tells d) has (not_starved rules r r1 (record old { engine = new; status = Ready }) last call old.engine.is_open refl ans tells)
           (answer_sees ans g r1 last more was d.engine (open_ended old.engine.is_open ans r1 last (answered_so ans g r1 last more was tells d) tells d.engine))
           (λ same_ended. answer_laid ans g r1 last more was tells d rows same_ended counted)
         where

@@ -1,7 +1,6 @@
 -- A call of the one actor, and what it tracks then.
-use Rattle.std.proofs.Common.{◌≡◌, ℕ, ◌<◌, ◌/◌, Bool, true, false, List, Option, None, Some, refl, sym, ap, subst, ◌∙◌}
+use Rattle.std.proofs.Common.{◌≡◌, ℕ, ◌/◌, Bool, true, false, List, None, Some, refl, sym, ap, subst, ◌∙◌}
 use Rattle.itm_types.specs.declared.call.Call.{Call}
-use Rattle.itm_types.specs.declared.call.Reply.{Reply as Replied}
 use Rattle.itm_types.specs.declared.step.Step.{Step}
 use Rattle.norec_engine.specs.Core.{Core}
 use Rattle.norec_engine.specs.declared.answer.Answer.{Answer}
@@ -23,57 +22,57 @@ use Rattle.norec_world.proofs.SoloRuns.{finishes, roomed_on}
 use Rattle.norec_world.proofs.Parts.{starved}
 use Rattle.norec_world.proofs.SoloTracks.{told, came_now, call_told, call_on, call_asks}
 use Rattle.norec_world.proofs.SoundCalls.{asked_tied, at_once}
+use Rattle.script_vm.specs.Rules.{Obeys, Rules}
 
-module _ {P : Type 0} (next : P → Option Call) (answered : P → Replied → P) (restarted : P → P) (left : P → ℕ) (depth : P → ℕ)
-    (nearer : (p : P) (c : Call) (r : Replied) → next p ≡ Some c → left (answered p r) < left p)
+module _ {P : Type 0} (rules : Rules P) (laws : Obeys rules)
     (max_commits : ℕ) (p0 : P) (base arena : List ℕ)
     (cells : Cells) (r0 : Rows) (old : Actor P)
-    (sound : IsSound next answered restarted left depth cells r0 old) (ready : old.status ≡ Ready) (thread : old.thread ≡ 0)
-    (tracks : Tracks next answered left max_commits p0 base arena cells r0 old) where
+    (sound : IsSound rules cells r0 old) (ready : old.status ≡ Ready) (thread : old.thread ≡ 0)
+    (tracks : Tracks rules max_commits p0 base arena cells r0 old) where
   abbrev As : Rows → Actor P → Status → Type 0
-  As rows a s = TracksAs next answered left max_commits p0 base arena cells rows a s
+  As rows a s = TracksAs rules max_commits p0 base arena cells rows a s
 
-  way : IsOnWay next answered left max_commits p0 base arena cells r0 old
+  way : IsOnWay rules max_commits p0 base arena cells r0 old
   way = subst (As r0 old) ready tracks
 
-  rests : IsReady next answered restarted left depth old
-  rests = (let Is : Status → Type 0 = StatusIs next answered restarted left depth r0 old in subst Is ready sound.status)
+  rests : IsReady rules old
+  rests = (let Is : Status → Type 0 = StatusIs rules r0 old in subst Is ready sound.status)
 
   -- the player has no more calls
-  pub call_ends : next old.player ≡ None → (last : Actor P) → last.status ≡ Ended Finished → Tracks next answered left max_commits p0 base arena cells r0 last
+  pub call_ends : rules.next_call old.player ≡ None → (last : Actor P) → last.status ≡ Ended Finished → Tracks rules max_commits p0 base arena cells r0 last
   call_ends none last is =
       subst (As r0 last) (sym is)
-      (finishes next answered left nearer max_commits 0 p0 base arena way.before way.past way.memory cells r0 old.player old.engine way.follows none rests.free)
+      (finishes rules laws max_commits 0 p0 base arena way.before way.past way.memory cells r0 old.player old.engine way.follows none rests.free)
 
   -- memory was refused
   pub call_starved : (rows0 rows : Rows) (mid last : Actor P) → mid.engine ≡ old.engine → mid.thread ≡ old.thread → rows0 ≡ record r0 { room = rows0.room } → last.status ≡ Ended NoMemory
       → (mid.engine.is_open ≡ true → StopsAt mid.thread rows0 (mid.engine.snapshot / 2) outcomes.NoMemory rows) → (mid.engine.is_open ≡ false → rows ≡ rows0)
-      → Tracks next answered left max_commits p0 base arena cells rows last
+      → Tracks rules max_commits p0 base arena cells rows last
   call_starved rows0 rows mid last engine same_thread same is stops none =
       let thread_is : mid.thread ≡ 0 = same_thread ∙ thread in
       let row : mid.engine.is_open ≡ true → StopsAt 0 rows0 (mid.engine.snapshot / 2) outcomes.NoMemory rows = λ o. subst (λ (n : ℕ). StopsAt n rows0 (mid.engine.snapshot / 2) outcomes.NoMemory rows) thread_is (stops o) in
-      let follows = subst (λ (x : Rows). Follows next answered left max_commits 0 p0 base arena way.before way.past way.memory cells x old.player mid.engine) (sym same)
-      (roomed_on next answered left nearer max_commits 0 p0 base arena way.before way.past way.memory cells r0 old.player mid.engine rows0.room
-      (subst (Follows next answered left max_commits 0 p0 base arena way.before way.past way.memory cells r0 old.player) (sym engine) way.follows)) in
+      let follows = subst (λ (x : Rows). Follows rules max_commits 0 p0 base arena way.before way.past way.memory cells x old.player mid.engine) (sym same)
+      (roomed_on rules laws max_commits 0 p0 base arena way.before way.past way.memory cells r0 old.player mid.engine rows0.room
+      (subst (Follows rules max_commits 0 p0 base arena way.before way.past way.memory cells r0 old.player) (sym engine) way.follows)) in
       subst (As rows last) (sym is)
-      (starved next answered left max_commits 0 p0 base arena way.before way.past way.memory cells rows0 old.player mid.engine follows rows (ap (λ (e : Core). e.holds) engine ∙ rests.free) row none)
+      (starved rules max_commits 0 p0 base arena way.before way.past way.memory cells rows0 old.player mid.engine follows rows (ap (λ (e : Core). e.holds) engine ∙ rests.free) row none)
 
   module _ (r : Rows) (new : Actor P) (call : Call) (what : Next)
-      (asked : IsAsked next answered restarted left depth r old new call what) (asks : Asks cells.clock r0 r old new call what) where
+      (asked : IsAsked rules r old new call what) (asks : Asks cells.clock r0 r old new call what) where
     tied : IsTied cells new.engine
-    tied = asked_tied next answered restarted left depth cells r old new call sound.tied rests what asked
+    tied = asked_tied rules cells r old new call sound.tied rests what asked
 
-    calls : next old.player ≡ Some call
-    calls = ap next (sym asked.same.player) ∙ asked.in_call.asks
+    calls : rules.next_call old.player ≡ Some call
+    calls = ap rules.next_call (sym asked.same.player) ∙ asked.in_call.asks
 
     -- there may be more room
-    way' : IsOnWay next answered left max_commits p0 base arena cells r old
+    way' : IsOnWay rules max_commits p0 base arena cells r old
     way' = record {
       before = way.before;
       past = way.past;
       memory = way.memory;
-      follows = subst (λ (x : Rows). Follows next answered left max_commits 0 p0 base arena way.before way.past way.memory cells x old.player old.engine) (sym asks.rows_are)
-          (roomed_on next answered left nearer max_commits 0 p0 base arena way.before way.past way.memory cells r0 old.player old.engine r.room way.follows);
+      follows = subst (λ (x : Rows). Follows rules max_commits 0 p0 base arena way.before way.past way.memory cells x old.player old.engine) (sym asks.rows_are)
+          (roomed_on rules laws max_commits 0 p0 base arena way.before way.past way.memory cells r0 old.player old.engine r.room way.follows);
       first = way.first;
       anew = way.anew;
     }
@@ -90,26 +89,26 @@ module _ {P : Type 0} (next : P → Option Call) (answered : P → Replied → P
     }
 
     -- it waits for its first step
-    pub call_waits : (s : Step) → what ≡ Steps s → Tracks next answered left max_commits p0 base arena cells r (record new { status = Waits call s })
+    pub call_waits : (s : Step) → what ≡ Steps s → Tracks rules max_commits p0 base arena cells r (record new { status = Waits call s })
     call_waits s is =
         let asks' : Asks cells.clock r r old new call (Steps s) = asks_as (Steps s) is in
-        call_asks next answered restarted left nearer max_commits p0 base arena cells r r old new call (Steps s) way' sound.tied rests.free thread rests.nothing calls asks' asked.stays tied asked.settled
+        call_asks rules laws max_commits p0 base arena cells r r old new call (Steps s) way' sound.tied rests.free thread rests.nothing calls asks' asked.stays tied asked.settled
         s asks'.called.proceeds
 
     -- it is answered at once
     module _ (a : Answer) (is : what ≡ Answers a) (r' : Rows) (last : Actor P)
-        (settles : (was : Bool) → IsAnswered next answered restarted left depth was r new call a → IsSettledBy next answered restarted left depth was r' new last)
-        (notes : (was : Bool) → IsAnswered next answered restarted left depth was r new call a → Records answered restarted was r r' new last call a) where
-      answered_so : IsAnswered next answered restarted left depth old.engine.is_open r new call a
-      answered_so = at_once next answered restarted left depth cells r0 r r old new new call sound ready what a is asked
+        (settles : (was : Bool) → IsAnswered rules was r new call a → IsSettledBy rules was r' new last)
+        (notes : (was : Bool) → IsAnswered rules was r new call a → Records rules was r r' new last call a) where
+      answered_so : IsAnswered rules old.engine.is_open r new call a
+      answered_so = at_once rules cells r0 r r old new new call sound ready what a is asked
 
-      pub call_answered : Tracks next answered left max_commits p0 base arena cells r' last
+      pub call_answered : Tracks rules max_commits p0 base arena cells r' last
       call_answered =
           let asks' : Asks cells.clock r r old new call (Answers a) = asks_as (Answers a) is in
-          told next answered restarted left nearer max_commits p0 base arena cells r r' new last
-          (came_now next answered restarted left nearer max_commits p0 base arena cells r r old new call (Answers a) way' sound.tied rests.free thread rests.nothing calls asks' asked.stays tied asked.settled)
+          told rules laws max_commits p0 base arena cells r r' new last
+          (came_now rules laws max_commits p0 base arena cells r r old new call (Answers a) way' sound.tied rests.free thread rests.nothing calls asks' asked.stays tied asked.settled)
           way'.before way'.past way'.memory call a
-          (call_on next answered restarted left nearer max_commits p0 base arena cells r r old new call (Answers a) way' sound.tied rests.free thread rests.nothing calls asks' asked.stays tied asked.settled)
-          (call_told next answered restarted left nearer max_commits p0 base arena cells r r old new call (Answers a) way' sound.tied rests.free thread rests.nothing calls asks' asked.stays tied asked.settled (asked.same.status ∙ ready))
+          (call_on rules laws max_commits p0 base arena cells r r old new call (Answers a) way' sound.tied rests.free thread rests.nothing calls asks' asked.stays tied asked.settled)
+          (call_told rules laws max_commits p0 base arena cells r r old new call (Answers a) way' sound.tied rests.free thread rests.nothing calls asks' asked.stays tied asked.settled (asked.same.status ∙ ready))
           asks'.called.proceeds refl (settles old.engine.is_open answered_so).engine
           (notes old.engine.is_open answered_so)

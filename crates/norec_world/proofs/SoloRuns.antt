@@ -41,6 +41,7 @@ use Rattle.std.proofs.lemmas.List.{append-nil, take_all, length-set}
 use Rattle.std.proofs.lemmas.Option.{slice_get-get_or}
 use Rattle.norec_world.proofs.Alones.{asked}
 use Rattle.norec_world.proofs.Solos.{begin_found, ended_block, full_block, open_block, no_block, passing, outside_call}
+use Rattle.script_vm.specs.Rules.{Obeys, Rules}
 
 -- the store that frees the clock
 abbrev pub is_free : Step → Bool
@@ -77,20 +78,19 @@ pub state_snoc : (deepest : ℕ) (s : State) (xs : List Entry) (x : Entry) → s
 state_snoc deepest s [] x = refl
 state_snoc deepest s (y ∷ ys) x = state_snoc deepest (after deepest s y.call) ys x
 
-module _ {P : Type 0} (next : P → Option Call) (answered : P → Reply → P) (left : P → ℕ)
-    (nearer : (p : P) (c : Call) (r : Reply) → next p ≡ Some c → left (answered p r) < left p) where
-  pub alone_snoc : (deepest : ℕ) (p : P) (s : State) (xs : List Entry) (x : Entry) → IsAlone next answered left deepest p s xs
-      → turn next answered left (player_then answered p xs) (state_then deepest s xs) ≡ Some x.call → x.reply ≡ reply deepest (state_then deepest s xs) x.call
-      → IsAlone next answered left deepest p s (xs ++ x ∷ [])
+module _ {P : Type 0} (rules : Rules P) (laws : Obeys rules) where
+  pub alone_snoc : (deepest : ℕ) (p : P) (s : State) (xs : List Entry) (x : Entry) → IsAlone rules deepest p s xs
+      → turn rules.next_call rules.answered rules.calls_left (player_then rules.answered p xs) (state_then deepest s xs) ≡ Some x.call → x.reply ≡ reply deepest (state_then deepest s xs) x.call
+      → IsAlone rules deepest p s (xs ++ x ∷ [])
   alone_snoc deepest p s [] x h t r = (t, r, tt)
-  alone_snoc deepest p s (y ∷ ys) x h t r = (h.0, h.1, alone_snoc deepest (answered p y.reply) (after deepest s y.call) ys x h.2 t r)
+  alone_snoc deepest p s (y ∷ ys) x h t r = (h.0, h.1, alone_snoc deepest (rules.answered p y.reply) (after deepest s y.call) ys x h.2 t r)
 
   -- the calls left do not grow
-  alone_less : (deepest : ℕ) (p : P) (s : State) (xs : List Entry) → IsAlone next answered left deepest p s xs → left (player_then answered p xs) ≤ left p
+  alone_less : (deepest : ℕ) (p : P) (s : State) (xs : List Entry) → IsAlone rules deepest p s xs → rules.calls_left (player_then rules.answered p xs) ≤ rules.calls_left p
   alone_less deepest p s [] h = omega arith
   alone_less deepest p s (x ∷ xs) h =
-      let l = nearer p x.call x.reply (asked next answered left nearer deepest p s x.call h.0) in
-      let m = alone_less deepest (answered p x.reply) (after deepest s x.call) xs h.2 in
+      let l = laws.nearer p x.call x.reply (asked rules laws deepest p s x.call h.0) in
+      let m = alone_less deepest (rules.answered p x.reply) (after deepest s x.call) xs h.2 in
       omega arith
 
   -- an open engine stands for an open block
@@ -101,10 +101,10 @@ module _ {P : Type 0} (next : P → Option Call) (answered : P → Reply → P) 
 
   module _ (max_commits thread : ℕ) (p0 : P) (base arena : List ℕ) where
     abbrev On : Progress P → List Attempt → List ℕ → Cells → Rows → P → Core → Type 0
-    On b past M cells rows p e = Follows next answered left max_commits thread p0 base arena b past M cells rows p e
+    On b past M cells rows p e = Follows rules max_commits thread p0 base arena b past M cells rows p e
 
     abbrev Whole : Cells → List Attempt → End → Type 0
-    Whole cells rows ending = IsAll next answered left max_commits thread p0 base arena cells rows ending
+    Whole cells rows ending = IsAll rules max_commits thread p0 base arena cells rows ending
 
     -- a step is asked for, and the snapshot stays or is the clock
     pub asks_on : (b : Progress P) (past : List Attempt) (M : List ℕ) (cells : Cells) (rows : Rows) (p : P) (mid new : Core) (step : Step)
@@ -146,8 +146,8 @@ module _ {P : Type 0} (next : P → Option Call) (answered : P → Reply → P) 
 
     -- a call is answered in the open block
     pub replies_on : (b : Progress P) (past : List Attempt) (M : List ℕ) (cells : Cells) (rows rows' : Rows) (p : P) (mid new : Core) (c : Call) (r : Reply)
-        → On b past M cells rows p mid → Replies mid c r new → mid.is_open ≡ true → next p ≡ Some c → (new.snapshot ≡ mid.snapshot) ⊎ (new.snapshot ≡ 2 * b.commits)
-        → mid.words ≡ length M → Agrees M new.log → AddsCall thread rows c r rows' → On b past M cells rows' (answered p r) new
+        → On b past M cells rows p mid → Replies mid c r new → mid.is_open ≡ true → rules.next_call p ≡ Some c → (new.snapshot ≡ mid.snapshot) ⊎ (new.snapshot ≡ 2 * b.commits)
+        → mid.words ≡ length M → Agrees M new.log → AddsCall thread rows c r rows' → On b past M cells rows' (rules.answered p r) new
     replies_on b past M cells rows rows' p mid new c r f g o n moved long agrees adds =
         let same = g.stays in
         let block = f.opens o in
@@ -157,13 +157,13 @@ module _ {P : Type 0} (next : P → Option Call) (answered : P → Reply → P) 
         let mem : IsMemory mid.words M = (sym long, f.memory.1) in
         let s0 : State = opened b.memory start.arena start.props in
         let t : State = state_then MAX_DEPTH s0 xs in
-        let p1 : P = answered start.player (begin_code false) in
+        let p1 : P = rules.answered start.player (begin_code false) in
         let meets : stands_for new M ≡ after MAX_DEPTH t c = g.meets M mem agrees ∙ ap (λ (s : State). after MAX_DEPTH s c) k.stands in
         let reply_is : r ≡ reply MAX_DEPTH t c =
         g.reply_is M mem (Agrees-drop M mid.entry new.log agrees) ∙ (ap (λ (a : Bool). recoded a (reply MAX_DEPTH (stands_for mid M) c)) f.first ∙ ap (λ (s : State). reply MAX_DEPTH s c) k.stands) in
         let open_t : is_open t ≡ true = ap is_open (sym k.stands) ∙ stands_open mid M o in
-        let asks : turn next answered left (player_then answered p1 xs) t ≡ Some c =
-        cond-true (is_open t) (next (player_then answered p1 xs)) None open_t ∙ (ap next (sym k.player) ∙ n) in
+        let asks : turn rules.next_call rules.answered rules.calls_left (player_then rules.answered p1 xs) t ≡ Some c =
+        cond-true (is_open t) (rules.next_call (player_then rules.answered p1 xs)) None open_t ∙ (ap rules.next_call (sym k.player) ∙ n) in
         let open_new : new.is_open ≡ true = g.still o in
         let free : mid.holds ≡ false = g.free in
         let holds : new.holds ≡ false = ap (λ (e : Core). e.holds) same ∙ free in
@@ -185,10 +185,10 @@ module _ {P : Type 0} (next : P → Option Call) (answered : P → Reply → P) 
             start,
             xs ++ entry c r ∷ [],
             ap (λ (x : Rows). x.ended) adds ∙ block.2,
-            ap (λ (x : Rows). x.active) adds ∙ one_changed thread _ (row_of next answered left max_commits thread b start xs Unfinished) rows block.3 refl,
+            ap (λ (x : Rows). x.active) adds ∙ one_changed thread _ (row_of rules max_commits thread b start xs Unfinished) rows block.3 refl,
             record {
               comes = k.comes;
-              player = ap (λ (q : P). answered q r) k.player ∙ sym (player_snoc answered p1 xs (entry c r));
+              player = ap (λ (q : P). rules.answered q r) k.player ∙ sym (player_snoc rules.answered p1 xs (entry c r));
               alone = alone_snoc MAX_DEPTH p1 s0 xs (entry c r) k.alone asks reply_is;
               stands = meets ∙ sym (state_snoc MAX_DEPTH s0 xs (entry c r));
               at = elim moved [ inl s ↦ s ∙ k.at | inr s ↦ s ];
@@ -211,22 +211,22 @@ module _ {P : Type 0} (next : P → Option Call) (answered : P → Reply → P) 
 
     -- an open block, of an engine that may have freed the clock
     pub record IsClosing (b : Progress P) (past : List Attempt) (M : List ℕ) (rows : Rows) (p : P) (e : Core) : Type 0 where
-      pub whole : solo next answered left MAX_DEPTH max_commits thread p0 base arena ≡ with_all past (solo_within next answered left MAX_DEPTH max_commits thread (left b.player) b)
+      pub whole : solo rules MAX_DEPTH max_commits thread p0 base arena ≡ with_all past (solo_within rules MAX_DEPTH max_commits thread (rules.calls_left b.player) b)
       pub bytes : b.memory ≡ bytes_of M
       pub arena_is : e.arena ≡ b.arena
       pub limit : e.max_commits ≡ max_commits
       pub logged : Agrees M e.log
       pub even : e.clock % 2 ≡ 0
-      pub opens : (start : Beginning P) × (xs : List Entry) × (rows.ended ≡ past) × (rows.active ≡ row_of next answered left max_commits thread b start xs Unfinished ∷ []) × IsInBlock next answered left b start xs M p e
+      pub opens : (start : Beginning P) × (xs : List Entry) × (rows.ended ≡ past) × (rows.active ≡ row_of rules max_commits thread b start xs Unfinished ∷ []) × IsInBlock rules b start xs M p e
 
     commit_reply : (s : State) → is_open s ≡ true → Done ≡ reply MAX_DEPTH s Commit
     commit_reply s o = sym (ap (λ (b : Bool). reply_unless (unless b Outside) Done) o)
 
     pub commits_on : (b : Progress P) (past : List Attempt) (M : List ℕ) (cells : Cells) (rows rows' : Rows) (p : P) (mid new : Core) (at : ℕ) (wrote : Bool)
-        → IsClosing b past M rows p mid → Commits mid at wrote new → next p ≡ Some Commit → IsMemory mid.words M → EndsBy thread rows at wrote Commit rows'
+        → IsClosing b past M rows p mid → Commits mid at wrote new → rules.next_call p ≡ Some Commit → IsMemory mid.words M → EndsBy thread rows at wrote Commit rows'
         → IsMemory (length cells.words) (overlay M mid.writes) → cells.clock ≡ 2 * (b.commits + one_if (is_some_row mid.writes)) → cells.words ≡ overlay M mid.writes
         → (is_some_row mid.writes && nat_le max_commits b.commits) ≡ false
-        → (c : Progress P) × On c rows'.ended (overlay M mid.writes) cells rows' (answered p Done) new
+        → (c : Progress P) × On c rows'.ended (overlay M mid.writes) cells rows' (rules.answered p Done) new
     commits_on b past M cells rows rows' p mid new at wrote f g n mem ends fits clock words full =
         let same = g.stays in
         let block = f.opens in
@@ -235,38 +235,38 @@ module _ {P : Type 0} (next : P → Option Call) (answered : P → Reply → P) 
         let k = block.4 in
         let s0 : State = opened b.memory start.arena start.props in
         let t : State = state_then MAX_DEPTH s0 xs in
-        let p1 : P = answered start.player (begin_code false) in
+        let p1 : P = rules.answered start.player (begin_code false) in
         let x : Entry = entry Commit Done in
         let all : List Entry = xs ++ x ∷ [] in
-        let q : P = player_then answered p1 all in
+        let q : P = player_then rules.answered p1 all in
         let w : Bool = is_some_row mid.writes in
         let left_by : State = record { memory = bytes_of (overlay M mid.writes); arena = mid.arena; blocks = []; wrote = w } in
         let ended : state_then MAX_DEPTH s0 all ≡ left_by =
         state_snoc MAX_DEPTH s0 xs x ∙ (ap (λ (s : State). after MAX_DEPTH s Commit) (sym k.stands) ∙ commits mid.writes mid.is_open mid.props mid.arena M g.is_open) in
         let open_t : is_open t ≡ true = ap is_open (sym k.stands) ∙ stands_open mid M g.is_open in
-        let asks : turn next answered left (player_then answered p1 xs) t ≡ Some Commit =
-        cond-true (is_open t) (next (player_then answered p1 xs)) None open_t ∙ (ap next (sym k.player) ∙ n) in
+        let asks : turn rules.next_call rules.answered rules.calls_left (player_then rules.answered p1 xs) t ≡ Some Commit =
+        cond-true (is_open t) (rules.next_call (player_then rules.answered p1 xs)) None open_t ∙ (ap rules.next_call (sym k.player) ∙ n) in
         let alone = alone_snoc MAX_DEPTH p1 s0 xs x k.alone asks (commit_reply t open_t) in
-        let found = begin_found next answered left nearer MAX_DEPTH b.player b.arena start k.comes in
+        let found = begin_found rules laws MAX_DEPTH b.player b.arena start k.comes in
         let less = found.less in
-        let fell = nearer start.player (Begin start.props found.room) (begin_code false) found.asks in
+        let fell = laws.nearer start.player (Begin start.props found.room) (begin_code false) found.asks in
         let along = alone_less MAX_DEPTH p1 s0 all alone in
-        let block_is = ended_block next answered left nearer MAX_DEPTH max_commits thread b start all k.comes alone (ap is_open ended)
+        let block_is = ended_block rules laws MAX_DEPTH max_commits thread b start all k.comes alone (ap is_open ended)
         (ap (λ (s : State). s.wrote && nat_le max_commits b.commits) ended ∙ full) (omega arith) in
         let wrote_is : wrote ≡ w = g.wrote_is M mem f.logged ∙ ap (λ (s : State). s.wrote) (commits mid.writes mid.is_open mid.props mid.arena M g.is_open) in
         let at_is : at ≡ b.commits = g.at_is ∙ (let h = k.at in omega arith) in
-        let row : Attempt = row_of next answered left max_commits thread b start xs Unfinished in
+        let row : Attempt = row_of rules max_commits thread b start xs Unfinished in
         let over = ends row (one_found thread row rows block.3 refl) in
-        let row_is : rows'.ended ≡ past ++ row_of next answered left max_commits thread b start all (ended_as (state_then MAX_DEPTH s0 all).wrote) ∷ [] =
+        let row_is : rows'.ended ≡ past ++ row_of rules max_commits thread b start all (ended_as (state_then MAX_DEPTH s0 all).wrote) ∷ [] =
         ap (λ (x : Rows). x.ended) over ∙ ap (λ (ys : List Attempt). ys ++ record row { calls = row.calls ++ entry Commit Done ∷ []; at = at; outcome = if wrote then Committed else ReadOnly } ∷ []) block.2
-        ∙ (λ i. past ++ record (row_of next answered left max_commits thread b start all Unfinished) { at = at_is i; outcome = (ap (λ (v : Bool). if v then Committed else ReadOnly) wrote_is ∙ (outcome_is w ∙ ap (λ (s : State). ended_as s.wrote) (sym ended))) i } ∷ []) in
+        ∙ (λ i. past ++ record (row_of rules max_commits thread b start all Unfinished) { at = at_is i; outcome = (ap (λ (v : Bool). if v then Committed else ReadOnly) wrote_is ∙ (outcome_is w ∙ ap (λ (s : State). ended_as s.wrote) (sym ended))) i } ∷ []) in
         let b' : Progress P = record { player = q; arena = (state_then MAX_DEPTH s0 all).arena; memory = (state_then MAX_DEPTH s0 all).memory; commits = b.commits + one_if (state_then MAX_DEPTH s0 all).wrote } in
         let closed_new : new.is_open ≡ false = ap (λ (e : Core). e.is_open) same in
         let free_new : new.holds ≡ false = ap (λ (e : Core). e.holds) same ∙ g.free in
         let no_log : new.log ≡ [] = ap (λ (e : Core). e.log) same in (
           b',
           record {
-            whole = f.whole ∙ (ap (with_all past) block_is ∙ (more_rows past _ _ ∙ ap (λ (ys : List Attempt). with_all ys (solo_within next answered left MAX_DEPTH max_commits thread (left q) b')) (sym row_is)));
+            whole = f.whole ∙ (ap (with_all past) block_is ∙ (more_rows past _ _ ∙ ap (λ (ys : List Attempt). with_all ys (solo_within rules MAX_DEPTH max_commits thread (rules.calls_left q) b')) (sym row_is)));
             bytes = ap (λ (s : State). s.memory) ended;
             memory = fits;
             arena_is = ap (λ (e : Core). e.arena) same ∙ sym (ap (λ (s : State). s.arena) ended);
@@ -278,7 +278,7 @@ module _ {P : Type 0} (next : P → Option Call) (answered : P → Reply → P) 
             free = λ h. (clock ∙ ap (λ (s : State). 2 * (b.commits + one_if s.wrote)) (sym ended), words);
             held = λ h. absurd (let a : true ≡ false = sym h ∙ free_new in (cc));
             got = λ h. absurd (let a : true ≡ false = sym h ∙ free_new in (cc));
-            closed = λ h. (refl, ap (λ (x : Rows). x.active) over ∙ one_gone thread row rows block.3 refl, ap (λ (r : P). answered r Done) k.player ∙ sym (player_snoc answered p1 xs x));
+            closed = λ h. (refl, ap (λ (x : Rows). x.active) over ∙ one_gone thread row rows block.3 refl, ap (λ (r : P). rules.answered r Done) k.player ∙ sym (player_snoc rules.answered p1 xs x));
             opens = λ h. absurd (let a : true ≡ false = sym h ∙ closed_new in (cc));
           },
         )
@@ -293,7 +293,7 @@ module _ {P : Type 0} (next : P → Option Call) (answered : P → Reply → P) 
     half n k e = omega arith
 
     pub full_on : (b : Progress P) (past : List Attempt) (M : List ℕ) (cells : Cells) (rows rows' : Rows) (p : P) (mid new : Core) (at : ℕ)
-        → On b past M cells rows p mid → IsFull mid at new → next p ≡ Some Commit → (new.snapshot ≡ mid.snapshot) ⊎ (new.snapshot ≡ 2 * b.commits) → StopsAt thread rows at Full rows'
+        → On b past M cells rows p mid → IsFull mid at new → rules.next_call p ≡ Some Commit → (new.snapshot ≡ mid.snapshot) ⊎ (new.snapshot ≡ 2 * b.commits) → StopsAt thread rows at Full rows'
         → Whole cells (all_of rows') GaveUp
     full_on b past M cells rows rows' p mid new at f g n moved stops =
         let block = f.opens g.is_open in
@@ -302,13 +302,13 @@ module _ {P : Type 0} (next : P → Option Call) (answered : P → Reply → P) 
         let k = block.4 in
         let s0 : State = opened b.memory start.arena start.props in
         let t : State = state_then MAX_DEPTH s0 xs in
-        let p1 : P = answered start.player (begin_code false) in
+        let p1 : P = rules.answered start.player (begin_code false) in
         let x : Entry = entry Commit Done in
         let ended : state_then MAX_DEPTH s0 (xs ++ x ∷ []) ≡ record { memory = bytes_of (overlay M mid.writes); arena = mid.arena; blocks = []; wrote = is_some_row mid.writes } =
         state_snoc MAX_DEPTH s0 xs x ∙ (ap (λ (s : State). after MAX_DEPTH s Commit) (sym k.stands) ∙ commits mid.writes mid.is_open mid.props mid.arena M g.is_open) in
         let open_t : is_open t ≡ true = ap is_open (sym k.stands) ∙ stands_open mid M g.is_open in
-        let asks : turn next answered left (player_then answered p1 xs) t ≡ Some Commit =
-        cond-true (is_open t) (next (player_then answered p1 xs)) None open_t ∙ (ap next (sym k.player) ∙ n) in
+        let asks : turn rules.next_call rules.answered rules.calls_left (player_then rules.answered p1 xs) t ≡ Some Commit =
+        cond-true (is_open t) (rules.next_call (player_then rules.answered p1 xs)) None open_t ∙ (ap rules.next_call (sym k.player) ∙ n) in
         let alone = alone_snoc MAX_DEPTH p1 s0 xs x k.alone asks (commit_reply t open_t) in
         let snapshot : new.snapshot ≡ 2 * b.commits = elim moved [ inl s ↦ s ∙ k.at | inr s ↦ s ] in
         let at_is : at ≡ b.commits = g.at_is ∙ half new.snapshot b.commits snapshot in
@@ -319,16 +319,16 @@ module _ {P : Type 0} (next : P → Option Call) (answered : P → Reply → P) 
         ∙ and_from (is_some_row mid.writes) (nat_le max_commits b.commits) (some_rows mid.writes g.some) (le-leb max_commits b.commits (omega arith)) in
         let free = f.free g.free in
         let clock = free.0 in
-        let row : Attempt = row_of next answered left max_commits thread b start xs Unfinished in
+        let row : Attempt = row_of rules max_commits thread b start xs Unfinished in
         let over = stops row (one_found thread row rows block.3 refl) in
         let all_is : all_of rows' ≡ past ++ record row { at = at; outcome = Full } ∷ [] =
         ap all_of over ∙ ((λ i. (block.2 i ++ record row { at = at; outcome = Full } ∷ []) ++ one_gone thread row rows block.3 refl i) ∙ append-nil (past ++ record row { at = at; outcome = Full } ∷ [])) in
         record {
           all = f.whole
-              ∙ (ap (with_all past) (full_block next answered left nearer MAX_DEPTH max_commits thread b start xs x k.comes alone (ap is_open ended) full)
+              ∙ (ap (with_all past) (full_block rules laws MAX_DEPTH max_commits thread b start xs x k.comes alone (ap is_open ended) full)
               ∙ (λ i. record {
                 attempts = (sym (all_is
-                    ∙ ap (λ (j : ℕ). past ++ record (row_of next answered left max_commits thread b start xs Full) { at = j } ∷ []) at_is)) i;
+                    ∙ ap (λ (j : ℕ). past ++ record (row_of rules max_commits thread b start xs Full) { at = j } ∷ []) at_is)) i;
                 memory = (f.bytes ∙ ap bytes_of (sym free.1)) i;
                 commits = (sym (half cells.clock b.commits clock)) i;
                 ending = GaveUp;
@@ -338,10 +338,10 @@ module _ {P : Type 0} (next : P → Option Call) (answered : P → Reply → P) 
 
     -- ## Begins
 
-    begin_comes : (n : ℕ) (q : P) (a : List ℕ) (props : Props) (room : ℕ) → 0 < n → next q ≡ Some (Begin props room)
-        → begin_within next answered left MAX_DEPTH n q a (next q) ≡ Some (record { player = q; arena = a; props = props })
+    begin_comes : (n : ℕ) (q : P) (a : List ℕ) (props : Props) (room : ℕ) → 0 < n → rules.next_call q ≡ Some (Begin props room)
+        → begin_within rules MAX_DEPTH n q a (rules.next_call q) ≡ Some (record { player = q; arena = a; props = props })
     begin_comes zero q a props room l e = absurd (omega arith)
-    begin_comes (suc n) q a props room l e = ap (begin_within next answered left MAX_DEPTH (suc n) q a) e
+    begin_comes (suc n) q a props room l e = ap (begin_within rules MAX_DEPTH (suc n) q a) e
 
     closed_stands : (e : Core) (m : List ℕ) → e.is_open ≡ false → e.writes ≡ [] → stands_for e m ≡ record { memory = bytes_of m; arena = e.arena; blocks = []; wrote = false }
     closed_stands e m o w = λ i. state_over (w i) (o i) e.props e.arena m
@@ -362,10 +362,10 @@ module _ {P : Type 0} (next : P → Option Call) (answered : P → Reply → P) 
         (g.meets M (sym long, f.memory.1) agrees ∙ ap (λ (x : State). after MAX_DEPTH x (Begin props room)) (closed_stands mid M o w)) refl
 
     pub begins_on : (b : Progress P) (past : List Attempt) (M : List ℕ) (cells : Cells) (rows rows' : Rows) (p : P) (mid new : Core) (props : Props) (room : ℕ) (r : Reply) (row : Attempt)
-        → On b past M cells rows p mid → Replies mid (Begin props room) r new → mid.is_open ≡ false → mid.writes ≡ [] → next p ≡ Some (Begin props room)
+        → On b past M cells rows p mid → Replies mid (Begin props room) r new → mid.is_open ≡ false → mid.writes ≡ [] → rules.next_call p ≡ Some (Begin props room)
         → new.snapshot ≡ 2 * b.commits → mid.words ≡ length M → Agrees M new.log
-        → row ≡ row_of next answered left max_commits thread b (record { player = b.player; arena = b.arena; props = props }) [] Unfinished → (new.is_open ≡ true → rows' ≡ with_opened row rows)
-        → (r ≡ Code 5) × (new.is_open ≡ true) × On b past M cells rows' (answered p r) new
+        → row ≡ row_of rules max_commits thread b (record { player = b.player; arena = b.arena; props = props }) [] Unfinished → (new.is_open ≡ true → rows' ≡ with_opened row rows)
+        → (r ≡ Code 5) × (new.is_open ≡ true) × On b past M cells rows' (rules.answered p r) new
     begins_on b past M cells rows rows' p mid new props room r row f g o w n at long agrees row_is rows_are =
         let same = g.stays in
         let closed = f.closed o in
@@ -377,8 +377,8 @@ module _ {P : Type 0} (next : P → Option Call) (answered : P → Reply → P) 
         g.reply_is M mem (Agrees-drop M mid.entry new.log agrees) ∙ (ap (λ (a : Bool). recoded a (reply MAX_DEPTH (stands_for mid M) (Begin props room))) f.first ∙ ap (λ (x : State). reply MAX_DEPTH x (Begin props room)) was) in
         let opens : new.is_open ≡ true = opens_so new.is_open new M (opened (bytes_of M) mid.arena props) refl meets refl in
         let start : Beginning P = record { player = b.player; arena = b.arena; props = props } in
-        let asks : next b.player ≡ Some (Begin props room) = ap next (sym closed.2) ∙ n in
-        let l = nearer b.player (Begin props room) (Code 5) asks in
+        let asks : rules.next_call b.player ≡ Some (Begin props room) = ap rules.next_call (sym closed.2) ∙ n in
+        let l = laws.nearer b.player (Begin props room) (Code 5) asks in
         let holds : new.holds ≡ false = ap (λ (e : Core). e.holds) same ∙ g.free in (
           code,
           opens,
@@ -402,8 +402,8 @@ module _ {P : Type 0} (next : P → Option Call) (answered : P → Reply → P) 
               ap (λ (x : Rows). x.ended) (rows_are opens) ∙ closed.0,
               ap (λ (x : Rows). x.active) (rows_are opens) ∙ (ap (with_one (λ a. nat_lt row.thread a.thread) row) closed.1 ∙ (λ i. row_is i ∷ [])),
               record {
-                comes = begin_comes (left b.player) b.player b.arena props room (omega arith) asks;
-                player = λ i. answered (closed.2 i) (code i);
+                comes = begin_comes (rules.calls_left b.player) b.player b.arena props room (omega arith) asks;
+                player = λ i. rules.answered (closed.2 i) (code i);
                 alone = tt;
                 stands = meets ∙ (λ i. opened (sym f.bytes i) (f.arena_is i) props);
                 at = at;
@@ -431,9 +431,9 @@ module _ {P : Type 0} (next : P → Option Call) (answered : P → Reply → P) 
         ap (λ (b : Bool). after_unless (or_else (unless b Outside) (in_shared s at (size_of value.width))) s (effect s (Write hint at value))) o
 
     pub passes_on : (b : Progress P) (past : List Attempt) (M : List ℕ) (cells : Cells) (rows : Rows) (p : P) (mid new : Core) (c : Call) (r : Reply)
-        → On b past M cells rows p mid → Replies mid c r new → mid.is_open ≡ false → mid.writes ≡ [] → next p ≡ Some c → is_begin c ≡ false
+        → On b past M cells rows p mid → Replies mid c r new → mid.is_open ≡ false → mid.writes ≡ [] → rules.next_call p ≡ Some c → is_begin c ≡ false
         → mid.words ≡ length M → Agrees M new.log
-        → (new.is_open ≡ false) × ((d : Progress P) × On d past M cells rows (answered p r) new)
+        → (new.is_open ≡ false) × ((d : Progress P) × On d past M cells rows (rules.answered p r) new)
     passes_on b past M cells rows p mid new c r f g o w n nb long agrees =
         let same = g.stays in
         let closed = f.closed o in
@@ -445,13 +445,13 @@ module _ {P : Type 0} (next : P → Option Call) (answered : P → Reply → P) 
         g.reply_is M mem (Agrees-drop M mid.entry new.log agrees) ∙ (ap (λ (a : Bool). recoded a (reply MAX_DEPTH s c)) f.first ∙ outside_reply s b.arena c nb shut) in
         let closed_new : new.is_open ≡ false = closes_so new.is_open new M s refl meets shut in
         let holds : new.holds ≡ false = ap (λ (e : Core). e.holds) same ∙ g.free in
-        let asks : next b.player ≡ Some c = ap next (sym closed.2) ∙ n in
-        let q : Progress P = passing next answered left nearer MAX_DEPTH max_commits thread b c in (
+        let asks : rules.next_call b.player ≡ Some c = ap rules.next_call (sym closed.2) ∙ n in
+        let q : Progress P = passing rules laws MAX_DEPTH max_commits thread b c in (
           closed_new,
           (
             q,
             record {
-              whole = f.whole ∙ ap (with_all past) (outside_call next answered left nearer MAX_DEPTH max_commits thread b c asks nb);
+              whole = f.whole ∙ ap (with_all past) (outside_call rules laws MAX_DEPTH max_commits thread b c asks nb);
               bytes = f.bytes;
               memory = f.memory;
               arena_is = ap (λ (e : Core). e.arena) same ∙ (f.arena_is ∙ sym (ap (λ (x : State). x.arena) (outside_after (outside [] b.arena) c nb refl)));
@@ -463,7 +463,7 @@ module _ {P : Type 0} (next : P → Option Call) (answered : P → Reply → P) 
               free = λ h. f.free g.free;
               held = λ h. absurd (let a : true ≡ false = sym h ∙ holds in (cc));
               got = λ h. absurd (let a : true ≡ false = sym h ∙ holds in (cc));
-              closed = λ h. (closed.0, closed.1, λ i. answered (closed.2 i) (reply_is i));
+              closed = λ h. (closed.0, closed.1, λ i. rules.answered (closed.2 i) (reply_is i));
               opens = λ h. absurd (let a : true ≡ false = sym h ∙ closed_new in (cc));
             },
           ),
@@ -492,7 +492,7 @@ module _ {P : Type 0} (next : P → Option Call) (answered : P → Reply → P) 
     -- ## The end of the player
 
     pub finishes : (b : Progress P) (past : List Attempt) (M : List ℕ) (cells : Cells) (rows : Rows) (p : P) (e : Core)
-        → On b past M cells rows p e → next p ≡ None → e.holds ≡ false → Whole cells (all_of rows) Finished
+        → On b past M cells rows p e → rules.next_call p ≡ None → e.holds ≡ false → Whole cells (all_of rows) Finished
     finishes b past M cells rows p e f n free = by_case e.is_open refl
       where
         clock : cells.clock ≡ 2 * b.commits
@@ -501,13 +501,13 @@ module _ {P : Type 0} (next : P → Option Call) (answered : P → Reply → P) 
         last : List Attempt → Solo
         last ys = record { attempts = ys; memory = b.memory; commits = b.commits; ending = Finished }
 
-        rest_is : (ys : List Attempt) → all_of rows ≡ ys → solo next answered left MAX_DEPTH max_commits thread p0 base arena ≡ record { attempts = ys; memory = b.memory; commits = b.commits; ending = Finished } → Whole cells (all_of rows) Finished
+        rest_is : (ys : List Attempt) → all_of rows ≡ ys → solo rules MAX_DEPTH max_commits thread p0 base arena ≡ record { attempts = ys; memory = b.memory; commits = b.commits; ending = Finished } → Whole cells (all_of rows) Finished
         rest_is ys same all = record {
           all = all ∙ (λ i. record { attempts = sym same i; memory = (f.bytes ∙ ap bytes_of (sym (f.free free).1)) i; commits = (sym (half cells.clock b.commits clock)) i; ending = Finished });
           even = omega (arith, clock);
         }
 
-        none_comes : (k : ℕ) (q : P) (a : List ℕ) → begin_within next answered left MAX_DEPTH k q a None ≡ None
+        none_comes : (k : ℕ) (q : P) (a : List ℕ) → begin_within rules MAX_DEPTH k q a None ≡ None
         none_comes zero q a = refl
         none_comes (suc k) q a = refl
 
@@ -518,14 +518,14 @@ module _ {P : Type 0} (next : P → Option Call) (answered : P → Reply → P) 
             let start = block.0 in
             let xs = block.1 in
             let open_t = ap is_open (sym k.stands) ∙ stands_open e M o in
-            rest_is (past ++ row_of next answered left max_commits thread b start xs Unfinished ∷ []) (λ i. block.2 i ++ block.3 i)
-            (f.whole ∙ ap (with_all past) (open_block next answered left nearer MAX_DEPTH max_commits thread b start xs k.comes k.alone open_t (ap next (sym k.player) ∙ n)))
+            rest_is (past ++ row_of rules max_commits thread b start xs Unfinished ∷ []) (λ i. block.2 i ++ block.3 i)
+            (f.whole ∙ ap (with_all past) (open_block rules laws MAX_DEPTH max_commits thread b start xs k.comes k.alone open_t (ap rules.next_call (sym k.player) ∙ n)))
         by_case false o =
             let closed = f.closed o in
-            let none : begin_of next answered left MAX_DEPTH b.player b.arena ≡ None =
-            ap (begin_within next answered left MAX_DEPTH (left b.player) b.player b.arena) (ap next (sym closed.2) ∙ n) ∙ none_comes (left b.player) b.player b.arena in
+            let none : begin_of rules MAX_DEPTH b.player b.arena ≡ None =
+            ap (begin_within rules MAX_DEPTH (rules.calls_left b.player) b.player b.arena) (ap rules.next_call (sym closed.2) ∙ n) ∙ none_comes (rules.calls_left b.player) b.player b.arena in
             rest_is past ((λ i. closed.0 i ++ closed.1 i) ∙ append-nil past)
-            (f.whole ∙ (ap (with_all past) (no_block next answered left nearer MAX_DEPTH max_commits thread b none) ∙ ap last (append-nil past)))
+            (f.whole ∙ (ap (with_all past) (no_block rules laws MAX_DEPTH max_commits thread b none) ∙ ap last (append-nil past)))
 
     -- ## The operation
 

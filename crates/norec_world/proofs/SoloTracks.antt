@@ -34,6 +34,7 @@ use Rattle.norec_world.specs.Records.{Records, Opens, AddsCall, EndsBy, StopsAt,
 use Rattle.norec_world.specs.Rows.{Rows, with_opened}
 use Rattle.norec_world.specs.Tracks.{OpensNext, IsOnWay, IsUnderWay, TracksAs}
 use Rattle.norec_world.proofs.SoloRuns.{IsClosing, is_free, agrees_more, comes_on, asks_on, replies_on, commits_on, full_on, begins_on, begin_opens, passes_on, no_conflict, no_busy, no_rows}
+use Rattle.script_vm.specs.Rules.{Obeys, Rules}
 
 pub halved : (n k : ℕ) → n ≡ 2 * k → n / 2 ≡ k
 halved n k e = omega arith
@@ -89,22 +90,21 @@ freed_by e (Store zero value) seen f = refl
 freed_by e (Store (suc word) value) seen f = f
 freed_by e (Cas cell from to) seen f = f
 
-module _ {P : Type 0} (next : P → Option Call) (answered : P → Replied → P) (restarted : P → P) (left : P → ℕ)
-    (nearer : (p : P) (c : Call) (r : Replied) → next p ≡ Some c → left (answered p r) < left p)
+module _ {P : Type 0} (rules : Rules P) (laws : Obeys rules)
     (max_commits : ℕ) (p0 : P) (base arena : List ℕ) where
   abbrev On : Progress P → List Attempt → List ℕ → Cells → Rows → P → Core → Type 0
-  On b past M cells rows p e = Follows next answered left max_commits 0 p0 base arena b past M cells rows p e
+  On b past M cells rows p e = Follows rules max_commits 0 p0 base arena b past M cells rows p e
 
   abbrev As : Cells → Rows → Actor P → Status → Type 0
-  As cells rows a s = TracksAs next answered left max_commits p0 base arena cells rows a s
+  As cells rows a s = TracksAs rules max_commits p0 base arena cells rows a s
 
   -- the call that is answered, by an engine that was mid before
   pub record IsTold (cells : Cells) (rows : Rows) (old : Actor P) (mid : Core) (b : Progress P) (past : List Attempt) (M : List ℕ) (call : Call) : Type 0 where
     pub doing : mid.doing ≡ Some call
-    pub asks : next old.player ≡ Some call
+    pub asks : rules.next_call old.player ≡ Some call
     pub first : old.nth ≡ 1
     pub anew : mid.is_open ≡ false → old.again ≡ false
-    pub opens : (row : Attempt) → old.pending ≡ Some row → OpensNext next answered left max_commits p0 base arena b call row
+    pub opens : (row : Attempt) → old.pending ≡ Some row → OpensNext rules max_commits p0 base arena b call row
     pub begins : mid.is_open ≡ false → is_some old.pending ≡ is_begin call
     pub moved : mid.is_open ≡ true → (old.engine.snapshot ≡ mid.snapshot) ⊎ (old.engine.snapshot ≡ 2 * b.commits)
     pub starts : mid.is_open ≡ false → old.engine.is_open ≡ true → old.engine.snapshot ≡ 2 * b.commits
@@ -129,22 +129,22 @@ module _ {P : Type 0} (next : P → Option Call) (answered : P → Replied → P
 
   told_open : (cells : Cells) (rows rows' : Rows) (old new : Actor P) (mid : Core) (b : Progress P) (past : List Attempt) (M : List ℕ) (call : Call) (r : Replied)
       → On b past M cells rows old.player mid → IsTold cells rows old mid b past M call → Replies mid call r old.engine → new.engine ≡ old.engine → mid.is_open ≡ true
-      → Records answered restarted true rows rows' old new call (Reply r) → As cells rows' new new.status
+      → Records rules true rows rows' old new call (Reply r) → As cells rows' new new.status
   told_open cells rows rows' old new mid b past M call r f t g engine o h =
-      on_way cells rows' new b past M (answered old.player r) old.engine
-      (replies_on next answered left nearer max_commits 0 p0 base arena b past M cells rows rows' old.player mid old.engine call r f g o t.asks (t.moved o) t.words t.agrees (subst (λ (n : ℕ). AddsCall n rows call r rows') t.mine h.0))
+      on_way cells rows' new b past M (rules.answered old.player r) old.engine
+      (replies_on rules laws max_commits 0 p0 base arena b past M cells rows rows' old.player mid old.engine call r f g o t.asks (t.moved o) t.words t.agrees (subst (λ (n : ℕ). AddsCall n rows call r rows') t.mine h.0))
       h.1 engine (h.3 ∙ t.first) (λ c. absurd (let a : true ≡ false = sym (g.still o) ∙ c in (cc))) (h.4 ∙ t.ready)
 
   -- an accepted begin's row
   row_at : (b : Progress P) (row : Attempt) (props : Props) (n k : ℕ)
-      → row ≡ record (row_of next answered left max_commits 0 b (record { player = b.player; arena = b.arena; props = props }) [] Unfinished) { at = 0 } → n ≡ 2 * k → k ≡ b.commits
-      → record row { at = n / 2 } ≡ row_of next answered left max_commits 0 b (record { player = b.player; arena = b.arena; props = props }) [] Unfinished
+      → row ≡ record (row_of rules max_commits 0 b (record { player = b.player; arena = b.arena; props = props }) [] Unfinished) { at = 0 } → n ≡ 2 * k → k ≡ b.commits
+      → record row { at = n / 2 } ≡ row_of rules max_commits 0 b (record { player = b.player; arena = b.arena; props = props }) [] Unfinished
   row_at b row props n k e h same =
-      (λ i. record (e i) { at = n / 2 }) ∙ ap (λ (j : ℕ). record (row_of next answered left max_commits 0 b (record { player = b.player; arena = b.arena; props = props }) [] Unfinished) { at = j }) (halved n k h ∙ same)
+      (λ i. record (e i) { at = n / 2 }) ∙ ap (λ (j : ℕ). record (row_of rules max_commits 0 b (record { player = b.player; arena = b.arena; props = props }) [] Unfinished) { at = j }) (halved n k h ∙ same)
 
   told_begin : (cells : Cells) (rows rows' : Rows) (old new : Actor P) (mid : Core) (b : Progress P) (past : List Attempt) (M : List ℕ) (call : Call) (r : Replied)
       → On b past M cells rows old.player mid → IsTold cells rows old mid b past M call → Replies mid call r old.engine → new.engine ≡ old.engine → mid.is_open ≡ false → is_begin call ≡ true
-      → Records answered restarted false rows rows' old new call (Reply r) → As cells rows' new new.status
+      → Records rules false rows rows' old new call (Reply r) → As cells rows' new new.status
   told_begin cells rows rows' old new mid b past M call r f t g engine o nb h =
       let some = some_of old.pending (t.begins o ∙ nb) in
       let row : Attempt = some.0 in
@@ -155,31 +155,31 @@ module _ {P : Type 0} (next : P → Option Call) (answered : P → Replied → P
       let at : ℕ = new.engine.snapshot / 2 in
       let opened : new.engine.is_open ≡ true → rows' ≡ with_opened (record row { at = at }) rows = opened_rows new.engine.is_open rows rows' old.pending row at some.1 h.0 in
       let g' : Replies mid (Begin props room) r old.engine = subst (λ (c : Call). Replies mid c r old.engine) call_is g in
-      let asks : next old.player ≡ Some (Begin props room) = t.asks ∙ ap Some call_is in
-      let opens : old.engine.is_open ≡ true = begin_opens next answered left nearer max_commits 0 p0 base arena b past M cells rows old.player mid old.engine props room r f g' o (t.empty o) t.words t.agrees in
+      let asks : rules.next_call old.player ≡ Some (Begin props room) = t.asks ∙ ap Some call_is in
+      let opens : old.engine.is_open ≡ true = begin_opens rules laws max_commits 0 p0 base arena b past M cells rows old.player mid old.engine props room r f g' o (t.empty o) t.words t.agrees in
       let snapshot : old.engine.snapshot ≡ 2 * b.commits = t.starts o opens in
       let there : new.engine.snapshot ≡ 2 * b.commits = ap (λ (c : Core). c.snapshot) engine ∙ snapshot in
-      let new_row : record row { at = at } ≡ row_of next answered left max_commits 0 b (record { player = b.player; arena = b.arena; props = props }) [] Unfinished =
+      let new_row : record row { at = at } ≡ row_of rules max_commits 0 b (record { player = b.player; arena = b.arena; props = props }) [] Unfinished =
       row_at b row props new.engine.snapshot b.commits next_row.row_is there refl in
-      let done = begins_on next answered left nearer max_commits 0 p0 base arena b past M cells rows rows' old.player mid old.engine props room r (record row { at = at }) f g' o (t.empty o) asks snapshot t.words t.agrees new_row
+      let done = begins_on rules laws max_commits 0 p0 base arena b past M cells rows rows' old.player mid old.engine props room r (record row { at = at }) f g' o (t.empty o) asks snapshot t.words t.agrees new_row
       (λ w. opened (ap (λ (c : Core). c.is_open) engine ∙ w)) in
-      on_way cells rows' new b past M (answered old.player r) old.engine done.2 h.1 engine (h.3 ∙ t.first) (λ c. absurd (let a : true ≡ false = sym opens ∙ c in (cc))) (h.4 ∙ t.ready)
+      on_way cells rows' new b past M (rules.answered old.player r) old.engine done.2 h.1 engine (h.3 ∙ t.first) (λ c. absurd (let a : true ≡ false = sym opens ∙ c in (cc))) (h.4 ∙ t.ready)
 
   told_outside : (cells : Cells) (rows rows' : Rows) (old new : Actor P) (mid : Core) (b : Progress P) (past : List Attempt) (M : List ℕ) (call : Call) (r : Replied)
       → On b past M cells rows old.player mid → IsTold cells rows old mid b past M call → Replies mid call r old.engine → new.engine ≡ old.engine → mid.is_open ≡ false → is_begin call ≡ false
-      → Records answered restarted false rows rows' old new call (Reply r) → As cells rows' new new.status
+      → Records rules false rows rows' old new call (Reply r) → As cells rows' new new.status
   told_outside cells rows rows' old new mid b past M call r f t g engine o nb h =
-      let passed = passes_on next answered left nearer max_commits 0 p0 base arena b past M cells rows old.player mid old.engine call r f g o (t.empty o) t.asks nb t.words t.agrees in
+      let passed = passes_on rules laws max_commits 0 p0 base arena b past M cells rows old.player mid old.engine call r f g o (t.empty o) t.asks nb t.words t.agrees in
       let shut : new.engine.is_open ≡ false = ap (λ (c : Core). c.is_open) engine ∙ passed.0 in
       let same : rows' ≡ rows = unopened_rows new.engine.is_open rows rows' old.pending (new.engine.snapshot / 2) h.0 shut in
       let again : new.again ≡ false = h.2 ∙ (ap (λ (x : Bool). again_after x old.pending old.again) shut ∙ t.anew o) in
-      on_way cells rows' new passed.1.0 past M (answered old.player r) old.engine
-      (subst (λ (ys : Rows). On passed.1.0 past M cells ys (answered old.player r) old.engine) (sym same) passed.1.1) h.1 engine (h.3 ∙ t.first) (λ c. again) (h.4 ∙ t.ready)
+      on_way cells rows' new passed.1.0 past M (rules.answered old.player r) old.engine
+      (subst (λ (ys : Rows). On passed.1.0 past M cells ys (rules.answered old.player r) old.engine) (sym same) passed.1.1) h.1 engine (h.3 ∙ t.first) (λ c. again) (h.4 ∙ t.ready)
 
   -- the reply to a call
   told_reply : (cells : Cells) (rows rows' : Rows) (old new : Actor P) (mid : Core) (b : Progress P) (past : List Attempt) (M : List ℕ) (call : Call) (r : Replied) (was begins : Bool)
       → On b past M cells rows old.player mid → IsTold cells rows old mid b past M call → Replies mid call r old.engine → new.engine ≡ old.engine → mid.is_open ≡ was → is_begin call ≡ begins
-      → Records answered restarted was rows rows' old new call (Reply r) → As cells rows' new new.status
+      → Records rules was rows rows' old new call (Reply r) → As cells rows' new new.status
   told_reply cells rows rows' old new mid b past M call r true begins f t g engine o nb h = told_open cells rows rows' old new mid b past M call r f t g engine o h
   told_reply cells rows rows' old new mid b past M call r false true f t g engine o nb h = told_begin cells rows rows' old new mid b past M call r f t g engine o nb h
   told_reply cells rows rows' old new mid b past M call r false false f t g engine o nb h = told_outside cells rows rows' old new mid b past M call r f t g engine o nb h
@@ -190,20 +190,20 @@ module _ {P : Type 0} (next : P → Option Call) (answered : P → Replied → P
 
   -- a commit: the words are those that the write set makes of M
   told_commit : (cells : Cells) (rows rows' : Rows) (old new : Actor P) (mid : Core) (b : Progress P) (past : List Attempt) (M : List ℕ) (call : Call) (at : ℕ) (wrote : Bool)
-      → IsClosing next answered left nearer max_commits 0 p0 base arena b past M rows old.player mid → mid.doing ≡ Some call → next old.player ≡ Some call → old.status ≡ Ready → old.thread ≡ 0 → mid.words ≡ length M → IsMemory (length cells.words) M
+      → IsClosing rules laws max_commits 0 p0 base arena b past M rows old.player mid → mid.doing ≡ Some call → rules.next_call old.player ≡ Some call → old.status ≡ Ready → old.thread ≡ 0 → mid.words ≡ length M → IsMemory (length cells.words) M
       → Commits mid at wrote old.engine → new.engine ≡ old.engine
       → IsMemory (length cells.words) (overlay M mid.writes) → cells.clock ≡ 2 * (b.commits + one_if (is_some_row mid.writes)) → cells.words ≡ overlay M mid.writes
       → (is_some_row mid.writes && nat_le max_commits b.commits) ≡ false
-      → Records answered restarted mid.is_open rows rows' old new call (Committed at wrote) → As cells rows' new new.status
+      → Records rules mid.is_open rows rows' old new call (Committed at wrote) → As cells rows' new new.status
   told_commit cells rows rows' old new mid b past M call at wrote f doing asks ready mine words mem g engine fits clock words_are room h =
       let call_is : call ≡ Commit = (let both : Some call ≡ Some Commit = sym doing ∙ g.doing in cc) in
-      let done = commits_on next answered left nearer max_commits 0 p0 base arena b past M cells rows rows' old.player mid old.engine at wrote f g (asks ∙ ap Some call_is) (sym words, mem.1)
+      let done = commits_on rules laws max_commits 0 p0 base arena b past M cells rows rows' old.player mid old.engine at wrote f g (asks ∙ ap Some call_is) (sym words, mem.1)
       (subst (λ (c : Call). EndsBy 0 rows at wrote c rows') call_is (subst (λ (n : ℕ). EndsBy n rows at wrote call rows') mine h.0))
       fits clock words_are room in
-      on_way cells rows' new done.0 rows'.ended (overlay M mid.writes) (answered old.player Done) old.engine done.1 h.1 engine h.3 (λ c. h.2) (h.4 ∙ ready)
+      on_way cells rows' new done.0 rows'.ended (overlay M mid.writes) (rules.answered old.player Done) old.engine done.1 h.1 engine h.3 (λ c. h.2) (h.4 ∙ ready)
 
   closing_of : (cells : Cells) (rows : Rows) (p : P) (mid : Core) (b : Progress P) (past : List Attempt) (M : List ℕ) → On b past M cells rows p mid → mid.is_open ≡ true
-      → IsClosing next answered left nearer max_commits 0 p0 base arena b past M rows p mid
+      → IsClosing rules laws max_commits 0 p0 base arena b past M rows p mid
   closing_of cells rows p mid b past M f o = record { whole = f.whole; bytes = f.bytes; arena_is = f.arena_is; limit = f.limit; logged = f.logged; even = f.even; opens = f.opens o }
 
   -- what the write mark of a commit says of the write set
@@ -213,12 +213,12 @@ module _ {P : Type 0} (next : P → Option Call) (answered : P → Replied → P
   -- the answer to a call, the last step of which did not free the clock
   pub told : (cells : Cells) (rows rows' : Rows) (old new : Actor P) (mid : Core) (b : Progress P) (past : List Attempt) (M : List ℕ) (call : Call) (answer : Answer)
       → On b past M cells rows old.player mid → IsTold cells rows old mid b past M call → Ends mid answer old.engine → mid.freed ≡ false → new.engine ≡ old.engine
-      → Records answered restarted mid.is_open rows rows' old new call answer → As cells rows' new new.status
+      → Records rules mid.is_open rows rows' old new call answer → As cells rows' new new.status
   told cells rows rows' old new mid b past M call (Reply r) f t g u engine h =
       told_reply cells rows rows' old new mid b past M call r mid.is_open (is_begin call) f t (replied_to mid old.engine mid.doing call r t.doing g) engine refl refl h
   told cells rows rows' old new mid b past M call (Committed at wrote) f t g u engine h =
       let none : is_some_row mid.writes ≡ false = sym (mark_is mid old.engine M at wrote g (sym t.words, f.memory.1) f.logged) ∙ (sym g.freed ∙ u) in
-      let empty : mid.writes ≡ [] = no_rows next answered left nearer max_commits 0 p0 base arena mid.writes none in
+      let empty : mid.writes ≡ [] = no_rows rules laws max_commits 0 p0 base arena mid.writes none in
       let same : M ≡ overlay M mid.writes = ap (overlay M) (sym empty) in
       let free = f.free g.free in
       let clock = free.0 in
@@ -227,20 +227,20 @@ module _ {P : Type 0} (next : P → Option Call) (answered : P → Replied → P
       (let less : cells.clock ≡ 2 * (b.commits + one_if false) = omega arith in less ∙ ap (λ (w : Bool). 2 * (b.commits + one_if w)) (sym none))
       (free.1 ∙ same) (and_left (is_some_row mid.writes) (nat_le max_commits b.commits) none) h
   told cells rows rows' old new mid b past M call (Conflict clock word) f t g u engine h =
-      absurd (no_conflict next answered left nearer max_commits 0 p0 base arena b past M cells rows old.player mid old.engine clock word f g t.late)
+      absurd (no_conflict rules laws max_commits 0 p0 base arena b past M cells rows old.player mid old.engine clock word f g t.late)
   told cells rows rows' old new mid b past M call (Busy clock) f t g u engine h =
-      absurd (no_busy next answered left nearer max_commits 0 p0 base arena b past M cells rows old.player mid old.engine clock f g)
+      absurd (no_busy rules laws max_commits 0 p0 base arena b past M cells rows old.player mid old.engine clock f g)
   told cells rows rows' old new mid b past M call (Full at) f t g u engine h =
       let call_is : call ≡ Commit = (let both : Some call ≡ Some Commit = sym t.doing ∙ g.doing in cc) in
       subst (As cells rows' new) (sym h.1)
-      (full_on next answered left nearer max_commits 0 p0 base arena b past M cells rows rows' old.player mid old.engine at f g (t.asks ∙ ap Some call_is) (t.moved g.is_open) (subst (λ (n : ℕ). StopsAt n rows at outcomes.Full rows') t.mine h.0))
+      (full_on rules laws max_commits 0 p0 base arena b past M cells rows rows' old.player mid old.engine at f g (t.asks ∙ ap Some call_is) (t.moved g.is_open) (subst (λ (n : ℕ). StopsAt n rows at outcomes.Full rows') t.mine h.0))
 
   -- the answer after the store that frees the clock
   pub told_freed : (cells : Cells) (rows rows' : Rows) (old new : Actor P) (mid : Core) (b : Progress P) (past : List Attempt) (M : List ℕ) (call : Call) (answer : Answer)
-      → IsClosing next answered left nearer max_commits 0 p0 base arena b past M rows old.player mid → mid.doing ≡ Some call → next old.player ≡ Some call → old.status ≡ Ready → old.thread ≡ 0 → mid.words ≡ length M → IsMemory (length cells.words) M
+      → IsClosing rules laws max_commits 0 p0 base arena b past M rows old.player mid → mid.doing ≡ Some call → rules.next_call old.player ≡ Some call → old.status ≡ Ready → old.thread ≡ 0 → mid.words ≡ length M → IsMemory (length cells.words) M
       → IsMemory (length cells.words) (overlay M mid.writes) → cells.clock ≡ 2 * (b.commits + 1) → cells.words ≡ overlay M mid.writes → b.commits < max_commits
       → Ends mid answer old.engine → mid.freed ≡ true → new.engine ≡ old.engine
-      → Records answered restarted mid.is_open rows rows' old new call answer → As cells rows' new new.status
+      → Records rules mid.is_open rows rows' old new call answer → As cells rows' new new.status
   told_freed cells rows rows' old new mid b past M call (Reply r) f doing asks ready mine words mem fits clock words_are less g u engine h =
       absurd (let k = replied_to mid old.engine mid.doing call r doing g in let a : true ≡ false = sym u ∙ k.unfreed in (cc))
   told_freed cells rows rows' old new mid b past M call (Committed at wrote) f doing asks ready mine words mem fits clock words_are less g u engine h =
@@ -276,9 +276,9 @@ module _ {P : Type 0} (next : P → Option Call) (answered : P → Replied → P
       ap (found cells) same ∙ (f.free free).0
 
   module _ (cells : Cells) (rows : Rows) (a : Actor P) (call : Call) (s : Step) (new : Core)
-      (w : IsUnderWay next answered left max_commits p0 base arena cells rows a call)
+      (w : IsUnderWay rules max_commits p0 base arena cells rows a call)
       (tied : IsTied cells a.engine) (lawful : IsLawful a.engine s) (waits : a.engine.waits ≡ Some s) (doing : a.engine.doing ≡ Some call)
-      (thread : a.thread ≡ 0) (asks : next a.player ≡ Some call) (begins : a.engine.is_open ≡ false → is_some a.pending ≡ is_begin call)
+      (thread : a.thread ≡ 0) (asks : rules.next_call a.player ≡ Some call) (begins : a.engine.is_open ≡ false → is_some a.pending ≡ is_begin call)
       (joins : Joins a.engine (found cells s) new) (m : IsMid (cells_after cells s) (handed a.engine (found cells s)) new) where
     abbrev b : Progress P
     b = w.way.before
@@ -328,13 +328,13 @@ module _ {P : Type 0} (next : P → Option Call) (answered : P → Replied → P
       agrees = agrees_by new.is_open refl
 
       -- another step is asked for
-      pub hand_asks : (s' : Step) → AsksFor mid s' new → IsUnderWay next answered left max_commits p0 base arena cells' rows (record a { engine = new; status = Waits call s' }) call
+      pub hand_asks : (s' : Step) → AsksFor mid s' new → IsUnderWay rules max_commits p0 base arena cells' rows (record a { engine = new; status = Waits call s' }) call
       hand_asks s' g = record {
         way = record {
           before = b;
           past = past;
           memory = M;
-          follows = asks_on next answered left nearer max_commits 0 p0 base arena b past M cells' rows a.player mid new s' on g (λ o. moved (sym same.is_open ∙ o)) agrees;
+          follows = asks_on rules laws max_commits 0 p0 base arena b past M cells' rows a.player mid new s' on g (λ o. moved (sym same.is_open ∙ o)) agrees;
           first = w.way.first;
           anew = λ o. w.way.anew (sym same.is_open ∙ (sym (ap (λ (c : Core). c.is_open) g.stays) ∙ o));
         };
@@ -362,8 +362,8 @@ module _ {P : Type 0} (next : P → Option Call) (answered : P → Replied → P
   -- ## A call comes
 
   module _ (cells : Cells) (rows rows' : Rows) (old new : Actor P) (call : Call) (what : Next)
-      (w : IsOnWay next answered left max_commits p0 base arena cells rows old) (tied : IsTied cells old.engine) (free : old.engine.holds ≡ false) (thread : old.thread ≡ 0) (nothing : old.pending ≡ None)
-      (asks : next old.player ≡ Some call) (told_so : Asks cells.clock rows rows' old new call what) (stays : StaysOn old.engine new.engine) (tied' : IsTied cells new.engine) (settled : IsSettled new.engine) where
+      (w : IsOnWay rules max_commits p0 base arena cells rows old) (tied : IsTied cells old.engine) (free : old.engine.holds ≡ false) (thread : old.thread ≡ 0) (nothing : old.pending ≡ None)
+      (asks : rules.next_call old.player ≡ Some call) (told_so : Asks cells.clock rows rows' old new call what) (stays : StaysOn old.engine new.engine) (tied' : IsTied cells new.engine) (settled : IsSettled new.engine) where
     abbrev again : Bool
     again = begins_again old.engine.is_open old.again call
 
@@ -378,7 +378,7 @@ module _ {P : Type 0} (next : P → Option Call) (answered : P → Replied → P
     anew_by false e (Write hint at value) = refl
 
     on_came : On w.before w.past w.memory cells rows old.player came_now
-    on_came = comes_on next answered left nearer max_commits 0 p0 base arena w.before w.past w.memory cells rows old.player old.engine call again w.follows free (anew_by old.engine.is_open refl call)
+    on_came = comes_on rules laws max_commits 0 p0 base arena w.before w.past w.memory cells rows old.player old.engine call again w.follows free (anew_by old.engine.is_open refl call)
 
     call_agrees : Agrees w.memory new.engine.log
     call_agrees = by_open new.engine.is_open refl
@@ -388,7 +388,7 @@ module _ {P : Type 0} (next : P → Option Call) (answered : P → Replied → P
         by_open false o = subst (Agrees w.memory) (sym (settled.closed o).0) tt
 
     -- the attempt that such a begin is to open
-    opens_by : (o : Bool) (c : Call) → old.engine.is_open ≡ o → next old.player ≡ Some c → (row : Attempt) → asked_pending o cells.clock old c ≡ Some row → OpensNext next answered left max_commits p0 base arena w.before c row
+    opens_by : (o : Bool) (c : Call) → old.engine.is_open ≡ o → rules.next_call old.player ≡ Some c → (row : Attempt) → asked_pending o cells.clock old c ≡ Some row → OpensNext rules max_commits p0 base arena w.before c row
     opens_by true c o n row h = absurd (let a : None ≡ Some row = sym nothing ∙ h in (cc))
     opens_by false Commit o n row h = absurd (let a : None ≡ Some row = sym nothing ∙ h in (cc))
     opens_by false (Read hint width at) o n row h = absurd (let a : None ≡ Some row = sym nothing ∙ h in (cc))
@@ -415,7 +415,7 @@ module _ {P : Type 0} (next : P → Option Call) (answered : P → Replied → P
     pub call_told : (status : new.status ≡ Ready) → IsTold cells rows new came_now w.before w.past w.memory call
     call_told status = record {
       doing = refl;
-      asks = ap next told_so.player ∙ asks;
+      asks = ap rules.next_call told_so.player ∙ asks;
       first = told_so.nth ∙ w.first;
       anew = λ o. told_so.again ∙ w.anew o;
       opens = λ row h. opens_by old.engine.is_open call refl asks row (sym told_so.pending ∙ h);
@@ -434,13 +434,13 @@ module _ {P : Type 0} (next : P → Option Call) (answered : P → Replied → P
     pub call_on : On w.before w.past w.memory cells rows new.player came_now
     call_on = subst (λ (p : P). On w.before w.past w.memory cells rows p came_now) (sym told_so.player) on_came
 
-    pub call_asks : (s : Step) → AsksFor came_now s new.engine → IsUnderWay next answered left max_commits p0 base arena cells rows (record new { status = Waits call s }) call
+    pub call_asks : (s : Step) → AsksFor came_now s new.engine → IsUnderWay rules max_commits p0 base arena cells rows (record new { status = Waits call s }) call
     call_asks s g = record {
       way = record {
         before = w.before;
         past = w.past;
         memory = w.memory;
-        follows = asks_on next answered left nearer max_commits 0 p0 base arena w.before w.past w.memory cells rows new.player came_now new.engine s call_on g (λ o. inl stays.snapshot) call_agrees;
+        follows = asks_on rules laws max_commits 0 p0 base arena w.before w.past w.memory cells rows new.player came_now new.engine s call_on g (λ o. inl stays.snapshot) call_agrees;
         first = told_so.nth ∙ w.first;
         anew = λ o. told_so.again ∙ w.anew (sym (ap (λ (c : Core). c.is_open) g.stays) ∙ o);
       };

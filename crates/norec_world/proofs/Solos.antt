@@ -20,173 +20,173 @@ use Rattle.norec_world.specs.declared.attempt.Outcome.TheVariants.{Full, Unfinis
 use Rattle.norec_world.specs.declared.attempt.End.TheVariants.{GaveUp, Finished}
 use Rattle.norec_world.specs.Solo.{Progress, Solo, entry_of, one_if, ended_as, stopped, front, with_first, the_attempt, player_after, passed, block_then, begun_then, solo_within}
 use Rattle.norec_world.proofs.Alones.{begins_alone, asked}
+use Rattle.script_vm.specs.Rules.{Obeys, Rules}
 
 pub state_pairs : (deepest : ℕ) (s : State) (xs : List Entry) → state_after deepest s (map (λ (c : Call × Reply). c.0) (map pair_of xs)) ≡ state_then deepest s xs
 state_pairs deepest s [] = refl
 state_pairs deepest s (x ∷ xs) = state_pairs deepest (after deepest s x.call) xs
 
-module _ {P : Type 0} (next : P → Option Call) (answered : P → Reply → P) (left : P → ℕ)
-    (nearer : (p : P) (c : Call) (r : Reply) → next p ≡ Some c → left (answered p r) < left p) (deepest : ℕ) where
+module _ {P : Type 0} (rules : Rules P) (laws : Obeys rules) (deepest : ℕ) where
   abbrev comes : ℕ → P → List ℕ → Option Call → Option (Beginning P)
-  comes n p arena o = begin_within next answered left deepest n p arena o
+  comes n p arena o = begin_within rules deepest n p arena o
 
   -- the player comes to the begin of a block that is accepted
   pub record IsBeginning (p : P) (start : Beginning P) : Type 0 where
     pub room : ℕ
-    pub asks : next start.player ≡ Some (Begin start.props room)
+    pub asks : rules.next_call start.player ≡ Some (Begin start.props room)
     pub accepted : is_none (refusal deepest (outside [] start.arena) (Begin start.props room)) ≡ true
-    pub less : left start.player ≤ left p
+    pub less : rules.calls_left start.player ≤ rules.calls_left p
 
-  later : (p q : P) (start : Beginning P) → left q ≤ left p → IsBeginning q start → IsBeginning p start
+  later : (p q : P) (start : Beginning P) → rules.calls_left q ≤ rules.calls_left p → IsBeginning q start → IsBeginning p start
   later p q start l b = record { room = b.room; asks = b.asks; accepted = b.accepted; less = (let m = b.less in omega arith) }
 
   same_some : {A : Type 0} (a b : A) → Some a ≡ Some b → a ≡ b
   same_some a b e = cc
 
   -- a begin that is accepted, or is refused and passed over
-  begins : (n : ℕ) (p : P) (arena : List ℕ) (props : Props) (room : ℕ) (start : Beginning P) (b : Bool) → b ≡ is_none (refusal deepest (outside [] arena) (Begin props room)) → next p ≡ Some (Begin props room)
-      → ((q : P) → comes n q arena (next q) ≡ Some start → IsBeginning q start)
+  begins : (n : ℕ) (p : P) (arena : List ℕ) (props : Props) (room : ℕ) (start : Beginning P) (b : Bool) → b ≡ is_none (refusal deepest (outside [] arena) (Begin props room)) → rules.next_call p ≡ Some (Begin props room)
+      → ((q : P) → comes n q arena (rules.next_call q) ≡ Some start → IsBeginning q start)
       → cond b (Some (record { player = p; arena = arena; props = props }))
-      (comes n (answered p (reply deepest (outside [] arena) (Begin props room))) arena (next (answered p (reply deepest (outside [] arena) (Begin props room))))) ≡ Some start
+      (comes n (rules.answered p (reply deepest (outside [] arena) (Begin props room))) arena (rules.next_call (rules.answered p (reply deepest (outside [] arena) (Begin props room))))) ≡ Some start
       → IsBeginning p start
   begins n p arena props room start true is e rest h =
       subst (IsBeginning p) (same_some _ _ h) (record { room = room; asks = e; accepted = sym is; less = omega arith })
   begins n p arena props room start false is e rest h = (
-      let q : P = answered p (reply deepest (outside [] arena) (Begin props room)) in
-      let l = nearer p (Begin props room) (reply deepest (outside [] arena) (Begin props room)) e in
+      let q : P = rules.answered p (reply deepest (outside [] arena) (Begin props room)) in
+      let l = laws.nearer p (Begin props room) (reply deepest (outside [] arena) (Begin props room)) e in
       later p q start (omega arith) (rest q h))
 
-  found : (n : ℕ) (p : P) (arena : List ℕ) (o : Option Call) (start : Beginning P) → next p ≡ o → comes n p arena o ≡ Some start → IsBeginning p start
+  found : (n : ℕ) (p : P) (arena : List ℕ) (o : Option Call) (start : Beginning P) → rules.next_call p ≡ o → comes n p arena o ≡ Some start → IsBeginning p start
   found zero p arena o start e h = absurd (cc)
   found (suc n) p arena None start e h = absurd (cc)
-  found (suc n) p arena (Some (Begin props room)) start e h = begins n p arena props room start _ refl e (λ q g. found n q arena (next q) start refl g) h
+  found (suc n) p arena (Some (Begin props room)) start e h = begins n p arena props room start _ refl e (λ q g. found n q arena (rules.next_call q) start refl g) h
   found (suc n) p arena (Some Commit) start e h = (
-      let q : P = answered p (reply deepest (outside [] arena) Commit) in
-      let l = nearer p Commit (reply deepest (outside [] arena) Commit) e in
-      later p q start (omega arith) (found n q _ (next q) start refl h))
+      let q : P = rules.answered p (reply deepest (outside [] arena) Commit) in
+      let l = laws.nearer p Commit (reply deepest (outside [] arena) Commit) e in
+      later p q start (omega arith) (found n q _ (rules.next_call q) start refl h))
   found (suc n) p arena (Some (Read hint width at)) start e h = (
-      let q : P = answered p (reply deepest (outside [] arena) (Read hint width at)) in
-      let l = nearer p (Read hint width at) (reply deepest (outside [] arena) (Read hint width at)) e in
-      later p q start (omega arith) (found n q _ (next q) start refl h))
+      let q : P = rules.answered p (reply deepest (outside [] arena) (Read hint width at)) in
+      let l = laws.nearer p (Read hint width at) (reply deepest (outside [] arena) (Read hint width at)) e in
+      later p q start (omega arith) (found n q _ (rules.next_call q) start refl h))
   found (suc n) p arena (Some (Write hint at value)) start e h = (
-      let q : P = answered p (reply deepest (outside [] arena) (Write hint at value)) in
-      let l = nearer p (Write hint at value) (reply deepest (outside [] arena) (Write hint at value)) e in
-      later p q start (omega arith) (found n q _ (next q) start refl h))
+      let q : P = rules.answered p (reply deepest (outside [] arena) (Write hint at value)) in
+      let l = laws.nearer p (Write hint at value) (reply deepest (outside [] arena) (Write hint at value)) e in
+      later p q start (omega arith) (found n q _ (rules.next_call q) start refl h))
 
-  pub begin_found : (p : P) (arena : List ℕ) (start : Beginning P) → begin_of next answered left deepest p arena ≡ Some start → IsBeginning p start
-  begin_found p arena start h = found (left p) p arena (next p) start refl h
+  pub begin_found : (p : P) (arena : List ℕ) (start : Beginning P) → begin_of rules deepest p arena ≡ Some start → IsBeginning p start
+  begin_found p arena start h = found (rules.calls_left p) p arena (rules.next_call p) start refl h
 
   -- ## Bounds that suffice
 
   chooses : (b : Bool) (start : Option (Beginning P)) (x y : Option (Beginning P)) → x ≡ y → cond b start x ≡ cond b start y
   chooses b start x y e = ap (cond b start) e
 
-  comes_enough : (n k : ℕ) (p : P) (arena : List ℕ) (o : Option Call) → next p ≡ o → left p ≤ n → left p ≤ k → comes n p arena o ≡ comes k p arena o
+  comes_enough : (n k : ℕ) (p : P) (arena : List ℕ) (o : Option Call) → rules.next_call p ≡ o → rules.calls_left p ≤ n → rules.calls_left p ≤ k → comes n p arena o ≡ comes k p arena o
   comes_enough zero zero p arena o e a c = refl
   comes_enough zero (suc k) p arena None e a c = refl
-  comes_enough zero (suc k) p arena (Some call) e a c = (let l = nearer p call (reply deepest (outside [] arena) call) e in absurd (omega arith))
+  comes_enough zero (suc k) p arena (Some call) e a c = (let l = laws.nearer p call (reply deepest (outside [] arena) call) e in absurd (omega arith))
   comes_enough (suc n) zero p arena None e a c = refl
-  comes_enough (suc n) zero p arena (Some call) e a c = (let l = nearer p call (reply deepest (outside [] arena) call) e in absurd (omega arith))
+  comes_enough (suc n) zero p arena (Some call) e a c = (let l = laws.nearer p call (reply deepest (outside [] arena) call) e in absurd (omega arith))
   comes_enough (suc n) (suc k) p arena None e a c = refl
   comes_enough (suc n) (suc k) p arena (Some (Begin props room)) e a c = (
-      let q : P = answered p (reply deepest (outside [] arena) (Begin props room)) in
-      let l = nearer p (Begin props room) (reply deepest (outside [] arena) (Begin props room)) e in
+      let q : P = rules.answered p (reply deepest (outside [] arena) (Begin props room)) in
+      let l = laws.nearer p (Begin props room) (reply deepest (outside [] arena) (Begin props room)) e in
       chooses (is_none (refusal deepest (outside [] arena) (Begin props room))) (Some (record { player = p; arena = arena; props = props })) _ _
-      (comes_enough n k q arena (next q) refl (omega arith) (omega arith)))
+      (comes_enough n k q arena (rules.next_call q) refl (omega arith) (omega arith)))
   comes_enough (suc n) (suc k) p arena (Some Commit) e a c = (
-      let q : P = answered p (reply deepest (outside [] arena) Commit) in
-      let l = nearer p Commit (reply deepest (outside [] arena) Commit) e in
-      comes_enough n k q _ (next q) refl (omega arith) (omega arith))
+      let q : P = rules.answered p (reply deepest (outside [] arena) Commit) in
+      let l = laws.nearer p Commit (reply deepest (outside [] arena) Commit) e in
+      comes_enough n k q _ (rules.next_call q) refl (omega arith) (omega arith))
   comes_enough (suc n) (suc k) p arena (Some (Read hint width at)) e a c = (
-      let q : P = answered p (reply deepest (outside [] arena) (Read hint width at)) in
-      let l = nearer p (Read hint width at) (reply deepest (outside [] arena) (Read hint width at)) e in
-      comes_enough n k q _ (next q) refl (omega arith) (omega arith))
+      let q : P = rules.answered p (reply deepest (outside [] arena) (Read hint width at)) in
+      let l = laws.nearer p (Read hint width at) (reply deepest (outside [] arena) (Read hint width at)) e in
+      comes_enough n k q _ (rules.next_call q) refl (omega arith) (omega arith))
   comes_enough (suc n) (suc k) p arena (Some (Write hint at value)) e a c = (
-      let q : P = answered p (reply deepest (outside [] arena) (Write hint at value)) in
-      let l = nearer p (Write hint at value) (reply deepest (outside [] arena) (Write hint at value)) e in
-      comes_enough n k q _ (next q) refl (omega arith) (omega arith))
+      let q : P = rules.answered p (reply deepest (outside [] arena) (Write hint at value)) in
+      let l = laws.nearer p (Write hint at value) (reply deepest (outside [] arena) (Write hint at value)) e in
+      comes_enough n k q _ (rules.next_call q) refl (omega arith) (omega arith))
 
   -- the calls left do not grow along what a player gets
-  falls_along : (n : ℕ) (p : P) (s : State) (o : Option Call) → turn next answered left p s ≡ o
-      → left (player_after next answered left deepest 0 0 p (answers_within next answered left deepest n p s o)) ≤ left p
+  falls_along : (n : ℕ) (p : P) (s : State) (o : Option Call) → turn rules.next_call rules.answered rules.calls_left p s ≡ o
+      → rules.calls_left (player_after rules deepest 0 0 p (answers_within rules.next_call rules.answered rules.calls_left deepest n p s o)) ≤ rules.calls_left p
   falls_along zero p s o e = omega arith
   falls_along (suc n) p s None e = omega arith
   falls_along (suc n) p s (Some c) e = (
       let r = reply deepest s c in
-      let q : P = answered p r in
+      let q : P = rules.answered p r in
       let t : State = after deepest s c in
-      let l = nearer p c r (asked next answered left nearer deepest p s c e) in
-      let m = falls_along n q t (turn next answered left q t) refl in
+      let l = laws.nearer p c r (asked rules laws deepest p s c e) in
+      let m = falls_along n q t (turn rules.next_call rules.answered rules.calls_left q t) refl in
       omega arith)
 
   module _ (max_commits thread : ℕ) where
     abbrev goes : ℕ → Progress P → Solo
-    goes n b = solo_within next answered left deepest max_commits thread n b
+    goes n b = solo_within rules deepest max_commits thread n b
 
     -- what comes of a block, by what comes of the rest
     abbrev joined : Progress P → Beginning P → P → List (Call × Reply) → State → Solo → Solo
-    joined b start p pairs s r = block_then next answered left deepest max_commits thread (λ (q : Progress P). r) b start p pairs s
+    joined b start p pairs s r = block_then rules deepest max_commits thread (λ (q : Progress P). r) b start p pairs s
 
-    none_left : (p : P) (arena : List ℕ) → left p ≤ 0 → begin_of next answered left deepest p arena ≡ None
-    none_left p arena l = ap (λ (n : ℕ). begin_within next answered left deepest n p arena (next p)) (let e : left p ≡ 0 = omega arith in e)
+    none_left : (p : P) (arena : List ℕ) → rules.calls_left p ≤ 0 → begin_of rules deepest p arena ≡ None
+    none_left p arena l = ap (λ (n : ℕ). begin_within rules deepest n p arena (rules.next_call p)) (let e : rules.calls_left p ≡ 0 = omega arith in e)
 
-    same_from : (n k : ℕ) (b : Progress P) (o : Option (Beginning P)) → begin_of next answered left deepest b.player b.arena ≡ o
-        → ((c : Progress P) → left c.player < left b.player → goes n c ≡ goes k c)
-        → begun_then next answered left deepest max_commits thread (goes n) b o ≡ begun_then next answered left deepest max_commits thread (goes k) b o
+    same_from : (n k : ℕ) (b : Progress P) (o : Option (Beginning P)) → begin_of rules deepest b.player b.arena ≡ o
+        → ((c : Progress P) → rules.calls_left c.player < rules.calls_left b.player → goes n c ≡ goes k c)
+        → begun_then rules deepest max_commits thread (goes n) b o ≡ begun_then rules deepest max_commits thread (goes k) b o
     same_from n k b None e rest = refl
     same_from n k b (Some start) e rest =
-        let p : P = answered start.player (begin_code false) in
+        let p : P = rules.answered start.player (begin_code false) in
         let s0 : State = opened b.memory start.arena start.props in
-        let pairs : List (Call × Reply) = answers next answered left deepest p b.memory start.arena start.props in
+        let pairs : List (Call × Reply) = answers rules.next_call rules.answered rules.calls_left deepest p b.memory start.arena start.props in
         let found = begin_found b.player b.arena start e in
         let l = found.less in
-        let m = nearer start.player (Begin start.props found.room) (begin_code false) found.asks in
-        let along = falls_along (left p) p s0 (turn next answered left p s0) refl in
+        let m = laws.nearer start.player (Begin start.props found.room) (begin_code false) found.asks in
+        let along = falls_along (rules.calls_left p) p s0 (turn rules.next_call rules.answered rules.calls_left p s0) refl in
         ap (joined b start p pairs (state_after deepest s0 (map (λ (c : Call × Reply). c.0) pairs)))
-        (rest (passed next answered left deepest max_commits thread b p pairs (state_after deepest s0 (map (λ (c : Call × Reply). c.0) pairs))) (omega arith))
+        (rest (passed rules deepest max_commits thread b p pairs (state_after deepest s0 (map (λ (c : Call × Reply). c.0) pairs))) (omega arith))
 
     -- so many blocks suffice
-    pub solo_enough : (n k : ℕ) (b : Progress P) → left b.player ≤ n → left b.player ≤ k → goes n b ≡ goes k b
+    pub solo_enough : (n k : ℕ) (b : Progress P) → rules.calls_left b.player ≤ n → rules.calls_left b.player ≤ k → goes n b ≡ goes k b
     solo_enough zero zero b u v = refl
-    solo_enough zero (suc k) b u v = sym (ap (begun_then next answered left deepest max_commits thread (goes k) b) (none_left b.player b.arena u))
-    solo_enough (suc n) zero b u v = ap (begun_then next answered left deepest max_commits thread (goes n) b) (none_left b.player b.arena v)
+    solo_enough zero (suc k) b u v = sym (ap (begun_then rules deepest max_commits thread (goes k) b) (none_left b.player b.arena u))
+    solo_enough (suc n) zero b u v = ap (begun_then rules deepest max_commits thread (goes n) b) (none_left b.player b.arena v)
     solo_enough (suc n) (suc k) b u v =
-        same_from n k b (begin_of next answered left deepest b.player b.arena) refl (λ c l. solo_enough n k c (omega arith) (omega arith))
+        same_from n k b (begin_of rules deepest b.player b.arena) refl (λ c l. solo_enough n k c (omega arith) (omega arith))
 
     -- ## One block
 
-    gets_none : (n : ℕ) (p : P) (s : State) → answers_within next answered left deepest n p s None ≡ []
+    gets_none : (n : ℕ) (p : P) (s : State) → answers_within rules.next_call rules.answered rules.calls_left deepest n p s None ≡ []
     gets_none zero p s = refl
     gets_none (suc n) p s = refl
 
-    pub player_pairs : (p : P) (xs : List Entry) → player_after next answered left deepest max_commits thread p (map pair_of xs) ≡ player_then answered p xs
+    pub player_pairs : (p : P) (xs : List Entry) → player_after rules deepest max_commits thread p (map pair_of xs) ≡ player_then rules.answered p xs
     player_pairs p [] = refl
-    player_pairs p (x ∷ xs) = player_pairs (answered p x.reply) xs
+    player_pairs p (x ∷ xs) = player_pairs (rules.answered p x.reply) xs
 
     pub entries_pairs : (xs : List Entry) → map entry_of (map pair_of xs) ≡ xs
     entries_pairs [] = refl
     entries_pairs (x ∷ xs) = ap (λ (ys : List Entry). x ∷ ys) (entries_pairs xs)
 
     -- the calls that were made alone, and the player makes no more in this block
-    pub whole_block : (b : Progress P) (start : Beginning P) (xs : List Entry) → begin_of next answered left deepest b.player b.arena ≡ Some start
-        → IsAlone next answered left deepest (answered start.player (begin_code false)) (opened b.memory start.arena start.props) xs
-        → turn next answered left (player_then answered (answered start.player (begin_code false)) xs) (state_then deepest (opened b.memory start.arena start.props) xs) ≡ None
-        → goes (left b.player) b ≡ block_then next answered left deepest max_commits thread (goes (left b.player)) b start (answered start.player (begin_code false)) (map pair_of xs)
+    pub whole_block : (b : Progress P) (start : Beginning P) (xs : List Entry) → begin_of rules deepest b.player b.arena ≡ Some start
+        → IsAlone rules deepest (rules.answered start.player (begin_code false)) (opened b.memory start.arena start.props) xs
+        → turn rules.next_call rules.answered rules.calls_left (player_then rules.answered (rules.answered start.player (begin_code false)) xs) (state_then deepest (opened b.memory start.arena start.props) xs) ≡ None
+        → goes (rules.calls_left b.player) b ≡ block_then rules deepest max_commits thread (goes (rules.calls_left b.player)) b start (rules.answered start.player (begin_code false)) (map pair_of xs)
         (state_then deepest (opened b.memory start.arena start.props) xs)
     whole_block b start xs e alone done =
-        let p : P = answered start.player (begin_code false) in
+        let p : P = rules.answered start.player (begin_code false) in
         let s : State = opened b.memory start.arena start.props in
-        let n : ℕ = left b.player in
-        let q : P = player_then answered p xs in
+        let n : ℕ = rules.calls_left b.player in
+        let q : P = player_then rules.answered p xs in
         let t : State = state_then deepest s xs in
-        let all : answers next answered left deepest p b.memory start.arena start.props ≡ map pair_of xs =
-        begins_alone next answered left nearer deepest (left p) p s xs (omega arith) alone
-        ∙ (ap (λ (o : Option Call). map pair_of xs ++ answers_within next answered left deepest (left p) q t o) done
-        ∙ (ap (λ (ys : List (Call × Reply)). map pair_of xs ++ ys) (gets_none (left p) q t) ∙ append-nil (map pair_of xs))) in
+        let all : answers rules.next_call rules.answered rules.calls_left deepest p b.memory start.arena start.props ≡ map pair_of xs =
+        begins_alone rules laws deepest (rules.calls_left p) p s xs (omega arith) alone
+        ∙ (ap (λ (o : Option Call). map pair_of xs ++ answers_within rules.next_call rules.answered rules.calls_left deepest (rules.calls_left p) q t o) done
+        ∙ (ap (λ (ys : List (Call × Reply)). map pair_of xs ++ ys) (gets_none (rules.calls_left p) q t) ∙ append-nil (map pair_of xs))) in
         solo_enough n (suc n) b (omega arith) (omega arith)
-        ∙ (ap (begun_then next answered left deepest max_commits thread (goes n) b) e
-        ∙ (ap (λ (pairs : List (Call × Reply)). block_then next answered left deepest max_commits thread (goes n) b start p pairs (state_after deepest s (map (λ (c : Call × Reply). c.0) pairs))) all
-        ∙ ap (block_then next answered left deepest max_commits thread (goes n) b start p (map pair_of xs)) (state_pairs deepest s xs)))
+        ∙ (ap (begun_then rules deepest max_commits thread (goes n) b) e
+        ∙ (ap (λ (pairs : List (Call × Reply)). block_then rules deepest max_commits thread (goes n) b start p pairs (state_after deepest s (map (λ (c : Call × Reply). c.0) pairs))) all
+        ∙ ap (block_then rules deepest max_commits thread (goes n) b start p (map pair_of xs)) (state_pairs deepest s xs)))
 
     -- the attempt of such a block
     abbrev pub attempt_of : Progress P → Beginning P → List Entry → Outcome → Attempt
@@ -206,33 +206,33 @@ module _ {P : Type 0} (next : P → Option Call) (answered : P → Reply → P) 
     next_of b q t = record { player = q; arena = t.arena; memory = t.memory; commits = b.commits + one_if t.wrote }
 
     abbrev pub begun : Beginning P → P
-    begun start = answered start.player (begin_code false)
+    begun start = rules.answered start.player (begin_code false)
 
     abbrev pub state_of : Progress P → Beginning P → List Entry → State
     state_of b start xs = state_then deepest (opened b.memory start.arena start.props) xs
 
-    closed_turn : (q : P) (t : State) → is_open t ≡ false → turn next answered left q t ≡ None
-    closed_turn q t e = cond-false (is_open t) (next q) None e
+    closed_turn : (q : P) (t : State) → is_open t ≡ false → turn rules.next_call rules.answered rules.calls_left q t ≡ None
+    closed_turn q t e = cond-false (is_open t) (rules.next_call q) None e
 
     -- a block that ends by a commit
-    pub ended_block : (b : Progress P) (start : Beginning P) (xs : List Entry) → begin_of next answered left deepest b.player b.arena ≡ Some start
-        → IsAlone next answered left deepest (begun start) (opened b.memory start.arena start.props) xs
-        → is_open (state_of b start xs) ≡ false → ((state_of b start xs).wrote && nat_le max_commits b.commits) ≡ false → left (player_then answered (begun start) xs) ≤ left b.player
-        → goes (left b.player) b ≡ with_first (attempt_of b start xs (ended_as (state_of b start xs).wrote))
-        (goes (left (player_then answered (begun start) xs)) (next_of b (player_then answered (begun start) xs) (state_of b start xs)))
+    pub ended_block : (b : Progress P) (start : Beginning P) (xs : List Entry) → begin_of rules deepest b.player b.arena ≡ Some start
+        → IsAlone rules deepest (begun start) (opened b.memory start.arena start.props) xs
+        → is_open (state_of b start xs) ≡ false → ((state_of b start xs).wrote && nat_le max_commits b.commits) ≡ false → rules.calls_left (player_then rules.answered (begun start) xs) ≤ rules.calls_left b.player
+        → goes (rules.calls_left b.player) b ≡ with_first (attempt_of b start xs (ended_as (state_of b start xs).wrote))
+        (goes (rules.calls_left (player_then rules.answered (begun start) xs)) (next_of b (player_then rules.answered (begun start) xs) (state_of b start xs)))
     ended_block b start xs e alone closed free l =
-        let n : ℕ = left b.player in
-        let q : P = player_then answered (begun start) xs in
+        let n : ℕ = rules.calls_left b.player in
+        let q : P = player_then rules.answered (begun start) xs in
         let t : State = state_of b start xs in
         let pairs : List (Call × Reply) = map pair_of xs in
-        let yes : Solo = with_first (the_attempt next answered left deepest max_commits thread b start pairs (ended_as t.wrote)) (goes n (passed next answered left deepest max_commits thread b (begun start) pairs t)) in
-        let full : Solo = with_first (the_attempt next answered left deepest max_commits thread b start (front pairs) Full) (stopped next answered left deepest max_commits thread b GaveUp) in
-        let opened_still : Solo = with_first (the_attempt next answered left deepest max_commits thread b start pairs Unfinished) (stopped next answered left deepest max_commits thread b Finished) in
+        let yes : Solo = with_first (the_attempt rules deepest max_commits thread b start pairs (ended_as t.wrote)) (goes n (passed rules deepest max_commits thread b (begun start) pairs t)) in
+        let full : Solo = with_first (the_attempt rules deepest max_commits thread b start (front pairs) Full) (stopped rules deepest max_commits thread b GaveUp) in
+        let opened_still : Solo = with_first (the_attempt rules deepest max_commits thread b start pairs Unfinished) (stopped rules deepest max_commits thread b Finished) in
         whole_block b start xs e alone (closed_turn q t closed)
         ∙ (cond-false (is_open t) opened_still (cond (t.wrote && nat_le max_commits b.commits) full yes) closed
         ∙ (cond-false (t.wrote && nat_le max_commits b.commits) full yes free
         ∙ ((λ i. with_first (attempt_of b start (entries_pairs xs i) (ended_as t.wrote)) (goes n (next_of b (player_pairs (begun start) xs i) t)))
-        ∙ ap (with_first (attempt_of b start xs (ended_as t.wrote))) (solo_enough n (left q) (next_of b q t) l (omega arith)))))
+        ∙ ap (with_first (attempt_of b start xs (ended_as t.wrote))) (solo_enough n (rules.calls_left q) (next_of b q t) l (omega arith)))))
 
     front_snoc : (xs : List Entry) (x : Entry) → front (map pair_of (xs ++ x ∷ [])) ≡ map pair_of xs
     front_snoc [] x = refl
@@ -240,83 +240,83 @@ module _ {P : Type 0} (next : P → Option Call) (answered : P → Reply → P) 
     front_snoc (y ∷ z ∷ zs) x = ap (λ (ps : List (Call × Reply)). pair_of y ∷ ps) (front_snoc (z ∷ zs) x)
 
     -- a block whose commit is not made, as many writers having committed as may
-    pub full_block : (b : Progress P) (start : Beginning P) (xs : List Entry) (last : Entry) → begin_of next answered left deepest b.player b.arena ≡ Some start
-        → IsAlone next answered left deepest (begun start) (opened b.memory start.arena start.props) (xs ++ last ∷ [])
+    pub full_block : (b : Progress P) (start : Beginning P) (xs : List Entry) (last : Entry) → begin_of rules deepest b.player b.arena ≡ Some start
+        → IsAlone rules deepest (begun start) (opened b.memory start.arena start.props) (xs ++ last ∷ [])
         → is_open (state_of b start (xs ++ last ∷ [])) ≡ false → ((state_of b start (xs ++ last ∷ [])).wrote && nat_le max_commits b.commits) ≡ true
-        → goes (left b.player) b ≡ with_first (attempt_of b start xs Full) (stopped next answered left deepest max_commits thread b GaveUp)
+        → goes (rules.calls_left b.player) b ≡ with_first (attempt_of b start xs Full) (stopped rules deepest max_commits thread b GaveUp)
     full_block b start xs last e alone closed full_is =
-        let n : ℕ = left b.player in
+        let n : ℕ = rules.calls_left b.player in
         let all : List Entry = xs ++ last ∷ [] in
-        let q : P = player_then answered (begun start) all in
+        let q : P = player_then rules.answered (begun start) all in
         let t : State = state_of b start all in
         let pairs : List (Call × Reply) = map pair_of all in
-        let yes : Solo = with_first (the_attempt next answered left deepest max_commits thread b start pairs (ended_as t.wrote)) (goes n (passed next answered left deepest max_commits thread b (begun start) pairs t)) in
-        let full : Solo = with_first (the_attempt next answered left deepest max_commits thread b start (front pairs) Full) (stopped next answered left deepest max_commits thread b GaveUp) in
-        let opened_still : Solo = with_first (the_attempt next answered left deepest max_commits thread b start pairs Unfinished) (stopped next answered left deepest max_commits thread b Finished) in
+        let yes : Solo = with_first (the_attempt rules deepest max_commits thread b start pairs (ended_as t.wrote)) (goes n (passed rules deepest max_commits thread b (begun start) pairs t)) in
+        let full : Solo = with_first (the_attempt rules deepest max_commits thread b start (front pairs) Full) (stopped rules deepest max_commits thread b GaveUp) in
+        let opened_still : Solo = with_first (the_attempt rules deepest max_commits thread b start pairs Unfinished) (stopped rules deepest max_commits thread b Finished) in
         whole_block b start all e alone (closed_turn q t closed)
         ∙ (cond-false (is_open t) opened_still (cond (t.wrote && nat_le max_commits b.commits) full yes) closed
         ∙ (cond-true (t.wrote && nat_le max_commits b.commits) full yes full_is
-        ∙ (λ i. with_first (attempt_of b start ((ap (map entry_of) (front_snoc xs last) ∙ entries_pairs xs) i) Full) (stopped next answered left deepest max_commits thread b GaveUp))))
+        ∙ (λ i. with_first (attempt_of b start ((ap (map entry_of) (front_snoc xs last) ∙ entries_pairs xs) i) Full) (stopped rules deepest max_commits thread b GaveUp))))
 
     -- a block that the player leaves open for good
-    pub open_block : (b : Progress P) (start : Beginning P) (xs : List Entry) → begin_of next answered left deepest b.player b.arena ≡ Some start
-        → IsAlone next answered left deepest (begun start) (opened b.memory start.arena start.props) xs
-        → is_open (state_of b start xs) ≡ true → next (player_then answered (begun start) xs) ≡ None
-        → goes (left b.player) b ≡ with_first (attempt_of b start xs Unfinished) (stopped next answered left deepest max_commits thread b Finished)
+    pub open_block : (b : Progress P) (start : Beginning P) (xs : List Entry) → begin_of rules deepest b.player b.arena ≡ Some start
+        → IsAlone rules deepest (begun start) (opened b.memory start.arena start.props) xs
+        → is_open (state_of b start xs) ≡ true → rules.next_call (player_then rules.answered (begun start) xs) ≡ None
+        → goes (rules.calls_left b.player) b ≡ with_first (attempt_of b start xs Unfinished) (stopped rules deepest max_commits thread b Finished)
     open_block b start xs e alone opens done =
-        let n : ℕ = left b.player in
-        let q : P = player_then answered (begun start) xs in
+        let n : ℕ = rules.calls_left b.player in
+        let q : P = player_then rules.answered (begun start) xs in
         let t : State = state_of b start xs in
         let pairs : List (Call × Reply) = map pair_of xs in
-        let yes : Solo = with_first (the_attempt next answered left deepest max_commits thread b start pairs (ended_as t.wrote)) (goes n (passed next answered left deepest max_commits thread b (begun start) pairs t)) in
-        let full : Solo = with_first (the_attempt next answered left deepest max_commits thread b start (front pairs) Full) (stopped next answered left deepest max_commits thread b GaveUp) in
-        let opened_still : Solo = with_first (the_attempt next answered left deepest max_commits thread b start pairs Unfinished) (stopped next answered left deepest max_commits thread b Finished) in
-        whole_block b start xs e alone (cond-true (is_open t) (next q) None opens ∙ done)
+        let yes : Solo = with_first (the_attempt rules deepest max_commits thread b start pairs (ended_as t.wrote)) (goes n (passed rules deepest max_commits thread b (begun start) pairs t)) in
+        let full : Solo = with_first (the_attempt rules deepest max_commits thread b start (front pairs) Full) (stopped rules deepest max_commits thread b GaveUp) in
+        let opened_still : Solo = with_first (the_attempt rules deepest max_commits thread b start pairs Unfinished) (stopped rules deepest max_commits thread b Finished) in
+        whole_block b start xs e alone (cond-true (is_open t) (rules.next_call q) None opens ∙ done)
         ∙ (cond-true (is_open t) opened_still (cond (t.wrote && nat_le max_commits b.commits) full yes) opens
-        ∙ (λ i. with_first (attempt_of b start (entries_pairs xs i) Unfinished) (stopped next answered left deepest max_commits thread b Finished)))
+        ∙ (λ i. with_first (attempt_of b start (entries_pairs xs i) Unfinished) (stopped rules deepest max_commits thread b Finished)))
 
     -- a player that comes to no block
-    pub no_block : (b : Progress P) → begin_of next answered left deepest b.player b.arena ≡ None → goes (left b.player) b ≡ stopped next answered left deepest max_commits thread b Finished
-    no_block b e = solo_enough (left b.player) (suc (left b.player)) b (omega arith) (omega arith) ∙ ap (begun_then next answered left deepest max_commits thread (goes (left b.player)) b) e
+    pub no_block : (b : Progress P) → begin_of rules deepest b.player b.arena ≡ None → goes (rules.calls_left b.player) b ≡ stopped rules deepest max_commits thread b Finished
+    no_block b e = solo_enough (rules.calls_left b.player) (suc (rules.calls_left b.player)) b (omega arith) (omega arith) ∙ ap (begun_then rules deepest max_commits thread (goes (rules.calls_left b.player)) b) e
 
     -- ## Calls between blocks
 
     -- the player once such a call is answered
     abbrev pub passing : Progress P → Call → Progress P
     passing b c = record {
-      player = answered b.player (reply deepest (outside [] b.arena) c);
+      player = rules.answered b.player (reply deepest (outside [] b.arena) c);
       arena = (after deepest (outside [] b.arena) c).arena;
       memory = b.memory;
       commits = b.commits;
     }
 
     begun_passing : (n : ℕ) (b : Progress P) (c : Call) (o : Option (Beginning P))
-        → begun_then next answered left deepest max_commits thread (goes n) b o ≡ begun_then next answered left deepest max_commits thread (goes n) (passing b c) o
+        → begun_then rules deepest max_commits thread (goes n) b o ≡ begun_then rules deepest max_commits thread (goes n) (passing b c) o
     begun_passing n b c None = refl
     begun_passing n b c (Some start) = refl
 
     steps_past : (n : ℕ) (b : Progress P) (c : Call) → is_begin c ≡ false
-        → comes (suc n) b.player b.arena (Some c) ≡ comes n (passing b c).player (passing b c).arena (next (passing b c).player)
+        → comes (suc n) b.player b.arena (Some c) ≡ comes n (passing b c).player (passing b c).arena (rules.next_call (passing b c).player)
     steps_past n b (Begin props room) e = absurd (cc)
     steps_past n b Commit e = refl
     steps_past n b (Read hint width at) e = refl
     steps_past n b (Write hint at value) e = refl
 
-    pub comes_past : (n : ℕ) (b : Progress P) (c : Call) → next b.player ≡ Some c → is_begin c ≡ false → left b.player ≤ n
-        → comes n b.player b.arena (next b.player) ≡ comes (left (passing b c).player) (passing b c).player (passing b c).arena (next (passing b c).player)
-    comes_past zero b c e nb l = (let k = nearer b.player c (reply deepest (outside [] b.arena) c) e in absurd (omega arith))
+    pub comes_past : (n : ℕ) (b : Progress P) (c : Call) → rules.next_call b.player ≡ Some c → is_begin c ≡ false → rules.calls_left b.player ≤ n
+        → comes n b.player b.arena (rules.next_call b.player) ≡ comes (rules.calls_left (passing b c).player) (passing b c).player (passing b c).arena (rules.next_call (passing b c).player)
+    comes_past zero b c e nb l = (let k = laws.nearer b.player c (reply deepest (outside [] b.arena) c) e in absurd (omega arith))
     comes_past (suc n) b c e nb l =
-        let k = nearer b.player c (reply deepest (outside [] b.arena) c) e in
+        let k = laws.nearer b.player c (reply deepest (outside [] b.arena) c) e in
         ap (comes (suc n) b.player b.arena) e
-        ∙ (steps_past n b c nb ∙ comes_enough n (left (passing b c).player) (passing b c).player (passing b c).arena (next (passing b c).player) refl (omega arith) (omega arith))
+        ∙ (steps_past n b c nb ∙ comes_enough n (rules.calls_left (passing b c).player) (passing b c).player (passing b c).arena (rules.next_call (passing b c).player) refl (omega arith) (omega arith))
 
     -- a call between blocks that begins none changes nothing of what comes
-    pub outside_call : (b : Progress P) (c : Call) → next b.player ≡ Some c → is_begin c ≡ false → goes (left b.player) b ≡ goes (left (passing b c).player) (passing b c)
+    pub outside_call : (b : Progress P) (c : Call) → rules.next_call b.player ≡ Some c → is_begin c ≡ false → goes (rules.calls_left b.player) b ≡ goes (rules.calls_left (passing b c).player) (passing b c)
     outside_call b c e nb =
-        let n : ℕ = left b.player in
+        let n : ℕ = rules.calls_left b.player in
         let q : Progress P = passing b c in
-        let k = nearer b.player c (reply deepest (outside [] b.arena) c) e in
+        let k = laws.nearer b.player c (reply deepest (outside [] b.arena) c) e in
         solo_enough n (suc n) b (omega arith) (omega arith)
-        ∙ (ap (begun_then next answered left deepest max_commits thread (goes n) b) (comes_past n b c e nb (omega arith))
-        ∙ (begun_passing n b c (begin_of next answered left deepest q.player q.arena)
-        ∙ solo_enough (suc n) (left q.player) q (omega arith) (omega arith)))
+        ∙ (ap (begun_then rules deepest max_commits thread (goes n) b) (comes_past n b c e nb (omega arith))
+        ∙ (begun_passing n b c (begin_of rules deepest q.player q.arena)
+        ∙ solo_enough (suc n) (rules.calls_left q.player) q (omega arith) (omega arith)))

@@ -1,7 +1,5 @@
 -- An event of one actor leaves the others sound.
 use Rattle.std.proofs.Common.{◌≡◌, ◌≢◌, ◌⊎◌, inl, inr, ℕ, zero, suc, ◌+◌, ◌%◌, ◌<◌, ◌≤◌, Bool, true, false, List, [], ◌∷◌, ◌++◌, length, length-append, Option, None, Some, slice_get, slice_set, refl, sym, ap, subst, ◌∙◌, arith, eq-eqb, eqb-true, ◌==◌, length-set, if◌then◌else◌}
-use Rattle.itm_types.specs.declared.call.Call.{Call}
-use Rattle.itm_types.specs.declared.call.Reply.{Reply}
 use Rattle.itm_types.specs.Memory.{AllFit}
 use Rattle.itm_types.proofs.Words.{slice_get-set_same, slice_get-set_other}
 use Rattle.norec_world.specs.declared.attempt.Attempt.{Attempt}
@@ -17,6 +15,7 @@ use Rattle.norec_world.specs.ClockHolder.{ClocksOn}
 use Rattle.norec_world.proofs.TiedEngines.{held_even}
 use Rattle.norec_world.specs.Sound.{IsTied, HasRow, StatusIs, IsSound}
 use Rattle.norec_world.specs.Actors.{IsActor, AreActors}
+use Rattle.script_vm.specs.Rules.{Rules}
 
 both : (n : Bool) → n ≡ true → n ≡ false → ⊥
 both n t f = absurd (cc)
@@ -33,7 +32,7 @@ pending_some : (o : Option Attempt) (row : Attempt) (room : ℕ) → o ≡ Some 
 pending_some None row room e l = absurd (cc)
 pending_some (Some x) row room e l = omega arith
 
-module _ {P : Type 0} (next : P → Option Call) (answered : P → Reply → P) (restarted : P → P) (left : P → ℕ) (depth : P → ℕ) where
+module _ {P : Type 0} (rules : Rules P) where
   -- another one, where the cells of the clock that it holds did not change
   pub tied_still : (cells cells' : Cells) (b : Actor P) → IsTied cells b.engine → AllFit cells'.words → cells.clock ≤ cells'.clock → length cells'.words ≡ length cells.words → (b.engine.holds ≡ true → cells' ≡ cells) → IsTied cells' b.engine
   tied_still cells cells' b t fit late long held = record {
@@ -44,7 +43,7 @@ module _ {P : Type 0} (next : P → Option Call) (answered : P → Reply → P) 
     settled = t.settled;
   }
 
-  status_still : (r r' : Rows) (b : Actor P) → active_of b.thread r'.active ≡ active_of b.thread r.active → count_pending b.pending ≤ r'.room → (s : Status) → StatusIs next answered restarted left depth r b s → StatusIs next answered restarted left depth r' b s
+  status_still : (r r' : Rows) (b : Actor P) → active_of b.thread r'.active ≡ active_of b.thread r.active → count_pending b.pending ≤ r'.room → (s : Status) → StatusIs rules r b s → StatusIs rules r' b s
   status_still r r' b same room Ready s = s
   status_still r r' b same room (Waits call step) s =
       let i = s.in_call in
@@ -64,9 +63,9 @@ module _ {P : Type 0} (next : P → Option Call) (answered : P → Reply → P) 
       }
   status_still r r' b same room (Ended end) s = tt
 
-  pub sound_still : (cells cells' : Cells) (r r' : Rows) (b : Actor P) → IsSound next answered restarted left depth cells r b
+  pub sound_still : (cells cells' : Cells) (r r' : Rows) (b : Actor P) → IsSound rules cells r b
       → AllFit cells'.words → cells.clock ≤ cells'.clock → length cells'.words ≡ length cells.words → (b.engine.holds ≡ true → cells' ≡ cells)
-      → active_of b.thread r'.active ≡ active_of b.thread r.active → count_pending b.pending ≤ r'.room → IsSound next answered restarted left depth cells' r' b
+      → active_of b.thread r'.active ≡ active_of b.thread r.active → count_pending b.pending ≤ r'.room → IsSound rules cells' r' b
   sound_still cells cells' r r' b s fit late long held same room =
       let k = s.kept in
       record {
@@ -153,12 +152,12 @@ there_is (x ∷ xs) (suc i) l = there_is xs i (omega arith)
 
 -- ## One event
 
-module _ {P : Type 0} (next : P → Option Call) (answered : P → Reply → P) (restarted : P → P) (left : P → ℕ) (depth : P → ℕ)
-    (cells cells' : Cells) (r r' : Rows) (actors : List (Actor P)) (s : AreActors next answered restarted left depth cells r actors)
+module _ {P : Type 0} (rules : Rules P)
+    (cells cells' : Cells) (r r' : Rows) (actors : List (Actor P)) (s : AreActors rules cells r actors)
     (i : ℕ) (got new : Actor P) (here : slice_get actors i ≡ Some got)
-    (sound : IsSound next answered restarted left depth cells' r' new) (done : is_ready new.status ≡ false)
+    (sound : IsSound rules cells' r' new) (done : is_ready new.status ≡ false)
     (others : KeepsOthers got r new r') (clocks : ClocksOn cells got.engine cells' new.engine) where
-  mine : IsActor next answered restarted left depth cells r i got
+  mine : IsActor rules cells r i got
   mine = s.each i got here
 
   -- one that holds the clock and is not this one sees no change
@@ -180,7 +179,7 @@ module _ {P : Type 0} (next : P → Option Call) (answered : P → Reply → P) 
       omega arith
 
   -- the world goes on
-  pub actors_after : AreActors next answered restarted left depth cells' r' (slice_set actors i new)
+  pub actors_after : AreActors rules cells' r' (slice_set actors i new)
   actors_after = record {
     few = (let n = length-set actors i new in let l = s.few in omega arith);
     each = each_after;
@@ -190,14 +189,14 @@ module _ {P : Type 0} (next : P → Option Call) (answered : P → Reply → P) 
     listed = listed_after;
   }
     where
-      each_after : (j : ℕ) (b : Actor P) → slice_get (slice_set actors i new) j ≡ Some b → IsActor next answered restarted left depth cells' r' j b
+      each_after : (j : ℕ) (b : Actor P) → slice_get (slice_set actors i new) j ≡ Some b → IsActor rules cells' r' j b
       each_after j b e = elim (set_place actors i got new here j b e) [
-        | inl h ↦ subst (IsActor next answered restarted left depth cells' r' j) (sym h.1) (record { sound = sound; done = done; thread = others.thread ∙ (mine.thread ∙ h.0) })
+        | inl h ↦ subst (IsActor rules cells' r' j) (sym h.1) (record { sound = sound; done = done; thread = others.thread ∙ (mine.thread ∙ h.0) })
         | inr h ↦
             (let was = s.each j b h.1 in
             let not_mine : b.thread ≡ got.thread → ⊥ = λ same. h.0 (sym mine.thread ∙ (sym same ∙ was.thread)) in
             record {
-              sound = sound_still next answered restarted left depth cells cells' r r' b was.sound sound.tied.fit clocks.late clocks.long (λ holds. (held_apart j b h.0 h.1 holds).0)
+              sound = sound_still rules cells cells' r r' b was.sound sound.tied.fit clocks.late clocks.long (λ holds. (held_apart j b h.0 h.1 holds).0)
                   (others.own.others b.thread not_mine) (let share = pending_share (slice_set actors i new) j b e in let all = room_after in omega arith);
               done = was.done;
               thread = was.thread;
@@ -262,9 +261,9 @@ pending_more : {P : Type 0} (actors : List (Actor P)) (new : Actor P) → pendin
 pending_more [] new = (let e : count_pending new.pending + 0 ≡ 0 + count_pending new.pending = omega arith in e)
 pending_more (a ∷ rest) new = (let e = pending_more rest new in omega arith)
 
-module _ {P : Type 0} (next : P → Option Call) (answered : P → Reply → P) (restarted : P → P) (left : P → ℕ) (depth : P → ℕ)
-    (cells : Cells) (r r' : Rows) (actors : List (Actor P)) (s : AreActors next answered restarted left depth cells r actors) (new : Actor P)
-    (sound : IsSound next answered restarted left depth cells r' new) (done : is_ready new.status ≡ false) (thread : new.thread ≡ length actors) (fewer : length actors < 32)
+module _ {P : Type 0} (rules : Rules P)
+    (cells : Cells) (r r' : Rows) (actors : List (Actor P)) (s : AreActors rules cells r actors) (new : Actor P)
+    (sound : IsSound rules cells r' new) (done : is_ready new.status ≡ false) (thread : new.thread ≡ length actors) (fewer : length actors < 32)
     (own : ChangesOwn new.thread r r') (roomy : (others : ℕ) → others < 32 → others ≤ r.room → others + count_pending new.pending ≤ r'.room) (free : new.engine.holds ≡ false) where
   room_joined : pending_in (actors ++ new ∷ []) ≤ r'.room
   room_joined =
@@ -274,7 +273,7 @@ module _ {P : Type 0} (next : P → Option Call) (answered : P → Reply → P) 
       let more = roomy (pending_in actors) (omega arith) total in
       omega arith
 
-  pub actors_joined : AreActors next answered restarted left depth cells r' (actors ++ new ∷ [])
+  pub actors_joined : AreActors rules cells r' (actors ++ new ∷ [])
   actors_joined = record {
     few = (let n = length-append actors (new ∷ []) in omega arith);
     each = each_joined;
@@ -284,7 +283,7 @@ module _ {P : Type 0} (next : P → Option Call) (answered : P → Reply → P) 
     listed = listed_joined;
   }
     where
-      each_joined : (j : ℕ) (b : Actor P) → slice_get (actors ++ new ∷ []) j ≡ Some b → IsActor next answered restarted left depth cells r' j b
+      each_joined : (j : ℕ) (b : Actor P) → slice_get (actors ++ new ∷ []) j ≡ Some b → IsActor rules cells r' j b
       each_joined j b e = elim (last_or_before actors new j b e) [
         | inl h ↦
             (let was = s.each j b h in
@@ -292,12 +291,12 @@ module _ {P : Type 0} (next : P → Option Call) (answered : P → Reply → P) 
             let mine = was.thread in
             let not_new : b.thread ≡ new.thread → ⊥ = λ same. absurd (omega arith) in
             record {
-              sound = sound_still next answered restarted left depth cells cells r r' b was.sound sound.tied.fit (let k : cells.clock ≤ cells.clock = omega arith in k) refl (λ holds. refl)
+              sound = sound_still rules cells cells r r' b was.sound sound.tied.fit (let k : cells.clock ≤ cells.clock = omega arith in k) refl (λ holds. refl)
                   (own.others b.thread not_new) (let share = pending_share (actors ++ new ∷ []) j b e in let all = room_joined in omega arith);
               done = was.done;
               thread = was.thread;
             })
-        | inr h ↦ subst (IsActor next answered restarted left depth cells r' j) (sym h.1) (record { sound = sound; done = done; thread = thread ∙ sym h.0 })
+        | inr h ↦ subst (IsActor rules cells r' j) (sym h.1) (record { sound = sound; done = done; thread = thread ∙ sym h.0 })
       ]
 
       one_joined : (j k : ℕ) (a b : Actor P) → slice_get (actors ++ new ∷ []) j ≡ Some a → slice_get (actors ++ new ∷ []) k ≡ Some b → a.engine.holds ≡ true → b.engine.holds ≡ true → j ≡ k
@@ -329,9 +328,9 @@ module _ {P : Type 0} (next : P → Option Call) (answered : P → Reply → P) 
       by_found (Some row) e = absurd (let l = s.listed (length actors) row e in omega arith)
 
 -- where no actor has an open attempt, nobody has
-pub none_active : {P : Type 0} (next : P → Option Call) (answered : P → Reply → P) (restarted : P → P) (left : P → ℕ) (depth : P → ℕ) (cells : Cells) (r : Rows) (actors : List (Actor P))
-    → AreActors next answered restarted left depth cells r actors → ((place : ℕ) (a : Actor P) → slice_get actors place ≡ Some a → active_of a.thread r.active ≡ None) → r.active ≡ []
-none_active {P} next answered restarted left depth cells r actors s none = by_rows r.active refl
+pub none_active : {P : Type 0} (rules : Rules P) (cells : Cells) (r : Rows) (actors : List (Actor P))
+    → AreActors rules cells r actors → ((place : ℕ) (a : Actor P) → slice_get actors place ≡ Some a → active_of a.thread r.active ≡ None) → r.active ≡ []
+none_active {P} rules cells r actors s none = by_rows r.active refl
   where
     by_rows : (rows : List Attempt) → r.active ≡ rows → r.active ≡ []
     by_rows [] e = e
@@ -356,9 +355,9 @@ all_unfinished n (x ∷ xs) from each = (
         other true e = absurd (let same = eqb-true x.thread t e in omega arith)
         other false e = e
 
-pub are_open : {P : Type 0} (next : P → Option Call) (answered : P → Reply → P) (restarted : P → P) (left : P → ℕ) (depth : P → ℕ) (cells : Cells) (r : Rows) (actors : List (Actor P))
-    → AreActors next answered restarted left depth cells r actors → AreFrom 0 r.active → AreOpen r.active
-are_open {P} next answered restarted left depth cells r actors s from = record { by_actor = from; unfinished = all_unfinished 0 r.active from (λ t row l e. each t row e) }
+pub are_open : {P : Type 0} (rules : Rules P) (cells : Cells) (r : Rows) (actors : List (Actor P))
+    → AreActors rules cells r actors → AreFrom 0 r.active → AreOpen r.active
+are_open {P} rules cells r actors s from = record { by_actor = from; unfinished = all_unfinished 0 r.active from (λ t row l e. each t row e) }
   where
     of_row : (b : Bool) (a : Actor P) (t : ℕ) (row : Attempt) → a.thread ≡ t → active_of t r.active ≡ Some row → HasRow b r a.thread → row.outcome ≡ Unfinished
     of_row false a t row mine e h = absurd (let n : active_of t r.active ≡ None = ap (λ (k : ℕ). active_of k r.active) (sym mine) ∙ h in let f = sym n ∙ e in cc)

@@ -1,7 +1,6 @@
 -- The step's value came to the engine: the call goes on, or is answered.
 use Rattle.std.proofs.Common.{◌≡◌, ℕ, ◌+◌, ◌<◌, ◌≤◌, Bool, true, Option, None, Some, refl, sym, ap, subst, ◌∙◌, arith}
 use Rattle.itm_types.specs.declared.call.Call.{Call}
-use Rattle.itm_types.specs.declared.call.Reply.{Reply as Replied}
 use Rattle.itm_types.specs.declared.step.Step.{Step}
 use Rattle.itm_types.specs.Memory.{AllFit}
 use Rattle.norec_engine.specs.Core.{Core, handed, handed_to}
@@ -22,13 +21,14 @@ use Rattle.norec_engine.proofs.KeptFields.{handed_is, most_same}
 use Rattle.norec_world.proofs.TiedEngines.{IsMid, hands, tied, answer_fits, limit_same, holds_same, holds_handed}
 use Rattle.norec_world.proofs.ClockHolders.{clocks_of, clocks_still, clocks_twice}
 use Rattle.norec_world.specs.ClockHolder.{HoldsOn, ClocksOn}
+use Rattle.script_vm.specs.Rules.{Rules}
 
-module _ {P : Type 0} (next : P → Option Call) (answered : P → Replied → P) (restarted : P → P) (left : P → ℕ) (depth : P → ℕ)
-    (cells : Cells) (r : Rows) (old : Actor P) (sound : IsSound next answered restarted left depth cells r old) (call : Call) (step : Step) (waiting : old.status ≡ Waits call step)
+module _ {P : Type 0} (rules : Rules P)
+    (cells : Cells) (r : Rows) (old : Actor P) (sound : IsSound rules cells r old) (call : Call) (step : Step) (waiting : old.status ≡ Waits call step)
     (seen : ℕ) (seen_is : seen ≡ found cells step) (cells' : Cells) (cells_are : cells' ≡ cells_after cells step) (fit : AllFit cells'.words)
     (new : Core) (joins : Joins old.engine seen new) (settled : IsSettled new) (within : IsWithin new) where
-  pub waits : IsWaiting next answered restarted left depth r old call step
-  waits = let Is : Status → Type 0 = StatusIs next answered restarted left depth r old in subst Is waiting sound.status
+  pub waits : IsWaiting rules r old call step
+  waits = let Is : Status → Type 0 = StatusIs rules r old in subst Is waiting sound.status
 
   mid : Core
   mid = handed_to old.engine (Some step) seen
@@ -55,7 +55,7 @@ module _ {P : Type 0} (next : P → Option Call) (answered : P → Replied → P
 
   -- the call is answered
   pub step_answered : (a : Answer) → Proceeds (handed old.engine seen) (Answers a) new
-      → IsAnswered next answered restarted left depth old.engine.is_open r (record old { engine = new; status = Ready }) call a
+      → IsAnswered rules old.engine.is_open r (record old { engine = new; status = Ready }) call a
   step_answered a g =
       let w : Ends (handed_to old.engine (Some step) seen) a new = went (Answers a) g in
       let rest = rests (handed_to old.engine (Some step) seen) new a w in
@@ -96,11 +96,11 @@ module _ {P : Type 0} (next : P → Option Call) (answered : P → Replied → P
         let Row : Bool → Type 0 = λ b. HasRow b r old.thread in
         record { row = subst Row opens k.row; empty = k.empty; tried = k.tried; tries = k.tries; retries = k.retries }
 
-    pub step_waiting : IsWaiting next answered restarted left depth r (record old { engine = new; status = Waits call step' }) call step'
+    pub step_waiting : IsWaiting rules r (record old { engine = new; status = Waits call step' }) call step'
     step_waiting =
         let i = waits.in_call in
-        let InCall : Bool → Type 0 = λ b. IsInCall next answered restarted left depth b r (record old { engine = new; status = Waits call step' }) call in
-        let Nested : Bool → Type 0 = λ b. IsNested next answered restarted left depth b old.player in
+        let InCall : Bool → Type 0 = λ b. IsInCall rules b r (record old { engine = new; status = Waits call step' }) call in
+        let Nested : Bool → Type 0 = λ b. IsNested rules b old.player in
         record {
           nested = subst Nested opens waits.nested;
           in_call = subst InCall opens (record {
@@ -124,14 +124,14 @@ module _ {P : Type 0} (next : P → Option Call) (answered : P → Replied → P
         let enough : new.spent ≤ most new new.doing = within (λ e. absurd (let f : Some step' ≡ None = sym waited ∙ e in cc)) in
         omega arith
 
-    pub step_goes_on : GoesOn next answered restarted left depth old (record old { engine = new; status = Waits call step' })
+    pub step_goes_on : GoesOn rules old (record old { engine = new; status = Waits call step' })
     step_goes_on = record {
       steps = spends;
       less = record {
-        whole_falls = (let e : whole next answered restarted left depth old.engine.is_open old.player ≡ whole next answered restarted left depth new.is_open old.player =
-            ap (λ (b : Bool). whole next answered restarted left depth b old.player) opens in omega arith);
-        rank_falls = λ n b. (let e : rank next answered restarted left depth n old.engine.is_open old ≡ rank next answered restarted left depth n new.is_open old =
-            ap (λ (b : Bool). rank next answered restarted left depth n b old) opens in omega arith);
+        whole_falls = (let e : whole rules old.engine.is_open old.player ≡ whole rules new.is_open old.player =
+            ap (λ (b : Bool). whole rules b old.player) opens in omega arith);
+        rank_falls = λ n b. (let e : rank rules n old.engine.is_open old ≡ rank rules n new.is_open old =
+            ap (λ (b : Bool). rank rules n b old) opens in omega arith);
       };
     }
 
@@ -149,10 +149,10 @@ module _ {P : Type 0} (next : P → Option Call) (answered : P → Replied → P
   -- ## Both
 
   pub step_due : (what : Next) → Proceeds (handed old.engine seen) what new → (status : Status) → status ≡ Ready
-      → IsDue next answered restarted left depth old.engine.is_open r (record old { engine = new; status = status }) call what
+      → IsDue rules old.engine.is_open r (record old { engine = new; status = status }) call what
   step_due (Asks step') g status e = e
   step_due (Answers a) g status e =
-      let Answered : Status → Type 0 = λ s. IsAnswered next answered restarted left depth old.engine.is_open r (record old { engine = new; status = s }) call a in
+      let Answered : Status → Type 0 = λ s. IsAnswered rules old.engine.is_open r (record old { engine = new; status = s }) call a in
       subst Answered (sym e) (step_answered a g)
 
   -- what is true of the actor then, before its open attempt is told where it reads
@@ -160,11 +160,11 @@ module _ {P : Type 0} (next : P → Option Call) (answered : P → Replied → P
     pub engine : last.engine ≡ new
     pub tied : IsTied cells' last.engine
     pub kept : IsKept last.engine.is_open r' last
-    pub status : StatusIs next answered restarted left depth r' last last.status
+    pub status : StatusIs rules r' last last.status
     pub thread : last.thread ≡ old.thread
     pub retries : last.retries ≡ old.retries
-    pub goes_on : is_waiting last.status ≡ true → GoesOn next answered restarted left depth old last
-    pub falls : is_ready last.status ≡ true → Falls next answered restarted left depth old.engine.is_open last.engine.is_open old last
+    pub goes_on : is_waiting last.status ≡ true → GoesOn rules old last
+    pub falls : is_ready last.status ≡ true → Falls rules old.engine.is_open last.engine.is_open old last
 
   went_on : (step' : Step) → Proceeds (handed old.engine seen) (Asks step') new → Stepped r (record old { engine = new; status = Waits call step' })
   went_on step' g = record {
@@ -179,7 +179,7 @@ module _ {P : Type 0} (next : P → Option Call) (answered : P → Replied → P
   }
 
   settled_to : (a : Answer) → Proceeds (handed old.engine seen) (Answers a) new → (status : Status) → (r' : Rows) (last : Actor P)
-      → IsSettledBy next answered restarted left depth old.engine.is_open r' (record old { engine = new; status = status }) last → Stepped r' last
+      → IsSettledBy rules old.engine.is_open r' (record old { engine = new; status = status }) last → Stepped r' last
   settled_to a g status r' last s = record {
     engine = s.engine;
     tied = subst (IsTied cells') (sym s.engine) (step_tied (Answers a) g);
@@ -191,12 +191,12 @@ module _ {P : Type 0} (next : P → Option Call) (answered : P → Replied → P
     falls = λ e. (let f = s.falls (ready_of last.status e) in record { whole_falls = f.whole_falls; rank_falls = f.rank_falls });
   }
     where
-      status_of : (st : Status) → RestsAs next answered restarted left depth st last → StatusIs next answered restarted left depth r' last st
+      status_of : (st : Status) → RestsAs rules st last → StatusIs rules r' last st
       status_of Ready rest = rest
       status_of (Waits c step') rest = absurd rest
       status_of (Ended end) rest = tt
 
-      waiting_of : (st : Status) → RestsAs next answered restarted left depth st last → is_waiting st ≡ true → GoesOn next answered restarted left depth old last
+      waiting_of : (st : Status) → RestsAs rules st last → is_waiting st ≡ true → GoesOn rules old last
       waiting_of Ready rest e = absurd (cc)
       waiting_of (Waits c step') rest e = absurd rest
       waiting_of (Ended end) rest e = absurd (cc)
@@ -207,7 +207,7 @@ module _ {P : Type 0} (next : P → Option Call) (answered : P → Replied → P
       ready_of (Ended end) e = absurd (cc)
 
   pub step_done : (what : Next) → Proceeds (handed old.engine seen) what new → (status : Status) → (r' : Rows) (last : Actor P)
-      → IsDone next answered restarted left depth old.engine.is_open r r' (record old { engine = new; status = status }) last call what → Stepped r' last
+      → IsDone rules old.engine.is_open r r' (record old { engine = new; status = status }) last call what → Stepped r' last
   step_done (Asks step') g status r' last d =
       let Made : Rows → Actor P → Type 0 = λ x y. Stepped x y in
       subst (λ (x : Rows). Made x last) (sym d.1) (subst (λ (y : Actor P). Made r y) (sym d.0) (went_on step' g))

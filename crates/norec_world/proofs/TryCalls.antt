@@ -3,7 +3,6 @@ use Rattle.std.proofs.Common.{◌≡◌, ℕ, ◌/◌, Bool, true, false, [], �
 use Rattle.std.proofs.lemmas.List.{append-nil}
 use Rattle.itm_types.specs.declared.call.Call.{Call}
 use Rattle.itm_types.specs.declared.call.Call.TheVariants.{Begin, Commit, Read, Write}
-use Rattle.itm_types.specs.declared.call.Reply.{Reply as Replied}
 use Rattle.itm_types.specs.declared.step.Step.{Step}
 use Rattle.norec_engine.specs.Core.{Core, came}
 use Rattle.norec_engine.specs.Proceeds.{Proceeds, IsAtOnce, Ends, AsksFor}
@@ -26,11 +25,12 @@ use Rattle.norec_world.specs.Tries.{Prior, Tries, IsBetween, between, runs, over
 use Rattle.norec_world.proofs.TiedEngines.{limit_same}
 use Rattle.norec_world.proofs.SoundCalls.{asked_tied, at_once}
 use Rattle.norec_world.proofs.TryEnds.{ClockMoves, is_between, open_tries}
+use Rattle.script_vm.specs.Rules.{Rules}
 
-module _ {P : Type 0} (next : P → Option Call) (answered : P → Replied → P) (restarted : P → P) (left : P → ℕ) (depth : P → ℕ)
-    (cells : Cells) (r0 : Rows) (old : Actor P) (sound : IsSound next answered restarted left depth cells r0 old) (ready : old.status ≡ Ready) where
-  rests : IsReady next answered restarted left depth old
-  rests = subst (λ (s : Status). StatusIs next answered restarted left depth r0 old s) ready sound.status
+module _ {P : Type 0} (rules : Rules P)
+    (cells : Cells) (r0 : Rows) (old : Actor P) (sound : IsSound rules cells r0 old) (ready : old.status ≡ Ready) where
+  rests : IsReady rules old
+  rests = subst (λ (s : Status). StatusIs rules r0 old s) ready sound.status
 
   -- no try is open before, and none after
   stays_between : (r : Rows) (last : Actor P) → active_of old.thread r0.active ≡ None → r.ended ≡ r0.ended → IsBetween cells.clock old.nth r last → Tries cells.clock (prior_of r0 old) cells.clock r last
@@ -101,7 +101,7 @@ module _ {P : Type 0} (next : P → Option Call) (answered : P → Replied → P
 
   -- ## The call went to the engine
 
-  module _ (r : Rows) (new : Actor P) (call : Call) (what : Next) (asked : IsAsked next answered restarted left depth r old new call what) (asks : CallAsks cells.clock r0 r old new call what) where
+  module _ (r : Rows) (new : Actor P) (call : Call) (what : Next) (asked : IsAsked rules r old new call what) (asks : CallAsks cells.clock r0 r old new call what) where
     active_same : active_of new.thread r.active ≡ active_of old.thread r0.active
     active_same = (λ i. active_of (asks.thread i) r.active) ∙ ap (λ (x : Rows). active_of old.thread x.active) asks.rows_are
 
@@ -137,16 +137,16 @@ module _ {P : Type 0} (next : P → Option Call) (answered : P → Replied → P
 
     -- it is answered at once
     module _ (a : Answer) (is : what ≡ Answers a) (r1 : Rows) (last : Actor P)
-        (settles : (was : Bool) → IsAnswered next answered restarted left depth was r new call a → IsSettledBy next answered restarted left depth was r1 new last)
-        (notes : (was : Bool) → IsAnswered next answered restarted left depth was r new call a → Records answered restarted was r r1 new last call a) where
-      d : IsAnswered next answered restarted left depth old.engine.is_open r new call a
-      d = at_once next answered restarted left depth cells r0 r r old new new call sound ready what a is asked
+        (settles : (was : Bool) → IsAnswered rules was r new call a → IsSettledBy rules was r1 new last)
+        (notes : (was : Bool) → IsAnswered rules was r new call a → Records rules was r r1 new last call a) where
+      d : IsAnswered rules old.engine.is_open r new call a
+      d = at_once rules cells r0 r r old new new call sound ready what a is asked
 
-      asked' : IsAsked next answered restarted left depth r old new call (Answers a)
-      asked' = subst (IsAsked next answered restarted left depth r old new call) is asked
+      asked' : IsAsked rules r old new call (Answers a)
+      asked' = subst (IsAsked rules r old new call) is asked
 
       tied : IsTied cells new.engine
-      tied = asked_tied next answered restarted left depth cells r old new call sound.tied rests (Answers a) asked'
+      tied = asked_tied rules cells r old new call sound.tied rests (Answers a) asked'
 
       limit : new.engine.max_commits ≡ old.engine.max_commits
       limit = (limit_same (came old.engine call asked.again) new.engine what asked.proceeds).0
@@ -154,19 +154,19 @@ module _ {P : Type 0} (next : P → Option Call) (answered : P → Replied → P
       moves : ClockMoves cells cells (came old.engine call asked'.again)
       moves = record { frees = λ f. absurd (cc); keeps = λ f. refl }
 
-      at_once_of : (b : Bool) → old.engine.is_open ≡ b → (ans : Answer) → IsAtOnce (Answers ans) → IsAnswered next answered restarted left depth b r new call ans → Ends (came old.engine call asked'.again) ans new.engine → Records answered restarted b r r1 new last call ans
-          → IsSettledBy next answered restarted left depth b r1 new last → Tries cells.clock (prior_of r0 old) cells.clock r1 last
+      at_once_of : (b : Bool) → old.engine.is_open ≡ b → (ans : Answer) → IsAtOnce (Answers ans) → IsAnswered rules b r new call ans → Ends (came old.engine call asked'.again) ans new.engine → Records rules b r r1 new last call ans
+          → IsSettledBy rules b r1 new last → Tries cells.clock (prior_of r0 old) cells.clock r1 last
       at_once_of true e ans soon d g told s =
           let pending : new.pending ≡ old.pending = asks.pending ∙ ap (λ (b : Bool). asked_pending b cells.clock old call) e in
           subst (λ (p : Prior). Tries cells.clock p cells.clock r1 last)
           (λ i. record { ended = ended_same i; active = active_same i; pending = pending i; nth = asks.nth i; retries = asked.same.retries i; max_commits = limit i })
-          (open_tries next answered restarted left depth cells cells r r1 new last call (came old.engine call asked'.again) tied moves ans d g told s)
+          (open_tries rules cells cells r r1 new last call (came old.engine call asked'.again) tied moves ans d g told s)
       at_once_of false e (Reply reply) soon d g told s =
           let closed : new.engine.is_open ≡ false = by_now new.engine.is_open refl in
           let outside : last.engine.is_open ≡ false = ap (λ (c : Core). c.is_open) s.engine ∙ closed in
           let same : r1 ≡ r = subst (λ (b : Bool). Opens b r new.pending (last.engine.snapshot / 2) r1) outside told.0 in
           stays_between r1 last (sym active_same ∙ d.kept.row) (ap (λ (x : Rows). x.ended) same ∙ ended_same)
-          (is_between next answered restarted left depth r r1 new last false s cells.clock old.nth closed (told.4 ∙ d.status) (told.3 ∙ asks.nth))
+          (is_between rules r r1 new last false s cells.clock old.nth closed (told.4 ∙ d.status) (told.3 ∙ asks.nth))
         where
           by_now : (b : Bool) → new.engine.is_open ≡ b → new.engine.is_open ≡ false
           by_now true o = absurd (let f : true ≡ false = sym (asked.stays.opens o) ∙ e in cc)

@@ -1,8 +1,6 @@
 -- Local work after an event, or after other local work: what becomes of the try.
 use Rattle.std.proofs.Common.{◌≡◌, ℕ, ◌+◌, ◌/◌, Bool, true, false, nat_lt, List, [], ◌∷◌, ◌++◌, append_assoc, Option, None, Some, refl, sym, ap, subst, ◌∙◌, arith}
 use Rattle.std.proofs.lemmas.List.{append-nil}
-use Rattle.itm_types.specs.declared.call.Call.{Call}
-use Rattle.itm_types.specs.declared.call.Reply.{Reply as Replied}
 use Rattle.norec_world.specs.declared.attempt.Attempt.{Attempt}
 use Rattle.norec_world.specs.declared.attempt.Entry.{Entry}
 use Rattle.norec_world.specs.declared.attempt.Outcome.{Outcome}
@@ -16,6 +14,7 @@ use Rattle.norec_world.specs.Rows.{Rows, active_of}
 use Rattle.norec_world.specs.Status.{ending_of}
 use Rattle.norec_world.specs.Sound.{HasRow, IsReady, IsSound, StatusIs}
 use Rattle.norec_world.specs.Tries.{Continues, EndsAt, IsBetween, TriesAgain, GoesOnAfter, Prior, Tries, between, begins, runs, over, turned_away, prior_of, current_of}
+use Rattle.script_vm.specs.Rules.{Rules}
 
 continues_twice : (a b c : Attempt) → Continues a b → Continues b c → Continues a c
 continues_twice a b c x y = record {
@@ -126,10 +125,10 @@ module _ {P : Type 0} (clock clock1 : ℕ) (p : Prior) (r1 r2 : Rows) (a1 a2 : A
       })
 
 -- no work
-module _ {P : Type 0} (next : P → Option Call) (answered : P → Replied → P) (restarted : P → P) (left : P → ℕ) (depth : P → ℕ)
-    (cells : Cells) (r : Rows) (a : Actor P) (sound : IsSound next answered restarted left depth cells r a) (ready : a.status ≡ Ready) where
-  rests : IsReady next answered restarted left depth a
-  rests = subst (λ (s : Status). StatusIs next answered restarted left depth r a s) ready sound.status
+module _ {P : Type 0} (rules : Rules P)
+    (cells : Cells) (r : Rows) (a : Actor P) (sound : IsSound rules cells r a) (ready : a.status ≡ Ready) where
+  rests : IsReady rules a
+  rests = subst (λ (s : Status). StatusIs rules r a s) ready sound.status
 
   pub no_pending : a.pending ≡ None
   no_pending = rests.nothing

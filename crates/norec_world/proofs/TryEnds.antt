@@ -33,6 +33,7 @@ use Rattle.norec_world.specs.Sound.{IsTied, HasRow, IsAnswered, IsSettledBy, Res
 use Rattle.norec_world.specs.Tries.{EndsAt, IsBetween, TriesAgain, GoesOnAfter, Prior, Tries, between, begins, runs, over, turned_away, prior_of, current_of}
 use Rattle.norec_world.proofs.ActiveRows.{changed_here, opened_here}
 use Rattle.norec_world.proofs.RecordedRows.{was_open}
+use Rattle.script_vm.specs.Rules.{Rules}
 
 -- no row where the engine is outside
 pub no_row : (b : Bool) (r : Rows) (thread : ℕ) → b ≡ false → HasRow b r thread → active_of thread r.active ≡ None
@@ -43,13 +44,13 @@ unfreed_to : (mid new : Core) (o : Option Call) (r : Replied) → RepliesTo mid 
 unfreed_to mid new None r g = absurd g
 unfreed_to mid new (Some call) r g = g.unfreed
 
-module _ {P : Type 0} (next : P → Option Call) (answered : P → Replied → P) (restarted : P → P) (left : P → ℕ) (depth : P → ℕ)
-    (r r1 : Rows) (a last : Actor P) (was : Bool) (settled : IsSettledBy next answered restarted left depth was r1 a last) where
+module _ {P : Type 0} (rules : Rules P)
+    (r r1 : Rows) (a last : Actor P) (was : Bool) (settled : IsSettledBy rules was r1 a last) where
   none_active : a.engine.is_open ≡ false → active_of last.thread r1.active ≡ None
   none_active closed = no_row last.engine.is_open r1 last.thread (ap (λ (c : Core). c.is_open) settled.engine ∙ closed) settled.kept.row
 
   pub none_pending : last.status ≡ Ready → last.pending ≡ None
-  none_pending ready = (let rest : IsReady next answered restarted left depth last = subst (λ (s : Status). RestsAs next answered restarted left depth s last) ready settled.rests in rest.nothing)
+  none_pending ready = (let rest : IsReady rules last = subst (λ (s : Status). RestsAs rules s last) ready settled.rests in rest.nothing)
 
   -- the actor is between two tries
   pub is_between : (clock nth : ℕ) → a.engine.is_open ≡ false → last.status ≡ Ready → last.nth ≡ nth → IsBetween clock nth r1 last
@@ -75,14 +76,14 @@ pub record ClockMoves (cells cells' : Cells) (mid : Core) : Type 0 where
   pub frees : mid.freed ≡ true → (cells.clock ≡ 2 * (mid.snapshot / 2) + 1) × (cells'.clock ≡ 2 * (mid.snapshot / 2) + 2)
   pub keeps : mid.freed ≡ false → cells'.clock / 2 ≡ cells.clock / 2
 
-module _ {P : Type 0} (next : P → Option Call) (answered : P → Replied → P) (restarted : P → P) (left : P → ℕ) (depth : P → ℕ)
+module _ {P : Type 0} (rules : Rules P)
     (cells cells' : Cells) (r r1 : Rows) (a last : Actor P) (call : Call) (mid : Core) (tied : IsTied cells' a.engine) (moves : ClockMoves cells cells' mid) where
   -- half the snapshot is no later than the clock
   seen : 2 * (a.engine.snapshot / 2) ≤ cells'.clock
   seen = (let reached = tied.settled.reached in let late = tied.late in omega arith)
 
-  pub open_tries : (ans : Answer) → IsAnswered next answered restarted left depth true r a call ans → Ends mid ans a.engine → Records answered restarted true r r1 a last call ans
-      → IsSettledBy next answered restarted left depth true r1 a last → Tries cells.clock (prior_of r a) cells'.clock r1 last
+  pub open_tries : (ans : Answer) → IsAnswered rules true r a call ans → Ends mid ans a.engine → Records rules true r r1 a last call ans
+      → IsSettledBy rules true r1 a last → Tries cells.clock (prior_of r a) cells'.clock r1 last
   open_tries (Reply reply) d g told s =
       let row = d.kept.row in
       let with_call : Attempt → Attempt = λ x. record x { calls = x.calls ++ record { call = call; reply = reply } ∷ [] } in
@@ -112,7 +113,7 @@ module _ {P : Type 0} (next : P → Option Call) (answered : P → Replied → P
         reads = g.at_is ∙ ap (λ (n : ℕ). n / 2) (sym (ap (λ (c : Core). c.snapshot) (s.engine ∙ g.stays)));
         at = at_end wrote refl;
         closed = λ e. (row.0.calls, (λ i. row.0.calls ++ record { call = d.fits.2 i; reply = replies.Done } ∷ []));
-        after = after_end wrote (is_between next answered restarted left depth r r1 a last true s cells'.clock 1 closed ready told.3);
+        after = after_end wrote (is_between rules r r1 a last true s cells'.clock 1 closed ready told.3);
       })
     where
       at_end : (b : Bool) → wrote ≡ b → EndsAt a.engine.max_commits cells.clock cells'.clock at (if b then outcomes.Committed else outcomes.ReadOnly)
@@ -142,7 +143,7 @@ module _ {P : Type 0} (next : P → Option Call) (answered : P → Replied → P
         reads = refl;
         at = (moves.keeps g.unfreed, omega arith);
         closed = λ e. absurd (cc);
-        after = tries_again next answered restarted left depth r r1 a last true s cells'.clock d.fits.1 d.status told.2;
+        after = tries_again rules r r1 a last true s cells'.clock d.fits.1 d.status told.2;
       })
   open_tries (Busy clock) d g told s = absurd (let f : true ≡ false = d.fits.0 in cc)
   open_tries (Full at) d g told s =
@@ -160,7 +161,7 @@ module _ {P : Type 0} (next : P → Option Call) (answered : P → Replied → P
         reads = g.at_is ∙ ap (λ (n : ℕ). n / 2) (sym (ap (λ (c : Core). c.snapshot) s.engine));
         at = (moves.keeps g.unfreed, omega arith, omega arith);
         closed = λ e. absurd (cc);
-        after = record { none = none_active next answered restarted left depth r r1 a last true s d.fits.1; status = told.1 };
+        after = record { none = none_active rules r r1 a last true s d.fits.1; status = told.1 };
       })
 
 -- ## A begin is answered
@@ -186,14 +187,14 @@ call_begins calls.Commit b = absurd b
 call_begins (calls.Read hint width at) b = absurd b
 call_begins (calls.Write hint at value) b = absurd b
 
-module _ {P : Type 0} (next : P → Option Call) (answered : P → Replied → P) (restarted : P → P) (left : P → ℕ) (depth : P → ℕ)
+module _ {P : Type 0} (rules : Rules P)
     (cells cells' : Cells) (r r1 : Rows) (a last : Actor P) (call : Call) (mid : Core) (tied : IsTied cells' a.engine)
     (outside : mid.is_open ≡ false) (doing : mid.doing ≡ Some call) (words : mid.words ≡ length cells'.words) (same : cells'.clock ≡ cells.clock) (loaded : mid.clock ≡ cells'.clock) where
   half_same : cells'.clock / 2 ≡ cells.clock / 2
   half_same = ap (λ (n : ℕ). n / 2) same
 
-  pub begin_tries : (ans : Answer) → IsAnswered next answered restarted left depth false r a call ans → Ends mid ans a.engine → Records answered restarted false r r1 a last call ans
-      → IsSettledBy next answered restarted left depth false r1 a last → Tries cells.clock (prior_of r a) cells'.clock r1 last
+  pub begin_tries : (ans : Answer) → IsAnswered rules false r a call ans → Ends mid ans a.engine → Records rules false r r1 a last call ans
+      → IsSettledBy rules false r1 a last → Tries cells.clock (prior_of r a) cells'.clock r1 last
   begin_tries (Reply reply) d g told s = by_open last.engine.is_open refl a.pending refl told.0
     where
       none : active_of a.thread r.active ≡ None
@@ -233,7 +234,7 @@ module _ {P : Type 0} (next : P → Option Call) (answered : P → Replied → P
             idle = ap (λ (o : Option Attempt). current_of o a.pending) none ∙ p;
             ended = ap (λ (x : Rows). x.ended) told_so;
             half = half_same;
-            between = is_between next answered restarted left depth r r1 a last false s cells'.clock a.nth (opens_now false e) ready told.3;
+            between = is_between rules r r1 a last false s cells'.clock a.nth (opens_now false e) ready told.3;
           })
   begin_tries (Committed at wrote) d g told s = absurd (let f : false ≡ true = d.fits.0 in cc)
   begin_tries (Conflict clock word) d g told s = absurd (let f : false ≡ true = d.fits.0 in cc)
@@ -248,13 +249,13 @@ module _ {P : Type 0} (next : P → Option Call) (answered : P → Replied → P
         ended = ap (λ (x : Rows). x.ended) told.0;
         odd = ap (λ (n : ℕ). n % 2) (sym loaded ∙ sym g.clock_is) ∙ g.odd;
         same = same;
-        after = tries_again next answered restarted left depth r r1 a last false s cells'.clock d.fits.1 d.status told.2;
+        after = tries_again rules r r1 a last false s cells'.clock d.fits.1 d.status told.2;
       })
   begin_tries (Full at) d g told s = absurd (let f : false ≡ true = d.fits.0 in cc)
 
 -- ## An answer ends no actor but one that gives up
 
-module _ {P : Type 0} (next : P → Option Call) (answered : P → Replied → P) (restarted : P → P) (left : P → ℕ) (depth : P → ℕ) (r r1 : Rows) (a last : Actor P) (call : Call) (was : Bool) (ready : a.status ≡ Ready) where
+module _ {P : Type 0} (rules : Rules P) (r r1 : Rows) (a last : Actor P) (call : Call) (was : Bool) (ready : a.status ≡ Ready) where
   module _ (end : End) (other : end ≡ ends.GaveUp → ⊥) where
     gave_up_not : last.status ≡ Ended ends.GaveUp → ending_of last.status ≡ Some end → ⊥
     gave_up_not s e = other (let z : Some end ≡ Some ends.GaveUp = sym e ∙ ap ending_of s in cc)
@@ -269,10 +270,10 @@ module _ {P : Type 0} (next : P → Option Call) (answered : P → Replied → P
         by_case true s = gave_up_not s e
         by_case false s = ready_not (s ∙ ready) e
 
-    pub not_ended : (ans : Answer) → Records answered restarted was r r1 a last call ans → ending_of last.status ≡ Some end → ⊥
+    pub not_ended : (ans : Answer) → Records rules was r r1 a last call ans → ending_of last.status ≡ Some end → ⊥
     not_ended (Reply reply) told e = by_was was told
       where
-        by_was : (b : Bool) → Records answered restarted b r r1 a last call (Reply reply) → ⊥
+        by_was : (b : Bool) → Records rules b r r1 a last call (Reply reply) → ⊥
         by_was true told = ready_not (told.4 ∙ ready) e
         by_was false told = ready_not (told.4 ∙ ready) e
     not_ended (Committed at wrote) told e = ready_not (told.4 ∙ ready) e
@@ -280,10 +281,10 @@ module _ {P : Type 0} (next : P → Option Call) (answered : P → Replied → P
     not_ended (Busy clock) told e = tried_on told.2 e
     not_ended (Full at) told e = gave_up_not told.1 e
 
-  pub not_finished : (ans : Answer) → Records answered restarted was r r1 a last call ans → ending_of last.status ≡ Some ends.Finished → ⊥
+  pub not_finished : (ans : Answer) → Records rules was r r1 a last call ans → ending_of last.status ≡ Some ends.Finished → ⊥
   not_finished = not_ended ends.Finished (λ e. absurd (cc))
 
-  pub not_starved : (ans : Answer) → Records answered restarted was r r1 a last call ans → ending_of last.status ≡ Some ends.NoMemory → ⊥
+  pub not_starved : (ans : Answer) → Records rules was r r1 a last call ans → ending_of last.status ≡ Some ends.NoMemory → ⊥
   not_starved = not_ended ends.NoMemory (λ e. absurd (cc))
 
 -- ## The open attempt is told where it reads

@@ -2,7 +2,6 @@
 use Rattle.std.proofs.Common.{◌≡◌, ℕ, zero, suc, ◌+◌, ◌*◌, ◌/◌, ◌%◌, ◌==◌, Bool, true, false, if◌then◌else◌, [], Option, None, Some, refl, sym, ap, subst, ◌∙◌, arith, eqb-true}
 use Rattle.std.proofs.lemmas.List.{append-nil}
 use Rattle.itm_types.specs.declared.call.Call.{Call}
-use Rattle.itm_types.specs.declared.call.Reply.{Reply as Replied}
 use Rattle.itm_types.specs.declared.step.Step.{Step}
 use Rattle.itm_types.specs.declared.step.Step.TheVariants.{Load, Store, Cas}
 use Rattle.itm_types.specs.Memory.{AllFit}
@@ -25,6 +24,7 @@ use Rattle.norec_world.specs.Tries.{Tries, between, begins, runs, prior_of, curr
 use Rattle.norec_world.proofs.TiedEngines.{held_even, limit_same, holds_handed}
 use Rattle.norec_world.proofs.SoundSteps.{waits, went, same, is_mid, step_tied, step_answered, step_done}
 use Rattle.norec_world.proofs.TryEnds.{ClockMoves, open_tries, begin_tries, told_tries, not_finished}
+use Rattle.script_vm.specs.Rules.{Rules}
 
 both : (n : Bool) → n ≡ true → n ≡ false → ⊥
 both n t f = absurd (cc)
@@ -64,8 +64,8 @@ loads_clock cells e (Cas cell from to) t l outside = absurd (both e.is_open l.2 
 
 -- ## The step
 
-module _ {P : Type 0} (next : P → Option Call) (answered : P → Replied → P) (restarted : P → P) (left : P → ℕ) (depth : P → ℕ)
-    (cells : Cells) (r : Rows) (old : Actor P) (sound : IsSound next answered restarted left depth cells r old) (call : Call) (step : Step) (waiting : old.status ≡ Waits call step)
+module _ {P : Type 0} (rules : Rules P)
+    (cells : Cells) (r : Rows) (old : Actor P) (sound : IsSound rules cells r old) (call : Call) (step : Step) (waiting : old.status ≡ Waits call step)
     (seen : ℕ) (seen_is : seen ≡ found cells step) (cells' : Cells) (cells_are : cells' ≡ cells_after cells step) (fit : AllFit cells'.words)
     (new : Core) (joins : Joins old.engine seen new) (settled : IsSettled new) (within : IsWithin new) where
   mid : Core
@@ -73,15 +73,15 @@ module _ {P : Type 0} (next : P → Option Call) (answered : P → Replied → P
 
   pub moves : ClockMoves cells cells' (handed_to old.engine (Some step) seen)
   moves =
-      let w = waits next answered restarted left depth cells r old sound call step waiting seen seen_is cells' cells_are fit new joins settled within in
+      let w = waits rules cells r old sound call step waiting seen seen_is cells' cells_are fit new joins settled within in
       let m = moves_of cells old.engine step sound.tied w.lawful in
       let Moves : Cells → ℕ → Type 0 = λ c n. ClockMoves cells c (handed_to old.engine (Some step) n) in
       subst (λ (c : Cells). Moves c seen) (sym cells_are) (subst (λ (n : ℕ). Moves (cells_after cells step) n) (sym seen_is) m)
 
   limit_is : (what : Next) → Proceeds (handed old.engine seen) what new → new.max_commits ≡ old.engine.max_commits
   limit_is what g =
-      let w = waits next answered restarted left depth cells r old sound call step waiting seen seen_is cells' cells_are fit new joins settled within in
-      (limit_same (handed_to old.engine (Some step) seen) new what (went next answered restarted left depth cells r old sound call step waiting seen seen_is cells' cells_are fit new joins settled within what g)).0
+      let w = waits rules cells r old sound call step waiting seen seen_is cells' cells_are fit new joins settled within in
+      (limit_same (handed_to old.engine (Some step) seen) new what (went rules cells r old sound call step waiting seen seen_is cells' cells_are fit new joins settled within what g)).0
       ∙ (ap (λ (n : ℕ). (handed_to old.engine (Some step) n).max_commits) seen_is ∙ (holds_handed cells old.engine step sound.tied w.lawful).limit.0)
 
   -- the actor with its engine gone on
@@ -97,7 +97,7 @@ module _ {P : Type 0} (next : P → Option Call) (answered : P → Replied → P
   went_on s g = by_row old.engine.is_open sound.kept.row
     where
       half : cells'.clock / 2 ≡ cells.clock / 2
-      half = moves.keeps (went next answered restarted left depth cells r old sound call step waiting seen seen_is cells' cells_are fit new joins settled within (Asks s) g).unfreed
+      half = moves.keeps (went rules cells r old sound call step waiting seen seen_is cells' cells_are fit new joins settled within (Asks s) g).unfreed
 
       by_pending : (p : Option Attempt) → old.pending ≡ p → active_of old.thread r.active ≡ None → Tries cells.clock (prior_of r old) cells'.clock r (record old { engine = new; status = Waits call s })
       by_pending None p none = between (record {
@@ -124,45 +124,45 @@ module _ {P : Type 0} (next : P → Option Call) (answered : P → Replied → P
       by_row false h = by_pending old.pending refl h
 
   answered_on : (ans : Answer) → Proceeds (handed old.engine seen) (Answers ans) new → (r1 : Rows) (last : Actor P)
-      → IsSettledBy next answered restarted left depth old.engine.is_open r1 (record old { engine = new; status = Ready }) last → Records answered restarted old.engine.is_open r r1 (record old { engine = new; status = Ready }) last call ans
+      → IsSettledBy rules old.engine.is_open r1 (record old { engine = new; status = Ready }) last → Records rules old.engine.is_open r r1 (record old { engine = new; status = Ready }) last call ans
       → Tries cells.clock (prior_of r old) cells'.clock r1 last
   answered_on ans g r1 last s told =
       with_limit Ready r1 last (limit_is (Answers ans) g)
-      (by_open old.engine.is_open refl (step_answered next answered restarted left depth cells r old sound call step waiting seen seen_is cells' cells_are fit new joins settled within ans g) told s)
+      (by_open old.engine.is_open refl (step_answered rules cells r old sound call step waiting seen seen_is cells' cells_are fit new joins settled within ans g) told s)
     where
       ends : Ends (handed_to old.engine (Some step) seen) ans new
-      ends = went next answered restarted left depth cells r old sound call step waiting seen seen_is cells' cells_are fit new joins settled within (Answers ans) g
+      ends = went rules cells r old sound call step waiting seen seen_is cells' cells_are fit new joins settled within (Answers ans) g
 
       tied : IsTied cells' new
-      tied = step_tied next answered restarted left depth cells r old sound call step waiting seen seen_is cells' cells_are fit new joins settled within (Answers ans) g
+      tied = step_tied rules cells r old sound call step waiting seen seen_is cells' cells_are fit new joins settled within (Answers ans) g
 
-      by_open : (b : Bool) → old.engine.is_open ≡ b → IsAnswered next answered restarted left depth b r (record old { engine = new; status = Ready }) call ans → Records answered restarted b r r1 (record old { engine = new; status = Ready }) last call ans
-          → IsSettledBy next answered restarted left depth b r1 (record old { engine = new; status = Ready }) last → Tries cells.clock (prior_of r (record old { engine = new; status = Ready })) cells'.clock r1 last
-      by_open true e d told s = open_tries next answered restarted left depth cells cells' r r1 (record old { engine = new; status = Ready }) last call (handed_to old.engine (Some step) seen) tied moves ans d ends told s
+      by_open : (b : Bool) → old.engine.is_open ≡ b → IsAnswered rules b r (record old { engine = new; status = Ready }) call ans → Records rules b r r1 (record old { engine = new; status = Ready }) last call ans
+          → IsSettledBy rules b r1 (record old { engine = new; status = Ready }) last → Tries cells.clock (prior_of r (record old { engine = new; status = Ready })) cells'.clock r1 last
+      by_open true e d told s = open_tries rules cells cells' r r1 (record old { engine = new; status = Ready }) last call (handed_to old.engine (Some step) seen) tied moves ans d ends told s
       by_open false e d told s =
-          let w = waits next answered restarted left depth cells r old sound call step waiting seen seen_is cells' cells_are fit new joins settled within in
-          let h = same next answered restarted left depth cells r old sound call step waiting seen seen_is cells' cells_are fit new joins settled within in
-          let m = is_mid next answered restarted left depth cells r old sound call step waiting seen seen_is cells' cells_are fit new joins settled within in
+          let w = waits rules cells r old sound call step waiting seen seen_is cells' cells_are fit new joins settled within in
+          let h = same rules cells r old sound call step waiting seen seen_is cells' cells_are fit new joins settled within in
+          let m = is_mid rules cells r old sound call step waiting seen seen_is cells' cells_are fit new joins settled within in
           let loaded = loads_clock cells old.engine step sound.tied w.lawful e in
-          begin_tries next answered restarted left depth cells cells' r r1 (record old { engine = new; status = Ready }) last call (handed_to old.engine (Some step) seen) tied (h.is_open ∙ e) (h.doing ∙ w.doing) m.words
+          begin_tries rules cells cells' r r1 (record old { engine = new; status = Ready }) last call (handed_to old.engine (Some step) seen) tied (h.is_open ∙ e) (h.doing ∙ w.doing) m.words
           (ap (λ (c : Cells). c.clock) cells_are ∙ loaded.0)
           (ap (λ (n : ℕ). (handed_to old.engine (Some step) n).clock) seen_is ∙ (loaded.1 ∙ ap (λ (c : Cells). c.clock) (sym cells_are)))
           ans d ends told s
 
   -- what the step leaves, once the open attempt is told where it reads
   pub step_tries : (what : Next) → Proceeds (handed old.engine seen) what new → (status : Status) → status ≡ Ready → (r1 : Rows) (last : Actor P)
-      → IsDone next answered restarted left depth old.engine.is_open r r1 (record old { engine = new; status = status }) last call what → Tells answered restarted old.engine.is_open r r1 (record old { engine = new; status = status }) last call what
+      → IsDone rules old.engine.is_open r r1 (record old { engine = new; status = status }) last call what → Tells rules old.engine.is_open r r1 (record old { engine = new; status = status }) last call what
       → (rows : Rows) → IsTold last.thread last.engine.is_open r1 (last.engine.snapshot / 2) rows → Tries cells.clock (prior_of r old) cells'.clock rows last
   step_tries what g status ready r1 last d tells rows told =
       told_tries cells.clock cells'.clock (prior_of r old) r1 rows last
-      (step_done next answered restarted left depth cells r old sound call step waiting seen seen_is cells' cells_are fit new joins settled within what g status r1 last d).kept.row
+      (step_done rules cells r old sound call step waiting seen seen_is cells' cells_are fit new joins settled within what g status r1 last d).kept.row
       told
       (by_what what g
-      (subst (λ (s : Status). IsDone next answered restarted left depth old.engine.is_open r r1 (record old { engine = new; status = s }) last call what) ready d)
-      (subst (λ (s : Status). Tells answered restarted old.engine.is_open r r1 (record old { engine = new; status = s }) last call what) ready tells))
+      (subst (λ (s : Status). IsDone rules old.engine.is_open r r1 (record old { engine = new; status = s }) last call what) ready d)
+      (subst (λ (s : Status). Tells rules old.engine.is_open r r1 (record old { engine = new; status = s }) last call what) ready tells))
     where
-      by_what : (w : Next) → Proceeds (handed old.engine seen) w new → IsDone next answered restarted left depth old.engine.is_open r r1 (record old { engine = new; status = Ready }) last call w
-          → Tells answered restarted old.engine.is_open r r1 (record old { engine = new; status = Ready }) last call w → Tries cells.clock (prior_of r old) cells'.clock r1 last
+      by_what : (w : Next) → Proceeds (handed old.engine seen) w new → IsDone rules old.engine.is_open r r1 (record old { engine = new; status = Ready }) last call w
+          → Tells rules old.engine.is_open r r1 (record old { engine = new; status = Ready }) last call w → Tries cells.clock (prior_of r old) cells'.clock r1 last
       by_what (Asks s) g d tells =
           let Made : Rows → Actor P → Type 0 = λ x y. Tries cells.clock (prior_of r old) cells'.clock x y in
           subst (λ (x : Rows). Made x last) (sym d.1) (subst (λ (y : Actor P). Made r y) (sym d.0) (went_on s g))
@@ -170,7 +170,7 @@ module _ {P : Type 0} (next : P → Option Call) (answered : P → Replied → P
 
   -- an actor finishes in its local work alone
   pub step_unfinished : (what : Next) → (status : Status) → status ≡ Ready → (r1 : Rows) (last : Actor P)
-      → IsDone next answered restarted left depth old.engine.is_open r r1 (record old { engine = new; status = status }) last call what → Tells answered restarted old.engine.is_open r r1 (record old { engine = new; status = status }) last call what
+      → IsDone rules old.engine.is_open r r1 (record old { engine = new; status = status }) last call what → Tells rules old.engine.is_open r r1 (record old { engine = new; status = status }) last call what
       → ending_of last.status ≡ Some ends.Finished → ⊥
   step_unfinished (Asks s) status ready r1 last d tells e = absurd (let n = sym (ap (λ (a : Actor P). ending_of a.status) d.0) ∙ e in cc)
-  step_unfinished (Answers ans) status ready r1 last d tells e = not_finished next answered restarted left depth r r1 (record old { engine = new; status = status }) last call old.engine.is_open ready ans tells e
+  step_unfinished (Answers ans) status ready r1 last d tells e = not_finished rules r r1 (record old { engine = new; status = status }) last call old.engine.is_open ready ans tells e

@@ -3,8 +3,6 @@ use Rattle.std.proofs.Common.{◌≡◌, ℕ, ◌+◌, ◌<◌, Bool, true, fals
 use Rattle.std.specs.Option.{option_and_then}
 use Rattle.std.proofs.lemmas.List.{take_more}
 use Rattle.std.proofs.lemmas.List.Sums.{sum_by-append}
-use Rattle.itm_types.specs.declared.call.Call.{Call}
-use Rattle.itm_types.specs.declared.call.Reply.{Reply}
 use Rattle.norec_world.specs.declared.attempt.End.{End}
 use Rattle.norec_world.specs.declared.attempt.End.TheVariants.{Finished, GaveUp, NoMemory}
 use Rattle.norec_world.specs.declared.fault.WorldFault.{WorldFault}
@@ -22,6 +20,7 @@ use Rattle.norec_world.specs.Commits.{CommitsInOrder}
 use Rattle.norec_world.specs.Opaque.{AreOpaque}
 use Rattle.norec_world.proofs.Worlds.{within_some}
 use Rattle.norec_world.specs.WorldEvents.{ActorGoes, Goes, Leads, is_taken, is_passed, is_starved, passes_of}
+use Rattle.script_vm.specs.Rules.{Rules}
 
 -- an event is answered by no fault of the other two
 pub told_event : (e : Option End) → IsTrue (is_event (told e))
@@ -56,12 +55,12 @@ waits_not_ended {P} w actor = of_got (slice_get w.actors actor)
     of_got (Some a) x e = ending_waits a.status x e
 
 -- an event is one of the world
-module _ {P : Type 0} (next : P → Option Call) (answered : P → Reply → P) (restarted : P → P) (left : P → ℕ) (old new : World P) (actor : ℕ) (waits : IsSome (waits_at old actor))
+module _ {P : Type 0} (rules : Rules P) (old new : World P) (actor : ℕ) (waits : IsSome (waits_at old actor))
     (lawful : (a : Actor P) (step : Step) → slice_get old.actors actor ≡ Some a → waiting_step a.status ≡ Some step → IsLawful a.engine step)
     (operation : (step : Step) → waits_at old actor ≡ Some step → new.cells ≡ cells_after old.cells step) (counts : new.events ≡ counted old.events 1)
-    (event_of : (a : Actor P) → slice_get old.actors actor ≡ Some a → ActorGoes next answered restarted left actor old a new)
-    (commits : CommitsInOrder new) (opaque : AreOpaque next answered restarted left new) (same : SameOpening old new) (long : length new.actors ≡ length old.actors) (alone : ShowsAlone next answered left new) where
-  pub event_goes : Goes next answered restarted left actor old (told (ending_at new actor)) new
+    (event_of : (a : Actor P) → slice_get old.actors actor ≡ Some a → ActorGoes rules actor old a new)
+    (commits : CommitsInOrder new) (opaque : AreOpaque rules new) (same : SameOpening old new) (long : length new.actors ≡ length old.actors) (alone : ShowsAlone rules new) where
+  pub event_goes : Goes rules actor old (told (ending_at new actor)) new
   event_goes = record {
     no_such = (λ e. absurd (told_no_such (ending_at new actor) e), λ l. absurd (let n = within_some (λ (a : Actor P). waiting_step a.status) old.actors actor waits in omega arith));
     ended = (λ e. absurd (told_ended (ending_at new actor) e), λ e. absurd (waits_not_ended old actor waits e));
@@ -81,12 +80,12 @@ module _ {P : Type 0} (next : P → Option Call) (answered : P → Reply → P) 
 
 -- ## Many in a row
 
-module _ {P : Type 0} (next : P → Option Call) (answered : P → Reply → P) (restarted : P → P) (left : P → ℕ) where
+module _ {P : Type 0} (rules : Rules P) where
   -- one entry more
   pub leads_on : (old between new : World P) (schedule : List ℕ) (results : List (Result (Unit {0}) WorldFault)) (actor : ℕ) (result : Result (Unit {0}) WorldFault)
-      → Leads next answered restarted left old schedule results between → Goes next answered restarted left actor between result new
-      → Leads next answered restarted left old (schedule ++ actor ∷ []) (results ++ result ∷ []) new
-  leads_on old between new [] [] actor result l g = (new, subst (λ (w : World P). Goes next answered restarted left actor w result new) l g, refl)
+      → Leads rules old schedule results between → Goes rules actor between result new
+      → Leads rules old (schedule ++ actor ∷ []) (results ++ result ∷ []) new
+  leads_on old between new [] [] actor result l g = (new, subst (λ (w : World P). Goes rules actor w result new) l g, refl)
   leads_on old between new [] (r ∷ rs) actor result l g = absurd l
   leads_on old between new (a ∷ rest) [] actor result l g = absurd l
   leads_on old between new (a ∷ rest) (r ∷ rs) actor result l g = (l.0, l.1, leads_on l.0 between new rest rs actor result l.2 g)
@@ -118,17 +117,17 @@ passes_more results (Err faults.Ended) = (λ i. record { taken = count_no is_tak
 passes_more results (Err faults.NoMemory) = (λ i. record { taken = count_no is_taken results (Err faults.NoMemory) refl i; passed = count_no is_passed results (Err faults.NoMemory) refl i; starved = count_yes is_starved results (Err faults.NoMemory) refl i })
 
 -- an entry of a schedule more, and its result
-module _ {P : Type 0} (next : P → Option Call) (answered : P → Reply → P) (restarted : P → P) (left : P → ℕ) where
+module _ {P : Type 0} (rules : Rules P) where
   -- what has come of the schedule so far
   abbrev pub HasLed : World P → List ℕ → World P → Passes → Type 0
-  HasLed old schedule new passes = (results : List (Result (Unit {0}) WorldFault)) × Leads next answered restarted left old schedule results new × (passes ≡ passes_of results)
+  HasLed old schedule new passes = (results : List (Result (Unit {0}) WorldFault)) × Leads rules old schedule results new × (passes ≡ passes_of results)
 
   pub led_on : (old between new : World P) (schedule : List ℕ) (i d : ℕ) → i < length schedule → (passes passes' : Passes) (result : Result (Unit {0}) WorldFault)
-      → HasLed old (take i schedule) between passes → Goes next answered restarted left (get_or schedule i d) between result new → passes' ≡ noted passes result
+      → HasLed old (take i schedule) between passes → Goes rules (get_or schedule i d) between result new → passes' ≡ noted passes result
       → HasLed old (take (i + 1) schedule) new passes'
   led_on old between new schedule i d within passes passes' result led goes is = (
     led.0 ++ result ∷ [],
-    subst (λ (entries : List ℕ). Leads next answered restarted left old entries (led.0 ++ result ∷ []) new) (sym (take_more schedule i d within))
-        (leads_on next answered restarted left old between new (take i schedule) led.0 (get_or schedule i d) result led.1 goes),
+    subst (λ (entries : List ℕ). Leads rules old entries (led.0 ++ result ∷ []) new) (sym (take_more schedule i d within))
+        (leads_on rules old between new (take i schedule) led.0 (get_or schedule i d) result led.1 goes),
     is ∙ (ap (λ (p : Passes). noted p result) led.2 ∙ sym (passes_more led.0 result)),
   )

@@ -2,8 +2,6 @@
 use Rattle.std.proofs.Common.{◌≡◌, ◌^◌, ℕ, zero, suc, ◌<◌, ◌≤◌, Bool, true, false, List, [], ◌∷◌, length, Option, None, Some, IsSome, slice_get, slice_set, replicate, refl, sym, ap, subst, ◌∙◌, arith}
 use Rattle.std.specs.List.{slice_index_or}
 use Rattle.std.specs.Option.{option_and_then}
-use Rattle.itm_types.specs.declared.call.Call.{Call}
-use Rattle.itm_types.specs.declared.call.Reply.{Reply as Replied}
 use Rattle.itm_types.specs.declared.step.Step.{Step}
 use Rattle.norec_world.specs.Rows.{Rows, active_of}
 use Rattle.norec_world.specs.declared.actor.Actor.{Actor}
@@ -19,6 +17,7 @@ use Rattle.norec_world.specs.Tracks.{Tracks, StillTracks}
 use Rattle.norec_world.specs.World.{World, IsSoloWorld}
 use Rattle.norec_world.specs.Actors.{AreActors}
 use Rattle.std.proofs.lemmas.Option.{slice_get-get_or}
+use Rattle.script_vm.specs.Rules.{Rules}
 
 -- the actor at a place
 pub got_at : {A : Type 0} (xs : List A) (i : ℕ) (got : A) → i < length xs → got ≡ slice_index_or xs i got → slice_get xs i ≡ Some got
@@ -30,30 +29,30 @@ within_some f (x ∷ xs) zero h = omega arith
 within_some f (x ∷ xs) (suc i) h = (let l = within_some f xs i h in omega arith)
 
 -- the step that a sound actor waits for is one of the algorithm's
-module _ {P : Type 0} (next : P → Option Call) (answered : P → Replied → P) (restarted : P → P) (left : P → ℕ) (depth : P → ℕ) where
-  pub lawful_as : (r : Rows) (a : Actor P) (s : Status) (step : Step) → StatusIs next answered restarted left depth r a s → waiting_step s ≡ Some step → IsLawful a.engine step
+module _ {P : Type 0} (rules : Rules P) where
+  pub lawful_as : (r : Rows) (a : Actor P) (s : Status) (step : Step) → StatusIs rules r a s → waiting_step s ≡ Some step → IsLawful a.engine step
   lawful_as r a Ready step i w = absurd (cc)
   lawful_as r a (Waits call other) step i w = (let same : other ≡ step = cc in subst (IsLawful a.engine) same i.lawful)
   lawful_as r a (Ended end) step i w = absurd (cc)
 
-  pub lawful_at : (w : World P) (r : Rows) → AreActors next answered restarted left depth w.cells r w.actors → (i : ℕ) (a : Actor P) (step : Step)
+  pub lawful_at : (w : World P) (r : Rows) → AreActors rules w.cells r w.actors → (i : ℕ) (a : Actor P) (step : Step)
       → slice_get w.actors i ≡ Some a → waiting_step a.status ≡ Some step → IsLawful a.engine step
   lawful_at w r s i a step e waits = lawful_as r a a.status step (s.each i a e).sound.status waits
 
 -- an actor at its place, in a world of one
-module _ {P : Type 0} (next : P → Option Call) (answered : P → Replied → P) (left : P → ℕ)
+module _ {P : Type 0} (rules : Rules P)
     (cells cells' : Cells) (r r' : Rows) (actors : List (Actor P)) (op : List P) (base : List ℕ) (arena max_commits : ℕ)
-    (w : IsSoloWorld next answered left op base arena max_commits cells r actors) (i : ℕ) (within : i < length actors) (got : Actor P) (is : slice_get actors i ≡ Some got) where
+    (w : IsSoloWorld rules op base arena max_commits cells r actors) (i : ℕ) (within : i < length actors) (got : Actor P) (is : slice_get actors i ≡ Some got) where
   pub place_is : i ≡ 0
   place_is = let n : length actors ≡ 1 = ap length w.one in omega arith
 
   pub place_got : got ≡ w.actor
   place_got = (let both : Some got ≡ Some w.actor = sym is ∙ (λ k. slice_get (w.one k) (place_is k)) in cc)
 
-  pub place_tracks : Tracks next answered left max_commits w.player base (replicate arena 0) cells r got
-  place_tracks = subst (Tracks next answered left max_commits w.player base (replicate arena 0) cells r) (sym place_got) w.tracks
+  pub place_tracks : Tracks rules max_commits w.player base (replicate arena 0) cells r got
+  place_tracks = subst (Tracks rules max_commits w.player base (replicate arena 0) cells r) (sym place_got) w.tracks
 
-  pub place_alone : (new : Actor P) → StillTracks next answered left cells r got cells' r' new → IsSoloWorld next answered left op base arena max_commits cells' r' (slice_set actors i new)
+  pub place_alone : (new : Actor P) → StillTracks rules cells r got cells' r' new → IsSoloWorld rules op base arena max_commits cells' r' (slice_set actors i new)
   place_alone new still = record {
     player = w.player;
     actor = new;
@@ -83,16 +82,16 @@ ended_ready (Waits call step) e = refl
 ended_ready (Ended end) e = refl
 
 -- an actor that has made no call, over cells whose clock is 0
-module _ {P : Type 0} (next : P → Option Call) (answered : P → Replied → P) (restarted : P → P) (left : P → ℕ) (depth : P → ℕ) where
+module _ {P : Type 0} (rules : Rules P) where
   pub fresh_sound : (cells : Cells) (r : Rows) (a : Actor P) (arena : List ℕ) (patience max_commits : ℕ)
       → a.engine ≡ opening (length cells.words) arena patience max_commits → AllFit cells.words → active_of a.thread r.active ≡ None → a.spare.items ≡ [] → a.nth ≡ 1 → a.retries ≤ 10000
-      → a.pending ≡ None → a.status ≡ Ready → depth a.player ≡ 0 → max_commits < 2 ^ 62 → IsSound next answered restarted left depth cells r a
+      → a.pending ≡ None → a.status ≡ Ready → rules.depth a.player ≡ 0 → max_commits < 2 ^ 62 → IsSound rules cells r a
   fresh_sound cells r a arena patience max_commits is fit none empty first few nothing ready outside limit =
       let Tied : Core → Type 0 = IsTied cells in
       let Kept : Bool → Type 0 = λ b. IsKept b r a in
-      let Is : Status → Type 0 = StatusIs next answered restarted left depth r a in
+      let Is : Status → Type 0 = StatusIs rules r a in
       let shut : a.engine.is_open ≡ false = ap (λ (c : Core). c.is_open) is in
-      let Nested : Bool → Type 0 = λ b. IsNested next answered restarted left depth b a.player in
+      let Nested : Bool → Type 0 = λ b. IsNested rules b a.player in
       record {
         tied = subst Tied (sym is) (record {
           words = refl;

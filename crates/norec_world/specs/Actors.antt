@@ -1,7 +1,5 @@
 -- The actors of a world, between two events.
-use Rattle.std.specs.Prelude.{◌≡◌, ℕ, ◌%◌, ◌<◌, ◌≤◌, true, false, List, length, Option, Some, slice_get}
-use Rattle.itm_types.specs.declared.call.Call.{Call}
-use Rattle.itm_types.specs.declared.call.Reply.{Reply}
+use Rattle.std.specs.Prelude.{◌≡◌, ℕ, ◌%◌, ◌<◌, ◌≤◌, true, false, List, length, Some, slice_get}
 use Rattle.norec_world.specs.declared.attempt.Attempt.{Attempt}
 use Rattle.norec_world.specs.declared.actor.Actor.{Actor}
 use Rattle.norec_world.specs.declared.setup.TheConstants.{MAX_ACTORS}
@@ -10,11 +8,12 @@ use Rattle.norec_world.specs.Rows.{Rows, active_of}
 use Rattle.norec_world.specs.Status.{is_ready}
 use Rattle.norec_world.specs.OthersAttempts.{pending_in}
 use Rattle.norec_world.specs.Sound.{IsSound}
+use Rattle.script_vm.specs.Rules.{Rules}
 
-module _ {P : Type 0} (next : P → Option Call) (answered : P → Reply → P) (restarted : P → P) (left : P → ℕ) (depth : P → ℕ) where
+module _ {P : Type 0} (rules : Rules P) where
   -- the actor at its place, whose local work is done
   pub record IsActor (cells : Cells) (r : Rows) (place : ℕ) (a : Actor P) : Type 0 where
-    pub sound : IsSound next answered restarted left depth cells r a
+    pub sound : IsSound rules cells r a
     pub done : is_ready a.status ≡ false
     pub thread : a.thread ≡ place
 

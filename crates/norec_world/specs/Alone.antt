@@ -1,12 +1,12 @@
 -- Calls that a player makes alone on plain bytes, one by one.
-use Rattle.std.specs.Prelude.{◌≡◌, ℕ, map, List, [], ◌∷◌, Option, Some}
-use Rattle.itm_types.specs.declared.call.Call.{Call}
+use Rattle.std.specs.Prelude.{◌≡◌, ℕ, map, List, [], ◌∷◌, Some}
 use Rattle.itm_types.specs.declared.call.Reply.{Reply}
 use Rattle.itm_model.specs.State.{State}
 use Rattle.itm_model.specs.Machine.{after, reply}
 use Rattle.itm_model.specs.Runs.{turn, state_after}
 use Rattle.norec_world.specs.declared.attempt.Entry.{Entry}
 use Rattle.norec_world.specs.Opacity.{answered_all}
+use Rattle.script_vm.specs.Rules.{Rules}
 
 -- the plain state after the calls
 abbrev pub state_then : ℕ → State → List Entry → State
@@ -16,8 +16,8 @@ state_then deepest s xs = state_after deepest s (map (λ x. x.call) xs)
 abbrev pub player_then : {P : Type 0} → (P → Reply → P) → P → List Entry → P
 player_then answered p xs = answered_all answered p (map (λ x. x.reply) xs)
 
-module _ {P : Type 0} (next : P → Option Call) (answered : P → Reply → P) (left : P → ℕ) (deepest : ℕ) where
+module _ {P : Type 0} (rules : Rules P) (deepest : ℕ) where
   -- each call is the player's next in an open block, and each reply the plain machine's
   abbrev pub IsAlone : P → State → List Entry → Type 0
   IsAlone p s [] = Unit {0}
-  IsAlone p s (x ∷ xs) = (turn next answered left p s ≡ Some x.call) × (x.reply ≡ reply deepest s x.call) × IsAlone (answered p x.reply) (after deepest s x.call) xs
+  IsAlone p s (x ∷ xs) = (turn rules.next_call rules.answered rules.calls_left p s ≡ Some x.call) × (x.reply ≡ reply deepest s x.call) × IsAlone (rules.answered p x.reply) (after deepest s x.call) xs

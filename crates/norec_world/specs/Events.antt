@@ -1,7 +1,5 @@
 -- One event of an actor: its step, with the local work that follows it.
-use Rattle.std.specs.Prelude.{◌≡◌, Option, None, Some}
-use Rattle.itm_types.specs.declared.call.Call.{Call}
-use Rattle.itm_types.specs.declared.call.Reply.{Reply}
+use Rattle.std.specs.Prelude.{◌≡◌, None, Some}
 use Rattle.norec_world.specs.declared.attempt.End.TheVariants.{Finished}
 use Rattle.norec_world.specs.declared.actor.Actor.{Actor}
 use Rattle.norec_world.specs.Cells.{Cells}
@@ -11,15 +9,16 @@ use Rattle.norec_world.specs.OthersAttempts.{KeepsOthers}
 use Rattle.norec_world.specs.ClockHolder.{ClocksOn}
 use Rattle.norec_world.specs.Tries.{Tries, prior_of}
 use Rattle.norec_world.specs.LocalWork.{TakesIn, Works}
+use Rattle.script_vm.specs.Rules.{Rules}
 
-module _ {P : Type 0} (next : P → Option Call) (answered : P → Reply → P) (restarted : P → P) where
+module _ {P : Type 0} (rules : Rules P) where
   pub record IsEvent (cells : Cells) (r : Rows) (a : Actor P) (cells' : Cells) (r' : Rows) (a' : Actor P) : Type 0 where
     pub rows : Rows
     pub stepped : Actor P
-    pub takes : TakesIn answered restarted cells r a rows stepped  -- its step is done, and the value goes to its engine
-    pub works : Works next answered restarted cells'.clock rows stepped r' a'  -- and then it does its local work
+    pub takes : TakesIn rules cells r a rows stepped  -- its step is done, and the value goes to its engine
+    pub works : Works rules cells'.clock rows stepped r' a'  -- and then it does its local work
     pub tries : Tries cells.clock (prior_of r a) cells'.clock r' a'  -- what becomes of its try
-    pub finishes : ending_of a'.status ≡ Some Finished → next a'.player ≡ None  -- it finishes only where its player has no more calls
+    pub finishes : ending_of a'.status ≡ Some Finished → rules.next_call a'.player ≡ None  -- it finishes only where its player has no more calls
     pub others : KeepsOthers a r a' r'  -- the others' attempts stay
     pub clocks : ClocksOn cells a.engine cells' a'.engine
     pub retries : a'.retries ≡ a.retries

@@ -1,7 +1,5 @@
 -- One actor whose attempts are those of its player alone, also in the middle of a block.
-use Rattle.std.specs.Prelude.{◌≡◌, ℕ, ◌+◌, ◌*◌, ◌<◌, ◌/◌, ◌%◌, true, false, List, [], ◌∷◌, ◌++◌, length, slice_get, Option, Some}
-use Rattle.itm_types.specs.declared.call.Call.{Call}
-use Rattle.itm_types.specs.declared.call.Reply.{Reply}
+use Rattle.std.specs.Prelude.{◌≡◌, ℕ, ◌+◌, ◌*◌, ◌<◌, ◌/◌, ◌%◌, true, false, List, [], ◌∷◌, ◌++◌, length, slice_get, Some}
 use Rattle.itm_types.specs.Memory.{bytes_of, IsMemory, Agrees}
 use Rattle.itm_model.specs.declared.limits.TheConstants.{MAX_DEPTH}
 use Rattle.itm_model.specs.Machine.{opened}
@@ -19,17 +17,18 @@ use Rattle.norec_world.specs.Rows.{Rows}
 use Rattle.norec_world.specs.Opacity.{Beginning, begin_code, begin_of}
 use Rattle.norec_world.specs.Alone.{state_then, player_then, IsAlone}
 use Rattle.norec_world.specs.Solo.{Progress, Solo, solo_within, solo}
+use Rattle.script_vm.specs.Rules.{Rules}
 
 -- these attempts, and then what is left
 abbrev pub with_all : List Attempt → Solo → Solo
 with_all past s = record s { attempts = past ++ s.attempts }
 
-module _ {P : Type 0} (next : P → Option Call) (answered : P → Reply → P) (left : P → ℕ) where
+module _ {P : Type 0} (rules : Rules P) where
   -- an open block: what stood before it, where its player began it, and its calls so far; the memory is M
   pub record IsInBlock (b : Progress P) (start : Beginning P) (xs : List Entry) (M : List ℕ) (p : P) (e : Core) : Type 0 where
-    pub comes : begin_of next answered left MAX_DEPTH b.player b.arena ≡ Some start
-    pub player : p ≡ player_then answered (answered start.player (begin_code false)) xs
-    pub alone : IsAlone next answered left MAX_DEPTH (answered start.player (begin_code false)) (opened b.memory start.arena start.props) xs
+    pub comes : begin_of rules MAX_DEPTH b.player b.arena ≡ Some start
+    pub player : p ≡ player_then rules.answered (rules.answered start.player (begin_code false)) xs
+    pub alone : IsAlone rules MAX_DEPTH (rules.answered start.player (begin_code false)) (opened b.memory start.arena start.props) xs
     pub stands : stands_for e M ≡ state_then MAX_DEPTH (opened b.memory start.arena start.props) xs
     pub at : e.snapshot ≡ 2 * b.commits
 
@@ -49,7 +48,7 @@ module _ {P : Type 0} (next : P → Option Call) (answered : P → Reply → P) 
 
     -- the player, its engine and the rows of its attempts, over these cells: b is where it stood before the present block
     pub record Follows (p0 : P) (base arena : List ℕ) (b : Progress P) (past : List Attempt) (M : List ℕ) (cells : Cells) (r : Rows) (p : P) (e : Core) : Type 0 where
-      pub whole : solo next answered left MAX_DEPTH max_commits thread p0 base arena ≡ with_all past (solo_within next answered left MAX_DEPTH max_commits thread (left b.player) b)
+      pub whole : solo rules MAX_DEPTH max_commits thread p0 base arena ≡ with_all past (solo_within rules MAX_DEPTH max_commits thread (rules.calls_left b.player) b)
       pub bytes : b.memory ≡ bytes_of M
       pub memory : IsMemory (length cells.words) M
       pub arena_is : e.arena ≡ b.arena
@@ -66,5 +65,5 @@ module _ {P : Type 0} (next : P → Option Call) (answered : P → Reply → P) 
 
     -- all that the player does alone, where its actor has ended
     pub record IsAll (p0 : P) (base arena : List ℕ) (cells : Cells) (rows : List Attempt) (ending : End) : Type 0 where
-      pub all : solo next answered left MAX_DEPTH max_commits thread p0 base arena ≡ record { attempts = rows; memory = bytes_of cells.words; commits = cells.clock / 2; ending = ending }
+      pub all : solo rules MAX_DEPTH max_commits thread p0 base arena ≡ record { attempts = rows; memory = bytes_of cells.words; commits = cells.clock / 2; ending = ending }
       pub even : cells.clock % 2 ≡ 0

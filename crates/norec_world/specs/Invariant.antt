@@ -1,7 +1,5 @@
 -- What is true of a world between two events. No contract above cites it.
-use Rattle.std.specs.Prelude.{◌≡◌, ℕ, length, Option, Some, slice_get}
-use Rattle.itm_types.specs.declared.call.Call.{Call}
-use Rattle.itm_types.specs.declared.call.Reply.{Reply}
+use Rattle.std.specs.Prelude.{◌≡◌, ℕ, length, Some, slice_get}
 use Rattle.norec_world.specs.declared.actor.Actor.{Actor}
 use Rattle.norec_world.specs.Rows.{AreFrom, AreOfActors}
 use Rattle.norec_world.specs.Actors.{AreActors}
@@ -10,18 +8,19 @@ use Rattle.norec_world.specs.LogAgreement.{AreLaid}
 use Rattle.norec_world.specs.Runs.{RunsFrom}
 use Rattle.norec_world.specs.Opaque.{first_of}
 use Rattle.norec_world.specs.World.{World, RunsAlone}
+use Rattle.script_vm.specs.Rules.{Rules}
 
-module _ {P : Type 0} (next : P → Option Call) (answered : P → Reply → P) (restarted : P → P) (left : P → ℕ) where
+module _ {P : Type 0} (rules : Rules P) where
   -- the headline, with what the actors have not recorded yet
   pub record AreRunning (w : World P) : Type 0 where
     pub laid : AreLaid w.base w.cells w.attempts
     pub ordered : AreFrom 0 w.attempts.active
     pub threads : AreOfActors (length w.actors) w.attempts.ended
-    pub each : (place : ℕ) (p : P) (a : Actor P) → slice_get w.opening place ≡ Some p → slice_get w.actors place ≡ Some a → RunsFrom next answered restarted left (first_of p w.arena) w.base w.cells w.attempts a
+    pub each : (place : ℕ) (p : P) (a : Actor P) → slice_get w.opening place ≡ Some p → slice_get w.actors place ≡ Some a → RunsFrom rules (first_of p w.arena) w.base w.cells w.attempts a
 
-  pub record IsWorld (depth : P → ℕ) (w : World P) : Type 0 where
-    pub actors : AreActors next answered restarted left depth w.cells w.attempts w.actors
+  pub record IsWorld (w : World P) : Type 0 where
+    pub actors : AreActors rules w.cells w.attempts w.actors
     pub long : length w.actors ≡ length w.opening
-    pub alone : RunsAlone next answered left w
+    pub alone : RunsAlone rules w
     pub commits : CommitsInOrder w
     pub running : AreRunning w

@@ -1,7 +1,6 @@
 -- What an actor does with the value of its step, and in the local work that follows, up to its next step or its end.
-use Rattle.std.specs.Prelude.{◌≡◌, ◌⊎◌, ℕ, zero, suc, ◌/◌, ◌≤◌, true, false, length, vec_capacity, Option, None, Some}
+use Rattle.std.specs.Prelude.{◌≡◌, ◌⊎◌, ℕ, zero, suc, ◌/◌, ◌≤◌, true, false, length, vec_capacity, None, Some}
 use Rattle.itm_types.specs.declared.call.Call.{Call}
-use Rattle.itm_types.specs.declared.call.Reply.{Reply}
 use Rattle.itm_types.specs.declared.step.Step.{Step}
 use Rattle.norec_engine.specs.declared.answer.Next.{Next}
 use Rattle.norec_engine.specs.Moves.{IsResumed}
@@ -16,6 +15,7 @@ use Rattle.norec_world.specs.declared.actor.Status.TheVariants.{Ready, Waits, En
 use Rattle.norec_world.specs.Cells.{Cells, found}
 use Rattle.norec_world.specs.Rows.{Rows, active_of}
 use Rattle.norec_world.specs.Records.{Asks, Tells, IsTold, StopsAt}
+use Rattle.script_vm.specs.Rules.{Rules}
 
 -- it is the same actor, and where its player is to be asked, no attempt is to be opened
 pub record SameActor {P : Type 0} (a a' : Actor P) : Type 0 where
@@ -28,41 +28,41 @@ abbrev pub IsShort : {P : Type 0} → Rows → Actor P → Call → Type 0
 IsShort r a call = (row : Attempt) → active_of a.thread r.active ≡ Some row → (vec_capacity a.spare ≤ length row.calls) ⊎ MayStarve a.engine call
 
 -- its step was done on these cells: its engine is handed what was found, and of what comes the call waits for the next step, or is answered
-pub record TakesIn {P : Type 0} (answered : P → Reply → P) (restarted : P → P) (cells : Cells) (r : Rows) (a : Actor P) (r' : Rows) (a' : Actor P) : Type 0 where
+pub record TakesIn {P : Type 0} (rules : Rules P) (cells : Cells) (r : Rows) (a : Actor P) (r' : Rows) (a' : Actor P) : Type 0 where
   pub call : Call
   pub step : Step
   pub waits : a.status ≡ Waits call step
   pub what : Next
   pub resumed : IsResumed a.engine (found cells step) what a'.engine
   pub rows : Rows
-  pub tells : Tells answered restarted a.engine.is_open r rows (record a { engine = a'.engine; status = Ready }) a' call what
+  pub tells : Tells rules a.engine.is_open r rows (record a { engine = a'.engine; status = Ready }) a' call what
   pub told : IsTold a.thread a'.engine.is_open rows (a'.engine.snapshot / 2) r'
   pub same : SameActor a a'
 
-module _ {P : Type 0} (next : P → Option Call) (answered : P → Reply → P) (restarted : P → P) where
+module _ {P : Type 0} (rules : Rules P) where
   -- its player's next call goes to its engine, and waits for its first step, or is answered at once
   pub record Calls (clock : ℕ) (r : Rows) (a : Actor P) (r' : Rows) (a' : Actor P) : Type 0 where
     pub call : Call
-    pub next_is : next a.player ≡ Some call
+    pub next_is : rules.next_call a.player ≡ Some call
     pub what : Next
     pub rows : Rows
     pub asked : Actor P
     pub asks : Asks clock r rows a asked call what
     pub ready : asked.status ≡ Ready
-    pub tells : Tells answered restarted a.engine.is_open rows r' asked a' call what
+    pub tells : Tells rules a.engine.is_open rows r' asked a' call what
     pub engine : a'.engine ≡ asked.engine
     pub same : SameActor a a'
 
   -- its player has no more calls
   pub record Finishes (r : Rows) (a : Actor P) (r' : Rows) (a' : Actor P) : Type 0 where
-    pub none : next a.player ≡ None
+    pub none : rules.next_call a.player ≡ None
     pub actor : a' ≡ record a { status = Ended Finished }
     pub rows : r' ≡ r
 
   -- memory was refused to its player's next call
   pub record Starves (r : Rows) (a : Actor P) (r' : Rows) (a' : Actor P) : Type 0 where
     pub call : Call
-    pub next_is : next a.player ≡ Some call
+    pub next_is : rules.next_call a.player ≡ Some call
     pub grows : a.engine.is_open ≡ false → is_begin call ≡ true  -- outside a block memory is wanted for a begin alone
     pub short : a.engine.is_open ≡ true → IsShort r a call
     pub status : a'.status ≡ Ended NoMemory

@@ -12,6 +12,7 @@ use Rattle.norec_world.specs.declared.attempt.Outcome.{Outcome}
 use Rattle.norec_world.specs.declared.attempt.Outcome.TheVariants.{Committed, ReadOnly, Conflict, Full, NoMemory, Unfinished}
 use Rattle.norec_world.specs.declared.attempt.Attempt.{Attempt}
 use Rattle.norec_world.specs.Attempts.{alone, pairs_of, replies_of}
+use Rattle.script_vm.specs.Rules.{Rules}
 
 -- how an attempt ended, by the plain state after its calls: whether its block has ended, and whether it wrote
 abbrev pub EndsAs : Outcome → State → Type 0
@@ -47,35 +48,35 @@ module _ {P : Type 0} (answered : P → Reply → P) where
   answered_all p [] = p
   answered_all p (r ∷ rs) = answered_all (answered p r) rs
 
-module _ {P : Type 0} (next : P → Option Call) (answered : P → Reply → P) (left : P → ℕ) (deepest : ℕ) where
+module _ {P : Type 0} (rules : Rules P) (deepest : ℕ) where
   -- where a player's calls outside a transaction lead: to an outermost begin that is accepted, or to its end
   abbrev pub begin_within : ℕ → P → List ℕ → Option Call → Option (Beginning P)
   begin_within zero p arena call = None
   begin_within (suc n) p arena None = None
   begin_within (suc n) p arena (Some (Begin props room)) =
       if is_none (refusal deepest (outside [] arena) (Begin props room)) then Some (record { player = p; arena = arena; props = props })
-      else (let q = answered p (reply deepest (outside [] arena) (Begin props room)) in begin_within n q arena (next q))
+      else (let q = rules.answered p (reply deepest (outside [] arena) (Begin props room)) in begin_within n q arena (rules.next_call q))
   begin_within (suc n) p arena (Some call) =
-      let q = answered p (reply deepest (outside [] arena) call) in
-      begin_within n q (after deepest (outside [] arena) call).arena (next q)
+      let q = rules.answered p (reply deepest (outside [] arena) call) in
+      begin_within n q (after deepest (outside [] arena) call).arena (rules.next_call q)
 
   abbrev pub begin_of : P → List ℕ → Option (Beginning P)
-  begin_of p arena = begin_within (left p) p arena (next p)
+  begin_of p arena = begin_within (rules.calls_left p) p arena (rules.next_call p)
 
-module _ {P : Type 0} (next : P → Option Call) (answered : P → Reply → P) (restarted : P → P) (left : P → ℕ) (deepest : ℕ) where
+module _ {P : Type 0} (rules : Rules P) (deepest : ℕ) where
   -- The attempt is opaque: its player after the begin is p, n commits are done, and the memory is the bytes that the first a.at of them left.
   pub record IsOpaque (p : P) (a : Attempt) (n : ℕ) (memory : List ℕ) : Type 0 where
     pub no_older : a.began ≤ a.at
     pub no_newer : a.at ≤ n
-    pub beginning : IsBeginningOf (pairs_of a) (answers next answered left deepest p memory a.arena a.props)
-    pub whole : is_open (alone deepest memory a) ≡ false → pairs_of a ≡ answers next answered left deepest p memory a.arena a.props
+    pub beginning : IsBeginningOf (pairs_of a) (answers rules.next_call rules.answered rules.calls_left deepest p memory a.arena a.props)
+    pub whole : is_open (alone deepest memory a) ≡ false → pairs_of a ≡ answers rules.next_call rules.answered rules.calls_left deepest p memory a.arena a.props
     pub ends : EndsAs a.outcome (alone deepest memory a)
 
   -- what follows an attempt whose player after the begin was p and that left the plain state s, if anything does
   abbrev pub follows : Outcome → P → Attempt → State → Option (Between P)
-  follows Committed p a s = Some (record { player = answered_all answered p (replies_of a); arena = s.arena; again = false; tries = 0 })
-  follows ReadOnly p a s = Some (record { player = answered_all answered p (replies_of a); arena = s.arena; again = false; tries = 0 })
-  follows Conflict p a s = Some (record { player = restarted (answered_all answered p (replies_of a)); arena = (undone s).arena; again = true; tries = a.nth })
+  follows Committed p a s = Some (record { player = answered_all rules.answered p (replies_of a); arena = s.arena; again = false; tries = 0 })
+  follows ReadOnly p a s = Some (record { player = answered_all rules.answered p (replies_of a); arena = s.arena; again = false; tries = 0 })
+  follows Conflict p a s = Some (record { player = rules.restarted (answered_all rules.answered p (replies_of a)); arena = (undone s).arena; again = true; tries = a.nth })
   follows Full p a s = None
   follows NoMemory p a s = None
   follows Unfinished p a s = None
@@ -84,15 +85,15 @@ module _ {P : Type 0} (next : P → Option Call) (answered : P → Reply → P) 
   abbrev pub IsTryAt : ℕ → (ℕ → List ℕ) → Between P → Option (Beginning P) → Attempt → Type 0
   IsTryAt n memory b None a = ⊥
   IsTryAt n memory b (Some start) a =
-      (a.arena ≡ start.arena) × (a.props ≡ start.props) × (b.tries < a.nth) × IsOpaque (answered start.player (begin_code b.again)) a n (memory a.at)
+      (a.arena ≡ start.arena) × (a.props ≡ start.props) × (b.tries < a.nth) × IsOpaque (rules.answered start.player (begin_code b.again)) a n (memory a.at)
 
   abbrev pub after_try : (ℕ → List ℕ) → Between P → Option (Beginning P) → Attempt → Option (Between P)
   after_try memory b None a = None
-  after_try memory b (Some start) a = follows a.outcome (answered start.player (begin_code b.again)) a (alone deepest (memory a.at) a)
+  after_try memory b (Some start) a = follows a.outcome (rules.answered start.player (begin_code b.again)) a (alone deepest (memory a.at) a)
 
   -- The attempts of one actor, in order, are its player's own: none is left out before another, and each is opaque.
   abbrev pub IsRunOf : ℕ → (ℕ → List ℕ) → Option (Between P) → List Attempt → Type 0
   IsRunOf n memory b [] = Unit {0}
   IsRunOf n memory None (a ∷ rest) = ⊥
   IsRunOf n memory (Some b) (a ∷ rest) =
-      IsTryAt n memory b (begin_of next answered left deepest b.player b.arena) a × IsRunOf n memory (after_try memory b (begin_of next answered left deepest b.player b.arena) a) rest
+      IsTryAt n memory b (begin_of rules deepest b.player b.arena) a × IsRunOf n memory (after_try memory b (begin_of rules deepest b.player b.arena) a) rest

@@ -5,6 +5,7 @@ use Rattle.itm_types.specs.declared.call.Call.{Call}
 use Rattle.itm_types.specs.declared.call.Call.TheVariants.{Begin, Commit, Read, Write}
 use Rattle.itm_types.specs.declared.call.Reply.{Reply}
 use Rattle.itm_types.specs.declared.call.Reply.TheVariants.{Done, Bytes, Code, Refused}
+use Rattle.script_vm.specs.Laws.{Laws}
 use Rattle.script_vm.specs.Depth.{depth_after, opens}
 use Rattle.norec_world.specs.Plan.{Plan, offered, next_call, answered, restarted, restarted_at, calls_left, depth, depth_in, begun_after}
 
@@ -26,7 +27,7 @@ no_begin s (Some Commit) props room e = absurd (cc)
 no_begin s (Some (Read hint width at)) props room e = absurd (cc)
 no_begin s (Some (Write hint at value)) props room e = absurd (cc)
 
-pub nearer : (p : Plan) (c : Call) (r : Reply) → next_call p ≡ Some c → calls_left (answered p r) < calls_left p
+nearer : (p : Plan) (c : Call) (r : Reply) → next_call p ≡ Some c → calls_left (answered p r) < calls_left p
 nearer p c r e = let l : p.at < length p.calls = slice_get_within p.calls p.at c (offers p.begun (slice_get p.calls p.at) c e) in omega arith
 
 depth_of : (b : Option ℕ) (at : ℕ) (c : Call) (r : Reply) → ((s : ℕ) → b ≡ Some s → (props : _) (room : ℕ) → c ≡ Begin props room → ⊥) → depth_in (begun_after b at (Some c) r) ≡ depth_after (depth_in b) c r
@@ -50,7 +51,7 @@ apart : (p : Plan) (c : Call) → next_call p ≡ Some c → (s : ℕ) → p.beg
 apart p c e s b props room is =
     no_begin s (slice_get p.calls p.at) props room (ap (λ (x : Option ℕ). offered x (slice_get p.calls p.at)) (sym b) ∙ (e ∙ ap Some is))
 
-pub nests : (p : Plan) (c : Call) (r : Reply) → next_call p ≡ Some c → depth (answered p r) ≡ depth_after (depth p) c r
+nests : (p : Plan) (c : Call) (r : Reply) → next_call p ≡ Some c → depth (answered p r) ≡ depth_after (depth p) c r
 nests p c r e = ap (λ (o : Option Call). depth_in (begun_after p.begun p.at o r)) e ∙ depth_of p.begun p.at c r (apart p c e)
 
 goes_back : (calls : List Call) (at at' : ℕ) (b : Option ℕ) (c : Call) (r : Reply) → ((s : ℕ) → b ≡ Some s → (props : _) (room : ℕ) → c ≡ Begin props room → ⊥) → 0 < depth_after (depth_in b) c r
@@ -74,7 +75,10 @@ goes_back calls at at' (Some s) (Read hint width place) r h l = refl
 goes_back calls at at' None (Write hint place value) r h l = absurd (omega arith)
 goes_back calls at at' (Some s) (Write hint place value) r h l = refl
 
-pub restarts : (p : Plan) (c : Call) (r : Reply) → next_call p ≡ Some c → 0 < depth_after (depth p) c r → restarted (answered p r) ≡ (if opens (depth p) c r then p else restarted p)
+restarts : (p : Plan) (c : Call) (r : Reply) → next_call p ≡ Some c → 0 < depth_after (depth p) c r → restarted (answered p r) ≡ (if opens (depth p) c r then p else restarted p)
 restarts p c r e l =
     ap (λ (o : Option Call). restarted_at (record { calls = p.calls; at = min (p.at + 1) (length p.calls); begun = begun_after p.begun p.at o r }) (begun_after p.begun p.at o r)) e
     ∙ goes_back p.calls p.at (min (p.at + 1) (length p.calls)) p.begun c r (apart p c e) l
+
+pub plan_laws : Laws next_call answered restarted calls_left depth
+plan_laws = record { nearer = nearer; nests = nests; restarts = restarts }

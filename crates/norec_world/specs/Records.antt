@@ -16,6 +16,7 @@ use Rattle.norec_world.specs.declared.attempt.Outcome.TheVariants as outcomes
 use Rattle.norec_world.specs.declared.attempt.End.TheVariants.{GaveUp}
 use Rattle.norec_world.specs.declared.actor.Actor.{Actor}
 use Rattle.norec_world.specs.declared.actor.Status.TheVariants.{Waits, Ended}
+use Rattle.script_vm.specs.Rules.{Rules}
 
 -- the actor's open attempt has one call more
 abbrev pub AddsCall : ℕ → Rows → Call → Replied → Rows → Type 0
@@ -53,17 +54,17 @@ again_after true (Some row) again = true
 again_after true None again = again
 again_after false pending again = again
 
-module _ {P : Type 0} (answered : P → Replied → P) (restarted : P → P) where
+module _ {P : Type 0} (rules : Rules P) where
   -- of an answer to a call that came where the block was open, or not
   abbrev pub Records : Bool → Rows → Rows → Actor P → Actor P → Call → Answer → Type 0
   Records true r r' old new call (Reply reply) =
-      AddsCall old.thread r call reply r' × (new.player ≡ answered old.player reply) × (new.again ≡ old.again) × (new.nth ≡ old.nth) × (new.status ≡ old.status)
+      AddsCall old.thread r call reply r' × (new.player ≡ rules.answered old.player reply) × (new.again ≡ old.again) × (new.nth ≡ old.nth) × (new.status ≡ old.status)
   Records false r r' old new call (Reply reply) =
-      Opens new.engine.is_open r old.pending (new.engine.snapshot / 2) r' × (new.player ≡ answered old.player reply)
+      Opens new.engine.is_open r old.pending (new.engine.snapshot / 2) r' × (new.player ≡ rules.answered old.player reply)
       × (new.again ≡ again_after new.engine.is_open old.pending old.again) × (new.nth ≡ old.nth) × (new.status ≡ old.status)
   Records was r r' old new call (Committed at wrote) =
-      EndsBy old.thread r at wrote call r' × (new.player ≡ answered old.player Done) × (new.again ≡ false) × (new.nth ≡ 1) × (new.status ≡ old.status)
-  Records was r r' old new call (Conflict clock word) = StopsAt old.thread r (new.engine.snapshot / 2) outcomes.Conflict r' × (new.player ≡ restarted old.player) × CountsTry old new × (new.pending ≡ old.pending)
+      EndsBy old.thread r at wrote call r' × (new.player ≡ rules.answered old.player Done) × (new.again ≡ false) × (new.nth ≡ 1) × (new.status ≡ old.status)
+  Records was r r' old new call (Conflict clock word) = StopsAt old.thread r (new.engine.snapshot / 2) outcomes.Conflict r' × (new.player ≡ rules.restarted old.player) × CountsTry old new × (new.pending ≡ old.pending)
   Records was r r' old new call (Busy clock) = (r' ≡ r) × (new.player ≡ old.player) × CountsTry old new × (new.pending ≡ None)
   Records was r r' old new call (Full at) =
       StopsAt old.thread r at outcomes.Full r' × (new.status ≡ Ended GaveUp) × (new.player ≡ old.player) × (new.again ≡ old.again) × (new.nth ≡ old.nth) × (new.pending ≡ old.pending)

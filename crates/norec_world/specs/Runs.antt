@@ -1,7 +1,5 @@
 -- The run of an actor's player, as far as it has come.
 use Rattle.std.specs.Prelude.{◌≡◌, ℕ, ◌<◌, ◌≤◌, ◌/◌, true, false, List, [], ◌∷◌, Option, None, Some}
-use Rattle.itm_types.specs.declared.call.Call.{Call}
-use Rattle.itm_types.specs.declared.call.Reply.{Reply}
 use Rattle.itm_types.specs.Memory.{bytes_of, IsMemory, Agrees}
 use Rattle.itm_model.specs.declared.limits.TheConstants.{MAX_DEPTH}
 use Rattle.itm_model.specs.Machine.{opened}
@@ -18,17 +16,18 @@ use Rattle.norec_world.specs.Rows.{Rows, active_of}
 use Rattle.norec_world.specs.Status.{ending_of}
 use Rattle.norec_world.specs.Memories.{bytes_at, words_at}
 use Rattle.norec_world.specs.LogAgreement.{Sees, AreLaid}
+use Rattle.script_vm.specs.Rules.{Rules}
 
-module _ {P : Type 0} (next : P → Option Call) (answered : P → Reply → P) (restarted : P → P) (left : P → ℕ) where
+module _ {P : Type 0} (rules : Rules P) where
   -- where the player's blocks lead from here
   abbrev pub begins_at : Between P → Option (Beginning P)
-  begins_at b = begin_of next answered left MAX_DEPTH b.player b.arena
+  begins_at b = begin_of rules MAX_DEPTH b.player b.arena
 
   -- between tries, once these attempts are over
   abbrev pub run_after : (ℕ → List ℕ) → Option (Between P) → List Attempt → Option (Between P)
   run_after memory b [] = b
   run_after memory None (a ∷ rest) = None
-  run_after memory (Some b) (a ∷ rest) = run_after memory (after_try next answered restarted left MAX_DEPTH memory b (begins_at b) a) rest
+  run_after memory (Some b) (a ∷ rest) = run_after memory (after_try rules MAX_DEPTH memory b (begins_at b) a) rest
 
   -- the open attempt: its calls are those of its player alone, over every memory that agrees with the log
   pub record IsInTry (b : Between P) (row : Attempt) (p : P) (e : Core) : Type 0 where
@@ -39,14 +38,14 @@ module _ {P : Type 0} (next : P → Option Call) (answered : P → Reply → P) 
     pub tries : b.tries < row.nth
     pub began : row.began ≤ e.snapshot / 2
     pub anew : e.again ≡ false
-    pub player : p ≡ player_then answered (answered start.player (begin_code b.again)) row.calls
+    pub player : p ≡ player_then rules.answered (rules.answered start.player (begin_code b.again)) row.calls
     pub alone : (m : List ℕ) → IsMemory e.words m → Agrees m e.log
-        → IsAlone next answered left MAX_DEPTH (answered start.player (begin_code b.again)) (opened (bytes_of m) start.arena start.props) row.calls
+        → IsAlone rules MAX_DEPTH (rules.answered start.player (begin_code b.again)) (opened (bytes_of m) start.arena start.props) row.calls
     pub stands : (m : List ℕ) → IsMemory e.words m → Agrees m e.log → stands_for e m ≡ state_then MAX_DEPTH (opened (bytes_of m) start.arena start.props) row.calls
 
   -- before the next one, with so many commits done: the player has come as far as its calls outside a transaction led, and perhaps called its begin
   pub record IsBeforeTry (n : ℕ) (b : Between P) (a : Actor P) : Type 0 where
-    pub leads : begins_at b ≡ begin_of next answered left MAX_DEPTH a.player b.arena
+    pub leads : begins_at b ≡ begin_of rules MAX_DEPTH a.player b.arena
     pub arena : a.engine.arena ≡ b.arena
     pub again : a.again ≡ b.again
     pub tries : b.tries < a.nth
@@ -55,7 +54,7 @@ module _ {P : Type 0} (next : P → Option Call) (answered : P → Reply → P) 
 
   -- the actor's attempts are its player's run from here, over the memories of so many commits, and each saw what its player gets alone
   pub record IsRun (first : Between P) (base : List ℕ) (n : ℕ) (r : Rows) (a : Actor P) : Type 0 where
-    pub run : IsRunOf next answered restarted left MAX_DEPTH n (bytes_at base r.ended) (Some first) (of_thread a.thread r.ended)
+    pub run : IsRunOf rules MAX_DEPTH n (bytes_at base r.ended) (Some first) (of_thread a.thread r.ended)
     pub inside : a.engine.is_open ≡ true → (b : Between P) × (row : Attempt) × (run_after (bytes_at base r.ended) (Some first) (of_thread a.thread r.ended) ≡ Some b) × (active_of a.thread r.active ≡ Some row)
         × IsInTry b row a.player a.engine × (a.again ≡ true) × (row.nth ≡ a.nth)
     pub between : a.engine.is_open ≡ false → (ending_of a.status ≡ Some GaveUp → ⊥) → (ending_of a.status ≡ Some NoMemory → ⊥)

@@ -1,7 +1,5 @@
 -- What a player that runs alone has done at some moment: its first blocks, and perhaps some calls of the next one.
-use Rattle.std.specs.Prelude.{◌≡◌, ◌⊎◌, ℕ, false, List, [], ◌∷◌, ◌++◌, Option, Some}
-use Rattle.itm_types.specs.declared.call.Call.{Call}
-use Rattle.itm_types.specs.declared.call.Reply.{Reply}
+use Rattle.std.specs.Prelude.{◌≡◌, ◌⊎◌, ℕ, false, List, [], ◌∷◌, ◌++◌, Some}
 use Rattle.itm_model.specs.declared.limits.TheConstants.{MAX_DEPTH}
 use Rattle.itm_model.specs.Machine.{opened}
 use Rattle.norec_world.specs.declared.attempt.Attempt.{Attempt}
@@ -11,21 +9,22 @@ use Rattle.norec_world.specs.Opacity.{Beginning, begin_code, begin_of}
 use Rattle.norec_world.specs.Alone.{IsAlone}
 use Rattle.norec_world.specs.Solo.{Progress, solo, solo_within}
 use Rattle.norec_world.specs.Follows.{with_all, row_of}
+use Rattle.script_vm.specs.Rules.{Rules}
 
-module _ {P : Type 0} (next : P → Option Call) (answered : P → Reply → P) (left : P → ℕ) (max_commits thread : ℕ) where
+module _ {P : Type 0} (rules : Rules P) (max_commits thread : ℕ) where
   -- the next block has begun: its row has these calls, which the player makes alone on the memory of its blocks before
   pub record IsBegun (b : Progress P) (past : List Attempt) (outcome : Outcome) (rows : List Attempt) : Type 0 where
     pub start : Beginning P
     pub calls : List Entry
-    pub rows_are : rows ≡ past ++ row_of next answered left max_commits thread b start calls outcome ∷ []
-    pub begins : begin_of next answered left MAX_DEPTH b.player b.arena ≡ Some start
-    pub alone : IsAlone next answered left MAX_DEPTH (answered start.player (begin_code false)) (opened b.memory start.arena start.props) calls
+    pub rows_are : rows ≡ past ++ row_of rules max_commits thread b start calls outcome ∷ []
+    pub begins : begin_of rules MAX_DEPTH b.player b.arena ≡ Some start
+    pub alone : IsAlone rules MAX_DEPTH (rules.answered start.player (begin_code false)) (opened b.memory start.arena start.props) calls
 
   -- the rows are those of its first blocks, which left this memory after so many commits, and of a block that ends so without its commit
   pub record IsSoFar (p0 : P) (base arena : List ℕ) (commits : ℕ) (memory : List ℕ) (outcome : Outcome) (rows : List Attempt) : Type 0 where
     pub before : Progress P  -- the player after its first blocks
     pub past : List Attempt
-    pub whole : solo next answered left MAX_DEPTH max_commits thread p0 base arena ≡ with_all past (solo_within next answered left MAX_DEPTH max_commits thread (left before.player) before)
+    pub whole : solo rules MAX_DEPTH max_commits thread p0 base arena ≡ with_all past (solo_within rules MAX_DEPTH max_commits thread (rules.calls_left before.player) before)
     pub commits_are : commits ≡ before.commits
     pub memory_is : memory ≡ before.memory
     pub rows_are : (rows ≡ past) ⊎ IsBegun before past outcome rows

@@ -12,6 +12,7 @@ use Rattle.norec_world.specs.declared.attempt.Outcome.TheVariants.{Committed, Re
 use Rattle.norec_world.specs.declared.attempt.End.{End}
 use Rattle.norec_world.specs.declared.attempt.End.TheVariants.{Finished, GaveUp}
 use Rattle.norec_world.specs.Opacity.{Beginning, answered_all, begin_code, begin_of}
+use Rattle.script_vm.specs.Rules.{Rules}
 
 -- a player between two blocks
 pub record Progress (P : Type 0) : Type 0 where
@@ -50,7 +51,7 @@ abbrev pub ended_as : Bool → Outcome
 ended_as true = Committed
 ended_as false = ReadOnly
 
-module _ {P : Type 0} (next : P → Option Call) (answered : P → Reply → P) (left : P → ℕ) (deepest max_commits thread : ℕ) where
+module _ {P : Type 0} (rules : Rules P) (deepest max_commits thread : ℕ) where
   -- the row of the block, with these calls
   abbrev pub the_attempt : Progress P → Beginning P → List (Call × Reply) → Outcome → Attempt
   the_attempt b start pairs outcome = record {
@@ -66,7 +67,7 @@ module _ {P : Type 0} (next : P → Option Call) (answered : P → Reply → P) 
 
   -- the player after these replies
   abbrev pub player_after : P → List (Call × Reply) → P
-  player_after p pairs = answered_all answered p (map (λ c. c.1) pairs)
+  player_after p pairs = answered_all rules.answered p (map (λ c. c.1) pairs)
 
   -- after the block
   abbrev pub passed : Progress P → P → List (Call × Reply) → State → Progress P
@@ -87,15 +88,15 @@ module _ {P : Type 0} (next : P → Option Call) (answered : P → Reply → P) 
   abbrev pub begun_then : (Progress P → Solo) → Progress P → Option (Beginning P) → Solo
   begun_then rest b None = stopped b Finished
   begun_then rest b (Some start) =
-      let p = answered start.player (begin_code false) in
-      let pairs = answers next answered left deepest p b.memory start.arena start.props in
+      let p = rules.answered start.player (begin_code false) in
+      let pairs = answers rules.next_call rules.answered rules.calls_left deepest p b.memory start.arena start.props in
       block_then rest b start p pairs (state_after deepest (opened b.memory start.arena start.props) (map (λ c. c.0) pairs))
 
   -- the player's blocks, at most so many
   abbrev pub solo_within : ℕ → Progress P → Solo
   solo_within zero b = stopped b Finished
-  solo_within (suc n) b = begun_then (solo_within n) b (begin_of next answered left deepest b.player b.arena)
+  solo_within (suc n) b = begun_then (solo_within n) b (begin_of rules deepest b.player b.arena)
 
   -- all that the player does alone on these bytes
   abbrev pub solo : P → List ℕ → List ℕ → Solo
-  solo p memory arena = solo_within (left p) (record { player = p; arena = arena; memory = memory; commits = 0 })
+  solo p memory arena = solo_within (rules.calls_left p) (record { player = p; arena = arena; memory = memory; commits = 0 })

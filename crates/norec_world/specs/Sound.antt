@@ -1,8 +1,7 @@
 -- What is true of an actor between two events.
-use Rattle.std.specs.Prelude.{◌≡◌, ℕ, ◌+◌, ◌-◌, ◌*◌, ◌<◌, ◌≤◌, Bool, true, false, nat_lt, if◌then◌else◌, is_some, [], length, Option, None, Some, vec_capacity}
+use Rattle.std.specs.Prelude.{◌≡◌, ℕ, ◌+◌, ◌-◌, ◌*◌, ◌<◌, ◌≤◌, Bool, true, false, nat_lt, if◌then◌else◌, is_some, [], length, None, Some, vec_capacity}
 use Rattle.itm_types.specs.declared.call.Call.{Call}
 use Rattle.itm_types.specs.declared.call.Call.TheVariants.{Commit}
-use Rattle.itm_types.specs.declared.call.Reply.{Reply as Replied}
 use Rattle.itm_types.specs.declared.step.Step.{Step}
 use Rattle.itm_types.specs.Memory.{AllFit}
 use Rattle.script_vm.specs.Depth.{depth_after, is_begin}
@@ -21,6 +20,7 @@ use Rattle.norec_world.specs.declared.actor.Status.TheVariants.{Ready, Waits, En
 use Rattle.norec_world.specs.Cells.{Cells}
 use Rattle.norec_world.specs.Rows.{Rows, active_of}
 use Rattle.norec_world.specs.Status.{is_ready, is_waiting}
+use Rattle.script_vm.specs.Rules.{Rules}
 
 -- ## The engine and the cells
 
@@ -82,16 +82,16 @@ AnswerFits was now call (Conflict clock word) = (was ≡ true) × (now ≡ false
 AnswerFits was now call (Busy clock) = (was ≡ false) × (now ≡ false)
 AnswerFits was now call (Full at) = (was ≡ true) × (now ≡ false)
 
-module _ {P : Type 0} (next : P → Option Call) (answered : P → Replied → P) (restarted : P → P) (left : P → ℕ) (depth : P → ℕ) where
+module _ {P : Type 0} (rules : Rules P) where
   -- the player has as many blocks open as the engine, and can go back to where it began them
   pub record IsNested (is_open : Bool) (p : P) : Type 0 where
-    pub depth_is : depth p ≡ depth_if is_open
-    pub begun : is_open ≡ true → depth (restarted p) ≡ 0
-    pub less : is_open ≡ true → left p < left (restarted p)
+    pub depth_is : rules.depth p ≡ depth_if is_open
+    pub begun : is_open ≡ true → rules.depth (rules.restarted p) ≡ 0
+    pub less : is_open ≡ true → rules.calls_left p < rules.calls_left (rules.restarted p)
 
   -- the call came from the player, and there is room for what comes of it
   pub record IsInCall (is_open : Bool) (r : Rows) (a : Actor P) (call : Call) : Type 0 where
-    pub asks : next a.player ≡ Some call
+    pub asks : rules.next_call a.player ≡ Some call
     pub begins : is_open ≡ false → is_some a.pending ≡ is_begin call
     pub inside : is_open ≡ true → a.pending ≡ None
     pub opens : (row : Attempt) → a.pending ≡ Some row → IsPending r a row
@@ -126,12 +126,12 @@ module _ {P : Type 0} (next : P → Option Call) (answered : P → Replied → P
 
   -- the calls left where the block that is under way was begun, or is
   abbrev pub whole : Bool → P → ℕ
-  whole true p = left (restarted p)
-  whole false p = left p
+  whole true p = rules.calls_left (rules.restarted p)
+  whole false p = rules.calls_left p
 
   -- falls with each answer; k bounds the calls left
   abbrev pub rank : ℕ → Bool → Actor P → ℕ
-  rank k is_open a = (whole is_open a.player * (a.retries + 1) + tries_left a) * (k + 1) + left a.player
+  rank k is_open a = (whole is_open a.player * (a.retries + 1) + tries_left a) * (k + 1) + rules.calls_left a.player
 
   -- less is left to do
   pub record Falls (was now : Bool) (old new : Actor P) : Type 0 where

@@ -1,7 +1,5 @@
 -- Actors that have taken no step.
-use Rattle.std.specs.Prelude.{◌≡◌, ℕ, ◌/◌, false, [], length, replicate, slice_get, Option, None, Some}
-use Rattle.itm_types.specs.declared.call.Call.{Call}
-use Rattle.itm_types.specs.declared.call.Reply.{Reply}
+use Rattle.std.specs.Prelude.{◌≡◌, ℕ, ◌/◌, false, [], length, replicate, slice_get, None, Some}
 use Rattle.norec_engine.specs.Core.{Core, opening}
 use Rattle.norec_world.specs.declared.attempt.End.TheVariants.{Finished, NoMemory}
 use Rattle.norec_world.specs.declared.actor.Status.TheVariants.{Ready}
@@ -12,6 +10,7 @@ use Rattle.norec_world.specs.Tries.{IsBetween}
 use Rattle.norec_world.specs.LocalWork.{Works}
 use Rattle.norec_world.specs.Cells.{words_of}
 use Rattle.norec_world.specs.World.{World, attempts_of, ending_at}
+use Rattle.script_vm.specs.Rules.{Rules}
 
 -- an actor with these limits, before or at the begin of its first try
 pub record IsFirst {P : Type 0} (clock patience max_commits retries : ℕ) (r : Rows) (a : Actor P) : Type 0 where
@@ -21,7 +20,7 @@ pub record IsFirst {P : Type 0} (clock patience max_commits retries : ℕ) (r : 
   pub retries_are : a.retries ≡ retries
 
 -- the actor at its place, of this player and with this engine, whose local work up to its first step is done; it has ended only where its player has no call
-pub record HasStarted {P : Type 0} (next : P → Option Call) (answered : P → Reply → P) (restarted : P → P) (clock : ℕ) (engine : Core) (retries place : ℕ) (p : P) (a : Actor P) : Type 0 where
+pub record HasStarted {P : Type 0} (rules : Rules P) (clock : ℕ) (engine : Core) (retries place : ℕ) (p : P) (a : Actor P) : Type 0 where
   pub fresh : Actor P
   pub player : fresh.player ≡ p
   pub engine_is : fresh.engine ≡ engine
@@ -32,19 +31,19 @@ pub record HasStarted {P : Type 0} (next : P → Option Call) (answered : P → 
   pub ready : fresh.status ≡ Ready
   pub rows : Rows
   pub rows' : Rows
-  pub works : Works next answered restarted clock rows fresh rows' a
+  pub works : Works rules clock rows fresh rows' a
   pub done : is_ready a.status ≡ false
-  pub finishes : ending_of a.status ≡ Some Finished → next a.player ≡ None
+  pub finishes : ending_of a.status ≡ Some Finished → rules.next_call a.player ≡ None
   pub thread : a.thread ≡ place
 
 -- each actor of a world has, with the world's own limits
-abbrev pub AreStarted : {P : Type 0} → (P → Option Call) → (P → Reply → P) → (P → P) → World P → Type 0
-AreStarted {P} next answered restarted w = (place : ℕ) (p : P) (a : Actor P) → slice_get w.opening place ≡ Some p → slice_get w.actors place ≡ Some a
-    → HasStarted next answered restarted w.cells.clock (opening (length w.base / 8) (replicate w.arena 0) w.patience w.max_commits) w.retries place p a
+abbrev pub AreStarted : {P : Type 0} → Rules P → World P → Type 0
+AreStarted {P} rules w = (place : ℕ) (p : P) (a : Actor P) → slice_get w.opening place ≡ Some p → slice_get w.actors place ≡ Some a
+    → HasStarted rules w.cells.clock (opening (length w.base / 8) (replicate w.arena 0) w.patience w.max_commits) w.retries place p a
 
 -- a world before its first event, to which no memory was refused
-pub record IsNew {P : Type 0} (next : P → Option Call) (answered : P → Reply → P) (restarted : P → P) (w : World P) : Type 0 where
-  pub starts : AreStarted next answered restarted w
+pub record IsNew {P : Type 0} (rules : Rules P) (w : World P) : Type 0 where
+  pub starts : AreStarted rules w
   pub clock : w.cells.clock ≡ 0
   pub words : w.cells.words ≡ words_of w.base
   pub none : attempts_of w ≡ []

@@ -1,7 +1,5 @@
 -- What one event does to a world, and what many in a row do.
-use Rattle.std.specs.Prelude.{◌≡◌, ℕ, zero, suc, ◌≤◌, ◌/◌, ◌↔◌, Bool, true, false, IsTrue, List, [], ◌∷◌, length, count_by, Option, Some, IsSome, Result, Ok, Err, slice_get, slice_set}
-use Rattle.itm_types.specs.declared.call.Call.{Call}
-use Rattle.itm_types.specs.declared.call.Reply.{Reply}
+use Rattle.std.specs.Prelude.{◌≡◌, ℕ, zero, suc, ◌≤◌, ◌/◌, ◌↔◌, Bool, true, false, IsTrue, List, [], ◌∷◌, length, count_by, Some, IsSome, Result, Ok, Err, slice_get, slice_set}
 use Rattle.itm_types.specs.declared.step.Step.{Step}
 use Rattle.itm_types.specs.Memory.{IsMemory, Agrees}
 use Rattle.norec_world.specs.declared.fault.WorldFault.{WorldFault}
@@ -17,16 +15,17 @@ use Rattle.norec_world.specs.Opaque.{AreOpaque}
 use Rattle.norec_world.specs.Rows.{Rows}
 use Rattle.norec_world.specs.Memories.{words_at}
 use Rattle.norec_world.specs.World.{World, SameOpening, ShowsAlone, ending_at, waits_at, told, is_event, counted}
+use Rattle.script_vm.specs.Rules.{Rules}
 
 -- what a transaction has read is of one memory, which the first commits left
 abbrev pub HasRead : {P : Type 0} → List ℕ → Rows → Actor P → Type 0
 HasRead base r a = a.engine.is_open ≡ true → let memory = words_at base r.ended (a.engine.snapshot / 2) in IsMemory a.engine.words memory × Agrees memory a.engine.log
 
-module _ {P : Type 0} (next : P → Option Call) (answered : P → Reply → P) (restarted : P → P) (left : P → ℕ) where
+module _ {P : Type 0} (rules : Rules P) where
   -- the actor has changed by an event, and no other one has
   abbrev pub ActorGoes : ℕ → World P → Actor P → World P → Type 0
   ActorGoes actor old a new = (a' : Actor P) × (new.actors ≡ slice_set old.actors actor a')
-      × (event : IsEvent next answered restarted old.cells old.attempts a new.cells new.attempts a') × (is_ready a'.status ≡ false) × HasRead old.base event.rows event.stepped
+      × (event : IsEvent rules old.cells old.attempts a new.cells new.attempts a') × (is_ready a'.status ≡ false) × HasRead old.base event.rows event.stepped
 
   -- the actor is asked for one event, and this comes of it
   pub record Goes (actor : ℕ) (old : World P) (result : Result (Unit {0}) WorldFault) (new : World P) : Type 0 where
@@ -41,10 +40,10 @@ module _ {P : Type 0} (next : P → Option Call) (answered : P → Reply → P) 
     -- its actor alone has changed, by this event, and waits for its next operation or has ended
     pub event_of : (a : Actor P) → slice_get old.actors actor ≡ Some a → IsTrue (is_event result) → ActorGoes actor old a new
     pub commits : CommitsInOrder new  -- the commits are in order
-    pub opaque : AreOpaque next answered restarted left new  -- and the attempts opaque
+    pub opaque : AreOpaque rules new  -- and the attempts opaque
     pub opening : SameOpening old new  -- the world keeps its beginning
     pub actors : length new.actors ≡ length old.actors  -- and its number of actors
-    pub alone : ShowsAlone next answered left new  -- its attempts, bytes and clock are still those of its player alone
+    pub alone : ShowsAlone rules new  -- its attempts, bytes and clock are still those of its player alone
 
   -- an entry of the schedule after the other, with these results, leads from the one world to the other
   abbrev pub Leads : World P → List ℕ → List (Result (Unit {0}) WorldFault) → World P → Type 0

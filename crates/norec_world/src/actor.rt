@@ -93,21 +93,21 @@ impl<P: Player> Actor<P> {
 
     /// The operation that it waits for: the call goes on, or is answered.
     pub(crate) fn step(&mut self, memory: &mut Memory, recorded: &mut Recorded)
-        requires sound { IsSound P.next_call P.answered P.restarted P.calls_left P.depth memory.old recorded.old self.old }
+        requires sound { IsSound P.Player memory.old recorded.old self.old }
         requires waits { is_waiting self.old.status ≡ true }
-        ensures sound { IsSound P.next_call P.answered P.restarted P.calls_left P.depth memory.new recorded.new self.new }
+        ensures sound { IsSound P.Player memory.new recorded.new self.new }
         ensures thread { self.new.thread ≡ self.old.thread }
         ensures others { KeepsOthers self.old recorded.old self.new recorded.new }
-        ensures takes { TakesIn P.answered P.restarted memory.old recorded.old self.old recorded.new self.new }
+        ensures takes { TakesIn P.Player memory.old recorded.old self.old recorded.new self.new }
         ensures clocks { ClocksOn memory.old self.old.engine memory.new self.new.engine }
         ensures retries { self.new.retries ≡ self.old.retries }
         ensures tries { Tries memory.old.clock (prior_of recorded.old self.old) memory.new.clock recorded.new self.new }
-        ensures runs { StillRuns P.next_call P.answered P.restarted P.calls_left memory.old recorded.old self.old memory.new recorded.new self.new }
+        ensures runs { StillRuns P.Player memory.old recorded.old self.old memory.new recorded.new self.new }
         ensures unfinished { ending_of self.new.status ≡ Some End.Finished → ⊥ }
         ensures cells { (step : Step) → waiting_step self.old.status ≡ Some step → memory.new ≡ cells_after memory.old step }
-        ensures tracks { self.old.thread ≡ 0 → StillTracks P.next_call P.answered P.calls_left memory.old recorded.old self.old memory.new recorded.new self.new }
-        ensures goes_on { is_waiting self.new.status ≡ true → GoesOn P.next_call P.answered P.restarted P.calls_left P.depth self.old self.new }
-        ensures falls { is_ready self.new.status ≡ true → Falls P.next_call P.answered P.restarted P.calls_left P.depth self.old.engine.is_open self.new.engine.is_open self.old self.new }
+        ensures tracks { self.old.thread ≡ 0 → StillTracks P.Player memory.old recorded.old self.old memory.new recorded.new self.new }
+        ensures goes_on { is_waiting self.new.status ≡ true → GoesOn P.Player self.old self.new }
+        ensures falls { is_ready self.new.status ≡ true → Falls P.Player self.old.engine.is_open self.new.engine.is_open self.old self.new }
     {
         match mem::replace(&mut self.status, Status::Ready) {
             Status::Waits { call, step } => {
@@ -122,12 +122,12 @@ impl<P: Player> Actor<P> {
 
     /// The call waits for a step, or what comes of its answer is recorded.
     pub(crate) fn proceed(&mut self, recorded: &mut Recorded, call: Call, next: Next)
-        requires { (was : Bool) × IsDue P.next_call P.answered P.restarted P.calls_left P.depth was recorded.old self.old call next }
-        ensures done { (was : Bool) → IsDue P.next_call P.answered P.restarted P.calls_left P.depth was recorded.old self.old call next
-            → IsDone P.next_call P.answered P.restarted P.calls_left P.depth was recorded.old recorded.new self.old self.new call next }
-        ensures tells { (was : Bool) → IsDue P.next_call P.answered P.restarted P.calls_left P.depth was recorded.old self.old call next
-            → Tells P.answered P.restarted was recorded.old recorded.new self.old self.new call next }
-        ensures others { (was : Bool) → IsDue P.next_call P.answered P.restarted P.calls_left P.depth was recorded.old self.old call next → KeepsOthers self.old recorded.old self.new recorded.new }
+        requires { (was : Bool) × IsDue P.Player was recorded.old self.old call next }
+        ensures done { (was : Bool) → IsDue P.Player was recorded.old self.old call next
+            → IsDone P.Player was recorded.old recorded.new self.old self.new call next }
+        ensures tells { (was : Bool) → IsDue P.Player was recorded.old self.old call next
+            → Tells P.Player was recorded.old recorded.new self.old self.new call next }
+        ensures others { (was : Bool) → IsDue P.Player was recorded.old self.old call next → KeepsOthers self.old recorded.old self.new recorded.new }
     {
         match next {
             Next::Step(step) => self.status = Status::Waits { call, step },
@@ -141,8 +141,8 @@ impl<P: Player> Actor<P> {
         ensures kept { IsKept self.now.engine.is_open recorded.new self.now }
         ensures told { IsTold self.now.thread self.now.engine.is_open recorded.old (self.now.engine.snapshot / 2) recorded.new }
         ensures others { KeepsOthers self.now recorded.old self.now recorded.new }
-        ensures status { (status : Status) → StatusIs P.next_call P.answered P.restarted P.calls_left P.depth recorded.old self.now status
-            → StatusIs P.next_call P.answered P.restarted P.calls_left P.depth recorded.new self.now status }
+        ensures status { (status : Status) → StatusIs P.Player recorded.old self.now status
+            → StatusIs P.Player recorded.new self.now status }
     {
         if self.engine.is_open() {
             recorded.move_to(self.thread, self.engine.snapshot() / 2);

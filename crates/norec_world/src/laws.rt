@@ -14,7 +14,7 @@ use script_vm::Player;
 /// nothing.
 pub fn isolation<P: Player>()
     ensures { (p : P) (a b : Attempt) (n m : ℕ) (memory : List ℕ)
-        → IsOpaque P.next_call P.answered P.restarted P.calls_left MAX_DEPTH p a n memory → IsOpaque P.next_call P.answered P.restarted P.calls_left MAX_DEPTH p b m memory
+        → IsOpaque P.Player MAX_DEPTH p a n memory → IsOpaque P.Player MAX_DEPTH p b m memory
         → a.arena ≡ b.arena → a.props ≡ b.props → IsBeginningOf (pairs_of a) (pairs_of b) ⊎ IsBeginningOf (pairs_of b) (pairs_of a) }
 {}
 
@@ -22,10 +22,10 @@ pub fn isolation<P: Player>()
 /// have equal attempts, bytes, clock, events and endings. The other clauses are its steps, for worlds that were led on
 /// in turn by events, by schedules and by actors that ran to their ends. Does nothing.
 pub fn decided<P: Player>()
-    ensures begins { BeginningDecides P.next_call P.answered P.restarted P.calls_left }
-    ensures goes { EventDecides P.next_call P.answered P.restarted P.calls_left }
-    ensures led { EntriesDecide P.next_call P.answered P.restarted P.calls_left }
-    ensures ran_out { RunDecides P.next_call P.answered P.restarted P.calls_left }
-    ensures shows { SameShows P.next_call P.answered P.restarted P.calls_left }
-    ensures decided { ScheduleDecides P.next_call P.answered P.restarted P.calls_left }
+    ensures begins { BeginningDecides P.Player }
+    ensures goes { EventDecides P.Player }
+    ensures led { EntriesDecide P.Player }
+    ensures ran_out { RunDecides P.Player }
+    ensures shows { SameShows P.Player }
+    ensures decided { ScheduleDecides P.Player }
 {}

@@ -27,10 +27,10 @@ impl<P: Player> World<P> {
 
     /// An event for each entry in turn, passing over those that name no actor or one that has ended.
     pub fn run(&mut self, alloc: Global, schedule: &[u8]) -> Passes
-        ensures led { (results : List (Result (Unit {0}) WorldFault)) × Leads P.next_call P.answered P.restarted P.calls_left self.old schedule.now results self.new × (result ≡ passes_of results) }
+        ensures led { (results : List (Result (Unit {0}) WorldFault)) × Leads P.Player self.old schedule.now results self.new × (result ≡ passes_of results) }
         ensures all { result.taken + result.passed + result.starved ≡ length schedule.now }
         ensures commits { CommitsInOrder self.new }
-        ensures opaque { AreOpaque P.next_call P.answered P.restarted P.calls_left self.new }
+        ensures opaque { AreOpaque P.Player self.new }
         ensures counts { self.new.events ≡ counted self.old.events (result.taken + result.starved) }
         ensures opening { SameOpening self.old self.new }
         ensures actors { length self.new.actors ≡ length self.old.actors }

@@ -53,15 +53,15 @@ pub(crate) fn start_all<P: Player>(
     requires empty { (recorded.old.ended ≡ []) × (recorded.old.active ≡ []) }
     requires clock { memory.now.clock ≡ 0 }
     ensures count { IfOk result (λ actors. length actors.items ≡ length players.items) }
-    ensures sound { IfOk result (λ actors. AreActors P.next_call P.answered P.restarted P.calls_left P.depth memory.now recorded.new actors.items) }
+    ensures sound { IfOk result (λ actors. AreActors P.Player memory.now recorded.new actors.items) }
     ensures first { IfOk result (λ actors. (place : ℕ) (a : Actor P) → slice_get actors.items place ≡ Some a → IsFirst memory.now.clock terms.limits.patience terms.limits.max_commits terms.retries recorded.new a) }
     ensures starts { IfOk result (λ actors. (place : ℕ) (p : P) (a : Actor P) → slice_get players.items place ≡ Some p → slice_get actors.items place ≡ Some a
-        → HasStarted P.next_call P.answered P.restarted memory.now.clock (opening (length memory.now.words) (replicate terms.arena 0) terms.limits.patience terms.limits.max_commits) terms.retries place p a) }
+        → HasStarted P.Player memory.now.clock (opening (length memory.now.words) (replicate terms.arena 0) terms.limits.patience terms.limits.max_commits) terms.retries place p a) }
     ensures runs { IfOk result (λ actors. (place : ℕ) (p : P) (a : Actor P) → slice_get players.items place ≡ Some p → slice_get actors.items place ≡ Some a
-        → RunsFrom P.next_call P.answered P.restarted P.calls_left (first_of p terms.arena) (bytes_of memory.now.words) memory.now recorded.new a) }
+        → RunsFrom P.Player (first_of p terms.arena) (bytes_of memory.now.words) memory.now recorded.new a) }
     ensures none { IfOk result (λ actors. (recorded.new.ended ≡ []) × (recorded.new.active ≡ [])) }
     ensures alone { IfOk result (λ actors. length players.items ≡ 1
-        → IsSoloWorld P.next_call P.answered P.calls_left players.items (bytes_of memory.now.words) terms.arena terms.limits.max_commits memory.now recorded.new actors.items) }
+        → IsSoloWorld P.Player players.items (bytes_of memory.now.words) terms.arena terms.limits.max_commits memory.now recorded.new actors.items) }
     ensures fed { IfOk result (λ actors. (place : ℕ) → ending_in actors.items place ≡ Some End.NoMemory → ⊥) }
 {
     let mut actors = Vec::new(alloc);
@@ -88,15 +88,15 @@ fn start<P: Player>(
     requires none { active_of thread recorded.old.active ≡ None }
     requires clock { memory.now.clock ≡ 0 }
     ensures tracks { IfOk result (λ a. thread ≡ 0 → (recorded.old.ended ≡ []) × (recorded.old.active ≡ [])
-        → Tracks P.next_call P.answered P.calls_left terms.limits.max_commits player (bytes_of memory.now.words) (replicate terms.arena 0) memory.now recorded.new a) }
-    ensures sound { IfOk result (IsSound P.next_call P.answered P.restarted P.calls_left P.depth memory.now recorded.new) }
+        → Tracks P.Player terms.limits.max_commits player (bytes_of memory.now.words) (replicate terms.arena 0) memory.now recorded.new a) }
+    ensures sound { IfOk result (IsSound P.Player memory.now recorded.new) }
     ensures fed { IfOk result (λ a. ending_of a.status ≡ Some End.NoMemory → ⊥) }
     ensures done { IfOk result (λ a. is_ready a.status ≡ false) }
     ensures thread { IfOk result (λ a. a.thread ≡ thread) }
     ensures first { IfOk result (λ a. IsFirst memory.now.clock terms.limits.patience terms.limits.max_commits terms.retries recorded.new a) }
-    ensures starts { IfOk result (HasStarted P.next_call P.answered P.restarted memory.now.clock (opening (length memory.now.words) (replicate terms.arena 0) terms.limits.patience terms.limits.max_commits) terms.retries thread player) }
+    ensures starts { IfOk result (HasStarted P.Player memory.now.clock (opening (length memory.now.words) (replicate terms.arena 0) terms.limits.patience terms.limits.max_commits) terms.retries thread player) }
     ensures ended { IfOk result (λ a. recorded.new.ended ≡ recorded.old.ended) }
-    ensures runs { IfOk result (λ a. recorded.old.ended ≡ [] → RunsFrom P.next_call P.answered P.restarted P.calls_left (first_of player terms.arena) (bytes_of memory.now.words) memory.now recorded.new a) }
+    ensures runs { IfOk result (λ a. recorded.old.ended ≡ [] → RunsFrom P.Player (first_of player terms.arena) (bytes_of memory.now.words) memory.now recorded.new a) }
     ensures free { IfOk result (λ a. a.engine.holds ≡ false) }
     ensures others { IfOk result (λ a. (fresh : Actor P) × (fresh.thread ≡ thread) × (fresh.pending ≡ None) × KeepsOthers fresh recorded.old a recorded.new) }
 {

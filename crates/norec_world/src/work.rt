@@ -28,11 +28,11 @@ impl<P: Player> Actor<P> {
 
     /// Calls are made until one waits for a step or the actor has ended.
     pub(crate) fn work(&mut self, alloc: Global, memory: &Memory, recorded: &mut Recorded)
-        requires { IsSound P.next_call P.answered P.restarted P.calls_left P.depth memory.now recorded.old self.old }
-        ensures sound { IsSound P.next_call P.answered P.restarted P.calls_left P.depth memory.now recorded.new self.new }
+        requires { IsSound P.Player memory.now recorded.old self.old }
+        ensures sound { IsSound P.Player memory.now recorded.new self.new }
         ensures done { is_ready self.new.status ≡ false }
         ensures still { is_ready self.old.status ≡ false → (self.new ≡ self.old) × (recorded.new ≡ recorded.old) }
-        ensures works { Works P.next_call P.answered P.restarted memory.now.clock recorded.old self.old recorded.new self.new }
+        ensures works { Works P.Player memory.now.clock recorded.old self.old recorded.new self.new }
         ensures thread { self.new.thread ≡ self.old.thread }
         ensures others { KeepsOthers self.old recorded.old self.new recorded.new }
         ensures holds { self.new.engine.holds ≡ self.old.engine.holds }
@@ -40,10 +40,10 @@ impl<P: Player> Actor<P> {
         ensures snapshot { self.new.engine.snapshot ≡ self.old.engine.snapshot }
         ensures retries { self.new.retries ≡ self.old.retries }
         ensures tries { is_ready self.old.status ≡ true → Tries memory.now.clock (prior_of recorded.old self.old) memory.now.clock recorded.new self.new }
-        ensures runs { StillRuns P.next_call P.answered P.restarted P.calls_left memory.now recorded.old self.old memory.now recorded.new self.new }
+        ensures runs { StillRuns P.Player memory.now recorded.old self.old memory.now recorded.new self.new }
         ensures finishes { is_ready self.old.status ≡ true → ending_of self.new.status ≡ Some End.Finished → P.next_call self.new.player ≡ None }
-        ensures tracks { self.old.thread ≡ 0 → StillTracks P.next_call P.answered P.calls_left memory.now recorded.old self.old memory.now recorded.new self.new }
-        ensures less { ending_of self.new.status ≡ None → IsNoMore P.next_call P.answered P.restarted P.calls_left P.depth self.old self.new }
+        ensures tracks { self.old.thread ≡ 0 → StillTracks P.Player memory.now recorded.old self.old memory.now recorded.new self.new }
+        ensures less { ending_of self.new.status ≡ None → IsNoMore P.Player self.old self.new }
     {
         while let Status::Ready = self.status {
             self.call_next(alloc, memory, recorded);
@@ -52,10 +52,10 @@ impl<P: Player> Actor<P> {
 
     /// The player's next call.
     fn call_next(&mut self, alloc: Global, memory: &Memory, recorded: &mut Recorded)
-        requires sound { IsSound P.next_call P.answered P.restarted P.calls_left P.depth memory.now recorded.old self.old }
+        requires sound { IsSound P.Player memory.now recorded.old self.old }
         requires ready { self.old.status ≡ Status.Ready }
-        ensures sound { IsSound P.next_call P.answered P.restarted P.calls_left P.depth memory.now recorded.new self.new }
-        ensures acts { Acts P.next_call P.answered P.restarted memory.now.clock recorded.old self.old recorded.new self.new }
+        ensures sound { IsSound P.Player memory.now recorded.new self.new }
+        ensures acts { Acts P.Player memory.now.clock recorded.old self.old recorded.new self.new }
         ensures thread { self.new.thread ≡ self.old.thread }
         ensures others { KeepsOthers self.old recorded.old self.new recorded.new }
         ensures holds { self.new.engine.holds ≡ self.old.engine.holds }
@@ -63,11 +63,11 @@ impl<P: Player> Actor<P> {
         ensures snapshot { self.new.engine.snapshot ≡ self.old.engine.snapshot }
         ensures retries { self.new.retries ≡ self.old.retries }
         ensures tries { Tries memory.now.clock (prior_of recorded.old self.old) memory.now.clock recorded.new self.new }
-        ensures runs { StillRuns P.next_call P.answered P.restarted P.calls_left memory.now recorded.old self.old memory.now recorded.new self.new }
+        ensures runs { StillRuns P.Player memory.now recorded.old self.old memory.now recorded.new self.new }
         ensures finishes { ending_of self.new.status ≡ Some End.Finished → P.next_call self.new.player ≡ None }
-        ensures tracks { self.old.thread ≡ 0 → StillTracks P.next_call P.answered P.calls_left memory.now recorded.old self.old memory.now recorded.new self.new }
-        ensures less { ending_of self.new.status ≡ None → IsNoMore P.next_call P.answered P.restarted P.calls_left P.depth self.old self.new }
-        ensures falls { self.new.status ≡ Status.Ready → Falls P.next_call P.answered P.restarted P.calls_left P.depth self.old.engine.is_open self.new.engine.is_open self.old self.new }
+        ensures tracks { self.old.thread ≡ 0 → StillTracks P.Player memory.now recorded.old self.old memory.now recorded.new self.new }
+        ensures less { ending_of self.new.status ≡ None → IsNoMore P.Player self.old self.new }
+        ensures falls { self.new.status ≡ Status.Ready → Falls P.Player self.old.engine.is_open self.new.engine.is_open self.old self.new }
     {
         let Some(call) = self.player.next() else {
             self.status = Status::Ended(End::Finished);
@@ -89,11 +89,11 @@ impl<P: Player> Actor<P> {
         call: &Call,
     ) -> Result<Next, AllocError>
         requires kept { IsKept self.old.engine.is_open recorded.old self.old }
-        requires ready { IsReady P.next_call P.answered P.restarted P.calls_left P.depth self.old }
+        requires ready { IsReady P.Player self.old }
         requires asks { P.next_call self.old.player ≡ Some call.now }
-        ensures asked { IfOk result (λ next. IsAsked P.next_call P.answered P.restarted P.calls_left P.depth recorded.new self.old self.new call.now next) }
+        ensures asked { IfOk result (λ next. IsAsked P.Player recorded.new self.old self.new call.now next) }
         ensures told { IfOk result (λ next. Asks memory.now.clock recorded.old recorded.new self.old self.new call.now next) }
-        ensures unasked { OnErr result (IsUnasked P.next_call P.answered P.restarted P.calls_left P.depth recorded.new self.old self.new) }
+        ensures unasked { OnErr result (IsUnasked P.Player recorded.new self.old self.new) }
         ensures rows { recorded.new ≡ record recorded.old { room = recorded.new.room } }
         ensures grows { OnErr result (self.old.engine.is_open ≡ false → is_begin call.now ≡ true) }
         ensures short { OnErr result (self.old.engine.is_open ≡ true → IsShort recorded.old self.old call.now) }
@@ -144,12 +144,12 @@ impl<P: Player> Actor<P> {
 
     /// What comes of the call's answer.
     pub(crate) fn settle(&mut self, recorded: &mut Recorded, call: Call, answer: Answer)
-        requires { (was : Bool) × IsAnswered P.next_call P.answered P.restarted P.calls_left P.depth was recorded.old self.old call answer }
-        ensures settled { (was : Bool) → IsAnswered P.next_call P.answered P.restarted P.calls_left P.depth was recorded.old self.old call answer
-            → IsSettledBy P.next_call P.answered P.restarted P.calls_left P.depth was recorded.new self.old self.new }
-        ensures records { (was : Bool) → IsAnswered P.next_call P.answered P.restarted P.calls_left P.depth was recorded.old self.old call answer
-            → Records P.answered P.restarted was recorded.old recorded.new self.old self.new call answer }
-        ensures others { (was : Bool) → IsAnswered P.next_call P.answered P.restarted P.calls_left P.depth was recorded.old self.old call answer → KeepsOthers self.old recorded.old self.new recorded.new }
+        requires { (was : Bool) × IsAnswered P.Player was recorded.old self.old call answer }
+        ensures settled { (was : Bool) → IsAnswered P.Player was recorded.old self.old call answer
+            → IsSettledBy P.Player was recorded.new self.old self.new }
+        ensures records { (was : Bool) → IsAnswered P.Player was recorded.old self.old call answer
+            → Records P.Player was recorded.old recorded.new self.old self.new call answer }
+        ensures others { (was : Bool) → IsAnswered P.Player was recorded.old self.old call answer → KeepsOthers self.old recorded.old self.new recorded.new }
     {
         match answer {
             Answer::Reply(reply) => self.replied(recorded, call, reply),
@@ -172,12 +172,12 @@ impl<P: Player> Actor<P> {
 
     /// The transaction is open as it was, or its begin is over.
     fn replied(&mut self, recorded: &mut Recorded, call: Call, reply: Reply)
-        requires { (was : Bool) × IsAnswered P.next_call P.answered P.restarted P.calls_left P.depth was recorded.old self.old call (Answer.Reply reply) }
-        ensures settled { (was : Bool) → IsAnswered P.next_call P.answered P.restarted P.calls_left P.depth was recorded.old self.old call (Answer.Reply reply)
-            → IsSettledBy P.next_call P.answered P.restarted P.calls_left P.depth was recorded.new self.old self.new }
-        ensures records { (was : Bool) → IsAnswered P.next_call P.answered P.restarted P.calls_left P.depth was recorded.old self.old call (Answer.Reply reply)
-            → Records P.answered P.restarted was recorded.old recorded.new self.old self.new call (Answer.Reply reply) }
-        ensures others { (was : Bool) → IsAnswered P.next_call P.answered P.restarted P.calls_left P.depth was recorded.old self.old call (Answer.Reply reply) → KeepsOthers self.old recorded.old self.new recorded.new }
+        requires { (was : Bool) × IsAnswered P.Player was recorded.old self.old call (Answer.Reply reply) }
+        ensures settled { (was : Bool) → IsAnswered P.Player was recorded.old self.old call (Answer.Reply reply)
+            → IsSettledBy P.Player was recorded.new self.old self.new }
+        ensures records { (was : Bool) → IsAnswered P.Player was recorded.old self.old call (Answer.Reply reply)
+            → Records P.Player was recorded.old recorded.new self.old self.new call (Answer.Reply reply) }
+        ensures others { (was : Bool) → IsAnswered P.Player was recorded.old self.old call (Answer.Reply reply) → KeepsOthers self.old recorded.old self.new recorded.new }
     {
         self.player.answer(&reply);
         let is_open = self.engine.is_open();
@@ -199,12 +199,12 @@ impl<P: Player> Actor<P> {
 
     /// The block is done, and the next one is tried for the first time.
     fn committed(&mut self, recorded: &mut Recorded, call: Call, at: u64, wrote: bool)
-        requires { (was : Bool) × IsAnswered P.next_call P.answered P.restarted P.calls_left P.depth was recorded.old self.old call (Answer.Committed at wrote) }
-        ensures settled { (was : Bool) → IsAnswered P.next_call P.answered P.restarted P.calls_left P.depth was recorded.old self.old call (Answer.Committed at wrote)
-            → IsSettledBy P.next_call P.answered P.restarted P.calls_left P.depth was recorded.new self.old self.new }
-        ensures records { (was : Bool) → IsAnswered P.next_call P.answered P.restarted P.calls_left P.depth was recorded.old self.old call (Answer.Committed at wrote)
-            → Records P.answered P.restarted was recorded.old recorded.new self.old self.new call (Answer.Committed at wrote) }
-        ensures others { (was : Bool) → IsAnswered P.next_call P.answered P.restarted P.calls_left P.depth was recorded.old self.old call (Answer.Committed at wrote) → KeepsOthers self.old recorded.old self.new recorded.new }
+        requires { (was : Bool) × IsAnswered P.Player was recorded.old self.old call (Answer.Committed at wrote) }
+        ensures settled { (was : Bool) → IsAnswered P.Player was recorded.old self.old call (Answer.Committed at wrote)
+            → IsSettledBy P.Player was recorded.new self.old self.new }
+        ensures records { (was : Bool) → IsAnswered P.Player was recorded.old self.old call (Answer.Committed at wrote)
+            → Records P.Player was recorded.old recorded.new self.old self.new call (Answer.Committed at wrote) }
+        ensures others { (was : Bool) → IsAnswered P.Player was recorded.old self.old call (Answer.Committed at wrote) → KeepsOthers self.old recorded.old self.new recorded.new }
     {
         self.player.answer(&Reply::Done);
         let entry = Entry {

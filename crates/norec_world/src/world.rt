@@ -39,7 +39,7 @@ impl<P: Player> Model for World<P> {
 
     ghost view = { world_of };
 
-    ghost invariant = { λ w. IsWorld P.next_call P.answered P.restarted P.calls_left P.depth (world_of w) };
+    ghost invariant = { λ w. IsWorld P.Player (world_of w) };
 }
 
 impl<P: Player> World<P> {
@@ -76,8 +76,8 @@ impl<P: Player> World<P> {
         ensures retries { IfOk result (λ w. w.retries ≡ setup.retries) }
         ensures first { IfOk result (λ w. (place : ℕ) (a : Actor P) → slice_get w.actors place ≡ Some a → IsBetween 0 1 w.attempts a) }
         ensures commits { IfOk result (λ w. CommitsInOrder w) }
-        ensures opaque { IfOk result (AreOpaque P.next_call P.answered P.restarted P.calls_left) }
-        ensures anew { IfOk result (IsNew P.next_call P.answered P.restarted) }
+        ensures opaque { IfOk result (AreOpaque P.Player) }
+        ensures anew { IfOk result (IsNew P.Player) }
     {
         let opening = copies(alloc, &players)?;
         let base = Bytes::new(setup.bytes.as_slice().to_vec(alloc)?);
@@ -102,9 +102,9 @@ impl<P: Player> World<P> {
 
     /// One event of the actor: the operation that comes next from it, and its local work up to the next one.
     pub fn go(&mut self, alloc: Global, actor: u8) -> Result<(), WorldFault>
-        ensures goes { Goes P.next_call P.answered P.restarted P.calls_left actor self.old result self.new }
+        ensures goes { Goes P.Player actor self.old result self.new }
         ensures commits { CommitsInOrder self.new }
-        ensures opaque { AreOpaque P.next_call P.answered P.restarted P.calls_left self.new }
+        ensures opaque { AreOpaque P.Player self.new }
     {
         match self.waits(actor) {
             None => Err(WorldFault::NoSuchActor),
@@ -119,10 +119,10 @@ impl<P: Player> World<P> {
     /// Whether the actor waits for an operation, where there is such an actor.
     fn waits(&self, actor: u8) -> Option<bool>
         ensures value { result ≡ option_map (λ a. is_waiting a.status) (slice_get self.now.actors actor) }
-        ensures sound { AreActors P.next_call P.answered P.restarted P.calls_left P.depth self.now.cells self.now.attempts self.now.actors }
+        ensures sound { AreActors P.Player self.now.cells self.now.attempts self.now.actors }
         ensures commits { CommitsInOrder self.now }
-        ensures opaque { AreOpaque P.next_call P.answered P.restarted P.calls_left self.now }
-        ensures alone { RunsAlone P.next_call P.answered P.calls_left self.now }
+        ensures opaque { AreOpaque P.Player self.now }
+        ensures alone { RunsAlone P.Player self.now }
     {
         Some(self.actors.get(actor as usize)?.waits())
     }
@@ -132,7 +132,7 @@ impl<P: Player> World<P> {
         ensures waits { result ≡ true → IsSome (waits_at self.now actor) }
         ensures ended { result ≡ false → actor < length self.now.actors → IsSome (ending_at self.now actor) }
         ensures commits { CommitsInOrder self.now }
-        ensures opaque { AreOpaque P.next_call P.answered P.restarted P.calls_left self.now }
+        ensures opaque { AreOpaque P.Player self.now }
     {
         match self.waits(actor) {
             None => false,
@@ -143,8 +143,8 @@ impl<P: Player> World<P> {
     /// The operation that the actor waits for, and its local work; tells whether the same call goes on.
     fn event(&mut self, alloc: Global, actor: usize) -> bool
         requires { IsSome (waits_at self.old actor) }
-        ensures goes { Goes P.next_call P.answered P.restarted P.calls_left actor self.old (told (ending_at self.new actor)) self.new }
-        ensures less { (a a' : Actor P) → slice_get self.old.actors actor ≡ Some a → slice_get self.new.actors actor ≡ Some a' → HasLess P.next_call P.answered P.restarted P.calls_left P.depth result a a' }
+        ensures goes { Goes P.Player actor self.old (told (ending_at self.new actor)) self.new }
+        ensures less { (a a' : Actor P) → slice_get self.old.actors actor ≡ Some a → slice_get self.new.actors actor ≡ Some a' → HasLess P.Player result a a' }
     {
         let a = &mut self.actors[actor];
         a.step(&mut self.memory, &mut self.recorded);
@@ -159,8 +159,8 @@ impl<P: Player> World<P> {
         ensures no_such { length self.old.actors ≤ actor → (result ≡ 0) × (self.new ≡ self.old) }
         ensures ended { actor < length self.old.actors → IsSome (ending_at self.new actor) }
         ensures commits { CommitsInOrder self.new }
-        ensures opaque { AreOpaque P.next_call P.answered P.restarted P.calls_left self.new }
-        ensures took { (n : ℕ) × Takes P.next_call P.answered P.restarted P.calls_left actor n self.old self.new × (result ≡ counted 0 n) }
+        ensures opaque { AreOpaque P.Player self.new }
+        ensures took { (n : ℕ) × Takes P.Player actor n self.old self.new × (result ≡ counted 0 n) }
         ensures counts { self.new.events ≡ counted self.old.events result }
         ensures opening { SameOpening self.old self.new }
         ensures actors { length self.new.actors ≡ length self.old.actors }
@@ -176,11 +176,11 @@ impl<P: Player> World<P> {
     /// Takes the events of the call in progress, and tells how many, up to 2^64 - 1.
     fn finish_call(&mut self, alloc: Global, actor: usize) -> u64
         requires { IsSome (waits_at self.old actor) }
-        ensures took { (n : ℕ) × Takes P.next_call P.answered P.restarted P.calls_left actor n self.old self.new × (result ≡ counted 0 n) }
+        ensures took { (n : ℕ) × Takes P.Player actor n self.old self.new × (result ≡ counted 0 n) }
         ensures counts { self.new.events ≡ counted self.old.events result }
         ensures opening { SameOpening self.old self.new }
         ensures actors { length self.new.actors ≡ length self.old.actors }
-        ensures less { (a a' : Actor P) → slice_get self.old.actors actor ≡ Some a → slice_get self.new.actors actor ≡ Some a' → HasLess P.next_call P.answered P.restarted P.calls_left P.depth false a a' }
+        ensures less { (a a' : Actor P) → slice_get self.old.actors actor ≡ Some a → slice_get self.new.actors actor ≡ Some a' → HasLess P.Player false a a' }
     {
         let _events = self.events();
         let mut taken = 0u64;
@@ -208,8 +208,8 @@ impl<P: Player> World<P> {
         ensures value { result.now ≡ attempts_of self.now }
         ensures unfinished { AreOpen self.now.attempts.active }
         ensures commits { CommitsInOrder self.now }
-        ensures opaque { AreOpaque P.next_call P.answered P.restarted P.calls_left self.now }
-        ensures alone { ShowsAlone P.next_call P.answered P.calls_left self.now }
+        ensures opaque { AreOpaque P.Player self.now }
+        ensures alone { ShowsAlone P.Player self.now }
     {
         self.recorded.all()
     }
@@ -233,7 +233,7 @@ impl<P: Player> World<P> {
     pub fn events(&self) -> u64
         ensures value { result ≡ self.now.events }
         ensures commits { CommitsInOrder self.now }
-        ensures opaque { AreOpaque P.next_call P.answered P.restarted P.calls_left self.now }
+        ensures opaque { AreOpaque P.Player self.now }
     {
         self.events
     }

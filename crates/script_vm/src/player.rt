@@ -5,10 +5,10 @@ use std::alloc::AllocError;
 
 /// Makes the calls of one thread, one at a time, and learns the reply to each.
 pub trait Player: Drop {
-    ghost use Rattle.std.specs.Prelude.{◌≡◌, ℕ, ◌<◌, IfOk, Option, Some, if◌then◌else◌};
+    ghost use Rattle.std.specs.Prelude.{◌≡◌, ℕ, IfOk, Option};
     ghost use Rattle.itm_types.specs.declared.call.Call.{Call};
     ghost use Rattle.itm_types.specs.declared.call.Reply.{Reply};
-    ghost use Rattle.script_vm.specs.Depth.{depth_after, opens};
+    ghost use Rattle.script_vm.specs.Laws.{Laws};
 
     /// The call that comes next, or that there is none.
     ghost next_call: { Self → Option Call };
@@ -41,10 +41,5 @@ pub trait Player: Drop {
     fn copy(&self) -> Result<Self, AllocError>
         ensures { IfOk result (λ p. p ≡ self.now) };
 
-    ghost nearer: { (p : Self) (c : Call) (r : Reply) → next_call p ≡ Some c → calls_left (answered p r) < calls_left p };
-
-    ghost nests: { (p : Self) (c : Call) (r : Reply) → next_call p ≡ Some c → depth (answered p r) ≡ depth_after (depth p) c r };
-
-    ghost restarts: { (p : Self) (c : Call) (r : Reply) → next_call p ≡ Some c → 0 < depth_after (depth p) c r
-        → restarted (answered p r) ≡ (if opens (depth p) c r then p else restarted p) };
+    ghost laws: { Laws next_call answered restarted calls_left depth };
 }

@@ -135,7 +135,7 @@ impl Script {
 
 impl Player for Script {
     ghost use Rattle.itmrun.specs.Threads.{next_call, answered, restarted, calls_left, depth_of};
-    ghost use Rattle.itmrun.specs.ThreadLaws.{nearer, nests, restarts};
+    ghost use Rattle.itmrun.specs.ThreadLaws.{thread_laws};
 
     ghost next_call = { next_call };
 
@@ -188,9 +188,5 @@ impl Player for Script {
         })
     }
 
-    ghost nearer = { nearer };
-
-    ghost nests = { nests };
-
-    ghost restarts = { restarts };
+    ghost laws = { thread_laws };
 }

@@ -87,7 +87,7 @@ fn copies(alloc: Global, calls: &[Call]) -> Result<Vec<Call>, AllocError>
 
 impl Player for Planned {
     ghost use Rattle.norec_world.specs.Plan.{next_call, answered, restarted, calls_left, depth};
-    ghost use Rattle.norec_world.specs.PlanLaws.{nearer, nests, restarts};
+    ghost use Rattle.norec_world.specs.PlanLaws.{plan_laws};
 
     ghost next_call = { next_call };
 
@@ -132,9 +132,5 @@ impl Player for Planned {
         })
     }
 
-    ghost nearer = { nearer };
-
-    ghost nests = { nests };
-
-    ghost restarts = { restarts };
+    ghost laws = { plan_laws };
 }

@@ -17,9 +17,9 @@ returns-in_default-clause-tracks g c zero empty =
     let engine : c.new-actor.result.engine ≡ opening (length c.args.memory.now.words) (replicate c.args.terms.arena 0) c.args.terms.limits.patience c.args.terms.limits.max_commits =
     c.new-actor.ensures.parts.3 ∙ (c.new-engine.ensures ∙ (λ i. opening (c.words.ensures i) (c.in_ok-arena.ensures i) c.args.terms.limits.patience c.args.terms.limits.max_commits)) in
     c.work.ensures.tracks (c.new-actor.ensures.parts.0 ∙ zero) c.args.terms.limits.max_commits c.args.player (bytes_of c.args.memory.now.words) (replicate c.args.terms.arena 0)
-    (subst (λ (p : g.row.P.Denot). Tracks g.P.Player.next_call g.P.Player.answered g.P.Player.calls_left c.args.terms.limits.max_commits p (bytes_of c.args.memory.now.words) (replicate c.args.terms.arena 0) c.args.memory.now c.args.recorded.now c.new-actor.result)
+    (subst (λ (p : g.row.P.Denot). Tracks g.P.Player c.args.terms.limits.max_commits p (bytes_of c.args.memory.now.words) (replicate c.args.terms.arena 0) c.args.memory.now c.args.recorded.now c.new-actor.result)
     c.new-actor.ensures.parts.2
-    (fresh_tracks g.P.Player.next_call g.P.Player.answered g.P.Player.calls_left c.args.memory.now c.args.recorded.now c.new-actor.result c.args.terms.arena c.args.terms.limits.patience c.args.terms.limits.max_commits
+    (fresh_tracks g.P.Player c.args.memory.now c.args.recorded.now c.new-actor.result c.args.terms.arena c.args.terms.limits.patience c.args.terms.limits.max_commits
     engine c.requires.fit c.requires.clock empty c.new-actor.ensures.tries.0 c.new-actor.ensures.tries.1 c.new-actor.ensures.nothing.2))
 
 pub returns-in_default-clause-first : goal.returns-in_default-clause-first
@@ -50,10 +50,10 @@ returns-in_default-clause-runs g c none =
     let cells = c.args.memory.now in
     let engine : a.engine ≡ opening (length cells.words) (replicate c.args.terms.arena 0) c.args.terms.limits.patience c.args.terms.limits.max_commits =
     c.new-actor.ensures.parts.3 ∙ (c.new-engine.ensures ∙ (λ i. opening (c.words.ensures i) (c.in_ok-arena.ensures i) c.args.terms.limits.patience c.args.terms.limits.max_commits)) in
-    let fresh = fresh_runs g.P.Player.next_call g.P.Player.answered g.P.Player.restarted g.P.Player.calls_left g.met.P.Player.nearer cells c.args.recorded.now a (bytes_of cells.words) c.args.terms.arena c.args.terms.limits.patience c.args.terms.limits.max_commits
+    let fresh = fresh_runs g.P.Player g.met.P.Player.laws cells c.args.recorded.now a (bytes_of cells.words) c.args.terms.arena c.args.terms.limits.patience c.args.terms.limits.max_commits
     engine none c.new-actor.ensures.tries.0 c.new-actor.ensures.tries.1 c.new-actor.ensures.nothing.1 c.new-actor.ensures.nothing.2 in
     (c.work.ensures.runs (first_of c.args.player c.args.terms.arena) (bytes_of cells.words) (laid_first (bytes_of cells.words) cells c.args.recorded.now refl c.requires.fit c.requires.clock none)
-    (subst (λ (p : g.row.P.Denot). RunsFrom g.P.Player.next_call g.P.Player.answered g.P.Player.restarted g.P.Player.calls_left (first_of p c.args.terms.arena) (bytes_of cells.words) cells c.args.recorded.now a) c.new-actor.ensures.parts.2 fresh)).1
+    (subst (λ (p : g.row.P.Denot). RunsFrom g.P.Player (first_of p c.args.terms.arena) (bytes_of cells.words) cells c.args.recorded.now a) c.new-actor.ensures.parts.2 fresh)).1
 
 pub returns-in_default-clause-starts : goal.returns-in_default-clause-starts
 returns-in_default-clause-starts g c =

@@ -47,8 +47,8 @@ loop-player-preserved g c =
       count = omega arith;
       few = few;
       outside = λ k d l. subst (λ (xs : List g.row.P.Denot). g.P.Player.depth (slice_index_or xs (suc k) d) ≡ 0) steps (i.outside (suc k) d (omega arith));
-      sound = subst (AreActors g.P.Player.next_call g.P.Player.answered g.P.Player.restarted g.P.Player.calls_left g.P.Player.depth c.args.memory.now c.start.new.recorded) (sym items)
-          (actors_joined g.P.Player.next_call g.P.Player.answered g.P.Player.restarted g.P.Player.calls_left g.P.Player.depth c.args.memory.now c.loop-player.recorded c.start.new.recorded before i.sound actor
+      sound = subst (AreActors g.P.Player c.args.memory.now c.start.new.recorded) (sym items)
+          (actors_joined g.P.Player c.args.memory.now c.loop-player.recorded c.start.new.recorded before i.sound actor
           c.in_ok-actor.ensures.sound c.in_ok-actor.ensures.done thread fewer own
           (λ k less l. o.3.room k less (let none : count_pending o.0.pending ≡ 0 = ap count_pending o.2 in omega arith)) c.in_ok-actor.ensures.free);
       ended = c.in_ok-actor.ensures.ended ∙ i.ended;
@@ -61,13 +61,13 @@ loop-player-preserved g c =
       rest = sym here.1 ∙ ap (λ (k : ℕ). drop k c.into_iter-player-iterator.result.rest.items) (let e : suc (length before) ≡ length c.push.new.self.items = omega arith in e);
       runs = λ place p a e f. elim (last_or_before before actor place a (ap (λ (xs : List (Actor g.row.P.Denot)). slice_get xs place) (sym items) ∙ f)) [
         | inl h ↦
-            other_runs g.P.Player.next_call g.P.Player.answered g.P.Player.restarted g.P.Player.calls_left g.met.P.Player.nearer (first_of p c.args.terms.arena) (bytes_of c.args.memory.now.words) c.args.memory.now c.args.memory.now
+            other_runs g.P.Player g.met.P.Player.laws (first_of p c.args.terms.arena) (bytes_of c.args.memory.now.words) c.args.memory.now c.args.memory.now
             c.loop-player.recorded c.start.new.recorded actor.thread a (laid_first (bytes_of c.args.memory.now.words) c.args.memory.now c.loop-player.recorded refl c.requires.fit c.requires.clock i.ended) (i.sound.each place a h).sound.tied own
             (λ same. absurd (let l = within_of before place a h in let mine = (i.sound.each place a h).thread in omega arith)) (let z : c.args.memory.now.clock ≤ c.args.memory.now.clock = omega arith in z) (λ x. refl) (i.runs place p a e h)
         | inr h ↦
             (let same : c.in-Some.player ≡ p = (let z : Some c.in-Some.player ≡ Some p = sym here.0 ∙ (ap (slice_get c.into_iter-player-iterator.result.rest.items) (sym h.0) ∙ e) in cc) in
-            subst (λ (x : Actor g.row.P.Denot). RunsFrom g.P.Player.next_call g.P.Player.answered g.P.Player.restarted g.P.Player.calls_left (first_of p c.args.terms.arena) (bytes_of c.args.memory.now.words) c.args.memory.now c.start.new.recorded x) (sym h.1)
-            (subst (λ (q : g.row.P.Denot). RunsFrom g.P.Player.next_call g.P.Player.answered g.P.Player.restarted g.P.Player.calls_left (first_of q c.args.terms.arena) (bytes_of c.args.memory.now.words) c.args.memory.now c.start.new.recorded actor) same
+            subst (λ (x : Actor g.row.P.Denot). RunsFrom g.P.Player (first_of p c.args.terms.arena) (bytes_of c.args.memory.now.words) c.args.memory.now c.start.new.recorded x) (sym h.1)
+            (subst (λ (q : g.row.P.Denot). RunsFrom g.P.Player (first_of q c.args.terms.arena) (bytes_of c.args.memory.now.words) c.args.memory.now c.start.new.recorded actor) same
             (c.in_ok-actor.ensures.runs i.ended)))
       ];
       starts = λ place p a e f. elim (last_or_before before actor place a (ap (λ (xs : List (Actor g.row.P.Denot)). slice_get xs place) (sym items) ∙ f)) [
@@ -75,7 +75,7 @@ loop-player-preserved g c =
         | inr h ↦
             (let same : c.in-Some.player ≡ p = (let z : Some c.in-Some.player ≡ Some p = sym here.0 ∙ (ap (slice_get c.into_iter-player-iterator.result.rest.items) (sym h.0) ∙ e) in cc) in
             let Started : ℕ → g.row.P.Denot → Actor g.row.P.Denot → Type 0 =
-            HasStarted g.P.Player.next_call g.P.Player.answered g.P.Player.restarted c.args.memory.now.clock
+            HasStarted g.P.Player c.args.memory.now.clock
             (opening (length c.args.memory.now.words) (replicate c.args.terms.arena 0) c.args.terms.limits.patience c.args.terms.limits.max_commits) c.args.terms.retries in
             subst (Started place p) (sym h.1) (subst (λ (q : g.row.P.Denot). Started place q actor) same
             (subst (λ (n : ℕ). Started n c.in-Some.player actor) (sym numbered ∙ (thread ∙ sym h.0)) c.in_ok-actor.ensures.starts)))
@@ -98,7 +98,7 @@ loop-player-preserved g c =
 pub returns-clause-none : goal.returns-clause-none
 returns-clause-none g c = (
   c.loop-player.invariant.ended,
-  none_active g.P.Player.next_call g.P.Player.answered g.P.Player.restarted g.P.Player.calls_left g.P.Player.depth c.args.memory.now c.loop-player.recorded c.loop-player.actors.items c.loop-player.invariant.sound
+  none_active g.P.Player c.args.memory.now c.loop-player.recorded c.loop-player.actors.items c.loop-player.invariant.sound
       (λ place a e. (c.loop-player.invariant.tries place a e).between.none),
 )
 

@@ -15,16 +15,16 @@ invariant-loop-player g l = record {
   count : length l.actors.items + length l.player-iterator.rest.items ≡ length l.initial.player-iterator.rest.items;
   few : length l.initial.player-iterator.rest.items ≤ 32;
   outside : All (λ p. g.P.Player.depth p ≡ 0) l.player-iterator.rest.items;
-  sound : AreActors g.P.Player.next_call g.P.Player.answered g.P.Player.restarted g.P.Player.calls_left g.P.Player.depth l.memory l.recorded l.actors.items;
+  sound : AreActors g.P.Player l.memory l.recorded l.actors.items;
   ended : l.recorded.ended ≡ [];
   tries : (place : ℕ) (a : Actor g.row.P.Denot) → slice_get l.actors.items place ≡ Some a → IsFirst l.memory.clock l.terms.limits.patience l.terms.limits.max_commits l.terms.retries l.recorded a;
   rest : l.player-iterator.rest.items ≡ drop (length l.actors.items) l.initial.player-iterator.rest.items;
   runs : (place : ℕ) (p : g.row.P.Denot) (a : Actor g.row.P.Denot) → slice_get l.initial.player-iterator.rest.items place ≡ Some p → slice_get l.actors.items place ≡ Some a
-      → RunsFrom g.P.Player.next_call g.P.Player.answered g.P.Player.restarted g.P.Player.calls_left (first_of p l.terms.arena) (bytes_of l.memory.words) l.memory l.recorded a;
+      → RunsFrom g.P.Player (first_of p l.terms.arena) (bytes_of l.memory.words) l.memory l.recorded a;
   starts : (place : ℕ) (p : g.row.P.Denot) (a : Actor g.row.P.Denot) → slice_get l.initial.player-iterator.rest.items place ≡ Some p → slice_get l.actors.items place ≡ Some a
-      → HasStarted g.P.Player.next_call g.P.Player.answered g.P.Player.restarted l.memory.clock (opening (length l.memory.words) (replicate l.terms.arena 0) l.terms.limits.patience l.terms.limits.max_commits) l.terms.retries place p a;
+      → HasStarted g.P.Player l.memory.clock (opening (length l.memory.words) (replicate l.terms.arena 0) l.terms.limits.patience l.terms.limits.max_commits) l.terms.retries place p a;
   first : length l.actors.items ≡ 0 → (l.player-iterator.rest.items ≡ l.initial.player-iterator.rest.items) × (l.recorded.ended ≡ []) × (l.recorded.active ≡ []);
   fed : (place : ℕ) → ending_in l.actors.items place ≡ Some NoMemory → ⊥;
   alone : length l.actors.items ≡ 1 → length l.initial.player-iterator.rest.items ≡ 1
-      → IsSoloWorld g.P.Player.next_call g.P.Player.answered g.P.Player.calls_left l.initial.player-iterator.rest.items (bytes_of l.memory.words) l.terms.arena l.terms.limits.max_commits l.memory l.recorded l.actors.items;
+      → IsSoloWorld g.P.Player l.initial.player-iterator.rest.items (bytes_of l.memory.words) l.terms.arena l.terms.limits.max_commits l.memory l.recorded l.actors.items;
 }

@@ -25,55 +25,55 @@ use Rattle.norec_world.proofs.actor.Actor.call_next.Goals as goal
 pub settle-requires : goal.settle-requires
 settle-requires g c = (
   c.args.self.now.engine.is_open,
-  at_once g.P.Player.next_call g.P.Player.answered g.P.Player.restarted g.P.Player.calls_left g.P.Player.depth c.args.memory.now c.args.recorded.now c.ask.new.recorded c.ask.new.recorded
+  at_once g.P.Player c.args.memory.now c.args.recorded.now c.ask.new.recorded c.ask.new.recorded
       c.args.self.now c.ask.new.self c.ask.new.self c.in-Some.call c.requires.sound c.requires.ready c.in-Ok-Answer.field-0 c.in-Ok-Answer.answer c.in-Ok-Answer.field-0-is c.in-Ok-Answer.ensures.asked,
 )
 
 pub returns-in-Ok-Answer-clause-sound : goal.returns-in-Ok-Answer-clause-sound
 returns-in-Ok-Answer-clause-sound g c =
-    then_sound g.P.Player.next_call g.P.Player.answered g.P.Player.restarted g.P.Player.calls_left g.P.Player.depth c.args.memory.now c.args.recorded.now c.ask.new.recorded c.settle.new.recorded
+    then_sound g.P.Player c.args.memory.now c.args.recorded.now c.ask.new.recorded c.settle.new.recorded
     c.args.self.now c.ask.new.self c.settle.new.self c.in-Some.call c.requires.sound c.requires.ready c.in-Ok-Answer.field-0 c.in-Ok-Answer.answer c.in-Ok-Answer.field-0-is c.in-Ok-Answer.ensures.asked c.settle.ensures.settled
 
 pub returns-in-Ok-Answer-clause-thread : goal.returns-in-Ok-Answer-clause-thread
 returns-in-Ok-Answer-clause-thread g c =
-    then_thread g.P.Player.next_call g.P.Player.answered g.P.Player.restarted g.P.Player.calls_left g.P.Player.depth c.args.memory.now c.args.recorded.now c.ask.new.recorded c.settle.new.recorded
+    then_thread g.P.Player c.args.memory.now c.args.recorded.now c.ask.new.recorded c.settle.new.recorded
     c.args.self.now c.ask.new.self c.settle.new.self c.in-Some.call c.requires.sound c.requires.ready c.in-Ok-Answer.field-0 c.in-Ok-Answer.answer c.in-Ok-Answer.field-0-is c.in-Ok-Answer.ensures.asked c.settle.ensures.settled
 
 pub returns-in-Ok-Answer-clause-falls : goal.returns-in-Ok-Answer-clause-falls
 returns-in-Ok-Answer-clause-falls g c =
-    then_falls g.P.Player.next_call g.P.Player.answered g.P.Player.restarted g.P.Player.calls_left g.P.Player.depth c.args.memory.now c.args.recorded.now c.ask.new.recorded c.settle.new.recorded
+    then_falls g.P.Player c.args.memory.now c.args.recorded.now c.ask.new.recorded c.settle.new.recorded
     c.args.self.now c.ask.new.self c.settle.new.self c.in-Some.call c.requires.sound c.requires.ready c.in-Ok-Answer.field-0 c.in-Ok-Answer.answer c.in-Ok-Answer.field-0-is c.in-Ok-Answer.ensures.asked c.settle.ensures.settled
 
 pub returns-in-Ok-Answer-clause-less : goal.returns-in-Ok-Answer-clause-less
 returns-in-Ok-Answer-clause-less g c =
-    then_less g.P.Player.next_call g.P.Player.answered g.P.Player.restarted g.P.Player.calls_left g.P.Player.depth c.args.memory.now c.args.recorded.now c.ask.new.recorded c.settle.new.recorded
+    then_less g.P.Player c.args.memory.now c.args.recorded.now c.ask.new.recorded c.settle.new.recorded
     c.args.self.now c.ask.new.self c.settle.new.self c.in-Some.call c.requires.sound c.requires.ready c.in-Ok-Answer.field-0 c.in-Ok-Answer.answer c.in-Ok-Answer.field-0-is c.in-Ok-Answer.ensures.asked c.settle.ensures.settled
 
 pub returns-in-Ok-Answer-clause-tracks : goal.returns-in-Ok-Answer-clause-tracks
 returns-in-Ok-Answer-clause-tracks g c z max_commits p0 base arena t =
-    call_answered g.P.Player.next_call g.P.Player.answered g.P.Player.restarted g.P.Player.calls_left g.P.Player.depth g.met.P.Player.nearer max_commits p0 base arena c.args.memory.now c.args.recorded.now c.args.self.now c.requires.sound c.requires.ready z t
+    call_answered g.P.Player g.met.P.Player.laws max_commits p0 base arena c.args.memory.now c.args.recorded.now c.args.self.now c.requires.sound c.requires.ready z t
     c.ask.new.recorded c.ask.new.self c.in-Some.call c.in-Ok-Answer.field-0 c.in-Ok-Answer.ensures.asked c.in-Ok-Answer.ensures.told c.in-Ok-Answer.answer c.in-Ok-Answer.field-0-is
     c.settle.new.recorded c.settle.new.self c.settle.ensures.settled c.settle.ensures.records
 
 pub returns-in-Ok-Step-clause-tracks : goal.returns-in-Ok-Step-clause-tracks
 returns-in-Ok-Step-clause-tracks g c z max_commits p0 base arena t =
-    call_waits g.P.Player.next_call g.P.Player.answered g.P.Player.restarted g.P.Player.calls_left g.P.Player.depth g.met.P.Player.nearer max_commits p0 base arena c.args.memory.now c.args.recorded.now c.args.self.now c.requires.sound c.requires.ready z t
+    call_waits g.P.Player g.met.P.Player.laws max_commits p0 base arena c.args.memory.now c.args.recorded.now c.args.self.now c.requires.sound c.requires.ready z t
     c.ask.new.recorded c.ask.new.self c.in-Some.call c.in-Ok-Step.field-0 c.in-Ok-Step.ensures.asked c.in-Ok-Step.ensures.told c.in-Ok-Step.step c.in-Ok-Step.field-0-is
 
 pub returns-in_default-clause-tracks : goal.returns-in_default-clause-tracks
 returns-in_default-clause-tracks g c z max_commits p0 base arena t =
-    call_ends g.P.Player.next_call g.P.Player.answered g.P.Player.restarted g.P.Player.calls_left g.P.Player.depth g.met.P.Player.nearer max_commits p0 base arena c.args.memory.now c.args.recorded.now c.args.self.now c.requires.sound c.requires.ready z t (sym c.next.ensures ∙ c.in_default.is) (record c.args.self.now { status = Ended Finished }) refl
+    call_ends g.P.Player g.met.P.Player.laws max_commits p0 base arena c.args.memory.now c.args.recorded.now c.args.self.now c.requires.sound c.requires.ready z t (sym c.next.ensures ∙ c.in_default.is) (record c.args.self.now { status = Ended Finished }) refl
 
 pub returns-in-Err-clause-tracks : goal.returns-in-Err-clause-tracks
 returns-in-Err-clause-tracks g c z max_commits p0 base arena t =
-    call_starved g.P.Player.next_call g.P.Player.answered g.P.Player.restarted g.P.Player.calls_left g.P.Player.depth g.met.P.Player.nearer max_commits p0 base arena c.args.memory.now c.args.recorded.now c.args.self.now c.requires.sound c.requires.ready z t
+    call_starved g.P.Player g.met.P.Player.laws max_commits p0 base arena c.args.memory.now c.args.recorded.now c.args.self.now c.requires.sound c.requires.ready z t
     c.ask.new.recorded c.starve.new.recorded c.ask.new.self c.starve.new.self c.in-Err.ensures.unasked.engine c.in-Err.ensures.unasked.same.thread c.ask.ensures.rows c.starve.ensures.status c.starve.ensures.row c.starve.ensures.none
 
 pub returns-in-Ok-Answer-clause-others : goal.returns-in-Ok-Answer-clause-others
 returns-in-Ok-Answer-clause-others g c =
     others_twice c.args.self.now c.ask.new.self c.settle.new.self c.args.recorded.now c.ask.new.recorded c.settle.new.recorded c.ask.ensures.others
     (c.settle.ensures.others c.args.self.now.engine.is_open
-    (at_once g.P.Player.next_call g.P.Player.answered g.P.Player.restarted g.P.Player.calls_left g.P.Player.depth c.args.memory.now c.args.recorded.now c.ask.new.recorded c.ask.new.recorded
+    (at_once g.P.Player c.args.memory.now c.args.recorded.now c.ask.new.recorded c.ask.new.recorded
     c.args.self.now c.ask.new.self c.ask.new.self c.in-Some.call c.requires.sound c.requires.ready c.in-Ok-Answer.field-0 c.in-Ok-Answer.answer c.in-Ok-Answer.field-0-is c.in-Ok-Answer.ensures.asked))
 
 pub returns-in-Err-clause-others : goal.returns-in-Err-clause-others
@@ -82,38 +82,38 @@ returns-in-Err-clause-others g c =
 
 pub returns-in-Ok-Answer-clause-tries : goal.returns-in-Ok-Answer-clause-tries
 returns-in-Ok-Answer-clause-tries g c =
-    answer_tries g.P.Player.next_call g.P.Player.answered g.P.Player.restarted g.P.Player.calls_left g.P.Player.depth c.args.memory.now c.args.recorded.now c.args.self.now c.requires.sound c.requires.ready
+    answer_tries g.P.Player c.args.memory.now c.args.recorded.now c.args.self.now c.requires.sound c.requires.ready
     c.ask.new.recorded c.ask.new.self c.in-Some.call c.in-Ok-Answer.field-0 c.in-Ok-Answer.ensures.asked c.in-Ok-Answer.ensures.told c.in-Ok-Answer.answer c.in-Ok-Answer.field-0-is
     c.settle.new.recorded c.settle.new.self c.settle.ensures.settled c.settle.ensures.records
 
 pub returns-in-Ok-Step-clause-tries : goal.returns-in-Ok-Step-clause-tries
 returns-in-Ok-Step-clause-tries g c =
-    ask_tries g.P.Player.next_call g.P.Player.answered g.P.Player.restarted g.P.Player.calls_left g.P.Player.depth c.args.memory.now c.args.recorded.now c.args.self.now c.requires.sound c.requires.ready
+    ask_tries g.P.Player c.args.memory.now c.args.recorded.now c.args.self.now c.requires.sound c.requires.ready
     c.ask.new.recorded c.ask.new.self c.in-Some.call c.in-Ok-Step.field-0 c.in-Ok-Step.ensures.asked c.in-Ok-Step.ensures.told c.in-Ok-Step.step c.in-Ok-Step.field-0-is
 
 pub returns-in_default-clause-tries : goal.returns-in_default-clause-tries
 returns-in_default-clause-tries g c =
-    finish_tries g.P.Player.next_call g.P.Player.answered g.P.Player.restarted g.P.Player.calls_left g.P.Player.depth c.args.memory.now c.args.recorded.now c.args.self.now c.requires.sound c.requires.ready (record c.args.self.now { status = Ended Finished }) refl
+    finish_tries g.P.Player c.args.memory.now c.args.recorded.now c.args.self.now c.requires.sound c.requires.ready (record c.args.self.now { status = Ended Finished }) refl
 
 pub returns-in-Err-clause-tries : goal.returns-in-Err-clause-tries
 returns-in-Err-clause-tries g c =
     let u = c.in-Err.ensures.unasked in
-    starve_tries g.P.Player.next_call g.P.Player.answered g.P.Player.restarted g.P.Player.calls_left g.P.Player.depth c.args.memory.now c.args.recorded.now c.args.self.now c.requires.sound c.requires.ready
+    starve_tries g.P.Player c.args.memory.now c.args.recorded.now c.args.self.now c.requires.sound c.requires.ready
     c.ask.new.recorded c.starve.new.recorded c.ask.new.self c.starve.new.self u.engine (snapshot_still c.ask.new.self.engine c.starve.new.self.engine c.starve.ensures.engine) u.same.thread u.same.nth u.pending c.ask.ensures.rows
     c.starve.ensures.status c.starve.ensures.thread c.starve.ensures.same.0 c.starve.ensures.pending
     (subst (λ (b : Bool). HasRow b c.starve.new.recorded c.starve.new.self.thread) c.starve.ensures.closed c.starve.ensures.kept.row) c.starve.ensures.row c.starve.ensures.none
 
 pub returns-in-Ok-Answer-clause-finishes : goal.returns-in-Ok-Answer-clause-finishes
 returns-in-Ok-Answer-clause-finishes g c e =
-    let d = at_once g.P.Player.next_call g.P.Player.answered g.P.Player.restarted g.P.Player.calls_left g.P.Player.depth c.args.memory.now c.args.recorded.now c.ask.new.recorded c.ask.new.recorded
+    let d = at_once g.P.Player c.args.memory.now c.args.recorded.now c.ask.new.recorded c.ask.new.recorded
     c.args.self.now c.ask.new.self c.ask.new.self c.in-Some.call c.requires.sound c.requires.ready c.in-Ok-Answer.field-0 c.in-Ok-Answer.answer c.in-Ok-Answer.field-0-is c.in-Ok-Answer.ensures.asked in
-    absurd (not_finished g.P.Player.next_call g.P.Player.answered g.P.Player.restarted g.P.Player.calls_left g.P.Player.depth c.ask.new.recorded c.settle.new.recorded c.ask.new.self c.settle.new.self c.in-Some.call
+    absurd (not_finished g.P.Player c.ask.new.recorded c.settle.new.recorded c.ask.new.self c.settle.new.self c.in-Some.call
     c.args.self.now.engine.is_open d.status c.in-Ok-Answer.answer (c.settle.ensures.records c.args.self.now.engine.is_open d) e)
 
 pub returns-in-Ok-Answer-clause-limit : goal.returns-in-Ok-Answer-clause-limit
 returns-in-Ok-Answer-clause-limit g c =
     let asked = c.in-Ok-Answer.ensures.asked in
-    let d = at_once g.P.Player.next_call g.P.Player.answered g.P.Player.restarted g.P.Player.calls_left g.P.Player.depth c.args.memory.now c.args.recorded.now c.ask.new.recorded c.ask.new.recorded
+    let d = at_once g.P.Player c.args.memory.now c.args.recorded.now c.ask.new.recorded c.ask.new.recorded
     c.args.self.now c.ask.new.self c.ask.new.self c.in-Some.call c.requires.sound c.requires.ready c.in-Ok-Answer.field-0 c.in-Ok-Answer.answer c.in-Ok-Answer.field-0-is asked in
     let engine = (c.settle.ensures.settled c.args.self.now.engine.is_open d).engine in
     let kept = limit_same (came c.args.self.now.engine c.in-Some.call asked.again) c.ask.new.self.engine c.in-Ok-Answer.field-0 asked.proceeds in
@@ -122,7 +122,7 @@ returns-in-Ok-Answer-clause-limit g c =
 pub returns-in-Ok-Answer-clause-snapshot : goal.returns-in-Ok-Answer-clause-snapshot
 returns-in-Ok-Answer-clause-snapshot g c =
     let asked = c.in-Ok-Answer.ensures.asked in
-    let d = at_once g.P.Player.next_call g.P.Player.answered g.P.Player.restarted g.P.Player.calls_left g.P.Player.depth c.args.memory.now c.args.recorded.now c.ask.new.recorded c.ask.new.recorded
+    let d = at_once g.P.Player c.args.memory.now c.args.recorded.now c.ask.new.recorded c.ask.new.recorded
     c.args.self.now c.ask.new.self c.ask.new.self c.in-Some.call c.requires.sound c.requires.ready c.in-Ok-Answer.field-0 c.in-Ok-Answer.answer c.in-Ok-Answer.field-0-is asked in
     ap (λ (e : Core). e.snapshot) (c.settle.ensures.settled c.args.self.now.engine.is_open d).engine ∙ asked.stays.snapshot
 
@@ -130,25 +130,25 @@ pub returns-in-Err-clause-snapshot : goal.returns-in-Err-clause-snapshot
 returns-in-Err-clause-snapshot g c = snapshot_still c.ask.new.self.engine c.starve.new.self.engine c.starve.ensures.engine ∙ ap (λ (e : Core). e.snapshot) c.in-Err.ensures.unasked.engine
 
 pub returns-in_default-clause-runs : goal.returns-in_default-clause-runs
-returns-in_default-clause-runs g c first base laid runs = (laid, finish_runs g.P.Player.next_call g.P.Player.answered g.P.Player.restarted g.P.Player.calls_left g.P.Player.depth g.met.P.Player.nearer c.args.memory.now c.args.recorded.now c.args.self.now c.requires.sound c.requires.ready first base laid runs)
+returns-in_default-clause-runs g c first base laid runs = (laid, finish_runs g.P.Player g.met.P.Player.laws c.args.memory.now c.args.recorded.now c.args.self.now c.requires.sound c.requires.ready first base laid runs)
 
 pub returns-in-Ok-Step-clause-runs : goal.returns-in-Ok-Step-clause-runs
 returns-in-Ok-Step-clause-runs g c first base laid runs =
     let own = c.ask.ensures.others.own in (
-      laid_calls g.P.Player.next_call g.P.Player.answered g.P.Player.restarted g.P.Player.calls_left g.P.Player.depth g.met.P.Player.nearer c.args.memory.now c.args.recorded.now c.args.self.now c.requires.sound c.requires.ready first base laid runs c.ask.new.recorded own.more own.ended
+      laid_calls g.P.Player g.met.P.Player.laws c.args.memory.now c.args.recorded.now c.args.self.now c.requires.sound c.requires.ready first base laid runs c.ask.new.recorded own.more own.ended
           (counted_after c.args.memory.now.clock c.args.memory.now.clock (prior_of c.args.recorded.now c.args.self.now) c.ask.new.recorded (record c.ask.new.self { status = Waits c.in-Some.call c.in-Ok-Step.step }) (returns-in-Ok-Step-clause-tries g c) laid.counted),
-      ask_runs g.P.Player.next_call g.P.Player.answered g.P.Player.restarted g.P.Player.calls_left g.P.Player.depth g.met.P.Player.nearer c.args.memory.now c.args.recorded.now c.args.self.now c.requires.sound c.requires.ready first base laid runs c.ask.new.recorded c.ask.new.self c.in-Some.call c.in-Ok-Step.field-0 c.in-Ok-Step.ensures.asked c.in-Ok-Step.ensures.told c.in-Ok-Step.step c.in-Ok-Step.field-0-is,
+      ask_runs g.P.Player g.met.P.Player.laws c.args.memory.now c.args.recorded.now c.args.self.now c.requires.sound c.requires.ready first base laid runs c.ask.new.recorded c.ask.new.self c.in-Some.call c.in-Ok-Step.field-0 c.in-Ok-Step.ensures.asked c.in-Ok-Step.ensures.told c.in-Ok-Step.step c.in-Ok-Step.field-0-is,
     )
 
 pub returns-in-Ok-Answer-clause-runs : goal.returns-in-Ok-Answer-clause-runs
 returns-in-Ok-Answer-clause-runs g c first base laid runs =
     let own = (returns-in-Ok-Answer-clause-others g c).own in
-    let d = at_once g.P.Player.next_call g.P.Player.answered g.P.Player.restarted g.P.Player.calls_left g.P.Player.depth c.args.memory.now c.args.recorded.now c.ask.new.recorded c.ask.new.recorded
+    let d = at_once g.P.Player c.args.memory.now c.args.recorded.now c.ask.new.recorded c.ask.new.recorded
     c.args.self.now c.ask.new.self c.ask.new.self c.in-Some.call c.requires.sound c.requires.ready c.in-Ok-Answer.field-0 c.in-Ok-Answer.answer c.in-Ok-Answer.field-0-is c.in-Ok-Answer.ensures.asked in
     let settled = (c.settle.ensures.others c.args.self.now.engine.is_open d).own in (
-      laid_calls g.P.Player.next_call g.P.Player.answered g.P.Player.restarted g.P.Player.calls_left g.P.Player.depth g.met.P.Player.nearer c.args.memory.now c.args.recorded.now c.args.self.now c.requires.sound c.requires.ready first base laid runs c.settle.new.recorded own.more own.ended
+      laid_calls g.P.Player g.met.P.Player.laws c.args.memory.now c.args.recorded.now c.args.self.now c.requires.sound c.requires.ready first base laid runs c.settle.new.recorded own.more own.ended
           (counted_after c.args.memory.now.clock c.args.memory.now.clock (prior_of c.args.recorded.now c.args.self.now) c.settle.new.recorded c.settle.new.self (returns-in-Ok-Answer-clause-tries g c) laid.counted),
-      answer_runs g.P.Player.next_call g.P.Player.answered g.P.Player.restarted g.P.Player.calls_left g.P.Player.depth g.met.P.Player.nearer c.args.memory.now c.args.recorded.now c.args.self.now c.requires.sound c.requires.ready first base laid runs c.ask.new.recorded c.ask.new.self c.in-Some.call c.in-Ok-Answer.field-0 c.in-Ok-Answer.ensures.asked c.in-Ok-Answer.ensures.told c.in-Ok-Answer.answer c.in-Ok-Answer.field-0-is
+      answer_runs g.P.Player g.met.P.Player.laws c.args.memory.now c.args.recorded.now c.args.self.now c.requires.sound c.requires.ready first base laid runs c.ask.new.recorded c.ask.new.self c.in-Some.call c.in-Ok-Answer.field-0 c.in-Ok-Answer.ensures.asked c.in-Ok-Answer.ensures.told c.in-Ok-Answer.answer c.in-Ok-Answer.field-0-is
           c.settle.new.recorded c.settle.new.self settled.more settled.ended c.settle.ensures.settled c.settle.ensures.records,
     )
 
@@ -157,9 +157,9 @@ returns-in-Err-clause-runs g c first base laid runs =
     let own = (returns-in-Err-clause-others g c).own in
     let starved = c.starve.ensures.others.own in
     let u = c.in-Err.ensures.unasked in (
-      laid_calls g.P.Player.next_call g.P.Player.answered g.P.Player.restarted g.P.Player.calls_left g.P.Player.depth g.met.P.Player.nearer c.args.memory.now c.args.recorded.now c.args.self.now c.requires.sound c.requires.ready first base laid runs c.starve.new.recorded own.more own.ended
+      laid_calls g.P.Player g.met.P.Player.laws c.args.memory.now c.args.recorded.now c.args.self.now c.requires.sound c.requires.ready first base laid runs c.starve.new.recorded own.more own.ended
           (counted_after c.args.memory.now.clock c.args.memory.now.clock (prior_of c.args.recorded.now c.args.self.now) c.starve.new.recorded c.starve.new.self (returns-in-Err-clause-tries g c) laid.counted),
-      starve_runs g.P.Player.next_call g.P.Player.answered g.P.Player.restarted g.P.Player.calls_left g.P.Player.depth g.met.P.Player.nearer c.args.memory.now c.args.recorded.now c.args.self.now c.requires.sound c.requires.ready first base laid runs c.ask.new.recorded c.starve.new.recorded c.ask.new.self c.starve.new.self starved.more u.engine u.same.thread u.same.player u.same.nth u.again c.ask.ensures.rows
+      starve_runs g.P.Player g.met.P.Player.laws c.args.memory.now c.args.recorded.now c.args.self.now c.requires.sound c.requires.ready first base laid runs c.ask.new.recorded c.starve.new.recorded c.ask.new.self c.starve.new.self starved.more u.engine u.same.thread u.same.player u.same.nth u.again c.ask.ensures.rows
           c.starve.ensures.status c.starve.ensures.thread c.starve.ensures.closed starved.ended c.starve.ensures.row c.starve.ensures.none,
     )
 
@@ -177,7 +177,7 @@ returns-in-Ok-Step-clause-acts g c =
       asked = c.ask.new.self;
       asks = c.in-Ok-Step.ensures.told;
       ready = asked.same.status ∙ c.requires.ready;
-      tells = subst (λ (n : Next). Tells g.P.Player.answered g.P.Player.restarted c.args.self.now.engine.is_open c.ask.new.recorded c.ask.new.recorded c.ask.new.self (record c.ask.new.self { status = Waits c.in-Some.call c.in-Ok-Step.step }) c.in-Some.call n)
+      tells = subst (λ (n : Next). Tells g.P.Player c.args.self.now.engine.is_open c.ask.new.recorded c.ask.new.recorded c.ask.new.self (record c.ask.new.self { status = Waits c.in-Some.call c.in-Ok-Step.step }) c.in-Some.call n)
           (sym c.in-Ok-Step.field-0-is) (refl, refl);
       engine = refl;
       same = record { thread = asked.same.thread; retries = asked.same.retries; nothing = λ e. absurd (cc) };
@@ -186,7 +186,7 @@ returns-in-Ok-Step-clause-acts g c =
 pub returns-in-Ok-Answer-clause-acts : goal.returns-in-Ok-Answer-clause-acts
 returns-in-Ok-Answer-clause-acts g c =
     let asked = c.in-Ok-Answer.ensures.asked in
-    let d = at_once g.P.Player.next_call g.P.Player.answered g.P.Player.restarted g.P.Player.calls_left g.P.Player.depth c.args.memory.now c.args.recorded.now c.ask.new.recorded c.ask.new.recorded
+    let d = at_once g.P.Player c.args.memory.now c.args.recorded.now c.ask.new.recorded c.ask.new.recorded
     c.args.self.now c.ask.new.self c.ask.new.self c.in-Some.call c.requires.sound c.requires.ready c.in-Ok-Answer.field-0 c.in-Ok-Answer.answer c.in-Ok-Answer.field-0-is asked in
     let settled = c.settle.ensures.settled c.args.self.now.engine.is_open d in
     calls (record {
@@ -197,13 +197,13 @@ returns-in-Ok-Answer-clause-acts g c =
       asked = c.ask.new.self;
       asks = c.in-Ok-Answer.ensures.told;
       ready = asked.same.status ∙ c.requires.ready;
-      tells = subst (λ (n : Next). Tells g.P.Player.answered g.P.Player.restarted c.args.self.now.engine.is_open c.ask.new.recorded c.settle.new.recorded c.ask.new.self c.settle.new.self c.in-Some.call n)
+      tells = subst (λ (n : Next). Tells g.P.Player c.args.self.now.engine.is_open c.ask.new.recorded c.settle.new.recorded c.ask.new.self c.settle.new.self c.in-Some.call n)
           (sym c.in-Ok-Answer.field-0-is) (c.settle.ensures.records c.args.self.now.engine.is_open d);
       engine = settled.engine;
       same = record {
         thread = settled.thread ∙ asked.same.thread;
         retries = settled.retries ∙ asked.same.retries;
-        nothing = nothing_rests g.P.Player.next_call g.P.Player.answered g.P.Player.restarted g.P.Player.calls_left g.P.Player.depth c.settle.new.self c.settle.new.self.status settled.rests;
+        nothing = nothing_rests g.P.Player c.settle.new.self c.settle.new.self.status settled.rests;
       };
     })
 

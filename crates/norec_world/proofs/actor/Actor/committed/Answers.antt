@@ -16,7 +16,7 @@ returns-clause-settled g c was d =
     let a = c.args.self.now in
     let r = c.args.recorded.now in
     let r' = c.end.new.self in
-    after_commit g.P.Player.next_call g.P.Player.answered g.P.Player.restarted g.P.Player.calls_left g.P.Player.depth l.nearer l.nests l.restarts r r' a c.args.call
+    after_commit g.P.Player l.laws r r' a c.args.call
     was c.args.at c.args.wrote d c.answer.new.self c.answer.ensures c.add.new.spare c.add.ensures.empty c.end.ensures.gone
 
 pub returns-clause-records : goal.returns-clause-records

@@ -5,12 +5,12 @@ use Rattle.norec_world.proofs.actor.Actor.follow.Goals as goal
 
 pub returns-then-is_open-clause-kept : goal.returns-then-is_open-clause-kept
 returns-then-is_open-clause-kept g c =
-    told_kept g.P.Player.next_call g.P.Player.answered g.P.Player.restarted g.P.Player.calls_left g.P.Player.depth c.args.recorded.now c.move_to.new.self c.args.self.now
+    told_kept g.P.Player c.args.recorded.now c.move_to.new.self c.args.self.now
     (λ row. record row { at = c.snapshot.result / 2 }) (record { thread = λ x. refl; outcome = λ x. refl; calls = λ x. refl }) c.move_to.ensures (sym c.is_open.ensures ∙ c.if-is_open.true) c.requires
 
 pub returns-then-is_open-clause-status : goal.returns-then-is_open-clause-status
 returns-then-is_open-clause-status g c =
-    told_status g.P.Player.next_call g.P.Player.answered g.P.Player.restarted g.P.Player.calls_left g.P.Player.depth c.args.recorded.now c.move_to.new.self c.args.self.now
+    told_status g.P.Player c.args.recorded.now c.move_to.new.self c.args.self.now
     (λ row. record row { at = c.snapshot.result / 2 }) (record { thread = λ x. refl; outcome = λ x. refl; calls = λ x. refl }) c.move_to.ensures (sym c.is_open.ensures ∙ c.if-is_open.true) c.requires
 
 pub returns-then-is_open-clause-others : goal.returns-then-is_open-clause-others

@@ -13,7 +13,7 @@ returns-else-is_open-clause-settled g c was d =
     let a = c.args.self.now in
     let r = c.args.recorded.now in
     let closed : a.engine.is_open ≡ false = sym c.is_open-is_open.ensures ∙ c.if-is_open.false in
-    after_reply g.P.Player.next_call g.P.Player.answered g.P.Player.restarted g.P.Player.calls_left g.P.Player.depth l.nearer l.nests l.restarts r r a c.args.call
+    after_reply g.P.Player l.laws r r a c.args.call
     was c.args.reply d c.answer.new.self c.answer.ensures a.spare d.kept.empty c.take.new.self c.take.ensures.after a.again
     (row_stays r a.thread was a.engine.is_open d.fits.1 closed d.kept.row)
 
@@ -29,7 +29,7 @@ returns-then-is_open-clause-settled g c was d =
     let shut : was ≡ true → ⊥ = λ e. (let n = d.in_call.inside e in absurd (cc)) in
     let none : active_of a.thread r.active ≡ None = row_none r a.thread was shut d.kept.row in
     let opened : a.engine.is_open ≡ true = sym c.is_open-is_open.ensures ∙ c.if-is_open.true in
-    after_reply g.P.Player.next_call g.P.Player.answered g.P.Player.restarted g.P.Player.calls_left g.P.Player.depth l.nearer l.nests l.restarts r r' a c.args.call
+    after_reply g.P.Player l.laws r r' a c.args.call
     was c.args.reply d c.answer.new.self c.answer.ensures a.spare d.kept.empty c.take.new.self c.take.ensures.after true
     (row_opened r r' a.thread a.engine.is_open row opened c.open.ensures none p.thread p.outcome)
 
@@ -43,7 +43,7 @@ returns-then-is_open-2-clause-settled g c was d =
     let none : a.pending ≡ None = sym c.in-None.ensures.value in
     let open_before : was ≡ true = was_open was a.engine.is_open c.args.call c.args.reply (λ e. sym (d.in_call.begins e) ∙ ap is_some none) d.fits.0 opened in
     let h : HasRow true r a.thread = subst (λ (b : Bool). HasRow b r a.thread) open_before d.kept.row in
-    after_reply g.P.Player.next_call g.P.Player.answered g.P.Player.restarted g.P.Player.calls_left g.P.Player.depth l.nearer l.nests l.restarts r r' a c.args.call
+    after_reply g.P.Player l.laws r r' a c.args.call
     was c.args.reply d c.answer.new.self c.answer.ensures c.add.new.spare c.add.ensures.empty c.take.new.self c.take.ensures.after a.again
     (row_changed r r' a.thread a.engine.is_open (λ row. record row { calls = row.calls ++ record { call = c.args.call; reply = c.args.reply } ∷ [] }) (λ x. refl) (λ x. refl) c.add.ensures.added h opened)
 
@@ -53,7 +53,7 @@ returns-else-is_open-2-clause-settled g c was d =
     let a = c.args.self.now in
     let r = c.args.recorded.now in
     let closed : a.engine.is_open ≡ false = sym c.is_open-is_open.ensures ∙ c.if-is_open-2.false in
-    after_reply g.P.Player.next_call g.P.Player.answered g.P.Player.restarted g.P.Player.calls_left g.P.Player.depth l.nearer l.nests l.restarts r r a c.args.call
+    after_reply g.P.Player l.laws r r a c.args.call
     was c.args.reply d c.answer.new.self c.answer.ensures a.spare d.kept.empty c.take.new.self c.take.ensures.after a.again
     (row_stays r a.thread was a.engine.is_open d.fits.1 closed d.kept.row)
 

@@ -18,11 +18,11 @@ returns-in-Conflict-clause-settled g c was d =
     let r = c.args.recorded.now in
     let r' = c.end.new.self in
     let fits : AnswerFits was a.engine.is_open c.args.call (Conflict c.in-Conflict.clock c.in-Conflict.word) = subst (AnswerFits was a.engine.is_open c.args.call) c.in-Conflict.is d.fits in
-    subst (IsSettledBy g.P.Player.next_call g.P.Player.answered g.P.Player.restarted g.P.Player.calls_left g.P.Player.depth was r' a) (sym c.retry.ensures)
-    (after_try g.P.Player.next_call g.P.Player.answered g.P.Player.restarted g.P.Player.calls_left g.P.Player.depth l.nearer l.nests l.restarts r r' a c.args.call
+    subst (IsSettledBy g.P.Player was r' a) (sym c.retry.ensures)
+    (after_try g.P.Player l.laws r r' a c.args.call
     was d.kept d.nested d.idle d.free d.status a.pending (d.in_call.inside fits.0) c.restart.new.self
     (ap g.P.Player.depth c.restart.ensures ∙ d.nested.begun fits.0)
-    (ap g.P.Player.calls_left c.restart.ensures ∙ sym (ap (λ (b : Bool). whole g.P.Player.next_call g.P.Player.answered g.P.Player.restarted g.P.Player.calls_left g.P.Player.depth b a.player) fits.0))
+    (ap g.P.Player.calls_left c.restart.ensures ∙ sym (ap (λ (b : Bool). whole g.P.Player b a.player) fits.0))
     fits.1 c.end.ensures.gone)
 
 pub returns-in-Busy-clause-settled : goal.returns-in-Busy-clause-settled
@@ -32,11 +32,11 @@ returns-in-Busy-clause-settled g c was d =
     let r = c.args.recorded.now in
     let fits : AnswerFits was a.engine.is_open c.args.call (Busy c.in-Busy.clock) = subst (AnswerFits was a.engine.is_open c.args.call) c.in-Busy.is d.fits in
     let h : HasRow false r a.thread = subst (λ (b : Bool). HasRow b r a.thread) fits.0 d.kept.row in
-    subst (IsSettledBy g.P.Player.next_call g.P.Player.answered g.P.Player.restarted g.P.Player.calls_left g.P.Player.depth was r a) (sym c.retry-in-Busy.ensures)
-    (after_try g.P.Player.next_call g.P.Player.answered g.P.Player.restarted g.P.Player.calls_left g.P.Player.depth l.nearer l.nests l.restarts r r a c.args.call
+    subst (IsSettledBy g.P.Player was r a) (sym c.retry-in-Busy.ensures)
+    (after_try g.P.Player l.laws r r a c.args.call
     was d.kept d.nested d.idle d.free d.status None refl a.player
     (d.nested.depth_is ∙ ap depth_if fits.0)
-    (sym (ap (λ (b : Bool). whole g.P.Player.next_call g.P.Player.answered g.P.Player.restarted g.P.Player.calls_left g.P.Player.depth b a.player) fits.0))
+    (sym (ap (λ (b : Bool). whole g.P.Player b a.player) fits.0))
     fits.1 h)
 
 pub returns-in-Full-clause-settled : goal.returns-in-Full-clause-settled
@@ -46,7 +46,7 @@ returns-in-Full-clause-settled g c was d =
     let r = c.args.recorded.now in
     let r' = c.end-in-Full.new.self in
     let fits : AnswerFits was a.engine.is_open c.args.call (Full c.in-Full.at) = subst (AnswerFits was a.engine.is_open c.args.call) c.in-Full.is d.fits in
-    after_end g.P.Player.next_call g.P.Player.answered g.P.Player.restarted g.P.Player.calls_left g.P.Player.depth l.nearer l.nests l.restarts r r' a c.args.call
+    after_end g.P.Player l.laws r r' a c.args.call
     was GaveUp d.kept fits.1 c.end-in-Full.ensures.gone
 
 pub returns-in-Conflict-clause-others : goal.returns-in-Conflict-clause-others
@@ -71,22 +71,22 @@ returns-in-Conflict-clause-records g c was d =
     let counts = retried_counts (record a { player = c.restart.new.self }) in
     let snapshot : c.snapshot.result ≡ c.retry.new.self.engine.snapshot =
     c.snapshot.ensures ∙ sym (ap (λ (x : Actor g.row.P.Denot). x.engine.snapshot) c.retry.ensures ∙ ap (λ (e : Core). e.snapshot) (retried_engine (record a { player = c.restart.new.self }))) in
-    let told : Records g.P.Player.answered g.P.Player.restarted was c.args.recorded.now c.end.new.self a c.retry.new.self c.args.call (Conflict c.in-Conflict.clock c.in-Conflict.word) = (
+    let told : Records g.P.Player was c.args.recorded.now c.end.new.self a c.retry.new.self c.args.call (Conflict c.in-Conflict.clock c.in-Conflict.word) = (
       λ row e. c.end.ensures.ended row e ∙ (λ i. with_ended a.thread (record row { at = snapshot i / 2; outcome = outcomes.Conflict }) c.args.recorded.now),
       ap (λ (x : Actor g.row.P.Denot). x.player) c.retry.ensures ∙ (retried_player (record a { player = c.restart.new.self }) ∙ c.restart.ensures),
       record { nth = ap (λ (x : Actor g.row.P.Denot). x.nth) c.retry.ensures ∙ counts.nth; status = ap (λ (x : Actor g.row.P.Denot). x.status) c.retry.ensures ∙ counts.status; again = ap (λ (x : Actor g.row.P.Denot). x.again) c.retry.ensures ∙ counts.again },
       ap (λ (x : Actor g.row.P.Denot). x.pending) c.retry.ensures ∙ retried_pending (record a { player = c.restart.new.self }),
     ) in
-    subst (Records g.P.Player.answered g.P.Player.restarted was c.args.recorded.now c.end.new.self a c.retry.new.self c.args.call) (sym c.in-Conflict.is) told
+    subst (Records g.P.Player was c.args.recorded.now c.end.new.self a c.retry.new.self c.args.call) (sym c.in-Conflict.is) told
 
 pub returns-in-Busy-clause-records : goal.returns-in-Busy-clause-records
 returns-in-Busy-clause-records g c was d =
     let a = c.args.self.now in
     let counts = retried_counts (record a { pending = None }) in
-    let told : Records g.P.Player.answered g.P.Player.restarted was c.args.recorded.now c.args.recorded.now a c.retry-in-Busy.new.self c.args.call (Busy c.in-Busy.clock) = (
+    let told : Records g.P.Player was c.args.recorded.now c.args.recorded.now a c.retry-in-Busy.new.self c.args.call (Busy c.in-Busy.clock) = (
       refl,
       ap (λ (x : Actor g.row.P.Denot). x.player) c.retry-in-Busy.ensures ∙ retried_player (record a { pending = None }),
       record { nth = ap (λ (x : Actor g.row.P.Denot). x.nth) c.retry-in-Busy.ensures ∙ counts.nth; status = ap (λ (x : Actor g.row.P.Denot). x.status) c.retry-in-Busy.ensures ∙ counts.status; again = ap (λ (x : Actor g.row.P.Denot). x.again) c.retry-in-Busy.ensures ∙ counts.again },
       ap (λ (x : Actor g.row.P.Denot). x.pending) c.retry-in-Busy.ensures ∙ retried_pending (record a { pending = None }),
     ) in
-    subst (Records g.P.Player.answered g.P.Player.restarted was c.args.recorded.now c.args.recorded.now a c.retry-in-Busy.new.self c.args.call) (sym c.in-Busy.is) told
+    subst (Records g.P.Player was c.args.recorded.now c.args.recorded.now a c.retry-in-Busy.new.self c.args.call) (sym c.in-Busy.is) told

@@ -11,10 +11,10 @@ use Rattle.norec_world.proofs.actor.Actor.work.Given as goal
 
 abbrev pub invariant-loop-self : goal.invariant-loop-self
 invariant-loop-self g l = record {
-  sound : IsSound g.P.Player.next_call g.P.Player.answered g.P.Player.restarted g.P.Player.calls_left g.P.Player.depth l.memory l.recorded l.self;
-  works : Works g.P.Player.next_call g.P.Player.answered g.P.Player.restarted l.memory.clock l.initial.recorded l.initial.self l.recorded l.self;
-  tracks : l.initial.self.thread ≡ 0 → StillTracks g.P.Player.next_call g.P.Player.answered g.P.Player.calls_left l.memory l.initial.recorded l.initial.self l.memory l.recorded l.self;
-  runs : StillRuns g.P.Player.next_call g.P.Player.answered g.P.Player.restarted g.P.Player.calls_left l.memory l.initial.recorded l.initial.self l.memory l.recorded l.self;
+  sound : IsSound g.P.Player l.memory l.recorded l.self;
+  works : Works g.P.Player l.memory.clock l.initial.recorded l.initial.self l.recorded l.self;
+  tracks : l.initial.self.thread ≡ 0 → StillTracks g.P.Player l.memory l.initial.recorded l.initial.self l.memory l.recorded l.self;
+  runs : StillRuns g.P.Player l.memory l.initial.recorded l.initial.self l.memory l.recorded l.self;
   others : KeepsOthers l.initial.self l.initial.recorded l.self l.recorded;
   holds : l.self.engine.holds ≡ l.initial.self.engine.holds;
   thread : l.self.thread ≡ l.initial.self.thread;
@@ -24,9 +24,9 @@ invariant-loop-self g l = record {
   tries : is_ready l.initial.self.status ≡ true → Tries l.memory.clock (prior_of l.initial.recorded l.initial.self) l.memory.clock l.recorded l.self;
   finishes : is_ready l.initial.self.status ≡ true → ending_of l.self.status ≡ Some Finished → g.P.Player.next_call l.self.player ≡ None;
   still : is_ready l.initial.self.status ≡ false → (l.self ≡ l.initial.self) × (l.recorded ≡ l.initial.recorded);
-  less : ending_of l.self.status ≡ None → IsNoMore g.P.Player.next_call g.P.Player.answered g.P.Player.restarted g.P.Player.calls_left g.P.Player.depth l.initial.self l.self;
+  less : ending_of l.self.status ≡ None → IsNoMore g.P.Player l.initial.self l.self;
 }
 
 abbrev pub decreases-loop-self : goal.decreases-loop-self
-decreases-loop-self g l = work_left g.P.Player.next_call g.P.Player.answered g.P.Player.restarted g.P.Player.calls_left g.P.Player.depth
-    (whole g.P.Player.next_call g.P.Player.answered g.P.Player.restarted g.P.Player.calls_left g.P.Player.depth l.initial.self.engine.is_open l.initial.self.player) l.self
+decreases-loop-self g l = work_left g.P.Player
+    (whole g.P.Player l.initial.self.engine.is_open l.initial.self.player) l.self

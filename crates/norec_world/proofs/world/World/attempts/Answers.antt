@@ -10,9 +10,9 @@ use Rattle.norec_world.proofs.world.World.attempts.Goals as goal
 pub returns-clause-unfinished : goal.returns-clause-unfinished
 returns-clause-unfinished g c =
     subst (λ (w : World g.row.P.Denot). AreOpen w.attempts.active) c.self.view_is
-    (are_open g.P.Player.next_call g.P.Player.answered g.P.Player.restarted g.P.Player.calls_left g.P.Player.depth c.self.inside.memory c.self.inside.recorded c.self.inside.actors.items c.self.invariant.actors c.all.ensures.by_actor)
+    (are_open g.P.Player c.self.inside.memory c.self.inside.recorded c.self.inside.actors.items c.self.invariant.actors c.all.ensures.by_actor)
 
 pub returns-clause-opaque : goal.returns-clause-opaque
 returns-clause-opaque g c =
-    subst (AreOpaque g.P.Player.next_call g.P.Player.answered g.P.Player.restarted g.P.Player.calls_left) c.self.view_is
-    (world_opaque g.P.Player.next_call g.P.Player.answered g.P.Player.restarted g.P.Player.calls_left g.met.P.Player.nearer g.P.Player.depth (world_of c.self.inside) c.self.invariant)
+    subst (AreOpaque g.P.Player) c.self.view_is
+    (world_opaque g.P.Player g.met.P.Player.laws (world_of c.self.inside) c.self.invariant)

@@ -8,8 +8,8 @@ event-goes_on-requires g c = c.loop-goes_on.invariant.waits c.loop-goes_on-test.
 
 pub loop-goes_on-smaller : goal.loop-goes_on-smaller
 loop-goes_on-smaller g c =
-    subst (λ (on : Bool). call_left_at g.P.Player.next_call g.P.Player.answered g.P.Player.restarted g.P.Player.calls_left g.P.Player.depth c.args.actor c.event-goes_on.result c.event-goes_on.new.self < call_left_at g.P.Player.next_call g.P.Player.answered g.P.Player.restarted g.P.Player.calls_left g.P.Player.depth c.args.actor on c.loop-goes_on.self) (sym c.loop-goes_on-test.true)
-    (call_falls g.P.Player.next_call g.P.Player.answered g.P.Player.restarted g.P.Player.calls_left g.P.Player.depth c.args.actor c.event-goes_on.result c.loop-goes_on.self c.event-goes_on.new.self
+    subst (λ (on : Bool). call_left_at g.P.Player c.args.actor c.event-goes_on.result c.event-goes_on.new.self < call_left_at g.P.Player c.args.actor on c.loop-goes_on.self) (sym c.loop-goes_on-test.true)
+    (call_falls g.P.Player c.args.actor c.event-goes_on.result c.loop-goes_on.self c.event-goes_on.new.self
     (c.loop-goes_on.invariant.waits c.loop-goes_on-test.true) c.event-goes_on.ensures.goes.actors c.event-goes_on.ensures.less)
 
 pub loop-goes_on-preserved : goal.loop-goes_on-preserved
@@ -20,15 +20,15 @@ loop-goes_on-preserved g c =
     record {
       took = (
         suc before.took.0,
-        takes_one g.P.Player.next_call g.P.Player.answered g.P.Player.restarted g.P.Player.calls_left c.args.actor before.took.0 c.args.self.now c.loop-goes_on.self c.event-goes_on.new.self before.took.1 goes,
+        takes_one g.P.Player c.args.actor before.took.0 c.args.self.now c.loop-goes_on.self c.event-goes_on.new.self before.took.1 goes,
         counted_one before.took.0 c.loop-goes_on.taken c.saturating_add-taken.result before.took.2 c.saturating_add-taken.ensures,
       );
       counts = events_both c.args.self.now.events c.loop-goes_on.self.events c.event-goes_on.new.self.events c.loop-goes_on.taken 1 c.saturating_add-taken.result before.counts (goes.counts (told_event _)) c.saturating_add-taken.ensures;
       opening = opening_both c.args.self.now c.loop-goes_on.self c.event-goes_on.new.self before.opening goes.opening;
       actors = goes.actors ∙ before.actors;
-      waits = waits_still g.P.Player.next_call g.P.Player.answered g.P.Player.restarted g.P.Player.calls_left g.P.Player.depth c.args.actor c.event-goes_on.result c.loop-goes_on.self c.event-goes_on.new.self waits goes.actors c.event-goes_on.ensures.less;
-      less = leaves_on g.P.Player.next_call g.P.Player.answered g.P.Player.restarted g.P.Player.calls_left g.P.Player.depth c.args.actor c.loop-goes_on.goes_on c.event-goes_on.result c.args.self.now c.loop-goes_on.self c.event-goes_on.new.self c.loop-goes_on-test.true waits before.less c.event-goes_on.ensures.less;
+      waits = waits_still g.P.Player c.args.actor c.event-goes_on.result c.loop-goes_on.self c.event-goes_on.new.self waits goes.actors c.event-goes_on.ensures.less;
+      less = leaves_on g.P.Player c.args.actor c.loop-goes_on.goes_on c.event-goes_on.result c.args.self.now c.loop-goes_on.self c.event-goes_on.new.self c.loop-goes_on-test.true waits before.less c.event-goes_on.ensures.less;
     }
 
 pub returns-clause-less : goal.returns-clause-less
-returns-clause-less g c = over_less g.P.Player.next_call g.P.Player.answered g.P.Player.restarted g.P.Player.calls_left g.P.Player.depth c.args.actor c.loop-goes_on.goes_on c.args.self.now c.loop-goes_on.self c.loop-goes_on-test.false c.loop-goes_on.invariant.less
+returns-clause-less g c = over_less g.P.Player c.args.actor c.loop-goes_on.goes_on c.args.self.now c.loop-goes_on.self c.loop-goes_on-test.false c.loop-goes_on.invariant.less

@@ -12,14 +12,14 @@ use Rattle.norec_world.proofs.world.World.go.Goals as goal
 
 pub returns-in-None-clause-goes : goal.returns-in-None-clause-goes
 returns-in-None-clause-goes g c =
-    goes_nowhere g.P.Player.next_call g.P.Player.answered g.P.Player.restarted g.P.Player.calls_left c.args.self.now c.args.actor (shows_alone g.P.Player.next_call g.P.Player.answered g.P.Player.calls_left c.args.self.now c.waits.ensures.alone)
+    goes_nowhere g.P.Player c.args.self.now c.args.actor (shows_alone g.P.Player c.args.self.now c.waits.ensures.alone)
     c.waits.ensures.commits c.waits.ensures.opaque
     (mapped_none (λ (a : Actor g.row.P.Denot). is_waiting a.status) (slice_get c.args.self.now.actors c.args.actor) (sym c.in-None.is ∙ c.waits.ensures.value))
 
 pub returns-in-Some-false-clause-goes : goal.returns-in-Some-false-clause-goes
 returns-in-Some-false-clause-goes g c =
     let found = mapped_some (λ (a : Actor g.row.P.Denot). is_waiting a.status) (slice_get c.args.self.now.actors c.args.actor) c.in-Some-false.field-0 (sym c.in-Some-false.is ∙ c.waits.ensures.value) in
-    goes_no_more g.P.Player.next_call g.P.Player.answered g.P.Player.restarted g.P.Player.calls_left c.args.self.now c.args.actor (shows_alone g.P.Player.next_call g.P.Player.answered g.P.Player.calls_left c.args.self.now c.waits.ensures.alone)
+    goes_no_more g.P.Player c.args.self.now c.args.actor (shows_alone g.P.Player c.args.self.now c.waits.ensures.alone)
     c.waits.ensures.commits c.waits.ensures.opaque
     found.0 found.1 (found.2 ∙ c.in-Some-false.field-0-test) (c.waits.ensures.sound.each c.args.actor found.0 found.1).done
 
@@ -31,4 +31,4 @@ event-goes_on-requires g c =
 
 pub returns-in-Some-true-clause-goes : goal.returns-in-Some-true-clause-goes
 returns-in-Some-true-clause-goes g c =
-    subst (λ (r : Result (Unit {0}) WorldFault). Goes g.P.Player.next_call g.P.Player.answered g.P.Player.restarted g.P.Player.calls_left c.args.actor c.args.self.now r c.event-goes_on.new.self) (ap told (sym c.ending.ensures) ∙ sym c.told.ensures) c.event-goes_on.ensures.goes
+    subst (λ (r : Result (Unit {0}) WorldFault). Goes g.P.Player c.args.actor c.args.self.now r c.event-goes_on.new.self) (ap told (sym c.ending.ensures) ∙ sym c.told.ensures) c.event-goes_on.ensures.goes

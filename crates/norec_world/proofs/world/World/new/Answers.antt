@@ -17,7 +17,7 @@ invariant_of-result g c = record {
   actors = search rules;
   long = search rules;
   alone = search rules;
-  commits = commits_first g.P.Player.next_call g.P.Player.answered g.P.Player.restarted g.P.Player.calls_left g.P.Player.depth _
+  commits = commits_first g.P.Player _
       c.in_ok-actors.ensures.sound c.new-memory.ensures.clock c.in_ok-actors.ensures.none.0 c.in_ok-actors.ensures.first;
   running = record {
     laid = laid_first c.new-base.result c.new-memory.result c.start_all.new.recorded (search rules) c.new-memory.ensures.fit c.new-memory.ensures.clock c.in_ok-actors.ensures.none.0;
@@ -26,7 +26,7 @@ invariant_of-result g c = record {
     each = λ place p a e f.
         (let based : c.new-base.result ≡ bytes_of c.new-memory.result.words = search rules in
         let players : c.in_ok-opening.opening.items ≡ c.args.players.items = search rules in
-        subst (λ (base : List ℕ). RunsFrom g.P.Player.next_call g.P.Player.answered g.P.Player.restarted g.P.Player.calls_left (first_of p c.args.setup.arena) base c.new-memory.result c.start_all.new.recorded a) (sym based)
+        subst (λ (base : List ℕ). RunsFrom g.P.Player (first_of p c.args.setup.arena) base c.new-memory.result c.start_all.new.recorded a) (sym based)
         (c.in_ok-actors.ensures.runs place p a (ap (λ (xs : List g.row.P.Denot). slice_get xs place) (sym players) ∙ e) f));
   };
 }
@@ -40,7 +40,7 @@ returns-clause-commits g c = (invariant_of-result g c).commits
 pub returns-clause-opaque : goal.returns-clause-opaque
 returns-clause-opaque g c =
     let x = invariant_of-result g c in
-    world_opaque g.P.Player.next_call g.P.Player.answered g.P.Player.restarted g.P.Player.calls_left g.met.P.Player.nearer g.P.Player.depth _ x
+    world_opaque g.P.Player g.met.P.Player.laws _ x
 
 pub returns-clause-anew : goal.returns-clause-anew
 returns-clause-anew g c =
@@ -50,7 +50,7 @@ returns-clause-anew g c =
           (let based : c.new-base.result ≡ c.args.setup.bytes = search rules in
           let players : c.in_ok-opening.opening.items ≡ c.args.players.items = search rules in
           let words : length c.new-memory.result.words ≡ length c.args.setup.bytes / 8 = search rules in
-          subst (λ (n : ℕ). HasStarted g.P.Player.next_call g.P.Player.answered g.P.Player.restarted c.new-memory.result.clock (opening n (replicate c.args.setup.arena 0) c.args.setup.limits.patience c.args.setup.limits.max_commits) c.args.setup.retries place p a)
+          subst (λ (n : ℕ). HasStarted g.P.Player c.new-memory.result.clock (opening n (replicate c.args.setup.arena 0) c.args.setup.limits.patience c.args.setup.limits.max_commits) c.args.setup.retries place p a)
           (words ∙ ap (λ (b : List ℕ). length b / 8) (sym based)) (c.in_ok-actors.ensures.starts place p a (ap (λ (xs : List g.row.P.Denot). slice_get xs place) (sym players) ∙ e) f));
       clock = c.new-memory.ensures.clock;
       words = sym (ap words_of based ∙ words_of-bytes_of c.new-memory.result.words c.new-memory.ensures.fit);

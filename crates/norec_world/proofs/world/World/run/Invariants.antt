@@ -8,11 +8,11 @@ use Rattle.norec_world.proofs.world.World.run.Given as goal
 
 abbrev pub invariant-loop-actor : goal.invariant-loop-actor
 invariant-loop-actor g l = record {
-  led : (results : List (Result (Unit {0}) WorldFault)) × Leads g.P.Player.next_call g.P.Player.answered g.P.Player.restarted g.P.Player.calls_left l.initial.self (take l.actor-index l.schedule) results l.self × (l.passes ≡ passes_of results);
+  led : (results : List (Result (Unit {0}) WorldFault)) × Leads g.P.Player l.initial.self (take l.actor-index l.schedule) results l.self × (l.passes ≡ passes_of results);
   all : l.passes.taken + l.passes.passed + l.passes.starved ≡ l.actor-index;
   counts : l.self.events ≡ counted l.initial.self.events (l.passes.taken + l.passes.starved);
   commits : CommitsInOrder l.self;
-  opaque : AreOpaque g.P.Player.next_call g.P.Player.answered g.P.Player.restarted g.P.Player.calls_left l.self;
+  opaque : AreOpaque g.P.Player l.self;
   opening : SameOpening l.initial.self l.self;
   actors : length l.self.actors ≡ length l.initial.self.actors;
 }

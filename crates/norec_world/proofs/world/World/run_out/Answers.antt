@@ -10,13 +10,13 @@ loop-alloc-init g c = record {
   opening = opening_same c.args.self.now;
   actors = refl;
   none = λ l. (refl, refl);
-  less = no_more_first g.P.Player.next_call g.P.Player.answered g.P.Player.restarted g.P.Player.calls_left g.P.Player.depth c.args.actor c.args.self.now;
+  less = no_more_first g.P.Player c.args.actor c.args.self.now;
 }
 
 pub loop-alloc-smaller : goal.loop-alloc-smaller
 loop-alloc-smaller g c =
     let waits = c.is_waiting.ensures.waits c.loop-alloc-test.true in
-    run_falls g.P.Player.next_call g.P.Player.answered g.P.Player.restarted g.P.Player.calls_left g.P.Player.depth c.args.actor c.args.self.now c.loop-alloc.self c.finish_call.new.self
+    run_falls g.P.Player c.args.actor c.args.self.now c.loop-alloc.self c.finish_call.new.self
     c.loop-alloc.invariant.actors c.finish_call.ensures.actors waits c.loop-alloc.invariant.less c.finish_call.ensures.less
 
 pub loop-alloc-preserved : goal.loop-alloc-preserved
@@ -24,7 +24,7 @@ loop-alloc-preserved g c =
     let waits = c.is_waiting.ensures.waits c.loop-alloc-test.true in
     let before = c.loop-alloc.invariant in
     let t = c.finish_call.ensures.took in
-    let both = takes_both g.P.Player.next_call g.P.Player.answered g.P.Player.restarted g.P.Player.calls_left c.args.actor before.took.0 t.0 c.args.self.now c.loop-alloc.self c.finish_call.new.self before.took.1 t.1 in
+    let both = takes_both g.P.Player c.args.actor before.took.0 t.0 c.args.self.now c.loop-alloc.self c.finish_call.new.self before.took.1 t.1 in
     let there = waits_there c.loop-alloc.self c.args.actor waits in
     let within = within_of c.loop-alloc.self.actors c.args.actor there.0 there.1 in
     record {
@@ -33,5 +33,5 @@ loop-alloc-preserved g c =
       opening = opening_both c.args.self.now c.loop-alloc.self c.finish_call.new.self before.opening c.finish_call.ensures.opening;
       actors = c.finish_call.ensures.actors ∙ before.actors;
       none = λ l. absurd (let same = before.actors in omega arith);
-      less = no_more_on g.P.Player.next_call g.P.Player.answered g.P.Player.restarted g.P.Player.calls_left g.P.Player.depth c.args.actor c.args.self.now c.loop-alloc.self c.finish_call.new.self before.actors waits before.less c.finish_call.ensures.less;
+      less = no_more_on g.P.Player c.args.actor c.args.self.now c.loop-alloc.self c.finish_call.new.self before.actors waits before.less c.finish_call.ensures.less;
     }
