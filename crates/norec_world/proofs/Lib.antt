@@ -2,6 +2,9 @@ mod Examples
 pub mod WordLists
 pub mod ActiveRows
 pub mod OthersAttempts
+pub mod OldSteps
+pub mod OldCalls
+pub mod Taken
 pub mod TryEnds
 pub mod PlayerDepths
 pub mod TiedEngines
@@ -14,8 +17,10 @@ pub mod LogAgreement
 pub mod InTries
 pub mod RunAnswers
 pub mod RunBegins
+pub mod Seen
+pub mod Laid
+pub mod RunTaken
 pub mod RunSteps
-pub mod RunTurns
 pub mod RunCalls
 pub mod RunOthers
 pub mod PlayerLaws
@@ -25,10 +30,10 @@ pub mod SoundCalls
 pub mod TryCalls
 pub mod TryChains
 pub mod LocalWork
-pub mod Events
 pub mod SoundSteps
 pub mod TrySteps
 pub mod LessLeft
+pub mod Worked
 pub mod Worlds
 pub mod WorldEvents
 pub mod Refusals
@@ -43,6 +48,8 @@ pub mod SoloCalls
 pub mod SoloSteps
 pub mod Beginnings
 pub mod Ends
+pub mod Events
+pub mod EventWorlds
 pub mod AlikeAnswers
 pub mod HeldAttempts
 pub mod AlikeCalls

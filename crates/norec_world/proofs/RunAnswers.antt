@@ -11,7 +11,7 @@ use Rattle.itm_model.specs.Machine.{after, is_open, opened, undone, undone_from}
 use Rattle.itm_model.specs.State.{Block}
 use Rattle.norec_engine.specs.Core.{Core}
 use Rattle.norec_engine.specs.Stands.{stands_for}
-use Rattle.norec_engine.specs.Proceeds.{Replies, Commits, Conflicts}
+use Rattle.norec_engine.specs.Proceeds.{Replies, RepliesTo}
 use Rattle.norec_engine.specs.declared.answer.Answer.TheVariants.{Reply, Committed, Conflict, Full}
 use Rattle.norec_world.specs.declared.attempt.Attempt.{Attempt}
 use Rattle.norec_world.specs.declared.attempt.Outcome.TheVariants as outcomes
@@ -22,18 +22,19 @@ use Rattle.norec_world.specs.Attempts.{of_thread, alone}
 use Rattle.norec_world.specs.declared.attempt.Entry.{Entry}
 use Rattle.norec_world.specs.declared.attempt.Outcome.{Outcome}
 use Rattle.norec_world.specs.Alone.{state_then}
-use Rattle.norec_world.specs.Cells.{words_of}
+use Rattle.norec_world.specs.Cells.{words_of, Cells}
 use Rattle.norec_world.specs.Opacity.{Between, EndsAs, answered_all, begin_code, follows, after_try, IsRunOf, IsTryAt}
 use Rattle.norec_world.specs.Rows.{Rows, active_of}
 use Rattle.norec_world.specs.Status.{ending_of}
-use Rattle.norec_world.specs.Records.{Records, StopsAt}
-use Rattle.norec_world.specs.Sound.{IsAnswered, IsSettledBy}
+use Rattle.norec_world.specs.Records.{StopsAt}
 use Rattle.norec_world.specs.Memories.{bytes_at, words_at}
 use Rattle.norec_world.specs.Runs.{run_after, begins_at, IsInTry, IsRun}
 use Rattle.norec_world.proofs.ActiveRows.{changed_here, row_is_of}
 use Rattle.norec_world.proofs.SoloRuns.{player_snoc, stands_open}
 use Rattle.norec_world.proofs.TryEnds.{none_pending}
 use Rattle.norec_world.proofs.RunLists.{of_thread_own, run_more, run_still}
+use Rattle.norec_world.proofs.Seen.{HasSeen, memory_at, same_at}
+use Rattle.norec_world.proofs.Taken.{HasAnswered}
 use Rattle.norec_world.proofs.InTries.{try_replies, try_stops, try_commits, left_state}
 use Rattle.script_vm.specs.Rules.{Obeys, Rules}
 
@@ -48,13 +49,16 @@ undone_arena_from s (b ∷ bs) = undone_arena_from (record s { memory = b.saved.
 undone_arena : (s : State) → (undone s).arena ≡ s.arena
 undone_arena s = undone_arena_from s s.blocks
 
-module _ {P : Type 0} (rules : Rules P) (laws : Obeys rules)
-    (first : Between P) (base : List ℕ) (n : ℕ) (r r1 : Rows) (a last : Actor P) (call : Call) (mid : Core) where
+module _ {P : Type 0} (rules : Rules P) (laws : Obeys rules) (first : Between P) (base : List ℕ) (cells cells' : Cells) (r r1 : Rows) (mid : Core) (a last : Actor P) (call : Call)
+    (seen : HasSeen base cells cells' r mid a.engine) (run : IsRun rules first base (cells.clock / 2) r (record a { engine = mid })) where
+  abbrev n : ℕ
+  n = cells.clock / 2
+
   abbrev Run : ℕ → Rows → Actor P → Type 0
   Run k rows x = IsRun rules first base k rows x
 
   abbrev RunOf : List Attempt → ℕ → Type 0
-  RunOf ended thread = IsRunOf rules MAX_DEPTH n (bytes_at base ended) (Some first) (of_thread thread ended)
+  RunOf ended thread = IsRunOf rules MAX_DEPTH (cells.clock / 2) (bytes_at base ended) (Some first) (of_thread thread ended)
 
   abbrev now_at : List Attempt → ℕ → Option (Between P)
   now_at ended thread = run_after rules (bytes_at base ended) (Some first) (of_thread thread ended)
@@ -64,9 +68,13 @@ module _ {P : Type 0} (rules : Rules P) (laws : Obeys rules)
 
   -- ## A call of an open transaction has its reply
 
-  module _ (reply : Replied) (run : Run n r (record a { engine = mid })) (d : IsAnswered rules true r a call (Reply reply)) (inside : mid.is_open ≡ true) (g : Replies mid call reply a.engine)
-      (told : Records rules true r r1 a last call (Reply reply)) (s : IsSettledBy rules true r1 a last)
-      (snapshot : mid.snapshot / 2 ≤ a.engine.snapshot / 2) (less : (m : List ℕ) → Agrees m a.engine.log → Agrees m mid.log) where
+  module _ (reply : Replied) (m : HasAnswered rules true cells cells' r r1 mid a last call (Reply reply)) where
+    inside : mid.is_open ≡ true
+    inside = m.taken.was_is
+
+    g : Replies mid call reply a.engine
+    g = subst (λ (o : Option Call). RepliesTo mid o reply a.engine) m.taken.doing m.ends
+
     with_call : Attempt → Attempt
     with_call x = record x { calls = x.calls ++ record { call = call; reply = reply } ∷ [] }
 
@@ -74,21 +82,21 @@ module _ {P : Type 0} (rules : Rules P) (laws : Obeys rules)
     unfolding with_call
     reply_runs =
         let t = run.inside inside in
-        let ended : r1.ended ≡ r.ended = ap (λ (x : Rows). x.ended) told.0 in
+        let ended : r1.ended ≡ r.ended = ap (λ (x : Rows). x.ended) m.told.0 in
         let earlier = t.4.began in
-        let try = try_replies rules laws t.0 t.1 a.player mid a.engine call reply t.4 inside d.in_call.asks g (omega arith) less in
+        let try = try_replies rules laws t.0 t.1 a.player mid a.engine call reply t.4 inside m.answered.in_call.asks g (let up = seen.up inside in omega arith) (seen.fewer (g.still inside)) in
         let row : Attempt = with_call t.1 in
-        let still_open : last.engine.is_open ≡ true = ap (λ (c : Core). c.is_open) s.engine ∙ g.still inside in
+        let still_open : last.engine.is_open ≡ true = ap (λ (c : Core). c.is_open) m.settled.engine ∙ g.still inside in
         record {
-          run = run_same r.ended r1.ended a.thread last.thread ended s.thread run.run;
+          run = run_same r.ended r1.ended a.thread last.thread ended m.settled.thread run.run;
           inside = λ o. (
             t.0,
             row,
-            (λ i. now_at (ended i) (s.thread i)) ∙ t.2,
-            ap (λ (k : ℕ). active_of k r1.active) s.thread ∙ (ap (λ (x : Rows). active_of a.thread x.active) told.0 ∙ changed_here a.thread with_call r.active t.1 (λ x. refl) t.3),
-            subst (λ (c : Core). IsInTry rules t.0 row last.player c) (sym s.engine) (subst (λ (q : P). IsInTry rules t.0 row q a.engine) (sym told.1) try),
-            told.2 ∙ t.5,
-            t.6 ∙ sym told.3,
+            (λ i. now_at (ended i) (m.settled.thread i)) ∙ t.2,
+            ap (λ (k : ℕ). active_of k r1.active) m.settled.thread ∙ (ap (λ (x : Rows). active_of a.thread x.active) m.told.0 ∙ changed_here a.thread with_call r.active t.1 (λ x. refl) t.3),
+            subst (λ (c : Core). IsInTry rules t.0 row last.player c) (sym m.settled.engine) (subst (λ (q : P). IsInTry rules t.0 row q a.engine) (sym m.told.1) try),
+            m.told.2 ∙ t.5,
+            t.6 ∙ sym m.told.3,
           );
           between = λ o. absurd (both last.engine.is_open still_open o);
         }
@@ -96,13 +104,7 @@ module _ {P : Type 0} (rules : Rules P) (laws : Obeys rules)
   -- ## An attempt ends
 
   -- the run with it, over perhaps more commits
-  module _ (n' : ℕ) (later : n ≤ n') (still : (k : ℕ) → k ≤ n → bytes_at base r1.ended k ≡ bytes_at base r.ended k) (run : Run n r (record a { engine = mid })) (inside : mid.is_open ≡ true) where
-    b : Between P
-    b = (run.inside inside).0
-
-    row : Attempt
-    row = (run.inside inside).1
-
+  module _ (n' : ℕ) (later : cells.clock / 2 ≤ n') (still : (k : ℕ) → k ≤ cells.clock / 2 → bytes_at base r1.ended k ≡ bytes_at base r.ended k) (inside : mid.is_open ≡ true) where
     pub ended_run : (over : Attempt) → over.thread ≡ a.thread → r1.ended ≡ r.ended ++ over ∷ [] → last.thread ≡ a.thread → IsTryAt rules MAX_DEPTH n' (bytes_at base r1.ended) (run.inside inside).0 (Some (run.inside inside).4.start) over
         → IsRunOf rules MAX_DEPTH n' (bytes_at base r1.ended) (Some first) (of_thread last.thread r1.ended)
         × (run_after rules (bytes_at base r1.ended) (Some first) (of_thread last.thread r1.ended)
@@ -119,39 +121,37 @@ module _ {P : Type 0} (rules : Rules P) (laws : Obeys rules)
         )
 
     -- by its commit
-    module _ (at : ℕ) (wrote : Bool) (d : IsAnswered rules true r a call (Committed at wrote)) (g : Commits mid at wrote a.engine)
-        (told : Records rules true r r1 a last call (Committed at wrote)) (s : IsSettledBy rules true r1 a last)
-        (older : mid.snapshot / 2 ≤ n) (m : List ℕ) (mem : IsMemory mid.words m) (same : bytes_of m ≡ bytes_at base r.ended at) (agrees : Agrees m mid.log) where
-      done : Attempt
-      done = record (run.inside inside).1 { calls = (run.inside inside).1.calls ++ record { call = call; reply = Done } ∷ []; at = at; outcome = if wrote then outcomes.Committed else outcomes.ReadOnly }
-
+    module _ (at : ℕ) (wrote : Bool) (m : HasAnswered rules true cells cells' r r1 mid a last call (Committed at wrote)) where
       at_most : at ≤ n
-      at_most = (let is = g.at_is in omega arith)
+      at_most = (let is = m.ends.at_is in let late = seen.late in omega arith)
 
-      bytes_same : bytes_of m ≡ bytes_at base r1.ended at
-      bytes_same = same ∙ sym (still at at_most)
+      bytes_same : bytes_of (words_at base r.ended at) ≡ bytes_at base r1.ended at
+      bytes_same = same_at seen at at_most ∙ sym (still at at_most)
+
+      pub commit_agrees : Agrees (words_at base r.ended at) mid.log
+      commit_agrees = subst (λ (k : ℕ). Agrees (words_at base r.ended k) mid.log) (sym m.ends.at_is) (seen.logged inside)
 
       pub commit_ended : r1.ended ≡ r.ended ++ record (run.inside inside).1 { calls = (run.inside inside).1.calls ++ record { call = call; reply = Done } ∷ []; at = at; outcome = if wrote then outcomes.Committed else outcomes.ReadOnly } ∷ []
-      commit_ended = ap (λ (x : Rows). x.ended) (told.0 (run.inside inside).1 (run.inside inside).3)
+      commit_ended = ap (λ (x : Rows). x.ended) (m.told.0 (run.inside inside).1 (run.inside inside).3)
 
       pub commit_left : alone MAX_DEPTH (bytes_at base r1.ended at) (record (run.inside inside).1 { calls = (run.inside inside).1.calls ++ record { call = call; reply = Done } ∷ []; at = at; outcome = if wrote then outcomes.Committed else outcomes.ReadOnly })
-          ≡ after MAX_DEPTH (stands_for mid m) Commit
+          ≡ after MAX_DEPTH (stands_for mid (words_at base r.ended at)) Commit
       commit_left =
           let t = run.inside inside in
-          left_state rules laws n' (bytes_at base r1.ended) t.0 t.1 a.player mid a.engine call at wrote m t.4 inside d.in_call.asks d.fits.2 g (let e = t.4.began in let is = g.at_is in omega arith) (omega (arith, at_most, later)) mem bytes_same agrees
+          left_state rules laws n' (bytes_at base r1.ended) t.0 t.1 a.player mid a.engine call at wrote (words_at base r.ended at) t.4 inside m.answered.in_call.asks m.answered.fits.2 m.ends (let e = t.4.began in let is = m.ends.at_is in omega arith) (omega (arith, at_most, later)) (memory_at seen at at_most) bytes_same commit_agrees
 
       pub commit_runs : Run n' r1 last
       commit_runs =
           let t = run.inside inside in
-          let try = try_commits rules laws n' (bytes_at base r1.ended) t.0 t.1 a.player mid a.engine call at wrote m t.4 inside d.in_call.asks d.fits.2 g (let e = t.4.began in let is = g.at_is in omega arith) (omega (arith, at_most, later)) mem bytes_same agrees in
-          let over = ended_run _ (row_is_of a.thread r.active t.1 t.3) commit_ended s.thread try in
-          let closed : last.engine.is_open ≡ false = ap (λ (c : Core). c.is_open) s.engine ∙ d.fits.1 in
-          let ready : last.status ≡ Ready = told.4 ∙ d.status in
-          let nothing = none_pending rules r r1 a last true s ready in
+          let try = try_commits rules laws n' (bytes_at base r1.ended) t.0 t.1 a.player mid a.engine call at wrote (words_at base r.ended at) t.4 inside m.answered.in_call.asks m.answered.fits.2 m.ends (let e = t.4.began in let is = m.ends.at_is in omega arith) (omega (arith, at_most, later)) (memory_at seen at at_most) bytes_same commit_agrees in
+          let over = ended_run _ (row_is_of a.thread r.active t.1 t.3) commit_ended m.settled.thread try in
+          let closed : last.engine.is_open ≡ false = ap (λ (c : Core). c.is_open) m.settled.engine ∙ m.answered.fits.1 in
+          let ready : last.status ≡ Ready = m.told.4 ∙ m.answered.status in
+          let nothing = none_pending rules r r1 a last true m.settled ready in
           let arena : (alone MAX_DEPTH (bytes_at base r1.ended at) (record t.1 { calls = t.1.calls ++ record { call = call; reply = Done } ∷ []; at = at; outcome = if wrote then outcomes.Committed else outcomes.ReadOnly })).arena ≡ last.engine.arena =
-          ap (λ (x : State). x.arena) commit_left ∙ (sym (g.arena_is m) ∙ ap (λ (c : Core). c.arena) (sym s.engine)) in
+          ap (λ (x : State). x.arena) commit_left ∙ (sym (m.ends.arena_is (words_at base r.ended at)) ∙ ap (λ (c : Core). c.arena) (sym m.settled.engine)) in
           let player : answered_all rules.answered (rules.answered t.4.start.player (begin_code t.0.again)) (map (λ (x : Entry). x.reply) (t.1.calls ++ record { call = call; reply = Done } ∷ [])) ≡ last.player =
-          player_snoc rules.answered (rules.answered t.4.start.player (begin_code t.0.again)) t.1.calls (record { call = call; reply = Done }) ∙ (ap (λ (q : P). rules.answered q Done) (sym t.4.player) ∙ sym told.1) in
+          player_snoc rules.answered (rules.answered t.4.start.player (begin_code t.0.again)) t.1.calls (record { call = call; reply = Done }) ∙ (ap (λ (q : P). rules.answered q Done) (sym t.4.player) ∙ sym m.told.1) in
           record {
             run = over.0;
             inside = λ o. absurd (both last.engine.is_open o closed);
@@ -161,8 +161,8 @@ module _ {P : Type 0} (rules : Rules P) (laws : Obeys rules)
               record {
                 leads = refl;
                 arena = refl;
-                again = told.2;
-                tries = (let one = told.3 in omega arith);
+                again = m.told.2;
+                tries = (let one = m.told.3 in omega arith);
                 pending = λ x e. absurd (let none = sym nothing ∙ e in cc);
               },
             );
@@ -174,7 +174,7 @@ module _ {P : Type 0} (rules : Rules P) (laws : Obeys rules)
 
     -- without one: the memory of its position agrees with its log
     module _ (k : ℕ) (outcome : Outcome) (ends : (x : State) → is_open x ≡ true → EndsAs outcome x) (thread : last.thread ≡ a.thread) (stops : StopsAt a.thread r k outcome r1)
-        (older : (run.inside inside).1.began ≤ k) (newer : k ≤ n) (mem : IsMemory mid.words (words_at base r.ended k)) (same : bytes_of (words_at base r.ended k) ≡ bytes_at base r.ended k) (agrees : Agrees (words_at base r.ended k) mid.log) where
+        (older : (run.inside inside).1.began ≤ k) (newer : k ≤ cells.clock / 2) (agrees : Agrees (words_at base r.ended k) mid.log) where
       words_same : words_at base r1.ended k ≡ words_at base r.ended k
       words_same = ap words_of (still k newer)
 
@@ -182,10 +182,10 @@ module _ {P : Type 0} (rules : Rules P) (laws : Obeys rules)
       stop_ended = ap (λ (x : Rows). x.ended) (stops (run.inside inside).1 (run.inside inside).3)
 
       memory_now : IsMemory mid.words (words_at base r1.ended k)
-      memory_now = subst (IsMemory mid.words) (sym words_same) mem
+      memory_now = subst (IsMemory mid.words) (sym words_same) (memory_at seen k newer)
 
       same_now : bytes_of (words_at base r1.ended k) ≡ bytes_at base r1.ended k
-      same_now = ap bytes_of words_same ∙ (same ∙ sym (still k newer))
+      same_now = ap bytes_of words_same ∙ (same_at seen k newer ∙ sym (still k newer))
 
       agrees_now : Agrees (words_at base r1.ended k) mid.log
       agrees_now = subst (λ (m : List ℕ). Agrees m mid.log) (sym words_same) agrees
@@ -208,20 +208,21 @@ module _ {P : Type 0} (rules : Rules P) (laws : Obeys rules)
           ∙ (ap (λ (m : List ℕ). state_then MAX_DEPTH (opened m t.start.arena t.start.props) row.calls) (sym same_now) ∙ sym (t.stands (words_at base r1.ended k) memory_now agrees_now))
 
     -- in conflict: its player goes back to its begin
-    module _ (clock : ℕ) (word : Option ℕ) (d : IsAnswered rules true r a call (Conflict clock word)) (g : Conflicts mid clock word a.engine)
-        (told : Records rules true r r1 a last call (Conflict clock word)) (s : IsSettledBy rules true r1 a last)
-        (older : (run.inside inside).1.began ≤ last.engine.snapshot / 2) (newer : last.engine.snapshot / 2 ≤ n) (mem : IsMemory mid.words (words_at base r.ended (last.engine.snapshot / 2)))
-        (same : bytes_of (words_at base r.ended (last.engine.snapshot / 2)) ≡ bytes_at base r.ended (last.engine.snapshot / 2)) (agrees : Agrees (words_at base r.ended (last.engine.snapshot / 2)) mid.log) where
+    module _ (clock : ℕ) (word : Option ℕ) (m : HasAnswered rules true cells cells' r r1 mid a last call (Conflict clock word)) where
       pub conflict_runs : Run n' r1 last
       conflict_runs =
           let t = run.inside inside in
           let k : ℕ = last.engine.snapshot / 2 in
-          let over = stop_run k outcomes.Conflict (λ x o. o) s.thread told.0 older newer mem same agrees in
-          let state = stop_left k outcomes.Conflict (λ x o. o) s.thread told.0 older newer mem same agrees in
-          let closed : last.engine.is_open ≡ false = ap (λ (c : Core). c.is_open) s.engine ∙ d.fits.1 in
-          let player : rules.restarted (answered_all rules.answered (rules.answered t.4.start.player (begin_code t.0.again)) (map (λ (x : Entry). x.reply) t.1.calls)) ≡ last.player = ap rules.restarted (sym t.4.player) ∙ sym told.1 in
+          let snapshot : last.engine.snapshot ≡ mid.snapshot = ap (λ (c : Core). c.snapshot) (m.settled.engine ∙ m.ends.stays) in
+          let early = t.4.began in
+          let late = seen.late in
+          let agrees = subst (λ (j : ℕ). Agrees (words_at base r.ended (j / 2)) mid.log) (sym snapshot) (seen.logged inside) in
+          let over = stop_run k outcomes.Conflict (λ x o. o) m.settled.thread m.told.0 (omega arith) (omega arith) agrees in
+          let state = stop_left k outcomes.Conflict (λ x o. o) m.settled.thread m.told.0 (omega arith) (omega arith) agrees in
+          let closed : last.engine.is_open ≡ false = ap (λ (c : Core). c.is_open) m.settled.engine ∙ m.answered.fits.1 in
+          let player : rules.restarted (answered_all rules.answered (rules.answered t.4.start.player (begin_code t.0.again)) (map (λ (x : Entry). x.reply) t.1.calls)) ≡ last.player = ap rules.restarted (sym t.4.player) ∙ sym m.told.1 in
           let arena : (undone (alone MAX_DEPTH (bytes_at base r1.ended k) (record t.1 { at = k; outcome = outcomes.Conflict }))).arena ≡ last.engine.arena =
-          undone_arena (alone MAX_DEPTH (bytes_at base r1.ended k) (record t.1 { at = k; outcome = outcomes.Conflict })) ∙ (ap (λ (x : State). x.arena) state ∙ (ap (λ (c : Core). c.arena) (sym g.stays) ∙ ap (λ (c : Core). c.arena) (sym s.engine))) in
+          undone_arena (alone MAX_DEPTH (bytes_at base r1.ended k) (record t.1 { at = k; outcome = outcomes.Conflict })) ∙ (ap (λ (x : State). x.arena) state ∙ (ap (λ (c : Core). c.arena) (sym m.ends.stays) ∙ ap (λ (c : Core). c.arena) (sym m.settled.engine))) in
           record {
             run = over.0;
             inside = λ o. absurd (both last.engine.is_open o closed);
@@ -231,8 +232,8 @@ module _ {P : Type 0} (rules : Rules P) (laws : Obeys rules)
               record {
                 leads = refl;
                 arena = refl;
-                again = told.2.again ∙ t.5;
-                tries = (let more = one_more (nat_lt a.retries a.nth) told.2.nth told.2.status gave_up in let same_try = t.6 in omega arith);
+                again = m.told.2.again ∙ t.5;
+                tries = (let more = one_more (nat_lt a.retries a.nth) m.told.2.nth m.told.2.status gave_up in let same_try = t.6 in omega arith);
                 pending = λ x e. absurd (let none = sym (nothing gave_up) ∙ e in cc);
               },
             );
@@ -244,19 +245,18 @@ module _ {P : Type 0} (rules : Rules P) (laws : Obeys rules)
 
           ready : (w : Bool) → last.status ≡ (if w then Ended GaveUp else a.status) → (ending_of last.status ≡ Some GaveUp → ⊥) → last.status ≡ Ready
           ready true f gave_up = absurd (gave_up (ap ending_of f))
-          ready false f gave_up = f ∙ d.status
+          ready false f gave_up = f ∙ m.answered.status
 
           nothing : (ending_of last.status ≡ Some GaveUp → ⊥) → last.pending ≡ None
-          nothing gave_up = none_pending rules r r1 a last true s (ready (nat_lt a.retries a.nth) told.2.status gave_up)
+          nothing gave_up = none_pending rules r r1 a last true m.settled (ready (nat_lt a.retries a.nth) m.told.2.status gave_up)
 
     -- as full: the actor gives up
-    module _ (at : ℕ) (d : IsAnswered rules true r a call (Full at)) (told : Records rules true r r1 a last call (Full at)) (s : IsSettledBy rules true r1 a last)
-        (older : (run.inside inside).1.began ≤ at) (newer : at ≤ n) (mem : IsMemory mid.words (words_at base r.ended at)) (same : bytes_of (words_at base r.ended at) ≡ bytes_at base r.ended at) (agrees : Agrees (words_at base r.ended at) mid.log) where
+    module _ (at : ℕ) (m : HasAnswered rules true cells cells' r r1 mid a last call (Full at)) (older : (run.inside inside).1.began ≤ at) (newer : at ≤ cells.clock / 2) where
       pub full_runs : Run n' r1 last
       full_runs =
-          let closed : last.engine.is_open ≡ false = ap (λ (c : Core). c.is_open) s.engine ∙ d.fits.1 in
+          let closed : last.engine.is_open ≡ false = ap (λ (c : Core). c.is_open) m.settled.engine ∙ m.answered.fits.1 in
           record {
-            run = (stop_run at outcomes.Full (λ x o. o) s.thread told.0 older newer mem same agrees).0;
+            run = (stop_run at outcomes.Full (λ x o. o) m.settled.thread m.told.0 older newer (subst (λ (k : ℕ). Agrees (words_at base r.ended k) mid.log) (sym m.ends.at_is) (seen.still inside))).0;
             inside = λ o. absurd (both last.engine.is_open o closed);
-            between = λ o gave_up starved. absurd (gave_up (ap ending_of told.1));
+            between = λ o gave_up starved. absurd (gave_up (ap ending_of m.told.1));
           }

@@ -1,5 +1,5 @@
 -- An actor's run between two tries: calls outside a transaction, and begins.
-use Rattle.std.proofs.Common.{◌≡◌, ℕ, zero, suc, ◌+◌, ◌/◌, ◌≤◌, Bool, true, false, nat_lt, if◌then◌else◌, List, [], Option, None, Some, refl, sym, ap, subst, ◌∙◌, arith}
+use Rattle.std.proofs.Common.{◌≡◌, ℕ, zero, suc, ◌+◌, ◌/◌, ◌≤◌, Bool, true, false, nat_lt, if◌then◌else◌, List, [], Option, None, Some, refl, sym, ap, subst, ◌∙◌, arith, is_some}
 use Rattle.itm_types.specs.declared.call.Call.{Call}
 use Rattle.itm_types.specs.declared.call.Call.TheVariants.{Begin, Commit, Read, Write}
 use Rattle.itm_types.specs.declared.call.Props.{Props}
@@ -13,8 +13,9 @@ use Rattle.script_vm.specs.Depth.{is_begin}
 use Rattle.norec_engine.proofs.Overlays.{Agrees-drop}
 use Rattle.norec_engine.specs.Core.{Core}
 use Rattle.norec_engine.specs.Stands.{state_over}
-use Rattle.norec_engine.specs.Proceeds.{Replies, IsBusy, recoded}
-use Rattle.norec_engine.specs.declared.answer.Answer.TheVariants.{Reply, Busy}
+use Rattle.norec_engine.specs.Proceeds.{Replies, recoded, RepliesTo}
+use Rattle.norec_engine.specs.declared.answer.Answer.{Answer}
+use Rattle.norec_engine.specs.declared.answer.Answer.TheVariants.{Reply, Committed, Conflict, Busy, Full}
 use Rattle.norec_world.specs.declared.attempt.Attempt.{Attempt}
 use Rattle.norec_world.specs.declared.attempt.End.TheVariants.{GaveUp}
 use Rattle.norec_world.specs.declared.actor.Actor.{Actor}
@@ -22,14 +23,17 @@ use Rattle.norec_world.specs.declared.actor.Status.TheVariants.{Ready, Ended}
 use Rattle.norec_world.specs.Attempts.{of_thread}
 use Rattle.norec_world.specs.Opacity.{Beginning, Between, begin_of, begin_within, IsRunOf}
 use Rattle.norec_world.specs.Rows.{Rows, active_of, with_opened}
+use Rattle.norec_world.specs.Cells.{Cells}
 use Rattle.norec_world.specs.Status.{ending_of}
-use Rattle.norec_world.specs.Records.{Records, again_after}
-use Rattle.norec_world.specs.Sound.{IsAnswered, IsSettledBy}
-use Rattle.norec_world.specs.Memories.{bytes_at}
+use Rattle.norec_world.specs.Records.{again_after, Opens}
+use Rattle.norec_world.specs.Memories.{bytes_at, words_at}
 use Rattle.norec_world.specs.Runs.{run_after, IsInTry, IsBeforeTry, IsRun}
 use Rattle.norec_world.proofs.ActiveRows.{opened_here}
 use Rattle.norec_world.proofs.Solos.{comes_past}
-use Rattle.norec_world.proofs.TryEnds.{none_pending}
+use Rattle.norec_world.proofs.RecordedRows.{was_open}
+use Rattle.norec_world.proofs.TryEnds.{none_pending, begin_call, begin_opens}
+use Rattle.norec_world.proofs.Seen.{HasSeen, memory_at}
+use Rattle.norec_world.proofs.Taken.{HasAnswered}
 use Rattle.norec_world.proofs.InTries.{try_begins}
 use Rattle.script_vm.specs.Rules.{Obeys, Rules}
 
@@ -70,125 +74,165 @@ module _ {P : Type 0} (rules : Rules P) (laws : Obeys rules) where
       coded true = refl
       coded false = refl
 
-  module _ (first : Between P) (base : List ℕ) (n : ℕ) (r r1 : Rows) (a last : Actor P) (call : Call) (mid : Core) where
-    abbrev Run : ℕ → Rows → Actor P → Type 0
-    Run k rows x = IsRun rules first base k rows x
+module _ {P : Type 0} (rules : Rules P) (laws : Obeys rules) (first : Between P) (base : List ℕ) (cells cells' : Cells) (r r1 : Rows) (mid : Core) (a last : Actor P) (call : Call)
+    (seen : HasSeen base cells cells' r mid a.engine) (run : IsRun rules first base (cells.clock / 2) r (record a { engine = mid })) where
+  abbrev Run : ℕ → Rows → Actor P → Type 0
+  Run k rows x = IsRun rules first base k rows x
 
-    abbrev RunOf : List Attempt → ℕ → Type 0
-    RunOf ended thread = IsRunOf rules MAX_DEPTH n (bytes_at base ended) (Some first) (of_thread thread ended)
+  abbrev RunOf : List Attempt → ℕ → Type 0
+  RunOf ended thread = IsRunOf rules MAX_DEPTH (cells.clock / 2) (bytes_at base ended) (Some first) (of_thread thread ended)
 
-    abbrev now_at : List Attempt → ℕ → Option (Between P)
-    now_at ended thread = run_after rules (bytes_at base ended) (Some first) (of_thread thread ended)
+  abbrev now_at : List Attempt → ℕ → Option (Between P)
+  now_at ended thread = run_after rules (bytes_at base ended) (Some first) (of_thread thread ended)
 
-    run_same : (xs ys : List Attempt) (t u : ℕ) → ys ≡ xs → u ≡ t → RunOf xs t → RunOf ys u
-    run_same xs ys t u e f h = subst (λ (l : List Attempt). RunOf l u) (sym e) (subst (RunOf xs) (sym f) h)
+  run_same : (xs ys : List Attempt) (t u : ℕ) → ys ≡ xs → u ≡ t → RunOf xs t → RunOf ys u
+  run_same xs ys t u e f h = subst (λ (l : List Attempt). RunOf l u) (sym e) (subst (RunOf xs) (sym f) h)
 
-    -- where the actor stands before the answer
-    before : Run n r (record a { engine = mid }) → mid.is_open ≡ false → a.status ≡ Ready
-        → (b : Between P) × (now_at r.ended a.thread ≡ Some b) × IsBeforeTry rules n b (record a { engine = mid })
-    before run outside ready = run.between outside (λ e. absurd (let x = sym (ap ending_of ready) ∙ e in cc)) (λ e. absurd (let x = sym (ap ending_of ready) ∙ e in cc))
+  -- where the actor stands before the answer
+  before : mid.is_open ≡ false → a.status ≡ Ready → (b : Between P) × (now_at r.ended a.thread ≡ Some b) × IsBeforeTry rules (cells.clock / 2) b (record a { engine = mid })
+  before outside ready = run.between outside (λ e. absurd (let x = sym (ap ending_of ready) ∙ e in cc)) (λ e. absurd (let x = sym (ap ending_of ready) ∙ e in cc))
 
-    -- ## A reply outside a transaction
+  -- ## A reply outside a transaction
 
-    module _ (reply : Replied) (run : Run n r (record a { engine = mid })) (d : IsAnswered rules false r a call (Reply reply)) (outside : mid.is_open ≡ false) (g : Replies mid call reply a.engine)
-        (told : Records rules false r r1 a last call (Reply reply)) (s : IsSettledBy rules false r1 a last) (m : List ℕ) (mem : IsMemory mid.words m) (agrees : Agrees m a.engine.log) where
-      ready : last.status ≡ Ready
-      ready = told.4 ∙ d.status
+  module _ (reply : Replied) (m : HasAnswered rules false cells cells' r r1 mid a last call (Reply reply)) where
+    outside : mid.is_open ≡ false
+    outside = m.taken.was_is
 
-      pub outside_runs : is_begin call ≡ false → last.engine.is_open ≡ false → r1.ended ≡ r.ended → Run n r1 last
-      outside_runs other closed ended =
-          let t = before run outside d.status in
-          let k = t.2 in
-          let refused = refused_outside mid a.engine call reply m g other outside mem agrees in
-          let arena : last.engine.arena ≡ mid.arena = ap (λ (c : Core). c.arena) (s.engine ∙ g.stays) in
-          let nothing = none_pending rules r r1 a last false s ready in
-          record {
-            run = run_same r.ended r1.ended a.thread last.thread ended s.thread run.run;
-            inside = λ o. absurd (both last.engine.is_open o closed);
-            between = λ o gave_up starved. (
-              t.0,
-              (λ i. now_at (ended i) (s.thread i)) ∙ t.1,
-              record {
-                leads = k.leads ∙ (past_outside a.player t.0.arena call d.in_call.asks other ∙ (ap (λ (x : Replied). comes_to (rules.answered a.player x) t.0.arena) (sym refused) ∙ ap (λ (q : P). comes_to q t.0.arena) (sym told.1)));
-                arena = arena ∙ k.arena;
-                again = agains last.engine.is_open closed told.2 ∙ k.again;
-                tries = (let nth = told.3 in let fewer = k.tries in omega arith);
-                pending = λ x e. absurd (let none = sym nothing ∙ e in cc);
-              },
-            );
-          }
-        where
-          agains : (o : Bool) → o ≡ false → last.again ≡ again_after o a.pending a.again → last.again ≡ a.again
-          agains true e f = absurd (cc)
-          agains false e f = f
+    g : Replies mid call reply a.engine
+    g = subst (λ (o : Option Call). RepliesTo mid o reply a.engine) m.taken.doing m.ends
 
-      -- an accepted begin
-      pub begin_runs : (row : Attempt) → a.pending ≡ Some row → (props : Props) (room : ℕ) → call ≡ Begin props room → last.engine.is_open ≡ true → mid.writes ≡ [] → r1 ≡ with_opened (record row { at = last.engine.snapshot / 2 }) r
-          → n ≤ a.engine.snapshot / 2 → Run n r1 last
-      begin_runs row pending props room is opened empty rows late =
-          let t = before run outside d.status in
-          let k = t.2 in
-          let p = k.pending row pending in
-          let q = d.in_call.opens row pending in
-          let at : ℕ = last.engine.snapshot / 2 in
-          let ended : r1.ended ≡ r.ended = ap (λ (x : Rows). x.ended) rows in
-          let g' : Replies mid (Begin props room) reply a.engine = subst (λ (c : Call). Replies mid c reply a.engine) is g in
-          let asks : rules.next_call a.player ≡ Some (Begin props room) = d.in_call.asks ∙ ap (λ (c : Call). Some c) is in
-          let props_same : row.props ≡ props = (let both_begin = sym p.3 ∙ (k.leads ∙ begin_here a.player t.0.arena props room asks) in ap (λ (x : Beginning P). x.props) (some_same _ _ both_begin)) in
-          let try = try_begins rules laws t.0 row a.player mid a.engine props room reply p.3 p.1 props_same p.2 (let nth = q.nth in let fewer = k.tries in omega arith) outside empty k.arena p.4 g'
-          (let early = p.0 in omega arith) m mem agrees at in
-          let free : active_of row.thread r.active ≡ None = ap (λ (u : ℕ). active_of u r.active) q.thread ∙ d.kept.row in
-          record {
-            run = run_same r.ended r1.ended a.thread last.thread ended s.thread run.run;
-            inside = λ o. (
-              t.0,
-              record row { at = at },
-              (λ i. now_at (ended i) (s.thread i)) ∙ t.1,
-              ap (λ (u : ℕ). active_of u r1.active) (s.thread ∙ sym q.thread) ∙ (ap (λ (x : Rows). active_of row.thread x.active) rows ∙ opened_here (record row { at = at }) r.active free),
-              subst (λ (c : Core). IsInTry rules t.0 (record row { at = at }) last.player c) (sym s.engine) (subst (λ (x : P). IsInTry rules t.0 (record row { at = at }) x a.engine) (sym told.1) try),
-              agains last.engine.is_open opened a.pending pending told.2,
-              q.nth ∙ sym told.3,
-            );
-            between = λ o. absurd (both last.engine.is_open opened o);
-          }
-        where
-          some_same : (x y : Beginning P) → Some x ≡ Some y → x ≡ y
-          some_same x y e = cc
+    ready : last.status ≡ Ready
+    ready = m.told.4 ∙ m.answered.status
 
-          agains : (o : Bool) → o ≡ true → (x : Option Attempt) → x ≡ Some row → last.again ≡ again_after o x a.again → last.again ≡ true
-          agains true e (Some y) f h = h
-          agains true e None f h = absurd (cc)
-          agains false e x f h = absurd (cc)
+    -- its memory is the words as they are: nothing is logged
+    shut : last.engine.is_open ≡ false → a.engine.is_open ≡ false
+    shut o = ap (λ (c : Core). c.is_open) (sym m.settled.engine) ∙ o
 
-    -- ## A begin found the clock odd once too often
+    memory : IsMemory mid.words cells'.words
+    memory = (sym m.taken.words, m.taken.tied.fit)
 
-    pub busy_runs : (clock : ℕ) → Run n r (record a { engine = mid }) → IsAnswered rules false r a call (Busy clock) → IsBusy mid clock a.engine
-        → Records rules false r r1 a last call (Busy clock) → IsSettledBy rules false r1 a last → Run n r1 last
-    busy_runs clock run d g told s =
-        let t = before run g.closed d.status in
+    empty_log : last.engine.is_open ≡ false → Agrees cells'.words a.engine.log
+    empty_log o = subst (Agrees cells'.words) (sym (m.taken.tied.settled.closed (shut o)).0) tt
+
+    outside_runs : is_begin call ≡ false → last.engine.is_open ≡ false → r1.ended ≡ r.ended → Run (cells.clock / 2) r1 last
+    outside_runs other closed ended =
+        let t = before outside m.answered.status in
         let k = t.2 in
-        let closed : last.engine.is_open ≡ false = ap (λ (c : Core). c.is_open) s.engine ∙ d.fits.1 in
-        let ended : r1.ended ≡ r.ended = ap (λ (x : Rows). x.ended) told.0 in
+        let refused = refused_outside rules laws mid a.engine call reply cells'.words g other outside memory (empty_log closed) in
+        let arena : last.engine.arena ≡ mid.arena = ap (λ (c : Core). c.arena) (m.settled.engine ∙ g.stays) in
+        let nothing = none_pending rules r r1 a last false m.settled ready in
         record {
-          run = run_same r.ended r1.ended a.thread last.thread ended s.thread run.run;
+          run = run_same r.ended r1.ended a.thread last.thread ended m.settled.thread run.run;
           inside = λ o. absurd (both last.engine.is_open o closed);
           between = λ o gave_up starved. (
             t.0,
-            (λ i. now_at (ended i) (s.thread i)) ∙ t.1,
+            (λ i. now_at (ended i) (m.settled.thread i)) ∙ t.1,
             record {
-              leads = k.leads ∙ ap (λ (q : P). comes_to q t.0.arena) (sym told.1);
-              arena = ap (λ (c : Core). c.arena) (s.engine ∙ g.stays) ∙ k.arena;
-              again = told.2.again ∙ k.again;
-              tries = (let more = no_less (nat_lt a.retries a.nth) told.2.nth in let fewer = k.tries in omega arith);
-              pending = λ x e. absurd (let none = sym (none_pending rules r r1 a last false s (ready (nat_lt a.retries a.nth) told.2.status gave_up)) ∙ e in cc);
+              leads = k.leads ∙ (past_outside rules laws a.player t.0.arena call m.answered.in_call.asks other ∙ (ap (λ (x : Replied). comes_to rules laws (rules.answered a.player x) t.0.arena) (sym refused) ∙ ap (λ (q : P). comes_to rules laws q t.0.arena) (sym m.told.1)));
+              arena = arena ∙ k.arena;
+              again = agains last.engine.is_open closed m.told.2 ∙ k.again;
+              tries = (let nth = m.told.3 in let fewer = k.tries in omega arith);
+              pending = λ x e. absurd (let none = sym nothing ∙ e in cc);
             },
           );
         }
       where
-        no_less : (w : Bool) → last.nth ≡ (if w then a.nth else a.nth + 1) → a.nth ≤ last.nth
-        no_less true e = omega arith
-        no_less false e = omega arith
+        agains : (o : Bool) → o ≡ false → last.again ≡ again_after o a.pending a.again → last.again ≡ a.again
+        agains true e f = absurd (cc)
+        agains false e f = f
 
-        ready : (w : Bool) → last.status ≡ (if w then Ended GaveUp else a.status) → (ending_of last.status ≡ Some GaveUp → ⊥) → last.status ≡ Ready
-        ready true f gave_up = absurd (gave_up (ap ending_of f))
-        ready false f gave_up = f ∙ d.status
+    -- an accepted begin
+    begin_runs : (row : Attempt) → a.pending ≡ Some row → (props : Props) (room : ℕ) → call ≡ Begin props room → last.engine.is_open ≡ true → r1 ≡ with_opened (record row { at = last.engine.snapshot / 2 }) r → Run (cells.clock / 2) r1 last
+    begin_runs row pending props room is opened rows =
+        let now : a.engine.is_open ≡ true = ap (λ (c : Core). c.is_open) (sym m.settled.engine) ∙ opened in
+        let late = seen.opens outside now in
+        let k_late : a.engine.snapshot / 2 ≤ cells.clock / 2 = (let reached = m.taken.tied.settled.reached in let late = m.taken.tied.late in let same = (m.taken.outside refl).0 in omega arith) in
+        let t = before outside m.answered.status in
+        let k = t.2 in
+        let p = k.pending row pending in
+        let q = m.answered.in_call.opens row pending in
+        let at : ℕ = last.engine.snapshot / 2 in
+        let ended : r1.ended ≡ r.ended = ap (λ (x : Rows). x.ended) rows in
+        let g' : Replies mid (Begin props room) reply a.engine = subst (λ (c : Call). Replies mid c reply a.engine) is g in
+        let asks : rules.next_call a.player ≡ Some (Begin props room) = m.answered.in_call.asks ∙ ap (λ (c : Call). Some c) is in
+        let props_same : row.props ≡ props = (let both_begin = sym p.3 ∙ (k.leads ∙ begin_here rules laws a.player t.0.arena props room asks) in ap (λ (x : Beginning P). x.props) (some_same _ _ both_begin)) in
+        let try = try_begins rules laws t.0 row a.player mid a.engine props room reply p.3 p.1 props_same p.2 (let nth = q.nth in let fewer = k.tries in omega arith) outside (m.taken.empty refl) k.arena p.4 g'
+        (let early = p.0 in omega arith) (words_at base r.ended (a.engine.snapshot / 2)) (memory_at seen (a.engine.snapshot / 2) k_late) (seen.now now) at in
+        let free : active_of row.thread r.active ≡ None = ap (λ (u : ℕ). active_of u r.active) q.thread ∙ m.answered.kept.row in
+        record {
+          run = run_same r.ended r1.ended a.thread last.thread ended m.settled.thread run.run;
+          inside = λ o. (
+            t.0,
+            record row { at = at },
+            (λ i. now_at (ended i) (m.settled.thread i)) ∙ t.1,
+            ap (λ (u : ℕ). active_of u r1.active) (m.settled.thread ∙ sym q.thread) ∙ (ap (λ (x : Rows). active_of row.thread x.active) rows ∙ opened_here (record row { at = at }) r.active free),
+            subst (λ (c : Core). IsInTry rules t.0 (record row { at = at }) last.player c) (sym m.settled.engine) (subst (λ (x : P). IsInTry rules t.0 (record row { at = at }) x a.engine) (sym m.told.1) try),
+            agains last.engine.is_open opened a.pending pending m.told.2,
+            q.nth ∙ sym m.told.3,
+          );
+          between = λ o. absurd (both last.engine.is_open opened o);
+        }
+      where
+        some_same : (x y : Beginning P) → Some x ≡ Some y → x ≡ y
+        some_same x y e = cc
+
+        agains : (o : Bool) → o ≡ true → (x : Option Attempt) → x ≡ Some row → last.again ≡ again_after o x a.again → last.again ≡ true
+        agains true e (Some y) f h = h
+        agains true e None f h = absurd (cc)
+        agains false e x f h = absurd (cc)
+
+    -- of no open transaction
+    reply_shut : Run (cells.clock / 2) r1 last
+    reply_shut = by_open last.engine.is_open refl a.pending refl m.told.0
+      where
+        begins : (row : Attempt) → a.pending ≡ Some row → is_begin call ≡ true
+        begins row p = sym (m.answered.in_call.begins refl) ∙ ap is_some p
+
+        by_open : (o : Bool) → last.engine.is_open ≡ o → (p : Option Attempt) → a.pending ≡ p → Opens o r p (last.engine.snapshot / 2) r1 → Run (cells.clock / 2) r1 last
+        by_open true o (Some row) p told = (let c = begin_call call (begins row p) in begin_runs row p c.0 c.1 c.2 o told)
+        by_open true o None p told =
+            let now = ap (λ (c : Core). c.is_open) (sym m.settled.engine) ∙ o in
+            absurd (let f : false ≡ true = was_open false a.engine.is_open call reply (λ x. sym (m.answered.in_call.begins x) ∙ ap is_some p) m.answered.fits.0 now in cc)
+        by_open false o (Some row) p told =
+            let c = begin_call call (begins row p) in
+            absurd (begin_opens mid a.engine cells'.words c.0 c.1 reply (subst (λ (x : Call). Replies mid x reply a.engine) c.2 g) outside memory (empty_log o) (shut o))
+        by_open false o None p told = outside_runs (sym (m.answered.in_call.begins refl) ∙ ap is_some p) o (ap (λ (x : Rows). x.ended) told)
+
+  -- ## A begin found the clock odd once too often
+
+  busy_runs : (clock : ℕ) (m : HasAnswered rules false cells cells' r r1 mid a last call (Busy clock)) → Run (cells.clock / 2) r1 last
+  busy_runs clock m =
+      let t = before m.ends.closed m.answered.status in
+      let k = t.2 in
+      let closed : last.engine.is_open ≡ false = ap (λ (c : Core). c.is_open) m.settled.engine ∙ m.answered.fits.1 in
+      let ended : r1.ended ≡ r.ended = ap (λ (x : Rows). x.ended) m.told.0 in
+      record {
+        run = run_same r.ended r1.ended a.thread last.thread ended m.settled.thread run.run;
+        inside = λ o. absurd (both last.engine.is_open o closed);
+        between = λ o gave_up starved. (
+          t.0,
+          (λ i. now_at (ended i) (m.settled.thread i)) ∙ t.1,
+          record {
+            leads = k.leads ∙ ap (λ (q : P). comes_to rules laws q t.0.arena) (sym m.told.1);
+            arena = ap (λ (c : Core). c.arena) (m.settled.engine ∙ m.ends.stays) ∙ k.arena;
+            again = m.told.2.again ∙ k.again;
+            tries = (let more = no_less (nat_lt a.retries a.nth) m.told.2.nth in let fewer = k.tries in omega arith);
+            pending = λ x e. absurd (let none = sym (none_pending rules r r1 a last false m.settled (ready (nat_lt a.retries a.nth) m.told.2.status gave_up)) ∙ e in cc);
+          },
+        );
+      }
+    where
+      no_less : (w : Bool) → last.nth ≡ (if w then a.nth else a.nth + 1) → a.nth ≤ last.nth
+      no_less true e = omega arith
+      no_less false e = omega arith
+
+      ready : (w : Bool) → last.status ≡ (if w then Ended GaveUp else a.status) → (ending_of last.status ≡ Some GaveUp → ⊥) → last.status ≡ Ready
+      ready true f gave_up = absurd (gave_up (ap ending_of f))
+      ready false f gave_up = f ∙ m.answered.status
+
+  pub shut_runs : (answer : Answer) → HasAnswered rules false cells cells' r r1 mid a last call answer → Run (cells.clock / 2) r1 last
+  shut_runs (Reply reply) m = reply_shut reply m
+  shut_runs (Committed at wrote) m = absurd (let f : false ≡ true = m.answered.fits.0 in cc)
+  shut_runs (Conflict clock word) m = absurd (let f : false ≡ true = m.answered.fits.0 in cc)
+  shut_runs (Busy clock) m = busy_runs clock m
+  shut_runs (Full at) m = absurd (let f : false ≡ true = m.answered.fits.0 in cc)

@@ -1,9 +1,8 @@
 -- An actor's run over a step.
-use Rattle.std.proofs.Common.{◌≡◌, ℕ, zero, suc, ◌/◌, Bool, true, false, List, None, Some, refl, sym, ap, subst, ◌∙◌}
+use Rattle.std.proofs.Common.{◌≡◌, ℕ, ◌/◌, Bool, true, false, List, ◌++◌, None, Some, refl, sym, ap, subst, ◌∙◌}
 use Rattle.itm_types.specs.declared.step.Step.{Step}
-use Rattle.itm_types.specs.declared.step.Step.TheVariants.{Load, Store, Cas}
 use Rattle.itm_model.specs.declared.limits.TheConstants.{MAX_DEPTH}
-use Rattle.norec_engine.specs.Core.{Core, handed_to, word_loaded}
+use Rattle.norec_engine.specs.Core.{Core, handed_to}
 use Rattle.norec_world.specs.declared.attempt.Attempt.{Attempt}
 use Rattle.norec_world.specs.declared.actor.Actor.{Actor}
 use Rattle.norec_world.specs.declared.actor.Status.{Status}
@@ -17,27 +16,30 @@ use Rattle.norec_world.specs.Memories.{bytes_at}
 use Rattle.norec_world.specs.Runs.{run_after, IsRun}
 use Rattle.norec_world.proofs.ActiveRows.{changed_here}
 use Rattle.norec_world.proofs.InTries.{try_handed, try_told}
+use Rattle.itm_types.specs.declared.call.Call.{Call}
+use Rattle.norec_engine.specs.declared.answer.Next.{Next}
+use Rattle.norec_engine.proofs.KeptFields.{handed_is}
+use Rattle.norec_world.specs.Cells.{Cells, found}
+use Rattle.norec_world.specs.Commits.{AreCounted}
+use Rattle.norec_world.specs.LogAgreement.{AreLaid, Sees}
+use Rattle.norec_world.specs.Memories.{words_at}
+use Rattle.norec_world.specs.Runs.{RunsFrom}
+use Rattle.norec_world.specs.Records.{Tells}
+use Rattle.norec_world.specs.Sound.{IsDone}
+use Rattle.norec_world.specs.declared.actor.Status.TheVariants.{Ready}
+use Rattle.norec_world.proofs.Laid.{laid_same}
+use Rattle.norec_world.proofs.RunTaken.{runs_recorded}
+use Rattle.norec_world.proofs.Seen.{HasSeen, step_seen}
+use Rattle.norec_world.proofs.SoundSteps.{IsStepping, mid, same, step_taken, waits}
+use Rattle.norec_world.proofs.Taken.{now}
 use Rattle.script_vm.specs.Rules.{Obeys, Rules}
 
 both : (n : Bool) → n ≡ true → n ≡ false → ⊥
 both n t f = absurd (cc)
 
--- the attempt is told where it reads
+-- an attempt that is told where it reads
 abbrev reading : ℕ → Attempt → Attempt
 reading k row = record row { at = k }
-
--- ## What a step leaves of an engine
-
-word_arena : (e : Core) (holds : Bool) (word seen : ℕ) → ((word_loaded e holds word seen).arena ≡ e.arena) × ((word_loaded e holds word seen).again ≡ e.again) × ((word_loaded e holds word seen).log ≡ e.log)
-word_arena e true word seen = (refl, refl, refl)
-word_arena e false word seen = (refl, refl, refl)
-
-pub handed_kept : (e : Core) (step : Step) (seen : ℕ) → ((handed_to e (Some step) seen).arena ≡ e.arena) × ((handed_to e (Some step) seen).again ≡ e.again) × ((handed_to e (Some step) seen).log ≡ e.log)
-handed_kept e (Load zero) seen = (refl, refl, refl)
-handed_kept e (Load (suc word)) seen = word_arena e e.holds word seen
-handed_kept e (Store zero value) seen = (refl, refl, refl)
-handed_kept e (Store (suc word) value) seen = (refl, refl, refl)
-handed_kept e (Cas cell from to) seen = (refl, refl, refl)
 
 module _ {P : Type 0} (rules : Rules P) (laws : Obeys rules) (first : Between P) (base : List ℕ) where
   abbrev Run : ℕ → Rows → Actor P → Type 0
@@ -47,7 +49,7 @@ module _ {P : Type 0} (rules : Rules P) (laws : Obeys rules) (first : Between P)
   pub run_handed : (n : ℕ) (r : Rows) (a : Actor P) (step : Step) (seen : ℕ) (status : Status) → ending_of a.status ≡ None → (handed_to a.engine (Some step) seen).is_open ≡ a.engine.is_open
       → Run n r a → Run n r (record a { engine = handed_to a.engine (Some step) seen; status = status })
   run_handed n r a step seen status on same x =
-      let kept = handed_kept a.engine step seen in
+      let kept = (handed_is a.engine step seen).keeps in
       record {
         run = x.run;
         inside = λ o. (let t = x.inside (sym same ∙ o) in (t.0, t.1, t.2, t.3, try_handed rules laws t.0 t.1 a.player a.engine step seen t.4, t.5, t.6));
@@ -56,7 +58,7 @@ module _ {P : Type 0} (rules : Rules P) (laws : Obeys rules) (first : Between P)
             let k = t.2 in (
               t.0,
               t.1,
-              record { leads = k.leads; arena = kept.0 ∙ k.arena; again = k.again; tries = k.tries; pending = λ row e. (let p = k.pending row e in (p.0, p.1, p.2, p.3, kept.1 ∙ p.4)) },
+              record { leads = k.leads; arena = kept.arena ∙ k.arena; again = k.again; tries = k.tries; pending = λ row e. (let p = k.pending row e in (p.0, p.1, p.2, p.3, kept.again ∙ p.4)) },
             ));
       }
 
@@ -88,3 +90,32 @@ module _ {P : Type 0} (rules : Rules P) (laws : Obeys rules) (first : Between P)
             λ y row e. (let same : reading (a.engine.snapshot / 2) t.1 ≡ row = (let z : Some (reading (a.engine.snapshot / 2) t.1) ≡ Some row = sym now ∙ e in cc) in ap (λ (w : Attempt). w.at) (sym same)),
             ended,
           )
+
+-- ## A whole step
+
+module _ {P : Type 0} {rules : Rules P} (laws : Obeys rules) {cells : Cells} {r : Rows} {old : Actor P} {call : Call} {what : Next} {cells' : Cells} {new : Core} (m : IsStepping rules cells r old call what cells' new)
+    (status : Status) (ready : status ≡ Ready) (first : Between P) (base : List ℕ) (laid : AreLaid base cells r) (runs : RunsFrom rules first base cells r old) where
+  seen : HasSeen base cells cells' r (mid m) new
+  seen =
+      let w = waits m in
+      let sees = runs.sees (λ e. absurd (let z = sym (ap ending_of m.waiting) ∙ e in cc)) in
+      subst (λ (c : Cells). HasSeen base cells c r (mid m) new) (sym m.cells_are) (step_seen base cells r old.engine new m.step laid m.sound.tied sees w.waits w.lawful m.resumed.joins)
+
+  run_mid : IsRun rules first base (cells.clock / 2) r (record old { engine = mid m; status = status })
+  run_mid = run_handed rules laws first base (cells.clock / 2) r old m.step (found cells m.step) status (ap ending_of m.waiting) (same m).is_open runs.runs
+
+  ended_told : (b : Bool) (thread at : ℕ) (r1 rows : Rows) → IsTold thread b r1 at rows → rows.ended ≡ r1.ended
+  ended_told true thread at r1 rows t = ap (λ (x : Rows). x.ended) (t.moves refl)
+  ended_told false thread at r1 rows t = ap (λ (x : Rows). x.ended) (t.stays refl)
+
+  pub step_runs : (r1 : Rows) (last : Actor P) → IsDone rules old.engine.is_open r r1 (record old { engine = new; status = status }) last call what → Tells rules old.engine.is_open r r1 (record old { engine = new; status = status }) last call what
+      → (rows : Rows) → IsTold last.thread last.engine.is_open r1 (last.engine.snapshot / 2) rows → (more : List Attempt) → rows.ended ≡ r.ended ++ more → AreCounted cells'.clock rows.ended
+      → AreLaid base cells' rows × RunsFrom rules first base cells' rows last
+  step_runs r1 last done tells rows told more ended counted =
+      let taken = step_taken m status ready in
+      let same_ended = ended_told last.engine.is_open last.thread (last.engine.snapshot / 2) r1 rows told in
+      let x = runs_recorded rules laws first base old.engine.is_open cells cells' r (mid m) (record old { engine = new; status = status }) call seen run_mid r1 last more (sym same_ended ∙ ended) what taken done tells in
+      let t = run_told rules laws first base (cells'.clock / 2) r1 rows last (now taken done tells).sound.kept.row told x.run in (
+        laid_same base cells' r1 rows same_ended (x.laid (subst (AreCounted cells'.clock) same_ended counted)),
+        record { runs = t.0; sees = λ fed. subst (λ (l : List Attempt). Sees (words_at base l) cells' last.engine) (sym same_ended) x.sees; starved = λ e. absurd (x.fed e); reads = t.1 },
+      )

@@ -21,7 +21,7 @@ use Rattle.norec_world.specs.Tracks.{IsOnWay, TracksAs, Tracks}
 use Rattle.norec_world.proofs.SoloRuns.{finishes, roomed_on}
 use Rattle.norec_world.proofs.Parts.{starved}
 use Rattle.norec_world.proofs.SoloTracks.{told, came_now, call_told, call_on, call_asks}
-use Rattle.norec_world.proofs.SoundCalls.{asked_tied, at_once}
+use Rattle.norec_world.proofs.OldCalls.{asked_tied, at_once}
 use Rattle.script_vm.specs.Rules.{Obeys, Rules}
 
 module _ {P : Type 0} (rules : Rules P) (laws : Obeys rules)

@@ -1,7 +1,6 @@
 -- The actor goes on as its player alone, whatever the engine does next.
 use Rattle.std.proofs.Common.{◌≡◌, ◌≢◌, ◌⊎◌, inl, inr, ℕ, zero, suc, ◌+◌, ◌*◌, ◌/◌, ◌%◌, ◌<◌, ◌≤◌, Bool, true, false, ◌&&◌, not, ◌==◌, eq-eqb, nat_le, nat_lt, slice_set, slice_get, slice_index, List, [], ◌∷◌, ◌++◌, length, Option, None, Some, refl, sym, ap, subst, ◌∙◌, arith, append_assoc, if◌then◌else◌}
 use Rattle.std.proofs.lemmas.Bool.{cond-true, and_from, le-leb}
-use Rattle.itm_types.specs.declared.row.LogRow.{LogRow}
 use Rattle.write_set.specs.declared.row.Row.{Row}
 use Rattle.write_set.specs.Rows.{overlay}
 use Rattle.itm_types.specs.declared.step.Step.{Step}
@@ -39,16 +38,10 @@ use Rattle.norec_world.specs.declared.attempt.End.{End}
 use Rattle.norec_world.specs.declared.attempt.End.TheVariants.{GaveUp, Finished}
 use Rattle.std.proofs.lemmas.List.{append-nil, take_all, length-set}
 use Rattle.std.proofs.lemmas.Option.{slice_get-get_or}
+use Rattle.norec_world.proofs.LogAgreement.{is_free, agrees_more}
 use Rattle.norec_world.proofs.Alones.{asked}
 use Rattle.norec_world.proofs.Solos.{begin_found, ended_block, full_block, open_block, no_block, passing, outside_call}
 use Rattle.script_vm.specs.Rules.{Obeys, Rules}
-
--- the store that frees the clock
-abbrev pub is_free : Step → Bool
-is_free (Load cell) = false
-is_free (Store zero value) = true
-is_free (Store (suc word) value) = false
-is_free (Cas cell from to) = false
 
 abbrev entry : Call → Reply → Entry
 entry c r = record { call = c; reply = r }
@@ -63,10 +56,6 @@ one_found thread row r e same = ap (active_of thread) e ∙ cond-true (row.threa
 
 pub one_gone : (thread : ℕ) (row : Attempt) (r : Rows) → r.active ≡ row ∷ [] → row.thread ≡ thread → without (is_of thread) r.active ≡ []
 one_gone thread row r e same = ap (without (is_of thread)) e ∙ cond-true (row.thread == thread) [] (row ∷ []) (eq-eqb row.thread thread same)
-
-pub agrees_more : (m : List ℕ) (xs ys : List LogRow) → Agrees m xs → Agrees m ys → Agrees m (xs ++ ys)
-agrees_more m [] ys a b = b
-agrees_more m (x ∷ xs) ys a b = (a.0, agrees_more m xs ys a.1 b)
 
 -- ## One call more
 

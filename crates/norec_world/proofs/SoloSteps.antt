@@ -24,9 +24,10 @@ use Rattle.norec_world.specs.Follows.{Follows, row_of}
 use Rattle.norec_world.specs.Records.{Records, Tells, IsTold}
 use Rattle.norec_world.specs.Tracks.{IsOnWay, IsUnderWay, TracksAs, Tracks}
 use Rattle.norec_world.proofs.TiedEngines.{IsMid, hands}
-use Rattle.norec_world.proofs.SoundSteps.{step_answered}
-use Rattle.norec_world.proofs.SoloRuns.{one_changed, is_free, hands_on, frees_on, IsClosing}
-use Rattle.norec_world.proofs.SoloTracks.{halved, told, told_freed, HandedSame, handed_same, freed_by, hand_asks, hand_told}
+use Rattle.norec_world.proofs.OldSteps.{step_answered}
+use Rattle.norec_world.proofs.LogAgreement.{is_free, freed_by}
+use Rattle.norec_world.proofs.SoloRuns.{one_changed, hands_on, frees_on, IsClosing}
+use Rattle.norec_world.proofs.SoloTracks.{halved, told, told_freed, HandedSame, handed_same, hand_asks, hand_told}
 use Rattle.script_vm.specs.Rules.{Obeys, Rules}
 
 module _ {P : Type 0} (rules : Rules P) (laws : Obeys rules)

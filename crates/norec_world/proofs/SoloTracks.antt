@@ -33,7 +33,8 @@ use Rattle.norec_world.specs.Follows.{Follows, row_of}
 use Rattle.norec_world.specs.Records.{Records, Opens, AddsCall, EndsBy, StopsAt, again_after, Asks, begins_again, asked_pending}
 use Rattle.norec_world.specs.Rows.{Rows, with_opened}
 use Rattle.norec_world.specs.Tracks.{OpensNext, IsOnWay, IsUnderWay, TracksAs}
-use Rattle.norec_world.proofs.SoloRuns.{IsClosing, is_free, agrees_more, comes_on, asks_on, replies_on, commits_on, full_on, begins_on, begin_opens, passes_on, no_conflict, no_busy, no_rows}
+use Rattle.norec_world.proofs.LogAgreement.{agrees_more}
+use Rattle.norec_world.proofs.SoloRuns.{IsClosing, comes_on, asks_on, replies_on, commits_on, full_on, begins_on, begin_opens, passes_on, no_conflict, no_busy, no_rows}
 use Rattle.script_vm.specs.Rules.{Obeys, Rules}
 
 pub halved : (n k : ℕ) → n ≡ 2 * k → n / 2 ≡ k
@@ -74,21 +75,9 @@ handed_same e (Some (Store zero value)) seen = record { snapshot = refl; is_open
 handed_same e (Some (Store (suc word) value)) seen = record { snapshot = refl; is_open = refl; doing = refl; words = refl; writes = refl }
 handed_same e (Some (Cas cell from to)) seen = record { snapshot = refl; is_open = refl; doing = refl; words = refl; writes = refl }
 
-loaded_freed : (e : Core) (holds : Bool) (word seen : ℕ) → (word_loaded e holds word seen).freed ≡ e.freed
-loaded_freed e true word seen = refl
-loaded_freed e false word seen = refl
-
 loaded_clock : (e : Core) (holds : Bool) (word seen : ℕ) → (word_loaded e holds word seen).clock ≡ e.clock
 loaded_clock e true word seen = refl
 loaded_clock e false word seen = refl
-
--- whether the clock was freed by it
-pub freed_by : (e : Core) (s : Step) (seen : ℕ) → e.freed ≡ false → (handed_to e (Some s) seen).freed ≡ is_free s
-freed_by e (Load zero) seen f = f
-freed_by e (Load (suc word)) seen f = loaded_freed e e.holds word seen ∙ f
-freed_by e (Store zero value) seen f = refl
-freed_by e (Store (suc word) value) seen f = f
-freed_by e (Cas cell from to) seen f = f
 
 module _ {P : Type 0} (rules : Rules P) (laws : Obeys rules)
     (max_commits : ℕ) (p0 : P) (base arena : List ℕ) where

@@ -1,11 +1,11 @@
 -- What a call of an actor does to its try, up to its first step.
-use Rattle.std.proofs.Common.{◌≡◌, ℕ, ◌/◌, Bool, true, false, [], ◌∷◌, ◌++◌, Option, None, Some, refl, sym, ap, subst, ◌∙◌, arith}
+use Rattle.std.proofs.Common.{◌≡◌, ℕ, ◌/◌, Bool, true, false, [], Option, None, Some, refl, sym, ap, subst, ◌∙◌, arith}
 use Rattle.std.proofs.lemmas.List.{append-nil}
 use Rattle.itm_types.specs.declared.call.Call.{Call}
 use Rattle.itm_types.specs.declared.call.Call.TheVariants.{Begin, Commit, Read, Write}
 use Rattle.itm_types.specs.declared.step.Step.{Step}
-use Rattle.norec_engine.specs.Core.{Core, came}
-use Rattle.norec_engine.specs.Proceeds.{Proceeds, IsAtOnce, Ends, AsksFor}
+use Rattle.norec_engine.specs.Core.{Core}
+use Rattle.norec_engine.specs.Proceeds.{IsAtOnce}
 use Rattle.norec_engine.specs.declared.answer.Answer.{Answer}
 use Rattle.norec_engine.specs.declared.answer.Answer.TheVariants.{Reply, Committed, Conflict, Busy, Full}
 use Rattle.norec_engine.specs.declared.answer.Next.{Next}
@@ -19,12 +19,14 @@ use Rattle.norec_world.specs.declared.actor.Status.TheVariants.{Ready, Waits, En
 use Rattle.norec_world.specs.Cells.{Cells}
 use Rattle.norec_world.specs.Rows.{Rows, active_of}
 use Rattle.norec_world.specs.Status.{ending_of}
-use Rattle.norec_world.specs.Records.{Asks as CallAsks, Records, Opens, StopsAt, asked_pending}
-use Rattle.norec_world.specs.Sound.{IsTied, HasRow, IsReady, IsSound, StatusIs, IsAsked, IsAnswered, IsSettledBy}
+use Rattle.norec_world.specs.Records.{Tells, Opens, asked_pending}
+use Rattle.norec_world.specs.Sound.{IsDone, HasRow, IsReady, IsSound, StatusIs}
 use Rattle.norec_world.specs.Tries.{Prior, Tries, IsBetween, between, runs, over, prior_of, current_of}
-use Rattle.norec_world.proofs.TiedEngines.{limit_same}
-use Rattle.norec_world.proofs.SoundCalls.{asked_tied, at_once}
-use Rattle.norec_world.proofs.TryEnds.{ClockMoves, is_between, open_tries}
+use Rattle.norec_world.proofs.TiedEngines.{limit_same, snapshot_still}
+use Rattle.norec_world.specs.LocalWork.{Starves}
+use Rattle.norec_world.proofs.SoundCalls.{IsCalling, call_taken, mid, rests as rests_so}
+use Rattle.norec_world.proofs.Taken.{HasAnswered, HasTaken, recorded}
+use Rattle.norec_world.proofs.TryEnds.{is_between, open_tries}
 use Rattle.script_vm.specs.Rules.{Rules}
 
 module _ {P : Type 0} (rules : Rules P)
@@ -64,117 +66,100 @@ module _ {P : Type 0} (rules : Rules P)
 
   -- ## Memory was refused
 
-  pub starve_tries : (r r1 : Rows) (mid last : Actor P) → mid.engine ≡ old.engine → last.engine.snapshot ≡ mid.engine.snapshot → mid.thread ≡ old.thread → mid.nth ≡ old.nth → mid.pending ≡ old.pending → r ≡ record r0 { room = r.room }
-      → last.status ≡ Ended ends.NoMemory → last.thread ≡ mid.thread → last.nth ≡ mid.nth → last.pending ≡ mid.pending → HasRow false r1 last.thread
-      → (mid.engine.is_open ≡ true → StopsAt mid.thread r (mid.engine.snapshot / 2) outcomes.NoMemory r1) → (mid.engine.is_open ≡ false → r1 ≡ r) → Tries cells.clock (prior_of r0 old) cells.clock r1 last
-  starve_tries r r1 mid last engine snapshot thread nth pending rows status thread' nth' pending' none stops stays = by_row old.engine.is_open refl sound.kept.row
+  pub starve_tries : (r1 : Rows) (last : Actor P) → Starves rules r0 old r1 last → HasRow false r1 last.thread → Tries cells.clock (prior_of r0 old) cells.clock r1 last
+  starve_tries r1 last s none = by_row old.engine.is_open refl sound.kept.row
     where
-      is_open : mid.engine.is_open ≡ old.engine.is_open
-      is_open = ap (λ (c : Core). c.is_open) engine
-
-      active : active_of mid.thread r.active ≡ active_of old.thread r0.active
-      active = (λ i. active_of (thread i) r.active) ∙ ap (λ (x : Rows). active_of old.thread x.active) rows
-
       by_row : (b : Bool) → old.engine.is_open ≡ b → HasRow b r0 old.thread → Tries cells.clock (prior_of r0 old) cells.clock r1 last
       by_row true e h =
-          let done : Attempt = record h.0 { at = mid.engine.snapshot / 2; outcome = outcomes.NoMemory } in
-          let same : mid.engine.snapshot ≡ old.engine.snapshot = ap (λ (c : Core). c.snapshot) engine in
+          let done : Attempt = record h.0 { at = old.engine.snapshot / 2; outcome = outcomes.NoMemory } in
           let reached = sound.tied.settled.reached in
           let late = sound.tied.late in
           over (record {
             row = h.0;
             row' = done;
             was = ap (λ (o : Option Attempt). current_of o old.pending) h.1;
-            ended = ap (λ (x : Rows). x.ended) (stops (is_open ∙ e) h.0 (active ∙ h.1)) ∙ ap (λ (x : Rows). x.ended ++ done ∷ []) rows;
+            ended = ap (λ (x : Rows). x.ended) (s.stops e h.0 h.1);
             continues = record { thread = refl; nth = refl; began = refl; props = refl; arena = refl; more = []; calls = sym (append-nil h.0.calls) };
-            reads = ap (λ (n : ℕ). n / 2) (sym snapshot);
+            reads = ap (λ (n : ℕ). n / 2) (sym (snapshot_still old.engine last.engine s.engine));
             at = (refl, omega arith);
             closed = λ e. absurd (cc);
-            after = record { none = none; status = status };
+            after = record { none = none; status = s.status };
           })
-      by_row false e h = stays_between r1 last h (ap (λ (x : Rows). x.ended) (stays (is_open ∙ e)) ∙ ap (λ (x : Rows). x.ended) rows) (record {
+      by_row false e h = stays_between r1 last h (ap (λ (x : Rows). x.ended) (s.stays e)) (record {
         none = none;
-        tries = nth' ∙ nth;
-        opens = λ row p. absurd (let n = sym (pending' ∙ (pending ∙ rests.nothing)) ∙ p in cc);
-        goes_on = λ x. absurd (let n = ap ending_of status in cc);
+        tries = s.counts.0;
+        opens = λ row p. absurd (let n = sym (s.counts.2 ∙ rests.nothing) ∙ p in cc);
+        goes_on = λ x. absurd (let n = ap ending_of s.status in cc);
       })
 
-  -- ## The call went to the engine
+-- ## The call went to the engine
 
-  module _ (r : Rows) (new : Actor P) (call : Call) (what : Next) (asked : IsAsked rules r old new call what) (asks : CallAsks cells.clock r0 r old new call what) where
-    active_same : active_of new.thread r.active ≡ active_of old.thread r0.active
-    active_same = (λ i. active_of (asks.thread i) r.active) ∙ ap (λ (x : Rows). active_of old.thread x.active) asks.rows_are
+module _ {P : Type 0} {rules : Rules P} {cells : Cells} {r0 r : Rows} {old a : Actor P} {call : Call} {what : Next} (m : IsCalling rules cells r0 r old a call what) where
+  active_same : active_of a.thread r.active ≡ active_of old.thread r0.active
+  active_same = (λ i. active_of (m.asks.thread i) r.active) ∙ ap (λ (x : Rows). active_of old.thread x.active) m.asks.rows_are
 
-    ended_same : r.ended ≡ r0.ended
-    ended_same = ap (λ (x : Rows). x.ended) asks.rows_are
+  ended_same : r.ended ≡ r0.ended
+  ended_same = ap (λ (x : Rows). x.ended) m.asks.rows_are
 
-    -- an attempt that is to be opened then is one of this moment
-    opens_now : (c : Call) → (row : Attempt) → asked_pending false cells.clock old c ≡ Some row → new.engine.arena ≡ old.engine.arena
-        → row ≡ record { thread = new.thread; nth = old.nth; began = cells.clock / 2; at = 0; props = row.props; arena = new.engine.arena; calls = []; outcome = outcomes.Unfinished }
-    opens_now (Begin props room) row e arena =
-        let fresh : Attempt = record { thread = old.thread; nth = old.nth; began = cells.clock / 2; at = 0; props = props; arena = old.engine.arena; calls = []; outcome = outcomes.Unfinished } in
-        let is : fresh ≡ row = cc in
-        sym is ∙ (λ i. record { thread = (sym asks.thread) i; nth = old.nth; began = cells.clock / 2; at = 0; props = (ap (λ (x : Attempt). x.props) is) i; arena = (sym arena) i; calls = []; outcome = outcomes.Unfinished })
-    opens_now Commit row e arena = absurd (let n = sym rests.nothing ∙ e in cc)
-    opens_now (Read hint width at) row e arena = absurd (let n = sym rests.nothing ∙ e in cc)
-    opens_now (Write hint at value) row e arena = absurd (let n = sym rests.nothing ∙ e in cc)
+  nothing : old.pending ≡ None
+  nothing = (rests_so m.sound m.ready).nothing
 
-    -- it waits for its first step
-    pub ask_tries : (s : Step) → what ≡ Asks s → Tries cells.clock (prior_of r0 old) cells.clock r (record new { status = Waits call s })
-    ask_tries s is = by_row old.engine.is_open refl sound.kept.row
-      where
-        g : AsksFor (came old.engine call asked.again) s new.engine
-        g = subst (λ (n : Next). Proceeds (came old.engine call asked.again) n new.engine) is asked.proceeds
+  -- an attempt that is to be opened then is one of this moment
+  opens_now : (c : Call) → (row : Attempt) → asked_pending false cells.clock old c ≡ Some row → a.engine.arena ≡ old.engine.arena
+      → row ≡ record { thread = a.thread; nth = old.nth; began = cells.clock / 2; at = 0; props = row.props; arena = a.engine.arena; calls = []; outcome = outcomes.Unfinished }
+  opens_now (Begin props room) row e arena =
+      let fresh : Attempt = record { thread = old.thread; nth = old.nth; began = cells.clock / 2; at = 0; props = props; arena = old.engine.arena; calls = []; outcome = outcomes.Unfinished } in
+      let is : fresh ≡ row = cc in
+      sym is ∙ (λ i. record { thread = (sym m.asks.thread) i; nth = old.nth; began = cells.clock / 2; at = 0; props = (ap (λ (x : Attempt). x.props) is) i; arena = (sym arena) i; calls = []; outcome = outcomes.Unfinished })
+  opens_now Commit row e arena = absurd (let n = sym nothing ∙ e in cc)
+  opens_now (Read hint width at) row e arena = absurd (let n = sym nothing ∙ e in cc)
+  opens_now (Write hint at value) row e arena = absurd (let n = sym nothing ∙ e in cc)
 
-        by_row : (b : Bool) → old.engine.is_open ≡ b → HasRow b r0 old.thread → Tries cells.clock (prior_of r0 old) cells.clock r (record new { status = Waits call s })
-        by_row true e h = stays_open r (record new { status = Waits call s }) h.0 h.1 (active_same ∙ h.1) ended_same asks.nth (λ x. absurd (cc)) (λ x. absurd (cc))
-        by_row false e h = stays_between r (record new { status = Waits call s }) h ended_same (record {
-          none = active_same ∙ h;
-          tries = asks.nth;
-          opens = λ row p. opens_now call row (ap (λ (b : Bool). asked_pending b cells.clock old call) (sym e) ∙ (sym asks.pending ∙ p)) (ap (λ (c : Core). c.arena) g.stays);
-          goes_on = λ x. absurd (cc);
-        })
+  -- it waits for its first step
+  waits_tries : (step : Step) → HasTaken rules old.engine.is_open cells cells r (mid m) a call (Asks step) → Tries cells.clock (prior_of r0 old) cells.clock r (record a { status = Waits call step })
+  waits_tries step t = by_row old.engine.is_open refl m.sound.kept.row
+    where
+      by_row : (b : Bool) → old.engine.is_open ≡ b → HasRow b r0 old.thread → Tries cells.clock (prior_of r0 old) cells.clock r (record a { status = Waits call step })
+      by_row true e h = stays_open rules cells r0 old m.sound m.ready r (record a { status = Waits call step }) h.0 h.1 (active_same ∙ h.1) ended_same m.asks.nth (λ x. absurd (cc)) (λ x. absurd (cc))
+      by_row false e h = stays_between rules cells r0 old m.sound m.ready r (record a { status = Waits call step }) h ended_same (record {
+        none = active_same ∙ h;
+        tries = m.asks.nth;
+        opens = λ row p. opens_now call row (ap (λ (b : Bool). asked_pending b cells.clock old call) (sym e) ∙ (sym m.asks.pending ∙ p)) (ap (λ (c : Core). c.arena) t.proceeds.stays);
+        goes_on = λ x. absurd (cc);
+      })
 
-    -- it is answered at once
-    module _ (a : Answer) (is : what ≡ Answers a) (r1 : Rows) (last : Actor P)
-        (settles : (was : Bool) → IsAnswered rules was r new call a → IsSettledBy rules was r1 new last)
-        (notes : (was : Bool) → IsAnswered rules was r new call a → Records rules was r r1 new last call a) where
-      d : IsAnswered rules old.engine.is_open r new call a
-      d = at_once rules cells r0 r r old new new call sound ready what a is asked
+  -- it is answered at once
+  answer_tries : (answer : Answer) → IsAtOnce (Answers answer) → {r1 : Rows} {last : Actor P} → HasAnswered rules old.engine.is_open cells cells r r1 (mid m) a last call answer → Tries cells.clock (prior_of r0 old) cells.clock r1 last
+  answer_tries answer soon {r1} {last} t = by_open old.engine.is_open refl t
+    where
+      limit : a.engine.max_commits ≡ old.engine.max_commits
+      limit = (limit_same (mid m) a.engine what m.asks.called.proceeds).0
 
-      asked' : IsAsked rules r old new call (Answers a)
-      asked' = subst (IsAsked rules r old new call) is asked
-
-      tied : IsTied cells new.engine
-      tied = asked_tied rules cells r old new call sound.tied rests (Answers a) asked'
-
-      limit : new.engine.max_commits ≡ old.engine.max_commits
-      limit = (limit_same (came old.engine call asked.again) new.engine what asked.proceeds).0
-
-      moves : ClockMoves cells cells (came old.engine call asked'.again)
-      moves = record { frees = λ f. absurd (cc); keeps = λ f. refl }
-
-      at_once_of : (b : Bool) → old.engine.is_open ≡ b → (ans : Answer) → IsAtOnce (Answers ans) → IsAnswered rules b r new call ans → Ends (came old.engine call asked'.again) ans new.engine → Records rules b r r1 new last call ans
-          → IsSettledBy rules b r1 new last → Tries cells.clock (prior_of r0 old) cells.clock r1 last
-      at_once_of true e ans soon d g told s =
-          let pending : new.pending ≡ old.pending = asks.pending ∙ ap (λ (b : Bool). asked_pending b cells.clock old call) e in
+      by_open : (b : Bool) → old.engine.is_open ≡ b → HasAnswered rules b cells cells r r1 (mid m) a last call answer → Tries cells.clock (prior_of r0 old) cells.clock r1 last
+      by_open true e t =
+          let pending : a.pending ≡ old.pending = m.asks.pending ∙ ap (λ (b : Bool). asked_pending b cells.clock old call) e in
           subst (λ (p : Prior). Tries cells.clock p cells.clock r1 last)
-          (λ i. record { ended = ended_same i; active = active_same i; pending = pending i; nth = asks.nth i; retries = asked.same.retries i; max_commits = limit i })
-          (open_tries rules cells cells r r1 new last call (came old.engine call asked'.again) tied moves ans d g told s)
-      at_once_of false e (Reply reply) soon d g told s =
-          let closed : new.engine.is_open ≡ false = by_now new.engine.is_open refl in
-          let outside : last.engine.is_open ≡ false = ap (λ (c : Core). c.is_open) s.engine ∙ closed in
-          let same : r1 ≡ r = subst (λ (b : Bool). Opens b r new.pending (last.engine.snapshot / 2) r1) outside told.0 in
-          stays_between r1 last (sym active_same ∙ d.kept.row) (ap (λ (x : Rows). x.ended) same ∙ ended_same)
-          (is_between rules r r1 new last false s cells.clock old.nth closed (told.4 ∙ d.status) (told.3 ∙ asks.nth))
+          (λ i. record { ended = ended_same i; active = active_same i; pending = pending i; nth = m.asks.nth i; retries = m.asked.same.retries i; max_commits = limit i })
+          (open_tries answer t)
+      by_open false e t = shut answer soon t
         where
-          by_now : (b : Bool) → new.engine.is_open ≡ b → new.engine.is_open ≡ false
-          by_now true o = absurd (let f : true ≡ false = sym (asked.stays.opens o) ∙ e in cc)
-          by_now false o = o
-      at_once_of false e (Committed at wrote) soon d g told s = absurd (let f : false ≡ true = d.fits.0 in cc)
-      at_once_of false e (Conflict clock word) soon d g told s = absurd soon
-      at_once_of false e (Busy clock) soon d g told s = absurd soon
-      at_once_of false e (Full at) soon d g told s = absurd (let f : false ≡ true = d.fits.0 in cc)
+          closed : a.engine.is_open ≡ false
+          closed = stays_shut a.engine.is_open refl
+            where
+              stays_shut : (now : Bool) → a.engine.is_open ≡ now → a.engine.is_open ≡ false
+              stays_shut true o = absurd (let f : true ≡ false = sym (m.asked.stays.opens o) ∙ e in cc)
+              stays_shut false o = o
 
-      pub answer_tries : Tries cells.clock (prior_of r0 old) cells.clock r1 last
-      answer_tries = at_once_of old.engine.is_open refl a asked'.at_once d asked'.proceeds (notes old.engine.is_open d) (settles old.engine.is_open d)
+          shut : (ans : Answer) → IsAtOnce (Answers ans) → HasAnswered rules false cells cells r r1 (mid m) a last call ans → Tries cells.clock (prior_of r0 old) cells.clock r1 last
+          shut (Reply reply) soon t =
+              let outside : last.engine.is_open ≡ false = ap (λ (c : Core). c.is_open) t.settled.engine ∙ closed in
+              let same : r1 ≡ r = subst (λ (b : Bool). Opens b r a.pending (last.engine.snapshot / 2) r1) outside t.told.0 in
+              stays_between rules cells r0 old m.sound m.ready r1 last (sym active_same ∙ t.answered.kept.row) (ap (λ (x : Rows). x.ended) same ∙ ended_same)
+              (is_between rules r r1 a last false t.settled cells.clock old.nth closed (t.told.4 ∙ t.answered.status) (t.told.3 ∙ m.asks.nth))
+          shut (Committed at wrote) soon t = absurd (let f : false ≡ true = t.answered.fits.0 in cc)
+          shut (Conflict clock word) soon t = absurd (let f : false ≡ true = t.answered.fits.0 in cc)
+          shut (Busy clock) soon t = absurd soon
+          shut (Full at) soon t = absurd (let f : false ≡ true = t.answered.fits.0 in cc)
+
+  pub call_tries : {r1 : Rows} {last : Actor P} → IsDone rules old.engine.is_open r r1 a last call what → Tells rules old.engine.is_open r r1 a last call what → Tries cells.clock (prior_of r0 old) cells.clock r1 last
+  call_tries done tells = recorded (λ x y. Tries cells.clock (prior_of r0 old) cells.clock x y) (call_taken m) done tells waits_tries (λ answer is t. answer_tries answer (subst IsAtOnce is m.asked.at_once) t)

@@ -1,5 +1,5 @@
 -- What an answer does to the try that its call belongs to.
-use Rattle.std.proofs.Common.{◌≡◌, ℕ, ◌+◌, ◌*◌, ◌/◌, ◌%◌, ◌≤◌, Bool, true, false, nat_lt, if◌then◌else◌, is_some, List, [], ◌∷◌, ◌++◌, length, Option, None, Some, refl, sym, ap, subst, ◌∙◌, arith}
+use Rattle.std.proofs.Common.{inl, inr, ◌≡◌, ℕ, ◌+◌, ◌*◌, ◌/◌, ◌%◌, ◌≤◌, Bool, true, false, nat_lt, if◌then◌else◌, is_some, List, [], ◌∷◌, ◌++◌, Option, None, Some, refl, sym, ap, subst, ◌∙◌, arith}
 use Rattle.std.proofs.lemmas.List.{append-nil}
 use Rattle.itm_types.specs.declared.call.Call.{Call}
 use Rattle.itm_types.specs.declared.call.Call.TheVariants.{Begin}
@@ -14,7 +14,7 @@ use Rattle.itm_model.specs.State.{State}
 use Rattle.itm_model.specs.Machine.{after}
 use Rattle.norec_engine.specs.Stands.{state_over, stands_for}
 use Rattle.norec_engine.specs.Core.{Core}
-use Rattle.norec_engine.specs.Proceeds.{Ends, Replies, RepliesTo, IsBegin}
+use Rattle.norec_engine.specs.Proceeds.{Replies, RepliesTo, IsBegin}
 use Rattle.norec_engine.specs.declared.answer.Answer.{Answer}
 use Rattle.norec_engine.specs.declared.answer.Answer.TheVariants.{Reply, Committed, Conflict, Busy, Full}
 use Rattle.norec_world.specs.declared.attempt.Attempt.{Attempt}
@@ -29,8 +29,9 @@ use Rattle.norec_world.specs.Cells.{Cells}
 use Rattle.norec_world.specs.Rows.{Rows, active_of}
 use Rattle.norec_world.specs.Status.{ending_of}
 use Rattle.norec_world.specs.Records.{Records, Opens, IsTold, CountsTry}
-use Rattle.norec_world.specs.Sound.{IsTied, HasRow, IsAnswered, IsSettledBy, RestsAs, IsReady}
+use Rattle.norec_world.specs.Sound.{IsTied, HasRow, IsSettledBy, RestsAs, IsReady}
 use Rattle.norec_world.specs.Tries.{EndsAt, IsBetween, TriesAgain, GoesOnAfter, Prior, Tries, between, begins, runs, over, turned_away, prior_of, current_of}
+use Rattle.norec_world.proofs.Taken.{HasAnswered}
 use Rattle.norec_world.proofs.ActiveRows.{changed_here, opened_here}
 use Rattle.norec_world.proofs.RecordedRows.{was_open}
 use Rattle.script_vm.specs.Rules.{Rules}
@@ -40,7 +41,7 @@ pub no_row : (b : Bool) (r : Rows) (thread : ℕ) → b ≡ false → HasRow b r
 no_row true r thread e h = absurd (cc)
 no_row false r thread e h = h
 
-unfreed_to : (mid new : Core) (o : Option Call) (r : Replied) → RepliesTo mid o r new → mid.freed ≡ false
+pub unfreed_to : (mid new : Core) (o : Option Call) (r : Replied) → RepliesTo mid o r new → mid.freed ≡ false
 unfreed_to mid new None r g = absurd g
 unfreed_to mid new (Some call) r g = g.unfreed
 
@@ -71,97 +72,90 @@ module _ {P : Type 0} (rules : Rules P)
 
 -- ## A call of an open transaction is answered
 
--- what the clock is over the event, by whether the engine freed it
-pub record ClockMoves (cells cells' : Cells) (mid : Core) : Type 0 where
-  pub frees : mid.freed ≡ true → (cells.clock ≡ 2 * (mid.snapshot / 2) + 1) × (cells'.clock ≡ 2 * (mid.snapshot / 2) + 2)
-  pub keeps : mid.freed ≡ false → cells'.clock / 2 ≡ cells.clock / 2
+-- half the snapshot is no later than the clock
+seen : (cells : Cells) (e : Core) → IsTied cells e → 2 * (e.snapshot / 2) ≤ cells.clock
+seen cells e tied = (let reached = tied.settled.reached in let late = tied.late in omega arith)
 
-module _ {P : Type 0} (rules : Rules P)
-    (cells cells' : Cells) (r r1 : Rows) (a last : Actor P) (call : Call) (mid : Core) (tied : IsTied cells' a.engine) (moves : ClockMoves cells cells' mid) where
-  -- half the snapshot is no later than the clock
-  seen : 2 * (a.engine.snapshot / 2) ≤ cells'.clock
-  seen = (let reached = tied.settled.reached in let late = tied.late in omega arith)
-
-  pub open_tries : (ans : Answer) → IsAnswered rules true r a call ans → Ends mid ans a.engine → Records rules true r r1 a last call ans
-      → IsSettledBy rules true r1 a last → Tries cells.clock (prior_of r a) cells'.clock r1 last
-  open_tries (Reply reply) d g told s =
-      let row = d.kept.row in
+module _ {P : Type 0} {rules : Rules P} {cells cells' : Cells} {r r1 : Rows} {mid : Core} {a last : Actor P} {call : Call} where
+  pub open_tries : (ans : Answer) → HasAnswered rules true cells cells' r r1 mid a last call ans → Tries cells.clock (prior_of r a) cells'.clock r1 last
+  open_tries (Reply reply) m =
+      let row = m.answered.kept.row in
       let with_call : Attempt → Attempt = λ x. record x { calls = x.calls ++ record { call = call; reply = reply } ∷ [] } in
       runs (record {
         row = row.0;
         row' = with_call row.0;
         was = ap (λ (o : Option Attempt). current_of o a.pending) row.1;
-        now = ap (λ (t : ℕ). active_of t r1.active) s.thread ∙ (ap (λ (x : Rows). active_of a.thread x.active) told.0 ∙ changed_here a.thread with_call r.active row.0 (λ x. refl) row.1);
+        now = ap (λ (t : ℕ). active_of t r1.active) m.settled.thread ∙ (ap (λ (x : Rows). active_of a.thread x.active) m.told.0 ∙ changed_here a.thread with_call r.active row.0 (λ x. refl) row.1);
         continues = record { thread = refl; nth = refl; began = refl; props = refl; arena = refl; more = record { call = call; reply = reply } ∷ []; calls = refl };
-        ended = ap (λ (x : Rows). x.ended) told.0;
-        half = moves.keeps (unfreed_to mid a.engine mid.doing reply g);
-        tries = told.3;
-        goes_on = λ e. absurd (let n = ap ending_of (told.4 ∙ d.status) in cc);
-        fed = λ e. absurd (let n = ap ending_of (told.4 ∙ d.status) in cc);
+        ended = ap (λ (x : Rows). x.ended) m.told.0;
+        half = m.taken.moves.keeps (unfreed_to mid a.engine mid.doing reply m.ends);
+        tries = m.told.3;
+        goes_on = λ e. absurd (let n = ap ending_of (m.told.4 ∙ m.answered.status) in cc);
+        fed = λ e. absurd (let n = ap ending_of (m.told.4 ∙ m.answered.status) in cc);
       })
-  open_tries (Committed at wrote) d g told s =
-      let row = d.kept.row in
-      let closed : a.engine.is_open ≡ false = d.fits.1 in
-      let ready : last.status ≡ Ready = told.4 ∙ d.status in
+  open_tries (Committed at wrote) m =
+      let row = m.answered.kept.row in
+      let closed : a.engine.is_open ≡ false = m.answered.fits.1 in
+      let ready : last.status ≡ Ready = m.told.4 ∙ m.answered.status in
       let done : Attempt = record row.0 { calls = row.0.calls ++ record { call = call; reply = replies.Done } ∷ []; at = at; outcome = if wrote then outcomes.Committed else outcomes.ReadOnly } in
       over (record {
         row = row.0;
         row' = done;
         was = ap (λ (o : Option Attempt). current_of o a.pending) row.1;
-        ended = ap (λ (x : Rows). x.ended) (told.0 row.0 row.1);
+        ended = ap (λ (x : Rows). x.ended) (m.told.0 row.0 row.1);
         continues = record { thread = refl; nth = refl; began = refl; props = refl; arena = refl; more = record { call = call; reply = replies.Done } ∷ []; calls = refl };
-        reads = g.at_is ∙ ap (λ (n : ℕ). n / 2) (sym (ap (λ (c : Core). c.snapshot) (s.engine ∙ g.stays)));
+        reads = m.ends.at_is ∙ ap (λ (n : ℕ). n / 2) (sym (ap (λ (c : Core). c.snapshot) (m.settled.engine ∙ m.ends.stays)));
         at = at_end wrote refl;
-        closed = λ e. (row.0.calls, (λ i. row.0.calls ++ record { call = d.fits.2 i; reply = replies.Done } ∷ []));
-        after = after_end wrote (is_between rules r r1 a last true s cells'.clock 1 closed ready told.3);
+        closed = λ e. (row.0.calls, (λ i. row.0.calls ++ record { call = m.answered.fits.2 i; reply = replies.Done } ∷ []));
+        after = after_end wrote (is_between rules r r1 a last true m.settled cells'.clock 1 closed ready m.told.3);
       })
     where
       at_end : (b : Bool) → wrote ≡ b → EndsAt a.engine.max_commits cells.clock cells'.clock at (if b then outcomes.Committed else outcomes.ReadOnly)
-      at_end true e = subst (λ (n : ℕ). (cells.clock ≡ 2 * n + 1) × (cells'.clock ≡ 2 * n + 2)) (sym g.at_is) (moves.frees (g.freed ∙ e))
+      at_end true e = subst (λ (n : ℕ). (cells.clock ≡ 2 * n + 1) × (cells'.clock ≡ 2 * n + 2)) (sym m.ends.at_is) (m.taken.moves.frees (m.ends.freed ∙ e))
       at_end false e =
-          let same : a.engine.snapshot ≡ mid.snapshot = ap (λ (c : Core). c.snapshot) g.stays in
-          let is = g.at_is in
-          let l = seen in
-          (moves.keeps (g.freed ∙ e), omega arith)
+          let same : a.engine.snapshot ≡ mid.snapshot = ap (λ (c : Core). c.snapshot) m.ends.stays in
+          let is = m.ends.at_is in
+          let l = seen cells' a.engine m.taken.tied in
+          (m.taken.moves.keeps (m.ends.freed ∙ e), omega arith)
 
       after_end : (b : Bool) → IsBetween cells'.clock 1 r1 last → GoesOnAfter (if b then outcomes.Committed else outcomes.ReadOnly) cells'.clock (prior_of r a) r1 last
       after_end true x = x
       after_end false x = x
-  open_tries (Conflict clock word) d g told s =
-      let row = d.kept.row in
-      let same : last.engine.snapshot ≡ mid.snapshot = ap (λ (c : Core). c.snapshot) (s.engine ∙ g.stays) in
-      let now : a.engine.clock ≡ mid.clock = ap (λ (c : Core). c.clock) g.stays in
-      let later = g.later in
-      let clock_is = g.clock_is in
-      let late = tied.late in
+  open_tries (Conflict clock word) m =
+      let row = m.answered.kept.row in
+      let same : last.engine.snapshot ≡ mid.snapshot = ap (λ (c : Core). c.snapshot) (m.settled.engine ∙ m.ends.stays) in
+      let now : a.engine.clock ≡ mid.clock = ap (λ (c : Core). c.clock) m.ends.stays in
+      let later = m.ends.later in
+      let clock_is = m.ends.clock_is in
+      let late = m.taken.tied.late in
       over (record {
         row = row.0;
         row' = record row.0 { at = last.engine.snapshot / 2; outcome = outcomes.Conflict };
         was = ap (λ (o : Option Attempt). current_of o a.pending) row.1;
-        ended = ap (λ (x : Rows). x.ended) (told.0 row.0 row.1);
+        ended = ap (λ (x : Rows). x.ended) (m.told.0 row.0 row.1);
         continues = record { thread = refl; nth = refl; began = refl; props = refl; arena = refl; more = []; calls = sym (append-nil row.0.calls) };
         reads = refl;
-        at = (moves.keeps g.unfreed, omega arith);
+        at = (m.taken.moves.keeps m.ends.unfreed, omega arith);
         closed = λ e. absurd (cc);
-        after = tries_again rules r r1 a last true s cells'.clock d.fits.1 d.status told.2;
+        after = tries_again rules r r1 a last true m.settled cells'.clock m.answered.fits.1 m.answered.status m.told.2;
       })
-  open_tries (Busy clock) d g told s = absurd (let f : true ≡ false = d.fits.0 in cc)
-  open_tries (Full at) d g told s =
-      let row = d.kept.row in
-      let limit : a.engine.max_commits ≡ mid.max_commits = ap (λ (c : Core). c.max_commits) g.stays in
-      let full = g.full in
-      let is = g.at_is in
-      let l = seen in
+  open_tries (Busy clock) m = absurd (let f : true ≡ false = m.answered.fits.0 in cc)
+  open_tries (Full at) m =
+      let row = m.answered.kept.row in
+      let limit : a.engine.max_commits ≡ mid.max_commits = ap (λ (c : Core). c.max_commits) m.ends.stays in
+      let full = m.ends.full in
+      let is = m.ends.at_is in
+      let l = seen cells' a.engine m.taken.tied in
       over (record {
         row = row.0;
         row' = record row.0 { at = at; outcome = outcomes.Full };
         was = ap (λ (o : Option Attempt). current_of o a.pending) row.1;
-        ended = ap (λ (x : Rows). x.ended) (told.0 row.0 row.1);
+        ended = ap (λ (x : Rows). x.ended) (m.told.0 row.0 row.1);
         continues = record { thread = refl; nth = refl; began = refl; props = refl; arena = refl; more = []; calls = sym (append-nil row.0.calls) };
-        reads = g.at_is ∙ ap (λ (n : ℕ). n / 2) (sym (ap (λ (c : Core). c.snapshot) s.engine));
-        at = (moves.keeps g.unfreed, omega arith, omega arith);
+        reads = m.ends.at_is ∙ ap (λ (n : ℕ). n / 2) (sym (ap (λ (c : Core). c.snapshot) m.settled.engine));
+        at = (m.taken.moves.keeps m.ends.unfreed, omega arith, omega arith);
         closed = λ e. absurd (cc);
-        after = record { none = none_active rules r r1 a last true s d.fits.1; status = told.1 };
+        after = record { none = none_active rules r r1 a last true m.settled m.answered.fits.1; status = m.told.1 };
       })
 
 -- ## A begin is answered
@@ -187,71 +181,68 @@ call_begins calls.Commit b = absurd b
 call_begins (calls.Read hint width at) b = absurd b
 call_begins (calls.Write hint at value) b = absurd b
 
-module _ {P : Type 0} (rules : Rules P)
-    (cells cells' : Cells) (r r1 : Rows) (a last : Actor P) (call : Call) (mid : Core) (tied : IsTied cells' a.engine)
-    (outside : mid.is_open ≡ false) (doing : mid.doing ≡ Some call) (words : mid.words ≡ length cells'.words) (same : cells'.clock ≡ cells.clock) (loaded : mid.clock ≡ cells'.clock) where
-  half_same : cells'.clock / 2 ≡ cells.clock / 2
-  half_same = ap (λ (n : ℕ). n / 2) same
-
-  pub begin_tries : (ans : Answer) → IsAnswered rules false r a call ans → Ends mid ans a.engine → Records rules false r r1 a last call ans
-      → IsSettledBy rules false r1 a last → Tries cells.clock (prior_of r a) cells'.clock r1 last
-  begin_tries (Reply reply) d g told s = by_open last.engine.is_open refl a.pending refl told.0
+module _ {P : Type 0} {rules : Rules P} {cells cells' : Cells} {r r1 : Rows} {mid : Core} {a last : Actor P} {call : Call} where
+  pub begin_tries : (ans : Answer) → HasAnswered rules false cells cells' r r1 mid a last call ans → Tries cells.clock (prior_of r a) cells'.clock r1 last
+  begin_tries (Reply reply) m = by_open last.engine.is_open refl a.pending refl m.told.0
     where
       none : active_of a.thread r.active ≡ None
-      none = d.kept.row
+      none = m.answered.kept.row
 
       ready : last.status ≡ Ready
-      ready = told.4 ∙ d.status
+      ready = m.told.4 ∙ m.answered.status
 
       opens_now : (now : Bool) → last.engine.is_open ≡ now → a.engine.is_open ≡ now
-      opens_now now e = sym (ap (λ (c : Core). c.is_open) s.engine) ∙ e
+      opens_now now e = sym (ap (λ (c : Core). c.is_open) m.settled.engine) ∙ e
 
       by_open : (now : Bool) → last.engine.is_open ≡ now → (p : Option Attempt) → a.pending ≡ p → Opens now r p (last.engine.snapshot / 2) r1 → Tries cells.clock (prior_of r a) cells'.clock r1 last
       by_open true e (Some row) p told_so =
-          let q = d.in_call.opens row p in
+          let q = m.answered.in_call.opens row p in
           let new_row : Attempt = record row { at = last.engine.snapshot / 2 } in
           let free : active_of row.thread r.active ≡ None = ap (λ (t : ℕ). active_of t r.active) q.thread ∙ none in
           runs (record {
             row = row;
             row' = new_row;
             was = ap (λ (o : Option Attempt). current_of o a.pending) none ∙ p;
-            now = ap (λ (t : ℕ). active_of t r1.active) (s.thread ∙ sym q.thread) ∙ (ap (λ (x : Rows). active_of row.thread x.active) told_so ∙ opened_here new_row r.active free);
+            now = ap (λ (t : ℕ). active_of t r1.active) (m.settled.thread ∙ sym q.thread) ∙ (ap (λ (x : Rows). active_of row.thread x.active) told_so ∙ opened_here new_row r.active free);
             continues = record { thread = refl; nth = refl; began = refl; props = refl; arena = refl; more = []; calls = sym (append-nil row.calls) };
             ended = ap (λ (x : Rows). x.ended) told_so;
-            half = half_same;
-            tries = told.3;
+            half = ap (λ (n : ℕ). n / 2) (m.taken.outside refl).0;
+            tries = m.told.3;
             goes_on = λ x. absurd (let n = ap ending_of ready in cc);
             fed = λ x. absurd (let n = ap ending_of ready in cc);
           })
-      by_open true e None p told_so = absurd (let f : false ≡ true = was_open false a.engine.is_open call reply (λ x. sym (d.in_call.begins x) ∙ ap is_some p) d.fits.0 (opens_now true e) in cc)
+      by_open true e None p told_so = absurd (let f : false ≡ true = was_open false a.engine.is_open call reply (λ x. sym (m.answered.in_call.begins x) ∙ ap is_some p) m.answered.fits.0 (opens_now true e) in cc)
       by_open false e (Some row) p told_so =
-          let b = begin_call call (sym (d.in_call.begins refl) ∙ ap is_some p) in
-          let g' : Replies mid (Begin b.0 b.1) reply a.engine = subst (λ (o : Option Call). RepliesTo mid o reply a.engine) (doing ∙ ap (λ (x : Call). Some x) b.2) g in
+          let b = begin_call call (sym (m.answered.in_call.begins refl) ∙ ap is_some p) in
+          let g' : Replies mid (Begin b.0 b.1) reply a.engine = subst (λ (o : Option Call). RepliesTo mid o reply a.engine) (m.taken.doing ∙ ap (λ (x : Call). Some x) b.2) m.ends in
           let closed = opens_now false e in
-          absurd (begin_opens mid a.engine cells'.words b.0 b.1 reply g' outside (sym words, tied.fit) (subst (Agrees cells'.words) (sym (tied.settled.closed closed).0) tt) closed)
+          absurd (begin_opens mid a.engine cells'.words b.0 b.1 reply g' m.taken.was_is (sym m.taken.words, m.taken.tied.fit) (subst (Agrees cells'.words) (sym (m.taken.tied.settled.closed closed).0) tt) closed)
       by_open false e None p told_so =
           between (record {
             idle = ap (λ (o : Option Attempt). current_of o a.pending) none ∙ p;
             ended = ap (λ (x : Rows). x.ended) told_so;
-            half = half_same;
-            between = is_between rules r r1 a last false s cells'.clock a.nth (opens_now false e) ready told.3;
+            half = ap (λ (n : ℕ). n / 2) (m.taken.outside refl).0;
+            between = is_between rules r r1 a last false m.settled cells'.clock a.nth (opens_now false e) ready m.told.3;
           })
-  begin_tries (Committed at wrote) d g told s = absurd (let f : false ≡ true = d.fits.0 in cc)
-  begin_tries (Conflict clock word) d g told s = absurd (let f : false ≡ true = d.fits.0 in cc)
-  begin_tries (Busy clock) d g told s = by_pending a.pending refl
+  begin_tries (Committed at wrote) m = absurd (let f : false ≡ true = m.answered.fits.0 in cc)
+  begin_tries (Conflict clock word) m = absurd (let f : false ≡ true = m.answered.fits.0 in cc)
+  begin_tries (Busy clock) m = by_pending a.pending refl
     where
       by_pending : (p : Option Attempt) → a.pending ≡ p → Tries cells.clock (prior_of r a) cells'.clock r1 last
-      by_pending None p = absurd (let b = call_begins call (subst IsBegin doing g.begins) in let f : false ≡ true = ap is_some (sym p) ∙ (d.in_call.begins refl ∙ b) in cc)
+      by_pending None p = absurd (let b = call_begins call (subst IsBegin m.taken.doing m.ends.begins) in let f : false ≡ true = ap is_some (sym p) ∙ (m.answered.in_call.begins refl ∙ b) in cc)
       by_pending (Some row) p = turned_away (record {
-        none = d.kept.row;
+        none = m.answered.kept.row;
         row = row;
         was = p;
-        ended = ap (λ (x : Rows). x.ended) told.0;
-        odd = ap (λ (n : ℕ). n % 2) (sym loaded ∙ sym g.clock_is) ∙ g.odd;
-        same = same;
-        after = tries_again rules r r1 a last false s cells'.clock d.fits.1 d.status told.2;
+        ended = ap (λ (x : Rows). x.ended) m.told.0;
+        odd = elim (m.taken.outside refl).1 [
+          | inl loaded ↦ ap (λ (n : ℕ). n % 2) (sym loaded ∙ sym m.ends.clock_is) ∙ m.ends.odd
+          | inr soon ↦ absurd soon
+        ];
+        same = (m.taken.outside refl).0;
+        after = tries_again rules r r1 a last false m.settled cells'.clock m.answered.fits.1 m.answered.status m.told.2;
       })
-  begin_tries (Full at) d g told s = absurd (let f : false ≡ true = d.fits.0 in cc)
+  begin_tries (Full at) m = absurd (let f : false ≡ true = m.answered.fits.0 in cc)
 
 -- ## An answer ends no actor but one that gives up
 

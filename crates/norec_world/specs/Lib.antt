@@ -26,6 +26,7 @@ pub mod Memories
 pub mod LogAgreement
 pub mod Runs
 pub mod Opaque
+pub mod Moments
 pub mod Invariant
 pub mod Views
 pub mod Alike

@@ -67,6 +67,7 @@ module _ {P : Type 0} (rules : Rules P) where
     pub short : a.engine.is_open ≡ true → IsShort r a call
     pub status : a'.status ≡ Ended NoMemory
     pub player : a'.player ≡ a.player
+    pub same : SameActor a a'
     pub counts : (a'.nth ≡ a.nth) × (a'.again ≡ a.again) × (a'.pending ≡ a.pending)
     pub engine : a'.engine ≡ after_undoing a.engine
     pub room : ℕ

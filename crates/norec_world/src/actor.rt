@@ -44,12 +44,9 @@ impl<P: Player> Actor<P> {
     ghost use Rattle.norec_world.specs.Cells.{cells_after};
     ghost use Rattle.norec_world.specs.Status.{ending_of, is_waiting, is_ready, waiting_step};
     ghost use Rattle.norec_world.specs.Records.{Tells, IsTold};
-    ghost use Rattle.norec_world.specs.LocalWork.{TakesIn};
+    ghost use Rattle.norec_world.specs.Moments.{HasStepped};
     ghost use Rattle.norec_world.specs.Tracks.{StillTracks};
     ghost use Rattle.norec_world.specs.OthersAttempts.{KeepsOthers};
-    ghost use Rattle.norec_world.specs.Tries.{Tries, prior_of};
-    ghost use Rattle.norec_world.specs.Runs.{StillRuns};
-    ghost use Rattle.norec_world.specs.ClockHolder.{ClocksOn};
     ghost use Rattle.norec_world.specs.Sound.{IsKept, IsSound, IsDue, IsDone, StatusIs, GoesOn, Falls};
 
     /// An actor that has made no call.
@@ -95,19 +92,8 @@ impl<P: Player> Actor<P> {
     pub(crate) fn step(&mut self, memory: &mut Memory, recorded: &mut Recorded)
         requires sound { IsSound P.Player memory.old recorded.old self.old }
         requires waits { is_waiting self.old.status ≡ true }
-        ensures sound { IsSound P.Player memory.new recorded.new self.new }
-        ensures thread { self.new.thread ≡ self.old.thread }
-        ensures others { KeepsOthers self.old recorded.old self.new recorded.new }
-        ensures takes { TakesIn P.Player memory.old recorded.old self.old recorded.new self.new }
-        ensures clocks { ClocksOn memory.old self.old.engine memory.new self.new.engine }
-        ensures retries { self.new.retries ≡ self.old.retries }
-        ensures tries { Tries memory.old.clock (prior_of recorded.old self.old) memory.new.clock recorded.new self.new }
-        ensures runs { StillRuns P.Player memory.old recorded.old self.old memory.new recorded.new self.new }
-        ensures unfinished { ending_of self.new.status ≡ Some End.Finished → ⊥ }
-        ensures cells { (step : Step) → waiting_step self.old.status ≡ Some step → memory.new ≡ cells_after memory.old step }
+        ensures stepped { HasStepped P.Player memory.old recorded.old self.old memory.new recorded.new self.new }
         ensures tracks { self.old.thread ≡ 0 → StillTracks P.Player memory.old recorded.old self.old memory.new recorded.new self.new }
-        ensures goes_on { is_waiting self.new.status ≡ true → GoesOn P.Player self.old self.new }
-        ensures falls { is_ready self.new.status ≡ true → Falls P.Player self.old.engine.is_open self.new.engine.is_open self.old self.new }
     {
         match mem::replace(&mut self.status, Status::Ready) {
             Status::Waits { call, step } => {

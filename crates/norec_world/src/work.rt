@@ -19,31 +19,18 @@ impl<P: Player> Actor<P> {
     ghost use Rattle.norec_world.specs.Records.{Asks, Records, StopsAt};
     ghost use Rattle.norec_engine.specs.Undoing.{after_undoing};
     ghost use Rattle.script_vm.specs.Depth.{is_begin};
-    ghost use Rattle.norec_world.specs.LocalWork.{Acts, IsShort, Works};
+    ghost use Rattle.norec_world.specs.LocalWork.{IsShort};
+    ghost use Rattle.norec_world.specs.Moments.{HasWorked};
     ghost use Rattle.norec_world.specs.Tracks.{StillTracks};
     ghost use Rattle.norec_world.specs.OthersAttempts.{KeepsOthers};
-    ghost use Rattle.norec_world.specs.Tries.{Tries, prior_of};
-    ghost use Rattle.norec_world.specs.Runs.{StillRuns};
     ghost use Rattle.norec_world.specs.Sound.{IsTied, IsKept, IsReady, IsSound, IsAnswered, IsSettledBy, IsAsked, IsUnasked, IsNoMore, Falls, retried};
 
     /// Calls are made until one waits for a step or the actor has ended.
     pub(crate) fn work(&mut self, alloc: Global, memory: &Memory, recorded: &mut Recorded)
         requires { IsSound P.Player memory.now recorded.old self.old }
-        ensures sound { IsSound P.Player memory.now recorded.new self.new }
+        ensures worked { HasWorked P.Player memory.now recorded.old self.old recorded.new self.new }
         ensures done { is_ready self.new.status ≡ false }
-        ensures still { is_ready self.old.status ≡ false → (self.new ≡ self.old) × (recorded.new ≡ recorded.old) }
-        ensures works { Works P.Player memory.now.clock recorded.old self.old recorded.new self.new }
-        ensures thread { self.new.thread ≡ self.old.thread }
-        ensures others { KeepsOthers self.old recorded.old self.new recorded.new }
-        ensures holds { self.new.engine.holds ≡ self.old.engine.holds }
-        ensures limit { (self.new.engine.max_commits ≡ self.old.engine.max_commits) × (self.new.engine.patience ≡ self.old.engine.patience) }
-        ensures snapshot { self.new.engine.snapshot ≡ self.old.engine.snapshot }
-        ensures retries { self.new.retries ≡ self.old.retries }
-        ensures tries { is_ready self.old.status ≡ true → Tries memory.now.clock (prior_of recorded.old self.old) memory.now.clock recorded.new self.new }
-        ensures runs { StillRuns P.Player memory.now recorded.old self.old memory.now recorded.new self.new }
-        ensures finishes { is_ready self.old.status ≡ true → ending_of self.new.status ≡ Some End.Finished → P.next_call self.new.player ≡ None }
         ensures tracks { self.old.thread ≡ 0 → StillTracks P.Player memory.now recorded.old self.old memory.now recorded.new self.new }
-        ensures less { ending_of self.new.status ≡ None → IsNoMore P.Player self.old self.new }
     {
         while let Status::Ready = self.status {
             self.call_next(alloc, memory, recorded);
@@ -54,19 +41,8 @@ impl<P: Player> Actor<P> {
     fn call_next(&mut self, alloc: Global, memory: &Memory, recorded: &mut Recorded)
         requires sound { IsSound P.Player memory.now recorded.old self.old }
         requires ready { self.old.status ≡ Status.Ready }
-        ensures sound { IsSound P.Player memory.now recorded.new self.new }
-        ensures acts { Acts P.Player memory.now.clock recorded.old self.old recorded.new self.new }
-        ensures thread { self.new.thread ≡ self.old.thread }
-        ensures others { KeepsOthers self.old recorded.old self.new recorded.new }
-        ensures holds { self.new.engine.holds ≡ self.old.engine.holds }
-        ensures limit { (self.new.engine.max_commits ≡ self.old.engine.max_commits) × (self.new.engine.patience ≡ self.old.engine.patience) }
-        ensures snapshot { self.new.engine.snapshot ≡ self.old.engine.snapshot }
-        ensures retries { self.new.retries ≡ self.old.retries }
-        ensures tries { Tries memory.now.clock (prior_of recorded.old self.old) memory.now.clock recorded.new self.new }
-        ensures runs { StillRuns P.Player memory.now recorded.old self.old memory.now recorded.new self.new }
-        ensures finishes { ending_of self.new.status ≡ Some End.Finished → P.next_call self.new.player ≡ None }
+        ensures worked { HasWorked P.Player memory.now recorded.old self.old recorded.new self.new }
         ensures tracks { self.old.thread ≡ 0 → StillTracks P.Player memory.now recorded.old self.old memory.now recorded.new self.new }
-        ensures less { ending_of self.new.status ≡ None → IsNoMore P.Player self.old self.new }
         ensures falls { self.new.status ≡ Status.Ready → Falls P.Player self.old.engine.is_open self.new.engine.is_open self.old self.new }
     {
         let Some(call) = self.player.next() else {

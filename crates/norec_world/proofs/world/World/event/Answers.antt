@@ -1,23 +1,15 @@
-use Rattle.std.proofs.Common.{◌≡◌, ◌<◌, true, Some, refl, ap, ◌∙◌, sym, subst, length, length-set, IsSome, slice_get, slice_set}
+use Rattle.std.proofs.Common.{◌≡◌, ◌<◌, true, Some, ap, ◌∙◌, sym, subst, length, IsSome, slice_get, slice_set}
 use Rattle.std.specs.Option.{option_and_then}
 use Rattle.itm_types.proofs.Words.{slice_get-set_same}
 use Rattle.norec_world.specs.declared.actor.Actor.{Actor}
 use Rattle.norec_world.specs.Status.{is_waiting, waiting_step}
 use Rattle.norec_world.specs.Sound.{HasLess}
 use Rattle.norec_world.specs.World.{World, ending_at, told, waits_at}
-use Rattle.norec_world.specs.WorldEvents.{ActorGoes, Goes}
+use Rattle.norec_world.specs.WorldEvents.{Goes}
 use Rattle.norec_world.specs.Views.{world_of}
-use Rattle.norec_world.proofs.Worlds.{got_at, within_some, waiting_some, place_is, place_alone, lawful_at}
-use Rattle.norec_world.proofs.SoundOthers.{actors_after}
-use Rattle.norec_world.proofs.RunOthers.{has_read, running_after, world_opaque}
-use Rattle.norec_world.proofs.Events.{event_then}
-use Rattle.norec_world.proofs.Ends.{shows_alone}
-use Rattle.norec_world.proofs.WorldEvents.{event_goes}
-use Rattle.norec_world.proofs.CommitCounts.{commits_after}
+use Rattle.norec_world.proofs.Worlds.{got_at, within_some, waiting_some, place_is, place_alone}
 use Rattle.norec_world.proofs.LessLeft.{event_less}
-use Rattle.norec_world.proofs.LocalWork.{works_none}
-use Rattle.norec_world.proofs.OthersAttempts.{others_twice}
-use Rattle.norec_world.proofs.ClockHolders.{clocks_twice, clocks_still}
+use Rattle.norec_world.proofs.EventWorlds.{goes_after, world_after}
 use Rattle.norec_world.proofs.world.World.event.Goals as goal
 
 pub step-requires-clause-sound : goal.step-requires-clause-sound
@@ -38,43 +30,20 @@ step-requires-clause-waits g c =
 
 pub invariant_of-self : goal.invariant_of-self
 invariant_of-self g c =
-    let W : World g.row.P.Denot → Type 0 = λ w. IsSome (waits_at w c.args.actor) in
     let actors = c.self.inside.actors.items in
-    let within : c.args.actor < length actors = within_some (λ (a : Actor g.row.P.Denot). waiting_step a.status) actors c.args.actor (subst W (sym c.self.view_is) c.requires) in
+    let within : c.args.actor < length actors = within_some (λ (a : Actor g.row.P.Denot). waiting_step a.status) actors c.args.actor (subst (λ (w : World g.row.P.Denot). IsSome (waits_at w c.args.actor)) (sym c.self.view_is) c.requires) in
     let got = c.index_mut-a.result.now in
     let here : slice_get actors c.args.actor ≡ Some got = got_at actors c.args.actor got within c.index_mut-a.ensures.value in
-    let sound = c.self.invariant.actors in
-    let mine = (sound.each c.args.actor got here).thread in
-    let read = has_read g.P.Player g.met.P.Player.laws (world_of c.self.inside) c.self.invariant
-    c.args.actor got c.step.new.self here c.step.new.memory c.step.new.recorded c.self.inside.events c.step.ensures.others c.step.ensures.clocks c.step.ensures.runs c.step.ensures.sound.tied in
-    let event = event_then g.P.Player c.self.inside.base c.self.inside.memory c.step.new.memory
-    c.self.inside.recorded c.step.new.recorded c.work.new.recorded got c.step.new.self c.work.new.self c.step.ensures.sound
-    (record { rows = c.step.new.recorded; stepped = c.step.new.self; takes = c.step.ensures.takes; works = works_none g.P.Player c.step.new.memory.clock c.step.new.recorded c.step.new.self; tries = c.step.ensures.tries; finishes = λ e. absurd (c.step.ensures.unfinished e); others = c.step.ensures.others; clocks = c.step.ensures.clocks; retries = c.step.ensures.retries })
-    read c.work.ensures.others c.work.ensures.holds c.work.ensures.limit c.work.ensures.retries c.work.ensures.snapshot c.work.ensures.tries c.work.ensures.finishes c.work.ensures.still c.work.ensures.works in record {
-      actors = actors_after g.P.Player c.self.inside.memory c.step.new.memory c.self.inside.recorded c.work.new.recorded
-          actors sound c.args.actor got c.work.new.self here c.work.ensures.sound c.work.ensures.done
-          (others_twice got c.step.new.self c.work.new.self c.self.inside.recorded c.step.new.recorded c.work.new.recorded c.step.ensures.others c.work.ensures.others)
-          (clocks_twice c.self.inside.memory c.step.new.memory c.step.new.memory got.engine c.step.new.self.engine c.work.new.self.engine c.step.ensures.clocks
-          (clocks_still c.step.new.memory c.step.new.self.engine c.work.new.self.engine c.work.ensures.holds c.work.ensures.limit));
-      long = length-set actors c.args.actor c.work.new.self ∙ c.self.invariant.long;
-      alone = λ one.
-          (let alone = c.self.invariant.alone one in
-          let zero : got.thread ≡ 0 = mine ∙ place_is g.P.Player c.self.inside.memory c.step.new.memory c.self.inside.recorded c.work.new.recorded actors
-          c.self.inside.opening.items c.self.inside.base c.self.inside.terms.arena c.self.inside.terms.limits.max_commits alone c.args.actor within got here in
-          place_alone g.P.Player c.self.inside.memory c.step.new.memory c.self.inside.recorded c.work.new.recorded actors
-          c.self.inside.opening.items c.self.inside.base c.self.inside.terms.arena c.self.inside.terms.limits.max_commits alone c.args.actor within got here c.work.new.self
-          (λ max_commits p0 base arena t. c.work.ensures.tracks (c.step.ensures.thread ∙ zero) max_commits p0 base arena (c.step.ensures.tracks zero max_commits p0 base arena t)));
-      commits = commits_after g.P.Player (world_of c.self.inside) c.self.invariant.commits c.args.actor got c.work.new.self here c.step.new.memory c.work.new.recorded c.saturating_add-self-inside.result
-          event.0;
-      running = running_after g.P.Player g.met.P.Player.laws (world_of c.self.inside) c.self.invariant
-          c.args.actor got c.work.new.self here c.step.new.memory c.work.new.recorded c.saturating_add-self-inside.result
-          (others_twice got c.step.new.self c.work.new.self c.self.inside.recorded c.step.new.recorded c.work.new.recorded c.step.ensures.others c.work.ensures.others)
-          (clocks_twice c.self.inside.memory c.step.new.memory c.step.new.memory got.engine c.step.new.self.engine c.work.new.self.engine c.step.ensures.clocks
-          (clocks_still c.step.new.memory c.step.new.self.engine c.work.new.self.engine c.work.ensures.holds c.work.ensures.limit))
-          (λ first base laid runs. (let x = c.step.ensures.runs first base laid runs in c.work.ensures.runs first base x.0 x.1));
-    }
+    world_after g.met.P.Player.laws (world_of c.self.inside) c.self.invariant c.args.actor got here c.step.ensures.stepped c.work.ensures.worked c.work.ensures.done c.saturating_add-self-inside.result
+    (λ one.
+    (let alone = c.self.invariant.alone one in
+    let mine = (c.self.invariant.actors.each c.args.actor got here).thread in
+    let zero : got.thread ≡ 0 = mine ∙ place_is g.P.Player c.self.inside.memory c.step.new.memory c.self.inside.recorded c.work.new.recorded actors
+    c.self.inside.opening.items c.self.inside.base c.self.inside.terms.arena c.self.inside.terms.limits.max_commits alone c.args.actor within got here in
+    place_alone g.P.Player c.self.inside.memory c.step.new.memory c.self.inside.recorded c.work.new.recorded actors
+    c.self.inside.opening.items c.self.inside.base c.self.inside.terms.arena c.self.inside.terms.limits.max_commits alone c.args.actor within got here c.work.new.self
+    (λ max_commits p0 base arena t. c.work.ensures.tracks (c.step.ensures.stepped.others.thread ∙ zero) max_commits p0 base arena (c.step.ensures.tracks zero max_commits p0 base arena t))))
 
--- the step and the local work after it are one event of the world
 pub returns-clause-goes : goal.returns-clause-goes
 returns-clause-goes g c =
     let actors = c.self.inside.actors.items in
@@ -83,27 +52,9 @@ returns-clause-goes g c =
     let within : c.args.actor < length actors = within_some (λ (x : Actor g.row.P.Denot). waiting_step x.status) actors c.args.actor waits in
     let got = c.index_mut-a.result.now in
     let here : slice_get actors c.args.actor ≡ Some got = got_at actors c.args.actor got within c.index_mut-a.ensures.value in
-    let read = has_read g.P.Player g.met.P.Player.laws (world_of c.self.inside) c.self.invariant
-    c.args.actor got c.step.new.self here c.step.new.memory c.step.new.recorded c.self.inside.events c.step.ensures.others c.step.ensures.clocks c.step.ensures.runs c.step.ensures.sound.tied in
-    let event = event_then g.P.Player c.self.inside.base c.self.inside.memory c.step.new.memory
-    c.self.inside.recorded c.step.new.recorded c.work.new.recorded got c.step.new.self c.work.new.self c.step.ensures.sound
-    (record { rows = c.step.new.recorded; stepped = c.step.new.self; takes = c.step.ensures.takes; works = works_none g.P.Player c.step.new.memory.clock c.step.new.recorded c.step.new.self; tries = c.step.ensures.tries; finishes = λ e. absurd (c.step.ensures.unfinished e); others = c.step.ensures.others; clocks = c.step.ensures.clocks; retries = c.step.ensures.retries })
-    read c.work.ensures.others c.work.ensures.holds c.work.ensures.limit c.work.ensures.retries c.work.ensures.snapshot c.work.ensures.tries c.work.ensures.finishes c.work.ensures.still c.work.ensures.works in
-    let kept = invariant_of-self g c in
     let new : World g.row.P.Denot = record old { cells = c.step.new.memory; actors = slice_set actors c.args.actor c.work.new.self; attempts = c.work.new.recorded; events = c.saturating_add-self-inside.result } in
     subst (λ (w : World g.row.P.Denot). Goes g.P.Player c.args.actor w (told (ending_at new c.args.actor)) new) c.self.view_is
-    (event_goes g.P.Player old new c.args.actor waits
-    (lawful_at g.P.Player old old.attempts c.self.invariant.actors c.args.actor)
-    (λ step w. c.step.ensures.cells step (sym (ap (option_and_then (λ (a : Actor g.row.P.Denot). waiting_step a.status)) here) ∙ w))
-    c.saturating_add-self-inside.ensures
-    (λ a is.
-    (let same : got ≡ a = (let found : Some got ≡ Some a = sym here ∙ is in cc) in
-    subst (λ (x : Actor g.row.P.Denot). ActorGoes g.P.Player c.args.actor old x new) same (c.work.new.self, refl, event.0, c.work.ensures.done, event.1)))
-    kept.commits
-    (world_opaque g.P.Player g.met.P.Player.laws new kept)
-    (record { opening = refl; base = refl; arena = refl; patience = refl; max_commits = refl; retries = refl })
-    (length-set actors c.args.actor c.work.new.self)
-    (shows_alone g.P.Player new kept.alone))
+    (goes_after g.met.P.Player.laws old c.self.invariant c.args.actor got here c.step.ensures.stepped c.work.ensures.worked c.work.ensures.done c.saturating_add-self-inside.result (invariant_of-self g c) waits c.saturating_add-self-inside.ensures)
 
 pub returns-clause-less : goal.returns-clause-less
 returns-clause-less g c a b is is' =
@@ -118,5 +69,5 @@ returns-clause-less g c a b is is' =
     let waiting : is_waiting got.status ≡ true = waiting_some got.status (subst IsSome (ap (option_and_then (λ (x : Actor g.row.P.Denot). waiting_step x.status)) here) waits) in
     subst (λ (x : Actor g.row.P.Denot). HasLess g.P.Player c.waits-goes_on.result x b) first
     (subst (λ (x : Actor g.row.P.Denot). HasLess g.P.Player c.waits-goes_on.result got x) last
-    (event_less g.P.Player got c.step.new.self c.work.new.self waiting c.step.ensures.goes_on c.step.ensures.falls (λ e. (c.work.ensures.still e).0) c.work.ensures.less
+    (event_less g.P.Player got c.step.new.self c.work.new.self waiting c.step.ensures.stepped.goes_on c.step.ensures.stepped.falls (λ e. (c.work.ensures.worked.still e).0) c.work.ensures.worked.less
     c.waits-goes_on.result (sym c.waits-goes_on.ensures)))

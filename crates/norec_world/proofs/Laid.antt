@@ -1,0 +1,68 @@
+-- The words and the memories that the commits left, once attempts have ended.
+use Rattle.std.proofs.Common.{◌≡◌, ℕ, ◌+◌, ◌/◌, ◌%◌, ◌≤◌, ◌==◌, Bool, true, false, List, length, refl, sym, ap, subst, ◌∙◌, arith, eqb-true, eq-eqb}
+use Rattle.itm_types.specs.Memory.{AllFit, IsMemory, bytes_of}
+use Rattle.norec_world.specs.Cells.{Cells, words_of}
+use Rattle.norec_world.specs.Commits.{AreCounted}
+use Rattle.norec_world.specs.LogAgreement.{AreLaid}
+use Rattle.norec_world.specs.Memories.{bytes_at, words_at}
+use Rattle.norec_world.specs.Rows.{Rows}
+use Rattle.norec_world.proofs.WordLists.{words_of-bytes_of}
+
+both : (n : Bool) → n ≡ true → n ≡ false → ⊥
+both n t f = absurd (cc)
+
+below_next : (k n n' : ℕ) → (k == n + 1) ≡ false → n' ≡ n + 1 → k ≤ n' → k ≤ n
+below_next k n n' e next l = by_case (k == n + 1) refl
+  where
+    by_case : (b : Bool) → (k == n + 1) ≡ b → k ≤ n
+    by_case true h = absurd (both (k == n + 1) h e)
+    by_case false h = omega (arith, next, l, ne_eqb' h)
+      where
+        ne_eqb' : (k == n + 1) ≡ false → k ≡ n + 1 → ⊥
+        ne_eqb' h same = both (k == n + 1) (eq-eqb k (n + 1) same) h
+
+-- no commit is done by the event
+pub laid_on : (base : List ℕ) (cells cells' : Cells) (r r' : Rows) → AreLaid base cells r → AreCounted cells'.clock r'.ended → cells'.clock / 2 ≡ cells.clock / 2 → length cells'.words ≡ length cells.words
+    → ((k : ℕ) → k ≤ cells.clock / 2 → bytes_at base r'.ended k ≡ bytes_at base r.ended k) → (cells'.clock % 2 ≡ 0 → cells' ≡ cells) → AreLaid base cells' r'
+laid_on base cells cells' r r' laid counted half long still even = record {
+  counted = counted;
+  memories = record {
+    fits = λ k l. (let f = laid.memories.fits k (omega (arith, half)) in subst (λ (m : List ℕ). IsMemory (length cells'.words) (words_of m)) (sym (still k (omega (arith, half)))) (f.0 ∙ sym long, f.1));
+    same = λ k l. (let e = still k (omega (arith, half)) in ap (λ (m : List ℕ). bytes_of (words_of m)) e ∙ (laid.memories.same k (omega (arith, half)) ∙ sym e));
+  };
+  free = λ z.
+      (let is = even z in
+      ap (λ (c : Cells). c.words) is ∙ (laid.free (ap (λ (c : Cells). c.clock % 2) (sym is) ∙ z) ∙ (ap words_of (sym (still (cells.clock / 2) (let k : cells.clock / 2 ≤ cells.clock / 2 = omega arith in k)))
+      ∙ ap (λ (n : ℕ). words_at base r'.ended n) (sym half))));
+}
+
+-- one more is done, and its words are these
+pub laid_more : (base : List ℕ) (cells cells' : Cells) (r r' : Rows) → AreLaid base cells r → AreCounted cells'.clock r'.ended → cells'.clock / 2 ≡ cells.clock / 2 + 1 → length cells'.words ≡ length cells.words → AllFit cells'.words
+    → ((k : ℕ) → k ≤ cells.clock / 2 → bytes_at base r'.ended k ≡ bytes_at base r.ended k) → bytes_at base r'.ended (cells.clock / 2 + 1) ≡ bytes_of cells'.words → AreLaid base cells' r'
+laid_more base cells cells' r r' laid counted half long fit still last =
+    let words : words_at base r'.ended (cells.clock / 2 + 1) ≡ cells'.words = ap words_of last ∙ words_of-bytes_of cells'.words fit in
+    record {
+      counted = counted;
+      memories = record {
+        fits = λ k l. by_order k (k == cells.clock / 2 + 1) refl l (λ k s.
+            (let f = laid.memories.fits k s in subst (λ (m : List ℕ). IsMemory (length cells'.words) (words_of m)) (sym (still k s)) (f.0 ∙ sym long, f.1))) words;
+        same = λ k l. by_place k (k == cells.clock / 2 + 1) refl l (λ k s. (let e = still k s in ap (λ (m : List ℕ). bytes_of (words_of m)) e ∙ (laid.memories.same k s ∙ sym e))) words;
+      };
+      free = λ z. sym words ∙ ap (λ (n : ℕ). words_at base r'.ended n) (sym half);
+    }
+  where
+    by_order : (k : ℕ) (b : Bool) → (k == cells.clock / 2 + 1) ≡ b → k ≤ cells'.clock / 2 → ((k : ℕ) → k ≤ cells.clock / 2 → IsMemory (length cells'.words) (words_at base r'.ended k))
+        → words_at base r'.ended (cells.clock / 2 + 1) ≡ cells'.words → IsMemory (length cells'.words) (words_at base r'.ended k)
+    by_order k true e l before words = subst (IsMemory (length cells'.words)) (sym (ap (words_at base r'.ended) (eqb-true k (cells.clock / 2 + 1) e) ∙ words)) (refl, fit)
+    by_order k false e l before words = before k (below_next k (cells.clock / 2) (cells'.clock / 2) e half l)
+
+    by_place : (k : ℕ) (b : Bool) → (k == cells.clock / 2 + 1) ≡ b → k ≤ cells'.clock / 2 → ((k : ℕ) → k ≤ cells.clock / 2 → bytes_of (words_at base r'.ended k) ≡ bytes_at base r'.ended k)
+        → words_at base r'.ended (cells.clock / 2 + 1) ≡ cells'.words → bytes_of (words_at base r'.ended k) ≡ bytes_at base r'.ended k
+    by_place k true e l before words =
+        let is = eqb-true k (cells.clock / 2 + 1) e in
+        ap (λ (j : ℕ). bytes_of (words_at base r'.ended j)) is ∙ (ap bytes_of words ∙ (sym last ∙ ap (bytes_at base r'.ended) (sym is)))
+    by_place k false e l before words = before k (below_next k (cells.clock / 2) (cells'.clock / 2) e half l)
+
+-- what is true of the ended attempts alone
+pub laid_same : (base : List ℕ) (cells : Cells) (r r' : Rows) → r'.ended ≡ r.ended → AreLaid base cells r → AreLaid base cells r'
+laid_same base cells r r' same laid = subst (λ (rows : List _). AreLaid base cells (record r' { ended = rows })) (sym same) (record { counted = laid.counted; memories = laid.memories; free = laid.free })

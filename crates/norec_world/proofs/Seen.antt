@@ -1,0 +1,122 @@
+-- What an engine has seen of the memories that the commits left, over a step or a call.
+use Rattle.std.proofs.Common.{◌≡◌, inl, inr, ℕ, zero, suc, ◌+◌, ◌/◌, ◌%◌, ◌≤◌, ◌==◌, Bool, true, false, if◌then◌else◌, List, length, length-set, Some, refl, sym, ap, subst, ◌∙◌, arith}
+use Rattle.itm_types.specs.declared.call.Call.{Call}
+use Rattle.itm_types.specs.declared.step.Step.{Step}
+use Rattle.itm_types.specs.declared.step.Step.TheVariants.{Load, Store, Cas}
+use Rattle.itm_types.specs.Memory.{Agrees, IsMemory, bytes_of}
+use Rattle.norec_engine.specs.Core.{Core, came, handed_to}
+use Rattle.norec_engine.specs.Proceeds.{IsLawful, Joins, StaysOn, backed}
+use Rattle.norec_engine.proofs.KeptFields.{handed_is}
+use Rattle.norec_world.specs.Cells.{Cells, cells_after, found}
+use Rattle.norec_world.specs.LogAgreement.{AreLaid, Loaded, Sees}
+use Rattle.norec_world.specs.Memories.{bytes_at, words_at}
+use Rattle.norec_world.specs.Rows.{Rows}
+use Rattle.norec_world.specs.Sound.{IsTied}
+use Rattle.norec_world.proofs.LogAgreement.{is_free, freed_by, less_logged, loaded_handed, log_now, still_logged}
+use Rattle.norec_world.proofs.TiedEngines.{held_even}
+
+both : (n : Bool) → n ≡ true → n ≡ false → ⊥
+both n t f = absurd (cc)
+
+-- over these cells and then those, by the engine mid, in which the value or the call is, and the engine that it became
+pub record HasSeen (base : List ℕ) (cells cells' : Cells) (r : Rows) (mid new : Core) : Type 0 where
+  pub laid : AreLaid base cells r
+  pub words : mid.words ≡ length cells.words
+  pub long : length cells'.words ≡ length cells.words
+  pub late : mid.snapshot / 2 ≤ cells.clock / 2
+  pub up : mid.is_open ≡ true → mid.snapshot ≤ new.snapshot
+  pub opens : mid.is_open ≡ false → new.is_open ≡ true → cells.clock / 2 ≤ new.snapshot / 2
+  pub logged : mid.is_open ≡ true → Agrees (words_at base r.ended (mid.snapshot / 2)) mid.log
+  pub still : mid.is_open ≡ true → Agrees (words_at base r.ended (new.snapshot / 2)) mid.log
+  pub now : new.is_open ≡ true → Agrees (words_at base r.ended (new.snapshot / 2)) new.log
+  pub fewer : new.is_open ≡ true → (m : List ℕ) → Agrees m new.log → Agrees m mid.log
+  pub loaded : mid.freed ≡ false → Loaded (words_at base r.ended) cells' mid
+  pub even : mid.freed ≡ false → cells'.clock % 2 ≡ 0 → cells' ≡ cells  -- an even clock that was not freed was there before
+  pub freed : mid.freed ≡ true → cells'.words ≡ backed mid (words_at base r.ended (cells.clock / 2))
+
+-- what stands at a position that there is
+module _ {base : List ℕ} {cells cells' : Cells} {r : Rows} {mid new : Core} (s : HasSeen base cells cells' r mid new) where
+  pub memory_at : (k : ℕ) → k ≤ cells.clock / 2 → IsMemory mid.words (words_at base r.ended k)
+  memory_at k l = (let f = s.laid.memories.fits k l in (f.0 ∙ sym s.words, f.1))
+
+  pub same_at : (k : ℕ) → k ≤ cells.clock / 2 → bytes_of (words_at base r.ended k) ≡ bytes_at base r.ended k
+  same_at k l = s.laid.memories.same k l
+
+-- ## A call comes
+
+pub call_seen : (base : List ℕ) (cells : Cells) (r : Rows) (e new : Core) (call : Call) (again : Bool) → AreLaid base cells r → IsTied cells e → e.holds ≡ false → Sees (words_at base r.ended) cells e → StaysOn e new
+    → HasSeen base cells cells r (came e call again) new
+call_seen base cells r e new call again laid tied free sees stays = record {
+  laid = laid;
+  words = tied.words;
+  long = refl;
+  late = (let reached = tied.settled.reached in let late = tied.late in omega arith);
+  up = λ o. (let same = stays.snapshot in omega arith);
+  opens = λ shut o. absurd (both e.is_open (stays.opens o) shut);
+  logged = sees.logged;
+  still = λ o. subst (λ (k : ℕ). Agrees (words_at base r.ended (k / 2)) e.log) (sym stays.snapshot) (sees.logged o);
+  now = λ o.
+      subst (λ (l : _). Agrees (words_at base r.ended (new.snapshot / 2)) l) (sym (stays.log o))
+      (subst (λ (k : ℕ). Agrees (words_at base r.ended (k / 2)) e.log) (sym stays.snapshot) (sees.logged (stays.opens o)));
+  fewer = λ o m x. subst (Agrees m) (stays.log o) x;
+  loaded = λ f. record { fresh = λ even same h. tt; held = λ h. absurd (both e.holds h free); got = λ h. absurd (both e.holds h free) };
+  even = λ f even. refl;
+  freed = λ f. absurd (cc);
+}
+
+-- ## A step was done
+
+module _ (cells : Cells) (e : Core) (tied : IsTied cells e) where
+  step_long : (s : Step) → length (cells_after cells s).words ≡ length cells.words
+  step_long (Load cell) = refl
+  step_long (Store zero value) = refl
+  step_long (Store (suc word) value) = length-set cells.words word value
+  step_long (Cas cell from to) = refl
+
+  exchanged_same : (b : Bool) (from to : ℕ) → (cells.clock == from) ≡ b → from % 2 ≡ 0 → to ≡ from + 1 → (if b then to else cells.clock) % 2 ≡ 0 → record cells { clock = if b then to else cells.clock } ≡ cells
+  exchanged_same true from to e f up even = absurd (omega arith)
+  exchanged_same false from to e f up even = refl
+
+  even_same : (s : Step) → IsLawful e s → is_free s ≡ false → (cells_after cells s).clock % 2 ≡ 0 → cells_after cells s ≡ cells
+  even_same (Load cell) l k even = refl
+  even_same (Store zero value) l k even = absurd (cc)
+  even_same (Store (suc word) value) l k even = absurd (let held = tied.holder l.1 in let h = held_even e tied.settled l.1 in omega arith)
+  even_same (Cas cell from to) l k even = exchanged_same (cells.clock == from) from to refl l.4 l.6 even
+
+  freed_words : (memory : ℕ → List ℕ) → Loaded memory cells e → (s : Step) → IsLawful e s → is_free s ≡ true → (cells_after cells s).words ≡ backed (handed_to e (Some s) (found cells s)) (memory (cells.clock / 2))
+  freed_words memory x (Load cell) l k = absurd (cc)
+  freed_words memory x (Store (suc word) value) l k = absurd (cc)
+  freed_words memory x (Cas cell from to) l k = absurd (cc)
+  freed_words memory x (Store zero value) l k = x.held l.1
+
+pub step_seen : (base : List ℕ) (cells : Cells) (r : Rows) (e new : Core) (step : Step) → AreLaid base cells r → IsTied cells e → Sees (words_at base r.ended) cells e → e.waits ≡ Some step → IsLawful e step → Joins e (found cells step) new
+    → HasSeen base cells (cells_after cells step) r (handed_to e (Some step) (found cells step)) new
+step_seen base cells r e new step laid tied sees waits lawful joins =
+    let k = handed_is e step (found cells step) in
+    let mid : Core = handed_to e (Some step) (found cells step) in
+    let memory : ℕ → List ℕ = words_at base r.ended in
+    let fits = laid.memories.fits (cells.clock / 2) (let l : cells.clock / 2 ≤ cells.clock / 2 = omega arith in l) in
+    let unfreed = freed_by e step (found cells step) tied.settled.unfreed in
+    record {
+      laid = laid;
+      words = k.keeps.words ∙ tied.words;
+      long = step_long cells e tied step;
+      late = (let same = k.snapshot in let reached = tied.settled.reached in let late = tied.late in omega arith);
+      up = λ o. elim (joins.snapshot (sym k.keeps.is_open ∙ o)) [
+        | inl is ↦ (let same = k.snapshot in omega arith)
+        | inr moved ↦ (let same = k.snapshot in let reached = tied.settled.reached in let clock = moved.0.same in let to = moved.2 in omega arith)
+      ];
+      opens = λ shut o.
+          (let b = joins.begins (sym k.keeps.is_open ∙ shut) o in
+          let is : step ≡ Load 0 = (let x : Some step ≡ Some (Load 0) = sym waits ∙ b.0 in cc) in
+          let clock : found cells step ≡ cells.clock = ap (found cells) is in
+          let to = b.1 in
+          omega arith);
+      logged = λ o. subst (λ (j : ℕ). Agrees (memory (j / 2)) mid.log) (sym k.snapshot) (subst (Agrees (memory (e.snapshot / 2))) (sym k.log) (sees.logged (sym k.keeps.is_open ∙ o)));
+      still = λ o. subst (Agrees (memory (new.snapshot / 2))) (sym k.log) (still_logged memory cells e tied laid.free fits sees step waits lawful new joins (sym k.keeps.is_open ∙ o));
+      now = log_now memory cells e tied laid.free fits sees step waits lawful new joins;
+      fewer = λ o m a. subst (Agrees m) (sym k.log) (less_logged memory cells e tied laid.free fits sees step waits lawful new joins o m a);
+      loaded = λ f. loaded_handed memory cells e tied laid.free fits sees.loaded step lawful (sym unfreed ∙ f);
+      even = λ f. even_same cells e tied step lawful (sym unfreed ∙ f);
+      freed = λ f. freed_words cells e tied memory sees.loaded step lawful (sym unfreed ∙ f);
+    }

@@ -1,0 +1,135 @@
+-- The moment that a step and a call of the player share: the engine has taken in a value or a call, and what it gave is recorded next.
+use Rattle.std.proofs.Common.{◌≡◌, ◌⊎◌, ◌+◌, ◌*◌, ◌/◌, Bool, true, false, [], refl, ap, subst, ◌∙◌, sym, length, Some}
+use Rattle.itm_types.specs.declared.call.Call.{Call}
+use Rattle.itm_types.specs.declared.step.Step.{Step}
+use Rattle.norec_engine.specs.Core.{Core}
+use Rattle.norec_engine.specs.Proceeds.{Ends, IsAtOnce, IsWithin, Proceeds}
+use Rattle.norec_engine.specs.declared.answer.Answer.{Answer}
+use Rattle.norec_engine.specs.declared.answer.Next.{Next}
+use Rattle.norec_engine.specs.declared.answer.Next.TheVariants.{Step as Asks, Answer as Answers}
+use Rattle.norec_engine.proofs.AnsweredEngines.{rests}
+use Rattle.norec_world.specs.declared.actor.Actor.{Actor}
+use Rattle.norec_world.specs.declared.actor.Status.{Status}
+use Rattle.norec_world.specs.declared.actor.Status.TheVariants.{Ready, Waits, Ended}
+use Rattle.norec_world.specs.Cells.{Cells}
+use Rattle.norec_world.specs.Records.{Records, Tells}
+use Rattle.norec_world.specs.Rows.{Rows}
+use Rattle.norec_world.specs.Sound.{AnswerFits, HasRow, IsAnswered, IsDone, IsDue, IsInCall, IsKept, IsNested, IsSettledBy, IsSound, IsTied, RestsAs, StatusIs}
+use Rattle.norec_world.proofs.TiedEngines.{answer_fits}
+use Rattle.script_vm.specs.Rules.{Rules}
+
+-- what becomes of the clock, by whether the engine freed it
+pub record ClockMoves (cells cells' : Cells) (mid : Core) : Type 0 where
+  pub frees : mid.freed ≡ true → (cells.clock ≡ 2 * (mid.snapshot / 2) + 1) × (cells'.clock ≡ 2 * (mid.snapshot / 2) + 2)
+  pub keeps : mid.freed ≡ false → cells'.clock / 2 ≡ cells.clock / 2
+
+module _ {P : Type 0} (rules : Rules P) where
+  -- over these cells and then those, the engine mid, in which the value or the call is, gave this for the call and became the actor's; it was open before or not
+  pub record HasTaken (was : Bool) (cells cells' : Cells) (r : Rows) (mid : Core) (a : Actor P) (call : Call) (what : Next) : Type 0 where
+    pub was_is : mid.is_open ≡ was
+    pub proceeds : Proceeds mid what a.engine
+    pub doing : mid.doing ≡ Some call
+    pub words : mid.words ≡ length cells'.words
+    pub tied : IsTied cells' a.engine
+    pub within : IsWithin a.engine
+    pub kept : IsKept was r a
+    pub nested : IsNested rules was a.player
+    pub in_call : IsInCall rules was r a call
+    pub ready : a.status ≡ Ready
+    pub moves : ClockMoves cells cells' mid
+    pub empty : was ≡ false → mid.writes ≡ []
+    -- outside a transaction the clock stands still, and is loaded where the answer takes a step
+    pub outside : was ≡ false → (cells'.clock ≡ cells.clock) × ((mid.clock ≡ cells'.clock) ⊎ IsAtOnce what)
+
+  -- and the answer is recorded
+  pub record HasAnswered (was : Bool) (cells cells' : Cells) (r r1 : Rows) (mid : Core) (a last : Actor P) (call : Call) (answer : Answer) : Type 0 where
+    pub taken : HasTaken was cells cells' r mid a call (Answers answer)
+    pub answered : IsAnswered rules was r a call answer
+    pub ends : Ends mid answer a.engine
+    pub told : Records rules was r r1 a last call answer
+    pub settled : IsSettledBy rules was r1 a last
+
+  -- what is true of the actor then
+  pub record IsNow (cells : Cells) (r : Rows) (a last : Actor P) : Type 0 where
+    pub engine : last.engine ≡ a.engine
+    pub sound : IsSound rules cells r last
+    pub thread : last.thread ≡ a.thread
+    pub retries : last.retries ≡ a.retries
+
+module _ {P : Type 0} {rules : Rules P} {was : Bool} {cells cells' : Cells} {r : Rows} {mid : Core} {a : Actor P} {call : Call} where
+  pub answered : {answer : Answer} → HasTaken rules was cells cells' r mid a call (Answers answer) → IsAnswered rules was r a call answer
+  answered {answer} m =
+      let rest = rests mid a.engine answer m.proceeds in
+      record {
+        kept = m.kept;
+        nested = m.nested;
+        in_call = m.in_call;
+        fits = subst (λ (b : Bool). AnswerFits b a.engine.is_open call answer) m.was_is (answer_fits mid a.engine call answer m.doing m.proceeds);
+        idle = rest.idle;
+        free = rest.holds;
+        status = m.ready;
+      }
+
+  pub due : {what : Next} → HasTaken rules was cells cells' r mid a call what → IsDue rules was r a call what
+  due {what} m = by_what what m
+    where
+      by_what : (x : Next) → HasTaken rules was cells cells' r mid a call x → IsDue rules was r a call x
+      by_what (Asks step) m = m.ready
+      by_what (Answers answer) m = answered m
+
+  -- the actor waits for the step
+  pub waits_now : {step : Step} → HasTaken rules was cells cells' r mid a call (Asks step) → IsNow rules cells' r a (record a { status = Waits call step })
+  waits_now {step} m =
+      let g = m.proceeds in
+      let opens : was ≡ a.engine.is_open = sym m.was_is ∙ sym (ap (λ (c : Core). c.is_open) g.stays) in
+      let k = m.kept in
+      let i = m.in_call in
+      record {
+        engine = refl;
+        thread = refl;
+        retries = refl;
+        sound = record {
+          tied = m.tied;
+          kept = record { row = subst (λ (b : Bool). HasRow b r a.thread) opens k.row; empty = k.empty; tried = k.tried; tries = k.tries; retries = k.retries };
+          status = record {
+            nested = subst (λ (b : Bool). IsNested rules b a.player) opens m.nested;
+            in_call = subst (λ (b : Bool). IsInCall rules b r (record a { status = Waits call step }) call) opens (record {
+              asks = i.asks;
+              begins = i.begins;
+              inside = i.inside;
+              room = i.room;
+              opens = λ row e. (let p = i.opens row e in record { thread = p.thread; nth = p.nth; outcome = p.outcome; room = p.room });
+            });
+            doing = ap (λ (c : Core). c.doing) g.stays ∙ m.doing;
+            waits = ap (λ (c : Core). c.waits) g.stays;
+            lawful = g.lawful;
+            within = m.within;
+          };
+        };
+      }
+
+  -- the answer is recorded
+  pub answered_now : {r1 : Rows} {last : Actor P} {answer : Answer} → HasAnswered rules was cells cells' r r1 mid a last call answer → IsNow rules cells' r1 a last
+  answered_now {r1} {last} m = record {
+    engine = m.settled.engine;
+    thread = m.settled.thread;
+    retries = m.settled.retries;
+    sound = record { tied = subst (IsTied cells') (sym m.settled.engine) m.taken.tied; kept = m.settled.kept; status = status_of last.status m.settled.rests };
+  }
+    where
+      status_of : (st : Status) → RestsAs rules st last → StatusIs rules r1 last st
+      status_of Ready rest = rest
+      status_of (Waits c step) rest = absurd rest
+      status_of (Ended end) rest = tt
+
+  -- what holds of an actor that waits, and of one whose call is answered, holds once either is recorded
+  pub recorded : {what : Next} {r1 : Rows} {last : Actor P} (Holds : Rows → Actor P → Type 0) → HasTaken rules was cells cells' r mid a call what → IsDone rules was r r1 a last call what → Tells rules was r r1 a last call what
+      → ((step : Step) → HasTaken rules was cells cells' r mid a call (Asks step) → Holds r (record a { status = Waits call step })) → ((answer : Answer) → what ≡ Answers answer → HasAnswered rules was cells cells' r r1 mid a last call answer → Holds r1 last) → Holds r1 last
+  recorded {what} {r1} {last} Holds m done tells waits ends = by_what what refl m done tells
+    where
+      by_what : (x : Next) → what ≡ x → HasTaken rules was cells cells' r mid a call x → IsDone rules was r r1 a last call x → Tells rules was r r1 a last call x → Holds r1 last
+      by_what (Asks step) is m done tells = subst (λ (x : Rows). Holds x last) (sym done.1) (subst (Holds r) (sym done.0) (waits step m))
+      by_what (Answers answer) is m done tells = ends answer is (record { taken = m; answered = answered m; ends = m.proceeds; told = tells; settled = done })
+
+  pub now : {what : Next} {r1 : Rows} {last : Actor P} → HasTaken rules was cells cells' r mid a call what → IsDone rules was r r1 a last call what → Tells rules was r r1 a last call what → IsNow rules cells' r1 a last
+  now m done tells = recorded (λ x y. IsNow rules cells' x a y) m done tells (λ step t. waits_now t) (λ answer is t. answered_now t)

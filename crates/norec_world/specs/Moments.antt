@@ -1,0 +1,44 @@
+-- What an actor's step, and its local work, leave: all of it at once. No contract above cites it.
+use Rattle.std.specs.Prelude.{◌≡◌, true, false, None, Some}
+use Rattle.itm_types.specs.declared.step.Step.{Step}
+use Rattle.norec_world.specs.declared.attempt.End.TheVariants.{Finished}
+use Rattle.norec_world.specs.declared.actor.Actor.{Actor}
+use Rattle.norec_world.specs.Cells.{Cells, cells_after}
+use Rattle.norec_world.specs.ClockHolder.{ClocksOn}
+use Rattle.norec_world.specs.LocalWork.{TakesIn, Works}
+use Rattle.norec_world.specs.OthersAttempts.{KeepsOthers}
+use Rattle.norec_world.specs.Rows.{Rows}
+use Rattle.norec_world.specs.Runs.{StillRuns}
+use Rattle.norec_world.specs.Sound.{Falls, GoesOn, IsNoMore, IsSound}
+use Rattle.norec_world.specs.Status.{ending_of, is_ready, is_waiting, waiting_step}
+use Rattle.norec_world.specs.Tries.{Tries, prior_of}
+use Rattle.script_vm.specs.Rules.{Rules}
+
+module _ {P : Type 0} (rules : Rules P) where
+  -- the operation that it waited for was done, and its engine took in what was found
+  pub record HasStepped (cells : Cells) (r : Rows) (a : Actor P) (cells' : Cells) (r' : Rows) (a' : Actor P) : Type 0 where
+    pub sound : IsSound rules cells' r' a'
+    pub cells_are : (step : Step) → waiting_step a.status ≡ Some step → cells' ≡ cells_after cells step
+    pub takes : TakesIn rules cells r a r' a'
+    pub tries : Tries cells.clock (prior_of r a) cells'.clock r' a'
+    pub runs : StillRuns rules cells r a cells' r' a'
+    pub others : KeepsOthers a r a' r'
+    pub clocks : ClocksOn cells a.engine cells' a'.engine
+    pub unfinished : ending_of a'.status ≡ Some Finished → ⊥
+    pub goes_on : is_waiting a'.status ≡ true → GoesOn rules a a'
+    pub falls : is_ready a'.status ≡ true → Falls rules a.engine.is_open a'.engine.is_open a a'
+
+  -- it made calls of its player, as many as it could or some of them
+  pub record HasWorked (cells : Cells) (r : Rows) (a : Actor P) (r' : Rows) (a' : Actor P) : Type 0 where
+    pub sound : IsSound rules cells r' a'
+    pub works : Works rules cells.clock r a r' a'
+    pub tries : is_ready a.status ≡ true → Tries cells.clock (prior_of r a) cells.clock r' a'
+    pub runs : StillRuns rules cells r a cells r' a'
+    pub others : KeepsOthers a r a' r'
+    pub holds : a'.engine.holds ≡ a.engine.holds
+    pub limit : (a'.engine.max_commits ≡ a.engine.max_commits) × (a'.engine.patience ≡ a.engine.patience)
+    pub snapshot : a'.engine.snapshot ≡ a.engine.snapshot
+    pub retries : a'.retries ≡ a.retries
+    pub finishes : is_ready a.status ≡ true → ending_of a'.status ≡ Some Finished → rules.next_call a'.player ≡ None
+    pub still : is_ready a.status ≡ false → (a' ≡ a) × (r' ≡ r)
+    pub less : ending_of a'.status ≡ None → IsNoMore rules a a'
