@@ -35,14 +35,11 @@ pub mod Refusals
 pub mod CallEvents
 pub mod Alones
 pub mod Solos
-pub mod SoloRuns
+pub mod SoleRuns
+pub mod SoleEvents
+pub mod ShownAlone
 pub mod OpenedRows
-pub mod SoloTracks
-pub mod Parts
-pub mod SoloCalls
-pub mod SoloSteps
 pub mod Beginnings
-pub mod Ends
 pub mod AlikeAnswers
 pub mod HeldAttempts
 pub mod AlikeCalls

@@ -14,7 +14,8 @@ use Rattle.norec_engine.proofs.Logs as logs
 use Rattle.norec_world.specs.Cells.{Cells, found, cells_after}
 use Rattle.norec_world.specs.Sound.{IsTied}
 use Rattle.norec_world.specs.LogAgreement.{Loaded, Sees}
-use Rattle.norec_world.proofs.SoloRuns.{is_free, agrees_more}
+use Rattle.norec_engine.proofs.Logs.{agrees_more}
+use Rattle.norec_world.proofs.ClockHolders.{is_free}
 
 both : (n : Bool) → n ≡ true → n ≡ false → ⊥
 both n t f = absurd (cc)

@@ -11,7 +11,7 @@ use Rattle.itm_model.specs.Machine.{after, is_open, opened, undone, undone_from}
 use Rattle.itm_model.specs.State.{Block}
 use Rattle.norec_engine.specs.Core.{Core}
 use Rattle.norec_engine.specs.Stands.{stands_for}
-use Rattle.norec_engine.specs.Proceeds.{Replies, Commits, Conflicts}
+use Rattle.norec_engine.specs.Proceeds.{Replies, Commits, Conflicts, IsFull}
 use Rattle.norec_engine.specs.declared.answer.Answer.TheVariants.{Reply, Committed, Conflict, Full}
 use Rattle.norec_world.specs.declared.attempt.Attempt.{Attempt}
 use Rattle.norec_world.specs.declared.attempt.Outcome.TheVariants as outcomes
@@ -23,7 +23,7 @@ use Rattle.norec_world.specs.declared.attempt.Entry.{Entry}
 use Rattle.norec_world.specs.declared.attempt.Outcome.{Outcome}
 use Rattle.norec_world.specs.Alone.{state_then}
 use Rattle.norec_world.specs.Cells.{words_of}
-use Rattle.norec_world.specs.Opacity.{Between, EndsAs, answered_all, begin_code, follows, after_try, IsRunOf, IsTryAt}
+use Rattle.norec_world.specs.Opacity.{Between, EndsAs, answered_all, begin_code, follows, after_try, LacksCommit, IsRunOf, IsTryAt}
 use Rattle.norec_world.specs.Rows.{Rows, active_of}
 use Rattle.norec_world.specs.Status.{ending_of}
 use Rattle.norec_world.specs.Records.{Records, StopsAt}
@@ -31,10 +31,10 @@ use Rattle.norec_world.specs.Sound.{IsAnswered, IsSettledBy}
 use Rattle.norec_world.specs.Memories.{bytes_at, words_at}
 use Rattle.norec_world.specs.Runs.{run_after, begins_at, IsInTry, IsRun}
 use Rattle.norec_world.proofs.ActiveRows.{changed_here, row_is_of}
-use Rattle.norec_world.proofs.SoloRuns.{player_snoc, stands_open}
+use Rattle.norec_world.proofs.Alones.{player_snoc, stands_open}
 use Rattle.norec_world.proofs.TryEnds.{none_pending}
 use Rattle.norec_world.proofs.RunLists.{of_thread_own, run_more, run_still}
-use Rattle.norec_world.proofs.InTries.{try_replies, try_stops, try_commits, left_state}
+use Rattle.norec_world.proofs.InTries.{try_replies, try_stops, try_commits, left_state, lacks_commit}
 use Rattle.script_vm.specs.Rules.{Obeys, Rules}
 
 both : (n : Bool) → n ≡ true → n ≡ false → ⊥
@@ -138,12 +138,13 @@ module _ {P : Type 0} (rules : Rules P) (laws : Obeys rules)
           ≡ after MAX_DEPTH (stands_for mid m) Commit
       commit_left =
           let t = run.inside inside in
-          left_state rules laws n' (bytes_at base r1.ended) t.0 t.1 a.player mid a.engine call at wrote m t.4 inside d.in_call.asks d.fits.2 g (let e = t.4.began in let is = g.at_is in omega arith) (omega (arith, at_most, later)) mem bytes_same agrees
+          left_state rules laws (bytes_at base r1.ended at) t.0 t.1 a.player mid call m t.4 inside d.in_call.asks d.fits.2 mem bytes_same agrees n' at wrote a.engine g
 
       pub commit_runs : Run n' r1 last
       commit_runs =
           let t = run.inside inside in
-          let try = try_commits rules laws n' (bytes_at base r1.ended) t.0 t.1 a.player mid a.engine call at wrote m t.4 inside d.in_call.asks d.fits.2 g (let e = t.4.began in let is = g.at_is in omega arith) (omega (arith, at_most, later)) mem bytes_same agrees in
+          let try = try_commits rules laws (bytes_at base r1.ended at) t.0 t.1 a.player mid call m t.4 inside d.in_call.asks d.fits.2 mem bytes_same agrees n' at wrote a.engine g
+          (bytes_at base r1.ended) refl (let e = t.4.began in let is = g.at_is in omega arith) (omega (arith, at_most, later)) in
           let over = ended_run _ (row_is_of a.thread r.active t.1 t.3) commit_ended s.thread try in
           let closed : last.engine.is_open ≡ false = ap (λ (c : Core). c.is_open) s.engine ∙ d.fits.1 in
           let ready : last.status ≡ Ready = told.4 ∙ d.status in
@@ -190,14 +191,15 @@ module _ {P : Type 0} (rules : Rules P) (laws : Obeys rules)
       agrees_now : Agrees (words_at base r1.ended k) mid.log
       agrees_now = subst (λ (m : List ℕ). Agrees m mid.log) (sym words_same) agrees
 
-      pub stop_run : IsRunOf rules MAX_DEPTH n' (bytes_at base r1.ended) (Some first) (of_thread last.thread r1.ended)
+      pub stop_run : (outcome ≡ outcomes.Full → LacksCommit rules MAX_DEPTH (rules.answered (run.inside inside).4.start.player (begin_code (run.inside inside).0.again)) (run.inside inside).1 (bytes_at base r1.ended k))
+          → IsRunOf rules MAX_DEPTH n' (bytes_at base r1.ended) (Some first) (of_thread last.thread r1.ended)
           × (run_after rules (bytes_at base r1.ended) (Some first) (of_thread last.thread r1.ended)
           ≡ after_try rules MAX_DEPTH (bytes_at base r1.ended) (run.inside inside).0 (Some (run.inside inside).4.start) (record (run.inside inside).1 { at = k; outcome = outcome }))
-      stop_run =
+      stop_run full =
           let t = run.inside inside in
           ended_run (record t.1 { at = k; outcome = outcome }) (row_is_of a.thread r.active t.1 t.3) stop_ended thread
           (try_stops rules laws n' base r1.ended t.0 t.1 a.player mid t.4 k outcome
-          (ends (stands_for mid (words_at base r1.ended k)) (stands_open rules laws mid (words_at base r1.ended k) inside)) older (omega (arith, newer, later)) memory_now same_now agrees_now)
+          (ends (stands_for mid (words_at base r1.ended k)) (stands_open rules laws mid (words_at base r1.ended k) inside)) older (omega (arith, newer, later)) memory_now same_now agrees_now full)
 
       -- the plain state that it leaves
       pub stop_left : alone MAX_DEPTH (bytes_at base r1.ended k) (record (run.inside inside).1 { at = k; outcome = outcome }) ≡ stands_for mid (words_at base r1.ended k)
@@ -216,7 +218,7 @@ module _ {P : Type 0} (rules : Rules P) (laws : Obeys rules)
       conflict_runs =
           let t = run.inside inside in
           let k : ℕ = last.engine.snapshot / 2 in
-          let over = stop_run k outcomes.Conflict (λ x o. o) s.thread told.0 older newer mem same agrees in
+          let over = stop_run k outcomes.Conflict (λ x o. o) s.thread told.0 older newer mem same agrees (λ f. absurd (cc)) in
           let state = stop_left k outcomes.Conflict (λ x o. o) s.thread told.0 older newer mem same agrees in
           let closed : last.engine.is_open ≡ false = ap (λ (c : Core). c.is_open) s.engine ∙ d.fits.1 in
           let player : rules.restarted (answered_all rules.answered (rules.answered t.4.start.player (begin_code t.0.again)) (map (λ (x : Entry). x.reply) t.1.calls)) ≡ last.player = ap rules.restarted (sym t.4.player) ∙ sym told.1 in
@@ -250,13 +252,15 @@ module _ {P : Type 0} (rules : Rules P) (laws : Obeys rules)
           nothing gave_up = none_pending rules r r1 a last true s (ready (nat_lt a.retries a.nth) told.2.status gave_up)
 
     -- as full: the actor gives up
-    module _ (at : ℕ) (d : IsAnswered rules true r a call (Full at)) (told : Records rules true r r1 a last call (Full at)) (s : IsSettledBy rules true r1 a last)
+    module _ (at : ℕ) (is : call ≡ Commit) (g : IsFull mid at a.engine) (d : IsAnswered rules true r a call (Full at)) (told : Records rules true r r1 a last call (Full at)) (s : IsSettledBy rules true r1 a last)
         (older : (run.inside inside).1.began ≤ at) (newer : at ≤ n) (mem : IsMemory mid.words (words_at base r.ended at)) (same : bytes_of (words_at base r.ended at) ≡ bytes_at base r.ended at) (agrees : Agrees (words_at base r.ended at) mid.log) where
       pub full_runs : Run n' r1 last
       full_runs =
           let closed : last.engine.is_open ≡ false = ap (λ (c : Core). c.is_open) s.engine ∙ d.fits.1 in
+          let t = run.inside inside in
           record {
-            run = (stop_run at outcomes.Full (λ x o. o) s.thread told.0 older newer mem same agrees).0;
+            run = (stop_run at outcomes.Full (λ x o. o) s.thread told.0 older newer mem same agrees
+                (λ f. lacks_commit rules laws (bytes_at base r1.ended at) t.0 t.1 a.player mid call (words_at base r.ended at) t.4 inside d.in_call.asks is mem (same ∙ sym (still at newer)) agrees g.some)).0;
             inside = λ o. absurd (both last.engine.is_open o closed);
             between = λ o gave_up starved. absurd (gave_up (ap ending_of told.1));
           }

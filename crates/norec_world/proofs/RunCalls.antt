@@ -275,7 +275,8 @@ module _ {P : Type 0} (rules : Rules P) (laws : Obeys rules)
           let at_same : at ≡ old.engine.snapshot / 2 = omega arith in
           let at_late : at ≤ n = omega arith in
           let early = (run_mid.inside o).4.began in
-          full_runs rules laws first base n r r1 new last call mid n up still run_mid o at d told s (omega arith) at_late (mem_at at at_late) (same_at at at_late)
+          let is : call ≡ Commit = (let doing : Some Commit ≡ Some call = sym g.doing in cc) in
+          full_runs rules laws first base n r r1 new last call mid n up still run_mid o at is g d told s (omega arith) at_late (mem_at at at_late) (same_at at at_late)
           (subst (λ (k : ℕ). Agrees (words_at base r.ended k) mid.log) (sym at_same) (logged_mid o))
 
       shut_so : (ans : Answer) → old.engine.is_open ≡ false → IsAtOnce (Answers ans) → IsAnswered rules false r new call ans → Ends mid ans new.engine → Records rules false r r1 new last call ans
@@ -426,7 +427,7 @@ module _ {P : Type 0} (rules : Rules P) (laws : Obeys rules)
           early k_late
           (subst (λ (l : List Attempt). IsMemory mid.engine.words (words_at base l k)) (sym ended_same) (subst (λ (c : Core). IsMemory c.words (words_at base r0.ended k)) (sym engine) (fits.0 ∙ sym sound.tied.words, fits.1)))
           (subst (λ (l : List Attempt). bytes_of (words_at base l k) ≡ bytes_at base l k) (sym ended_same) (laid.memories.same k k_late))
-          (subst (λ (l : List Attempt). Agrees (words_at base l k) mid.engine.log) (sym ended_same) (subst (λ (c : Core). Agrees (words_at base r0.ended (c.snapshot / 2)) c.log) (sym engine) (seen_so.logged o)))).0
+          (subst (λ (l : List Attempt). Agrees (words_at base l k) mid.engine.log) (sym ended_same) (subst (λ (c : Core). Agrees (words_at base r0.ended (c.snapshot / 2)) c.log) (sym engine) (seen_so.logged o))) (λ f. absurd (cc))).0
 
   -- ## The words
 

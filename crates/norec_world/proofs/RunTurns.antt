@@ -2,7 +2,7 @@
 use Rattle.std.proofs.Common.{◌≡◌, inl, inr, ℕ, zero, suc, ◌+◌, ◌/◌, ◌%◌, ◌≤◌, ◌==◌, Bool, true, false, if◌then◌else◌, is_some, List, [], ◌∷◌, ◌++◌, length, Option, None, Some, refl, sym, ap, subst, ◌∙◌, arith, eqb-true, eq-eqb, length-set}
 use Rattle.std.proofs.lemmas.Bool.{cond-true}
 use Rattle.itm_types.specs.declared.call.Call.{Call}
-use Rattle.itm_types.specs.declared.call.Call.TheVariants.{Begin}
+use Rattle.itm_types.specs.declared.call.Call.TheVariants.{Begin, Commit}
 use Rattle.itm_types.specs.declared.call.Reply.{Reply as Replied}
 use Rattle.itm_types.specs.declared.call.Reply.TheVariants.{Done}
 use Rattle.itm_types.specs.declared.step.Step.{Step}
@@ -34,10 +34,10 @@ use Rattle.norec_world.specs.Sound.{IsTied, HasRow, IsSound, IsWaiting, IsAnswer
 use Rattle.norec_world.specs.Memories.{bytes_at, words_at}
 use Rattle.norec_world.specs.LogAgreement.{Loaded, Sees, AreLaid}
 use Rattle.norec_world.specs.Runs.{IsRun, RunsFrom}
-use Rattle.norec_world.proofs.SoloRuns.{is_free}
+use Rattle.norec_world.proofs.ClockHolders.{is_free, freed_by}
 use Rattle.norec_world.proofs.Memories.{bytes_still, none_next, found_later}
 use Rattle.norec_world.proofs.LogAgreement.{loaded_handed, still_logged, log_now, less_logged}
-use Rattle.norec_world.proofs.SoloTracks.{HandedSame, handed_same, freed_by}
+use Rattle.norec_engine.proofs.KeptFields.{IsHanded, handed_is}
 use Rattle.norec_engine.proofs.AnsweredEngines.{rests}
 use Rattle.norec_world.proofs.TiedEngines.{held_even}
 use Rattle.norec_world.proofs.RecordedRows.{was_open}
@@ -142,8 +142,8 @@ module _ {P : Type 0} (rules : Rules P) (laws : Obeys rules)
   open_same : mid.is_open ≡ old.engine.is_open
   open_same = (same rules cells r old sound call step waiting seen seen_is cells' cells_are fit new joins settled within).is_open
 
-  kept : HandedSame old.engine (handed_to old.engine (Some step) seen)
-  kept = handed_same old.engine (Some step) seen
+  kept : IsHanded old.engine (handed_to old.engine (Some step) seen)
+  kept = handed_is old.engine step seen
 
   log_same : mid.log ≡ old.engine.log
   log_same = (handed_kept old.engine step seen).2
@@ -243,7 +243,7 @@ module _ {P : Type 0} (rules : Rules P) (laws : Obeys rules)
 
     -- what stands at a position that there is
     mem_at : (k : ℕ) → k ≤ n → IsMemory mid.words (words_at base r.ended k)
-    mem_at k l = (let f = laid.memories.fits k l in (f.0 ∙ (sym sound.tied.words ∙ sym kept.words), f.1))
+    mem_at k l = (let f = laid.memories.fits k l in (f.0 ∙ (sym sound.tied.words ∙ sym kept.keeps.words), f.1))
 
     old_late : old.engine.snapshot / 2 ≤ n
     old_late = (let reached = sound.tied.settled.reached in let late = sound.tied.late in omega arith)
@@ -301,8 +301,9 @@ module _ {P : Type 0} (rules : Rules P) (laws : Obeys rules)
         let at_late : at ≤ n = omega arith in
         let early = (run_mid.inside mid_open).4.began in
         let up = snapshot_up inside in
+        let is : call ≡ Commit = (let doing : Some Commit ≡ Some call = sym e.doing ∙ ((same rules cells r old sound call step waiting seen seen_is cells' cells_are fit new joins settled within).doing ∙ w.doing) in cc) in
         full_runs rules laws first base n r r1 (record old { engine = new; status = Ready }) last call mid (cells'.clock / 2) (omega arith) (still (Full at) g r1 last more ended) run_mid mid_open
-        at d told s (omega arith) at_late (mem_at (Full at) g r1 last more ended at at_late) (laid.memories.same at at_late)
+        at is e d told s (omega arith) at_late (mem_at (Full at) g r1 last more ended at at_late) (laid.memories.same at at_late)
         (subst (λ (k : ℕ). Agrees (words_at base r.ended k) mid.log) (sym at_is)
         (subst (Agrees (words_at base r.ended (new.snapshot / 2))) (sym log_same) (still_logged memory cells old.engine sound.tied laid.free fits seen_so step w.waits w.lawful new joined inside)))
 
@@ -315,7 +316,7 @@ module _ {P : Type 0} (rules : Rules P) (laws : Obeys rules)
     half_shut = ap (λ (c : Cells). c.clock / 2) cells_are ∙ ap (λ (k : ℕ). k / 2) (loads_clock cells old.engine step sound.tied w.lawful outside).0
 
     mid_writes : mid.writes ≡ []
-    mid_writes = kept.writes ∙ (sound.tied.settled.closed outside).1
+    mid_writes = kept.keeps.writes ∙ (sound.tied.settled.closed outside).1
 
     pub shut_runs : (ans : Answer) (g : Proceeds (handed old.engine seen) (Answers ans) new) → IsAnswered rules false r (record old { engine = new; status = Ready }) call ans
         → Records rules false r r1 (record old { engine = new; status = Ready }) last call ans → IsSettledBy rules false r1 (record old { engine = new; status = Ready }) last → Run (cells'.clock / 2) r1 last

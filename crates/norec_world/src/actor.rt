@@ -45,7 +45,6 @@ impl<P: Player> Actor<P> {
     ghost use Rattle.norec_world.specs.Status.{ending_of, is_waiting, is_ready, waiting_step};
     ghost use Rattle.norec_world.specs.Records.{Tells, IsTold};
     ghost use Rattle.norec_world.specs.LocalWork.{TakesIn};
-    ghost use Rattle.norec_world.specs.Tracks.{StillTracks};
     ghost use Rattle.norec_world.specs.OthersAttempts.{KeepsOthers};
     ghost use Rattle.norec_world.specs.Tries.{Tries, prior_of};
     ghost use Rattle.norec_world.specs.Runs.{StillRuns};
@@ -105,7 +104,6 @@ impl<P: Player> Actor<P> {
         ensures runs { StillRuns P.Player memory.old recorded.old self.old memory.new recorded.new self.new }
         ensures unfinished { ending_of self.new.status ≡ Some End.Finished → ⊥ }
         ensures cells { (step : Step) → waiting_step self.old.status ≡ Some step → memory.new ≡ cells_after memory.old step }
-        ensures tracks { self.old.thread ≡ 0 → StillTracks P.Player memory.old recorded.old self.old memory.new recorded.new self.new }
         ensures goes_on { is_waiting self.new.status ≡ true → GoesOn P.Player self.old self.new }
         ensures falls { is_ready self.new.status ≡ true → Falls P.Player self.old.engine.is_open self.new.engine.is_open self.old self.new }
     {

@@ -20,7 +20,6 @@ impl<P: Player> Actor<P> {
     ghost use Rattle.norec_engine.specs.Undoing.{after_undoing};
     ghost use Rattle.script_vm.specs.Depth.{is_begin};
     ghost use Rattle.norec_world.specs.LocalWork.{Acts, IsShort, Works};
-    ghost use Rattle.norec_world.specs.Tracks.{StillTracks};
     ghost use Rattle.norec_world.specs.OthersAttempts.{KeepsOthers};
     ghost use Rattle.norec_world.specs.Tries.{Tries, prior_of};
     ghost use Rattle.norec_world.specs.Runs.{StillRuns};
@@ -42,7 +41,6 @@ impl<P: Player> Actor<P> {
         ensures tries { is_ready self.old.status ≡ true → Tries memory.now.clock (prior_of recorded.old self.old) memory.now.clock recorded.new self.new }
         ensures runs { StillRuns P.Player memory.now recorded.old self.old memory.now recorded.new self.new }
         ensures finishes { is_ready self.old.status ≡ true → ending_of self.new.status ≡ Some End.Finished → P.next_call self.new.player ≡ None }
-        ensures tracks { self.old.thread ≡ 0 → StillTracks P.Player memory.now recorded.old self.old memory.now recorded.new self.new }
         ensures less { ending_of self.new.status ≡ None → IsNoMore P.Player self.old self.new }
     {
         while let Status::Ready = self.status {
@@ -65,7 +63,6 @@ impl<P: Player> Actor<P> {
         ensures tries { Tries memory.now.clock (prior_of recorded.old self.old) memory.now.clock recorded.new self.new }
         ensures runs { StillRuns P.Player memory.now recorded.old self.old memory.now recorded.new self.new }
         ensures finishes { ending_of self.new.status ≡ Some End.Finished → P.next_call self.new.player ≡ None }
-        ensures tracks { self.old.thread ≡ 0 → StillTracks P.Player memory.now recorded.old self.old memory.now recorded.new self.new }
         ensures less { ending_of self.new.status ≡ None → IsNoMore P.Player self.old self.new }
         ensures falls { self.new.status ≡ Status.Ready → Falls P.Player self.old.engine.is_open self.new.engine.is_open self.old self.new }
     {

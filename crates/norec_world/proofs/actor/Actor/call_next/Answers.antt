@@ -8,7 +8,6 @@ use Rattle.norec_world.proofs.LocalWork.{nothing_rests}
 use Rattle.norec_world.specs.LocalWork.{calls, finishes, starves}
 use Rattle.norec_world.specs.declared.actor.Status.TheVariants.{Ended}
 use Rattle.norec_world.specs.declared.attempt.End.TheVariants.{Finished}
-use Rattle.norec_world.proofs.SoloCalls.{call_answered, call_waits, call_ends, call_starved}
 use Rattle.norec_world.proofs.SoundCalls.{at_once, then_sound, then_thread, then_falls, then_less}
 use Rattle.norec_world.specs.Sound.{HasRow}
 use Rattle.norec_world.specs.declared.actor.Status.TheVariants.{Waits}
@@ -48,26 +47,6 @@ pub returns-in-Ok-Answer-clause-less : goal.returns-in-Ok-Answer-clause-less
 returns-in-Ok-Answer-clause-less g c =
     then_less g.P.Player c.args.memory.now c.args.recorded.now c.ask.new.recorded c.settle.new.recorded
     c.args.self.now c.ask.new.self c.settle.new.self c.in-Some.call c.requires.sound c.requires.ready c.in-Ok-Answer.field-0 c.in-Ok-Answer.answer c.in-Ok-Answer.field-0-is c.in-Ok-Answer.ensures.asked c.settle.ensures.settled
-
-pub returns-in-Ok-Answer-clause-tracks : goal.returns-in-Ok-Answer-clause-tracks
-returns-in-Ok-Answer-clause-tracks g c z max_commits p0 base arena t =
-    call_answered g.P.Player g.met.P.Player.laws max_commits p0 base arena c.args.memory.now c.args.recorded.now c.args.self.now c.requires.sound c.requires.ready z t
-    c.ask.new.recorded c.ask.new.self c.in-Some.call c.in-Ok-Answer.field-0 c.in-Ok-Answer.ensures.asked c.in-Ok-Answer.ensures.told c.in-Ok-Answer.answer c.in-Ok-Answer.field-0-is
-    c.settle.new.recorded c.settle.new.self c.settle.ensures.settled c.settle.ensures.records
-
-pub returns-in-Ok-Step-clause-tracks : goal.returns-in-Ok-Step-clause-tracks
-returns-in-Ok-Step-clause-tracks g c z max_commits p0 base arena t =
-    call_waits g.P.Player g.met.P.Player.laws max_commits p0 base arena c.args.memory.now c.args.recorded.now c.args.self.now c.requires.sound c.requires.ready z t
-    c.ask.new.recorded c.ask.new.self c.in-Some.call c.in-Ok-Step.field-0 c.in-Ok-Step.ensures.asked c.in-Ok-Step.ensures.told c.in-Ok-Step.step c.in-Ok-Step.field-0-is
-
-pub returns-in_default-clause-tracks : goal.returns-in_default-clause-tracks
-returns-in_default-clause-tracks g c z max_commits p0 base arena t =
-    call_ends g.P.Player g.met.P.Player.laws max_commits p0 base arena c.args.memory.now c.args.recorded.now c.args.self.now c.requires.sound c.requires.ready z t (sym c.next.ensures ∙ c.in_default.is) (record c.args.self.now { status = Ended Finished }) refl
-
-pub returns-in-Err-clause-tracks : goal.returns-in-Err-clause-tracks
-returns-in-Err-clause-tracks g c z max_commits p0 base arena t =
-    call_starved g.P.Player g.met.P.Player.laws max_commits p0 base arena c.args.memory.now c.args.recorded.now c.args.self.now c.requires.sound c.requires.ready z t
-    c.ask.new.recorded c.starve.new.recorded c.ask.new.self c.starve.new.self c.in-Err.ensures.unasked.engine c.in-Err.ensures.unasked.same.thread c.ask.ensures.rows c.starve.ensures.status c.starve.ensures.row c.starve.ensures.none
 
 pub returns-in-Ok-Answer-clause-others : goal.returns-in-Ok-Answer-clause-others
 returns-in-Ok-Answer-clause-others g c =

@@ -6,7 +6,6 @@ use Rattle.norec_world.proofs.TrySteps.{step_tries, step_unfinished}
 use Rattle.norec_world.specs.Tries.{prior_of}
 use Rattle.norec_world.proofs.CommitCounts.{counted_after}
 use Rattle.norec_world.proofs.RunTurns.{step_runs}
-use Rattle.norec_world.proofs.SoloSteps.{stepped}
 use Rattle.norec_world.proofs.actor.Actor.step.Goals as goal
 
 pub proceed-requires : goal.proceed-requires
@@ -77,22 +76,6 @@ returns-in-Waits-clause-falls g c =
     c.resume-next.new.self c.resume-next.ensures.joins c.resume-next.ensures.settled c.resume-next.ensures.count
     c.resume-next.result c.resume-next.ensures.proceeds c.replace.new.dest c.replace.ensures.after)) in
     s.falls
-
-pub returns-in-Waits-clause-tracks : goal.returns-in-Waits-clause-tracks
-returns-in-Waits-clause-tracks g c z max_commits p0 base arena t =
-    stepped g.P.Player g.met.P.Player.laws max_commits p0 base arena c.args.memory.now c.args.recorded.now c.args.self.now c.requires.sound
-    c.in-Waits.call c.in-Waits.step (sym c.in-Waits.ensures.value) c.apply-seen.result c.apply-seen.ensures.found c.apply-seen.new.self c.apply-seen.ensures.cells c.apply-seen.ensures.fit
-    c.resume-next.new.self c.resume-next.ensures.joins c.resume-next.ensures.settled c.resume-next.ensures.count
-    c.resume-next.result c.resume-next.ensures.proceeds c.replace.new.dest c.replace.ensures.after c.proceed.new.recorded c.proceed.new.self
-    (c.proceed.ensures.done c.args.self.now.engine.is_open (step_due g.P.Player c.args.memory.now c.args.recorded.now c.args.self.now c.requires.sound
-    c.in-Waits.call c.in-Waits.step (sym c.in-Waits.ensures.value) c.apply-seen.result c.apply-seen.ensures.found c.apply-seen.new.self c.apply-seen.ensures.cells c.apply-seen.ensures.fit
-    c.resume-next.new.self c.resume-next.ensures.joins c.resume-next.ensures.settled c.resume-next.ensures.count
-    c.resume-next.result c.resume-next.ensures.proceeds c.replace.new.dest c.replace.ensures.after))
-    (c.proceed.ensures.tells c.args.self.now.engine.is_open (step_due g.P.Player c.args.memory.now c.args.recorded.now c.args.self.now c.requires.sound
-    c.in-Waits.call c.in-Waits.step (sym c.in-Waits.ensures.value) c.apply-seen.result c.apply-seen.ensures.found c.apply-seen.new.self c.apply-seen.ensures.cells c.apply-seen.ensures.fit
-    c.resume-next.new.self c.resume-next.ensures.joins c.resume-next.ensures.settled c.resume-next.ensures.count
-    c.resume-next.result c.resume-next.ensures.proceeds c.replace.new.dest c.replace.ensures.after))
-    c.follow.new.recorded c.follow.ensures.told z t
 
 pub returns-in-Waits-clause-others : goal.returns-in-Waits-clause-others
 returns-in-Waits-clause-others g c =

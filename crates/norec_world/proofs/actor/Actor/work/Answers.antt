@@ -12,7 +12,6 @@ loop-self-preserved g c =
     record {
       sound = c.call_next.ensures.sound;
       works = works_more g.P.Player c.args.memory.now.clock c.args.recorded.now c.loop-self.recorded c.call_next.new.recorded c.args.self.now c.loop-self.self c.call_next.new.self c.loop-self.invariant.works c.in-Ready.is c.call_next.ensures.acts;
-      tracks = λ z max_commits p0 base arena t. c.call_next.ensures.tracks (c.loop-self.invariant.thread ∙ z) max_commits p0 base arena (c.loop-self.invariant.tracks z max_commits p0 base arena t);
       others = others_twice c.args.self.now c.loop-self.self c.call_next.new.self c.args.recorded.now c.loop-self.recorded c.call_next.new.recorded c.loop-self.invariant.others c.call_next.ensures.others;
       holds = c.call_next.ensures.holds ∙ c.loop-self.invariant.holds;
       limit = (c.call_next.ensures.limit.0 ∙ c.loop-self.invariant.limit.0, c.call_next.ensures.limit.1 ∙ c.loop-self.invariant.limit.1);

@@ -5,7 +5,6 @@ use Rattle.norec_world.specs.Runs.{StillRuns}
 use Rattle.norec_world.specs.LocalWork.{Works}
 use Rattle.std.proofs.Common.{◌≡◌, None, Some, true, false}
 use Rattle.norec_world.specs.Status.{ending_of, is_ready}
-use Rattle.norec_world.specs.Tracks.{StillTracks}
 use Rattle.norec_world.specs.Sound.{IsSound, IsNoMore, whole, work_left}
 use Rattle.norec_world.proofs.actor.Actor.work.Given as goal
 
@@ -13,7 +12,6 @@ abbrev pub invariant-loop-self : goal.invariant-loop-self
 invariant-loop-self g l = record {
   sound : IsSound g.P.Player l.memory l.recorded l.self;
   works : Works g.P.Player l.memory.clock l.initial.recorded l.initial.self l.recorded l.self;
-  tracks : l.initial.self.thread ≡ 0 → StillTracks g.P.Player l.memory l.initial.recorded l.initial.self l.memory l.recorded l.self;
   runs : StillRuns g.P.Player l.memory l.initial.recorded l.initial.self l.memory l.recorded l.self;
   others : KeepsOthers l.initial.self l.initial.recorded l.self l.recorded;
   holds : l.self.engine.holds ≡ l.initial.self.engine.holds;

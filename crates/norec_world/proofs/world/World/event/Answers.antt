@@ -1,17 +1,18 @@
-use Rattle.std.proofs.Common.{◌≡◌, ◌<◌, true, Some, refl, ap, ◌∙◌, sym, subst, length, length-set, IsSome, slice_get, slice_set}
+use Rattle.std.proofs.Common.{◌≡◌, ◌<◌, true, Some, None, refl, ap, ◌∙◌, sym, subst, length, length-set, IsSome, slice_get, slice_set}
 use Rattle.std.specs.Option.{option_and_then}
 use Rattle.itm_types.proofs.Words.{slice_get-set_same}
 use Rattle.norec_world.specs.declared.actor.Actor.{Actor}
-use Rattle.norec_world.specs.Status.{is_waiting, waiting_step}
+use Rattle.norec_world.specs.Status.{is_waiting, waiting_step, ending_of}
 use Rattle.norec_world.specs.Sound.{HasLess}
 use Rattle.norec_world.specs.World.{World, ending_at, told, waits_at}
 use Rattle.norec_world.specs.WorldEvents.{ActorGoes, Goes}
 use Rattle.norec_world.specs.Views.{world_of}
-use Rattle.norec_world.proofs.Worlds.{got_at, within_some, waiting_some, place_is, place_alone, lawful_at}
+use Rattle.norec_world.proofs.Worlds.{got_at, within_some, waiting_some, waiting_going, lawful_at}
 use Rattle.norec_world.proofs.SoundOthers.{actors_after}
 use Rattle.norec_world.proofs.RunOthers.{has_read, running_after, world_opaque}
 use Rattle.norec_world.proofs.Events.{event_then}
-use Rattle.norec_world.proofs.Ends.{shows_alone}
+use Rattle.norec_world.proofs.SoleEvents.{sole_still, finished_free}
+use Rattle.norec_world.proofs.ShownAlone.{shows_alone}
 use Rattle.norec_world.proofs.WorldEvents.{event_goes}
 use Rattle.norec_world.proofs.CommitCounts.{commits_after}
 use Rattle.norec_world.proofs.LessLeft.{event_less}
@@ -44,34 +45,32 @@ invariant_of-self g c =
     let got = c.index_mut-a.result.now in
     let here : slice_get actors c.args.actor ≡ Some got = got_at actors c.args.actor got within c.index_mut-a.ensures.value in
     let sound = c.self.invariant.actors in
-    let mine = (sound.each c.args.actor got here).thread in
     let read = has_read g.P.Player g.met.P.Player.laws (world_of c.self.inside) c.self.invariant
     c.args.actor got c.step.new.self here c.step.new.memory c.step.new.recorded c.self.inside.events c.step.ensures.others c.step.ensures.clocks c.step.ensures.runs c.step.ensures.sound.tied in
     let event = event_then g.P.Player c.self.inside.base c.self.inside.memory c.step.new.memory
     c.self.inside.recorded c.step.new.recorded c.work.new.recorded got c.step.new.self c.work.new.self c.step.ensures.sound
     (record { rows = c.step.new.recorded; stepped = c.step.new.self; takes = c.step.ensures.takes; works = works_none g.P.Player c.step.new.memory.clock c.step.new.recorded c.step.new.self; tries = c.step.ensures.tries; finishes = λ e. absurd (c.step.ensures.unfinished e); others = c.step.ensures.others; clocks = c.step.ensures.clocks; retries = c.step.ensures.retries })
-    read c.work.ensures.others c.work.ensures.holds c.work.ensures.limit c.work.ensures.retries c.work.ensures.snapshot c.work.ensures.tries c.work.ensures.finishes c.work.ensures.still c.work.ensures.works in record {
-      actors = actors_after g.P.Player c.self.inside.memory c.step.new.memory c.self.inside.recorded c.work.new.recorded
-          actors sound c.args.actor got c.work.new.self here c.work.ensures.sound c.work.ensures.done
-          (others_twice got c.step.new.self c.work.new.self c.self.inside.recorded c.step.new.recorded c.work.new.recorded c.step.ensures.others c.work.ensures.others)
-          (clocks_twice c.self.inside.memory c.step.new.memory c.step.new.memory got.engine c.step.new.self.engine c.work.new.self.engine c.step.ensures.clocks
-          (clocks_still c.step.new.memory c.step.new.self.engine c.work.new.self.engine c.work.ensures.holds c.work.ensures.limit));
+    read c.work.ensures.others c.work.ensures.holds c.work.ensures.limit c.work.ensures.retries c.work.ensures.snapshot c.work.ensures.tries c.work.ensures.finishes c.work.ensures.still c.work.ensures.works in
+    let after_actors = actors_after g.P.Player c.self.inside.memory c.step.new.memory c.self.inside.recorded c.work.new.recorded
+    actors sound c.args.actor got c.work.new.self here c.work.ensures.sound c.work.ensures.done
+    (others_twice got c.step.new.self c.work.new.self c.self.inside.recorded c.step.new.recorded c.work.new.recorded c.step.ensures.others c.work.ensures.others)
+    (clocks_twice c.self.inside.memory c.step.new.memory c.step.new.memory got.engine c.step.new.self.engine c.work.new.self.engine c.step.ensures.clocks
+    (clocks_still c.step.new.memory c.step.new.self.engine c.work.new.self.engine c.work.ensures.holds c.work.ensures.limit)) in
+    let after_commits = commits_after g.P.Player (world_of c.self.inside) c.self.invariant.commits c.args.actor got c.work.new.self here c.step.new.memory c.work.new.recorded c.saturating_add-self-inside.result
+    event.0 in
+    let after_running = running_after g.P.Player g.met.P.Player.laws (world_of c.self.inside) c.self.invariant
+    c.args.actor got c.work.new.self here c.step.new.memory c.work.new.recorded c.saturating_add-self-inside.result
+    (others_twice got c.step.new.self c.work.new.self c.self.inside.recorded c.step.new.recorded c.work.new.recorded c.step.ensures.others c.work.ensures.others)
+    (clocks_twice c.self.inside.memory c.step.new.memory c.step.new.memory got.engine c.step.new.self.engine c.work.new.self.engine c.step.ensures.clocks
+    (clocks_still c.step.new.memory c.step.new.self.engine c.work.new.self.engine c.work.ensures.holds c.work.ensures.limit))
+    (λ first base laid runs. (let x = c.step.ensures.runs first base laid runs in c.work.ensures.runs first base x.0 x.1)) in
+    let going : ending_of got.status ≡ None = waiting_going got.status (waiting_some got.status (subst IsSome (ap (option_and_then (λ (a : Actor g.row.P.Denot). waiting_step a.status)) here) (subst W (sym c.self.view_is) c.requires))) in record {
+      actors = after_actors;
       long = length-set actors c.args.actor c.work.new.self ∙ c.self.invariant.long;
-      alone = λ one.
-          (let alone = c.self.invariant.alone one in
-          let zero : got.thread ≡ 0 = mine ∙ place_is g.P.Player c.self.inside.memory c.step.new.memory c.self.inside.recorded c.work.new.recorded actors
-          c.self.inside.opening.items c.self.inside.base c.self.inside.terms.arena c.self.inside.terms.limits.max_commits alone c.args.actor within got here in
-          place_alone g.P.Player c.self.inside.memory c.step.new.memory c.self.inside.recorded c.work.new.recorded actors
-          c.self.inside.opening.items c.self.inside.base c.self.inside.terms.arena c.self.inside.terms.limits.max_commits alone c.args.actor within got here c.work.new.self
-          (λ max_commits p0 base arena t. c.work.ensures.tracks (c.step.ensures.thread ∙ zero) max_commits p0 base arena (c.step.ensures.tracks zero max_commits p0 base arena t)));
-      commits = commits_after g.P.Player (world_of c.self.inside) c.self.invariant.commits c.args.actor got c.work.new.self here c.step.new.memory c.work.new.recorded c.saturating_add-self-inside.result
-          event.0;
-      running = running_after g.P.Player g.met.P.Player.laws (world_of c.self.inside) c.self.invariant
-          c.args.actor got c.work.new.self here c.step.new.memory c.work.new.recorded c.saturating_add-self-inside.result
-          (others_twice got c.step.new.self c.work.new.self c.self.inside.recorded c.step.new.recorded c.work.new.recorded c.step.ensures.others c.work.ensures.others)
-          (clocks_twice c.self.inside.memory c.step.new.memory c.step.new.memory got.engine c.step.new.self.engine c.work.new.self.engine c.step.ensures.clocks
-          (clocks_still c.step.new.memory c.step.new.self.engine c.work.new.self.engine c.work.ensures.holds c.work.ensures.limit))
-          (λ first base laid runs. (let x = c.step.ensures.runs first base laid runs in c.work.ensures.runs first base x.0 x.1));
+      commits = after_commits;
+      running = after_running;
+      sole = sole_still g.P.Player (world_of c.self.inside) c.self.invariant c.args.actor got c.work.new.self here going c.step.new.memory c.work.new.recorded c.saturating_add-self-inside.result
+          event.0 after_actors after_commits after_running (finished_free g.P.Player c.step.new.memory c.step.new.recorded c.work.new.recorded c.step.new.self c.work.new.self c.step.ensures.sound c.step.ensures.unfinished c.work.ensures.holds c.work.ensures.still);
     }
 
 -- the step and the local work after it are one event of the world
@@ -103,7 +102,7 @@ returns-clause-goes g c =
     (world_opaque g.P.Player g.met.P.Player.laws new kept)
     (record { opening = refl; base = refl; arena = refl; patience = refl; max_commits = refl; retries = refl })
     (length-set actors c.args.actor c.work.new.self)
-    (shows_alone g.P.Player new kept.alone))
+    (shows_alone g.P.Player g.met.P.Player.laws new kept))
 
 pub returns-clause-less : goal.returns-clause-less
 returns-clause-less g c a b is is' =
