@@ -5,6 +5,8 @@ use Rattle.itm_types.specs.declared.call.Reply.{Reply}
 use Rattle.itm_model.specs.State.{State}
 use Rattle.itm_model.specs.Machine.{after, reply, is_open}
 use Rattle.itm_model.specs.Runs.{turn, answers_within}
+use Rattle.norec_engine.specs.Core.{Core}
+use Rattle.norec_engine.specs.Stands.{stands_for, state_over}
 use Rattle.norec_world.specs.declared.attempt.Entry.{Entry}
 use Rattle.norec_world.specs.Attempts.{pair_of}
 use Rattle.norec_world.specs.Alone.{state_then, player_then, IsAlone}
@@ -50,3 +52,24 @@ module _ {P : Type 0} (rules : Rules P) (laws : Obeys rules) (deepest : ℕ) whe
       ∙ (ap (λ (r : Reply). (x.call, r) ∷ gets n (rules.answered p r) t (turn rules.next_call rules.answered rules.calls_left (rules.answered p r) t)) (sym h.1)
       ∙ (ap (λ (ys : List (Call × Reply)). pair_of x ∷ ys) (enough n (suc n) q t (turn rules.next_call rules.answered rules.calls_left q t) refl (omega arith) (omega arith))
       ∙ ap (λ (ys : List (Call × Reply)). pair_of x ∷ ys) (begins_alone (suc n) q t xs (omega arith) h.2)))
+
+-- ## One call more
+
+pub player_snoc : {P : Type 0} (answered : P → Reply → P) (p : P) (xs : List Entry) (x : Entry) → player_then answered p (xs ++ x ∷ []) ≡ answered (player_then answered p xs) x.reply
+player_snoc answered p [] x = refl
+player_snoc answered p (y ∷ ys) x = player_snoc answered (answered p y.reply) ys x
+
+pub state_snoc : (deepest : ℕ) (s : State) (xs : List Entry) (x : Entry) → state_then deepest s (xs ++ x ∷ []) ≡ after deepest (state_then deepest s xs) x.call
+state_snoc deepest s [] x = refl
+state_snoc deepest s (y ∷ ys) x = state_snoc deepest (after deepest s y.call) ys x
+
+module _ {P : Type 0} (rules : Rules P) (laws : Obeys rules) where
+  pub alone_snoc : (deepest : ℕ) (p : P) (s : State) (xs : List Entry) (x : Entry) → IsAlone rules deepest p s xs
+      → turn rules.next_call rules.answered rules.calls_left (player_then rules.answered p xs) (state_then deepest s xs) ≡ Some x.call → x.reply ≡ reply deepest (state_then deepest s xs) x.call
+      → IsAlone rules deepest p s (xs ++ x ∷ [])
+  alone_snoc deepest p s [] x h t r = (t, r, tt)
+  alone_snoc deepest p s (y ∷ ys) x h t r = (h.0, h.1, alone_snoc deepest (rules.answered p y.reply) (after deepest s y.call) ys x h.2 t r)
+
+  -- an open engine stands for an open block
+  pub stands_open : (e : Core) (m : List ℕ) → e.is_open ≡ true → is_open (stands_for e m) ≡ true
+  stands_open e m o = ap (λ (b : Bool). is_open (state_over e.writes b e.props e.arena m)) o

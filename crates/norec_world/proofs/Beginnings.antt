@@ -1,51 +1,13 @@
--- An actor that has made no call tracks what its player does alone.
-use Rattle.std.proofs.Common.{◌≡◌, ℕ, zero, suc, false, None, Some, List, [], ◌∷◌, ◌++◌, length, replicate, Option, refl, sym, ap, subst, ◌∙◌}
-use Rattle.itm_types.specs.Memory.{bytes_of, AllFit}
-use Rattle.norec_engine.specs.Core.{opening}
+-- Actors that have taken no step.
+use Rattle.std.proofs.Common.{◌≡◌, ℕ, zero, suc, None, Some, List, [], ◌∷◌, ◌++◌, Option, sym, ap, subst, ◌∙◌}
 use Rattle.norec_world.specs.Rows.{Rows, active_of}
 use Rattle.norec_world.specs.declared.actor.Actor.{Actor}
-use Rattle.norec_world.specs.declared.actor.Status.TheVariants.{Ready}
 use Rattle.norec_world.specs.declared.attempt.End.TheVariants.{NoMemory}
 use Rattle.norec_world.specs.Status.{ending_of}
 use Rattle.norec_world.specs.World.{ending_in}
-use Rattle.norec_world.specs.Cells.{Cells}
 use Rattle.norec_world.specs.declared.attempt.Attempt.{Attempt}
 use Rattle.norec_world.specs.Starts.{IsFirst}
 use Rattle.norec_world.specs.Tries.{Prior, Tries, between, begins, runs, over, turned_away, IsBetween, current_of}
-use Rattle.norec_world.specs.Solo.{Progress}
-use Rattle.norec_world.specs.Follows.{Follows}
-use Rattle.norec_world.specs.Tracks.{TracksAs, Tracks}
-use Rattle.script_vm.specs.Rules.{Rules}
-
-module _ {P : Type 0} (rules : Rules P) where
-  pub fresh_tracks : (cells : Cells) (rows : Rows) (a : Actor P) (size patience max_commits : ℕ)
-      → a.engine ≡ opening (length cells.words) (replicate size 0) patience max_commits → AllFit cells.words → cells.clock ≡ 0 → (rows.ended ≡ []) × (rows.active ≡ []) → a.nth ≡ 1 → a.again ≡ false → a.status ≡ Ready
-      → Tracks rules max_commits a.player (bytes_of cells.words) (replicate size 0) cells rows a
-  fresh_tracks cells rows a size patience max_commits is fit clock none first anew ready =
-      let start : Progress P = record { player = a.player; arena = replicate size 0; memory = bytes_of cells.words; commits = 0 } in
-      subst (TracksAs rules max_commits a.player (bytes_of cells.words) (replicate size 0) cells rows a) (sym ready) (record {
-        before = start;
-        past = [];
-        memory = cells.words;
-        follows = subst (Follows rules max_commits 0 a.player (bytes_of cells.words) (replicate size 0) start [] cells.words cells rows a.player) (sym is) (record {
-          whole = refl;
-          bytes = refl;
-          memory = (refl, fit);
-          arena_is = refl;
-          limit = refl;
-          first = refl;
-          logged = tt;
-          fresh = λ h. tt;
-          even = refl;
-          free = λ h. (clock, refl);
-          held = λ h. absurd (cc);
-          got = λ h. tt;
-          closed = λ h. (none.0, none.1, refl);
-          opens = λ h. absurd (cc);
-        });
-        first = first;
-        anew = λ h. anew;
-      })
 
 -- none found no memory
 pub fed_joined : {P : Type 0} (actors : List (Actor P)) (a : Actor P) → ((place : ℕ) → ending_in actors place ≡ Some NoMemory → ⊥) → (ending_of a.status ≡ Some NoMemory → ⊥)

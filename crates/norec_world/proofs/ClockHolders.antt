@@ -1,6 +1,8 @@
 -- An actor's steps, as the others see the clock.
-use Rattle.std.proofs.Common.{◌≡◌, ℕ, ◌*◌, ◌≤◌, ◌%◌, Bool, true, false, refl, sym, ap, subst, ◌∙◌, arith}
-use Rattle.norec_engine.specs.Core.{Core}
+use Rattle.std.proofs.Common.{◌≡◌, ℕ, zero, suc, Some, ◌*◌, ◌≤◌, ◌%◌, Bool, true, false, refl, sym, ap, subst, ◌∙◌, arith}
+use Rattle.itm_types.specs.declared.step.Step.{Step}
+use Rattle.itm_types.specs.declared.step.Step.TheVariants.{Load, Store, Cas}
+use Rattle.norec_engine.specs.Core.{Core, handed_to, word_loaded}
 use Rattle.norec_world.specs.Cells.{Cells}
 use Rattle.norec_world.specs.ClockHolder.{HoldsOn, ClocksOn}
 
@@ -56,3 +58,22 @@ clocks_twice c0 c1 c2 e0 e1 e2 x y = record {
   limit = (y.limit.0 ∙ x.limit.0, y.limit.1 ∙ x.limit.1);
   capped = λ l. subst (λ (n : ℕ). c2.clock ≤ 2 * n) x.limit.0 (y.capped (subst (λ (n : ℕ). c1.clock ≤ 2 * n) (sym x.limit.0) (x.capped l)));
 }
+
+-- the store that frees the clock
+abbrev pub is_free : Step → Bool
+is_free (Load cell) = false
+is_free (Store zero value) = true
+is_free (Store (suc word) value) = false
+is_free (Cas cell from to) = false
+
+pub word_freed : (e : Core) (holds : Bool) (word seen : ℕ) → (word_loaded e holds word seen).freed ≡ e.freed
+word_freed e true word seen = refl
+word_freed e false word seen = refl
+
+-- whether the clock was freed by it
+pub freed_by : (e : Core) (s : Step) (seen : ℕ) → e.freed ≡ false → (handed_to e (Some s) seen).freed ≡ is_free s
+freed_by e (Load zero) seen f = f
+freed_by e (Load (suc word)) seen f = word_freed e e.holds word seen ∙ f
+freed_by e (Store zero value) seen f = refl
+freed_by e (Store (suc word) value) seen f = f
+freed_by e (Cas cell from to) seen f = f

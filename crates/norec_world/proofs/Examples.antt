@@ -10,12 +10,14 @@ use Rattle.itm_types.specs.declared.call.Call.TheVariants.{Begin, Commit, Read, 
 use Rattle.itm_types.specs.declared.call.Reply.{Reply}
 use Rattle.itm_types.specs.declared.call.Reply.TheVariants.{Done, Bytes, Code, Refused}
 use Rattle.norec_world.specs.declared.attempt.Entry.{Entry}
-use Rattle.norec_world.specs.declared.attempt.Outcome.TheVariants.{Committed, Conflict}
+use Rattle.norec_world.specs.declared.attempt.Outcome.TheVariants.{Committed, Conflict, Full}
 use Rattle.norec_world.specs.declared.attempt.Attempt.{Attempt}
+use Rattle.norec_world.specs.declared.attempt.End.TheVariants.{Finished, GaveUp}
 use Rattle.norec_world.specs.declared.fault.WorldFault.TheVariants as faults
 use Rattle.norec_world.specs.Attempts.{memory_after}
 use Rattle.norec_world.specs.WorldEvents.{passes_of}
 use Rattle.norec_world.specs.Opacity.{IsOpaque, IsRunOf, Between}
+use Rattle.norec_world.specs.Solo.{solo}
 use Rattle.script_vm.specs.Rules.{Rules}
 
 -- ## A player that adds one to the counter at place 0
@@ -91,10 +93,13 @@ counter_memory : memory_after 1 (replicate 8 0) (counter ∷ []) 1 ≡ 1 ∷ rep
 counter_memory = refl
 
 counter_is_opaque : IsOpaque counter_rules 1 (record { step = 1; got = 0 }) counter 1 (replicate 8 0)
-counter_is_opaque = record { no_older = omega arith; no_newer = omega arith; beginning = ([], refl); whole = λ e. refl; ends = (refl, refl) }
+counter_is_opaque = record { no_older = omega arith; no_newer = omega arith; beginning = ([], refl); whole = λ e. refl; ends = (refl, refl); full = λ f. absurd (cc) }
 
 counter_run : IsRunOf counter_rules 1 1 (memory_after 1 (replicate 8 0) (counter ∷ [])) (Some fresh) (counter ∷ [])
 counter_run = ((refl, refl, omega arith, counter_is_opaque), tt)
+
+counter_alone : solo counter_rules 1 1 0 fresh.player (replicate 8 0) [] ≡ record { attempts = counter ∷ []; memory = 1 ∷ replicate 7 0; commits = 1; ending = Finished }
+counter_alone = refl
 
 -- ## The lost update: of two counters the first to begin is the last to commit. Its first try conflicts, and is opaque all the same.
 
@@ -113,17 +118,33 @@ memory = memory_after 1 (replicate 8 0) (other ∷ lost ∷ retried ∷ [])
 lost_update_memory : memory 2 ≡ 2 ∷ replicate 7 0
 lost_update_memory = refl
 
+abbrev commit_pair : List (Call × Reply)
+commit_pair = (Commit, Done) ∷ []
+
 lost_is_opaque : IsOpaque counter_rules 1 (record { step = 1; got = 0 }) lost 2 (memory 0)
-lost_is_opaque = record { no_older = omega arith; no_newer = omega arith; beginning = (commit_pair, refl); whole = λ e. absurd (cc); ends = refl }
-  where
-    commit_pair : List (Call × Reply)
-    commit_pair = (Commit, Done) ∷ []
+lost_is_opaque = record { no_older = omega arith; no_newer = omega arith; beginning = (commit_pair, refl); whole = λ e. absurd (cc); ends = refl; full = λ f. absurd (cc) }
 
 retried_is_opaque : IsOpaque counter_rules 1 (record { step = 1; got = 0 }) retried 2 (memory 1)
-retried_is_opaque = record { no_older = omega arith; no_newer = omega arith; beginning = ([], refl); whole = λ e. refl; ends = (refl, refl) }
+retried_is_opaque = record { no_older = omega arith; no_newer = omega arith; beginning = ([], refl); whole = λ e. refl; ends = (refl, refl); full = λ f. absurd (cc) }
 
 lost_update_run : IsRunOf counter_rules 1 2 memory (Some fresh) (lost ∷ retried ∷ [])
 lost_update_run = ((refl, refl, omega arith, lost_is_opaque), ((refl, refl, omega arith, retried_is_opaque), tt))
+
+-- ## Full: the counter's commit is refused, and full is told of nothing before it
+
+abbrev refused : Attempt
+refused = record { thread = 0; nth = 1; began = 0; at = 0; props = plain; arena = []; calls = read 0 ∷ write 1 ∷ []; outcome = Full }
+
+refused_is_opaque : IsOpaque counter_rules 1 (record { step = 1; got = 0 }) refused 0 (replicate 8 0)
+refused_is_opaque = record { no_older = omega arith; no_newer = omega arith; beginning = (commit_pair, refl); whole = λ e. absurd (cc); ends = refl; full = λ f. (refl, (refl, refl)) }
+
+-- the player alone does the same where no writer may commit
+refused_alone : solo counter_rules 1 0 0 fresh.player (replicate 8 0) [] ≡ record { attempts = refused ∷ []; memory = replicate 8 0; commits = 0; ending = GaveUp }
+refused_alone = refl
+
+-- one that would still write is not full
+too_early : IsOpaque counter_rules 1 (record { step = 1; got = 0 }) (record refused { calls = read 0 ∷ [] }) 0 (replicate 8 0) → ⊥
+too_early o = (let lacks = (o.full refl).0 in cc)
 
 -- ## A schedule of four entries: an event, an actor that is not there, an event that found no memory, and the same actor again
 

@@ -1,9 +1,10 @@
 -- The open attempt, as its calls go on.
-use Rattle.std.proofs.Common.{◌≡◌, ℕ, zero, suc, ◌/◌, ◌<◌, ◌≤◌, Bool, true, false, if◌then◌else◌, List, [], ◌∷◌, ◌++◌, map, None, Some, refl, sym, ap, subst, ◌∙◌, arith}
-use Rattle.std.proofs.lemmas.List.{append-nil}
+use Rattle.std.proofs.Common.{◌≡◌, ◌≢◌, ℕ, zero, suc, ◌/◌, ◌<◌, ◌≤◌, Bool, true, false, if◌then◌else◌, List, [], ◌∷◌, ◌++◌, map, None, Some, refl, sym, ap, subst, ◌∙◌, arith}
+use Rattle.std.proofs.lemmas.List.{append-nil, map-append}
 use Rattle.itm_types.specs.declared.call.Call.{Call}
 use Rattle.itm_types.specs.declared.call.Call.TheVariants.{Begin, Commit}
 use Rattle.itm_types.specs.declared.call.Props.{Props}
+use Rattle.write_set.specs.declared.row.Row.{Row}
 use Rattle.write_set.specs.Rows.{overlay}
 use Rattle.itm_types.specs.declared.call.Reply.{Reply as Replied}
 use Rattle.itm_types.specs.declared.call.Reply.TheVariants.{Done, Code}
@@ -16,7 +17,7 @@ use Rattle.itm_model.specs.Machine.{opened, is_open, after, reply}
 use Rattle.itm_model.specs.Runs.{turn, answers, answers_within}
 use Rattle.norec_engine.proofs.Overlays.{Agrees-drop}
 use Rattle.norec_engine.specs.Core.{Core, handed_to, word_loaded}
-use Rattle.norec_engine.specs.Stands.{state_over, stands_for}
+use Rattle.norec_engine.specs.Stands.{state_over, stands_for, is_some_row}
 use Rattle.norec_engine.specs.Proceeds.{AsksFor, Replies, Commits, recoded}
 use Rattle.norec_world.specs.declared.attempt.Attempt.{Attempt}
 use Rattle.norec_world.specs.declared.attempt.Entry.{Entry}
@@ -25,10 +26,9 @@ use Rattle.norec_world.specs.declared.attempt.Outcome.TheVariants as outcomes
 use Rattle.norec_world.specs.Memories.{bytes_at, words_at}
 use Rattle.norec_world.specs.Attempts.{pair_of, alone}
 use Rattle.norec_world.specs.Alone.{state_then, player_then, IsAlone}
-use Rattle.norec_world.specs.Opacity.{Beginning, Between, begin_code, EndsAs, IsTryAt}
+use Rattle.norec_world.specs.Opacity.{Beginning, Between, begin_code, EndsAs, LacksCommit, IsTryAt}
 use Rattle.norec_world.specs.Runs.{begins_at, IsInTry}
-use Rattle.norec_world.proofs.Alones.{begins_alone}
-use Rattle.norec_world.proofs.SoloRuns.{alone_snoc, player_snoc, state_snoc, stands_open}
+use Rattle.norec_world.proofs.Alones.{begins_alone, alone_snoc, player_snoc, state_snoc, stands_open}
 use Rattle.script_vm.specs.Rules.{Obeys, Rules}
 
 module _ {P : Type 0} (rules : Rules P) (laws : Obeys rules) where
@@ -116,66 +116,60 @@ module _ {P : Type 0} (rules : Rules P) (laws : Obeys rules) where
 
   -- ## The attempt is over
 
+  -- calls made alone that end their block are all that the player makes
+  all_alone : (p : P) (memory : List ℕ) (arena : List ℕ) (props : Props) (xs : List Entry) → IsAlone rules MAX_DEPTH p (opened memory arena props) xs → is_open (state_then MAX_DEPTH (opened memory arena props) xs) ≡ false
+      → answers rules.next_call rules.answered rules.calls_left MAX_DEPTH p memory arena props ≡ map pair_of xs
+  all_alone p memory arena props xs h shut =
+      let s : State = opened memory arena props in
+      begins_alone rules laws MAX_DEPTH (rules.calls_left p) p s xs (omega arith) h
+      ∙ (ap (λ (rest : List (Call × Replied)). map pair_of xs ++ rest) (no_more (rules.calls_left p) (player_then rules.answered p xs) (state_then MAX_DEPTH s xs) shut) ∙ append-nil (map pair_of xs))
+    where
+      no_more : (k : ℕ) (q : P) (s : State) → is_open s ≡ false → answers_within rules.next_call rules.answered rules.calls_left MAX_DEPTH k q s (turn rules.next_call rules.answered rules.calls_left q s) ≡ []
+      no_more k q s shut = ap (λ (o : Bool). answers_within rules.next_call rules.answered rules.calls_left MAX_DEPTH k q s (if o then rules.next_call q else None)) shut ∙ none_more k
+        where
+          none_more : (k : ℕ) → answers_within rules.next_call rules.answered rules.calls_left MAX_DEPTH k q s None ≡ []
+          none_more zero = refl
+          none_more (suc k) = refl
+
   -- its calls are the first of those that its player makes alone on the memory of its position, and all of them where its block has ended
-  module _ (n : ℕ) (memory : ℕ → List ℕ) (b : Between P) (start : Beginning P) (row : Attempt) (arena : row.arena ≡ start.arena) (props : row.props ≡ start.props) (tries : b.tries < row.nth)
-      (older : row.began ≤ row.at) (newer : row.at ≤ n) where
-    begun_by : P
-    begun_by = rules.answered start.player (begin_code b.again)
-
-    state_by : State
-    state_by = opened (memory row.at) start.arena start.props
-
-    same_state : opened (memory row.at) row.arena row.props ≡ opened (memory row.at) start.arena start.props
-    same_state = λ i. opened (memory row.at) (arena i) (props i)
-
-    pub is_try : IsAlone rules MAX_DEPTH (rules.answered start.player (begin_code b.again)) (opened (memory row.at) start.arena start.props) row.calls
-        → EndsAs row.outcome (state_then MAX_DEPTH (opened (memory row.at) start.arena start.props) row.calls)
-        → IsTryAt rules MAX_DEPTH n memory b (Some start) row
-    is_try h ends =
-        let p : P = rules.answered start.player (begin_code b.again) in
-        let s : State = opened (memory row.at) start.arena start.props in
-        let gets = begins_alone rules laws MAX_DEPTH (rules.calls_left p) p s row.calls (omega arith) h in
-        let all : answers rules.next_call rules.answered rules.calls_left MAX_DEPTH p (memory row.at) row.arena row.props ≡ answers rules.next_call rules.answered rules.calls_left MAX_DEPTH p (memory row.at) start.arena start.props =
-        λ i. answers rules.next_call rules.answered rules.calls_left MAX_DEPTH p (memory row.at) (arena i) (props i) in (
-          arena,
-          props,
-          tries,
-          record {
-            no_older = older;
-            no_newer = newer;
-            beginning = (_, sym (all ∙ gets));
-            whole = λ closed.
-                (let shut : is_open (state_then MAX_DEPTH s row.calls) ≡ false = ap (λ (x : State). is_open (state_then MAX_DEPTH x row.calls)) (sym same_state) ∙ closed in
-                sym (all ∙ (gets ∙ (ap (λ (rest : List (Call × Replied)). map pair_of row.calls ++ rest) (no_more (rules.calls_left p) (player_then rules.answered p row.calls) (state_then MAX_DEPTH s row.calls) shut) ∙ append-nil (map pair_of row.calls)))));
-            ends = subst (λ (x : State). EndsAs row.outcome (state_then MAX_DEPTH x row.calls)) (sym same_state) ends;
-          },
-        )
-      where
-        no_more : (k : ℕ) (q : P) (s : State) → is_open s ≡ false → answers_within rules.next_call rules.answered rules.calls_left MAX_DEPTH k q s (turn rules.next_call rules.answered rules.calls_left q s) ≡ []
-        no_more k q s shut = ap (λ (o : Bool). answers_within rules.next_call rules.answered rules.calls_left MAX_DEPTH k q s (if o then rules.next_call q else None)) shut ∙ none_more k
-          where
-            none_more : (k : ℕ) → answers_within rules.next_call rules.answered rules.calls_left MAX_DEPTH k q s None ≡ []
-            none_more zero = refl
-            none_more (suc k) = refl
+  pub is_try : (n : ℕ) (memory : ℕ → List ℕ) (b : Between P) (start : Beginning P) (row : Attempt) → row.arena ≡ start.arena → row.props ≡ start.props → b.tries < row.nth → row.began ≤ row.at → row.at ≤ n
+      → IsAlone rules MAX_DEPTH (rules.answered start.player (begin_code b.again)) (opened (memory row.at) start.arena start.props) row.calls
+      → EndsAs row.outcome (state_then MAX_DEPTH (opened (memory row.at) start.arena start.props) row.calls)
+      → (row.outcome ≡ outcomes.Full → LacksCommit rules MAX_DEPTH (rules.answered start.player (begin_code b.again)) row (memory row.at))
+      → IsTryAt rules MAX_DEPTH n memory b (Some start) row
+  is_try n memory b start row arena props tries older newer h ends full =
+      let p : P = rules.answered start.player (begin_code b.again) in
+      let same : opened (memory row.at) row.arena row.props ≡ opened (memory row.at) start.arena start.props = λ i. opened (memory row.at) (arena i) (props i) in
+      let alone_so : IsAlone rules MAX_DEPTH p (opened (memory row.at) row.arena row.props) row.calls = subst (λ (s : State). IsAlone rules MAX_DEPTH p s row.calls) (sym same) h in (
+        arena,
+        props,
+        tries,
+        record {
+          no_older = older;
+          no_newer = newer;
+          beginning = (_, sym (begins_alone rules laws MAX_DEPTH (rules.calls_left p) p (opened (memory row.at) row.arena row.props) row.calls (omega arith) alone_so));
+          whole = λ closed. sym (all_alone p (memory row.at) row.arena row.props row.calls alone_so closed);
+          ends = subst (λ (x : State). EndsAs row.outcome (state_then MAX_DEPTH x row.calls)) (sym same) ends;
+          full = full;
+        },
+      )
 
   -- without a commit: in conflict, full, for want of memory, or not ended yet
   pub try_stops : (n : ℕ) (base : List ℕ) (attempts : List Attempt) (b : Between P) (row : Attempt) (p : P) (e : Core) (t : InTry b row p e) (k : ℕ) (outcome : Outcome)
       → (is_open_still : EndsAs outcome (stands_for e (words_at base attempts k))) → row.began ≤ k → k ≤ n → IsMemory e.words (words_at base attempts k) → bytes_of (words_at base attempts k) ≡ bytes_at base attempts k
-      → Agrees (words_at base attempts k) e.log → IsTryAt rules MAX_DEPTH n (bytes_at base attempts) b (Some t.start) (record row { at = k; outcome = outcome })
-  try_stops n base attempts b row p e t k outcome ends older newer memory same agrees =
+      → Agrees (words_at base attempts k) e.log → (outcome ≡ outcomes.Full → LacksCommit rules MAX_DEPTH (rules.answered t.start.player (begin_code b.again)) row (bytes_at base attempts k))
+      → IsTryAt rules MAX_DEPTH n (bytes_at base attempts) b (Some t.start) (record row { at = k; outcome = outcome })
+  try_stops n base attempts b row p e t k outcome ends older newer memory same agrees full =
       let bytes : opened (bytes_of (words_at base attempts k)) t.start.arena t.start.props ≡ opened (bytes_at base attempts k) t.start.arena t.start.props = ap (λ (m : List ℕ). opened m t.start.arena t.start.props) same in
       is_try n (bytes_at base attempts) b t.start (record row { at = k; outcome = outcome }) t.arena t.props t.tries older newer
       (subst (λ (s : State). IsAlone rules MAX_DEPTH (rules.answered t.start.player (begin_code b.again)) s row.calls) bytes (t.alone (words_at base attempts k) memory agrees))
-      (subst (λ (s : State). EndsAs outcome (state_then MAX_DEPTH s row.calls)) bytes (subst (EndsAs outcome) (t.stands (words_at base attempts k) memory agrees) ends))
+      (subst (λ (s : State). EndsAs outcome (state_then MAX_DEPTH s row.calls)) bytes (subst (EndsAs outcome) (t.stands (words_at base attempts k) memory agrees) ends)) full
 
-  -- by its commit: the state that it leaves is that of the commit over its memory
-  module _ (n : ℕ) (memory : ℕ → List ℕ) (b : Between P) (row : Attempt) (p : P) (mid new : Core) (call : Call) (at : ℕ) (wrote : Bool) (m : List ℕ) (t : InTry b row p mid) (inside : mid.is_open ≡ true)
-      (asks : rules.next_call p ≡ Some call) (is : call ≡ Commit) (g : Commits mid at wrote new) (older : row.began ≤ at) (newer : at ≤ n) (mem : IsMemory mid.words m) (same : bytes_of m ≡ memory at) (agrees : Agrees m mid.log) where
+  -- its commit: the state that it leaves is that of the commit over its memory
+  module _ (memory : List ℕ) (b : Between P) (row : Attempt) (p : P) (mid : Core) (call : Call) (m : List ℕ) (t : InTry b row p mid) (inside : mid.is_open ≡ true)
+      (asks : rules.next_call p ≡ Some call) (is : call ≡ Commit) (mem : IsMemory mid.words m) (same : bytes_of m ≡ memory) (agrees : Agrees m mid.log) where
     abbrev last : Entry
     last = record { call = call; reply = Done }
-
-    abbrev pub done : Attempt
-    done = record row { calls = row.calls ++ record { call = call; reply = Done } ∷ []; at = at; outcome = if wrote then outcomes.Committed else outcomes.ReadOnly }
 
     abbrev by : P
     by = rules.answered t.start.player (begin_code b.again)
@@ -183,36 +177,63 @@ module _ {P : Type 0} (rules : Rules P) (laws : Obeys rules) where
     abbrev from : List ℕ → State
     from bytes = opened bytes t.start.arena t.start.props
 
-    commit_state : state_then MAX_DEPTH (from (memory at)) (row.calls ++ last ∷ []) ≡ after MAX_DEPTH (stands_for mid m) Commit
-    commit_state =
-        state_snoc MAX_DEPTH (from (memory at)) row.calls last
-        ∙ (ap (after MAX_DEPTH (state_then MAX_DEPTH (from (memory at)) row.calls)) is
-        ∙ (ap (λ (bytes : List ℕ). after MAX_DEPTH (state_then MAX_DEPTH (from bytes) row.calls) Commit) (sym same)
-        ∙ ap (λ (s : State). after MAX_DEPTH s Commit) (sym (t.stands m mem agrees))))
+    stands : stands_for mid m ≡ state_then MAX_DEPTH (from memory) row.calls
+    stands = t.stands m mem agrees ∙ ap (λ (bytes : List ℕ). state_then MAX_DEPTH (from bytes) row.calls) same
+
+    commit_state : state_then MAX_DEPTH (from memory) (row.calls ++ last ∷ []) ≡ after MAX_DEPTH (stands_for mid m) Commit
+    commit_state = state_snoc MAX_DEPTH (from memory) row.calls last ∙ (λ i. after MAX_DEPTH (sym stands i) (is i))
 
     closes : is_open (after MAX_DEPTH (stands_for mid m) Commit) ≡ false
     closes = ap (λ (o : Bool). is_open (after MAX_DEPTH (state_over mid.writes o mid.props mid.arena m) Commit)) inside
 
-    ends_so : (w : Bool) → wrote ≡ w → EndsAs (if w then outcomes.Committed else outcomes.ReadOnly) (after MAX_DEPTH (stands_for mid m) Commit)
-    ends_so true e = (closes, sym (g.wrote_is m mem agrees) ∙ e)
-    ends_so false e = (closes, sym (g.wrote_is m mem agrees) ∙ e)
-
-    commit_alone : IsAlone rules MAX_DEPTH by (from (memory at)) (row.calls ++ last ∷ [])
+    commit_alone : IsAlone rules MAX_DEPTH by (from memory) (row.calls ++ last ∷ [])
     commit_alone =
-        let stands = t.stands m mem agrees ∙ ap (λ (bytes : List ℕ). state_then MAX_DEPTH (from bytes) row.calls) same in
-        let open_then : is_open (state_then MAX_DEPTH (from (memory at)) row.calls) ≡ true = ap is_open (sym stands) ∙ stands_open rules laws mid m inside in
-        let turns : turn rules.next_call rules.answered rules.calls_left (player_then rules.answered by row.calls) (state_then MAX_DEPTH (from (memory at)) row.calls) ≡ Some call =
+        let open_then : is_open (state_then MAX_DEPTH (from memory) row.calls) ≡ true = ap is_open (sym stands) ∙ stands_open rules laws mid m inside in
+        let turns : turn rules.next_call rules.answered rules.calls_left (player_then rules.answered by row.calls) (state_then MAX_DEPTH (from memory) row.calls) ≡ Some call =
         ap (λ (o : Bool). if o then rules.next_call (player_then rules.answered by row.calls) else None) open_then ∙ (ap rules.next_call (sym t.player) ∙ asks) in
-        let replied : Done ≡ reply MAX_DEPTH (state_then MAX_DEPTH (from (memory at)) row.calls) call =
-        ap (λ (o : Bool). reply MAX_DEPTH (state_over mid.writes o mid.props mid.arena m) Commit) (sym inside) ∙ (ap (λ (s : State). reply MAX_DEPTH s Commit) stands ∙ ap (reply MAX_DEPTH (state_then MAX_DEPTH (from (memory at)) row.calls)) (sym is)) in
-        alone_snoc rules laws MAX_DEPTH by (from (memory at)) row.calls last
+        let replied : Done ≡ reply MAX_DEPTH (state_then MAX_DEPTH (from memory) row.calls) call =
+        ap (λ (o : Bool). reply MAX_DEPTH (state_over mid.writes o mid.props mid.arena m) Commit) (sym inside) ∙ (λ i. reply MAX_DEPTH (stands i) (sym is i)) in
+        alone_snoc rules laws MAX_DEPTH by (from memory) row.calls last
         (subst (λ (bytes : List ℕ). IsAlone rules MAX_DEPTH by (from bytes) row.calls) same (t.alone m mem agrees)) turns replied
 
-    pub try_commits : IsTryAt rules MAX_DEPTH n memory b (Some t.start) (record row { calls = row.calls ++ record { call = call; reply = Done } ∷ []; at = at; outcome = if wrote then outcomes.Committed else outcomes.ReadOnly })
-    try_commits = is_try n memory b t.start done t.arena t.props t.tries older newer commit_alone (subst (EndsAs (if wrote then outcomes.Committed else outcomes.ReadOnly)) (sym commit_state) (ends_so wrote refl))
+    -- refused as full, it is all that the player would have gone on to
+    pub lacks_commit : mid.writes ≢ [] → LacksCommit rules MAX_DEPTH by row memory
+    lacks_commit some =
+        let start : from memory ≡ opened memory row.arena row.props = λ i. opened memory (sym t.arena i) (sym t.props i) in
+        let state : after MAX_DEPTH (stands_for mid m) Commit ≡ after MAX_DEPTH (alone MAX_DEPTH memory row) Commit = ap (λ (s : State). after MAX_DEPTH s Commit) (stands ∙ ap (λ (s : State). state_then MAX_DEPTH s row.calls) start) in (
+          (λ i. answers rules.next_call rules.answered rules.calls_left MAX_DEPTH by memory (t.arena i) (t.props i))
+              ∙ (all_alone by memory t.start.arena t.start.props (row.calls ++ last ∷ []) commit_alone (ap is_open commit_state ∙ closes)
+              ∙ (map-append pair_of row.calls (last ∷ []) ∙ ap (λ (c : Call). map pair_of row.calls ++ (c, Done) ∷ []) is)),
+          (
+            ap is_open (sym state) ∙ closes,
+            ap (λ (s : State). s.wrote) (sym state) ∙ (ap (λ (o : Bool). (after MAX_DEPTH (state_over mid.writes o mid.props mid.arena m) Commit).wrote) inside ∙ written mid.writes some),
+          ),
+        )
+      where
+        written : (rows : List Row) → rows ≢ [] → is_some_row rows ≡ true
+        written [] n = absurd (n refl)
+        written (x ∷ xs) n = refl
 
-    pub left_state : alone MAX_DEPTH (memory at) (record row { calls = row.calls ++ record { call = call; reply = Done } ∷ []; at = at; outcome = if wrote then outcomes.Committed else outcomes.ReadOnly }) ≡ after MAX_DEPTH (stands_for mid m) Commit
-    left_state = (λ i. state_then MAX_DEPTH (opened (memory at) (t.arena i) (t.props i)) (row.calls ++ last ∷ [])) ∙ commit_state
+    -- accepted
+    module _ (n at : ℕ) (wrote : Bool) (new : Core) (g : Commits mid at wrote new) where
+      ends_so : (w : Bool) → wrote ≡ w → EndsAs (if w then outcomes.Committed else outcomes.ReadOnly) (after MAX_DEPTH (stands_for mid m) Commit)
+      ends_so true e = (closes, sym (g.wrote_is m mem agrees) ∙ e)
+      ends_so false e = (closes, sym (g.wrote_is m mem agrees) ∙ e)
+
+      never_full : (w : Bool) → (if w then outcomes.Committed else outcomes.ReadOnly) ≡ outcomes.Full → ⊥
+      never_full true e = cc
+      never_full false e = cc
+
+      pub try_commits : (memories : ℕ → List ℕ) → memories at ≡ memory → row.began ≤ at → at ≤ n
+          → IsTryAt rules MAX_DEPTH n memories b (Some t.start) (record row { calls = row.calls ++ record { call = call; reply = Done } ∷ []; at = at; outcome = if wrote then outcomes.Committed else outcomes.ReadOnly })
+      try_commits memories here older newer =
+          is_try n memories b t.start (record row { calls = row.calls ++ last ∷ []; at = at; outcome = if wrote then outcomes.Committed else outcomes.ReadOnly }) t.arena t.props t.tries older newer
+          (subst (λ (bytes : List ℕ). IsAlone rules MAX_DEPTH by (from bytes) (row.calls ++ last ∷ [])) (sym here) commit_alone)
+          (subst (EndsAs (if wrote then outcomes.Committed else outcomes.ReadOnly)) (sym (ap (λ (bytes : List ℕ). state_then MAX_DEPTH (from bytes) (row.calls ++ last ∷ [])) here ∙ commit_state)) (ends_so wrote refl))
+          (λ f. absurd (never_full wrote f))
+
+      pub left_state : alone MAX_DEPTH memory (record row { calls = row.calls ++ record { call = call; reply = Done } ∷ []; at = at; outcome = if wrote then outcomes.Committed else outcomes.ReadOnly }) ≡ after MAX_DEPTH (stands_for mid m) Commit
+      left_state = (λ i. state_then MAX_DEPTH (opened memory (t.arena i) (t.props i)) (row.calls ++ last ∷ [])) ∙ commit_state
 
   -- ## A begin is accepted
 

@@ -2,8 +2,6 @@ mod Examples
 pub mod WordLists
 pub mod ActiveRows
 pub mod OthersAttempts
-pub mod OldSteps
-pub mod OldCalls
 pub mod Taken
 pub mod TryEnds
 pub mod PlayerDepths
@@ -40,14 +38,11 @@ pub mod Refusals
 pub mod CallEvents
 pub mod Alones
 pub mod Solos
-pub mod SoloRuns
+pub mod SoleRuns
+pub mod SoleEvents
+pub mod ShownAlone
 pub mod OpenedRows
-pub mod SoloTracks
-pub mod Parts
-pub mod SoloCalls
-pub mod SoloSteps
 pub mod Beginnings
-pub mod Ends
 pub mod Events
 pub mod EventWorlds
 pub mod AlikeAnswers

@@ -1,8 +1,7 @@
 -- What an engine has seen, over a step.
-use Rattle.std.proofs.Common.{◌≡◌, ℕ, zero, suc, ◌/◌, ◌%◌, ◌<◌, ◌==◌, Bool, true, false, List, [], ◌∷◌, ◌++◌, length, slice_get, slice_set, slice_index, Some, refl, sym, ap, subst, ◌∙◌, arith, if◌then◌else◌, eqb-true}
+use Rattle.std.proofs.Common.{◌≡◌, ℕ, zero, suc, ◌/◌, ◌%◌, ◌<◌, ◌==◌, Bool, true, false, List, length, slice_get, slice_set, slice_index, Some, refl, sym, ap, subst, ◌∙◌, arith, if◌then◌else◌, eqb-true}
 use Rattle.std.proofs.lemmas.Bool.{cond-true}
 use Rattle.std.proofs.lemmas.Option.{slice_get-get_or}
-use Rattle.itm_types.specs.declared.row.LogRow.{LogRow}
 use Rattle.itm_types.specs.declared.step.Step.{Step}
 use Rattle.itm_types.specs.declared.step.Step.TheVariants.{Load, Store, Cas}
 use Rattle.itm_types.specs.Memory.{Agrees, IsMemory}
@@ -13,32 +12,11 @@ use Rattle.norec_engine.proofs.Logs as logs
 use Rattle.norec_world.specs.Cells.{Cells, found, cells_after}
 use Rattle.norec_world.specs.Sound.{IsTied}
 use Rattle.norec_world.specs.LogAgreement.{Loaded, Sees}
+use Rattle.norec_engine.proofs.Logs.{agrees_more}
+use Rattle.norec_world.proofs.ClockHolders.{is_free}
 
 both : (n : Bool) → n ≡ true → n ≡ false → ⊥
 both n t f = absurd (cc)
-
--- the store that frees the clock
-abbrev pub is_free : Step → Bool
-is_free (Load cell) = false
-is_free (Store zero value) = true
-is_free (Store (suc word) value) = false
-is_free (Cas cell from to) = false
-
-pub word_freed : (e : Core) (holds : Bool) (word seen : ℕ) → (word_loaded e holds word seen).freed ≡ e.freed
-word_freed e true word seen = refl
-word_freed e false word seen = refl
-
--- whether the clock was freed by it
-pub freed_by : (e : Core) (s : Step) (seen : ℕ) → e.freed ≡ false → (handed_to e (Some s) seen).freed ≡ is_free s
-freed_by e (Load zero) seen f = f
-freed_by e (Load (suc word)) seen f = word_freed e e.holds word seen ∙ f
-freed_by e (Store zero value) seen f = refl
-freed_by e (Store (suc word) value) seen f = f
-freed_by e (Cas cell from to) seen f = f
-
-pub agrees_more : (m : List ℕ) (xs ys : List LogRow) → Agrees m xs → Agrees m ys → Agrees m (xs ++ ys)
-agrees_more m [] ys a b = b
-agrees_more m (x ∷ xs) ys a b = (a.0, agrees_more m xs ys a.1 b)
 
 module _ (memory : ℕ → List ℕ) (cells : Cells) (e : Core) (t : IsTied cells e) (free : cells.clock % 2 ≡ 0 → cells.words ≡ memory (cells.clock / 2)) (fits : IsMemory (length cells.words) (memory (cells.clock / 2))) where
   -- ## The value is handed in

@@ -23,19 +23,19 @@ use Rattle.norec_world.specs.declared.attempt.Entry.{Entry}
 use Rattle.norec_world.specs.declared.attempt.Outcome.{Outcome}
 use Rattle.norec_world.specs.Alone.{state_then}
 use Rattle.norec_world.specs.Cells.{words_of, Cells}
-use Rattle.norec_world.specs.Opacity.{Between, EndsAs, answered_all, begin_code, follows, after_try, IsRunOf, IsTryAt}
+use Rattle.norec_world.specs.Opacity.{Between, EndsAs, answered_all, begin_code, follows, after_try, LacksCommit, IsRunOf, IsTryAt}
 use Rattle.norec_world.specs.Rows.{Rows, active_of}
 use Rattle.norec_world.specs.Status.{ending_of}
 use Rattle.norec_world.specs.Records.{StopsAt}
 use Rattle.norec_world.specs.Memories.{bytes_at, words_at}
 use Rattle.norec_world.specs.Runs.{run_after, begins_at, IsInTry, IsRun}
 use Rattle.norec_world.proofs.ActiveRows.{changed_here, row_is_of}
-use Rattle.norec_world.proofs.SoloRuns.{player_snoc, stands_open}
+use Rattle.norec_world.proofs.Alones.{player_snoc, stands_open}
 use Rattle.norec_world.proofs.TryEnds.{none_pending}
 use Rattle.norec_world.proofs.RunLists.{of_thread_own, run_more, run_still}
 use Rattle.norec_world.proofs.Seen.{HasSeen, memory_at, same_at}
 use Rattle.norec_world.proofs.Taken.{HasAnswered}
-use Rattle.norec_world.proofs.InTries.{try_replies, try_stops, try_commits, left_state}
+use Rattle.norec_world.proofs.InTries.{try_replies, try_stops, try_commits, left_state, lacks_commit}
 use Rattle.script_vm.specs.Rules.{Obeys, Rules}
 
 both : (n : Bool) → n ≡ true → n ≡ false → ⊥
@@ -138,12 +138,13 @@ module _ {P : Type 0} (rules : Rules P) (laws : Obeys rules) (first : Between P)
           ≡ after MAX_DEPTH (stands_for mid (words_at base r.ended at)) Commit
       commit_left =
           let t = run.inside inside in
-          left_state rules laws n' (bytes_at base r1.ended) t.0 t.1 a.player mid a.engine call at wrote (words_at base r.ended at) t.4 inside m.answered.in_call.asks m.answered.fits.2 m.ends (let e = t.4.began in let is = m.ends.at_is in omega arith) (omega (arith, at_most, later)) (memory_at seen at at_most) bytes_same commit_agrees
+          left_state rules laws (bytes_at base r1.ended at) t.0 t.1 a.player mid call (words_at base r.ended at) t.4 inside m.answered.in_call.asks m.answered.fits.2 (memory_at seen at at_most) bytes_same commit_agrees n' at wrote a.engine m.ends
 
       pub commit_runs : Run n' r1 last
       commit_runs =
           let t = run.inside inside in
-          let try = try_commits rules laws n' (bytes_at base r1.ended) t.0 t.1 a.player mid a.engine call at wrote (words_at base r.ended at) t.4 inside m.answered.in_call.asks m.answered.fits.2 m.ends (let e = t.4.began in let is = m.ends.at_is in omega arith) (omega (arith, at_most, later)) (memory_at seen at at_most) bytes_same commit_agrees in
+          let try = try_commits rules laws (bytes_at base r1.ended at) t.0 t.1 a.player mid call (words_at base r.ended at) t.4 inside m.answered.in_call.asks m.answered.fits.2 (memory_at seen at at_most) bytes_same commit_agrees n' at wrote a.engine m.ends
+          (bytes_at base r1.ended) refl (let e = t.4.began in let is = m.ends.at_is in omega arith) (omega (arith, at_most, later)) in
           let over = ended_run _ (row_is_of a.thread r.active t.1 t.3) commit_ended m.settled.thread try in
           let closed : last.engine.is_open ≡ false = ap (λ (c : Core). c.is_open) m.settled.engine ∙ m.answered.fits.1 in
           let ready : last.status ≡ Ready = m.told.4 ∙ m.answered.status in
@@ -190,14 +191,15 @@ module _ {P : Type 0} (rules : Rules P) (laws : Obeys rules) (first : Between P)
       agrees_now : Agrees (words_at base r1.ended k) mid.log
       agrees_now = subst (λ (m : List ℕ). Agrees m mid.log) (sym words_same) agrees
 
-      pub stop_run : IsRunOf rules MAX_DEPTH n' (bytes_at base r1.ended) (Some first) (of_thread last.thread r1.ended)
+      pub stop_run : (outcome ≡ outcomes.Full → LacksCommit rules MAX_DEPTH (rules.answered (run.inside inside).4.start.player (begin_code (run.inside inside).0.again)) (run.inside inside).1 (bytes_at base r1.ended k))
+          → IsRunOf rules MAX_DEPTH n' (bytes_at base r1.ended) (Some first) (of_thread last.thread r1.ended)
           × (run_after rules (bytes_at base r1.ended) (Some first) (of_thread last.thread r1.ended)
           ≡ after_try rules MAX_DEPTH (bytes_at base r1.ended) (run.inside inside).0 (Some (run.inside inside).4.start) (record (run.inside inside).1 { at = k; outcome = outcome }))
-      stop_run =
+      stop_run full =
           let t = run.inside inside in
           ended_run (record t.1 { at = k; outcome = outcome }) (row_is_of a.thread r.active t.1 t.3) stop_ended thread
           (try_stops rules laws n' base r1.ended t.0 t.1 a.player mid t.4 k outcome
-          (ends (stands_for mid (words_at base r1.ended k)) (stands_open rules laws mid (words_at base r1.ended k) inside)) older (omega (arith, newer, later)) memory_now same_now agrees_now)
+          (ends (stands_for mid (words_at base r1.ended k)) (stands_open rules laws mid (words_at base r1.ended k) inside)) older (omega (arith, newer, later)) memory_now same_now agrees_now full)
 
       -- the plain state that it leaves
       pub stop_left : alone MAX_DEPTH (bytes_at base r1.ended k) (record (run.inside inside).1 { at = k; outcome = outcome }) ≡ stands_for mid (words_at base r1.ended k)
@@ -217,7 +219,7 @@ module _ {P : Type 0} (rules : Rules P) (laws : Obeys rules) (first : Between P)
           let early = t.4.began in
           let late = seen.late in
           let agrees = subst (λ (j : ℕ). Agrees (words_at base r.ended (j / 2)) mid.log) (sym snapshot) (seen.logged inside) in
-          let over = stop_run k outcomes.Conflict (λ x o. o) m.settled.thread m.told.0 (omega arith) (omega arith) agrees in
+          let over = stop_run k outcomes.Conflict (λ x o. o) m.settled.thread m.told.0 (omega arith) (omega arith) agrees (λ f. absurd (cc)) in
           let state = stop_left k outcomes.Conflict (λ x o. o) m.settled.thread m.told.0 (omega arith) (omega arith) agrees in
           let closed : last.engine.is_open ≡ false = ap (λ (c : Core). c.is_open) m.settled.engine ∙ m.answered.fits.1 in
           let player : rules.restarted (answered_all rules.answered (rules.answered t.4.start.player (begin_code t.0.again)) (map (λ (x : Entry). x.reply) t.1.calls)) ≡ last.player = ap rules.restarted (sym t.4.player) ∙ sym m.told.1 in
@@ -254,9 +256,13 @@ module _ {P : Type 0} (rules : Rules P) (laws : Obeys rules) (first : Between P)
     module _ (at : ℕ) (m : HasAnswered rules true cells cells' r r1 mid a last call (Full at)) (older : (run.inside inside).1.began ≤ at) (newer : at ≤ cells.clock / 2) where
       pub full_runs : Run n' r1 last
       full_runs =
+          let t = run.inside inside in
+          let is : call ≡ Commit = (let doing : Some Commit ≡ Some call = sym m.ends.doing ∙ m.taken.doing in cc) in
+          let agrees = subst (λ (k : ℕ). Agrees (words_at base r.ended k) mid.log) (sym m.ends.at_is) (seen.still inside) in
           let closed : last.engine.is_open ≡ false = ap (λ (c : Core). c.is_open) m.settled.engine ∙ m.answered.fits.1 in
           record {
-            run = (stop_run at outcomes.Full (λ x o. o) m.settled.thread m.told.0 older newer (subst (λ (k : ℕ). Agrees (words_at base r.ended k) mid.log) (sym m.ends.at_is) (seen.still inside))).0;
+            run = (stop_run at outcomes.Full (λ x o. o) m.settled.thread m.told.0 older newer agrees
+                (λ f. lacks_commit rules laws (bytes_at base r1.ended at) t.0 t.1 a.player mid call (words_at base r.ended at) t.4 inside m.answered.in_call.asks is (memory_at seen at newer) (same_at seen at newer ∙ sym (still at newer)) agrees m.ends.some)).0;
             inside = λ o. absurd (both last.engine.is_open o closed);
             between = λ o gave_up starved. absurd (gave_up (ap ending_of m.told.1));
           }

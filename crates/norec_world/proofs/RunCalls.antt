@@ -223,7 +223,7 @@ module _ {P : Type 0} {rules : Rules P} (laws : Obeys rules) {cells : Cells} {r0
       let late = still_seen.late in
       (stop_run rules laws first base cells cells roomy r1 old.engine old last Commit still_seen here (cells.clock / 2) (let l : cells.clock / 2 ≤ cells.clock / 2 = omega arith in l)
       (λ k l. ap (λ (rows : List Attempt). bytes_at base rows k) ended ∙ bytes_still base cells.clock r0.ended laid.counted more k l) o (old.engine.snapshot / 2) outcomes.NoMemory (λ x y. y) s.same.thread (s.stops o)
-      early late ((runs.sees fed).logged o)).0
+      early late ((runs.sees fed).logged o) (λ f. absurd (cc))).0
 
   pub starve_runs : RunsFrom rules first base cells r1 last
   starve_runs = record {

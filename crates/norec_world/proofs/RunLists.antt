@@ -42,7 +42,7 @@ module _ {P : Type 0} (rules : Rules P) where
         let bytes : memory' a.at ≡ memory a.at = same a.at o.no_newer in
         let newer = o.no_newer in
         let opaque : IsOpaque rules MAX_DEPTH _ a n' (memory a.at) =
-        record { no_older = o.no_older; no_newer = (let l : a.at ≤ n' = omega arith in l); beginning = o.beginning; whole = o.whole; ends = o.ends } in (
+        record { no_older = o.no_older; no_newer = (let l : a.at ≤ n' = omega arith in l); beginning = o.beginning; whole = o.whole; ends = o.ends; full = o.full } in (
           (t.0, t.1, t.2, subst (IsOpaque rules MAX_DEPTH _ a n') (sym bytes) opaque),
           ap (λ (m : List ℕ). after_try rules MAX_DEPTH (λ k. m) b (Some start) a) bytes,
         )

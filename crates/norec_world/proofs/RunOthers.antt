@@ -31,7 +31,7 @@ use Rattle.norec_world.specs.Opaque.{first_of, AreOpaque}
 use Rattle.norec_world.specs.Invariant.{AreRunning, IsWorld}
 use Rattle.norec_world.specs.WorldEvents.{HasRead}
 use Rattle.norec_world.proofs.SoundOthers.{set_place, within_of, there_is, are_open}
-use Rattle.norec_world.proofs.SoloRuns.{stands_open}
+use Rattle.norec_world.proofs.Alones.{stands_open}
 use Rattle.norec_world.proofs.InTries.{try_stops}
 use Rattle.norec_world.proofs.Memories.{bytes_still}
 use Rattle.norec_world.proofs.RunLists.{run_still, run_more}
@@ -65,7 +65,7 @@ past_from n thread (x ∷ xs) from l = by_case (x.thread == thread) refl (past_f
     by_case true e rest = absurd (let same = eqb-true x.thread thread e in let first = from.0 in omega arith)
     by_case false e rest = rest
 
-open_none : (n thread : ℕ) (xs : List Attempt) → AreFrom n xs → active_of thread xs ≡ None → of_thread thread xs ≡ []
+pub open_none : (n thread : ℕ) (xs : List Attempt) → AreFrom n xs → active_of thread xs ≡ None → of_thread thread xs ≡ []
 open_none n thread [] from e = refl
 open_none n thread (x ∷ xs) from e = by_case (x.thread == thread) e (λ f. open_none (x.thread + 1) thread xs from.1 f)
   where
@@ -73,7 +73,7 @@ open_none n thread (x ∷ xs) from e = by_case (x.thread == thread) e (λ f. ope
     by_case true e rest = absurd (cc)
     by_case false e rest = rest e
 
-open_one : (n thread : ℕ) (xs : List Attempt) (row : Attempt) → AreFrom n xs → active_of thread xs ≡ Some row → of_thread thread xs ≡ row ∷ []
+pub open_one : (n thread : ℕ) (xs : List Attempt) (row : Attempt) → AreFrom n xs → active_of thread xs ≡ Some row → of_thread thread xs ≡ row ∷ []
 open_one n thread [] row from e = absurd (cc)
 open_one n thread (x ∷ xs) row from e = by_case (x.thread == thread) refl e (λ f. open_one (x.thread + 1) thread xs row from.1 f)
   where
@@ -106,7 +106,7 @@ of_actors_active n (x ∷ xs) listed = (listed x.thread x (here (x.thread == x.t
     later thread row e true is = listed thread x (ap (λ (b : Bool). if b then Some x else active_of thread xs) is)
     later thread row e false is = listed thread row (ap (λ (b : Bool). if b then Some x else active_of thread xs) is ∙ e)
 
-row_open : (b : Bool) (r : Rows) (thread : ℕ) (row : Attempt) → HasRow b r thread → active_of thread r.active ≡ Some row → b ≡ true
+pub row_open : (b : Bool) (r : Rows) (thread : ℕ) (row : Attempt) → HasRow b r thread → active_of thread r.active ≡ Some row → b ≡ true
 row_open true r thread row h some = refl
 row_open false r thread row h some = absurd (let z = sym h ∙ some in cc)
 
@@ -207,7 +207,7 @@ module _ {P : Type 0} (rules : Rules P) (laws : Obeys rules) where
             let early = t.4.began in
             let try = try_stops rules laws (w.cells.clock / 2) w.base (attempts_of w) t.0 row a.player a.engine t.4 k outcomes.Unfinished (stands_open rules laws a.engine (words_at w.base (attempts_of w) k) o) early k_late
             (subst (IsMemory a.engine.words) (sym words) (fits.0 ∙ sym tied.words, fits.1)) (ap bytes_of words ∙ (running.laid.memories.same k k_late ∙ sym (shown_still k k_late)))
-            (subst (λ (m : List ℕ). Agrees m a.engine.log) (sym words) (sees.logged o)) in
+            (subst (λ (m : List ℕ). Agrees m a.engine.log) (sym words) (sees.logged o)) (λ f. absurd (cc)) in
             let as_it_is : record row { at = k; outcome = outcomes.Unfinished } ≡ row = λ i. record row { at = (sym at) i; outcome = (sym unfinished) i } in
             let here : IsTryAt rules MAX_DEPTH (w.cells.clock / 2) (bytes_at w.base (attempts_of w)) t.0 (begins_at rules t.0) row =
             subst (λ (y : _). IsTryAt rules MAX_DEPTH (w.cells.clock / 2) (bytes_at w.base (attempts_of w)) t.0 y row) (sym t.4.begins)

@@ -12,7 +12,8 @@ use Rattle.norec_world.specs.LogAgreement.{AreLaid, Loaded, Sees}
 use Rattle.norec_world.specs.Memories.{bytes_at, words_at}
 use Rattle.norec_world.specs.Rows.{Rows}
 use Rattle.norec_world.specs.Sound.{IsTied}
-use Rattle.norec_world.proofs.LogAgreement.{is_free, freed_by, less_logged, loaded_handed, log_now, still_logged}
+use Rattle.norec_world.proofs.ClockHolders.{freed_by, is_free}
+use Rattle.norec_world.proofs.LogAgreement.{less_logged, loaded_handed, log_now, still_logged}
 use Rattle.norec_world.proofs.TiedEngines.{held_even}
 
 both : (n : Bool) → n ≡ true → n ≡ false → ⊥

@@ -1,7 +1,6 @@
 -- A player that runs alone, block by block.
 use Rattle.std.proofs.Common.{◌≡◌, ℕ, zero, suc, ◌+◌, ◌<◌, ◌≤◌, Bool, true, false, ◌&&◌, nat_le, is_none, List, [], ◌∷◌, ◌++◌, map, Option, None, Some, refl, sym, ap, subst, ◌∙◌, arith, cond}
 use Rattle.std.proofs.lemmas.Bool.{cond-true, cond-false}
-use Rattle.std.proofs.lemmas.List.{append-nil}
 use Rattle.itm_types.specs.declared.call.Props.{Props}
 use Rattle.itm_types.specs.declared.call.Call.{Call}
 use Rattle.itm_types.specs.declared.call.Call.TheVariants.{Begin, Commit, Read, Write}
@@ -13,13 +12,11 @@ use Rattle.script_vm.specs.Depth.{is_begin}
 use Rattle.norec_world.specs.declared.attempt.Entry.{Entry}
 use Rattle.norec_world.specs.Attempts.{pair_of}
 use Rattle.norec_world.specs.Opacity.{Beginning, begin_code, begin_within, begin_of}
-use Rattle.norec_world.specs.Alone.{state_then, player_then, IsAlone}
-use Rattle.norec_world.specs.declared.attempt.Attempt.{Attempt}
-use Rattle.norec_world.specs.declared.attempt.Outcome.{Outcome}
+use Rattle.norec_world.specs.Alone.{state_then, player_then}
 use Rattle.norec_world.specs.declared.attempt.Outcome.TheVariants.{Full, Unfinished}
 use Rattle.norec_world.specs.declared.attempt.End.TheVariants.{GaveUp, Finished}
-use Rattle.norec_world.specs.Solo.{Progress, Solo, entry_of, one_if, ended_as, stopped, front, with_first, the_attempt, player_after, passed, block_then, begun_then, solo_within}
-use Rattle.norec_world.proofs.Alones.{begins_alone, asked}
+use Rattle.norec_world.specs.Solo.{Progress, row_of, Solo, entry_of, one_if, ended_as, stopped, front, with_first, the_attempt, player_after, passed, block_then, begun_then, solo_within}
+use Rattle.norec_world.proofs.Alones.{asked}
 use Rattle.script_vm.specs.Rules.{Obeys, Rules}
 
 pub state_pairs : (deepest : ℕ) (s : State) (xs : List Entry) → state_after deepest s (map (λ (c : Call × Reply). c.0) (map pair_of xs)) ≡ state_then deepest s xs
@@ -155,7 +152,7 @@ module _ {P : Type 0} (rules : Rules P) (laws : Obeys rules) (deepest : ℕ) whe
 
     -- ## One block
 
-    gets_none : (n : ℕ) (p : P) (s : State) → answers_within rules.next_call rules.answered rules.calls_left deepest n p s None ≡ []
+    pub gets_none : (n : ℕ) (p : P) (s : State) → answers_within rules.next_call rules.answered rules.calls_left deepest n p s None ≡ []
     gets_none zero p s = refl
     gets_none (suc n) p s = refl
 
@@ -167,43 +164,14 @@ module _ {P : Type 0} (rules : Rules P) (laws : Obeys rules) (deepest : ℕ) whe
     entries_pairs [] = refl
     entries_pairs (x ∷ xs) = ap (λ (ys : List Entry). x ∷ ys) (entries_pairs xs)
 
-    -- the calls that were made alone, and the player makes no more in this block
-    pub whole_block : (b : Progress P) (start : Beginning P) (xs : List Entry) → begin_of rules deepest b.player b.arena ≡ Some start
-        → IsAlone rules deepest (rules.answered start.player (begin_code false)) (opened b.memory start.arena start.props) xs
-        → turn rules.next_call rules.answered rules.calls_left (player_then rules.answered (rules.answered start.player (begin_code false)) xs) (state_then deepest (opened b.memory start.arena start.props) xs) ≡ None
-        → goes (rules.calls_left b.player) b ≡ block_then rules deepest max_commits thread (goes (rules.calls_left b.player)) b start (rules.answered start.player (begin_code false)) (map pair_of xs)
-        (state_then deepest (opened b.memory start.arena start.props) xs)
-    whole_block b start xs e alone done =
-        let p : P = rules.answered start.player (begin_code false) in
-        let s : State = opened b.memory start.arena start.props in
-        let n : ℕ = rules.calls_left b.player in
-        let q : P = player_then rules.answered p xs in
-        let t : State = state_then deepest s xs in
-        let all : answers rules.next_call rules.answered rules.calls_left deepest p b.memory start.arena start.props ≡ map pair_of xs =
-        begins_alone rules laws deepest (rules.calls_left p) p s xs (omega arith) alone
-        ∙ (ap (λ (o : Option Call). map pair_of xs ++ answers_within rules.next_call rules.answered rules.calls_left deepest (rules.calls_left p) q t o) done
-        ∙ (ap (λ (ys : List (Call × Reply)). map pair_of xs ++ ys) (gets_none (rules.calls_left p) q t) ∙ append-nil (map pair_of xs))) in
-        solo_enough n (suc n) b (omega arith) (omega arith)
-        ∙ (ap (begun_then rules deepest max_commits thread (goes n) b) e
-        ∙ (ap (λ (pairs : List (Call × Reply)). block_then rules deepest max_commits thread (goes n) b start p pairs (state_after deepest s (map (λ (c : Call × Reply). c.0) pairs))) all
-        ∙ ap (block_then rules deepest max_commits thread (goes n) b start p (map pair_of xs)) (state_pairs deepest s xs)))
-
-    -- the attempt of such a block
-    abbrev pub attempt_of : Progress P → Beginning P → List Entry → Outcome → Attempt
-    attempt_of b start xs outcome = record {
-      thread = thread;
-      nth = 1;
-      began = b.commits;
-      at = b.commits;
-      props = start.props;
-      arena = start.arena;
-      calls = xs;
-      outcome = outcome;
-    }
-
     -- the player between the block and the next one
     abbrev pub next_of : Progress P → P → State → Progress P
     next_of b q t = record { player = q; arena = t.arena; memory = t.memory; commits = b.commits + one_if t.wrote }
+
+    front_snoc : (xs : List Entry) (x : Entry) → front (map pair_of (xs ++ x ∷ [])) ≡ map pair_of xs
+    front_snoc [] x = refl
+    front_snoc (y ∷ []) x = refl
+    front_snoc (y ∷ z ∷ zs) x = ap (λ (ps : List (Call × Reply)). pair_of y ∷ ps) (front_snoc (z ∷ zs) x)
 
     abbrev pub begun : Beginning P → P
     begun start = rules.answered start.player (begin_code false)
@@ -211,69 +179,69 @@ module _ {P : Type 0} (rules : Rules P) (laws : Obeys rules) (deepest : ℕ) whe
     abbrev pub state_of : Progress P → Beginning P → List Entry → State
     state_of b start xs = state_then deepest (opened b.memory start.arena start.props) xs
 
-    closed_turn : (q : P) (t : State) → is_open t ≡ false → turn rules.next_call rules.answered rules.calls_left q t ≡ None
-    closed_turn q t e = cond-false (is_open t) (rules.next_call q) None e
+    -- the block that begins here has these calls
+    module _ (b : Progress P) (start : Beginning P) (xs : List Entry) (comes_to : begin_of rules deepest b.player b.arena ≡ Some start)
+        (all : answers rules.next_call rules.answered rules.calls_left deepest (begun start) b.memory start.arena start.props ≡ map pair_of xs) where
+      whole_block : goes (rules.calls_left b.player) b ≡ block_then rules deepest max_commits thread (goes (rules.calls_left b.player)) b start (begun start) (map pair_of xs) (state_of b start xs)
+      whole_block =
+          let n : ℕ = rules.calls_left b.player in
+          let s : State = opened b.memory start.arena start.props in
+          solo_enough n (suc n) b (omega arith) (omega arith)
+          ∙ (ap (begun_then rules deepest max_commits thread (goes n) b) comes_to
+          ∙ (ap (λ (pairs : List (Call × Reply)). block_then rules deepest max_commits thread (goes n) b start (begun start) pairs (state_after deepest s (map (λ (c : Call × Reply). c.0) pairs))) all
+          ∙ ap (block_then rules deepest max_commits thread (goes n) b start (begun start) (map pair_of xs)) (state_pairs deepest s xs)))
 
-    -- a block that ends by a commit
-    pub ended_block : (b : Progress P) (start : Beginning P) (xs : List Entry) → begin_of rules deepest b.player b.arena ≡ Some start
-        → IsAlone rules deepest (begun start) (opened b.memory start.arena start.props) xs
-        → is_open (state_of b start xs) ≡ false → ((state_of b start xs).wrote && nat_le max_commits b.commits) ≡ false → rules.calls_left (player_then rules.answered (begun start) xs) ≤ rules.calls_left b.player
-        → goes (rules.calls_left b.player) b ≡ with_first (attempt_of b start xs (ended_as (state_of b start xs).wrote))
-        (goes (rules.calls_left (player_then rules.answered (begun start) xs)) (next_of b (player_then rules.answered (begun start) xs) (state_of b start xs)))
-    ended_block b start xs e alone closed free l =
-        let n : ℕ = rules.calls_left b.player in
-        let q : P = player_then rules.answered (begun start) xs in
-        let t : State = state_of b start xs in
-        let pairs : List (Call × Reply) = map pair_of xs in
-        let yes : Solo = with_first (the_attempt rules deepest max_commits thread b start pairs (ended_as t.wrote)) (goes n (passed rules deepest max_commits thread b (begun start) pairs t)) in
-        let full : Solo = with_first (the_attempt rules deepest max_commits thread b start (front pairs) Full) (stopped rules deepest max_commits thread b GaveUp) in
-        let opened_still : Solo = with_first (the_attempt rules deepest max_commits thread b start pairs Unfinished) (stopped rules deepest max_commits thread b Finished) in
-        whole_block b start xs e alone (closed_turn q t closed)
-        ∙ (cond-false (is_open t) opened_still (cond (t.wrote && nat_le max_commits b.commits) full yes) closed
-        ∙ (cond-false (t.wrote && nat_le max_commits b.commits) full yes free
-        ∙ ((λ i. with_first (attempt_of b start (entries_pairs xs i) (ended_as t.wrote)) (goes n (next_of b (player_pairs (begun start) xs i) t)))
-        ∙ ap (with_first (attempt_of b start xs (ended_as t.wrote))) (solo_enough n (rules.calls_left q) (next_of b q t) l (omega arith)))))
+      less : rules.calls_left (player_then rules.answered (begun start) xs) ≤ rules.calls_left b.player
+      less =
+          let found = begin_found b.player b.arena start comes_to in
+          let l = found.less in
+          let m = laws.nearer start.player (Begin start.props found.room) (begin_code false) found.asks in
+          let along = falls_along (rules.calls_left (begun start)) (begun start) (opened b.memory start.arena start.props) (turn rules.next_call rules.answered rules.calls_left (begun start) (opened b.memory start.arena start.props)) refl in
+          let same : rules.calls_left (player_after rules deepest 0 0 (begun start) (answers rules.next_call rules.answered rules.calls_left deepest (begun start) b.memory start.arena start.props)) ≡ rules.calls_left (player_then rules.answered (begun start) xs) =
+          ap (λ (pairs : List (Call × Reply)). rules.calls_left (player_after rules deepest 0 0 (begun start) pairs)) all ∙ ap rules.calls_left (player_pairs (begun start) xs) in
+          omega arith
 
-    front_snoc : (xs : List Entry) (x : Entry) → front (map pair_of (xs ++ x ∷ [])) ≡ map pair_of xs
-    front_snoc [] x = refl
-    front_snoc (y ∷ []) x = refl
-    front_snoc (y ∷ z ∷ zs) x = ap (λ (ps : List (Call × Reply)). pair_of y ∷ ps) (front_snoc (z ∷ zs) x)
+      abbrev yes : State → Solo
+      yes t = with_first (the_attempt rules deepest max_commits thread b start (map pair_of xs) (ended_as t.wrote)) (goes (rules.calls_left b.player) (passed rules deepest max_commits thread b (begun start) (map pair_of xs) t))
 
-    -- a block whose commit is not made, as many writers having committed as may
-    pub full_block : (b : Progress P) (start : Beginning P) (xs : List Entry) (last : Entry) → begin_of rules deepest b.player b.arena ≡ Some start
-        → IsAlone rules deepest (begun start) (opened b.memory start.arena start.props) (xs ++ last ∷ [])
-        → is_open (state_of b start (xs ++ last ∷ [])) ≡ false → ((state_of b start (xs ++ last ∷ [])).wrote && nat_le max_commits b.commits) ≡ true
-        → goes (rules.calls_left b.player) b ≡ with_first (attempt_of b start xs Full) (stopped rules deepest max_commits thread b GaveUp)
-    full_block b start xs last e alone closed full_is =
-        let n : ℕ = rules.calls_left b.player in
-        let all : List Entry = xs ++ last ∷ [] in
-        let q : P = player_then rules.answered (begun start) all in
-        let t : State = state_of b start all in
-        let pairs : List (Call × Reply) = map pair_of all in
-        let yes : Solo = with_first (the_attempt rules deepest max_commits thread b start pairs (ended_as t.wrote)) (goes n (passed rules deepest max_commits thread b (begun start) pairs t)) in
-        let full : Solo = with_first (the_attempt rules deepest max_commits thread b start (front pairs) Full) (stopped rules deepest max_commits thread b GaveUp) in
-        let opened_still : Solo = with_first (the_attempt rules deepest max_commits thread b start pairs Unfinished) (stopped rules deepest max_commits thread b Finished) in
-        whole_block b start all e alone (closed_turn q t closed)
-        ∙ (cond-false (is_open t) opened_still (cond (t.wrote && nat_le max_commits b.commits) full yes) closed
-        ∙ (cond-true (t.wrote && nat_le max_commits b.commits) full yes full_is
-        ∙ (λ i. with_first (attempt_of b start ((ap (map entry_of) (front_snoc xs last) ∙ entries_pairs xs) i) Full) (stopped rules deepest max_commits thread b GaveUp))))
+      abbrev full : Solo
+      full = with_first (the_attempt rules deepest max_commits thread b start (front (map pair_of xs)) Full) (stopped rules deepest max_commits thread b GaveUp)
 
-    -- a block that the player leaves open for good
-    pub open_block : (b : Progress P) (start : Beginning P) (xs : List Entry) → begin_of rules deepest b.player b.arena ≡ Some start
-        → IsAlone rules deepest (begun start) (opened b.memory start.arena start.props) xs
-        → is_open (state_of b start xs) ≡ true → rules.next_call (player_then rules.answered (begun start) xs) ≡ None
-        → goes (rules.calls_left b.player) b ≡ with_first (attempt_of b start xs Unfinished) (stopped rules deepest max_commits thread b Finished)
-    open_block b start xs e alone opens done =
-        let n : ℕ = rules.calls_left b.player in
-        let q : P = player_then rules.answered (begun start) xs in
-        let t : State = state_of b start xs in
-        let pairs : List (Call × Reply) = map pair_of xs in
-        let yes : Solo = with_first (the_attempt rules deepest max_commits thread b start pairs (ended_as t.wrote)) (goes n (passed rules deepest max_commits thread b (begun start) pairs t)) in
-        let full : Solo = with_first (the_attempt rules deepest max_commits thread b start (front pairs) Full) (stopped rules deepest max_commits thread b GaveUp) in
-        let opened_still : Solo = with_first (the_attempt rules deepest max_commits thread b start pairs Unfinished) (stopped rules deepest max_commits thread b Finished) in
-        whole_block b start xs e alone (cond-true (is_open t) (rules.next_call q) None opens ∙ done)
-        ∙ (cond-true (is_open t) opened_still (cond (t.wrote && nat_le max_commits b.commits) full yes) opens
-        ∙ (λ i. with_first (attempt_of b start (entries_pairs xs i) Unfinished) (stopped rules deepest max_commits thread b Finished)))
+      abbrev still_open : Solo
+      still_open = with_first (the_attempt rules deepest max_commits thread b start (map pair_of xs) Unfinished) (stopped rules deepest max_commits thread b Finished)
+
+      -- it ends by a commit
+      pub ended_block : is_open (state_of b start xs) ≡ false → ((state_of b start xs).wrote && nat_le max_commits b.commits) ≡ false
+          → goes (rules.calls_left b.player) b ≡ with_first (row_of thread b start xs (ended_as (state_of b start xs).wrote))
+          (goes (rules.calls_left (player_then rules.answered (begun start) xs)) (next_of b (player_then rules.answered (begun start) xs) (state_of b start xs)))
+      ended_block closed free =
+          let n : ℕ = rules.calls_left b.player in
+          let q : P = player_then rules.answered (begun start) xs in
+          let t : State = state_of b start xs in
+          whole_block
+          ∙ (cond-false (is_open t) still_open (cond (t.wrote && nat_le max_commits b.commits) full (yes t)) closed
+          ∙ (cond-false (t.wrote && nat_le max_commits b.commits) full (yes t) free
+          ∙ ((λ i. with_first (row_of thread b start (entries_pairs xs i) (ended_as t.wrote)) (goes n (next_of b (player_pairs (begun start) xs i) t)))
+          ∙ ap (with_first (row_of thread b start xs (ended_as t.wrote))) (solo_enough n (rules.calls_left q) (next_of b q t) less (omega arith)))))
+
+      -- its commit is not made, as many writers having committed as may
+      pub full_block : (ys : List Entry) (last : Entry) → xs ≡ ys ++ last ∷ [] → is_open (state_of b start xs) ≡ false → ((state_of b start xs).wrote && nat_le max_commits b.commits) ≡ true
+          → goes (rules.calls_left b.player) b ≡ with_first (row_of thread b start ys Full) (stopped rules deepest max_commits thread b GaveUp)
+      full_block ys last is closed full_is =
+          let t : State = state_of b start xs in
+          let calls : map entry_of (front (map pair_of xs)) ≡ ys = ap (λ (l : List Entry). map entry_of (front (map pair_of l))) is ∙ (ap (map entry_of) (front_snoc ys last) ∙ entries_pairs ys) in
+          whole_block
+          ∙ (cond-false (is_open t) still_open (cond (t.wrote && nat_le max_commits b.commits) full (yes t)) closed
+          ∙ (cond-true (t.wrote && nat_le max_commits b.commits) full (yes t) full_is
+          ∙ ap (λ (l : List Entry). with_first (row_of thread b start l Full) (stopped rules deepest max_commits thread b GaveUp)) calls))
+
+      -- the player leaves it open for good
+      pub open_block : is_open (state_of b start xs) ≡ true → goes (rules.calls_left b.player) b ≡ with_first (row_of thread b start xs Unfinished) (stopped rules deepest max_commits thread b Finished)
+      open_block opens =
+          let t : State = state_of b start xs in
+          whole_block
+          ∙ (cond-true (is_open t) still_open (cond (t.wrote && nat_le max_commits b.commits) full (yes t)) opens
+          ∙ ap (λ (l : List Entry). with_first (row_of thread b start l Unfinished) (stopped rules deepest max_commits thread b Finished)) (entries_pairs xs))
 
     -- a player that comes to no block
     pub no_block : (b : Progress P) → begin_of rules deepest b.player b.arena ≡ None → goes (rules.calls_left b.player) b ≡ stopped rules deepest max_commits thread b Finished
@@ -290,11 +258,6 @@ module _ {P : Type 0} (rules : Rules P) (laws : Obeys rules) (deepest : ℕ) whe
       commits = b.commits;
     }
 
-    begun_passing : (n : ℕ) (b : Progress P) (c : Call) (o : Option (Beginning P))
-        → begun_then rules deepest max_commits thread (goes n) b o ≡ begun_then rules deepest max_commits thread (goes n) (passing b c) o
-    begun_passing n b c None = refl
-    begun_passing n b c (Some start) = refl
-
     steps_past : (n : ℕ) (b : Progress P) (c : Call) → is_begin c ≡ false
         → comes (suc n) b.player b.arena (Some c) ≡ comes n (passing b c).player (passing b c).arena (rules.next_call (passing b c).player)
     steps_past n b (Begin props room) e = absurd (cc)
@@ -309,14 +272,3 @@ module _ {P : Type 0} (rules : Rules P) (laws : Obeys rules) (deepest : ℕ) whe
         let k = laws.nearer b.player c (reply deepest (outside [] b.arena) c) e in
         ap (comes (suc n) b.player b.arena) e
         ∙ (steps_past n b c nb ∙ comes_enough n (rules.calls_left (passing b c).player) (passing b c).player (passing b c).arena (rules.next_call (passing b c).player) refl (omega arith) (omega arith))
-
-    -- a call between blocks that begins none changes nothing of what comes
-    pub outside_call : (b : Progress P) (c : Call) → rules.next_call b.player ≡ Some c → is_begin c ≡ false → goes (rules.calls_left b.player) b ≡ goes (rules.calls_left (passing b c).player) (passing b c)
-    outside_call b c e nb =
-        let n : ℕ = rules.calls_left b.player in
-        let q : Progress P = passing b c in
-        let k = laws.nearer b.player c (reply deepest (outside [] b.arena) c) e in
-        solo_enough n (suc n) b (omega arith) (omega arith)
-        ∙ (ap (begun_then rules deepest max_commits thread (goes n) b) (comes_past n b c e nb (omega arith))
-        ∙ (begun_passing n b c (begin_of rules deepest q.player q.arena)
-        ∙ solo_enough (suc n) (rules.calls_left q.player) q (omega arith) (omega arith)))

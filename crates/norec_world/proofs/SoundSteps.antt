@@ -19,8 +19,7 @@ use Rattle.norec_world.specs.Cells.{Cells, found, cells_after}
 use Rattle.norec_world.specs.ClockHolder.{ClocksOn, HoldsOn}
 use Rattle.norec_world.specs.Sound.{GoesOn, IsSound, IsTied, IsWaiting, StatusIs, rank, steps_left, whole, IsDone, RestsAs, Falls}
 use Rattle.norec_world.specs.Status.{is_ready, is_waiting}
-use Rattle.norec_world.proofs.ClockHolders.{clocks_of, clocks_still, clocks_twice}
-use Rattle.norec_world.proofs.LogAgreement.{word_freed}
+use Rattle.norec_world.proofs.ClockHolders.{clocks_of, clocks_still, clocks_twice, word_freed}
 use Rattle.norec_world.proofs.Taken.{ClockMoves, HasTaken}
 use Rattle.norec_world.proofs.TiedEngines.{IsMid, hands, held_even, holds_handed, holds_same, limit_same, tied}
 use Rattle.script_vm.specs.Rules.{Rules}

@@ -1,5 +1,5 @@
 -- The actors of a world, over one event.
-use Rattle.std.proofs.Common.{◌≡◌, ◌^◌, ℕ, zero, suc, ◌<◌, ◌≤◌, Bool, true, false, List, [], ◌∷◌, length, Option, None, Some, IsSome, slice_get, slice_set, replicate, refl, sym, ap, subst, ◌∙◌, arith}
+use Rattle.std.proofs.Common.{◌≡◌, ◌^◌, ℕ, zero, suc, ◌<◌, ◌≤◌, Bool, true, false, List, [], ◌∷◌, length, Option, None, Some, IsSome, slice_get, refl, sym, ap, subst, ◌∙◌, arith}
 use Rattle.std.specs.List.{slice_index_or}
 use Rattle.std.specs.Option.{option_and_then}
 use Rattle.itm_types.specs.declared.step.Step.{Step}
@@ -13,8 +13,7 @@ use Rattle.itm_types.specs.Memory.{AllFit}
 use Rattle.norec_engine.specs.Core.{Core, opening}
 use Rattle.norec_engine.specs.Proceeds.{IsLawful}
 use Rattle.norec_world.specs.Sound.{IsTied, IsKept, IsNested, StatusIs, IsSound}
-use Rattle.norec_world.specs.Tracks.{Tracks, StillTracks}
-use Rattle.norec_world.specs.World.{World, IsSoloWorld}
+use Rattle.norec_world.specs.World.{World}
 use Rattle.norec_world.specs.Actors.{AreActors}
 use Rattle.std.proofs.lemmas.Option.{slice_get-get_or}
 use Rattle.script_vm.specs.Rules.{Rules}
@@ -39,32 +38,15 @@ module _ {P : Type 0} (rules : Rules P) where
       → slice_get w.actors i ≡ Some a → waiting_step a.status ≡ Some step → IsLawful a.engine step
   lawful_at w r s i a step e waits = lawful_as r a a.status step (s.each i a e).sound.status waits
 
--- an actor at its place, in a world of one
-module _ {P : Type 0} (rules : Rules P)
-    (cells cells' : Cells) (r r' : Rows) (actors : List (Actor P)) (op : List P) (base : List ℕ) (arena max_commits : ℕ)
-    (w : IsSoloWorld rules op base arena max_commits cells r actors) (i : ℕ) (within : i < length actors) (got : Actor P) (is : slice_get actors i ≡ Some got) where
-  pub place_is : i ≡ 0
-  place_is = let n : length actors ≡ 1 = ap length w.one in omega arith
-
-  pub place_got : got ≡ w.actor
-  place_got = (let both : Some got ≡ Some w.actor = sym is ∙ (λ k. slice_get (w.one k) (place_is k)) in cc)
-
-  pub place_tracks : Tracks rules max_commits w.player base (replicate arena 0) cells r got
-  place_tracks = subst (Tracks rules max_commits w.player base (replicate arena 0) cells r) (sym place_got) w.tracks
-
-  pub place_alone : (new : Actor P) → StillTracks rules cells r got cells' r' new → IsSoloWorld rules op base arena max_commits cells' r' (slice_set actors i new)
-  place_alone new still = record {
-    player = w.player;
-    actor = new;
-    players = w.players;
-    one = (λ k. slice_set (w.one k) (place_is k) new);
-    tracks = still max_commits w.player base (replicate arena 0) place_tracks;
-  }
-
 pub waiting_some : (s : Status) → IsSome (waiting_step s) → is_waiting s ≡ true
 waiting_some Ready e = absurd (cc)
 waiting_some (Waits call step) e = refl
 waiting_some (Ended end) e = absurd (cc)
+
+pub waiting_going : (s : Status) → is_waiting s ≡ true → ending_of s ≡ None
+waiting_going Ready e = refl
+waiting_going (Waits call step) e = refl
+waiting_going (Ended end) e = absurd (cc)
 
 pub some_waiting : (s : Status) → is_waiting s ≡ true → IsSome (waiting_step s)
 some_waiting Ready e = absurd (cc)

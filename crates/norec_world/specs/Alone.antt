@@ -1,4 +1,4 @@
--- Calls that a player makes alone on plain bytes, one by one.
+-- Calls that a player makes alone on plain bytes, one by one: a beginning of the `answers` that the headline speaks of.
 use Rattle.std.specs.Prelude.{◌≡◌, ℕ, map, List, [], ◌∷◌, Some}
 use Rattle.itm_types.specs.declared.call.Reply.{Reply}
 use Rattle.itm_model.specs.State.{State}

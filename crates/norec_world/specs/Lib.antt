@@ -14,11 +14,10 @@ pub mod Plan
 pub mod PlanLaws
 pub mod Alone
 pub mod Solo
-pub mod Follows
 pub mod Records
 pub mod LocalWork
 pub mod SoFar
-pub mod Tracks
+pub mod Sole
 pub mod World
 pub mod Commits
 pub mod WorldEvents

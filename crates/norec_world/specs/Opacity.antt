@@ -2,9 +2,9 @@
 use Rattle.std.specs.Prelude.{ℕ, zero, suc, ◌≡◌, ◌<◌, ◌≤◌, Bool, true, false, is_none, if◌then◌else◌, List, [], ◌∷◌, ◌++◌, Option, None, Some}
 use Rattle.itm_types.specs.declared.call.Props.{Props}
 use Rattle.itm_types.specs.declared.call.Call.{Call}
-use Rattle.itm_types.specs.declared.call.Call.TheVariants.{Begin}
+use Rattle.itm_types.specs.declared.call.Call.TheVariants.{Begin, Commit}
 use Rattle.itm_types.specs.declared.call.Reply.{Reply}
-use Rattle.itm_types.specs.declared.call.Reply.TheVariants.{Code}
+use Rattle.itm_types.specs.declared.call.Reply.TheVariants.{Code, Done}
 use Rattle.itm_model.specs.State.{State}
 use Rattle.itm_model.specs.Machine.{outside, undone, is_open, refusal, reply, after}
 use Rattle.itm_model.specs.Runs.{answers}
@@ -64,6 +64,10 @@ module _ {P : Type 0} (rules : Rules P) (deepest : ℕ) where
   begin_of p arena = begin_within (rules.calls_left p) p arena (rules.next_call p)
 
 module _ {P : Type 0} (rules : Rules P) (deepest : ℕ) where
+  -- all that its player makes alone are its calls and a commit, which would have ended it as one that wrote
+  abbrev pub LacksCommit : P → Attempt → List ℕ → Type 0
+  LacksCommit p a memory = (answers rules.next_call rules.answered rules.calls_left deepest p memory a.arena a.props ≡ pairs_of a ++ (Commit, Done) ∷ []) × EndsAs Committed (after deepest (alone deepest memory a) Commit)
+
   -- The attempt is opaque: its player after the begin is p, n commits are done, and the memory is the bytes that the first a.at of them left.
   pub record IsOpaque (p : P) (a : Attempt) (n : ℕ) (memory : List ℕ) : Type 0 where
     pub no_older : a.began ≤ a.at
@@ -71,6 +75,7 @@ module _ {P : Type 0} (rules : Rules P) (deepest : ℕ) where
     pub beginning : IsBeginningOf (pairs_of a) (answers rules.next_call rules.answered rules.calls_left deepest p memory a.arena a.props)
     pub whole : is_open (alone deepest memory a) ≡ false → pairs_of a ≡ answers rules.next_call rules.answered rules.calls_left deepest p memory a.arena a.props
     pub ends : EndsAs a.outcome (alone deepest memory a)
+    pub full : a.outcome ≡ Full → LacksCommit p a memory  -- full is told of a writer's commit alone
 
   -- what follows an attempt whose player after the begin was p and that left the plain state s, if anything does
   abbrev pub follows : Outcome → P → Attempt → State → Option (Between P)

@@ -1,14 +1,18 @@
--- What a player that runs alone has done at some moment: its first blocks, and perhaps some calls of the next one.
-use Rattle.std.specs.Prelude.{◌≡◌, ◌⊎◌, ℕ, false, List, [], ◌∷◌, ◌++◌, Some}
+-- What a player that runs alone has done at some moment: its first blocks, and perhaps some calls of the next one. This is opacity where each attempt reads what all before it left.
+use Rattle.std.specs.Prelude.{◌≡◌, ◌⊎◌, ℕ, ◌/◌, ◌%◌, false, List, [], ◌∷◌, ◌++◌, Some}
+use Rattle.itm_types.specs.Memory.{bytes_of}
 use Rattle.itm_model.specs.declared.limits.TheConstants.{MAX_DEPTH}
 use Rattle.itm_model.specs.Machine.{opened}
 use Rattle.norec_world.specs.declared.attempt.Attempt.{Attempt}
 use Rattle.norec_world.specs.declared.attempt.Entry.{Entry}
 use Rattle.norec_world.specs.declared.attempt.Outcome.{Outcome}
+use Rattle.norec_world.specs.declared.attempt.Outcome.TheVariants as outcomes
+use Rattle.norec_world.specs.declared.attempt.End.{End}
+use Rattle.norec_world.specs.declared.attempt.End.TheVariants.{Finished, GaveUp, NoMemory}
 use Rattle.norec_world.specs.Opacity.{Beginning, begin_code, begin_of}
 use Rattle.norec_world.specs.Alone.{IsAlone}
-use Rattle.norec_world.specs.Solo.{Progress, solo, solo_within}
-use Rattle.norec_world.specs.Follows.{with_all, row_of}
+use Rattle.norec_world.specs.Solo.{Progress, row_of, with_all, solo, solo_within}
+use Rattle.norec_world.specs.Cells.{Cells}
 use Rattle.script_vm.specs.Rules.{Rules}
 
 module _ {P : Type 0} (rules : Rules P) (max_commits thread : ℕ) where
@@ -16,7 +20,7 @@ module _ {P : Type 0} (rules : Rules P) (max_commits thread : ℕ) where
   pub record IsBegun (b : Progress P) (past : List Attempt) (outcome : Outcome) (rows : List Attempt) : Type 0 where
     pub start : Beginning P
     pub calls : List Entry
-    pub rows_are : rows ≡ past ++ row_of rules max_commits thread b start calls outcome ∷ []
+    pub rows_are : rows ≡ past ++ row_of thread b start calls outcome ∷ []
     pub begins : begin_of rules MAX_DEPTH b.player b.arena ≡ Some start
     pub alone : IsAlone rules MAX_DEPTH (rules.answered start.player (begin_code false)) (opened b.memory start.arena start.props) calls
 
@@ -28,3 +32,14 @@ module _ {P : Type 0} (rules : Rules P) (max_commits thread : ℕ) where
     pub commits_are : commits ≡ before.commits
     pub memory_is : memory ≡ before.memory
     pub rows_are : (rows ≡ past) ⊎ IsBegun before past outcome rows
+
+  -- all that it does
+  pub record IsAll (p0 : P) (base arena : List ℕ) (cells : Cells) (rows : List Attempt) (ending : End) : Type 0 where
+    pub all : solo rules MAX_DEPTH max_commits thread p0 base arena ≡ record { attempts = rows; memory = bytes_of cells.words; commits = cells.clock / 2; ending = ending }
+    pub even : cells.clock % 2 ≡ 0
+
+  -- It has ended: all that it does is done, or, where memory was refused, a beginning of that.
+  abbrev pub HasEnded : P → List ℕ → List ℕ → Cells → List Attempt → End → Type 0
+  HasEnded p0 base arena cells rows Finished = IsAll p0 base arena cells rows Finished
+  HasEnded p0 base arena cells rows GaveUp = IsAll p0 base arena cells rows GaveUp
+  HasEnded p0 base arena cells rows NoMemory = (cells.clock % 2 ≡ 0) × IsSoFar p0 base arena (cells.clock / 2) (bytes_of cells.words) outcomes.NoMemory rows

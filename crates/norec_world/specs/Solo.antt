@@ -1,5 +1,5 @@
--- A player with no other beside it: block after block, each on the bytes that those before left.
-use Rattle.std.specs.Prelude.{ℕ, zero, suc, ◌+◌, ◌&&◌, Bool, true, false, nat_le, if◌then◌else◌, List, [], ◌∷◌, map, Option, None, Some}
+-- A player with no other beside it: block after block, each on the bytes that those before left. Of a world with one player the headline implies it; it is stated by itself since it computes the whole, from the first begin to the end.
+use Rattle.std.specs.Prelude.{ℕ, zero, suc, ◌+◌, ◌&&◌, Bool, true, false, nat_le, if◌then◌else◌, List, [], ◌∷◌, ◌++◌, map, Option, None, Some}
 use Rattle.itm_types.specs.declared.call.Call.{Call}
 use Rattle.itm_types.specs.declared.call.Reply.{Reply}
 use Rattle.itm_model.specs.State.{State}
@@ -36,6 +36,23 @@ entry_of c = record { call = c.0; reply = c.1 }
 abbrev pub with_first : Attempt → Solo → Solo
 with_first a s = record s { attempts = a ∷ s.attempts }
 
+-- these attempts, and then the rest
+abbrev pub with_all : List Attempt → Solo → Solo
+with_all past s = record s { attempts = past ++ s.attempts }
+
+-- the row of the block that begins so, with these calls
+abbrev pub row_of : {P : Type 0} → ℕ → Progress P → Beginning P → List Entry → Outcome → Attempt
+row_of thread b start calls outcome = record {
+  thread = thread;
+  nth = 1;
+  began = b.commits;
+  at = b.commits;
+  props = start.props;
+  arena = start.arena;
+  calls = calls;
+  outcome = outcome;
+}
+
 -- all but the last
 abbrev pub front : {A : Type 0} → List A → List A
 front [] = []
@@ -54,16 +71,7 @@ ended_as false = ReadOnly
 module _ {P : Type 0} (rules : Rules P) (deepest max_commits thread : ℕ) where
   -- the row of the block, with these calls
   abbrev pub the_attempt : Progress P → Beginning P → List (Call × Reply) → Outcome → Attempt
-  the_attempt b start pairs outcome = record {
-    thread = thread;
-    nth = 1;
-    began = b.commits;
-    at = b.commits;
-    props = start.props;
-    arena = start.arena;
-    calls = map entry_of pairs;
-    outcome = outcome;
-  }
+  the_attempt b start pairs outcome = row_of thread b start (map entry_of pairs) outcome
 
   -- the player after these replies
   abbrev pub player_after : P → List (Call × Reply) → P

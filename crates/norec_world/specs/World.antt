@@ -13,8 +13,7 @@ use Rattle.norec_world.specs.Rows.{Rows, all_of}
 use Rattle.norec_world.specs.declared.actor.Actor.{Actor}
 use Rattle.norec_world.specs.Cells.{Cells}
 use Rattle.norec_world.specs.Status.{ending_of, waiting_step}
-use Rattle.norec_world.specs.SoFar.{IsSoFar}
-use Rattle.norec_world.specs.Tracks.{HasEnded, Tracks}
+use Rattle.norec_world.specs.SoFar.{IsSoFar, HasEnded}
 use Rattle.script_vm.specs.Rules.{Rules}
 
 pub record World (P : Type 0) : Type 0 where
@@ -76,24 +75,12 @@ is_event (Err faults.NoMemory) = true
 abbrev pub waits_at : {P : Type 0} → World P → ℕ → Option Step
 waits_at w actor = option_and_then (λ a. waiting_step a.status) (slice_get w.actors actor)
 
--- what one actor by itself did is what its player does alone on the memory that was handed in, up to refused memory
 module _ {P : Type 0} (rules : Rules P) where
-  pub record IsSoloWorld (opening : List P) (base : List ℕ) (arena max_commits : ℕ) (cells : Cells) (r : Rows) (actors : List (Actor P)) : Type 0 where
-    pub player : P
-    pub actor : Actor P
-    pub players : opening ≡ player ∷ []
-    pub one : actors ≡ actor ∷ []
-    pub tracks : Tracks rules max_commits player base (replicate arena 0) cells r actor
-
-  -- the same of a world, if it has one player
-  abbrev pub RunsAlone : World P → Type 0
-  RunsAlone w = length w.opening ≡ 1 → IsSoloWorld w.opening w.base w.arena w.max_commits w.cells w.attempts w.actors
-
   -- What its player has done alone: a beginning before its end, where the memory is told only of an even clock; all of it at its end, or a beginning where memory was refused.
   abbrev pub DoneBy : World P → P → Option End → Type 0
   DoneBy w p None = (memory : List ℕ) × IsSoFar rules w.max_commits 0 p w.base (replicate w.arena 0) (w.cells.clock / 2) memory Unfinished (attempts_of w)
       × (w.cells.clock % 2 ≡ 0 → memory_of w ≡ memory)
-  DoneBy w p (Some end) = HasEnded rules w.max_commits p w.base (replicate w.arena 0) w.cells (attempts_of w) end
+  DoneBy w p (Some end) = HasEnded rules w.max_commits 0 p w.base (replicate w.arena 0) w.cells (attempts_of w) end
 
   -- where there is one player, the world so far shows what that one has done alone
   abbrev pub ShowsAlone : World P → Type 0

@@ -45,7 +45,6 @@ impl<P: Player> Actor<P> {
     ghost use Rattle.norec_world.specs.Status.{ending_of, is_waiting, is_ready, waiting_step};
     ghost use Rattle.norec_world.specs.Records.{Tells, IsTold};
     ghost use Rattle.norec_world.specs.Moments.{HasStepped};
-    ghost use Rattle.norec_world.specs.Tracks.{StillTracks};
     ghost use Rattle.norec_world.specs.OthersAttempts.{KeepsOthers};
     ghost use Rattle.norec_world.specs.Sound.{IsKept, IsSound, IsDue, IsDone, StatusIs, GoesOn, Falls};
 
@@ -92,8 +91,7 @@ impl<P: Player> Actor<P> {
     pub(crate) fn step(&mut self, memory: &mut Memory, recorded: &mut Recorded)
         requires sound { IsSound P.Player memory.old recorded.old self.old }
         requires waits { is_waiting self.old.status ≡ true }
-        ensures stepped { HasStepped P.Player memory.old recorded.old self.old memory.new recorded.new self.new }
-        ensures tracks { self.old.thread ≡ 0 → StillTracks P.Player memory.old recorded.old self.old memory.new recorded.new self.new }
+        ensures { HasStepped P.Player memory.old recorded.old self.old memory.new recorded.new self.new }
     {
         match mem::replace(&mut self.status, Status::Ready) {
             Status::Waits { call, step } => {

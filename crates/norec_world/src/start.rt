@@ -2,13 +2,12 @@
 
 ghost use Rattle.std.specs.Prelude.{◌≡◌, ℕ, ◌^◌, ◌<◌, ◌≤◌, false, [], length, replicate, slice_get, None, Some, IfOk, All};
 ghost use Rattle.itm_types.specs.Memory.{AllFit, bytes_of};
-ghost use Rattle.norec_world.specs.Tracks.{Tracks};
 ghost use Rattle.norec_world.specs.Status.{ending_of, is_ready};
 ghost use Rattle.norec_world.specs.Sound.{IsSound};
 ghost use Rattle.norec_world.specs.Rows.{active_of};
 ghost use Rattle.norec_world.specs.OthersAttempts.{KeepsOthers};
 ghost use Rattle.norec_world.specs.Actors.{AreActors};
-ghost use Rattle.norec_world.specs.World.{IsSoloWorld, ending_in};
+ghost use Rattle.norec_world.specs.World.{ending_in};
 ghost use Rattle.norec_engine.specs.Core.{opening};
 ghost use Rattle.norec_world.specs.Starts.{IsFirst, HasStarted};
 ghost use Rattle.norec_world.specs.Runs.{RunsFrom};
@@ -60,8 +59,6 @@ pub(crate) fn start_all<P: Player>(
     ensures runs { IfOk result (λ actors. (place : ℕ) (p : P) (a : Actor P) → slice_get players.items place ≡ Some p → slice_get actors.items place ≡ Some a
         → RunsFrom P.Player (first_of p terms.arena) (bytes_of memory.now.words) memory.now recorded.new a) }
     ensures none { IfOk result (λ actors. (recorded.new.ended ≡ []) × (recorded.new.active ≡ [])) }
-    ensures alone { IfOk result (λ actors. length players.items ≡ 1
-        → IsSoloWorld P.Player players.items (bytes_of memory.now.words) terms.arena terms.limits.max_commits memory.now recorded.new actors.items) }
     ensures fed { IfOk result (λ actors. (place : ℕ) → ending_in actors.items place ≡ Some End.NoMemory → ⊥) }
 {
     let mut actors = Vec::new(alloc);
@@ -87,8 +84,6 @@ fn start<P: Player>(
     requires fit { AllFit memory.now.words }
     requires none { active_of thread recorded.old.active ≡ None }
     requires clock { memory.now.clock ≡ 0 }
-    ensures tracks { IfOk result (λ a. thread ≡ 0 → (recorded.old.ended ≡ []) × (recorded.old.active ≡ [])
-        → Tracks P.Player terms.limits.max_commits player (bytes_of memory.now.words) (replicate terms.arena 0) memory.now recorded.new a) }
     ensures sound { IfOk result (IsSound P.Player memory.now recorded.new) }
     ensures fed { IfOk result (λ a. ending_of a.status ≡ Some End.NoMemory → ⊥) }
     ensures done { IfOk result (λ a. is_ready a.status ≡ false) }

@@ -21,7 +21,6 @@ impl<P: Player> Actor<P> {
     ghost use Rattle.script_vm.specs.Depth.{is_begin};
     ghost use Rattle.norec_world.specs.LocalWork.{IsShort};
     ghost use Rattle.norec_world.specs.Moments.{HasWorked};
-    ghost use Rattle.norec_world.specs.Tracks.{StillTracks};
     ghost use Rattle.norec_world.specs.OthersAttempts.{KeepsOthers};
     ghost use Rattle.norec_world.specs.Sound.{IsTied, IsKept, IsReady, IsSound, IsAnswered, IsSettledBy, IsAsked, IsUnasked, IsNoMore, Falls, retried};
 
@@ -30,7 +29,6 @@ impl<P: Player> Actor<P> {
         requires { IsSound P.Player memory.now recorded.old self.old }
         ensures worked { HasWorked P.Player memory.now recorded.old self.old recorded.new self.new }
         ensures done { is_ready self.new.status ≡ false }
-        ensures tracks { self.old.thread ≡ 0 → StillTracks P.Player memory.now recorded.old self.old memory.now recorded.new self.new }
     {
         while let Status::Ready = self.status {
             self.call_next(alloc, memory, recorded);
@@ -42,7 +40,6 @@ impl<P: Player> Actor<P> {
         requires sound { IsSound P.Player memory.now recorded.old self.old }
         requires ready { self.old.status ≡ Status.Ready }
         ensures worked { HasWorked P.Player memory.now recorded.old self.old recorded.new self.new }
-        ensures tracks { self.old.thread ≡ 0 → StillTracks P.Player memory.now recorded.old self.old memory.now recorded.new self.new }
         ensures falls { self.new.status ≡ Status.Ready → Falls P.Player self.old.engine.is_open self.new.engine.is_open self.old self.new }
     {
         let Some(call) = self.player.next() else {

@@ -43,7 +43,7 @@ impl<P: Player> Model for World<P> {
 }
 
 impl<P: Player> World<P> {
-    ghost use Rattle.norec_world.specs.World.{counted, ending_at, waits_at, memory_of, attempts_of, SameOpening, RunsAlone, ShowsAlone};
+    ghost use Rattle.norec_world.specs.World.{counted, ending_at, waits_at, memory_of, attempts_of, SameOpening, ShowsAlone};
     ghost use Rattle.std.specs.Prelude.{slice_get};
     ghost use Rattle.std.specs.Option.{option_map};
     ghost use Rattle.norec_world.specs.Status.{is_waiting};
@@ -122,7 +122,7 @@ impl<P: Player> World<P> {
         ensures sound { AreActors P.Player self.now.cells self.now.attempts self.now.actors }
         ensures commits { CommitsInOrder self.now }
         ensures opaque { AreOpaque P.Player self.now }
-        ensures alone { RunsAlone P.Player self.now }
+        ensures alone { ShowsAlone P.Player self.now }
     {
         Some(self.actors.get(actor as usize)?.waits())
     }
@@ -203,7 +203,6 @@ impl<P: Player> World<P> {
     /// below half the clock is that of one that committed. With a single player they are those of the player alone on
     /// the memory that was handed in: all of them once its actor has ended, and the first ones before, or where the
     /// actor found no memory.
-    #[tactic(auto, using(crate::proofs::Ends::shows_alone))]
     pub fn attempts(&self) -> &[Attempt]
         ensures value { result.now ≡ attempts_of self.now }
         ensures unfinished { AreOpen self.now.attempts.active }

@@ -14,10 +14,6 @@ use Rattle.std.specs.List.{slice_index_or}
 use Rattle.norec_world.proofs.SoundOthers.{actors_joined, last_or_before, within_of, none_active}
 use Rattle.norec_world.proofs.start.start_all.Goals as goal
 
-nil_of : {A : Type 0} (xs : List A) → length xs ≡ 0 → xs ≡ []
-nil_of [] e = refl
-nil_of (x ∷ xs) e = absurd (omega arith)
-
 -- the next one of a list
 drop_head : {A : Type 0} (xs : List A) (k : ℕ) (x : A) (ys : List A) → drop k xs ≡ x ∷ ys → (slice_get xs k ≡ Some x) × (drop (suc k) xs ≡ ys)
 drop_head [] zero x ys e = absurd (cc)
@@ -80,19 +76,7 @@ loop-player-preserved g c =
             subst (Started place p) (sym h.1) (subst (λ (q : g.row.P.Denot). Started place q actor) same
             (subst (λ (n : ℕ). Started n c.in-Some.player actor) (sym numbered ∙ (thread ∙ sym h.0)) c.in_ok-actor.ensures.starts)))
       ];
-      first = λ e. absurd (omega arith);
       fed = λ place e. fed_joined before actor i.fed c.in_ok-actor.ensures.fed place (ap (λ (xs : List (Actor g.row.P.Denot)). ending_in xs place) (sym items) ∙ e);
-      alone = λ one single.
-          (let none : length before ≡ 0 = omega arith in
-          let first = i.first none in
-          let over : length c.next.new.self.rest.items ≡ 0 = (let same = ap length first.0 in omega arith) in
-          record {
-            player = c.in-Some.player;
-            actor = actor;
-            players = sym first.0 ∙ (steps ∙ ap (λ (l : List g.row.P.Denot). c.in-Some.player ∷ l) (nil_of c.next.new.self.rest.items over));
-            one = items ∙ ap (λ (l : List (Actor g.row.P.Denot)). l ++ actor ∷ []) (nil_of before none);
-            tracks = c.in_ok-actor.ensures.tracks (omega arith) (first.1, first.2);
-          });
     }
 
 pub returns-clause-none : goal.returns-clause-none

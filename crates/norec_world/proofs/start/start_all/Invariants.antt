@@ -1,7 +1,7 @@
 use Rattle.std.proofs.Common.{◌≡◌, ℕ, ◌+◌, ◌≤◌, [], length, slice_get, drop, replicate, All, Some}
 use Rattle.itm_types.specs.Memory.{bytes_of}
 use Rattle.norec_world.specs.Actors.{AreActors}
-use Rattle.norec_world.specs.World.{IsSoloWorld, ending_in}
+use Rattle.norec_world.specs.World.{ending_in}
 use Rattle.norec_world.specs.declared.attempt.End.TheVariants.{NoMemory}
 use Rattle.norec_world.specs.declared.actor.Actor.{Actor}
 use Rattle.norec_world.specs.Starts.{IsFirst, HasStarted}
@@ -23,8 +23,5 @@ invariant-loop-player g l = record {
       → RunsFrom g.P.Player (first_of p l.terms.arena) (bytes_of l.memory.words) l.memory l.recorded a;
   starts : (place : ℕ) (p : g.row.P.Denot) (a : Actor g.row.P.Denot) → slice_get l.initial.player-iterator.rest.items place ≡ Some p → slice_get l.actors.items place ≡ Some a
       → HasStarted g.P.Player l.memory.clock (opening (length l.memory.words) (replicate l.terms.arena 0) l.terms.limits.patience l.terms.limits.max_commits) l.terms.retries place p a;
-  first : length l.actors.items ≡ 0 → (l.player-iterator.rest.items ≡ l.initial.player-iterator.rest.items) × (l.recorded.ended ≡ []) × (l.recorded.active ≡ []);
   fed : (place : ℕ) → ending_in l.actors.items place ≡ Some NoMemory → ⊥;
-  alone : length l.actors.items ≡ 1 → length l.initial.player-iterator.rest.items ≡ 1
-      → IsSoloWorld g.P.Player l.initial.player-iterator.rest.items (bytes_of l.memory.words) l.terms.arena l.terms.limits.max_commits l.memory l.recorded l.actors.items;
 }

@@ -11,9 +11,6 @@ use Rattle.norec_world.proofs.OthersAttempts.{others_twice}
 use Rattle.norec_world.proofs.SoundCalls.{call_falls, call_taken, calling}
 use Rattle.norec_world.proofs.Taken.{due}
 use Rattle.norec_world.proofs.Worked.{call_worked, finish_worked, starve_worked}
-use Rattle.norec_world.proofs.SoloCalls.{call_answered, call_ends, call_starved, call_waits}
-use Rattle.norec_world.specs.declared.actor.Status.TheVariants.{Ended}
-use Rattle.norec_world.specs.declared.attempt.End.TheVariants.{Finished}
 use Rattle.norec_world.proofs.actor.Actor.call_next.Goals as goal
 
 pub settle-requires : goal.settle-requires
@@ -69,23 +66,3 @@ returns-in-Err-clause-worked g c =
     (record { tied = starved.tied c.args.memory.now (subst (IsTied c.args.memory.now) (sym u.engine) c.requires.sound.tied); kept = starved.kept; status = subst (StatusIs g.P.Player c.starve.new.recorded c.starve.new.self) (sym starved.status) tt })
     s (others_twice c.args.self.now c.ask.new.self c.starve.new.self c.args.recorded.now c.ask.new.recorded c.starve.new.recorded c.ask.ensures.others starved.others) starved.closed
     (starved.holds ∙ ap (λ (e : Core). e.holds) u.engine) (starved.limit.0 ∙ ap (λ (e : Core). e.max_commits) u.engine, starved.limit.1 ∙ ap (λ (e : Core). e.patience) u.engine)
-
-pub returns-in-Ok-Answer-clause-tracks : goal.returns-in-Ok-Answer-clause-tracks
-returns-in-Ok-Answer-clause-tracks g c z max_commits p0 base arena t =
-    call_answered g.P.Player g.met.P.Player.laws max_commits p0 base arena c.args.memory.now c.args.recorded.now c.args.self.now c.requires.sound c.requires.ready z t
-    c.ask.new.recorded c.ask.new.self c.in-Some.call c.in-Ok-Answer.field-0 c.in-Ok-Answer.ensures.asked c.in-Ok-Answer.ensures.told c.in-Ok-Answer.answer c.in-Ok-Answer.field-0-is
-    c.settle.new.recorded c.settle.new.self c.settle.ensures.settled c.settle.ensures.records
-
-pub returns-in-Ok-Step-clause-tracks : goal.returns-in-Ok-Step-clause-tracks
-returns-in-Ok-Step-clause-tracks g c z max_commits p0 base arena t =
-    call_waits g.P.Player g.met.P.Player.laws max_commits p0 base arena c.args.memory.now c.args.recorded.now c.args.self.now c.requires.sound c.requires.ready z t
-    c.ask.new.recorded c.ask.new.self c.in-Some.call c.in-Ok-Step.field-0 c.in-Ok-Step.ensures.asked c.in-Ok-Step.ensures.told c.in-Ok-Step.step c.in-Ok-Step.field-0-is
-
-pub returns-in_default-clause-tracks : goal.returns-in_default-clause-tracks
-returns-in_default-clause-tracks g c z max_commits p0 base arena t =
-    call_ends g.P.Player g.met.P.Player.laws max_commits p0 base arena c.args.memory.now c.args.recorded.now c.args.self.now c.requires.sound c.requires.ready z t (sym c.next.ensures ∙ c.in_default.is) (record c.args.self.now { status = Ended Finished }) refl
-
-pub returns-in-Err-clause-tracks : goal.returns-in-Err-clause-tracks
-returns-in-Err-clause-tracks g c z max_commits p0 base arena t =
-    call_starved g.P.Player g.met.P.Player.laws max_commits p0 base arena c.args.memory.now c.args.recorded.now c.args.self.now c.requires.sound c.requires.ready z t
-    c.ask.new.recorded c.starve.new.recorded c.ask.new.self c.starve.new.self c.in-Err.ensures.unasked.engine c.in-Err.ensures.unasked.same.thread c.ask.ensures.rows c.starve.ensures.status c.starve.ensures.row c.starve.ensures.none

@@ -10,8 +10,6 @@ use Rattle.norec_world.proofs.RunSteps.{step_runs}
 use Rattle.norec_world.proofs.SoundSteps.{step_clocks, step_falls, step_on, step_taken, stepping}
 use Rattle.norec_world.proofs.Taken.{due, now}
 use Rattle.norec_world.proofs.TrySteps.{step_tries, step_unfinished}
-use Rattle.norec_world.proofs.OldSteps.{step_due}
-use Rattle.norec_world.proofs.SoloSteps.{stepped}
 use Rattle.norec_world.proofs.actor.Actor.step.Goals as goal
 
 pub proceed-requires : goal.proceed-requires
@@ -30,8 +28,8 @@ follow-requires g c =
     let was = c.args.self.now.engine.is_open in
     (now taken (c.proceed.ensures.done was (due taken)) (c.proceed.ensures.tells was (due taken))).sound.kept
 
-pub returns-in-Waits-clause-stepped : goal.returns-in-Waits-clause-stepped
-returns-in-Waits-clause-stepped g c =
+pub returns-in-Waits : goal.returns-in-Waits
+returns-in-Waits g c =
     let e = c.resume-next.ensures in
     let resumed : IsResumed c.args.self.now.engine c.apply-seen.result c.resume-next.result c.resume-next.new.self = record { proceeds = e.proceeds; joins = e.joins; order = e.order; ends = e.ends; tries = e.tries; snapshot = e.snapshot; log = e.log; asks = e.asks; settled = e.settled } in
     let m = stepping c.requires.sound (sym c.in-Waits.ensures.value) c.apply-seen.ensures.found c.apply-seen.ensures.cells c.apply-seen.ensures.fit resumed e.count in
@@ -61,19 +59,3 @@ returns-in-Waits-clause-stepped g c =
       goes_on = step_on m c.replace.new.dest ready c.proceed.new.recorded last done;
       falls = step_falls m c.replace.new.dest ready c.proceed.new.recorded last done;
     }
-
-pub returns-in-Waits-clause-tracks : goal.returns-in-Waits-clause-tracks
-returns-in-Waits-clause-tracks g c z max_commits p0 base arena t =
-    stepped g.P.Player g.met.P.Player.laws max_commits p0 base arena c.args.memory.now c.args.recorded.now c.args.self.now c.requires.sound
-    c.in-Waits.call c.in-Waits.step (sym c.in-Waits.ensures.value) c.apply-seen.result c.apply-seen.ensures.found c.apply-seen.new.self c.apply-seen.ensures.cells c.apply-seen.ensures.fit
-    c.resume-next.new.self c.resume-next.ensures.joins c.resume-next.ensures.settled c.resume-next.ensures.count
-    c.resume-next.result c.resume-next.ensures.proceeds c.replace.new.dest c.replace.ensures.after c.proceed.new.recorded c.proceed.new.self
-    (c.proceed.ensures.done c.args.self.now.engine.is_open (step_due g.P.Player c.args.memory.now c.args.recorded.now c.args.self.now c.requires.sound
-    c.in-Waits.call c.in-Waits.step (sym c.in-Waits.ensures.value) c.apply-seen.result c.apply-seen.ensures.found c.apply-seen.new.self c.apply-seen.ensures.cells c.apply-seen.ensures.fit
-    c.resume-next.new.self c.resume-next.ensures.joins c.resume-next.ensures.settled c.resume-next.ensures.count
-    c.resume-next.result c.resume-next.ensures.proceeds c.replace.new.dest c.replace.ensures.after))
-    (c.proceed.ensures.tells c.args.self.now.engine.is_open (step_due g.P.Player c.args.memory.now c.args.recorded.now c.args.self.now c.requires.sound
-    c.in-Waits.call c.in-Waits.step (sym c.in-Waits.ensures.value) c.apply-seen.result c.apply-seen.ensures.found c.apply-seen.new.self c.apply-seen.ensures.cells c.apply-seen.ensures.fit
-    c.resume-next.new.self c.resume-next.ensures.joins c.resume-next.ensures.settled c.resume-next.ensures.count
-    c.resume-next.result c.resume-next.ensures.proceeds c.replace.new.dest c.replace.ensures.after))
-    c.follow.new.recorded c.follow.ensures.told z t

@@ -1,14 +1,9 @@
-use Rattle.std.proofs.Common.{◌≡◌}
 use Rattle.norec_world.specs.Moments.{HasWorked}
 use Rattle.norec_world.specs.Sound.{whole, work_left}
-use Rattle.norec_world.specs.Tracks.{StillTracks}
 use Rattle.norec_world.proofs.actor.Actor.work.Given as goal
 
 abbrev pub invariant-loop-self : goal.invariant-loop-self
-invariant-loop-self g l = record {
-  worked : HasWorked g.P.Player l.memory l.initial.recorded l.initial.self l.recorded l.self;
-  tracks : l.initial.self.thread ≡ 0 → StillTracks g.P.Player l.memory l.initial.recorded l.initial.self l.memory l.recorded l.self;
-}
+invariant-loop-self g l = HasWorked g.P.Player l.memory l.initial.recorded l.initial.self l.recorded l.self
 
 abbrev pub decreases-loop-self : goal.decreases-loop-self
 decreases-loop-self g l = work_left g.P.Player (whole g.P.Player l.initial.self.engine.is_open l.initial.self.player) l.self

@@ -1,8 +1,9 @@
 use Rattle.std.proofs.Common.{subst}
 use Rattle.norec_world.specs.Views.{world_of}
 use Rattle.norec_world.specs.Opaque.{AreOpaque}
+use Rattle.norec_world.proofs.ShownAlone.{shows_alone}
 use Rattle.norec_world.proofs.RunOthers.{world_opaque}
-use Rattle.norec_world.specs.World.{World}
+use Rattle.norec_world.specs.World.{World, ShowsAlone}
 use Rattle.norec_world.specs.Rows.{AreOpen}
 use Rattle.norec_world.proofs.SoundOthers.{are_open}
 use Rattle.norec_world.proofs.world.World.attempts.Goals as goal
@@ -16,3 +17,7 @@ pub returns-clause-opaque : goal.returns-clause-opaque
 returns-clause-opaque g c =
     subst (AreOpaque g.P.Player) c.self.view_is
     (world_opaque g.P.Player g.met.P.Player.laws (world_of c.self.inside) c.self.invariant)
+
+pub returns-clause-alone : goal.returns-clause-alone
+returns-clause-alone g c =
+    subst (ShowsAlone g.P.Player) c.self.view_is (shows_alone g.P.Player g.met.P.Player.laws (world_of c.self.inside) c.self.invariant)

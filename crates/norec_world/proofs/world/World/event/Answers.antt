@@ -7,7 +7,7 @@ use Rattle.norec_world.specs.Sound.{HasLess}
 use Rattle.norec_world.specs.World.{World, ending_at, told, waits_at}
 use Rattle.norec_world.specs.WorldEvents.{Goes}
 use Rattle.norec_world.specs.Views.{world_of}
-use Rattle.norec_world.proofs.Worlds.{got_at, within_some, waiting_some, place_is, place_alone}
+use Rattle.norec_world.proofs.Worlds.{got_at, within_some, waiting_some}
 use Rattle.norec_world.proofs.LessLeft.{event_less}
 use Rattle.norec_world.proofs.EventWorlds.{goes_after, world_after}
 use Rattle.norec_world.proofs.world.World.event.Goals as goal
@@ -31,18 +31,10 @@ step-requires-clause-waits g c =
 pub invariant_of-self : goal.invariant_of-self
 invariant_of-self g c =
     let actors = c.self.inside.actors.items in
-    let within : c.args.actor < length actors = within_some (λ (a : Actor g.row.P.Denot). waiting_step a.status) actors c.args.actor (subst (λ (w : World g.row.P.Denot). IsSome (waits_at w c.args.actor)) (sym c.self.view_is) c.requires) in
-    let got = c.index_mut-a.result.now in
-    let here : slice_get actors c.args.actor ≡ Some got = got_at actors c.args.actor got within c.index_mut-a.ensures.value in
-    world_after g.met.P.Player.laws (world_of c.self.inside) c.self.invariant c.args.actor got here c.step.ensures.stepped c.work.ensures.worked c.work.ensures.done c.saturating_add-self-inside.result
-    (λ one.
-    (let alone = c.self.invariant.alone one in
-    let mine = (c.self.invariant.actors.each c.args.actor got here).thread in
-    let zero : got.thread ≡ 0 = mine ∙ place_is g.P.Player c.self.inside.memory c.step.new.memory c.self.inside.recorded c.work.new.recorded actors
-    c.self.inside.opening.items c.self.inside.base c.self.inside.terms.arena c.self.inside.terms.limits.max_commits alone c.args.actor within got here in
-    place_alone g.P.Player c.self.inside.memory c.step.new.memory c.self.inside.recorded c.work.new.recorded actors
-    c.self.inside.opening.items c.self.inside.base c.self.inside.terms.arena c.self.inside.terms.limits.max_commits alone c.args.actor within got here c.work.new.self
-    (λ max_commits p0 base arena t. c.work.ensures.tracks (c.step.ensures.stepped.others.thread ∙ zero) max_commits p0 base arena (c.step.ensures.tracks zero max_commits p0 base arena t))))
+    let waits : IsSome (waits_at (world_of c.self.inside) c.args.actor) = subst (λ (w : World g.row.P.Denot). IsSome (waits_at w c.args.actor)) (sym c.self.view_is) c.requires in
+    let within : c.args.actor < length actors = within_some (λ (a : Actor g.row.P.Denot). waiting_step a.status) actors c.args.actor waits in
+    let here : slice_get actors c.args.actor ≡ Some c.index_mut-a.result.now = got_at actors c.args.actor c.index_mut-a.result.now within c.index_mut-a.ensures.value in
+    world_after g.met.P.Player.laws (world_of c.self.inside) c.self.invariant c.args.actor c.index_mut-a.result.now here c.step.ensures c.work.ensures.worked c.work.ensures.done waits c.saturating_add-self-inside.result
 
 pub returns-clause-goes : goal.returns-clause-goes
 returns-clause-goes g c =
@@ -50,11 +42,10 @@ returns-clause-goes g c =
     let old : World g.row.P.Denot = world_of c.self.inside in
     let waits : IsSome (waits_at old c.args.actor) = subst (λ (w : World g.row.P.Denot). IsSome (waits_at w c.args.actor)) (sym c.self.view_is) c.requires in
     let within : c.args.actor < length actors = within_some (λ (x : Actor g.row.P.Denot). waiting_step x.status) actors c.args.actor waits in
-    let got = c.index_mut-a.result.now in
-    let here : slice_get actors c.args.actor ≡ Some got = got_at actors c.args.actor got within c.index_mut-a.ensures.value in
+    let here : slice_get actors c.args.actor ≡ Some c.index_mut-a.result.now = got_at actors c.args.actor c.index_mut-a.result.now within c.index_mut-a.ensures.value in
     let new : World g.row.P.Denot = record old { cells = c.step.new.memory; actors = slice_set actors c.args.actor c.work.new.self; attempts = c.work.new.recorded; events = c.saturating_add-self-inside.result } in
     subst (λ (w : World g.row.P.Denot). Goes g.P.Player c.args.actor w (told (ending_at new c.args.actor)) new) c.self.view_is
-    (goes_after g.met.P.Player.laws old c.self.invariant c.args.actor got here c.step.ensures.stepped c.work.ensures.worked c.work.ensures.done c.saturating_add-self-inside.result (invariant_of-self g c) waits c.saturating_add-self-inside.ensures)
+    (goes_after g.met.P.Player.laws old c.self.invariant c.args.actor c.index_mut-a.result.now here c.step.ensures c.work.ensures.worked c.work.ensures.done waits c.saturating_add-self-inside.result c.saturating_add-self-inside.ensures)
 
 pub returns-clause-less : goal.returns-clause-less
 returns-clause-less g c a b is is' =
@@ -69,5 +60,5 @@ returns-clause-less g c a b is is' =
     let waiting : is_waiting got.status ≡ true = waiting_some got.status (subst IsSome (ap (option_and_then (λ (x : Actor g.row.P.Denot). waiting_step x.status)) here) waits) in
     subst (λ (x : Actor g.row.P.Denot). HasLess g.P.Player c.waits-goes_on.result x b) first
     (subst (λ (x : Actor g.row.P.Denot). HasLess g.P.Player c.waits-goes_on.result got x) last
-    (event_less g.P.Player got c.step.new.self c.work.new.self waiting c.step.ensures.stepped.goes_on c.step.ensures.stepped.falls (λ e. (c.work.ensures.worked.still e).0) c.work.ensures.worked.less
+    (event_less g.P.Player got c.step.new.self c.work.new.self waiting c.step.ensures.goes_on c.step.ensures.falls (λ e. (c.work.ensures.worked.still e).0) c.work.ensures.worked.less
     c.waits-goes_on.result (sym c.waits-goes_on.ensures)))

@@ -6,20 +6,19 @@ use Rattle.norec_world.specs.Status.{is_waiting, waiting_step}
 use Rattle.norec_world.specs.World.{told}
 use Rattle.norec_world.specs.WorldEvents.{Goes}
 use Rattle.norec_world.proofs.Worlds.{some_waiting}
-use Rattle.norec_world.proofs.Ends.{shows_alone}
 use Rattle.norec_world.proofs.Refusals.{mapped_none, mapped_some, goes_nowhere, goes_no_more}
 use Rattle.norec_world.proofs.world.World.go.Goals as goal
 
 pub returns-in-None-clause-goes : goal.returns-in-None-clause-goes
 returns-in-None-clause-goes g c =
-    goes_nowhere g.P.Player c.args.self.now c.args.actor (shows_alone g.P.Player c.args.self.now c.waits.ensures.alone)
+    goes_nowhere g.P.Player c.args.self.now c.args.actor c.waits.ensures.alone
     c.waits.ensures.commits c.waits.ensures.opaque
     (mapped_none (λ (a : Actor g.row.P.Denot). is_waiting a.status) (slice_get c.args.self.now.actors c.args.actor) (sym c.in-None.is ∙ c.waits.ensures.value))
 
 pub returns-in-Some-false-clause-goes : goal.returns-in-Some-false-clause-goes
 returns-in-Some-false-clause-goes g c =
     let found = mapped_some (λ (a : Actor g.row.P.Denot). is_waiting a.status) (slice_get c.args.self.now.actors c.args.actor) c.in-Some-false.field-0 (sym c.in-Some-false.is ∙ c.waits.ensures.value) in
-    goes_no_more g.P.Player c.args.self.now c.args.actor (shows_alone g.P.Player c.args.self.now c.waits.ensures.alone)
+    goes_no_more g.P.Player c.args.self.now c.args.actor c.waits.ensures.alone
     c.waits.ensures.commits c.waits.ensures.opaque
     found.0 found.1 (found.2 ∙ c.in-Some-false.field-0-test) (c.waits.ensures.sound.each c.args.actor found.0 found.1).done
 

@@ -1,6 +1,7 @@
-use Rattle.std.proofs.Common.{rules, ◌≡◌, ◌/◌, ℕ, length, replicate, List, slice_get, sym, ap, subst, ◌∙◌}
+use Rattle.std.proofs.Common.{rules, arith, ◌≡◌, ◌/◌, ℕ, length, replicate, List, slice_get, sym, ap, subst, ◌∙◌}
 use Rattle.norec_engine.specs.Core.{opening}
 use Rattle.norec_world.specs.Starts.{HasStarted}
+use Rattle.norec_world.specs.World.{World}
 use Rattle.norec_world.specs.Tries.{IsBetween}
 use Rattle.itm_types.specs.Memory.{bytes_of}
 use Rattle.norec_world.specs.Cells.{words_of}
@@ -10,26 +11,32 @@ use Rattle.norec_world.specs.Runs.{RunsFrom}
 use Rattle.norec_world.specs.Opaque.{first_of}
 use Rattle.norec_world.proofs.RunOthers.{laid_first, world_opaque}
 use Rattle.norec_world.proofs.CommitCounts.{commits_first}
+use Rattle.norec_world.proofs.SoleEvents.{sole_first}
+use Rattle.norec_world.proofs.SoundOthers.{there_is}
 use Rattle.norec_world.proofs.world.World.new.Goals as goal
 
 pub invariant_of-result : goal.invariant_of-result
-invariant_of-result g c = record {
-  actors = search rules;
-  long = search rules;
-  alone = search rules;
-  commits = commits_first g.P.Player _
-      c.in_ok-actors.ensures.sound c.new-memory.ensures.clock c.in_ok-actors.ensures.none.0 c.in_ok-actors.ensures.first;
-  running = record {
-    laid = laid_first c.new-base.result c.new-memory.result c.start_all.new.recorded (search rules) c.new-memory.ensures.fit c.new-memory.ensures.clock c.in_ok-actors.ensures.none.0;
-    ordered = subst (AreFrom 0) (sym c.in_ok-actors.ensures.none.1) tt;
-    threads = subst (AreOfActors (length c.in_ok-actors.actors.items)) (sym c.in_ok-actors.ensures.none.0) tt;
-    each = λ place p a e f.
-        (let based : c.new-base.result ≡ bytes_of c.new-memory.result.words = search rules in
-        let players : c.in_ok-opening.opening.items ≡ c.args.players.items = search rules in
-        subst (λ (base : List ℕ). RunsFrom g.P.Player (first_of p c.args.setup.arena) base c.new-memory.result c.start_all.new.recorded a) (sym based)
-        (c.in_ok-actors.ensures.runs place p a (ap (λ (xs : List g.row.P.Denot). slice_get xs place) (sym players) ∙ e) f));
-  };
-}
+invariant_of-result g c = let w : World g.row.P.Denot = record { opening = c.in_ok-opening.opening.items; base = c.new-base.result; arena = c.args.setup.arena; patience = c.args.setup.limits.patience; max_commits = c.args.setup.limits.max_commits; retries = c.args.setup.retries; cells = c.new-memory.result; actors = c.in_ok-actors.actors.items; attempts = c.start_all.new.recorded; events = 0 } in
+    let commits = commits_first g.P.Player w c.in_ok-actors.ensures.sound c.new-memory.ensures.clock c.in_ok-actors.ensures.none.0 c.in_ok-actors.ensures.first in record {
+      actors = search rules;
+      long = search rules;
+      sole = λ one a e.
+          (let players : c.in_ok-opening.opening.items ≡ c.args.players.items = search rules in
+          let player = there_is c.in_ok-opening.opening.items 0 (omega (arith, one)) in
+          sole_first g.P.Player w c.in_ok-actors.ensures.sound commits c.new-memory.ensures.clock c.in_ok-actors.ensures.none.0 a e (c.in_ok-actors.ensures.first 0 a e).between
+          (c.in_ok-actors.ensures.starts 0 player.0 a (ap (λ (xs : List g.row.P.Denot). slice_get xs 0) (sym players) ∙ player.1) e).finishes);
+      commits = commits;
+      running = record {
+        laid = laid_first c.new-base.result c.new-memory.result c.start_all.new.recorded (search rules) c.new-memory.ensures.fit c.new-memory.ensures.clock c.in_ok-actors.ensures.none.0;
+        ordered = subst (AreFrom 0) (sym c.in_ok-actors.ensures.none.1) tt;
+        threads = subst (AreOfActors (length c.in_ok-actors.actors.items)) (sym c.in_ok-actors.ensures.none.0) tt;
+        each = λ place p a e f.
+            (let based : c.new-base.result ≡ bytes_of c.new-memory.result.words = search rules in
+            let players : c.in_ok-opening.opening.items ≡ c.args.players.items = search rules in
+            subst (λ (base : List ℕ). RunsFrom g.P.Player (first_of p c.args.setup.arena) base c.new-memory.result c.start_all.new.recorded a) (sym based)
+            (c.in_ok-actors.ensures.runs place p a (ap (λ (xs : List g.row.P.Denot). slice_get xs place) (sym players) ∙ e) f));
+      };
+    }
 
 pub returns-clause-first : goal.returns-clause-first
 returns-clause-first g c place a e = subst (λ (n : ℕ). IsBetween n 1 c.start_all.new.recorded a) c.new-memory.ensures.clock (c.in_ok-actors.ensures.first place a e).between

@@ -1,0 +1,304 @@
+-- What a world with one actor shows is what its player does alone.
+use Rattle.std.proofs.Common.{◌≡◌, ◌⊎◌, inl, inr, ℕ, zero, suc, ◌/◌, ◌%◌, ◌≤◌, Bool, true, false, nat_le, if◌then◌else◌, List, [], ◌∷◌, ◌++◌, length, map, replicate, Option, None, Some, slice_get, refl, sym, ap, subst, ◌∙◌, arith}
+use Rattle.std.proofs.lemmas.List.{append-nil, map-append}
+use Rattle.std.proofs.lemmas.Bool.{and_from, le-leb}
+use Rattle.std.specs.Option.{option_and_then}
+use Rattle.itm_types.specs.declared.call.Call.{Call}
+use Rattle.itm_types.specs.declared.call.Call.TheVariants.{Commit}
+use Rattle.itm_types.specs.declared.call.Reply.{Reply}
+use Rattle.itm_types.specs.declared.call.Reply.TheVariants.{Done}
+use Rattle.itm_model.specs.declared.limits.TheConstants.{MAX_DEPTH}
+use Rattle.itm_model.specs.State.{State}
+use Rattle.itm_model.specs.Machine.{opened, is_open, after}
+use Rattle.itm_model.specs.Runs.{answers, answers_within}
+use Rattle.norec_world.specs.declared.attempt.Entry.{Entry}
+use Rattle.norec_world.specs.declared.attempt.Attempt.{Attempt}
+use Rattle.norec_world.specs.declared.attempt.Outcome.{Outcome}
+use Rattle.norec_world.specs.declared.attempt.Outcome.TheVariants as outcomes
+use Rattle.norec_world.specs.declared.attempt.End.{End}
+use Rattle.norec_world.specs.declared.attempt.End.TheVariants.{Finished, GaveUp, NoMemory}
+use Rattle.norec_world.specs.declared.actor.Actor.{Actor}
+use Rattle.norec_world.specs.Alone.{state_then, player_then, IsAlone}
+use Rattle.norec_world.specs.Attempts.{pair_of, alone, of_thread, committed_at}
+use Rattle.norec_world.specs.Invariant.{IsWorld}
+use Rattle.norec_world.specs.Memories.{bytes_at}
+use Rattle.norec_world.specs.Opacity.{Between, EndsAs, begin_code, begin_of, begin_within, IsRunOf}
+use Rattle.norec_world.specs.Opaque.{first_of, AreOpaque}
+use Rattle.norec_world.specs.Rows.{AreOfActors, AreUnfinished, active_of}
+use Rattle.norec_world.specs.Runs.{IsBeforeTry, IsInTry, run_after}
+use Rattle.norec_world.specs.Solo.{row_of, with_all, with_first, stopped, solo_within}
+use Rattle.norec_world.specs.SoFar.{IsBegun, IsSoFar, IsAll}
+use Rattle.norec_world.specs.Sole.{IsFirstTry, EndsWith, IsOnWay, StandsSole, IsSole}
+use Rattle.norec_world.specs.Sound.{HasRow}
+use Rattle.norec_world.specs.Status.{ending_of}
+use Rattle.norec_world.specs.Tries.{current_of}
+use Rattle.norec_world.specs.World.{World, DoneBy, ShowsAlone, attempts_of, memory_of, ending_at}
+use Rattle.norec_world.proofs.Alones.{begins_alone, state_snoc}
+use Rattle.norec_world.proofs.Memories.{bytes_still}
+use Rattle.norec_world.proofs.RunLists.{run_still}
+use Rattle.norec_world.proofs.RunOthers.{world_opaque, open_none, open_one, row_open}
+use Rattle.norec_world.proofs.SoleEvents.{of_thread_all, even_free, even_shut}
+use Rattle.norec_world.proofs.SoleRuns.{Arrives, IsNext, between, arrives, is_next, same_state, same_answers, same_row, made_alone}
+use Rattle.norec_world.proofs.Solos.{gets_none, full_block, open_block, no_block}
+use Rattle.norec_world.proofs.SoundOthers.{are_open}
+use Rattle.script_vm.specs.Rules.{Obeys, Rules}
+
+-- the list of one
+one_of : {A : Type 0} (xs : List A) → length xs ≡ 1 → (x : A) × (xs ≡ x ∷ [])
+one_of [] e = absurd (omega arith)
+one_of (x ∷ []) e = (x, refl)
+one_of (x ∷ y ∷ ys) e = absurd (omega arith)
+
+same_some : {A : Type 0} (x y : A) → Some x ≡ Some y → x ≡ y
+same_some x y e = cc
+
+of_actors_parts : (n : ℕ) (xs ys : List Attempt) → AreOfActors n (xs ++ ys) → AreOfActors n ys
+of_actors_parts n [] ys f = f
+of_actors_parts n (x ∷ xs) ys f = of_actors_parts n xs ys f.1
+
+module _ {P : Type 0} (rules : Rules P) (laws : Obeys rules) (w : World P) (kept : IsWorld rules w)
+    (p : P) (a : Actor P) (players : w.opening ≡ p ∷ []) (actors : w.actors ≡ a ∷ []) (sole : IsSole rules w.max_commits w.cells.clock w.attempts a) where
+  opaque : AreOpaque rules w
+  opaque = world_opaque rules laws w kept
+
+  -- it is the one actor
+  player_here : slice_get w.opening 0 ≡ Some p
+  player_here = ap (λ (l : List P). slice_get l 0) players
+
+  here : slice_get w.actors 0 ≡ Some a
+  here = ap (λ (l : List (Actor P)). slice_get l 0) actors
+
+  all_mine : AreOfActors 1 (attempts_of w)
+  all_mine = subst (λ (l : List (Actor P)). AreOfActors (length l) (attempts_of w)) actors opaque.threads
+
+  one : length w.actors ≡ 1
+  one = ap (λ (l : List (Actor P)). length l) actors
+
+  -- ## Its open attempt
+
+  own : a.thread ≡ 0
+  own = (kept.actors.each 0 a here).thread
+
+  open_rows : of_thread 0 w.attempts.active ≡ w.attempts.active
+  open_rows = of_thread_all w.attempts.active (of_actors_parts 1 w.attempts.ended w.attempts.active all_mine)
+
+  active_none : active_of a.thread w.attempts.active ≡ None → w.attempts.active ≡ []
+  active_none e = sym open_rows ∙ open_none 0 0 w.attempts.active kept.running.ordered (ap (λ (t : ℕ). active_of t w.attempts.active) (sym own) ∙ e)
+
+  active_one : (row : Attempt) → active_of a.thread w.attempts.active ≡ Some row → w.attempts.active ≡ row ∷ []
+  active_one row e = sym open_rows ∙ open_one 0 0 w.attempts.active row kept.running.ordered (ap (λ (t : ℕ). active_of t w.attempts.active) (sym own) ∙ e)
+
+  unfinished : (row : Attempt) → w.attempts.active ≡ row ∷ [] → row.outcome ≡ outcomes.Unfinished
+  unfinished row e = (subst AreUnfinished e (are_open rules w.cells w.attempts w.actors kept.actors kept.running.ordered).unfinished).0
+
+  -- ## The player's blocks that are over
+
+  abbrev Arrived : List Attempt → Type 0
+  Arrived tail = Arrives rules laws w.max_commits w.base (attempts_of w) (w.cells.clock / 2) (record { player = p; arena = replicate w.arena 0; memory = w.base; commits = 0 }) sole.past tail (w.cells.clock / 2)
+
+  abbrev So : ℕ → List ℕ → Outcome → Type 0
+  So commits memory outcome = IsSoFar rules w.max_commits 0 p w.base (replicate w.arena 0) commits memory outcome (attempts_of w)
+
+  abbrev All : End → Type 0
+  All end = IsAll rules w.max_commits 0 p w.base (replicate w.arena 0) w.cells (attempts_of w) end
+
+  arrived : (tail : List Attempt) → attempts_of w ≡ sole.past ++ tail → Arrived tail
+  arrived tail is =
+      arrives rules laws w.max_commits w.base (attempts_of w) (w.cells.clock / 2) (record { player = p; arena = replicate w.arena 0; memory = w.base; commits = 0 }) sole.past tail (w.cells.clock / 2) refl
+      (λ j l. ap (λ (xs : List Attempt). committed_at xs j) is)
+      (subst (IsRunOf rules MAX_DEPTH (w.cells.clock / 2) (bytes_at w.base (attempts_of w)) (Some (first_of p w.arena))) (of_thread_all (attempts_of w) all_mine ∙ is) (opaque.runs 0 p player_here))
+      sole.commit (let few = kept.commits.few in omega arith)
+
+  so_far : (tail : List Attempt) (x : Arrived tail) (outcome : Outcome) → (attempts_of w ≡ sole.past) ⊎ IsBegun rules w.max_commits 0 x.before sole.past outcome (attempts_of w) → So (w.cells.clock / 2) x.before.memory outcome
+  so_far tail x outcome rows = record { before = x.before; past = sole.past; whole = x.whole; commits_are = sym x.commits; memory_is = refl; rows_are = rows }
+
+  left_by : (tail : List Attempt) (x : Arrived tail) → w.cells.clock % 2 ≡ 0 → memory_of w ≡ x.before.memory
+  left_by tail x z = opaque.free z ∙ (ap (bytes_at w.base (attempts_of w)) (sym x.commits) ∙ sym x.memory)
+
+  -- the player goes no further
+  stops : (tail : List Attempt) (x : Arrived tail) (end : End) → solo_within rules MAX_DEPTH w.max_commits 0 (rules.calls_left x.before.player) x.before ≡ record { attempts = tail; memory = x.before.memory; commits = x.before.commits; ending = end }
+      → attempts_of w ≡ sole.past ++ tail → w.cells.clock % 2 ≡ 0 → All end
+  stops tail x end last is z = record {
+    all = x.whole ∙ (ap (with_all sole.past) last ∙ (λ i. record { attempts = sym is i; memory = sym (left_by tail x z) i; commits = x.commits i; ending = end }));
+    even = z;
+  }
+
+  abbrev place_now : Option (Between P)
+  place_now = run_after rules (bytes_at w.base w.attempts.ended) (Some (first_of p w.arena)) (of_thread a.thread w.attempts.ended)
+
+  -- what its attempts have led to is where its player stands
+  led : (tail : List Attempt) (x : Arrived tail) → w.attempts.ended ≡ sole.past
+      → place_now ≡ Some (between x.before)
+  led tail x ended =
+      let run = opaque.players 0 p a player_here here in
+      let top : w.cells.clock / 2 ≤ w.cells.clock / 2 = omega arith in
+      let rows : of_thread a.thread w.attempts.ended ≡ sole.past =
+      ap (λ (t : ℕ). of_thread t w.attempts.ended) own ∙ (of_thread_all w.attempts.ended (subst (λ (l : List (Actor P)). AreOfActors (length l) w.attempts.ended) actors kept.running.threads) ∙ ended) in
+      let still = run_still rules (w.cells.clock / 2) (w.cells.clock / 2) (bytes_at w.base w.attempts.ended) (bytes_at w.base (attempts_of w)) top
+      (λ k l. bytes_still w.base w.cells.clock w.attempts.ended kept.commits.counted w.attempts.active k l) (Some (first_of p w.arena)) (of_thread a.thread w.attempts.ended) run.run in
+      sym still.1 ∙ (ap (run_after rules (bytes_at w.base (attempts_of w)) (Some (first_of p w.arena))) rows ∙ x.led)
+
+  -- ## The last one
+
+  module _ (row : Attempt) (is : attempts_of w ≡ sole.past ++ row ∷ []) (first : IsFirstTry (w.cells.clock / 2) row) (x : Arrived (row ∷ [])) where
+    y : IsNext rules laws w.max_commits w.base (attempts_of w) (w.cells.clock / 2) x.before row
+    y = is_next rules laws w.max_commits w.base (attempts_of w) (w.cells.clock / 2) x.before row [] x.run
+
+    first_here : IsFirstTry x.before.commits row
+    first_here = subst (λ (n : ℕ). IsFirstTry n row) (sym x.commits) first
+
+    at_here : row.at ≡ x.before.commits
+    at_here = (let older = y.opaque.no_older in let newer = y.opaque.no_newer in let began = first.began in let n = x.commits in omega arith)
+
+    abbrev begun : P
+    begun = rules.answered y.start.player (begin_code false)
+
+    abbrev from : State
+    from = opened x.before.memory y.start.arena y.start.props
+
+    alone_here : IsAlone rules MAX_DEPTH begun from row.calls
+    alone_here = made_alone rules laws w.max_commits w.base (attempts_of w) (w.cells.clock / 2) x.before row y x.memory first_here at_here
+
+    state_here : alone MAX_DEPTH (bytes_at w.base (attempts_of w) row.at) row ≡ state_then MAX_DEPTH from row.calls
+    state_here = same_state rules laws w.max_commits w.base (attempts_of w) (w.cells.clock / 2) x.before row y x.memory first_here at_here
+
+    row_here : (outcome : Outcome) → outcome ≡ row.outcome → row_of 0 x.before y.start row.calls outcome ≡ row
+    row_here outcome o = same_row rules laws w.max_commits w.base (attempts_of w) (w.cells.clock / 2) x.before row y x.memory first_here at_here outcome o
+
+    begun_so : (outcome : Outcome) → row.outcome ≡ outcome → IsBegun rules w.max_commits 0 x.before sole.past outcome (attempts_of w)
+    begun_so outcome o = record { start = y.start; calls = row.calls; rows_are = is ∙ ap (λ (r : Attempt). sole.past ++ r ∷ []) (sym (row_here outcome (sym o))); begins = y.comes; alone = alone_here }
+
+    -- its player makes no more calls
+    rests_open : row.outcome ≡ outcomes.Unfinished → rules.next_call (player_then rules.answered begun row.calls) ≡ None → w.cells.clock % 2 ≡ 0 → All Finished
+    rests_open o none z =
+        let t : State = state_then MAX_DEPTH from row.calls in
+        let q : P = player_then rules.answered begun row.calls in
+        let gets : answers rules.next_call rules.answered rules.calls_left MAX_DEPTH begun x.before.memory y.start.arena y.start.props ≡ map pair_of row.calls =
+        begins_alone rules laws MAX_DEPTH (rules.calls_left begun) begun from row.calls (let l : rules.calls_left begun ≤ rules.calls_left begun = omega arith in l) alone_here
+        ∙ (ap (λ (k : Option Call). map pair_of row.calls ++ answers_within rules.next_call rules.answered rules.calls_left MAX_DEPTH (rules.calls_left begun) q t k) (no_turn (is_open t) (rules.next_call q) none)
+        ∙ (ap (λ (l : List (Call × Reply)). map pair_of row.calls ++ l) (gets_none rules laws MAX_DEPTH 0 0 (rules.calls_left begun) q t) ∙ append-nil (map pair_of row.calls))) in
+        let open_then : is_open t ≡ true = ap is_open (sym state_here) ∙ subst (λ (k : Outcome). EndsAs k (alone MAX_DEPTH (bytes_at w.base (attempts_of w) row.at) row)) o y.opaque.ends in
+        stops (row ∷ []) x Finished
+        (open_block rules laws MAX_DEPTH w.max_commits 0 x.before y.start row.calls y.comes gets open_then
+        ∙ ap (λ (r : Attempt). with_first r (stopped rules MAX_DEPTH w.max_commits 0 x.before Finished)) (row_here outcomes.Unfinished (sym o))) is z
+      where
+        no_turn : (b : Bool) (k : Option Call) → k ≡ None → (if b then k else None) ≡ None
+        no_turn true k e = e
+        no_turn false k e = refl
+
+    -- its commit was refused as full
+    refused : row.outcome ≡ outcomes.Full → w.max_commits ≤ w.cells.clock / 2 → w.cells.clock % 2 ≡ 0 → All GaveUp
+    refused o full z =
+        let last : Entry = record { call = Commit; reply = Done } in
+        let lacks = y.opaque.full o in
+        let state : after MAX_DEPTH (alone MAX_DEPTH (bytes_at w.base (attempts_of w) row.at) row) Commit ≡ state_then MAX_DEPTH from (row.calls ++ last ∷ []) =
+        ap (λ (s : State). after MAX_DEPTH s Commit) state_here ∙ sym (state_snoc MAX_DEPTH from row.calls last) in
+        let gets : answers rules.next_call rules.answered rules.calls_left MAX_DEPTH begun x.before.memory y.start.arena y.start.props ≡ map pair_of (row.calls ++ last ∷ []) =
+        sym (same_answers rules laws w.max_commits w.base (attempts_of w) (w.cells.clock / 2) x.before row y x.memory first_here at_here) ∙ (lacks.0 ∙ sym (map-append pair_of row.calls (last ∷ []))) in
+        let n = x.commits in
+        stops (row ∷ []) x GaveUp
+        (full_block rules laws MAX_DEPTH w.max_commits 0 x.before y.start (row.calls ++ last ∷ []) y.comes gets row.calls last refl (ap is_open (sym state) ∙ lacks.1.0)
+        (and_from (state_then MAX_DEPTH from (row.calls ++ last ∷ [])).wrote (nat_le w.max_commits x.before.commits) (ap (λ (s : State). s.wrote) (sym state) ∙ lacks.1.1) (le-leb w.max_commits x.before.commits (omega arith)))
+        ∙ ap (λ (r : Attempt). with_first r (stopped rules MAX_DEPTH w.max_commits 0 x.before GaveUp)) (row_here outcomes.Full (sym o))) is z
+
+    -- its player stands where its calls have led it
+    stands_at : (b : Between P) (r : Attempt) → IsInTry rules b r a.player a.engine → place_now ≡ Some b → w.attempts.ended ≡ sole.past → r ≡ row → a.player ≡ player_then rules.answered begun row.calls
+    stands_at b r t led_to ended same =
+        let place : b ≡ between x.before = same_some b (between x.before) (sym led_to ∙ led (row ∷ []) x ended) in
+        let start : t.start ≡ y.start = same_some t.start y.start (sym t.begins ∙ (ap (λ (b : Between P). begin_of rules MAX_DEPTH b.player b.arena) place ∙ y.comes)) in
+        t.player ∙ (λ i. player_then rules.answered (rules.answered (start i).player (begin_code (place i).again)) (same i).calls)
+
+    stands_so : w.attempts.ended ≡ sole.past → active_of a.thread w.attempts.active ≡ Some row → a.player ≡ player_then rules.answered begun row.calls
+    stands_so ended some =
+        let t = (opaque.players 0 p a player_here here).inside (row_open a.engine.is_open w.attempts a.thread row (kept.actors.each 0 a here).sound.kept.row some) in
+        stands_at t.0 t.1 t.4 t.2 ended (same_some t.1 row (sym t.3 ∙ some))
+
+  -- ## By how it stands
+
+  none_comes : (b : Between P) (x : Arrived []) → IsBeforeTry rules (w.cells.clock / 2) b a → place_now ≡ Some b → w.attempts.ended ≡ sole.past → rules.next_call a.player ≡ None → begin_of rules MAX_DEPTH x.before.player x.before.arena ≡ None
+  none_comes b x t led_to ended none =
+      let place : b ≡ between x.before = same_some b (between x.before) (sym led_to ∙ led [] x ended) in
+      ap (λ (b : Between P). begin_of rules MAX_DEPTH b.player b.arena) (sym place)
+      ∙ (t.leads ∙ (ap (begin_within rules MAX_DEPTH (rules.calls_left a.player) a.player b.arena) none ∙ no_call (rules.calls_left a.player) b.arena))
+    where
+      no_call : (k : ℕ) (arena : List ℕ) → begin_within rules MAX_DEPTH k a.player arena None ≡ None
+      no_call zero arena = refl
+      no_call (suc k) arena = refl
+
+  -- between two blocks its player makes no more calls
+  rests : (x : Arrived []) → attempts_of w ≡ sole.past ++ [] → w.attempts.ended ≡ sole.past → ending_of a.status ≡ Some Finished → active_of a.thread w.attempts.active ≡ None → rules.next_call a.player ≡ None → w.cells.clock % 2 ≡ 0 → All Finished
+  rests x is ended finished shut none z =
+      let t = (opaque.players 0 p a player_here here).between (closed a.engine.is_open (kept.actors.each 0 a here).sound.kept.row) (λ e. absurd (let both = sym finished ∙ e in cc)) (λ e. absurd (let both = sym finished ∙ e in cc)) in
+      stops [] x Finished (no_block rules laws MAX_DEPTH w.max_commits 0 x.before (none_comes t.0 x t.2 t.1 ended none)) is z
+    where
+      closed : (b : Bool) → HasRow b w.attempts a.thread → b ≡ false
+      closed true row = absurd (let z : None ≡ Some row.0 = sym shut ∙ row.1 in cc)
+      closed false row = refl
+
+  module _ (ended : w.attempts.ended ≡ sole.past) where
+    is_none : active_of a.thread w.attempts.active ≡ None → attempts_of w ≡ sole.past ++ []
+    is_none e = λ i. ended i ++ active_none e i
+
+    is_some_row : (row : Attempt) → active_of a.thread w.attempts.active ≡ Some row → attempts_of w ≡ sole.past ++ row ∷ []
+    is_some_row row e = λ i. ended i ++ active_one row e i
+
+    nothing_open : (outcome : Outcome) → active_of a.thread w.attempts.active ≡ None → (memory : List ℕ) × So (w.cells.clock / 2) memory outcome × (w.cells.clock % 2 ≡ 0 → memory_of w ≡ memory)
+    nothing_open outcome e = (let x = arrived [] (is_none e) in (x.before.memory, so_far [] x outcome (inl (is_none e ∙ append-nil sole.past)), left_by [] x))
+
+  some_over : (outcome : Outcome) (row : Attempt) (is : attempts_of w ≡ sole.past ++ row ∷ []) → IsFirstTry (w.cells.clock / 2) row → row.outcome ≡ outcome → (memory : List ℕ) × So (w.cells.clock / 2) memory outcome × (w.cells.clock % 2 ≡ 0 → memory_of w ≡ memory)
+  some_over outcome row is first o = (let x = arrived (row ∷ []) is in (x.before.memory, so_far (row ∷ []) x outcome (inr (begun_so row is first x outcome o)), left_by (row ∷ []) x))
+
+  going : IsOnWay rules w.max_commits sole.past (w.cells.clock / 2) w.attempts a → DoneBy rules w p None
+  going s = by_open (active_of a.thread w.attempts.active) refl
+    where
+      by_open : (o : Option Attempt) → active_of a.thread w.attempts.active ≡ o → DoneBy rules w p None
+      by_open None e = nothing_open s.ended outcomes.Unfinished e
+      by_open (Some row) e = some_over outcomes.Unfinished row (is_some_row s.ended row e) (s.current row (ap (λ (o : Option Attempt). current_of o a.pending) e)) (unfinished row (active_one row e))
+
+  finished : IsOnWay rules w.max_commits sole.past (w.cells.clock / 2) w.attempts a → ending_of a.status ≡ Some Finished → rules.next_call a.player ≡ None → a.engine.holds ≡ false → All Finished
+  finished s end none free = by_open (active_of a.thread w.attempts.active) refl
+    where
+      z : w.cells.clock % 2 ≡ 0
+      z = even_free w kept.commits one a here free
+
+      by_open : (o : Option Attempt) → active_of a.thread w.attempts.active ≡ o → All Finished
+      by_open None e = rests (arrived [] (is_none s.ended e)) (is_none s.ended e) s.ended end e none z
+      by_open (Some row) e =
+          let is = is_some_row s.ended row e in
+          let first = s.current row (ap (λ (o : Option Attempt). current_of o a.pending) e) in
+          let x = arrived (row ∷ []) is in
+          rests_open row is first x (unfinished row (active_one row e)) (ap rules.next_call (sym (stands_so row is first x s.ended e)) ∙ none) z
+
+  last_is : (outcome : Outcome) → active_of a.thread w.attempts.active ≡ None → (l : EndsWith sole.past (w.cells.clock / 2) outcome w.attempts) → attempts_of w ≡ sole.past ++ l.row ∷ []
+  last_is outcome none l = (λ i. l.ended i ++ active_none none i) ∙ append-nil (sole.past ++ l.row ∷ [])
+
+  starved : (outcome : Outcome) → w.cells.clock % 2 ≡ 0 → (memory : List ℕ) × So (w.cells.clock / 2) memory outcome × (w.cells.clock % 2 ≡ 0 → memory_of w ≡ memory) → (w.cells.clock % 2 ≡ 0) × So (w.cells.clock / 2) (memory_of w) outcome
+  starved outcome z (memory, part, told) = (z, subst (λ (m : List ℕ). So (w.cells.clock / 2) m outcome) (sym (told z)) part)
+
+  done_by : (o : Option End) → ending_of a.status ≡ o → StandsSole rules w.max_commits o sole.past (w.cells.clock / 2) w.attempts a → DoneBy rules w p o
+  done_by None e s = going s
+  done_by (Some Finished) e s = finished s.0 e s.1 s.2
+  done_by (Some GaveUp) e s =
+      let is = last_is outcomes.Full s.0 s.2 in
+      refused s.2.row is s.2.first (arrived (s.2.row ∷ []) is) s.2.outcome_is s.1 (even_shut rules w kept.actors kept.commits one a here s.0)
+  done_by (Some NoMemory) e s = starved outcomes.NoMemory (even_shut rules w kept.actors kept.commits one a here s.0) (elim s.1 [
+    | inl ended ↦ nothing_open ended outcomes.NoMemory s.0
+    | inr last ↦ some_over outcomes.NoMemory last.row (last_is outcomes.NoMemory s.0 last) last.first last.outcome_is
+  ])
+
+  done_so : DoneBy rules w p (ending_at w 0)
+  done_so =
+      let same : ending_of a.status ≡ ending_at w 0 = sym (ap (option_and_then (λ (x : Actor P). ending_of x.status)) here) in
+      subst (DoneBy rules w p) same (done_by (ending_of a.status) refl sole.stands)
+
+-- ## A world
+
+module _ {P : Type 0} (rules : Rules P) (laws : Obeys rules) where
+  pub shows_alone : (w : World P) → IsWorld rules w → ShowsAlone rules w
+  shows_alone w kept one =
+      let p = one_of w.opening one in
+      let a = one_of w.actors (kept.long ∙ one) in (
+        p.0,
+        p.1,
+        done_so rules laws w kept p.0 a.0 p.1 a.1 (kept.sole one a.0 (ap (λ (l : List (Actor P)). slice_get l 0) a.1)),
+      )

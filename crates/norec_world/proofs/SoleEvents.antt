@@ -1,0 +1,252 @@
+-- An actor that has its world to itself goes on so over an event.
+use Rattle.std.proofs.Common.{◌≡◌, inl, inr, ℕ, zero, suc, ◌+◌, ◌/◌, ◌%◌, ◌≤◌, Bool, true, false, nat_lt, if◌then◌else◌, List, [], ◌∷◌, ◌++◌, Option, None, Some, slice_get, slice_set, length, length-set, refl, sym, ap, subst, ◌∙◌, arith, eq-eqb}
+use Rattle.itm_model.specs.declared.limits.TheConstants.{MAX_DEPTH}
+use Rattle.norec_world.specs.declared.attempt.Attempt.{Attempt}
+use Rattle.norec_world.specs.declared.attempt.Outcome.{Outcome}
+use Rattle.norec_world.specs.declared.attempt.Outcome.TheVariants as outcomes
+use Rattle.norec_world.specs.declared.attempt.End.{End}
+use Rattle.norec_world.specs.declared.attempt.End.TheVariants.{Finished, GaveUp, NoMemory}
+use Rattle.norec_world.specs.declared.actor.Actor.{Actor}
+use Rattle.norec_world.specs.declared.actor.Status.{Status}
+use Rattle.norec_world.specs.declared.actor.Status.TheVariants.{Ready, Waits, Ended}
+use Rattle.norec_world.specs.Actors.{AreActors}
+use Rattle.norec_world.specs.Cells.{Cells}
+use Rattle.norec_world.specs.Commits.{CommitsInOrder}
+use Rattle.norec_world.specs.Events.{IsEvent}
+use Rattle.norec_world.specs.Invariant.{AreRunning, IsWorld}
+use Rattle.norec_world.specs.Memories.{bytes_at}
+use Rattle.norec_world.specs.Opaque.{first_of}
+use Rattle.norec_world.specs.Sound.{HasRow, StatusIs, IsSound}
+use Rattle.norec_world.specs.World.{World}
+use Rattle.norec_world.proofs.SoundOthers.{within_of, there_is}
+use Rattle.itm_types.proofs.Words.{slice_get-set_same}
+use Rattle.norec_world.specs.Attempts.{is_committed, of_thread}
+use Rattle.norec_world.specs.Opacity.{Beginning, Between, after_try, begin_of, IsTryAt, IsRunOf}
+use Rattle.norec_world.specs.Rows.{Rows, active_of, AreOfActors}
+use Rattle.norec_world.specs.Solo.{one_if}
+use Rattle.norec_world.specs.Sole.{IsFirstTry, AreSole, EndsWith, IsOnWay, StandsSole, IsSole}
+use Rattle.norec_world.specs.Status.{ending_of, is_ready}
+use Rattle.norec_world.specs.Tries.{Continues, EndsAt, GoesOnAfter, TriesAgain, IsBetween, EndsIt, Tries, between, begins, runs, over, turned_away, prior_of, current_of, is_done}
+use Rattle.script_vm.specs.Rules.{Rules}
+
+-- ## Lists of attempts
+
+-- of the attempts of one actor none is another's
+pub of_thread_all : (xs : List Attempt) → AreOfActors 1 xs → of_thread 0 xs ≡ xs
+of_thread_all [] f = refl
+of_thread_all (x ∷ xs) f = (λ i. if eq-eqb x.thread 0 (let own = f.0 in let zero : x.thread ≡ 0 = omega arith in zero) i then x ∷ of_thread 0 xs else of_thread 0 xs) ∙ ap (λ (l : List Attempt). x ∷ l) (of_thread_all xs f.1)
+
+-- one attempt more
+sole_more : (n k : ℕ) (xs : List Attempt) (a : Attempt) → AreSole n xs k → IsFirstTry k a → a.at ≡ k → is_done a.outcome ≡ true → AreSole n (xs ++ a ∷ []) (k + one_if (is_committed a.outcome))
+sole_more n k [] a s f at d = (subst (λ (j : ℕ). IsFirstTry j a) (sym s) f, at ∙ sym s, d, ap (λ (j : ℕ). j + one_if (is_committed a.outcome)) s)
+sole_more n k (x ∷ xs) a s f at d = (s.0, s.1, s.2, sole_more (n + one_if (is_committed x.outcome)) k xs a s.3 f at d)
+
+-- the last attempt of a run did not begin after it read last
+module _ {P : Type 0} (rules : Rules P) (n : ℕ) (memory : ℕ → List ℕ) where
+  pub last_early : (b : Option (Between P)) (xs : List Attempt) (a : Attempt) → IsRunOf rules MAX_DEPTH n memory b (xs ++ a ∷ []) → a.began ≤ a.at
+  last_early None [] a r = absurd r
+  last_early (Some b) [] a r = by_begin (begin_of rules MAX_DEPTH b.player b.arena) r.0
+    where
+      by_begin : (o : Option (Beginning P)) → IsTryAt rules MAX_DEPTH n memory b o a → a.began ≤ a.at
+      by_begin None t = absurd t
+      by_begin (Some start) t = t.3.no_older
+  last_early None (x ∷ xs) a r = absurd r
+  last_early (Some b) (x ∷ xs) a r = last_early (after_try rules MAX_DEPTH memory b (begin_of rules MAX_DEPTH b.player b.arena) x) xs a r.1
+
+-- ## The clock
+
+false_of : (b : Bool) → (b ≡ true → ⊥) → b ≡ false
+false_of true h = absurd (h refl)
+false_of false h = refl
+
+-- it is odd only while the one actor holds it
+pub even_free : {P : Type 0} (w : World P) → CommitsInOrder w → length w.actors ≡ 1 → (a : Actor P) → slice_get w.actors 0 ≡ Some a → a.engine.holds ≡ false → w.cells.clock % 2 ≡ 0
+even_free {P} w c one a here free = by_rest (w.cells.clock % 2) refl
+  where
+    by_rest : (k : ℕ) → w.cells.clock % 2 ≡ k → w.cells.clock % 2 ≡ 0
+    by_rest zero k = k
+    by_rest (suc zero) k =
+        let h = c.held k in
+        let l = within_of w.actors h.0 h.1 h.2 in
+        let first : h.0 ≡ 0 = omega arith in
+        let same : a ≡ h.1 = (let z : Some a ≡ Some h.1 = sym here ∙ (ap (slice_get w.actors) (sym first) ∙ h.2) in cc) in
+        absurd (let z : true ≡ false = sym h.3 ∙ (ap (λ (x : Actor P). x.engine.holds) (sym same) ∙ free) in cc)
+    by_rest (suc (suc n)) k = absurd (omega arith)
+
+module _ {P : Type 0} (rules : Rules P) where
+  pub even_shut : (w : World P) → AreActors rules w.cells w.attempts w.actors → CommitsInOrder w → length w.actors ≡ 1 → (a : Actor P) → slice_get w.actors 0 ≡ Some a → active_of a.thread w.attempts.active ≡ None → w.cells.clock % 2 ≡ 0
+  even_shut w actors c one a here none =
+      let s = (actors.each 0 a here).sound in
+      even_free w c one a here (false_of a.engine.holds (λ h.
+      (let row : HasRow true w.attempts a.thread = subst (λ (b : Bool). HasRow b w.attempts a.thread) (s.tied.settled.holder h).0 s.kept.row in
+      let z : None ≡ Some row.0 = sym none ∙ row.1 in cc)))
+
+-- ## The event
+
+module _ {P : Type 0} (rules : Rules P) (max_commits : ℕ) where
+  -- between two tries, its attempts so far have ended by their commits
+  pub stands_between : (clock : ℕ) (past : List Attempt) (r : Rows) (a : Actor P) → a.thread ≡ 0 → r.ended ≡ past → IsBetween clock 1 r a → (ending_of a.status ≡ Some Finished → (rules.next_call a.player ≡ None) × (a.engine.holds ≡ false))
+      → (o : Option End) → ending_of a.status ≡ o → StandsSole rules max_commits o past (clock / 2) r a
+  stands_between clock past r a mine ended b finishes = by_ending
+    where
+      on_way : IsOnWay rules max_commits past (clock / 2) r a
+      on_way = record {
+        ended = ended;
+        nth = b.tries;
+        current = λ row e.
+            (let is = b.opens row (ap (λ (o : Option Attempt). current_of o a.pending) (sym b.none) ∙ e) in
+            record { thread = ap (λ (x : Attempt). x.thread) is ∙ mine; nth = ap (λ (x : Attempt). x.nth) is; began = ap (λ (x : Attempt). x.began) is });
+      }
+
+      by_ending : (o : Option End) → ending_of a.status ≡ o → StandsSole rules max_commits o past (clock / 2) r a
+      by_ending None e = on_way
+      by_ending (Some Finished) e = (let f = finishes e in (on_way, f.0, f.1))
+      by_ending (Some GaveUp) e = absurd (b.goes_on e)
+      by_ending (Some NoMemory) e = (b.none, inl ended)
+
+  continued : (n : ℕ) (row row' : Attempt) → Continues row row' → IsFirstTry n row → IsFirstTry n row'
+  continued n row row' c f = record { thread = c.thread ∙ f.thread; nth = c.nth ∙ f.nth; began = c.began ∙ f.began }
+
+  module _ (clock clock' : ℕ) (r r' : Rows) (a a' : Actor P) (going : ending_of a.status ≡ None) (old : IsSole rules max_commits clock r a) (mine : a'.thread ≡ 0) (limit : a.engine.max_commits ≡ max_commits)
+      (shut : active_of a'.thread r'.active ≡ None → clock' % 2 ≡ 0) (early : (row : Attempt) → r'.ended ≡ r.ended ++ row ∷ [] → row.began ≤ row.at) (finishes : ending_of a'.status ≡ Some Finished → (rules.next_call a'.player ≡ None) × (a'.engine.holds ≡ false)) where
+    way : IsOnWay rules max_commits old.past (clock / 2) r a
+    way = subst (λ (o : Option End). StandsSole rules max_commits o old.past (clock / 2) r a) going old.stands
+
+    -- no attempt has ended
+    goes_on : clock' / 2 ≡ clock / 2 → StandsSole rules max_commits (ending_of a'.status) old.past (clock' / 2) r' a' → IsSole rules max_commits clock' r' a'
+    goes_on half s = record { past = old.past; commit = subst (AreSole 0 old.past) (sym half) old.commit; stands = s }
+
+    now : (n : ℕ) (row : Attempt) → clock' / 2 ≡ clock / 2 → IsFirstTry (clock / 2) row → IsFirstTry (clock' / 2) row
+    now n row half f = subst (λ (k : ℕ). IsFirstTry k row) (sym half) f
+
+    -- one has ended, and if not by its commit it was the last one
+    module _ (t : EndsIt clock (prior_of r a) clock' r' a') where
+      first : IsFirstTry (clock / 2) t.row'
+      first = continued (clock / 2) t.row t.row' t.continues (way.current t.row t.was)
+
+      later : clock / 2 ≤ t.row'.at
+      later = (let b = first.began in let e = early t.row' t.ended in omega arith)
+
+      ended : r'.ended ≡ old.past ++ t.row' ∷ []
+      ended = t.ended ∙ ap (λ (l : List Attempt). l ++ t.row' ∷ []) way.ended
+
+      by_commit : is_done t.row'.outcome ≡ true → t.row'.at ≡ clock / 2 → clock / 2 + one_if (is_committed t.row'.outcome) ≡ clock' / 2 → IsBetween clock' 1 r' a' → IsSole rules max_commits clock' r' a'
+      by_commit d at n b = record {
+        past = old.past ++ t.row' ∷ [];
+        commit = subst (AreSole 0 (old.past ++ t.row' ∷ [])) n (sole_more 0 (clock / 2) old.past t.row' old.commit first at d);
+        stands = stands_between clock' (old.past ++ t.row' ∷ []) r' a' mine ended b finishes (ending_of a'.status) refl;
+      }
+
+      again : (b : Bool) (nth : ℕ) → TriesAgain b clock' nth r' a' → active_of a'.thread r'.active ≡ None
+      again true nth h = h.none
+      again false nth h = h.none
+
+      last : (outcome : Outcome) → t.row'.outcome ≡ outcome → clock' / 2 ≡ clock / 2 → EndsWith old.past (clock' / 2) outcome r'
+      last outcome o half = record { row = t.row'; ended = ended; first = now 0 t.row' half first; outcome_is = o }
+
+      by_outcome : (o : Outcome) → t.row'.outcome ≡ o → EndsAt a.engine.max_commits clock clock' t.row'.at o → GoesOnAfter o clock' (prior_of r a) r' a' → IsSole rules max_commits clock' r' a'
+      by_outcome outcomes.Committed o at g =
+          let odd = at.0 in
+          let even = at.1 in
+          let one = ap (λ (x : Outcome). one_if (is_committed x)) o in
+          by_commit (ap is_done o) (omega arith) (omega arith) g
+      by_outcome outcomes.ReadOnly o at g =
+          let half = at.0 in
+          let reads = at.1 in
+          let l = later in
+          let none = ap (λ (x : Outcome). one_if (is_committed x)) o in
+          by_commit (ap is_done o) (omega arith) (omega arith) g
+      by_outcome outcomes.Conflict o at g =
+          let half = at.0 in
+          let reads = at.1 in
+          let l = later in
+          let even = shut (again (nat_lt a.retries a.nth) a.nth g) in
+          absurd (omega arith)
+      by_outcome outcomes.Full o at g =
+          let half = at.0 in
+          let reads = at.1 in
+          let full = at.2 in
+          goes_on half (subst (λ (x : Option End). StandsSole rules max_commits x old.past (clock' / 2) r' a') (sym (ap ending_of g.status)) (g.none, (omega arith), last outcomes.Full o half))
+      by_outcome outcomes.NoMemory o at g =
+          goes_on at.0 (subst (λ (x : Option End). StandsSole rules max_commits x old.past (clock' / 2) r' a') (sym (ap ending_of g.status)) (g.none, inr (last outcomes.NoMemory o at.0)))
+      by_outcome outcomes.Unfinished o at g = absurd at
+
+    pub sole_after : Tries clock (prior_of r a) clock' r' a' → IsSole rules max_commits clock' r' a'
+    sole_after (between t) =
+        goes_on t.half (stands_between clock' old.past r' a' mine (t.ended ∙ way.ended) (subst (λ (n : ℕ). IsBetween clock' n r' a') way.nth t.between) finishes (ending_of a'.status) refl)
+    sole_after (begins t) =
+        goes_on t.half (subst (λ (o : Option End). StandsSole rules max_commits o old.past (clock' / 2) r' a') (sym t.on) (record {
+          ended = t.ended ∙ way.ended;
+          nth = t.tries ∙ way.nth;
+          current = λ row e.
+              (let same : t.row ≡ row = (let z : Some t.row ≡ Some row = sym t.now ∙ (ap (λ (o : Option Attempt). current_of o a'.pending) (sym t.still) ∙ e) in cc) in
+              subst (IsFirstTry (clock' / 2)) same (now 0 t.row t.half (way.current t.row (ap (λ (o : Option Attempt). current_of o a.pending) t.none ∙ t.was))));
+        }))
+    sole_after (runs t) = goes_on t.half (by_ending (ending_of a'.status) refl)
+      where
+        on_way : IsOnWay rules max_commits old.past (clock' / 2) r' a'
+        on_way = record {
+          ended = t.ended ∙ way.ended;
+          nth = t.tries ∙ way.nth;
+          current = λ row e.
+              (let same : t.row' ≡ row = (let z : Some t.row' ≡ Some row = ap (λ (o : Option Attempt). current_of o a'.pending) (sym t.now) ∙ e in cc) in
+              subst (IsFirstTry (clock' / 2)) same (now 0 t.row' t.half (continued (clock / 2) t.row t.row' t.continues (way.current t.row t.was))));
+        }
+
+        by_ending : (o : Option End) → ending_of a'.status ≡ o → StandsSole rules max_commits o old.past (clock' / 2) r' a'
+        by_ending None e = on_way
+        by_ending (Some Finished) e = (let f = finishes e in (on_way, f.0, f.1))
+        by_ending (Some GaveUp) e = absurd (t.goes_on e)
+        by_ending (Some NoMemory) e = absurd (t.fed e)
+    sole_after (over t) = by_outcome t t.row'.outcome refl t.at t.after
+    sole_after (turned_away t) = absurd (let even = shut (away (nat_lt a.retries a.nth) t.after) in let odd = t.odd in omega arith)
+      where
+        away : (b : Bool) → TriesAgain b clock' a.nth r' a' → active_of a'.thread r'.active ≡ None
+        away true h = h.none
+        away false h = h.none
+
+-- ## A world
+
+module _ {P : Type 0} (rules : Rules P) where
+  -- one that has just begun
+  pub sole_first : (w : World P) → AreActors rules w.cells w.attempts w.actors → CommitsInOrder w → w.cells.clock ≡ 0 → w.attempts.ended ≡ [] → (a : Actor P) → slice_get w.actors 0 ≡ Some a → IsBetween w.cells.clock 1 w.attempts a
+      → (ending_of a.status ≡ Some Finished → rules.next_call a.player ≡ None) → IsSole rules w.max_commits w.cells.clock w.attempts a
+  sole_first w actors c zero_clock none a here b finishes = record {
+    past = [];
+    commit = ap (λ (n : ℕ). n / 2) (sym zero_clock);
+    stands = stands_between rules w.max_commits w.cells.clock [] w.attempts a (actors.each 0 a here).thread none b (λ e. (finishes e, c.free (ap (λ (n : ℕ). n % 2) zero_clock) 0 a here)) (ending_of a.status) refl;
+  }
+
+  -- and over an event
+  pub sole_still : (w : World P) → IsWorld rules w → (i : ℕ) (got new : Actor P) → slice_get w.actors i ≡ Some got → ending_of got.status ≡ None → (cells' : Cells) (r' : Rows) (events : ℕ)
+      → IsEvent rules w.cells w.attempts got cells' r' new → AreActors rules cells' r' (slice_set w.actors i new)
+      → CommitsInOrder (record w { cells = cells'; actors = slice_set w.actors i new; attempts = r'; events = events }) → AreRunning rules (record w { cells = cells'; actors = slice_set w.actors i new; attempts = r'; events = events })
+      → (ending_of new.status ≡ Some Finished → new.engine.holds ≡ false) → length w.opening ≡ 1 → (a : Actor P) → slice_get (slice_set w.actors i new) 0 ≡ Some a → IsSole rules w.max_commits cells'.clock r' a
+  sole_still w kept i got new here going cells' r' events event actors commits running free one a here' =
+      let single : length w.actors ≡ 1 = kept.long ∙ one in
+      let within = within_of w.actors i got here in
+      let first : i ≡ 0 = omega arith in
+      let placed : slice_get (slice_set w.actors i new) 0 ≡ Some new = ap (slice_get (slice_set w.actors i new)) (sym first) ∙ slice_get-set_same w.actors i new within in
+      let same : new ≡ a = (let z : Some new ≡ Some a = sym placed ∙ here' in cc) in
+      let mine = (actors.each 0 new placed).thread in
+      let still_one : length (slice_set w.actors i new) ≡ 1 = length-set w.actors i new ∙ single in
+      let player = there_is w.opening 0 (omega arith) in
+      subst (IsSole rules w.max_commits cells'.clock r') same
+      (sole_after rules w.max_commits w.cells.clock cells'.clock w.attempts r' got new going (kept.sole one got (ap (slice_get w.actors) (sym first) ∙ here)) mine (kept.commits.limits i got here).max_commits
+      (even_shut rules (record w { cells = cells'; actors = slice_set w.actors i new; attempts = r'; events = events }) actors commits still_one new placed)
+      (λ row ended.
+      (let run = (running.each 0 player.0 new player.1 placed).runs.run in
+      let rows : of_thread new.thread r'.ended ≡ w.attempts.ended ++ row ∷ [] = ap (λ (t : ℕ). of_thread t r'.ended) mine ∙ (of_thread_all r'.ended (subst (λ (n : ℕ). AreOfActors n r'.ended) still_one running.threads) ∙ ended) in
+      last_early rules (cells'.clock / 2) (bytes_at w.base r'.ended) (Some (first_of player.0 w.arena)) w.attempts.ended row
+      (subst (IsRunOf rules MAX_DEPTH (cells'.clock / 2) (bytes_at w.base r'.ended) (Some (first_of player.0 w.arena))) rows run)))
+      (λ e. (event.finishes e, free e)) event.tries)
+
+  -- an actor that finishes does not hold the clock
+  pub finished_free : (cells : Cells) (r1 r2 : Rows) (a1 a2 : Actor P) → IsSound rules cells r1 a1 → (ending_of a1.status ≡ Some Finished → ⊥) → a2.engine.holds ≡ a1.engine.holds
+      → (is_ready a1.status ≡ false → (a2 ≡ a1) × (r2 ≡ r1)) → ending_of a2.status ≡ Some Finished → a2.engine.holds ≡ false
+  finished_free cells r1 r2 a1 a2 sound unfinished holds still end = holds ∙ by_status a1.status refl sound.status
+    where
+      by_status : (s : Status) → a1.status ≡ s → StatusIs rules r1 a1 s → a1.engine.holds ≡ false
+      by_status Ready e s = s.free
+      by_status (Waits call step) e s = absurd (unfinished (ap (λ (x : Actor P). ending_of x.status) (sym (still (ap is_ready e)).0) ∙ end))
+      by_status (Ended x) e s = absurd (unfinished (ap (λ (x : Actor P). ending_of x.status) (sym (still (ap is_ready e)).0) ∙ end))

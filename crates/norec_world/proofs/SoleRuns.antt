@@ -1,0 +1,243 @@
+-- The run of an actor that has its world to itself is what its player does alone.
+use Rattle.std.proofs.Common.{◌≡◌, ℕ, zero, suc, ◌+◌, ◌<◌, ◌≤◌, ◌==◌, ◌&&◌, Bool, true, false, nat_le, nat_lt, if◌then◌else◌, List, [], ◌∷◌, ◌++◌, length, map, Option, None, Some, refl, sym, ap, subst, ◌∙◌, arith, eqb-true, eq-eqb, lt-ltb}
+use Rattle.std.proofs.lemmas.Bool.{leb-true, or_parts}
+use Rattle.itm_types.specs.declared.call.Refusal.{Refusal}
+use Rattle.itm_types.specs.declared.call.Call.{Call}
+use Rattle.itm_types.specs.declared.call.Call.TheVariants.{Begin, Commit, Read, Write}
+use Rattle.itm_types.specs.declared.call.Reply.{Reply}
+use Rattle.itm_model.specs.declared.limits.TheConstants.{MAX_DEPTH}
+use Rattle.itm_model.specs.State.{State, Block}
+use Rattle.itm_model.specs.Machine.{opened, is_open, refusal, effect, after, after_unless, closed, reply, entered}
+use Rattle.itm_model.specs.Runs.{turn, answers, answers_within}
+use Rattle.norec_engine.proofs.Machines.{some_bytes}
+use Rattle.norec_world.specs.declared.attempt.Entry.{Entry}
+use Rattle.norec_world.specs.declared.attempt.Attempt.{Attempt}
+use Rattle.norec_world.specs.declared.attempt.Outcome.{Outcome}
+use Rattle.norec_world.specs.declared.attempt.Outcome.TheVariants as outcomes
+use Rattle.norec_world.specs.Attempts.{pair_of, replies_of, alone, is_committed, is_at, committed_at, memory_left}
+use Rattle.norec_world.specs.Alone.{state_then, player_then, IsAlone}
+use Rattle.norec_world.specs.Memories.{bytes_at}
+use Rattle.norec_world.specs.Opacity.{Beginning, Between, EndsAs, answered_all, begin_code, begin_of, follows, after_try, IsOpaque, IsTryAt, IsRunOf}
+use Rattle.norec_world.specs.Runs.{run_after}
+use Rattle.norec_world.specs.Solo.{Progress, Solo, row_of, with_first, with_all, one_if, ended_as, solo_within}
+use Rattle.norec_world.specs.Sole.{IsFirstTry, AreSole}
+use Rattle.norec_world.specs.Tries.{is_done}
+use Rattle.norec_world.proofs.Solos.{ended_block}
+use Rattle.script_vm.specs.Rules.{Obeys, Rules}
+
+-- ## The calls of an attempt
+
+parts_of : {A : Type 0} (x y : A) (xs ys : List A) → x ∷ xs ≡ y ∷ ys → (x ≡ y) × (xs ≡ ys)
+parts_of x y xs ys e = (cc, cc)
+
+module _ {P : Type 0} (rules : Rules P) (deepest : ℕ) where
+  -- a beginning of what a player gets was made alone
+  pub alone_of : (n : ℕ) (p : P) (s : State) (o : Option Call) (xs : List Entry) (rest : List (Call × Reply)) → turn rules.next_call rules.answered rules.calls_left p s ≡ o → map pair_of xs ++ rest ≡ answers_within rules.next_call rules.answered rules.calls_left deepest n p s o
+      → IsAlone rules deepest p s xs
+  alone_of n p s o [] rest t e = tt
+  alone_of zero p s o (x ∷ xs) rest t e = absurd (cc)
+  alone_of (suc n) p s None (x ∷ xs) rest t e = absurd (cc)
+  alone_of (suc n) p s (Some c) (x ∷ xs) rest t e =
+      let q : P = rules.answered p (reply deepest s c) in
+      let parts = parts_of (pair_of x) (c, reply deepest s c) (map pair_of xs ++ rest) (answers_within rules.next_call rules.answered rules.calls_left deepest n q (after deepest s c) (turn rules.next_call rules.answered rules.calls_left q (after deepest s c))) e in
+      let call : x.call ≡ c = ap (λ (y : Call × Reply). y.0) parts.0 in
+      let replied : x.reply ≡ reply deepest s c = ap (λ (y : Call × Reply). y.1) parts.0 in (
+        t ∙ ap Some (sym call),
+        replied ∙ ap (reply deepest s) (sym call),
+        subst (λ (r : Reply). IsAlone rules deepest (rules.answered p r) (after deepest s x.call) xs) (sym replied)
+            (subst (λ (k : Call). IsAlone rules deepest q (after deepest s k) xs) (sym call) (alone_of n q (after deepest s c) (turn rules.next_call rules.answered rules.calls_left q (after deepest s c)) xs rest refl parts.1)),
+      )
+
+  in_open : (b : Bool) (o : Option Call) (c : Call) → (if b then o else None) ≡ Some c → b ≡ true
+  in_open true o c e = refl
+  in_open false o c e = absurd (cc)
+
+  -- calls that wrote nothing leave the memory
+  module _ (m : List ℕ) where
+    unwritten_closed : (s : State) (bs : List Block) → (s.wrote ≡ false → s.memory ≡ m) → (closed s bs).wrote ≡ false → (closed s bs).memory ≡ m
+    unwritten_closed s [] h = h
+    unwritten_closed s (b ∷ bs) h = h
+
+    unwritten_begun : (s t : State) (b : Bool) → b ≡ true → (s.wrote ≡ false → s.memory ≡ m) → (if b then s else t).wrote ≡ false → (if b then s else t).memory ≡ m
+    unwritten_begun s t true o h = h
+    unwritten_begun s t false o h = absurd (cc)
+
+    unwritten_effect : (s : State) (c : Call) → is_open s ≡ true → (s.wrote ≡ false → s.memory ≡ m) → (effect s c).wrote ≡ false → (effect s c).memory ≡ m
+    unwritten_effect s (Begin props room) o h = unwritten_begun (entered s props) (opened s.memory s.arena props) (is_open s) o h
+    unwritten_effect s Commit o h = unwritten_closed s s.blocks h
+    unwritten_effect s (Read hint width at) o h = h
+    unwritten_effect s (Write hint at value) o h = λ w.
+        (let none : nat_lt 0 (length value.bytes.items) ≡ false = (or_parts s.wrote (nat_lt 0 (length value.bytes.items)) w).1 in
+        let some : nat_lt 0 (length value.bytes.items) ≡ true = lt-ltb 0 (length value.bytes.items) (let k = some_bytes value.width in let l = value.sized in omega arith) in
+        absurd (let z = sym some ∙ none in cc))
+
+    unwritten_call : (s : State) (c : Call) (o : Option Refusal) → is_open s ≡ true → (s.wrote ≡ false → s.memory ≡ m) → (after_unless o s (effect s c)).wrote ≡ false → (after_unless o s (effect s c)).memory ≡ m
+    unwritten_call s c None o h = unwritten_effect s c o h
+    unwritten_call s c (Some r) o h = h
+
+    pub unwritten : (p : P) (s : State) (xs : List Entry) → IsAlone rules deepest p s xs → (s.wrote ≡ false → s.memory ≡ m) → (state_then deepest s xs).wrote ≡ false → (state_then deepest s xs).memory ≡ m
+    unwritten p s [] a h = h
+    unwritten p s (x ∷ xs) a h = unwritten (rules.answered p x.reply) (after deepest s x.call) xs a.2 (unwritten_call s x.call (refusal deepest s x.call) (in_open (is_open s) (rules.next_call p) x.call a.0) h)
+
+-- ## Block after block
+
+-- they do not go down
+sole_up : (n : ℕ) (xs : List Attempt) (k : ℕ) → AreSole n xs k → n ≤ k
+sole_up n [] k s = omega (arith, s)
+sole_up n (a ∷ rest) k s = (let l = sole_up (n + one_if (is_committed a.outcome)) rest k s.3 in omega arith)
+
+not_full : (w : Bool) (n m : ℕ) → (w ≡ true → n < m) → (w && nat_le m n) ≡ false
+not_full false n m l = refl
+not_full true n m l = by_test (nat_le m n) refl
+  where
+    by_test : (b : Bool) → nat_le m n ≡ b → b ≡ false
+    by_test true e = absurd (let most = leb-true m n e in let less = l refl in omega arith)
+    by_test false e = refl
+
+-- a player between two blocks, as the headline has it
+abbrev pub between : {P : Type 0} → Progress P → Between P
+between b = record { player = b.player; arena = b.arena; again = false; tries = 0 }
+
+module _ {P : Type 0} (rules : Rules P) (laws : Obeys rules) (max_commits : ℕ) (base : List ℕ) (all : List Attempt) (total : ℕ) where
+  abbrev goes : ℕ → Progress P → Solo
+  goes n b = solo_within rules MAX_DEPTH max_commits 0 n b
+
+  -- the attempt is of the block that the player comes to
+  pub record IsNext (b : Progress P) (a : Attempt) : Type 0 where
+    pub start : Beginning P
+    pub comes : begin_of rules MAX_DEPTH b.player b.arena ≡ Some start
+    pub arena : a.arena ≡ start.arena
+    pub props : a.props ≡ start.props
+    pub opaque : IsOpaque rules MAX_DEPTH (rules.answered start.player (begin_code false)) a total (bytes_at base all a.at)
+    pub leads : after_try rules MAX_DEPTH (bytes_at base all) (between b) (begin_of rules MAX_DEPTH b.player b.arena) a
+        ≡ follows rules MAX_DEPTH a.outcome (rules.answered start.player (begin_code false)) a (alone MAX_DEPTH (bytes_at base all a.at) a)
+
+  pub is_next : (b : Progress P) (a : Attempt) (rest : List Attempt) → IsRunOf rules MAX_DEPTH total (bytes_at base all) (Some (between b)) (a ∷ rest) → IsNext b a
+  is_next b a rest r = by_begin (begin_of rules MAX_DEPTH b.player b.arena) refl r.0
+    where
+      by_begin : (o : Option (Beginning P)) → begin_of rules MAX_DEPTH b.player b.arena ≡ o → IsTryAt rules MAX_DEPTH total (bytes_at base all) (between b) o a → IsNext b a
+      by_begin None e t = absurd t
+      by_begin (Some start) e t =
+          record { start = start; comes = e; arena = t.0; props = t.1; opaque = t.3; leads = ap (λ (o : Option (Beginning P)). after_try rules MAX_DEPTH (bytes_at base all) (between b) o a) e }
+
+  -- such an attempt, which reads where all before it had committed
+  module _ (b : Progress P) (a : Attempt) (x : IsNext b a) (now : b.memory ≡ bytes_at base all b.commits) (first : IsFirstTry b.commits a) (at : a.at ≡ b.commits) where
+    abbrev pub begun : P
+    begun = rules.answered x.start.player (begin_code false)
+
+    bytes : bytes_at base all a.at ≡ b.memory
+    bytes = ap (bytes_at base all) at ∙ sym now
+
+    pub same_state : alone MAX_DEPTH (bytes_at base all a.at) a ≡ state_then MAX_DEPTH (opened b.memory x.start.arena x.start.props) a.calls
+    same_state = λ i. state_then MAX_DEPTH (opened (bytes i) (x.arena i) (x.props i)) a.calls
+
+    pub same_answers : answers rules.next_call rules.answered rules.calls_left MAX_DEPTH (rules.answered x.start.player (begin_code false)) (bytes_at base all a.at) a.arena a.props ≡ answers rules.next_call rules.answered rules.calls_left MAX_DEPTH (rules.answered x.start.player (begin_code false)) b.memory x.start.arena x.start.props
+    same_answers = λ i. answers rules.next_call rules.answered rules.calls_left MAX_DEPTH begun (bytes i) (x.arena i) (x.props i)
+
+    pub same_row : (outcome : Outcome) → outcome ≡ a.outcome → row_of 0 b x.start a.calls outcome ≡ a
+    same_row outcome o = λ i. record {
+      thread = sym first.thread i;
+      nth = sym first.nth i;
+      began = sym first.began i;
+      at = sym at i;
+      props = sym x.props i;
+      arena = sym x.arena i;
+      calls = a.calls;
+      outcome = o i;
+    }
+
+    pub made_alone : IsAlone rules MAX_DEPTH (rules.answered x.start.player (begin_code false)) (opened b.memory x.start.arena x.start.props) a.calls
+    made_alone =
+        let s : State = opened b.memory x.start.arena x.start.props in
+        alone_of rules MAX_DEPTH (rules.calls_left begun) begun s (turn rules.next_call rules.answered rules.calls_left begun s) a.calls x.opaque.beginning.0 refl (x.opaque.beginning.1 ∙ same_answers)
+
+    -- and that ended by its commit
+    module _ (done : is_done a.outcome ≡ true) where
+      abbrev ended : State
+      ended = alone MAX_DEPTH (bytes_at base all a.at) a
+
+      abbrev pub after_it : Progress P
+      after_it = record { player = player_then rules.answered (rules.answered x.start.player (begin_code false)) a.calls; arena = (alone MAX_DEPTH (bytes_at base all a.at) a).arena; memory = (alone MAX_DEPTH (bytes_at base all a.at) a).memory; commits = b.commits + one_if (is_committed a.outcome) }
+
+      record IsOver (o : Outcome) : Type 0 where
+        shut : is_open ended ≡ false
+        wrote : ended.wrote ≡ is_committed o
+        named : ended_as (is_committed o) ≡ o
+        led : follows rules MAX_DEPTH o begun a ended ≡ Some (record { player = answered_all rules.answered begun (replies_of a); arena = ended.arena; again = false; tries = 0 })
+
+      over_as : (o : Outcome) → is_done o ≡ true → EndsAs o ended → IsOver o
+      over_as outcomes.Committed d e = record { shut = e.0; wrote = e.1; named = refl; led = refl }
+      over_as outcomes.ReadOnly d e = record { shut = e.0; wrote = e.1; named = refl; led = refl }
+      over_as outcomes.Conflict d e = absurd (cc)
+      over_as outcomes.Full d e = absurd (cc)
+      over_as outcomes.NoMemory d e = absurd (cc)
+      over_as outcomes.Unfinished d e = absurd (cc)
+
+      over : IsOver a.outcome
+      over = over_as a.outcome done x.opaque.ends
+
+      wrote_then : (state_then MAX_DEPTH (opened b.memory x.start.arena x.start.props) a.calls).wrote ≡ is_committed a.outcome
+      wrote_then = ap (λ (s : State). s.wrote) (sym same_state) ∙ over.wrote
+
+      pub goes_past : (is_committed a.outcome ≡ true → b.commits < max_commits) → goes (rules.calls_left b.player) b ≡ with_first a (goes (rules.calls_left after_it.player) after_it)
+      goes_past few =
+          ended_block rules laws MAX_DEPTH max_commits 0 b x.start a.calls x.comes (sym same_answers ∙ sym (x.opaque.whole over.shut))
+          (ap is_open (sym same_state) ∙ over.shut) (not_full _ b.commits max_commits (λ w. few (sym wrote_then ∙ w)))
+          ∙ (λ i. with_first (same_row (ended_as ((state_then MAX_DEPTH (opened b.memory x.start.arena x.start.props) a.calls).wrote)) (ap ended_as wrote_then ∙ over.named) i)
+          (goes (rules.calls_left after_it.player) (record { player = after_it.player; arena = (sym same_state i).arena; memory = (sym same_state i).memory; commits = b.commits + one_if (wrote_then i) })))
+
+      pub leads_past : after_try rules MAX_DEPTH (bytes_at base all) (between b) (begin_of rules MAX_DEPTH b.player b.arena) a ≡ Some (between after_it)
+      leads_past = x.leads ∙ over.led
+
+      -- the memory that it leaves is that of its commit, if it made one
+      pub memory_past : (rest : List Attempt) → ((j : ℕ) → b.commits ≤ j → committed_at all j ≡ committed_at (a ∷ rest) j) → after_it.memory ≡ bytes_at base all after_it.commits
+      memory_past rest found = by_commit (is_committed a.outcome) refl
+        where
+          by_commit : (w : Bool) → is_committed a.outcome ≡ w → ended.memory ≡ bytes_at base all (b.commits + one_if w)
+          by_commit true e =
+              let hit : is_at b.commits a ≡ true = (λ i. e i && (a.at == b.commits)) ∙ eq-eqb a.at b.commits at in
+              let it : committed_at all b.commits ≡ Some a = found b.commits (omega arith) ∙ ap (λ (w : Bool). if w then Some a else committed_at rest b.commits) hit in
+              ap (λ (k : ℕ). (alone MAX_DEPTH (bytes_at base all k) a).memory) at
+              ∙ (ap (memory_left MAX_DEPTH (bytes_at base all b.commits)) (sym it) ∙ ap (bytes_at base all) (let n : suc b.commits ≡ b.commits + 1 = omega arith in n))
+          by_commit false e =
+              let left_as = unwritten rules MAX_DEPTH b.memory begun (opened b.memory x.start.arena x.start.props) a.calls made_alone (λ w. refl) (wrote_then ∙ e) in
+              ap (λ (s : State). s.memory) same_state ∙ (left_as ∙ (now ∙ ap (bytes_at base all) (let n : b.commits ≡ b.commits + 0 = omega arith in n)))
+
+      pub found_past : (rest : List Attempt) → ((j : ℕ) → b.commits ≤ j → committed_at all j ≡ committed_at (a ∷ rest) j) → (j : ℕ) → after_it.commits ≤ j → committed_at all j ≡ committed_at rest j
+      found_past rest found j l = found j (omega arith) ∙ ap (λ (w : Bool). if w then Some a else committed_at rest j) (missed (is_committed a.outcome) refl)
+        where
+          missed : (w : Bool) → is_committed a.outcome ≡ w → is_at j a ≡ false
+          missed false e = λ i. e i && (a.at == j)
+          missed true e = (λ i. e i && (a.at == j)) ∙ apart (a.at == j) refl
+            where
+              apart : (t : Bool) → (a.at == j) ≡ t → t ≡ false
+              apart true h = absurd (let same = eqb-true a.at j h in let one = ap one_if e in omega arith)
+              apart false h = refl
+
+  -- where these attempts have led the player
+  pub record Arrives (b : Progress P) (past tail : List Attempt) (k : ℕ) : Type 0 where
+    pub before : Progress P
+    pub whole : goes (rules.calls_left b.player) b ≡ with_all past (goes (rules.calls_left before.player) before)
+    pub commits : before.commits ≡ k
+    pub memory : before.memory ≡ bytes_at base all before.commits
+    pub run : IsRunOf rules MAX_DEPTH total (bytes_at base all) (Some (between before)) tail
+    pub led : run_after rules (bytes_at base all) (Some (between b)) past ≡ Some (between before)
+
+  pub arrives : (b : Progress P) (past tail : List Attempt) (k : ℕ) → b.memory ≡ bytes_at base all b.commits → ((j : ℕ) → b.commits ≤ j → committed_at all j ≡ committed_at (past ++ tail) j)
+      → IsRunOf rules MAX_DEPTH total (bytes_at base all) (Some (between b)) (past ++ tail) → AreSole b.commits past k → k ≤ max_commits → Arrives b past tail k
+  arrives b [] tail k now found r sole few = record { before = b; whole = refl; commits = sole; memory = now; run = r; led = refl }
+  arrives b (a ∷ past) tail k now found r sole few =
+      let x = is_next b a (past ++ tail) r in
+      let q : Progress P = after_it b a x now sole.0 sole.1 sole.2 in
+      let led = leads_past b a x now sole.0 sole.1 sole.2 in
+      let up = sole_up q.commits past k sole.3 in
+      let rest = arrives q past tail k (memory_past b a x now sole.0 sole.1 sole.2 (past ++ tail) found) (found_past b a x now sole.0 sole.1 sole.2 (past ++ tail) found)
+      (subst (λ (o : Option (Between P)). IsRunOf rules MAX_DEPTH total (bytes_at base all) o (past ++ tail)) led r.1) sole.3 few in
+      record {
+        before = rest.before;
+        whole = goes_past b a x now sole.0 sole.1 sole.2 (λ w. (let one = ap one_if w in omega arith)) ∙ ap (with_first a) rest.whole;
+        commits = rest.commits;
+        memory = rest.memory;
+        run = rest.run;
+        led = ap (λ (o : Option (Between P)). run_after rules (bytes_at base all) o past) led ∙ rest.led;
+      }

@@ -1,0 +1,51 @@
+-- The attempts of an actor that has its world to itself, between two events. No contract above cites it.
+use Rattle.std.specs.Prelude.{◌≡◌, ◌⊎◌, ℕ, ◌+◌, ◌≤◌, ◌/◌, true, false, List, [], ◌∷◌, ◌++◌, Option, None, Some}
+use Rattle.norec_world.specs.declared.attempt.Attempt.{Attempt}
+use Rattle.norec_world.specs.declared.attempt.Outcome.{Outcome}
+use Rattle.norec_world.specs.declared.attempt.Outcome.TheVariants as outcomes
+use Rattle.norec_world.specs.declared.attempt.End.{End}
+use Rattle.norec_world.specs.declared.attempt.End.TheVariants.{Finished, GaveUp, NoMemory}
+use Rattle.norec_world.specs.declared.actor.Actor.{Actor}
+use Rattle.norec_world.specs.Attempts.{is_committed}
+use Rattle.norec_world.specs.Rows.{Rows, active_of}
+use Rattle.norec_world.specs.Solo.{one_if}
+use Rattle.norec_world.specs.Status.{ending_of}
+use Rattle.norec_world.specs.Tries.{current_of, is_done}
+use Rattle.script_vm.specs.Rules.{Rules}
+
+-- the first try of its block, begun when so many had committed
+pub record IsFirstTry (n : ℕ) (a : Attempt) : Type 0 where
+  pub thread : a.thread ≡ 0
+  pub nth : a.nth ≡ 1
+  pub began : a.began ≡ n
+
+-- from so many commits to so many: each is such a try, reads where all before it had committed, and ended by its commit
+abbrev pub AreSole : ℕ → List Attempt → ℕ → Type 0
+AreSole n [] last = n ≡ last
+AreSole n (a ∷ rest) last = IsFirstTry n a × (a.at ≡ n) × (is_done a.outcome ≡ true) × AreSole (n + one_if (is_committed a.outcome)) rest last
+
+-- after these attempts one ended so, without its commit
+pub record EndsWith (past : List Attempt) (n : ℕ) (outcome : Outcome) (r : Rows) : Type 0 where
+  pub row : Attempt
+  pub ended : r.ended ≡ past ++ row ∷ []
+  pub first : IsFirstTry n row
+  pub outcome_is : row.outcome ≡ outcome
+
+module _ {P : Type 0} (rules : Rules P) (max_commits : ℕ) where
+  -- after these attempts it goes on, at the first try of its block
+  pub record IsOnWay (past : List Attempt) (n : ℕ) (r : Rows) (a : Actor P) : Type 0 where
+    pub ended : r.ended ≡ past
+    pub nth : a.nth ≡ 1
+    pub current : (row : Attempt) → current_of (active_of a.thread r.active) a.pending ≡ Some row → IsFirstTry n row
+
+  -- by how it ended, if it has
+  abbrev pub StandsSole : Option End → List Attempt → ℕ → Rows → Actor P → Type 0
+  StandsSole None past n r a = IsOnWay past n r a
+  StandsSole (Some Finished) past n r a = IsOnWay past n r a × (rules.next_call a.player ≡ None) × (a.engine.holds ≡ false)
+  StandsSole (Some GaveUp) past n r a = (active_of a.thread r.active ≡ None) × (max_commits ≤ n) × EndsWith past n outcomes.Full r
+  StandsSole (Some NoMemory) past n r a = (active_of a.thread r.active ≡ None) × ((r.ended ≡ past) ⊎ EndsWith past n outcomes.NoMemory r)
+
+  pub record IsSole (clock : ℕ) (r : Rows) (a : Actor P) : Type 0 where
+    pub past : List Attempt
+    pub commit : AreSole 0 past (clock / 2)
+    pub stands : StandsSole (ending_of a.status) past (clock / 2) r a
