@@ -73,8 +73,7 @@ same_state a b k m = λ i. stands_for (record a { writes = k.writes i; is_open =
 
 -- and may ask for as many steps
 pub most_same : (a b : Core) → Keeps a b → (o : Option Call) → most b o ≡ most a o
-most_same a b k None = refl
 most_same a b k (Some (calls.Begin props room)) = λ i. 2 * k.patience i
 most_same a b k (Some calls.Commit) = λ i. k.patience i * (k.entry i + 3) + 2 * length (k.writes i) + 2
 most_same a b k (Some (calls.Read hint width at)) = λ i. 2 * count_of at (size_of width) + k.patience i * (k.entry i + count_of at (size_of width) + 4)
-most_same a b k (Some (calls.Write hint at value)) = refl
+most_same a b k _ = refl

@@ -20,7 +20,7 @@ use Rattle.norec_engine.specs.declared.phase.Phase.TheVariants as at
 use Rattle.norec_engine.specs.Rows.{row_at, write_at, value_into}
 use Rattle.norec_engine.specs.Core.{Core, came, handed, ended}
 use Rattle.norec_engine.specs.Stands.{SeesOne}
-use Rattle.norec_engine.specs.Order.{asked, asked_from, tries_at, tries_after}
+use Rattle.norec_engine.specs.Order.{asked, asked_in, tries_at, tries_after}
 use Rattle.norec_engine.specs.Endings.{EndsSo, IsEnding, ending_at, ending_after}
 use Rattle.norec_engine.specs.Proceeds.{Proceeds, AsksFor, Ends, RepliesTo, OpensBy, writes_after, props_after, IsSettled}
 use Rattle.norec_engine.specs.Moves.{IsCalled, IsResumed}
@@ -30,33 +30,10 @@ all_zero : (n : ℕ) → AllFit (replicate n 0)
 all_zero zero = tt
 all_zero (suc n) = (omega arith, all_zero n)
 
--- the step that is asked for is told by these
-asked_same : (c d : Core) (s : Phase) → c.log ≡ d.log → c.snapshot ≡ d.snapshot → c.writes ≡ d.writes → asked_from c s ≡ asked_from d s
-asked_same c d at.Idle log snapshot writes = refl
-asked_same c d (at.Begin b) log snapshot writes = refl
-asked_same c d (at.Load r) log snapshot writes = refl
-asked_same c d (at.Confirm r value) log snapshot writes = refl
-asked_same c d (at.RoundStart aim) log snapshot writes = refl
-asked_same c d (at.RoundRow aim row) log snapshot writes = ap (λ (l : List LogRow). Some (steps.Load (suc (row_at l row).word))) log
-asked_same c d (at.RoundEnd aim) log snapshot writes = refl
-asked_same c d at.Exchange log snapshot writes = ap (λ (n : ℕ). Some (steps.Cas 0 n (n + 1))) snapshot
-asked_same c d (at.BackLoad row) log snapshot writes = ap (λ (l : List Row). Some (steps.Load (suc (write_at l row).word))) writes
-asked_same c d (at.Store row got) log snapshot writes = ap (λ (l : List Row). Some (steps.Store (suc (write_at l row).word) (value_into (write_at l row) got))) writes
-asked_same c d at.Free log snapshot writes = ap (λ (n : ℕ). Some (steps.Store 0 (n + 2))) snapshot
-
 -- who waits for a step is not idle
-idle_of : (c : Core) (s : Phase) → asked_from c s ≡ None → s ≡ at.Idle
-idle_of c at.Idle e = refl
-idle_of c (at.Begin b) e = absurd (cc)
-idle_of c (at.Load r) e = absurd (cc)
-idle_of c (at.Confirm r value) e = absurd (cc)
-idle_of c (at.RoundStart aim) e = absurd (cc)
-idle_of c (at.RoundRow aim row) e = absurd (cc)
-idle_of c (at.RoundEnd aim) e = absurd (cc)
-idle_of c at.Exchange e = absurd (cc)
-idle_of c (at.BackLoad row) e = absurd (cc)
-idle_of c (at.Store row got) e = absurd (cc)
-idle_of c at.Free e = absurd (cc)
+idle_of : (log : List LogRow) (snapshot : ℕ) (writes : List Row) (s : Phase) → asked_in log snapshot writes s ≡ None → s ≡ at.Idle
+idle_of log snapshot writes at.Idle e = refl
+idle_of log snapshot writes s e = absurd (cc)
 
 replied_waits : (mid : Core) (o : Option Call) (r : Replied) (new : Core) → RepliesTo mid o r new → new.waits ≡ None
 replied_waits mid None r new e = absurd e
@@ -71,16 +48,12 @@ answered_waits mid (Full at) new e = ap (λ (c : Core). c.waits) e.stays
 
 -- a reply tells whether a transaction is open
 opens_same : (was : Bool) (call : Call) (r : Replied) (a b : Bool) → OpensBy was call r a → OpensBy was call r b → a ≡ b
-opens_same was (calls.Begin props room) Done a b x y = absurd x
-opens_same was (calls.Begin props room) (Bytes value) a b x y = absurd x
 opens_same was (calls.Begin props room) (Code n) a b x y = x.1 ∙ sym y.1
 opens_same was (calls.Begin props room) (Refused refusal) a b x y = x ∙ sym y
-opens_same was calls.Commit Done a b x y = absurd x
-opens_same was calls.Commit (Bytes value) a b x y = absurd x
-opens_same was calls.Commit (Code n) a b x y = absurd x
+opens_same was (calls.Begin props room) r a b x y = absurd x
 opens_same was calls.Commit (Refused refusal) a b x y = x ∙ sym y
-opens_same was (calls.Read hint width at) r a b x y = x ∙ sym y
-opens_same was (calls.Write hint at value) r a b x y = x ∙ sym y
+opens_same was calls.Commit r a b x y = absurd x
+opens_same was call r a b x y = x ∙ sym y
 
 -- ## One outcome
 
@@ -103,7 +76,7 @@ module _ (mid new new' : Core) (end : Option Answer)
       let open_same : new.is_open ≡ new'.is_open = ap (λ (c : Core). c.is_open) e ∙ sym (ap (λ (c : Core). c.is_open) e') in
       let writes : new.writes ≡ new'.writes = ap (λ (c : Core). c.writes) e ∙ sym (ap (λ (c : Core). c.writes) e') in
       let log = same_log open_same in
-      let step : Some s ≡ Some s' = sym (ap (λ (c : Core). c.waits) e) ∙ (asks ∙ (asked_same new new' new.stage log snapshot writes ∙ (ap (asked_from new') stage ∙ (sym asks' ∙ ap (λ (c : Core). c.waits) e')))) in
+      let step : Some s ≡ Some s' = sym (ap (λ (c : Core). c.waits) e) ∙ (asks ∙ ((λ i. asked_in (log i) (snapshot i) (writes i) (stage i)) ∙ (sym asks' ∙ ap (λ (c : Core). c.waits) e'))) in
       let one : s ≡ s' = (cc) in (
         ap Asks one,
         e ∙ ((λ i. record mid { waits = Some (one i); spent = mid.spent + 1; stage = stage i; tries = tries i; log = log i; snapshot = snapshot i }) ∙ sym e'),
@@ -159,14 +132,8 @@ module _ (mid new new' : Core) (end : Option Answer)
   -- neither ends, so both reply
   none_both : (a a' : Answer) → IsEnding None a → IsEnding None a' → Ends mid a new → Ends mid a' new' → (Answers a ≡ Answers a') × (new ≡ new')
   none_both (Reply r) (Reply r') i i' g g' = let x = replies_both mid.doing r r' g g' in (ap (λ (y : Replied). Answers (Reply y)) x.0, x.1)
-  none_both (Reply r) (Committed at wrote) i i' g g' = absurd i'
-  none_both (Reply r) (Conflict clock word) i i' g g' = absurd i'
-  none_both (Reply r) (Busy clock) i i' g g' = absurd i'
-  none_both (Reply r) (Full at) i i' g g' = absurd i'
-  none_both (Committed at wrote) a' i i' g g' = absurd i
-  none_both (Conflict clock word) a' i i' g g' = absurd i
-  none_both (Busy clock) a' i i' g g' = absurd i
-  none_both (Full at) a' i i' g g' = absurd i
+  none_both (Reply r) a' i i' g g' = absurd i'
+  none_both a a' i i' g g' = absurd i
 
   answers_both : (o : Option Answer) (a a' : Answer) → IsEnding o a → IsEnding o a' → Ends mid a new → Ends mid a' new' → (Answers a ≡ Answers a') × (new ≡ new')
   answers_both None a a' i i' g g' = none_both a a' i i' g g'
@@ -178,8 +145,8 @@ module _ (mid new new' : Core) (end : Option Answer)
   not_both : (s : Step) (a : Answer) (c d : Core) → c.stage ≡ d.stage → c.waits ≡ asked c → d.waits ≡ asked d → AsksFor mid s c → Ends mid a d → ⊥
   not_both s a c d same x y g h =
       let none : asked d ≡ None = sym y ∙ answered_waits mid a d h in
-      let idle : c.stage ≡ at.Idle = same ∙ idle_of d d.stage none in
-      let some : None ≡ Some s = ap (asked_from c) (sym idle) ∙ (sym x ∙ ap (λ (e : Core). e.waits) g.stays) in
+      let idle : c.stage ≡ at.Idle = same ∙ idle_of d.log d.snapshot d.writes d.stage none in
+      let some : None ≡ Some s = ap (asked_in c.log c.snapshot c.writes) (sym idle) ∙ (sym x ∙ ap (λ (e : Core). e.waits) g.stays) in
       absurd (cc)
 
   one_outcome : (what what' : Next) → Proceeds mid what new → Proceeds mid what' new' → EndsSo end what → EndsSo end what' → (what ≡ what') × (new ≡ new')

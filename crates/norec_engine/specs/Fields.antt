@@ -5,7 +5,6 @@ use Rattle.write_set.specs.declared.row.Row.{Row}
 use Rattle.itm_types.specs.declared.call.Call.{Call}
 use Rattle.itm_types.specs.declared.call.Call.TheVariants.{Begin, Commit, Read}
 use Rattle.itm_types.specs.declared.step.Step.{Step}
-use Rattle.itm_types.specs.declared.step.Step.TheVariants.{Load, Store, Cas}
 use Rattle.itm_types.specs.Access.{size_of}
 use Rattle.itm_types.specs.Memory.{IsMemory, Agrees}
 use Rattle.word_pieces.specs.declared.piece.Piece.{Piece}
@@ -19,20 +18,18 @@ use Rattle.norec_engine.specs.declared.phase.Reading.{Reading}
 use Rattle.norec_engine.specs.declared.phase.Turn.{Turn}
 use Rattle.norec_engine.specs.declared.phase.Turn.TheVariants.{Wait, End}
 use Rattle.norec_engine.specs.declared.data.Data.{Data}
+use Rattle.norec_engine.specs.declared.limits.Limits.{Limits}
 use Rattle.norec_engine.specs.declared.answer.Answer.{Answer}
 use Rattle.norec_engine.specs.declared.answer.Next.{Next}
 use Rattle.norec_engine.specs.declared.answer.Next.TheVariants.{Step as Asks, Answer as Answers}
-use Rattle.norec_engine.specs.Rows.{row_at, write_at, value_into, is_covered, AllWithin, AllWritesWithin}
+use Rattle.norec_engine.specs.Rows.{write_at, is_covered, AllWithin, AllWritesWithin}
 use Rattle.write_set.specs.Rows.{overlay, AreRows}
 use Rattle.norec_engine.specs.Core.{Core}
+use Rattle.norec_engine.specs.Order.{word_of, step_in, asked_in}
 use Rattle.norec_engine.specs.Proceeds.{Proceeds, own_rows}
 use Rattle.norec_engine.specs.Endings.{IsEnding}
 
 -- ## What callers see
-
--- the word of the read's piece
-abbrev pub word_of : Reading → ℕ
-word_of r = r.at / 8 + r.number
 
 -- the piece
 abbrev pub part : Reading → Piece
@@ -56,10 +53,7 @@ doing_of (at.Confirm r value) = Some (call_of (aims.Read r))
 doing_of (at.RoundStart aim) = Some (call_of aim)
 doing_of (at.RoundRow aim row) = Some (call_of aim)
 doing_of (at.RoundEnd aim) = Some (call_of aim)
-doing_of at.Exchange = Some Commit
-doing_of (at.BackLoad row) = Some Commit
-doing_of (at.Store row got) = Some Commit
-doing_of at.Free = Some Commit
+doing_of _ = Some Commit
 
 abbrev pub again_of : Phase → Bool
 again_of (at.Begin b) = b.again
@@ -67,43 +61,16 @@ again_of _ = false
 
 -- the step that the phase waits for
 abbrev pub step_of : Data → Phase → Step
-step_of d at.Idle = Load 0
-step_of d (at.Begin b) = Load 0
-step_of d (at.Load r) = Load (suc (word_of r))
-step_of d (at.Confirm r value) = Load 0
-step_of d (at.RoundStart aim) = Load 0
-step_of d (at.RoundRow aim row) = Load (suc (row_at d.log.rows row).word)
-step_of d (at.RoundEnd aim) = Load 0
-step_of d at.Exchange = Cas 0 d.snapshot (d.snapshot + 1)
-step_of d (at.BackLoad row) = Load (suc (write_at d.writes row).word)
-step_of d (at.Store row got) = Store (suc (write_at d.writes row).word) (value_into (write_at d.writes row) got)
-step_of d at.Free = Store 0 (d.snapshot + 2)
+step_of d phase = step_in d.log.rows d.snapshot d.writes phase
 
 abbrev pub waits_of : Data → Phase → Option Step
-waits_of d at.Idle = None
-waits_of d (at.Begin b) = Some (step_of d (at.Begin b))
-waits_of d (at.Load r) = Some (step_of d (at.Load r))
-waits_of d (at.Confirm r value) = Some (step_of d (at.Confirm r value))
-waits_of d (at.RoundStart aim) = Some (step_of d (at.RoundStart aim))
-waits_of d (at.RoundRow aim row) = Some (step_of d (at.RoundRow aim row))
-waits_of d (at.RoundEnd aim) = Some (step_of d (at.RoundEnd aim))
-waits_of d at.Exchange = Some (step_of d at.Exchange)
-waits_of d (at.BackLoad row) = Some (step_of d (at.BackLoad row))
-waits_of d (at.Store row got) = Some (step_of d (at.Store row got))
-waits_of d at.Free = Some (step_of d at.Free)
+waits_of d phase = asked_in d.log.rows d.snapshot d.writes phase
 
 abbrev pub fresh_of : List LogRow → Phase → List LogRow
-fresh_of log at.Idle = []
-fresh_of log (at.Begin b) = []
-fresh_of log (at.Load r) = []
 fresh_of log (at.Confirm r value) = record { word = word_of r; value = value } ∷ []
-fresh_of log (at.RoundStart aim) = []
 fresh_of log (at.RoundRow aim row) = take row log
 fresh_of log (at.RoundEnd aim) = log
-fresh_of log at.Exchange = []
-fresh_of log (at.BackLoad row) = []
-fresh_of log (at.Store row got) = []
-fresh_of log at.Free = []
+fresh_of log _ = []
 
 abbrev pub holds_of : Phase → Bool
 holds_of (at.BackLoad row) = true
@@ -163,6 +130,13 @@ round_of aims.Commit d = d.entry + 3
 abbrev pub first_of : Aim → ℕ
 first_of (aims.Read r) = 2 * r.number + 2
 first_of aims.Commit = 1
+
+-- in every phase
+pub record IsBounded (words : ℕ) (limits : Limits) (snapshot : ℕ) : Type 0 where
+  pub patient : (0 < limits.patience) × (limits.patience ≤ 1000)
+  pub commits : limits.max_commits < 2 ^ 62
+  pub small : words ≤ 8192
+  pub even : snapshot % 2 ≡ 0
 
 -- a transaction is open, and its words lie within the memory
 pub record IsOpen (d : Data) : Type 0 where
@@ -233,10 +207,7 @@ InPhase d (at.Store row (Some word)) = IsHolding d (2 * row + 2) × (row < lengt
 InPhase d at.Free = IsHolding d (2 * length d.writes + 1)
 
 pub record IsSound (d : Data) (phase : Phase) : Type 0 where
-  pub patient : (0 < d.limits.patience) × (d.limits.patience ≤ 1000)
-  pub commits : d.limits.max_commits < 2 ^ 62
-  pub small : d.words ≤ 8192
-  pub even : d.snapshot % 2 ≡ 0
+  pub bounds : IsBounded d.words d.limits d.snapshot
   pub reached : d.snapshot ≤ d.clock
   pub in_phase : InPhase d phase
 
@@ -325,10 +296,7 @@ pub record IsEnded (old new : Data) : Type 0 where
 
 -- a round may be tried
 pub record MayTry (d : Data) (aim : Aim) : Type 0 where
-  pub patient : (0 < d.limits.patience) × (d.limits.patience ≤ 1000)
-  pub commits : d.limits.max_commits < 2 ^ 62
-  pub small : d.words ≤ 8192
-  pub even : d.snapshot % 2 ≡ 0
+  pub bounds : IsBounded d.words d.limits d.snapshot
   pub is_open : IsOpen d
   pub may : Aims d aim
   pub later : d.snapshot < d.clock
@@ -336,10 +304,7 @@ pub record MayTry (d : Data) (aim : Aim) : Type 0 where
 
 -- the next piece of a read may be taken
 pub record MayGather (d : Data) (r : Reading) : Type 0 where
-  pub patient : (0 < d.limits.patience) × (d.limits.patience ≤ 1000)
-  pub commits : d.limits.max_commits < 2 ^ 62
-  pub small : d.words ≤ 8192
-  pub even : d.snapshot % 2 ≡ 0
+  pub bounds : IsBounded d.words d.limits d.snapshot
   pub is_open : IsOpen d
   pub reading : IsReading d r
   pub settled : d.clock ≡ d.snapshot
@@ -347,20 +312,14 @@ pub record MayGather (d : Data) (r : Reading) : Type 0 where
 
 -- a round goes on: its rows before this one are as logged
 pub record InRows (d : Data) (aim : Aim) (row : ℕ) : Type 0 where
-  pub patient : (0 < d.limits.patience) × (d.limits.patience ≤ 1000)
-  pub commits : d.limits.max_commits < 2 ^ 62
-  pub small : d.words ≤ 8192
-  pub even : d.snapshot % 2 ≡ 0
+  pub bounds : IsBounded d.words d.limits d.snapshot
   pub round : InRound d aim (row + 1)
   pub steady : d.clock % 2 ≡ 0
   pub far : row ≤ length d.log.rows
 
 -- the clock may be taken
 pub record MayExchange (d : Data) : Type 0 where
-  pub patient : (0 < d.limits.patience) × (d.limits.patience ≤ 1000)
-  pub commits : d.limits.max_commits < 2 ^ 62
-  pub small : d.words ≤ 8192
-  pub even : d.snapshot % 2 ≡ 0
+  pub bounds : IsBounded d.words d.limits d.snapshot
   pub is_open : IsOpen d
   pub may : MayCommit d
   pub settled : d.clock ≡ d.snapshot
@@ -368,9 +327,6 @@ pub record MayExchange (d : Data) : Type 0 where
 
 -- the clock is held, and this many rows are stored
 pub record InStores (d : Data) (row : ℕ) : Type 0 where
-  pub patient : (0 < d.limits.patience) × (d.limits.patience ≤ 1000)
-  pub commits : d.limits.max_commits < 2 ^ 62
-  pub small : d.words ≤ 8192
-  pub even : d.snapshot % 2 ≡ 0
+  pub bounds : IsBounded d.words d.limits d.snapshot
   pub holding : IsHolding d (2 * row)
   pub far : row ≤ length d.writes

@@ -67,44 +67,27 @@ pub record AsksFor (mid : Core) (step : Step) (new : Core) : Type 0 where
 
 -- a block that was begun before is told so
 abbrev pub recoded : Bool → Replied → Replied
-recoded false r = r
-recoded true Done = Done
-recoded true (Bytes value) = Bytes value
 recoded true (Code n) = Code 9
-recoded true (Refused refusal) = Refused refusal
+recoded _ r = r
 
 -- an accepted write puts its pieces in the write set, which keeps the order of first writing
 abbrev pub writes_after : List Row → Call → Replied → List Row
-writes_after writes (Begin props room) r = writes
-writes_after writes Commit r = writes
-writes_after writes (Read hint width at) r = writes
 writes_after writes (Write hint at value) Done = (let ps = pieces_of at (size_of value.width) in put_all (reserved_all writes ps) ps value.bytes.items)
-writes_after writes (Write hint at value) (Bytes bytes) = writes
-writes_after writes (Write hint at value) (Code n) = writes
-writes_after writes (Write hint at value) (Refused refusal) = writes
+writes_after writes _ r = writes
 
 -- whether a transaction is open before a call's reply and after it: an accepted begin opens one, and no other reply opens or closes one
 abbrev pub OpensBy : Bool → Call → Replied → Bool → Type 0
-OpensBy was (Begin props room) Done now = ⊥
-OpensBy was (Begin props room) (Bytes value) now = ⊥
 OpensBy was (Begin props room) (Code n) now = (was ≡ false) × (now ≡ true)
 OpensBy was (Begin props room) (Refused refusal) now = now ≡ was
-OpensBy was Commit Done now = ⊥
-OpensBy was Commit (Bytes value) now = ⊥
-OpensBy was Commit (Code n) now = ⊥
+OpensBy was (Begin props room) _ now = ⊥
 OpensBy was Commit (Refused refusal) now = now ≡ was
-OpensBy was (Read hint width at) r now = now ≡ was
-OpensBy was (Write hint at value) r now = now ≡ was
+OpensBy was Commit _ now = ⊥
+OpensBy was _ r now = now ≡ was
 
 -- an accepted begin gives the open block's properties
 abbrev pub props_after : Props → Call → Replied → Props
-props_after was (Begin props room) Done = was
-props_after was (Begin props room) (Bytes value) = was
 props_after was (Begin props room) (Code n) = props
-props_after was (Begin props room) (Refused refusal) = was
-props_after was Commit r = was
-props_after was (Read hint width at) r = was
-props_after was (Write hint at value) r = was
+props_after was _ r = was
 
 -- the rows that the call in progress has logged itself
 abbrev pub own_rows : ℕ → List LogRow → List LogRow
@@ -171,11 +154,8 @@ pub record Conflicts (mid : Core) (clock : ℕ) (word : Option ℕ) (new : Core)
   pub undone : IsUndone mid new
 
 abbrev pub IsBegin : Option Call → Type 0
-IsBegin None = ⊥
 IsBegin (Some (Begin props room)) = Unit {0}
-IsBegin (Some Commit) = ⊥
-IsBegin (Some (Read hint width at)) = ⊥
-IsBegin (Some (Write hint at value)) = ⊥
+IsBegin _ = ⊥
 
 -- a begin found the clock odd as often as it may
 pub record IsBusy (mid : Core) (clock : ℕ) (new : Core) : Type 0 where
@@ -236,40 +216,33 @@ pub record StaysOn (old new : Core) : Type 0 where
 
 -- what a call may be answered before its first step
 abbrev pub IsAtOnce : Next → Type 0
-IsAtOnce (Asks step) = Unit {0}
-IsAtOnce (Answers (Reply r)) = Unit {0}
-IsAtOnce (Answers (Committed at wrote)) = Unit {0}
 IsAtOnce (Answers (Conflict clock word)) = ⊥
 IsAtOnce (Answers (Busy clock)) = ⊥
-IsAtOnce (Answers (Full at)) = Unit {0}
+IsAtOnce _ = Unit {0}
 
 -- memory is asked for by a read or a write alone, by no refused one, and by no write to words that have rows
 abbrev pub MayStarve : Core → Call → Type 0
-MayStarve c (Begin props room) = ⊥
-MayStarve c Commit = ⊥
 MayStarve c (Read hint width at) = (c.is_open ≡ true) × (at + size_of width ≤ 8 * c.words)
 MayStarve c (Write hint at value) = (c.is_open ≡ true) × (at + size_of value.width ≤ 8 * c.words) × (HaveRows c.writes (pieces_of at (size_of value.width)) → ⊥)
+MayStarve c _ = ⊥
 
 -- ## Values and counts
 
 -- a value that the memory can hand in: the clock never falls
 abbrev pub FitsStep : Core → Option Step → ℕ → Type 0
-FitsStep c None seen = Unit {0}
 FitsStep c (Some (Load zero)) seen = c.clock ≤ seen
-FitsStep c (Some (Load (suc word))) seen = Unit {0}
-FitsStep c (Some (Store cell value)) seen = Unit {0}
 FitsStep c (Some (Cas cell from to)) seen = c.clock ≤ seen
+FitsStep c _ seen = Unit {0}
 
 abbrev pub Fits : Core → ℕ → Type 0
 Fits c seen = FitsStep c c.waits seen
 
 -- the most steps of a call
 abbrev pub most : Core → Option Call → ℕ
-most c None = 0
 most c (Some (Begin props room)) = 2 * c.patience
 most c (Some Commit) = c.patience * (c.entry + 3) + 2 * length c.writes + 2
 most c (Some (Read hint width at)) = 2 * count_of at (size_of width) + c.patience * (c.entry + count_of at (size_of width) + 4)
-most c (Some (Write hint at value)) = 0
+most c _ = 0
 
 -- while it waits, it has asked for no more than the call's most steps
 abbrev pub IsWithin : Core → Type 0

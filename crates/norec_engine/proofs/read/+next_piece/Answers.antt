@@ -37,7 +37,7 @@ returns-in_default-clause-proceeds t c log =
       still = λ o. o;
       opens = refl;
       props = refl;
-      settled = λ o. (may.settled, may.even);
+      settled = λ o. (may.settled, may.bounds.even);
     }
 
 pub returns-in_default-clause-order : goal.returns-in_default-clause-order
@@ -62,10 +62,7 @@ next_piece-requires t c =
     let more = λ (m : List ℕ). c.in-Some.ensures.reads_on m in (
       rw c.next.ensures (omega (arith, left, c.decreases)),
       rw c.next.ensures (record {
-        patient = may.patient;
-        commits = may.commits;
-        small = may.small;
-        even = may.even;
+        bounds = may.bounds;
         is_open = record { is_open = may.is_open.is_open; log = may.is_open.log; writes = may.is_open.writes; rows = may.is_open.rows; tries = may.is_open.tries };
         reading = record {
           within = may.reading.within;
@@ -107,10 +104,7 @@ returns-in-None-clause-sound t c =
     record {
       asked = tt;
       sound = record {
-        patient = may.patient;
-        commits = may.commits;
-        small = may.small;
-        even = may.even;
+        bounds = may.bounds;
         reached = omega (arith, may.settled);
         in_phase = (
           record { is_open = may.is_open.is_open; log = may.is_open.log; writes = may.is_open.writes; rows = may.is_open.rows; tries = may.is_open.tries },

@@ -24,7 +24,7 @@ returns-then-not-is_within-clause-proceeds c =
       still = λ o. o;
       opens = refl;
       props = refl;
-      settled = λ o. (idle.1, c.requires.sound.even);
+      settled = λ o. (idle.1, c.requires.sound.bounds.even);
     }
 
 pub returns-clause-tries : goal.returns-clause-tries

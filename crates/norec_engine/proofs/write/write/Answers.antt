@@ -30,7 +30,7 @@ returns-then-not-is_within-clause-proceeds c =
       still = λ o. o;
       opens = refl;
       props = refl;
-      settled = λ o. (idle.1, c.requires.sound.even);
+      settled = λ o. (idle.1, c.requires.sound.bounds.even);
     }
 
 pub put_all-requires-clause-room : goal.put_all-requires-clause-room
@@ -58,10 +58,7 @@ returns-clause-sound c =
     record {
       asked = tt;
       sound = record {
-        patient = sound.patient;
-        commits = sound.commits;
-        small = sound.small;
-        even = sound.even;
+        bounds = sound.bounds;
         reached = sound.reached;
         in_phase = (
           λ o. (
@@ -107,5 +104,5 @@ returns-clause-proceeds c =
       still = λ o. o;
       opens = refl;
       props = refl;
-      settled = λ o. (idle.1, c.requires.sound.even);
+      settled = λ o. (idle.1, c.requires.sound.bounds.even);
     }
