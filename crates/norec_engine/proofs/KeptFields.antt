@@ -1,11 +1,13 @@
 -- What no step changes in an engine, and what follows from that.
-use Rattle.std.proofs.Common.{◌≡◌, ℕ, zero, suc, ◌+◌, ◌*◌, ◌==◌, Bool, true, false, List, [], length, Option, None, Some, refl, ap, ◌∙◌}
+use Rattle.std.proofs.Common.{◌≡◌, ℕ, zero, suc, ◌+◌, ◌*◌, ◌==◌, Bool, true, false, List, [], ◌∷◌, ◌++◌, length, Option, None, Some, refl, ap, ◌∙◌}
 use Rattle.itm_types.specs.declared.call.Call.{Call}
 use Rattle.itm_types.specs.declared.call.Call.TheVariants as calls
+use Rattle.itm_types.specs.declared.row.LogRow.{LogRow}
 use Rattle.itm_types.specs.declared.step.Step.{Step}
 use Rattle.itm_types.specs.declared.step.Step.TheVariants.{Load, Store, Cas}
 use Rattle.itm_types.specs.Access.{size_of}
 use Rattle.word_pieces.specs.Pieces.{count_of}
+use Rattle.norec_engine.specs.declared.phase.Phase.{Phase}
 use Rattle.norec_engine.specs.declared.phase.Phase.TheVariants as at
 use Rattle.norec_engine.specs.Core.{Core, handed_to, word_loaded}
 use Rattle.norec_engine.specs.Proceeds.{AsksFor, most}
@@ -36,21 +38,27 @@ pub record IsHanded (e mid : Core) : Type 0 where
   pub snapshot : mid.snapshot ≡ e.snapshot
   pub spent : mid.spent ≡ e.spent
 
--- a word that was loaded, by the holder of the clock or by another
-pub word_is : (e : Core) (holds : Bool) (word n : ℕ) → IsHanded e (word_loaded e holds word n)
-word_is e true word n = record { keeps = record { words = refl; patience = refl; max_commits = refl; arena = refl; writes = refl; is_open = refl; props = refl; doing = refl; again = refl; entry = refl }; log = refl; snapshot = refl; spent = refl }
-word_is e false word n = record { keeps = record { words = refl; patience = refl; max_commits = refl; arena = refl; writes = refl; is_open = refl; props = refl; doing = refl; again = refl; entry = refl }; log = refl; snapshot = refl; spent = refl }
+-- what a value may change
+handed_with : (e : Core) (waits : Option Step) (stage : Phase) (tries clock done : ℕ) (fresh : List LogRow) (holds freed : Bool) (got : Option ℕ)
+    → IsHanded e (record e { waits = waits; stage = stage; tries = tries; clock = clock; done = done; fresh = fresh; holds = holds; freed = freed; got = got })
+handed_with e waits stage tries clock done fresh holds freed got = record {
+  keeps = record { words = refl; patience = refl; max_commits = refl; arena = refl; writes = refl; is_open = refl; props = refl; doing = refl; again = refl; entry = refl };
+  log = refl;
+  snapshot = refl;
+  spent = refl;
+}
 
--- an exchange by which the clock was taken, or not
-pub exchange_is : (e : Core) (holds : Bool) (n : ℕ) → IsHanded e (record e { waits = None; stage = at.Idle; tries = 0; clock = n; fresh = []; holds = holds; done = 0; got = None })
-exchange_is e holds n = record { keeps = record { words = refl; patience = refl; max_commits = refl; arena = refl; writes = refl; is_open = refl; props = refl; doing = refl; again = refl; entry = refl }; log = refl; snapshot = refl; spent = refl }
+-- a word that was loaded, by the holder of the clock or by another
+word_is : (e : Core) (holds : Bool) (word n : ℕ) → IsHanded e (word_loaded e holds word n)
+word_is e true word n = handed_with e None at.Idle 0 e.clock e.done e.fresh e.holds e.freed (Some n)
+word_is e false word n = handed_with e None at.Idle 0 e.clock e.done (e.fresh ++ record { word = word; value = n } ∷ []) e.holds e.freed e.got
 
 pub handed_is : (e : Core) (step : Step) (n : ℕ) → IsHanded e (handed_to e (Some step) n)
-handed_is e (Load zero) n = record { keeps = record { words = refl; patience = refl; max_commits = refl; arena = refl; writes = refl; is_open = refl; props = refl; doing = refl; again = refl; entry = refl }; log = refl; snapshot = refl; spent = refl }
+handed_is e (Load zero) n = handed_with e None at.Idle 0 n e.done [] e.holds e.freed e.got
 handed_is e (Load (suc word)) n = word_is e e.holds word n
-handed_is e (Store zero value) n = record { keeps = record { words = refl; patience = refl; max_commits = refl; arena = refl; writes = refl; is_open = refl; props = refl; doing = refl; again = refl; entry = refl }; log = refl; snapshot = refl; spent = refl }
-handed_is e (Store (suc word) value) n = record { keeps = record { words = refl; patience = refl; max_commits = refl; arena = refl; writes = refl; is_open = refl; props = refl; doing = refl; again = refl; entry = refl }; log = refl; snapshot = refl; spent = refl }
-handed_is e (Cas cell from to) n = exchange_is e (n == from) n
+handed_is e (Store zero value) n = handed_with e None at.Idle 0 value e.done [] false true e.got
+handed_is e (Store (suc word) value) n = handed_with e None at.Idle 0 e.clock (e.done + 1) e.fresh e.holds e.freed None
+handed_is e (Cas cell from to) n = handed_with e None at.Idle 0 n 0 [] (n == from) e.freed None
 
 -- a step is asked for
 pub keeps_asked : (mid new : Core) (step : Step) → AsksFor mid step new → Keeps mid new

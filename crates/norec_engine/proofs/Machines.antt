@@ -1,5 +1,5 @@
 -- What the plain machine does with the state that an engine stands for.
-use Rattle.std.proofs.Common.{◌≡◌, ℕ, ◌+◌, ◌*◌, ◌<◌, ◌≤◌, Bool, true, false, ◌||◌, ◌==◌, nat_lt, List, [], ◌∷◌, length, refl, sym, ap, ◌∙◌, arith, cond}
+use Rattle.std.proofs.Common.{◌≡◌, ℕ, ◌+◌, ◌*◌, ◌<◌, ◌≤◌, Bool, true, false, ◌||◌, ◌==◌, nat_lt, nat_le, List, [], ◌∷◌, length, Some, refl, sym, ap, ◌∙◌, arith, cond}
 use Rattle.std.proofs.lemmas.Bool.{le-leb, lt-leb, lt-ltb, cond_both}
 use Rattle.write_set.specs.declared.row.Row.{Row}
 use Rattle.itm_types.specs.declared.access.ReadHint.{ReadHint}
@@ -8,10 +8,13 @@ use Rattle.itm_types.specs.declared.access.Width.{Width}
 use Rattle.itm_types.specs.declared.access.Width.TheVariants.{U1, U2, U4, U8, F, D, M64, M128, M256, CF, CD}
 use Rattle.itm_types.specs.declared.datum.Datum.{Datum}
 use Rattle.itm_types.specs.declared.call.Props.{Props}
+use Rattle.itm_types.specs.declared.call.Call.{Call}
 use Rattle.itm_types.specs.declared.call.Call.TheVariants.{Commit, Read, Write}
+use Rattle.itm_types.specs.declared.call.Refusal.{Refusal}
 use Rattle.itm_types.specs.declared.call.Reply.TheVariants.{Done, Bytes, Refused}
-use Rattle.itm_types.specs.declared.call.Refusal.TheVariants.{OutOfRange}
+use Rattle.itm_types.specs.declared.call.Refusal.TheVariants.{Outside, OutOfRange}
 use Rattle.itm_types.specs.Access.{size_of}
+use Rattle.itm_types.specs.Calls.{access_of}
 use Rattle.itm_types.specs.Memory.{bytes_of, IsMemory}
 use Rattle.itm_types.proofs.Words.{length-bytes_of}
 use Rattle.itm_model.specs.State.{State}
@@ -20,9 +23,10 @@ use Rattle.itm_model.specs.Places.{in_range}
 use Rattle.word_pieces.specs.declared.piece.Piece.{Piece}
 use Rattle.word_pieces.specs.Masks.{mask_of}
 use Rattle.word_pieces.specs.Pieces.{scattered}
-use Rattle.itm_model.specs.Machine.{unless, effect, answer, reply, reply_unless, after, after_unless}
+use Rattle.itm_model.specs.Machine.{is_open, unless, or_else, needs_open, in_shared, refusal, effect, answer, reply, reply_unless, after, after_unless}
 use Rattle.write_set.specs.Rows.{overlay, put, row_with}
 use Rattle.norec_engine.specs.Rows.{put_all}
+use Rattle.norec_engine.specs.Fields.{access_refusal}
 use Rattle.norec_engine.specs.Stands.{state_over, block_over, is_some_row}
 use Rattle.write_set.proofs.Overlays.{length-overlay}
 
@@ -54,13 +58,6 @@ reads_slice now m arena props wrote hint width at l =
     let none = ap (λ b. unless b OutOfRange) (in_memory now at (size_of width) l) in
     (ap (λ r. after_unless r s s) none, ap (λ r. reply_unless r (answer s (Read hint width at))) none)
 
-reads_none : (now m arena : List ℕ) (props : Props) (wrote : Bool) (hint : ReadHint) (width : Width) (at : ℕ) → 8 * length now < at + size_of width
-    → (after 1 (over now props arena m wrote) (Read hint width at) ≡ over now props arena m wrote) × (reply 1 (over now props arena m wrote) (Read hint width at) ≡ Refused OutOfRange)
-reads_none now m arena props wrote hint width at out =
-    let s : State = over now props arena m wrote in
-    let some = ap (λ b. unless b OutOfRange) (not_in_memory now at (size_of width) out) in
-    (ap (λ r. after_unless r s s) some, ap (λ r. reply_unless r (answer s (Read hint width at))) some)
-
 module _ (rows : List Row) (b : Bool) (props : Props) (arena m : List ℕ) (words : ℕ) (hint : ReadHint) (width : Width) (at : ℕ) (o : b ≡ true) (mem : IsMemory words m) where
   len : length (overlay m rows) ≡ words
   len = length-overlay m rows ∙ mem.0
@@ -73,15 +70,6 @@ module _ (rows : List Row) (b : Bool) (props : Props) (arena m : List ℕ) (word
       let size = len in
       let r = reads_slice (overlay m rows) m arena props (is_some_row rows) hint width at (omega arith) in
       (e ∙ (sym r.0 ∙ ap (λ s. after 1 s (Read hint width at)) (sym e)), ap (λ (bs : List ℕ). Bytes (record { items = bs })) got ∙ (sym r.1 ∙ ap (λ s. reply 1 s (Read hint width at)) (sym e)))
-
-  -- a read that is refused
-  pub reads_not : 8 * words < at + size_of width
-      → (state_over rows b props arena m ≡ after 1 (state_over rows b props arena m) (Read hint width at)) × (Refused OutOfRange ≡ reply 1 (state_over rows b props arena m) (Read hint width at))
-  reads_not out =
-      let e = open_over rows b props arena m o in
-      let size = len in
-      let r = reads_none (overlay m rows) m arena props (is_some_row rows) hint width at (omega arith) in
-      (e ∙ (sym r.0 ∙ ap (λ s. after 1 s (Read hint width at)) (sym e)), sym r.1 ∙ ap (λ s. reply 1 s (Read hint width at)) (sym e))
 
 -- ## Writes
 
@@ -127,13 +115,6 @@ writes_bytes now m arena props wrote hint value at l =
       ap (λ r. reply_unless r (answer s (Write hint at value))) none,
     )
 
-writes_none : (now m arena : List ℕ) (props : Props) (wrote : Bool) (hint : WriteHint) (value : Datum) (at : ℕ) → 8 * length now < at + size_of value.width
-    → (after 1 (over now props arena m wrote) (Write hint at value) ≡ over now props arena m wrote) × (reply 1 (over now props arena m wrote) (Write hint at value) ≡ Refused OutOfRange)
-writes_none now m arena props wrote hint value at out =
-    let s : State = over now props arena m wrote in
-    let some = ap (λ b. unless b OutOfRange) (not_in_memory now at (size_of value.width) out) in
-    (ap (λ r. after_unless r s (effect s (Write hint at value))) some, ap (λ r. reply_unless r (answer s (Write hint at value))) some)
-
 module _ (rows : List Row) (b : Bool) (props : Props) (arena m : List ℕ) (words : ℕ) (hint : WriteHint) (value : Datum) (at : ℕ) (o : b ≡ true) (mem : IsMemory words m) where
   -- a write by an open engine, whose write set then has its pieces
   pub writes : (rows' : List Row) → at + size_of value.width ≤ 8 * words → is_some_row rows' ≡ true → bytes_of (overlay m rows') ≡ with_slice (bytes_of (overlay m rows)) at value.bytes.items
@@ -147,14 +128,35 @@ module _ (rows : List Row) (b : Bool) (props : Props) (arena m : List ℕ) (word
       (λ i. over_bytes (is i) props arena m (some i)) in
       (e' ∙ (same ∙ (sym r.0 ∙ ap (λ s. after 1 s (Write hint at value)) (sym e))), sym r.1 ∙ ap (λ s. reply 1 s (Write hint at value)) (sym e))
 
-  -- a write that is refused
-  pub writes_not : 8 * words < at + size_of value.width
-      → (state_over rows b props arena m ≡ after 1 (state_over rows b props arena m) (Write hint at value)) × (Refused OutOfRange ≡ reply 1 (state_over rows b props arena m) (Write hint at value))
-  writes_not out =
-      let e = open_over rows b props arena m o in
-      let size : length (overlay m rows) ≡ words = length-overlay m rows ∙ mem.0 in
-      let r = writes_none (overlay m rows) m arena props (is_some_row rows) hint value at (omega arith) in
-      (e ∙ (sym r.0 ∙ ap (λ s. after 1 s (Write hint at value)) (sym e)), sym r.1 ∙ ap (λ s. reply 1 s (Write hint at value)) (sym e))
+-- ## Refusals
+
+refuses : (s : State) (call : Call) (why : Refusal) → refusal 1 s call ≡ Some why → (s ≡ after 1 s call) × (Refused why ≡ reply 1 s call)
+refuses s call why e = (sym (ap (λ r. after_unless r s (effect s call)) e), sym (ap (λ r. reply_unless r (answer s call)) e))
+
+-- a read or a write of these bytes
+refusal_of : (s : State) (call : Call) (at size : ℕ) → access_of call ≡ Some (at, size) → refusal 1 s call ≡ or_else (needs_open s) (in_shared s at size)
+refusal_of s (Read hint width at') at size e =
+    let same : (at', size_of width) ≡ (at, size) = cc in
+    ap (λ (x : ℕ × ℕ). or_else (needs_open s) (in_shared s x.0 x.1)) same
+refusal_of s (Write hint at' value) at size e =
+    let same : (at', size_of value.width) ≡ (at, size) = cc in
+    ap (λ (x : ℕ × ℕ). or_else (needs_open s) (in_shared s x.0 x.1)) same
+refusal_of s call at size e = absurd (cc)
+
+-- is refused by an engine as by the state that it stands for
+pub access_refused : (rows : List Row) (b : Bool) (props : Props) (arena m : List ℕ) (words : ℕ) (call : Call) (at size : ℕ) (why : Refusal) → IsMemory words m
+    → access_of call ≡ Some (at, size) → access_refusal b words at size ≡ Some why
+    → (state_over rows b props arena m ≡ after 1 (state_over rows b props arena m) call) × (Refused why ≡ reply 1 (state_over rows b props arena m) call)
+access_refused rows b props arena m words call at size why mem is e =
+    let len = length-bytes_of (overlay m rows) in
+    let size_is : length (overlay m rows) ≡ words = length-overlay m rows ∙ mem.0 in
+    let n : length (bytes_of (overlay m rows)) ≡ 8 * words = omega arith in
+    refuses (state_over rows b props arena m) call why
+    (refusal_of (state_over rows b props arena m) call at size is ∙ ((λ i. or_else (unless (open_is b i) Outside) (unless (nat_le (at + size) (n i)) OutOfRange)) ∙ e))
+  where
+    open_is : (x : Bool) → is_open (state_over rows x props arena m) ≡ x
+    open_is true = refl
+    open_is false = refl
 
 -- ## Commits
 

@@ -4,12 +4,9 @@ use Rattle.std.proofs.lemmas.List.{length-replicate}
 use Rattle.itm_types.specs.declared.call.Call.{Call}
 use Rattle.itm_types.specs.declared.call.Call.TheVariants as calls
 use Rattle.itm_types.specs.declared.call.Reply.{Reply as Replied}
-use Rattle.itm_types.specs.declared.call.Reply.TheVariants.{Done, Bytes, Code, Refused}
-use Rattle.itm_types.specs.declared.row.LogRow.{LogRow}
+use Rattle.itm_types.specs.declared.call.Reply.TheVariants.{Code, Refused}
 use Rattle.itm_types.specs.declared.step.Step.{Step}
-use Rattle.itm_types.specs.declared.step.Step.TheVariants as steps
 use Rattle.itm_types.specs.Memory.{IsMemory, AllFit, Agrees}
-use Rattle.write_set.specs.declared.row.Row.{Row}
 use Rattle.norec_engine.proofs.Overlays.{Agrees-drop}
 use Rattle.norec_engine.specs.declared.answer.Answer.{Answer}
 use Rattle.norec_engine.specs.declared.answer.Answer.TheVariants.{Reply, Committed, Conflict, Busy, Full}
@@ -17,10 +14,9 @@ use Rattle.norec_engine.specs.declared.answer.Next.{Next}
 use Rattle.norec_engine.specs.declared.answer.Next.TheVariants.{Step as Asks, Answer as Answers}
 use Rattle.norec_engine.specs.declared.phase.Phase.{Phase}
 use Rattle.norec_engine.specs.declared.phase.Phase.TheVariants as at
-use Rattle.norec_engine.specs.Rows.{row_at, write_at, value_into}
 use Rattle.norec_engine.specs.Core.{Core, came, handed, ended}
 use Rattle.norec_engine.specs.Stands.{SeesOne}
-use Rattle.norec_engine.specs.Order.{asked, asked_in, tries_at, tries_after}
+use Rattle.norec_engine.specs.Order.{asked, asked_in, asked_from, tries_at, tries_after}
 use Rattle.norec_engine.specs.Endings.{EndsSo, IsEnding, ending_at, ending_after}
 use Rattle.norec_engine.specs.Proceeds.{Proceeds, AsksFor, Ends, RepliesTo, OpensBy, writes_after, props_after, IsSettled}
 use Rattle.norec_engine.specs.Moves.{IsCalled, IsResumed}
@@ -31,9 +27,9 @@ all_zero zero = tt
 all_zero (suc n) = (omega arith, all_zero n)
 
 -- who waits for a step is not idle
-idle_of : (log : List LogRow) (snapshot : ℕ) (writes : List Row) (s : Phase) → asked_in log snapshot writes s ≡ None → s ≡ at.Idle
-idle_of log snapshot writes at.Idle e = refl
-idle_of log snapshot writes s e = absurd (cc)
+idle_of : (c : Core) (s : Phase) → asked_from c s ≡ None → s ≡ at.Idle
+idle_of c at.Idle e = refl
+idle_of c s e = absurd (cc)
 
 replied_waits : (mid : Core) (o : Option Call) (r : Replied) (new : Core) → RepliesTo mid o r new → new.waits ≡ None
 replied_waits mid None r new e = absurd e
@@ -145,8 +141,8 @@ module _ (mid new new' : Core) (end : Option Answer)
   not_both : (s : Step) (a : Answer) (c d : Core) → c.stage ≡ d.stage → c.waits ≡ asked c → d.waits ≡ asked d → AsksFor mid s c → Ends mid a d → ⊥
   not_both s a c d same x y g h =
       let none : asked d ≡ None = sym y ∙ answered_waits mid a d h in
-      let idle : c.stage ≡ at.Idle = same ∙ idle_of d.log d.snapshot d.writes d.stage none in
-      let some : None ≡ Some s = ap (asked_in c.log c.snapshot c.writes) (sym idle) ∙ (sym x ∙ ap (λ (e : Core). e.waits) g.stays) in
+      let idle : c.stage ≡ at.Idle = same ∙ idle_of d d.stage none in
+      let some : None ≡ Some s = ap (asked_from c) (sym idle) ∙ (sym x ∙ ap (λ (e : Core). e.waits) g.stays) in
       absurd (cc)
 
   one_outcome : (what what' : Next) → Proceeds mid what new → Proceeds mid what' new' → EndsSo end what → EndsSo end what' → (what ≡ what') × (new ≡ new')

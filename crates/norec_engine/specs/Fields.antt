@@ -1,10 +1,13 @@
 -- The engine's fields as what its callers see, and what is true of them.
-use Rattle.std.specs.Prelude.{◌≡◌, ◌≢◌, ℕ, ◌+◌, ◌-◌, ◌*◌, ◌/◌, ◌%◌, ◌^◌, ◌<◌, ◌≤◌, suc, Bool, true, false, List, [], ◌∷◌, length, take, Option, None, Some}
+use Rattle.std.specs.Prelude.{◌≡◌, ◌≢◌, ℕ, ◌+◌, ◌-◌, ◌*◌, ◌/◌, ◌%◌, ◌^◌, ◌<◌, ◌≤◌, nat_le, Bool, true, false, List, [], ◌∷◌, length, take, Option, None, Some}
 use Rattle.itm_types.specs.declared.row.LogRow.{LogRow}
 use Rattle.write_set.specs.declared.row.Row.{Row}
 use Rattle.itm_types.specs.declared.call.Call.{Call}
 use Rattle.itm_types.specs.declared.call.Call.TheVariants.{Begin, Commit, Read}
+use Rattle.itm_types.specs.declared.call.Refusal.{Refusal}
+use Rattle.itm_types.specs.declared.call.Refusal.TheVariants.{Outside, OutOfRange}
 use Rattle.itm_types.specs.declared.step.Step.{Step}
+use Rattle.itm_model.specs.Machine.{unless, or_else}
 use Rattle.itm_types.specs.Access.{size_of}
 use Rattle.itm_types.specs.Memory.{IsMemory, Agrees}
 use Rattle.word_pieces.specs.declared.piece.Piece.{Piece}
@@ -119,6 +122,10 @@ core d phase = record {
   tries = tries_of phase d.tries;
   entry = d.entry;
 }
+
+-- why a read or a write of so many bytes from a place on is refused, if it is
+abbrev pub access_refusal : Bool → ℕ → ℕ → ℕ → Option Refusal
+access_refusal is_open words place size = or_else (unless is_open Outside) (unless (nat_le (place + size) (8 * words)) OutOfRange)
 
 -- ## What is true of the fields
 

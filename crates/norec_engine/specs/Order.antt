@@ -135,6 +135,9 @@ abbrev pub asked_in : List LogRow → ℕ → List Row → Phase → Option Step
 asked_in log snapshot writes Idle = None
 asked_in log snapshot writes stage = Some (step_in log snapshot writes stage)
 
+abbrev pub asked_from : Core → Phase → Option Step
+asked_from c stage = asked_in c.log c.snapshot c.writes stage
+
 -- and the engine, by its stage
 abbrev pub asked : Core → Option Step
-asked c = asked_in c.log c.snapshot c.writes c.stage
+asked c = asked_from c c.stage

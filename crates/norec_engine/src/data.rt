@@ -1,5 +1,7 @@
 //! What an engine keeps beside the phase.
 
+ghost use Rattle.norec_engine.specs.Fields.{IsEnded};
+
 use crate::arena::Arena;
 use crate::limits::Limits;
 use itm_types::{Props, Value};
@@ -28,4 +30,13 @@ pub struct Data {
     pub tries: u32,
     /// Steps that the call has asked for.
     pub spent: u128,
+}
+
+/// The transaction is over: nothing of it is kept.
+pub(crate) fn end(state: &mut Data)
+    ensures { IsEnded state.old state.new }
+{
+    state.log.clear();
+    state.writes.clear();
+    state.is_open = false;
 }

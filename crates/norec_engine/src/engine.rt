@@ -12,11 +12,11 @@ use crate::answer::{Answer, Next, Undone};
 use crate::arena::Arena;
 use crate::begin::{begin, begin_seen};
 use crate::commit::{back_loaded, commit, exchanged, freed, stored};
-use crate::data::Data;
+use crate::data::{Data, end};
 use crate::limits::Limits;
 use crate::phase::{Phase, Turn};
 use crate::read::{confirmed, loaded, read};
-use crate::rounds::{end, round_ended, round_started, row_seen};
+use crate::rounds::{round_ended, round_started, row_seen};
 use crate::steps::step_of;
 use crate::write::write;
 use itm_types::{Call, Props, Value};
@@ -91,8 +91,7 @@ impl Engine {
         ensures err { OnErr result (self.new ≡ self.old) }
     {
         let turn = begin(&mut self.state, props, room, again);
-        self.phase = phase_of(&turn);
-        Ok(count(&mut self.state, turn))
+        Ok(take(&mut self.state, &mut self.phase, turn))
     }
 
     /// A call comes.
@@ -111,8 +110,7 @@ impl Engine {
         ensures starves { OnErr result (MayStarve self.old call.now) }
     {
         let turn = called(&mut self.state, call)?;
-        self.phase = phase_of(&turn);
-        Ok(count(&mut self.state, turn))
+        Ok(take(&mut self.state, &mut self.phase, turn))
     }
 
     /// The step that it waits for was done: `seen` is the value loaded, the value that an exchange found, or 0 after a store.
@@ -131,8 +129,7 @@ impl Engine {
         ensures settled { IsSettled self.new }
     {
         let turn = turned(&mut self.state, self.phase, seen);
-        self.phase = phase_of(&turn);
-        count(&mut self.state, turn)
+        take(&mut self.state, &mut self.phase, turn)
     }
 
     /// Gives the transaction up, with the call in progress. While the clock is held, nothing is changed.
@@ -218,31 +215,26 @@ impl Engine {
     }
 }
 
-/// The phase after a turn.
-fn phase_of(turn: &Turn) -> Phase
-    ensures { result ≡ phase_after turn.now }
-{
-    match turn {
-        Turn::Wait(phase) => *phase,
-        Turn::End(_) => Phase::Idle,
-    }
-}
-
-/// A step that is asked for is counted.
-fn count(state: &mut Data, turn: Turn) -> Next
+/// Takes a turn: the call goes on in its phase, or is over. A step that is asked for is counted.
+fn take(state: &mut Data, phase: &mut Phase, turn: Turn) -> Next
     requires sound { IsSoundTurn turn state.old }
-    ensures after { state.new ≡ data_after turn state.old }
+    ensures state { state.new ≡ data_after turn state.old }
+    ensures phase { phase.new ≡ phase_after turn }
     ensures next { result ≡ next_of turn state.old }
 {
     match turn {
-        Turn::Wait(phase) => {
+        Turn::Wait(next) => {
             let _writes = state.writes.len();
             let _entry = state.entry;
-            let step = step_of(state, phase);
+            let step = step_of(state, next);
             state.spent += 1;
+            *phase = next;
             Next::Step(step)
         }
-        Turn::End(answer) => Next::Answer(answer),
+        Turn::End(answer) => {
+            *phase = Phase::Idle;
+            Next::Answer(answer)
+        }
     }
 }
 

@@ -220,7 +220,7 @@ module _ {P : Type 0} (next : P → Option Call) (answered : P → Reply → P) 
       pub opens : (start : Beginning P) × (xs : List Entry) × (rows.ended ≡ past) × (rows.active ≡ row_of next answered left max_commits thread b start xs Unfinished ∷ []) × IsInBlock next answered left b start xs M p e
 
     commit_reply : (s : State) → is_open s ≡ true → Done ≡ reply MAX_DEPTH s Commit
-    commit_reply s o = sym (ap (λ (b : Bool). reply_unless (unless b Outside) Done) o)
+    commit_reply s o = sym (ap (λ (b : Bool). reply_unless (or_else (unless b Outside) None) Done) o)
 
     pub commits_on : (b : Progress P) (past : List Attempt) (M : List ℕ) (cells : Cells) (rows rows' : Rows) (p : P) (mid new : Core) (at : ℕ) (wrote : Bool)
         → IsClosing b past M rows p mid → Commits mid at wrote new → next p ≡ Some Commit → IsMemory mid.words M → EndsBy thread rows at wrote Commit rows'
@@ -416,7 +416,7 @@ module _ {P : Type 0} (next : P → Option Call) (answered : P → Reply → P) 
 
     outside_reply : (s : State) (a : List ℕ) (c : Call) → is_begin c ≡ false → is_open s ≡ false → reply MAX_DEPTH s c ≡ reply MAX_DEPTH (outside [] a) c
     outside_reply s a (Begin props room) nb o = absurd (cc)
-    outside_reply s a Commit nb o = ap (λ (b : Bool). reply_unless (unless b Outside) Done) o
+    outside_reply s a Commit nb o = ap (λ (b : Bool). reply_unless (or_else (unless b Outside) None) Done) o
     outside_reply s a (Read hint width at) nb o =
         ap (λ (b : Bool). reply_unless (or_else (unless b Outside) (in_shared s at (size_of width))) (answer s (Read hint width at))) o
     outside_reply s a (Write hint at value) nb o =
@@ -424,7 +424,7 @@ module _ {P : Type 0} (next : P → Option Call) (answered : P → Reply → P) 
 
     outside_after : (s : State) (c : Call) → is_begin c ≡ false → is_open s ≡ false → after MAX_DEPTH s c ≡ s
     outside_after s (Begin props room) nb o = absurd (cc)
-    outside_after s Commit nb o = ap (λ (b : Bool). after_unless (unless b Outside) s (effect s Commit)) o
+    outside_after s Commit nb o = ap (λ (b : Bool). after_unless (or_else (unless b Outside) None) s (effect s Commit)) o
     outside_after s (Read hint width at) nb o =
         ap (λ (b : Bool). after_unless (or_else (unless b Outside) (in_shared s at (size_of width))) s s) o
     outside_after s (Write hint at value) nb o =
