@@ -15,7 +15,7 @@ use Rattle.norec_engine.specs.Stands.{stands_for}
 use Rattle.norec_engine.specs.Keeps.{Keeps}
 
 pub keeps_self : (e : Core) → Keeps e e
-keeps_self e = record { words = refl; patience = refl; max_commits = refl; arena = refl; writes = refl; is_open = refl; props = refl; doing = refl; again = refl; entry = refl }
+keeps_self e = record { words = refl; patience = refl; max_commits = refl; arena = refl; writes = refl; blocks = refl; doing = refl; again = refl; entry = refl }
 
 pub keeps_twice : (a b c : Core) → Keeps a b → Keeps b c → Keeps a c
 keeps_twice a b c k l = record {
@@ -24,8 +24,7 @@ keeps_twice a b c k l = record {
   max_commits = l.max_commits ∙ k.max_commits;
   arena = l.arena ∙ k.arena;
   writes = l.writes ∙ k.writes;
-  is_open = l.is_open ∙ k.is_open;
-  props = l.props ∙ k.props;
+  blocks = l.blocks ∙ k.blocks;
   doing = l.doing ∙ k.doing;
   again = l.again ∙ k.again;
   entry = l.entry ∙ k.entry;
@@ -42,7 +41,7 @@ pub record IsHanded (e mid : Core) : Type 0 where
 handed_with : (e : Core) (waits : Option Step) (stage : Phase) (tries clock done : ℕ) (fresh : List LogRow) (holds freed : Bool) (got : Option ℕ)
     → IsHanded e (record e { waits = waits; stage = stage; tries = tries; clock = clock; done = done; fresh = fresh; holds = holds; freed = freed; got = got })
 handed_with e waits stage tries clock done fresh holds freed got = record {
-  keeps = record { words = refl; patience = refl; max_commits = refl; arena = refl; writes = refl; is_open = refl; props = refl; doing = refl; again = refl; entry = refl };
+  keeps = record { words = refl; patience = refl; max_commits = refl; arena = refl; writes = refl; blocks = refl; doing = refl; again = refl; entry = refl };
   log = refl;
   snapshot = refl;
   spent = refl;
@@ -68,8 +67,7 @@ keeps_asked mid new step g = let same = g.stays in record {
   max_commits = ap (λ (c : Core). c.max_commits) same;
   arena = ap (λ (c : Core). c.arena) same;
   writes = ap (λ (c : Core). c.writes) same;
-  is_open = ap (λ (c : Core). c.is_open) same;
-  props = ap (λ (c : Core). c.props) same;
+  blocks = ap (λ (c : Core). c.blocks) same;
   doing = ap (λ (c : Core). c.doing) same;
   again = ap (λ (c : Core). c.again) same;
   entry = ap (λ (c : Core). c.entry) same;
@@ -77,7 +75,7 @@ keeps_asked mid new step g = let same = g.stays in record {
 
 -- both stand for the same state
 pub same_state : (a b : Core) → Keeps a b → (m : List ℕ) → stands_for b m ≡ stands_for a m
-same_state a b k m = λ i. stands_for (record a { writes = k.writes i; is_open = k.is_open i; props = k.props i; arena = k.arena i }) m
+same_state a b k m = λ i. stands_for (record a { writes = k.writes i; blocks = k.blocks i; arena = k.arena i }) m
 
 -- and may ask for as many steps
 pub most_same : (a b : Core) → Keeps a b → (o : Option Call) → most b o ≡ most a o

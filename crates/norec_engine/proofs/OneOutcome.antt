@@ -2,9 +2,7 @@
 use Rattle.std.proofs.Common.{◌≡◌, ℕ, zero, suc, ◌+◌, Bool, true, false, List, [], replicate, Option, None, Some, refl, sym, ap, subst, ◌∙◌, arith}
 use Rattle.std.proofs.lemmas.List.{length-replicate}
 use Rattle.itm_types.specs.declared.call.Call.{Call}
-use Rattle.itm_types.specs.declared.call.Call.TheVariants as calls
 use Rattle.itm_types.specs.declared.call.Reply.{Reply as Replied}
-use Rattle.itm_types.specs.declared.call.Reply.TheVariants.{Code, Refused}
 use Rattle.itm_types.specs.declared.step.Step.{Step}
 use Rattle.itm_types.specs.Memory.{IsMemory, AllFit, Agrees}
 use Rattle.norec_engine.proofs.Overlays.{Agrees-drop}
@@ -14,11 +12,11 @@ use Rattle.norec_engine.specs.declared.answer.Next.{Next}
 use Rattle.norec_engine.specs.declared.answer.Next.TheVariants.{Step as Asks, Answer as Answers}
 use Rattle.norec_engine.specs.declared.phase.Phase.{Phase}
 use Rattle.norec_engine.specs.declared.phase.Phase.TheVariants as at
-use Rattle.norec_engine.specs.Core.{Core, came, handed, ended}
+use Rattle.norec_engine.specs.Core.{Core, came, handed, ended, is_inside, in_transaction}
 use Rattle.norec_engine.specs.Stands.{SeesOne}
 use Rattle.norec_engine.specs.Order.{asked, asked_in, asked_from, tries_at, tries_after}
 use Rattle.norec_engine.specs.Endings.{EndsSo, IsEnding, ending_at, ending_after}
-use Rattle.norec_engine.specs.Proceeds.{Proceeds, AsksFor, Ends, RepliesTo, OpensBy, writes_after, props_after, IsSettled}
+use Rattle.norec_engine.specs.Proceeds.{Proceeds, AsksFor, Ends, RepliesTo, writes_after, blocks_after, IsSettled}
 use Rattle.norec_engine.specs.Moves.{IsCalled, IsResumed}
 
 -- a memory of so many words
@@ -42,25 +40,16 @@ answered_waits mid (Conflict clock word) new e = ap (λ (c : Core). c.waits) e.s
 answered_waits mid (Busy clock) new e = ap (λ (c : Core). c.waits) e.stays
 answered_waits mid (Full at) new e = ap (λ (c : Core). c.waits) e.stays
 
--- a reply tells whether a transaction is open
-opens_same : (was : Bool) (call : Call) (r : Replied) (a b : Bool) → OpensBy was call r a → OpensBy was call r b → a ≡ b
-opens_same was (calls.Begin props room) (Code n) a b x y = x.1 ∙ sym y.1
-opens_same was (calls.Begin props room) (Refused refusal) a b x y = x ∙ sym y
-opens_same was (calls.Begin props room) r a b x y = absurd x
-opens_same was calls.Commit (Refused refusal) a b x y = x ∙ sym y
-opens_same was calls.Commit r a b x y = absurd x
-opens_same was call r a b x y = x ∙ sym y
-
 -- ## One outcome
 
 module _ (mid new new' : Core) (end : Option Answer)
     (stage : new.stage ≡ new'.stage) (tries : new.tries ≡ new'.tries) (snapshot : new.snapshot ≡ new'.snapshot)
-    (both_open : new.is_open ≡ true → new'.is_open ≡ true → new.log ≡ new'.log) (settled : IsSettled new) (settled' : IsSettled new')
+    (both_open : in_transaction new ≡ true → in_transaction new' ≡ true → new.log ≡ new'.log) (settled : IsSettled new) (settled' : IsSettled new')
     (asks : new.waits ≡ asked new) (asks' : new'.waits ≡ asked new') (sees : SeesOne new) (sees' : SeesOne new') where
-  same_log : new.is_open ≡ new'.is_open → new.log ≡ new'.log
-  same_log same = by_open new.is_open refl
+  same_log : in_transaction new ≡ (in_transaction new') → new.log ≡ new'.log
+  same_log same = by_open (in_transaction new) refl
     where
-      by_open : (b : Bool) → new.is_open ≡ b → new.log ≡ new'.log
+      by_open : (b : Bool) → in_transaction new ≡ b → new.log ≡ new'.log
       by_open true o = both_open o (sym same ∙ o)
       by_open false o = (settled.closed o).0 ∙ sym (settled'.closed (sym same ∙ o)).0
 
@@ -69,7 +58,7 @@ module _ (mid new new' : Core) (end : Option Answer)
   asks_both s s' g g' =
       let e = g.stays in
       let e' = g'.stays in
-      let open_same : new.is_open ≡ new'.is_open = ap (λ (c : Core). c.is_open) e ∙ sym (ap (λ (c : Core). c.is_open) e') in
+      let open_same : in_transaction new ≡ (in_transaction new') = ap in_transaction e ∙ sym (ap in_transaction e') in
       let writes : new.writes ≡ new'.writes = ap (λ (c : Core). c.writes) e ∙ sym (ap (λ (c : Core). c.writes) e') in
       let log = same_log open_same in
       let step : Some s ≡ Some s' = sym (ap (λ (c : Core). c.waits) e) ∙ (asks ∙ ((λ i. asked_in (log i) (snapshot i) (writes i) (stage i)) ∙ (sym asks' ∙ ap (λ (c : Core). c.waits) e'))) in
@@ -80,9 +69,9 @@ module _ (mid new new' : Core) (end : Option Answer)
 
   -- a memory that agrees with both logs
   one_memory : new.words ≡ mid.words → new'.words ≡ mid.words → (m : List ℕ) × IsMemory mid.words m × Agrees m new.log × Agrees m new'.log
-  one_memory w w' = by_open new.is_open new'.is_open refl refl
+  one_memory w w' = by_open (in_transaction new) (in_transaction new') refl refl
     where
-      by_open : (a b : Bool) → new.is_open ≡ a → new'.is_open ≡ b → (m : List ℕ) × IsMemory mid.words m × Agrees m new.log × Agrees m new'.log
+      by_open : (a b : Bool) → in_transaction new ≡ a → in_transaction new' ≡ b → (m : List ℕ) × IsMemory mid.words m × Agrees m new.log × Agrees m new'.log
       by_open true true a b = let s = sees a in (s.0, subst (λ (n : ℕ). IsMemory n s.0) w s.1, s.2, subst (Agrees s.0) (both_open a b) s.2)
       by_open true false a b = let s = sees a in (s.0, subst (λ (n : ℕ). IsMemory n s.0) w s.1, s.2, subst (Agrees s.0) (sym (settled'.closed b).0) tt)
       by_open false true a b = let s = sees' b in (s.0, subst (λ (n : ℕ). IsMemory n s.0) w' s.1, subst (Agrees s.0) (sym (settled.closed a).0) tt, s.2)
@@ -97,10 +86,9 @@ module _ (mid new new' : Core) (end : Option Answer)
       let e' = g'.stays in
       let m = one_memory (ap (λ (c : Core). c.words) e) (ap (λ (c : Core). c.words) e') in
       let one : r ≡ r' = g.reply_is m.0 m.1 (Agrees-drop m.0 mid.entry new.log m.2) ∙ sym (g'.reply_is m.0 m.1 (Agrees-drop m.0 mid.entry new'.log m.3)) in
-      let is_open : new.is_open ≡ new'.is_open = opens_same mid.is_open call r new.is_open new'.is_open g.opens (subst (λ (x : Replied). OpensBy mid.is_open call x new'.is_open) (sym one) g'.opens) in
       let writes : new.writes ≡ new'.writes = g.writes ∙ (ap (writes_after mid.writes call) one ∙ sym g'.writes) in
-      let props : new.props ≡ new'.props = g.props ∙ (ap (props_after mid.props call) one ∙ sym g'.props) in
-      let log = same_log is_open in (
+      let blocks : new.blocks ≡ new'.blocks = g.blocks ∙ (ap (blocks_after mid.blocks call) one ∙ sym g'.blocks) in
+      let log = same_log (ap is_inside blocks) in (
         one,
         e ∙ ((λ i. record mid {
           stage = stage i;
@@ -113,8 +101,7 @@ module _ (mid new new' : Core) (end : Option Answer)
           log = log i;
           snapshot = snapshot i;
           writes = writes i;
-          is_open = is_open i;
-          props = props i;
+          blocks = blocks i;
         }) ∙ sym e'),
       )
 

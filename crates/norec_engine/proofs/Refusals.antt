@@ -14,8 +14,8 @@ use Rattle.write_set.specs.declared.row.Row.{Row}
 use Rattle.norec_engine.specs.declared.data.Data.{Data}
 use Rattle.norec_engine.specs.declared.phase.Phase.TheVariants.{Idle}
 use Rattle.norec_engine.specs.Core.{came}
-use Rattle.norec_engine.specs.Fields.{access_refusal, core, IsSound}
-use Rattle.norec_engine.specs.Proceeds.{Replies, OpensBy, writes_after, props_after}
+use Rattle.norec_engine.specs.Fields.{access_refusal, core, blocks_of, in_block, IsSound}
+use Rattle.norec_engine.specs.Proceeds.{Replies, OpensBy, writes_after, blocks_after}
 use Rattle.norec_engine.proofs.Machines.{access_refused}
 
 -- what is not refused
@@ -35,16 +35,16 @@ opens_kept was (Begin props room) why = refl
 opens_kept was Commit why = refl
 opens_kept was call why = refl
 
-props_kept : (was : Props) (call : Call) (why : Refusal) → was ≡ props_after was call (Refused why)
-props_kept was (Begin props room) why = refl
-props_kept was call why = refl
+blocks_kept : (was : List Props) (call : Call) (why : Refusal) → was ≡ blocks_after was call (Refused why)
+blocks_kept was (Begin props room) why = refl
+blocks_kept was call why = refl
 
 -- the engine is as it was, but for the counts
 pub refused_replies : (d : Data) (call : Call) (at size : ℕ) (why : Refusal) → IsSound d Idle → access_of call ≡ Some (at, size)
-    → access_refusal d.is_open d.words at size ≡ Some why
+    → access_refusal (in_block d) d.words at size ≡ Some why
     → Replies (came (core d Idle) call false) call (Refused why) (core (record d { spent = 0; entry = length d.log.rows }) Idle)
 refused_replies d call at size why s is e =
-    let all = λ (m : List ℕ) (mem : IsMemory d.words m). access_refused d.writes d.is_open d.props d.arena m d.words call at size why mem is e in
+    let all = λ (m : List ℕ) (mem : IsMemory d.words m). access_refused d.writes (blocks_of d.block) d.arena m d.words call at size why mem is e in
     record {
       meets = λ m mem agrees. (all m mem).0;
       reply_is = λ m mem agrees. (all m mem).1;
@@ -53,7 +53,7 @@ refused_replies d call at size why s is e =
       free = refl;
       unfreed = refl;
       still = λ o. o;
-      opens = opens_kept d.is_open call why;
-      props = props_kept d.props call why;
+      opens = opens_kept (in_block d) call why;
+      blocks = blocks_kept (blocks_of d.block) call why;
       settled = λ o. ((s.in_phase.0 o).1, s.bounds.even);
     }

@@ -11,7 +11,7 @@ use Rattle.norec_engine.specs.declared.phase.Aim.TheVariants as aims
 use Rattle.norec_engine.specs.declared.phase.Phase.{Phase}
 use Rattle.norec_engine.specs.declared.phase.Phase.TheVariants.{Begin, Confirm, RoundStart, RoundRow, RoundEnd, Exchange, Free}
 use Rattle.norec_engine.specs.Rows.{row_at}
-use Rattle.norec_engine.specs.Core.{Core}
+use Rattle.norec_engine.specs.Core.{Core, in_transaction}
 
 -- once a round has succeeded: a commit finds as many done as may be
 abbrev pub aimed_ending : Aim → ℕ → Option Answer
@@ -38,7 +38,7 @@ commit_ending c = if length c.writes == 0 then Some (Committed (c.snapshot / 2) 
 
 -- and of any call
 abbrev pub ending_at : Core → Call → Option Answer
-ending_at c calls.Commit = if c.is_open then commit_ending c else None
+ending_at c calls.Commit = if in_transaction c then commit_ending c else None
 ending_at c _ = None
 
 -- the answer is this end, or, where there is none, a reply

@@ -4,6 +4,7 @@ use Rattle.itm_types.specs.declared.row.LogRow.{LogRow}
 use Rattle.write_set.specs.declared.row.Row.{Row}
 use Rattle.itm_types.specs.declared.call.Call.{Call}
 use Rattle.itm_types.specs.declared.call.Call.TheVariants.{Begin, Commit, Read}
+use Rattle.itm_types.specs.declared.call.Props.{Props}
 use Rattle.itm_types.specs.declared.call.Refusal.{Refusal}
 use Rattle.itm_types.specs.declared.call.Refusal.TheVariants.{Outside, OutOfRange}
 use Rattle.itm_types.specs.declared.step.Step.{Step}
@@ -27,7 +28,7 @@ use Rattle.norec_engine.specs.declared.answer.Next.{Next}
 use Rattle.norec_engine.specs.declared.answer.Next.TheVariants.{Step as Asks, Answer as Answers}
 use Rattle.norec_engine.specs.Rows.{write_at, is_covered, AllWithin, AllWritesWithin}
 use Rattle.write_set.specs.Rows.{overlay, AreRows}
-use Rattle.norec_engine.specs.Core.{Core}
+use Rattle.norec_engine.specs.Core.{Core, is_inside}
 use Rattle.norec_engine.specs.Order.{word_of, step_in, asked_in}
 use Rattle.norec_engine.specs.Proceeds.{Proceeds, own_rows}
 use Rattle.norec_engine.specs.Endings.{IsEnding}
@@ -96,6 +97,14 @@ abbrev pub tries_of : Phase → ℕ → ℕ
 tries_of at.Idle tries = 0
 tries_of _ tries = tries
 
+-- the open blocks
+abbrev pub blocks_of : Option Props → List Props
+blocks_of None = []
+blocks_of (Some props) = props ∷ []
+
+abbrev pub in_block : Data → Bool
+in_block d = is_inside (blocks_of d.block)
+
 -- the engine with these fields, in this phase
 abbrev pub core : Data → Phase → Core
 core d phase = record {
@@ -108,8 +117,7 @@ core d phase = record {
   fresh = fresh_of d.log.rows phase;
   log = d.log.rows;
   writes = d.writes;
-  is_open = d.is_open;
-  props = d.props;
+  blocks = blocks_of d.block;
   holds = holds_of phase;
   done = done_of d.writes phase;
   freed = false;
@@ -147,14 +155,14 @@ pub record IsBounded (words : ℕ) (limits : Limits) (snapshot : ℕ) : Type 0 w
 
 -- a transaction is open, and its words lie within the memory
 pub record IsOpen (d : Data) : Type 0 where
-  pub is_open : d.is_open ≡ true
+  pub is_open : in_block d ≡ true
   pub log : AllWithin d.words d.log.rows
   pub writes : AllWritesWithin d.words d.writes
   pub rows : AreRows d.writes
   pub tries : d.tries ≤ d.limits.patience
 
 pub record IsOutside (d : Data) : Type 0 where
-  pub is_open : d.is_open ≡ false
+  pub is_open : in_block d ≡ false
   pub log : d.log.rows ≡ []
   pub writes : d.writes ≡ []
   pub tries : d.tries ≤ d.limits.patience
@@ -200,7 +208,7 @@ pub record IsHolding (d : Data) (steps : ℕ) : Type 0 where
   pub spent : d.spent ≤ 1 + d.tries * round_of aims.Commit d + steps
 
 abbrev pub InPhase : Data → Phase → Type 0
-InPhase d at.Idle = (d.is_open ≡ true → IsOpen d × (d.clock ≡ d.snapshot)) × (d.is_open ≡ false → IsOutside d)
+InPhase d at.Idle = (in_block d ≡ true → IsOpen d × (d.clock ≡ d.snapshot)) × (in_block d ≡ false → IsOutside d)
 InPhase d (at.Begin b) = IsOutside d × (d.spent ≤ d.tries)
 InPhase d (at.Load r) = IsOpen d × MayRead d r × (d.clock ≡ d.snapshot) × (d.spent ≤ 2 * r.number + 1 + d.tries * round_of (aims.Read r) d)
 InPhase d (at.Confirm r value) = IsOpen d × MayRead d r × (d.clock ≡ d.snapshot) × (d.spent ≤ 2 * r.number + 2 + d.tries * round_of (aims.Read r) d)
@@ -282,13 +290,13 @@ in_rows d aim row = record (core d (at.RoundRow aim row)) { waits = None; stage 
 
 -- the log and the snapshot stay, unless the transaction ended
 pub record Stays (old new : Data) : Type 0 where
-  pub opens : new.is_open ≡ true → old.is_open ≡ true
-  pub log : new.is_open ≡ true → new.log.rows ≡ old.log.rows
+  pub opens : in_block new ≡ true → in_block old ≡ true
+  pub log : in_block new ≡ true → new.log.rows ≡ old.log.rows
   pub snapshot : new.snapshot ≡ old.snapshot
 
 -- the transaction is over, and all else as before
 pub record IsEnded (old new : Data) : Type 0 where
-  pub is_open : new.is_open ≡ false
+  pub block : new.block ≡ None
   pub log : new.log.rows ≡ []
   pub writes : new.writes ≡ []
   pub words : new.words ≡ old.words
@@ -296,7 +304,6 @@ pub record IsEnded (old new : Data) : Type 0 where
   pub arena : new.arena ≡ old.arena
   pub snapshot : new.snapshot ≡ old.snapshot
   pub clock : new.clock ≡ old.clock
-  pub props : new.props ≡ old.props
   pub tries : new.tries ≡ old.tries
   pub spent : new.spent ≡ old.spent
   pub entry : new.entry ≡ old.entry

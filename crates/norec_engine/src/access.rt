@@ -3,7 +3,7 @@
 ghost use Rattle.std.specs.Prelude.{◌≡◌, ℕ, ◌≤◌, ◌+◌, ◌*◌, ◌&&◌, nat_le, false, None, Some, is_none};
 ghost use Rattle.itm_types.specs.declared.call.Call.{Call};
 ghost use Rattle.itm_types.specs.Calls.{access_of};
-ghost use Rattle.norec_engine.specs.Fields.{access_refusal, core, core_after, phase_after, IsSound, IsSoundTurn, Turns, TurnEndsSo, Stays};
+ghost use Rattle.norec_engine.specs.Fields.{in_block, access_refusal, core, core_after, phase_after, IsSound, IsSoundTurn, Turns, TurnEndsSo, Stays};
 ghost use Rattle.norec_engine.specs.Core.{came};
 
 use crate::answer::Answer;
@@ -14,10 +14,10 @@ use itm_types::{Refusal, Reply};
 /// Why a read or a write of so many bytes from a place on is refused, if it is.
 pub(crate) fn refusal(state: &Data, at: u64, size: u8) -> Option<Refusal>
     requires { state.now.words ≤ 8192 }
-    ensures value { result ≡ access_refusal state.now.is_open state.now.words at size }
-    ensures served { is_none result ≡ (state.now.is_open && nat_le (at + size) (8 * state.now.words)) }
+    ensures value { result ≡ access_refusal (in_block state.now) state.now.words at size }
+    ensures served { is_none result ≡ (in_block state.now && nat_le (at + size) (8 * state.now.words)) }
 {
-    if !state.is_open {
+    if !state.is_open() {
         Some(Refusal::Outside)
     } else if !is_within(state.words, at, size) {
         Some(Refusal::OutOfRange)
@@ -30,7 +30,7 @@ pub(crate) fn refusal(state: &Data, at: u64, size: u8) -> Option<Refusal>
 pub(crate) fn refuse(state: &mut Data, why: Refusal) -> Turn
     requires sound { IsSound state.old Phase.Idle }
     ensures sound { IsSoundTurn result state.new }
-    ensures proceeds { (call : Call) (at size : ℕ) → access_of call ≡ Some (at, size) → access_refusal state.old.is_open state.old.words at size ≡ Some why
+    ensures proceeds { (call : Call) (at size : ℕ) → access_of call ≡ Some (at, size) → access_refusal (in_block state.old) state.old.words at size ≡ Some why
         → Turns (came (core state.old Phase.Idle) call false) result state.new }
     ensures stays { Stays state.old state.new }
     ensures order { phase_after result ≡ Phase.Idle }

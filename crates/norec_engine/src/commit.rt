@@ -26,7 +26,7 @@ pub(crate) fn commit(state: &mut Data) -> Turn
     state.spent = 0;
     state.tries = 0;
     state.entry = rows;
-    if !state.is_open {
+    if !state.is_open() {
         return Turn::End(Answer::Reply(Reply::Refused(Refusal::Outside)));
     }
     if state.writes.len() == 0 {

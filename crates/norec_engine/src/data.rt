@@ -1,6 +1,7 @@
 //! What an engine keeps beside the phase.
 
-ghost use Rattle.norec_engine.specs.Fields.{IsEnded};
+ghost use Rattle.std.specs.Prelude.{◌≡◌};
+ghost use Rattle.norec_engine.specs.Fields.{in_block, IsEnded};
 
 use crate::arena::Arena;
 use crate::limits::Limits;
@@ -18,8 +19,8 @@ pub struct Data {
     pub snapshot: u64,
     /// The last clock value handed in.
     pub clock: u64,
-    pub is_open: bool,
-    pub props: Props,
+    /// The open block, and with it a transaction.
+    pub block: Option<Props>,
     pub log: ValueLog,
     pub writes: WriteSet,
     /// The bytes that the read in progress has so far.
@@ -32,11 +33,20 @@ pub struct Data {
     pub spent: u128,
 }
 
+impl Data {
+    /// A transaction is open.
+    pub(crate) fn is_open(&self) -> bool
+        ensures { result ≡ in_block self.now }
+    {
+        self.block.is_some()
+    }
+}
+
 /// The transaction is over: nothing of it is kept.
 pub(crate) fn end(state: &mut Data)
     ensures { IsEnded state.old state.new }
 {
     state.log.clear();
     state.writes.clear();
-    state.is_open = false;
+    state.block = None;
 }

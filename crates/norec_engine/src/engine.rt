@@ -1,11 +1,11 @@
 //! One thread's transactions over shared cells that someone else steps on.
 
 ghost use Rattle.std.specs.Prelude.{◌≡◌, ◌≢◌, ◌<◌, ◌≤◌, ◌^◌, IfOk, IsOk, OnOk, OnErr, IsSome, true, IsTrue, ◌↔◌, is_some, false};
-ghost use Rattle.norec_engine.specs.Core.{opening, came, handed};
+ghost use Rattle.norec_engine.specs.Core.{in_transaction, opening, came, handed};
 ghost use Rattle.norec_engine.specs.Order.{asked, log_after, snapshot_after, stage_after, stage_at, tries_after, tries_at};
 ghost use Rattle.norec_engine.specs.Endings.{ending_at, ending_after, EndsSo};
 ghost use Rattle.norec_engine.specs.Proceeds.{Proceeds, Joins, StaysOn, IsAtOnce, IsUndone, MayStarve, Fits, IsWithin, IsSettled};
-ghost use Rattle.norec_engine.specs.Fields.{core, core_after, phase_after, data_after, next_of, waits_of, IsSound, IsSoundTurn, Turns, TurnEndsSo, Stays};
+ghost use Rattle.norec_engine.specs.Fields.{in_block, core, core_after, phase_after, data_after, next_of, waits_of, IsSound, IsSoundTurn, Turns, TurnEndsSo, Stays};
 ghost use Rattle.norec_engine.specs.Undoing.{undone_of, after_undoing};
 
 use crate::answer::{Answer, Next, Undone};
@@ -62,8 +62,7 @@ impl Engine {
                 arena,
                 snapshot: 0,
                 clock: 0,
-                is_open: false,
-                props: Props {},
+                block: None,
                 log: ValueLog::new(alloc),
                 writes: WriteSet::new(alloc),
                 gathered: Value::new(),
@@ -123,7 +122,7 @@ impl Engine {
         ensures ends { EndsSo (ending_after self.old seen) result }
         ensures tries { self.new.tries ≡ tries_after self.new.stage self.old.tries }
         ensures snapshot { self.new.snapshot ≡ snapshot_after self.old seen }
-        ensures log { self.new.is_open ≡ true → self.new.log ≡ log_after self.old seen }
+        ensures log { in_transaction self.new ≡ true → self.new.log ≡ log_after self.old seen }
         ensures asks { self.new.waits ≡ asked self.new }
         ensures count { IsWithin self.new }
         ensures settled { IsSettled self.new }
@@ -141,7 +140,7 @@ impl Engine {
         match self.phase {
             Phase::BackLoad(_) | Phase::Store(_, _) | Phase::Free => Undone::Held,
             _ => {
-                let was_open = self.state.is_open;
+                let was_open = self.state.is_open();
                 end(&mut self.state);
                 self.phase = Phase::Idle;
                 if was_open {
@@ -180,9 +179,9 @@ impl Engine {
 
     /// A transaction is open.
     pub fn is_open(&self) -> bool
-        ensures { result ≡ self.now.is_open }
+        ensures { result ≡ in_transaction self.now }
     {
-        self.state.is_open
+        self.state.is_open()
     }
 
     /// The even clock value at which the transaction reads, after its end the last one.
@@ -250,7 +249,7 @@ fn turned(state: &mut Data, phase: Phase, seen: u64) -> Turn
     ensures ends { TurnEndsSo (ending_after (core state.old phase) seen) result }
     ensures tries { (core_after result state.new).tries ≡ tries_after (phase_after result) (core state.old phase).tries }
     ensures snapshot { state.new.snapshot ≡ snapshot_after (core state.old phase) seen }
-    ensures log { state.new.is_open ≡ true → state.new.log.rows ≡ log_after (core state.old phase) seen }
+    ensures log { in_block state.new ≡ true → state.new.log.rows ≡ log_after (core state.old phase) seen }
 {
     match phase {
         Phase::Idle => unreachable!(),

@@ -7,7 +7,7 @@ ghost use Rattle.word_pieces.specs.Pieces.{IsPiece, part_of};
 ghost use Rattle.write_set.specs.Rows.{overlay, AreRows};
 ghost use Rattle.norec_engine.specs.Rows.{is_covered};
 ghost use Rattle.itm_types.specs.Access.{size_of};
-ghost use Rattle.norec_engine.specs.Fields.{core, core_after, phase_after, between, logged, IsSound, IsSoundTurn, Turns, TurnEndsSo, Stays, MayGather};
+ghost use Rattle.norec_engine.specs.Fields.{in_block, core, core_after, phase_after, between, logged, IsSound, IsSoundTurn, Turns, TurnEndsSo, Stays, MayGather};
 ghost use Rattle.norec_engine.specs.Core.{came, handed};
 ghost use Rattle.norec_engine.specs.Order.{load_stage, log_after, snapshot_after, stage_after, stage_at, tries_after, tries_at};
 ghost use Rattle.norec_engine.specs.Endings.{ending_at, ending_after};
@@ -134,7 +134,7 @@ pub(crate) fn confirmed(state: &mut Data, reading: Reading, value: u64, seen: u6
     ensures order { phase_after result ≡ stage_after (core state.old (Phase.Confirm reading value)) seen }
     ensures ends { TurnEndsSo (ending_after (core state.old (Phase.Confirm reading value)) seen) result }
     ensures snapshot { state.new.snapshot ≡ snapshot_after (core state.old (Phase.Confirm reading value)) seen }
-    ensures log { state.new.is_open ≡ true → state.new.log.rows ≡ log_after (core state.old (Phase.Confirm reading value)) seen }
+    ensures log { in_block state.new ≡ true → state.new.log.rows ≡ log_after (core state.old (Phase.Confirm reading value)) seen }
     ensures tries { (core_after result state.new).tries ≡ tries_after (phase_after result) state.old.tries }
 {
     state.clock = seen;

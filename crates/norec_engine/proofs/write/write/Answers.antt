@@ -2,6 +2,7 @@ use Rattle.std.proofs.Common.{◌≡◌, ℕ, ◌+◌, ◌*◌, ◌<◌, ◌≤�
 use Rattle.word_pieces.specs.declared.piece.Piece.{Piece}
 use Rattle.write_set.specs.declared.row.Row.{Row}
 use Rattle.write_set.specs.Rows.{lookup, overlay, AreRows}
+use Rattle.norec_engine.specs.Fields.{blocks_of, in_block}
 use Rattle.norec_engine.specs.Stands.{is_some_row}
 use Rattle.norec_engine.specs.Rows.{reserved_all, put_all, AllWritesWithin}
 use Rattle.itm_types.specs.Access.{size_of}
@@ -25,7 +26,7 @@ put_all-requires-clause-room c =
 pub returns-clause-sound : goal.returns-clause-sound
 returns-clause-sound c =
     let s = c.args.state.now in
-    let may = served s.is_open s.words c.args.at c.size.result (sym c.in_default.ensures.value) in
+    let may = served (in_block s) s.words c.args.at c.size.result (sym c.in_default.ensures.value) in
     let w = c.args.value.now.width in
     let bytes = c.args.value.now.bytes.items in
     let ps = pieces_of c.args.at (size_of w) in
@@ -61,7 +62,7 @@ returns-clause-sound c =
 pub returns-clause-proceeds : goal.returns-clause-proceeds
 returns-clause-proceeds c =
     let s = c.args.state.now in
-    let may = served s.is_open s.words c.args.at c.size.result (sym c.in_default.ensures.value) in
+    let may = served (in_block s) s.words c.args.at c.size.result (sym c.in_default.ensures.value) in
     let value = c.args.value.now in
     let bytes = value.bytes.items in
     let size = size_of value.width in
@@ -73,7 +74,7 @@ returns-clause-proceeds c =
     let within : c.args.at + size ≤ 8 * s.words = subst (λ (n : ℕ). c.args.at + n ≤ 8 * s.words) c.size.ensures.value may.1 in
     let some : 0 < length ps = some_pieces c.args.at size (some_bytes value.width) in
     let all = λ (m : List ℕ) (mem : IsMemory s.words m).
-    writes s.writes s.is_open s.props s.arena m s.words c.args.hint value c.args.at may.0 mem c.put_all.new.writes within
+    writes s.writes (blocks_of s.block) s.arena m s.words c.args.hint value c.args.at may.0 mem c.put_all.new.writes within
     (ap is_some_row rows ∙ some_put (reserved_all s.writes ps) ps bytes some)
     (ap (λ (xs : List Row). bytes_of (overlay m xs)) rows
     ∙ bytes_of-put_all m s.writes c.args.at size bytes mem.1 idle.0.rows (omega (arith, within, mem.0)) (omega (arith, c.size.ensures.value, c.size.ensures.most)) (subst AreBytes c.as_slice.ensures.value c.put_all.ensures.bytes) value.sized) in
@@ -86,6 +87,6 @@ returns-clause-proceeds c =
       unfreed = refl;
       still = λ o. o;
       opens = refl;
-      props = refl;
+      blocks = refl;
       settled = λ o. (idle.1, c.requires.sound.bounds.even);
     }
