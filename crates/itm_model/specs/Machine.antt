@@ -8,6 +8,7 @@ use Rattle.itm_types.specs.declared.call.Call.{Call}
 use Rattle.itm_types.specs.declared.call.Call.TheVariants.{Begin, Commit, Read, Write}
 use Rattle.itm_types.specs.declared.call.Reply.{Reply}
 use Rattle.itm_types.specs.declared.call.Reply.TheVariants.{Done, Bytes, Code, Refused}
+use Rattle.itm_types.specs.Calls.{begin_args}
 use Rattle.itm_types.specs.Slices.{slice, with_slice}
 use Rattle.itm_model.specs.Places.{in_range}
 use Rattle.itm_model.specs.State.{Saved, Block, State}
@@ -29,15 +30,27 @@ or_else (Some refusal) later = Some refusal
 abbrev pub needs_open : State → Option Refusal
 needs_open s = unless (is_open s) Outside
 
+-- a begin may be one block too many, and each other call needs an open block
+abbrev pub standing_for : ℕ → State → Option (Props × ℕ) → Option Refusal
+standing_for deepest s (Some begin) = unless (nat_lt (length s.blocks) deepest) TooDeep
+standing_for deepest s None = needs_open s
+
+-- why no such call is served with these blocks open, if it is not; `deepest` may be open
+abbrev pub standing : ℕ → State → Call → Option Refusal
+standing deepest s call = standing_for deepest s (begin_args call)
+
 abbrev pub in_shared : State → ℕ → ℕ → Option Refusal
 in_shared s place size = unless (in_range s.memory place size) OutOfRange
 
--- why the call is refused, if it is; `deepest` blocks may be open
+-- why the call's bytes are not to be had, if they are not
+abbrev pub ranges : State → Call → Option Refusal
+ranges s (Read hint width at) = in_shared s at (size_of width)
+ranges s (Write hint at value) = in_shared s at (size_of value.width)
+ranges s _ = None
+
+-- why the call is refused, if it is
 abbrev pub refusal : ℕ → State → Call → Option Refusal
-refusal deepest s (Begin props room) = unless (nat_lt (length s.blocks) deepest) TooDeep
-refusal deepest s Commit = needs_open s
-refusal deepest s (Read hint width at) = or_else (needs_open s) (in_shared s at (size_of width))
-refusal deepest s (Write hint at value) = or_else (needs_open s) (in_shared s at (size_of value.width))
+refusal deepest s call = or_else (standing deepest s call) (ranges s call)
 
 -- ## Effects of accepted calls
 
@@ -85,17 +98,16 @@ opened memory arena props = entered (outside memory arena) props
 abbrev pub effect : State → Call → State
 effect s (Begin props room) = if is_open s then entered s props else opened s.memory s.arena props
 effect s Commit = closed s s.blocks
-effect s (Read hint width at) = s
 effect s (Write hint at value) = written s at value.bytes.items
+effect s _ = s
 
 abbrev pub bytes_reply : List ℕ → Reply
 bytes_reply bytes = Bytes (record { items = bytes })
 
 abbrev pub answer : State → Call → Reply
 answer s (Begin props room) = Code 5
-answer s Commit = Done
 answer s (Read hint width at) = bytes_reply (slice s.memory at (size_of width))
-answer s (Write hint at value) = Done
+answer s _ = Done
 
 -- ## One call
 

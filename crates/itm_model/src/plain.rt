@@ -2,7 +2,7 @@
 
 ghost use Rattle.std.specs.Prelude.{◌≡◌, ◌≤◌, ◌%◌, nat_lt, IsTrue, IfOk, OnOk, OnErr, [], length};
 ghost use Rattle.itm_types.specs.Access.{size_of};
-ghost use Rattle.itm_model.specs.Machine.{after, answer, closed, effect, entered, in_shared, is_open, needs_open, opened, refusal, reply, unless, written};
+ghost use Rattle.itm_model.specs.Machine.{after, answer, closed, effect, entered, in_shared, is_open, needs_open, opened, ranges, refusal, reply, standing, unless, written};
 ghost use Rattle.itm_model.specs.Places.{in_range};
 
 use crate::block::{Block, Saved};
@@ -102,11 +102,27 @@ impl Plain {
     fn refusal(&self, call: &Call) -> Option<Refusal>
         ensures { result ≡ refusal MAX_DEPTH self.now call.now }
     {
+        self.standing(call).or(self.ranges(call))
+    }
+
+    /// Why no such call is served with these blocks open, if it is not.
+    fn standing(&self, call: &Call) -> Option<Refusal>
+        ensures { result ≡ standing MAX_DEPTH self.now call.now }
+    {
         match call {
             Call::Begin { .. } => self.too_deep(),
-            Call::Commit => self.outside(),
-            Call::Read { width, at, .. } => self.outside().or(self.out_of_range(*at, *width)),
-            Call::Write { at, value, .. } => self.outside().or(self.out_of_range(*at, value.width)),
+            _ => self.outside(),
+        }
+    }
+
+    /// Why the call's bytes are not to be had, if they are not.
+    fn ranges(&self, call: &Call) -> Option<Refusal>
+        ensures { result ≡ ranges self.now call.now }
+    {
+        match call {
+            Call::Read { width, at, .. } => self.out_of_range(*at, *width),
+            Call::Write { at, value, .. } => self.out_of_range(*at, value.width),
+            _ => None,
         }
     }
 

@@ -1,5 +1,5 @@
 -- The steps of a call are within its most.
-use Rattle.std.proofs.Common.{◌≡◌, ◌≢◌, ℕ, ◌+◌, ◌-◌, ◌*◌, ◌/◌, ◌%◌, ◌^◌, ◌<◌, ◌≤◌, ◌==◌, length, refl, arith, None, Some, sym, subst}
+use Rattle.std.proofs.Common.{◌≡◌, ◌≢◌, ℕ, ◌+◌, ◌-◌, ◌*◌, ◌/◌, ◌%◌, ◌^◌, ◌<◌, ◌≤◌, ◌==◌, length, refl, arith, None, sym, subst}
 use Rattle.std.proofs.Math.Nat.{mul-le-mul_right}
 use Rattle.std.proofs.lemmas.Nat.{mul-le}
 use Rattle.std.proofs.lemmas.Bool.{cond-false, ne_eqb}
@@ -60,23 +60,13 @@ within d (at.RoundStart aim) s w = rounds d aim 1 s.in_phase (omega arith)
 within d (at.RoundRow aim row) s w = rounds d aim (row + 2) s.in_phase.0 (omega (arith, s.in_phase.2))
 within d (at.RoundEnd aim) s w = rounds d aim (length d.log.rows + 2) s.in_phase.0 (omega arith)
 within d at.Exchange s w = omega (arith, s.in_phase.4, mul-le-mul_right {m = d.tries} {n = d.limits.patience} (d.entry + 3) s.in_phase.0.tries)
-within d (at.BackLoad row) s w = omega (arith, s.in_phase.1, s.in_phase.0.spent, mul-le-mul_right {m = d.tries} {n = d.limits.patience} (d.entry + 3) s.in_phase.0.is_open.tries)
 within d (at.Store row None) s w = omega (arith, s.in_phase.1, s.in_phase.0.spent, mul-le-mul_right {m = d.tries} {n = d.limits.patience} (d.entry + 3) s.in_phase.0.is_open.tries)
-within d (at.Store row (Some word)) s w = omega (arith, s.in_phase.1, s.in_phase.0.spent, mul-le-mul_right {m = d.tries} {n = d.limits.patience} (d.entry + 3) s.in_phase.0.is_open.tries)
 within d at.Free s w = omega (arith, s.in_phase.spent, mul-le-mul_right {m = d.tries} {n = d.limits.patience} (d.entry + 3) s.in_phase.is_open.tries)
+within d phase s w = omega (arith, s.in_phase.1, s.in_phase.0.spent, mul-le-mul_right {m = d.tries} {n = d.limits.patience} (d.entry + 3) s.in_phase.0.is_open.tries)
 
 waiting : (d : Data) (phase : Phase) → waits_of d phase ≢ None → IsWaiting phase
 waiting d at.Idle n = n refl
-waiting d (at.Begin b) n = tt
-waiting d (at.Load r) n = tt
-waiting d (at.Confirm r value) n = tt
-waiting d (at.RoundStart aim) n = tt
-waiting d (at.RoundRow aim row) n = tt
-waiting d (at.RoundEnd aim) n = tt
-waiting d at.Exchange n = tt
-waiting d (at.BackLoad row) n = tt
-waiting d (at.Store row got) n = tt
-waiting d at.Free n = tt
+waiting d phase n = tt
 
 counts : (d : Data) (phase : Phase) → IsSound d phase → IsWithin (core d phase)
 counts d phase s = λ n. within d phase s (waiting d phase n)
@@ -98,18 +88,12 @@ fits_most d (at.Begin b) w p m e h = omega (arith, h)
 fits_most d (at.Load r) w p m e h = read_few d r p e h
 fits_most d (at.Confirm r value) w p m e h = read_few d r p e h
 fits_most d (at.RoundStart (aims.Read r)) w p m e h = read_few d r p e h
-fits_most d (at.RoundStart aims.Commit) w p m e h = commit_few d p e m h
 fits_most d (at.RoundRow (aims.Read r) row) w p m e h = read_few d r p e h
-fits_most d (at.RoundRow aims.Commit row) w p m e h = commit_few d p e m h
 fits_most d (at.RoundEnd (aims.Read r)) w p m e h = read_few d r p e h
-fits_most d (at.RoundEnd aims.Commit) w p m e h = commit_few d p e m h
-fits_most d at.Exchange w p m e h = commit_few d p e m h
-fits_most d (at.BackLoad row) w p m e h = commit_few d p e m h
-fits_most d (at.Store row got) w p m e h = commit_few d p e m h
-fits_most d at.Free w p m e h = commit_few d p e m h
+fits_most d phase w p m e h = commit_few d p e m h
 
 pub fits : (d : Data) (phase : Phase) → IsSound d phase → IsWaiting phase → length d.writes < 2 ^ 64 → d.entry < 2 ^ 64 → d.spent < 2 ^ 128
-fits d phase s w m e = fits_most d phase w s.patient.1 m e (within d phase s w)
+fits d phase s w m e = fits_most d phase w s.bounds.patient.1 m e (within d phase s w)
 
 -- so it is after a turn
 pub counts_after : (turn : Turn) (d new : Data) (phase : Phase) → IsSoundTurn turn d → new ≡ data_after turn d → phase ≡ phase_after turn → IsWithin (core new phase)

@@ -5,6 +5,7 @@ use Rattle.itm_types.specs.declared.access.ReadHint.TheVariants.{R, RaW}
 use Rattle.itm_types.specs.declared.row.LogRow.{LogRow}
 use Rattle.itm_types.specs.declared.step.Step.{Step}
 use Rattle.itm_types.specs.declared.step.Step.TheVariants as steps
+use Rattle.itm_types.specs.declared.call.Props.{Props}
 use Rattle.itm_types.specs.declared.call.Call.{Call}
 use Rattle.itm_types.specs.declared.call.Call.TheVariants as calls
 use Rattle.write_set.specs.declared.row.Row.{Row}
@@ -14,7 +15,7 @@ use Rattle.norec_engine.specs.declared.phase.Reading.{Reading}
 use Rattle.norec_engine.specs.declared.phase.Aim.TheVariants as aims
 use Rattle.norec_engine.specs.declared.phase.Phase.{Phase}
 use Rattle.norec_engine.specs.declared.phase.Phase.TheVariants.{Idle, Begin, Load, Confirm, RoundStart, RoundRow, RoundEnd, Exchange, BackLoad, Store, Free}
-use Rattle.norec_engine.specs.Core.{Core, opening, no_props, came, handed}
+use Rattle.norec_engine.specs.Core.{Core, opening, came, handed}
 use Rattle.norec_engine.specs.Order.{stage_at, stage_after, tries_at, tries_after, snapshot_after, log_after, asked}
 use Rattle.norec_engine.specs.Endings.{ending_at, ending_after}
 
@@ -60,9 +61,12 @@ engine_after c call seens = resumed_by (called c call) seens
 
 -- ## Calls, and where they come
 
+abbrev no_props : Props
+no_props = record {}
+
 -- over four words, with room for four commits: a transaction is open at this snapshot, with these rows logged and these written
 abbrev inside : ℕ → ℕ → List LogRow → List Row → Core
-inside patience snapshot log writes = record (opening 4 [] patience 4) { is_open = true; snapshot = snapshot; clock = snapshot; log = log; writes = writes }
+inside patience snapshot log writes = record (opening 4 [] patience 4) { blocks = no_props ∷ []; snapshot = snapshot; clock = snapshot; log = log; writes = writes }
 
 abbrev outside : ℕ → Core
 outside patience = opening 4 [] patience 4

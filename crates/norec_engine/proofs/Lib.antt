@@ -1,5 +1,6 @@
 pub mod Overlays
 pub mod Machines
+pub mod Refusals
 pub mod Ended
 pub mod Counts
 pub mod Phases

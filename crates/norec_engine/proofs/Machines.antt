@@ -1,5 +1,5 @@
 -- What the plain machine does with the state that an engine stands for.
-use Rattle.std.proofs.Common.{◌≡◌, ℕ, ◌+◌, ◌*◌, ◌<◌, ◌≤◌, Bool, true, false, ◌||◌, ◌==◌, nat_lt, List, [], ◌∷◌, length, refl, sym, ap, ◌∙◌, arith, cond}
+use Rattle.std.proofs.Common.{◌≡◌, ℕ, ◌+◌, ◌*◌, ◌<◌, ◌≤◌, Bool, true, false, ◌||◌, ◌==◌, nat_lt, nat_le, List, [], ◌∷◌, length, Option, Some, refl, sym, ap, ◌∙◌, arith}
 use Rattle.std.proofs.lemmas.Bool.{le-leb, lt-leb, lt-ltb, cond_both}
 use Rattle.write_set.specs.declared.row.Row.{Row}
 use Rattle.itm_types.specs.declared.access.ReadHint.{ReadHint}
@@ -8,30 +8,32 @@ use Rattle.itm_types.specs.declared.access.Width.{Width}
 use Rattle.itm_types.specs.declared.access.Width.TheVariants.{U1, U2, U4, U8, F, D, M64, M128, M256, CF, CD}
 use Rattle.itm_types.specs.declared.datum.Datum.{Datum}
 use Rattle.itm_types.specs.declared.call.Props.{Props}
+use Rattle.itm_types.specs.declared.call.Call.{Call}
 use Rattle.itm_types.specs.declared.call.Call.TheVariants.{Commit, Read, Write}
+use Rattle.itm_types.specs.declared.call.Refusal.{Refusal}
 use Rattle.itm_types.specs.declared.call.Reply.TheVariants.{Done, Bytes, Refused}
-use Rattle.itm_types.specs.declared.call.Refusal.TheVariants.{OutOfRange}
+use Rattle.itm_types.specs.declared.call.Refusal.TheVariants.{Outside, OutOfRange}
 use Rattle.itm_types.specs.Access.{size_of}
+use Rattle.itm_types.specs.Calls.{access_of}
 use Rattle.itm_types.specs.Memory.{bytes_of, IsMemory}
 use Rattle.itm_types.proofs.Words.{length-bytes_of}
-use Rattle.itm_model.specs.State.{State}
+use Rattle.itm_model.specs.State.{Block, State}
 use Rattle.itm_types.specs.Slices.{slice, with_slice}
 use Rattle.itm_model.specs.Places.{in_range}
 use Rattle.word_pieces.specs.declared.piece.Piece.{Piece}
 use Rattle.word_pieces.specs.Masks.{mask_of}
 use Rattle.word_pieces.specs.Pieces.{scattered}
-use Rattle.itm_model.specs.Machine.{unless, effect, answer, reply, reply_unless, after, after_unless}
+use Rattle.itm_model.specs.Machine.{is_open, unless, or_else, needs_open, in_shared, refusal, effect, answer, reply, reply_unless, after, after_unless}
 use Rattle.write_set.specs.Rows.{overlay, put, row_with}
 use Rattle.norec_engine.specs.Rows.{put_all}
-use Rattle.norec_engine.specs.Stands.{state_over, block_over, is_some_row}
+use Rattle.norec_engine.specs.Fields.{access_refusal}
+use Rattle.norec_engine.specs.Core.{is_inside}
+use Rattle.norec_engine.specs.Stands.{state_over, block_over, blocks_over, is_some_row}
 use Rattle.write_set.proofs.Overlays.{length-overlay}
 
--- a state with an open block
-abbrev over : List ℕ → Props → List ℕ → List ℕ → Bool → State
-over now props arena m wrote = record { memory = bytes_of now; arena = arena; blocks = block_over props m ∷ []; wrote = wrote }
-
-abbrev over_bytes : List ℕ → Props → List ℕ → List ℕ → Bool → State
-over_bytes bytes props arena m wrote = record { memory = bytes; arena = arena; blocks = block_over props m ∷ []; wrote = wrote }
+-- a state with these blocks open
+abbrev over : List ℕ → List Block → List ℕ → Bool → State
+over bytes blocks arena wrote = record { memory = bytes; arena = arena; blocks = blocks; wrote = wrote }
 
 -- the bytes of an access lie within the memory, or not
 in_memory : (m : List ℕ) (at size : ℕ) → at + size ≤ 8 * length m → in_range (bytes_of m) at size ≡ true
@@ -40,48 +42,29 @@ in_memory m at size l = (let len = length-bytes_of m in le-leb (at + size) (leng
 not_in_memory : (m : List ℕ) (at size : ℕ) → 8 * length m < at + size → in_range (bytes_of m) at size ≡ false
 not_in_memory m at size l = (let len = length-bytes_of m in lt-leb (at + size) (length (bytes_of m)) (omega arith))
 
--- an open engine stands for an open block
-open_over : (rows : List Row) (b : Bool) (props : Props) (arena m : List ℕ) → b ≡ true → state_over rows b props arena m ≡ over (overlay m rows) props arena m (is_some_row rows)
-open_over rows b props arena m e = ap (λ x. record { memory = bytes_of (overlay m rows); arena = arena; blocks = cond x (block_over props m ∷ []) []; wrote = is_some_row rows }) e
+-- where a block is open a call is refused for its bytes alone
+some_open : (b : Block) (outer : List Block) (later : Option Refusal) → or_else (unless (nat_lt 0 (length (b ∷ outer))) Outside) later ≡ later
+some_open b outer later = ap (λ (x : Bool). or_else (unless x Outside) later) (lt-ltb 0 (length (b ∷ outer)) (omega arith))
 
 -- ## Reads
 
-reads_slice : (now m arena : List ℕ) (props : Props) (wrote : Bool) (hint : ReadHint) (width : Width) (at : ℕ) → at + size_of width ≤ 8 * length now
-    → (after 1 (over now props arena m wrote) (Read hint width at) ≡ over now props arena m wrote)
-    × (reply 1 (over now props arena m wrote) (Read hint width at) ≡ Bytes (record { items = slice (bytes_of now) at (size_of width) }))
-reads_slice now m arena props wrote hint width at l =
-    let s : State = over now props arena m wrote in
-    let none = ap (λ b. unless b OutOfRange) (in_memory now at (size_of width) l) in
+reads_slice : (now arena : List ℕ) (b : Block) (outer : List Block) (wrote : Bool) (hint : ReadHint) (width : Width) (at : ℕ) → at + size_of width ≤ 8 * length now
+    → (after 1 (over (bytes_of now) (b ∷ outer) arena wrote) (Read hint width at) ≡ over (bytes_of now) (b ∷ outer) arena wrote)
+    × (reply 1 (over (bytes_of now) (b ∷ outer) arena wrote) (Read hint width at) ≡ Bytes (record { items = slice (bytes_of now) at (size_of width) }))
+reads_slice now arena b outer wrote hint width at l =
+    let s : State = over (bytes_of now) (b ∷ outer) arena wrote in
+    let none = some_open b outer (in_shared s at (size_of width)) ∙ ap (λ x. unless x OutOfRange) (in_memory now at (size_of width) l) in
     (ap (λ r. after_unless r s s) none, ap (λ r. reply_unless r (answer s (Read hint width at))) none)
 
-reads_none : (now m arena : List ℕ) (props : Props) (wrote : Bool) (hint : ReadHint) (width : Width) (at : ℕ) → 8 * length now < at + size_of width
-    → (after 1 (over now props arena m wrote) (Read hint width at) ≡ over now props arena m wrote) × (reply 1 (over now props arena m wrote) (Read hint width at) ≡ Refused OutOfRange)
-reads_none now m arena props wrote hint width at out =
-    let s : State = over now props arena m wrote in
-    let some = ap (λ b. unless b OutOfRange) (not_in_memory now at (size_of width) out) in
-    (ap (λ r. after_unless r s s) some, ap (λ r. reply_unless r (answer s (Read hint width at))) some)
-
-module _ (rows : List Row) (b : Bool) (props : Props) (arena m : List ℕ) (words : ℕ) (hint : ReadHint) (width : Width) (at : ℕ) (o : b ≡ true) (mem : IsMemory words m) where
-  len : length (overlay m rows) ≡ words
-  len = length-overlay m rows ∙ mem.0
-
-  -- a read of these bytes by an open engine
-  pub reads : (bytes : List ℕ) → at + size_of width ≤ 8 * words → bytes ≡ slice (bytes_of (overlay m rows)) at (size_of width)
-      → (state_over rows b props arena m ≡ after 1 (state_over rows b props arena m) (Read hint width at)) × (Bytes (record { items = bytes }) ≡ reply 1 (state_over rows b props arena m) (Read hint width at))
-  reads bytes l got =
-      let e = open_over rows b props arena m o in
-      let size = len in
-      let r = reads_slice (overlay m rows) m arena props (is_some_row rows) hint width at (omega arith) in
-      (e ∙ (sym r.0 ∙ ap (λ s. after 1 s (Read hint width at)) (sym e)), ap (λ (bs : List ℕ). Bytes (record { items = bs })) got ∙ (sym r.1 ∙ ap (λ s. reply 1 s (Read hint width at)) (sym e)))
-
-  -- a read that is refused
-  pub reads_not : 8 * words < at + size_of width
-      → (state_over rows b props arena m ≡ after 1 (state_over rows b props arena m) (Read hint width at)) × (Refused OutOfRange ≡ reply 1 (state_over rows b props arena m) (Read hint width at))
-  reads_not out =
-      let e = open_over rows b props arena m o in
-      let size = len in
-      let r = reads_none (overlay m rows) m arena props (is_some_row rows) hint width at (omega arith) in
-      (e ∙ (sym r.0 ∙ ap (λ s. after 1 s (Read hint width at)) (sym e)), sym r.1 ∙ ap (λ s. reply 1 s (Read hint width at)) (sym e))
+-- a read of these bytes by an open engine
+pub reads : (rows : List Row) (blocks : List Props) (arena m : List ℕ) (words : ℕ) (hint : ReadHint) (width : Width) (at : ℕ) → is_inside blocks ≡ true → IsMemory words m
+    → (bytes : List ℕ) → at + size_of width ≤ 8 * words → bytes ≡ slice (bytes_of (overlay m rows)) at (size_of width)
+    → (state_over rows blocks arena m ≡ after 1 (state_over rows blocks arena m) (Read hint width at)) × (Bytes (record { items = bytes }) ≡ reply 1 (state_over rows blocks arena m) (Read hint width at))
+reads rows [] arena m words hint width at o mem bytes l got = absurd (cc)
+reads rows (props ∷ outer) arena m words hint width at o mem bytes l got =
+    let size : length (overlay m rows) ≡ words = length-overlay m rows ∙ mem.0 in
+    let r = reads_slice (overlay m rows) arena (block_over props m) (blocks_over outer m) (is_some_row rows) hint width at (omega arith) in
+    (sym r.0, ap (λ (bs : List ℕ). Bytes (record { items = bs })) got ∙ sym r.1)
 
 -- ## Writes
 
@@ -117,51 +100,62 @@ some_bytes M256 = omega arith
 some_bytes CF = omega arith
 some_bytes CD = omega arith
 
-writes_bytes : (now m arena : List ℕ) (props : Props) (wrote : Bool) (hint : WriteHint) (value : Datum) (at : ℕ) → at + size_of value.width ≤ 8 * length now
-    → (after 1 (over now props arena m wrote) (Write hint at value) ≡ over_bytes (with_slice (bytes_of now) at value.bytes.items) props arena m true) × (reply 1 (over now props arena m wrote) (Write hint at value) ≡ Done)
-writes_bytes now m arena props wrote hint value at l =
-    let s : State = over now props arena m wrote in
-    let none = ap (λ b. unless b OutOfRange) (in_memory now at (size_of value.width) l) in
+writes_bytes : (now arena : List ℕ) (b : Block) (outer : List Block) (wrote : Bool) (hint : WriteHint) (value : Datum) (at : ℕ) → at + size_of value.width ≤ 8 * length now
+    → (after 1 (over (bytes_of now) (b ∷ outer) arena wrote) (Write hint at value) ≡ over (with_slice (bytes_of now) at value.bytes.items) (b ∷ outer) arena true)
+    × (reply 1 (over (bytes_of now) (b ∷ outer) arena wrote) (Write hint at value) ≡ Done)
+writes_bytes now arena b outer wrote hint value at l =
+    let s : State = over (bytes_of now) (b ∷ outer) arena wrote in
+    let none = some_open b outer (in_shared s at (size_of value.width)) ∙ ap (λ x. unless x OutOfRange) (in_memory now at (size_of value.width) l) in
     let some : nat_lt 0 (length value.bytes.items) ≡ true = (let sized = value.sized in let n = some_bytes value.width in lt-ltb 0 (length value.bytes.items) (omega arith)) in (
-      ap (λ r. after_unless r s (effect s (Write hint at value))) none ∙ ap (λ b. over_bytes (with_slice (bytes_of now) at value.bytes.items) props arena m b) (ap (λ b. wrote || b) some ∙ or_true wrote),
+      ap (λ r. after_unless r s (effect s (Write hint at value))) none ∙ ap (λ x. over (with_slice (bytes_of now) at value.bytes.items) (b ∷ outer) arena x) (ap (λ x. wrote || x) some ∙ or_true wrote),
       ap (λ r. reply_unless r (answer s (Write hint at value))) none,
     )
 
-writes_none : (now m arena : List ℕ) (props : Props) (wrote : Bool) (hint : WriteHint) (value : Datum) (at : ℕ) → 8 * length now < at + size_of value.width
-    → (after 1 (over now props arena m wrote) (Write hint at value) ≡ over now props arena m wrote) × (reply 1 (over now props arena m wrote) (Write hint at value) ≡ Refused OutOfRange)
-writes_none now m arena props wrote hint value at out =
-    let s : State = over now props arena m wrote in
-    let some = ap (λ b. unless b OutOfRange) (not_in_memory now at (size_of value.width) out) in
-    (ap (λ r. after_unless r s (effect s (Write hint at value))) some, ap (λ r. reply_unless r (answer s (Write hint at value))) some)
+-- a write by an open engine, whose write set then has its pieces
+pub writes : (rows : List Row) (blocks : List Props) (arena m : List ℕ) (words : ℕ) (hint : WriteHint) (value : Datum) (at : ℕ) → is_inside blocks ≡ true → IsMemory words m
+    → (rows' : List Row) → at + size_of value.width ≤ 8 * words → is_some_row rows' ≡ true → bytes_of (overlay m rows') ≡ with_slice (bytes_of (overlay m rows)) at value.bytes.items
+    → (state_over rows' blocks arena m ≡ after 1 (state_over rows blocks arena m) (Write hint at value)) × (Done ≡ reply 1 (state_over rows blocks arena m) (Write hint at value))
+writes rows [] arena m words hint value at o mem rows' l some is = absurd (cc)
+writes rows (props ∷ outer) arena m words hint value at o mem rows' l some is =
+    let size : length (overlay m rows) ≡ words = length-overlay m rows ∙ mem.0 in
+    let r = writes_bytes (overlay m rows) arena (block_over props m) (blocks_over outer m) (is_some_row rows) hint value at (omega arith) in
+    ((λ i. over (is i) (blocks_over (props ∷ outer) m) arena (some i)) ∙ sym r.0, sym r.1)
 
-module _ (rows : List Row) (b : Bool) (props : Props) (arena m : List ℕ) (words : ℕ) (hint : WriteHint) (value : Datum) (at : ℕ) (o : b ≡ true) (mem : IsMemory words m) where
-  -- a write by an open engine, whose write set then has its pieces
-  pub writes : (rows' : List Row) → at + size_of value.width ≤ 8 * words → is_some_row rows' ≡ true → bytes_of (overlay m rows') ≡ with_slice (bytes_of (overlay m rows)) at value.bytes.items
-      → (state_over rows' b props arena m ≡ after 1 (state_over rows b props arena m) (Write hint at value)) × (Done ≡ reply 1 (state_over rows b props arena m) (Write hint at value))
-  writes rows' l some is =
-      let e = open_over rows b props arena m o in
-      let e' = open_over rows' b props arena m o in
-      let size : length (overlay m rows) ≡ words = length-overlay m rows ∙ mem.0 in
-      let r = writes_bytes (overlay m rows) m arena props (is_some_row rows) hint value at (omega arith) in
-      let same : over (overlay m rows') props arena m (is_some_row rows') ≡ over_bytes (with_slice (bytes_of (overlay m rows)) at value.bytes.items) props arena m true =
-      (λ i. over_bytes (is i) props arena m (some i)) in
-      (e' ∙ (same ∙ (sym r.0 ∙ ap (λ s. after 1 s (Write hint at value)) (sym e))), sym r.1 ∙ ap (λ s. reply 1 s (Write hint at value)) (sym e))
+-- ## Refusals
 
-  -- a write that is refused
-  pub writes_not : 8 * words < at + size_of value.width
-      → (state_over rows b props arena m ≡ after 1 (state_over rows b props arena m) (Write hint at value)) × (Refused OutOfRange ≡ reply 1 (state_over rows b props arena m) (Write hint at value))
-  writes_not out =
-      let e = open_over rows b props arena m o in
-      let size : length (overlay m rows) ≡ words = length-overlay m rows ∙ mem.0 in
-      let r = writes_none (overlay m rows) m arena props (is_some_row rows) hint value at (omega arith) in
-      (e ∙ (sym r.0 ∙ ap (λ s. after 1 s (Write hint at value)) (sym e)), sym r.1 ∙ ap (λ s. reply 1 s (Write hint at value)) (sym e))
+refuses : (s : State) (call : Call) (why : Refusal) → refusal 1 s call ≡ Some why → (s ≡ after 1 s call) × (Refused why ≡ reply 1 s call)
+refuses s call why e = (sym (ap (λ r. after_unless r s (effect s call)) e), sym (ap (λ r. reply_unless r (answer s call)) e))
+
+-- a read or a write of these bytes
+refusal_of : (s : State) (call : Call) (at size : ℕ) → access_of call ≡ Some (at, size) → refusal 1 s call ≡ or_else (needs_open s) (in_shared s at size)
+refusal_of s (Read hint width at') at size e =
+    let same : (at', size_of width) ≡ (at, size) = cc in
+    ap (λ (x : ℕ × ℕ). or_else (needs_open s) (in_shared s x.0 x.1)) same
+refusal_of s (Write hint at' value) at size e =
+    let same : (at', size_of value.width) ≡ (at, size) = cc in
+    ap (λ (x : ℕ × ℕ). or_else (needs_open s) (in_shared s x.0 x.1)) same
+refusal_of s call at size e = absurd (cc)
+
+pub open_is : (rows : List Row) (blocks : List Props) (arena m : List ℕ) → is_open (state_over rows blocks arena m) ≡ is_inside blocks
+open_is rows [] arena m = refl
+open_is rows (props ∷ outer) arena m = lt-ltb 0 (length (blocks_over (props ∷ outer) m)) (omega arith)
+
+-- is refused by an engine as by the state that it stands for
+pub access_refused : (rows : List Row) (blocks : List Props) (arena m : List ℕ) (words : ℕ) (call : Call) (at size : ℕ) (why : Refusal) → IsMemory words m
+    → access_of call ≡ Some (at, size) → access_refusal (is_inside blocks) words at size ≡ Some why
+    → (state_over rows blocks arena m ≡ after 1 (state_over rows blocks arena m) call) × (Refused why ≡ reply 1 (state_over rows blocks arena m) call)
+access_refused rows blocks arena m words call at size why mem is e =
+    let len = length-bytes_of (overlay m rows) in
+    let size_is : length (overlay m rows) ≡ words = length-overlay m rows ∙ mem.0 in
+    let n : length (bytes_of (overlay m rows)) ≡ 8 * words = omega arith in
+    refuses (state_over rows blocks arena m) call why
+    (refusal_of (state_over rows blocks arena m) call at size is ∙ ((λ i. or_else (unless (open_is rows blocks arena m i) Outside) (unless (nat_le (at + size) (n i)) OutOfRange)) ∙ e))
 
 -- ## Commits
 
-pub commits : (rows : List Row) (b : Bool) (props : Props) (arena m : List ℕ) → b ≡ true
-    → after 1 (state_over rows b props arena m) Commit ≡ record { memory = bytes_of (overlay m rows); arena = arena; blocks = []; wrote = is_some_row rows }
-commits rows b props arena m o = ap (λ s. after 1 s Commit) (open_over rows b props arena m o)
-
-pub is_some_row-length : (rows : List Row) → 0 < length rows → is_some_row rows ≡ true
-is_some_row-length [] l = absurd (omega arith)
-is_some_row-length (r ∷ rs) l = refl
+-- of the outermost block
+pub commits : (rows : List Row) (blocks : List Props) (arena m : List ℕ) → length blocks ≡ 1
+    → after 1 (state_over rows blocks arena m) Commit ≡ record { memory = bytes_of (overlay m rows); arena = arena; blocks = []; wrote = is_some_row rows }
+commits rows [] arena m o = absurd (cc)
+commits rows (props ∷ []) arena m o = refl
+commits rows (props ∷ next ∷ outer) arena m o = absurd (omega (arith, o))

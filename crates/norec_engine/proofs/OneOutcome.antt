@@ -2,14 +2,9 @@
 use Rattle.std.proofs.Common.{◌≡◌, ℕ, zero, suc, ◌+◌, Bool, true, false, List, [], replicate, Option, None, Some, refl, sym, ap, subst, ◌∙◌, arith}
 use Rattle.std.proofs.lemmas.List.{length-replicate}
 use Rattle.itm_types.specs.declared.call.Call.{Call}
-use Rattle.itm_types.specs.declared.call.Call.TheVariants as calls
 use Rattle.itm_types.specs.declared.call.Reply.{Reply as Replied}
-use Rattle.itm_types.specs.declared.call.Reply.TheVariants.{Done, Bytes, Code, Refused}
-use Rattle.itm_types.specs.declared.row.LogRow.{LogRow}
 use Rattle.itm_types.specs.declared.step.Step.{Step}
-use Rattle.itm_types.specs.declared.step.Step.TheVariants as steps
 use Rattle.itm_types.specs.Memory.{IsMemory, AllFit, Agrees}
-use Rattle.write_set.specs.declared.row.Row.{Row}
 use Rattle.norec_engine.proofs.Overlays.{Agrees-drop}
 use Rattle.norec_engine.specs.declared.answer.Answer.{Answer}
 use Rattle.norec_engine.specs.declared.answer.Answer.TheVariants.{Reply, Committed, Conflict, Busy, Full}
@@ -17,12 +12,11 @@ use Rattle.norec_engine.specs.declared.answer.Next.{Next}
 use Rattle.norec_engine.specs.declared.answer.Next.TheVariants.{Step as Asks, Answer as Answers}
 use Rattle.norec_engine.specs.declared.phase.Phase.{Phase}
 use Rattle.norec_engine.specs.declared.phase.Phase.TheVariants as at
-use Rattle.norec_engine.specs.Rows.{row_at, write_at, value_into}
-use Rattle.norec_engine.specs.Core.{Core, came, handed, ended}
+use Rattle.norec_engine.specs.Core.{Core, came, handed, ended, is_inside, in_transaction}
 use Rattle.norec_engine.specs.Stands.{SeesOne}
-use Rattle.norec_engine.specs.Order.{asked, asked_from, tries_at, tries_after}
+use Rattle.norec_engine.specs.Order.{asked, asked_in, asked_from, tries_at, tries_after}
 use Rattle.norec_engine.specs.Endings.{EndsSo, IsEnding, ending_at, ending_after}
-use Rattle.norec_engine.specs.Proceeds.{Proceeds, AsksFor, Ends, RepliesTo, OpensBy, writes_after, props_after, IsSettled}
+use Rattle.norec_engine.specs.Proceeds.{Proceeds, AsksFor, Ends, RepliesTo, writes_after, blocks_after, IsSettled}
 use Rattle.norec_engine.specs.Moves.{IsCalled, IsResumed}
 
 -- a memory of so many words
@@ -30,33 +24,10 @@ all_zero : (n : ℕ) → AllFit (replicate n 0)
 all_zero zero = tt
 all_zero (suc n) = (omega arith, all_zero n)
 
--- the step that is asked for is told by these
-asked_same : (c d : Core) (s : Phase) → c.log ≡ d.log → c.snapshot ≡ d.snapshot → c.writes ≡ d.writes → asked_from c s ≡ asked_from d s
-asked_same c d at.Idle log snapshot writes = refl
-asked_same c d (at.Begin b) log snapshot writes = refl
-asked_same c d (at.Load r) log snapshot writes = refl
-asked_same c d (at.Confirm r value) log snapshot writes = refl
-asked_same c d (at.RoundStart aim) log snapshot writes = refl
-asked_same c d (at.RoundRow aim row) log snapshot writes = ap (λ (l : List LogRow). Some (steps.Load (suc (row_at l row).word))) log
-asked_same c d (at.RoundEnd aim) log snapshot writes = refl
-asked_same c d at.Exchange log snapshot writes = ap (λ (n : ℕ). Some (steps.Cas 0 n (n + 1))) snapshot
-asked_same c d (at.BackLoad row) log snapshot writes = ap (λ (l : List Row). Some (steps.Load (suc (write_at l row).word))) writes
-asked_same c d (at.Store row got) log snapshot writes = ap (λ (l : List Row). Some (steps.Store (suc (write_at l row).word) (value_into (write_at l row) got))) writes
-asked_same c d at.Free log snapshot writes = ap (λ (n : ℕ). Some (steps.Store 0 (n + 2))) snapshot
-
 -- who waits for a step is not idle
 idle_of : (c : Core) (s : Phase) → asked_from c s ≡ None → s ≡ at.Idle
 idle_of c at.Idle e = refl
-idle_of c (at.Begin b) e = absurd (cc)
-idle_of c (at.Load r) e = absurd (cc)
-idle_of c (at.Confirm r value) e = absurd (cc)
-idle_of c (at.RoundStart aim) e = absurd (cc)
-idle_of c (at.RoundRow aim row) e = absurd (cc)
-idle_of c (at.RoundEnd aim) e = absurd (cc)
-idle_of c at.Exchange e = absurd (cc)
-idle_of c (at.BackLoad row) e = absurd (cc)
-idle_of c (at.Store row got) e = absurd (cc)
-idle_of c at.Free e = absurd (cc)
+idle_of c s e = absurd (cc)
 
 replied_waits : (mid : Core) (o : Option Call) (r : Replied) (new : Core) → RepliesTo mid o r new → new.waits ≡ None
 replied_waits mid None r new e = absurd e
@@ -69,29 +40,16 @@ answered_waits mid (Conflict clock word) new e = ap (λ (c : Core). c.waits) e.s
 answered_waits mid (Busy clock) new e = ap (λ (c : Core). c.waits) e.stays
 answered_waits mid (Full at) new e = ap (λ (c : Core). c.waits) e.stays
 
--- a reply tells whether a transaction is open
-opens_same : (was : Bool) (call : Call) (r : Replied) (a b : Bool) → OpensBy was call r a → OpensBy was call r b → a ≡ b
-opens_same was (calls.Begin props room) Done a b x y = absurd x
-opens_same was (calls.Begin props room) (Bytes value) a b x y = absurd x
-opens_same was (calls.Begin props room) (Code n) a b x y = x.1 ∙ sym y.1
-opens_same was (calls.Begin props room) (Refused refusal) a b x y = x ∙ sym y
-opens_same was calls.Commit Done a b x y = absurd x
-opens_same was calls.Commit (Bytes value) a b x y = absurd x
-opens_same was calls.Commit (Code n) a b x y = absurd x
-opens_same was calls.Commit (Refused refusal) a b x y = x ∙ sym y
-opens_same was (calls.Read hint width at) r a b x y = x ∙ sym y
-opens_same was (calls.Write hint at value) r a b x y = x ∙ sym y
-
 -- ## One outcome
 
 module _ (mid new new' : Core) (end : Option Answer)
     (stage : new.stage ≡ new'.stage) (tries : new.tries ≡ new'.tries) (snapshot : new.snapshot ≡ new'.snapshot)
-    (both_open : new.is_open ≡ true → new'.is_open ≡ true → new.log ≡ new'.log) (settled : IsSettled new) (settled' : IsSettled new')
+    (both_open : in_transaction new ≡ true → in_transaction new' ≡ true → new.log ≡ new'.log) (settled : IsSettled new) (settled' : IsSettled new')
     (asks : new.waits ≡ asked new) (asks' : new'.waits ≡ asked new') (sees : SeesOne new) (sees' : SeesOne new') where
-  same_log : new.is_open ≡ new'.is_open → new.log ≡ new'.log
-  same_log same = by_open new.is_open refl
+  same_log : in_transaction new ≡ (in_transaction new') → new.log ≡ new'.log
+  same_log same = by_open (in_transaction new) refl
     where
-      by_open : (b : Bool) → new.is_open ≡ b → new.log ≡ new'.log
+      by_open : (b : Bool) → in_transaction new ≡ b → new.log ≡ new'.log
       by_open true o = both_open o (sym same ∙ o)
       by_open false o = (settled.closed o).0 ∙ sym (settled'.closed (sym same ∙ o)).0
 
@@ -100,10 +58,10 @@ module _ (mid new new' : Core) (end : Option Answer)
   asks_both s s' g g' =
       let e = g.stays in
       let e' = g'.stays in
-      let open_same : new.is_open ≡ new'.is_open = ap (λ (c : Core). c.is_open) e ∙ sym (ap (λ (c : Core). c.is_open) e') in
+      let open_same : in_transaction new ≡ (in_transaction new') = ap in_transaction e ∙ sym (ap in_transaction e') in
       let writes : new.writes ≡ new'.writes = ap (λ (c : Core). c.writes) e ∙ sym (ap (λ (c : Core). c.writes) e') in
       let log = same_log open_same in
-      let step : Some s ≡ Some s' = sym (ap (λ (c : Core). c.waits) e) ∙ (asks ∙ (asked_same new new' new.stage log snapshot writes ∙ (ap (asked_from new') stage ∙ (sym asks' ∙ ap (λ (c : Core). c.waits) e')))) in
+      let step : Some s ≡ Some s' = sym (ap (λ (c : Core). c.waits) e) ∙ (asks ∙ ((λ i. asked_in (log i) (snapshot i) (writes i) (stage i)) ∙ (sym asks' ∙ ap (λ (c : Core). c.waits) e'))) in
       let one : s ≡ s' = (cc) in (
         ap Asks one,
         e ∙ ((λ i. record mid { waits = Some (one i); spent = mid.spent + 1; stage = stage i; tries = tries i; log = log i; snapshot = snapshot i }) ∙ sym e'),
@@ -111,9 +69,9 @@ module _ (mid new new' : Core) (end : Option Answer)
 
   -- a memory that agrees with both logs
   one_memory : new.words ≡ mid.words → new'.words ≡ mid.words → (m : List ℕ) × IsMemory mid.words m × Agrees m new.log × Agrees m new'.log
-  one_memory w w' = by_open new.is_open new'.is_open refl refl
+  one_memory w w' = by_open (in_transaction new) (in_transaction new') refl refl
     where
-      by_open : (a b : Bool) → new.is_open ≡ a → new'.is_open ≡ b → (m : List ℕ) × IsMemory mid.words m × Agrees m new.log × Agrees m new'.log
+      by_open : (a b : Bool) → in_transaction new ≡ a → in_transaction new' ≡ b → (m : List ℕ) × IsMemory mid.words m × Agrees m new.log × Agrees m new'.log
       by_open true true a b = let s = sees a in (s.0, subst (λ (n : ℕ). IsMemory n s.0) w s.1, s.2, subst (Agrees s.0) (both_open a b) s.2)
       by_open true false a b = let s = sees a in (s.0, subst (λ (n : ℕ). IsMemory n s.0) w s.1, s.2, subst (Agrees s.0) (sym (settled'.closed b).0) tt)
       by_open false true a b = let s = sees' b in (s.0, subst (λ (n : ℕ). IsMemory n s.0) w' s.1, subst (Agrees s.0) (sym (settled.closed a).0) tt, s.2)
@@ -128,10 +86,9 @@ module _ (mid new new' : Core) (end : Option Answer)
       let e' = g'.stays in
       let m = one_memory (ap (λ (c : Core). c.words) e) (ap (λ (c : Core). c.words) e') in
       let one : r ≡ r' = g.reply_is m.0 m.1 (Agrees-drop m.0 mid.entry new.log m.2) ∙ sym (g'.reply_is m.0 m.1 (Agrees-drop m.0 mid.entry new'.log m.3)) in
-      let is_open : new.is_open ≡ new'.is_open = opens_same mid.is_open call r new.is_open new'.is_open g.opens (subst (λ (x : Replied). OpensBy mid.is_open call x new'.is_open) (sym one) g'.opens) in
       let writes : new.writes ≡ new'.writes = g.writes ∙ (ap (writes_after mid.writes call) one ∙ sym g'.writes) in
-      let props : new.props ≡ new'.props = g.props ∙ (ap (props_after mid.props call) one ∙ sym g'.props) in
-      let log = same_log is_open in (
+      let blocks : new.blocks ≡ new'.blocks = g.blocks ∙ (ap (blocks_after mid.blocks call) one ∙ sym g'.blocks) in
+      let log = same_log (ap is_inside blocks) in (
         one,
         e ∙ ((λ i. record mid {
           stage = stage i;
@@ -144,8 +101,7 @@ module _ (mid new new' : Core) (end : Option Answer)
           log = log i;
           snapshot = snapshot i;
           writes = writes i;
-          is_open = is_open i;
-          props = props i;
+          blocks = blocks i;
         }) ∙ sym e'),
       )
 
@@ -159,14 +115,8 @@ module _ (mid new new' : Core) (end : Option Answer)
   -- neither ends, so both reply
   none_both : (a a' : Answer) → IsEnding None a → IsEnding None a' → Ends mid a new → Ends mid a' new' → (Answers a ≡ Answers a') × (new ≡ new')
   none_both (Reply r) (Reply r') i i' g g' = let x = replies_both mid.doing r r' g g' in (ap (λ (y : Replied). Answers (Reply y)) x.0, x.1)
-  none_both (Reply r) (Committed at wrote) i i' g g' = absurd i'
-  none_both (Reply r) (Conflict clock word) i i' g g' = absurd i'
-  none_both (Reply r) (Busy clock) i i' g g' = absurd i'
-  none_both (Reply r) (Full at) i i' g g' = absurd i'
-  none_both (Committed at wrote) a' i i' g g' = absurd i
-  none_both (Conflict clock word) a' i i' g g' = absurd i
-  none_both (Busy clock) a' i i' g g' = absurd i
-  none_both (Full at) a' i i' g g' = absurd i
+  none_both (Reply r) a' i i' g g' = absurd i'
+  none_both a a' i i' g g' = absurd i
 
   answers_both : (o : Option Answer) (a a' : Answer) → IsEnding o a → IsEnding o a' → Ends mid a new → Ends mid a' new' → (Answers a ≡ Answers a') × (new ≡ new')
   answers_both None a a' i i' g g' = none_both a a' i i' g g'

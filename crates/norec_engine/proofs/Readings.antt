@@ -9,11 +9,12 @@ use Rattle.itm_types.specs.Access.{size_of}
 use Rattle.write_set.specs.declared.row.Row.{Row}
 use Rattle.word_pieces.specs.declared.piece.Piece.{Piece}
 use Rattle.word_pieces.specs.Pieces.{piece_of, pieces_of, count_of, part_of}
-use Rattle.norec_engine.specs.Fields.{part, parts, count, word_of, core_after}
+use Rattle.norec_engine.specs.Fields.{in_block, part, parts, count, core_after}
 use Rattle.norec_engine.specs.declared.phase.Phase.TheVariants.{Idle, Load}
 use Rattle.norec_engine.specs.declared.phase.Reading.{Reading}
 use Rattle.norec_engine.specs.Rows.{is_covered}
-use Rattle.norec_engine.specs.Order.{load_among, load_stage, tries_after, tries_at}
+use Rattle.norec_engine.specs.Core.{in_transaction}
+use Rattle.norec_engine.specs.Order.{load_among, load_stage, tries_after, tries_at, word_of}
 use Rattle.norec_engine.specs.declared.phase.Turn.{Turn}
 use Rattle.norec_engine.specs.declared.phase.Turn.TheVariants.{Wait, End}
 use Rattle.norec_engine.specs.declared.data.Data.{Data}
@@ -102,7 +103,7 @@ pub after_log : (turn : Turn) (d : Data) → (core_after turn d).log ≡ d.log.r
 after_log (Wait phase) d = refl
 after_log (End a) d = refl
 
-pub after_open : (turn : Turn) (d : Data) → (core_after turn d).is_open ≡ d.is_open
+pub after_open : (turn : Turn) (d : Data) → in_transaction (core_after turn d) ≡ in_block d
 after_open (Wait phase) d = refl
 after_open (End a) d = refl
 

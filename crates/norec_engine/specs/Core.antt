@@ -19,8 +19,7 @@ pub record Core : Type 0 where
   pub fresh : List LogRow  -- the words loaded since then
   pub log : List LogRow  -- the value log
   pub writes : List Row  -- the write set
-  pub is_open : Bool  -- a transaction is open
-  pub props : Props  -- of its block
+  pub blocks : List Props  -- the open blocks, innermost first
   pub holds : Bool  -- it holds the clock
   pub done : ℕ  -- how many rows of the write set were stored since it took the clock
   pub freed : Bool  -- the last step freed the clock
@@ -33,9 +32,6 @@ pub record Core : Type 0 where
   pub tries : ℕ  -- validation rounds that the call in progress has started, or clock loads of a begin
   pub entry : ℕ  -- how many rows were logged as the call came
 
-abbrev pub no_props : Props
-no_props = record {}
-
 abbrev pub opening : ℕ → List ℕ → ℕ → ℕ → Core
 opening words arena patience max_commits = record {
   words = words;
@@ -47,8 +43,7 @@ opening words arena patience max_commits = record {
   fresh = [];
   log = [];
   writes = [];
-  is_open = false;
-  props = no_props;
+  blocks = [];
   holds = false;
   done = 0;
   freed = false;
@@ -62,9 +57,17 @@ opening words arena patience max_commits = record {
   entry = 0;
 }
 
+-- some block is open
+abbrev pub is_inside : List Props → Bool
+is_inside [] = false
+is_inside (props ∷ outer) = true
+
+abbrev pub in_transaction : Core → Bool
+in_transaction c = is_inside c.blocks
+
 -- the engine as a call comes
 abbrev pub came : Core → Call → Bool → Core
-came c call again = record c { doing = Some call; again = again && not c.is_open; stage = at.Idle; tries = 0; fresh = []; done = 0; freed = false; got = None; spent = 0; entry = length c.log }
+came c call again = record c { doing = Some call; again = again && not (in_transaction c); stage = at.Idle; tries = 0; fresh = []; done = 0; freed = false; got = None; spent = 0; entry = length c.log }
 
 -- a word was loaded, by the holder of the clock or by another
 abbrev pub word_loaded : Core → Bool → ℕ → ℕ → Core
@@ -97,4 +100,4 @@ handed c seen = handed_to c c.waits seen
 
 -- the engine outside, with nothing kept
 abbrev pub ended : Core → Core
-ended c = record c { waits = None; doing = None; again = false; freed = false; fresh = []; done = 0; log = []; writes = []; is_open = false }
+ended c = record c { waits = None; doing = None; again = false; freed = false; fresh = []; done = 0; log = []; writes = []; blocks = [] }

@@ -9,9 +9,9 @@ use Rattle.norec_engine.specs.declared.answer.Next.TheVariants.{Step as Asks, An
 use Rattle.norec_engine.specs.declared.phase.Aim.{Aim}
 use Rattle.norec_engine.specs.declared.phase.Aim.TheVariants as aims
 use Rattle.norec_engine.specs.declared.phase.Phase.{Phase}
-use Rattle.norec_engine.specs.declared.phase.Phase.TheVariants.{Idle, Begin, Load, Confirm, RoundStart, RoundRow, RoundEnd, Exchange, BackLoad, Store, Free}
+use Rattle.norec_engine.specs.declared.phase.Phase.TheVariants.{Begin, Confirm, RoundStart, RoundRow, RoundEnd, Exchange, Free}
 use Rattle.norec_engine.specs.Rows.{row_at}
-use Rattle.norec_engine.specs.Core.{Core}
+use Rattle.norec_engine.specs.Core.{Core, in_transaction}
 
 -- once a round has succeeded: a commit finds as many done as may be
 abbrev pub aimed_ending : Aim → ℕ → Option Answer
@@ -20,17 +20,14 @@ aimed_ending aims.Commit seen = Some (Full (seen / 2))
 
 -- the end that comes of the value found, by where the call stands; where there is none, the call is replied to
 abbrev pub ending_from : Core → Phase → ℕ → Option Answer
-ending_from c Idle seen = None
 ending_from c (Begin b) seen = if seen % 2 == 0 then None else Some (Busy seen)
-ending_from c (Load r) seen = None
 ending_from c (Confirm r value) seen = if seen == c.snapshot then None else Some (Conflict seen None)
 ending_from c (RoundStart aim) seen = Some (Conflict seen None)
 ending_from c (RoundRow aim row) seen = Some (Conflict c.clock (Some (row_at c.log row).word))
 ending_from c (RoundEnd aim) seen = if seen == c.clock then aimed_ending aim seen else Some (Conflict seen None)
 ending_from c Exchange seen = Some (Conflict seen None)
-ending_from c (BackLoad row) seen = None
-ending_from c (Store row got) seen = None
 ending_from c Free seen = Some (Committed (c.snapshot / 2) true)
+ending_from c _ seen = None
 
 abbrev pub ending_after : Core → ℕ → Option Answer
 ending_after c seen = ending_from c c.stage seen
@@ -41,18 +38,13 @@ commit_ending c = if length c.writes == 0 then Some (Committed (c.snapshot / 2) 
 
 -- and of any call
 abbrev pub ending_at : Core → Call → Option Answer
-ending_at c (calls.Begin props room) = None
-ending_at c calls.Commit = if c.is_open then commit_ending c else None
-ending_at c (calls.Read hint width at) = None
-ending_at c (calls.Write hint at value) = None
+ending_at c calls.Commit = if in_transaction c then commit_ending c else None
+ending_at c _ = None
 
 -- the answer is this end, or, where there is none, a reply
 abbrev pub IsEnding : Option Answer → Answer → Type 0
 IsEnding None (Reply r) = Unit {0}
-IsEnding None (Committed at wrote) = ⊥
-IsEnding None (Conflict clock word) = ⊥
-IsEnding None (Busy clock) = ⊥
-IsEnding None (Full at) = ⊥
+IsEnding None _ = ⊥
 IsEnding (Some end) a = a ≡ end
 
 -- if the call is over, it is so by this end

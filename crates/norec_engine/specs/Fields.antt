@@ -1,11 +1,14 @@
 -- The engine's fields as what its callers see, and what is true of them.
-use Rattle.std.specs.Prelude.{◌≡◌, ◌≢◌, ℕ, ◌+◌, ◌-◌, ◌*◌, ◌/◌, ◌%◌, ◌^◌, ◌<◌, ◌≤◌, suc, Bool, true, false, List, [], ◌∷◌, length, take, Option, None, Some}
+use Rattle.std.specs.Prelude.{◌≡◌, ◌≢◌, ℕ, ◌+◌, ◌-◌, ◌*◌, ◌/◌, ◌%◌, ◌^◌, ◌<◌, ◌≤◌, nat_le, Bool, true, false, List, [], ◌∷◌, length, take, Option, None, Some}
 use Rattle.itm_types.specs.declared.row.LogRow.{LogRow}
 use Rattle.write_set.specs.declared.row.Row.{Row}
 use Rattle.itm_types.specs.declared.call.Call.{Call}
 use Rattle.itm_types.specs.declared.call.Call.TheVariants.{Begin, Commit, Read}
+use Rattle.itm_types.specs.declared.call.Props.{Props}
+use Rattle.itm_types.specs.declared.call.Refusal.{Refusal}
+use Rattle.itm_types.specs.declared.call.Refusal.TheVariants.{Outside, OutOfRange}
 use Rattle.itm_types.specs.declared.step.Step.{Step}
-use Rattle.itm_types.specs.declared.step.Step.TheVariants.{Load, Store, Cas}
+use Rattle.itm_model.specs.Machine.{unless, or_else}
 use Rattle.itm_types.specs.Access.{size_of}
 use Rattle.itm_types.specs.Memory.{IsMemory, Agrees}
 use Rattle.word_pieces.specs.declared.piece.Piece.{Piece}
@@ -19,20 +22,18 @@ use Rattle.norec_engine.specs.declared.phase.Reading.{Reading}
 use Rattle.norec_engine.specs.declared.phase.Turn.{Turn}
 use Rattle.norec_engine.specs.declared.phase.Turn.TheVariants.{Wait, End}
 use Rattle.norec_engine.specs.declared.data.Data.{Data}
+use Rattle.norec_engine.specs.declared.limits.Limits.{Limits}
 use Rattle.norec_engine.specs.declared.answer.Answer.{Answer}
 use Rattle.norec_engine.specs.declared.answer.Next.{Next}
 use Rattle.norec_engine.specs.declared.answer.Next.TheVariants.{Step as Asks, Answer as Answers}
-use Rattle.norec_engine.specs.Rows.{row_at, write_at, value_into, is_covered, AllWithin, AllWritesWithin}
+use Rattle.norec_engine.specs.Rows.{write_at, is_covered, AllWithin, AllWritesWithin}
 use Rattle.write_set.specs.Rows.{overlay, AreRows}
-use Rattle.norec_engine.specs.Core.{Core}
+use Rattle.norec_engine.specs.Core.{Core, is_inside}
+use Rattle.norec_engine.specs.Order.{word_of, step_in, asked_in}
 use Rattle.norec_engine.specs.Proceeds.{Proceeds, own_rows}
 use Rattle.norec_engine.specs.Endings.{IsEnding}
 
 -- ## What callers see
-
--- the word of the read's piece
-abbrev pub word_of : Reading → ℕ
-word_of r = r.at / 8 + r.number
 
 -- the piece
 abbrev pub part : Reading → Piece
@@ -56,10 +57,7 @@ doing_of (at.Confirm r value) = Some (call_of (aims.Read r))
 doing_of (at.RoundStart aim) = Some (call_of aim)
 doing_of (at.RoundRow aim row) = Some (call_of aim)
 doing_of (at.RoundEnd aim) = Some (call_of aim)
-doing_of at.Exchange = Some Commit
-doing_of (at.BackLoad row) = Some Commit
-doing_of (at.Store row got) = Some Commit
-doing_of at.Free = Some Commit
+doing_of _ = Some Commit
 
 abbrev pub again_of : Phase → Bool
 again_of (at.Begin b) = b.again
@@ -67,43 +65,16 @@ again_of _ = false
 
 -- the step that the phase waits for
 abbrev pub step_of : Data → Phase → Step
-step_of d at.Idle = Load 0
-step_of d (at.Begin b) = Load 0
-step_of d (at.Load r) = Load (suc (word_of r))
-step_of d (at.Confirm r value) = Load 0
-step_of d (at.RoundStart aim) = Load 0
-step_of d (at.RoundRow aim row) = Load (suc (row_at d.log.rows row).word)
-step_of d (at.RoundEnd aim) = Load 0
-step_of d at.Exchange = Cas 0 d.snapshot (d.snapshot + 1)
-step_of d (at.BackLoad row) = Load (suc (write_at d.writes row).word)
-step_of d (at.Store row got) = Store (suc (write_at d.writes row).word) (value_into (write_at d.writes row) got)
-step_of d at.Free = Store 0 (d.snapshot + 2)
+step_of d phase = step_in d.log.rows d.snapshot d.writes phase
 
 abbrev pub waits_of : Data → Phase → Option Step
-waits_of d at.Idle = None
-waits_of d (at.Begin b) = Some (step_of d (at.Begin b))
-waits_of d (at.Load r) = Some (step_of d (at.Load r))
-waits_of d (at.Confirm r value) = Some (step_of d (at.Confirm r value))
-waits_of d (at.RoundStart aim) = Some (step_of d (at.RoundStart aim))
-waits_of d (at.RoundRow aim row) = Some (step_of d (at.RoundRow aim row))
-waits_of d (at.RoundEnd aim) = Some (step_of d (at.RoundEnd aim))
-waits_of d at.Exchange = Some (step_of d at.Exchange)
-waits_of d (at.BackLoad row) = Some (step_of d (at.BackLoad row))
-waits_of d (at.Store row got) = Some (step_of d (at.Store row got))
-waits_of d at.Free = Some (step_of d at.Free)
+waits_of d phase = asked_in d.log.rows d.snapshot d.writes phase
 
 abbrev pub fresh_of : List LogRow → Phase → List LogRow
-fresh_of log at.Idle = []
-fresh_of log (at.Begin b) = []
-fresh_of log (at.Load r) = []
 fresh_of log (at.Confirm r value) = record { word = word_of r; value = value } ∷ []
-fresh_of log (at.RoundStart aim) = []
 fresh_of log (at.RoundRow aim row) = take row log
 fresh_of log (at.RoundEnd aim) = log
-fresh_of log at.Exchange = []
-fresh_of log (at.BackLoad row) = []
-fresh_of log (at.Store row got) = []
-fresh_of log at.Free = []
+fresh_of log _ = []
 
 abbrev pub holds_of : Phase → Bool
 holds_of (at.BackLoad row) = true
@@ -126,6 +97,14 @@ abbrev pub tries_of : Phase → ℕ → ℕ
 tries_of at.Idle tries = 0
 tries_of _ tries = tries
 
+-- the open blocks
+abbrev pub blocks_of : Option Props → List Props
+blocks_of None = []
+blocks_of (Some props) = props ∷ []
+
+abbrev pub in_block : Data → Bool
+in_block d = is_inside (blocks_of d.block)
+
 -- the engine with these fields, in this phase
 abbrev pub core : Data → Phase → Core
 core d phase = record {
@@ -138,8 +117,7 @@ core d phase = record {
   fresh = fresh_of d.log.rows phase;
   log = d.log.rows;
   writes = d.writes;
-  is_open = d.is_open;
-  props = d.props;
+  blocks = blocks_of d.block;
   holds = holds_of phase;
   done = done_of d.writes phase;
   freed = false;
@@ -153,6 +131,10 @@ core d phase = record {
   entry = d.entry;
 }
 
+-- why a read or a write of so many bytes from a place on is refused, if it is
+abbrev pub access_refusal : Bool → ℕ → ℕ → ℕ → Option Refusal
+access_refusal is_open words place size = or_else (unless is_open Outside) (unless (nat_le (place + size) (8 * words)) OutOfRange)
+
 -- ## What is true of the fields
 
 -- the steps of one round for this aim, and those before the first round
@@ -164,16 +146,23 @@ abbrev pub first_of : Aim → ℕ
 first_of (aims.Read r) = 2 * r.number + 2
 first_of aims.Commit = 1
 
+-- in every phase
+pub record IsBounded (words : ℕ) (limits : Limits) (snapshot : ℕ) : Type 0 where
+  pub patient : (0 < limits.patience) × (limits.patience ≤ 1000)
+  pub commits : limits.max_commits < 2 ^ 62
+  pub small : words ≤ 8192
+  pub even : snapshot % 2 ≡ 0
+
 -- a transaction is open, and its words lie within the memory
 pub record IsOpen (d : Data) : Type 0 where
-  pub is_open : d.is_open ≡ true
+  pub is_open : in_block d ≡ true
   pub log : AllWithin d.words d.log.rows
   pub writes : AllWritesWithin d.words d.writes
   pub rows : AreRows d.writes
   pub tries : d.tries ≤ d.limits.patience
 
 pub record IsOutside (d : Data) : Type 0 where
-  pub is_open : d.is_open ≡ false
+  pub is_open : in_block d ≡ false
   pub log : d.log.rows ≡ []
   pub writes : d.writes ≡ []
   pub tries : d.tries ≤ d.limits.patience
@@ -219,7 +208,7 @@ pub record IsHolding (d : Data) (steps : ℕ) : Type 0 where
   pub spent : d.spent ≤ 1 + d.tries * round_of aims.Commit d + steps
 
 abbrev pub InPhase : Data → Phase → Type 0
-InPhase d at.Idle = (d.is_open ≡ true → IsOpen d × (d.clock ≡ d.snapshot)) × (d.is_open ≡ false → IsOutside d)
+InPhase d at.Idle = (in_block d ≡ true → IsOpen d × (d.clock ≡ d.snapshot)) × (in_block d ≡ false → IsOutside d)
 InPhase d (at.Begin b) = IsOutside d × (d.spent ≤ d.tries)
 InPhase d (at.Load r) = IsOpen d × MayRead d r × (d.clock ≡ d.snapshot) × (d.spent ≤ 2 * r.number + 1 + d.tries * round_of (aims.Read r) d)
 InPhase d (at.Confirm r value) = IsOpen d × MayRead d r × (d.clock ≡ d.snapshot) × (d.spent ≤ 2 * r.number + 2 + d.tries * round_of (aims.Read r) d)
@@ -233,10 +222,7 @@ InPhase d (at.Store row (Some word)) = IsHolding d (2 * row + 2) × (row < lengt
 InPhase d at.Free = IsHolding d (2 * length d.writes + 1)
 
 pub record IsSound (d : Data) (phase : Phase) : Type 0 where
-  pub patient : (0 < d.limits.patience) × (d.limits.patience ≤ 1000)
-  pub commits : d.limits.max_commits < 2 ^ 62
-  pub small : d.words ≤ 8192
-  pub even : d.snapshot % 2 ≡ 0
+  pub bounds : IsBounded d.words d.limits d.snapshot
   pub reached : d.snapshot ≤ d.clock
   pub in_phase : InPhase d phase
 
@@ -304,13 +290,13 @@ in_rows d aim row = record (core d (at.RoundRow aim row)) { waits = None; stage 
 
 -- the log and the snapshot stay, unless the transaction ended
 pub record Stays (old new : Data) : Type 0 where
-  pub opens : new.is_open ≡ true → old.is_open ≡ true
-  pub log : new.is_open ≡ true → new.log.rows ≡ old.log.rows
+  pub opens : in_block new ≡ true → in_block old ≡ true
+  pub log : in_block new ≡ true → new.log.rows ≡ old.log.rows
   pub snapshot : new.snapshot ≡ old.snapshot
 
 -- the transaction is over, and all else as before
 pub record IsEnded (old new : Data) : Type 0 where
-  pub is_open : new.is_open ≡ false
+  pub block : new.block ≡ None
   pub log : new.log.rows ≡ []
   pub writes : new.writes ≡ []
   pub words : new.words ≡ old.words
@@ -318,17 +304,13 @@ pub record IsEnded (old new : Data) : Type 0 where
   pub arena : new.arena ≡ old.arena
   pub snapshot : new.snapshot ≡ old.snapshot
   pub clock : new.clock ≡ old.clock
-  pub props : new.props ≡ old.props
   pub tries : new.tries ≡ old.tries
   pub spent : new.spent ≡ old.spent
   pub entry : new.entry ≡ old.entry
 
 -- a round may be tried
 pub record MayTry (d : Data) (aim : Aim) : Type 0 where
-  pub patient : (0 < d.limits.patience) × (d.limits.patience ≤ 1000)
-  pub commits : d.limits.max_commits < 2 ^ 62
-  pub small : d.words ≤ 8192
-  pub even : d.snapshot % 2 ≡ 0
+  pub bounds : IsBounded d.words d.limits d.snapshot
   pub is_open : IsOpen d
   pub may : Aims d aim
   pub later : d.snapshot < d.clock
@@ -336,10 +318,7 @@ pub record MayTry (d : Data) (aim : Aim) : Type 0 where
 
 -- the next piece of a read may be taken
 pub record MayGather (d : Data) (r : Reading) : Type 0 where
-  pub patient : (0 < d.limits.patience) × (d.limits.patience ≤ 1000)
-  pub commits : d.limits.max_commits < 2 ^ 62
-  pub small : d.words ≤ 8192
-  pub even : d.snapshot % 2 ≡ 0
+  pub bounds : IsBounded d.words d.limits d.snapshot
   pub is_open : IsOpen d
   pub reading : IsReading d r
   pub settled : d.clock ≡ d.snapshot
@@ -347,20 +326,14 @@ pub record MayGather (d : Data) (r : Reading) : Type 0 where
 
 -- a round goes on: its rows before this one are as logged
 pub record InRows (d : Data) (aim : Aim) (row : ℕ) : Type 0 where
-  pub patient : (0 < d.limits.patience) × (d.limits.patience ≤ 1000)
-  pub commits : d.limits.max_commits < 2 ^ 62
-  pub small : d.words ≤ 8192
-  pub even : d.snapshot % 2 ≡ 0
+  pub bounds : IsBounded d.words d.limits d.snapshot
   pub round : InRound d aim (row + 1)
   pub steady : d.clock % 2 ≡ 0
   pub far : row ≤ length d.log.rows
 
 -- the clock may be taken
 pub record MayExchange (d : Data) : Type 0 where
-  pub patient : (0 < d.limits.patience) × (d.limits.patience ≤ 1000)
-  pub commits : d.limits.max_commits < 2 ^ 62
-  pub small : d.words ≤ 8192
-  pub even : d.snapshot % 2 ≡ 0
+  pub bounds : IsBounded d.words d.limits d.snapshot
   pub is_open : IsOpen d
   pub may : MayCommit d
   pub settled : d.clock ≡ d.snapshot
@@ -368,9 +341,6 @@ pub record MayExchange (d : Data) : Type 0 where
 
 -- the clock is held, and this many rows are stored
 pub record InStores (d : Data) (row : ℕ) : Type 0 where
-  pub patient : (0 < d.limits.patience) × (d.limits.patience ≤ 1000)
-  pub commits : d.limits.max_commits < 2 ^ 62
-  pub small : d.words ≤ 8192
-  pub even : d.snapshot % 2 ≡ 0
+  pub bounds : IsBounded d.words d.limits d.snapshot
   pub holding : IsHolding d (2 * row)
   pub far : row ≤ length d.writes

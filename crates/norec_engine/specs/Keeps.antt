@@ -8,8 +8,7 @@ pub record Keeps (old new : Core) : Type 0 where
   pub max_commits : new.max_commits ≡ old.max_commits
   pub arena : new.arena ≡ old.arena
   pub writes : new.writes ≡ old.writes
-  pub is_open : new.is_open ≡ old.is_open
-  pub props : new.props ≡ old.props
+  pub blocks : new.blocks ≡ old.blocks
   pub doing : new.doing ≡ old.doing
   pub again : new.again ≡ old.again
   pub entry : new.entry ≡ old.entry

@@ -2,7 +2,7 @@
 use Rattle.std.specs.Prelude.{◌≡◌, ℕ, true, Bool}
 use Rattle.itm_types.specs.declared.call.Call.{Call}
 use Rattle.norec_engine.specs.declared.answer.Next.{Next}
-use Rattle.norec_engine.specs.Core.{Core, came, handed}
+use Rattle.norec_engine.specs.Core.{Core, came, handed, in_transaction}
 use Rattle.norec_engine.specs.Order.{stage_at, stage_after, snapshot_after, log_after, tries_after, tries_at, asked}
 use Rattle.norec_engine.specs.Endings.{ending_at, ending_after, EndsSo}
 use Rattle.norec_engine.specs.Proceeds.{Proceeds, Joins, StaysOn, IsAtOnce, IsSettled}
@@ -26,6 +26,6 @@ pub record IsResumed (old : Core) (seen : ℕ) (what : Next) (new : Core) : Type
   pub ends : EndsSo (ending_after old seen) what
   pub tries : new.tries ≡ tries_after new.stage old.tries
   pub snapshot : new.snapshot ≡ snapshot_after old seen
-  pub log : new.is_open ≡ true → new.log ≡ log_after old seen
+  pub log : in_transaction new ≡ true → new.log ≡ log_after old seen
   pub asks : new.waits ≡ asked new
   pub settled : IsSettled new

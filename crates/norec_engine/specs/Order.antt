@@ -16,7 +16,7 @@ use Rattle.word_pieces.specs.Pieces.{pieces_of}
 use Rattle.norec_engine.specs.Rows.{row_at, write_at, value_into, is_covered}
 use Rattle.itm_types.specs.declared.step.Step.{Step}
 use Rattle.itm_types.specs.declared.step.Step.TheVariants as steps
-use Rattle.norec_engine.specs.Core.{Core}
+use Rattle.norec_engine.specs.Core.{Core, in_transaction}
 
 -- one more round, or the end
 abbrev pub try_stage : ℕ → ℕ → Aim → Phase
@@ -73,11 +73,11 @@ commit_stage c = if length c.writes == 0 then Idle else exchange_stage c.max_com
 
 -- where a call stands as it comes
 abbrev pub stage_at : Core → Call → Bool → Phase
-stage_at c (calls.Begin props room) again = if c.is_open then Idle else Begin (record { props = props; room = room; again = again })
-stage_at c calls.Commit again = if c.is_open then commit_stage c else Idle
+stage_at c (calls.Begin props room) again = if in_transaction c then Idle else Begin (record { props = props; room = room; again = again })
+stage_at c calls.Commit again = if in_transaction c then commit_stage c else Idle
 stage_at c (calls.Read hint width at) again =
-    if c.is_open && nat_le (at + size_of width) (8 * c.words) then load_stage c.writes (record { hint = hint; width = width; at = at; number = 0 }) else Idle
-stage_at c (calls.Write hint at value) again = Idle
+    if in_transaction c && nat_le (at + size_of width) (8 * c.words) then load_stage c.writes (record { hint = hint; width = width; at = at; number = 0 }) else Idle
+stage_at c _ again = Idle
 
 -- ## Tries
 
@@ -85,15 +85,8 @@ stage_at c (calls.Write hint at value) again = Idle
 abbrev pub tries_after : Phase → ℕ → ℕ
 tries_after Idle tries = 0
 tries_after (Begin b) tries = suc tries
-tries_after (Load r) tries = tries
-tries_after (Confirm r value) tries = tries
 tries_after (RoundStart aim) tries = suc tries
-tries_after (RoundRow aim row) tries = tries
-tries_after (RoundEnd aim) tries = tries
-tries_after Exchange tries = tries
-tries_after (BackLoad row) tries = tries
-tries_after (Store row got) tries = tries
-tries_after Free tries = tries
+tries_after _ tries = tries
 
 -- a call starts with none, but for the first load of a begin
 abbrev pub tries_at : Phase → ℕ
@@ -104,17 +97,9 @@ tries_at _ = 0
 
 -- an even clock at a begin, and a clock that has not moved over a round, are the new snapshot
 abbrev pub snapshot_from : Core → Phase → ℕ → ℕ
-snapshot_from c Idle seen = c.snapshot
 snapshot_from c (Begin b) seen = if seen % 2 == 0 then seen else c.snapshot
-snapshot_from c (Load r) seen = c.snapshot
-snapshot_from c (Confirm r value) seen = c.snapshot
-snapshot_from c (RoundStart aim) seen = c.snapshot
-snapshot_from c (RoundRow aim row) seen = c.snapshot
 snapshot_from c (RoundEnd aim) seen = if seen == c.clock then seen else c.snapshot
-snapshot_from c Exchange seen = c.snapshot
-snapshot_from c (BackLoad row) seen = c.snapshot
-snapshot_from c (Store row got) seen = c.snapshot
-snapshot_from c Free seen = c.snapshot
+snapshot_from c _ seen = c.snapshot
 
 abbrev pub snapshot_after : Core → ℕ → ℕ
 snapshot_after c seen = snapshot_from c c.stage seen
@@ -131,19 +116,27 @@ log_after c seen = log_from c c.stage seen
 
 -- ## The steps
 
--- the step that a stage asks for
+-- the word of the read's piece
+abbrev pub word_of : Reading → ℕ
+word_of r = r.at / 8 + r.number
+
+-- the step that a stage asks for, by the value log, the snapshot and the write set
+abbrev pub step_in : List LogRow → ℕ → List Row → Phase → Step
+step_in log snapshot writes (Load r) = steps.Load (suc (word_of r))
+step_in log snapshot writes (RoundRow aim row) = steps.Load (suc (row_at log row).word)
+step_in log snapshot writes Exchange = steps.Cas 0 snapshot (snapshot + 1)
+step_in log snapshot writes (BackLoad row) = steps.Load (suc (write_at writes row).word)
+step_in log snapshot writes (Store row got) = steps.Store (suc (write_at writes row).word) (value_into (write_at writes row) got)
+step_in log snapshot writes Free = steps.Store 0 (snapshot + 2)
+step_in log snapshot writes _ = steps.Load 0
+
+-- while no call is in progress there is none
+abbrev pub asked_in : List LogRow → ℕ → List Row → Phase → Option Step
+asked_in log snapshot writes Idle = None
+asked_in log snapshot writes stage = Some (step_in log snapshot writes stage)
+
 abbrev pub asked_from : Core → Phase → Option Step
-asked_from c Idle = None
-asked_from c (Begin b) = Some (steps.Load 0)
-asked_from c (Load r) = Some (steps.Load (suc (r.at / 8 + r.number)))
-asked_from c (Confirm r value) = Some (steps.Load 0)
-asked_from c (RoundStart aim) = Some (steps.Load 0)
-asked_from c (RoundRow aim row) = Some (steps.Load (suc (row_at c.log row).word))
-asked_from c (RoundEnd aim) = Some (steps.Load 0)
-asked_from c Exchange = Some (steps.Cas 0 c.snapshot (c.snapshot + 1))
-asked_from c (BackLoad row) = Some (steps.Load (suc (write_at c.writes row).word))
-asked_from c (Store row got) = Some (steps.Store (suc (write_at c.writes row).word) (value_into (write_at c.writes row) got))
-asked_from c Free = Some (steps.Store 0 (c.snapshot + 2))
+asked_from c stage = asked_in c.log c.snapshot c.writes stage
 
 -- and the engine, by its stage
 abbrev pub asked : Core → Option Step

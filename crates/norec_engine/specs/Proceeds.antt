@@ -6,7 +6,7 @@ use Rattle.itm_types.specs.declared.call.Call.{Call}
 use Rattle.itm_types.specs.declared.call.Props.{Props}
 use Rattle.itm_types.specs.declared.call.Call.TheVariants.{Begin, Commit, Read, Write}
 use Rattle.itm_types.specs.declared.call.Reply.{Reply as Replied}
-use Rattle.itm_types.specs.declared.call.Reply.TheVariants.{Done, Bytes, Code, Refused}
+use Rattle.itm_types.specs.declared.call.Reply.TheVariants.{Done, Code, Refused}
 use Rattle.itm_types.specs.declared.step.Step.{Step}
 use Rattle.itm_types.specs.declared.step.Step.TheVariants.{Load, Store, Cas}
 use Rattle.itm_types.specs.Access.{size_of}
@@ -20,7 +20,7 @@ use Rattle.norec_engine.specs.declared.answer.Next.{Next}
 use Rattle.norec_engine.specs.declared.answer.Next.TheVariants.{Step as Asks, Answer as Answers}
 use Rattle.write_set.specs.Rows.{overlay}
 use Rattle.norec_engine.specs.Rows.{HaveRows, write_at, reserved_all, put_all}
-use Rattle.norec_engine.specs.Core.{Core, ended}
+use Rattle.norec_engine.specs.Core.{Core, in_transaction, ended}
 use Rattle.norec_engine.specs.Stands.{stands_for}
 
 -- ## Lawful steps
@@ -48,14 +48,14 @@ StoresOrFrees c (suc word) value = StoresNext c word value
 -- the clock is loaded by one that does not hold it; a word by an open transaction, and by the holder the one that it stores next
 abbrev pub LoadsOwn : Core → ℕ → Type 0
 LoadsOwn c zero = c.holds ≡ false
-LoadsOwn c (suc word) = (c.is_open ≡ true) × (c.holds ≡ true → (c.done < length c.writes) × (word ≡ (write_at c.writes c.done).word))
+LoadsOwn c (suc word) = (in_transaction c ≡ true) × (c.holds ≡ true → (c.done < length c.writes) × (word ≡ (write_at c.writes c.done).word))
 
 -- the step of an engine that asks for it is one of the algorithm's
 abbrev pub IsLawful : Core → Step → Type 0
 IsLawful c (Load cell) = (cell ≤ c.words) × LoadsOwn c cell
 IsLawful c (Store cell value) = (cell ≤ c.words) × (c.holds ≡ true) × StoresOrFrees c cell value
 IsLawful c (Cas cell from to) =
-    (cell ≡ 0) × (c.holds ≡ false) × (c.is_open ≡ true) × (from ≡ c.snapshot) × (from % 2 ≡ 0) × (from / 2 < c.max_commits) × (to ≡ from + 1)
+    (cell ≡ 0) × (c.holds ≡ false) × (in_transaction c ≡ true) × (from ≡ c.snapshot) × (from % 2 ≡ 0) × (from / 2 < c.max_commits) × (to ≡ from + 1)
 
 -- ## What comes of an event
 
@@ -67,44 +67,27 @@ pub record AsksFor (mid : Core) (step : Step) (new : Core) : Type 0 where
 
 -- a block that was begun before is told so
 abbrev pub recoded : Bool → Replied → Replied
-recoded false r = r
-recoded true Done = Done
-recoded true (Bytes value) = Bytes value
 recoded true (Code n) = Code 9
-recoded true (Refused refusal) = Refused refusal
+recoded _ r = r
 
 -- an accepted write puts its pieces in the write set, which keeps the order of first writing
 abbrev pub writes_after : List Row → Call → Replied → List Row
-writes_after writes (Begin props room) r = writes
-writes_after writes Commit r = writes
-writes_after writes (Read hint width at) r = writes
 writes_after writes (Write hint at value) Done = (let ps = pieces_of at (size_of value.width) in put_all (reserved_all writes ps) ps value.bytes.items)
-writes_after writes (Write hint at value) (Bytes bytes) = writes
-writes_after writes (Write hint at value) (Code n) = writes
-writes_after writes (Write hint at value) (Refused refusal) = writes
+writes_after writes _ r = writes
 
 -- whether a transaction is open before a call's reply and after it: an accepted begin opens one, and no other reply opens or closes one
 abbrev pub OpensBy : Bool → Call → Replied → Bool → Type 0
-OpensBy was (Begin props room) Done now = ⊥
-OpensBy was (Begin props room) (Bytes value) now = ⊥
 OpensBy was (Begin props room) (Code n) now = (was ≡ false) × (now ≡ true)
 OpensBy was (Begin props room) (Refused refusal) now = now ≡ was
-OpensBy was Commit Done now = ⊥
-OpensBy was Commit (Bytes value) now = ⊥
-OpensBy was Commit (Code n) now = ⊥
+OpensBy was (Begin props room) _ now = ⊥
 OpensBy was Commit (Refused refusal) now = now ≡ was
-OpensBy was (Read hint width at) r now = now ≡ was
-OpensBy was (Write hint at value) r now = now ≡ was
+OpensBy was Commit _ now = ⊥
+OpensBy was _ r now = now ≡ was
 
--- an accepted begin gives the open block's properties
-abbrev pub props_after : Props → Call → Replied → Props
-props_after was (Begin props room) Done = was
-props_after was (Begin props room) (Bytes value) = was
-props_after was (Begin props room) (Code n) = props
-props_after was (Begin props room) (Refused refusal) = was
-props_after was Commit r = was
-props_after was (Read hint width at) r = was
-props_after was (Write hint at value) r = was
+-- an accepted begin opens a block with its properties
+abbrev pub blocks_after : List Props → Call → Replied → List Props
+blocks_after was (Begin props room) (Code n) = props ∷ was
+blocks_after was _ r = was
 
 -- the rows that the call in progress has logged itself
 abbrev pub own_rows : ℕ → List LogRow → List LogRow
@@ -125,21 +108,21 @@ pub record Replies (mid : Core) (call : Call) (r : Replied) (new : Core) : Type 
     log = new.log;
     snapshot = new.snapshot;
     writes = new.writes;
-    is_open = new.is_open;
-    props = new.props;
+    blocks = new.blocks;
   }
   pub writes : new.writes ≡ writes_after mid.writes call r
   pub free : mid.holds ≡ false
   pub unfreed : mid.freed ≡ false
-  pub still : mid.is_open ≡ true → new.is_open ≡ true
-  pub opens : OpensBy mid.is_open call r new.is_open
-  pub props : new.props ≡ props_after mid.props call r
-  pub settled : new.is_open ≡ true → (new.clock ≡ new.snapshot) × (new.snapshot % 2 ≡ 0)
+  pub still : in_transaction mid ≡ true → in_transaction new ≡ true
+  pub opens : OpensBy (in_transaction mid) call r (in_transaction new)
+  pub blocks : new.blocks ≡ blocks_after mid.blocks call r
+  pub settled : in_transaction new ≡ true → (new.clock ≡ new.snapshot) × (new.snapshot % 2 ≡ 0)
 
 -- the call is a commit: over every memory that agrees with the log, the stores leave the plain machine's memory
 pub record Commits (mid : Core) (at : ℕ) (wrote : Bool) (new : Core) : Type 0 where
   pub doing : mid.doing ≡ Some Commit
-  pub is_open : mid.is_open ≡ true
+  pub is_open : in_transaction mid ≡ true
+  pub outermost : length mid.blocks ≡ 1
   pub at_is : at ≡ mid.snapshot / 2
   pub wrote_is : (m : List ℕ) → IsMemory mid.words m → Agrees m mid.log → wrote ≡ (after MAX_DEPTH (stands_for mid m) Commit).wrote
   pub memory_is : (m : List ℕ) → IsMemory mid.words m → Agrees m mid.log → bytes_of (backed mid m) ≡ (after MAX_DEPTH (stands_for mid m) Commit).memory
@@ -161,7 +144,7 @@ Differs fresh log (Some word) =
 
 -- the clock that was seen last is later than the snapshot, and the transaction is undone
 pub record Conflicts (mid : Core) (clock : ℕ) (word : Option ℕ) (new : Core) : Type 0 where
-  pub is_open : mid.is_open ≡ true
+  pub is_open : in_transaction mid ≡ true
   pub clock_is : clock ≡ mid.clock
   pub later : mid.snapshot < clock
   pub word_is : Differs mid.fresh mid.log word
@@ -171,16 +154,13 @@ pub record Conflicts (mid : Core) (clock : ℕ) (word : Option ℕ) (new : Core)
   pub undone : IsUndone mid new
 
 abbrev pub IsBegin : Option Call → Type 0
-IsBegin None = ⊥
 IsBegin (Some (Begin props room)) = Unit {0}
-IsBegin (Some Commit) = ⊥
-IsBegin (Some (Read hint width at)) = ⊥
-IsBegin (Some (Write hint at value)) = ⊥
+IsBegin _ = ⊥
 
 -- a begin found the clock odd as often as it may
 pub record IsBusy (mid : Core) (clock : ℕ) (new : Core) : Type 0 where
   pub begins : IsBegin mid.doing
-  pub closed : mid.is_open ≡ false
+  pub closed : in_transaction mid ≡ false
   pub clock_is : clock ≡ mid.clock
   pub odd : clock % 2 ≡ 1
   pub free : mid.holds ≡ false
@@ -190,7 +170,8 @@ pub record IsBusy (mid : Core) (clock : ℕ) (new : Core) : Type 0 where
 -- there is something to write, and as many commits are done as may be; the transaction is undone
 pub record IsFull (mid : Core) (at : ℕ) (new : Core) : Type 0 where
   pub doing : mid.doing ≡ Some Commit
-  pub is_open : mid.is_open ≡ true
+  pub is_open : in_transaction mid ≡ true
+  pub outermost : length mid.blocks ≡ 1
   pub at_is : at ≡ new.snapshot / 2
   pub full : mid.max_commits ≤ at
   pub some : mid.writes ≢ []
@@ -224,52 +205,45 @@ pub record Settles (old : Core) (seen : ℕ) : Type 0 where
 
 -- rows join the log, and the snapshot moves, only there, and never both: the rows that join, or at a move all rows, were loaded between the two loads
 pub record Joins (old : Core) (seen : ℕ) (new : Core) : Type 0 where
-  pub log : new.is_open ≡ true → (new.log ≡ old.log) ⊎ (Settles old seen × (new.log ≡ old.log ++ old.fresh) × (new.snapshot ≡ seen) × (old.snapshot ≡ seen))
-  pub begins : old.is_open ≡ false → new.is_open ≡ true → (old.waits ≡ Some (Load 0)) × (new.snapshot ≡ seen) × (seen % 2 ≡ 0)
-  pub snapshot : old.is_open ≡ true → (new.snapshot ≡ old.snapshot) ⊎ (Settles old seen × (old.fresh ≡ old.log) × (new.snapshot ≡ seen))
+  pub log : in_transaction new ≡ true → (new.log ≡ old.log) ⊎ (Settles old seen × (new.log ≡ old.log ++ old.fresh) × (new.snapshot ≡ seen) × (old.snapshot ≡ seen))
+  pub begins : in_transaction old ≡ false → in_transaction new ≡ true → (old.waits ≡ Some (Load 0)) × (new.snapshot ≡ seen) × (seen % 2 ≡ 0)
+  pub snapshot : in_transaction old ≡ true → (new.snapshot ≡ old.snapshot) ⊎ (Settles old seen × (old.fresh ≡ old.log) × (new.snapshot ≡ seen))
 
 -- a transaction opens at a clock load alone, so not as a call comes; no row joins the log then, and the snapshot stays
 pub record StaysOn (old new : Core) : Type 0 where
-  pub opens : new.is_open ≡ true → old.is_open ≡ true
-  pub log : new.is_open ≡ true → new.log ≡ old.log
+  pub opens : in_transaction new ≡ true → in_transaction old ≡ true
+  pub log : in_transaction new ≡ true → new.log ≡ old.log
   pub snapshot : new.snapshot ≡ old.snapshot
 
 -- what a call may be answered before its first step
 abbrev pub IsAtOnce : Next → Type 0
-IsAtOnce (Asks step) = Unit {0}
-IsAtOnce (Answers (Reply r)) = Unit {0}
-IsAtOnce (Answers (Committed at wrote)) = Unit {0}
 IsAtOnce (Answers (Conflict clock word)) = ⊥
 IsAtOnce (Answers (Busy clock)) = ⊥
-IsAtOnce (Answers (Full at)) = Unit {0}
+IsAtOnce _ = Unit {0}
 
 -- memory is asked for by a read or a write alone, by no refused one, and by no write to words that have rows
 abbrev pub MayStarve : Core → Call → Type 0
-MayStarve c (Begin props room) = ⊥
-MayStarve c Commit = ⊥
-MayStarve c (Read hint width at) = (c.is_open ≡ true) × (at + size_of width ≤ 8 * c.words)
-MayStarve c (Write hint at value) = (c.is_open ≡ true) × (at + size_of value.width ≤ 8 * c.words) × (HaveRows c.writes (pieces_of at (size_of value.width)) → ⊥)
+MayStarve c (Read hint width at) = (in_transaction c ≡ true) × (at + size_of width ≤ 8 * c.words)
+MayStarve c (Write hint at value) = (in_transaction c ≡ true) × (at + size_of value.width ≤ 8 * c.words) × (HaveRows c.writes (pieces_of at (size_of value.width)) → ⊥)
+MayStarve c _ = ⊥
 
 -- ## Values and counts
 
 -- a value that the memory can hand in: the clock never falls
 abbrev pub FitsStep : Core → Option Step → ℕ → Type 0
-FitsStep c None seen = Unit {0}
 FitsStep c (Some (Load zero)) seen = c.clock ≤ seen
-FitsStep c (Some (Load (suc word))) seen = Unit {0}
-FitsStep c (Some (Store cell value)) seen = Unit {0}
 FitsStep c (Some (Cas cell from to)) seen = c.clock ≤ seen
+FitsStep c _ seen = Unit {0}
 
 abbrev pub Fits : Core → ℕ → Type 0
 Fits c seen = FitsStep c c.waits seen
 
 -- the most steps of a call
 abbrev pub most : Core → Option Call → ℕ
-most c None = 0
 most c (Some (Begin props room)) = 2 * c.patience
 most c (Some Commit) = c.patience * (c.entry + 3) + 2 * length c.writes + 2
 most c (Some (Read hint width at)) = 2 * count_of at (size_of width) + c.patience * (c.entry + count_of at (size_of width) + 4)
-most c (Some (Write hint at value)) = 0
+most c _ = 0
 
 -- while it waits, it has asked for no more than the call's most steps
 abbrev pub IsWithin : Core → Type 0
@@ -277,10 +251,10 @@ IsWithin c = c.waits ≢ None → c.spent ≤ most c c.doing
 
 -- between calls: outside, nothing is kept; inside, the clock that was handed in last is the snapshot
 pub record IsSettled (c : Core) : Type 0 where
-  pub closed : c.is_open ≡ false → (c.log ≡ []) × (c.writes ≡ [])
+  pub closed : in_transaction c ≡ false → (c.log ≡ []) × (c.writes ≡ [])
   pub reached : c.snapshot ≤ c.clock
-  pub inside : c.waits ≡ None → c.is_open ≡ true → (c.clock ≡ c.snapshot) × (c.snapshot % 2 ≡ 0)
+  pub inside : c.waits ≡ None → in_transaction c ≡ true → (c.clock ≡ c.snapshot) × (c.snapshot % 2 ≡ 0)
   pub unfreed : c.freed ≡ false
   pub even : c.snapshot % 2 ≡ 0
-  pub holder : c.holds ≡ true → (c.is_open ≡ true) × (c.clock ≡ c.snapshot) × (c.snapshot / 2 < c.max_commits)
+  pub holder : c.holds ≡ true → (in_transaction c ≡ true) × (c.clock ≡ c.snapshot) × (c.snapshot / 2 < c.max_commits)
   pub limit : c.max_commits < 2 ^ 62

@@ -3,10 +3,10 @@ use Rattle.std.specs.Prelude.{if◌then◌else◌}
 use Rattle.norec_engine.specs.declared.answer.Undone.{Undone}
 use Rattle.norec_engine.specs.declared.answer.Undone.TheVariants.{Nothing, Done, Held}
 use Rattle.norec_engine.specs.declared.phase.Phase.TheVariants.{Idle}
-use Rattle.norec_engine.specs.Core.{Core, ended}
+use Rattle.norec_engine.specs.Core.{Core, ended, in_transaction}
 
 abbrev pub undone_of : Core → Undone
-undone_of c = if c.holds then Held else (if c.is_open then Done else Nothing)
+undone_of c = if c.holds then Held else (if in_transaction c then Done else Nothing)
 
 -- the engine outside, unless the clock is held
 abbrev pub after_undoing : Core → Core

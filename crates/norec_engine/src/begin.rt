@@ -1,7 +1,7 @@
 //! Begins of outermost blocks.
 
 ghost use Rattle.std.specs.Prelude.{◌≡◌, ◌≤◌, true};
-ghost use Rattle.norec_engine.specs.Fields.{core, core_after, phase_after, IsSound, IsSoundTurn, Turns, TurnEndsSo, Stays};
+ghost use Rattle.norec_engine.specs.Fields.{in_block, core, core_after, phase_after, IsSound, IsSoundTurn, Turns, TurnEndsSo, Stays};
 ghost use Rattle.norec_engine.specs.Core.{came, handed};
 ghost use Rattle.norec_engine.specs.Order.{log_after, snapshot_after, stage_after, stage_at, tries_after, tries_at};
 ghost use Rattle.norec_engine.specs.Endings.{ending_at, ending_after};
@@ -30,7 +30,7 @@ pub(crate) fn begin(state: &mut Data, props: Props, room: u32, again: bool) -> T
     let rows = state.log.len();
     state.spent = 0;
     state.entry = rows;
-    if state.is_open {
+    if state.is_open() {
         Turn::End(Answer::Reply(Reply::Refused(Refusal::TooDeep)))
     } else {
         state.tries = 1;
@@ -48,14 +48,13 @@ pub(crate) fn begin_seen(state: &mut Data, opening: Opening, seen: u64) -> Turn
     ensures order { phase_after result ≡ stage_after (core state.old (Phase.Begin opening)) seen }
     ensures ends { TurnEndsSo (ending_after (core state.old (Phase.Begin opening)) seen) result }
     ensures snapshot { state.new.snapshot ≡ snapshot_after (core state.old (Phase.Begin opening)) seen }
-    ensures log { state.new.is_open ≡ true → state.new.log.rows ≡ log_after (core state.old (Phase.Begin opening)) seen }
+    ensures log { in_block state.new ≡ true → state.new.log.rows ≡ log_after (core state.old (Phase.Begin opening)) seen }
     ensures tries { (core_after result state.new).tries ≡ tries_after (phase_after result) state.old.tries }
 {
     state.clock = seen;
     if seen % 2 == 0 {
         state.snapshot = seen;
-        state.is_open = true;
-        state.props = opening.props;
+        state.block = Some(opening.props);
         let code = if opening.again {
             ENTERED_AGAIN
         } else {

@@ -7,9 +7,9 @@ ghost use Rattle.norec_engine.specs.Endings.{ending_at, ending_after};
 ghost use Rattle.norec_engine.specs.Order.{exchange_stage, stage_after, stage_at, store_stage, tries_after, tries_at};
 
 use crate::answer::Answer;
-use crate::data::Data;
+use crate::data::{Data, end};
 use crate::phase::{Aim, Phase, Turn};
-use crate::rounds::{end, try_round};
+use crate::rounds::try_round;
 use itm_types::{Call, Refusal, Reply};
 
 /// A commit comes.
@@ -26,7 +26,7 @@ pub(crate) fn commit(state: &mut Data) -> Turn
     state.spent = 0;
     state.tries = 0;
     state.entry = rows;
-    if !state.is_open {
+    if !state.is_open() {
         return Turn::End(Answer::Reply(Reply::Refused(Refusal::Outside)));
     }
     if state.writes.len() == 0 {

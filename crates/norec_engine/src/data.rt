@@ -1,5 +1,8 @@
 //! What an engine keeps beside the phase.
 
+ghost use Rattle.std.specs.Prelude.{◌≡◌};
+ghost use Rattle.norec_engine.specs.Fields.{in_block, IsEnded};
+
 use crate::arena::Arena;
 use crate::limits::Limits;
 use itm_types::{Props, Value};
@@ -16,8 +19,8 @@ pub struct Data {
     pub snapshot: u64,
     /// The last clock value handed in.
     pub clock: u64,
-    pub is_open: bool,
-    pub props: Props,
+    /// The open block, and with it a transaction.
+    pub block: Option<Props>,
     pub log: ValueLog,
     pub writes: WriteSet,
     /// The bytes that the read in progress has so far.
@@ -28,4 +31,22 @@ pub struct Data {
     pub tries: u32,
     /// Steps that the call has asked for.
     pub spent: u128,
+}
+
+impl Data {
+    /// A transaction is open.
+    pub(crate) fn is_open(&self) -> bool
+        ensures { result ≡ in_block self.now }
+    {
+        self.block.is_some()
+    }
+}
+
+/// The transaction is over: nothing of it is kept.
+pub(crate) fn end(state: &mut Data)
+    ensures { IsEnded state.old state.new }
+{
+    state.log.clear();
+    state.writes.clear();
+    state.block = None;
 }

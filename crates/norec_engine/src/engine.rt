@@ -1,22 +1,22 @@
 //! One thread's transactions over shared cells that someone else steps on.
 
 ghost use Rattle.std.specs.Prelude.{◌≡◌, ◌≢◌, ◌<◌, ◌≤◌, ◌^◌, IfOk, IsOk, OnOk, OnErr, IsSome, true, IsTrue, ◌↔◌, is_some, false};
-ghost use Rattle.norec_engine.specs.Core.{opening, came, handed};
+ghost use Rattle.norec_engine.specs.Core.{in_transaction, opening, came, handed};
 ghost use Rattle.norec_engine.specs.Order.{asked, log_after, snapshot_after, stage_after, stage_at, tries_after, tries_at};
 ghost use Rattle.norec_engine.specs.Endings.{ending_at, ending_after, EndsSo};
 ghost use Rattle.norec_engine.specs.Proceeds.{Proceeds, Joins, StaysOn, IsAtOnce, IsUndone, MayStarve, Fits, IsWithin, IsSettled};
-ghost use Rattle.norec_engine.specs.Fields.{core, core_after, phase_after, data_after, next_of, waits_of, IsSound, IsSoundTurn, Turns, TurnEndsSo, Stays};
+ghost use Rattle.norec_engine.specs.Fields.{in_block, core, core_after, phase_after, data_after, next_of, waits_of, IsSound, IsSoundTurn, Turns, TurnEndsSo, Stays};
 ghost use Rattle.norec_engine.specs.Undoing.{undone_of, after_undoing};
 
 use crate::answer::{Answer, Next, Undone};
 use crate::arena::Arena;
 use crate::begin::{begin, begin_seen};
 use crate::commit::{back_loaded, commit, exchanged, freed, stored};
-use crate::data::Data;
+use crate::data::{Data, end};
 use crate::limits::Limits;
 use crate::phase::{Phase, Turn};
 use crate::read::{confirmed, loaded, read};
-use crate::rounds::{end, round_ended, round_started, row_seen};
+use crate::rounds::{round_ended, round_started, row_seen};
 use crate::steps::step_of;
 use crate::write::write;
 use itm_types::{Call, Props, Value};
@@ -62,8 +62,7 @@ impl Engine {
                 arena,
                 snapshot: 0,
                 clock: 0,
-                is_open: false,
-                props: Props {},
+                block: None,
                 log: ValueLog::new(alloc),
                 writes: WriteSet::new(alloc),
                 gathered: Value::new(),
@@ -91,8 +90,7 @@ impl Engine {
         ensures err { OnErr result (self.new ≡ self.old) }
     {
         let turn = begin(&mut self.state, props, room, again);
-        self.phase = phase_of(&turn);
-        Ok(count(&mut self.state, turn))
+        Ok(take(&mut self.state, &mut self.phase, turn))
     }
 
     /// A call comes.
@@ -111,8 +109,7 @@ impl Engine {
         ensures starves { OnErr result (MayStarve self.old call.now) }
     {
         let turn = called(&mut self.state, call)?;
-        self.phase = phase_of(&turn);
-        Ok(count(&mut self.state, turn))
+        Ok(take(&mut self.state, &mut self.phase, turn))
     }
 
     /// The step that it waits for was done: `seen` is the value loaded, the value that an exchange found, or 0 after a store.
@@ -125,14 +122,13 @@ impl Engine {
         ensures ends { EndsSo (ending_after self.old seen) result }
         ensures tries { self.new.tries ≡ tries_after self.new.stage self.old.tries }
         ensures snapshot { self.new.snapshot ≡ snapshot_after self.old seen }
-        ensures log { self.new.is_open ≡ true → self.new.log ≡ log_after self.old seen }
+        ensures log { in_transaction self.new ≡ true → self.new.log ≡ log_after self.old seen }
         ensures asks { self.new.waits ≡ asked self.new }
         ensures count { IsWithin self.new }
         ensures settled { IsSettled self.new }
     {
         let turn = turned(&mut self.state, self.phase, seen);
-        self.phase = phase_of(&turn);
-        count(&mut self.state, turn)
+        take(&mut self.state, &mut self.phase, turn)
     }
 
     /// Gives the transaction up, with the call in progress. While the clock is held, nothing is changed.
@@ -144,7 +140,7 @@ impl Engine {
         match self.phase {
             Phase::BackLoad(_) | Phase::Store(_, _) | Phase::Free => Undone::Held,
             _ => {
-                let was_open = self.state.is_open;
+                let was_open = self.state.is_open();
                 end(&mut self.state);
                 self.phase = Phase::Idle;
                 if was_open {
@@ -183,9 +179,9 @@ impl Engine {
 
     /// A transaction is open.
     pub fn is_open(&self) -> bool
-        ensures { result ≡ self.now.is_open }
+        ensures { result ≡ in_transaction self.now }
     {
-        self.state.is_open
+        self.state.is_open()
     }
 
     /// The even clock value at which the transaction reads, after its end the last one.
@@ -218,31 +214,26 @@ impl Engine {
     }
 }
 
-/// The phase after a turn.
-fn phase_of(turn: &Turn) -> Phase
-    ensures { result ≡ phase_after turn.now }
-{
-    match turn {
-        Turn::Wait(phase) => *phase,
-        Turn::End(_) => Phase::Idle,
-    }
-}
-
-/// A step that is asked for is counted.
-fn count(state: &mut Data, turn: Turn) -> Next
+/// Takes a turn: the call goes on in its phase, or is over. A step that is asked for is counted.
+fn take(state: &mut Data, phase: &mut Phase, turn: Turn) -> Next
     requires sound { IsSoundTurn turn state.old }
-    ensures after { state.new ≡ data_after turn state.old }
+    ensures state { state.new ≡ data_after turn state.old }
+    ensures phase { phase.new ≡ phase_after turn }
     ensures next { result ≡ next_of turn state.old }
 {
     match turn {
-        Turn::Wait(phase) => {
+        Turn::Wait(next) => {
             let _writes = state.writes.len();
             let _entry = state.entry;
-            let step = step_of(state, phase);
+            let step = step_of(state, next);
             state.spent += 1;
+            *phase = next;
             Next::Step(step)
         }
-        Turn::End(answer) => Next::Answer(answer),
+        Turn::End(answer) => {
+            *phase = Phase::Idle;
+            Next::Answer(answer)
+        }
     }
 }
 
@@ -258,7 +249,7 @@ fn turned(state: &mut Data, phase: Phase, seen: u64) -> Turn
     ensures ends { TurnEndsSo (ending_after (core state.old phase) seen) result }
     ensures tries { (core_after result state.new).tries ≡ tries_after (phase_after result) (core state.old phase).tries }
     ensures snapshot { state.new.snapshot ≡ snapshot_after (core state.old phase) seen }
-    ensures log { state.new.is_open ≡ true → state.new.log.rows ≡ log_after (core state.old phase) seen }
+    ensures log { in_block state.new ≡ true → state.new.log.rows ≡ log_after (core state.old phase) seen }
 {
     match phase {
         Phase::Idle => unreachable!(),

@@ -3,7 +3,8 @@
 ghost use Rattle.std.specs.Prelude.{◌≡◌, ℕ, ◌+◌, ◌*◌, ◌<◌, ◌≤◌, List, ◌++◌, take, length, IfSome, slice_get, slice_index};
 ghost use Rattle.itm_types.specs.Access.{size_of};
 ghost use Rattle.word_pieces.specs.Pieces.{IsPiece, gathered, part_of};
-ghost use Rattle.norec_engine.specs.Fields.{parts, word_of};
+ghost use Rattle.norec_engine.specs.Fields.{parts};
+ghost use Rattle.norec_engine.specs.Order.{word_of};
 
 use crate::answer::Answer;
 use itm_types::{Props, ReadHint, Width};

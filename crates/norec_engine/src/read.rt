@@ -7,17 +7,18 @@ ghost use Rattle.word_pieces.specs.Pieces.{IsPiece, part_of};
 ghost use Rattle.write_set.specs.Rows.{overlay, AreRows};
 ghost use Rattle.norec_engine.specs.Rows.{is_covered};
 ghost use Rattle.itm_types.specs.Access.{size_of};
-ghost use Rattle.norec_engine.specs.Fields.{core, core_after, phase_after, between, logged, IsSound, IsSoundTurn, Turns, TurnEndsSo, Stays, MayGather};
+ghost use Rattle.norec_engine.specs.Fields.{in_block, core, core_after, phase_after, between, logged, IsSound, IsSoundTurn, Turns, TurnEndsSo, Stays, MayGather};
 ghost use Rattle.norec_engine.specs.Core.{came, handed};
 ghost use Rattle.norec_engine.specs.Order.{load_stage, log_after, snapshot_after, stage_after, stage_at, tries_after, tries_at};
 ghost use Rattle.norec_engine.specs.Endings.{ending_at, ending_after};
 ghost use Rattle.norec_engine.specs.Proceeds.{Joins, MayStarve};
 
+use crate::access::{refusal, refuse};
 use crate::answer::Answer;
 use crate::data::Data;
 use crate::phase::{Aim, Phase, Reading, Turn};
 use crate::rounds::try_round;
-use itm_types::{Call, LogRow, ReadHint, Refusal, Reply, Value, Width};
+use itm_types::{Call, LogRow, ReadHint, Reply, Value, Width};
 use std::alloc::AllocError;
 use std::mem;
 use word_pieces::{Piece, merge};
@@ -43,17 +44,10 @@ pub(crate) fn read(
     ensures ends { IfOk result (TurnEndsSo (ending_at (core state.old Phase.Idle) (Call.Read hint width at))) }
     ensures tries { IfOk result (λ turn. (core_after turn state.new).tries ≡ tries_at (phase_after turn)) }
 {
+    if let Some(why) = refusal(state, at, width.size()) {
+        return Ok(refuse(state, why));
+    }
     let rows = state.log.len();
-    if !state.is_open {
-        state.spent = 0;
-        state.entry = rows;
-        return Ok(Turn::End(Answer::Reply(Reply::Refused(Refusal::Outside))));
-    }
-    if !is_within(state.words, at, width.size()) {
-        state.spent = 0;
-        state.entry = rows;
-        return Ok(Turn::End(Answer::Reply(Reply::Refused(Refusal::OutOfRange))));
-    }
     state.log.reserve(MOST_PIECES)?;
     state.spent = 0;
     state.tries = 0;
@@ -68,16 +62,6 @@ pub(crate) fn read(
             number: 0,
         },
     ))
-}
-
-/// Whether so many bytes from a place on lie within the memory.
-pub(crate) fn is_within(words: u32, at: u64, size: u8) -> bool
-    requires { words ≤ 8192 }
-    ensures { result ≡ nat_le (at + size) (8 * words) }
-{
-    let bytes = 8 * u64::from(words);
-    let size = u64::from(size);
-    size <= bytes && at <= bytes - size
 }
 
 /// The pieces from this one on are taken from the write set, up to one that it does not have.
@@ -150,7 +134,7 @@ pub(crate) fn confirmed(state: &mut Data, reading: Reading, value: u64, seen: u6
     ensures order { phase_after result ≡ stage_after (core state.old (Phase.Confirm reading value)) seen }
     ensures ends { TurnEndsSo (ending_after (core state.old (Phase.Confirm reading value)) seen) result }
     ensures snapshot { state.new.snapshot ≡ snapshot_after (core state.old (Phase.Confirm reading value)) seen }
-    ensures log { state.new.is_open ≡ true → state.new.log.rows ≡ log_after (core state.old (Phase.Confirm reading value)) seen }
+    ensures log { in_block state.new ≡ true → state.new.log.rows ≡ log_after (core state.old (Phase.Confirm reading value)) seen }
     ensures tries { (core_after result state.new).tries ≡ tries_after (phase_after result) state.old.tries }
 {
     state.clock = seen;

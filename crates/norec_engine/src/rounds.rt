@@ -1,7 +1,7 @@
 //! Validation rounds: the value log is compared with the memory between two equal even clocks.
 
 ghost use Rattle.std.specs.Prelude.{◌≡◌, ◌≤◌, length, ℕ, true, Option, None, Some};
-ghost use Rattle.norec_engine.specs.Fields.{core, core_after, phase_after, between, in_rows, IsSound, IsSoundTurn, Turns, TurnEndsSo, Stays, IsEnded, MayTry, InRows};
+ghost use Rattle.norec_engine.specs.Fields.{in_block, core, core_after, phase_after, between, in_rows, IsSound, IsSoundTurn, Turns, TurnEndsSo, Stays, MayTry, InRows};
 ghost use Rattle.norec_engine.specs.Core.{handed};
 ghost use Rattle.norec_engine.specs.Order.{log_after, row_stage, snapshot_after, stage_after, tries_after, try_stage};
 ghost use Rattle.norec_engine.specs.Endings.{ending_after};
@@ -9,7 +9,7 @@ ghost use Rattle.norec_engine.specs.Proceeds.{Joins};
 
 use crate::answer::Answer;
 use crate::commit::exchange;
-use crate::data::Data;
+use crate::data::{Data, end};
 use crate::phase::{Aim, Phase, Turn};
 
 /// A new round, if one is left.
@@ -32,15 +32,6 @@ pub(crate) fn try_round(state: &mut Data, aim: Aim) -> Turn
             word: None,
         })
     }
-}
-
-/// The transaction is over: nothing of it is kept.
-pub(crate) fn end(state: &mut Data)
-    ensures { IsEnded state.old state.new }
-{
-    state.log.clear();
-    state.writes.clear();
-    state.is_open = false;
 }
 
 /// The clock was loaded at the start of a round.
@@ -112,7 +103,7 @@ pub(crate) fn round_ended(state: &mut Data, aim: Aim, seen: u64) -> Turn
     ensures order { phase_after result ≡ stage_after (core state.old (Phase.RoundEnd aim)) seen }
     ensures ends { TurnEndsSo (ending_after (core state.old (Phase.RoundEnd aim)) seen) result }
     ensures snapshot { state.new.snapshot ≡ snapshot_after (core state.old (Phase.RoundEnd aim)) seen }
-    ensures log { state.new.is_open ≡ true → state.new.log.rows ≡ log_after (core state.old (Phase.RoundEnd aim)) seen }
+    ensures log { in_block state.new ≡ true → state.new.log.rows ≡ log_after (core state.old (Phase.RoundEnd aim)) seen }
     ensures tries { (core_after result state.new).tries ≡ tries_after (phase_after result) state.old.tries }
 {
     let is_steady = seen == state.clock;

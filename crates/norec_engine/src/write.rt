@@ -11,11 +11,11 @@ ghost use Rattle.norec_engine.specs.Order.{stage_at, tries_at};
 ghost use Rattle.norec_engine.specs.Endings.{ending_at};
 ghost use Rattle.norec_engine.specs.Proceeds.{MayStarve};
 
+use crate::access::{refusal, refuse};
 use crate::answer::Answer;
 use crate::data::Data;
 use crate::phase::{Phase, Turn};
-use crate::read::is_within;
-use itm_types::{Call, Datum, Refusal, Reply, WriteHint};
+use itm_types::{Call, Datum, Reply, WriteHint};
 use std::alloc::AllocError;
 use word_pieces::{Piece, pieces};
 use write_set::WriteSet;
@@ -38,17 +38,10 @@ pub(crate) fn write(
     ensures ends { IfOk result (TurnEndsSo (ending_at (core state.old Phase.Idle) (Call.Write hint at value.now))) }
     ensures tries { IfOk result (λ turn. (core_after turn state.new).tries ≡ tries_at (phase_after turn)) }
 {
+    if let Some(why) = refusal(state, at, value.width.size()) {
+        return Ok(refuse(state, why));
+    }
     let rows = state.log.len();
-    if !state.is_open {
-        state.spent = 0;
-        state.entry = rows;
-        return Ok(Turn::End(Answer::Reply(Reply::Refused(Refusal::Outside))));
-    }
-    if !is_within(state.words, at, value.width.size()) {
-        state.spent = 0;
-        state.entry = rows;
-        return Ok(Turn::End(Answer::Reply(Reply::Refused(Refusal::OutOfRange))));
-    }
     let pieces = pieces(at, value.width.size());
     reserve_all(&mut state.writes, &pieces)?;
     put_all(&mut state.writes, &pieces, value.bytes.as_slice());

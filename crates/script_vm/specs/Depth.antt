@@ -1,41 +1,33 @@
 -- How many blocks are open, by the calls and their replies.
 use Rattle.std.specs.Prelude.{ℕ, suc, ◌-◌, ◌==◌, ◌&&◌, Bool, true, false}
 use Rattle.itm_types.specs.declared.call.Call.{Call}
-use Rattle.itm_types.specs.declared.call.Call.TheVariants.{Begin, Commit, Read, Write}
 use Rattle.itm_types.specs.declared.call.Reply.{Reply}
-use Rattle.itm_types.specs.declared.call.Reply.TheVariants.{Done, Bytes, Code, Refused}
-
-abbrev pub is_begin : Call → Bool
-is_begin (Begin props room) = true
-is_begin Commit = false
-is_begin (Read hint width at) = false
-is_begin (Write hint at value) = false
+use Rattle.itm_types.specs.declared.call.Reply.TheVariants.{Done, Code}
+pub use Rattle.itm_types.specs.Calls.{is_begin}
+use Rattle.itm_types.specs.Calls.{is_commit}
 
 abbrev pub is_code : Reply → Bool
-is_code Done = false
-is_code (Bytes value) = false
 is_code (Code n) = true
-is_code (Refused refusal) = false
+is_code _ = false
 
 -- an accepted begin opens a block
 abbrev pub begun : ℕ → Reply → ℕ
-begun depth Done = depth
-begun depth (Bytes value) = depth
 begun depth (Code n) = suc depth
-begun depth (Refused refusal) = depth
+begun depth _ = depth
 
 -- an accepted commit closes one
 abbrev pub ended : ℕ → Reply → ℕ
 ended depth Done = depth - 1
-ended depth (Bytes value) = depth
-ended depth (Code n) = depth
-ended depth (Refused refusal) = depth
+ended depth _ = depth
+
+-- and no other call does either
+abbrev pub depth_by : Bool → Bool → ℕ → Reply → ℕ
+depth_by true commits depth reply = begun depth reply
+depth_by false true depth reply = ended depth reply
+depth_by false false depth reply = depth
 
 abbrev pub depth_after : ℕ → Call → Reply → ℕ
-depth_after depth (Begin props room) reply = begun depth reply
-depth_after depth Commit reply = ended depth reply
-depth_after depth (Read hint width at) reply = depth
-depth_after depth (Write hint at value) reply = depth
+depth_after depth call reply = depth_by (is_begin call) (is_commit call) depth reply
 
 -- is this the accepted begin of an outermost block
 abbrev pub opens : ℕ → Call → Reply → Bool

@@ -40,10 +40,7 @@ returns-else-written-clause-sound c =
     record {
       asked = tt;
       sound = record {
-        patient = may.patient;
-        commits = may.commits;
-        small = may.small;
-        even = may.even;
+        bounds = may.bounds;
         reached = omega (arith, hold.settled);
         in_phase = (
           record { is_open = record { is_open = hold.is_open.is_open; log = hold.is_open.log; writes = hold.is_open.writes; rows = hold.is_open.rows; tries = hold.is_open.tries }; some = hold.some; settled = hold.settled; free = hold.free; spent = omega (arith, hold.spent) },

@@ -7,7 +7,7 @@ use Rattle.std.proofs.lemmas.List.{length-append}
 use Rattle.word_pieces.proofs.Covers.{gathered-pieces_of}
 use Rattle.write_set.specs.Rows.{overlay}
 use Rattle.write_set.proofs.Overlays.{length-overlay}
-use Rattle.norec_engine.specs.Fields.{parts}
+use Rattle.norec_engine.specs.Fields.{blocks_of, parts}
 use Rattle.norec_engine.specs.Order.{load_stage}
 use Rattle.norec_engine.specs.Rows.{is_covered}
 use Rattle.word_pieces.specs.declared.piece.Piece.{Piece}
@@ -26,7 +26,7 @@ returns-in_default-clause-proceeds t c log =
     (let size : length (overlay m s.writes) ≡ s.words = length-overlay m s.writes ∙ mem.0 in
     may.reading.has m mem agrees ∙ (ap (gathered (overlay m s.writes)) (none_take (parts r) r.number none) ∙ gathered-pieces_of (overlay m s.writes) r.at (size_of r.width) (omega (arith, size, may.reading.within)))) in
     let all = λ (m : List ℕ) (mem : IsMemory s.words m) (agrees : Agrees m (drop s.entry s.log.rows)).
-    reads s.writes s.is_open s.props s.arena m s.words r.hint r.width r.at may.is_open.is_open mem c.replace-bytes.result.items may.reading.within (ap (λ v. v.items) c.replace-bytes.ensures.value ∙ bytes m mem agrees) in
+    reads s.writes (blocks_of s.block) s.arena m s.words r.hint r.width r.at may.is_open.is_open mem c.replace-bytes.result.items may.reading.within (ap (λ v. v.items) c.replace-bytes.ensures.value ∙ bytes m mem agrees) in
     record {
       meets = λ m mem agrees. (all m mem (Agrees-drop m s.entry s.log.rows agrees)).0;
       reply_is = λ m mem agrees. (all m mem agrees).1;
@@ -36,8 +36,8 @@ returns-in_default-clause-proceeds t c log =
       unfreed = refl;
       still = λ o. o;
       opens = refl;
-      props = refl;
-      settled = λ o. (may.settled, may.even);
+      blocks = refl;
+      settled = λ o. (may.settled, may.bounds.even);
     }
 
 pub returns-in_default-clause-order : goal.returns-in_default-clause-order
@@ -62,10 +62,7 @@ next_piece-requires t c =
     let more = λ (m : List ℕ). c.in-Some.ensures.reads_on m in (
       rw c.next.ensures (omega (arith, left, c.decreases)),
       rw c.next.ensures (record {
-        patient = may.patient;
-        commits = may.commits;
-        small = may.small;
-        even = may.even;
+        bounds = may.bounds;
         is_open = record { is_open = may.is_open.is_open; log = may.is_open.log; writes = may.is_open.writes; rows = may.is_open.rows; tries = may.is_open.tries };
         reading = record {
           within = may.reading.within;
@@ -107,10 +104,7 @@ returns-in-None-clause-sound t c =
     record {
       asked = tt;
       sound = record {
-        patient = may.patient;
-        commits = may.commits;
-        small = may.small;
-        even = may.even;
+        bounds = may.bounds;
         reached = omega (arith, may.settled);
         in_phase = (
           record { is_open = may.is_open.is_open; log = may.is_open.log; writes = may.is_open.writes; rows = may.is_open.rows; tries = may.is_open.tries },

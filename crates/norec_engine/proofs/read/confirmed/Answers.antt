@@ -34,10 +34,7 @@ next_piece-requires c =
     let gone = c.gather.ensures in
     rw c.next.ensures (record {
       may = record {
-        patient = c.requires.sound.patient;
-        commits = c.requires.sound.commits;
-        small = c.requires.sound.small;
-        even = c.requires.sound.even;
+        bounds = c.requires.sound.bounds;
         is_open = record {
           is_open = phase.0.is_open;
           log = subst (AllWithin s.words) (sym added) (AllWithin-push s.words s.log.rows row phase.0.log word);
@@ -85,7 +82,7 @@ returns-in-Some-clause-joins c =
     let stays = c.next_piece.ensures.stays in
     let p = c.in-Some.piece in
     let word = ap (λ (x : Piece). x.word) (part_is r p (sym c.piece.ensures.value ∙ c.in-Some.is)) in
-    let settles : Settles (core s (Confirm r c.args.value)) c.args.seen = record { load = refl; same = c.if-seen-state.true ∙ sym phase.2; even = omega (arith, c.requires.sound.even, c.if-seen-state.true) } in
+    let settles : Settles (core s (Confirm r c.args.value)) c.args.seen = record { load = refl; same = c.if-seen-state.true ∙ sym phase.2; even = omega (arith, c.requires.sound.bounds.even, c.if-seen-state.true) } in
     record {
       log = λ o. inr (
         settles,

@@ -13,20 +13,20 @@ pub overflow_add-result-in-RoundRow : goal.overflow_add-result-in-RoundRow
 overflow_add-result-in-RoundRow c =
     let s = rw c.in-RoundRow.is at c.requires.sound in
     let logged : row_at c.args.state.now.log.rows c.in-RoundRow.row ≡ c.row-logged.result = get_or_from_slice_get c.args.state.now.log.rows c.in-RoundRow.row c.row-logged.result _ c.row-logged.ensures in
-    omega (arith, AllWithin-at c.args.state.now.words c.args.state.now.log.rows c.in-RoundRow.row s.in_phase.0.is_open.log s.in_phase.2, ap (λ (r : LogRow). r.word) logged, s.small)
+    omega (arith, AllWithin-at c.args.state.now.words c.args.state.now.log.rows c.in-RoundRow.row s.in_phase.0.is_open.log s.in_phase.2, ap (λ (r : LogRow). r.word) logged, s.bounds.small)
 
 pub overflow_add-result-in-BackLoad : goal.overflow_add-result-in-BackLoad
 overflow_add-result-in-BackLoad c =
     let s = rw c.in-BackLoad.is at c.requires.sound in
     let written = write_at_of c.args.state.now.writes c.in-BackLoad.row c.row-written.result c.row-written.ensures.row in
-    omega (arith, AllWritesWithin-at c.args.state.now.words c.args.state.now.writes c.in-BackLoad.row s.in_phase.0.is_open.writes s.in_phase.1, ap (λ (r : Row). r.word) written, s.small)
+    omega (arith, AllWritesWithin-at c.args.state.now.words c.args.state.now.writes c.in-BackLoad.row s.in_phase.0.is_open.writes s.in_phase.1, ap (λ (r : Row). r.word) written, s.bounds.small)
 
 pub overflow_add-result-in-Store : goal.overflow_add-result-in-Store
 overflow_add-result-in-Store c =
     let s = rw c.in-Store.is at c.requires.sound in
     let facts = store_row (counted c.args.state.now) c.in-Store.row c.in-Store.got s.in_phase in
     let written = write_at_of c.args.state.now.writes c.in-Store.row c.row-written-in-Store.result c.row-written-in-Store.ensures.row in
-    omega (arith, AllWritesWithin-at c.args.state.now.words c.args.state.now.writes c.in-Store.row facts.0.writes facts.1, ap (λ (r : Row). r.word) written, s.small)
+    omega (arith, AllWritesWithin-at c.args.state.now.words c.args.state.now.writes c.in-Store.row facts.0.writes facts.1, ap (λ (r : Row). r.word) written, s.bounds.small)
 
 pub returns-in-BackLoad : goal.returns-in-BackLoad
 returns-in-BackLoad c =

@@ -2,36 +2,18 @@ use Rattle.std.proofs.Common.{◌≡◌, ℕ, ◌+◌, ◌*◌, ◌<◌, ◌≤�
 use Rattle.word_pieces.specs.declared.piece.Piece.{Piece}
 use Rattle.write_set.specs.declared.row.Row.{Row}
 use Rattle.write_set.specs.Rows.{lookup, overlay, AreRows}
+use Rattle.norec_engine.specs.Fields.{blocks_of, in_block}
 use Rattle.norec_engine.specs.Stands.{is_some_row}
 use Rattle.norec_engine.specs.Rows.{reserved_all, put_all, AllWritesWithin}
-use Rattle.std.proofs.lemmas.Bool.{leb-false, leb-true}
 use Rattle.itm_types.specs.Access.{size_of}
 use Rattle.itm_types.specs.Memory.{bytes_of, IsMemory}
-use Rattle.norec_engine.proofs.Machines.{writes, writes_not, some_put, some_bytes}
+use Rattle.norec_engine.proofs.Refusals.{served}
+use Rattle.norec_engine.proofs.Machines.{writes, some_put, some_bytes}
 use Rattle.std.proofs.lemmas.List.Elements.{All-from_recursion}
 use Rattle.word_pieces.specs.Pieces.{pieces_of}
 use Rattle.itm_types.specs.Slices.{AreBytes}
 use Rattle.norec_engine.proofs.Writings.{AllFitIn, all_reserved, some_pieces, bytes_of-put_all, fit_pieces, AllWritesWithin-put_all, AllWritesWithin-reserved_all, AreRows-put_all, AreRows-reserved_all}
 use Rattle.norec_engine.proofs.write.write.Goals as goal
-
-pub returns-then-not-is_within-clause-proceeds : goal.returns-then-not-is_within-clause-proceeds
-returns-then-not-is_within-clause-proceeds c =
-    let s = c.args.state.now in
-    let idle = c.requires.sound.in_phase.0 c.if-not-state.false in
-    let out : 8 * s.words < c.args.at + size_of c.args.value.now.width = subst (λ (n : ℕ). 8 * s.words < c.args.at + n) c.size.ensures.value (leb-false (c.args.at + c.size.result) (8 * s.words) (sym c.is_within.ensures ∙ c.if-not-is_within.true)) in
-    let all = λ (m : List ℕ) (mem : IsMemory s.words m). writes_not s.writes s.is_open s.props s.arena m s.words c.args.hint c.args.value.now c.args.at c.if-not-state.false mem out in
-    record {
-      meets = λ m mem agrees. (all m mem).0;
-      reply_is = λ m mem agrees. (all m mem).1;
-      stays = search rules;
-      writes = refl;
-      free = refl;
-      unfreed = refl;
-      still = λ o. o;
-      opens = refl;
-      props = refl;
-      settled = λ o. (idle.1, c.requires.sound.even);
-    }
 
 pub put_all-requires-clause-room : goal.put_all-requires-clause-room
 put_all-requires-clause-room c =
@@ -44,24 +26,22 @@ put_all-requires-clause-room c =
 pub returns-clause-sound : goal.returns-clause-sound
 returns-clause-sound c =
     let s = c.args.state.now in
+    let may = served (in_block s) s.words c.args.at c.size.result (sym c.in_default.ensures.value) in
     let w = c.args.value.now.width in
     let bytes = c.args.value.now.bytes.items in
     let ps = pieces_of c.args.at (size_of w) in
     let sound = c.requires.sound in
-    let idle = sound.in_phase.0 c.if-not-state.false in
+    let idle = sound.in_phase.0 may.0 in
     let pieces_are : c.pieces-pieces.result.items ≡ ps = c.pieces-pieces.ensures.value ∙ ap (pieces_of c.args.at) c.size-2.ensures.value in
     let rows : c.put_all.new.writes ≡ put_all (reserved_all s.writes ps) ps bytes =
     c.put_all.ensures.rows ∙ (λ i. put_all ((c.in_ok-reserve_all.ensures.ok ∙ ap (reserved_all s.writes) (c.deref.ensures.0 ∙ pieces_are)) i) ((c.deref-2.ensures.0 ∙ pieces_are) i) (c.as_slice.ensures.value i)) in
     let fit : AllFitIn s.words ps bytes = fit_pieces s.words c.args.at (size_of w) bytes
-    (subst (λ (n : ℕ). c.args.at + n ≤ 8 * s.words) c.size.ensures.value (leb-true (c.args.at + c.size.result) (8 * s.words) (sym c.is_within.ensures ∙ c.if-not-is_within.false)))
+    (subst (λ (n : ℕ). c.args.at + n ≤ 8 * s.words) c.size.ensures.value may.1)
     (omega (arith, c.size.ensures.value, c.size.ensures.most)) (subst AreBytes c.as_slice.ensures.value c.put_all.ensures.bytes) in
     record {
       asked = tt;
       sound = record {
-        patient = sound.patient;
-        commits = sound.commits;
-        small = sound.small;
-        even = sound.even;
+        bounds = sound.bounds;
         reached = sound.reached;
         in_phase = (
           λ o. (
@@ -74,7 +54,7 @@ returns-clause-sound c =
             },
             idle.1,
           ),
-          λ o. (let yes = c.if-not-state.false in absurd (cc)),
+          λ o. (let yes = may.0 in absurd (cc)),
         );
       };
     }
@@ -82,18 +62,19 @@ returns-clause-sound c =
 pub returns-clause-proceeds : goal.returns-clause-proceeds
 returns-clause-proceeds c =
     let s = c.args.state.now in
+    let may = served (in_block s) s.words c.args.at c.size.result (sym c.in_default.ensures.value) in
     let value = c.args.value.now in
     let bytes = value.bytes.items in
     let size = size_of value.width in
     let ps = pieces_of c.args.at size in
-    let idle = c.requires.sound.in_phase.0 c.if-not-state.false in
+    let idle = c.requires.sound.in_phase.0 may.0 in
     let pieces_are : c.pieces-pieces.result.items ≡ ps = c.pieces-pieces.ensures.value ∙ ap (pieces_of c.args.at) c.size-2.ensures.value in
     let rows : c.put_all.new.writes ≡ put_all (reserved_all s.writes ps) ps bytes =
     c.put_all.ensures.rows ∙ (λ i. put_all ((c.in_ok-reserve_all.ensures.ok ∙ ap (reserved_all s.writes) (c.deref.ensures.0 ∙ pieces_are)) i) ((c.deref-2.ensures.0 ∙ pieces_are) i) (c.as_slice.ensures.value i)) in
-    let within : c.args.at + size ≤ 8 * s.words = subst (λ (n : ℕ). c.args.at + n ≤ 8 * s.words) c.size.ensures.value (leb-true (c.args.at + c.size.result) (8 * s.words) (sym c.is_within.ensures ∙ c.if-not-is_within.false)) in
+    let within : c.args.at + size ≤ 8 * s.words = subst (λ (n : ℕ). c.args.at + n ≤ 8 * s.words) c.size.ensures.value may.1 in
     let some : 0 < length ps = some_pieces c.args.at size (some_bytes value.width) in
     let all = λ (m : List ℕ) (mem : IsMemory s.words m).
-    writes s.writes s.is_open s.props s.arena m s.words c.args.hint value c.args.at c.if-not-state.false mem c.put_all.new.writes within
+    writes s.writes (blocks_of s.block) s.arena m s.words c.args.hint value c.args.at may.0 mem c.put_all.new.writes within
     (ap is_some_row rows ∙ some_put (reserved_all s.writes ps) ps bytes some)
     (ap (λ (xs : List Row). bytes_of (overlay m xs)) rows
     ∙ bytes_of-put_all m s.writes c.args.at size bytes mem.1 idle.0.rows (omega (arith, within, mem.0)) (omega (arith, c.size.ensures.value, c.size.ensures.most)) (subst AreBytes c.as_slice.ensures.value c.put_all.ensures.bytes) value.sized) in
@@ -106,6 +87,6 @@ returns-clause-proceeds c =
       unfreed = refl;
       still = λ o. o;
       opens = refl;
-      props = refl;
-      settled = λ o. (idle.1, c.requires.sound.even);
+      blocks = refl;
+      settled = λ o. (idle.1, c.requires.sound.bounds.even);
     }

@@ -1,0 +1,24 @@
+-- Views of calls, for definitions to which most calls are alike.
+use Rattle.std.specs.Prelude.{ℕ, Bool, true, false, is_some, Option, None, Some}
+use Rattle.itm_types.specs.declared.call.Props.{Props}
+use Rattle.itm_types.specs.declared.call.Call.{Call}
+use Rattle.itm_types.specs.declared.call.Call.TheVariants.{Begin, Commit, Read, Write}
+use Rattle.itm_types.specs.Access.{size_of}
+
+-- a begin's properties, and its room
+abbrev pub begin_args : Call → Option (Props × ℕ)
+begin_args (Begin props room) = Some (props, room)
+begin_args _ = None
+
+abbrev pub is_begin : Call → Bool
+is_begin call = is_some (begin_args call)
+
+abbrev pub is_commit : Call → Bool
+is_commit Commit = true
+is_commit _ = false
+
+-- the shared bytes of a read or a write: the first one's place, and how many they are
+abbrev pub access_of : Call → Option (ℕ × ℕ)
+access_of (Read hint width at) = Some (at, size_of width)
+access_of (Write hint at value) = Some (at, size_of value.width)
+access_of _ = None

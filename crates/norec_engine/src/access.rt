@@ -1,0 +1,53 @@
+//! What reads and writes have in common: where they are refused.
+
+ghost use Rattle.std.specs.Prelude.{◌≡◌, ℕ, ◌≤◌, ◌+◌, ◌*◌, ◌&&◌, nat_le, false, None, Some, is_none};
+ghost use Rattle.itm_types.specs.declared.call.Call.{Call};
+ghost use Rattle.itm_types.specs.Calls.{access_of};
+ghost use Rattle.norec_engine.specs.Fields.{in_block, access_refusal, core, core_after, phase_after, IsSound, IsSoundTurn, Turns, TurnEndsSo, Stays};
+ghost use Rattle.norec_engine.specs.Core.{came};
+
+use crate::answer::Answer;
+use crate::data::Data;
+use crate::phase::{Phase, Turn};
+use itm_types::{Refusal, Reply};
+
+/// Why a read or a write of so many bytes from a place on is refused, if it is.
+pub(crate) fn refusal(state: &Data, at: u64, size: u8) -> Option<Refusal>
+    requires { state.now.words ≤ 8192 }
+    ensures value { result ≡ access_refusal (in_block state.now) state.now.words at size }
+    ensures served { is_none result ≡ (in_block state.now && nat_le (at + size) (8 * state.now.words)) }
+{
+    if !state.is_open() {
+        Some(Refusal::Outside)
+    } else if !is_within(state.words, at, size) {
+        Some(Refusal::OutOfRange)
+    } else {
+        None
+    }
+}
+
+/// A read or a write is refused.
+pub(crate) fn refuse(state: &mut Data, why: Refusal) -> Turn
+    requires sound { IsSound state.old Phase.Idle }
+    ensures sound { IsSoundTurn result state.new }
+    ensures proceeds { (call : Call) (at size : ℕ) → access_of call ≡ Some (at, size) → access_refusal (in_block state.old) state.old.words at size ≡ Some why
+        → Turns (came (core state.old Phase.Idle) call false) result state.new }
+    ensures stays { Stays state.old state.new }
+    ensures order { phase_after result ≡ Phase.Idle }
+    ensures ends { TurnEndsSo None result }
+    ensures tries { (core_after result state.new).tries ≡ 0 }
+{
+    state.spent = 0;
+    state.entry = state.log.len();
+    Turn::End(Answer::Reply(Reply::Refused(why)))
+}
+
+/// Whether so many bytes from a place on lie within the memory.
+fn is_within(words: u32, at: u64, size: u8) -> bool
+    requires { words ≤ 8192 }
+    ensures { result ≡ nat_le (at + size) (8 * words) }
+{
+    let bytes = 8 * u64::from(words);
+    let size = u64::from(size);
+    size <= bytes && at <= bytes - size
+}
