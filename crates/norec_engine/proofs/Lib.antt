@@ -1,4 +1,5 @@
 pub mod Overlays
+pub mod Blocks
 pub mod Machines
 pub mod Refusals
 pub mod Ended

@@ -30,7 +30,8 @@ pub(crate) fn refusal(state: &Data, at: u64, size: u8) -> Option<Refusal>
 pub(crate) fn refuse(state: &mut Data, why: Refusal) -> Turn
     requires sound { IsSound state.old Phase.Idle }
     ensures sound { IsSoundTurn result state.new }
-    ensures proceeds { (call : Call) (at size : ℕ) → access_of call ≡ Some (at, size) → access_refusal (in_block state.old) state.old.words at size ≡ Some why
+    ensures proceeds { (call : Call) (at size : ℕ) → access_of call ≡ Some (at, size)
+        → access_refusal (in_block state.old) state.old.words at size ≡ Some why
         → Turns (came (core state.old Phase.Idle) call false) result state.new }
     ensures stays { Stays state.old state.new }
     ensures order { phase_after result ≡ Phase.Idle }

@@ -48,7 +48,8 @@ pub(crate) fn begin_seen(state: &mut Data, opening: Opening, seen: u64) -> Turn
     ensures order { phase_after result ≡ stage_after (core state.old (Phase.Begin opening)) seen }
     ensures ends { TurnEndsSo (ending_after (core state.old (Phase.Begin opening)) seen) result }
     ensures snapshot { state.new.snapshot ≡ snapshot_after (core state.old (Phase.Begin opening)) seen }
-    ensures log { in_block state.new ≡ true → state.new.log.rows ≡ log_after (core state.old (Phase.Begin opening)) seen }
+    ensures log { in_block state.new ≡ true
+        → state.new.log.rows ≡ log_after (core state.old (Phase.Begin opening)) seen }
     ensures tries { (core_after result state.new).tries ≡ tries_after (phase_after result) state.old.tries }
 {
     state.clock = seen;

@@ -134,7 +134,8 @@ pub(crate) fn confirmed(state: &mut Data, reading: Reading, value: u64, seen: u6
     ensures order { phase_after result ≡ stage_after (core state.old (Phase.Confirm reading value)) seen }
     ensures ends { TurnEndsSo (ending_after (core state.old (Phase.Confirm reading value)) seen) result }
     ensures snapshot { state.new.snapshot ≡ snapshot_after (core state.old (Phase.Confirm reading value)) seen }
-    ensures log { in_block state.new ≡ true → state.new.log.rows ≡ log_after (core state.old (Phase.Confirm reading value)) seen }
+    ensures log { in_block state.new ≡ true
+        → state.new.log.rows ≡ log_after (core state.old (Phase.Confirm reading value)) seen }
     ensures tries { (core_after result state.new).tries ≡ tries_after (phase_after result) state.old.tries }
 {
     state.clock = seen;

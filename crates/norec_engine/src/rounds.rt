@@ -103,7 +103,8 @@ pub(crate) fn round_ended(state: &mut Data, aim: Aim, seen: u64) -> Turn
     ensures order { phase_after result ≡ stage_after (core state.old (Phase.RoundEnd aim)) seen }
     ensures ends { TurnEndsSo (ending_after (core state.old (Phase.RoundEnd aim)) seen) result }
     ensures snapshot { state.new.snapshot ≡ snapshot_after (core state.old (Phase.RoundEnd aim)) seen }
-    ensures log { in_block state.new ≡ true → state.new.log.rows ≡ log_after (core state.old (Phase.RoundEnd aim)) seen }
+    ensures log { in_block state.new ≡ true
+        → state.new.log.rows ≡ log_after (core state.old (Phase.RoundEnd aim)) seen }
     ensures tries { (core_after result state.new).tries ≡ tries_after (phase_after result) state.old.tries }
 {
     let is_steady = seen == state.clock;

@@ -2,7 +2,7 @@
 use Rattle.std.proofs.Common.{◌≡◌, ℕ, ◌+◌, ◌/◌, nat_lt, if◌then◌else◌, Bool, true, false, [], ◌∷◌, ◌++◌, Option, None, Some, refl, sym, ap, subst, ◌∙◌}
 use Rattle.itm_types.specs.declared.call.Call.{Call}
 use Rattle.itm_types.specs.declared.call.Reply.TheVariants.{Done}
-use Rattle.norec_engine.specs.Core.{Core}
+use Rattle.norec_engine.specs.Core.{Core, in_transaction}
 use Rattle.norec_engine.specs.declared.answer.Answer.{Answer}
 use Rattle.norec_engine.specs.declared.answer.Answer.TheVariants.{Reply, Committed, Conflict, Busy, Full}
 use Rattle.norec_engine.specs.declared.answer.Next.{Next}
@@ -122,7 +122,7 @@ module _ {P : Type 0} (rules : Rules P) (r s : Rows) (same : SameRows r s) (a b 
     pub record IsGrounded (was : Bool) (answer : Answer) : Type 0 where
       pub retries : Counts answer → a.retries ≡ b.retries
       pub inside : Closes answer → (row : Attempt) × (active_of a.thread r.active ≡ Some row)
-      pub begins : was ≡ false → a'.engine.is_open ≡ true → (row : Attempt) × (a.pending ≡ Some row)
+      pub begins : was ≡ false → in_transaction a'.engine ≡ true → (row : Attempt) × (a.pending ≡ Some row)
 
     recorded_same : (was : Bool) (answer : Answer) → IsGrounded was answer → Records rules was r r' a a' call answer → Records rules was s s' b b' call answer
         → SameRows r' s' × AreAlike a' b'
@@ -131,11 +131,11 @@ module _ {P : Type 0} (rules : Rules P) (r s : Rows) (same : SameRows r s) (a b 
       asked_again (x.4 ∙ ready) (y.4 ∙ ready') (x.1 ∙ ((λ i. rules.answered (player i) reply) ∙ sym y.1)) (x.3 ∙ (nth ∙ sym y.3)) (x.2 ∙ (again ∙ sym y.2)),
     )
     recorded_same false (Reply reply) k x y = (
-      opens_same a'.engine.is_open a.pending (a'.engine.snapshot / 2) (b'.engine.snapshot / 2) r' s' (k.begins refl) (ap (λ (c : Core). c.snapshot / 2) engine) x.0
-          (subst (λ (q : Option Attempt). Opens a'.engine.is_open s q (b'.engine.snapshot / 2) s') (sym pending)
-          (subst (λ (c : Core). Opens c.is_open s b.pending (b'.engine.snapshot / 2) s') (sym engine) y.0)),
+      opens_same (in_transaction a'.engine) a.pending (a'.engine.snapshot / 2) (b'.engine.snapshot / 2) r' s' (k.begins refl) (ap (λ (c : Core). c.snapshot / 2) engine) x.0
+          (subst (λ (q : Option Attempt). Opens (in_transaction a'.engine) s q (b'.engine.snapshot / 2) s') (sym pending)
+          (subst (λ (c : Core). Opens (in_transaction c) s b.pending (b'.engine.snapshot / 2) s') (sym engine) y.0)),
       asked_again (x.4 ∙ ready) (y.4 ∙ ready') (x.1 ∙ ((λ i. rules.answered (player i) reply) ∙ sym y.1)) (x.3 ∙ (nth ∙ sym y.3))
-          (x.2 ∙ ((λ i. again_after (engine i).is_open (pending i) (again i)) ∙ sym y.2)),
+          (x.2 ∙ ((λ i. again_after (in_transaction (engine i)) (pending i) (again i)) ∙ sym y.2)),
     )
     recorded_same was (Committed at wrote) k x y = (
       ended_by_same r s same a.thread b.thread thread (k.inside tt).0 (k.inside tt).1 at wrote call r' s' x.0 y.0,

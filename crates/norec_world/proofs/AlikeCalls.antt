@@ -3,7 +3,7 @@ use Rattle.std.proofs.Common.{◌≡◌, ℕ, ◌/◌, Bool, true, false, [], So
 use Rattle.itm_types.specs.declared.call.Call.{Call}
 use Rattle.itm_types.specs.declared.call.Call.TheVariants as requests
 use Rattle.itm_types.specs.declared.step.Step.{Step}
-use Rattle.norec_engine.specs.Core.{Core, came, handed}
+use Rattle.norec_engine.specs.Core.{Core, came, handed, in_transaction}
 use Rattle.norec_engine.specs.Stands.{SeesOne}
 use Rattle.norec_engine.specs.Proceeds.{Proceeds, IsAtOnce}
 use Rattle.norec_engine.specs.Moves.{IsCalled, IsResumed}
@@ -48,14 +48,14 @@ module _ {P : Type 0} (rules : Rules P) (cells : Cells) (r s r' s' : Rows) (a b 
   one : (t.what ≡ u.what) × (a'.engine ≡ b'.engine)
   one = resumed_once a.engine (found cells t.step) t.what u.what a'.engine b'.engine t.resumed resumed sees sees'
 
-  tells : Tells rules a.engine.is_open s u.rows (record b { engine = b'.engine; status = Ready }) b' t.call t.what
-  tells = subst (λ (w : Next). Tells rules a.engine.is_open s u.rows (record b { engine = b'.engine; status = Ready }) b' t.call w) (sym one.0)
-      (subst (λ (c : Call). Tells rules a.engine.is_open s u.rows (record b { engine = b'.engine; status = Ready }) b' c u.what) (sym call_same)
-      (subst (λ (e : Core). Tells rules e.is_open s u.rows (record b { engine = b'.engine; status = Ready }) b' u.call u.what) (sym parts.engine) u.tells))
+  tells : Tells rules (in_transaction a.engine) s u.rows (record b { engine = b'.engine; status = Ready }) b' t.call t.what
+  tells = subst (λ (w : Next). Tells rules (in_transaction a.engine) s u.rows (record b { engine = b'.engine; status = Ready }) b' t.call w) (sym one.0)
+      (subst (λ (c : Call). Tells rules (in_transaction a.engine) s u.rows (record b { engine = b'.engine; status = Ready }) b' c u.what) (sym call_same)
+      (subst (λ (e : Core). Tells rules (in_transaction e) s u.rows (record b { engine = b'.engine; status = Ready }) b' u.call u.what) (sym parts.engine) u.tells))
 
   grounded : (what : Next) → Proceeds (handed a.engine (found cells t.step)) what a'.engine
       → IsGroundedNext rules r s same (record a { engine = a'.engine; status = Ready }) (record b { engine = b'.engine; status = Ready }) a' b' alike.thread parts.player parts.pending parts.nth parts.again refl refl one.1
-      (t.same.thread ∙ (alike.thread ∙ sym u.same.thread)) (t.same.retries ∙ (parts.retries ∙ sym u.same.retries)) t.same.nothing u.same.nothing t.rows u.rows t.call a.engine.is_open what
+      (t.same.thread ∙ (alike.thread ∙ sym u.same.thread)) (t.same.retries ∙ (parts.retries ∙ sym u.same.retries)) t.same.nothing u.same.nothing t.rows u.rows t.call (in_transaction a.engine) what
   grounded (Steps step) g = tt
   grounded (Answers answer) g = record {
     retries = λ k. parts.retries;
@@ -66,10 +66,10 @@ module _ {P : Type 0} (rules : Rules P) (cells : Cells) (r s r' s' : Rows) (a b 
   pub step_alike : SameRows r' s' × AreAlike a' b'
   step_alike =
       let x = told_alike rules r s same (record a { engine = a'.engine; status = Ready }) (record b { engine = b'.engine; status = Ready }) a' b' alike.thread parts.player parts.pending parts.nth parts.again refl refl one.1
-      (t.same.thread ∙ (alike.thread ∙ sym u.same.thread)) (t.same.retries ∙ (parts.retries ∙ sym u.same.retries)) t.same.nothing u.same.nothing t.rows u.rows t.call a.engine.is_open t.what
+      (t.same.thread ∙ (alike.thread ∙ sym u.same.thread)) (t.same.retries ∙ (parts.retries ∙ sym u.same.retries)) t.same.nothing u.same.nothing t.rows u.rows t.call (in_transaction a.engine) t.what
       (grounded t.what t.resumed.proceeds) t.tells tells in (
-        told_same t.rows u.rows x.0 a.thread b.thread a'.engine.is_open b'.engine.is_open (a'.engine.snapshot / 2) (b'.engine.snapshot / 2) r' s' alike.thread
-            (ap (λ (c : Core). c.is_open) one.1) (ap (λ (c : Core). c.snapshot / 2) one.1) t.told u.told,
+        told_same t.rows u.rows x.0 a.thread b.thread (in_transaction a'.engine) (in_transaction b'.engine) (a'.engine.snapshot / 2) (b'.engine.snapshot / 2) r' s' alike.thread
+            (ap in_transaction one.1) (ap (λ (c : Core). c.snapshot / 2) one.1) t.told u.told,
         x.1,
       )
 
@@ -105,13 +105,13 @@ module _ {P : Type 0} (rules : Rules P) (clock : ℕ) where
     request_same : f.call ≡ g.call
     request_same = let e : Some f.call ≡ Some g.call = sym f.next_is ∙ (ap rules.next_call parts.player ∙ g.next_is) in cc
 
-    called : IsCalled a.engine f.call (begins_again a.engine.is_open a.again f.call) g.what g.asked.engine
-    called = subst (λ (c : Call). IsCalled a.engine c (begins_again a.engine.is_open a.again c) g.what g.asked.engine) (sym request_same)
-        (subst (λ (x : Bool). IsCalled a.engine g.call (begins_again a.engine.is_open x g.call) g.what g.asked.engine) (sym parts.again)
-        (subst (λ (e : Core). IsCalled e g.call (begins_again e.is_open b.again g.call) g.what g.asked.engine) (sym parts.engine) g.asks.called))
+    called : IsCalled a.engine f.call (begins_again (in_transaction a.engine) a.again f.call) g.what g.asked.engine
+    called = subst (λ (c : Call). IsCalled a.engine c (begins_again (in_transaction a.engine) a.again c) g.what g.asked.engine) (sym request_same)
+        (subst (λ (x : Bool). IsCalled a.engine g.call (begins_again (in_transaction a.engine) x g.call) g.what g.asked.engine) (sym parts.again)
+        (subst (λ (e : Core). IsCalled e g.call (begins_again (in_transaction e) b.again g.call) g.what g.asked.engine) (sym parts.engine) g.asks.called))
 
     outcome : (f.what ≡ g.what) × (f.asked.engine ≡ g.asked.engine)
-    outcome = called_once a.engine f.call (begins_again a.engine.is_open a.again f.call) f.what g.what f.asked.engine g.asked.engine f.asks.called called sees
+    outcome = called_once a.engine f.call (begins_again (in_transaction a.engine) a.again f.call) f.what g.what f.asked.engine g.asked.engine f.asks.called called sees
 
     rows_now : SameRows f.rows g.rows
     rows_now = record {
@@ -120,13 +120,13 @@ module _ {P : Type 0} (rules : Rules P) (clock : ℕ) where
     }
 
     pending_now : f.asked.pending ≡ g.asked.pending
-    pending_now = f.asks.pending ∙ (pending_same a.engine.is_open clock a b f.call thread parts
-        ∙ ((λ i. asked_pending (parts.engine i).is_open clock b (request_same i)) ∙ sym g.asks.pending))
+    pending_now = f.asks.pending ∙ (pending_same (in_transaction a.engine) clock a b f.call thread parts
+        ∙ ((λ i. asked_pending (in_transaction (parts.engine i)) clock b (request_same i)) ∙ sym g.asks.pending))
 
-    tells_now : Tells rules a.engine.is_open g.rows s' g.asked b' f.call f.what
-    tells_now = subst (λ (w : Next). Tells rules a.engine.is_open g.rows s' g.asked b' f.call w) (sym outcome.0)
-        (subst (λ (c : Call). Tells rules a.engine.is_open g.rows s' g.asked b' c g.what) (sym request_same)
-        (subst (λ (e : Core). Tells rules e.is_open g.rows s' g.asked b' g.call g.what) (sym parts.engine) g.tells))
+    tells_now : Tells rules (in_transaction a.engine) g.rows s' g.asked b' f.call f.what
+    tells_now = subst (λ (w : Next). Tells rules (in_transaction a.engine) g.rows s' g.asked b' f.call w) (sym outcome.0)
+        (subst (λ (c : Call). Tells rules (in_transaction a.engine) g.rows s' g.asked b' c g.what) (sym request_same)
+        (subst (λ (e : Core). Tells rules (in_transaction e) g.rows s' g.asked b' g.call g.what) (sym parts.engine) g.tells))
 
     thread_now : f.asked.thread ≡ g.asked.thread
     thread_now = f.asks.thread ∙ (thread ∙ sym g.asks.thread)
@@ -143,20 +143,20 @@ module _ {P : Type 0} (rules : Rules P) (clock : ℕ) where
     engine_now : a'.engine ≡ b'.engine
     engine_now = f.engine ∙ (outcome.1 ∙ sym g.engine)
 
-    grounded_now : (what : Next) → IsAtOnce what → Proceeds (came a.engine f.call (begins_again a.engine.is_open a.again f.call)) what f.asked.engine
+    grounded_now : (what : Next) → IsAtOnce what → Proceeds (came a.engine f.call (begins_again (in_transaction a.engine) a.again f.call)) what f.asked.engine
         → IsGroundedNext rules f.rows g.rows rows_now f.asked g.asked a' b' thread_now player_now pending_now nth_now again_now f.ready g.ready engine_now
-        (f.same.thread ∙ (thread ∙ sym g.same.thread)) (f.same.retries ∙ (parts.retries ∙ sym g.same.retries)) f.same.nothing g.same.nothing r' s' f.call a.engine.is_open what
+        (f.same.thread ∙ (thread ∙ sym g.same.thread)) (f.same.retries ∙ (parts.retries ∙ sym g.same.retries)) f.same.nothing g.same.nothing r' s' f.call (in_transaction a.engine) what
     grounded_now (Steps step) x p = tt
     grounded_now (Answers answer) x p = record {
       retries = λ k. absurd (counts_none answer x k);
-      inside = λ k. roomed rules clock r r' a a' held f (ends_inside (came a.engine f.call (begins_again a.engine.is_open a.again f.call)) f.asked.engine answer k p);
+      inside = λ k. roomed rules clock r r' a a' held f (ends_inside (came a.engine f.call (begins_again (in_transaction a.engine) a.again f.call)) f.asked.engine answer k p);
       begins = λ shut o. absurd (opens_none rules clock r r' a a' held f shut o);
     }
 
     pub call_alike : SameRows r' s' × AreAlike a' b'
     call_alike = told_alike rules f.rows g.rows rows_now f.asked g.asked a' b' thread_now player_now pending_now nth_now again_now f.ready g.ready engine_now
-        (f.same.thread ∙ (thread ∙ sym g.same.thread)) (f.same.retries ∙ (parts.retries ∙ sym g.same.retries)) f.same.nothing g.same.nothing r' s' f.call a.engine.is_open f.what
+        (f.same.thread ∙ (thread ∙ sym g.same.thread)) (f.same.retries ∙ (parts.retries ∙ sym g.same.retries)) f.same.nothing g.same.nothing r' s' f.call (in_transaction a.engine) f.what
         (grounded_now f.what f.asks.called.at_once f.asks.called.proceeds) f.tells tells_now
 
     pub sees_now : SeesOne a'.engine
-    sees_now = subst SeesOne (sym f.engine) (sees_still a.engine f.call (begins_again a.engine.is_open a.again f.call) f.what f.asked.engine f.asks.called sees)
+    sees_now = subst SeesOne (sym f.engine) (sees_still a.engine f.call (begins_again (in_transaction a.engine) a.again f.call) f.what f.asked.engine f.asks.called sees)

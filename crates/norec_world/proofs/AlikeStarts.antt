@@ -1,7 +1,7 @@
 -- Two worlds of equal beginning, before their first event, are the same.
 use Rattle.std.proofs.Common.{◌≡◌, ℕ, zero, suc, ◌/◌, Bool, true, false, List, [], ◌∷◌, ◌++◌, length, replicate, Some, slice_get, refl, sym, ap, subst, ◌∙◌, arith}
 use Rattle.std.specs.Option.{option_and_then}
-use Rattle.norec_engine.specs.Core.{Core, came, opening}
+use Rattle.norec_engine.specs.Core.{Core, came, opening, in_transaction}
 use Rattle.norec_engine.specs.Proceeds.{Proceeds, IsAtOnce, Ends}
 use Rattle.norec_engine.specs.declared.answer.Answer.{Answer}
 use Rattle.norec_engine.specs.declared.answer.Answer.TheVariants.{Reply, Committed, Conflict, Busy, Full}
@@ -32,23 +32,23 @@ shut_of true closed = absurd (closed refl)
 shut_of false closed = refl
 
 module _ {P : Type 0} (rules : Rules P) (clock : ℕ) (q : Rows) where
-  module _ (r r' : Rows) (a a' : Actor P) (shut : a.engine.is_open ≡ false) (f : Calls rules clock r a r' a') where
-    still_shut : a'.engine.is_open ≡ false
-    still_shut = shut_of a'.engine.is_open (λ o. both a.engine.is_open (f.asks.called.stays.opens (sym (ap (λ (c : Core). c.is_open) f.engine) ∙ o)) shut)
+  module _ (r r' : Rows) (a a' : Actor P) (shut : in_transaction a.engine ≡ false) (f : Calls rules clock r a r' a') where
+    still_shut : in_transaction a'.engine ≡ false
+    still_shut = shut_of (in_transaction a'.engine) (λ o. both (in_transaction a.engine) (f.asks.called.stays.opens (sym (ap in_transaction f.engine) ∙ o)) shut)
 
-    records_anywhere : (was : Bool) → was ≡ false → (answer : Answer) → IsAtOnce (Answers answer) → Ends (came a.engine f.call (begins_again a.engine.is_open a.again f.call)) answer f.asked.engine
+    records_anywhere : (was : Bool) → was ≡ false → (answer : Answer) → IsAtOnce (Answers answer) → Ends (came a.engine f.call (begins_again (in_transaction a.engine) a.again f.call)) answer f.asked.engine
         → Records rules was f.rows r' f.asked a' f.call answer → Records rules was q q f.asked a' f.call answer
     records_anywhere true e (Reply r) x g k = absurd (cc)
     records_anywhere false e (Reply r) x g k = (subst (λ (b : Bool). Opens b q f.asked.pending (a'.engine.snapshot / 2) q) (sym still_shut) refl, k.1, k.2, k.3, k.4)
-    records_anywhere was e (Committed at wrote) x g k = absurd (both a.engine.is_open g.is_open shut)
+    records_anywhere was e (Committed at wrote) x g k = absurd (both (in_transaction a.engine) g.is_open shut)
     records_anywhere was e (Conflict at word) x g k = absurd x
     records_anywhere was e (Busy at) x g k = absurd x
-    records_anywhere was e (Full at) x g k = absurd (both a.engine.is_open g.is_open shut)
+    records_anywhere was e (Full at) x g k = absurd (both (in_transaction a.engine) g.is_open shut)
 
-    tells_anywhere : (what : Next) → IsAtOnce what → Proceeds (came a.engine f.call (begins_again a.engine.is_open a.again f.call)) what f.asked.engine
-        → Tells rules a.engine.is_open f.rows r' f.asked a' f.call what → Tells rules a.engine.is_open q q f.asked a' f.call what
+    tells_anywhere : (what : Next) → IsAtOnce what → Proceeds (came a.engine f.call (begins_again (in_transaction a.engine) a.again f.call)) what f.asked.engine
+        → Tells rules (in_transaction a.engine) f.rows r' f.asked a' f.call what → Tells rules (in_transaction a.engine) q q f.asked a' f.call what
     tells_anywhere (Steps step) x g k = (k.0, refl)
-    tells_anywhere (Answers answer) x g k = records_anywhere a.engine.is_open shut answer x g k
+    tells_anywhere (Answers answer) x g k = records_anywhere (in_transaction a.engine) shut answer x g k
 
     calls_anywhere : Calls rules clock q a q a'
     calls_anywhere = record {
@@ -64,14 +64,14 @@ module _ {P : Type 0} (rules : Rules P) (clock : ℕ) (q : Rows) where
       same = f.same;
     }
 
-  act_anywhere : (r r' : Rows) (a a' : Actor P) → a.engine.is_open ≡ false → Acts rules clock r a r' a' → IsFed a' → Acts rules clock q a q a' × (a'.engine.is_open ≡ false)
+  act_anywhere : (r r' : Rows) (a a' : Actor P) → in_transaction a.engine ≡ false → Acts rules clock r a r' a' → IsFed a' → Acts rules clock q a q a' × (in_transaction a'.engine ≡ false)
   act_anywhere r r' a a' shut (calls f) fed = (calls (calls_anywhere r r' a a' shut f), still_shut r r' a a' shut f)
-  act_anywhere r r' a a' shut (finishes f) fed = (finishes (record { none = f.none; actor = f.actor; rows = refl }), ap (λ (x : Actor P). x.engine.is_open) f.actor ∙ shut)
+  act_anywhere r r' a a' shut (finishes f) fed = (finishes (record { none = f.none; actor = f.actor; rows = refl }), ap (λ (x : Actor P). in_transaction x.engine) f.actor ∙ shut)
   act_anywhere r r' a a' shut (starves f) fed = absurd (fed (ap ending_of f.status))
 
-  acts_anywhere : (n : ℕ) (r r' : Rows) (a a' : Actor P) → a.engine.is_open ≡ false → ActsOn rules clock n r a r' a' → IsFed a'
-      → ActsOn rules clock n q a q a' × (a'.engine.is_open ≡ false)
-  acts_anywhere zero r r' a a' shut f fed = ((refl, f.1), ap (λ (x : Actor P). x.engine.is_open) f.1 ∙ shut)
+  acts_anywhere : (n : ℕ) (r r' : Rows) (a a' : Actor P) → in_transaction a.engine ≡ false → ActsOn rules clock n r a r' a' → IsFed a'
+      → ActsOn rules clock n q a q a' × (in_transaction a'.engine ≡ false)
+  acts_anywhere zero r r' a a' shut f fed = ((refl, f.1), ap (λ (x : Actor P). in_transaction x.engine) f.1 ∙ shut)
   acts_anywhere (suc n) r r' a a' shut f fed =
       let before = acts_anywhere n r f.0 a f.1 shut f.2 (ready_fed f.1 f.3) in
       let last = act_anywhere f.0 r' f.1 a' before.1 f.4 fed in
@@ -86,10 +86,10 @@ module _ {P : Type 0} (rules : Rules P) (clock words size patience max_commits r
   abbrev Starts : Actor P → Type 0
   Starts x = HasStarted rules clock (opening words (replicate size 0) patience max_commits) retries place p x
 
-  shut_first : (x : Actor P) (f : Starts x) → f.fresh.engine.is_open ≡ false
-  shut_first x f = ap (λ (c : Core). c.is_open) f.engine_is
+  shut_first : (x : Actor P) (f : Starts x) → in_transaction f.fresh.engine ≡ false
+  shut_first x f = ap in_transaction f.engine_is
 
-  starts_alike : Starts a → Starts b → IsFed a → IsFed b → (SameRows no_rows no_rows × AreAlike a b) × (a.engine.is_open ≡ false) × HasAttempt no_rows a
+  starts_alike : Starts a → Starts b → IsFed a → IsFed b → (SameRows no_rows no_rows × AreAlike a b) × (in_transaction a.engine ≡ false) × HasAttempt no_rows a
   starts_alike f g fed fed' =
       let x = acts_anywhere rules clock no_rows f.works.0 f.rows f.rows' f.fresh a (shut_first a f) f.works.1 fed in
       let y = acts_anywhere rules clock no_rows g.works.0 g.rows g.rows' g.fresh b (shut_first b g) g.works.1 fed' in
@@ -112,10 +112,10 @@ module _ {P : Type 0} (rules : Rules P) (clock words size patience max_commits r
           };
         };
         held = record {
-          inside = λ o. absurd (both f.fresh.engine.is_open o (shut_first a f));
+          inside = λ o. absurd (both (in_transaction f.fresh.engine) o (shut_first a f));
           begins = λ c s w. absurd (let z = sym w ∙ f.ready in cc);
         };
-        sees = λ o. absurd (both f.fresh.engine.is_open o (shut_first a f));
+        sees = λ o. absurd (both (in_transaction f.fresh.engine) o (shut_first a f));
       }
 
 -- ## Worlds
@@ -154,7 +154,7 @@ module _ {P : Type 0} (rules : Rules P) (v w : World P) (same : SameOpening v w)
       (g.starts place p b (ap (λ (xs : List P). slice_get xs place) same.opening ∙ e) d)))
 
   module _ (place : ℕ) (a b : Actor P) (e : slice_get v.actors place ≡ Some a) (d : slice_get w.actors place ≡ Some b) where
-    started : (SameRows no_rows no_rows × AreAlike a b) × (a.engine.is_open ≡ false) × HasAttempt no_rows a
+    started : (SameRows no_rows no_rows × AreAlike a b) × (in_transaction a.engine ≡ false) × HasAttempt no_rows a
     started =
         let p = player_at v f place a e in
         starts_alike rules v.cells.clock (length v.base / 8) v.arena v.patience v.max_commits v.retries place p.0 a b (f.starts place p.0 a p.1 e) (start_of place p.0 b p.1 d)
@@ -177,5 +177,5 @@ module _ {P : Type 0} (rules : Rules P) (v w : World P) (same : SameOpening v w)
         let n = count_first in
         let b = there_is w.actors place (omega arith) in
         let x = started place a b.0 e b.1 in
-        record { inside = λ o. absurd (both a.engine.is_open o x.1); begins = x.2.begins });
+        record { inside = λ o. absurd (both (in_transaction a.engine) o x.1); begins = x.2.begins });
   }

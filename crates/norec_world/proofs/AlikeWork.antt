@@ -2,6 +2,7 @@
 use Rattle.std.proofs.Common.{◌≡◌, ℕ, zero, suc, ◌<◌, true, false, None, Some, inl, inr, sym, ap, subst, ◌∙◌, arith}
 use Rattle.std.proofs.lemmas.Bool.{cases_lt}
 use Rattle.norec_engine.specs.Stands.{SeesOne}
+use Rattle.norec_engine.specs.Core.{in_transaction}
 use Rattle.norec_world.specs.declared.attempt.Attempt.{Attempt}
 use Rattle.norec_world.specs.declared.attempt.End.TheVariants.{Finished, NoMemory}
 use Rattle.norec_world.specs.declared.actor.Actor.{Actor}
@@ -44,8 +45,8 @@ module _ {P : Type 0} (rules : Rules P) (clock : ℕ) where
           parts = λ on. absurd (let z = sym on ∙ ap ending_of ended in cc);
         };
         held = record {
-          inside = subst (λ (x : Actor P). x.engine.is_open ≡ true → (row : Attempt) × (active_of x.thread r'.active ≡ Some row)) (sym f.actor)
-              (subst (λ (x : Rows). a.engine.is_open ≡ true → (row : Attempt) × (active_of a.thread x.active ≡ Some row)) (sym f.rows) k.held.inside);
+          inside = subst (λ (x : Actor P). in_transaction x.engine ≡ true → (row : Attempt) × (active_of x.thread r'.active ≡ Some row)) (sym f.actor)
+              (subst (λ (x : Rows). in_transaction a.engine ≡ true → (row : Attempt) × (active_of a.thread x.active ≡ Some row)) (sym f.rows) k.held.inside);
           begins = λ c x w. absurd (let z = sym ended ∙ w in cc);
         };
         sees = subst (λ (x : Actor P). SeesOne x.engine) (sym f.actor) k.sees;

@@ -5,8 +5,9 @@ use Rattle.itm_types.specs.declared.call.Reply.{Reply}
 use Rattle.itm_model.specs.State.{State}
 use Rattle.itm_model.specs.Machine.{after, reply, is_open}
 use Rattle.itm_model.specs.Runs.{turn, answers_within}
-use Rattle.norec_engine.specs.Core.{Core}
-use Rattle.norec_engine.specs.Stands.{stands_for, state_over}
+use Rattle.norec_engine.specs.Core.{Core, in_transaction}
+use Rattle.norec_engine.specs.Stands.{stands_for}
+use Rattle.norec_engine.proofs.Machines.{open_is}
 use Rattle.norec_world.specs.declared.attempt.Entry.{Entry}
 use Rattle.norec_world.specs.Attempts.{pair_of}
 use Rattle.norec_world.specs.Alone.{state_then, player_then, IsAlone}
@@ -71,5 +72,5 @@ module _ {P : Type 0} (rules : Rules P) (laws : Obeys rules) where
   alone_snoc deepest p s (y ∷ ys) x h t r = (h.0, h.1, alone_snoc deepest (rules.answered p y.reply) (after deepest s y.call) ys x h.2 t r)
 
   -- an open engine stands for an open block
-  pub stands_open : (e : Core) (m : List ℕ) → e.is_open ≡ true → is_open (stands_for e m) ≡ true
-  stands_open e m o = ap (λ (b : Bool). is_open (state_over e.writes b e.props e.arena m)) o
+  pub stands_open : (e : Core) (m : List ℕ) → in_transaction e ≡ true → is_open (stands_for e m) ≡ true
+  stands_open e m o = open_is e.writes e.blocks e.arena m ∙ o

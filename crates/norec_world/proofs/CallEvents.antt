@@ -1,6 +1,7 @@
 -- The events of one call of an actor, and of one call after the other, as events of the world.
 use Rattle.std.proofs.Common.{◌≡◌, ℕ, zero, suc, ◌+◌, ◌<◌, min, Bool, true, false, List, [], ◌∷◌, length, None, Some, IsSome, slice_get, refl, sym, ap, subst, ◌∙◌, arith, if◌then◌else◌}
 use Rattle.std.specs.Option.{option_and_then}
+use Rattle.norec_engine.specs.Core.{in_transaction}
 use Rattle.norec_world.specs.declared.actor.Actor.{Actor}
 use Rattle.norec_world.specs.Status.{is_waiting, waiting_step, ending_of}
 use Rattle.norec_world.specs.Actors.{AreActors}
@@ -113,7 +114,7 @@ module _ {P : Type 0} (rules : Rules P) (actor : ℕ) where
 
   -- what is left of the whole run, once a call is over
   abbrev pub whole_at : World P → ℕ
-  whole_at w = at_place (λ (a : Actor P). whole rules a.engine.is_open a.player) w.actors actor
+  whole_at w = at_place (λ (a : Actor P). whole rules (in_transaction a.engine) a.player) w.actors actor
 
   abbrev pub run_left_at : ℕ → World P → ℕ
   run_left_at k w = at_place (run_left rules k) w.actors actor
@@ -121,7 +122,7 @@ module _ {P : Type 0} (rules : Rules P) (actor : ℕ) where
   pub run_falls : (first old new : World P) → length old.actors ≡ length first.actors → length new.actors ≡ length old.actors → IsSome (waits_at old actor) → LeavesNoMore first old → LeavesLess false old new
       → run_left_at (whole_at first) new < run_left_at (whole_at first) old
   run_falls first old new same long waits f g =
-      let whole_of : Actor P → ℕ = λ (a : Actor P). whole rules a.engine.is_open a.player in
+      let whole_of : Actor P → ℕ = λ (a : Actor P). whole rules (in_transaction a.engine) a.player in
       let k : ℕ = whole_at first in
       let y = waits_there old actor waits in
       let within = within_of old.actors actor y.0 y.1 in

@@ -5,7 +5,7 @@ use Rattle.itm_types.specs.declared.call.Call.{Call}
 use Rattle.itm_types.specs.declared.call.Call.TheVariants as calls
 use Rattle.itm_types.specs.declared.step.Step.{Step}
 use Rattle.itm_types.specs.Access.{size_of}
-use Rattle.norec_engine.specs.Core.{Core, came, handed, handed_to}
+use Rattle.norec_engine.specs.Core.{Core, came, handed, handed_to, in_transaction, is_inside}
 use Rattle.norec_engine.specs.Order.{asked, asked_from, stage_at, commit_stage, load_stage}
 use Rattle.norec_engine.specs.Proceeds.{Proceeds, Ends, IsBegin}
 use Rattle.norec_engine.specs.declared.answer.Answer.{Answer}
@@ -32,11 +32,11 @@ both n t f = absurd (cc)
 
 -- ## The engine
 
-pub handed_open : (e : Core) (o : Option Step) (n : ℕ) → (handed_to e o n).is_open ≡ e.is_open
+pub handed_open : (e : Core) (o : Option Step) (n : ℕ) → in_transaction (handed_to e o n) ≡ in_transaction e
 handed_open e None n = refl
-handed_open e (Some step) n = (handed_is e step n).keeps.is_open
+handed_open e (Some step) n = ap is_inside (handed_is e step n).keeps.blocks
 
-pub ends_inside : (mid new : Core) (a : Answer) → Closes a → Ends mid a new → mid.is_open ≡ true
+pub ends_inside : (mid new : Core) (a : Answer) → Closes a → Ends mid a new → in_transaction mid ≡ true
 ends_inside mid new (Reply r) k g = absurd k
 ends_inside mid new (Committed at wrote) k g = g.is_open
 ends_inside mid new (Conflict clock word) k g = g.is_open
@@ -44,14 +44,14 @@ ends_inside mid new (Busy clock) k g = absurd k
 ends_inside mid new (Full at) k g = g.is_open
 
 -- outside a transaction only a begin asks for a step
-idle_outside : (c : Core) (call : Call) (again : Bool) → c.is_open ≡ false → (stage_at c call again ≡ at.Idle) ⊎ IsBegin (Some call)
+idle_outside : (c : Core) (call : Call) (again : Bool) → in_transaction c ≡ false → (stage_at c call again ≡ at.Idle) ⊎ IsBegin (Some call)
 idle_outside c (calls.Begin props room) again shut = inr tt
 idle_outside c calls.Commit again shut = inl (ap (λ (b : Bool). if b then commit_stage c else at.Idle) shut)
 idle_outside c (calls.Read hint width place) again shut =
     inl (ap (λ (b : Bool). if b && nat_le (place + size_of width) (8 * c.words) then load_stage c.writes (record { hint = hint; width = width; at = place; number = 0 }) else at.Idle) shut)
 idle_outside c (calls.Write hint at value) again shut = inl refl
 
-begin_asks : (c new : Core) (call : Call) (again : Bool) (step : Step) → c.is_open ≡ false → new.stage ≡ stage_at c call again → new.waits ≡ asked new → new.waits ≡ Some step → IsBegin (Some call)
+begin_asks : (c new : Core) (call : Call) (again : Bool) (step : Step) → in_transaction c ≡ false → new.stage ≡ stage_at c call again → new.waits ≡ asked new → new.waits ≡ Some step → IsBegin (Some call)
 begin_asks c new call again step shut order asks waits = elim (idle_outside c call again shut) [
   | inl idle ↦ absurd (let none : new.waits ≡ None = asks ∙ ap (asked_from new) (order ∙ idle) in let z = sym waits ∙ none in cc)
   | inr is ↦ is
@@ -92,16 +92,16 @@ told_in thread o r at r' e t h = changed_in thread (λ row. record row { at = at
 
 module _ {P : Type 0} (rules : Rules P) (r r' : Rows) (a a' : Actor P) (call : Call) where
   recorded_in : (mid : Core) (was : Bool) (answer : Answer) → Records rules was r r' a a' call answer → Ends mid answer a'.engine
-      → (was ≡ true → HasRowIn r a.thread) → (was ≡ false → a'.engine.is_open ≡ true → (row : Attempt) × (a.pending ≡ Some row) × (row.thread ≡ a.thread))
-      → a'.engine.is_open ≡ true → HasRowIn r' a.thread
+      → (was ≡ true → HasRowIn r a.thread) → (was ≡ false → in_transaction a'.engine ≡ true → (row : Attempt) × (a.pending ≡ Some row) × (row.thread ≡ a.thread))
+      → in_transaction a'.engine ≡ true → HasRowIn r' a.thread
   recorded_in mid true (Reply reply) x g inside begins o = changed_in a.thread _ r r' (λ y. refl) x.0 (inside refl)
   recorded_in mid false (Reply reply) x g inside begins o =
       let k = begins refl o in
       opened_in a.thread r r' a.pending (a'.engine.snapshot / 2) k.0 k.1 k.2 (subst (λ (b : Bool). Opens b r a.pending (a'.engine.snapshot / 2) r') o x.0)
-  recorded_in mid was (Committed at wrote) x g inside begins o = absurd (both a'.engine.is_open o (ap (λ (c : Core). c.is_open) g.stays))
-  recorded_in mid was (Conflict clock word) x g inside begins o = absurd (both a'.engine.is_open o (ap (λ (c : Core). c.is_open) g.stays))
-  recorded_in mid was (Busy clock) x g inside begins o = absurd (both a'.engine.is_open o (ap (λ (c : Core). c.is_open) g.stays))
-  recorded_in mid was (Full at) x g inside begins o = absurd (both a'.engine.is_open o (ap (λ (c : Core). c.is_open) g.stays))
+  recorded_in mid was (Committed at wrote) x g inside begins o = absurd (both (in_transaction a'.engine) o (ap in_transaction g.stays))
+  recorded_in mid was (Conflict clock word) x g inside begins o = absurd (both (in_transaction a'.engine) o (ap in_transaction g.stays))
+  recorded_in mid was (Busy clock) x g inside begins o = absurd (both (in_transaction a'.engine) o (ap in_transaction g.stays))
+  recorded_in mid was (Full at) x g inside begins o = absurd (both (in_transaction a'.engine) o (ap in_transaction g.stays))
 
   counted_waits : (c : Call) (s : Step) → a.status ≡ Ready → CountsTry a a' → a'.status ≡ Waits c s → ⊥
   counted_waits c s ready k w = by_last (nat_lt a.retries a.nth) k.status
@@ -125,25 +125,25 @@ module _ {P : Type 0} (rules : Rules P) (cells : Cells) (r r' : Rows) (a a' : Ac
   seen : ℕ
   seen = found cells t.step
 
-  step_in : (what : Next) → Proceeds (handed a.engine (found cells t.step)) what a'.engine → Tells rules a.engine.is_open r t.rows (record a { engine = a'.engine; status = Ready }) a' t.call what
-      → a'.engine.is_open ≡ true → HasRowIn t.rows a.thread
+  step_in : (what : Next) → Proceeds (handed a.engine (found cells t.step)) what a'.engine → Tells rules (in_transaction a.engine) r t.rows (record a { engine = a'.engine; status = Ready }) a' t.call what
+      → in_transaction a'.engine ≡ true → HasRowIn t.rows a.thread
   step_in (Steps step) g x o =
-      let h = held.inside (sym (handed_open a.engine a.engine.waits (found cells t.step)) ∙ (sym (ap (λ (c : Core). c.is_open) g.stays) ∙ o)) in
+      let h = held.inside (sym (handed_open a.engine a.engine.waits (found cells t.step)) ∙ (sym (ap in_transaction g.stays) ∙ o)) in
       (h.0, ap (λ (y : Rows). active_of a.thread y.active) x.1 ∙ h.1)
   step_in (Answers answer) g x o =
-      recorded_in rules r t.rows (record a { engine = a'.engine; status = Ready }) a' t.call (handed a.engine (found cells t.step)) a.engine.is_open answer x g
+      recorded_in rules r t.rows (record a { engine = a'.engine; status = Ready }) a' t.call (handed a.engine (found cells t.step)) (in_transaction a.engine) answer x g
       held.inside (λ shut z. held.begins t.call t.step t.waits shut) o
 
-  step_begins : (what : Next) → Proceeds (handed a.engine (found cells t.step)) what a'.engine → Tells rules a.engine.is_open r t.rows (record a { engine = a'.engine; status = Ready }) a' t.call what
-      → (c : Call) (s : Step) → a'.status ≡ Waits c s → a'.engine.is_open ≡ false → (row : Attempt) × (a'.pending ≡ Some row) × (row.thread ≡ a'.thread)
+  step_begins : (what : Next) → Proceeds (handed a.engine (found cells t.step)) what a'.engine → Tells rules (in_transaction a.engine) r t.rows (record a { engine = a'.engine; status = Ready }) a' t.call what
+      → (c : Call) (s : Step) → a'.status ≡ Waits c s → in_transaction a'.engine ≡ false → (row : Attempt) × (a'.pending ≡ Some row) × (row.thread ≡ a'.thread)
   step_begins (Steps step) g x c s w shut =
-      let k = held.begins t.call t.step t.waits (sym (handed_open a.engine a.engine.waits (found cells t.step)) ∙ (sym (ap (λ (y : Core). y.is_open) g.stays) ∙ shut)) in
+      let k = held.begins t.call t.step t.waits (sym (handed_open a.engine a.engine.waits (found cells t.step)) ∙ (sym (ap in_transaction g.stays) ∙ shut)) in
       (k.0, ap (λ (y : Actor P). y.pending) x.0 ∙ k.1, k.2 ∙ sym t.same.thread)
-  step_begins (Answers answer) g x c s w shut = absurd (recorded_waits rules r t.rows (record a { engine = a'.engine; status = Ready }) a' t.call a.engine.is_open answer c s refl x w)
+  step_begins (Answers answer) g x c s w shut = absurd (recorded_waits rules r t.rows (record a { engine = a'.engine; status = Ready }) a' t.call (in_transaction a.engine) answer c s refl x w)
 
   pub step_held : HasAttempt r' a'
   step_held = record {
-    inside = λ o. subst (HasRowIn r') (sym t.same.thread) (told_in a.thread a'.engine.is_open t.rows (a'.engine.snapshot / 2) r' o t.told (step_in t.what t.resumed.proceeds t.tells o));
+    inside = λ o. subst (HasRowIn r') (sym t.same.thread) (told_in a.thread (in_transaction a'.engine) t.rows (a'.engine.snapshot / 2) r' o t.told (step_in t.what t.resumed.proceeds t.tells o));
     begins = λ c s w shut. step_begins t.what t.resumed.proceeds t.tells c s w shut;
   }
 
@@ -152,25 +152,25 @@ module _ {P : Type 0} (rules : Rules P) (cells : Cells) (r r' : Rows) (a a' : Ac
 module _ {P : Type 0} (rules : Rules P) (clock : ℕ) (r r' : Rows) (a a' : Actor P) (held : HasAttempt r a)
     (f : Calls rules clock r a r' a') where
   -- the rows of before, with more room
-  pub roomed : a.engine.is_open ≡ true → HasRowIn f.rows f.asked.thread
+  pub roomed : in_transaction a.engine ≡ true → HasRowIn f.rows f.asked.thread
   roomed o =
       let h = held.inside o in
       (h.0, ap (λ (y : Rows). active_of f.asked.thread y.active) f.asks.rows_are ∙ (ap (λ (t : ℕ). active_of t r.active) f.asks.thread ∙ h.1))
 
   -- a call opens no transaction
-  pub opens_none : a.engine.is_open ≡ false → a'.engine.is_open ≡ true → ⊥
-  opens_none shut o = both a.engine.is_open (f.asks.called.stays.opens (sym (ap (λ (c : Core). c.is_open) f.engine) ∙ o)) shut
+  pub opens_none : in_transaction a.engine ≡ false → in_transaction a'.engine ≡ true → ⊥
+  opens_none shut o = both (in_transaction a.engine) (f.asks.called.stays.opens (sym (ap in_transaction f.engine) ∙ o)) shut
 
   abbrev again_of : Bool
-  again_of = begins_again a.engine.is_open a.again f.call
+  again_of = begins_again (in_transaction a.engine) a.again f.call
 
-  call_in : (what : Next) → Proceeds (came a.engine f.call again_of) what f.asked.engine → Tells rules a.engine.is_open f.rows r' f.asked a' f.call what
-      → a'.engine.is_open ≡ true → HasRowIn r' f.asked.thread
+  call_in : (what : Next) → Proceeds (came a.engine f.call again_of) what f.asked.engine → Tells rules (in_transaction a.engine) f.rows r' f.asked a' f.call what
+      → in_transaction a'.engine ≡ true → HasRowIn r' f.asked.thread
   call_in (Steps step) g x o =
-      let h = roomed (f.asks.called.stays.opens (sym (ap (λ (c : Core). c.is_open) f.engine) ∙ o)) in
+      let h = roomed (f.asks.called.stays.opens (sym (ap in_transaction f.engine) ∙ o)) in
       (h.0, ap (λ (y : Rows). active_of f.asked.thread y.active) x.1 ∙ h.1)
   call_in (Answers answer) g x o =
-      recorded_in rules f.rows r' f.asked a' f.call (came a.engine f.call again_of) a.engine.is_open answer x
+      recorded_in rules f.rows r' f.asked a' f.call (came a.engine f.call again_of) (in_transaction a.engine) answer x
       (subst (Ends (came a.engine f.call again_of) answer) (sym f.engine) g) roomed (λ shut z. absurd (opens_none shut z)) o
 
   opening_of : (o : Bool) (call : Call) → o ≡ false → IsBegin (Some call) → (row : Attempt) × (asked_pending o clock a call ≡ Some row) × (row.thread ≡ a.thread)
@@ -180,16 +180,16 @@ module _ {P : Type 0} (rules : Rules P) (clock : ℕ) (r r' : Rows) (a a' : Acto
   opening_of false (calls.Read hint width at) e is = absurd is
   opening_of false (calls.Write hint at value) e is = absurd is
 
-  waits_begin : (row : Attempt) × (asked_pending a.engine.is_open clock a f.call ≡ Some row) × (row.thread ≡ a.thread) → a'.pending ≡ f.asked.pending → (row : Attempt) × (a'.pending ≡ Some row) × (row.thread ≡ a'.thread)
+  waits_begin : (row : Attempt) × (asked_pending (in_transaction a.engine) clock a f.call ≡ Some row) × (row.thread ≡ a.thread) → a'.pending ≡ f.asked.pending → (row : Attempt) × (a'.pending ≡ Some row) × (row.thread ≡ a'.thread)
   waits_begin k same = (k.0, same ∙ (f.asks.pending ∙ k.1), k.2 ∙ sym f.same.thread)
 
-  call_begins : (what : Next) → Proceeds (came a.engine f.call again_of) what f.asked.engine → Tells rules a.engine.is_open f.rows r' f.asked a' f.call what
-      → (c : Call) (s : Step) → a'.status ≡ Waits c s → a'.engine.is_open ≡ false → (row : Attempt) × (a'.pending ≡ Some row) × (row.thread ≡ a'.thread)
+  call_begins : (what : Next) → Proceeds (came a.engine f.call again_of) what f.asked.engine → Tells rules (in_transaction a.engine) f.rows r' f.asked a' f.call what
+      → (c : Call) (s : Step) → a'.status ≡ Waits c s → in_transaction a'.engine ≡ false → (row : Attempt) × (a'.pending ≡ Some row) × (row.thread ≡ a'.thread)
   call_begins (Steps step) g x c s w shut =
-      let outside : a.engine.is_open ≡ false = sym (ap (λ (y : Core). y.is_open) g.stays) ∙ (sym (ap (λ (y : Core). y.is_open) f.engine) ∙ shut) in
+      let outside : in_transaction a.engine ≡ false = sym (ap in_transaction g.stays) ∙ (sym (ap in_transaction f.engine) ∙ shut) in
       let is = begin_asks a.engine f.asked.engine f.call again_of step outside f.asks.called.order f.asks.called.asks (ap (λ (y : Core). y.waits) g.stays) in
-      waits_begin (opening_of a.engine.is_open f.call outside is) (ap (λ (y : Actor P). y.pending) x.0)
-  call_begins (Answers answer) g x c s w shut = absurd (recorded_waits rules f.rows r' f.asked a' f.call a.engine.is_open answer c s f.ready x w)
+      waits_begin (opening_of (in_transaction a.engine) f.call outside is) (ap (λ (y : Actor P). y.pending) x.0)
+  call_begins (Answers answer) g x c s w shut = absurd (recorded_waits rules f.rows r' f.asked a' f.call (in_transaction a.engine) answer c s f.ready x w)
 
   pub call_held : HasAttempt r' a'
   call_held = record {

@@ -1,5 +1,5 @@
 -- The open attempt, as its calls go on.
-use Rattle.std.proofs.Common.{◌≡◌, ◌≢◌, ℕ, zero, suc, ◌/◌, ◌<◌, ◌≤◌, Bool, true, false, if◌then◌else◌, List, [], ◌∷◌, ◌++◌, map, None, Some, refl, sym, ap, subst, ◌∙◌, arith}
+use Rattle.std.proofs.Common.{◌≡◌, ◌≢◌, ℕ, zero, suc, ◌/◌, ◌<◌, ◌≤◌, Bool, true, false, if◌then◌else◌, List, [], ◌∷◌, ◌++◌, map, None, Some, refl, sym, ap, subst, ◌∙◌, arith, length}
 use Rattle.std.proofs.lemmas.List.{append-nil, map-append}
 use Rattle.itm_types.specs.declared.call.Call.{Call}
 use Rattle.itm_types.specs.declared.call.Call.TheVariants.{Begin, Commit}
@@ -13,12 +13,15 @@ use Rattle.itm_types.specs.declared.step.Step.TheVariants.{Load, Store, Cas}
 use Rattle.itm_types.specs.Memory.{bytes_of, IsMemory, Agrees}
 use Rattle.itm_model.specs.declared.limits.TheConstants.{MAX_DEPTH}
 use Rattle.itm_model.specs.State.{State}
-use Rattle.itm_model.specs.Machine.{opened, is_open, after, reply}
+use Rattle.itm_model.specs.Machine.{opened, is_open, after, reply, reply_unless, or_else, unless}
 use Rattle.itm_model.specs.Runs.{turn, answers, answers_within}
 use Rattle.norec_engine.proofs.Overlays.{Agrees-drop}
-use Rattle.norec_engine.specs.Core.{Core, handed_to, word_loaded}
+use Rattle.norec_engine.specs.Core.{Core, handed_to, word_loaded, in_transaction}
 use Rattle.norec_engine.specs.Stands.{state_over, stands_for, is_some_row}
 use Rattle.norec_engine.specs.Proceeds.{AsksFor, Replies, Commits, recoded}
+use Rattle.norec_engine.proofs.Blocks.{none_inside}
+use Rattle.norec_engine.proofs.Machines.{commits}
+use Rattle.itm_types.specs.declared.call.Refusal.TheVariants.{Outside}
 use Rattle.norec_world.specs.declared.attempt.Attempt.{Attempt}
 use Rattle.norec_world.specs.declared.attempt.Entry.{Entry}
 use Rattle.norec_world.specs.declared.attempt.Outcome.{Outcome}
@@ -78,7 +81,7 @@ module _ {P : Type 0} (rules : Rules P) (laws : Obeys rules) where
 
   -- ## A reply
 
-  module _ (b : Between P) (row : Attempt) (p : P) (mid new : Core) (call : Call) (r : Replied) (t : InTry b row p mid) (inside : mid.is_open ≡ true) (asks : rules.next_call p ≡ Some call)
+  module _ (b : Between P) (row : Attempt) (p : P) (mid new : Core) (call : Call) (r : Replied) (t : InTry b row p mid) (inside : in_transaction mid ≡ true) (asks : rules.next_call p ≡ Some call)
       (g : Replies mid call r new) (began : row.began ≤ new.snapshot / 2) (less : (m : List ℕ) → Agrees m new.log → Agrees m mid.log) where
     begun : P
     begun = rules.answered t.start.player (begin_code b.again)
@@ -166,7 +169,7 @@ module _ {P : Type 0} (rules : Rules P) (laws : Obeys rules) where
       (subst (λ (s : State). EndsAs outcome (state_then MAX_DEPTH s row.calls)) bytes (subst (EndsAs outcome) (t.stands (words_at base attempts k) memory agrees) ends)) full
 
   -- its commit: the state that it leaves is that of the commit over its memory
-  module _ (memory : List ℕ) (b : Between P) (row : Attempt) (p : P) (mid : Core) (call : Call) (m : List ℕ) (t : InTry b row p mid) (inside : mid.is_open ≡ true)
+  module _ (memory : List ℕ) (b : Between P) (row : Attempt) (p : P) (mid : Core) (call : Call) (m : List ℕ) (t : InTry b row p mid) (inside : in_transaction mid ≡ true) (outermost : length mid.blocks ≡ 1)
       (asks : rules.next_call p ≡ Some call) (is : call ≡ Commit) (mem : IsMemory mid.words m) (same : bytes_of m ≡ memory) (agrees : Agrees m mid.log) where
     abbrev last : Entry
     last = record { call = call; reply = Done }
@@ -184,7 +187,7 @@ module _ {P : Type 0} (rules : Rules P) (laws : Obeys rules) where
     commit_state = state_snoc MAX_DEPTH (from memory) row.calls last ∙ (λ i. after MAX_DEPTH (sym stands i) (is i))
 
     closes : is_open (after MAX_DEPTH (stands_for mid m) Commit) ≡ false
-    closes = ap (λ (o : Bool). is_open (after MAX_DEPTH (state_over mid.writes o mid.props mid.arena m) Commit)) inside
+    closes = ap is_open (commits mid.writes mid.blocks mid.arena m outermost)
 
     commit_alone : IsAlone rules MAX_DEPTH by (from memory) (row.calls ++ last ∷ [])
     commit_alone =
@@ -192,7 +195,7 @@ module _ {P : Type 0} (rules : Rules P) (laws : Obeys rules) where
         let turns : turn rules.next_call rules.answered rules.calls_left (player_then rules.answered by row.calls) (state_then MAX_DEPTH (from memory) row.calls) ≡ Some call =
         ap (λ (o : Bool). if o then rules.next_call (player_then rules.answered by row.calls) else None) open_then ∙ (ap rules.next_call (sym t.player) ∙ asks) in
         let replied : Done ≡ reply MAX_DEPTH (state_then MAX_DEPTH (from memory) row.calls) call =
-        ap (λ (o : Bool). reply MAX_DEPTH (state_over mid.writes o mid.props mid.arena m) Commit) (sym inside) ∙ (λ i. reply MAX_DEPTH (stands i) (sym is i)) in
+        sym (ap (λ (o : Bool). reply_unless (or_else (unless o Outside) None) Done) (stands_open rules laws mid m inside)) ∙ (λ i. reply MAX_DEPTH (stands i) (sym is i)) in
         alone_snoc rules laws MAX_DEPTH by (from memory) row.calls last
         (subst (λ (bytes : List ℕ). IsAlone rules MAX_DEPTH by (from bytes) row.calls) same (t.alone m mem agrees)) turns replied
 
@@ -206,7 +209,7 @@ module _ {P : Type 0} (rules : Rules P) (laws : Obeys rules) where
               ∙ (map-append pair_of row.calls (last ∷ []) ∙ ap (λ (c : Call). map pair_of row.calls ++ (c, Done) ∷ []) is)),
           (
             ap is_open (sym state) ∙ closes,
-            ap (λ (s : State). s.wrote) (sym state) ∙ (ap (λ (o : Bool). (after MAX_DEPTH (state_over mid.writes o mid.props mid.arena m) Commit).wrote) inside ∙ written mid.writes some),
+            ap (λ (s : State). s.wrote) (sym state) ∙ (ap (λ (s : State). s.wrote) (commits mid.writes mid.blocks mid.arena m outermost) ∙ written mid.writes some),
           ),
         )
       where
@@ -238,11 +241,11 @@ module _ {P : Type 0} (rules : Rules P) (laws : Obeys rules) where
   -- ## A begin is accepted
 
   module _ (b : Between P) (row : Attempt) (p : P) (mid new : Core) (props : Props) (room : ℕ) (r : Replied) (comes : begins_at rules b ≡ Some (record { player = p; arena = b.arena; props = row.props }))
-      (row_arena : row.arena ≡ b.arena) (row_props : row.props ≡ props) (row_calls : row.calls ≡ []) (tries : b.tries < row.nth) (outside : mid.is_open ≡ false) (empty : mid.writes ≡ []) (arena : mid.arena ≡ b.arena) (again : mid.again ≡ b.again)
+      (row_arena : row.arena ≡ b.arena) (row_props : row.props ≡ props) (row_calls : row.calls ≡ []) (tries : b.tries < row.nth) (outside : in_transaction mid ≡ false) (empty : mid.writes ≡ []) (arena : mid.arena ≡ b.arena) (again : mid.again ≡ b.again)
       (g : Replies mid (Begin props room) r new) (began : row.began ≤ new.snapshot / 2) (words : List ℕ) (mem : IsMemory mid.words words) (agrees : Agrees words new.log) where
     entered : (w : Bool) → mid.again ≡ w → r ≡ begin_code w
     entered w e =
-        g.reply_is words mem (Agrees-drop words mid.entry new.log agrees) ∙ (ap (λ (o : Bool). recoded mid.again (reply MAX_DEPTH (state_over mid.writes o mid.props mid.arena words) (Begin props room))) outside ∙ (ap (λ (a : Bool). recoded a (Code 5)) e ∙ coded w))
+        g.reply_is words mem (Agrees-drop words mid.entry new.log agrees) ∙ (ap (λ (o : List Props). recoded mid.again (reply MAX_DEPTH (state_over mid.writes o mid.arena words) (Begin props room))) (none_inside mid.blocks outside) ∙ (ap (λ (a : Bool). recoded a (Code 5)) e ∙ coded w))
       where
         coded : (w : Bool) → recoded w (Code 5) ≡ begin_code w
         coded true = refl
@@ -263,6 +266,6 @@ module _ {P : Type 0} (rules : Rules P) (laws : Obeys rules) where
           alone = λ m memory a. subst (λ (xs : List Entry). IsAlone rules MAX_DEPTH (rules.answered p (begin_code b.again)) (opened (bytes_of m) b.arena row.props) xs) (sym row_calls) tt;
           stands = λ m memory a.
               g.meets m (subst (λ (n : ℕ). IsMemory n m) same memory) a
-              ∙ (ap (λ (o : Bool). after MAX_DEPTH (state_over mid.writes o mid.props mid.arena m) (Begin props room)) outside
+              ∙ (ap (λ (o : List Props). after MAX_DEPTH (state_over mid.writes o mid.arena m) (Begin props room)) (none_inside mid.blocks outside)
               ∙ ((λ i. opened (bytes_of (overlay m (empty i))) (arena i) (sym row_props i)) ∙ ap (λ (xs : List Entry). state_then MAX_DEPTH (opened (bytes_of m) b.arena row.props) xs) (sym row_calls)));
         }

@@ -1,5 +1,6 @@
 -- Less and less is left to do.
 use Rattle.std.proofs.Common.{◌≡◌, ℕ, ◌+◌, ◌<◌, ◌≤◌, Bool, true, false, None, refl, sym, ap, subst, ◌∙◌, arith, if◌then◌else◌}
+use Rattle.norec_engine.specs.Core.{in_transaction}
 use Rattle.norec_world.specs.declared.actor.Actor.{Actor}
 use Rattle.norec_world.specs.declared.actor.Status.{Status}
 use Rattle.norec_world.specs.declared.actor.Status.TheVariants.{Ready, Waits, Ended}
@@ -9,7 +10,7 @@ use Rattle.script_vm.specs.Rules.{Rules}
 
 module _ {P : Type 0} (rules : Rules P) where
   pub same_less : (a : Actor P) → IsNoMore rules a a
-  same_less a = record { whole_falls = (let o : whole rules a.engine.is_open a.player ≤ whole rules a.engine.is_open a.player = omega arith in o); rank_falls = λ k b. omega arith }
+  same_less a = record { whole_falls = (let o : whole rules (in_transaction a.engine) a.player ≤ whole rules (in_transaction a.engine) a.player = omega arith in o); rank_falls = λ k b. omega arith }
 
   pub less_less : (a b c : Actor P) → IsNoMore rules a b → IsNoMore rules b c → IsNoMore rules a c
   less_less a b c f g = let x = f.whole_falls in let y = g.whole_falls in record {
@@ -17,14 +18,14 @@ module _ {P : Type 0} (rules : Rules P) where
     rank_falls = λ k l. (let u = f.rank_falls k l in let v = g.rank_falls k (omega arith) in omega arith);
   }
 
-  pub less_falls : (a b c : Actor P) → IsNoMore rules a b → Falls rules b.engine.is_open c.engine.is_open b c
-      → Falls rules a.engine.is_open c.engine.is_open a c
+  pub less_falls : (a b c : Actor P) → IsNoMore rules a b → Falls rules (in_transaction b.engine) (in_transaction c.engine) b c
+      → Falls rules (in_transaction a.engine) (in_transaction c.engine) a c
   less_falls a b c f g = let x = f.whole_falls in let y = g.whole_falls in record {
     whole_falls = omega arith;
     rank_falls = λ k l. (let u = f.rank_falls k l in let v = g.rank_falls k (omega arith) in omega arith);
   }
 
-  pub falls_less : (a b : Actor P) → Falls rules a.engine.is_open b.engine.is_open a b → IsNoMore rules a b
+  pub falls_less : (a b : Actor P) → Falls rules (in_transaction a.engine) (in_transaction b.engine) a b → IsNoMore rules a b
   falls_less a b f = record { whole_falls = f.whole_falls; rank_falls = λ k l. (let u = f.rank_falls k l in omega arith) }
 
 waiting_goes_on : (s : Status) → is_waiting s ≡ true → ending_of s ≡ None
@@ -35,42 +36,42 @@ waiting_goes_on (Ended end) e = absurd (cc)
 -- one event: the call of a is over at b, and local work leads to c
 module _ {P : Type 0} (rules : Rules P) (a b c : Actor P)
     (waits : is_waiting a.status ≡ true) (over : is_waiting b.status ≡ false)
-    (falls : is_ready b.status ≡ true → Falls rules a.engine.is_open b.engine.is_open a b)
+    (falls : is_ready b.status ≡ true → Falls rules (in_transaction a.engine) (in_transaction b.engine) a b)
     (still : is_ready b.status ≡ false → c.status ≡ b.status)
     (less : ending_of c.status ≡ None → IsNoMore rules b c) where
-  fell : is_waiting c.status ≡ true → Falls rules a.engine.is_open b.engine.is_open a b
+  fell : is_waiting c.status ≡ true → Falls rules (in_transaction a.engine) (in_transaction b.engine) a b
   fell w = of_ready (is_ready b.status) refl
     where
-      of_ready : (x : Bool) → is_ready b.status ≡ x → Falls rules a.engine.is_open b.engine.is_open a b
+      of_ready : (x : Bool) → is_ready b.status ≡ x → Falls rules (in_transaction a.engine) (in_transaction b.engine) a b
       of_ready true e = falls e
       of_ready false e = absurd (let f : is_waiting c.status ≡ false = ap is_waiting (still e) ∙ over in cc)
 
   pub turn_less : is_waiting c.status ≡ true → IsNoMore rules a c
   turn_less w = less_less rules a b c (falls_less rules a b (fell w)) (less (waiting_goes_on c.status w))
 
-  pub turn_falls : (k : ℕ) → whole rules a.engine.is_open a.player ≤ k → run_left rules k c < run_left rules k a
+  pub turn_falls : (k : ℕ) → whole rules (in_transaction a.engine) a.player ≤ k → run_left rules k c < run_left rules k a
   turn_falls k l = of_waiting (is_waiting c.status) refl
     where
-      before : run_left rules k a ≡ rank rules k a.engine.is_open a + 1
-      before = ap (λ (x : Bool). if x then rank rules k a.engine.is_open a + 1 else 0) waits
+      before : run_left rules k a ≡ rank rules k (in_transaction a.engine) a + 1
+      before = ap (λ (x : Bool). if x then rank rules k (in_transaction a.engine) a + 1 else 0) waits
 
       of_waiting : (x : Bool) → is_waiting c.status ≡ x → run_left rules k c < run_left rules k a
       of_waiting true e =
-          let after : run_left rules k c ≡ rank rules k c.engine.is_open c + 1 = ap (λ (x : Bool). if x then rank rules k c.engine.is_open c + 1 else 0) e in
+          let after : run_left rules k c ≡ rank rules k (in_transaction c.engine) c + 1 = ap (λ (x : Bool). if x then rank rules k (in_transaction c.engine) c + 1 else 0) e in
           let f = (fell e).rank_falls k l in
           let w = (fell e).whole_falls in
           let m = (less (waiting_goes_on c.status e)).rank_falls k (omega arith) in
           let u = before in
           omega arith
       of_waiting false e =
-          let after : run_left rules k c ≡ 0 = ap (λ (x : Bool). if x then rank rules k c.engine.is_open c + 1 else 0) e in
+          let after : run_left rules k c ≡ 0 = ap (λ (x : Bool). if x then rank rules k (in_transaction c.engine) c + 1 else 0) e in
           let u = before in
           omega arith
 
 module _ {P : Type 0} (rules : Rules P) where
   -- one event: the step leads to b, and local work to c
   module _ (a b c : Actor P) (waits : is_waiting a.status ≡ true) (goes_on : is_waiting b.status ≡ true → GoesOn rules a b)
-      (falls : is_ready b.status ≡ true → Falls rules a.engine.is_open b.engine.is_open a b) (still : is_ready b.status ≡ false → c ≡ b)
+      (falls : is_ready b.status ≡ true → Falls rules (in_transaction a.engine) (in_transaction b.engine) a b) (still : is_ready b.status ≡ false → c ≡ b)
       (less : ending_of c.status ≡ None → IsNoMore rules b c) where
     stays : is_waiting b.status ≡ true → c ≡ b
     stays w = still (unready b.status w)
@@ -99,8 +100,8 @@ module _ {P : Type 0} (rules : Rules P) where
   HasLessSoFar true a b = (is_waiting a.status ≡ true) × (is_waiting b.status ≡ true) × IsNoMore rules a b
   HasLessSoFar false a b = HasLess rules false a b
 
-  run_left_is : (k : ℕ) (a : Actor P) → is_waiting a.status ≡ true → run_left rules k a ≡ rank rules k a.engine.is_open a + 1
-  run_left_is k a w = ap (λ (x : Bool). if x then rank rules k a.engine.is_open a + 1 else 0) w
+  run_left_is : (k : ℕ) (a : Actor P) → is_waiting a.status ≡ true → run_left rules k a ≡ rank rules k (in_transaction a.engine) a + 1
+  run_left_is k a w = ap (λ (x : Bool). if x then rank rules k (in_transaction a.engine) a + 1 else 0) w
 
   -- with one event more
   pub less_so_far : (on : Bool) (a b c : Actor P) → HasLessSoFar true a b → HasLess rules on b c → HasLessSoFar on a c

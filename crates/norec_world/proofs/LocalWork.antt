@@ -2,7 +2,7 @@
 use Rattle.std.proofs.Common.{◌≡◌, ℕ, zero, suc, ◌/◌, false, None, Some, refl, sym, subst}
 use Rattle.itm_types.specs.declared.call.Call.{Call}
 use Rattle.itm_types.specs.declared.step.Step.{Step}
-use Rattle.norec_engine.specs.Core.{Core}
+use Rattle.norec_engine.specs.Core.{Core, in_transaction}
 use Rattle.norec_engine.specs.Moves.{IsResumed}
 use Rattle.norec_engine.specs.declared.answer.Next.{Next}
 use Rattle.norec_world.specs.declared.actor.Actor.{Actor}
@@ -26,8 +26,8 @@ not_ready (Ended end) step e = refl
 module _ {P : Type 0} (rules : Rules P) (cells : Cells) (r : Rows) (old : Actor P) (call : Call) (step : Step) (waiting : old.status ≡ Waits call step)
     (seen : ℕ) (seen_is : seen ≡ found cells step) (new : Core) (what : Next) (resumed : IsResumed old.engine seen what new) where
   pub takes_in : (status : Status) → status ≡ Ready → (rows r' : Rows) (last : Actor P) → last.engine ≡ new
-      → Tells rules old.engine.is_open r rows (record old { engine = new; status = status }) last call what
-      → IsTold last.thread last.engine.is_open rows (last.engine.snapshot / 2) r' → SameActor old last → TakesIn rules cells r old r' last
+      → Tells rules (in_transaction old.engine) r rows (record old { engine = new; status = status }) last call what
+      → IsTold last.thread (in_transaction last.engine) rows (last.engine.snapshot / 2) r' → SameActor old last → TakesIn rules cells r old r' last
   takes_in status ready rows r' last engine tells told same = record {
     call = call;
     step = step;
@@ -35,9 +35,9 @@ module _ {P : Type 0} (rules : Rules P) (cells : Cells) (r : Rows) (old : Actor 
     what = what;
     resumed = subst (λ (e : Core). IsResumed old.engine (found cells step) what e) (sym engine) (subst (λ (n : ℕ). IsResumed old.engine n what new) seen_is resumed);
     rows = rows;
-    tells = subst (λ (e : Core). Tells rules old.engine.is_open r rows (record old { engine = e; status = Ready }) last call what) (sym engine)
-        (subst (λ (s : Status). Tells rules old.engine.is_open r rows (record old { engine = new; status = s }) last call what) ready tells);
-    told = subst (λ (n : ℕ). IsTold n last.engine.is_open rows (last.engine.snapshot / 2) r') same.thread told;
+    tells = subst (λ (e : Core). Tells rules (in_transaction old.engine) r rows (record old { engine = e; status = Ready }) last call what) (sym engine)
+        (subst (λ (s : Status). Tells rules (in_transaction old.engine) r rows (record old { engine = new; status = s }) last call what) ready tells);
+    told = subst (λ (n : ℕ). IsTold n (in_transaction last.engine) rows (last.engine.snapshot / 2) r') same.thread told;
     same = same;
   }
 

@@ -5,7 +5,7 @@ use Rattle.std.proofs.lemmas.Option.{slice_get-get_or}
 use Rattle.itm_types.specs.declared.step.Step.{Step}
 use Rattle.itm_types.specs.declared.step.Step.TheVariants.{Load, Store, Cas}
 use Rattle.itm_types.specs.Memory.{Agrees, IsMemory}
-use Rattle.norec_engine.specs.Core.{Core, handed_to, word_loaded}
+use Rattle.norec_engine.specs.Core.{Core, handed_to, word_loaded, in_transaction}
 use Rattle.norec_engine.specs.Proceeds.{IsLawful, Joins, Settles, Got}
 use Rattle.norec_engine.specs.Rows.{write_at}
 use Rattle.norec_engine.proofs.Logs as logs
@@ -75,12 +75,12 @@ module _ (memory : ℕ → List ℕ) (cells : Cells) (e : Core) (t : IsTied cell
         subst (λ (n : ℕ). Agrees (memory (n / 2)) e.fresh) (sym seen) (s.loaded.fresh even (sym k.same ∙ seen) own)
 
     -- the log of before is of the new snapshot's memory too
-    pub still_logged : e.is_open ≡ true → Agrees (memory (new.snapshot / 2)) e.log
+    pub still_logged : in_transaction e ≡ true → Agrees (memory (new.snapshot / 2)) e.log
     still_logged o = logs.still_logged e new (found cells step) joins t.settled memory s.logged settled_fresh o
 
-    pub log_now : new.is_open ≡ true → Agrees (memory (new.snapshot / 2)) new.log
+    pub log_now : in_transaction new ≡ true → Agrees (memory (new.snapshot / 2)) new.log
     log_now o = logs.log_now e new (found cells step) joins t.settled memory s.logged settled_fresh o
 
     -- one that agrees with the log now agrees with the log of before
-    pub less_logged : new.is_open ≡ true → (m : List ℕ) → Agrees m new.log → Agrees m e.log
+    pub less_logged : in_transaction new ≡ true → (m : List ℕ) → Agrees m new.log → Agrees m e.log
     less_logged o m a = let more = logs.log_longer e new (found cells step) joins t.settled o in logs.agrees_less m e.log more.0 (subst (Agrees m) more.1 a)

@@ -2,7 +2,8 @@
 use Rattle.std.proofs.Common.{None, Some, ◌==◌, sym, subst, ◌≡◌, ℕ, ◌&&◌, Bool, true, false, List, [], ◌∷◌, length, refl, ap, ◌∙◌, arith}
 use Rattle.itm_types.specs.declared.call.Call.{Call}
 use Rattle.itm_types.specs.declared.call.Reply.{Reply as Replied}
-use Rattle.script_vm.specs.Depth.{depth_after, is_begin, is_code, opens}
+use Rattle.itm_types.specs.Calls.{is_begin}
+use Rattle.script_vm.specs.Depth.{depth_after, is_code, opens}
 use Rattle.norec_world.specs.declared.attempt.Attempt.{Attempt}
 use Rattle.norec_world.specs.declared.attempt.Outcome.TheVariants.{Unfinished}
 use Rattle.norec_world.specs.Rows.{Rows, is_of, active_of, changed, without, with_changed, with_opened, with_ended}
@@ -12,6 +13,7 @@ use Rattle.norec_world.specs.declared.actor.Status.{Status}
 use Rattle.norec_world.specs.declared.actor.Status.TheVariants.{Ready, Waits, Ended}
 use Rattle.norec_world.specs.Sound.{depth_if, HasRow, IsKept, StatusIs}
 use Rattle.std.proofs.lemmas.Bool.{cond-true, cond-false}
+use Rattle.norec_engine.specs.Core.{in_transaction}
 use Rattle.norec_world.proofs.PlayerLaws.{opens_at_begin}
 use Rattle.script_vm.specs.Rules.{Rules}
 
@@ -82,12 +84,12 @@ pub record KeepsCalls (f : Attempt → Attempt) : Type 0 where
   pub calls : (a : Attempt) → (f a).calls ≡ a.calls
 
 module _ {P : Type 0} (rules : Rules P)
-    (r r' : Rows) (a : Actor P) (f : Attempt → Attempt) (k : KeepsCalls f) (is : r' ≡ with_changed a.thread f r) (opened : a.engine.is_open ≡ true) (kept : IsKept a.engine.is_open r a) where
+    (r r' : Rows) (a : Actor P) (f : Attempt → Attempt) (k : KeepsCalls f) (is : r' ≡ with_changed a.thread f r) (opened : in_transaction a.engine ≡ true) (kept : IsKept (in_transaction a.engine) r a) where
   had : HasRow true r a.thread
   had = subst (λ (b : Bool). HasRow b r a.thread) opened kept.row
 
-  pub told_kept : IsKept a.engine.is_open r' a
-  told_kept = record { row = row_changed r r' a.thread a.engine.is_open f k.thread k.outcome is had opened; empty = kept.empty; tried = kept.tried; tries = kept.tries; retries = kept.retries }
+  pub told_kept : IsKept (in_transaction a.engine) r' a
+  told_kept = record { row = row_changed r r' a.thread (in_transaction a.engine) f k.thread k.outcome is had opened; empty = kept.empty; tried = kept.tried; tries = kept.tries; retries = kept.retries }
 
   told_calls : (row : Attempt) → active_of a.thread r'.active ≡ Some row → row.calls ≡ had.0.calls
   told_calls row e =

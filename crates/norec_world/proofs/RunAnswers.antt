@@ -9,7 +9,7 @@ use Rattle.itm_model.specs.declared.limits.TheConstants.{MAX_DEPTH}
 use Rattle.itm_model.specs.State.{State}
 use Rattle.itm_model.specs.Machine.{after, is_open, opened, undone, undone_from}
 use Rattle.itm_model.specs.State.{Block}
-use Rattle.norec_engine.specs.Core.{Core}
+use Rattle.norec_engine.specs.Core.{Core, in_transaction}
 use Rattle.norec_engine.specs.Stands.{stands_for}
 use Rattle.norec_engine.specs.Proceeds.{Replies, RepliesTo}
 use Rattle.norec_engine.specs.declared.answer.Answer.TheVariants.{Reply, Committed, Conflict, Full}
@@ -69,7 +69,7 @@ module _ {P : Type 0} (rules : Rules P) (laws : Obeys rules) (first : Between P)
   -- ## A call of an open transaction has its reply
 
   module _ (reply : Replied) (m : HasAnswered rules true cells cells' r r1 mid a last call (Reply reply)) where
-    inside : mid.is_open ≡ true
+    inside : in_transaction mid ≡ true
     inside = m.taken.was_is
 
     g : Replies mid call reply a.engine
@@ -86,7 +86,7 @@ module _ {P : Type 0} (rules : Rules P) (laws : Obeys rules) (first : Between P)
         let earlier = t.4.began in
         let try = try_replies rules laws t.0 t.1 a.player mid a.engine call reply t.4 inside m.answered.in_call.asks g (let up = seen.up inside in omega arith) (seen.fewer (g.still inside)) in
         let row : Attempt = with_call t.1 in
-        let still_open : last.engine.is_open ≡ true = ap (λ (c : Core). c.is_open) m.settled.engine ∙ g.still inside in
+        let still_open : in_transaction last.engine ≡ true = ap in_transaction m.settled.engine ∙ g.still inside in
         record {
           run = run_same r.ended r1.ended a.thread last.thread ended m.settled.thread run.run;
           inside = λ o. (
@@ -98,13 +98,13 @@ module _ {P : Type 0} (rules : Rules P) (laws : Obeys rules) (first : Between P)
             m.told.2 ∙ t.5,
             t.6 ∙ sym m.told.3,
           );
-          between = λ o. absurd (both last.engine.is_open still_open o);
+          between = λ o. absurd (both (in_transaction last.engine) still_open o);
         }
 
   -- ## An attempt ends
 
   -- the run with it, over perhaps more commits
-  module _ (n' : ℕ) (later : cells.clock / 2 ≤ n') (still : (k : ℕ) → k ≤ cells.clock / 2 → bytes_at base r1.ended k ≡ bytes_at base r.ended k) (inside : mid.is_open ≡ true) where
+  module _ (n' : ℕ) (later : cells.clock / 2 ≤ n') (still : (k : ℕ) → k ≤ cells.clock / 2 → bytes_at base r1.ended k ≡ bytes_at base r.ended k) (inside : in_transaction mid ≡ true) where
     pub ended_run : (over : Attempt) → over.thread ≡ a.thread → r1.ended ≡ r.ended ++ over ∷ [] → last.thread ≡ a.thread → IsTryAt rules MAX_DEPTH n' (bytes_at base r1.ended) (run.inside inside).0 (Some (run.inside inside).4.start) over
         → IsRunOf rules MAX_DEPTH n' (bytes_at base r1.ended) (Some first) (of_thread last.thread r1.ended)
         × (run_after rules (bytes_at base r1.ended) (Some first) (of_thread last.thread r1.ended)
@@ -138,15 +138,15 @@ module _ {P : Type 0} (rules : Rules P) (laws : Obeys rules) (first : Between P)
           ≡ after MAX_DEPTH (stands_for mid (words_at base r.ended at)) Commit
       commit_left =
           let t = run.inside inside in
-          left_state rules laws (bytes_at base r1.ended at) t.0 t.1 a.player mid call (words_at base r.ended at) t.4 inside m.answered.in_call.asks m.answered.fits.2 (memory_at seen at at_most) bytes_same commit_agrees n' at wrote a.engine m.ends
+          left_state rules laws (bytes_at base r1.ended at) t.0 t.1 a.player mid call (words_at base r.ended at) t.4 inside m.ends.outermost m.answered.in_call.asks m.answered.fits.2 (memory_at seen at at_most) bytes_same commit_agrees n' at wrote a.engine m.ends
 
       pub commit_runs : Run n' r1 last
       commit_runs =
           let t = run.inside inside in
-          let try = try_commits rules laws (bytes_at base r1.ended at) t.0 t.1 a.player mid call (words_at base r.ended at) t.4 inside m.answered.in_call.asks m.answered.fits.2 (memory_at seen at at_most) bytes_same commit_agrees n' at wrote a.engine m.ends
+          let try = try_commits rules laws (bytes_at base r1.ended at) t.0 t.1 a.player mid call (words_at base r.ended at) t.4 inside m.ends.outermost m.answered.in_call.asks m.answered.fits.2 (memory_at seen at at_most) bytes_same commit_agrees n' at wrote a.engine m.ends
           (bytes_at base r1.ended) refl (let e = t.4.began in let is = m.ends.at_is in omega arith) (omega (arith, at_most, later)) in
           let over = ended_run _ (row_is_of a.thread r.active t.1 t.3) commit_ended m.settled.thread try in
-          let closed : last.engine.is_open ≡ false = ap (λ (c : Core). c.is_open) m.settled.engine ∙ m.answered.fits.1 in
+          let closed : in_transaction last.engine ≡ false = ap in_transaction m.settled.engine ∙ m.answered.fits.1 in
           let ready : last.status ≡ Ready = m.told.4 ∙ m.answered.status in
           let nothing = none_pending rules r r1 a last true m.settled ready in
           let arena : (alone MAX_DEPTH (bytes_at base r1.ended at) (record t.1 { calls = t.1.calls ++ record { call = call; reply = Done } ∷ []; at = at; outcome = if wrote then outcomes.Committed else outcomes.ReadOnly })).arena ≡ last.engine.arena =
@@ -155,7 +155,7 @@ module _ {P : Type 0} (rules : Rules P) (laws : Obeys rules) (first : Between P)
           player_snoc rules.answered (rules.answered t.4.start.player (begin_code t.0.again)) t.1.calls (record { call = call; reply = Done }) ∙ (ap (λ (q : P). rules.answered q Done) (sym t.4.player) ∙ sym m.told.1) in
           record {
             run = over.0;
-            inside = λ o. absurd (both last.engine.is_open o closed);
+            inside = λ o. absurd (both (in_transaction last.engine) o closed);
             between = λ o gave_up starved. (
               record { player = last.player; arena = last.engine.arena; again = false; tries = 0 },
               over.1 ∙ (follows_commit wrote (rules.answered t.4.start.player (begin_code t.0.again)) _ _ ∙ (λ i. Some (record { player = player i; arena = arena i; again = false; tries = 0 }))),
@@ -221,13 +221,13 @@ module _ {P : Type 0} (rules : Rules P) (laws : Obeys rules) (first : Between P)
           let agrees = subst (λ (j : ℕ). Agrees (words_at base r.ended (j / 2)) mid.log) (sym snapshot) (seen.logged inside) in
           let over = stop_run k outcomes.Conflict (λ x o. o) m.settled.thread m.told.0 (omega arith) (omega arith) agrees (λ f. absurd (cc)) in
           let state = stop_left k outcomes.Conflict (λ x o. o) m.settled.thread m.told.0 (omega arith) (omega arith) agrees in
-          let closed : last.engine.is_open ≡ false = ap (λ (c : Core). c.is_open) m.settled.engine ∙ m.answered.fits.1 in
+          let closed : in_transaction last.engine ≡ false = ap in_transaction m.settled.engine ∙ m.answered.fits.1 in
           let player : rules.restarted (answered_all rules.answered (rules.answered t.4.start.player (begin_code t.0.again)) (map (λ (x : Entry). x.reply) t.1.calls)) ≡ last.player = ap rules.restarted (sym t.4.player) ∙ sym m.told.1 in
           let arena : (undone (alone MAX_DEPTH (bytes_at base r1.ended k) (record t.1 { at = k; outcome = outcomes.Conflict }))).arena ≡ last.engine.arena =
           undone_arena (alone MAX_DEPTH (bytes_at base r1.ended k) (record t.1 { at = k; outcome = outcomes.Conflict })) ∙ (ap (λ (x : State). x.arena) state ∙ (ap (λ (c : Core). c.arena) (sym m.ends.stays) ∙ ap (λ (c : Core). c.arena) (sym m.settled.engine))) in
           record {
             run = over.0;
-            inside = λ o. absurd (both last.engine.is_open o closed);
+            inside = λ o. absurd (both (in_transaction last.engine) o closed);
             between = λ o gave_up starved. (
               record { player = last.player; arena = last.engine.arena; again = true; tries = t.1.nth },
               over.1 ∙ (λ i. Some (record { player = player i; arena = arena i; again = true; tries = t.1.nth })),
@@ -259,10 +259,10 @@ module _ {P : Type 0} (rules : Rules P) (laws : Obeys rules) (first : Between P)
           let t = run.inside inside in
           let is : call ≡ Commit = (let doing : Some Commit ≡ Some call = sym m.ends.doing ∙ m.taken.doing in cc) in
           let agrees = subst (λ (k : ℕ). Agrees (words_at base r.ended k) mid.log) (sym m.ends.at_is) (seen.still inside) in
-          let closed : last.engine.is_open ≡ false = ap (λ (c : Core). c.is_open) m.settled.engine ∙ m.answered.fits.1 in
+          let closed : in_transaction last.engine ≡ false = ap in_transaction m.settled.engine ∙ m.answered.fits.1 in
           record {
             run = (stop_run at outcomes.Full (λ x o. o) m.settled.thread m.told.0 older newer agrees
-                (λ f. lacks_commit rules laws (bytes_at base r1.ended at) t.0 t.1 a.player mid call (words_at base r.ended at) t.4 inside m.answered.in_call.asks is (memory_at seen at newer) (same_at seen at newer ∙ sym (still at newer)) agrees m.ends.some)).0;
-            inside = λ o. absurd (both last.engine.is_open o closed);
+                (λ f. lacks_commit rules laws (bytes_at base r1.ended at) t.0 t.1 a.player mid call (words_at base r.ended at) t.4 inside m.ends.outermost m.answered.in_call.asks is (memory_at seen at newer) (same_at seen at newer ∙ sym (still at newer)) agrees m.ends.some)).0;
+            inside = λ o. absurd (both (in_transaction last.engine) o closed);
             between = λ o gave_up starved. absurd (gave_up (ap ending_of m.told.1));
           }

@@ -9,13 +9,14 @@ use Rattle.itm_types.specs.declared.call.Reply.TheVariants.{Refused}
 use Rattle.itm_types.specs.Memory.{IsMemory, Agrees}
 use Rattle.itm_model.specs.declared.limits.TheConstants.{MAX_DEPTH}
 use Rattle.itm_model.specs.Machine.{reply}
-use Rattle.script_vm.specs.Depth.{is_begin}
+use Rattle.itm_types.specs.Calls.{is_begin}
 use Rattle.norec_engine.proofs.Overlays.{Agrees-drop}
-use Rattle.norec_engine.specs.Core.{Core}
+use Rattle.norec_engine.specs.Core.{Core, in_transaction}
 use Rattle.norec_engine.specs.Stands.{state_over}
 use Rattle.norec_engine.specs.Proceeds.{Replies, recoded, RepliesTo}
 use Rattle.norec_engine.specs.declared.answer.Answer.{Answer}
 use Rattle.norec_engine.specs.declared.answer.Answer.TheVariants.{Reply, Committed, Conflict, Busy, Full}
+use Rattle.norec_engine.proofs.Blocks.{none_inside}
 use Rattle.norec_world.specs.declared.attempt.Attempt.{Attempt}
 use Rattle.norec_world.specs.declared.attempt.End.TheVariants.{GaveUp}
 use Rattle.norec_world.specs.declared.actor.Actor.{Actor}
@@ -60,11 +61,11 @@ module _ {P : Type 0} (rules : Rules P) (laws : Obeys rules) where
       by_left (suc n) l = ap (begin_within rules MAX_DEPTH (suc n) p arena) e
 
   -- the engine's reply to such a call
-  refused_outside : (mid new : Core) (c : Call) (r : Replied) (m : List ℕ) → Replies mid c r new → is_begin c ≡ false → mid.is_open ≡ false → IsMemory mid.words m → Agrees m new.log → r ≡ Refused Outside
+  refused_outside : (mid new : Core) (c : Call) (r : Replied) (m : List ℕ) → Replies mid c r new → is_begin c ≡ false → in_transaction mid ≡ false → IsMemory mid.words m → Agrees m new.log → r ≡ Refused Outside
   refused_outside mid new c r m g nb outside mem agrees =
-      g.reply_is m mem (Agrees-drop m mid.entry new.log agrees) ∙ (ap (λ (o : Bool). recoded mid.again (reply MAX_DEPTH (state_over mid.writes o mid.props mid.arena m) c)) outside ∙ (ap (recoded mid.again) (refused c nb) ∙ coded mid.again))
+      g.reply_is m mem (Agrees-drop m mid.entry new.log agrees) ∙ (ap (λ (o : List Props). recoded mid.again (reply MAX_DEPTH (state_over mid.writes o mid.arena m) c)) (none_inside mid.blocks outside) ∙ (ap (recoded mid.again) (refused c nb) ∙ coded mid.again))
     where
-      refused : (c : Call) → is_begin c ≡ false → reply MAX_DEPTH (state_over mid.writes false mid.props mid.arena m) c ≡ Refused Outside
+      refused : (c : Call) → is_begin c ≡ false → reply MAX_DEPTH (state_over mid.writes [] mid.arena m) c ≡ Refused Outside
       refused (Begin props room) nb = absurd (cc)
       refused Commit nb = refl
       refused (Read hint width at) nb = refl
@@ -89,13 +90,13 @@ module _ {P : Type 0} (rules : Rules P) (laws : Obeys rules) (first : Between P)
   run_same xs ys t u e f h = subst (λ (l : List Attempt). RunOf l u) (sym e) (subst (RunOf xs) (sym f) h)
 
   -- where the actor stands before the answer
-  before : mid.is_open ≡ false → a.status ≡ Ready → (b : Between P) × (now_at r.ended a.thread ≡ Some b) × IsBeforeTry rules (cells.clock / 2) b (record a { engine = mid })
+  before : in_transaction mid ≡ false → a.status ≡ Ready → (b : Between P) × (now_at r.ended a.thread ≡ Some b) × IsBeforeTry rules (cells.clock / 2) b (record a { engine = mid })
   before outside ready = run.between outside (λ e. absurd (let x = sym (ap ending_of ready) ∙ e in cc)) (λ e. absurd (let x = sym (ap ending_of ready) ∙ e in cc))
 
   -- ## A reply outside a transaction
 
   module _ (reply : Replied) (m : HasAnswered rules false cells cells' r r1 mid a last call (Reply reply)) where
-    outside : mid.is_open ≡ false
+    outside : in_transaction mid ≡ false
     outside = m.taken.was_is
 
     g : Replies mid call reply a.engine
@@ -105,16 +106,16 @@ module _ {P : Type 0} (rules : Rules P) (laws : Obeys rules) (first : Between P)
     ready = m.told.4 ∙ m.answered.status
 
     -- its memory is the words as they are: nothing is logged
-    shut : last.engine.is_open ≡ false → a.engine.is_open ≡ false
-    shut o = ap (λ (c : Core). c.is_open) (sym m.settled.engine) ∙ o
+    shut : in_transaction last.engine ≡ false → in_transaction a.engine ≡ false
+    shut o = ap in_transaction (sym m.settled.engine) ∙ o
 
     memory : IsMemory mid.words cells'.words
     memory = (sym m.taken.words, m.taken.tied.fit)
 
-    empty_log : last.engine.is_open ≡ false → Agrees cells'.words a.engine.log
+    empty_log : in_transaction last.engine ≡ false → Agrees cells'.words a.engine.log
     empty_log o = subst (Agrees cells'.words) (sym (m.taken.tied.settled.closed (shut o)).0) tt
 
-    outside_runs : is_begin call ≡ false → last.engine.is_open ≡ false → r1.ended ≡ r.ended → Run (cells.clock / 2) r1 last
+    outside_runs : is_begin call ≡ false → in_transaction last.engine ≡ false → r1.ended ≡ r.ended → Run (cells.clock / 2) r1 last
     outside_runs other closed ended =
         let t = before outside m.answered.status in
         let k = t.2 in
@@ -123,14 +124,14 @@ module _ {P : Type 0} (rules : Rules P) (laws : Obeys rules) (first : Between P)
         let nothing = none_pending rules r r1 a last false m.settled ready in
         record {
           run = run_same r.ended r1.ended a.thread last.thread ended m.settled.thread run.run;
-          inside = λ o. absurd (both last.engine.is_open o closed);
+          inside = λ o. absurd (both (in_transaction last.engine) o closed);
           between = λ o gave_up starved. (
             t.0,
             (λ i. now_at (ended i) (m.settled.thread i)) ∙ t.1,
             record {
               leads = k.leads ∙ (past_outside rules laws a.player t.0.arena call m.answered.in_call.asks other ∙ (ap (λ (x : Replied). comes_to rules laws (rules.answered a.player x) t.0.arena) (sym refused) ∙ ap (λ (q : P). comes_to rules laws q t.0.arena) (sym m.told.1)));
               arena = arena ∙ k.arena;
-              again = agains last.engine.is_open closed m.told.2 ∙ k.again;
+              again = agains (in_transaction last.engine) closed m.told.2 ∙ k.again;
               tries = (let nth = m.told.3 in let fewer = k.tries in omega arith);
               pending = λ x e. absurd (let none = sym nothing ∙ e in cc);
             },
@@ -142,9 +143,9 @@ module _ {P : Type 0} (rules : Rules P) (laws : Obeys rules) (first : Between P)
         agains false e f = f
 
     -- an accepted begin
-    begin_runs : (row : Attempt) → a.pending ≡ Some row → (props : Props) (room : ℕ) → call ≡ Begin props room → last.engine.is_open ≡ true → r1 ≡ with_opened (record row { at = last.engine.snapshot / 2 }) r → Run (cells.clock / 2) r1 last
+    begin_runs : (row : Attempt) → a.pending ≡ Some row → (props : Props) (room : ℕ) → call ≡ Begin props room → in_transaction last.engine ≡ true → r1 ≡ with_opened (record row { at = last.engine.snapshot / 2 }) r → Run (cells.clock / 2) r1 last
     begin_runs row pending props room is opened rows =
-        let now : a.engine.is_open ≡ true = ap (λ (c : Core). c.is_open) (sym m.settled.engine) ∙ opened in
+        let now : in_transaction a.engine ≡ true = ap in_transaction (sym m.settled.engine) ∙ opened in
         let late = seen.opens outside now in
         let k_late : a.engine.snapshot / 2 ≤ cells.clock / 2 = (let reached = m.taken.tied.settled.reached in let late = m.taken.tied.late in let same = (m.taken.outside refl).0 in omega arith) in
         let t = before outside m.answered.status in
@@ -167,10 +168,10 @@ module _ {P : Type 0} (rules : Rules P) (laws : Obeys rules) (first : Between P)
             (λ i. now_at (ended i) (m.settled.thread i)) ∙ t.1,
             ap (λ (u : ℕ). active_of u r1.active) (m.settled.thread ∙ sym q.thread) ∙ (ap (λ (x : Rows). active_of row.thread x.active) rows ∙ opened_here (record row { at = at }) r.active free),
             subst (λ (c : Core). IsInTry rules t.0 (record row { at = at }) last.player c) (sym m.settled.engine) (subst (λ (x : P). IsInTry rules t.0 (record row { at = at }) x a.engine) (sym m.told.1) try),
-            agains last.engine.is_open opened a.pending pending m.told.2,
+            agains (in_transaction last.engine) opened a.pending pending m.told.2,
             q.nth ∙ sym m.told.3,
           );
-          between = λ o. absurd (both last.engine.is_open opened o);
+          between = λ o. absurd (both (in_transaction last.engine) opened o);
         }
       where
         some_same : (x y : Beginning P) → Some x ≡ Some y → x ≡ y
@@ -183,16 +184,16 @@ module _ {P : Type 0} (rules : Rules P) (laws : Obeys rules) (first : Between P)
 
     -- of no open transaction
     reply_shut : Run (cells.clock / 2) r1 last
-    reply_shut = by_open last.engine.is_open refl a.pending refl m.told.0
+    reply_shut = by_open (in_transaction last.engine) refl a.pending refl m.told.0
       where
         begins : (row : Attempt) → a.pending ≡ Some row → is_begin call ≡ true
         begins row p = sym (m.answered.in_call.begins refl) ∙ ap is_some p
 
-        by_open : (o : Bool) → last.engine.is_open ≡ o → (p : Option Attempt) → a.pending ≡ p → Opens o r p (last.engine.snapshot / 2) r1 → Run (cells.clock / 2) r1 last
+        by_open : (o : Bool) → in_transaction last.engine ≡ o → (p : Option Attempt) → a.pending ≡ p → Opens o r p (last.engine.snapshot / 2) r1 → Run (cells.clock / 2) r1 last
         by_open true o (Some row) p told = (let c = begin_call call (begins row p) in begin_runs row p c.0 c.1 c.2 o told)
         by_open true o None p told =
-            let now = ap (λ (c : Core). c.is_open) (sym m.settled.engine) ∙ o in
-            absurd (let f : false ≡ true = was_open false a.engine.is_open call reply (λ x. sym (m.answered.in_call.begins x) ∙ ap is_some p) m.answered.fits.0 now in cc)
+            let now = ap in_transaction (sym m.settled.engine) ∙ o in
+            absurd (let f : false ≡ true = was_open false (in_transaction a.engine) call reply (λ x. sym (m.answered.in_call.begins x) ∙ ap is_some p) m.answered.fits.0 now in cc)
         by_open false o (Some row) p told =
             let c = begin_call call (begins row p) in
             absurd (begin_opens mid a.engine cells'.words c.0 c.1 reply (subst (λ (x : Call). Replies mid x reply a.engine) c.2 g) outside memory (empty_log o) (shut o))
@@ -204,11 +205,11 @@ module _ {P : Type 0} (rules : Rules P) (laws : Obeys rules) (first : Between P)
   busy_runs clock m =
       let t = before m.ends.closed m.answered.status in
       let k = t.2 in
-      let closed : last.engine.is_open ≡ false = ap (λ (c : Core). c.is_open) m.settled.engine ∙ m.answered.fits.1 in
+      let closed : in_transaction last.engine ≡ false = ap in_transaction m.settled.engine ∙ m.answered.fits.1 in
       let ended : r1.ended ≡ r.ended = ap (λ (x : Rows). x.ended) m.told.0 in
       record {
         run = run_same r.ended r1.ended a.thread last.thread ended m.settled.thread run.run;
-        inside = λ o. absurd (both last.engine.is_open o closed);
+        inside = λ o. absurd (both (in_transaction last.engine) o closed);
         between = λ o gave_up starved. (
           t.0,
           (λ i. now_at (ended i) (m.settled.thread i)) ∙ t.1,

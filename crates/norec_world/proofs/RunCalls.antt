@@ -3,7 +3,7 @@ use Rattle.std.proofs.Common.{◌≡◌, ℕ, ◌/◌, ◌≤◌, ◌&&◌, Bool
 use Rattle.itm_types.specs.declared.call.Call.{Call}
 use Rattle.itm_types.specs.declared.call.Call.TheVariants.{Begin, Commit, Read, Write}
 use Rattle.itm_model.specs.declared.limits.TheConstants.{MAX_DEPTH}
-use Rattle.norec_engine.specs.Core.{Core}
+use Rattle.norec_engine.specs.Core.{Core, in_transaction}
 use Rattle.norec_engine.specs.declared.answer.Answer.{Answer}
 use Rattle.norec_engine.specs.declared.answer.Answer.TheVariants.{Reply, Committed, Conflict, Busy, Full}
 use Rattle.norec_engine.specs.declared.answer.Next.{Next}
@@ -77,7 +77,7 @@ module _ {P : Type 0} {rules : Rules P} (laws : Obeys rules) {cells : Cells} {r0
   again_open true false e = refl
   again_open false w e = absurd (cc)
 
-  again_shut : (b : Bool) → old.engine.is_open ≡ b → b ≡ false → (c : Call) (p : _) (room : ℕ) → c ≡ Begin p room → (begins_again old.engine.is_open old.again c && not old.engine.is_open) ≡ old.again
+  again_shut : (b : Bool) → in_transaction old.engine ≡ b → b ≡ false → (c : Call) (p : _) (room : ℕ) → c ≡ Begin p room → (begins_again (in_transaction old.engine) old.again c && not (in_transaction old.engine)) ≡ old.again
   again_shut true e f c p room is = absurd (cc)
   again_shut false e f c p room is = (λ i. begins_again (e i) old.again (is i) && not (e i)) ∙ with_true old.again
     where
@@ -86,7 +86,7 @@ module _ {P : Type 0} {rules : Rules P} (laws : Obeys rules) {cells : Cells} {r0
       with_true false = refl
 
   -- the attempt that is to be opened then
-  fresh_pending : (b : Between P) → IsBeforeTry rules (cells.clock / 2) b old → old.engine.is_open ≡ false → (c : Call) → c ≡ call → (row : Attempt) → asked_pending false cells.clock old c ≡ Some row
+  fresh_pending : (b : Between P) → IsBeforeTry rules (cells.clock / 2) b old → in_transaction old.engine ≡ false → (c : Call) → c ≡ call → (row : Attempt) → asked_pending false cells.clock old c ≡ Some row
       → (row.began ≤ cells.clock / 2) × (row.arena ≡ b.arena) × (row.calls ≡ []) × (begins_at rules b ≡ Some (record { player = a.player; arena = b.arena; props = row.props })) × ((mid m).again ≡ b.again)
   fresh_pending b k o (Begin props room) is row e =
       let made : record { thread = old.thread; nth = old.nth; began = cells.clock / 2; at = 0; props = props; arena = old.engine.arena; calls = []; outcome = outcomes.Unfinished } ≡ row = cc in
@@ -95,7 +95,7 @@ module _ {P : Type 0} {rules : Rules P} (laws : Obeys rules) {cells : Cells} {r0
         ap (λ (x : Attempt). x.arena) (sym made) ∙ k.arena,
         ap (λ (x : Attempt). x.calls) (sym made),
         k.leads ∙ (here ∙ (λ i. Some (record { player = (sym m.asks.player) i; arena = b.arena; props = (ap (λ (x : Attempt). x.props) made) i }))),
-        again_shut old.engine.is_open refl o call props room (sym is) ∙ k.again,
+        again_shut (in_transaction old.engine) refl o call props room (sym is) ∙ k.again,
       )
   fresh_pending b k o Commit is row e = absurd (let z = sym (rests m.sound m.ready).nothing ∙ e in cc)
   fresh_pending b k o (Read hint width at) is row e = absurd (let z = sym (rests m.sound m.ready).nothing ∙ e in cc)
@@ -120,7 +120,7 @@ module _ {P : Type 0} {rules : Rules P} (laws : Obeys rules) {cells : Cells} {r0
                 props = y.props;
                 tries = y.tries;
                 began = y.began;
-                anew = again_open old.engine.is_open (begins_again old.engine.is_open old.again call) o;
+                anew = again_open (in_transaction old.engine) (begins_again (in_transaction old.engine) old.again call) o;
                 player = m.asks.player ∙ y.player;
                 alone = y.alone;
                 stands = y.stands;
@@ -144,18 +144,18 @@ module _ {P : Type 0} {rules : Rules P} (laws : Obeys rules) {cells : Cells} {r0
 
   seen : HasSeen base cells cells r (mid m) a.engine
   seen =
-      call_seen base cells r old.engine a.engine call (begins_again old.engine.is_open old.again call) (laid_same base cells r0 r ended_same laid) m.sound.tied (rests m.sound m.ready).free
+      call_seen base cells r old.engine a.engine call (begins_again (in_transaction old.engine) old.again call) (laid_same base cells r0 r ended_same laid) m.sound.tied (rests m.sound m.ready).free
       (subst (λ (l : List Attempt). Sees (words_at base l) cells old.engine) (sym ended_same) (runs.sees (on_way_so ends.NoMemory))) m.asked.stays
 
   -- where its attempt reads
   abbrev ReadsAt : Rows → Actor P → Type 0
-  ReadsAt x y = y.engine.is_open ≡ true → (row : Attempt) → active_of y.thread x.active ≡ Some row → row.at ≡ y.engine.snapshot / 2
+  ReadsAt x y = in_transaction y.engine ≡ true → (row : Attempt) → active_of y.thread x.active ≡ Some row → row.at ≡ y.engine.snapshot / 2
 
   -- where it is still open, the answer was a reply, and its row has one call more
-  answer_reads : (b : Bool) (answer : Answer) → old.engine.is_open ≡ b → {r1 : Rows} {last : Actor P} → HasAnswered rules b cells cells r r1 (mid m) a last call answer → ReadsAt r1 last
-  answer_reads b answer was {r1} {last} t o = by_answer b answer was t (ap (λ (c : Core). c.is_open) (sym t.settled.engine) ∙ o)
+  answer_reads : (b : Bool) (answer : Answer) → in_transaction old.engine ≡ b → {r1 : Rows} {last : Actor P} → HasAnswered rules b cells cells r r1 (mid m) a last call answer → ReadsAt r1 last
+  answer_reads b answer was {r1} {last} t o = by_answer b answer was t (ap in_transaction (sym t.settled.engine) ∙ o)
     where
-      by_answer : (b : Bool) (answer : Answer) → old.engine.is_open ≡ b → HasAnswered rules b cells cells r r1 (mid m) a last call answer → a.engine.is_open ≡ true
+      by_answer : (b : Bool) (answer : Answer) → in_transaction old.engine ≡ b → HasAnswered rules b cells cells r r1 (mid m) a last call answer → in_transaction a.engine ≡ true
           → (row : Attempt) → active_of last.thread r1.active ≡ Some row → row.at ≡ last.engine.snapshot / 2
       by_answer true (Reply reply) was t now row f =
           let x = run_came.inside was in
@@ -164,32 +164,32 @@ module _ {P : Type 0} {rules : Rules P} (laws : Obeys rules) {cells : Cells} {r0
           ap (λ (k : ℕ). active_of k r1.active) t.settled.thread ∙ (ap (λ (x : Rows). active_of a.thread x.active) t.told.0 ∙ changed_here a.thread with_call r.active x.1 (λ x. refl) x.3) in
           let same : with_call x.1 ≡ row = (let z : Some (with_call x.1) ≡ Some row = sym here ∙ f in cc) in
           ap (λ (x : Attempt). x.at) (sym same) ∙ (runs.reads was x.1 (sym active_same ∙ x.3) ∙ ap (λ (k : ℕ). k / 2) (sym (ap (λ (c : Core). c.snapshot) t.settled.engine ∙ m.asked.stays.snapshot)))
-      by_answer false (Reply reply) was t now row f = absurd (both old.engine.is_open (m.asked.stays.opens now) was)
-      by_answer b (Committed at wrote) was t now row f = absurd (both a.engine.is_open now t.answered.fits.1)
-      by_answer b (Conflict clock word) was t now row f = absurd (both a.engine.is_open now t.answered.fits.1)
-      by_answer b (Busy clock) was t now row f = absurd (both a.engine.is_open now t.answered.fits.1)
-      by_answer b (Full at) was t now row f = absurd (both a.engine.is_open now t.answered.fits.1)
+      by_answer false (Reply reply) was t now row f = absurd (both (in_transaction old.engine) (m.asked.stays.opens now) was)
+      by_answer b (Committed at wrote) was t now row f = absurd (both (in_transaction a.engine) now t.answered.fits.1)
+      by_answer b (Conflict clock word) was t now row f = absurd (both (in_transaction a.engine) now t.answered.fits.1)
+      by_answer b (Busy clock) was t now row f = absurd (both (in_transaction a.engine) now t.answered.fits.1)
+      by_answer b (Full at) was t now row f = absurd (both (in_transaction a.engine) now t.answered.fits.1)
 
-  pub call_runs : (r1 : Rows) (last : Actor P) → IsDone rules old.engine.is_open r r1 a last call what → Tells rules old.engine.is_open r r1 a last call what → (more : List Attempt) → r1.ended ≡ r.ended ++ more → AreCounted cells.clock r1.ended
+  pub call_runs : (r1 : Rows) (last : Actor P) → IsDone rules (in_transaction old.engine) r r1 a last call what → Tells rules (in_transaction old.engine) r r1 a last call what → (more : List Attempt) → r1.ended ≡ r.ended ++ more → AreCounted cells.clock r1.ended
       → AreLaid base cells r1 × RunsFrom rules first base cells r1 last
   call_runs r1 last done tells more ended counted =
       let taken = call_taken m in
-      let x = runs_recorded rules laws first base old.engine.is_open cells cells r (mid m) a call seen run_came r1 last more ended what taken done tells in (
+      let x = runs_recorded rules laws first base (in_transaction old.engine) cells cells r (mid m) a call seen run_came r1 last more ended what taken done tells in (
         x.laid counted,
         record {
           runs = x.run;
           sees = λ fed. x.sees;
           starved = λ e. absurd (x.fed e);
           reads = recorded ReadsAt taken done tells
-              (λ step t o row e. runs.reads (sym (ap (λ (c : Core). c.is_open) t.proceeds.stays) ∙ o) row (sym active_same ∙ e) ∙ ap (λ (k : ℕ). k / 2) (sym m.asked.stays.snapshot))
-              (λ answer is t. answer_reads old.engine.is_open answer refl t);
+              (λ step t o row e. runs.reads (sym (ap in_transaction t.proceeds.stays) ∙ o) row (sym active_same ∙ e) ∙ ap (λ (k : ℕ). k / 2) (sym m.asked.stays.snapshot))
+              (λ answer is t. answer_reads (in_transaction old.engine) answer refl t);
         },
       )
 
 -- ## Memory was refused
 
 module _ {P : Type 0} {rules : Rules P} (laws : Obeys rules) {cells : Cells} {r0 r1 : Rows} {old last : Actor P} (sound : IsSound rules cells r0 old) (s : Starves rules r0 old r1 last)
-    (first : Between P) (base : List ℕ) (laid : AreLaid base cells r0) (runs : RunsFrom rules first base cells r0 old) (fed : ending_of old.status ≡ Some ends.NoMemory → ⊥) (closed : last.engine.is_open ≡ false) (more : List Attempt) (ended : r1.ended ≡ r0.ended ++ more) where
+    (first : Between P) (base : List ℕ) (laid : AreLaid base cells r0) (runs : RunsFrom rules first base cells r0 old) (fed : ending_of old.status ≡ Some ends.NoMemory → ⊥) (closed : in_transaction last.engine ≡ false) (more : List Attempt) (ended : r1.ended ≡ r0.ended ++ more) where
   abbrev roomy : Rows
   roomy = record r0 { room = s.room }
 
@@ -203,7 +203,7 @@ module _ {P : Type 0} {rules : Rules P} (laws : Obeys rules) {cells : Cells} {r0
     long = refl;
     late = (let reached = sound.tied.settled.reached in let late = sound.tied.late in omega arith);
     up = λ o. (let l : old.engine.snapshot ≤ old.engine.snapshot = omega arith in l);
-    opens = λ shut o. absurd (both old.engine.is_open o shut);
+    opens = λ shut o. absurd (both (in_transaction old.engine) o shut);
     logged = (runs.sees fed).logged;
     still = (runs.sees fed).logged;
     now = (runs.sees fed).logged;
@@ -213,12 +213,12 @@ module _ {P : Type 0} {rules : Rules P} (laws : Obeys rules) {cells : Cells} {r0
     freed = λ f. absurd (both old.engine.freed f sound.tied.settled.unfreed);
   }
 
-  starve_run : (b : Bool) → old.engine.is_open ≡ b → RunAt r1.ended last.thread
+  starve_run : (b : Bool) → in_transaction old.engine ≡ b → RunAt r1.ended last.thread
   starve_run false o =
       let same : r1.ended ≡ r0.ended = ap (λ (x : Rows). x.ended) (s.stays o) in
       subst (λ (l : List Attempt). RunAt l last.thread) (sym same) (subst (RunAt r0.ended) (sym s.same.thread) runs.runs.run)
   starve_run true o =
-      let here : IsRun rules first base (cells.clock / 2) roomy old = record { run = runs.runs.run; inside = runs.runs.inside; between = λ x. absurd (both old.engine.is_open o x) } in
+      let here : IsRun rules first base (cells.clock / 2) roomy old = record { run = runs.runs.run; inside = runs.runs.inside; between = λ x. absurd (both (in_transaction old.engine) o x) } in
       let early = (runs.runs.inside o).4.began in
       let late = still_seen.late in
       (stop_run rules laws first base cells cells roomy r1 old.engine old last Commit still_seen here (cells.clock / 2) (let l : cells.clock / 2 ≤ cells.clock / 2 = omega arith in l)
@@ -227,10 +227,10 @@ module _ {P : Type 0} {rules : Rules P} (laws : Obeys rules) {cells : Cells} {r0
 
   pub starve_runs : RunsFrom rules first base cells r1 last
   starve_runs = record {
-    runs = record { run = starve_run old.engine.is_open refl; inside = λ o. absurd (both last.engine.is_open o closed); between = λ o gave_up starved. absurd (starved (ap ending_of s.status)) };
+    runs = record { run = starve_run (in_transaction old.engine) refl; inside = λ o. absurd (both (in_transaction last.engine) o closed); between = λ o gave_up starved. absurd (starved (ap ending_of s.status)) };
     sees = λ fed. absurd (fed (ap ending_of s.status));
     starved = λ e. closed;
-    reads = λ o. absurd (both last.engine.is_open o closed);
+    reads = λ o. absurd (both (in_transaction last.engine) o closed);
   }
 
 -- ## The words

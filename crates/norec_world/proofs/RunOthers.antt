@@ -3,7 +3,7 @@ use Rattle.std.proofs.Common.{◌≡◌, ◌≢◌, inl, inr, ℕ, ◌+◌, ◌/
 use Rattle.std.proofs.lemmas.List.{append-nil}
 use Rattle.itm_types.specs.Memory.{bytes_of, IsMemory, Agrees, AllFit}
 use Rattle.itm_model.specs.declared.limits.TheConstants.{MAX_DEPTH}
-use Rattle.norec_engine.specs.Core.{Core, opening}
+use Rattle.norec_engine.specs.Core.{Core, opening, in_transaction}
 use Rattle.norec_engine.specs.Proceeds.{backed, Got}
 use Rattle.norec_engine.specs.Rows.{write_at}
 use Rattle.norec_world.specs.declared.attempt.End.TheVariants.{NoMemory}
@@ -178,12 +178,12 @@ module _ {P : Type 0} (rules : Rules P) (laws : Obeys rules) where
         let on = run_still rules (w.cells.clock / 2) (w.cells.clock / 2) (bytes_at w.base w.attempts.ended) (bytes_at w.base (attempts_of w)) (let l : w.cells.clock / 2 ≤ w.cells.clock / 2 = omega arith in l) shown_still
         (Some (first_of p w.arena)) (of_thread a.thread w.attempts.ended) x.runs.run in
         subst (λ (t : ℕ). IsRunOf rules MAX_DEPTH (w.cells.clock / 2) (bytes_at w.base (attempts_of w)) (Some (first_of p w.arena)) (of_thread t (attempts_of w))) s.thread
-        (by_open a.engine.is_open refl x on s.sound.kept.row s.sound.tied)
+        (by_open (in_transaction a.engine) refl x on s.sound.kept.row s.sound.tied)
       where
         Is : ℕ → Type 0
         Is t = IsRunOf rules MAX_DEPTH (w.cells.clock / 2) (bytes_at w.base (attempts_of w)) (Some (first_of p w.arena)) (of_thread t (attempts_of w))
 
-        by_open : (b : Bool) → a.engine.is_open ≡ b → RunsFrom rules (first_of p w.arena) w.base w.cells w.attempts a
+        by_open : (b : Bool) → in_transaction a.engine ≡ b → RunsFrom rules (first_of p w.arena) w.base w.cells w.attempts a
             → IsRunOf rules MAX_DEPTH (w.cells.clock / 2) (bytes_at w.base (attempts_of w)) (Some (first_of p w.arena)) (of_thread a.thread w.attempts.ended)
             × (run_after rules (bytes_at w.base (attempts_of w)) (Some (first_of p w.arena)) (of_thread a.thread w.attempts.ended) ≡ run_after rules (bytes_at w.base w.attempts.ended) (Some (first_of p w.arena)) (of_thread a.thread w.attempts.ended))
             → HasRow b w.attempts a.thread → IsTied w.cells a.engine
@@ -227,7 +227,7 @@ module _ {P : Type 0} (rules : Rules P) (laws : Obeys rules) where
           let here = there_is w.opening place (omega (arith, long)) in
           let own = sound.each place a e in
           let mine : active_of a.thread w.attempts.active ≡ Some row = ap (λ (t : ℕ). active_of t w.attempts.active) own.thread ∙ some in
-          (running.each place here.0 a here.1 e).reads (row_open a.engine.is_open w.attempts a.thread row own.sound.kept.row mine) row mine);
+          (running.each place here.0 a here.1 e).reads (row_open (in_transaction a.engine) w.attempts a.thread row own.sound.kept.row mine) row mine);
       free = λ even.
           (let top : w.cells.clock / 2 ≤ w.cells.clock / 2 = omega arith in
           ap bytes_of (running.laid.free even) ∙ (running.laid.memories.same (w.cells.clock / 2) top ∙ sym (shown_still (w.cells.clock / 2) top)));
@@ -303,7 +303,7 @@ module _ {P : Type 0} (rules : Rules P) (laws : Obeys rules) where
   pub fresh_runs : (cells : Cells) (r : Rows) (a : Actor P) (base : List ℕ) (size patience max_commits : ℕ) → a.engine ≡ opening (length cells.words) (replicate size 0) patience max_commits → r.ended ≡ [] → a.nth ≡ 1 → a.again ≡ false → a.pending ≡ None → a.status ≡ Ready
       → RunsFrom rules (first_of a.player size) base cells r a
   fresh_runs cells r a base size patience max_commits is none first anew nothing ready =
-      let shut : a.engine.is_open ≡ false = ap (λ (c : Core). c.is_open) is in
+      let shut : in_transaction a.engine ≡ false = ap in_transaction is in
       let free : a.engine.holds ≡ false = ap (λ (c : Core). c.holds) is in
       let rows : of_thread a.thread r.ended ≡ [] = ap (of_thread a.thread) none in
       record {

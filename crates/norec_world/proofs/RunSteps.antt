@@ -2,7 +2,7 @@
 use Rattle.std.proofs.Common.{◌≡◌, ℕ, ◌/◌, Bool, true, false, List, ◌++◌, None, Some, refl, sym, ap, subst, ◌∙◌}
 use Rattle.itm_types.specs.declared.step.Step.{Step}
 use Rattle.itm_model.specs.declared.limits.TheConstants.{MAX_DEPTH}
-use Rattle.norec_engine.specs.Core.{Core, handed_to}
+use Rattle.norec_engine.specs.Core.{Core, handed_to, in_transaction, is_inside}
 use Rattle.norec_world.specs.declared.attempt.Attempt.{Attempt}
 use Rattle.norec_world.specs.declared.actor.Actor.{Actor}
 use Rattle.norec_world.specs.declared.actor.Status.{Status}
@@ -46,7 +46,7 @@ module _ {P : Type 0} (rules : Rules P) (laws : Obeys rules) (first : Between P)
   Run n r a = IsRun rules first base n r a
 
   -- the value is handed in
-  pub run_handed : (n : ℕ) (r : Rows) (a : Actor P) (step : Step) (seen : ℕ) (status : Status) → ending_of a.status ≡ None → (handed_to a.engine (Some step) seen).is_open ≡ a.engine.is_open
+  pub run_handed : (n : ℕ) (r : Rows) (a : Actor P) (step : Step) (seen : ℕ) (status : Status) → ending_of a.status ≡ None → in_transaction (handed_to a.engine (Some step) seen) ≡ in_transaction a.engine
       → Run n r a → Run n r (record a { engine = handed_to a.engine (Some step) seen; status = status })
   run_handed n r a step seen status on same x =
       let kept = (handed_is a.engine step seen).keeps in
@@ -63,12 +63,12 @@ module _ {P : Type 0} (rules : Rules P) (laws : Obeys rules) (first : Between P)
       }
 
   -- the open attempt is told where it reads
-  pub run_told : (n : ℕ) (r r' : Rows) (a : Actor P) → HasRow a.engine.is_open r a.thread → IsTold a.thread a.engine.is_open r (a.engine.snapshot / 2) r' → Run n r a
-      → Run n r' a × (a.engine.is_open ≡ true → (row : Attempt) → active_of a.thread r'.active ≡ Some row → row.at ≡ a.engine.snapshot / 2) × (r'.ended ≡ r.ended)
-  run_told n r r' a has told x = by_open a.engine.is_open refl
+  pub run_told : (n : ℕ) (r r' : Rows) (a : Actor P) → HasRow (in_transaction a.engine) r a.thread → IsTold a.thread (in_transaction a.engine) r (a.engine.snapshot / 2) r' → Run n r a
+      → Run n r' a × (in_transaction a.engine ≡ true → (row : Attempt) → active_of a.thread r'.active ≡ Some row → row.at ≡ a.engine.snapshot / 2) × (r'.ended ≡ r.ended)
+  run_told n r r' a has told x = by_open (in_transaction a.engine) refl
     where
-      by_open : (b : Bool) → a.engine.is_open ≡ b → Run n r' a × (a.engine.is_open ≡ true → (row : Attempt) → active_of a.thread r'.active ≡ Some row → row.at ≡ a.engine.snapshot / 2) × (r'.ended ≡ r.ended)
-      by_open false o = (subst (λ (rows : Rows). Run n rows a) (sym (told.stays o)) x, λ y. absurd (both a.engine.is_open y o), ap (λ (rows : Rows). rows.ended) (told.stays o))
+      by_open : (b : Bool) → in_transaction a.engine ≡ b → Run n r' a × (in_transaction a.engine ≡ true → (row : Attempt) → active_of a.thread r'.active ≡ Some row → row.at ≡ a.engine.snapshot / 2) × (r'.ended ≡ r.ended)
+      by_open false o = (subst (λ (rows : Rows). Run n rows a) (sym (told.stays o)) x, λ y. absurd (both (in_transaction a.engine) y o), ap (λ (rows : Rows). rows.ended) (told.stays o))
       by_open true o =
           let moved = told.moves o in
           let ended : r'.ended ≡ r.ended = ap (λ (rows : Rows). rows.ended) moved in
@@ -85,7 +85,7 @@ module _ {P : Type 0} (rules : Rules P) (laws : Obeys rules) (first : Between P)
                 t.5,
                 t.6,
               );
-              between = λ y. absurd (both a.engine.is_open o y);
+              between = λ y. absurd (both (in_transaction a.engine) o y);
             },
             λ y row e. (let same : reading (a.engine.snapshot / 2) t.1 ≡ row = (let z : Some (reading (a.engine.snapshot / 2) t.1) ≡ Some row = sym now ∙ e in cc) in ap (λ (w : Attempt). w.at) (sym same)),
             ended,
@@ -102,19 +102,19 @@ module _ {P : Type 0} {rules : Rules P} (laws : Obeys rules) {cells : Cells} {r 
       subst (λ (c : Cells). HasSeen base cells c r (mid m) new) (sym m.cells_are) (step_seen base cells r old.engine new m.step laid m.sound.tied sees w.waits w.lawful m.resumed.joins)
 
   run_mid : IsRun rules first base (cells.clock / 2) r (record old { engine = mid m; status = status })
-  run_mid = run_handed rules laws first base (cells.clock / 2) r old m.step (found cells m.step) status (ap ending_of m.waiting) (same m).is_open runs.runs
+  run_mid = run_handed rules laws first base (cells.clock / 2) r old m.step (found cells m.step) status (ap ending_of m.waiting) (ap is_inside (same m).blocks) runs.runs
 
   ended_told : (b : Bool) (thread at : ℕ) (r1 rows : Rows) → IsTold thread b r1 at rows → rows.ended ≡ r1.ended
   ended_told true thread at r1 rows t = ap (λ (x : Rows). x.ended) (t.moves refl)
   ended_told false thread at r1 rows t = ap (λ (x : Rows). x.ended) (t.stays refl)
 
-  pub step_runs : (r1 : Rows) (last : Actor P) → IsDone rules old.engine.is_open r r1 (record old { engine = new; status = status }) last call what → Tells rules old.engine.is_open r r1 (record old { engine = new; status = status }) last call what
-      → (rows : Rows) → IsTold last.thread last.engine.is_open r1 (last.engine.snapshot / 2) rows → (more : List Attempt) → rows.ended ≡ r.ended ++ more → AreCounted cells'.clock rows.ended
+  pub step_runs : (r1 : Rows) (last : Actor P) → IsDone rules (in_transaction old.engine) r r1 (record old { engine = new; status = status }) last call what → Tells rules (in_transaction old.engine) r r1 (record old { engine = new; status = status }) last call what
+      → (rows : Rows) → IsTold last.thread (in_transaction last.engine) r1 (last.engine.snapshot / 2) rows → (more : List Attempt) → rows.ended ≡ r.ended ++ more → AreCounted cells'.clock rows.ended
       → AreLaid base cells' rows × RunsFrom rules first base cells' rows last
   step_runs r1 last done tells rows told more ended counted =
       let taken = step_taken m status ready in
-      let same_ended = ended_told last.engine.is_open last.thread (last.engine.snapshot / 2) r1 rows told in
-      let x = runs_recorded rules laws first base old.engine.is_open cells cells' r (mid m) (record old { engine = new; status = status }) call seen run_mid r1 last more (sym same_ended ∙ ended) what taken done tells in
+      let same_ended = ended_told (in_transaction last.engine) last.thread (last.engine.snapshot / 2) r1 rows told in
+      let x = runs_recorded rules laws first base (in_transaction old.engine) cells cells' r (mid m) (record old { engine = new; status = status }) call seen run_mid r1 last more (sym same_ended ∙ ended) what taken done tells in
       let t = run_told rules laws first base (cells'.clock / 2) r1 rows last (now taken done tells).sound.kept.row told x.run in (
         laid_same base cells' r1 rows same_ended (x.laid (subst (AreCounted cells'.clock) same_ended counted)),
         record { runs = t.0; sees = λ fed. subst (λ (l : List Attempt). Sees (words_at base l) cells' last.engine) (sym same_ended) x.sees; starved = λ e. absurd (x.fed e); reads = t.1 },

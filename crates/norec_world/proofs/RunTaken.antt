@@ -7,7 +7,7 @@ use Rattle.itm_types.specs.declared.step.Step.{Step}
 use Rattle.itm_types.specs.Memory.{Agrees, bytes_of}
 use Rattle.itm_model.specs.declared.limits.TheConstants.{MAX_DEPTH}
 use Rattle.itm_model.specs.State.{State}
-use Rattle.norec_engine.specs.Core.{Core}
+use Rattle.norec_engine.specs.Core.{Core, in_transaction}
 use Rattle.norec_engine.specs.Proceeds.{Ends, RepliesTo, backed}
 use Rattle.norec_engine.specs.declared.answer.Answer.{Answer}
 use Rattle.norec_engine.specs.declared.answer.Answer.TheVariants.{Reply, Committed, Conflict, Busy, Full}
@@ -81,7 +81,7 @@ module _ {P : Type 0} (rules : Rules P) (laws : Obeys rules) (first : Between P)
     waits_on : (step : Step) → HasTaken rules was cells cells' r mid a call (Asks step) → HasRun cells' r (record a { status = Waits call step })
     waits_on step t =
         let g = t.proceeds in
-        let opens : a.engine.is_open ≡ mid.is_open = ap (λ (c : Core). c.is_open) g.stays in
+        let opens : in_transaction a.engine ≡ in_transaction mid = ap in_transaction g.stays in
         let half = t.moves.keeps g.unfreed in
         record {
           run = subst (λ (k : ℕ). Run k r (record a { status = Waits call step })) (sym half) (record {
@@ -147,18 +147,18 @@ module _ {P : Type 0} (rules : Rules P) (laws : Obeys rules) (first : Between P)
       runs_on false answer m = to_now (ap (λ (k : ℕ). k / 2) (m.taken.outside refl).0) (shut_runs rules laws first base cells cells' r r1 mid a last call seen run answer m)
 
       -- an answer that leaves the transaction open ends no attempt
-      pub open_ended : (b : Bool) (answer : Answer) → HasAnswered rules b cells cells' r r1 mid a last call answer → a.engine.is_open ≡ true → r1.ended ≡ r.ended
+      pub open_ended : (b : Bool) (answer : Answer) → HasAnswered rules b cells cells' r r1 mid a last call answer → in_transaction a.engine ≡ true → r1.ended ≡ r.ended
       open_ended true (Reply reply) m o = ap (λ (x : Rows). x.ended) m.told.0
-      open_ended false (Reply reply) m o = by_pending last.engine.is_open (ap (λ (c : Core). c.is_open) m.settled.engine ∙ o) a.pending refl m.told.0
+      open_ended false (Reply reply) m o = by_pending (in_transaction last.engine) (ap in_transaction m.settled.engine ∙ o) a.pending refl m.told.0
         where
           by_pending : (b : Bool) → b ≡ true → (p : Option Attempt) → a.pending ≡ p → Opens b r p (last.engine.snapshot / 2) r1 → r1.ended ≡ r.ended
           by_pending true e (Some row) p opens = ap (λ (x : Rows). x.ended) opens
-          by_pending true e None p opens = absurd (let f : false ≡ true = was_open false a.engine.is_open call reply (λ x. sym (m.answered.in_call.begins x) ∙ ap is_some p) m.answered.fits.0 o in cc)
+          by_pending true e None p opens = absurd (let f : false ≡ true = was_open false (in_transaction a.engine) call reply (λ x. sym (m.answered.in_call.begins x) ∙ ap is_some p) m.answered.fits.0 o in cc)
           by_pending false e p q opens = absurd (cc)
-      open_ended b (Committed at wrote) m o = absurd (both a.engine.is_open o m.answered.fits.1)
-      open_ended b (Conflict clock word) m o = absurd (both a.engine.is_open o m.answered.fits.1)
-      open_ended b (Busy clock) m o = absurd (both a.engine.is_open o m.answered.fits.1)
-      open_ended b (Full at) m o = absurd (both a.engine.is_open o m.answered.fits.1)
+      open_ended b (Committed at wrote) m o = absurd (both (in_transaction a.engine) o m.answered.fits.1)
+      open_ended b (Conflict clock word) m o = absurd (both (in_transaction a.engine) o m.answered.fits.1)
+      open_ended b (Busy clock) m o = absurd (both (in_transaction a.engine) o m.answered.fits.1)
+      open_ended b (Full at) m o = absurd (both (in_transaction a.engine) o m.answered.fits.1)
 
       sees_on : (answer : Answer) → HasAnswered rules was cells cells' r r1 mid a last call answer → Sees (words_at base r1.ended) cells' last.engine
       sees_on answer m =

@@ -4,7 +4,7 @@ use Rattle.itm_types.specs.declared.call.Call.{Call}
 use Rattle.itm_types.specs.declared.step.Step.{Step}
 use Rattle.itm_types.specs.declared.step.Step.TheVariants.{Load, Store, Cas}
 use Rattle.itm_types.specs.Memory.{Agrees, IsMemory, bytes_of}
-use Rattle.norec_engine.specs.Core.{Core, came, handed_to}
+use Rattle.norec_engine.specs.Core.{Core, came, handed_to, in_transaction, is_inside}
 use Rattle.norec_engine.specs.Proceeds.{IsLawful, Joins, StaysOn, backed}
 use Rattle.norec_engine.proofs.KeptFields.{handed_is}
 use Rattle.norec_world.specs.Cells.{Cells, cells_after, found}
@@ -25,12 +25,12 @@ pub record HasSeen (base : List ℕ) (cells cells' : Cells) (r : Rows) (mid new 
   pub words : mid.words ≡ length cells.words
   pub long : length cells'.words ≡ length cells.words
   pub late : mid.snapshot / 2 ≤ cells.clock / 2
-  pub up : mid.is_open ≡ true → mid.snapshot ≤ new.snapshot
-  pub opens : mid.is_open ≡ false → new.is_open ≡ true → cells.clock / 2 ≤ new.snapshot / 2
-  pub logged : mid.is_open ≡ true → Agrees (words_at base r.ended (mid.snapshot / 2)) mid.log
-  pub still : mid.is_open ≡ true → Agrees (words_at base r.ended (new.snapshot / 2)) mid.log
-  pub now : new.is_open ≡ true → Agrees (words_at base r.ended (new.snapshot / 2)) new.log
-  pub fewer : new.is_open ≡ true → (m : List ℕ) → Agrees m new.log → Agrees m mid.log
+  pub up : in_transaction mid ≡ true → mid.snapshot ≤ new.snapshot
+  pub opens : in_transaction mid ≡ false → in_transaction new ≡ true → cells.clock / 2 ≤ new.snapshot / 2
+  pub logged : in_transaction mid ≡ true → Agrees (words_at base r.ended (mid.snapshot / 2)) mid.log
+  pub still : in_transaction mid ≡ true → Agrees (words_at base r.ended (new.snapshot / 2)) mid.log
+  pub now : in_transaction new ≡ true → Agrees (words_at base r.ended (new.snapshot / 2)) new.log
+  pub fewer : in_transaction new ≡ true → (m : List ℕ) → Agrees m new.log → Agrees m mid.log
   pub loaded : mid.freed ≡ false → Loaded (words_at base r.ended) cells' mid
   pub even : mid.freed ≡ false → cells'.clock % 2 ≡ 0 → cells' ≡ cells  -- an even clock that was not freed was there before
   pub freed : mid.freed ≡ true → cells'.words ≡ backed mid (words_at base r.ended (cells.clock / 2))
@@ -53,7 +53,7 @@ call_seen base cells r e new call again laid tied free sees stays = record {
   long = refl;
   late = (let reached = tied.settled.reached in let late = tied.late in omega arith);
   up = λ o. (let same = stays.snapshot in omega arith);
-  opens = λ shut o. absurd (both e.is_open (stays.opens o) shut);
+  opens = λ shut o. absurd (both (in_transaction e) (stays.opens o) shut);
   logged = sees.logged;
   still = λ o. subst (λ (k : ℕ). Agrees (words_at base r.ended (k / 2)) e.log) (sym stays.snapshot) (sees.logged o);
   now = λ o.
@@ -103,18 +103,18 @@ step_seen base cells r e new step laid tied sees waits lawful joins =
       words = k.keeps.words ∙ tied.words;
       long = step_long cells e tied step;
       late = (let same = k.snapshot in let reached = tied.settled.reached in let late = tied.late in omega arith);
-      up = λ o. elim (joins.snapshot (sym k.keeps.is_open ∙ o)) [
+      up = λ o. elim (joins.snapshot (sym (ap is_inside k.keeps.blocks) ∙ o)) [
         | inl is ↦ (let same = k.snapshot in omega arith)
         | inr moved ↦ (let same = k.snapshot in let reached = tied.settled.reached in let clock = moved.0.same in let to = moved.2 in omega arith)
       ];
       opens = λ shut o.
-          (let b = joins.begins (sym k.keeps.is_open ∙ shut) o in
+          (let b = joins.begins (sym (ap is_inside k.keeps.blocks) ∙ shut) o in
           let is : step ≡ Load 0 = (let x : Some step ≡ Some (Load 0) = sym waits ∙ b.0 in cc) in
           let clock : found cells step ≡ cells.clock = ap (found cells) is in
           let to = b.1 in
           omega arith);
-      logged = λ o. subst (λ (j : ℕ). Agrees (memory (j / 2)) mid.log) (sym k.snapshot) (subst (Agrees (memory (e.snapshot / 2))) (sym k.log) (sees.logged (sym k.keeps.is_open ∙ o)));
-      still = λ o. subst (Agrees (memory (new.snapshot / 2))) (sym k.log) (still_logged memory cells e tied laid.free fits sees step waits lawful new joins (sym k.keeps.is_open ∙ o));
+      logged = λ o. subst (λ (j : ℕ). Agrees (memory (j / 2)) mid.log) (sym k.snapshot) (subst (Agrees (memory (e.snapshot / 2))) (sym k.log) (sees.logged (sym (ap is_inside k.keeps.blocks) ∙ o)));
+      still = λ o. subst (Agrees (memory (new.snapshot / 2))) (sym k.log) (still_logged memory cells e tied laid.free fits sees step waits lawful new joins (sym (ap is_inside k.keeps.blocks) ∙ o));
       now = log_now memory cells e tied laid.free fits sees step waits lawful new joins;
       fewer = λ o m a. subst (Agrees m) (sym k.log) (less_logged memory cells e tied laid.free fits sees step waits lawful new joins o m a);
       loaded = λ f. loaded_handed memory cells e tied laid.free fits sees.loaded step lawful (sym unfreed ∙ f);

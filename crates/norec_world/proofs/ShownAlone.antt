@@ -11,6 +11,7 @@ use Rattle.itm_model.specs.declared.limits.TheConstants.{MAX_DEPTH}
 use Rattle.itm_model.specs.State.{State}
 use Rattle.itm_model.specs.Machine.{opened, is_open, after}
 use Rattle.itm_model.specs.Runs.{answers, answers_within}
+use Rattle.norec_engine.specs.Core.{in_transaction}
 use Rattle.norec_world.specs.declared.attempt.Entry.{Entry}
 use Rattle.norec_world.specs.declared.attempt.Attempt.{Attempt}
 use Rattle.norec_world.specs.declared.attempt.Outcome.{Outcome}
@@ -210,7 +211,7 @@ module _ {P : Type 0} (rules : Rules P) (laws : Obeys rules) (w : World P) (kept
 
     stands_so : w.attempts.ended ≡ sole.past → active_of a.thread w.attempts.active ≡ Some row → a.player ≡ player_then rules.answered begun row.calls
     stands_so ended some =
-        let t = (opaque.players 0 p a player_here here).inside (row_open a.engine.is_open w.attempts a.thread row (kept.actors.each 0 a here).sound.kept.row some) in
+        let t = (opaque.players 0 p a player_here here).inside (row_open (in_transaction a.engine) w.attempts a.thread row (kept.actors.each 0 a here).sound.kept.row some) in
         stands_at t.0 t.1 t.4 t.2 ended (same_some t.1 row (sym t.3 ∙ some))
 
   -- ## By how it stands
@@ -228,7 +229,7 @@ module _ {P : Type 0} (rules : Rules P) (laws : Obeys rules) (w : World P) (kept
   -- between two blocks its player makes no more calls
   rests : (x : Arrived []) → attempts_of w ≡ sole.past ++ [] → w.attempts.ended ≡ sole.past → ending_of a.status ≡ Some Finished → active_of a.thread w.attempts.active ≡ None → rules.next_call a.player ≡ None → w.cells.clock % 2 ≡ 0 → All Finished
   rests x is ended finished shut none z =
-      let t = (opaque.players 0 p a player_here here).between (closed a.engine.is_open (kept.actors.each 0 a here).sound.kept.row) (λ e. absurd (let both = sym finished ∙ e in cc)) (λ e. absurd (let both = sym finished ∙ e in cc)) in
+      let t = (opaque.players 0 p a player_here here).between (closed (in_transaction a.engine) (kept.actors.each 0 a here).sound.kept.row) (λ e. absurd (let both = sym finished ∙ e in cc)) (λ e. absurd (let both = sym finished ∙ e in cc)) in
       stops [] x Finished (no_block rules laws MAX_DEPTH w.max_commits 0 x.before (none_comes t.0 x t.2 t.1 ended none)) is z
     where
       closed : (b : Bool) → HasRow b w.attempts a.thread → b ≡ false

@@ -8,7 +8,7 @@ use Rattle.itm_types.specs.declared.call.Reply.{Reply}
 use Rattle.itm_model.specs.State.{State}
 use Rattle.itm_model.specs.Machine.{outside, opened, after, reply, refusal, is_open}
 use Rattle.itm_model.specs.Runs.{turn, answers, answers_within, state_after}
-use Rattle.script_vm.specs.Depth.{is_begin}
+use Rattle.itm_types.specs.Calls.{is_begin}
 use Rattle.norec_world.specs.declared.attempt.Entry.{Entry}
 use Rattle.norec_world.specs.Attempts.{pair_of}
 use Rattle.norec_world.specs.Opacity.{Beginning, begin_code, begin_within, begin_of}

@@ -5,6 +5,7 @@ use Rattle.itm_types.specs.declared.call.Call.{Call}
 use Rattle.itm_types.specs.declared.call.Reply.{Reply as Replied}
 use Rattle.itm_types.specs.declared.call.Reply.TheVariants.{Done}
 use Rattle.norec_engine.specs.declared.answer.Answer.TheVariants.{Reply, Committed}
+use Rattle.norec_engine.specs.Core.{in_transaction}
 use Rattle.norec_world.specs.declared.attempt.Entry.{Entry}
 use Rattle.norec_world.specs.declared.attempt.Attempt.{Attempt}
 use Rattle.norec_world.specs.declared.attempt.End.{End}
@@ -22,10 +23,10 @@ module _ {P : Type 0} (rules : Rules P) (laws : Obeys rules)
   -- a reply
   pub after_reply : (was : Bool) (reply : Replied) → IsAnswered rules was r a call (Reply reply)
       → (player : P) → player ≡ rules.answered a.player reply → (spare : Vec Entry Global) → spare.items ≡ [] → (pending : Option Attempt) → pending ≡ None → (again : Bool)
-      → HasRow a.engine.is_open r' a.thread
+      → HasRow (in_transaction a.engine) r' a.thread
       → IsSettledBy rules was r' a (record a { player = player; spare = spare; pending = pending; again = again })
   after_reply was reply d player is spare empty pending nothing again row =
-      let now = a.engine.is_open in
+      let now = in_transaction a.engine in
       let k = d.kept in
       let played : Played rules laws was now a.player player =
       subst (Played rules laws was now a.player) (sym is)
@@ -55,7 +56,7 @@ module _ {P : Type 0} (rules : Rules P) (laws : Obeys rules)
       let done = closes rules laws a.player call Done d.in_call.asks d.nested d.fits.2 refl in
       let nested : IsNested rules false player = subst (IsNested rules false) (sym is) done.0 in
       let fewer : rules.calls_left player < rules.calls_left (rules.restarted a.player) = subst (λ (p : P). rules.calls_left p < rules.calls_left (rules.restarted a.player)) (sym is) done.1 in
-      let closed : false ≡ a.engine.is_open = sym d.fits.1 in
+      let closed : false ≡ in_transaction a.engine = sym d.fits.1 in
       let HasIt : Bool → Type 0 = λ b. HasRow b r' a.thread in
       let NestedIf : Bool → Type 0 = λ b. IsNested rules b player in
       let FallsTo : Bool → Type 0 = λ b. Falls rules true b a new in
@@ -82,7 +83,7 @@ module _ {P : Type 0} (rules : Rules P) (laws : Obeys rules)
   -- a try came to nothing, and the player is where it began the block
   pub after_try : (was : Bool) → IsKept was r a → IsNested rules was a.player → a.engine.waits ≡ None → a.engine.holds ≡ false → a.status ≡ Ready
       → (pending : Option Attempt) → pending ≡ None → (player : P) → rules.depth player ≡ 0 → rules.calls_left player ≡ whole rules was a.player
-      → a.engine.is_open ≡ false → active_of a.thread r'.active ≡ None
+      → in_transaction a.engine ≡ false → active_of a.thread r'.active ≡ None
       → IsSettledBy rules was r' a (retried (record a { player = player; pending = pending }))
   after_try was k nested idle free ready pending nothing player outside same closed row = tries (nat_lt a.retries a.nth) refl
     where
@@ -121,7 +122,7 @@ module _ {P : Type 0} (rules : Rules P) (laws : Obeys rules)
           }
 
   -- no more tries: the actor has ended
-  pub after_end : (was : Bool) (end : End) → IsKept was r a → a.engine.is_open ≡ false → active_of a.thread r'.active ≡ None
+  pub after_end : (was : Bool) (end : End) → IsKept was r a → in_transaction a.engine ≡ false → active_of a.thread r'.active ≡ None
       → IsSettledBy rules was r' a (record a { status = Ended end })
   after_end was end k closed row =
       let HasIt : Bool → Type 0 = λ b. HasRow b r' a.thread in

@@ -1,7 +1,7 @@
 -- A call of the player went to the engine: what the engine gave may be recorded.
 use Rattle.std.proofs.Common.{◌≡◌, inr, ℕ, ◌+◌, ◌-◌, ◌*◌, ◌<◌, ◌≤◌, None, refl, sym, subst, ◌∙◌, arith}
 use Rattle.itm_types.specs.declared.call.Call.{Call}
-use Rattle.norec_engine.specs.Core.{Core, came}
+use Rattle.norec_engine.specs.Core.{Core, came, in_transaction}
 use Rattle.norec_engine.specs.declared.answer.Next.{Next}
 use Rattle.norec_world.specs.declared.actor.Actor.{Actor}
 use Rattle.norec_world.specs.declared.actor.Status.{Status}
@@ -29,9 +29,9 @@ rests {rules} {r} {a} sound ready = subst (StatusIs rules r a) ready sound.statu
 module _ {P : Type 0} {rules : Rules P} {cells : Cells} {r0 r : Rows} {old a : Actor P} {call : Call} {what : Next} (m : IsCalling rules cells r0 r old a call what) where
   -- the engine with the call
   abbrev pub mid : Core
-  mid = came old.engine call (begins_again old.engine.is_open old.again call)
+  mid = came old.engine call (begins_again (in_transaction old.engine) old.again call)
 
-  pub call_taken : HasTaken rules old.engine.is_open cells cells r (came old.engine call (begins_again old.engine.is_open old.again call)) a call what
+  pub call_taken : HasTaken rules (in_transaction old.engine) cells cells r (came old.engine call (begins_again (in_transaction old.engine) old.again call)) a call what
   call_taken =
       let ready = rests m.sound m.ready in
       record {
@@ -39,10 +39,10 @@ module _ {P : Type 0} {rules : Rules P} {cells : Cells} {r0 r : Rows} {old a : A
         proceeds = m.asks.called.proceeds;
         doing = refl;
         words = m.sound.tied.words;
-        tied = tied cells mid a.engine what (comes cells old.engine a.engine m.sound.tied ready.free m.asked.settled call (begins_again old.engine.is_open old.again call) m.asked.stays) m.asks.called.proceeds;
+        tied = tied cells mid a.engine what (comes cells old.engine a.engine m.sound.tied ready.free m.asked.settled call (begins_again (in_transaction old.engine) old.again call) m.asked.stays) m.asks.called.proceeds;
         within = m.asked.within;
         kept = m.asked.kept;
-        nested = subst (IsNested rules old.engine.is_open) (sym m.asked.same.player) ready.nested;
+        nested = subst (IsNested rules (in_transaction old.engine)) (sym m.asked.same.player) ready.nested;
         in_call = m.asked.in_call;
         ready = m.asked.same.status ∙ m.ready;
         moves = record { frees = λ f. absurd (cc); keeps = λ f. refl };
@@ -50,19 +50,19 @@ module _ {P : Type 0} {rules : Rules P} {cells : Cells} {r0 r : Rows} {old a : A
         outside = λ o. (refl, inr m.asked.at_once);
       }
 
-  module _ {r1 : Rows} {last : Actor P} (s : IsSettledBy rules old.engine.is_open r1 a last) where
+  module _ {r1 : Rows} {last : Actor P} (s : IsSettledBy rules (in_transaction old.engine) r1 a last) where
     -- what comes of an answer is as if the actor had not changed before
-    pub call_falls : last.status ≡ Ready → Falls rules old.engine.is_open last.engine.is_open old last
+    pub call_falls : last.status ≡ Ready → Falls rules (in_transaction old.engine) (in_transaction last.engine) old last
     call_falls e =
         let f = s.falls e in
         record {
-          whole_falls = subst (λ (p : P). whole rules last.engine.is_open last.player ≤ whole rules old.engine.is_open p) m.asked.same.player f.whole_falls;
-          rank_falls = λ n b. subst (λ (x : ℕ). rank rules n last.engine.is_open last < x) (same_rank n)
-              (f.rank_falls n (subst (λ (p : P). whole rules old.engine.is_open p ≤ n) (sym m.asked.same.player) b));
+          whole_falls = subst (λ (p : P). whole rules (in_transaction last.engine) last.player ≤ whole rules (in_transaction old.engine) p) m.asked.same.player f.whole_falls;
+          rank_falls = λ n b. subst (λ (x : ℕ). rank rules n (in_transaction last.engine) last < x) (same_rank n)
+              (f.rank_falls n (subst (λ (p : P). whole rules (in_transaction old.engine) p ≤ n) (sym m.asked.same.player) b));
         }
       where
-        same_rank : (n : ℕ) → rank rules n old.engine.is_open a ≡ rank rules n old.engine.is_open old
-        same_rank n = λ i. (whole rules old.engine.is_open (m.asked.same.player i) * (m.asked.same.retries i + 1) + (m.asked.same.retries i + 1 - m.asked.same.nth i)) * (n + 1) + rules.calls_left (m.asked.same.player i)
+        same_rank : (n : ℕ) → rank rules n (in_transaction old.engine) a ≡ rank rules n (in_transaction old.engine) old
+        same_rank n = λ i. (whole rules (in_transaction old.engine) (m.asked.same.player i) * (m.asked.same.retries i + 1) + (m.asked.same.retries i + 1 - m.asked.same.nth i)) * (n + 1) + rules.calls_left (m.asked.same.player i)
 
     pub call_less : ending_of last.status ≡ None → IsNoMore rules old last
     call_less e = of_status last.status refl s.rests e

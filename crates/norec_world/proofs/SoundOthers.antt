@@ -2,6 +2,7 @@
 use Rattle.std.proofs.Common.{◌≡◌, ◌≢◌, ◌⊎◌, inl, inr, ℕ, zero, suc, ◌+◌, ◌%◌, ◌<◌, ◌≤◌, Bool, true, false, List, [], ◌∷◌, ◌++◌, length, length-append, Option, None, Some, slice_get, slice_set, refl, sym, ap, subst, ◌∙◌, arith, eq-eqb, eqb-true, ◌==◌, length-set, if◌then◌else◌}
 use Rattle.itm_types.specs.Memory.{AllFit}
 use Rattle.itm_types.proofs.Words.{slice_get-set_same, slice_get-set_other}
+use Rattle.norec_engine.specs.Core.{in_transaction}
 use Rattle.norec_world.specs.declared.attempt.Attempt.{Attempt}
 use Rattle.norec_world.specs.declared.actor.Actor.{Actor}
 use Rattle.norec_world.specs.declared.actor.Status.{Status}
@@ -70,7 +71,7 @@ module _ {P : Type 0} (rules : Rules P) where
       let k = s.kept in
       record {
         tied = tied_still cells cells' b s.tied fit late long held;
-        kept = record { row = has_row_same b.engine.is_open r r' b.thread same k.row; empty = k.empty; tried = k.tried; tries = k.tries; retries = k.retries };
+        kept = record { row = has_row_same (in_transaction b.engine) r r' b.thread same k.row; empty = k.empty; tried = k.tried; tries = k.tries; retries = k.retries };
         status = status_still r r' b same room b.status s.status;
       }
 
@@ -369,4 +370,4 @@ are_open {P} rules cells r actors s from = record { by_actor = from; unfinished 
     each t row e =
         let here = there_is actors t (s.listed t row e) in
         let a = s.each t here.0 here.1 in
-        of_row here.0.engine.is_open here.0 t row a.thread e a.sound.kept.row
+        of_row (in_transaction here.0.engine) here.0 t row a.thread e a.sound.kept.row

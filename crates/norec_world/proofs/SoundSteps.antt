@@ -4,7 +4,7 @@ use Rattle.itm_types.specs.declared.call.Call.{Call}
 use Rattle.itm_types.specs.declared.step.Step.{Step}
 use Rattle.itm_types.specs.declared.step.Step.TheVariants.{Load, Store, Cas}
 use Rattle.itm_types.specs.Memory.{AllFit}
-use Rattle.norec_engine.specs.Core.{Core, handed_to}
+use Rattle.norec_engine.specs.Core.{Core, handed_to, in_transaction, is_inside}
 use Rattle.norec_engine.specs.Keeps.{Keeps}
 use Rattle.norec_engine.specs.Moves.{IsResumed}
 use Rattle.norec_engine.specs.Proceeds.{AsksFor, IsLawful, IsWithin, Proceeds, most}
@@ -49,12 +49,12 @@ moves_of cells e (Cas cell from to) t l = record {
 }
 
 -- outside a transaction a step loads the clock
-loads_clock : (cells : Cells) (e : Core) (step : Step) → IsTied cells e → IsLawful e step → e.is_open ≡ false
+loads_clock : (cells : Cells) (e : Core) (step : Step) → IsTied cells e → IsLawful e step → in_transaction e ≡ false
     → ((cells_after cells step).clock ≡ cells.clock) × ((handed_to e (Some step) (found cells step)).clock ≡ (cells_after cells step).clock)
 loads_clock cells e (Load zero) t l outside = (refl, refl)
-loads_clock cells e (Load (suc word)) t l outside = absurd (both e.is_open l.1.0 outside)
-loads_clock cells e (Store cell value) t l outside = absurd (both e.is_open (t.settled.holder l.1).0 outside)
-loads_clock cells e (Cas cell from to) t l outside = absurd (both e.is_open l.2 outside)
+loads_clock cells e (Load (suc word)) t l outside = absurd (both (in_transaction e) l.1.0 outside)
+loads_clock cells e (Store cell value) t l outside = absurd (both (in_transaction e) (t.settled.holder l.1).0 outside)
+loads_clock cells e (Cas cell from to) t l outside = absurd (both (in_transaction e) l.2 outside)
 
 -- ## The step
 
@@ -90,12 +90,12 @@ module _ {P : Type 0} {rules : Rules P} {cells : Cells} {r : Rows} {old : Actor 
   pub moves : ClockMoves cells cells' (handed_to old.engine (Some m.step) (found cells m.step))
   moves = subst (λ (c : Cells). ClockMoves cells c mid) (sym m.cells_are) (moves_of cells old.engine m.step m.sound.tied waits.lawful)
 
-  pub step_taken : (status : Status) → status ≡ Ready → HasTaken rules old.engine.is_open cells cells' r (handed_to old.engine (Some m.step) (found cells m.step)) (record old { engine = new; status = status }) call what
+  pub step_taken : (status : Status) → status ≡ Ready → HasTaken rules (in_transaction old.engine) cells cells' r (handed_to old.engine (Some m.step) (found cells m.step)) (record old { engine = new; status = status }) call what
   step_taken status ready =
       let k = m.sound.kept in
       let i = waits.in_call in
       record {
-        was_is = same.is_open;
+        was_is = ap is_inside same.blocks;
         proceeds = went;
         doing = same.doing ∙ waits.doing;
         words = is_mid.words;
@@ -133,7 +133,7 @@ module _ {P : Type 0} {rules : Rules P} {cells : Cells} {r : Rows} {old : Actor 
   step_goes_on =
       let asks : AsksFor (mid m) step new = went m in
       let kept = same m in
-      let opens : old.engine.is_open ≡ new.is_open = sym (ap (λ (c : Core). c.is_open) asks.stays ∙ kept.is_open) in
+      let opens : in_transaction old.engine ≡ in_transaction new = sym (ap in_transaction asks.stays ∙ ap is_inside kept.blocks) in
       let spent : new.spent ≡ old.engine.spent + 1 = ap (λ (c : Core). c.spent) asks.stays ∙ ap (λ (n : ℕ). n + 1) (handed_is old.engine m.step (found cells m.step)).spent in
       let most_is : most new new.doing ≡ most old.engine old.engine.doing = ap (λ (c : Core). most c c.doing) asks.stays ∙ (ap (most (mid m)) kept.doing ∙ most_same old.engine (mid m) kept old.engine.doing) in
       let waited : new.waits ≡ Some step = ap (λ (c : Core). c.waits) asks.stays in
@@ -141,8 +141,8 @@ module _ {P : Type 0} {rules : Rules P} {cells : Cells} {r : Rows} {old : Actor 
       record {
         steps = (let fewer : steps_left new < steps_left old.engine = omega arith in fewer);
         less = record {
-          whole_falls = (let e : whole rules old.engine.is_open old.player ≡ whole rules new.is_open old.player = ap (λ (b : Bool). whole rules b old.player) opens in omega arith);
-          rank_falls = λ n b. (let e : rank rules n old.engine.is_open old ≡ rank rules n new.is_open old = ap (λ (b : Bool). rank rules n b old) opens in omega arith);
+          whole_falls = (let e : whole rules (in_transaction old.engine) old.player ≡ whole rules (in_transaction new) old.player = ap (λ (b : Bool). whole rules b old.player) opens in omega arith);
+          rank_falls = λ n b. (let e : rank rules n (in_transaction old.engine) old ≡ rank rules n (in_transaction new) old = ap (λ (b : Bool). rank rules n b old) opens in omega arith);
         };
       }
 
@@ -162,7 +162,7 @@ stepping {old} {step} {what} {new} sound waiting seen_is cells_are fit resumed w
 -- ## What is left to do
 
 module _ {P : Type 0} {rules : Rules P} {cells : Cells} {r : Rows} {old : Actor P} {call : Call} {what : Next} {cells' : Cells} {new : Core} (m : IsStepping rules cells r old call what cells' new) (status : Status) (ready : status ≡ Ready)
-    (r1 : Rows) (last : Actor P) (done : IsDone rules old.engine.is_open r r1 (record old { engine = new; status = status }) last call what) where
+    (r1 : Rows) (last : Actor P) (done : IsDone rules (in_transaction old.engine) r r1 (record old { engine = new; status = status }) last call what) where
   -- an actor that has settled does not wait
   rests_not : {A : Type 0} (st : Status) → RestsAs rules st last → is_waiting st ≡ true → A
   rests_not Ready rest e = absurd (cc)
@@ -172,11 +172,11 @@ module _ {P : Type 0} {rules : Rules P} {cells : Cells} {r : Rows} {old : Actor 
   pub step_on : is_waiting last.status ≡ true → GoesOn rules old last
   step_on = by_what what m done
     where
-      by_what : (x : Next) → IsStepping rules cells r old call x cells' new → IsDone rules old.engine.is_open r r1 (record old { engine = new; status = status }) last call x → is_waiting last.status ≡ true → GoesOn rules old last
+      by_what : (x : Next) → IsStepping rules cells r old call x cells' new → IsDone rules (in_transaction old.engine) r r1 (record old { engine = new; status = status }) last call x → is_waiting last.status ≡ true → GoesOn rules old last
       by_what (Asks step) m done w = subst (GoesOn rules old) (sym done.0) (step_goes_on m)
       by_what (Answers answer) m done w = rests_not last.status done.rests w
 
-  pub step_falls : is_ready last.status ≡ true → Falls rules old.engine.is_open last.engine.is_open old last
+  pub step_falls : is_ready last.status ≡ true → Falls rules (in_transaction old.engine) (in_transaction last.engine) old last
   step_falls = by_what what done
     where
       ready_of : (st : Status) → is_ready st ≡ true → st ≡ Ready
@@ -184,6 +184,6 @@ module _ {P : Type 0} {rules : Rules P} {cells : Cells} {r : Rows} {old : Actor 
       ready_of (Waits c step) e = absurd (cc)
       ready_of (Ended end) e = absurd (cc)
 
-      by_what : (x : Next) → IsDone rules old.engine.is_open r r1 (record old { engine = new; status = status }) last call x → is_ready last.status ≡ true → Falls rules old.engine.is_open last.engine.is_open old last
+      by_what : (x : Next) → IsDone rules (in_transaction old.engine) r r1 (record old { engine = new; status = status }) last call x → is_ready last.status ≡ true → Falls rules (in_transaction old.engine) (in_transaction last.engine) old last
       by_what (Asks step) done e = absurd (let z = sym (ap (λ (y : Actor P). is_ready y.status) done.0) ∙ e in cc)
       by_what (Answers answer) done e = (let f = done.falls (ready_of last.status e) in record { whole_falls = f.whole_falls; rank_falls = f.rank_falls })

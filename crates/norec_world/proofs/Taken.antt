@@ -2,7 +2,7 @@
 use Rattle.std.proofs.Common.{◌≡◌, ◌⊎◌, ◌+◌, ◌*◌, ◌/◌, Bool, true, false, [], refl, ap, subst, ◌∙◌, sym, length, Some}
 use Rattle.itm_types.specs.declared.call.Call.{Call}
 use Rattle.itm_types.specs.declared.step.Step.{Step}
-use Rattle.norec_engine.specs.Core.{Core}
+use Rattle.norec_engine.specs.Core.{Core, in_transaction}
 use Rattle.norec_engine.specs.Proceeds.{Ends, IsAtOnce, IsWithin, Proceeds}
 use Rattle.norec_engine.specs.declared.answer.Answer.{Answer}
 use Rattle.norec_engine.specs.declared.answer.Next.{Next}
@@ -26,7 +26,7 @@ pub record ClockMoves (cells cells' : Cells) (mid : Core) : Type 0 where
 module _ {P : Type 0} (rules : Rules P) where
   -- over these cells and then those, the engine mid, in which the value or the call is, gave this for the call and became the actor's; it was open before or not
   pub record HasTaken (was : Bool) (cells cells' : Cells) (r : Rows) (mid : Core) (a : Actor P) (call : Call) (what : Next) : Type 0 where
-    pub was_is : mid.is_open ≡ was
+    pub was_is : in_transaction mid ≡ was
     pub proceeds : Proceeds mid what a.engine
     pub doing : mid.doing ≡ Some call
     pub words : mid.words ≡ length cells'.words
@@ -64,7 +64,7 @@ module _ {P : Type 0} {rules : Rules P} {was : Bool} {cells cells' : Cells} {r :
         kept = m.kept;
         nested = m.nested;
         in_call = m.in_call;
-        fits = subst (λ (b : Bool). AnswerFits b a.engine.is_open call answer) m.was_is (answer_fits mid a.engine call answer m.doing m.proceeds);
+        fits = subst (λ (b : Bool). AnswerFits b (in_transaction a.engine) call answer) m.was_is (answer_fits mid a.engine call answer m.doing m.proceeds);
         idle = rest.idle;
         free = rest.holds;
         status = m.ready;
@@ -81,7 +81,7 @@ module _ {P : Type 0} {rules : Rules P} {was : Bool} {cells cells' : Cells} {r :
   pub waits_now : {step : Step} → HasTaken rules was cells cells' r mid a call (Asks step) → IsNow rules cells' r a (record a { status = Waits call step })
   waits_now {step} m =
       let g = m.proceeds in
-      let opens : was ≡ a.engine.is_open = sym m.was_is ∙ sym (ap (λ (c : Core). c.is_open) g.stays) in
+      let opens : was ≡ in_transaction a.engine = sym m.was_is ∙ sym (ap in_transaction g.stays) in
       let k = m.kept in
       let i = m.in_call in
       record {

@@ -5,7 +5,7 @@ use Rattle.itm_types.specs.declared.step.Step.TheVariants.{Load, Store, Cas}
 use Rattle.itm_types.specs.declared.call.Call.{Call}
 use Rattle.itm_types.specs.declared.call.Call.TheVariants.{Commit}
 use Rattle.itm_types.specs.Memory.{AllFit}
-use Rattle.norec_engine.specs.Core.{Core, came, handed_to, word_loaded}
+use Rattle.norec_engine.specs.Core.{Core, came, handed_to, word_loaded, in_transaction}
 use Rattle.norec_engine.specs.Core as core
 use Rattle.norec_engine.specs.Proceeds.{IsLawful, IsSettled, Proceeds, StaysOn, AsksFor, Replies, RepliesTo, Ends, FitsStep}
 use Rattle.norec_engine.specs.declared.answer.Next.{Next}
@@ -249,15 +249,15 @@ holds_handed cells e (Cas cell from to) t l = record {
 -- ## What the answer says
 
 module _ (mid new : Core) where
-  pub answer_fits : (call : Call) (a : Answer) → mid.doing ≡ Some call → Ends mid a new → AnswerFits mid.is_open new.is_open call a
+  pub answer_fits : (call : Call) (a : Answer) → mid.doing ≡ Some call → Ends mid a new → AnswerFits (in_transaction mid) (in_transaction new) call a
   answer_fits call (Reply r) doing g =
       let Told : Option Call → Type 0 = λ o. RepliesTo mid o r new in
       let told : Replies mid call r new = subst Told doing g in
-      (reply_fits mid.is_open new.is_open call r told.opens, told.still)
+      (reply_fits (in_transaction mid) (in_transaction new) call r told.opens, told.still)
   answer_fits call (Committed at wrote) doing g =
       let same : Some call ≡ Some Commit = sym doing ∙ g.doing in
       let is : call ≡ Commit = cc in
-      (g.is_open, ap (λ (c : Core). c.is_open) g.stays, is)
-  answer_fits call (Conflict clock word) doing g = (g.is_open, ap (λ (c : Core). c.is_open) g.stays)
-  answer_fits call (Busy clock) doing g = (g.closed, ap (λ (c : Core). c.is_open) g.stays)
-  answer_fits call (Full at) doing g = (g.is_open, ap (λ (c : Core). c.is_open) g.stays)
+      (g.is_open, ap in_transaction g.stays, is)
+  answer_fits call (Conflict clock word) doing g = (g.is_open, ap in_transaction g.stays)
+  answer_fits call (Busy clock) doing g = (g.closed, ap in_transaction g.stays)
+  answer_fits call (Full at) doing g = (g.is_open, ap in_transaction g.stays)

@@ -4,7 +4,7 @@ use Rattle.std.proofs.lemmas.List.{append-nil}
 use Rattle.itm_types.specs.declared.call.Call.{Call}
 use Rattle.itm_types.specs.declared.call.Call.TheVariants.{Begin, Commit, Read, Write}
 use Rattle.itm_types.specs.declared.step.Step.{Step}
-use Rattle.norec_engine.specs.Core.{Core}
+use Rattle.norec_engine.specs.Core.{Core, in_transaction}
 use Rattle.norec_engine.specs.Proceeds.{IsAtOnce}
 use Rattle.norec_engine.specs.declared.answer.Answer.{Answer}
 use Rattle.norec_engine.specs.declared.answer.Answer.TheVariants.{Reply, Committed, Conflict, Busy, Full}
@@ -57,7 +57,7 @@ module _ {P : Type 0} (rules : Rules P)
   -- ## The player has no more calls
 
   pub finish_tries : (last : Actor P) → last ≡ record old { status = Ended ends.Finished } → Tries cells.clock (prior_of r0 old) cells.clock r0 last
-  finish_tries last is = subst (Tries cells.clock (prior_of r0 old) cells.clock r0) (sym is) (by_row old.engine.is_open sound.kept.row)
+  finish_tries last is = subst (Tries cells.clock (prior_of r0 old) cells.clock r0) (sym is) (by_row (in_transaction old.engine) sound.kept.row)
     where
       by_row : (b : Bool) → HasRow b r0 old.thread → Tries cells.clock (prior_of r0 old) cells.clock r0 (record old { status = Ended ends.Finished })
       by_row true h = stays_open r0 (record old { status = Ended ends.Finished }) h.0 h.1 h.1 refl refl (λ e. absurd (cc)) (λ e. absurd (cc))
@@ -67,9 +67,9 @@ module _ {P : Type 0} (rules : Rules P)
   -- ## Memory was refused
 
   pub starve_tries : (r1 : Rows) (last : Actor P) → Starves rules r0 old r1 last → HasRow false r1 last.thread → Tries cells.clock (prior_of r0 old) cells.clock r1 last
-  starve_tries r1 last s none = by_row old.engine.is_open refl sound.kept.row
+  starve_tries r1 last s none = by_row (in_transaction old.engine) refl sound.kept.row
     where
-      by_row : (b : Bool) → old.engine.is_open ≡ b → HasRow b r0 old.thread → Tries cells.clock (prior_of r0 old) cells.clock r1 last
+      by_row : (b : Bool) → in_transaction old.engine ≡ b → HasRow b r0 old.thread → Tries cells.clock (prior_of r0 old) cells.clock r1 last
       by_row true e h =
           let done : Attempt = record h.0 { at = old.engine.snapshot / 2; outcome = outcomes.NoMemory } in
           let reached = sound.tied.settled.reached in
@@ -116,10 +116,10 @@ module _ {P : Type 0} {rules : Rules P} {cells : Cells} {r0 r : Rows} {old a : A
   opens_now (Write hint at value) row e arena = absurd (let n = sym nothing ∙ e in cc)
 
   -- it waits for its first step
-  waits_tries : (step : Step) → HasTaken rules old.engine.is_open cells cells r (mid m) a call (Asks step) → Tries cells.clock (prior_of r0 old) cells.clock r (record a { status = Waits call step })
-  waits_tries step t = by_row old.engine.is_open refl m.sound.kept.row
+  waits_tries : (step : Step) → HasTaken rules (in_transaction old.engine) cells cells r (mid m) a call (Asks step) → Tries cells.clock (prior_of r0 old) cells.clock r (record a { status = Waits call step })
+  waits_tries step t = by_row (in_transaction old.engine) refl m.sound.kept.row
     where
-      by_row : (b : Bool) → old.engine.is_open ≡ b → HasRow b r0 old.thread → Tries cells.clock (prior_of r0 old) cells.clock r (record a { status = Waits call step })
+      by_row : (b : Bool) → in_transaction old.engine ≡ b → HasRow b r0 old.thread → Tries cells.clock (prior_of r0 old) cells.clock r (record a { status = Waits call step })
       by_row true e h = stays_open rules cells r0 old m.sound m.ready r (record a { status = Waits call step }) h.0 h.1 (active_same ∙ h.1) ended_same m.asks.nth (λ x. absurd (cc)) (λ x. absurd (cc))
       by_row false e h = stays_between rules cells r0 old m.sound m.ready r (record a { status = Waits call step }) h ended_same (record {
         none = active_same ∙ h;
@@ -129,13 +129,13 @@ module _ {P : Type 0} {rules : Rules P} {cells : Cells} {r0 r : Rows} {old a : A
       })
 
   -- it is answered at once
-  answer_tries : (answer : Answer) → IsAtOnce (Answers answer) → {r1 : Rows} {last : Actor P} → HasAnswered rules old.engine.is_open cells cells r r1 (mid m) a last call answer → Tries cells.clock (prior_of r0 old) cells.clock r1 last
-  answer_tries answer soon {r1} {last} t = by_open old.engine.is_open refl t
+  answer_tries : (answer : Answer) → IsAtOnce (Answers answer) → {r1 : Rows} {last : Actor P} → HasAnswered rules (in_transaction old.engine) cells cells r r1 (mid m) a last call answer → Tries cells.clock (prior_of r0 old) cells.clock r1 last
+  answer_tries answer soon {r1} {last} t = by_open (in_transaction old.engine) refl t
     where
       limit : a.engine.max_commits ≡ old.engine.max_commits
       limit = (limit_same (mid m) a.engine what m.asks.called.proceeds).0
 
-      by_open : (b : Bool) → old.engine.is_open ≡ b → HasAnswered rules b cells cells r r1 (mid m) a last call answer → Tries cells.clock (prior_of r0 old) cells.clock r1 last
+      by_open : (b : Bool) → in_transaction old.engine ≡ b → HasAnswered rules b cells cells r r1 (mid m) a last call answer → Tries cells.clock (prior_of r0 old) cells.clock r1 last
       by_open true e t =
           let pending : a.pending ≡ old.pending = m.asks.pending ∙ ap (λ (b : Bool). asked_pending b cells.clock old call) e in
           subst (λ (p : Prior). Tries cells.clock p cells.clock r1 last)
@@ -143,16 +143,16 @@ module _ {P : Type 0} {rules : Rules P} {cells : Cells} {r0 r : Rows} {old a : A
           (open_tries answer t)
       by_open false e t = shut answer soon t
         where
-          closed : a.engine.is_open ≡ false
-          closed = stays_shut a.engine.is_open refl
+          closed : in_transaction a.engine ≡ false
+          closed = stays_shut (in_transaction a.engine) refl
             where
-              stays_shut : (now : Bool) → a.engine.is_open ≡ now → a.engine.is_open ≡ false
+              stays_shut : (now : Bool) → in_transaction a.engine ≡ now → in_transaction a.engine ≡ false
               stays_shut true o = absurd (let f : true ≡ false = sym (m.asked.stays.opens o) ∙ e in cc)
               stays_shut false o = o
 
           shut : (ans : Answer) → IsAtOnce (Answers ans) → HasAnswered rules false cells cells r r1 (mid m) a last call ans → Tries cells.clock (prior_of r0 old) cells.clock r1 last
           shut (Reply reply) soon t =
-              let outside : last.engine.is_open ≡ false = ap (λ (c : Core). c.is_open) t.settled.engine ∙ closed in
+              let outside : in_transaction last.engine ≡ false = ap in_transaction t.settled.engine ∙ closed in
               let same : r1 ≡ r = subst (λ (b : Bool). Opens b r a.pending (last.engine.snapshot / 2) r1) outside t.told.0 in
               stays_between rules cells r0 old m.sound m.ready r1 last (sym active_same ∙ t.answered.kept.row) (ap (λ (x : Rows). x.ended) same ∙ ended_same)
               (is_between rules r r1 a last false t.settled cells.clock old.nth closed (t.told.4 ∙ t.answered.status) (t.told.3 ∙ m.asks.nth))
@@ -161,5 +161,5 @@ module _ {P : Type 0} {rules : Rules P} {cells : Cells} {r0 r : Rows} {old a : A
           shut (Busy clock) soon t = absurd soon
           shut (Full at) soon t = absurd (let f : false ≡ true = t.answered.fits.0 in cc)
 
-  pub call_tries : {r1 : Rows} {last : Actor P} → IsDone rules old.engine.is_open r r1 a last call what → Tells rules old.engine.is_open r r1 a last call what → Tries cells.clock (prior_of r0 old) cells.clock r1 last
+  pub call_tries : {r1 : Rows} {last : Actor P} → IsDone rules (in_transaction old.engine) r r1 a last call what → Tells rules (in_transaction old.engine) r r1 a last call what → Tries cells.clock (prior_of r0 old) cells.clock r1 last
   call_tries done tells = recorded (λ x y. Tries cells.clock (prior_of r0 old) cells.clock x y) (call_taken m) done tells waits_tries (λ answer is t. answer_tries answer (subst IsAtOnce is m.asked.at_once) t)

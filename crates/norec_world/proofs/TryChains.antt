@@ -1,6 +1,7 @@
 -- Local work after an event, or after other local work: what becomes of the try.
 use Rattle.std.proofs.Common.{◌≡◌, ℕ, ◌+◌, ◌/◌, Bool, true, false, nat_lt, List, [], ◌∷◌, ◌++◌, append_assoc, Option, None, Some, refl, sym, ap, subst, ◌∙◌, arith}
 use Rattle.std.proofs.lemmas.List.{append-nil}
+use Rattle.norec_engine.specs.Core.{in_transaction}
 use Rattle.norec_world.specs.declared.attempt.Attempt.{Attempt}
 use Rattle.norec_world.specs.declared.attempt.Entry.{Entry}
 use Rattle.norec_world.specs.declared.attempt.Outcome.{Outcome}
@@ -134,7 +135,7 @@ module _ {P : Type 0} (rules : Rules P)
   no_pending = rests.nothing
 
   pub tries_still : Tries cells.clock (prior_of r a) cells.clock r a
-  tries_still = by_row a.engine.is_open sound.kept.row
+  tries_still = by_row (in_transaction a.engine) sound.kept.row
     where
       goes_on : {end : _} → ending_of a.status ≡ Some end → ⊥
       goes_on e = absurd (let n = sym (ap ending_of ready) ∙ e in cc)

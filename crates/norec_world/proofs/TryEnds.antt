@@ -8,15 +8,16 @@ use Rattle.itm_types.specs.declared.call.Props.{Props}
 use Rattle.itm_types.specs.declared.call.Reply.{Reply as Replied}
 use Rattle.itm_types.specs.declared.call.Reply.TheVariants as replies
 use Rattle.itm_types.specs.Memory.{IsMemory, Agrees}
-use Rattle.script_vm.specs.Depth.{is_begin}
+use Rattle.itm_types.specs.Calls.{is_begin}
 use Rattle.itm_model.specs.declared.limits.TheConstants.{MAX_DEPTH}
 use Rattle.itm_model.specs.State.{State}
 use Rattle.itm_model.specs.Machine.{after}
 use Rattle.norec_engine.specs.Stands.{state_over, stands_for}
-use Rattle.norec_engine.specs.Core.{Core}
+use Rattle.norec_engine.specs.Core.{Core, in_transaction}
 use Rattle.norec_engine.specs.Proceeds.{Replies, RepliesTo, IsBegin}
 use Rattle.norec_engine.specs.declared.answer.Answer.{Answer}
 use Rattle.norec_engine.specs.declared.answer.Answer.TheVariants.{Reply, Committed, Conflict, Busy, Full}
+use Rattle.norec_engine.proofs.Blocks.{none_inside}
 use Rattle.norec_world.specs.declared.attempt.Attempt.{Attempt}
 use Rattle.norec_world.specs.declared.attempt.Outcome.{Outcome}
 use Rattle.norec_world.specs.declared.attempt.Outcome.TheVariants as outcomes
@@ -47,14 +48,14 @@ unfreed_to mid new (Some call) r g = g.unfreed
 
 module _ {P : Type 0} (rules : Rules P)
     (r r1 : Rows) (a last : Actor P) (was : Bool) (settled : IsSettledBy rules was r1 a last) where
-  none_active : a.engine.is_open ≡ false → active_of last.thread r1.active ≡ None
-  none_active closed = no_row last.engine.is_open r1 last.thread (ap (λ (c : Core). c.is_open) settled.engine ∙ closed) settled.kept.row
+  none_active : in_transaction a.engine ≡ false → active_of last.thread r1.active ≡ None
+  none_active closed = no_row (in_transaction last.engine) r1 last.thread (ap in_transaction settled.engine ∙ closed) settled.kept.row
 
   pub none_pending : last.status ≡ Ready → last.pending ≡ None
   none_pending ready = (let rest : IsReady rules last = subst (λ (s : Status). RestsAs rules s last) ready settled.rests in rest.nothing)
 
   -- the actor is between two tries
-  pub is_between : (clock nth : ℕ) → a.engine.is_open ≡ false → last.status ≡ Ready → last.nth ≡ nth → IsBetween clock nth r1 last
+  pub is_between : (clock nth : ℕ) → in_transaction a.engine ≡ false → last.status ≡ Ready → last.nth ≡ nth → IsBetween clock nth r1 last
   is_between clock nth closed ready tries = record {
     none = none_active closed;
     tries = tries;
@@ -63,7 +64,7 @@ module _ {P : Type 0} (rules : Rules P)
   }
 
   -- a try came to nothing
-  pub tries_again : (clock : ℕ) → a.engine.is_open ≡ false → a.status ≡ Ready → CountsTry a last → TriesAgain (nat_lt a.retries a.nth) clock a.nth r1 last
+  pub tries_again : (clock : ℕ) → in_transaction a.engine ≡ false → a.status ≡ Ready → CountsTry a last → TriesAgain (nat_lt a.retries a.nth) clock a.nth r1 last
   tries_again clock closed ready counts = by_case (nat_lt a.retries a.nth) counts.nth counts.status
     where
       by_case : (b : Bool) → last.nth ≡ (if b then a.nth else a.nth + 1) → last.status ≡ (if b then Ended ends.GaveUp else a.status) → TriesAgain b clock a.nth r1 last
@@ -95,7 +96,7 @@ module _ {P : Type 0} {rules : Rules P} {cells cells' : Cells} {r r1 : Rows} {mi
       })
   open_tries (Committed at wrote) m =
       let row = m.answered.kept.row in
-      let closed : a.engine.is_open ≡ false = m.answered.fits.1 in
+      let closed : in_transaction a.engine ≡ false = m.answered.fits.1 in
       let ready : last.status ≡ Ready = m.told.4 ∙ m.answered.status in
       let done : Attempt = record row.0 { calls = row.0.calls ++ record { call = call; reply = replies.Done } ∷ []; at = at; outcome = if wrote then outcomes.Committed else outcomes.ReadOnly } in
       over (record {
@@ -161,11 +162,11 @@ module _ {P : Type 0} {rules : Rules P} {cells cells' : Cells} {r r1 : Rows} {mi
 -- ## A begin is answered
 
 -- the plain machine refuses no outermost begin, so the engine's reply to one opens
-pub begin_opens : (mid new : Core) (m : List ℕ) (props : Props) (room : ℕ) (reply : Replied) → Replies mid (Begin props room) reply new → mid.is_open ≡ false → IsMemory mid.words m → Agrees m new.log → new.is_open ≡ false → ⊥
+pub begin_opens : (mid new : Core) (m : List ℕ) (props : Props) (room : ℕ) (reply : Replied) → Replies mid (Begin props room) reply new → in_transaction mid ≡ false → IsMemory mid.words m → Agrees m new.log → in_transaction new ≡ false → ⊥
 begin_opens mid new m props room reply g outside memory agrees closed =
-    let opened_blocks = ap (λ (b : Bool). (after MAX_DEPTH (state_over mid.writes b mid.props mid.arena m) (Begin props room)).blocks) outside in
+    let opened_blocks = ap (λ (b : List Props). (after MAX_DEPTH (state_over mid.writes b mid.arena m) (Begin props room)).blocks) (none_inside mid.blocks outside) in
     let blocks = ap (λ (s : State). s.blocks) (g.meets m memory agrees) in
-    let none : (stands_for new m).blocks ≡ [] = ap (λ (b : Bool). (state_over new.writes b new.props new.arena m).blocks) closed in
+    let none : (stands_for new m).blocks ≡ [] = ap (λ (b : List Props). (state_over new.writes b new.arena m).blocks) (none_inside new.blocks closed) in
     let some = sym none ∙ (blocks ∙ opened_blocks) in
     absurd (cc)
 
@@ -183,7 +184,7 @@ call_begins (calls.Write hint at value) b = absurd b
 
 module _ {P : Type 0} {rules : Rules P} {cells cells' : Cells} {r r1 : Rows} {mid : Core} {a last : Actor P} {call : Call} where
   pub begin_tries : (ans : Answer) → HasAnswered rules false cells cells' r r1 mid a last call ans → Tries cells.clock (prior_of r a) cells'.clock r1 last
-  begin_tries (Reply reply) m = by_open last.engine.is_open refl a.pending refl m.told.0
+  begin_tries (Reply reply) m = by_open (in_transaction last.engine) refl a.pending refl m.told.0
     where
       none : active_of a.thread r.active ≡ None
       none = m.answered.kept.row
@@ -191,10 +192,10 @@ module _ {P : Type 0} {rules : Rules P} {cells cells' : Cells} {r r1 : Rows} {mi
       ready : last.status ≡ Ready
       ready = m.told.4 ∙ m.answered.status
 
-      opens_now : (now : Bool) → last.engine.is_open ≡ now → a.engine.is_open ≡ now
-      opens_now now e = sym (ap (λ (c : Core). c.is_open) m.settled.engine) ∙ e
+      opens_now : (now : Bool) → in_transaction last.engine ≡ now → in_transaction a.engine ≡ now
+      opens_now now e = sym (ap in_transaction m.settled.engine) ∙ e
 
-      by_open : (now : Bool) → last.engine.is_open ≡ now → (p : Option Attempt) → a.pending ≡ p → Opens now r p (last.engine.snapshot / 2) r1 → Tries cells.clock (prior_of r a) cells'.clock r1 last
+      by_open : (now : Bool) → in_transaction last.engine ≡ now → (p : Option Attempt) → a.pending ≡ p → Opens now r p (last.engine.snapshot / 2) r1 → Tries cells.clock (prior_of r a) cells'.clock r1 last
       by_open true e (Some row) p told_so =
           let q = m.answered.in_call.opens row p in
           let new_row : Attempt = record row { at = last.engine.snapshot / 2 } in
@@ -211,7 +212,7 @@ module _ {P : Type 0} {rules : Rules P} {cells cells' : Cells} {r r1 : Rows} {mi
             goes_on = λ x. absurd (let n = ap ending_of ready in cc);
             fed = λ x. absurd (let n = ap ending_of ready in cc);
           })
-      by_open true e None p told_so = absurd (let f : false ≡ true = was_open false a.engine.is_open call reply (λ x. sym (m.answered.in_call.begins x) ∙ ap is_some p) m.answered.fits.0 (opens_now true e) in cc)
+      by_open true e None p told_so = absurd (let f : false ≡ true = was_open false (in_transaction a.engine) call reply (λ x. sym (m.answered.in_call.begins x) ∙ ap is_some p) m.answered.fits.0 (opens_now true e) in cc)
       by_open false e (Some row) p told_so =
           let b = begin_call call (sym (m.answered.in_call.begins refl) ∙ ap is_some p) in
           let g' : Replies mid (Begin b.0 b.1) reply a.engine = subst (λ (o : Option Call). RepliesTo mid o reply a.engine) (m.taken.doing ∙ ap (λ (x : Call). Some x) b.2) m.ends in
@@ -280,19 +281,19 @@ module _ {P : Type 0} (rules : Rules P) (r r1 : Rows) (a last : Actor P) (call :
 
 -- ## The open attempt is told where it reads
 
-module _ {P : Type 0} (clock clock' : ℕ) (p : Prior) (r r' : Rows) (a : Actor P) (row : HasRow a.engine.is_open r a.thread) (told : IsTold a.thread a.engine.is_open r (a.engine.snapshot / 2) r') where
+module _ {P : Type 0} (clock clock' : ℕ) (p : Prior) (r r' : Rows) (a : Actor P) (row : HasRow (in_transaction a.engine) r a.thread) (told : IsTold a.thread (in_transaction a.engine) r (a.engine.snapshot / 2) r') where
   -- with none open nothing is told
   stays_none : active_of a.thread r.active ≡ None → r' ≡ r
-  stays_none none = by_open a.engine.is_open refl row
+  stays_none none = by_open (in_transaction a.engine) refl row
     where
-      by_open : (b : Bool) → a.engine.is_open ≡ b → HasRow b r a.thread → r' ≡ r
+      by_open : (b : Bool) → in_transaction a.engine ≡ b → HasRow b r a.thread → r' ≡ r
       by_open true e h = absurd (let n = sym none ∙ h.1 in cc)
       by_open false e h = told.stays e
 
-  opened_so : (x : Attempt) → active_of a.thread r.active ≡ Some x → a.engine.is_open ≡ true
-  opened_so x some = by_open a.engine.is_open refl row
+  opened_so : (x : Attempt) → active_of a.thread r.active ≡ Some x → in_transaction a.engine ≡ true
+  opened_so x some = by_open (in_transaction a.engine) refl row
     where
-      by_open : (b : Bool) → a.engine.is_open ≡ b → HasRow b r a.thread → a.engine.is_open ≡ true
+      by_open : (b : Bool) → in_transaction a.engine ≡ b → HasRow b r a.thread → in_transaction a.engine ≡ true
       by_open true e h = e
       by_open false e h = absurd (let n = sym h ∙ some in cc)
 

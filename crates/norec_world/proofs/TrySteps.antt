@@ -3,7 +3,7 @@ use Rattle.std.proofs.Common.{◌≡◌, ℕ, ◌/◌, Bool, true, false, [], Op
 use Rattle.std.proofs.lemmas.List.{append-nil}
 use Rattle.itm_types.specs.declared.call.Call.{Call}
 use Rattle.itm_types.specs.declared.step.Step.{Step}
-use Rattle.norec_engine.specs.Core.{Core}
+use Rattle.norec_engine.specs.Core.{Core, in_transaction}
 use Rattle.norec_engine.specs.declared.answer.Answer.{Answer}
 use Rattle.norec_engine.specs.declared.answer.Next.{Next}
 use Rattle.norec_engine.specs.declared.answer.Next.TheVariants.{Step as Asks}
@@ -31,8 +31,8 @@ module _ {P : Type 0} {rules : Rules P} {cells : Cells} {r : Rows} {old : Actor 
   Tried x y = Tries cells.clock (prior_of r old) cells'.clock x y
 
   -- the call goes on
-  went_on : (step : Step) → HasTaken rules old.engine.is_open cells cells' r (mid m) (on status) call (Asks step) → Tried r (on (Waits call step))
-  went_on step t = by_row old.engine.is_open m.sound.kept.row
+  went_on : (step : Step) → HasTaken rules (in_transaction old.engine) cells cells' r (mid m) (on status) call (Asks step) → Tried r (on (Waits call step))
+  went_on step t = by_row (in_transaction old.engine) m.sound.kept.row
     where
       half : cells'.clock / 2 ≡ cells.clock / 2
       half = t.moves.keeps t.proceeds.unfreed
@@ -61,17 +61,17 @@ module _ {P : Type 0} {rules : Rules P} {cells : Cells} {r : Rows} {old : Actor 
       })
       by_row false h = by_pending old.pending refl h
 
-  answered_on : (answer : Answer) {r1 : Rows} {last : Actor P} → HasAnswered rules old.engine.is_open cells cells' r r1 (mid m) (on status) last call answer → Tried r1 last
+  answered_on : (answer : Answer) {r1 : Rows} {last : Actor P} → HasAnswered rules (in_transaction old.engine) cells cells' r r1 (mid m) (on status) last call answer → Tried r1 last
   answered_on answer {r1} {last} t =
-      subst (λ (n : ℕ). Tries cells.clock (record (prior_of r old) { max_commits = n }) cells'.clock r1 last) (limit_is m) (by_open old.engine.is_open t)
+      subst (λ (n : ℕ). Tries cells.clock (record (prior_of r old) { max_commits = n }) cells'.clock r1 last) (limit_is m) (by_open (in_transaction old.engine) t)
     where
       by_open : (b : Bool) → HasAnswered rules b cells cells' r r1 (mid m) (on status) last call answer → Tries cells.clock (prior_of r (on status)) cells'.clock r1 last
       by_open true t = open_tries answer t
       by_open false t = begin_tries answer t
 
-  module _ (r1 : Rows) (last : Actor P) (done : IsDone rules old.engine.is_open r r1 (on status) last call what) (tells : Tells rules old.engine.is_open r r1 (on status) last call what) where
+  module _ (r1 : Rows) (last : Actor P) (done : IsDone rules (in_transaction old.engine) r r1 (on status) last call what) (tells : Tells rules (in_transaction old.engine) r r1 (on status) last call what) where
     -- what the step leaves, once the open attempt is told where it reads
-    pub step_tries : (rows : Rows) → IsTold last.thread last.engine.is_open r1 (last.engine.snapshot / 2) rows → Tries cells.clock (prior_of r old) cells'.clock rows last
+    pub step_tries : (rows : Rows) → IsTold last.thread (in_transaction last.engine) r1 (last.engine.snapshot / 2) rows → Tries cells.clock (prior_of r old) cells'.clock rows last
     step_tries rows told =
         let t = step_taken m status ready in
         told_tries cells.clock cells'.clock (prior_of r old) r1 rows last (now t done tells).sound.kept.row told (recorded Tried t done tells went_on (λ answer is t. answered_on answer t))
@@ -79,4 +79,4 @@ module _ {P : Type 0} {rules : Rules P} {cells : Cells} {r : Rows} {old : Actor 
     -- an actor finishes in its local work alone
     pub step_unfinished : ending_of last.status ≡ Some ends.Finished → ⊥
     step_unfinished = recorded (λ x y. ending_of y.status ≡ Some ends.Finished → ⊥) (step_taken m status ready) done tells (λ step t e. absurd (cc))
-        (λ answer is t. not_finished rules r r1 (on status) last call old.engine.is_open ready answer t.told)
+        (λ answer is t. not_finished rules r r1 (on status) last call (in_transaction old.engine) ready answer t.told)

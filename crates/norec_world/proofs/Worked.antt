@@ -1,7 +1,7 @@
 -- Local work of an actor, one call of its player after the other: all that it leaves.
 use Rattle.std.proofs.Common.{◌≡◌, ◌+◌, ◌-◌, ◌*◌, ◌≤◌, Bool, true, false, List, ◌++◌, None, Some, refl, sym, ap, subst, ◌∙◌, arith}
 use Rattle.itm_types.specs.declared.call.Call.{Call}
-use Rattle.norec_engine.specs.Core.{Core}
+use Rattle.norec_engine.specs.Core.{Core, in_transaction}
 use Rattle.norec_engine.specs.declared.answer.Next.{Next}
 use Rattle.norec_world.specs.declared.attempt.Attempt.{Attempt}
 use Rattle.norec_world.specs.declared.attempt.End.TheVariants.{Finished}
@@ -62,7 +62,7 @@ module _ {P : Type 0} {rules : Rules P} (laws : Obeys rules) {cells : Cells} {r0
   }
 
   -- memory was refused to it
-  pub starve_worked : (r1 : Rows) (last : Actor P) → IsSound rules cells r1 last → Starves rules r0 old r1 last → KeepsOthers old r0 last r1 → last.engine.is_open ≡ false → last.engine.holds ≡ old.engine.holds
+  pub starve_worked : (r1 : Rows) (last : Actor P) → IsSound rules cells r1 last → Starves rules r0 old r1 last → KeepsOthers old r0 last r1 → in_transaction last.engine ≡ false → last.engine.holds ≡ old.engine.holds
       → (last.engine.max_commits ≡ old.engine.max_commits) × (last.engine.patience ≡ old.engine.patience) → HasWorked rules cells r0 old r1 last
   starve_worked r1 last sound' s others closed holds limit =
       let tries = starve_tries rules cells r0 old sound ready r1 last s (subst (λ (b : Bool). HasRow b r1 last.thread) closed sound'.kept.row) in
@@ -87,18 +87,18 @@ module _ {P : Type 0} {rules : Rules P} (laws : Obeys rules) {cells : Cells} {r0
 
 -- it goes to the engine
 module _ {P : Type 0} {rules : Rules P} (laws : Obeys rules) {cells : Cells} {r0 r : Rows} {old a : Actor P} {call : Call} {what : Next} (m : IsCalling rules cells r0 r old a call what) (r1 : Rows) (last : Actor P)
-    (done : IsDone rules old.engine.is_open r r1 a last call what) (tells : Tells rules old.engine.is_open r r1 a last call what) where
+    (done : IsDone rules (in_transaction old.engine) r r1 a last call what) (tells : Tells rules (in_transaction old.engine) r r1 a last call what) where
   ended_same : r.ended ≡ r0.ended
   ended_same = ap (λ (x : Rows). x.ended) m.asks.rows_are
 
   -- while it waits, nothing is gained and nothing lost
-  less_waits : a.engine.is_open ≡ old.engine.is_open → IsNoMore rules old a
+  less_waits : in_transaction a.engine ≡ in_transaction old.engine → IsNoMore rules old a
   less_waits opens =
       let same = m.asked.same in
       record {
-        whole_falls = (let e : whole rules a.engine.is_open a.player ≡ whole rules old.engine.is_open old.player = λ i. whole rules (opens i) (same.player i) in omega arith);
+        whole_falls = (let e : whole rules (in_transaction a.engine) a.player ≡ whole rules (in_transaction old.engine) old.player = λ i. whole rules (opens i) (same.player i) in omega arith);
         rank_falls = λ n b.
-            (let e : rank rules n a.engine.is_open a ≡ rank rules n old.engine.is_open old =
+            (let e : rank rules n (in_transaction a.engine) a ≡ rank rules n (in_transaction old.engine) old =
             λ i. (whole rules (opens i) (same.player i) * (same.retries i + 1) + (same.retries i + 1 - same.nth i)) * (n + 1) + rules.calls_left (same.player i) in
             omega arith);
       }
@@ -140,10 +140,10 @@ module _ {P : Type 0} {rules : Rules P} (laws : Obeys rules) {cells : Cells} {r0
         limit = (ap (λ (c : Core). c.max_commits) x.engine ∙ kept.0, ap (λ (c : Core). c.patience) x.engine ∙ kept.1);
         snapshot = ap (λ (c : Core). c.snapshot) x.engine ∙ m.asked.stays.snapshot;
         retries = x.retries ∙ m.asked.same.retries;
-        finishes = λ w e. absurd (recorded (λ x y. ending_of y.status ≡ Some Finished → ⊥) taken done tells (λ step t e. absurd (cc)) (λ answer is t. not_finished rules r r1 a last call old.engine.is_open taken.ready answer t.told) e);
+        finishes = λ w e. absurd (recorded (λ x y. ending_of y.status ≡ Some Finished → ⊥) taken done tells (λ step t e. absurd (cc)) (λ answer is t. not_finished rules r r1 a last call (in_transaction old.engine) taken.ready answer t.told) e);
         still = not_still old m.ready;
         less = recorded (λ x y. ending_of y.status ≡ None → IsNoMore rules old y) taken done tells
-            (λ step t e. (let l = less_waits (ap (λ (c : Core). c.is_open) t.proceeds.stays) in record { whole_falls = l.whole_falls; rank_falls = l.rank_falls })) (λ answer is t. call_less m t.settled);
+            (λ step t e. (let l = less_waits (ap in_transaction t.proceeds.stays) in record { whole_falls = l.whole_falls; rank_falls = l.rank_falls })) (λ answer is t. call_less m t.settled);
       }
 
 -- ## One after the other

@@ -10,7 +10,7 @@ use Rattle.norec_world.specs.declared.actor.Status.{Status}
 use Rattle.norec_world.specs.declared.actor.Status.TheVariants.{Ready, Waits, Ended}
 use Rattle.norec_world.specs.Status.{is_ready, is_waiting, waiting_step, ending_of}
 use Rattle.itm_types.specs.Memory.{AllFit}
-use Rattle.norec_engine.specs.Core.{Core, opening}
+use Rattle.norec_engine.specs.Core.{Core, opening, in_transaction}
 use Rattle.norec_engine.specs.Proceeds.{IsLawful}
 use Rattle.norec_world.specs.Sound.{IsTied, IsKept, IsNested, StatusIs, IsSound}
 use Rattle.norec_world.specs.World.{World}
@@ -72,7 +72,7 @@ module _ {P : Type 0} (rules : Rules P) where
       let Tied : Core → Type 0 = IsTied cells in
       let Kept : Bool → Type 0 = λ b. IsKept b r a in
       let Is : Status → Type 0 = StatusIs rules r a in
-      let shut : a.engine.is_open ≡ false = ap (λ (c : Core). c.is_open) is in
+      let shut : in_transaction a.engine ≡ false = ap in_transaction is in
       let Nested : Bool → Type 0 = λ b. IsNested rules b a.player in
       record {
         tied = subst Tied (sym is) (record {

@@ -2,6 +2,7 @@
 use Rattle.std.specs.Prelude.{◌≡◌, true, false, None, Some}
 use Rattle.itm_types.specs.declared.call.Call.{Call}
 use Rattle.itm_types.specs.declared.step.Step.{Step}
+use Rattle.norec_engine.specs.Core.{in_transaction}
 use Rattle.norec_world.specs.declared.attempt.Attempt.{Attempt}
 use Rattle.norec_world.specs.declared.actor.Actor.{Actor}
 use Rattle.norec_world.specs.declared.actor.Status.TheVariants.{Waits}
@@ -30,5 +31,5 @@ pub record AreAlike {P : Type 0} (a b : Actor P) : Type 0 where
 
 -- within a transaction the actor has an open attempt, and while its begin waits the one that it is to open
 pub record HasAttempt {P : Type 0} (r : Rows) (a : Actor P) : Type 0 where
-  pub inside : a.engine.is_open ≡ true → (row : Attempt) × (active_of a.thread r.active ≡ Some row)
-  pub begins : (call : Call) (step : Step) → a.status ≡ Waits call step → a.engine.is_open ≡ false → (row : Attempt) × (a.pending ≡ Some row) × (row.thread ≡ a.thread)
+  pub inside : in_transaction a.engine ≡ true → (row : Attempt) × (active_of a.thread r.active ≡ Some row)
+  pub begins : (call : Call) (step : Step) → a.status ≡ Waits call step → in_transaction a.engine ≡ false → (row : Attempt) × (a.pending ≡ Some row) × (row.thread ≡ a.thread)

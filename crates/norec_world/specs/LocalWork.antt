@@ -6,7 +6,8 @@ use Rattle.norec_engine.specs.declared.answer.Next.{Next}
 use Rattle.norec_engine.specs.Moves.{IsResumed}
 use Rattle.norec_engine.specs.Proceeds.{MayStarve}
 use Rattle.norec_engine.specs.Undoing.{after_undoing}
-use Rattle.script_vm.specs.Depth.{is_begin}
+use Rattle.itm_types.specs.Calls.{is_begin}
+use Rattle.norec_engine.specs.Core.{in_transaction}
 use Rattle.norec_world.specs.declared.attempt.Attempt.{Attempt}
 use Rattle.norec_world.specs.declared.attempt.Outcome.TheVariants as outcomes
 use Rattle.norec_world.specs.declared.attempt.End.TheVariants.{Finished, NoMemory}
@@ -35,8 +36,8 @@ pub record TakesIn {P : Type 0} (rules : Rules P) (cells : Cells) (r : Rows) (a 
   pub what : Next
   pub resumed : IsResumed a.engine (found cells step) what a'.engine
   pub rows : Rows
-  pub tells : Tells rules a.engine.is_open r rows (record a { engine = a'.engine; status = Ready }) a' call what
-  pub told : IsTold a.thread a'.engine.is_open rows (a'.engine.snapshot / 2) r'
+  pub tells : Tells rules (in_transaction a.engine) r rows (record a { engine = a'.engine; status = Ready }) a' call what
+  pub told : IsTold a.thread (in_transaction a'.engine) rows (a'.engine.snapshot / 2) r'
   pub same : SameActor a a'
 
 module _ {P : Type 0} (rules : Rules P) where
@@ -49,7 +50,7 @@ module _ {P : Type 0} (rules : Rules P) where
     pub asked : Actor P
     pub asks : Asks clock r rows a asked call what
     pub ready : asked.status ≡ Ready
-    pub tells : Tells rules a.engine.is_open rows r' asked a' call what
+    pub tells : Tells rules (in_transaction a.engine) rows r' asked a' call what
     pub engine : a'.engine ≡ asked.engine
     pub same : SameActor a a'
 
@@ -63,16 +64,16 @@ module _ {P : Type 0} (rules : Rules P) where
   pub record Starves (r : Rows) (a : Actor P) (r' : Rows) (a' : Actor P) : Type 0 where
     pub call : Call
     pub next_is : rules.next_call a.player ≡ Some call
-    pub grows : a.engine.is_open ≡ false → is_begin call ≡ true  -- outside a block memory is wanted for a begin alone
-    pub short : a.engine.is_open ≡ true → IsShort r a call
+    pub grows : in_transaction a.engine ≡ false → is_begin call ≡ true  -- outside a block memory is wanted for a begin alone
+    pub short : in_transaction a.engine ≡ true → IsShort r a call
     pub status : a'.status ≡ Ended NoMemory
     pub player : a'.player ≡ a.player
     pub same : SameActor a a'
     pub counts : (a'.nth ≡ a.nth) × (a'.again ≡ a.again) × (a'.pending ≡ a.pending)
     pub engine : a'.engine ≡ after_undoing a.engine
     pub room : ℕ
-    pub stops : a.engine.is_open ≡ true → StopsAt a.thread (record r { room = room }) (a.engine.snapshot / 2) outcomes.NoMemory r'
-    pub stays : a.engine.is_open ≡ false → r' ≡ record r { room = room }
+    pub stops : in_transaction a.engine ≡ true → StopsAt a.thread (record r { room = room }) (a.engine.snapshot / 2) outcomes.NoMemory r'
+    pub stays : in_transaction a.engine ≡ false → r' ≡ record r { room = room }
 
   -- one of these
   pub data Acts (clock : ℕ) (r : Rows) (a : Actor P) (r' : Rows) (a' : Actor P) : Type 0 where

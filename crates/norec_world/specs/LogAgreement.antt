@@ -1,7 +1,7 @@
 -- What an engine has seen of the memories that the commits left.
 use Rattle.std.specs.Prelude.{◌≡◌, ℕ, ◌/◌, ◌%◌, true, false, List, length, slice_get}
 use Rattle.itm_types.specs.Memory.{Agrees}
-use Rattle.norec_engine.specs.Core.{Core}
+use Rattle.norec_engine.specs.Core.{Core, in_transaction}
 use Rattle.norec_engine.specs.Proceeds.{backed, Got}
 use Rattle.norec_engine.specs.Rows.{write_at}
 use Rattle.norec_world.specs.Cells.{Cells}
@@ -18,7 +18,7 @@ pub record Loaded (memory : ℕ → List ℕ) (cells : Cells) (e : Core) : Type 
 -- and its log is of the memory of its snapshot
 pub record Sees (memory : ℕ → List ℕ) (cells : Cells) (e : Core) : Type 0 where
   pub loaded : Loaded memory cells e
-  pub logged : e.is_open ≡ true → Agrees (memory (e.snapshot / 2)) e.log
+  pub logged : in_transaction e ≡ true → Agrees (memory (e.snapshot / 2)) e.log
 
 -- the words are those that the commits left, where nobody holds the clock
 pub record AreLaid (base : List ℕ) (cells : Cells) (r : Rows) : Type 0 where

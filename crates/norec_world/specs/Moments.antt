@@ -1,6 +1,7 @@
 -- What an actor's step, and its local work, leave: all of it at once. No contract above cites it.
 use Rattle.std.specs.Prelude.{◌≡◌, true, false, None, Some}
 use Rattle.itm_types.specs.declared.step.Step.{Step}
+use Rattle.norec_engine.specs.Core.{in_transaction}
 use Rattle.norec_world.specs.declared.attempt.End.TheVariants.{Finished}
 use Rattle.norec_world.specs.declared.actor.Actor.{Actor}
 use Rattle.norec_world.specs.Cells.{Cells, cells_after}
@@ -26,7 +27,7 @@ module _ {P : Type 0} (rules : Rules P) where
     pub clocks : ClocksOn cells a.engine cells' a'.engine
     pub unfinished : ending_of a'.status ≡ Some Finished → ⊥
     pub goes_on : is_waiting a'.status ≡ true → GoesOn rules a a'
-    pub falls : is_ready a'.status ≡ true → Falls rules a.engine.is_open a'.engine.is_open a a'
+    pub falls : is_ready a'.status ≡ true → Falls rules (in_transaction a.engine) (in_transaction a'.engine) a a'
 
   -- it made calls of its player, as many as it could or some of them
   pub record HasWorked (cells : Cells) (r : Rows) (a : Actor P) (r' : Rows) (a' : Actor P) : Type 0 where

@@ -9,6 +9,7 @@ use Rattle.itm_types.specs.declared.call.Reply.{Reply as Replied}
 use Rattle.itm_types.specs.declared.call.Reply.TheVariants.{Done}
 use Rattle.norec_engine.specs.declared.answer.Answer.{Answer}
 use Rattle.norec_engine.specs.declared.answer.Answer.TheVariants.{Reply, Committed, Conflict, Busy, Full}
+use Rattle.norec_engine.specs.Core.{in_transaction}
 use Rattle.norec_world.specs.declared.attempt.Attempt.{Attempt}
 use Rattle.norec_world.specs.Rows.{Rows, active_of, with_changed, with_opened, with_ended}
 use Rattle.norec_world.specs.declared.attempt.Outcome.{Outcome}
@@ -60,8 +61,8 @@ module _ {P : Type 0} (rules : Rules P) where
   Records true r r' old new call (Reply reply) =
       AddsCall old.thread r call reply r' × (new.player ≡ rules.answered old.player reply) × (new.again ≡ old.again) × (new.nth ≡ old.nth) × (new.status ≡ old.status)
   Records false r r' old new call (Reply reply) =
-      Opens new.engine.is_open r old.pending (new.engine.snapshot / 2) r' × (new.player ≡ rules.answered old.player reply)
-      × (new.again ≡ again_after new.engine.is_open old.pending old.again) × (new.nth ≡ old.nth) × (new.status ≡ old.status)
+      Opens (in_transaction new.engine) r old.pending (new.engine.snapshot / 2) r' × (new.player ≡ rules.answered old.player reply)
+      × (new.again ≡ again_after (in_transaction new.engine) old.pending old.again) × (new.nth ≡ old.nth) × (new.status ≡ old.status)
   Records was r r' old new call (Committed at wrote) =
       EndsBy old.thread r at wrote call r' × (new.player ≡ rules.answered old.player Done) × (new.again ≡ false) × (new.nth ≡ 1) × (new.status ≡ old.status)
   Records was r r' old new call (Conflict clock word) = StopsAt old.thread r (new.engine.snapshot / 2) outcomes.Conflict r' × (new.player ≡ rules.restarted old.player) × CountsTry old new × (new.pending ≡ old.pending)
@@ -103,10 +104,10 @@ begins_again false again (Write hint at value) = false
 
 -- the call went to the engine, and nothing is recorded yet
 pub record Asks {P : Type 0} (clock : ℕ) (r r' : Rows) (old new : Actor P) (call : Call) (what : Next) : Type 0 where
-  pub pending : new.pending ≡ asked_pending old.engine.is_open clock old call
+  pub pending : new.pending ≡ asked_pending (in_transaction old.engine) clock old call
   pub again : new.again ≡ old.again
   pub player : new.player ≡ old.player
   pub nth : new.nth ≡ old.nth
   pub thread : new.thread ≡ old.thread
   pub rows_are : r' ≡ record r { room = r'.room }
-  pub called : IsCalled old.engine call (begins_again old.engine.is_open old.again call) what new.engine
+  pub called : IsCalled old.engine call (begins_again (in_transaction old.engine) old.again call) what new.engine

@@ -3,7 +3,7 @@ use Rattle.std.specs.Prelude.{◌≡◌, ℕ, ◌<◌, ◌≤◌, ◌/◌, true,
 use Rattle.itm_types.specs.Memory.{bytes_of, IsMemory, Agrees}
 use Rattle.itm_model.specs.declared.limits.TheConstants.{MAX_DEPTH}
 use Rattle.itm_model.specs.Machine.{opened}
-use Rattle.norec_engine.specs.Core.{Core}
+use Rattle.norec_engine.specs.Core.{Core, in_transaction}
 use Rattle.norec_engine.specs.Stands.{stands_for}
 use Rattle.norec_world.specs.declared.attempt.Attempt.{Attempt}
 use Rattle.norec_world.specs.declared.attempt.End.TheVariants.{GaveUp, NoMemory}
@@ -55,16 +55,16 @@ module _ {P : Type 0} (rules : Rules P) where
   -- the actor's attempts are its player's run from here, over the memories of so many commits, and each saw what its player gets alone
   pub record IsRun (first : Between P) (base : List ℕ) (n : ℕ) (r : Rows) (a : Actor P) : Type 0 where
     pub run : IsRunOf rules MAX_DEPTH n (bytes_at base r.ended) (Some first) (of_thread a.thread r.ended)
-    pub inside : a.engine.is_open ≡ true → (b : Between P) × (row : Attempt) × (run_after (bytes_at base r.ended) (Some first) (of_thread a.thread r.ended) ≡ Some b) × (active_of a.thread r.active ≡ Some row)
+    pub inside : in_transaction a.engine ≡ true → (b : Between P) × (row : Attempt) × (run_after (bytes_at base r.ended) (Some first) (of_thread a.thread r.ended) ≡ Some b) × (active_of a.thread r.active ≡ Some row)
         × IsInTry b row a.player a.engine × (a.again ≡ true) × (row.nth ≡ a.nth)
-    pub between : a.engine.is_open ≡ false → (ending_of a.status ≡ Some GaveUp → ⊥) → (ending_of a.status ≡ Some NoMemory → ⊥)
+    pub between : in_transaction a.engine ≡ false → (ending_of a.status ≡ Some GaveUp → ⊥) → (ending_of a.status ≡ Some NoMemory → ⊥)
         → (b : Between P) × (run_after (bytes_at base r.ended) (Some first) (of_thread a.thread r.ended) ≡ Some b) × IsBeforeTry n b a
 
   pub record RunsFrom (first : Between P) (base : List ℕ) (cells : Cells) (r : Rows) (a : Actor P) : Type 0 where
     pub runs : IsRun first base (cells.clock / 2) r a
     pub sees : (ending_of a.status ≡ Some NoMemory → ⊥) → Sees (words_at base r.ended) cells a.engine
-    pub starved : ending_of a.status ≡ Some NoMemory → a.engine.is_open ≡ false
-    pub reads : a.engine.is_open ≡ true → (row : Attempt) → active_of a.thread r.active ≡ Some row → row.at ≡ a.engine.snapshot / 2
+    pub starved : ending_of a.status ≡ Some NoMemory → in_transaction a.engine ≡ false
+    pub reads : in_transaction a.engine ≡ true → (row : Attempt) → active_of a.thread r.active ≡ Some row → row.at ≡ a.engine.snapshot / 2
 
   -- where the words were those of the commits, and the actor's attempts its player's run, they still are
   abbrev pub StillRuns : Cells → Rows → Actor P → Cells → Rows → Actor P → Type 0

@@ -4,8 +4,9 @@ use Rattle.itm_types.specs.declared.call.Call.{Call}
 use Rattle.itm_types.specs.declared.call.Call.TheVariants.{Commit}
 use Rattle.itm_types.specs.declared.step.Step.{Step}
 use Rattle.itm_types.specs.Memory.{AllFit}
-use Rattle.script_vm.specs.Depth.{depth_after, is_begin}
-use Rattle.norec_engine.specs.Core.{Core, came}
+use Rattle.itm_types.specs.Calls.{is_begin}
+use Rattle.script_vm.specs.Depth.{depth_after}
+use Rattle.norec_engine.specs.Core.{Core, came, in_transaction}
 use Rattle.norec_engine.specs.Proceeds.{IsAtOnce, IsLawful, IsSettled, IsWithin, Proceeds, StaysOn, most}
 use Rattle.norec_engine.specs.declared.answer.Next.{Next}
 use Rattle.norec_engine.specs.declared.answer.Next.TheVariants.{Step as Asks, Answer as Answers}
@@ -98,15 +99,15 @@ module _ {P : Type 0} (rules : Rules P) where
     pub room : (row : Attempt) → is_open ≡ true → active_of a.thread r.active ≡ Some row → length row.calls < vec_capacity a.spare
 
   pub record IsWaiting (r : Rows) (a : Actor P) (call : Call) (step : Step) : Type 0 where
-    pub nested : IsNested a.engine.is_open a.player
-    pub in_call : IsInCall a.engine.is_open r a call
+    pub nested : IsNested (in_transaction a.engine) a.player
+    pub in_call : IsInCall (in_transaction a.engine) r a call
     pub doing : a.engine.doing ≡ Some call
     pub waits : a.engine.waits ≡ Some step
     pub lawful : IsLawful a.engine step
     pub within : IsWithin a.engine
 
   pub record IsReady (a : Actor P) : Type 0 where
-    pub nested : IsNested a.engine.is_open a.player
+    pub nested : IsNested (in_transaction a.engine) a.player
     pub idle : a.engine.waits ≡ None
     pub free : a.engine.holds ≡ false
     pub nothing : a.pending ≡ None
@@ -119,7 +120,7 @@ module _ {P : Type 0} (rules : Rules P) where
   -- between two events, and within local work
   pub record IsSound (cells : Cells) (r : Rows) (a : Actor P) : Type 0 where
     pub tied : IsTied cells a.engine
-    pub kept : IsKept a.engine.is_open r a
+    pub kept : IsKept (in_transaction a.engine) r a
     pub status : StatusIs r a a.status
 
   -- ## How much is left to do
@@ -145,7 +146,7 @@ module _ {P : Type 0} (rules : Rules P) where
     pub kept : IsKept was r a
     pub nested : IsNested was a.player
     pub in_call : IsInCall was r a call
-    pub fits : AnswerFits was a.engine.is_open call answer
+    pub fits : AnswerFits was (in_transaction a.engine) call answer
     pub idle : a.engine.waits ≡ None
     pub free : a.engine.holds ≡ false
     pub status : a.status ≡ Ready
@@ -161,9 +162,9 @@ module _ {P : Type 0} (rules : Rules P) where
     pub engine : new.engine ≡ old.engine
     pub thread : new.thread ≡ old.thread
     pub retries : new.retries ≡ old.retries
-    pub kept : IsKept new.engine.is_open r new
+    pub kept : IsKept (in_transaction new.engine) r new
     pub rests : RestsAs new.status new
-    pub falls : new.status ≡ Ready → Falls was new.engine.is_open old new
+    pub falls : new.status ≡ Ready → Falls was (in_transaction new.engine) old new
 
   -- ## A call goes to the engine
 
@@ -184,8 +185,8 @@ module _ {P : Type 0} (rules : Rules P) where
     pub stays : StaysOn old.engine new.engine
     pub within : IsWithin new.engine
     pub settled : IsSettled new.engine
-    pub kept : IsKept old.engine.is_open r new
-    pub in_call : IsInCall old.engine.is_open r new call
+    pub kept : IsKept (in_transaction old.engine) r new
+    pub in_call : IsInCall (in_transaction old.engine) r new call
 
   -- memory was refused before the call came to the engine
   pub record IsUnasked (r : Rows) (old new : Actor P) : Type 0 where
@@ -193,12 +194,12 @@ module _ {P : Type 0} (rules : Rules P) where
     pub engine : new.engine ≡ old.engine
     pub pending : new.pending ≡ old.pending
     pub again : new.again ≡ old.again
-    pub kept : IsKept new.engine.is_open r new
+    pub kept : IsKept (in_transaction new.engine) r new
 
   -- no more is left to do than before
   pub record IsNoMore (old new : Actor P) : Type 0 where
-    pub whole_falls : whole new.engine.is_open new.player ≤ whole old.engine.is_open old.player
-    pub rank_falls : (k : ℕ) → whole old.engine.is_open old.player ≤ k → rank k new.engine.is_open new ≤ rank k old.engine.is_open old
+    pub whole_falls : whole (in_transaction new.engine) new.player ≤ whole (in_transaction old.engine) old.player
+    pub rank_falls : (k : ℕ) → whole (in_transaction old.engine) old.player ≤ k → rank k (in_transaction new.engine) new ≤ rank k (in_transaction old.engine) old
 
   -- the same call goes on, with fewer steps left
   pub record GoesOn (old new : Actor P) : Type 0 where
@@ -207,7 +208,7 @@ module _ {P : Type 0} (rules : Rules P) where
 
   -- what is left to do in local work
   abbrev pub work_left : ℕ → Actor P → ℕ
-  work_left k a = if is_ready a.status then rank k a.engine.is_open a + 1 else 0
+  work_left k a = if is_ready a.status then rank k (in_transaction a.engine) a + 1 else 0
 
   -- ## What comes next for a call
 
@@ -226,10 +227,10 @@ module _ {P : Type 0} (rules : Rules P) where
 
   -- what is left to do until the actor has ended
   abbrev pub run_left : ℕ → Actor P → ℕ
-  run_left k a = if is_waiting a.status then rank k a.engine.is_open a + 1 else 0
+  run_left k a = if is_waiting a.status then rank k (in_transaction a.engine) a + 1 else 0
 
   -- what an event leaves to do: the same call goes on, or, where it is over, less is left
   pub record HasLess (goes_on : Bool) (old new : Actor P) : Type 0 where
     pub on : goes_on ≡ true → (is_waiting new.status ≡ true) × (steps_left new.engine < steps_left old.engine)
     pub less : is_waiting new.status ≡ true → IsNoMore old new
-    pub over : goes_on ≡ false → (k : ℕ) → whole old.engine.is_open old.player ≤ k → run_left k new < run_left k old
+    pub over : goes_on ≡ false → (k : ℕ) → whole (in_transaction old.engine) old.player ≤ k → run_left k new < run_left k old

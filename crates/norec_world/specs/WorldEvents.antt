@@ -6,6 +6,7 @@ use Rattle.norec_world.specs.declared.fault.WorldFault.{WorldFault}
 use Rattle.norec_world.specs.declared.fault.WorldFault.TheVariants.{NoSuchActor, Ended, NoMemory}
 use Rattle.norec_world.specs.declared.schedule.Passes.{Passes}
 use Rattle.norec_engine.specs.Proceeds.{IsLawful}
+use Rattle.norec_engine.specs.Core.{in_transaction}
 use Rattle.norec_world.specs.declared.actor.Actor.{Actor}
 use Rattle.norec_world.specs.Cells.{cells_after}
 use Rattle.norec_world.specs.Status.{waiting_step, is_ready}
@@ -19,7 +20,7 @@ use Rattle.script_vm.specs.Rules.{Rules}
 
 -- what a transaction has read is of one memory, which the first commits left
 abbrev pub HasRead : {P : Type 0} → List ℕ → Rows → Actor P → Type 0
-HasRead base r a = a.engine.is_open ≡ true → let memory = words_at base r.ended (a.engine.snapshot / 2) in IsMemory a.engine.words memory × Agrees memory a.engine.log
+HasRead base r a = in_transaction a.engine ≡ true → let memory = words_at base r.ended (a.engine.snapshot / 2) in IsMemory a.engine.words memory × Agrees memory a.engine.log
 
 module _ {P : Type 0} (rules : Rules P) where
   -- the actor has changed by an event, and no other one has

@@ -1,5 +1,7 @@
 //! One actor.
 
+ghost use Rattle.norec_engine.specs.Core.{in_transaction};
+
 use crate::attempt::{Attempt, End, Entry};
 use crate::memory::Memory;
 use crate::recorded::Recorded;
@@ -121,9 +123,9 @@ impl<P: Player> Actor<P> {
 
     /// The open attempt is told where the engine reads.
     fn follow(&self, recorded: &mut Recorded)
-        requires { IsKept self.now.engine.is_open recorded.old self.now }
-        ensures kept { IsKept self.now.engine.is_open recorded.new self.now }
-        ensures told { IsTold self.now.thread self.now.engine.is_open recorded.old (self.now.engine.snapshot / 2) recorded.new }
+        requires { IsKept (in_transaction self.now.engine) recorded.old self.now }
+        ensures kept { IsKept (in_transaction self.now.engine) recorded.new self.now }
+        ensures told { IsTold self.now.thread (in_transaction self.now.engine) recorded.old (self.now.engine.snapshot / 2) recorded.new }
         ensures others { KeepsOthers self.now recorded.old self.now recorded.new }
         ensures status { (status : Status) → StatusIs P.Player recorded.old self.now status
             → StatusIs P.Player recorded.new self.now status }

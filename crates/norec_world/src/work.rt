@@ -1,6 +1,7 @@
 //! The local work of an actor: what it does between two operations.
 
 ghost use Rattle.std.specs.Prelude.{◌≡◌, ◌+◌, ◌/◌, ◌≤◌, ℕ, Bool, true, false, [], if◌then◌else◌, Some, None, IfOk, OnErr};
+ghost use Rattle.norec_engine.specs.Core.{in_transaction};
 
 use crate::actor::{Actor, Status};
 use crate::attempt::{Attempt, End, Entry, Outcome};
@@ -18,7 +19,7 @@ impl<P: Player> Actor<P> {
     ghost use Rattle.norec_world.specs.Status.{is_ready, ending_of};
     ghost use Rattle.norec_world.specs.Records.{Asks, Records, StopsAt};
     ghost use Rattle.norec_engine.specs.Undoing.{after_undoing};
-    ghost use Rattle.script_vm.specs.Depth.{is_begin};
+    ghost use Rattle.itm_types.specs.Calls.{is_begin};
     ghost use Rattle.norec_world.specs.LocalWork.{IsShort};
     ghost use Rattle.norec_world.specs.Moments.{HasWorked};
     ghost use Rattle.norec_world.specs.OthersAttempts.{KeepsOthers};
@@ -40,7 +41,7 @@ impl<P: Player> Actor<P> {
         requires sound { IsSound P.Player memory.now recorded.old self.old }
         requires ready { self.old.status ≡ Status.Ready }
         ensures worked { HasWorked P.Player memory.now recorded.old self.old recorded.new self.new }
-        ensures falls { self.new.status ≡ Status.Ready → Falls P.Player self.old.engine.is_open self.new.engine.is_open self.old self.new }
+        ensures falls { self.new.status ≡ Status.Ready → Falls P.Player (in_transaction self.old.engine) (in_transaction self.new.engine) self.old self.new }
     {
         let Some(call) = self.player.next() else {
             self.status = Status::Ended(End::Finished);
@@ -61,15 +62,15 @@ impl<P: Player> Actor<P> {
         recorded: &mut Recorded,
         call: &Call,
     ) -> Result<Next, AllocError>
-        requires kept { IsKept self.old.engine.is_open recorded.old self.old }
+        requires kept { IsKept (in_transaction self.old.engine) recorded.old self.old }
         requires ready { IsReady P.Player self.old }
         requires asks { P.next_call self.old.player ≡ Some call.now }
         ensures asked { IfOk result (λ next. IsAsked P.Player recorded.new self.old self.new call.now next) }
         ensures told { IfOk result (λ next. Asks memory.now.clock recorded.old recorded.new self.old self.new call.now next) }
         ensures unasked { OnErr result (IsUnasked P.Player recorded.new self.old self.new) }
         ensures rows { recorded.new ≡ record recorded.old { room = recorded.new.room } }
-        ensures grows { OnErr result (self.old.engine.is_open ≡ false → is_begin call.now ≡ true) }
-        ensures short { OnErr result (self.old.engine.is_open ≡ true → IsShort recorded.old self.old call.now) }
+        ensures grows { OnErr result (in_transaction self.old.engine ≡ false → is_begin call.now ≡ true) }
+        ensures short { OnErr result (in_transaction self.old.engine ≡ true → IsShort recorded.old self.old call.now) }
         ensures others { KeepsOthers self.old recorded.old self.new recorded.new }
     {
         match call {
@@ -204,22 +205,22 @@ impl<P: Player> Actor<P> {
 
     /// Memory was refused before the call came to the engine: the actor ends.
     fn starve(&mut self, recorded: &mut Recorded)
-        requires kept { IsKept self.old.engine.is_open recorded.old self.old }
+        requires kept { IsKept (in_transaction self.old.engine) recorded.old self.old }
         requires free { self.old.engine.holds ≡ false }
-        ensures kept { IsKept self.new.engine.is_open recorded.new self.new }
+        ensures kept { IsKept (in_transaction self.new.engine) recorded.new self.new }
         ensures tied { (cells : Cells) → IsTied cells self.old.engine → IsTied cells self.new.engine }
         ensures status { self.new.status ≡ Status.Ended End.NoMemory }
         ensures thread { self.new.thread ≡ self.old.thread }
         ensures player { self.new.player ≡ self.old.player }
-        ensures closed { self.new.engine.is_open ≡ false }
+        ensures closed { in_transaction self.new.engine ≡ false }
         ensures engine { self.new.engine ≡ after_undoing self.old.engine }
         ensures holds { self.new.engine.holds ≡ self.old.engine.holds }
         ensures same { (self.new.nth ≡ self.old.nth) × (self.new.retries ≡ self.old.retries) }
         ensures limit { (self.new.engine.max_commits ≡ self.old.engine.max_commits) × (self.new.engine.patience ≡ self.old.engine.patience) }
         ensures pending { self.new.pending ≡ self.old.pending }
         ensures again { self.new.again ≡ self.old.again }
-        ensures row { self.old.engine.is_open ≡ true → StopsAt self.old.thread recorded.old (self.old.engine.snapshot / 2) Outcome.NoMemory recorded.new }
-        ensures none { self.old.engine.is_open ≡ false → recorded.new ≡ recorded.old }
+        ensures row { in_transaction self.old.engine ≡ true → StopsAt self.old.thread recorded.old (self.old.engine.snapshot / 2) Outcome.NoMemory recorded.new }
+        ensures none { in_transaction self.old.engine ≡ false → recorded.new ≡ recorded.old }
         ensures others { KeepsOthers self.old recorded.old self.new recorded.new }
     {
         if let Undone::Done = self.engine.abort() {

@@ -3,8 +3,7 @@ use Rattle.std.specs.Prelude.{ℕ, suc, ◌-◌, ◌==◌, ◌&&◌, Bool, true,
 use Rattle.itm_types.specs.declared.call.Call.{Call}
 use Rattle.itm_types.specs.declared.call.Reply.{Reply}
 use Rattle.itm_types.specs.declared.call.Reply.TheVariants.{Done, Code}
-pub use Rattle.itm_types.specs.Calls.{is_begin}
-use Rattle.itm_types.specs.Calls.{is_commit}
+use Rattle.itm_types.specs.Calls.{is_begin, is_commit}
 
 abbrev pub is_code : Reply → Bool
 is_code (Code n) = true

@@ -1,5 +1,5 @@
 use Rattle.std.proofs.Common.{◌≡◌, ◌/◌, ℕ, true, refl, sym, ap, subst, ◌∙◌}
-use Rattle.norec_engine.specs.Core.{Core}
+use Rattle.norec_engine.specs.Core.{Core, in_transaction}
 use Rattle.norec_engine.specs.Undoing.{after_undoing}
 use Rattle.norec_world.specs.declared.attempt.Outcome.TheVariants as outcomes
 use Rattle.norec_world.specs.declared.actor.Status.TheVariants.{Waits}
@@ -15,7 +15,7 @@ use Rattle.norec_world.proofs.actor.Actor.call_next.Goals as goal
 
 pub settle-requires : goal.settle-requires
 settle-requires g c = (
-  c.args.self.now.engine.is_open,
+  in_transaction c.args.self.now.engine,
   due (call_taken (calling c.requires.sound c.requires.ready c.in-Ok-Answer.field-0-is c.in-Ok-Answer.ensures.asked c.in-Ok-Answer.ensures.told)),
 )
 
@@ -30,7 +30,7 @@ returns-in-Ok-Step-clause-worked g c =
 pub returns-in-Ok-Answer-clause-worked : goal.returns-in-Ok-Answer-clause-worked
 returns-in-Ok-Answer-clause-worked g c =
     let m = calling c.requires.sound c.requires.ready c.in-Ok-Answer.field-0-is c.in-Ok-Answer.ensures.asked c.in-Ok-Answer.ensures.told in
-    let was = c.args.self.now.engine.is_open in
+    let was = in_transaction c.args.self.now.engine in
     let d = due (call_taken m) in
     call_worked g.met.P.Player.laws m c.settle.new.recorded c.settle.new.self (c.settle.ensures.settled was d) (c.settle.ensures.records was d) (sym c.next.ensures ∙ c.in-Some.is)
     (others_twice c.args.self.now c.ask.new.self c.settle.new.self c.args.recorded.now c.ask.new.recorded c.settle.new.recorded c.ask.ensures.others (c.settle.ensures.others was d))
@@ -38,7 +38,7 @@ returns-in-Ok-Answer-clause-worked g c =
 pub returns-in-Ok-Answer-clause-falls : goal.returns-in-Ok-Answer-clause-falls
 returns-in-Ok-Answer-clause-falls g c =
     let m = calling c.requires.sound c.requires.ready c.in-Ok-Answer.field-0-is c.in-Ok-Answer.ensures.asked c.in-Ok-Answer.ensures.told in
-    call_falls m (c.settle.ensures.settled c.args.self.now.engine.is_open (due (call_taken m)))
+    call_falls m (c.settle.ensures.settled (in_transaction c.args.self.now.engine) (due (call_taken m)))
 
 pub returns-in-Err-clause-worked : goal.returns-in-Err-clause-worked
 returns-in-Err-clause-worked g c =
@@ -56,11 +56,11 @@ returns-in-Err-clause-worked g c =
       counts = (starved.same.0 ∙ u.same.nth, starved.again ∙ u.again, starved.pending ∙ u.pending);
       engine = starved.engine ∙ ap after_undoing u.engine;
       room = c.ask.new.recorded.room;
-      stops = λ o. (let o' : c.ask.new.self.engine.is_open ≡ true = ap (λ (e : Core). e.is_open) u.engine ∙ o in
+      stops = λ o. (let o' : in_transaction c.ask.new.self.engine ≡ true = ap in_transaction u.engine ∙ o in
           subst (λ (e : Core). StopsAt c.args.self.now.thread (record c.args.recorded.now { room = c.ask.new.recorded.room }) (e.snapshot / 2) outcomes.NoMemory c.starve.new.recorded) u.engine
           (subst (λ (x : Rows). StopsAt c.args.self.now.thread x (c.ask.new.self.engine.snapshot / 2) outcomes.NoMemory c.starve.new.recorded) roomy
           (subst (λ (n : ℕ). StopsAt n c.ask.new.recorded (c.ask.new.self.engine.snapshot / 2) outcomes.NoMemory c.starve.new.recorded) u.same.thread (starved.row o'))));
-      stays = λ o. starved.none (ap (λ (e : Core). e.is_open) u.engine ∙ o) ∙ roomy;
+      stays = λ o. starved.none (ap in_transaction u.engine ∙ o) ∙ roomy;
     } in
     starve_worked g.met.P.Player.laws c.requires.sound c.requires.ready c.starve.new.recorded c.starve.new.self
     (record { tied = starved.tied c.args.memory.now (subst (IsTied c.args.memory.now) (sym u.engine) c.requires.sound.tied); kept = starved.kept; status = subst (StatusIs g.P.Player c.starve.new.recorded c.starve.new.self) (sym starved.status) tt })

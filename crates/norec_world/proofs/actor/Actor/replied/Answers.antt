@@ -1,5 +1,6 @@
 use Rattle.norec_world.proofs.OthersAttempts.{others_opened, others_changed}
 use Rattle.std.proofs.Common.{◌≡◌, ◌/◌, refl, Some, subst, ◌++◌, ◌∷◌, [], ap, ◌∙◌, sym, Bool, true, false, None, is_some}
+use Rattle.norec_engine.specs.Core.{in_transaction}
 use Rattle.norec_world.specs.declared.attempt.Attempt.{Attempt}
 use Rattle.norec_world.proofs.SoundAnswers.{after_reply}
 use Rattle.norec_world.proofs.RecordedRows.{row_stays, was_open, row_opened, row_changed, row_none}
@@ -12,10 +13,10 @@ returns-else-is_open-clause-settled g c was d =
     let l = g.met.P.Player in
     let a = c.args.self.now in
     let r = c.args.recorded.now in
-    let closed : a.engine.is_open ≡ false = sym c.is_open-is_open.ensures ∙ c.if-is_open.false in
+    let closed : in_transaction a.engine ≡ false = sym c.is_open-is_open.ensures ∙ c.if-is_open.false in
     after_reply g.P.Player l.laws r r a c.args.call
     was c.args.reply d c.answer.new.self c.answer.ensures a.spare d.kept.empty c.take.new.self c.take.ensures.after a.again
-    (row_stays r a.thread was a.engine.is_open d.fits.1 closed d.kept.row)
+    (row_stays r a.thread was (in_transaction a.engine) d.fits.1 closed d.kept.row)
 
 pub returns-then-is_open-clause-settled : goal.returns-then-is_open-clause-settled
 returns-then-is_open-clause-settled g c was d =
@@ -28,10 +29,10 @@ returns-then-is_open-clause-settled g c was d =
     let p = d.in_call.opens c.in-Some.attempt some in
     let shut : was ≡ true → ⊥ = λ e. (let n = d.in_call.inside e in absurd (cc)) in
     let none : active_of a.thread r.active ≡ None = row_none r a.thread was shut d.kept.row in
-    let opened : a.engine.is_open ≡ true = sym c.is_open-is_open.ensures ∙ c.if-is_open.true in
+    let opened : in_transaction a.engine ≡ true = sym c.is_open-is_open.ensures ∙ c.if-is_open.true in
     after_reply g.P.Player l.laws r r' a c.args.call
     was c.args.reply d c.answer.new.self c.answer.ensures a.spare d.kept.empty c.take.new.self c.take.ensures.after true
-    (row_opened r r' a.thread a.engine.is_open row opened c.open.ensures none p.thread p.outcome)
+    (row_opened r r' a.thread (in_transaction a.engine) row opened c.open.ensures none p.thread p.outcome)
 
 pub returns-then-is_open-2-clause-settled : goal.returns-then-is_open-2-clause-settled
 returns-then-is_open-2-clause-settled g c was d =
@@ -39,23 +40,23 @@ returns-then-is_open-2-clause-settled g c was d =
     let a = c.args.self.now in
     let r = c.args.recorded.now in
     let r' = c.add.new.self in
-    let opened : a.engine.is_open ≡ true = sym c.is_open-is_open.ensures ∙ c.if-is_open-2.true in
+    let opened : in_transaction a.engine ≡ true = sym c.is_open-is_open.ensures ∙ c.if-is_open-2.true in
     let none : a.pending ≡ None = sym c.in-None.ensures.value in
-    let open_before : was ≡ true = was_open was a.engine.is_open c.args.call c.args.reply (λ e. sym (d.in_call.begins e) ∙ ap is_some none) d.fits.0 opened in
+    let open_before : was ≡ true = was_open was (in_transaction a.engine) c.args.call c.args.reply (λ e. sym (d.in_call.begins e) ∙ ap is_some none) d.fits.0 opened in
     let h : HasRow true r a.thread = subst (λ (b : Bool). HasRow b r a.thread) open_before d.kept.row in
     after_reply g.P.Player l.laws r r' a c.args.call
     was c.args.reply d c.answer.new.self c.answer.ensures c.add.new.spare c.add.ensures.empty c.take.new.self c.take.ensures.after a.again
-    (row_changed r r' a.thread a.engine.is_open (λ row. record row { calls = row.calls ++ record { call = c.args.call; reply = c.args.reply } ∷ [] }) (λ x. refl) (λ x. refl) c.add.ensures.added h opened)
+    (row_changed r r' a.thread (in_transaction a.engine) (λ row. record row { calls = row.calls ++ record { call = c.args.call; reply = c.args.reply } ∷ [] }) (λ x. refl) (λ x. refl) c.add.ensures.added h opened)
 
 pub returns-else-is_open-2-clause-settled : goal.returns-else-is_open-2-clause-settled
 returns-else-is_open-2-clause-settled g c was d =
     let l = g.met.P.Player in
     let a = c.args.self.now in
     let r = c.args.recorded.now in
-    let closed : a.engine.is_open ≡ false = sym c.is_open-is_open.ensures ∙ c.if-is_open-2.false in
+    let closed : in_transaction a.engine ≡ false = sym c.is_open-is_open.ensures ∙ c.if-is_open-2.false in
     after_reply g.P.Player l.laws r r a c.args.call
     was c.args.reply d c.answer.new.self c.answer.ensures a.spare d.kept.empty c.take.new.self c.take.ensures.after a.again
-    (row_stays r a.thread was a.engine.is_open d.fits.1 closed d.kept.row)
+    (row_stays r a.thread was (in_transaction a.engine) d.fits.1 closed d.kept.row)
 
 pub returns-then-is_open-clause-others : goal.returns-then-is_open-clause-others
 returns-then-is_open-clause-others g c was d =

@@ -3,7 +3,7 @@ use Rattle.std.proofs.Common.{◌≡◌, ◌/◌, ap, ◌∙◌, refl, sym, subs
 use Rattle.norec_engine.specs.declared.answer.Answer.TheVariants.{Conflict, Busy, Full}
 use Rattle.norec_world.specs.declared.actor.Actor.{Actor}
 use Rattle.norec_world.specs.declared.attempt.Outcome.TheVariants as outcomes
-use Rattle.norec_engine.specs.Core.{Core}
+use Rattle.norec_engine.specs.Core.{Core, in_transaction}
 use Rattle.norec_world.specs.Rows.{with_ended}
 use Rattle.norec_world.specs.Records.{Records}
 use Rattle.norec_world.specs.declared.attempt.End.TheVariants.{GaveUp}
@@ -17,7 +17,7 @@ returns-in-Conflict-clause-settled g c was d =
     let a = c.args.self.now in
     let r = c.args.recorded.now in
     let r' = c.end.new.self in
-    let fits : AnswerFits was a.engine.is_open c.args.call (Conflict c.in-Conflict.clock c.in-Conflict.word) = subst (AnswerFits was a.engine.is_open c.args.call) c.in-Conflict.is d.fits in
+    let fits : AnswerFits was (in_transaction a.engine) c.args.call (Conflict c.in-Conflict.clock c.in-Conflict.word) = subst (AnswerFits was (in_transaction a.engine) c.args.call) c.in-Conflict.is d.fits in
     subst (IsSettledBy g.P.Player was r' a) (sym c.retry.ensures)
     (after_try g.P.Player l.laws r r' a c.args.call
     was d.kept d.nested d.idle d.free d.status a.pending (d.in_call.inside fits.0) c.restart.new.self
@@ -30,7 +30,7 @@ returns-in-Busy-clause-settled g c was d =
     let l = g.met.P.Player in
     let a = c.args.self.now in
     let r = c.args.recorded.now in
-    let fits : AnswerFits was a.engine.is_open c.args.call (Busy c.in-Busy.clock) = subst (AnswerFits was a.engine.is_open c.args.call) c.in-Busy.is d.fits in
+    let fits : AnswerFits was (in_transaction a.engine) c.args.call (Busy c.in-Busy.clock) = subst (AnswerFits was (in_transaction a.engine) c.args.call) c.in-Busy.is d.fits in
     let h : HasRow false r a.thread = subst (λ (b : Bool). HasRow b r a.thread) fits.0 d.kept.row in
     subst (IsSettledBy g.P.Player was r a) (sym c.retry-in-Busy.ensures)
     (after_try g.P.Player l.laws r r a c.args.call
@@ -45,7 +45,7 @@ returns-in-Full-clause-settled g c was d =
     let a = c.args.self.now in
     let r = c.args.recorded.now in
     let r' = c.end-in-Full.new.self in
-    let fits : AnswerFits was a.engine.is_open c.args.call (Full c.in-Full.at) = subst (AnswerFits was a.engine.is_open c.args.call) c.in-Full.is d.fits in
+    let fits : AnswerFits was (in_transaction a.engine) c.args.call (Full c.in-Full.at) = subst (AnswerFits was (in_transaction a.engine) c.args.call) c.in-Full.is d.fits in
     after_end g.P.Player l.laws r r' a c.args.call
     was GaveUp d.kept fits.1 c.end-in-Full.ensures.gone
 
@@ -53,7 +53,7 @@ pub returns-in-Conflict-clause-others : goal.returns-in-Conflict-clause-others
 returns-in-Conflict-clause-others g c was d =
     let a = c.args.self.now in
     let r = c.args.recorded.now in
-    let fits : AnswerFits was a.engine.is_open c.args.call (Conflict c.in-Conflict.clock c.in-Conflict.word) = subst (AnswerFits was a.engine.is_open c.args.call) c.in-Conflict.is d.fits in
+    let fits : AnswerFits was (in_transaction a.engine) c.args.call (Conflict c.in-Conflict.clock c.in-Conflict.word) = subst (AnswerFits was (in_transaction a.engine) c.args.call) c.in-Conflict.is d.fits in
     let h : HasRow true r a.thread = subst (λ (b : Bool). HasRow b r a.thread) fits.0 d.kept.row in
     others_ended a c.retry.new.self r c.end.new.self h.0 _ h.1 refl (ap (λ (x : _). x.thread) c.retry.ensures ∙ retried_thread _) (ap (λ (x : _). x.pending) c.retry.ensures ∙ retried_pending _) (c.end.ensures.ended h.0 h.1)
 
@@ -61,7 +61,7 @@ pub returns-in-Full-clause-others : goal.returns-in-Full-clause-others
 returns-in-Full-clause-others g c was d =
     let a = c.args.self.now in
     let r = c.args.recorded.now in
-    let fits : AnswerFits was a.engine.is_open c.args.call (Full c.in-Full.at) = subst (AnswerFits was a.engine.is_open c.args.call) c.in-Full.is d.fits in
+    let fits : AnswerFits was (in_transaction a.engine) c.args.call (Full c.in-Full.at) = subst (AnswerFits was (in_transaction a.engine) c.args.call) c.in-Full.is d.fits in
     let h : HasRow true r a.thread = subst (λ (b : Bool). HasRow b r a.thread) fits.0 d.kept.row in
     others_ended a _ r c.end-in-Full.new.self h.0 _ h.1 refl refl refl (c.end-in-Full.ensures.ended h.0 h.1)
 

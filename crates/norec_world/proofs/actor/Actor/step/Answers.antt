@@ -1,5 +1,6 @@
 use Rattle.std.proofs.Common.{◌≡◌, Some, ap, sym, ◌∙◌}
 use Rattle.norec_engine.specs.Moves.{IsResumed}
+use Rattle.norec_engine.specs.Core.{in_transaction}
 use Rattle.norec_world.specs.Cells.{cells_after}
 use Rattle.norec_world.specs.Status.{waiting_step}
 use Rattle.norec_world.specs.Tries.{prior_of}
@@ -17,7 +18,7 @@ proceed-requires g c =
     let e = c.resume-next.ensures in
     let m = stepping c.requires.sound (sym c.in-Waits.ensures.value) c.apply-seen.ensures.found c.apply-seen.ensures.cells c.apply-seen.ensures.fit
     (record { proceeds = e.proceeds; joins = e.joins; order = e.order; ends = e.ends; tries = e.tries; snapshot = e.snapshot; log = e.log; asks = e.asks; settled = e.settled }) e.count in
-    (c.args.self.now.engine.is_open, due (step_taken m c.replace.new.dest c.replace.ensures.after))
+    (in_transaction c.args.self.now.engine, due (step_taken m c.replace.new.dest c.replace.ensures.after))
 
 pub follow-requires : goal.follow-requires
 follow-requires g c =
@@ -25,7 +26,7 @@ follow-requires g c =
     let m = stepping c.requires.sound (sym c.in-Waits.ensures.value) c.apply-seen.ensures.found c.apply-seen.ensures.cells c.apply-seen.ensures.fit
     (record { proceeds = e.proceeds; joins = e.joins; order = e.order; ends = e.ends; tries = e.tries; snapshot = e.snapshot; log = e.log; asks = e.asks; settled = e.settled }) e.count in
     let taken = step_taken m c.replace.new.dest c.replace.ensures.after in
-    let was = c.args.self.now.engine.is_open in
+    let was = in_transaction c.args.self.now.engine in
     (now taken (c.proceed.ensures.done was (due taken)) (c.proceed.ensures.tells was (due taken))).sound.kept
 
 pub returns-in-Waits : goal.returns-in-Waits
@@ -35,7 +36,7 @@ returns-in-Waits g c =
     let m = stepping c.requires.sound (sym c.in-Waits.ensures.value) c.apply-seen.ensures.found c.apply-seen.ensures.cells c.apply-seen.ensures.fit resumed e.count in
     let ready = c.replace.ensures.after in
     let taken = step_taken m c.replace.new.dest ready in
-    let was = c.args.self.now.engine.is_open in
+    let was = in_transaction c.args.self.now.engine in
     let last = c.proceed.new.self in
     let done = c.proceed.ensures.done was (due taken) in
     let tells = c.proceed.ensures.tells was (due taken) in

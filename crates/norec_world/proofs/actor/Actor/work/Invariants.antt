@@ -1,3 +1,4 @@
+use Rattle.norec_engine.specs.Core.{in_transaction}
 use Rattle.norec_world.specs.Moments.{HasWorked}
 use Rattle.norec_world.specs.Sound.{whole, work_left}
 use Rattle.norec_world.proofs.actor.Actor.work.Given as goal
@@ -6,4 +7,4 @@ abbrev pub invariant-loop-self : goal.invariant-loop-self
 invariant-loop-self g l = HasWorked g.P.Player l.memory l.initial.recorded l.initial.self l.recorded l.self
 
 abbrev pub decreases-loop-self : goal.decreases-loop-self
-decreases-loop-self g l = work_left g.P.Player (whole g.P.Player l.initial.self.engine.is_open l.initial.self.player) l.self
+decreases-loop-self g l = work_left g.P.Player (whole g.P.Player (in_transaction l.initial.self.engine) l.initial.self.player) l.self
