@@ -5,3 +5,4 @@ pub mod Entries
 pub mod Refusals
 pub mod Memory
 pub mod Slices
+pub mod Limits

@@ -1,5 +1,6 @@
 -- The engine's fields as what its callers see, and what is true of them.
-use Rattle.std.specs.Prelude.{◌≡◌, ◌≢◌, ℕ, ◌+◌, ◌-◌, ◌*◌, ◌/◌, ◌%◌, ◌^◌, ◌<◌, ◌≤◌, suc, Bool, true, false, List, [], ◌∷◌, length, take, Option, None, Some}
+use Rattle.std.specs.Prelude.{◌≡◌, ◌≢◌, ℕ, ◌+◌, ◌-◌, ◌*◌, ◌/◌, ◌%◌, ◌<◌, ◌≤◌, suc, Bool, true, false, List, [], ◌∷◌, length, take, Option, None, Some}
+use Rattle.itm_types.specs.declared.limits.TheConstants.{MAX_COMMITS, MAX_PATIENCE, MAX_WORDS}
 use Rattle.itm_types.specs.declared.row.LogRow.{LogRow}
 use Rattle.write_set.specs.declared.row.Row.{Row}
 use Rattle.itm_types.specs.declared.call.Call.{Call}
@@ -233,9 +234,9 @@ InPhase d (at.Store row (Some word)) = IsHolding d (2 * row + 2) × (row < lengt
 InPhase d at.Free = IsHolding d (2 * length d.writes + 1)
 
 pub record IsSound (d : Data) (phase : Phase) : Type 0 where
-  pub patient : (0 < d.limits.patience) × (d.limits.patience ≤ 1000)
-  pub commits : d.limits.max_commits < 2 ^ 62
-  pub small : d.words ≤ 8192
+  pub patient : (0 < d.limits.patience) × (d.limits.patience ≤ MAX_PATIENCE)
+  pub commits : d.limits.max_commits ≤ MAX_COMMITS
+  pub small : d.words ≤ MAX_WORDS
   pub even : d.snapshot % 2 ≡ 0
   pub reached : d.snapshot ≤ d.clock
   pub in_phase : InPhase d phase
@@ -325,9 +326,9 @@ pub record IsEnded (old new : Data) : Type 0 where
 
 -- a round may be tried
 pub record MayTry (d : Data) (aim : Aim) : Type 0 where
-  pub patient : (0 < d.limits.patience) × (d.limits.patience ≤ 1000)
-  pub commits : d.limits.max_commits < 2 ^ 62
-  pub small : d.words ≤ 8192
+  pub patient : (0 < d.limits.patience) × (d.limits.patience ≤ MAX_PATIENCE)
+  pub commits : d.limits.max_commits ≤ MAX_COMMITS
+  pub small : d.words ≤ MAX_WORDS
   pub even : d.snapshot % 2 ≡ 0
   pub is_open : IsOpen d
   pub may : Aims d aim
@@ -336,9 +337,9 @@ pub record MayTry (d : Data) (aim : Aim) : Type 0 where
 
 -- the next piece of a read may be taken
 pub record MayGather (d : Data) (r : Reading) : Type 0 where
-  pub patient : (0 < d.limits.patience) × (d.limits.patience ≤ 1000)
-  pub commits : d.limits.max_commits < 2 ^ 62
-  pub small : d.words ≤ 8192
+  pub patient : (0 < d.limits.patience) × (d.limits.patience ≤ MAX_PATIENCE)
+  pub commits : d.limits.max_commits ≤ MAX_COMMITS
+  pub small : d.words ≤ MAX_WORDS
   pub even : d.snapshot % 2 ≡ 0
   pub is_open : IsOpen d
   pub reading : IsReading d r
@@ -347,9 +348,9 @@ pub record MayGather (d : Data) (r : Reading) : Type 0 where
 
 -- a round goes on: its rows before this one are as logged
 pub record InRows (d : Data) (aim : Aim) (row : ℕ) : Type 0 where
-  pub patient : (0 < d.limits.patience) × (d.limits.patience ≤ 1000)
-  pub commits : d.limits.max_commits < 2 ^ 62
-  pub small : d.words ≤ 8192
+  pub patient : (0 < d.limits.patience) × (d.limits.patience ≤ MAX_PATIENCE)
+  pub commits : d.limits.max_commits ≤ MAX_COMMITS
+  pub small : d.words ≤ MAX_WORDS
   pub even : d.snapshot % 2 ≡ 0
   pub round : InRound d aim (row + 1)
   pub steady : d.clock % 2 ≡ 0
@@ -357,9 +358,9 @@ pub record InRows (d : Data) (aim : Aim) (row : ℕ) : Type 0 where
 
 -- the clock may be taken
 pub record MayExchange (d : Data) : Type 0 where
-  pub patient : (0 < d.limits.patience) × (d.limits.patience ≤ 1000)
-  pub commits : d.limits.max_commits < 2 ^ 62
-  pub small : d.words ≤ 8192
+  pub patient : (0 < d.limits.patience) × (d.limits.patience ≤ MAX_PATIENCE)
+  pub commits : d.limits.max_commits ≤ MAX_COMMITS
+  pub small : d.words ≤ MAX_WORDS
   pub even : d.snapshot % 2 ≡ 0
   pub is_open : IsOpen d
   pub may : MayCommit d
@@ -368,9 +369,9 @@ pub record MayExchange (d : Data) : Type 0 where
 
 -- the clock is held, and this many rows are stored
 pub record InStores (d : Data) (row : ℕ) : Type 0 where
-  pub patient : (0 < d.limits.patience) × (d.limits.patience ≤ 1000)
-  pub commits : d.limits.max_commits < 2 ^ 62
-  pub small : d.words ≤ 8192
+  pub patient : (0 < d.limits.patience) × (d.limits.patience ≤ MAX_PATIENCE)
+  pub commits : d.limits.max_commits ≤ MAX_COMMITS
+  pub small : d.words ≤ MAX_WORDS
   pub even : d.snapshot % 2 ≡ 0
   pub holding : IsHolding d (2 * row)
   pub far : row ≤ length d.writes

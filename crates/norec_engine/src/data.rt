@@ -1,8 +1,7 @@
 //! What an engine keeps beside the phase.
 
 use crate::arena::Arena;
-use crate::limits::Limits;
-use itm_types::{Props, Value};
+use itm_types::{Limits, Props, Value};
 use value_log::ValueLog;
 use write_set::WriteSet;
 

@@ -17,7 +17,7 @@ use crate::answer::Answer;
 use crate::data::Data;
 use crate::phase::{Aim, Phase, Reading, Turn};
 use crate::rounds::try_round;
-use itm_types::{Call, LogRow, ReadHint, Refusal, Reply, Value, Width};
+use itm_types::{Call, LogRow, MAX_WORDS, ReadHint, Refusal, Reply, Value, Width};
 use std::alloc::AllocError;
 use std::mem;
 use word_pieces::{Piece, merge};
@@ -72,7 +72,7 @@ pub(crate) fn read(
 
 /// Whether so many bytes from a place on lie within the memory.
 pub(crate) fn is_within(words: u32, at: u64, size: u8) -> bool
-    requires { words ≤ 8192 }
+    requires { words ≤ MAX_WORDS }
     ensures { result ≡ nat_le (at + size) (8 * words) }
 {
     let bytes = 8 * u64::from(words);
