@@ -6,5 +6,5 @@ mod bytes;
 mod limits;
 mod plain;
 
-pub use limits::{MAX_ARENA, MAX_DEPTH, MAX_MEMORY, WORD};
+pub use limits::{MAX_DEPTH, WORD};
 pub use plain::Plain;

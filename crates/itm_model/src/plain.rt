@@ -7,8 +7,8 @@ ghost use Rattle.itm_model.specs.Places.{in_range};
 
 use crate::block::{Block, Saved};
 use crate::bytes::{is_in_range, replace, value_at};
-use crate::limits::{MAX_ARENA, MAX_DEPTH, MAX_MEMORY, WORD};
-use itm_types::{Call, Props, Refusal, Reply, Width};
+use crate::limits::{MAX_DEPTH, WORD};
+use itm_types::{Call, MAX_ARENA, MAX_MEMORY, Props, Refusal, Reply, Width};
 use std::alloc::{AllocError, Global};
 use std::marker::Model;
 

@@ -6,3 +6,4 @@ pub mod Refusals
 pub mod Calls
 pub mod Memory
 pub mod Slices
+pub mod Limits

@@ -1,4 +1,5 @@
-//! What every layer speaks of: accesses, entry points and their names, calls and replies, atomic steps, and rows of words.
+//! What every layer speaks of: accesses, entry points and their names, calls and replies, atomic steps, rows of words, and
+//! limits.
 #![tactic(auto)]
 
 mod access;
@@ -7,6 +8,7 @@ mod copy;
 mod datum;
 mod entries;
 mod entry;
+mod limits;
 mod names;
 mod row;
 mod step;
@@ -17,6 +19,9 @@ pub use copy::{CopyPair, CopySide, SharedSide};
 pub use datum::Datum;
 pub use entries::all_entries;
 pub use entry::{Control, Entry};
+pub use limits::{
+    Limits, MAX_ACTORS, MAX_ARENA, MAX_COMMITS, MAX_MEMORY, MAX_PATIENCE, MAX_RETRIES, MAX_WORDS,
+};
 pub use names::{entry_of, name_of};
 pub use row::LogRow;
 pub use step::Step;

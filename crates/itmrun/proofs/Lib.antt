@@ -2,6 +2,7 @@ pub mod Worked
 pub mod WorkedPages
 pub mod WorkedRuns
 pub mod Padding
+pub mod LowBytes
 pub mod BegunBlocks
 pub mod TextPieces
 pub mod AppendedTexts

@@ -1,5 +1,5 @@
 -- What is told of a program's world is what its one thread does alone.
-use Rattle.std.proofs.Common.{◌≡◌, ℕ, ◌*◌, ◌/◌, ◌%◌, List, [], ◌∷◌, length, map, replicate, Option, None, Some, refl, sym, ap, subst, ◌∙◌, arith}
+use Rattle.std.proofs.Common.{◌≡◌, ℕ, ◌*◌, ◌/◌, ◌%◌, List, [], ◌∷◌, length, map, replicate, Option, None, Some, sym, ap, subst, ◌∙◌, arith}
 use Rattle.std.specs.Prelude.{slice_index_or}
 use Rattle.std.proofs.lemmas.List.{length-map}
 use Rattle.itm_model.specs.declared.limits.TheConstants.{MAX_DEPTH}
@@ -32,7 +32,7 @@ record BeganAs (p : Listing) (w : World Thread) : Type 0 where
   pub players : w.opening ≡ players_of p
   pub base : w.base ≡ opening_of p
   pub arena : w.arena ≡ 0
-  pub limit : w.max_commits ≡ p.commits
+  pub limit : w.max_commits ≡ p.limits.max_commits
 
 began_as : (p : Listing) (w : World Thread) → Leaves p w → BeganAs p w
 began_as p w (first, begins, leads) =
@@ -52,35 +52,36 @@ module _ (p : Listing) (w : World Thread) (began : BeganAs p w) (player : Thread
 
   so_far : (commits : ℕ) (memory : List ℕ) (outcome : Outcome) (rows : List Attempt)
       → IsSoFar thread_rules w.max_commits 0 player w.base (replicate w.arena 0) commits memory outcome rows
-      → IsSoFar thread_rules p.commits 0 (first_thread p) (opening_of p) [] commits memory outcome rows
+      → IsSoFar thread_rules p.limits.max_commits 0 (first_thread p) (opening_of p) [] commits memory outcome rows
   so_far commits memory outcome rows s =
-      subst (λ (n : ℕ). IsSoFar thread_rules p.commits 0 (first_thread p) (opening_of p) (replicate n 0) commits memory outcome rows) began.arena
-      (subst (λ (base : List ℕ). IsSoFar thread_rules p.commits 0 (first_thread p) base (replicate w.arena 0) commits memory outcome rows) began.base
-      (subst (λ (t : Thread). IsSoFar thread_rules p.commits 0 t w.base (replicate w.arena 0) commits memory outcome rows) player_is
+      subst (λ (n : ℕ). IsSoFar thread_rules p.limits.max_commits 0 (first_thread p) (opening_of p) (replicate n 0) commits memory outcome rows) began.arena
+      (subst (λ (base : List ℕ). IsSoFar thread_rules p.limits.max_commits 0 (first_thread p) base (replicate w.arena 0) commits memory outcome rows) began.base
+      (subst (λ (t : Thread). IsSoFar thread_rules p.limits.max_commits 0 t w.base (replicate w.arena 0) commits memory outcome rows) player_is
       (subst (λ (n : ℕ). IsSoFar thread_rules n 0 player w.base (replicate w.arena 0) commits memory outcome rows) began.limit s)))
 
   shows : (end : End) → solo_of p ≡ record { attempts = attempts_of w; memory = memory_of w; commits = w.cells.clock / 2; ending = end } → w.cells.clock % 2 ≡ 0
-      → ((solo_of p).ending ≡ end) × (history_of (opening_of p) w ≡ page p)
+      → ((solo_of p).ending ≡ end) × (history_of w ≡ page p)
   unfolding page
   shows end all even = (
     ap (λ (s : Solo). s.ending) all,
     (λ i. record {
-      memory = opening_of p;
+      memory = began.base i;
       attempts = (ap (λ (s : Solo). s.attempts) (sym all)) i;
       clock = (doubled w.cells.clock even ∙ ap (λ (s : Solo). 2 * s.commits) (sym all)) i;
       bytes = (ap (λ (s : Solo). s.memory) (sym all)) i;
     }),
   )
 
-  of_ending : (ending : Option End) → DoneBy thread_rules w player ending → IsOf p ending (history_of (opening_of p) w)
-  of_ending None (memory, part, told) = (refl, memory, so_far (w.cells.clock / 2) memory outcomes.Unfinished (attempts_of w) part, told)
+  of_ending : (ending : Option End) → DoneBy thread_rules w player ending → IsOf p ending (history_of w)
+  of_ending None (memory, part, told) = (began.base, memory, so_far (w.cells.clock / 2) memory outcomes.Unfinished (attempts_of w) part, told)
   of_ending (Some Finished) all = shows Finished (sym alone_is ∙ all.all) all.even
   of_ending (Some GaveUp) all = shows GaveUp (sym alone_is ∙ all.all) all.even
-  of_ending (Some NoMemory) part = (refl, part.0, so_far (w.cells.clock / 2) (memory_of w) outcomes.NoMemory (attempts_of w) part.1)
+  of_ending (Some NoMemory) part = (began.base, part.0, so_far (w.cells.clock / 2) (memory_of w) outcomes.NoMemory (attempts_of w) part.1)
 
 pub world_of_run : (p : Listing) (w : World Thread) → Leaves p w → CommitsInOrder w → AreOpaque thread_rules w → ShowsAlone thread_rules w → IsWorldOf p w
 world_of_run p w leaves commits opaque shown = record {
   leaves = leaves;
+  base = (began_as p w leaves).base;
   commits = commits;
   opaque = opaque;
   alone = λ one.

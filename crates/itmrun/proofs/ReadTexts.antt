@@ -6,6 +6,7 @@ use Rattle.std.proofs.lemmas.Bool.{cases_lt, lt-ltb}
 use Rattle.std.proofs.lemmas.List.{length-append, length-take}
 use Rattle.std.proofs.lemmas.Grind.{common_steps}
 use Rattle.script_asm.specs.declared.fault.AsmFault.{AsmFault}
+use Rattle.script_asm.specs.declared.limits.TheConstants.{MAX_TEXT}
 use Rattle.script_asm.specs.Listing.{Listing}
 use Rattle.script_asm.specs.Assembly.{program_of}
 use Rattle.itmrun.specs.Input.{IsFront}
@@ -16,20 +17,20 @@ few_more a b c x y limit p q h = (x ++ y, omega (arith, length-append x y), Cons
 past : (n : ℕ) (xs : List ℕ) → length xs ≤ n → take n xs ≡ xs
 past n xs h = grind (arith, common_steps)
 
-too_long : (text : List ℕ) → 16777216 < length text → program_of text ≡ program_of (take 16777217 text)
+too_long : (text : List ℕ) → MAX_TEXT < length text → program_of text ≡ program_of (take (MAX_TEXT + 1) text)
 unfolding program_of
-too_long text h = rw (lt-ltb 16777216 (length text) h, lt-ltb 16777216 (length (take 16777217 text)) (omega (arith, length-take 16777217 text))) refl
+too_long text h = rw (lt-ltb MAX_TEXT (length text) h, lt-ltb MAX_TEXT (length (take (MAX_TEXT + 1) text)) (omega (arith, length-take (MAX_TEXT + 1) text))) refl
 
 -- a beginning of that many bytes tells as much as the whole text
-pub same_text : (text all : List ℕ) → text ≡ take 16777217 all → program_of text ≡ program_of all
+pub same_text : (text all : List ℕ) → text ≡ take (MAX_TEXT + 1) all → program_of text ≡ program_of all
 same_text text all e =
-    elim (cases_lt 16777216 (length all)) [
+    elim (cases_lt MAX_TEXT (length all)) [
       | inl more ↦ ap program_of e ∙ sym (too_long all more)
-      | inr few ↦ ap program_of (e ∙ past 16777217 all (omega arith))
+      | inr few ↦ ap program_of (e ∙ past (MAX_TEXT + 1) all (omega arith))
     ]
 
 -- what is so of the program of the text that was read is so of the reader's text, where that is known
-pub cut : (known : Option (List ℕ)) (text : List ℕ) (P : Result Listing AsmFault → Type 0) → IfSome known (λ all. text ≡ take 16777217 all) → P (program_of text)
+pub cut : (known : Option (List ℕ)) (text : List ℕ) (P : Result Listing AsmFault → Type 0) → IfSome known (λ all. text ≡ take (MAX_TEXT + 1) all) → P (program_of text)
     → (whole : List ℕ) × IfSome known (λ all. whole ≡ all) × P (program_of whole)
 cut None text P e h = (text, tt, h)
 cut (Some all) text P e h = (all, refl, subst P (same_text text all e) h)

@@ -3,6 +3,10 @@ use Rattle.std.proofs.Common.{◌≡◌, List, ℕ, [], ◌∷◌, ◌++◌, ref
 use Rattle.std.specs.Prelude.{codes}
 use Rattle.std.proofs.lemmas.Fmt.{decimal_digit}
 use Rattle.hex.specs.Hex.{encode_with}
+use Rattle.itm_types.specs.declared.access.ReadHint.TheVariants.{R}
+use Rattle.itm_types.specs.declared.limits.TheConstants.{MAX_COMMITS}
+use Rattle.itm_types.specs.declared.access.WriteHint.TheVariants.{W}
+use Rattle.itm_types.specs.declared.access.Width.TheVariants.{U8}
 use Rattle.norec_world.specs.declared.attempt.End.TheVariants.{GaveUp}
 use Rattle.script_asm.specs.declared.instruction.Instruction.{Instruction}
 use Rattle.script_asm.specs.declared.instruction.Instruction.TheVariants as code
@@ -17,11 +21,8 @@ line t = t ++ 10 ∷ []
 -- a program of so many threads with one code, of which a script says nothing else but the memory
 abbrev pub listing : ℕ → ℕ → List Instruction → Listing
 listing memory threads instructions = record {
-  memory = memory;
-  inits = [];
-  patience = 8;
-  retries = 100;
-  commits = 4611686018427387903;
+  memory = record { size = memory; inits = [] };
+  limits = record { patience = 8; retries = 100; max_commits = MAX_COMMITS };
   schedule = [];
   parts = record { count = threads; code = instructions } ∷ [];
 }
@@ -30,7 +31,7 @@ abbrev one_thread : ℕ → List Instruction → Listing
 one_thread memory instructions = listing memory 1 instructions
 
 abbrev pub counter_code : List Instruction
-counter_code = code.Set 1 1 ∷ code.Begin 0 ∷ code.Read 2 0 ∷ code.Add 2 2 1 ∷ code.Write 0 2 ∷ code.Commit ∷ []
+counter_code = code.Set 1 1 ∷ code.Begin (record {}) 0 ∷ code.Read R U8 2 0 ∷ code.Add 2 2 1 ∷ code.Write W U8 0 2 ∷ code.Commit ∷ []
 
 abbrev pub counter : Listing
 counter = one_thread 8 counter_code
@@ -49,7 +50,7 @@ unfolding page solo_of bytes_of codes_of datum history_text first_lines attempt_
 counter_page = rw (decimal_digit 0 (omega arith), decimal_digit 1 (omega arith), decimal_digit 2 (omega arith)) refl
 
 abbrev pub empty_block : Listing
-empty_block = one_thread 8 (code.Begin 0 ∷ code.Commit ∷ [])
+empty_block = one_thread 8 (code.Begin (record {}) 0 ∷ code.Commit ∷ [])
 
 empty_block_page : history_text (page empty_block) ≡
     line (codes "itm-history 1")
@@ -64,7 +65,7 @@ empty_block_page = rw (decimal_digit 0 (omega arith), decimal_digit 1 (omega ari
 
 -- a read beyond the memory is refused, and its register stays
 abbrev pub beyond : Listing
-beyond = one_thread 8 (code.Set 1 5 ∷ code.Begin 0 ∷ code.Read 1 8 ∷ code.Write 0 1 ∷ code.Commit ∷ [])
+beyond = one_thread 8 (code.Set 1 5 ∷ code.Begin (record {}) 0 ∷ code.Read R U8 1 8 ∷ code.Write W U8 0 1 ∷ code.Commit ∷ [])
 
 beyond_page : history_text (page beyond) ≡
     line (codes "itm-history 1")
@@ -81,8 +82,8 @@ beyond_page = rw (decimal_digit 0 (omega arith), decimal_digit 1 (omega arith), 
 
 -- bytes that lie over one another at the start, read and written over the end of a word
 abbrev pub laid_in : Listing
-laid_in = record (one_thread 16 (code.Begin 0 ∷ code.Read 1 4 ∷ code.Write 8 1 ∷ code.Commit ∷ [])) {
-  inits = record { at = 6; bytes = 161 ∷ 178 ∷ 195 ∷ [] } ∷ record { at = 8; bytes = 0 ∷ [] } ∷ [];
+laid_in = record (one_thread 16 (code.Begin (record {}) 0 ∷ code.Read R U8 1 4 ∷ code.Write W U8 8 1 ∷ code.Commit ∷ [])) {
+  memory = record { size = 16; inits = record { at = 6; bytes = 161 ∷ 178 ∷ 195 ∷ [] } ∷ record { at = 8; bytes = 0 ∷ [] } ∷ [] };
 }
 
 laid_in_page : history_text (page laid_in) ≡
@@ -101,10 +102,10 @@ laid_in_page = rw (decimal_digit 0 (omega arith), decimal_digit 1 (omega arith),
 -- blocks where one writer may commit: one that writes, one that reads what it wrote, and one that is full, after which none begins
 abbrev pub one_commit : Listing
 one_commit = record (one_thread 8 (
-    code.Set 1 1 ∷ code.Begin 0 ∷ code.Write 0 1 ∷ code.Commit
-    ∷ code.Begin 0 ∷ code.Read 2 0 ∷ code.Commit
-    ∷ code.Begin 0 ∷ code.Write 0 2 ∷ code.Commit
-    ∷ code.Begin 0 ∷ code.Commit ∷ [])) { commits = 1 }
+    code.Set 1 1 ∷ code.Begin (record {}) 0 ∷ code.Write W U8 0 1 ∷ code.Commit
+    ∷ code.Begin (record {}) 0 ∷ code.Read R U8 2 0 ∷ code.Commit
+    ∷ code.Begin (record {}) 0 ∷ code.Write W U8 0 2 ∷ code.Commit
+    ∷ code.Begin (record {}) 0 ∷ code.Commit ∷ [])) { limits = record { patience = 8; retries = 100; max_commits = 1 } }
 
 one_commit_page : history_text (page one_commit) ≡
     line (codes "itm-history 1")

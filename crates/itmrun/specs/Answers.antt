@@ -7,7 +7,7 @@ use Rattle.norec_world.specs.declared.attempt.End.TheVariants.{Finished, GaveUp,
 use Rattle.norec_world.specs.World.{World}
 use Rattle.script_asm.specs.declared.fault.AsmFault.{AsmFault}
 use Rattle.script_asm.specs.Faults.{kind_text}
-use Rattle.script_asm.specs.Listing.{Listing, opening_of, threads_of}
+use Rattle.script_asm.specs.Listing.{Listing, threads_of}
 use Rattle.itmrun.specs.declared.finish.Finish.{Finish}
 use Rattle.itmrun.specs.declared.finish.Finish.TheVariants as ends
 use Rattle.itmrun.specs.Threads.{Thread}
@@ -18,12 +18,12 @@ use Rattle.itmrun.specs.Pages.{IsWorldOf, history_of}
 
 -- the text of the history of a run after which the threads stand so is written
 abbrev pub Told : Result Listing AsmFault → List (Option End) → Option (List ℕ) → Option (List ℕ) → Type 0
-Told (Ok p) endings old new = (w : World Thread) × IsWorldOf p w × (endings ≡ endings_of (length (threads_of p)) w) × Appends old new (history_text (history_of (opening_of p) w))
+Told (Ok p) endings old new = (w : World Thread) × IsWorldOf p w × (endings ≡ endings_of (length (threads_of p)) w) × Appends old new (history_text (history_of w))
 Told (Err f) endings old new = ⊥
 
 -- a beginning of the text of a run's history is
 abbrev pub Begun : Result Listing AsmFault → Option (List ℕ) → Option (List ℕ) → Type 0
-Begun (Ok p) old new = (w : World Thread) × (n : ℕ) × IsWorldOf p w × Appends old new (take n (history_text (history_of (opening_of p) w)))
+Begun (Ok p) old new = (w : World Thread) × (n : ℕ) × IsWorldOf p w × Appends old new (take n (history_text (history_of w)))
 Begun (Err f) old new = ⊥
 
 -- what the writer got, by how the run ended and by what the script says

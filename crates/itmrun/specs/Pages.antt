@@ -19,7 +19,7 @@ first_thread p = opening (slice_index_or (threads_of p) 0 [])
 
 -- all that the first thread does alone
 unfoldable pub solo_of : Listing → Solo
-solo_of p = solo thread_rules MAX_DEPTH p.commits 0 (first_thread p) (opening_of p) []
+solo_of p = solo thread_rules MAX_DEPTH p.limits.max_commits 0 (first_thread p) (opening_of p) []
 
 -- its history
 unfoldable pub page : Listing → History
@@ -30,20 +30,21 @@ abbrev pub IsOf : Listing → Option End → History → Type 0
 IsOf p (Some Finished) h = ((solo_of p).ending ≡ Finished) × (h ≡ page p)
 IsOf p (Some GaveUp) h = ((solo_of p).ending ≡ GaveUp) × (h ≡ page p)
 IsOf p (Some NoMemory) h = (h.memory ≡ opening_of p) × (h.clock % 2 ≡ 0)
-    × IsSoFar thread_rules p.commits 0 (first_thread p) (opening_of p) [] (h.clock / 2) h.bytes outcomes.NoMemory h.attempts
+    × IsSoFar thread_rules p.limits.max_commits 0 (first_thread p) (opening_of p) [] (h.clock / 2) h.bytes outcomes.NoMemory h.attempts
 IsOf p None h = (h.memory ≡ opening_of p) × (memory : List ℕ)
-    × IsSoFar thread_rules p.commits 0 (first_thread p) (opening_of p) [] (h.clock / 2) memory outcomes.Unfinished h.attempts
+    × IsSoFar thread_rules p.limits.max_commits 0 (first_thread p) (opening_of p) [] (h.clock / 2) memory outcomes.Unfinished h.attempts
     × (h.clock % 2 ≡ 0 → h.bytes ≡ memory)
 
 -- ## The run of a program
 
--- what is told of a world that began with these bytes
-abbrev pub history_of : List ℕ → World Thread → History
-history_of memory w = record { memory = memory; attempts = attempts_of w; clock = w.cells.clock; bytes = memory_of w }
+-- what is told of a world
+abbrev pub history_of : World Thread → History
+history_of w = record { memory = w.base; attempts = attempts_of w; clock = w.cells.clock; bytes = memory_of w }
 
--- The schedule leads to this world, whose commits are in order and whose attempts are opaque; and where the program has one thread, what is told of it is what that one does alone.
+-- The schedule leads to this world, which began with the program's memory, whose commits are in order and whose attempts are opaque; and where the program has one thread, what is told of it is what that one does alone.
 pub record IsWorldOf (p : Listing) (w : World Thread) : Type 0 where
   pub leaves : Leaves p w
+  pub base : w.base ≡ opening_of p
   pub commits : CommitsInOrder w
   pub opaque : AreOpaque thread_rules w
-  pub alone : length (threads_of p) ≡ 1 → IsOf p (ending_at w 0) (history_of (opening_of p) w)
+  pub alone : length (threads_of p) ≡ 1 → IsOf p (ending_at w 0) (history_of w)

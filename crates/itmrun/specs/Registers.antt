@@ -1,5 +1,7 @@
 -- Registers: 16 lists of 32 bytes.
-use Rattle.std.specs.Prelude.{ℕ, List, [], ◌++◌, ◌-◌, length, take, replicate, slice_index_or}
+use Rattle.std.proofs.Common.{◌≡◌, ℕ, List, [], ◌++◌, ◌-◌, length, take, replicate, arith, length-append}
+use Rattle.std.specs.Prelude.{slice_index_or}
+use Rattle.std.proofs.lemmas.List.{length-take, length-replicate}
 use Rattle.std.specs.Int.{to_le_bytes, from_le_bytes, w64}
 
 -- all bytes zero
@@ -17,3 +19,10 @@ of_number n = to_le_bytes w64 n ++ replicate 24 0
 -- bytes, the rest zero; a register has 32
 abbrev pub of_bytes : List ℕ → List ℕ
 of_bytes bytes = bytes ++ replicate (32 - length bytes) 0
+
+-- the first bytes, as many as are wanted; where there are fewer, zeros stand for the rest
+abbrev pub low : ℕ → List ℕ → List ℕ
+low n bytes = take n (bytes ++ replicate n 0)
+
+pub length-low : (n : ℕ) (bytes : List ℕ) → length (low n bytes) ≡ n
+length-low n bytes = omega (arith, length-take n (bytes ++ replicate n 0), length-append bytes (replicate n 0), length-replicate {A = ℕ} n 0)

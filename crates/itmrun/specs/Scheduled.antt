@@ -25,9 +25,9 @@ pub record Begins (p : Listing) (w : World Thread) : Type 0 where
   pub base : w.base ≡ opening_of p
   pub memory : memory_of w ≡ opening_of p
   pub arena : w.arena ≡ 0
-  pub patience : w.patience ≡ p.patience
-  pub limit : w.max_commits ≡ p.commits
-  pub retries : w.retries ≡ p.retries
+  pub patience : w.patience ≡ p.limits.patience
+  pub limit : w.max_commits ≡ p.limits.max_commits
+  pub retries : w.retries ≡ p.limits.retries
   pub anew : IsNew thread_rules w  -- before its first event, each thread having done its local work up to its first step
   pub first : (place : ℕ) (a : Actor Thread) → slice_get w.actors place ≡ Some a → IsBetween 0 1 w.attempts a  -- each is before its first try
   pub commits : CommitsInOrder w

@@ -1,17 +1,15 @@
 -- A thread of a script as one who makes calls: what it calls next, and what a reply leaves.
-use Rattle.std.specs.Prelude.{ℕ, zero, suc, ◌+◌, ◌%◌, ◌^◌, Bool, true, false, List, [], ◌∷◌, length, drop, slice_set, Option, None, Some, position, refl}
-use Rattle.itm_types.specs.declared.access.ReadHint.TheVariants.{R}
-use Rattle.itm_types.specs.declared.access.WriteHint.TheVariants.{W}
-use Rattle.itm_types.specs.declared.access.Width.TheVariants.{U8}
+use Rattle.std.specs.Prelude.{ℕ, zero, suc, ◌+◌, ◌%◌, ◌^◌, Bool, true, false, List, [], ◌∷◌, length, drop, slice_index_or, slice_set, Option, None, Some, position}
+use Rattle.itm_types.specs.declared.access.Width.{Width}
+use Rattle.itm_types.specs.Access.{size_of}
 use Rattle.itm_types.specs.declared.datum.Datum.{Datum}
 use Rattle.itm_types.specs.declared.call.Call.{Call}
 use Rattle.itm_types.specs.declared.call.Call.TheVariants as calls
 use Rattle.itm_types.specs.declared.call.Reply.{Reply}
 use Rattle.itm_types.specs.declared.call.Reply.TheVariants.{Done, Bytes, Code, Refused}
-use Rattle.std.specs.Int.{to_le_bytes, w64}
 use Rattle.script_asm.specs.declared.instruction.Instruction.{Instruction}
 use Rattle.script_asm.specs.declared.instruction.Instruction.TheVariants as code
-use Rattle.itmrun.specs.Registers.{number_at, of_number, of_bytes, zeros}
+use Rattle.itmrun.specs.Registers.{number_at, of_number, of_bytes, zeros, low, length-low}
 use Rattle.script_vm.specs.Rules.{Rules}
 
 -- a block that is open, with so many more in it: the code and the registers as its begin was called
@@ -44,10 +42,10 @@ abbrev pub settled : List (List ℕ) → List Instruction → List (List ℕ) ×
 settled registers [] = (registers, [])
 settled registers (code.Set to n ∷ more) = settled (slice_set registers to (of_number n)) more
 settled registers (code.Add to a b ∷ more) = settled (slice_set registers to (of_number (sum_of registers a b))) more
-settled registers (code.Begin r ∷ more) = (registers, code.Begin r ∷ more)
+settled registers (code.Begin props r ∷ more) = (registers, code.Begin props r ∷ more)
 settled registers (code.Commit ∷ more) = (registers, code.Commit ∷ more)
-settled registers (code.Read to at ∷ more) = (registers, code.Read to at ∷ more)
-settled registers (code.Write at from ∷ more) = (registers, code.Write at from ∷ more)
+settled registers (code.Read hint width to at ∷ more) = (registers, code.Read hint width to at ∷ more)
+settled registers (code.Write hint width at from ∷ more) = (registers, code.Write hint width at from ∷ more)
 
 -- the thread goes on with these registers and this code
 abbrev pub goes_on : Thread → List (List ℕ) → List Instruction → Thread
@@ -58,10 +56,10 @@ goes_on t registers rest = let s = settled registers rest in record t { register
 abbrev pub is_commit : Instruction → Bool
 is_commit (code.Set to n) = false
 is_commit (code.Add to a b) = false
-is_commit (code.Begin r) = false
+is_commit (code.Begin props r) = false
 is_commit code.Commit = true
-is_commit (code.Read to at) = false
-is_commit (code.Write at from) = false
+is_commit (code.Read hint width to at) = false
+is_commit (code.Write hint width at from) = false
 
 abbrev pub up_to : Option ℕ → ℕ → ℕ
 up_to (Some place) all = place + 1
@@ -71,19 +69,19 @@ up_to None all = all
 abbrev pub room : List Instruction → ℕ
 room rest = up_to (position is_commit rest) (length rest)
 
--- the low 8 bytes of a register
-unfoldable pub datum : List (List ℕ) → ℕ → Datum
-datum registers r = record { width = U8; bytes = record { items = to_le_bytes w64 (number_at registers r) }; sized = refl }
+-- the low bytes of a register, as many as the width has
+unfoldable pub datum : List (List ℕ) → Width → ℕ → Datum
+datum registers width r = record { width = width; bytes = record { items = low (size_of width) (slice_index_or registers r []) }; sized = length-low (size_of width) (slice_index_or registers r []) }
 
 -- the call that stands first
 abbrev pub call_at : List (List ℕ) → List Instruction → Option Call
 call_at registers [] = None
 call_at registers (code.Set to n ∷ more) = None
 call_at registers (code.Add to a b ∷ more) = None
-call_at registers (code.Begin r ∷ more) = Some (calls.Begin (record {}) (room more))
+call_at registers (code.Begin props r ∷ more) = Some (calls.Begin props (room more))
 call_at registers (code.Commit ∷ more) = Some calls.Commit
-call_at registers (code.Read to at ∷ more) = Some (calls.Read R U8 at)
-call_at registers (code.Write at from ∷ more) = Some (calls.Write W at (datum registers from))
+call_at registers (code.Read hint width to at ∷ more) = Some (calls.Read hint width at)
+call_at registers (code.Write hint width at from ∷ more) = Some (calls.Write hint at (datum registers width from))
 
 abbrev pub next_call : Thread → Option Call
 next_call t = call_at t.registers t.rest
@@ -129,10 +127,10 @@ abbrev pub answered_at : Thread → List Instruction → Reply → Thread
 answered_at t [] reply = t
 answered_at t (code.Set to n ∷ more) reply = t
 answered_at t (code.Add to a b ∷ more) reply = t
-answered_at t (code.Begin r ∷ more) reply = begun t r more reply
+answered_at t (code.Begin props r ∷ more) reply = begun t r more reply
 answered_at t (code.Commit ∷ more) reply = ended t more reply
-answered_at t (code.Read to at ∷ more) reply = took t to more reply
-answered_at t (code.Write at from ∷ more) reply = goes_on t t.registers more
+answered_at t (code.Read hint width to at ∷ more) reply = took t to more reply
+answered_at t (code.Write hint width at from ∷ more) reply = goes_on t t.registers more
 
 abbrev pub answered : Thread → Reply → Thread
 answered t reply = answered_at t t.rest reply

@@ -7,13 +7,14 @@ ghost use Rattle.itmrun.specs.Answers.{thread_line, ending_line, ending_lines, e
 
 use crate::history::{Piece, put_pieces};
 use arrayvec::ArrayVec;
+use itm_types::MAX_ACTORS;
 use norec_world::End;
 use script_asm::AsmFault;
 use std::io;
 use std::io::Write;
 
 /// How the threads of a program stand, by number; `None` for one that has not ended.
-pub type Endings = ArrayVec<Option<End>, 32>;
+pub type Endings = ArrayVec<Option<End>, MAX_ACTORS>;
 
 /// How a run of a script ended.
 #[derive(Drop)]

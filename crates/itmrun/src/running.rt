@@ -9,13 +9,13 @@ ghost use Rattle.itmrun.specs.Scheduled.{Begins, ItemLeads, ItemsLead, Leaves, e
 
 use crate::finish::Endings;
 use crate::script::Script;
-use norec_engine::Limits;
+use itm_types::MAX_ACTORS;
 use norec_world::{Bytes, Setup, World, WorldFault};
 use script_asm::{Item, Program};
 use std::alloc::{AllocError, Global};
 
 /// The memory that a program begins with.
-pub fn opening(alloc: Global, program: &Program) -> Result<Vec<u8>, AllocError>
+fn opening(alloc: Global, program: &Program) -> Result<Vec<u8>, AllocError>
     ensures bytes { IfOk result (λ bytes. bytes.items ≡ opening_of program.now) }
     ensures sized { IfOk result (λ bytes. IsSize (vec_len bytes)) }
 {
@@ -28,7 +28,7 @@ pub fn opening(alloc: Global, program: &Program) -> Result<Vec<u8>, AllocError>
 fn players(alloc: Global, program: &Program) -> Result<Vec<Script>, AllocError>
     ensures players { IfOk result (λ players. players.items ≡ players_of program.now) }
     ensures some { IfOk result (λ players. 1 ≤ vec_len players) }
-    ensures few { IfOk result (λ players. vec_len players ≤ 32) }
+    ensures few { IfOk result (λ players. vec_len players ≤ MAX_ACTORS) }
 {
     let mut players = Vec::new(alloc);
     for thread in 0..program.threads() {
@@ -46,11 +46,7 @@ fn begin(alloc: Global, program: &Program) -> Result<World<Script>, AllocError>
     let setup = Setup {
         bytes: Bytes::new(memory),
         arena: 0,
-        limits: Limits {
-            patience: program.patience(),
-            max_commits: program.max_commits(),
-        },
-        retries: program.retries(),
+        limits: program.limits(),
     };
     World::new(alloc, setup, players)
 }
@@ -120,7 +116,7 @@ pub fn run_program(alloc: Global, program: &Program) -> Result<World<Script>, Al
 
 /// How the threads of a world stand, by number.
 pub fn endings(world: &World<Script>, threads: usize) -> Endings
-    requires { threads ≤ 32 }
+    requires { threads ≤ MAX_ACTORS }
     ensures { result.items ≡ endings_of threads world.now }
 {
     let mut endings = Endings::new();

@@ -1,6 +1,6 @@
 //! Scripts that are run, and what they are answered.
 
-ghost use Rattle.std.specs.Prelude.{◌≡◌, ℕ, List, IfSome, Ok, false, length};
+ghost use Rattle.std.specs.Prelude.{◌≡◌, ◌+◌, ℕ, List, IfSome, Ok, false, length};
 ghost use Rattle.itmrun.specs.Spelling.{Grows};
 ghost use Rattle.script_asm.specs.Assembly.{program_of};
 ghost use Rattle.norec_world.specs.World.{ShowsAlone};
@@ -15,16 +15,16 @@ ghost use Rattle.itmrun.specs.Answers.{Runs, Answers};
 use crate::finish::{Finish, status, write_error};
 use crate::history::{Stream, put_history};
 use crate::input::{InputFault, read_up_to};
-use crate::running::{endings, opening, run_program};
+use crate::running::{endings, run_program};
 use crate::script::Script;
 use norec_world::World;
-use script_asm::{AsmKind, Program, assemble};
+use script_asm::{AsmKind, MAX_TEXT, Program, assemble};
 use std::alloc::Global;
 use std::io::{Read, Write};
 
 /// Writes the history of a world; answers whether that failed.
-fn write_world<W: Write>(writer: &mut W, opening: &[u8], world: &World<Script>) -> bool
-    ensures text { Grows false (W.contents writer.old) result (W.contents writer.new) (history_text (history_of opening.now world.now)) }
+fn write_world<W: Write>(writer: &mut W, world: &World<Script>) -> bool
+    ensures text { Grows false (W.contents writer.old) result (W.contents writer.new) (history_text (history_of world.now)) }
     ensures commits { CommitsInOrder world.now }
     ensures opaque { AreOpaque thread_rules world.now }
     ensures alone { ShowsAlone thread_rules world.now }
@@ -35,7 +35,7 @@ fn write_world<W: Write>(writer: &mut W, opening: &[u8], world: &World<Script>) 
     };
     put_history(
         &mut stream,
-        opening,
+        world.base(),
         world.attempts(),
         world.clock(),
         world.bytes(),
@@ -47,13 +47,10 @@ fn write_world<W: Write>(writer: &mut W, opening: &[u8], world: &World<Script>) 
 fn play<W: Write>(alloc: Global, program: &Program, writer: &mut W) -> Finish
     ensures { Runs result (Ok program.now) (W.contents writer.old) (W.contents writer.new) }
 {
-    let Ok(memory) = opening(alloc, program) else {
-        return Finish::NoMemory;
-    };
     let Ok(world) = run_program(alloc, program) else {
         return Finish::NoMemory;
     };
-    if write_world(writer, &memory, &world) {
+    if write_world(writer, &world) {
         Finish::Writing
     } else {
         Finish::Ran(endings(&world, program.threads()))
@@ -75,9 +72,9 @@ fn answer<W: Write>(alloc: Global, text: &[u8], writer: &mut W) -> Finish
 /// Reads a script and answers it. Of its text no more is read than decides that it is too long.
 fn run<R: Read, W: Write>(alloc: Global, reader: &mut R, writer: &mut W) -> Finish
     ensures answer { (text : List ℕ) × IfSome (R.remaining reader.old) (λ all. text ≡ all) × Runs result (program_of text) (W.contents writer.old) (W.contents writer.new) }
-    ensures few { IsFront (R.remaining reader.old) (R.remaining reader.new) 16777217 }
+    ensures few { IsFront (R.remaining reader.old) (R.remaining reader.new) (MAX_TEXT + 1) }
 {
-    match read_up_to(alloc, reader, 16_777_217) {
+    match read_up_to(alloc, reader, MAX_TEXT + 1) {
         Ok(text) => answer(alloc, &text, writer),
         Err(InputFault::Memory) => Finish::NoMemory,
         Err(InputFault::Reading) => Finish::Reading,
@@ -95,7 +92,7 @@ pub fn sched<R: Read, W: Write, E: Write>(
     errors: &mut E,
 ) -> u8
     ensures answer { (text : List ℕ) × IfSome (R.remaining reader.old) (λ all. text ≡ all) × Answers result (program_of text) (W.contents writer.old) (W.contents writer.new) (E.contents errors.old) (E.contents errors.new) }
-    ensures few { IsFront (R.remaining reader.old) (R.remaining reader.new) 16777217 }
+    ensures few { IsFront (R.remaining reader.old) (R.remaining reader.new) (MAX_TEXT + 1) }
 {
     let finish = run(alloc, reader, writer);
     if write_error(errors, &finish).is_err() {

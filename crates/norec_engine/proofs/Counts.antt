@@ -4,6 +4,7 @@ use Rattle.std.proofs.Math.Nat.{mul-le-mul_right}
 use Rattle.std.proofs.lemmas.Nat.{mul-le}
 use Rattle.std.proofs.lemmas.Bool.{cond-false, ne_eqb}
 use Rattle.itm_types.specs.Access.{size_of}
+use Rattle.itm_types.specs.declared.limits.TheConstants.{MAX_PATIENCE}
 use Rattle.word_pieces.specs.Pieces.{count_of}
 use Rattle.itm_types.specs.declared.access.Width.{Width}
 use Rattle.itm_types.specs.declared.access.Width.TheVariants.{U1, U2, U4, U8, F, D, M64, M128, M256, CF, CD}
@@ -72,17 +73,17 @@ counts : (d : Data) (phase : Phase) → IsSound d phase → IsWithin (core d pha
 counts d phase s = λ n. within d phase s (waiting d phase n)
 
 -- a bound that every call's most steps keep
-few : (p k w s : ℕ) → p ≤ 1000 → k ≤ 2 ^ 64 + 9 → w < 2 ^ 64 → s ≤ p * k + 2 * w + 8 → s < 2 ^ 128
-few p k w s a b c h = omega (arith, h, mul-le p k 1000 (2 ^ 64 + 9) a b)
+few : (p k w s : ℕ) → p ≤ MAX_PATIENCE → k ≤ 2 ^ 64 + 9 → w < 2 ^ 64 → s ≤ p * k + 2 * w + 8 → s < 2 ^ 128
+few p k w s a b c h = omega (arith, h, mul-le p k MAX_PATIENCE (2 ^ 64 + 9) a b)
 
-read_few : (d : Data) (r : Reading) → d.limits.patience ≤ 1000 → d.entry < 2 ^ 64 → d.spent ≤ 2 * count r + d.limits.patience * (d.entry + count r + 4) → d.spent < 2 ^ 128
+read_few : (d : Data) (r : Reading) → d.limits.patience ≤ MAX_PATIENCE → d.entry < 2 ^ 64 → d.spent ≤ 2 * count r + d.limits.patience * (d.entry + count r + 4) → d.spent < 2 ^ 128
 read_few d r p e h = few d.limits.patience (d.entry + count r + 4) 5 d.spent p (omega (arith, some_words r)) (omega arith) (omega (arith, some_words r, h))
 
-commit_few : (d : Data) → d.limits.patience ≤ 1000 → d.entry < 2 ^ 64 → length d.writes < 2 ^ 64 → d.spent ≤ d.limits.patience * (d.entry + 3) + 2 * length d.writes + 2 → d.spent < 2 ^ 128
+commit_few : (d : Data) → d.limits.patience ≤ MAX_PATIENCE → d.entry < 2 ^ 64 → length d.writes < 2 ^ 64 → d.spent ≤ d.limits.patience * (d.entry + 3) + 2 * length d.writes + 2 → d.spent < 2 ^ 128
 commit_few d p l w h = few d.limits.patience (d.entry + 3) (length d.writes) d.spent p (omega arith) w (omega (arith, h))
 
 -- so the count fits
-fits_most : (d : Data) (phase : Phase) → IsWaiting phase → d.limits.patience ≤ 1000 → length d.writes < 2 ^ 64 → d.entry < 2 ^ 64 → d.spent ≤ most (core d phase) (doing_of phase) → d.spent < 2 ^ 128
+fits_most : (d : Data) (phase : Phase) → IsWaiting phase → d.limits.patience ≤ MAX_PATIENCE → length d.writes < 2 ^ 64 → d.entry < 2 ^ 64 → d.spent ≤ most (core d phase) (doing_of phase) → d.spent < 2 ^ 128
 fits_most d at.Idle w p m e h = absurd w
 fits_most d (at.Begin b) w p m e h = omega (arith, h)
 fits_most d (at.Load r) w p m e h = read_few d r p e h

@@ -1,5 +1,6 @@
 -- The engine's fields as what its callers see, and what is true of them.
-use Rattle.std.specs.Prelude.{◌≡◌, ◌≢◌, ℕ, ◌+◌, ◌-◌, ◌*◌, ◌/◌, ◌%◌, ◌^◌, ◌<◌, ◌≤◌, nat_le, Bool, true, false, List, [], ◌∷◌, length, take, Option, None, Some}
+use Rattle.std.specs.Prelude.{◌≡◌, ◌≢◌, ℕ, ◌+◌, ◌-◌, ◌*◌, ◌/◌, ◌%◌, ◌<◌, ◌≤◌, nat_le, Bool, true, false, List, [], ◌∷◌, length, take, Option, None, Some}
+use Rattle.itm_types.specs.declared.limits.TheConstants.{MAX_COMMITS, MAX_PATIENCE, MAX_WORDS}
 use Rattle.itm_types.specs.declared.row.LogRow.{LogRow}
 use Rattle.write_set.specs.declared.row.Row.{Row}
 use Rattle.itm_types.specs.declared.call.Call.{Call}
@@ -148,9 +149,9 @@ first_of aims.Commit = 1
 
 -- in every phase
 pub record IsBounded (words : ℕ) (limits : Limits) (snapshot : ℕ) : Type 0 where
-  pub patient : (0 < limits.patience) × (limits.patience ≤ 1000)
-  pub commits : limits.max_commits < 2 ^ 62
-  pub small : words ≤ 8192
+  pub patient : (0 < limits.patience) × (limits.patience ≤ MAX_PATIENCE)
+  pub commits : limits.max_commits ≤ MAX_COMMITS
+  pub small : words ≤ MAX_WORDS
   pub even : snapshot % 2 ≡ 0
 
 -- a transaction is open, and its words lie within the memory

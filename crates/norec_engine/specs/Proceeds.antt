@@ -1,5 +1,6 @@
 -- What an engine may do next. `mid` is the engine with a call that came, or with the value of the step that it waited for.
-use Rattle.std.specs.Prelude.{◌≡◌, ◌≢◌, ◌^◌, ◌⊎◌, ℕ, zero, suc, ◌+◌, ◌*◌, ◌/◌, ◌%◌, ◌<◌, ◌≤◌, Bool, true, false, List, [], ◌∷◌, ◌++◌, Option, None, Some, slice_get, slice_set, take, drop, length}
+use Rattle.std.specs.Prelude.{◌≡◌, ◌≢◌, ◌⊎◌, ℕ, zero, suc, ◌+◌, ◌*◌, ◌/◌, ◌%◌, ◌<◌, ◌≤◌, Bool, true, false, List, [], ◌∷◌, ◌++◌, Option, None, Some, slice_get, slice_set, take, drop, length}
+use Rattle.itm_types.specs.declared.limits.TheConstants.{MAX_COMMITS}
 use Rattle.itm_types.specs.declared.row.LogRow.{LogRow}
 use Rattle.write_set.specs.declared.row.Row.{Row}
 use Rattle.itm_types.specs.declared.call.Call.{Call}
@@ -257,4 +258,4 @@ pub record IsSettled (c : Core) : Type 0 where
   pub unfreed : c.freed ≡ false
   pub even : c.snapshot % 2 ≡ 0
   pub holder : c.holds ≡ true → (in_transaction c ≡ true) × (c.clock ≡ c.snapshot) × (c.snapshot / 2 < c.max_commits)
-  pub limit : c.max_commits < 2 ^ 62
+  pub limit : c.max_commits ≤ MAX_COMMITS

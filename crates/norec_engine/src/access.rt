@@ -9,11 +9,11 @@ ghost use Rattle.norec_engine.specs.Core.{came};
 use crate::answer::Answer;
 use crate::data::Data;
 use crate::phase::{Phase, Turn};
-use itm_types::{Refusal, Reply};
+use itm_types::{MAX_WORDS, Refusal, Reply};
 
 /// Why a read or a write of so many bytes from a place on is refused, if it is.
 pub(crate) fn refusal(state: &Data, at: u64, size: u8) -> Option<Refusal>
-    requires { state.now.words ≤ 8192 }
+    requires { state.now.words ≤ MAX_WORDS }
     ensures value { result ≡ access_refusal (in_block state.now) state.now.words at size }
     ensures served { is_none result ≡ (in_block state.now && nat_le (at + size) (8 * state.now.words)) }
 {
@@ -45,7 +45,7 @@ pub(crate) fn refuse(state: &mut Data, why: Refusal) -> Turn
 
 /// Whether so many bytes from a place on lie within the memory.
 fn is_within(words: u32, at: u64, size: u8) -> bool
-    requires { words ≤ 8192 }
+    requires { words ≤ MAX_WORDS }
     ensures { result ≡ nat_le (at + size) (8 * words) }
 {
     let bytes = 8 * u64::from(words);

@@ -2,6 +2,7 @@
 
 ghost use Rattle.std.specs.Prelude.{◌≡◌, ◌≤◌, IfOk, replicate};
 
+use itm_types::MAX_ARENA;
 use std::alloc::{AllocError, Global};
 use std::marker::Model;
 
@@ -22,7 +23,7 @@ impl Model for Arena {
 impl Arena {
     /// An arena of so many bytes, all zero: at most 4,096.
     pub fn new(alloc: Global, size: u32) -> Result<Arena, AllocError>
-        requires { size ≤ 4096 }
+        requires { size ≤ MAX_ARENA }
         ensures { IfOk result (λ a. a ≡ replicate size 0) }
     {
         Ok(Arena {

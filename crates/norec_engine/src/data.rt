@@ -4,8 +4,7 @@ ghost use Rattle.std.specs.Prelude.{◌≡◌};
 ghost use Rattle.norec_engine.specs.Fields.{in_block, IsEnded};
 
 use crate::arena::Arena;
-use crate::limits::Limits;
-use itm_types::{Props, Value};
+use itm_types::{Limits, Props, Value};
 use value_log::ValueLog;
 use write_set::WriteSet;
 

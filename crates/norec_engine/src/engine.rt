@@ -1,6 +1,6 @@
 //! One thread's transactions over shared cells that someone else steps on.
 
-ghost use Rattle.std.specs.Prelude.{◌≡◌, ◌≢◌, ◌<◌, ◌≤◌, ◌^◌, IfOk, IsOk, OnOk, OnErr, IsSome, true, IsTrue, ◌↔◌, is_some, false};
+ghost use Rattle.std.specs.Prelude.{◌≡◌, ◌≢◌, ◌<◌, ◌≤◌, IfOk, IsOk, OnOk, OnErr, IsSome, true, IsTrue, ◌↔◌, is_some, false};
 ghost use Rattle.norec_engine.specs.Core.{in_transaction, opening, came, handed};
 ghost use Rattle.norec_engine.specs.Order.{asked, log_after, snapshot_after, stage_after, stage_at, tries_after, tries_at};
 ghost use Rattle.norec_engine.specs.Endings.{ending_at, ending_after, EndsSo};
@@ -13,13 +13,12 @@ use crate::arena::Arena;
 use crate::begin::{begin, begin_seen};
 use crate::commit::{back_loaded, commit, exchanged, freed, stored};
 use crate::data::{Data, end};
-use crate::limits::Limits;
 use crate::phase::{Phase, Turn};
 use crate::read::{confirmed, loaded, read};
 use crate::rounds::{round_ended, round_started, row_seen};
 use crate::steps::step_of;
 use crate::write::write;
-use itm_types::{Call, Props, Value};
+use itm_types::{Call, Limits, MAX_COMMITS, MAX_PATIENCE, MAX_WORDS, Props, Value};
 use std::alloc::{AllocError, Global};
 use std::marker::Model;
 use value_log::ValueLog;
@@ -50,9 +49,9 @@ impl Model for Engine {
 impl Engine {
     /// An engine outside a transaction, over a memory of 1 to 8,192 words, with its thread's arena.
     pub fn new(alloc: Global, words: u32, arena: Arena, limits: Limits) -> Self
-        requires words { (0 < words) × (words ≤ 8192) }
-        requires patience { (0 < limits.patience) × (limits.patience ≤ 1000) }
-        requires commits { (0 < limits.max_commits) × (limits.max_commits < 2 ^ 62) }
+        requires words { (0 < words) × (words ≤ MAX_WORDS) }
+        requires patience { (0 < limits.patience) × (limits.patience ≤ MAX_PATIENCE) }
+        requires commits { (0 < limits.max_commits) × (limits.max_commits ≤ MAX_COMMITS) }
         ensures { result ≡ opening words arena limits.patience limits.max_commits }
     {
         Engine {

@@ -9,7 +9,6 @@ mod begin;
 mod commit;
 mod data;
 mod engine;
-mod limits;
 mod phase;
 mod read;
 mod rounds;
@@ -19,7 +18,6 @@ mod write;
 pub use answer::{Answer, Next, Undone};
 pub use arena::Arena;
 pub use engine::Engine;
-pub use limits::Limits;
 
 #[cfg(test)]
 mod tests;

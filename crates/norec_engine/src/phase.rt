@@ -7,7 +7,7 @@ ghost use Rattle.norec_engine.specs.Fields.{parts};
 ghost use Rattle.norec_engine.specs.Order.{word_of};
 
 use crate::answer::Answer;
-use itm_types::{Props, ReadHint, Width};
+use itm_types::{MAX_MEMORY, Props, ReadHint, Width};
 use word_pieces::{Piece, piece_at};
 
 /// A begin of an outermost block.
@@ -32,7 +32,7 @@ pub struct Reading {
 impl Reading {
     /// The piece, if there are as many.
     pub(crate) fn piece(self) -> Option<Piece>
-        requires { self.at ≤ 65536 }
+        requires { self.at ≤ MAX_MEMORY }
         ensures value { result ≡ slice_get (parts self) self.number }
         ensures piece { IfSome result IsPiece }
         ensures few { IfSome result (λ _. self.number < 5) }
@@ -58,7 +58,7 @@ impl Reading {
 
     /// The word of the piece.
     pub(crate) fn word(self) -> u32
-        requires { self.at ≤ 65536 }
+        requires { self.at ≤ MAX_MEMORY }
         ensures { result ≡ word_of self }
     {
         (self.at / 8) as u32 + u32::from(self.number)

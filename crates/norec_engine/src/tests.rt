@@ -2,8 +2,11 @@
 
 ghost use Rattle.std.specs.Prelude.{◌≡◌, ◌<◌, ◌≤◌, IfOk, None};
 
-use crate::{Answer, Arena, Engine, Limits, Next, Undone};
-use itm_types::{Call, Datum, Props, ReadHint, Refusal, Reply, Step, Value, Width, WriteHint};
+use crate::{Answer, Arena, Engine, Next, Undone};
+use itm_types::{
+    Call, Datum, Limits, MAX_PATIENCE, Props, ReadHint, Refusal, Reply, Step, Value, Width,
+    WriteHint,
+};
 use std::alloc::{AllocError, Global};
 use std::process::Abort;
 
@@ -112,11 +115,12 @@ fn replied(reply: Reply) -> Next {
 /// An engine over so many words.
 fn engine(alloc: Global, words: u32, patience: u32, max_commits: u64) -> Result<Engine, AllocError>
     requires words { (0 < words) × (words ≤ 8) }
-    requires patience { (0 < patience) × (patience ≤ 1000) }
+    requires patience { (0 < patience) × (patience ≤ MAX_PATIENCE) }
     requires commits { (0 < max_commits) × (max_commits ≤ 1000) }
 {
     let limits = Limits {
         patience,
+        retries: 0,
         max_commits,
     };
     Ok(Engine::new(alloc, words, Arena::new(alloc, 0)?, limits))
@@ -183,7 +187,7 @@ fn play_over(
     lines: &[Line],
 ) -> Result<(), AllocError>
     requires words { (0 < words) × (words ≤ 8) }
-    requires patience { (0 < patience) × (patience ≤ 1000) }
+    requires patience { (0 < patience) × (patience ≤ MAX_PATIENCE) }
 {
     let mut engine = engine(alloc, words, patience, 4)?;
     play(rt, &mut engine, lines)

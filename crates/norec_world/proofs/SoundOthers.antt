@@ -3,6 +3,7 @@ use Rattle.std.proofs.Common.{◌≡◌, ◌≢◌, ◌⊎◌, inl, inr, ℕ, ze
 use Rattle.itm_types.specs.Memory.{AllFit}
 use Rattle.itm_types.proofs.Words.{slice_get-set_same, slice_get-set_other}
 use Rattle.norec_engine.specs.Core.{in_transaction}
+use Rattle.itm_types.specs.declared.limits.TheConstants.{MAX_ACTORS}
 use Rattle.norec_world.specs.declared.attempt.Attempt.{Attempt}
 use Rattle.norec_world.specs.declared.actor.Actor.{Actor}
 use Rattle.norec_world.specs.declared.actor.Status.{Status}
@@ -264,8 +265,8 @@ pending_more (a ∷ rest) new = (let e = pending_more rest new in omega arith)
 
 module _ {P : Type 0} (rules : Rules P)
     (cells : Cells) (r r' : Rows) (actors : List (Actor P)) (s : AreActors rules cells r actors) (new : Actor P)
-    (sound : IsSound rules cells r' new) (done : is_ready new.status ≡ false) (thread : new.thread ≡ length actors) (fewer : length actors < 32)
-    (own : ChangesOwn new.thread r r') (roomy : (others : ℕ) → others < 32 → others ≤ r.room → others + count_pending new.pending ≤ r'.room) (free : new.engine.holds ≡ false) where
+    (sound : IsSound rules cells r' new) (done : is_ready new.status ≡ false) (thread : new.thread ≡ length actors) (fewer : length actors < MAX_ACTORS)
+    (own : ChangesOwn new.thread r r') (roomy : (others : ℕ) → others < MAX_ACTORS → others ≤ r.room → others + count_pending new.pending ≤ r'.room) (free : new.engine.holds ≡ false) where
   room_joined : pending_in (actors ++ new ∷ []) ≤ r'.room
   room_joined =
       let all = pending_more actors new in

@@ -1,5 +1,5 @@
 -- The actors of a world, over one event.
-use Rattle.std.proofs.Common.{◌≡◌, ◌^◌, ℕ, zero, suc, ◌<◌, ◌≤◌, Bool, true, false, List, [], ◌∷◌, length, Option, None, Some, IsSome, slice_get, refl, sym, ap, subst, ◌∙◌, arith}
+use Rattle.std.proofs.Common.{◌≡◌, ℕ, zero, suc, ◌<◌, ◌≤◌, Bool, true, false, List, [], ◌∷◌, length, Option, None, Some, IsSome, slice_get, refl, sym, ap, subst, ◌∙◌, arith}
 use Rattle.std.specs.List.{slice_index_or}
 use Rattle.std.specs.Option.{option_and_then}
 use Rattle.itm_types.specs.declared.step.Step.{Step}
@@ -10,6 +10,7 @@ use Rattle.norec_world.specs.declared.actor.Status.{Status}
 use Rattle.norec_world.specs.declared.actor.Status.TheVariants.{Ready, Waits, Ended}
 use Rattle.norec_world.specs.Status.{is_ready, is_waiting, waiting_step, ending_of}
 use Rattle.itm_types.specs.Memory.{AllFit}
+use Rattle.itm_types.specs.declared.limits.TheConstants.{MAX_COMMITS, MAX_RETRIES}
 use Rattle.norec_engine.specs.Core.{Core, opening, in_transaction}
 use Rattle.norec_engine.specs.Proceeds.{IsLawful}
 use Rattle.norec_world.specs.Sound.{IsTied, IsKept, IsNested, StatusIs, IsSound}
@@ -66,8 +67,8 @@ ended_ready (Ended end) e = refl
 -- an actor that has made no call, over cells whose clock is 0
 module _ {P : Type 0} (rules : Rules P) where
   pub fresh_sound : (cells : Cells) (r : Rows) (a : Actor P) (arena : List ℕ) (patience max_commits : ℕ)
-      → a.engine ≡ opening (length cells.words) arena patience max_commits → AllFit cells.words → active_of a.thread r.active ≡ None → a.spare.items ≡ [] → a.nth ≡ 1 → a.retries ≤ 10000
-      → a.pending ≡ None → a.status ≡ Ready → rules.depth a.player ≡ 0 → max_commits < 2 ^ 62 → IsSound rules cells r a
+      → a.engine ≡ opening (length cells.words) arena patience max_commits → AllFit cells.words → active_of a.thread r.active ≡ None → a.spare.items ≡ [] → a.nth ≡ 1 → a.retries ≤ MAX_RETRIES
+      → a.pending ≡ None → a.status ≡ Ready → rules.depth a.player ≡ 0 → max_commits ≤ MAX_COMMITS → IsSound rules cells r a
   fresh_sound cells r a arena patience max_commits is fit none empty first few nothing ready outside limit =
       let Tied : Core → Type 0 = IsTied cells in
       let Kept : Bool → Type 0 = λ b. IsKept b r a in

@@ -4,6 +4,7 @@ use Rattle.itm_types.specs.declared.call.Call.{Call}
 use Rattle.itm_types.specs.declared.call.Call.TheVariants.{Commit}
 use Rattle.itm_types.specs.declared.step.Step.{Step}
 use Rattle.itm_types.specs.Memory.{AllFit}
+use Rattle.itm_types.specs.declared.limits.TheConstants.{MAX_RETRIES}
 use Rattle.itm_types.specs.Calls.{is_begin}
 use Rattle.script_vm.specs.Depth.{depth_after}
 use Rattle.norec_engine.specs.Core.{Core, came, in_transaction}
@@ -50,7 +51,7 @@ module _ {P : Type 0} where
     pub empty : a.spare.items ≡ []
     pub tried : 0 < a.nth
     pub tries : a.nth ≤ a.retries + 1
-    pub retries : a.retries ≤ 10000
+    pub retries : a.retries ≤ MAX_RETRIES
 
   -- the attempt that a begin is to open
   pub record IsPending (r : Rows) (a : Actor P) (row : Attempt) : Type 0 where

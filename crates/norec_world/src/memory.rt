@@ -5,7 +5,7 @@ ghost use Rattle.std.specs.Int.{w64, to_le_bytes, from_le_bytes};
 ghost use Rattle.itm_types.specs.Memory.{bytes_of, AllFit};
 ghost use Rattle.norec_world.specs.Cells.{IsCell, found, cells_after};
 
-use itm_types::Step;
+use itm_types::{MAX_WORDS, Step};
 use std::marker::Model;
 
 /// The sequence clock and the shared memory, which has whole words of 8 bytes.
@@ -52,7 +52,7 @@ impl Memory {
 
     /// How many words the memory has.
     pub(crate) fn words(&self) -> u32
-        requires { length self.now.words ≤ 8192 }
+        requires { length self.now.words ≤ MAX_WORDS }
         ensures { result ≡ length self.now.words }
     {
         (self.bytes.len() / 8) as u32

@@ -1,10 +1,7 @@
 //! What a world begins with.
 
 use crate::lists::Bytes;
-use norec_engine::Limits;
-
-/// How many actors a world may have.
-pub const MAX_ACTORS: usize = 32;
+use itm_types::Limits;
 
 /// What a world begins with, beside its players.
 #[derive(Debug, Drop)]
@@ -14,6 +11,4 @@ pub struct Setup {
     /// How many bytes each actor's arena has: at most 4,096.
     pub arena: u32,
     pub limits: Limits,
-    /// How often a block is tried again, at most 10,000 times.
-    pub retries: u32,
 }

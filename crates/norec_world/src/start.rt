@@ -1,7 +1,8 @@
 //! How actors begin.
 
-ghost use Rattle.std.specs.Prelude.{◌≡◌, ℕ, ◌^◌, ◌<◌, ◌≤◌, false, [], length, replicate, slice_get, None, Some, IfOk, All};
+ghost use Rattle.std.specs.Prelude.{◌≡◌, ℕ, ◌<◌, ◌≤◌, false, [], length, replicate, slice_get, None, Some, IfOk, All};
 ghost use Rattle.itm_types.specs.Memory.{AllFit, bytes_of};
+ghost use Rattle.itm_types.specs.declared.limits.TheConstants.{MAX_ARENA, MAX_COMMITS, MAX_PATIENCE, MAX_RETRIES};
 ghost use Rattle.norec_world.specs.Status.{ending_of, is_ready};
 ghost use Rattle.norec_world.specs.Sound.{IsSound};
 ghost use Rattle.norec_world.specs.Rows.{active_of};
@@ -18,8 +19,8 @@ use crate::actor::Actor;
 use crate::attempt::End;
 use crate::memory::Memory;
 use crate::recorded::Recorded;
-use crate::setup::MAX_ACTORS;
-use norec_engine::{Arena, Engine, Limits};
+use itm_types::{Limits, MAX_ACTORS, MAX_WORDS};
+use norec_engine::{Arena, Engine};
 use script_vm::Player;
 use std::alloc::{AllocError, Global};
 
@@ -28,13 +29,12 @@ use std::alloc::{AllocError, Global};
 pub(crate) struct Terms {
     pub(crate) arena: u32,
     pub(crate) limits: Limits,
-    pub(crate) retries: u32,
-    ghost small: { arena ≤ 4096 },
+    ghost small: { arena ≤ MAX_ARENA },
     ghost patient: { 0 < limits.patience },
-    ghost hasty: { limits.patience ≤ 1000 },
+    ghost hasty: { limits.patience ≤ MAX_PATIENCE },
     ghost some: { 0 < limits.max_commits },
-    ghost commits: { limits.max_commits < 2 ^ 62 },
-    ghost few: { retries ≤ 10000 },
+    ghost commits: { limits.max_commits ≤ MAX_COMMITS },
+    ghost few: { limits.retries ≤ MAX_RETRIES },
 }
 
 /// An actor for each player, which has done its local work up to its first operation.
@@ -47,15 +47,15 @@ pub(crate) fn start_all<P: Player>(
 ) -> Result<Vec<Actor<P>>, AllocError>
     requires few { length players.items ≤ MAX_ACTORS }
     requires outside { All (λ p. P.depth p ≡ 0) players.items }
-    requires size { (0 < length memory.now.words) × (length memory.now.words ≤ 8192) }
+    requires size { (0 < length memory.now.words) × (length memory.now.words ≤ MAX_WORDS) }
     requires fit { AllFit memory.now.words }
     requires empty { (recorded.old.ended ≡ []) × (recorded.old.active ≡ []) }
     requires clock { memory.now.clock ≡ 0 }
     ensures count { IfOk result (λ actors. length actors.items ≡ length players.items) }
     ensures sound { IfOk result (λ actors. AreActors P.Player memory.now recorded.new actors.items) }
-    ensures first { IfOk result (λ actors. (place : ℕ) (a : Actor P) → slice_get actors.items place ≡ Some a → IsFirst memory.now.clock terms.limits.patience terms.limits.max_commits terms.retries recorded.new a) }
+    ensures first { IfOk result (λ actors. (place : ℕ) (a : Actor P) → slice_get actors.items place ≡ Some a → IsFirst memory.now.clock terms.limits.patience terms.limits.max_commits terms.limits.retries recorded.new a) }
     ensures starts { IfOk result (λ actors. (place : ℕ) (p : P) (a : Actor P) → slice_get players.items place ≡ Some p → slice_get actors.items place ≡ Some a
-        → HasStarted P.Player memory.now.clock (opening (length memory.now.words) (replicate terms.arena 0) terms.limits.patience terms.limits.max_commits) terms.retries place p a) }
+        → HasStarted P.Player memory.now.clock (opening (length memory.now.words) (replicate terms.arena 0) terms.limits.patience terms.limits.max_commits) terms.limits.retries place p a) }
     ensures runs { IfOk result (λ actors. (place : ℕ) (p : P) (a : Actor P) → slice_get players.items place ≡ Some p → slice_get actors.items place ≡ Some a
         → RunsFrom P.Player (first_of p terms.arena) (bytes_of memory.now.words) memory.now recorded.new a) }
     ensures none { IfOk result (λ actors. (recorded.new.ended ≡ []) × (recorded.new.active ≡ [])) }
@@ -80,7 +80,7 @@ fn start<P: Player>(
     player: P,
 ) -> Result<Actor<P>, AllocError>
     requires outside { P.depth player ≡ 0 }
-    requires size { (0 < length memory.now.words) × (length memory.now.words ≤ 8192) }
+    requires size { (0 < length memory.now.words) × (length memory.now.words ≤ MAX_WORDS) }
     requires fit { AllFit memory.now.words }
     requires none { active_of thread recorded.old.active ≡ None }
     requires clock { memory.now.clock ≡ 0 }
@@ -88,8 +88,8 @@ fn start<P: Player>(
     ensures fed { IfOk result (λ a. ending_of a.status ≡ Some End.NoMemory → ⊥) }
     ensures done { IfOk result (λ a. is_ready a.status ≡ false) }
     ensures thread { IfOk result (λ a. a.thread ≡ thread) }
-    ensures first { IfOk result (λ a. IsFirst memory.now.clock terms.limits.patience terms.limits.max_commits terms.retries recorded.new a) }
-    ensures starts { IfOk result (HasStarted P.Player memory.now.clock (opening (length memory.now.words) (replicate terms.arena 0) terms.limits.patience terms.limits.max_commits) terms.retries thread player) }
+    ensures first { IfOk result (λ a. IsFirst memory.now.clock terms.limits.patience terms.limits.max_commits terms.limits.retries recorded.new a) }
+    ensures starts { IfOk result (HasStarted P.Player memory.now.clock (opening (length memory.now.words) (replicate terms.arena 0) terms.limits.patience terms.limits.max_commits) terms.limits.retries thread player) }
     ensures ended { IfOk result (λ a. recorded.new.ended ≡ recorded.old.ended) }
     ensures runs { IfOk result (λ a. recorded.old.ended ≡ [] → RunsFrom P.Player (first_of player terms.arena) (bytes_of memory.now.words) memory.now recorded.new a) }
     ensures free { IfOk result (λ a. a.engine.holds ≡ false) }
@@ -97,7 +97,7 @@ fn start<P: Player>(
 {
     let arena = Arena::new(alloc, terms.arena)?;
     let engine = Engine::new(alloc, memory.words(), arena, terms.limits);
-    let mut actor = Actor::new(alloc, thread, terms.retries, player, engine);
+    let mut actor = Actor::new(alloc, thread, terms.limits.retries, player, engine);
     actor.work(alloc, memory, recorded);
     match actor.ending() {
         Some(End::NoMemory) => Err(AllocError),

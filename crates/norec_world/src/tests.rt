@@ -1,14 +1,16 @@
 //! Worlds with one actor, and with two.
 
-ghost use Rattle.std.specs.Prelude.{◌≡◌, ◌%◌, ◌^◌, ◌<◌, ◌≤◌, length, IfOk};
+ghost use Rattle.std.specs.Prelude.{◌≡◌, ◌%◌, ◌<◌, ◌≤◌, length, IfOk};
 
 mod barriers;
 mod many;
 mod planned;
 
 use crate::{Attempt, Bytes, End, Outcome, Passes, Setup, World, WorldFault};
-use itm_types::{Call, Datum, Props, ReadHint, Refusal, Reply, Value, Width, WriteHint};
-use norec_engine::Limits;
+use itm_types::{
+    Call, Datum, Limits, MAX_COMMITS, MAX_MEMORY, Props, ReadHint, Refusal, Reply, Value, Width,
+    WriteHint,
+};
 use planned::Planned;
 use std::alloc::{AllocError, Global};
 use std::process::Abort;
@@ -21,17 +23,17 @@ fn world(
     max_commits: u64,
     calls: Vec<Call>,
 ) -> Result<World<Planned>, AllocError>
-    requires size { (8 ≤ size) × (size ≤ 65536) × (size % 8 ≡ 0) }
-    requires commits { (0 < max_commits) × (max_commits < 2 ^ 62) }
+    requires size { (8 ≤ size) × (size ≤ MAX_MEMORY) × (size % 8 ≡ 0) }
+    requires commits { (0 < max_commits) × (max_commits ≤ MAX_COMMITS) }
 {
     let setup = Setup {
         bytes: Bytes::new(vec![in alloc; 0; size]?),
         arena: 0,
         limits: Limits {
             patience: 8,
+            retries: 100,
             max_commits,
         },
-        retries: 100,
     };
     let mut players = Vec::new(alloc);
     players.push(Planned::new(calls))?;

@@ -8,8 +8,7 @@ use crate::attempt::{Attempt, End, Entry, Outcome};
 use crate::lists::{Bytes, Calls};
 use crate::memory::Memory;
 use crate::recorded::Recorded;
-use crate::setup::MAX_ACTORS;
-use itm_types::{Call, Props, Reply};
+use itm_types::{Call, MAX_ACTORS, MAX_RETRIES, Props, Reply};
 use norec_engine::{Answer, Next, Undone};
 use script_vm::Player;
 use std::alloc::{AllocError, Global};
@@ -193,7 +192,7 @@ impl<P: Player> Actor<P> {
 
     /// The block is tried again, where it may be.
     fn retry(&mut self)
-        requires { (self.old.nth ≤ self.old.retries + 1) × (self.old.retries ≤ 10000) }
+        requires { (self.old.nth ≤ self.old.retries + 1) × (self.old.retries ≤ MAX_RETRIES) }
         ensures { self.new ≡ retried self.old }
     {
         if self.retries < self.nth {

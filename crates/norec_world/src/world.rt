@@ -1,6 +1,6 @@
 //! Actors over one memory.
 
-ghost use Rattle.std.specs.Prelude.{◌≡◌, ℕ, ◌%◌, ◌^◌, ◌<◌, ◌≤◌, true, false, [], length, IfOk, Some, IsSome, All};
+ghost use Rattle.std.specs.Prelude.{◌≡◌, ℕ, ◌%◌, ◌<◌, ◌≤◌, true, false, [], length, IfOk, Some, IsSome, All};
 ghost use Rattle.norec_world.specs.World.{told};
 
 use crate::actor::Actor;
@@ -9,9 +9,9 @@ use crate::fault::WorldFault;
 use crate::lists::Bytes;
 use crate::memory::Memory;
 use crate::recorded::Recorded;
-use crate::setup::{MAX_ACTORS, Setup};
+use crate::setup::Setup;
 use crate::start::{Terms, start_all};
-use itm_types::Step;
+use itm_types::{MAX_ACTORS, MAX_ARENA, MAX_COMMITS, MAX_MEMORY, MAX_PATIENCE, MAX_RETRIES, Step};
 use script_vm::Player;
 use std::alloc::{AllocError, Global};
 use std::marker::Model;
@@ -59,11 +59,11 @@ impl<P: Player> World<P> {
 
     /// A world over this memory, with the clock at 0. Each actor's local work up to its first operation is done.
     pub fn new(alloc: Global, setup: Setup, players: Vec<P>) -> Result<Self, AllocError>
-        requires size { (8 ≤ length setup.bytes) × (length setup.bytes ≤ 65536) × (length setup.bytes % 8 ≡ 0) }
-        requires arena { setup.arena ≤ 4096 }
-        requires patience { (0 < setup.limits.patience) × (setup.limits.patience ≤ 1000) }
-        requires commits { (0 < setup.limits.max_commits) × (setup.limits.max_commits < 2 ^ 62) }
-        requires retries { setup.retries ≤ 10000 }
+        requires size { (8 ≤ length setup.bytes) × (length setup.bytes ≤ MAX_MEMORY) × (length setup.bytes % 8 ≡ 0) }
+        requires arena { setup.arena ≤ MAX_ARENA }
+        requires patience { (0 < setup.limits.patience) × (setup.limits.patience ≤ MAX_PATIENCE) }
+        requires commits { (0 < setup.limits.max_commits) × (setup.limits.max_commits ≤ MAX_COMMITS) }
+        requires retries { setup.limits.retries ≤ MAX_RETRIES }
         requires some { 0 < length players.items }
         requires few { length players.items ≤ MAX_ACTORS }
         requires outside { All (λ p. P.depth p ≡ 0) players.items }
@@ -73,7 +73,7 @@ impl<P: Player> World<P> {
         ensures arena { IfOk result (λ w. w.arena ≡ setup.arena) }
         ensures patience { IfOk result (λ w. w.patience ≡ setup.limits.patience) }
         ensures limit { IfOk result (λ w. w.max_commits ≡ setup.limits.max_commits) }
-        ensures retries { IfOk result (λ w. w.retries ≡ setup.retries) }
+        ensures retries { IfOk result (λ w. w.retries ≡ setup.limits.retries) }
         ensures first { IfOk result (λ w. (place : ℕ) (a : Actor P) → slice_get w.actors place ≡ Some a → IsBetween 0 1 w.attempts a) }
         ensures commits { IfOk result (λ w. CommitsInOrder w) }
         ensures opaque { IfOk result (AreOpaque P.Player) }
@@ -84,7 +84,6 @@ impl<P: Player> World<P> {
         let terms = Terms {
             arena: setup.arena,
             limits: setup.limits,
-            retries: setup.retries,
         };
         let memory = Memory::new(setup.bytes.into_vec());
         let mut recorded = Recorded::new(alloc);
@@ -197,6 +196,13 @@ impl<P: Player> World<P> {
         ensures { result.now ≡ self.now.opening }
     {
         &self.opening
+    }
+
+    /// The memory as it was handed in.
+    pub fn base(&self) -> &[u8]
+        ensures { result.now ≡ self.now.base }
+    {
+        self.base.as_slice()
     }
 
     /// The attempts that have ended, in the order in which they did, and then the open ones by actor. Each position

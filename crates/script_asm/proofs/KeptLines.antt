@@ -1,6 +1,8 @@
 -- Lines that leave more to be kept.
 use Rattle.std.proofs.Common.{◌≡◌, ℕ, ◌+◌, ◌<◌, ◌≤◌, List, [], ◌∷◌, ◌++◌, length, Option, Some, None, Result, Ok, refl, ap, arith, length-append}
 use Rattle.std.proofs.lemmas.Bool.{lt-ltb, le-ltb, lt-leb}
+use Rattle.itm_types.specs.declared.limits.TheConstants.{MAX_ACTORS}
+use Rattle.script_asm.specs.declared.limits.TheConstants.{MAX_ITEMS, MAX_INSTRUCTIONS}
 use Rattle.script_asm.specs.declared.words.Word.TheVariants as words
 use Rattle.script_asm.specs.declared.fault.AsmFault.{AsmFault}
 use Rattle.script_asm.specs.declared.instruction.Instruction.{Instruction}
@@ -38,14 +40,14 @@ adds_code s i = (record s { threads = record s.threads { code = s.threads.code +
 pub adds_then : (old : State) (n : ℕ) (read : Result State AsmFault) → Adds old read → Adds old (read >>= λ t. Ok (record t { block = Some n }))
 adds_then old n read h = (record h.0 { block = Some n }, ap (λ (r : Result State AsmFault). r >>= λ t. Ok (record t { block = Some n })) h.1, h.2)
 
-pub code_kept : (s : State) (n : ℕ) (i : Instruction) → instruction_total s.threads < 65536 → Adds s (counted s n i)
-code_kept s n i h = rw (lt-leb 65536 (instruction_total s.threads) h) (adds_code s i)
+pub code_kept : (s : State) (n : ℕ) (i : Instruction) → instruction_total s.threads < MAX_INSTRUCTIONS → Adds s (counted s n i)
+code_kept s n i h = rw (lt-leb MAX_INSTRUCTIONS (instruction_total s.threads) h) (adds_code s i)
 
-pub section_kept : (s : State) (n count : ℕ) (block : Option ℕ) → block ≡ None → thread_total s.threads + count ≤ 32 → 0 < s.threads.count → Adds s (threaded s n count block)
+pub section_kept : (s : State) (n count : ℕ) (block : Option ℕ) → block ≡ None → thread_total s.threads + count ≤ MAX_ACTORS → 0 < s.threads.count → Adds s (threaded s n count block)
 unfolding threaded
-section_kept s n count None e h some = rw (le-ltb 32 (thread_total s.threads + count) h) (adds_section s count some)
+section_kept s n count None e h some = rw (le-ltb MAX_ACTORS (thread_total s.threads + count) h) (adds_section s count some)
 section_kept s n count (Some begin) e h some = absurd cc
 
-pub items_kept : (s : State) (n : ℕ) (fs : List (List ℕ)) (items : List Item) → schedule_of fs ≡ Ok items → length s.schedule.items + length items ≤ 65536 → Adds s (obeyed s n words.Schedule fs)
+pub items_kept : (s : State) (n : ℕ) (fs : List (List ℕ)) (items : List Item) → schedule_of fs ≡ Ok items → length s.schedule.items + length items ≤ MAX_ITEMS → Adds s (obeyed s n words.Schedule fs)
 unfolding obeyed
-items_kept s n fs items e h = rw (e, le-ltb 65536 (length s.schedule.items + length items) h) (adds_items s n items (some_items fs items e))
+items_kept s n fs items e h = rw (e, le-ltb MAX_ITEMS (length s.schedule.items + length items) h) (adds_items s n items (some_items fs items e))

@@ -1,6 +1,10 @@
 -- Worked scripts, by computation.
 use Rattle.std.proofs.Common.{◌≡◌, List, ℕ, [], ◌∷◌, ◌++◌, Ok, refl}
 use Rattle.std.specs.Prelude.{codes}
+use Rattle.itm_types.specs.declared.access.ReadHint.TheVariants.{R}
+use Rattle.itm_types.specs.declared.limits.TheConstants.{MAX_COMMITS}
+use Rattle.itm_types.specs.declared.access.WriteHint.TheVariants.{W}
+use Rattle.itm_types.specs.declared.access.Width.TheVariants.{U8}
 use Rattle.script_asm.specs.declared.fault.AsmKind.TheVariants as kinds
 use Rattle.script_asm.specs.declared.instruction.Instruction.{Instruction}
 use Rattle.script_asm.specs.declared.instruction.Instruction.TheVariants.{Set, Add, Begin, Commit, Read, Write}
@@ -20,11 +24,8 @@ script code = line (codes ".memory 8") ++ line (codes ".thread") ++ code
 -- with the limits that are not said
 abbrev listing : ℕ → List Part → Listing
 listing memory parts = record {
-  memory = memory;
-  inits = [];
-  patience = 8;
-  retries = 100;
-  commits = 4611686018427387903;
+  memory = record { size = memory; inits = [] };
+  limits = record { patience = 8; retries = 100; max_commits = MAX_COMMITS };
   schedule = [];
   parts = parts;
 }
@@ -38,7 +39,7 @@ placed at bytes = record { at = at; bytes = bytes }
 -- ## Programs
 
 abbrev counter_code : List Instruction
-counter_code = Set 1 1 ∷ Begin 0 ∷ Read 2 0 ∷ Add 2 2 1 ∷ Write 0 2 ∷ Commit ∷ []
+counter_code = Set 1 1 ∷ Begin (record {}) 0 ∷ Read R U8 2 0 ∷ Add 2 2 1 ∷ Write W U8 0 2 ∷ Commit ∷ []
 
 abbrev counter_text : List ℕ
 counter_text = line (codes "set r1 1 ; one") ++ line (codes "_ITM_beginTransaction r0 -") ++ line (codes "  _ITM_RU8 r2 0") ++ line (codes "add\tr2 r2 r1\r") ++ line (codes "_ITM_WU8 0 r2") ++ codes "_ITM_commitTransaction"
@@ -69,7 +70,7 @@ four_codes = refl
 
 -- bytes over bytes: the last one to write a byte wins
 abbrev overlapping : Listing
-overlapping = record (listing 8 (part 1 [] ∷ [])) { inits = placed 0 (17 ∷ 34 ∷ 51 ∷ 68 ∷ []) ∷ placed 2 (170 ∷ 187 ∷ 204 ∷ []) ∷ placed 7 (255 ∷ []) ∷ [] }
+overlapping = record (listing 8 (part 1 [] ∷ [])) { memory = record { size = 8; inits = placed 0 (17 ∷ 34 ∷ 51 ∷ 68 ∷ []) ∷ placed 2 (170 ∷ 187 ∷ 204 ∷ []) ∷ placed 7 (255 ∷ []) ∷ [] } }
 
 laid_twice : program_of (line (codes ".memory 8") ++ line (codes ".init 0 11223344") ++ line (codes ".init 2 aaBBcc") ++ line (codes ".init 7 FF") ++ codes ".thread") ≡ Ok overlapping
 unfolding on_literals
@@ -80,7 +81,7 @@ unfolding on_literals
 laid_bytes = refl
 
 limits : program_of (line (codes ".patience 1000") ++ line (codes ".retries 0") ++ line (codes ".commits 1") ++ line (codes ".memory 8") ++ codes ".thread")
-    ≡ Ok (record (listing 8 (part 1 [] ∷ [])) { patience = 1000; retries = 0; commits = 1 })
+    ≡ Ok (record (listing 8 (part 1 [] ∷ [])) { limits = record { patience = 1000; retries = 0; max_commits = 1 } })
 unfolding on_literals
 limits = refl
 

@@ -1,10 +1,12 @@
 -- What a script says, line by line: its program, or its first fault.
-use Rattle.std.specs.Prelude.{◌≡◌, ◌⊎◌, ℕ, ◌+◌, ◌<◌, ◌&&◌, not, Bool, nat_lt, nat_le, List, [], ◌∷◌, ◌++◌, length, take, slice_get, Option, Some, None, is_some, is_none, unwrap_or, Result, Ok, Err, if◌then◌else◌}
+use Rattle.std.specs.Prelude.{◌≡◌, ◌⊎◌, ℕ, ◌+◌, ◌<◌, ◌&&◌, not, Bool, nat_lt, nat_le, List, [], ◌∷◌, ◌++◌, length, take, slice_get, Option, Some, None, is_some, is_none, Result, Ok, Err, if◌then◌else◌}
 use Rattle.std.specs.List.{list_all}
 use Rattle.std.specs.Str.Lines.{lines}
+use Rattle.itm_types.specs.declared.limits.TheConstants.{MAX_ACTORS, MAX_PATIENCE, MAX_RETRIES, MAX_COMMITS}
 use Rattle.script_asm.specs.declared.fault.AsmKind.{AsmKind}
 use Rattle.script_asm.specs.declared.fault.AsmKind.TheVariants as kinds
 use Rattle.script_asm.specs.declared.fault.AsmFault.{AsmFault}
+use Rattle.script_asm.specs.declared.limits.TheConstants.{MAX_TEXT, MAX_ITEMS, MAX_INSTRUCTIONS}
 use Rattle.script_asm.specs.declared.instruction.Instruction.{Instruction}
 use Rattle.script_asm.specs.declared.instruction.Instruction.TheVariants as code
 use Rattle.script_asm.specs.declared.schedule.Item.{Item}
@@ -15,7 +17,7 @@ use Rattle.script_asm.specs.declared.words.Mnemonic.TheVariants as mnemonics
 use Rattle.script_asm.specs.declared.state.State.{State}
 use Rattle.script_asm.specs.declared.stop.Stop.{Stop}
 use Rattle.script_asm.specs.declared.stop.Stop.TheVariants as stops
-use Rattle.script_asm.specs.Listing.{Listing, Shared}
+use Rattle.script_asm.specs.Listing.{Listing, Shared, limits_of}
 use Rattle.script_asm.specs.Sections.{parts_of, thread_total, instruction_total, begun}
 use Rattle.script_asm.specs.Schedules.{planned, stray_of}
 use Rattle.script_asm.specs.Text.{fields, without_comment, is_allowed}
@@ -54,7 +56,7 @@ laid_in s n x (Some m) =
 -- at most 65,536 items
 abbrev pub scheduled : State → ℕ → List Item → Result State AsmFault
 scheduled s n items =
-    if nat_lt 65536 (length s.schedule.items + length items)
+    if nat_lt MAX_ITEMS (length s.schedule.items + length items)
     then fault n kinds.TooLong
     else Ok (record s { schedule = planned s.schedule n items })
 
@@ -62,7 +64,7 @@ scheduled s n items =
 unfoldable pub threaded : State → ℕ → ℕ → Option ℕ → Result State AsmFault
 threaded s n count (Some begin) = fault begin kinds.Unbalanced
 threaded s n count None =
-    if nat_lt 32 (thread_total s.threads + count)
+    if nat_lt MAX_ACTORS (thread_total s.threads + count)
     then fault n kinds.TooLong
     else Ok (record s { threads = begun s.threads count })
 
@@ -71,7 +73,7 @@ threaded s n count None =
 -- one more instruction
 abbrev pub counted : State → ℕ → Instruction → Result State AsmFault
 counted s n i =
-    if nat_le 65536 (instruction_total s.threads)
+    if nat_le MAX_INSTRUCTIONS (instruction_total s.threads)
     then fault n kinds.TooLong
     else Ok (record s { threads = record s.threads { code = s.threads.code ++ i ∷ [] } })
 
@@ -80,7 +82,7 @@ close_block s n None = fault n kinds.Unbalanced
 close_block s n (Some begin) = counted (record s { block = None }) n code.Commit
 
 unfoldable pub run_code : State → ℕ → Instruction → Result State AsmFault
-run_code s n (code.Begin r) = counted s n (code.Begin r) >>= λ t. Ok (record t { block = Some n })
+run_code s n (code.Begin props r) = counted s n (code.Begin props r) >>= λ t. Ok (record t { block = Some n })
 run_code s n code.Commit = close_block s n s.block
 run_code s n i = counted s n i
 
@@ -108,9 +110,9 @@ may_stand s (words.Code m) = code_may_stand s m
 unfoldable pub obeyed : State → ℕ → Word → List (List ℕ) → Result State AsmFault
 obeyed s n words.Memory fs = at_line n (size_of fs) >>= λ m. Ok (record s { memory = Some (record { size = m; inits = [] }) })
 obeyed s n words.Init fs = at_line n (init_of fs) >>= λ x. laid_in s n x s.memory
-obeyed s n words.Patience fs = at_line n (limit_of 1 1000 fs) >>= λ k. Ok (record s { limits = record s.limits { patience = Some k } })
-obeyed s n words.Retries fs = at_line n (limit_of 0 10000 fs) >>= λ k. Ok (record s { limits = record s.limits { retries = Some k } })
-obeyed s n words.Commits fs = at_line n (limit_of 1 4611686018427387903 fs) >>= λ k. Ok (record s { limits = record s.limits { commits = Some k } })
+obeyed s n words.Patience fs = at_line n (limit_of 1 MAX_PATIENCE fs) >>= λ k. Ok (record s { limits = record s.limits { patience = Some k } })
+obeyed s n words.Retries fs = at_line n (limit_of 0 MAX_RETRIES fs) >>= λ k. Ok (record s { limits = record s.limits { retries = Some k } })
+obeyed s n words.Commits fs = at_line n (limit_of 1 MAX_COMMITS fs) >>= λ k. Ok (record s { limits = record s.limits { commits = Some k } })
 obeyed s n words.Schedule fs = at_line n (schedule_of fs) >>= scheduled s n
 obeyed s n words.Thread fs = at_line n (count_of fs) >>= λ count. threaded s n count s.block
 obeyed s n (words.Code m) fs = at_line n (instruction_of m fs) >>= run_code s n
@@ -131,11 +133,8 @@ meaning s n line = if list_all is_allowed (without_comment line) then said s n (
 
 abbrev pub listing_of : State → Shared → Listing
 listing_of s m = record {
-  memory = m.size;
-  inits = m.inits;
-  patience = unwrap_or s.limits.patience 8;
-  retries = unwrap_or s.limits.retries 100;
-  commits = unwrap_or s.limits.commits 4611686018427387903;
+  memory = m;
+  limits = limits_of s.limits;
   schedule = s.schedule.items;
   parts = parts_of s.threads;
 }
@@ -177,7 +176,7 @@ initial = record {
 -- the program that the text says, or the first fault
 unfoldable pub program_of : List ℕ → Result Listing AsmFault
 program_of text =
-    if nat_lt 16777216 (length text)
+    if nat_lt MAX_TEXT (length text)
     then fault 0 kinds.TooLong
     else (lines_say initial 1 (lines text) >>= end_of)
 

@@ -2,6 +2,7 @@
 use Rattle.std.specs.Prelude.{ℕ, ◌+◌, ◌-◌, ◌==◌, Bool, List, [], ◌∷◌, length, take, drop, min, slice_index, position, Option, Some, None, Result, Ok, Err, if◌then◌else◌}
 use Rattle.script_asm.specs.declared.fault.AsmKind.{AsmKind}
 use Rattle.script_asm.specs.declared.fault.AsmKind.TheVariants as kinds
+use Rattle.script_asm.specs.declared.limits.TheConstants.{MAX_EVENTS}
 use Rattle.script_asm.specs.declared.schedule.Item.{Item}
 use Rattle.script_asm.specs.declared.schedule.Item.TheVariants.{Take, Out}
 use Rattle.script_asm.specs.Operands.{◌>>=◌, both, number, within}
@@ -15,7 +16,7 @@ thread_number n = min n 255
 
 -- how many events
 unfoldable pub events : List ℕ → Result ℕ AsmKind
-events f = number f >>= within 1 1000000
+events f = number f >>= within 1 MAX_EVENTS
 
 -- what stands around the first x
 abbrev pub take_of : List ℕ → Option ℕ → Result Item AsmKind

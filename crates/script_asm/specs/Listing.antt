@@ -1,6 +1,8 @@
 -- A program: what a script says.
-use Rattle.std.specs.Prelude.{ℕ, ◌+◌, ◌≤◌, List, ◌++◌, length, take, drop, replicate, fold, All, Option}
+use Rattle.std.specs.Prelude.{ℕ, ◌+◌, ◌≤◌, List, ◌++◌, length, take, drop, replicate, fold, All, Option, unwrap_or}
 use Rattle.std.specs.List.{flat_map}
+use Rattle.itm_types.specs.declared.limits.Limits.{Limits}
+use Rattle.itm_types.specs.declared.limits.TheConstants.{MAX_COMMITS}
 use Rattle.script_asm.specs.declared.instruction.Instruction.{Instruction}
 use Rattle.script_asm.specs.declared.schedule.Item.{Item}
 use Rattle.script_asm.specs.declared.schedule.Item.TheVariants.{Take, Out}
@@ -37,6 +39,10 @@ pub record Bounds : Type 0 where
   pub retries : Option ℕ
   pub commits : Option ℕ
 
+-- those of the run: of each that is not said, what it is else
+abbrev pub limits_of : Bounds → Limits
+limits_of b = record { patience = unwrap_or b.patience 8; retries = unwrap_or b.retries 100; max_commits = unwrap_or b.commits MAX_COMMITS }
+
 -- ## The schedule
 
 -- the thread that takes the events
@@ -58,17 +64,14 @@ codes_of parts = flat_map (λ p. replicate p.count p.code) parts
 -- ## The program
 
 pub record Listing : Type 0 where
-  pub memory : ℕ
-  pub inits : List Placed
-  pub patience : ℕ
-  pub retries : ℕ
-  pub commits : ℕ
+  pub memory : Shared
+  pub limits : Limits
   pub schedule : List Item
   pub parts : List Part
 
 -- shared memory as the threads begin
 abbrev pub opening_of : Listing → List ℕ
-opening_of p = bytes_of (record { size = p.memory; inits = p.inits })
+opening_of p = bytes_of p.memory
 
 -- the code of each thread, by its number
 abbrev pub threads_of : Listing → List (List Instruction)

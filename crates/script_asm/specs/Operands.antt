@@ -3,6 +3,8 @@ use Rattle.std.specs.Prelude.{◌≡◌, ℕ, ◌+◌, ◌-◌, ◌*◌, ◌^◌
 use Rattle.std.specs.List.{list_all}
 use Rattle.std.specs.Result.{result_unwrap_or}
 use Rattle.hex.specs.Hex.{decode_of, is_hex_digit}
+use Rattle.itm_types.specs.declared.call.Props.{Props}
+use Rattle.itm_types.specs.declared.limits.TheConstants.{MAX_MEMORY}
 use Rattle.script_asm.specs.declared.fault.AsmKind.{AsmKind}
 use Rattle.script_asm.specs.declared.fault.AsmKind.TheVariants as kinds
 
@@ -40,8 +42,8 @@ register (r ∷ t ∷ d ∷ []) = if r == 114 && t == 49 && is_digit_to 53 d the
 register f = Err kinds.Operand
 
 -- the properties of a block: none
-abbrev pub dash : List ℕ → Result (Unit {0}) AsmKind
-dash f = if bytes_eq f (codes "-") then Ok tt else Err kinds.Operand
+abbrev pub props : List ℕ → Result Props AsmKind
+props f = if bytes_eq f (codes "-") then Ok (record {}) else Err kinds.Operand
 
 -- of two, a wrong form decides first
 abbrev pub both : {A B : Type 0} → Result A AsmKind → Result B AsmKind → Result (A × B) AsmKind
@@ -73,7 +75,7 @@ decoded f = result_unwrap_or (decode_of f) []
 
 -- at most 65,536 bytes
 unfoldable pub digits : List ℕ → Result (List ℕ) AsmKind
-digits f = if is_hex f then (if nat_lt 131072 (length f) then Err kinds.Range else Ok (decoded f)) else Err kinds.Operand
+digits f = if is_hex f then (if nat_lt (2 * MAX_MEMORY) (length f) then Err kinds.Range else Ok (decoded f)) else Err kinds.Operand
 
 -- ## How many fields
 
@@ -101,8 +103,8 @@ register_number fs = two fs >>= λ x. both (register x.0) (number x.1)
 unfoldable pub number_register : List (List ℕ) → Result (ℕ × ℕ) AsmKind
 number_register fs = two fs >>= λ x. both (number x.0) (register x.1)
 
-unfoldable pub register_dash : List (List ℕ) → Result (ℕ × Unit {0}) AsmKind
-register_dash fs = two fs >>= λ x. both (register x.0) (dash x.1)
+unfoldable pub register_props : List (List ℕ) → Result (ℕ × Props) AsmKind
+register_props fs = two fs >>= λ x. both (register x.0) (props x.1)
 
 unfoldable pub registers : List (List ℕ) → Result (ℕ × (ℕ × ℕ)) AsmKind
 registers fs = three fs >>= λ x. both (register x.0) (both (register x.1) (register x.2))
@@ -111,7 +113,7 @@ registers fs = three fs >>= λ x. both (register x.0) (both (register x.1) (regi
 
 -- whole words, from one to 8,192
 abbrev pub memory_size : ℕ → Result ℕ AsmKind
-memory_size n = if nat_le 8 n && nat_le n 65536 && n % 8 == 0 then Ok n else Err kinds.Range
+memory_size n = if nat_le 8 n && nat_le n MAX_MEMORY && n % 8 == 0 then Ok n else Err kinds.Range
 
 unfoldable pub size_of : List (List ℕ) → Result ℕ AsmKind
 size_of fs = one fs >>= number >>= memory_size

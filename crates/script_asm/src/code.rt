@@ -6,7 +6,7 @@ ghost use Rattle.script_asm.specs.Code.{instruction_of};
 
 use crate::fault::AsmKind;
 use crate::instruction::Instruction;
-use crate::operands::{no_field, number_register, register_dash, register_number, registers};
+use crate::operands::{no_field, number_register, register_number, register_props, registers};
 use crate::words::Mnemonic;
 
 /// The instruction that begins with the mnemonic.
@@ -24,20 +24,30 @@ pub fn instruction_of(mnemonic: Mnemonic, rest: &[u8]) -> Result<Instruction, As
             Ok(Instruction::Add { to, left, right })
         }
         Mnemonic::Begin => {
-            let (code, ()) = register_dash(rest)?;
-            Ok(Instruction::Begin { code })
+            let (code, props) = register_props(rest)?;
+            Ok(Instruction::Begin { props, code })
         }
         Mnemonic::Commit => {
             no_field(rest)?;
             Ok(Instruction::Commit)
         }
-        Mnemonic::Read => {
+        Mnemonic::Read(hint, width) => {
             let (to, at) = register_number(rest)?;
-            Ok(Instruction::Read { to, at })
+            Ok(Instruction::Read {
+                hint,
+                width,
+                to,
+                at,
+            })
         }
-        Mnemonic::Write => {
+        Mnemonic::Write(hint, width) => {
             let (at, from) = number_register(rest)?;
-            Ok(Instruction::Write { at, from })
+            Ok(Instruction::Write {
+                hint,
+                width,
+                at,
+                from,
+            })
         }
     }
 }

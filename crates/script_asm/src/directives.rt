@@ -10,11 +10,13 @@ use crate::code::instruction_of;
 use crate::fault::{AsmFault, AsmKind};
 use crate::instruction::Instruction;
 use crate::items::{add_items, count_items};
+use crate::limits::MAX_ITEMS;
 use crate::opening::Opening;
 use crate::operands::{count_of, init_of, limit_of, size_of};
 use crate::state::State;
 use crate::stop::Stop;
 use crate::words::{Mnemonic, Word};
+use itm_types::{MAX_ACTORS, MAX_COMMITS, MAX_PATIENCE, MAX_RETRIES};
 use std::alloc::Global;
 
 /// Whether a line with this word may stand here.
@@ -88,7 +90,7 @@ fn read_init(alloc: Global, state: &mut State, line: usize, rest: &[u8]) -> Resu
 fn read_patience(state: &mut State, line: usize, rest: &[u8]) -> Result<(), Stop>
     ensures { Steps result state.old state.new (obeyed state.old line words.Patience (fields rest.now)) }
 {
-    match limit_of(1, 1_000, rest) {
+    match limit_of(1, u64::from(MAX_PATIENCE), rest) {
         Ok(patience) => {
             state.limits.set_patience(patience as u32);
             Ok(())
@@ -101,7 +103,7 @@ fn read_patience(state: &mut State, line: usize, rest: &[u8]) -> Result<(), Stop
 fn read_retries(state: &mut State, line: usize, rest: &[u8]) -> Result<(), Stop>
     ensures { Steps result state.old state.new (obeyed state.old line words.Retries (fields rest.now)) }
 {
-    match limit_of(0, 10_000, rest) {
+    match limit_of(0, u64::from(MAX_RETRIES), rest) {
         Ok(retries) => {
             state.limits.set_retries(retries as u32);
             Ok(())
@@ -114,7 +116,7 @@ fn read_retries(state: &mut State, line: usize, rest: &[u8]) -> Result<(), Stop>
 fn read_commits(state: &mut State, line: usize, rest: &[u8]) -> Result<(), Stop>
     ensures { Steps result state.old state.new (obeyed state.old line words.Commits (fields rest.now)) }
 {
-    match limit_of(1, 4_611_686_018_427_387_903, rest) {
+    match limit_of(1, MAX_COMMITS, rest) {
         Ok(commits) => {
             state.limits.set_commits(commits);
             Ok(())
@@ -130,7 +132,7 @@ fn read_schedule(state: &mut State, line: usize, rest: &[u8]) -> Result<(), Stop
     match count_items(rest) {
         Ok(count) => {
             let total = state.schedule.len().saturating_add(count);
-            if 65_536 < total {
+            if MAX_ITEMS < total {
                 return Err(Stop::Fault(AsmFault {
                     line,
                     kind: AsmKind::TooLong,
@@ -155,7 +157,7 @@ fn begin_threads(alloc: Global, state: &mut State, line: usize, count: u64) -> R
             kind: AsmKind::Unbalanced,
         }));
     }
-    if ((32 - state.threads.count()) as u64) < count {
+    if ((MAX_ACTORS - state.threads.count()) as u64) < count {
         return Err(Stop::Fault(AsmFault {
             line,
             kind: AsmKind::TooLong,

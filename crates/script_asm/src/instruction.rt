@@ -2,6 +2,7 @@
 
 ghost use Rattle.std.specs.Prelude.{◌≡◌, ◌<◌};
 
+use itm_types::{Props, ReadHint, Width, WriteHint};
 use std::marker::Model;
 
 /// One of the 16 registers of a thread.
@@ -40,7 +41,8 @@ impl Register {
     }
 }
 
-/// What a line of a thread's code does.
+/// What a line of a thread's code does. Of a call it has the call's own parts, and registers where the call has what
+/// stands in them or is answered with what comes into them.
 #[derive(Clone, Copy, Debug, PartialEq, Eq)]
 pub enum Instruction {
     /// Puts a number in a register.
@@ -56,17 +58,22 @@ pub enum Instruction {
     },
     /// Begins a block and puts the answer in a register (Intel TM ABI 1.1, section 5.10).
     Begin {
+        props: Props,
         code: Register,
     },
     /// Ends the block (section 5.12).
     Commit,
-    /// Reads 8 bytes of shared memory (section 5.15).
+    /// Reads shared memory into a register (section 5.15).
     Read {
+        hint: ReadHint,
+        width: Width,
         to: Register,
         at: u64,
     },
-    /// Writes the first 8 bytes of a register to shared memory (section 5.15).
+    /// Writes a register's first bytes, as many as the width has, to shared memory (section 5.15).
     Write {
+        hint: WriteHint,
+        width: Width,
         at: u64,
         from: Register,
     },

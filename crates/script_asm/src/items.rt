@@ -6,6 +6,7 @@ ghost use Rattle.script_asm.specs.Schedules.{planned};
 ghost use Rattle.script_asm.specs.Items.{is_times, thread_number, events, item_of, items_in, schedule_of};
 
 use crate::fault::AsmKind;
+use crate::limits::MAX_EVENTS;
 use crate::operands::{both, number, within};
 use crate::schedule::{Item, Plan};
 use crate::text::first_field;
@@ -27,7 +28,7 @@ fn thread_number(n: u64) -> u8
 fn events(field: &[u8]) -> Result<u32, AsmKind>
     ensures { result ≡ events field.now }
 {
-    Ok(within(1, 1_000_000, number(field)?)? as u32)
+    Ok(within(1, MAX_EVENTS, number(field)?)? as u32)
 }
 
 #[tactic(auto, unfolding(crate::specs::Items::item_of))]

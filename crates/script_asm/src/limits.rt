@@ -1,36 +1,53 @@
-//! The limits that a script sets for its run.
+//! The limits of scripts, and those that a script sets for its run.
 
-ghost use Rattle.std.specs.Prelude.{◌≡◌, ◌≤◌, None, Some, is_some, unwrap_or};
+ghost use Rattle.std.specs.Prelude.{◌≡◌, ◌≤◌, None, Some, is_some};
+ghost use Rattle.itm_types.specs.Limits.{AreWithin};
+ghost use Rattle.itm_types.specs.declared.limits.TheConstants.{MAX_COMMITS, MAX_PATIENCE, MAX_RETRIES};
+ghost use Rattle.script_asm.specs.Listing.{limits_of};
 
+use itm_types::{Limits, MAX_COMMITS};
 use std::marker::Model;
+
+/// How many bytes a script has at most.
+pub const MAX_TEXT: usize = 16_777_216;
+
+/// How many items a schedule has at most.
+pub const MAX_ITEMS: usize = 65_536;
+
+/// How many events one item takes at most.
+pub const MAX_EVENTS: u64 = 1_000_000;
+
+/// How many instructions the sections of a script have at most.
+pub const MAX_INSTRUCTIONS: usize = 65_536;
 
 /// The limits that were said, each within its range.
 #[derive(Drop)]
-pub struct Limits {
+pub struct SaidLimits {
     patience: Option<u32>,
     retries: Option<u32>,
     commits: Option<u64>,
 }
 
-impl Model for Limits {
+impl Model for SaidLimits {
     ghost use Rattle.std.specs.Prelude.{◌≤◌};
     ghost use Rattle.std.specs.Option.{ForSome};
+    ghost use Rattle.itm_types.specs.declared.limits.TheConstants.{MAX_COMMITS, MAX_PATIENCE, MAX_RETRIES};
     ghost use Rattle.script_asm.specs.Listing.{Bounds};
 
     ghost Value = { Bounds };
 
     ghost view = { λ l. record { patience = l.patience; retries = l.retries; commits = l.commits } };
 
-    ghost invariant = { λ l. ForSome l.patience (λ n. (1 ≤ n) × (n ≤ 1000)) × ForSome l.retries (λ n. n ≤ 10000)
-        × ForSome l.commits (λ n. (1 ≤ n) × (n ≤ 4611686018427387903)) };
+    ghost invariant = { λ l. ForSome l.patience (λ n. (1 ≤ n) × (n ≤ MAX_PATIENCE)) × ForSome l.retries (λ n. n ≤ MAX_RETRIES)
+        × ForSome l.commits (λ n. (1 ≤ n) × (n ≤ MAX_COMMITS)) };
 }
 
-impl Limits {
+impl SaidLimits {
     /// No limit is said yet.
     pub fn new() -> Self
         ensures { result ≡ record { patience = None; retries = None; commits = None } }
     {
-        Limits {
+        SaidLimits {
             patience: None,
             retries: None,
             commits: None,
@@ -61,7 +78,7 @@ impl Limits {
     /// Says the patience.
     pub fn set_patience(&mut self, patience: u32)
         requires low { 1 ≤ patience }
-        requires high { patience ≤ 1000 }
+        requires high { patience ≤ MAX_PATIENCE }
         ensures { self.new ≡ record self.old { patience = Some patience } }
     {
         self.patience = Some(patience);
@@ -69,7 +86,7 @@ impl Limits {
 
     /// Says the retries.
     pub fn set_retries(&mut self, retries: u32)
-        requires { retries ≤ 10000 }
+        requires { retries ≤ MAX_RETRIES }
         ensures { self.new ≡ record self.old { retries = Some retries } }
     {
         self.retries = Some(retries);
@@ -78,35 +95,21 @@ impl Limits {
     /// Says the number of commits.
     pub fn set_commits(&mut self, commits: u64)
         requires low { 1 ≤ commits }
-        requires high { commits ≤ 4611686018427387903 }
+        requires high { commits ≤ MAX_COMMITS }
         ensures { self.new ≡ record self.old { commits = Some commits } }
     {
         self.commits = Some(commits);
     }
 
-    /// How many rounds a call may start.
-    pub fn patience(&self) -> u32
-        ensures value { result ≡ unwrap_or self.now.patience 8 }
-        ensures low { 1 ≤ result }
-        ensures high { result ≤ 1000 }
+    /// The limits of the run: those that were said, and else 8 rounds, 100 retries and as many commits as may be.
+    pub fn limits(&self) -> Limits
+        ensures value { result ≡ limits_of self.now }
+        ensures within { AreWithin result }
     {
-        self.patience.unwrap_or(8)
-    }
-
-    /// How often a block is tried again.
-    pub fn retries(&self) -> u32
-        ensures value { result ≡ unwrap_or self.now.retries 100 }
-        ensures high { result ≤ 10000 }
-    {
-        self.retries.unwrap_or(100)
-    }
-
-    /// How many commits there may be.
-    pub fn commits(&self) -> u64
-        ensures value { result ≡ unwrap_or self.now.commits 4611686018427387903 }
-        ensures low { 1 ≤ result }
-        ensures high { result ≤ 4611686018427387903 }
-    {
-        self.commits.unwrap_or(4_611_686_018_427_387_903)
+        Limits {
+            patience: self.patience.unwrap_or(8),
+            retries: self.retries.unwrap_or(100),
+            max_commits: self.commits.unwrap_or(MAX_COMMITS),
+        }
     }
 }

@@ -3,13 +3,14 @@
 ghost use Rattle.std.specs.Prelude.{◌≡◌, ◌≤◌, IfOk, true};
 ghost use Rattle.std.specs.List.{list_all};
 ghost use Rattle.script_asm.specs.Text.{fields};
-ghost use Rattle.script_asm.specs.Operands.{is_digit, is_number, value_of, number, register, both, dash, Sees, none, one, two, three, register_number, number_register, register_dash, registers, is_hex, decoded, digits, memory_size, size_of, within, limit_of, init_of, not_zero, count_of};
+ghost use Rattle.script_asm.specs.Operands.{is_digit, is_number, value_of, number, register, both, props, Sees, none, one, two, three, register_number, number_register, register_props, registers, is_hex, decoded, digits, memory_size, size_of, within, limit_of, init_of, not_zero, count_of};
 ghost use Rattle.hex.specs.Hex.{is_hex_digit};
 
 use crate::fault::AsmKind;
 use crate::instruction::Register;
 use crate::opening::Size;
 use crate::text::first_field;
+use itm_types::{MAX_MEMORY, Props};
 
 fn has_digits(field: &[u8]) -> bool
     ensures { result ≡ list_all is_digit field.now }
@@ -59,11 +60,11 @@ fn register(field: &[u8]) -> Result<Register, AsmKind>
     }
 }
 
-fn dash(field: &[u8]) -> Result<(), AsmKind>
-    ensures { result ≡ dash field.now }
+fn props(field: &[u8]) -> Result<Props, AsmKind>
+    ensures { result ≡ props field.now }
 {
     if field == b"-".as_slice() {
-        Ok(())
+        Ok(Props {})
     } else {
         Err(AsmKind::Operand)
     }
@@ -163,12 +164,12 @@ pub fn number_register(rest: &[u8]) -> Result<(u64, Register), AsmKind>
 }
 
 /// A register, then the properties of a block, of which there are none.
-#[tactic(auto, unfolding(crate::specs::Operands::register_dash))]
-pub fn register_dash(rest: &[u8]) -> Result<(Register, ()), AsmKind>
-    ensures { result ≡ register_dash (fields rest.now) }
+#[tactic(auto, unfolding(crate::specs::Operands::register_props))]
+pub fn register_props(rest: &[u8]) -> Result<(Register, Props), AsmKind>
+    ensures { result ≡ register_props (fields rest.now) }
 {
     let (first, second) = two_fields(rest)?;
-    both(register(first), dash(second))
+    both(register(first), props(second))
 }
 
 /// Three registers.
@@ -203,7 +204,7 @@ fn digits(field: &[u8]) -> Result<&[u8], AsmKind>
     if !is_hex(field) {
         return Err(AsmKind::Operand);
     }
-    if 131_072 < field.len() {
+    if 2 * MAX_MEMORY < field.len() {
         return Err(AsmKind::Range);
     }
     Ok(field)
@@ -212,7 +213,7 @@ fn digits(field: &[u8]) -> Result<&[u8], AsmKind>
 fn memory_size(n: u64) -> Result<Size, AsmKind>
     ensures { result ≡ memory_size n }
 {
-    if 8 <= n && n <= 65_536 && n % 8 == 0 {
+    if 8 <= n && n <= MAX_MEMORY as u64 && n % 8 == 0 {
         Ok(Size::new(n as usize))
     } else {
         Err(AsmKind::Range)

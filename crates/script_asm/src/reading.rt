@@ -66,7 +66,7 @@ pub fn finish(state: State) -> Result<Program, AsmFault>
                 line,
                 kind: AsmKind::Range,
             }),
-            None => Ok(Program::new(opening, limits, schedule.into_items(), threads)),
+            None => Ok(Program::new(opening, limits.limits(), schedule.into_items(), threads)),
         },
         _ => Err(AsmFault {
             line: 0,

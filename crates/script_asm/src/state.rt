@@ -1,6 +1,6 @@
 //! What has been read of a script.
 
-use crate::limits::Limits;
+use crate::limits::SaidLimits;
 use crate::opening::Opening;
 use crate::schedule::Plan;
 use crate::threads::Threads;
@@ -10,7 +10,7 @@ use crate::threads::Threads;
 pub struct State {
     /// Shared memory, once its size is said.
     pub memory: Option<Opening>,
-    pub limits: Limits,
+    pub limits: SaidLimits,
     pub schedule: Plan,
     pub threads: Threads,
     /// The line of the begin whose block is open.

@@ -3,6 +3,7 @@
 ghost use Rattle.std.specs.Prelude.{◌<◌};
 
 use crate::{AsmFault, AsmKind, Instruction, Item, Program, Register, assemble};
+use itm_types::{Limits, Props, ReadHint, Width, WriteHint};
 use std::alloc::{AllocError, Global};
 use std::process::Abort;
 use std::test::Fail;
@@ -68,9 +69,12 @@ fn whole_program(rt: HostRuntime) -> Result<(), Fail> {
     let mut memory = [9u8; 16];
     program.opening(&mut memory);
     assert_eq!(rt; memory, OPENING);
-    assert_eq!(rt; program.patience(), 2);
-    assert_eq!(rt; program.retries(), 0);
-    assert_eq!(rt; program.max_commits(), 5);
+    let limits = Limits {
+        patience: 2,
+        retries: 0,
+        max_commits: 5,
+    };
+    assert_eq!(rt; program.limits(), limits);
     assert_eq!(rt; program.schedule(), SCHEDULE.as_slice());
     Ok(())
 }
@@ -85,15 +89,26 @@ fn whole_code(rt: HostRuntime) -> Result<(), Fail> {
     let counter = [
         set(1, 1),
         Instruction::Begin {
+            props: Props {},
             code: Register::new(0),
         },
-        Instruction::Read { to: two, at: 0 },
+        Instruction::Read {
+            hint: ReadHint::R,
+            width: Width::U8,
+            to: two,
+            at: 0,
+        },
         Instruction::Add {
             to: two,
             left: two,
             right: one,
         },
-        Instruction::Write { at: 0, from: two },
+        Instruction::Write {
+            hint: WriteHint::W,
+            width: Width::U8,
+            at: 0,
+            from: two,
+        },
         Instruction::Commit,
     ];
     let last = [set(15, 18_446_744_073_709_551_615)];
@@ -111,9 +126,12 @@ fn whole_code(rt: HostRuntime) -> Result<(), Fail> {
 fn defaults(rt: HostRuntime) -> Result<(), Fail> {
     let program = assemble(rt.alloc(), b".memory 65536\r\n\t.thread ; nothing \xff")?;
     assert_eq!(rt; program.size(), 65_536);
-    assert_eq!(rt; program.patience(), 8);
-    assert_eq!(rt; program.retries(), 100);
-    assert_eq!(rt; program.max_commits(), 4_611_686_018_427_387_903);
+    let limits = Limits {
+        patience: 8,
+        retries: 100,
+        max_commits: 4_611_686_018_427_387_903,
+    };
+    assert_eq!(rt; program.limits(), limits);
     assert!(rt; program.schedule().is_empty());
     assert_eq!(rt; program.threads(), 1);
     assert!(rt; program.code(0).is_empty());

@@ -5,6 +5,8 @@ ghost use Rattle.script_asm.specs.Listing.{codes_of};
 ghost use Rattle.script_asm.specs.Sections.{parts_of, thread_total, instruction_total, begun};
 
 use crate::instruction::Instruction;
+use crate::limits::MAX_INSTRUCTIONS;
+use itm_types::MAX_ACTORS;
 use std::alloc::{AllocError, Global};
 use std::marker::Model;
 use std::mem;
@@ -19,12 +21,13 @@ struct Section {
 impl Model for Section {
     ghost use Rattle.std.specs.Prelude.{◌≤◌, length};
     ghost use Rattle.script_asm.specs.Listing.{Part};
+    ghost use Rattle.script_asm.specs.declared.limits.TheConstants.{MAX_INSTRUCTIONS};
 
     ghost Value = { Part };
 
     ghost view = { λ s. record { count = s.count; code = s.code.items } };
 
-    ghost invariant = { λ s. length s.code.items ≤ 65536 };
+    ghost invariant = { λ s. length s.code.items ≤ MAX_INSTRUCTIONS };
 }
 
 /// The sections of a script: those that have ended, and the one that is read.
@@ -39,6 +42,8 @@ pub struct Threads {
 
 impl Model for Threads {
     ghost use Rattle.std.specs.Prelude.{◌≡◌, ◌≤◌};
+    ghost use Rattle.itm_types.specs.declared.limits.TheConstants.{MAX_ACTORS};
+    ghost use Rattle.script_asm.specs.declared.limits.TheConstants.{MAX_INSTRUCTIONS};
     ghost use Rattle.script_asm.specs.Sections.{Sections, thread_total, instruction_total};
 
     ghost Value = { Sections };
@@ -47,7 +52,7 @@ impl Model for Threads {
 
     ghost invariant = { λ t. (t.threads ≡ thread_total (record { ended = t.ended.items; count = t.count; code = t.code.items }))
         × (t.instructions ≡ instruction_total (record { ended = t.ended.items; count = t.count; code = t.code.items }))
-        × (t.threads ≤ 32) × (t.instructions ≤ 65536) };
+        × (t.threads ≤ MAX_ACTORS) × (t.instructions ≤ MAX_INSTRUCTIONS) };
 }
 
 impl Threads {
@@ -75,22 +80,22 @@ impl Threads {
     /// How many threads there are.
     pub fn count(&self) -> usize
         ensures value { result ≡ thread_total self.now }
-        ensures few { result ≤ 32 }
+        ensures few { result ≤ MAX_ACTORS }
     {
         self.threads
     }
 
     /// Whether there are as many instructions as may be.
     pub fn is_full(&self) -> bool
-        ensures { result ≡ nat_le 65536 (instruction_total self.now) }
+        ensures { result ≡ nat_le MAX_INSTRUCTIONS (instruction_total self.now) }
     {
-        65_536 <= self.instructions
+        MAX_INSTRUCTIONS <= self.instructions
     }
 
     /// The section of so many threads begins.
     #[tactic(auto, unfolding(crate::specs::Sections::thread_total, crate::specs::Sections::instruction_total), using(crate::proofs::AddedSections::threads_more, crate::proofs::AddedSections::code_more))]
     pub fn begin(&mut self, alloc: Global, count: usize) -> Result<(), AllocError>
-        requires { thread_total self.old + count ≤ 32 }
+        requires { thread_total self.old + count ≤ MAX_ACTORS }
         ensures ok { OnOk result (self.new ≡ begun self.old count) }
         ensures refused { OnErr result (0 < self.old.count) }
     {
@@ -114,7 +119,7 @@ impl Threads {
     /// One more line of the code that is read.
     #[tactic(auto, unfolding(crate::specs::Sections::thread_total, crate::specs::Sections::instruction_total))]
     pub fn push(&mut self, instruction: Instruction) -> Result<(), AllocError>
-        requires { instruction_total self.old < 65536 }
+        requires { instruction_total self.old < MAX_INSTRUCTIONS }
         ensures { OnOk result (self.new ≡ record self.old { code = self.old.code ++ instruction ∷ [] }) }
     {
         self.code.push(instruction)?;
@@ -126,7 +131,7 @@ impl Threads {
     pub fn code(&self, thread: usize) -> &[Instruction]
         requires { thread < thread_total self.now }
         ensures value { slice_get (codes_of (parts_of self.now)) thread ≡ Some result.now }
-        ensures few { length result.now ≤ 65536 }
+        ensures few { length result.now ≤ MAX_INSTRUCTIONS }
     {
         let mut left = thread;
         for section in &self.ended {

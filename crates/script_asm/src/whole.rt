@@ -6,7 +6,7 @@ ghost use Rattle.script_asm.specs.Assembly.{Gives, program_of, lines_say, initia
 ghost use Rattle.script_asm.specs.declared.stop.Stop.TheVariants.{Memory};
 
 use crate::fault::{AsmFault, AsmKind};
-use crate::limits::Limits;
+use crate::limits::{MAX_TEXT, SaidLimits};
 use crate::program::Program;
 use crate::reading::{finish, read_line};
 use crate::schedule::Plan;
@@ -19,14 +19,14 @@ use std::alloc::Global;
 /// What the lines say, one after the other; `number` is the line that was read last.
 #[tactic(auto, using(crate::proofs::RefusedLines::read_on, crate::proofs::RefusedLines::drop_on, crate::proofs::RefusedLines::runs_out))]
 fn read_lines(alloc: Global, text: &[u8], number: &mut usize) -> Result<State, Stop>
-    requires small { length text.now ≤ 16777216 }
+    requires small { length text.now ≤ MAX_TEXT }
     requires first { number.old ≡ 0 }
     ensures read { Gives result (lines_say initial 1 (lines text.now)) }
     ensures refused { IfErr result (λ e. e ≡ Memory → RunsOut text.now number.new) }
 {
     let mut state = State {
         memory: None,
-        limits: Limits::new(),
+        limits: SaidLimits::new(),
         schedule: Plan::new(alloc),
         threads: Threads::new(alloc),
         block: None,
@@ -46,7 +46,7 @@ fn read_text(alloc: Global, text: &[u8], number: &mut usize) -> Result<Program, 
     ensures read { Gives result (program_of text.now) }
     ensures refused { IfErr result (λ e. e ≡ Memory → RunsOut text.now number.new) }
 {
-    if 16_777_216 < text.len() {
+    if MAX_TEXT < text.len() {
         return Err(Stop::Fault(AsmFault {
             line: 0,
             kind: AsmKind::TooLong,

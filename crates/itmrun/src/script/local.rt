@@ -4,8 +4,8 @@ ghost use Rattle.std.specs.Prelude.{◌≡◌, ◌≤◌, length, drop, position
 ghost use Rattle.itmrun.specs.Threads.{settled, room, call_at, datum, is_commit};
 
 use crate::script::registers::Registers;
-use itm_types::{Call, Datum, Props, ReadHint, Width, WriteHint};
-use script_asm::{Instruction, Register};
+use itm_types::{Call, Datum, Width};
+use script_asm::{Instruction, MAX_INSTRUCTIONS, Register};
 
 /// Does the work up to the next call, or to the end; answers where that stands.
 pub fn settle(code: &[Instruction], from: usize, registers: &mut Registers) -> usize
@@ -52,37 +52,43 @@ pub fn room(code: &[Instruction]) -> usize
     }
 }
 
-/// What a write of a register's low 8 bytes moves.
-#[tactic(auto, unfolding(crate::specs::Threads::datum))]
-fn datum(registers: &Registers, from: Register) -> Datum
-    ensures { result ≡ datum registers.now from }
+/// What a write of a register moves: its low bytes, as many as the width has.
+fn datum(registers: &Registers, width: Width, from: Register) -> Datum
+    ensures { result ≡ datum registers.now width from }
 {
-    Datum::new(Width::U8, &registers.number(from).to_le_bytes())
+    let (low, _) = registers.bytes(from).split_at(usize::from(width.size()));
+    Datum::new(width, low)
 }
 
 /// The call that the code begins with.
 pub fn call_at(code: &[Instruction], registers: &Registers) -> Option<Call>
-    requires { length code.now ≤ 65536 }
+    requires { length code.now ≤ MAX_INSTRUCTIONS }
     ensures { result ≡ call_at registers.now code.now }
 {
     let (first, rest) = code.split_first()?;
     match *first {
         Instruction::Set { .. } | Instruction::Add { .. } => None,
-        Instruction::Begin { .. } => Some(Call::Begin {
-            props: Props {},
+        Instruction::Begin { props, .. } => Some(Call::Begin {
+            props,
             room: room(rest) as u32,
         }),
         Instruction::Commit => Some(Call::Commit),
-        Instruction::Read { at, .. } => Some(Call::Read {
-            hint: ReadHint::R,
-            width: Width::U8,
+        Instruction::Read {
+            hint,
+            width,
             at,
-        }),
-        Instruction::Write { at, from } => {
+            ..
+        } => Some(Call::Read { hint, width, at }),
+        Instruction::Write {
+            hint,
+            width,
+            at,
+            from,
+        } => {
             Some(Call::Write {
-                hint: WriteHint::W,
+                hint,
                 at,
-                value: datum(registers, from),
+                value: datum(registers, width, from),
             })
         }
     }

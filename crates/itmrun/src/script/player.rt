@@ -5,7 +5,7 @@ ghost use Rattle.std.specs.Prelude.{◌≡◌, ◌<◌, ◌≤◌, length, IfOk}
 use crate::script::local::{call_at, room, settle};
 use crate::script::registers::Registers;
 use itm_types::{Call, Reply};
-use script_asm::{Instruction, Program, Register};
+use script_asm::{Instruction, MAX_INSTRUCTIONS, Program, Register};
 use script_vm::Player;
 use std::alloc::{AllocError, Global};
 use std::marker::Model;
@@ -23,13 +23,14 @@ pub struct Script {
 
 impl Model for Script {
     ghost use Rattle.std.specs.Prelude.{◌≤◌, length, drop};
+    ghost use Rattle.script_asm.specs.declared.limits.TheConstants.{MAX_INSTRUCTIONS};
     ghost use Rattle.itmrun.specs.Threads.{Thread, block_at};
 
     ghost Value = { Thread };
 
     ghost view = { λ s. record { rest = drop s.position s.code.items; registers = s.registers; block = block_at s.depth (drop s.begin s.code.items) s.kept } };
 
-    ghost invariant = { λ s. (s.depth ≤ s.position) × (s.position ≤ length s.code.items) × (s.begin ≤ length s.code.items) × (length s.code.items ≤ 65536) };
+    ghost invariant = { λ s. (s.depth ≤ s.position) × (s.position ≤ length s.code.items) × (s.begin ≤ length s.code.items) × (length s.code.items ≤ MAX_INSTRUCTIONS) };
 }
 
 impl Script {
@@ -58,7 +59,7 @@ impl Script {
     /// The code from the next call on.
     fn rest(&self) -> &[Instruction]
         ensures value { result.now ≡ self.now.rest }
-        ensures few { length result.now ≤ 65536 }
+        ensures few { length result.now ≤ MAX_INSTRUCTIONS }
     {
         let (_, rest) = self.code.split_at(self.position);
         rest
@@ -157,7 +158,7 @@ impl Player for Script {
         };
         match *instruction {
             Instruction::Set { .. } | Instruction::Add { .. } => {}
-            Instruction::Begin { code } => self.take_begun(code, reply),
+            Instruction::Begin { code, .. } => self.take_begun(code, reply),
             Instruction::Commit => self.take_ended(reply),
             Instruction::Read { to, .. } => self.take_read(to, reply),
             Instruction::Write { .. } => {

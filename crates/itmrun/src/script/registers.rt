@@ -1,6 +1,6 @@
 //! A thread's registers.
 
-ghost use Rattle.std.specs.Prelude.{◌≡◌, ◌≤◌, length, slice_set};
+ghost use Rattle.std.specs.Prelude.{◌≡◌, ◌≤◌, length, slice_index_or, slice_set, []};
 ghost use Rattle.std.specs.Int.{to_le_bytes, w64};
 ghost use Rattle.itmrun.specs.Registers.{zeros, number_at, of_number, of_bytes};
 
@@ -33,11 +33,19 @@ impl Registers {
         }
     }
 
+    /// A register's bytes.
+    pub fn bytes(&self, register: Register) -> &[u8]
+        ensures value { result.now ≡ slice_index_or self.now register [] }
+        ensures count { length result.now ≡ 32 }
+    {
+        &self.bytes[register.index()]
+    }
+
     /// The low 8 bytes of a register as a number.
     pub fn number(&self, register: Register) -> u64
         ensures { result ≡ number_at self.now register }
     {
-        let (low, _) = self.bytes[register.index()].split_at(8);
+        let (low, _) = self.bytes(register).split_at(8);
         let mut word = [0; 8];
         word.copy_from_slice(low);
         u64::from_le_bytes(word)

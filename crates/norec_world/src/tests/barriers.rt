@@ -4,9 +4,8 @@ use super::planned::Planned;
 use super::{begin, expect};
 use crate::{Bytes, Entry, Outcome, Setup, World};
 use itm_types::{
-    Call, Datum, Entry as Function, ReadHint, Refusal, Reply, Width, WriteHint, all_entries,
+    Call, Datum, Entry as Function, Limits, ReadHint, Refusal, Reply, Width, WriteHint, all_entries,
 };
-use norec_engine::Limits;
 use std::alloc::{AllocError, Global};
 use std::process::Abort;
 use std::test::Fail;
@@ -24,9 +23,9 @@ fn world_over(
         arena: 0,
         limits: Limits {
             patience: 8,
+            retries: 100,
             max_commits: 9,
         },
-        retries: 100,
     };
     let mut players = Vec::new(alloc);
     players.push(Planned::new(calls))?;

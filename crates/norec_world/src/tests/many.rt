@@ -3,8 +3,7 @@
 use super::planned::Planned;
 use super::{begin, expect_of};
 use crate::{Bytes, Outcome, Passes, Setup, World};
-use itm_types::{Call, Datum, ReadHint, Reply, Width, WriteHint};
-use norec_engine::Limits;
+use itm_types::{Call, Datum, Limits, ReadHint, Reply, Width, WriteHint};
 use std::alloc::{AllocError, Global};
 use std::process::Abort;
 use std::test::Fail;
@@ -23,9 +22,9 @@ fn two_over(
         arena: 0,
         limits: Limits {
             patience: 8,
+            retries: 100,
             max_commits: 9,
         },
-        retries: 100,
     };
     let mut players = Vec::new(alloc);
     players.push(Planned::new(first))?;

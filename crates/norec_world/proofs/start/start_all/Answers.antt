@@ -1,4 +1,5 @@
 use Rattle.std.proofs.Common.{rules, ◌≡◌, ◌+◌, ◌<◌, ◌≤◌, ℕ, zero, suc, Some, [], ◌∷◌, ◌++◌, inl, inr, slice_get, drop, replicate, List, length, length-append, ap, sym, subst, refl, ◌∙◌, arith}
+use Rattle.itm_types.specs.declared.limits.TheConstants.{MAX_ACTORS}
 use Rattle.norec_world.specs.declared.actor.Actor.{Actor}
 use Rattle.norec_world.specs.Actors.{AreActors}
 use Rattle.norec_world.specs.World.{ending_in}
@@ -32,7 +33,7 @@ loop-player-preserved g c =
     let longer : length c.push.new.self.items ≡ length before + 1 = ap length items ∙ length-append before (actor ∷ []) in
     let few = i.few in
     let count = i.count in
-    let fewer : length before < 32 = omega arith in
+    let fewer : length before < MAX_ACTORS = omega arith in
     let len = c.len-thread.ensures in
     let numbered = c.in_ok-actor.ensures.thread in
     let thread : actor.thread ≡ length before = omega arith in
@@ -50,9 +51,9 @@ loop-player-preserved g c =
       ended = c.in_ok-actor.ensures.ended ∙ i.ended;
       tries = λ place a e. elim (last_or_before before actor place a (ap (λ (xs : List (Actor g.row.P.Denot)). slice_get xs place) (sym items) ∙ e)) [
         | inl h ↦
-            first_still c.args.memory.now.clock c.args.terms.limits.patience c.args.terms.limits.max_commits c.args.terms.retries c.loop-player.recorded c.start.new.recorded a
+            first_still c.args.memory.now.clock c.args.terms.limits.patience c.args.terms.limits.max_commits c.args.terms.limits.retries c.loop-player.recorded c.start.new.recorded a
             (own.others a.thread (λ same. absurd (let l = within_of before place a h in let mine = (i.sound.each place a h).thread in omega arith))) (i.tries place a h)
-        | inr h ↦ subst (IsFirst c.args.memory.now.clock c.args.terms.limits.patience c.args.terms.limits.max_commits c.args.terms.retries c.start.new.recorded) (sym h.1) c.in_ok-actor.ensures.first
+        | inr h ↦ subst (IsFirst c.args.memory.now.clock c.args.terms.limits.patience c.args.terms.limits.max_commits c.args.terms.limits.retries c.start.new.recorded) (sym h.1) c.in_ok-actor.ensures.first
       ];
       rest = sym here.1 ∙ ap (λ (k : ℕ). drop k c.into_iter-player-iterator.result.rest.items) (let e : suc (length before) ≡ length c.push.new.self.items = omega arith in e);
       runs = λ place p a e f. elim (last_or_before before actor place a (ap (λ (xs : List (Actor g.row.P.Denot)). slice_get xs place) (sym items) ∙ f)) [
@@ -72,7 +73,7 @@ loop-player-preserved g c =
             (let same : c.in-Some.player ≡ p = (let z : Some c.in-Some.player ≡ Some p = sym here.0 ∙ (ap (slice_get c.into_iter-player-iterator.result.rest.items) (sym h.0) ∙ e) in cc) in
             let Started : ℕ → g.row.P.Denot → Actor g.row.P.Denot → Type 0 =
             HasStarted g.P.Player c.args.memory.now.clock
-            (opening (length c.args.memory.now.words) (replicate c.args.terms.arena 0) c.args.terms.limits.patience c.args.terms.limits.max_commits) c.args.terms.retries in
+            (opening (length c.args.memory.now.words) (replicate c.args.terms.arena 0) c.args.terms.limits.patience c.args.terms.limits.max_commits) c.args.terms.limits.retries in
             subst (Started place p) (sym h.1) (subst (λ (q : g.row.P.Denot). Started place q actor) same
             (subst (λ (n : ℕ). Started n c.in-Some.player actor) (sym numbered ∙ (thread ∙ sym h.0)) c.in_ok-actor.ensures.starts)))
       ];

@@ -1,5 +1,6 @@
 use Rattle.std.proofs.Common.{◌≡◌, ℕ, ◌+◌, ◌≤◌, [], length, slice_get, drop, replicate, All, Some}
 use Rattle.itm_types.specs.Memory.{bytes_of}
+use Rattle.itm_types.specs.declared.limits.TheConstants.{MAX_ACTORS}
 use Rattle.norec_world.specs.Actors.{AreActors}
 use Rattle.norec_world.specs.World.{ending_in}
 use Rattle.norec_world.specs.declared.attempt.End.TheVariants.{NoMemory}
@@ -13,15 +14,15 @@ use Rattle.norec_world.proofs.start.start_all.Given as goal
 abbrev pub invariant-loop-player : goal.invariant-loop-player
 invariant-loop-player g l = record {
   count : length l.actors.items + length l.player-iterator.rest.items ≡ length l.initial.player-iterator.rest.items;
-  few : length l.initial.player-iterator.rest.items ≤ 32;
+  few : length l.initial.player-iterator.rest.items ≤ MAX_ACTORS;
   outside : All (λ p. g.P.Player.depth p ≡ 0) l.player-iterator.rest.items;
   sound : AreActors g.P.Player l.memory l.recorded l.actors.items;
   ended : l.recorded.ended ≡ [];
-  tries : (place : ℕ) (a : Actor g.row.P.Denot) → slice_get l.actors.items place ≡ Some a → IsFirst l.memory.clock l.terms.limits.patience l.terms.limits.max_commits l.terms.retries l.recorded a;
+  tries : (place : ℕ) (a : Actor g.row.P.Denot) → slice_get l.actors.items place ≡ Some a → IsFirst l.memory.clock l.terms.limits.patience l.terms.limits.max_commits l.terms.limits.retries l.recorded a;
   rest : l.player-iterator.rest.items ≡ drop (length l.actors.items) l.initial.player-iterator.rest.items;
   runs : (place : ℕ) (p : g.row.P.Denot) (a : Actor g.row.P.Denot) → slice_get l.initial.player-iterator.rest.items place ≡ Some p → slice_get l.actors.items place ≡ Some a
       → RunsFrom g.P.Player (first_of p l.terms.arena) (bytes_of l.memory.words) l.memory l.recorded a;
   starts : (place : ℕ) (p : g.row.P.Denot) (a : Actor g.row.P.Denot) → slice_get l.initial.player-iterator.rest.items place ≡ Some p → slice_get l.actors.items place ≡ Some a
-      → HasStarted g.P.Player l.memory.clock (opening (length l.memory.words) (replicate l.terms.arena 0) l.terms.limits.patience l.terms.limits.max_commits) l.terms.retries place p a;
+      → HasStarted g.P.Player l.memory.clock (opening (length l.memory.words) (replicate l.terms.arena 0) l.terms.limits.patience l.terms.limits.max_commits) l.terms.limits.retries place p a;
   fed : (place : ℕ) → ending_in l.actors.items place ≡ Some NoMemory → ⊥;
 }

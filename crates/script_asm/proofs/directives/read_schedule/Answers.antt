@@ -1,4 +1,5 @@
 use Rattle.std.proofs.Common.{◌+◌, ◌≤◌, length, arith}
+use Rattle.script_asm.specs.declared.limits.TheConstants.{MAX_ITEMS}
 use Rattle.script_asm.specs.Text.{fields}
 use Rattle.script_asm.specs.Items.{items_in}
 use Rattle.script_asm.proofs.KeptLines.{items_kept}
@@ -6,5 +7,5 @@ use Rattle.script_asm.proofs.directives.read_schedule.Goals as goal
 
 pub returns-in-Err-add_items : goal.returns-in-Err-add_items
 returns-in-Err-add_items c =
-    let fits : length c.args.state.now.schedule.items + length (items_in (fields c.args.rest.now)) ≤ 65536 = omega (arith, c.len.ensures, c.saturating_add-total.ensures, c.if-total-gt65536.false, c.in-Ok.ensures.count) in
+    let fits : length c.args.state.now.schedule.items + length (items_in (fields c.args.rest.now)) ≤ MAX_ITEMS = omega (arith, c.len.ensures, c.saturating_add-total.ensures, c.if-total-gt-MAX_ITEMS.false, c.in-Ok.ensures.count) in
     items_kept c.args.state.now c.args.line (fields c.args.rest.now) (items_in (fields c.args.rest.now)) c.in-Ok.ensures.items fits
