@@ -38,8 +38,7 @@ pub(crate) fn refuse(state: &mut Data, why: Refusal) -> Turn
     ensures ends { TurnEndsSo None result }
     ensures tries { (core_after result state.new).tries ≡ 0 }
 {
-    state.spent = 0;
-    state.entry = state.log.len();
+    state.come();
     Turn::End(Answer::Reply(Reply::Refused(why)))
 }
 

@@ -27,9 +27,7 @@ pub(crate) fn begin(state: &mut Data, props: Props, room: u32, again: bool) -> T
     ensures ends { TurnEndsSo (ending_at (core state.old Phase.Idle) (Call.Begin props room)) result }
     ensures tries { (core_after result state.new).tries ≡ tries_at (phase_after result) }
 {
-    let rows = state.log.len();
-    state.spent = 0;
-    state.entry = rows;
+    state.come();
     if state.is_open() {
         Turn::End(Answer::Reply(Reply::Refused(Refusal::TooDeep)))
     } else {

@@ -22,10 +22,8 @@ pub(crate) fn commit(state: &mut Data) -> Turn
     ensures ends { TurnEndsSo (ending_at (core state.old Phase.Idle) Call.Commit) result }
     ensures tries { (core_after result state.new).tries ≡ tries_at (phase_after result) }
 {
-    let rows = state.log.len();
-    state.spent = 0;
+    state.come();
     state.tries = 0;
-    state.entry = rows;
     if !state.is_open() {
         return Turn::End(Answer::Reply(Reply::Refused(Refusal::Outside)));
     }

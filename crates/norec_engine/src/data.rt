@@ -1,6 +1,6 @@
 //! What an engine keeps beside the phase.
 
-ghost use Rattle.std.specs.Prelude.{◌≡◌};
+ghost use Rattle.std.specs.Prelude.{◌≡◌, length};
 ghost use Rattle.norec_engine.specs.Fields.{in_block, IsEnded};
 
 use crate::arena::Arena;
@@ -38,6 +38,14 @@ impl Data {
         ensures { result ≡ in_block self.now }
     {
         self.block.is_some()
+    }
+
+    /// A call comes: its steps are counted from here, and the rows that it logs.
+    pub(crate) fn come(&mut self)
+        ensures { self.new ≡ record self.old { spent = 0; entry = length self.old.log.rows } }
+    {
+        self.spent = 0;
+        self.entry = self.log.len();
     }
 }
 

@@ -47,11 +47,9 @@ pub(crate) fn read(
     if let Some(why) = refusal(state, at, width.size()) {
         return Ok(refuse(state, why));
     }
-    let rows = state.log.len();
     state.log.reserve(MOST_PIECES)?;
-    state.spent = 0;
+    state.come();
     state.tries = 0;
-    state.entry = rows;
     state.gathered = Value::new();
     Ok(next_piece(
         state,

@@ -41,12 +41,10 @@ pub(crate) fn write(
     if let Some(why) = refusal(state, at, value.width.size()) {
         return Ok(refuse(state, why));
     }
-    let rows = state.log.len();
     let pieces = pieces(at, value.width.size());
     reserve_all(&mut state.writes, &pieces)?;
     put_all(&mut state.writes, &pieces, value.bytes.as_slice());
-    state.spent = 0;
-    state.entry = rows;
+    state.come();
     Ok(Turn::End(Answer::Reply(Reply::Done)))
 }
 

@@ -38,7 +38,7 @@ returns-clause-sound c =
     let fit : AllFitIn s.words ps bytes = fit_pieces s.words c.args.at (size_of w) bytes
     (subst (λ (n : ℕ). c.args.at + n ≤ 8 * s.words) c.size.ensures.value may.1)
     (omega (arith, c.size.ensures.value, c.size.ensures.most)) (subst AreBytes c.as_slice.ensures.value c.put_all.ensures.bytes) in
-    record {
+    rw c.come.ensures (record {
       asked = tt;
       sound = record {
         bounds = sound.bounds;
@@ -57,7 +57,7 @@ returns-clause-sound c =
           λ o. (let yes = may.0 in absurd (cc)),
         );
       };
-    }
+    })
 
 pub returns-clause-proceeds : goal.returns-clause-proceeds
 returns-clause-proceeds c =
@@ -78,7 +78,7 @@ returns-clause-proceeds c =
     (ap is_some_row rows ∙ some_put (reserved_all s.writes ps) ps bytes some)
     (ap (λ (xs : List Row). bytes_of (overlay m xs)) rows
     ∙ bytes_of-put_all m s.writes c.args.at size bytes mem.1 idle.0.rows (omega (arith, within, mem.0)) (omega (arith, c.size.ensures.value, c.size.ensures.most)) (subst AreBytes c.as_slice.ensures.value c.put_all.ensures.bytes) value.sized) in
-    record {
+    rw c.come.ensures (record {
       meets = λ m mem agrees. (all m mem).0;
       reply_is = λ m mem agrees. (all m mem).1;
       stays = search rules;
@@ -89,4 +89,4 @@ returns-clause-proceeds c =
       opens = refl;
       blocks = refl;
       settled = λ o. (idle.1, c.requires.sound.bounds.even);
-    }
+    })
