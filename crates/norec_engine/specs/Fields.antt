@@ -23,7 +23,7 @@ use Rattle.norec_engine.specs.declared.phase.Reading.{Reading}
 use Rattle.norec_engine.specs.declared.phase.Turn.{Turn}
 use Rattle.norec_engine.specs.declared.phase.Turn.TheVariants.{Wait, End}
 use Rattle.norec_engine.specs.declared.data.Data.{Data}
-use Rattle.norec_engine.specs.declared.limits.Limits.{Limits}
+use Rattle.itm_types.specs.declared.limits.Limits.{Limits}
 use Rattle.norec_engine.specs.declared.answer.Answer.{Answer}
 use Rattle.norec_engine.specs.declared.answer.Next.{Next}
 use Rattle.norec_engine.specs.declared.answer.Next.TheVariants.{Step as Asks, Answer as Answers}

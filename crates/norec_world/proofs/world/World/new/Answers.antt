@@ -16,7 +16,7 @@ use Rattle.norec_world.proofs.SoundOthers.{there_is}
 use Rattle.norec_world.proofs.world.World.new.Goals as goal
 
 pub invariant_of-result : goal.invariant_of-result
-invariant_of-result g c = let w : World g.row.P.Denot = record { opening = c.in_ok-opening.opening.items; base = c.new-base.result; arena = c.args.setup.arena; patience = c.args.setup.limits.patience; max_commits = c.args.setup.limits.max_commits; retries = c.args.setup.retries; cells = c.new-memory.result; actors = c.in_ok-actors.actors.items; attempts = c.start_all.new.recorded; events = 0 } in
+invariant_of-result g c = let w : World g.row.P.Denot = record { opening = c.in_ok-opening.opening.items; base = c.new-base.result; arena = c.args.setup.arena; patience = c.args.setup.limits.patience; max_commits = c.args.setup.limits.max_commits; retries = c.args.setup.limits.retries; cells = c.new-memory.result; actors = c.in_ok-actors.actors.items; attempts = c.start_all.new.recorded; events = 0 } in
     let commits = commits_first g.P.Player w c.in_ok-actors.ensures.sound c.new-memory.ensures.clock c.in_ok-actors.ensures.none.0 c.in_ok-actors.ensures.first in record {
       actors = search rules;
       long = search rules;
