@@ -6,8 +6,8 @@ use Rattle.std.proofs.lemmas.Bool.{cases_Bool, cases_lt, ltb-true, ltb-false, eq
 use Rattle.std.proofs.lemmas.List.{get_or-drop, take-set-le, drop-set-add, take_rest, length_push}
 use Rattle.std.proofs.lemmas.List.Sums.{prefix_len-le-length}
 use Rattle.std.proofs.lemmas.List.Quantifiers.{position-Some}
-use Rattle.norec_world.specs.declared.attempt.Attempt.{Attempt}
-use Rattle.norec_world.specs.Rows.{Rows, active_of, is_of, changed, without, with_one, with_changed, with_opened, with_ended, AreFrom}
+use Rattle.norec_world.proofs.Common.{AreFrom, Attempt, Rows, active_of, with_changed, with_opened}
+use Rattle.norec_world.specs.Rows.{is_of, changed, without, with_one, with_ended}
 
 -- the first that passes is the one at this place
 abbrev pub IsFirstAt : {A : Type 0} → (A → Bool) → List A → ℕ → Type 0

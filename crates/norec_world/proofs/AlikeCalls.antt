@@ -1,29 +1,17 @@
 -- Two actors that are alike are alike after a step, and after a call of their players.
 use Rattle.std.proofs.Common.{◌≡◌, ℕ, ◌/◌, Bool, true, false, [], Some, refl, sym, ap, subst, ◌∙◌}
-use Rattle.itm_types.specs.declared.call.Call.{Call}
+use Rattle.norec_world.proofs.Common.{Actor, Answer, Answers, AreAlike, Busy, Call, Cells, Committed, Conflict, Core, Full, HasAttempt, IsAtOnce, Next, Proceeds, Ready, Reply, Rows, Rules, Step, Tells, Waits, asked_pending, begins_again, came, ending_of, found, in_transaction}
 use Rattle.itm_types.specs.declared.call.Call.TheVariants as requests
-use Rattle.itm_types.specs.declared.step.Step.{Step}
-use Rattle.norec_engine.specs.Core.{Core, came, handed, in_transaction}
+use Rattle.norec_engine.specs.Core.{handed}
 use Rattle.norec_engine.specs.Stands.{SeesOne}
-use Rattle.norec_engine.specs.Proceeds.{Proceeds, IsAtOnce}
 use Rattle.norec_engine.specs.Moves.{IsCalled, IsResumed}
-use Rattle.norec_engine.specs.declared.answer.Answer.{Answer}
-use Rattle.norec_engine.specs.declared.answer.Answer.TheVariants.{Reply, Committed, Conflict, Busy, Full}
-use Rattle.norec_engine.specs.declared.answer.Next.{Next}
-use Rattle.norec_engine.specs.declared.answer.Next.TheVariants.{Step as Steps, Answer as Answers}
+use Rattle.norec_engine.specs.declared.answer.Next.TheVariants.{Step as Steps}
 use Rattle.norec_engine.proofs.OneOutcome.{called_once, resumed_once, sees_still}
 use Rattle.norec_world.specs.declared.attempt.Outcome.TheVariants as outcomes
-use Rattle.norec_world.specs.declared.actor.Actor.{Actor}
-use Rattle.norec_world.specs.declared.actor.Status.TheVariants.{Ready, Waits}
-use Rattle.norec_world.specs.Cells.{Cells, found}
-use Rattle.norec_world.specs.Rows.{Rows}
-use Rattle.norec_world.specs.Status.{ending_of}
-use Rattle.norec_world.specs.Records.{Tells, asked_pending, begins_again}
 use Rattle.norec_world.specs.LocalWork.{TakesIn, Calls}
-use Rattle.norec_world.specs.Alike.{SameRows, SameParts, AreAlike, HasAttempt}
+use Rattle.norec_world.specs.Alike.{SameRows, SameParts}
 use Rattle.norec_world.proofs.AlikeAnswers.{told_same, told_alike, Counts, IsGroundedNext}
 use Rattle.norec_world.proofs.HeldAttempts.{handed_open, ends_inside, roomed, opens_none}
-use Rattle.script_vm.specs.Rules.{Rules}
 
 -- ## A step
 

@@ -1,17 +1,9 @@
 -- What a player gets alone begins with the calls that it made alone.
 use Rattle.std.proofs.Common.{◌≡◌, ℕ, zero, suc, ◌≤◌, Bool, true, false, List, [], ◌∷◌, ◌++◌, map, Option, None, Some, refl, sym, ap, ◌∙◌, arith, cond}
-use Rattle.itm_types.specs.declared.call.Call.{Call}
+use Rattle.norec_world.proofs.Common.{Call, Core, Entry, IsAlone, Obeys, Rules, State, after, answers_within, in_transaction, is_open, pair_of, player_then, reply, state_then, turn}
 use Rattle.itm_types.specs.declared.call.Reply.{Reply}
-use Rattle.itm_model.specs.State.{State}
-use Rattle.itm_model.specs.Machine.{after, reply, is_open}
-use Rattle.itm_model.specs.Runs.{turn, answers_within}
-use Rattle.norec_engine.specs.Core.{Core, in_transaction}
 use Rattle.norec_engine.specs.Stands.{stands_for}
 use Rattle.norec_engine.proofs.Machines.{open_is}
-use Rattle.norec_world.specs.declared.attempt.Entry.{Entry}
-use Rattle.norec_world.specs.Attempts.{pair_of}
-use Rattle.norec_world.specs.Alone.{state_then, player_then, IsAlone}
-use Rattle.script_vm.specs.Rules.{Obeys, Rules}
 
 -- a call that is made in an open block is the player's next
 asked_if : (b : Bool) (o : Option Call) (c : Call) → cond b o None ≡ Some c → o ≡ Some c

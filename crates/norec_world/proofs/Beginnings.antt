@@ -1,13 +1,8 @@
 -- Actors that have taken no step.
 use Rattle.std.proofs.Common.{◌≡◌, ℕ, zero, suc, None, Some, List, [], ◌∷◌, ◌++◌, Option, sym, ap, subst, ◌∙◌}
-use Rattle.norec_world.specs.Rows.{Rows, active_of}
-use Rattle.norec_world.specs.declared.actor.Actor.{Actor}
-use Rattle.norec_world.specs.declared.attempt.End.TheVariants.{NoMemory}
-use Rattle.norec_world.specs.Status.{ending_of}
+use Rattle.norec_world.proofs.Common.{Actor, Attempt, IsBetween, NoMemory, Prior, Rows, Tries, active_of, begins, between, current_of, ending_of, over, runs, turned_away}
 use Rattle.norec_world.specs.World.{ending_in}
-use Rattle.norec_world.specs.declared.attempt.Attempt.{Attempt}
 use Rattle.norec_world.specs.Starts.{IsFirst}
-use Rattle.norec_world.specs.Tries.{Prior, Tries, between, begins, runs, over, turned_away, IsBetween, current_of}
 
 -- none found no memory
 pub fed_joined : {P : Type 0} (actors : List (Actor P)) (a : Actor P) → ((place : ℕ) → ending_in actors place ≡ Some NoMemory → ⊥) → (ending_of a.status ≡ Some NoMemory → ⊥)

@@ -1,18 +1,12 @@
 -- The events of one call of an actor, and of one call after the other, as events of the world.
 use Rattle.std.proofs.Common.{◌≡◌, ℕ, zero, suc, ◌+◌, ◌<◌, min, Bool, true, false, List, [], ◌∷◌, length, None, Some, IsSome, slice_get, refl, sym, ap, subst, ◌∙◌, arith, if◌then◌else◌}
-use Rattle.std.specs.Option.{option_and_then}
-use Rattle.norec_engine.specs.Core.{in_transaction}
-use Rattle.norec_world.specs.declared.actor.Actor.{Actor}
-use Rattle.norec_world.specs.Status.{is_waiting, waiting_step, ending_of}
-use Rattle.norec_world.specs.Actors.{AreActors}
-use Rattle.norec_world.specs.Sound.{HasLess, IsNoMore, steps_left, whole, run_left}
-use Rattle.norec_world.specs.World.{World, SameOpening, counted, told, ending_at, waits_at}
-use Rattle.norec_world.specs.WorldEvents.{Goes, Takes}
+use Rattle.norec_world.proofs.Common.{Actor, AreActors, Goes, IsNoMore, Rules, SameOpening, World, counted, ending_at, ending_of, in_transaction, is_waiting, option_and_then, told, waiting_step, waits_at, whole}
+use Rattle.norec_world.specs.Sound.{HasLess, steps_left, run_left}
+use Rattle.norec_world.specs.WorldEvents.{Takes}
 use Rattle.norec_world.proofs.SoundOthers.{there_is, within_of}
 use Rattle.norec_world.proofs.WorldEvents.{told_event}
 use Rattle.norec_world.proofs.Worlds.{waiting_some, some_waiting, some_ended, within_some}
 use Rattle.norec_world.proofs.LessLeft.{HasLessSoFar, less_so_far, same_less, less_less}
-use Rattle.script_vm.specs.Rules.{Rules}
 
 -- ## Counts that stand still at the highest number
 

@@ -1,10 +1,7 @@
 -- An actor's steps, as the others see the clock.
 use Rattle.std.proofs.Common.{◌≡◌, ℕ, zero, suc, Some, ◌*◌, ◌≤◌, ◌%◌, Bool, true, false, refl, sym, ap, subst, ◌∙◌, arith}
-use Rattle.itm_types.specs.declared.step.Step.{Step}
-use Rattle.itm_types.specs.declared.step.Step.TheVariants.{Load, Store, Cas}
-use Rattle.norec_engine.specs.Core.{Core, handed_to, word_loaded}
-use Rattle.norec_world.specs.Cells.{Cells}
-use Rattle.norec_world.specs.ClockHolder.{HoldsOn, ClocksOn}
+use Rattle.norec_world.proofs.Common.{Cas, Cells, ClocksOn, Core, Load, Step, Store, handed_to, word_loaded}
+use Rattle.norec_world.specs.ClockHolder.{HoldsOn}
 
 both : (n : Bool) → n ≡ true → n ≡ false → ⊥
 both n t f = absurd (cc)

@@ -1,21 +1,12 @@
 -- The commits stay in order over an event.
 use Rattle.std.proofs.Common.{◌≡◌, ◌≢◌, inl, inr, ℕ, zero, suc, ◌+◌, ◌*◌, ◌/◌, ◌%◌, ◌<◌, ◌≤◌, ◌==◌, ◌&&◌, Bool, true, false, nat_lt, List, [], ◌∷◌, ◌++◌, Some, slice_get, slice_set, refl, sym, ap, subst, ◌∙◌, arith, eqb-true, eq-eqb, lt-ltb, ltb-true, ltb-false}
-use Rattle.itm_types.proofs.Words.{slice_get-set_same, slice_get-set_other}
-use Rattle.norec_world.specs.declared.attempt.Attempt.{Attempt}
-use Rattle.norec_world.specs.declared.attempt.Outcome.{Outcome}
+use Rattle.norec_world.proofs.Common.{Actor, AreActors, AreCounted, Attempt, Cells, CommitsInOrder, EndsAt, IsEvent, Outcome, Prior, Rows, Rules, Tries, World, begins, between, over, prior_of, runs, slice_get-set_same, turned_away}
+use Rattle.itm_types.proofs.Words.{slice_get-set_other}
 use Rattle.norec_world.specs.declared.attempt.Outcome.TheVariants as outcomes
-use Rattle.norec_world.specs.declared.actor.Actor.{Actor}
 use Rattle.norec_world.specs.Attempts.{is_committed, is_at}
-use Rattle.norec_world.specs.Cells.{Cells}
-use Rattle.norec_world.specs.Rows.{Rows}
-use Rattle.norec_world.specs.Tries.{EndsAt, Prior, Tries, between, begins, runs, over, turned_away, prior_of}
-use Rattle.norec_world.specs.Events.{IsEvent}
-use Rattle.norec_world.specs.World.{World}
 use Rattle.norec_world.specs.Starts.{IsFirst}
-use Rattle.norec_world.specs.Actors.{AreActors}
-use Rattle.norec_world.specs.Commits.{one_where, count_at, count_committed, AreCounted, HasLimits, CommitsInOrder}
+use Rattle.norec_world.specs.Commits.{one_where, count_at, count_committed, HasLimits}
 use Rattle.norec_world.proofs.SoundOthers.{set_place, within_of}
-use Rattle.script_vm.specs.Rules.{Rules}
 
 -- ## Counts
 

@@ -1,15 +1,8 @@
 -- An actor of a world took an event: the world that it leaves, and that the event says so.
 use Rattle.std.proofs.Common.{◌≡◌, ℕ, false, length-set, slice_get, slice_set, Some, IsSome, refl, sym, ap, subst, ◌∙◌, None}
-use Rattle.std.specs.Option.{option_and_then}
-use Rattle.norec_world.specs.declared.actor.Actor.{Actor}
-use Rattle.norec_world.specs.Cells.{Cells}
-use Rattle.norec_world.specs.Invariant.{IsWorld}
+use Rattle.norec_world.proofs.Common.{Actor, Cells, Goes, HasRead, IsEvent, IsWorld, Obeys, Rows, Rules, World, counted, ending_at, ending_of, is_ready, option_and_then, told, waiting_step, waits_at}
 use Rattle.norec_world.specs.Moments.{HasStepped, HasWorked}
-use Rattle.norec_world.specs.Rows.{Rows}
-use Rattle.norec_world.specs.Status.{ending_of, is_ready, waiting_step}
-use Rattle.norec_world.specs.World.{World, counted, ending_at, told, waits_at}
-use Rattle.norec_world.specs.Events.{IsEvent}
-use Rattle.norec_world.specs.WorldEvents.{ActorGoes, Goes, HasRead}
+use Rattle.norec_world.specs.WorldEvents.{ActorGoes}
 use Rattle.norec_world.proofs.CommitCounts.{commits_after}
 use Rattle.norec_world.proofs.ShownAlone.{shows_alone}
 use Rattle.norec_world.proofs.SoleEvents.{finished_free, sole_still}
@@ -18,7 +11,6 @@ use Rattle.norec_world.proofs.RunOthers.{has_read, running_after, world_opaque}
 use Rattle.norec_world.proofs.SoundOthers.{actors_after}
 use Rattle.norec_world.proofs.WorldEvents.{event_goes}
 use Rattle.norec_world.proofs.Worlds.{lawful_at, waiting_going, waiting_some}
-use Rattle.script_vm.specs.Rules.{Obeys, Rules}
 
 module _ {P : Type 0} {rules : Rules P} (laws : Obeys rules) (w : World P) (kept : IsWorld rules w) (i : ℕ) (got : Actor P) (here : slice_get w.actors i ≡ Some got)
     {cells' : Cells} {r1 r2 : Rows} {a1 a2 : Actor P} (x : HasStepped rules w.cells w.attempts got cells' r1 a1) (y : HasWorked rules cells' r1 a1 r2 a2) (done : is_ready a2.status ≡ false) (waits : IsSome (waits_at w i)) (events : ℕ) where

@@ -1,22 +1,12 @@
 -- A step, and the local work that follows it, are one event.
 use Rattle.std.proofs.Common.{◌≡◌, Bool, true, false, Some, refl, sym, ap, subst, ◌∙◌, None, List, ℕ}
-use Rattle.norec_world.specs.declared.attempt.End.TheVariants.{Finished}
-use Rattle.norec_world.specs.declared.actor.Actor.{Actor}
-use Rattle.norec_world.specs.Cells.{Cells}
-use Rattle.norec_world.specs.ClockHolder.{ClocksOn}
-use Rattle.norec_world.specs.Events.{IsEvent}
+use Rattle.norec_world.proofs.Common.{Actor, Cells, ClocksOn, Finished, HasRead, IsEvent, KeepsOthers, Rows, Rules, Tries, ending_of, is_ready, prior_of}
 use Rattle.norec_world.specs.Moments.{HasStepped, HasWorked}
-use Rattle.norec_world.specs.OthersAttempts.{KeepsOthers}
-use Rattle.norec_world.specs.Rows.{Rows}
 use Rattle.norec_world.specs.Runs.{StillRuns}
-use Rattle.norec_world.specs.Status.{ending_of, is_ready}
-use Rattle.norec_world.specs.Tries.{Tries, prior_of}
-use Rattle.norec_world.specs.WorldEvents.{HasRead}
 use Rattle.norec_world.proofs.ClockHolders.{clocks_still, clocks_twice}
 use Rattle.norec_world.proofs.OthersAttempts.{others_twice}
 use Rattle.norec_world.proofs.TryChains.{no_pending, tries_then}
 use Rattle.norec_world.proofs.Worked.{ready_of}
-use Rattle.script_vm.specs.Rules.{Rules}
 
 module _ {P : Type 0} {rules : Rules P} {cells cells' : Cells} {r r1 r2 : Rows} {a a1 a2 : Actor P} (x : HasStepped rules cells r a cells' r1 a1) (y : HasWorked rules cells' r1 a1 r2 a2) where
   pub event_others : KeepsOthers a r a2 r2

@@ -1,31 +1,19 @@
 -- Within a transaction the actor has an open attempt, over a step and over a call.
 use Rattle.std.proofs.Common.{◌≡◌, ℕ, ◌+◌, ◌/◌, nat_lt, ◌==◌, ◌&&◌, ◌*◌, ◌⊎◌, nat_le, if◌then◌else◌, Bool, true, false, List, [], ◌∷◌, Option, None, Some, inl, inr, refl, sym, ap, subst, ◌∙◌, eq-eqb}
 use Rattle.std.proofs.lemmas.Bool.{cases_Bool}
-use Rattle.itm_types.specs.declared.call.Call.{Call}
+use Rattle.norec_world.proofs.Common.{Actor, Answer, Answers, Attempt, Busy, Call, Cells, Committed, Conflict, Core, Ended, Ends, Full, GaveUp, HasAttempt, IsTold, Next, Opens, Proceeds, Ready, Records, Reply, Rows, Rules, Step, Tells, Waits, active_of, asked_pending, begins_again, came, found, handed_is, handed_to, in_transaction, is_inside, with_changed}
 use Rattle.itm_types.specs.declared.call.Call.TheVariants as calls
-use Rattle.itm_types.specs.declared.step.Step.{Step}
 use Rattle.itm_types.specs.Access.{size_of}
-use Rattle.norec_engine.specs.Core.{Core, came, handed, handed_to, in_transaction, is_inside}
+use Rattle.norec_engine.specs.Core.{handed}
 use Rattle.norec_engine.specs.Order.{asked, asked_from, stage_at, commit_stage, load_stage}
-use Rattle.norec_engine.specs.Proceeds.{Proceeds, Ends, IsBegin}
-use Rattle.norec_engine.specs.declared.answer.Answer.{Answer}
-use Rattle.norec_engine.specs.declared.answer.Answer.TheVariants.{Reply, Committed, Conflict, Busy, Full}
-use Rattle.norec_engine.specs.declared.answer.Next.{Next}
-use Rattle.norec_engine.specs.declared.answer.Next.TheVariants.{Step as Steps, Answer as Answers}
+use Rattle.norec_engine.specs.Proceeds.{IsBegin}
+use Rattle.norec_engine.specs.declared.answer.Next.TheVariants.{Step as Steps}
 use Rattle.norec_engine.specs.declared.phase.Phase.TheVariants as at
-use Rattle.norec_engine.proofs.KeptFields.{handed_is}
-use Rattle.norec_world.specs.declared.attempt.Attempt.{Attempt}
-use Rattle.norec_world.specs.declared.attempt.End.TheVariants.{GaveUp}
-use Rattle.norec_world.specs.declared.actor.Actor.{Actor}
-use Rattle.norec_world.specs.declared.actor.Status.TheVariants.{Ready, Waits, Ended}
-use Rattle.norec_world.specs.Cells.{Cells, found}
-use Rattle.norec_world.specs.Rows.{Rows, active_of, with_one, with_changed}
-use Rattle.norec_world.specs.Records.{Records, Tells, Opens, IsTold, CountsTry, asked_pending, begins_again}
+use Rattle.norec_world.specs.Rows.{with_one}
+use Rattle.norec_world.specs.Records.{CountsTry}
 use Rattle.norec_world.specs.LocalWork.{TakesIn, Calls}
-use Rattle.norec_world.specs.Alike.{HasAttempt}
 use Rattle.norec_world.proofs.ActiveRows.{changed_here}
 use Rattle.norec_world.proofs.AlikeAnswers.{Closes}
-use Rattle.script_vm.specs.Rules.{Rules}
 
 both : (n : Bool) → n ≡ true → n ≡ false → ⊥
 both n t f = absurd (cc)

@@ -1,38 +1,21 @@
 -- The open attempt, as its calls go on.
 use Rattle.std.proofs.Common.{◌≡◌, ◌≢◌, ℕ, zero, suc, ◌/◌, ◌<◌, ◌≤◌, Bool, true, false, if◌then◌else◌, List, [], ◌∷◌, ◌++◌, map, None, Some, refl, sym, ap, subst, ◌∙◌, arith, length}
 use Rattle.std.proofs.lemmas.List.{append-nil, map-append}
-use Rattle.itm_types.specs.declared.call.Call.{Call}
-use Rattle.itm_types.specs.declared.call.Call.TheVariants.{Begin, Commit}
-use Rattle.itm_types.specs.declared.call.Props.{Props}
+use Rattle.norec_world.proofs.Common.{Agrees, Attempt, Begin, Beginning, Between, Call, Cas, Commit, Core, Done, Entry, IsAlone, IsMemory, IsTryAt, Load, MAX_DEPTH, Obeys, Outcome, Props, Replied, Replies, Rules, State, Step, Store, after, alone, answers, answers_within, begin_code, begins_at, bytes_at, bytes_of, handed_to, in_transaction, is_open, opened, pair_of, player_then, reply, state_then, turn, word_loaded, words_at}
 use Rattle.write_set.specs.declared.row.Row.{Row}
 use Rattle.write_set.specs.Rows.{overlay}
-use Rattle.itm_types.specs.declared.call.Reply.{Reply as Replied}
-use Rattle.itm_types.specs.declared.call.Reply.TheVariants.{Done, Code}
-use Rattle.itm_types.specs.declared.step.Step.{Step}
-use Rattle.itm_types.specs.declared.step.Step.TheVariants.{Load, Store, Cas}
-use Rattle.itm_types.specs.Memory.{bytes_of, IsMemory, Agrees}
-use Rattle.itm_model.specs.declared.limits.TheConstants.{MAX_DEPTH}
-use Rattle.itm_model.specs.State.{State}
-use Rattle.itm_model.specs.Machine.{opened, is_open, after, reply, reply_unless, or_else, unless}
-use Rattle.itm_model.specs.Runs.{turn, answers, answers_within}
+use Rattle.itm_types.specs.declared.call.Reply.TheVariants.{Code}
+use Rattle.itm_model.specs.Machine.{reply_unless, or_else, unless}
 use Rattle.norec_engine.proofs.Overlays.{Agrees-drop}
-use Rattle.norec_engine.specs.Core.{Core, handed_to, word_loaded, in_transaction}
 use Rattle.norec_engine.specs.Stands.{state_over, stands_for, is_some_row}
-use Rattle.norec_engine.specs.Proceeds.{AsksFor, Replies, Commits, recoded}
+use Rattle.norec_engine.specs.Proceeds.{AsksFor, Commits, recoded}
 use Rattle.norec_engine.proofs.Blocks.{none_inside}
 use Rattle.norec_engine.proofs.Machines.{commits}
 use Rattle.itm_types.specs.declared.call.Refusal.TheVariants.{Outside}
-use Rattle.norec_world.specs.declared.attempt.Attempt.{Attempt}
-use Rattle.norec_world.specs.declared.attempt.Entry.{Entry}
-use Rattle.norec_world.specs.declared.attempt.Outcome.{Outcome}
 use Rattle.norec_world.specs.declared.attempt.Outcome.TheVariants as outcomes
-use Rattle.norec_world.specs.Memories.{bytes_at, words_at}
-use Rattle.norec_world.specs.Attempts.{pair_of, alone}
-use Rattle.norec_world.specs.Alone.{state_then, player_then, IsAlone}
-use Rattle.norec_world.specs.Opacity.{Beginning, Between, begin_code, EndsAs, LacksCommit, IsTryAt}
-use Rattle.norec_world.specs.Runs.{begins_at, IsInTry}
+use Rattle.norec_world.specs.Opacity.{EndsAs, LacksCommit}
+use Rattle.norec_world.specs.Runs.{IsInTry}
 use Rattle.norec_world.proofs.Alones.{begins_alone, alone_snoc, player_snoc, state_snoc, stands_open}
-use Rattle.script_vm.specs.Rules.{Obeys, Rules}
 
 module _ {P : Type 0} (rules : Rules P) (laws : Obeys rules) where
   abbrev InTry : Between P → Attempt → P → Core → Type 0

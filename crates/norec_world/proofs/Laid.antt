@@ -1,11 +1,6 @@
 -- The words and the memories that the commits left, once attempts have ended.
 use Rattle.std.proofs.Common.{◌≡◌, ℕ, ◌+◌, ◌/◌, ◌%◌, ◌≤◌, ◌==◌, Bool, true, false, List, length, refl, sym, ap, subst, ◌∙◌, arith, eqb-true, eq-eqb}
-use Rattle.itm_types.specs.Memory.{AllFit, IsMemory, bytes_of}
-use Rattle.norec_world.specs.Cells.{Cells, words_of}
-use Rattle.norec_world.specs.Commits.{AreCounted}
-use Rattle.norec_world.specs.LogAgreement.{AreLaid}
-use Rattle.norec_world.specs.Memories.{bytes_at, words_at}
-use Rattle.norec_world.specs.Rows.{Rows}
+use Rattle.norec_world.proofs.Common.{AllFit, AreCounted, AreLaid, Cells, IsMemory, Rows, bytes_at, bytes_of, words_at, words_of}
 use Rattle.norec_world.proofs.WordLists.{words_of-bytes_of}
 
 both : (n : Bool) → n ≡ true → n ≡ false → ⊥

@@ -1,12 +1,7 @@
 -- Less and less is left to do.
 use Rattle.std.proofs.Common.{◌≡◌, ℕ, ◌+◌, ◌<◌, ◌≤◌, Bool, true, false, None, refl, sym, ap, subst, ◌∙◌, arith, if◌then◌else◌}
-use Rattle.norec_engine.specs.Core.{in_transaction}
-use Rattle.norec_world.specs.declared.actor.Actor.{Actor}
-use Rattle.norec_world.specs.declared.actor.Status.{Status}
-use Rattle.norec_world.specs.declared.actor.Status.TheVariants.{Ready, Waits, Ended}
-use Rattle.norec_world.specs.Status.{ending_of, is_ready, is_waiting}
-use Rattle.norec_world.specs.Sound.{GoesOn, IsNoMore, Falls, HasLess, steps_left, whole, rank, run_left}
-use Rattle.script_vm.specs.Rules.{Rules}
+use Rattle.norec_world.proofs.Common.{Actor, Ended, IsNoMore, Ready, Rules, Status, Waits, ending_of, in_transaction, is_ready, is_waiting, rank, whole}
+use Rattle.norec_world.specs.Sound.{GoesOn, Falls, HasLess, steps_left, run_left}
 
 module _ {P : Type 0} (rules : Rules P) where
   pub same_less : (a : Actor P) → IsNoMore rules a a

@@ -1,3 +1,4 @@
+pub mod Common
 mod Examples
 pub mod WordLists
 pub mod ActiveRows

@@ -1,20 +1,8 @@
 -- A step and local work, as what an event is made of.
 use Rattle.std.proofs.Common.{◌≡◌, ℕ, zero, suc, ◌/◌, false, None, Some, refl, sym, subst}
-use Rattle.itm_types.specs.declared.call.Call.{Call}
-use Rattle.itm_types.specs.declared.step.Step.{Step}
-use Rattle.norec_engine.specs.Core.{Core, in_transaction}
+use Rattle.norec_world.proofs.Common.{Actor, Acts, Call, Cells, Core, Ended, IsTold, Next, Ready, RestsAs, Rows, Rules, Status, StatusIs, Step, Tells, Waits, found, in_transaction, is_ready, waiting_step}
 use Rattle.norec_engine.specs.Moves.{IsResumed}
-use Rattle.norec_engine.specs.declared.answer.Next.{Next}
-use Rattle.norec_world.specs.declared.actor.Actor.{Actor}
-use Rattle.norec_world.specs.declared.actor.Status.{Status}
-use Rattle.norec_world.specs.declared.actor.Status.TheVariants.{Ready, Waits, Ended}
-use Rattle.norec_world.specs.Cells.{Cells, found}
-use Rattle.norec_world.specs.Rows.{Rows}
-use Rattle.norec_world.specs.Status.{is_ready, waiting_step}
-use Rattle.norec_world.specs.Records.{Tells, IsTold}
-use Rattle.norec_world.specs.Sound.{StatusIs, RestsAs}
-use Rattle.norec_world.specs.LocalWork.{SameActor, TakesIn, Acts, ActsOn, Works}
-use Rattle.script_vm.specs.Rules.{Rules}
+use Rattle.norec_world.specs.LocalWork.{SameActor, TakesIn, ActsOn, Works}
 
 -- who waits is not ready
 pub not_ready : (s : Status) (step : Step) → waiting_step s ≡ Some step → is_ready s ≡ false

@@ -1,17 +1,11 @@
 -- What an engine has seen, over a step.
 use Rattle.std.proofs.Common.{◌≡◌, ℕ, zero, suc, ◌/◌, ◌%◌, ◌<◌, ◌==◌, Bool, true, false, List, length, slice_get, slice_set, slice_index, Some, refl, sym, ap, subst, ◌∙◌, arith, if◌then◌else◌, eqb-true}
-use Rattle.std.proofs.lemmas.Bool.{cond-true}
 use Rattle.std.proofs.lemmas.Option.{slice_get-get_or}
-use Rattle.itm_types.specs.declared.step.Step.{Step}
-use Rattle.itm_types.specs.declared.step.Step.TheVariants.{Load, Store, Cas}
-use Rattle.itm_types.specs.Memory.{Agrees, IsMemory}
-use Rattle.norec_engine.specs.Core.{Core, handed_to, word_loaded, in_transaction}
-use Rattle.norec_engine.specs.Proceeds.{IsLawful, Joins, Settles, Got}
+use Rattle.norec_world.proofs.Common.{Agrees, Cas, Cells, Core, IsLawful, IsMemory, IsTied, Load, Sees, Step, Store, cells_after, cond-true, found, handed_to, in_transaction, word_loaded}
+use Rattle.norec_engine.specs.Proceeds.{Joins, Settles, Got}
 use Rattle.norec_engine.specs.Rows.{write_at}
 use Rattle.norec_engine.proofs.Logs as logs
-use Rattle.norec_world.specs.Cells.{Cells, found, cells_after}
-use Rattle.norec_world.specs.Sound.{IsTied}
-use Rattle.norec_world.specs.LogAgreement.{Loaded, Sees}
+use Rattle.norec_world.specs.LogAgreement.{Loaded}
 use Rattle.norec_engine.proofs.Logs.{agrees_more}
 use Rattle.norec_world.proofs.ClockHolders.{is_free}
 

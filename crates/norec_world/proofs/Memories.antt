@@ -1,10 +1,8 @@
 -- The memories that the commits left stay when more attempts end.
 use Rattle.std.proofs.Common.{◌≡◌, ℕ, zero, suc, ◌+◌, ◌/◌, ◌<◌, ◌≤◌, Bool, true, false, nat_lt, if◌then◌else◌, List, [], ◌∷◌, ◌++◌, None, Some, refl, sym, ap, ◌∙◌, arith, lt-ltb, ltb-true}
-use Rattle.itm_model.specs.declared.limits.TheConstants.{MAX_DEPTH}
-use Rattle.norec_world.specs.declared.attempt.Attempt.{Attempt}
-use Rattle.norec_world.specs.Attempts.{is_at, committed_at, memory_left}
-use Rattle.norec_world.specs.Commits.{one_where, count_at, AreCounted}
-use Rattle.norec_world.specs.Memories.{bytes_at}
+use Rattle.norec_world.proofs.Common.{AreCounted, Attempt, MAX_DEPTH, bytes_at, committed_at}
+use Rattle.norec_world.specs.Attempts.{is_at, memory_left}
+use Rattle.norec_world.specs.Commits.{one_where, count_at}
 
 -- ## Which attempt committed at a position
 

@@ -1,8 +1,6 @@
 -- Whether an attempt is opened.
 use Rattle.std.proofs.Common.{◌≡◌, ℕ, Bool, true, false, Option, None, Some, sym, ap, ◌∙◌}
-use Rattle.norec_world.specs.declared.attempt.Attempt.{Attempt}
-use Rattle.norec_world.specs.Rows.{Rows, with_opened}
-use Rattle.norec_world.specs.Records.{Opens}
+use Rattle.norec_world.proofs.Common.{Attempt, Opens, Rows, with_opened}
 
 pub opens_row : (b : Bool) (pending : Option Attempt) (row : Attempt) (rows rows' : Rows) (at : ℕ) → b ≡ true → pending ≡ Some row → rows' ≡ with_opened (record row { at = at }) rows → Opens b rows pending at rows'
 opens_row true (Some x) row rows rows' at e p h = (let same : x ≡ row = cc in h ∙ ap (λ (r : Attempt). with_opened (record r { at = at }) rows) (sym same))

@@ -1,15 +1,11 @@
 -- One actor's work leaves the others' attempts.
 use Rattle.std.proofs.Common.{◌≡◌, ℕ, ◌-◌, Bool, true, false, if◌then◌else◌, ◌+◌, ◌≤◌, subst, arith, List, [], ◌∷◌, ◌++◌, None, Some, refl, sym, ap, ◌∙◌, append_assoc, nat_lt}
 use Rattle.std.proofs.lemmas.List.{append-nil}
-use Rattle.norec_world.specs.declared.attempt.Attempt.{Attempt}
-use Rattle.norec_world.specs.Rows.{Rows, is_of, AreFrom, active_of, with_changed, with_opened, with_ended}
-use Rattle.norec_world.specs.declared.actor.Actor.{Actor}
-use Rattle.norec_world.specs.declared.actor.Status.TheVariants.{Ended}
-use Rattle.norec_world.specs.declared.attempt.Outcome.{Outcome}
-use Rattle.norec_world.specs.declared.attempt.End.TheVariants.{GaveUp}
+use Rattle.norec_world.proofs.Common.{Actor, AreFrom, Attempt, Ended, GaveUp, HasRow, KeepsOthers, Outcome, Rows, active_of, with_changed, with_opened}
+use Rattle.norec_world.specs.Rows.{is_of, with_ended}
 use Rattle.norec_world.specs.Records.{StopsAt, CountsTry}
-use Rattle.norec_world.specs.Sound.{HasRow, retried}
-use Rattle.norec_world.specs.OthersAttempts.{AllOf, ChangesOwn, KeepsOthers, count_pending}
+use Rattle.norec_world.specs.Sound.{retried}
+use Rattle.norec_world.specs.OthersAttempts.{AllOf, ChangesOwn, count_pending}
 use Rattle.norec_world.proofs.ActiveRows.{row_is_of, changed_elsewhere, without_elsewhere, opened_elsewhere, from_changed, from_without, from_with_one}
 
 all_both : (thread : ℕ) (xs ys : List Attempt) → AllOf thread xs → AllOf thread ys → AllOf thread (xs ++ ys)

@@ -1,21 +1,13 @@
 -- What stands in the rows of attempts, after an answer.
 use Rattle.std.proofs.Common.{None, Some, ◌==◌, sym, subst, ◌≡◌, ℕ, ◌&&◌, Bool, true, false, List, [], ◌∷◌, length, refl, ap, ◌∙◌, arith}
-use Rattle.itm_types.specs.declared.call.Call.{Call}
-use Rattle.itm_types.specs.declared.call.Reply.{Reply as Replied}
-use Rattle.itm_types.specs.Calls.{is_begin}
 use Rattle.script_vm.specs.Depth.{depth_after, is_code, opens}
-use Rattle.norec_world.specs.declared.attempt.Attempt.{Attempt}
 use Rattle.norec_world.specs.declared.attempt.Outcome.TheVariants.{Unfinished}
-use Rattle.norec_world.specs.Rows.{Rows, is_of, active_of, changed, without, with_changed, with_opened, with_ended}
+use Rattle.norec_world.specs.Rows.{is_of, changed, without, with_ended}
 use Rattle.norec_world.proofs.ActiveRows.{opened_here, changed_here}
-use Rattle.norec_world.specs.declared.actor.Actor.{Actor}
-use Rattle.norec_world.specs.declared.actor.Status.{Status}
-use Rattle.norec_world.specs.declared.actor.Status.TheVariants.{Ready, Waits, Ended}
-use Rattle.norec_world.specs.Sound.{depth_if, HasRow, IsKept, StatusIs}
-use Rattle.std.proofs.lemmas.Bool.{cond-true, cond-false}
-use Rattle.norec_engine.specs.Core.{in_transaction}
+use Rattle.norec_world.specs.Sound.{depth_if, IsKept}
+use Rattle.std.proofs.lemmas.Bool.{cond-false}
+use Rattle.norec_world.proofs.Common.{Actor, Attempt, Call, Ended, HasRow, Ready, Replied, Rows, Rules, Status, StatusIs, Waits, active_of, cond-true, in_transaction, is_begin, with_changed, with_opened}
 use Rattle.norec_world.proofs.PlayerLaws.{opens_at_begin}
-use Rattle.script_vm.specs.Rules.{Rules}
 
 -- nothing is open, and was not
 pub row_stays : (r : Rows) (thread : ℕ) (was now : Bool) → (was ≡ true → now ≡ true) → now ≡ false → HasRow was r thread → HasRow now r thread

@@ -1,16 +1,11 @@
 -- What is answered where the actor waits for no operation.
 use Rattle.std.proofs.Common.{◌≡◌, ℕ, ◌≤◌, zero, suc, Bool, true, false, List, [], ◌∷◌, length, Option, None, Some, Err, IsSome, slice_get, refl, sym, ap, subst, ◌∙◌, arith}
-use Rattle.std.specs.Option.{option_and_then, option_map}
-use Rattle.norec_world.specs.declared.actor.Actor.{Actor}
+use Rattle.std.specs.Option.{option_map}
+use Rattle.norec_world.proofs.Common.{Actor, AreOpaque, CommitsInOrder, Goes, Rules, World, ending_at, ending_of, is_ready, is_waiting, option_and_then, waiting_step, waits_at}
 use Rattle.norec_world.specs.declared.fault.WorldFault.TheVariants.{NoSuchActor, Ended}
-use Rattle.norec_world.specs.Status.{ending_of, is_ready, is_waiting, waiting_step}
-use Rattle.norec_world.specs.World.{World, ShowsAlone, ending_at, waits_at}
-use Rattle.norec_world.specs.Commits.{CommitsInOrder}
-use Rattle.norec_world.specs.Opaque.{AreOpaque}
-use Rattle.norec_world.specs.WorldEvents.{Goes}
+use Rattle.norec_world.specs.World.{ShowsAlone}
 use Rattle.norec_world.proofs.Worlds.{some_ended, waiting_some}
 use Rattle.norec_world.proofs.SoundOthers.{within_of}
-use Rattle.script_vm.specs.Rules.{Rules}
 
 pub mapped_none : {A B : Type 0} (f : A → B) (o : Option A) → None ≡ option_map f o → o ≡ None
 mapped_none f None e = refl

@@ -1,34 +1,15 @@
 -- An actor's run between two tries: calls outside a transaction, and begins.
 use Rattle.std.proofs.Common.{◌≡◌, ℕ, zero, suc, ◌+◌, ◌/◌, ◌≤◌, Bool, true, false, nat_lt, if◌then◌else◌, List, [], Option, None, Some, refl, sym, ap, subst, ◌∙◌, arith, is_some}
-use Rattle.itm_types.specs.declared.call.Call.{Call}
-use Rattle.itm_types.specs.declared.call.Call.TheVariants.{Begin, Commit, Read, Write}
-use Rattle.itm_types.specs.declared.call.Props.{Props}
+use Rattle.norec_world.proofs.Common.{Actor, Agrees, Answer, Attempt, Begin, Beginning, Between, Busy, Call, Cells, Commit, Committed, Conflict, Core, Ended, Full, GaveUp, IsMemory, IsRun, IsRunOf, MAX_DEPTH, Obeys, Opens, Props, Read, Ready, Replied, Replies, RepliesTo, Reply, Rows, Rules, Write, active_of, begin_of, bytes_at, ending_of, in_transaction, is_begin, of_thread, reply, run_after, with_opened, words_at}
 use Rattle.itm_types.specs.declared.call.Refusal.TheVariants.{Outside}
-use Rattle.itm_types.specs.declared.call.Reply.{Reply as Replied}
 use Rattle.itm_types.specs.declared.call.Reply.TheVariants.{Refused}
-use Rattle.itm_types.specs.Memory.{IsMemory, Agrees}
-use Rattle.itm_model.specs.declared.limits.TheConstants.{MAX_DEPTH}
-use Rattle.itm_model.specs.Machine.{reply}
-use Rattle.itm_types.specs.Calls.{is_begin}
 use Rattle.norec_engine.proofs.Overlays.{Agrees-drop}
-use Rattle.norec_engine.specs.Core.{Core, in_transaction}
 use Rattle.norec_engine.specs.Stands.{state_over}
-use Rattle.norec_engine.specs.Proceeds.{Replies, recoded, RepliesTo}
-use Rattle.norec_engine.specs.declared.answer.Answer.{Answer}
-use Rattle.norec_engine.specs.declared.answer.Answer.TheVariants.{Reply, Committed, Conflict, Busy, Full}
+use Rattle.norec_engine.specs.Proceeds.{recoded}
 use Rattle.norec_engine.proofs.Blocks.{none_inside}
-use Rattle.norec_world.specs.declared.attempt.Attempt.{Attempt}
-use Rattle.norec_world.specs.declared.attempt.End.TheVariants.{GaveUp}
-use Rattle.norec_world.specs.declared.actor.Actor.{Actor}
-use Rattle.norec_world.specs.declared.actor.Status.TheVariants.{Ready, Ended}
-use Rattle.norec_world.specs.Attempts.{of_thread}
-use Rattle.norec_world.specs.Opacity.{Beginning, Between, begin_of, begin_within, IsRunOf}
-use Rattle.norec_world.specs.Rows.{Rows, active_of, with_opened}
-use Rattle.norec_world.specs.Cells.{Cells}
-use Rattle.norec_world.specs.Status.{ending_of}
-use Rattle.norec_world.specs.Records.{again_after, Opens}
-use Rattle.norec_world.specs.Memories.{bytes_at, words_at}
-use Rattle.norec_world.specs.Runs.{run_after, IsInTry, IsBeforeTry, IsRun}
+use Rattle.norec_world.specs.Opacity.{begin_within}
+use Rattle.norec_world.specs.Records.{again_after}
+use Rattle.norec_world.specs.Runs.{IsInTry, IsBeforeTry}
 use Rattle.norec_world.proofs.ActiveRows.{opened_here}
 use Rattle.norec_world.proofs.Solos.{comes_past}
 use Rattle.norec_world.proofs.RecordedRows.{was_open}
@@ -36,7 +17,6 @@ use Rattle.norec_world.proofs.TryEnds.{none_pending, begin_call, begin_opens}
 use Rattle.norec_world.proofs.Seen.{HasSeen, memory_at}
 use Rattle.norec_world.proofs.Taken.{HasAnswered}
 use Rattle.norec_world.proofs.InTries.{try_begins}
-use Rattle.script_vm.specs.Rules.{Obeys, Rules}
 
 both : (n : Bool) → n ≡ true → n ≡ false → ⊥
 both n t f = absurd (cc)

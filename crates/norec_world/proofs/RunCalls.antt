@@ -1,32 +1,12 @@
 -- An actor's run over a call, up to its first step.
 use Rattle.std.proofs.Common.{◌≡◌, ℕ, ◌/◌, ◌≤◌, ◌&&◌, Bool, true, false, not, List, [], ◌∷◌, ◌++◌, Some, refl, sym, ap, subst, ◌∙◌, arith}
-use Rattle.itm_types.specs.declared.call.Call.{Call}
-use Rattle.itm_types.specs.declared.call.Call.TheVariants.{Begin, Commit, Read, Write}
-use Rattle.itm_model.specs.declared.limits.TheConstants.{MAX_DEPTH}
-use Rattle.norec_engine.specs.Core.{Core, in_transaction}
-use Rattle.norec_engine.specs.declared.answer.Answer.{Answer}
-use Rattle.norec_engine.specs.declared.answer.Answer.TheVariants.{Reply, Committed, Conflict, Busy, Full}
-use Rattle.norec_engine.specs.declared.answer.Next.{Next}
-use Rattle.norec_world.specs.declared.attempt.Attempt.{Attempt}
+use Rattle.norec_world.proofs.Common.{Actor, Answer, AreCounted, AreLaid, Attempt, Begin, Between, Busy, Call, Cells, Commit, Committed, Conflict, Core, End, Ended, Full, IsDone, IsRun, IsRunOf, IsSound, MAX_DEPTH, Next, Obeys, Read, Ready, Reply, Rows, Rules, Sees, Tells, Write, active_of, asked_pending, begin_of, begins_again, begins_at, bytes_at, ending_of, in_transaction, of_thread, run_after, words_at}
 use Rattle.norec_world.specs.declared.attempt.Outcome.TheVariants as outcomes
-use Rattle.norec_world.specs.declared.attempt.End.{End}
 use Rattle.norec_world.specs.declared.attempt.End.TheVariants as ends
-use Rattle.norec_world.specs.declared.actor.Actor.{Actor}
-use Rattle.norec_world.specs.declared.actor.Status.TheVariants.{Ready, Ended}
-use Rattle.norec_world.specs.Attempts.{of_thread}
-use Rattle.norec_world.specs.Cells.{Cells}
-use Rattle.norec_world.specs.Opacity.{Between, begin_of, IsRunOf}
-use Rattle.norec_world.specs.Rows.{Rows, active_of}
-use Rattle.norec_world.specs.Status.{ending_of}
-use Rattle.norec_world.specs.Records.{asked_pending, begins_again, Tells}
-use Rattle.norec_world.specs.Sound.{IsSound, IsDone}
-use Rattle.norec_world.specs.Memories.{bytes_at, words_at}
-use Rattle.norec_world.specs.LogAgreement.{Sees, AreLaid}
-use Rattle.norec_world.specs.Runs.{run_after, begins_at, IsBeforeTry, IsRun, RunsFrom}
+use Rattle.norec_world.specs.Runs.{IsBeforeTry, RunsFrom}
 use Rattle.norec_world.proofs.ActiveRows.{changed_here}
 use Rattle.norec_world.proofs.SoundCalls.{IsCalling, call_taken, mid, rests}
 use Rattle.norec_world.proofs.Memories.{bytes_still}
-use Rattle.norec_world.specs.Commits.{AreCounted}
 use Rattle.norec_world.proofs.Laid.{laid_on, laid_same}
 use Rattle.norec_world.proofs.RunTaken.{runs_recorded}
 use Rattle.norec_world.proofs.Seen.{HasSeen, call_seen}
@@ -34,7 +14,6 @@ use Rattle.norec_world.proofs.Taken.{HasAnswered, recorded}
 use Rattle.norec_world.specs.LocalWork.{Starves}
 use Rattle.norec_world.proofs.RunAnswers.{stop_run}
 use Rattle.norec_world.proofs.RunBegins.{begin_here}
-use Rattle.script_vm.specs.Rules.{Obeys, Rules}
 
 both : (n : Bool) → n ≡ true → n ≡ false → ⊥
 both n t f = absurd (cc)

@@ -1,11 +1,7 @@
 -- An actor's run with one attempt more, and over more commits.
 use Rattle.std.proofs.Common.{◌≡◌, ℕ, ◌≤◌, ◌==◌, Bool, true, false, if◌then◌else◌, List, [], ◌∷◌, ◌++◌, Option, None, Some, refl, sym, ap, subst, ◌∙◌, arith, eqb-true, eq-eqb}
-use Rattle.itm_model.specs.declared.limits.TheConstants.{MAX_DEPTH}
-use Rattle.norec_world.specs.declared.attempt.Attempt.{Attempt}
-use Rattle.norec_world.specs.Attempts.{of_thread}
-use Rattle.norec_world.specs.Opacity.{Beginning, Between, after_try, IsOpaque, IsTryAt, IsRunOf}
-use Rattle.norec_world.specs.Runs.{begins_at, run_after}
-use Rattle.script_vm.specs.Rules.{Rules}
+use Rattle.norec_world.proofs.Common.{Attempt, Beginning, Between, IsRunOf, IsTryAt, MAX_DEPTH, Rules, begins_at, of_thread, run_after}
+use Rattle.norec_world.specs.Opacity.{after_try, IsOpaque}
 
 -- ## The attempts of one actor
 

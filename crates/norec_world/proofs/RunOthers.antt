@@ -1,41 +1,25 @@
 -- The actors' runs: one's event leaves the others', and together they are the headline.
 use Rattle.std.proofs.Common.{◌≡◌, ◌≢◌, inl, inr, ℕ, ◌+◌, ◌/◌, ◌%◌, ◌<◌, ◌≤◌, ◌==◌, Bool, true, false, if◌then◌else◌, List, [], ◌∷◌, ◌++◌, length, length-set, replicate, None, Some, slice_get, slice_set, refl, sym, ap, subst, ◌∙◌, arith, eqb-true, eq-eqb, nat_lt, ltb-true}
 use Rattle.std.proofs.lemmas.List.{append-nil}
-use Rattle.itm_types.specs.Memory.{bytes_of, IsMemory, Agrees, AllFit}
-use Rattle.itm_model.specs.declared.limits.TheConstants.{MAX_DEPTH}
-use Rattle.norec_engine.specs.Core.{Core, opening, in_transaction}
+use Rattle.norec_world.proofs.Common.{Actor, Agrees, AllFit, AreActors, AreFrom, AreLaid, AreOpaque, Attempt, Between, Cells, ClocksOn, Core, HasRead, HasRow, IsMemory, IsRunOf, IsTied, IsTryAt, IsWorld, KeepsOthers, MAX_DEPTH, NoMemory, Obeys, Ready, Rows, Rules, World, active_of, begins_at, bytes_at, bytes_of, ending_of, in_transaction, of_thread, run_after, words_at, words_of}
+use Rattle.norec_engine.specs.Core.{opening}
 use Rattle.norec_engine.specs.Proceeds.{backed, Got}
 use Rattle.norec_engine.specs.Rows.{write_at}
-use Rattle.norec_world.specs.declared.attempt.End.TheVariants.{NoMemory}
-use Rattle.norec_world.specs.Status.{ending_of}
-use Rattle.norec_world.specs.declared.attempt.Attempt.{Attempt}
 use Rattle.norec_world.specs.declared.attempt.Outcome.TheVariants as outcomes
-use Rattle.norec_world.specs.declared.actor.Actor.{Actor}
-use Rattle.norec_world.specs.Attempts.{of_thread}
-use Rattle.norec_world.specs.Cells.{Cells, words_of}
 use Rattle.norec_world.specs.Commits.{one_where, count_at, count_committed}
-use Rattle.norec_world.specs.ClockHolder.{ClocksOn}
-use Rattle.norec_world.specs.declared.actor.Status.TheVariants.{Ready}
 use Rattle.norec_world.proofs.WordLists.{words_of-bytes_of}
-use Rattle.norec_world.specs.Opacity.{Between, IsRunOf, IsTryAt}
-use Rattle.norec_world.specs.OthersAttempts.{AllOf, ChangesOwn, KeepsOthers}
-use Rattle.norec_world.specs.Rows.{Rows, active_of, AreFrom, AreOfActors, AreOpen}
+use Rattle.norec_world.specs.OthersAttempts.{AllOf, ChangesOwn}
+use Rattle.norec_world.specs.Rows.{AreOfActors, AreOpen}
 use Rattle.norec_world.proofs.TiedEngines.{held_even}
-use Rattle.norec_world.specs.Sound.{IsTied, HasRow}
-use Rattle.norec_world.specs.Actors.{AreActors}
-use Rattle.norec_world.specs.World.{World, attempts_of}
-use Rattle.norec_world.specs.Memories.{bytes_at, words_at}
-use Rattle.norec_world.specs.LogAgreement.{AreLaid}
-use Rattle.norec_world.specs.Runs.{run_after, begins_at, RunsFrom, StillRuns}
-use Rattle.norec_world.specs.Opaque.{first_of, AreOpaque}
-use Rattle.norec_world.specs.Invariant.{AreRunning, IsWorld}
-use Rattle.norec_world.specs.WorldEvents.{HasRead}
+use Rattle.norec_world.specs.World.{attempts_of}
+use Rattle.norec_world.specs.Runs.{RunsFrom, StillRuns}
+use Rattle.norec_world.specs.Opaque.{first_of}
+use Rattle.norec_world.specs.Invariant.{AreRunning}
 use Rattle.norec_world.proofs.SoundOthers.{set_place, within_of, there_is, are_open}
 use Rattle.norec_world.proofs.Alones.{stands_open}
 use Rattle.norec_world.proofs.InTries.{try_stops}
 use Rattle.norec_world.proofs.Memories.{bytes_still}
 use Rattle.norec_world.proofs.RunLists.{run_still, run_more}
-use Rattle.script_vm.specs.Rules.{Obeys, Rules}
 
 -- ## The attempts of one thread
 

@@ -1,38 +1,14 @@
 -- An actor's run over a step.
 use Rattle.std.proofs.Common.{◌≡◌, ℕ, ◌/◌, Bool, true, false, List, ◌++◌, None, Some, refl, sym, ap, subst, ◌∙◌}
-use Rattle.itm_types.specs.declared.step.Step.{Step}
-use Rattle.itm_model.specs.declared.limits.TheConstants.{MAX_DEPTH}
-use Rattle.norec_engine.specs.Core.{Core, handed_to, in_transaction, is_inside}
-use Rattle.norec_world.specs.declared.attempt.Attempt.{Attempt}
-use Rattle.norec_world.specs.declared.actor.Actor.{Actor}
-use Rattle.norec_world.specs.declared.actor.Status.{Status}
-use Rattle.norec_world.specs.Attempts.{of_thread}
-use Rattle.norec_world.specs.Opacity.{Between, IsRunOf}
-use Rattle.norec_world.specs.Rows.{Rows, active_of}
-use Rattle.norec_world.specs.Status.{ending_of}
-use Rattle.norec_world.specs.Records.{IsTold}
-use Rattle.norec_world.specs.Sound.{HasRow}
-use Rattle.norec_world.specs.Memories.{bytes_at}
-use Rattle.norec_world.specs.Runs.{run_after, IsRun}
+use Rattle.norec_world.proofs.Common.{Actor, AreCounted, AreLaid, Attempt, Between, Call, Cells, Core, HasRow, IsDone, IsRun, IsRunOf, IsTold, MAX_DEPTH, Next, Obeys, Ready, Rows, Rules, Sees, Status, Step, Tells, active_of, bytes_at, ending_of, found, handed_is, handed_to, in_transaction, is_inside, of_thread, run_after, words_at}
 use Rattle.norec_world.proofs.ActiveRows.{changed_here}
 use Rattle.norec_world.proofs.InTries.{try_handed, try_told}
-use Rattle.itm_types.specs.declared.call.Call.{Call}
-use Rattle.norec_engine.specs.declared.answer.Next.{Next}
-use Rattle.norec_engine.proofs.KeptFields.{handed_is}
-use Rattle.norec_world.specs.Cells.{Cells, found}
-use Rattle.norec_world.specs.Commits.{AreCounted}
-use Rattle.norec_world.specs.LogAgreement.{AreLaid, Sees}
-use Rattle.norec_world.specs.Memories.{words_at}
 use Rattle.norec_world.specs.Runs.{RunsFrom}
-use Rattle.norec_world.specs.Records.{Tells}
-use Rattle.norec_world.specs.Sound.{IsDone}
-use Rattle.norec_world.specs.declared.actor.Status.TheVariants.{Ready}
 use Rattle.norec_world.proofs.Laid.{laid_same}
 use Rattle.norec_world.proofs.RunTaken.{runs_recorded}
 use Rattle.norec_world.proofs.Seen.{HasSeen, step_seen}
 use Rattle.norec_world.proofs.SoundSteps.{IsStepping, mid, same, step_taken, waits}
 use Rattle.norec_world.proofs.Taken.{now}
-use Rattle.script_vm.specs.Rules.{Obeys, Rules}
 
 both : (n : Bool) → n ≡ true → n ≡ false → ⊥
 both n t f = absurd (cc)

@@ -1,35 +1,11 @@
 -- A value or a call was taken in, and what the engine gave is recorded: the actor's run goes on, and the words are still those that the commits left.
 use Rattle.std.proofs.Common.{◌≡◌, ℕ, suc, ◌+◌, ◌/◌, ◌≤◌, ◌==◌, Bool, true, false, List, [], ◌∷◌, ◌++◌, Option, None, Some, is_some, refl, sym, ap, subst, ◌∙◌, arith, eq-eqb, append-nil}
-use Rattle.std.proofs.lemmas.Bool.{cond-true}
-use Rattle.itm_types.specs.declared.call.Call.{Call}
-use Rattle.itm_types.specs.declared.call.Reply.TheVariants.{Done}
-use Rattle.itm_types.specs.declared.step.Step.{Step}
-use Rattle.itm_types.specs.Memory.{Agrees, bytes_of}
-use Rattle.itm_model.specs.declared.limits.TheConstants.{MAX_DEPTH}
-use Rattle.itm_model.specs.State.{State}
-use Rattle.norec_engine.specs.Core.{Core, in_transaction}
-use Rattle.norec_engine.specs.Proceeds.{Ends, RepliesTo, backed}
-use Rattle.norec_engine.specs.declared.answer.Answer.{Answer}
-use Rattle.norec_engine.specs.declared.answer.Answer.TheVariants.{Reply, Committed, Conflict, Busy, Full}
-use Rattle.norec_engine.specs.declared.answer.Next.{Next}
-use Rattle.norec_engine.specs.declared.answer.Next.TheVariants.{Step as Asks}
+use Rattle.norec_world.proofs.Common.{Actor, Agrees, Answer, AreCounted, AreLaid, Asks, Attempt, Between, Busy, Call, Cells, Committed, Conflict, Core, Done, Ends, Full, IsDone, IsRun, MAX_DEPTH, Next, NoMemory, Obeys, Opens, RepliesTo, Reply, Rows, Rules, Sees, State, Step, Tells, Waits, alone, bytes_at, bytes_of, committed_at, cond-true, ending_of, in_transaction, words_at}
+use Rattle.norec_engine.specs.Proceeds.{backed}
 use Rattle.norec_engine.proofs.AnsweredEngines.{rests}
-use Rattle.norec_world.specs.declared.attempt.Attempt.{Attempt}
 use Rattle.norec_world.specs.declared.attempt.Outcome.TheVariants as outcomes
-use Rattle.norec_world.specs.declared.attempt.End.TheVariants.{NoMemory}
-use Rattle.norec_world.specs.declared.actor.Actor.{Actor}
-use Rattle.norec_world.specs.declared.actor.Status.TheVariants.{Waits}
-use Rattle.norec_world.specs.Attempts.{alone, committed_at, memory_left}
-use Rattle.norec_world.specs.Cells.{Cells}
-use Rattle.norec_world.specs.Commits.{AreCounted}
-use Rattle.norec_world.specs.LogAgreement.{AreLaid, Loaded, Sees}
-use Rattle.norec_world.specs.Memories.{bytes_at, words_at}
-use Rattle.norec_world.specs.Opacity.{Between}
-use Rattle.norec_world.specs.Records.{Opens, Tells}
-use Rattle.norec_world.specs.Rows.{Rows}
-use Rattle.norec_world.specs.Runs.{IsRun}
-use Rattle.norec_world.specs.Sound.{IsDone}
-use Rattle.norec_world.specs.Status.{ending_of}
+use Rattle.norec_world.specs.Attempts.{memory_left}
+use Rattle.norec_world.specs.LogAgreement.{Loaded}
 use Rattle.norec_world.proofs.InTries.{try_asks}
 use Rattle.norec_world.proofs.Laid.{laid_more, laid_on}
 use Rattle.norec_world.proofs.Memories.{bytes_still, found_later, none_next}
@@ -39,7 +15,6 @@ use Rattle.norec_world.proofs.RunBegins.{shut_runs}
 use Rattle.norec_world.proofs.Seen.{HasSeen, memory_at}
 use Rattle.norec_world.proofs.Taken.{HasAnswered, HasTaken, recorded}
 use Rattle.norec_world.proofs.TryEnds.{not_starved, unfreed_to}
-use Rattle.script_vm.specs.Rules.{Obeys, Rules}
 
 both : (n : Bool) → n ≡ true → n ≡ false → ⊥
 both n t f = absurd (cc)

@@ -1,17 +1,8 @@
 -- What an engine has seen of the memories that the commits left, over a step or a call.
 use Rattle.std.proofs.Common.{◌≡◌, inl, inr, ℕ, zero, suc, ◌+◌, ◌/◌, ◌%◌, ◌≤◌, ◌==◌, Bool, true, false, if◌then◌else◌, List, length, length-set, Some, refl, sym, ap, subst, ◌∙◌, arith}
-use Rattle.itm_types.specs.declared.call.Call.{Call}
-use Rattle.itm_types.specs.declared.step.Step.{Step}
-use Rattle.itm_types.specs.declared.step.Step.TheVariants.{Load, Store, Cas}
-use Rattle.itm_types.specs.Memory.{Agrees, IsMemory, bytes_of}
-use Rattle.norec_engine.specs.Core.{Core, came, handed_to, in_transaction, is_inside}
-use Rattle.norec_engine.specs.Proceeds.{IsLawful, Joins, StaysOn, backed}
-use Rattle.norec_engine.proofs.KeptFields.{handed_is}
-use Rattle.norec_world.specs.Cells.{Cells, cells_after, found}
-use Rattle.norec_world.specs.LogAgreement.{AreLaid, Loaded, Sees}
-use Rattle.norec_world.specs.Memories.{bytes_at, words_at}
-use Rattle.norec_world.specs.Rows.{Rows}
-use Rattle.norec_world.specs.Sound.{IsTied}
+use Rattle.norec_world.proofs.Common.{Agrees, AreLaid, Call, Cas, Cells, Core, IsLawful, IsMemory, IsTied, Load, Rows, Sees, Step, Store, bytes_at, bytes_of, came, cells_after, found, handed_is, handed_to, in_transaction, is_inside, words_at}
+use Rattle.norec_engine.specs.Proceeds.{Joins, StaysOn, backed}
+use Rattle.norec_world.specs.LogAgreement.{Loaded}
 use Rattle.norec_world.proofs.ClockHolders.{freed_by, is_free}
 use Rattle.norec_world.proofs.LogAgreement.{less_logged, loaded_handed, log_now, still_logged}
 use Rattle.norec_world.proofs.TiedEngines.{held_even}

@@ -2,38 +2,17 @@
 use Rattle.std.proofs.Common.{◌≡◌, ◌⊎◌, inl, inr, ℕ, zero, suc, ◌/◌, ◌%◌, ◌≤◌, Bool, true, false, nat_le, if◌then◌else◌, List, [], ◌∷◌, ◌++◌, length, map, replicate, Option, None, Some, slice_get, refl, sym, ap, subst, ◌∙◌, arith}
 use Rattle.std.proofs.lemmas.List.{append-nil, map-append}
 use Rattle.std.proofs.lemmas.Bool.{and_from, le-leb}
-use Rattle.std.specs.Option.{option_and_then}
-use Rattle.itm_types.specs.declared.call.Call.{Call}
-use Rattle.itm_types.specs.declared.call.Call.TheVariants.{Commit}
+use Rattle.norec_world.proofs.Common.{Actor, AreOpaque, Attempt, Between, Call, Commit, Done, End, Entry, Finished, GaveUp, HasRow, IsAlone, IsRunOf, IsWorld, MAX_DEPTH, NoMemory, Obeys, Outcome, Rules, State, World, active_of, after, alone, answers, answers_within, begin_code, begin_of, bytes_at, committed_at, current_of, ending_at, ending_of, in_transaction, is_open, of_thread, opened, option_and_then, pair_of, player_then, run_after, state_then}
 use Rattle.itm_types.specs.declared.call.Reply.{Reply}
-use Rattle.itm_types.specs.declared.call.Reply.TheVariants.{Done}
-use Rattle.itm_model.specs.declared.limits.TheConstants.{MAX_DEPTH}
-use Rattle.itm_model.specs.State.{State}
-use Rattle.itm_model.specs.Machine.{opened, is_open, after}
-use Rattle.itm_model.specs.Runs.{answers, answers_within}
-use Rattle.norec_engine.specs.Core.{in_transaction}
-use Rattle.norec_world.specs.declared.attempt.Entry.{Entry}
-use Rattle.norec_world.specs.declared.attempt.Attempt.{Attempt}
-use Rattle.norec_world.specs.declared.attempt.Outcome.{Outcome}
 use Rattle.norec_world.specs.declared.attempt.Outcome.TheVariants as outcomes
-use Rattle.norec_world.specs.declared.attempt.End.{End}
-use Rattle.norec_world.specs.declared.attempt.End.TheVariants.{Finished, GaveUp, NoMemory}
-use Rattle.norec_world.specs.declared.actor.Actor.{Actor}
-use Rattle.norec_world.specs.Alone.{state_then, player_then, IsAlone}
-use Rattle.norec_world.specs.Attempts.{pair_of, alone, of_thread, committed_at}
-use Rattle.norec_world.specs.Invariant.{IsWorld}
-use Rattle.norec_world.specs.Memories.{bytes_at}
-use Rattle.norec_world.specs.Opacity.{Between, EndsAs, begin_code, begin_of, begin_within, IsRunOf}
-use Rattle.norec_world.specs.Opaque.{first_of, AreOpaque}
-use Rattle.norec_world.specs.Rows.{AreOfActors, AreUnfinished, active_of}
-use Rattle.norec_world.specs.Runs.{IsBeforeTry, IsInTry, run_after}
+use Rattle.norec_world.specs.Opacity.{EndsAs, begin_within}
+use Rattle.norec_world.specs.Opaque.{first_of}
+use Rattle.norec_world.specs.Rows.{AreOfActors, AreUnfinished}
+use Rattle.norec_world.specs.Runs.{IsBeforeTry, IsInTry}
 use Rattle.norec_world.specs.Solo.{row_of, with_all, with_first, stopped, solo_within}
 use Rattle.norec_world.specs.SoFar.{IsBegun, IsSoFar, IsAll}
 use Rattle.norec_world.specs.Sole.{IsFirstTry, EndsWith, IsOnWay, StandsSole, IsSole}
-use Rattle.norec_world.specs.Sound.{HasRow}
-use Rattle.norec_world.specs.Status.{ending_of}
-use Rattle.norec_world.specs.Tries.{current_of}
-use Rattle.norec_world.specs.World.{World, DoneBy, ShowsAlone, attempts_of, memory_of, ending_at}
+use Rattle.norec_world.specs.World.{DoneBy, ShowsAlone, attempts_of, memory_of}
 use Rattle.norec_world.proofs.Alones.{begins_alone, state_snoc}
 use Rattle.norec_world.proofs.Memories.{bytes_still}
 use Rattle.norec_world.proofs.RunLists.{run_still}
@@ -42,7 +21,6 @@ use Rattle.norec_world.proofs.SoleEvents.{of_thread_all, even_free, even_shut}
 use Rattle.norec_world.proofs.SoleRuns.{Arrives, IsNext, between, arrives, is_next, same_state, same_answers, same_row, made_alone}
 use Rattle.norec_world.proofs.Solos.{gets_none, full_block, open_block, no_block}
 use Rattle.norec_world.proofs.SoundOthers.{are_open}
-use Rattle.script_vm.specs.Rules.{Obeys, Rules}
 
 -- the list of one
 one_of : {A : Type 0} (xs : List A) → length xs ≡ 1 → (x : A) × (xs ≡ x ∷ [])

@@ -1,33 +1,16 @@
 -- An actor that has its world to itself goes on so over an event.
 use Rattle.std.proofs.Common.{◌≡◌, inl, inr, ℕ, zero, suc, ◌+◌, ◌/◌, ◌%◌, ◌≤◌, Bool, true, false, nat_lt, if◌then◌else◌, List, [], ◌∷◌, ◌++◌, Option, None, Some, slice_get, slice_set, length, length-set, refl, sym, ap, subst, ◌∙◌, arith, eq-eqb}
-use Rattle.itm_model.specs.declared.limits.TheConstants.{MAX_DEPTH}
-use Rattle.norec_world.specs.declared.attempt.Attempt.{Attempt}
-use Rattle.norec_world.specs.declared.attempt.Outcome.{Outcome}
+use Rattle.norec_world.proofs.Common.{Actor, AreActors, Attempt, Beginning, Between, Cells, CommitsInOrder, End, Ended, EndsAt, Finished, GaveUp, HasRow, IsBetween, IsEvent, IsRunOf, IsSound, IsTryAt, IsWorld, MAX_DEPTH, NoMemory, Outcome, Ready, Rows, Rules, Status, StatusIs, Tries, Waits, World, active_of, begin_of, begins, between, bytes_at, current_of, ending_of, is_ready, of_thread, over, prior_of, runs, slice_get-set_same, turned_away}
 use Rattle.norec_world.specs.declared.attempt.Outcome.TheVariants as outcomes
-use Rattle.norec_world.specs.declared.attempt.End.{End}
-use Rattle.norec_world.specs.declared.attempt.End.TheVariants.{Finished, GaveUp, NoMemory}
-use Rattle.norec_world.specs.declared.actor.Actor.{Actor}
-use Rattle.norec_world.specs.declared.actor.Status.{Status}
-use Rattle.norec_world.specs.declared.actor.Status.TheVariants.{Ready, Waits, Ended}
-use Rattle.norec_world.specs.Actors.{AreActors}
-use Rattle.norec_world.specs.Cells.{Cells}
-use Rattle.norec_world.specs.Commits.{CommitsInOrder}
-use Rattle.norec_world.specs.Events.{IsEvent}
-use Rattle.norec_world.specs.Invariant.{AreRunning, IsWorld}
-use Rattle.norec_world.specs.Memories.{bytes_at}
+use Rattle.norec_world.specs.Invariant.{AreRunning}
 use Rattle.norec_world.specs.Opaque.{first_of}
-use Rattle.norec_world.specs.Sound.{HasRow, StatusIs, IsSound}
-use Rattle.norec_world.specs.World.{World}
 use Rattle.norec_world.proofs.SoundOthers.{within_of, there_is}
-use Rattle.itm_types.proofs.Words.{slice_get-set_same}
-use Rattle.norec_world.specs.Attempts.{is_committed, of_thread}
-use Rattle.norec_world.specs.Opacity.{Beginning, Between, after_try, begin_of, IsTryAt, IsRunOf}
-use Rattle.norec_world.specs.Rows.{Rows, active_of, AreOfActors}
+use Rattle.norec_world.specs.Attempts.{is_committed}
+use Rattle.norec_world.specs.Opacity.{after_try}
+use Rattle.norec_world.specs.Rows.{AreOfActors}
 use Rattle.norec_world.specs.Solo.{one_if}
 use Rattle.norec_world.specs.Sole.{IsFirstTry, AreSole, EndsWith, IsOnWay, StandsSole, IsSole}
-use Rattle.norec_world.specs.Status.{ending_of, is_ready}
-use Rattle.norec_world.specs.Tries.{Continues, EndsAt, GoesOnAfter, TriesAgain, IsBetween, EndsIt, Tries, between, begins, runs, over, turned_away, prior_of, current_of, is_done}
-use Rattle.script_vm.specs.Rules.{Rules}
+use Rattle.norec_world.specs.Tries.{Continues, GoesOnAfter, TriesAgain, EndsIt, is_done}
 
 -- ## Lists of attempts
 

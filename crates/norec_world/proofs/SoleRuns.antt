@@ -1,29 +1,19 @@
 -- The run of an actor that has its world to itself is what its player does alone.
 use Rattle.std.proofs.Common.{◌≡◌, ℕ, zero, suc, ◌+◌, ◌<◌, ◌≤◌, ◌==◌, ◌&&◌, Bool, true, false, nat_le, nat_lt, if◌then◌else◌, List, [], ◌∷◌, ◌++◌, length, map, Option, None, Some, refl, sym, ap, subst, ◌∙◌, arith, eqb-true, eq-eqb, lt-ltb}
 use Rattle.std.proofs.lemmas.Bool.{leb-true, or_parts}
+use Rattle.norec_world.proofs.Common.{Attempt, Begin, Beginning, Between, Call, Commit, Entry, IsAlone, IsRunOf, IsTryAt, MAX_DEPTH, Obeys, Outcome, Read, Rules, State, Write, after, alone, answers, answers_within, begin_code, begin_of, bytes_at, committed_at, is_open, opened, pair_of, player_then, reply, run_after, state_then, turn}
 use Rattle.itm_types.specs.declared.call.Refusal.{Refusal}
-use Rattle.itm_types.specs.declared.call.Call.{Call}
-use Rattle.itm_types.specs.declared.call.Call.TheVariants.{Begin, Commit, Read, Write}
 use Rattle.itm_types.specs.declared.call.Reply.{Reply}
-use Rattle.itm_model.specs.declared.limits.TheConstants.{MAX_DEPTH}
-use Rattle.itm_model.specs.State.{State, Block}
-use Rattle.itm_model.specs.Machine.{opened, is_open, refusal, effect, after, after_unless, closed, reply, entered}
-use Rattle.itm_model.specs.Runs.{turn, answers, answers_within}
+use Rattle.itm_model.specs.State.{Block}
+use Rattle.itm_model.specs.Machine.{refusal, effect, after_unless, closed, entered}
 use Rattle.norec_engine.proofs.Machines.{some_bytes}
-use Rattle.norec_world.specs.declared.attempt.Entry.{Entry}
-use Rattle.norec_world.specs.declared.attempt.Attempt.{Attempt}
-use Rattle.norec_world.specs.declared.attempt.Outcome.{Outcome}
 use Rattle.norec_world.specs.declared.attempt.Outcome.TheVariants as outcomes
-use Rattle.norec_world.specs.Attempts.{pair_of, replies_of, alone, is_committed, is_at, committed_at, memory_left}
-use Rattle.norec_world.specs.Alone.{state_then, player_then, IsAlone}
-use Rattle.norec_world.specs.Memories.{bytes_at}
-use Rattle.norec_world.specs.Opacity.{Beginning, Between, EndsAs, answered_all, begin_code, begin_of, follows, after_try, IsOpaque, IsTryAt, IsRunOf}
-use Rattle.norec_world.specs.Runs.{run_after}
+use Rattle.norec_world.specs.Attempts.{replies_of, is_committed, is_at, memory_left}
+use Rattle.norec_world.specs.Opacity.{EndsAs, answered_all, follows, after_try, IsOpaque}
 use Rattle.norec_world.specs.Solo.{Progress, Solo, row_of, with_first, with_all, one_if, ended_as, solo_within}
 use Rattle.norec_world.specs.Sole.{IsFirstTry, AreSole}
 use Rattle.norec_world.specs.Tries.{is_done}
 use Rattle.norec_world.proofs.Solos.{ended_block}
-use Rattle.script_vm.specs.Rules.{Obeys, Rules}
 
 -- ## The calls of an attempt
 

@@ -1,23 +1,14 @@
 -- A player that runs alone, block by block.
 use Rattle.std.proofs.Common.{◌≡◌, ℕ, zero, suc, ◌+◌, ◌<◌, ◌≤◌, Bool, true, false, ◌&&◌, nat_le, is_none, List, [], ◌∷◌, ◌++◌, map, Option, None, Some, refl, sym, ap, subst, ◌∙◌, arith, cond}
-use Rattle.std.proofs.lemmas.Bool.{cond-true, cond-false}
-use Rattle.itm_types.specs.declared.call.Props.{Props}
-use Rattle.itm_types.specs.declared.call.Call.{Call}
-use Rattle.itm_types.specs.declared.call.Call.TheVariants.{Begin, Commit, Read, Write}
+use Rattle.std.proofs.lemmas.Bool.{cond-false}
+use Rattle.norec_world.proofs.Common.{Begin, Beginning, Call, Commit, Entry, Finished, GaveUp, Obeys, Props, Read, Rules, State, Write, after, answers, answers_within, begin_code, begin_of, cond-true, is_begin, is_open, opened, pair_of, player_then, reply, state_then, turn}
 use Rattle.itm_types.specs.declared.call.Reply.{Reply}
-use Rattle.itm_model.specs.State.{State}
-use Rattle.itm_model.specs.Machine.{outside, opened, after, reply, refusal, is_open}
-use Rattle.itm_model.specs.Runs.{turn, answers, answers_within, state_after}
-use Rattle.itm_types.specs.Calls.{is_begin}
-use Rattle.norec_world.specs.declared.attempt.Entry.{Entry}
-use Rattle.norec_world.specs.Attempts.{pair_of}
-use Rattle.norec_world.specs.Opacity.{Beginning, begin_code, begin_within, begin_of}
-use Rattle.norec_world.specs.Alone.{state_then, player_then}
+use Rattle.itm_model.specs.Machine.{outside, refusal}
+use Rattle.itm_model.specs.Runs.{state_after}
+use Rattle.norec_world.specs.Opacity.{begin_within}
 use Rattle.norec_world.specs.declared.attempt.Outcome.TheVariants.{Full, Unfinished}
-use Rattle.norec_world.specs.declared.attempt.End.TheVariants.{GaveUp, Finished}
 use Rattle.norec_world.specs.Solo.{Progress, row_of, Solo, entry_of, one_if, ended_as, stopped, front, with_first, the_attempt, player_after, passed, block_then, begun_then, solo_within}
 use Rattle.norec_world.proofs.Alones.{asked}
-use Rattle.script_vm.specs.Rules.{Obeys, Rules}
 
 pub state_pairs : (deepest : ℕ) (s : State) (xs : List Entry) → state_after deepest s (map (λ (c : Call × Reply). c.0) (map pair_of xs)) ≡ state_then deepest s xs
 state_pairs deepest s [] = refl

@@ -1,19 +1,10 @@
 -- A call of the player went to the engine: what the engine gave may be recorded.
 use Rattle.std.proofs.Common.{◌≡◌, inr, ℕ, ◌+◌, ◌-◌, ◌*◌, ◌<◌, ◌≤◌, None, refl, sym, subst, ◌∙◌, arith}
-use Rattle.itm_types.specs.declared.call.Call.{Call}
-use Rattle.norec_engine.specs.Core.{Core, came, in_transaction}
-use Rattle.norec_engine.specs.declared.answer.Next.{Next}
-use Rattle.norec_world.specs.declared.actor.Actor.{Actor}
-use Rattle.norec_world.specs.declared.actor.Status.{Status}
-use Rattle.norec_world.specs.declared.actor.Status.TheVariants.{Ended, Ready, Waits}
-use Rattle.norec_world.specs.Cells.{Cells}
-use Rattle.norec_world.specs.Records.{Asks, begins_again}
-use Rattle.norec_world.specs.Rows.{Rows}
-use Rattle.norec_world.specs.Sound.{Falls, IsAsked, IsNested, IsNoMore, IsReady, IsSettledBy, IsSound, RestsAs, StatusIs, rank, whole}
-use Rattle.norec_world.specs.Status.{ending_of}
+use Rattle.norec_world.proofs.Common.{Actor, Call, Cells, Core, Ended, IsNested, IsNoMore, IsReady, IsSound, Next, Ready, RestsAs, Rows, Rules, Status, StatusIs, Waits, begins_again, came, ending_of, in_transaction, rank, whole}
+use Rattle.norec_world.specs.Records.{Asks}
+use Rattle.norec_world.specs.Sound.{Falls, IsAsked, IsSettledBy}
 use Rattle.norec_world.proofs.Taken.{HasTaken}
 use Rattle.norec_world.proofs.TiedEngines.{comes, tied}
-use Rattle.script_vm.specs.Rules.{Rules}
 
 -- an actor that was ready had room made for a call, which then went to its engine; nothing is recorded of that
 pub record IsCalling {P : Type 0} (rules : Rules P) (cells : Cells) (r0 r : Rows) (old a : Actor P) (call : Call) (what : Next) : Type 0 where

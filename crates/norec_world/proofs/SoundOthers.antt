@@ -1,23 +1,13 @@
 -- An event of one actor leaves the others sound.
 use Rattle.std.proofs.Common.{◌≡◌, ◌≢◌, ◌⊎◌, inl, inr, ℕ, zero, suc, ◌+◌, ◌%◌, ◌<◌, ◌≤◌, Bool, true, false, List, [], ◌∷◌, ◌++◌, length, length-append, Option, None, Some, slice_get, slice_set, refl, sym, ap, subst, ◌∙◌, arith, eq-eqb, eqb-true, ◌==◌, length-set, if◌then◌else◌}
-use Rattle.itm_types.specs.Memory.{AllFit}
-use Rattle.itm_types.proofs.Words.{slice_get-set_same, slice_get-set_other}
-use Rattle.norec_engine.specs.Core.{in_transaction}
+use Rattle.norec_world.proofs.Common.{Actor, AllFit, AreActors, AreFrom, Attempt, Cells, ClocksOn, Ended, HasRow, IsSound, IsTied, KeepsOthers, Ready, Rows, Rules, Status, StatusIs, Waits, active_of, in_transaction, is_ready, slice_get-set_same}
+use Rattle.itm_types.proofs.Words.{slice_get-set_other}
 use Rattle.itm_types.specs.declared.limits.TheConstants.{MAX_ACTORS}
-use Rattle.norec_world.specs.declared.attempt.Attempt.{Attempt}
-use Rattle.norec_world.specs.declared.actor.Actor.{Actor}
-use Rattle.norec_world.specs.declared.actor.Status.{Status}
-use Rattle.norec_world.specs.declared.actor.Status.TheVariants.{Ready, Waits, Ended}
-use Rattle.norec_world.specs.Cells.{Cells}
 use Rattle.norec_world.specs.declared.attempt.Outcome.TheVariants.{Unfinished}
-use Rattle.norec_world.specs.Rows.{Rows, active_of, AreFrom, AreUnfinished, AreOpen}
-use Rattle.norec_world.specs.Status.{is_ready}
-use Rattle.norec_world.specs.OthersAttempts.{ChangesOwn, KeepsOthers, count_pending, pending_in}
-use Rattle.norec_world.specs.ClockHolder.{ClocksOn}
+use Rattle.norec_world.specs.Rows.{AreUnfinished, AreOpen}
+use Rattle.norec_world.specs.OthersAttempts.{ChangesOwn, count_pending, pending_in}
 use Rattle.norec_world.proofs.TiedEngines.{held_even}
-use Rattle.norec_world.specs.Sound.{IsTied, HasRow, StatusIs, IsSound}
-use Rattle.norec_world.specs.Actors.{IsActor, AreActors}
-use Rattle.script_vm.specs.Rules.{Rules}
+use Rattle.norec_world.specs.Actors.{IsActor}
 
 both : (n : Bool) → n ≡ true → n ≡ false → ⊥
 both n t f = absurd (cc)

@@ -1,28 +1,15 @@
 -- A step was done, and its value came to the engine: what it gave may be recorded.
 use Rattle.std.proofs.Common.{◌≡◌, inl, ℕ, zero, suc, ◌+◌, ◌*◌, ◌/◌, ◌%◌, ◌<◌, ◌≤◌, ◌==◌, Bool, true, false, if◌then◌else◌, Option, None, Some, refl, sym, ap, subst, ◌∙◌, arith, eqb-true}
-use Rattle.itm_types.specs.declared.call.Call.{Call}
-use Rattle.itm_types.specs.declared.step.Step.{Step}
-use Rattle.itm_types.specs.declared.step.Step.TheVariants.{Load, Store, Cas}
-use Rattle.itm_types.specs.Memory.{AllFit}
-use Rattle.norec_engine.specs.Core.{Core, handed_to, in_transaction, is_inside}
+use Rattle.norec_world.proofs.Common.{Actor, AllFit, Answers, Asks, Call, Cas, Cells, ClocksOn, Core, Ended, IsDone, IsLawful, IsSound, IsTied, Load, Next, Proceeds, Ready, RestsAs, Rows, Rules, Status, StatusIs, Step, Store, Waits, cells_after, found, handed_is, handed_to, in_transaction, is_inside, is_ready, is_waiting, rank, whole}
 use Rattle.norec_engine.specs.Keeps.{Keeps}
 use Rattle.norec_engine.specs.Moves.{IsResumed}
-use Rattle.norec_engine.specs.Proceeds.{AsksFor, IsLawful, IsWithin, Proceeds, most}
-use Rattle.norec_engine.specs.declared.answer.Next.{Next}
-use Rattle.norec_engine.specs.declared.answer.Next.TheVariants.{Answer as Answers, Step as Asks}
-use Rattle.norec_engine.proofs.KeptFields.{handed_is, most_same}
-use Rattle.norec_world.specs.Rows.{Rows}
-use Rattle.norec_world.specs.declared.actor.Actor.{Actor}
-use Rattle.norec_world.specs.declared.actor.Status.{Status}
-use Rattle.norec_world.specs.declared.actor.Status.TheVariants.{Ended, Ready, Waits}
-use Rattle.norec_world.specs.Cells.{Cells, found, cells_after}
-use Rattle.norec_world.specs.ClockHolder.{ClocksOn, HoldsOn}
-use Rattle.norec_world.specs.Sound.{GoesOn, IsSound, IsTied, IsWaiting, StatusIs, rank, steps_left, whole, IsDone, RestsAs, Falls}
-use Rattle.norec_world.specs.Status.{is_ready, is_waiting}
+use Rattle.norec_engine.specs.Proceeds.{AsksFor, IsWithin, most}
+use Rattle.norec_engine.proofs.KeptFields.{most_same}
+use Rattle.norec_world.specs.ClockHolder.{HoldsOn}
+use Rattle.norec_world.specs.Sound.{GoesOn, IsWaiting, steps_left, Falls}
 use Rattle.norec_world.proofs.ClockHolders.{clocks_of, clocks_still, clocks_twice, word_freed}
 use Rattle.norec_world.proofs.Taken.{ClockMoves, HasTaken}
 use Rattle.norec_world.proofs.TiedEngines.{IsMid, hands, held_even, holds_handed, holds_same, limit_same, tied}
-use Rattle.script_vm.specs.Rules.{Rules}
 
 both : (n : Bool) → n ≡ true → n ≡ false → ⊥
 both n t f = absurd (cc)

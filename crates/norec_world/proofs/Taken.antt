@@ -1,22 +1,10 @@
 -- The moment that a step and a call of the player share: the engine has taken in a value or a call, and what it gave is recorded next.
 use Rattle.std.proofs.Common.{◌≡◌, ◌⊎◌, ◌+◌, ◌*◌, ◌/◌, Bool, true, false, [], refl, ap, subst, ◌∙◌, sym, length, Some}
-use Rattle.itm_types.specs.declared.call.Call.{Call}
-use Rattle.itm_types.specs.declared.step.Step.{Step}
-use Rattle.norec_engine.specs.Core.{Core, in_transaction}
-use Rattle.norec_engine.specs.Proceeds.{Ends, IsAtOnce, IsWithin, Proceeds}
-use Rattle.norec_engine.specs.declared.answer.Answer.{Answer}
-use Rattle.norec_engine.specs.declared.answer.Next.{Next}
-use Rattle.norec_engine.specs.declared.answer.Next.TheVariants.{Step as Asks, Answer as Answers}
+use Rattle.norec_world.proofs.Common.{Actor, Answer, Answers, Asks, Call, Cells, Core, Ended, Ends, HasRow, IsAtOnce, IsDone, IsNested, IsSound, IsTied, Next, Proceeds, Ready, Records, RestsAs, Rows, Rules, Status, StatusIs, Step, Tells, Waits, in_transaction}
+use Rattle.norec_engine.specs.Proceeds.{IsWithin}
 use Rattle.norec_engine.proofs.AnsweredEngines.{rests}
-use Rattle.norec_world.specs.declared.actor.Actor.{Actor}
-use Rattle.norec_world.specs.declared.actor.Status.{Status}
-use Rattle.norec_world.specs.declared.actor.Status.TheVariants.{Ready, Waits, Ended}
-use Rattle.norec_world.specs.Cells.{Cells}
-use Rattle.norec_world.specs.Records.{Records, Tells}
-use Rattle.norec_world.specs.Rows.{Rows}
-use Rattle.norec_world.specs.Sound.{AnswerFits, HasRow, IsAnswered, IsDone, IsDue, IsInCall, IsKept, IsNested, IsSettledBy, IsSound, IsTied, RestsAs, StatusIs}
+use Rattle.norec_world.specs.Sound.{AnswerFits, IsAnswered, IsDue, IsInCall, IsKept, IsSettledBy}
 use Rattle.norec_world.proofs.TiedEngines.{answer_fits}
-use Rattle.script_vm.specs.Rules.{Rules}
 
 -- what becomes of the clock, by whether the engine freed it
 pub record ClockMoves (cells cells' : Cells) (mid : Core) : Type 0 where

@@ -1,22 +1,13 @@
 -- The engine and the cells, over one event: the engine's data stay as the cells have them.
 use Rattle.std.proofs.Common.{◌≡◌, ℕ, zero, suc, ◌+◌, ◌*◌, ◌/◌, ◌%◌, ◌<◌, ◌≤◌, ◌==◌, Bool, true, false, length, Option, Some, slice_index, refl, sym, ap, subst, ◌∙◌, arith, if◌then◌else◌, eqb-true, length-set}
-use Rattle.itm_types.specs.declared.step.Step.{Step}
-use Rattle.itm_types.specs.declared.step.Step.TheVariants.{Load, Store, Cas}
-use Rattle.itm_types.specs.declared.call.Call.{Call}
-use Rattle.itm_types.specs.declared.call.Call.TheVariants.{Commit}
-use Rattle.itm_types.specs.Memory.{AllFit}
-use Rattle.norec_engine.specs.Core.{Core, came, handed_to, word_loaded, in_transaction}
+use Rattle.norec_world.proofs.Common.{AllFit, Answer, Answers, Asks, Busy, Call, Cas, Cells, Commit, Committed, Conflict, Core, Ends, Full, IsLawful, IsTied, Load, Next, Proceeds, Replies, RepliesTo, Reply, Step, Store, came, cells_after, found, handed_to, in_transaction, word_loaded}
 use Rattle.norec_engine.specs.Core as core
-use Rattle.norec_engine.specs.Proceeds.{IsLawful, IsSettled, Proceeds, StaysOn, AsksFor, Replies, RepliesTo, Ends, FitsStep}
-use Rattle.norec_engine.specs.declared.answer.Next.{Next}
-use Rattle.norec_engine.specs.declared.answer.Next.TheVariants.{Step as Asks, Answer as Answers}
-use Rattle.norec_engine.specs.declared.answer.Answer.{Answer}
-use Rattle.norec_engine.specs.declared.answer.Answer.TheVariants.{Reply, Committed, Conflict, Busy, Full}
-use Rattle.norec_world.specs.Cells.{Cells, IsCell, found, cells_after}
+use Rattle.norec_engine.specs.Proceeds.{IsSettled, StaysOn, AsksFor, FitsStep}
+use Rattle.norec_world.specs.Cells.{IsCell}
 use Rattle.norec_engine.proofs.AnsweredEngines.{rests}
 use Rattle.norec_engine.specs.Undoing.{after_undoing}
 use Rattle.norec_engine.specs.declared.phase.Phase.TheVariants.{Idle}
-use Rattle.norec_world.specs.Sound.{IsTied, AnswerFits}
+use Rattle.norec_world.specs.Sound.{AnswerFits}
 use Rattle.norec_world.specs.ClockHolder.{HoldsOn}
 use Rattle.norec_world.proofs.PlayerDepths.{reply_fits}
 

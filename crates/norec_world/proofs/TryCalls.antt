@@ -1,33 +1,14 @@
 -- What a call of an actor does to its try, up to its first step.
 use Rattle.std.proofs.Common.{◌≡◌, ℕ, ◌/◌, Bool, true, false, [], Option, None, Some, refl, sym, ap, subst, ◌∙◌, arith}
 use Rattle.std.proofs.lemmas.List.{append-nil}
-use Rattle.itm_types.specs.declared.call.Call.{Call}
-use Rattle.itm_types.specs.declared.call.Call.TheVariants.{Begin, Commit, Read, Write}
-use Rattle.itm_types.specs.declared.step.Step.{Step}
-use Rattle.norec_engine.specs.Core.{Core, in_transaction}
-use Rattle.norec_engine.specs.Proceeds.{IsAtOnce}
-use Rattle.norec_engine.specs.declared.answer.Answer.{Answer}
-use Rattle.norec_engine.specs.declared.answer.Answer.TheVariants.{Reply, Committed, Conflict, Busy, Full}
-use Rattle.norec_engine.specs.declared.answer.Next.{Next}
-use Rattle.norec_engine.specs.declared.answer.Next.TheVariants.{Step as Asks, Answer as Answers}
-use Rattle.norec_world.specs.declared.attempt.Attempt.{Attempt}
+use Rattle.norec_world.proofs.Common.{Actor, Answer, Answers, Asks, Attempt, Begin, Busy, Call, Cells, Commit, Committed, Conflict, Core, Ended, Full, HasRow, IsAtOnce, IsBetween, IsDone, IsReady, IsSound, Next, Opens, Prior, Read, Ready, Reply, Rows, Rules, Status, StatusIs, Step, Tells, Tries, Waits, Write, active_of, asked_pending, between, current_of, ending_of, in_transaction, over, prior_of, runs}
 use Rattle.norec_world.specs.declared.attempt.Outcome.TheVariants as outcomes
 use Rattle.norec_world.specs.declared.attempt.End.TheVariants as ends
-use Rattle.norec_world.specs.declared.actor.Actor.{Actor}
-use Rattle.norec_world.specs.declared.actor.Status.{Status}
-use Rattle.norec_world.specs.declared.actor.Status.TheVariants.{Ready, Waits, Ended}
-use Rattle.norec_world.specs.Cells.{Cells}
-use Rattle.norec_world.specs.Rows.{Rows, active_of}
-use Rattle.norec_world.specs.Status.{ending_of}
-use Rattle.norec_world.specs.Records.{Tells, Opens, asked_pending}
-use Rattle.norec_world.specs.Sound.{IsDone, HasRow, IsReady, IsSound, StatusIs}
-use Rattle.norec_world.specs.Tries.{Prior, Tries, IsBetween, between, runs, over, prior_of, current_of}
 use Rattle.norec_world.proofs.TiedEngines.{limit_same, snapshot_still}
 use Rattle.norec_world.specs.LocalWork.{Starves}
 use Rattle.norec_world.proofs.SoundCalls.{IsCalling, call_taken, mid, rests as rests_so}
 use Rattle.norec_world.proofs.Taken.{HasAnswered, HasTaken, recorded}
 use Rattle.norec_world.proofs.TryEnds.{is_between, open_tries}
-use Rattle.script_vm.specs.Rules.{Rules}
 
 module _ {P : Type 0} (rules : Rules P)
     (cells : Cells) (r0 : Rows) (old : Actor P) (sound : IsSound rules cells r0 old) (ready : old.status ≡ Ready) where

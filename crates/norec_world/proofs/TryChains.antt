@@ -1,21 +1,10 @@
 -- Local work after an event, or after other local work: what becomes of the try.
 use Rattle.std.proofs.Common.{◌≡◌, ℕ, ◌+◌, ◌/◌, Bool, true, false, nat_lt, List, [], ◌∷◌, ◌++◌, append_assoc, Option, None, Some, refl, sym, ap, subst, ◌∙◌, arith}
 use Rattle.std.proofs.lemmas.List.{append-nil}
-use Rattle.norec_engine.specs.Core.{in_transaction}
-use Rattle.norec_world.specs.declared.attempt.Attempt.{Attempt}
-use Rattle.norec_world.specs.declared.attempt.Entry.{Entry}
-use Rattle.norec_world.specs.declared.attempt.Outcome.{Outcome}
+use Rattle.norec_world.proofs.Common.{Actor, Attempt, Cells, Ended, EndsAt, Entry, HasRow, IsBetween, IsReady, IsSound, Outcome, Prior, Ready, Rows, Rules, Status, StatusIs, Tries, active_of, begins, between, current_of, ending_of, in_transaction, over, prior_of, runs, turned_away}
 use Rattle.norec_world.specs.declared.attempt.Outcome.TheVariants as outcomes
 use Rattle.norec_world.specs.declared.attempt.End.TheVariants as ends
-use Rattle.norec_world.specs.declared.actor.Actor.{Actor}
-use Rattle.norec_world.specs.declared.actor.Status.{Status}
-use Rattle.norec_world.specs.declared.actor.Status.TheVariants.{Ready, Ended}
-use Rattle.norec_world.specs.Cells.{Cells}
-use Rattle.norec_world.specs.Rows.{Rows, active_of}
-use Rattle.norec_world.specs.Status.{ending_of}
-use Rattle.norec_world.specs.Sound.{HasRow, IsReady, IsSound, StatusIs}
-use Rattle.norec_world.specs.Tries.{Continues, EndsAt, IsBetween, TriesAgain, GoesOnAfter, Prior, Tries, between, begins, runs, over, turned_away, prior_of, current_of}
-use Rattle.script_vm.specs.Rules.{Rules}
+use Rattle.norec_world.specs.Tries.{Continues, TriesAgain, GoesOnAfter}
 
 continues_twice : (a b c : Attempt) → Continues a b → Continues b c → Continues a c
 continues_twice a b c x y = record {

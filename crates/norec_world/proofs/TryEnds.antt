@@ -1,41 +1,20 @@
 -- What an answer does to the try that its call belongs to.
 use Rattle.std.proofs.Common.{inl, inr, ◌≡◌, ℕ, ◌+◌, ◌*◌, ◌/◌, ◌%◌, ◌≤◌, Bool, true, false, nat_lt, if◌then◌else◌, is_some, List, [], ◌∷◌, ◌++◌, Option, None, Some, refl, sym, ap, subst, ◌∙◌, arith}
 use Rattle.std.proofs.lemmas.List.{append-nil}
-use Rattle.itm_types.specs.declared.call.Call.{Call}
-use Rattle.itm_types.specs.declared.call.Call.TheVariants.{Begin}
+use Rattle.norec_world.proofs.Common.{Actor, Agrees, Answer, Attempt, Begin, Busy, Call, Cells, Committed, Conflict, Core, End, Ended, EndsAt, Full, HasRow, IsBetween, IsMemory, IsReady, IsTied, IsTold, MAX_DEPTH, Opens, Outcome, Prior, Props, Ready, Records, Replied, Replies, RepliesTo, Reply, RestsAs, Rows, Rules, State, Status, Tries, active_of, after, begins, between, current_of, ending_of, in_transaction, is_begin, over, prior_of, runs, turned_away}
 use Rattle.itm_types.specs.declared.call.Call.TheVariants as calls
-use Rattle.itm_types.specs.declared.call.Props.{Props}
-use Rattle.itm_types.specs.declared.call.Reply.{Reply as Replied}
 use Rattle.itm_types.specs.declared.call.Reply.TheVariants as replies
-use Rattle.itm_types.specs.Memory.{IsMemory, Agrees}
-use Rattle.itm_types.specs.Calls.{is_begin}
-use Rattle.itm_model.specs.declared.limits.TheConstants.{MAX_DEPTH}
-use Rattle.itm_model.specs.State.{State}
-use Rattle.itm_model.specs.Machine.{after}
 use Rattle.norec_engine.specs.Stands.{state_over, stands_for}
-use Rattle.norec_engine.specs.Core.{Core, in_transaction}
-use Rattle.norec_engine.specs.Proceeds.{Replies, RepliesTo, IsBegin}
-use Rattle.norec_engine.specs.declared.answer.Answer.{Answer}
-use Rattle.norec_engine.specs.declared.answer.Answer.TheVariants.{Reply, Committed, Conflict, Busy, Full}
+use Rattle.norec_engine.specs.Proceeds.{IsBegin}
 use Rattle.norec_engine.proofs.Blocks.{none_inside}
-use Rattle.norec_world.specs.declared.attempt.Attempt.{Attempt}
-use Rattle.norec_world.specs.declared.attempt.Outcome.{Outcome}
 use Rattle.norec_world.specs.declared.attempt.Outcome.TheVariants as outcomes
-use Rattle.norec_world.specs.declared.attempt.End.{End}
 use Rattle.norec_world.specs.declared.attempt.End.TheVariants as ends
-use Rattle.norec_world.specs.declared.actor.Actor.{Actor}
-use Rattle.norec_world.specs.declared.actor.Status.{Status}
-use Rattle.norec_world.specs.declared.actor.Status.TheVariants.{Ready, Ended}
-use Rattle.norec_world.specs.Cells.{Cells}
-use Rattle.norec_world.specs.Rows.{Rows, active_of}
-use Rattle.norec_world.specs.Status.{ending_of}
-use Rattle.norec_world.specs.Records.{Records, Opens, IsTold, CountsTry}
-use Rattle.norec_world.specs.Sound.{IsTied, HasRow, IsSettledBy, RestsAs, IsReady}
-use Rattle.norec_world.specs.Tries.{EndsAt, IsBetween, TriesAgain, GoesOnAfter, Prior, Tries, between, begins, runs, over, turned_away, prior_of, current_of}
+use Rattle.norec_world.specs.Records.{CountsTry}
+use Rattle.norec_world.specs.Sound.{IsSettledBy}
+use Rattle.norec_world.specs.Tries.{TriesAgain, GoesOnAfter}
 use Rattle.norec_world.proofs.Taken.{HasAnswered}
 use Rattle.norec_world.proofs.ActiveRows.{changed_here, opened_here}
 use Rattle.norec_world.proofs.RecordedRows.{was_open}
-use Rattle.script_vm.specs.Rules.{Rules}
 
 -- no row where the engine is outside
 pub no_row : (b : Bool) (r : Rows) (thread : ℕ) → b ≡ false → HasRow b r thread → active_of thread r.active ≡ None

@@ -1,27 +1,11 @@
 -- What a step of an actor does to its try.
 use Rattle.std.proofs.Common.{◌≡◌, ℕ, ◌/◌, Bool, true, false, [], Option, None, Some, refl, sym, ap, subst, ◌∙◌}
 use Rattle.std.proofs.lemmas.List.{append-nil}
-use Rattle.itm_types.specs.declared.call.Call.{Call}
-use Rattle.itm_types.specs.declared.step.Step.{Step}
-use Rattle.norec_engine.specs.Core.{Core, in_transaction}
-use Rattle.norec_engine.specs.declared.answer.Answer.{Answer}
-use Rattle.norec_engine.specs.declared.answer.Next.{Next}
-use Rattle.norec_engine.specs.declared.answer.Next.TheVariants.{Step as Asks}
-use Rattle.norec_world.specs.declared.attempt.Attempt.{Attempt}
+use Rattle.norec_world.proofs.Common.{Actor, Answer, Asks, Attempt, Call, Cells, Core, HasRow, IsDone, IsTold, Next, Ready, Rows, Rules, Status, Step, Tells, Tries, Waits, active_of, begins, between, current_of, ending_of, in_transaction, prior_of, runs}
 use Rattle.norec_world.specs.declared.attempt.End.TheVariants as ends
-use Rattle.norec_world.specs.declared.actor.Actor.{Actor}
-use Rattle.norec_world.specs.declared.actor.Status.{Status}
-use Rattle.norec_world.specs.declared.actor.Status.TheVariants.{Ready, Waits}
-use Rattle.norec_world.specs.Cells.{Cells}
-use Rattle.norec_world.specs.Records.{IsTold, Tells}
-use Rattle.norec_world.specs.Rows.{Rows, active_of}
-use Rattle.norec_world.specs.Sound.{HasRow, IsDone}
-use Rattle.norec_world.specs.Status.{ending_of}
-use Rattle.norec_world.specs.Tries.{Tries, begins, between, current_of, prior_of, runs}
 use Rattle.norec_world.proofs.SoundSteps.{IsStepping, limit_is, mid, step_taken}
 use Rattle.norec_world.proofs.Taken.{HasAnswered, HasTaken, now, recorded}
 use Rattle.norec_world.proofs.TryEnds.{begin_tries, not_finished, open_tries, told_tries}
-use Rattle.script_vm.specs.Rules.{Rules}
 
 module _ {P : Type 0} {rules : Rules P} {cells : Cells} {r : Rows} {old : Actor P} {call : Call} {what : Next} {cells' : Cells} {new : Core} (m : IsStepping rules cells r old call what cells' new) (status : Status) (ready : status ≡ Ready) where
   abbrev on : Status → Actor P

@@ -1,22 +1,8 @@
 -- Local work of an actor, one call of its player after the other: all that it leaves.
 use Rattle.std.proofs.Common.{◌≡◌, ◌+◌, ◌-◌, ◌*◌, ◌≤◌, Bool, true, false, List, ◌++◌, None, Some, refl, sym, ap, subst, ◌∙◌, arith}
-use Rattle.itm_types.specs.declared.call.Call.{Call}
-use Rattle.norec_engine.specs.Core.{Core, in_transaction}
-use Rattle.norec_engine.specs.declared.answer.Next.{Next}
-use Rattle.norec_world.specs.declared.attempt.Attempt.{Attempt}
-use Rattle.norec_world.specs.declared.attempt.End.TheVariants.{Finished}
-use Rattle.norec_world.specs.declared.actor.Actor.{Actor}
-use Rattle.norec_world.specs.declared.actor.Status.{Status}
-use Rattle.norec_world.specs.declared.actor.Status.TheVariants.{Ended, Ready, Waits}
-use Rattle.norec_world.specs.Cells.{Cells}
-use Rattle.norec_world.specs.LocalWork.{Acts, Starves, Works, calls, finishes, starves}
+use Rattle.norec_world.proofs.Common.{Actor, Acts, Attempt, Call, Cells, Core, Ended, Finished, HasRow, IsDone, IsNoMore, IsSound, KeepsOthers, Next, Obeys, Ready, Rows, Rules, Status, Tells, Waits, ending_of, in_transaction, is_ready, prior_of, rank, whole}
+use Rattle.norec_world.specs.LocalWork.{Starves, Works, calls, finishes, starves}
 use Rattle.norec_world.specs.Moments.{HasWorked}
-use Rattle.norec_world.specs.OthersAttempts.{KeepsOthers}
-use Rattle.norec_world.specs.Records.{Tells}
-use Rattle.norec_world.specs.Rows.{Rows}
-use Rattle.norec_world.specs.Sound.{HasRow, IsDone, IsNoMore, IsSound, rank, whole}
-use Rattle.norec_world.specs.Status.{ending_of, is_ready}
-use Rattle.norec_world.specs.Tries.{prior_of}
 use Rattle.norec_world.proofs.CommitCounts.{counted_after}
 use Rattle.norec_world.proofs.LessLeft.{less_less}
 use Rattle.norec_world.proofs.LocalWork.{nothing_ready, works_both}
@@ -28,7 +14,6 @@ use Rattle.norec_world.proofs.TiedEngines.{holds_same, limit_same, snapshot_stil
 use Rattle.norec_world.proofs.TryCalls.{call_tries, finish_tries, starve_tries}
 use Rattle.norec_world.proofs.TryChains.{no_pending, tries_still, tries_then}
 use Rattle.norec_world.proofs.TryEnds.{not_finished}
-use Rattle.script_vm.specs.Rules.{Obeys, Rules}
 
 pub ready_of : (s : Status) → is_ready s ≡ true → s ≡ Ready
 ready_of Ready e = refl

@@ -1,26 +1,14 @@
 -- Events of a world, and what their answers tell.
 use Rattle.std.proofs.Common.{◌≡◌, ℕ, ◌+◌, ◌<◌, Bool, true, false, cond, length, take, get_or, arith, List, [], ◌∷◌, ◌++◌, count_by, IsTrue, Option, None, Some, Result, Ok, Err, IsSome, refl, sym, ap, subst, ◌∙◌, slice_get}
-use Rattle.std.specs.Option.{option_and_then}
 use Rattle.std.proofs.lemmas.List.{take_more}
 use Rattle.std.proofs.lemmas.List.Sums.{sum_by-append}
-use Rattle.norec_world.specs.declared.attempt.End.{End}
-use Rattle.norec_world.specs.declared.attempt.End.TheVariants.{Finished, GaveUp, NoMemory}
+use Rattle.norec_world.proofs.Common.{Actor, AreOpaque, CommitsInOrder, End, Ended, Finished, GaveUp, Goes, IsLawful, NoMemory, Ready, Rules, SameOpening, Status, Step, Waits, World, cells_after, counted, ending_at, ending_of, option_and_then, told, waiting_step, waits_at}
 use Rattle.norec_world.specs.declared.fault.WorldFault.{WorldFault}
 use Rattle.norec_world.specs.declared.fault.WorldFault.TheVariants as faults
 use Rattle.norec_world.specs.declared.schedule.Passes.{Passes}
-use Rattle.norec_world.specs.declared.actor.Actor.{Actor}
-use Rattle.norec_world.specs.declared.actor.Status.{Status}
-use Rattle.norec_world.specs.declared.actor.Status.TheVariants.{Ready, Waits, Ended}
-use Rattle.norec_world.specs.Status.{ending_of, waiting_step}
-use Rattle.norec_world.specs.World.{World, SameOpening, ShowsAlone, ending_at, waits_at, told, is_event, counted}
-use Rattle.norec_engine.specs.Proceeds.{IsLawful}
-use Rattle.itm_types.specs.declared.step.Step.{Step}
-use Rattle.norec_world.specs.Cells.{cells_after}
-use Rattle.norec_world.specs.Commits.{CommitsInOrder}
-use Rattle.norec_world.specs.Opaque.{AreOpaque}
+use Rattle.norec_world.specs.World.{ShowsAlone, is_event}
 use Rattle.norec_world.proofs.Worlds.{within_some}
-use Rattle.norec_world.specs.WorldEvents.{ActorGoes, Goes, Leads, is_taken, is_passed, is_starved, passes_of}
-use Rattle.script_vm.specs.Rules.{Rules}
+use Rattle.norec_world.specs.WorldEvents.{ActorGoes, Leads, is_taken, is_passed, is_starved, passes_of}
 
 -- an event is answered by no fault of the other two
 pub told_event : (e : Option End) → IsTrue (is_event (told e))

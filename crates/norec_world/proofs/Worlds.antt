@@ -1,23 +1,11 @@
 -- The actors of a world, over one event.
 use Rattle.std.proofs.Common.{◌≡◌, ℕ, zero, suc, ◌<◌, ◌≤◌, Bool, true, false, List, [], ◌∷◌, length, Option, None, Some, IsSome, slice_get, refl, sym, ap, subst, ◌∙◌, arith}
 use Rattle.std.specs.List.{slice_index_or}
-use Rattle.std.specs.Option.{option_and_then}
-use Rattle.itm_types.specs.declared.step.Step.{Step}
-use Rattle.norec_world.specs.Rows.{Rows, active_of}
-use Rattle.norec_world.specs.declared.actor.Actor.{Actor}
-use Rattle.norec_world.specs.Cells.{Cells}
-use Rattle.norec_world.specs.declared.actor.Status.{Status}
-use Rattle.norec_world.specs.declared.actor.Status.TheVariants.{Ready, Waits, Ended}
-use Rattle.norec_world.specs.Status.{is_ready, is_waiting, waiting_step, ending_of}
-use Rattle.itm_types.specs.Memory.{AllFit}
 use Rattle.itm_types.specs.declared.limits.TheConstants.{MAX_COMMITS, MAX_RETRIES}
-use Rattle.norec_engine.specs.Core.{Core, opening, in_transaction}
-use Rattle.norec_engine.specs.Proceeds.{IsLawful}
-use Rattle.norec_world.specs.Sound.{IsTied, IsKept, IsNested, StatusIs, IsSound}
-use Rattle.norec_world.specs.World.{World}
-use Rattle.norec_world.specs.Actors.{AreActors}
+use Rattle.norec_engine.specs.Core.{opening}
+use Rattle.norec_world.specs.Sound.{IsKept}
 use Rattle.std.proofs.lemmas.Option.{slice_get-get_or}
-use Rattle.script_vm.specs.Rules.{Rules}
+use Rattle.norec_world.proofs.Common.{Actor, AllFit, AreActors, Cells, Core, Ended, IsLawful, IsNested, IsSound, IsTied, Ready, Rows, Rules, Status, StatusIs, Step, Waits, World, active_of, ending_of, in_transaction, is_ready, is_waiting, option_and_then, waiting_step}
 
 -- the actor at a place
 pub got_at : {A : Type 0} (xs : List A) (i : ℕ) (got : A) → i < length xs → got ≡ slice_index_or xs i got → slice_get xs i ≡ Some got
