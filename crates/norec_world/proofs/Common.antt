@@ -21,7 +21,6 @@ pub use Rattle.norec_engine.specs.declared.answer.Answer.TheVariants.{Busy, Comm
 pub use Rattle.norec_engine.specs.declared.answer.Next.{Next}
 pub use Rattle.norec_engine.specs.declared.answer.Next.TheVariants.{Answer as Answers, Step as Asks}
 pub use Rattle.norec_world.specs.Actors.{AreActors}
-pub use Rattle.norec_world.specs.Alike.{AreAlike, HasAttempt}
 pub use Rattle.norec_world.specs.Alone.{IsAlone, player_then, state_then}
 pub use Rattle.norec_world.specs.Attempts.{alone, committed_at, of_thread, pair_of}
 pub use Rattle.norec_world.specs.Cells.{Cells, cells_after, found, words_of}

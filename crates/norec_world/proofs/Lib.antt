@@ -46,10 +46,3 @@ pub mod OpenedRows
 pub mod Beginnings
 pub mod Events
 pub mod EventWorlds
-pub mod AlikeAnswers
-pub mod HeldAttempts
-pub mod AlikeCalls
-pub mod AlikeWork
-pub mod AlikeWorlds
-pub mod AlikeSchedules
-pub mod AlikeStarts

@@ -28,6 +28,3 @@ pub mod Opaque
 pub mod Moments
 pub mod Invariant
 pub mod Views
-pub mod Alike
-pub mod SameWorlds
-pub mod ScheduleDecides

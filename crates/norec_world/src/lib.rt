@@ -4,7 +4,6 @@
 mod actor;
 mod attempt;
 mod fault;
-mod laws;
 mod lists;
 mod memory;
 mod recorded;
@@ -18,7 +17,6 @@ mod world;
 
 pub use attempt::{Attempt, End, Entry, Outcome};
 pub use fault::WorldFault;
-pub use laws::{decided, isolation};
 pub use lists::{Bytes, Calls};
 pub use schedule::Passes;
 pub use setup::Setup;

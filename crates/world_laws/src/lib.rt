@@ -5,7 +5,7 @@ ghost use Rattle.itm_model.specs.declared.limits.TheConstants.{MAX_DEPTH};
 ghost use Rattle.norec_world.specs.declared.attempt.Attempt.{Attempt};
 ghost use Rattle.norec_world.specs.Attempts.{pairs_of};
 ghost use Rattle.norec_world.specs.Opacity.{IsBeginningOf, IsOpaque};
-ghost use Rattle.norec_world.specs.ScheduleDecides.{BeginningDecides, EventDecides, EntriesDecide, RunDecides, SameShows, ScheduleDecides};
+ghost use Rattle.world_laws.specs.ScheduleDecides.{BeginningDecides, EventDecides, EntriesDecide, RunDecides, SameShows, ScheduleDecides};
 
 use script_vm::Player;
 

@@ -1,7 +1,12 @@
 -- Within a transaction the actor has an open attempt, over a step and over a call.
 use Rattle.std.proofs.Common.{◌≡◌, ℕ, ◌+◌, ◌/◌, nat_lt, ◌==◌, ◌&&◌, ◌*◌, ◌⊎◌, nat_le, if◌then◌else◌, Bool, true, false, List, [], ◌∷◌, Option, None, Some, inl, inr, refl, sym, ap, subst, ◌∙◌, eq-eqb}
 use Rattle.std.proofs.lemmas.Bool.{cases_Bool}
-use Rattle.norec_world.proofs.Common.{Actor, Answer, Answers, Attempt, Busy, Call, Cells, Committed, Conflict, Core, Ended, Ends, Full, GaveUp, HasAttempt, IsTold, Next, Opens, Proceeds, Ready, Records, Reply, Rows, Rules, Step, Tells, Waits, active_of, asked_pending, begins_again, came, found, handed_is, handed_to, in_transaction, is_inside, with_changed}
+use Rattle.norec_world.proofs.Common.{Answer, Answers, Busy, Call, Cells, Committed, Conflict, Core, Ends, Full, IsTold, Next, Opens, Proceeds, Records, Reply, Rows, Rules, Step, Tells, active_of, asked_pending, begins_again, came, found, handed_is, handed_to, in_transaction, is_inside, with_changed}
+use Rattle.norec_world.specs.declared.actor.Actor.{Actor}
+use Rattle.norec_world.specs.declared.actor.Status.TheVariants.{Ended, Ready, Waits}
+use Rattle.norec_world.specs.declared.attempt.Attempt.{Attempt}
+use Rattle.norec_world.specs.declared.attempt.End.TheVariants.{GaveUp}
+use Rattle.world_laws.specs.Alike.{HasAttempt}
 use Rattle.itm_types.specs.declared.call.Call.TheVariants as calls
 use Rattle.itm_types.specs.Access.{size_of}
 use Rattle.norec_engine.specs.Core.{handed}
@@ -13,7 +18,7 @@ use Rattle.norec_world.specs.Rows.{with_one}
 use Rattle.norec_world.specs.Records.{CountsTry}
 use Rattle.norec_world.specs.LocalWork.{TakesIn, Calls}
 use Rattle.norec_world.proofs.ActiveRows.{changed_here}
-use Rattle.norec_world.proofs.AlikeAnswers.{Closes}
+use Rattle.world_laws.proofs.AlikeAnswers.{Closes}
 
 both : (n : Bool) → n ≡ true → n ≡ false → ⊥
 both n t f = absurd (cc)

@@ -1,6 +1,9 @@
 -- Two actors that are alike are alike after a step, and after a call of their players.
 use Rattle.std.proofs.Common.{◌≡◌, ℕ, ◌/◌, Bool, true, false, [], Some, refl, sym, ap, subst, ◌∙◌}
-use Rattle.norec_world.proofs.Common.{Actor, Answer, Answers, AreAlike, Busy, Call, Cells, Committed, Conflict, Core, Full, HasAttempt, IsAtOnce, Next, Proceeds, Ready, Reply, Rows, Rules, Step, Tells, Waits, asked_pending, begins_again, came, ending_of, found, in_transaction}
+use Rattle.norec_world.proofs.Common.{Answer, Answers, Busy, Call, Cells, Committed, Conflict, Core, Full, IsAtOnce, Next, Proceeds, Reply, Rows, Rules, Step, Tells, asked_pending, begins_again, came, ending_of, found, in_transaction}
+use Rattle.norec_world.specs.declared.actor.Actor.{Actor}
+use Rattle.norec_world.specs.declared.actor.Status.TheVariants.{Ready, Waits}
+use Rattle.world_laws.specs.Alike.{AreAlike, HasAttempt}
 use Rattle.itm_types.specs.declared.call.Call.TheVariants as requests
 use Rattle.norec_engine.specs.Core.{handed}
 use Rattle.norec_engine.specs.Stands.{SeesOne}
@@ -9,9 +12,9 @@ use Rattle.norec_engine.specs.declared.answer.Next.TheVariants.{Step as Steps}
 use Rattle.norec_engine.proofs.OneOutcome.{called_once, resumed_once, sees_still}
 use Rattle.norec_world.specs.declared.attempt.Outcome.TheVariants as outcomes
 use Rattle.norec_world.specs.LocalWork.{TakesIn, Calls}
-use Rattle.norec_world.specs.Alike.{SameRows, SameParts}
-use Rattle.norec_world.proofs.AlikeAnswers.{told_same, told_alike, Counts, IsGroundedNext}
-use Rattle.norec_world.proofs.HeldAttempts.{handed_open, ends_inside, roomed, opens_none}
+use Rattle.world_laws.specs.Alike.{SameRows, SameParts}
+use Rattle.world_laws.proofs.AlikeAnswers.{told_same, told_alike, Counts, IsGroundedNext}
+use Rattle.world_laws.proofs.HeldAttempts.{handed_open, ends_inside, roomed, opens_none}
 
 -- ## A step
 

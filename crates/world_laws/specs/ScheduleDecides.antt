@@ -5,7 +5,7 @@ use Rattle.norec_world.specs.declared.fault.WorldFault.{WorldFault}
 use Rattle.norec_world.specs.declared.fault.WorldFault.TheVariants.{NoMemory}
 use Rattle.norec_world.specs.World.{World, SameOpening, ending_at}
 use Rattle.norec_world.specs.WorldEvents.{Goes, Leads, Takes, passes_of}
-use Rattle.norec_world.specs.SameWorlds.{SameWorld, ShowSame}
+use Rattle.world_laws.specs.SameWorlds.{SameWorld, ShowSame}
 use Rattle.norec_world.specs.Starts.{IsNew}
 use Rattle.script_vm.specs.Rules.{Rules}
 

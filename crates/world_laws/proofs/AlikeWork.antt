@@ -1,13 +1,18 @@
 -- Two actors that are alike are alike after their local work, and after an event, as long as no memory is refused.
 use Rattle.std.proofs.Common.{◌≡◌, ℕ, zero, suc, ◌<◌, true, false, None, Some, inl, inr, sym, ap, subst, ◌∙◌, arith}
 use Rattle.std.proofs.lemmas.Bool.{cases_lt}
-use Rattle.norec_world.proofs.Common.{Actor, Acts, AreAlike, Attempt, Cells, Ended, Finished, HasAttempt, IsEvent, NoMemory, Ready, Rows, Rules, active_of, ending_of, in_transaction, is_ready}
+use Rattle.norec_world.proofs.Common.{Acts, Cells, IsEvent, Rows, Rules, active_of, ending_of, in_transaction, is_ready}
+use Rattle.norec_world.specs.declared.actor.Actor.{Actor}
+use Rattle.norec_world.specs.declared.actor.Status.TheVariants.{Ended, Ready}
+use Rattle.norec_world.specs.declared.attempt.Attempt.{Attempt}
+use Rattle.norec_world.specs.declared.attempt.End.TheVariants.{Finished, NoMemory}
+use Rattle.world_laws.specs.Alike.{AreAlike, HasAttempt}
 use Rattle.norec_engine.specs.Stands.{SeesOne}
 use Rattle.norec_world.specs.LocalWork.{Finishes, calls, finishes, starves, ActsOn, Works}
-use Rattle.norec_world.specs.Alike.{SameRows}
-use Rattle.norec_world.proofs.AlikeAnswers.{rows_same}
-use Rattle.norec_world.proofs.HeldAttempts.{step_held, call_held}
-use Rattle.norec_world.proofs.AlikeCalls.{step_alike, call_alike, sees_now}
+use Rattle.world_laws.specs.Alike.{SameRows}
+use Rattle.world_laws.proofs.AlikeAnswers.{rows_same}
+use Rattle.world_laws.proofs.HeldAttempts.{step_held, call_held}
+use Rattle.world_laws.proofs.AlikeCalls.{step_alike, call_alike, sees_now}
 
 -- no memory was refused to it
 abbrev pub IsFed : {P : Type 0} → Actor P → Type 0

@@ -2,14 +2,16 @@
 use Rattle.std.proofs.Common.{◌≡◌, ℕ, zero, suc, ◌+◌, ◌<◌, cond, IsTrue, List, [], ◌∷◌, ◌++◌, count_by, Option, None, Some, Result, Err, IsSome, inl, inr, refl, sym, ap, subst, ◌∙◌, arith}
 use Rattle.std.proofs.lemmas.Bool.{cases_lt}
 use Rattle.std.proofs.lemmas.List.Sums.{sum_by-append}
-use Rattle.norec_world.proofs.Common.{Cells, End, Finished, GaveUp, Goes, NoMemory, Rules, World, bytes_of, ending_at, told, waits_at}
+use Rattle.norec_world.proofs.Common.{Cells, Goes, Rules, World, bytes_of, ending_at, told, waits_at}
+use Rattle.norec_world.specs.declared.attempt.End.{End}
+use Rattle.norec_world.specs.declared.attempt.End.TheVariants.{Finished, GaveUp, NoMemory}
 use Rattle.norec_world.specs.declared.fault.WorldFault.{WorldFault}
 use Rattle.norec_world.specs.declared.fault.WorldFault.TheVariants as faults
 use Rattle.norec_world.specs.World.{is_event}
 use Rattle.norec_world.specs.WorldEvents.{Leads, Takes, is_starved}
-use Rattle.norec_world.specs.SameWorlds.{SameWorld, ShowSame}
+use Rattle.world_laws.specs.SameWorlds.{SameWorld, ShowSame}
 use Rattle.norec_world.proofs.WorldEvents.{waits_not_ended}
-use Rattle.norec_world.proofs.AlikeWorlds.{waits_same, ending_same, goes_alike}
+use Rattle.world_laws.proofs.AlikeWorlds.{waits_same, ending_same, goes_alike}
 
 pub shows_same : {P : Type 0} (v w : World P) → SameWorld v w → ShowSame v w
 shows_same v w s = record {

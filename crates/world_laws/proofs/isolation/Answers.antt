@@ -2,7 +2,7 @@ use Rattle.std.proofs.Common.{◌≡◌, ◌⊎◌, inl, inr, List, [], ◌∷�
 use Rattle.itm_model.specs.declared.limits.TheConstants.{MAX_DEPTH}
 use Rattle.itm_model.specs.Runs.{answers}
 use Rattle.norec_world.specs.Opacity.{IsBeginningOf}
-use Rattle.norec_world.proofs.laws.isolation.Goals as goal
+use Rattle.world_laws.proofs.isolation.Goals as goal
 
 -- of two beginnings of one list the one is a beginning of the other
 beginnings : {A : Type 0} (xs ys all : List A) → IsBeginningOf xs all → IsBeginningOf ys all → IsBeginningOf xs ys ⊎ IsBeginningOf ys xs

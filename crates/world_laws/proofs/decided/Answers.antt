@@ -1,7 +1,7 @@
-use Rattle.norec_world.proofs.AlikeStarts.{new_same}
-use Rattle.norec_world.proofs.AlikeWorlds.{goes_alike}
-use Rattle.norec_world.proofs.AlikeSchedules.{shows_same, leads_alike, ends_alike}
-use Rattle.norec_world.proofs.laws.decided.Goals as goal
+use Rattle.world_laws.proofs.AlikeStarts.{new_same}
+use Rattle.world_laws.proofs.AlikeWorlds.{goes_alike}
+use Rattle.world_laws.proofs.AlikeSchedules.{shows_same, leads_alike, ends_alike}
+use Rattle.world_laws.proofs.decided.Goals as goal
 
 pub returns : goal.returns
 returns g c = record {

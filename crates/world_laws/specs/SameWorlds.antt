@@ -2,7 +2,7 @@
 use Rattle.std.specs.Prelude.{◌≡◌, ℕ, length, Some, slice_get}
 use Rattle.norec_world.specs.declared.actor.Actor.{Actor}
 use Rattle.norec_world.specs.World.{World, SameOpening, attempts_of, memory_of, ending_at}
-use Rattle.norec_world.specs.Alike.{SameRows, AreAlike, HasAttempt}
+use Rattle.world_laws.specs.Alike.{SameRows, AreAlike, HasAttempt}
 
 module _ {P : Type 0} where
   -- all that a world shows

@@ -17,7 +17,7 @@ use Rattle.norec_world.specs.declared.actor.Status.TheVariants.{Ready, Ended}
 use Rattle.norec_world.specs.Rows.{Rows, active_of, changed, without, with_one, is_of, with_changed, with_opened, with_ended}
 use Rattle.norec_world.specs.Status.{ending_of}
 use Rattle.norec_world.specs.Records.{Records, Tells, EndsBy, StopsAt, IsTold, Opens, CountsTry, again_after}
-use Rattle.norec_world.specs.Alike.{SameRows, AreAlike}
+use Rattle.world_laws.specs.Alike.{SameRows, AreAlike}
 use Rattle.script_vm.specs.Rules.{Rules}
 
 -- ## Rows

@@ -1,14 +1,17 @@
 -- Of two worlds that are the same, one event of the same actor makes two that are the same.
 use Rattle.std.proofs.Common.{◌≡◌, ◌⊎◌, ℕ, ◌/◌, Bool, true, false, IsTrue, List, Option, None, Some, Result, Ok, Err, IsSome, slice_get, slice_set, inl, inr, refl, sym, ap, subst, ◌∙◌, arith}
-use Rattle.norec_world.proofs.Common.{Actor, AreAlike, Cells, Goes, HasAttempt, HasRead, IsEvent, Rows, Rules, SameOpening, Status, Step, World, active_of, cells_after, counted, ending_at, ending_of, option_and_then, slice_get-set_same, told, waiting_step, waits_at, words_at}
+use Rattle.norec_world.proofs.Common.{Cells, Goes, HasRead, IsEvent, Rows, Rules, SameOpening, Step, World, active_of, cells_after, counted, ending_at, ending_of, option_and_then, slice_get-set_same, told, waiting_step, waits_at, words_at}
+use Rattle.norec_world.specs.declared.actor.Actor.{Actor}
+use Rattle.norec_world.specs.declared.actor.Status.{Status}
+use Rattle.world_laws.specs.Alike.{AreAlike, HasAttempt}
 use Rattle.norec_engine.specs.Stands.{SeesOne}
 use Rattle.norec_world.specs.declared.fault.WorldFault.{WorldFault}
 use Rattle.norec_world.specs.declared.fault.WorldFault.TheVariants as faults
 use Rattle.norec_world.specs.World.{is_event}
-use Rattle.norec_world.specs.SameWorlds.{SameWorld}
+use Rattle.world_laws.specs.SameWorlds.{SameWorld}
 use Rattle.norec_world.proofs.SoundOthers.{set_place, there_is, within_of}
 use Rattle.norec_world.proofs.Worlds.{within_some}
-use Rattle.norec_world.proofs.AlikeWork.{IsFed, GoAlike, event_alike}
+use Rattle.world_laws.proofs.AlikeWork.{IsFed, GoAlike, event_alike}
 
 is_none : {A : Type 0} (xs : List A) (i : ℕ) → (slice_get xs i ≡ None) ⊎ ((x : A) × (slice_get xs i ≡ Some x))
 is_none {A} xs i = of_got (slice_get xs i) refl

@@ -1,13 +1,16 @@
 -- Two worlds of equal beginning, before their first event, are the same.
 use Rattle.std.proofs.Common.{◌≡◌, ℕ, zero, suc, ◌/◌, Bool, true, false, List, [], ◌∷◌, ◌++◌, length, replicate, Some, slice_get, refl, sym, ap, subst, ◌∙◌, arith}
-use Rattle.norec_world.proofs.Common.{Actor, Acts, Answer, Answers, AreAlike, Attempt, Busy, Committed, Conflict, Core, Ends, Full, HasAttempt, IsAtOnce, Next, Opens, Proceeds, Records, Reply, Rows, Rules, SameOpening, Tells, World, begins_again, came, ending_of, in_transaction, option_and_then, words_of}
+use Rattle.norec_world.proofs.Common.{Acts, Answer, Answers, Busy, Committed, Conflict, Core, Ends, Full, IsAtOnce, Next, Opens, Proceeds, Records, Reply, Rows, Rules, SameOpening, Tells, World, begins_again, came, ending_of, in_transaction, option_and_then, words_of}
+use Rattle.norec_world.specs.declared.actor.Actor.{Actor}
+use Rattle.norec_world.specs.declared.attempt.Attempt.{Attempt}
+use Rattle.world_laws.specs.Alike.{AreAlike, HasAttempt}
 use Rattle.norec_engine.specs.Core.{opening}
 use Rattle.norec_engine.specs.declared.answer.Next.TheVariants.{Step as Steps}
 use Rattle.norec_world.specs.LocalWork.{Calls, calls, finishes, starves, ActsOn}
 use Rattle.norec_world.specs.Starts.{HasStarted, IsNew}
-use Rattle.norec_world.specs.Alike.{SameRows}
-use Rattle.norec_world.specs.SameWorlds.{SameWorld}
-use Rattle.norec_world.proofs.AlikeWork.{IsFed, GoAlike, ready_fed, work_alike}
+use Rattle.world_laws.specs.Alike.{SameRows}
+use Rattle.world_laws.specs.SameWorlds.{SameWorld}
+use Rattle.world_laws.proofs.AlikeWork.{IsFed, GoAlike, ready_fed, work_alike}
 use Rattle.norec_world.proofs.SoundOthers.{there_is, within_of}
 
 -- ## Outside a transaction local work leaves the rows

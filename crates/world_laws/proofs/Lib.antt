@@ -1,0 +1,7 @@
+pub mod AlikeAnswers
+pub mod HeldAttempts
+pub mod AlikeCalls
+pub mod AlikeWork
+pub mod AlikeWorlds
+pub mod AlikeSchedules
+pub mod AlikeStarts
