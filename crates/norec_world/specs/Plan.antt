@@ -15,32 +15,24 @@ abbrev pub offered : Option ℕ → Option Call → Option Call
 offered begun None = None
 offered None (Some call) = Some call
 offered (Some start) (Some (Begin props room)) = None
-offered (Some start) (Some Commit) = Some Commit
-offered (Some start) (Some (Read hint width at)) = Some (Read hint width at)
-offered (Some start) (Some (Write hint at value)) = Some (Write hint at value)
+offered (Some start) (Some call) = Some call
 
 abbrev pub next_call : Plan → Option Call
 next_call p = offered p.begun (slice_get p.calls p.at)
 
 -- after an accepted begin
 abbrev pub entered : Option ℕ → ℕ → Reply → Option ℕ
-entered begun at Done = begun
-entered begun at (Bytes value) = begun
 entered begun at (Code n) = Some at
-entered begun at (Refused refusal) = begun
+entered begun at _ = begun
 
 abbrev pub left_by : Option ℕ → Reply → Option ℕ
 left_by begun Done = None
-left_by begun (Bytes value) = begun
-left_by begun (Code n) = begun
-left_by begun (Refused refusal) = begun
+left_by begun _ = begun
 
 abbrev pub begun_after : Option ℕ → ℕ → Option Call → Reply → Option ℕ
-begun_after begun at None reply = begun
 begun_after begun at (Some (Begin props room)) reply = entered begun at reply
 begun_after begun at (Some Commit) reply = left_by begun reply
-begun_after begun at (Some (Read hint width place)) reply = begun
-begun_after begun at (Some (Write hint place value)) reply = begun
+begun_after begun at _ reply = begun
 
 abbrev pub answered : Plan → Reply → Plan
 answered p reply = record { calls = p.calls; at = min (p.at + 1) (length p.calls); begun = begun_after p.begun p.at (next_call p) reply }

@@ -15,37 +15,26 @@ offers None None c e = absurd (cc)
 offers (Some s) None c e = absurd (cc)
 offers None (Some call) c e = e
 offers (Some s) (Some (Begin props room)) c e = absurd (cc)
-offers (Some s) (Some Commit) c e = e
-offers (Some s) (Some (Read hint width at)) c e = e
-offers (Some s) (Some (Write hint at value)) c e = e
+offers (Some s) (Some call) c e = e
 
 -- and is no begin within a block
 no_begin : (s : ℕ) (o : Option Call) (props : _) (room : ℕ) → offered (Some s) o ≡ Some (Begin props room) → ⊥
 no_begin s None props room e = absurd (cc)
 no_begin s (Some (Begin props' room')) props room e = absurd (cc)
-no_begin s (Some Commit) props room e = absurd (cc)
-no_begin s (Some (Read hint width at)) props room e = absurd (cc)
-no_begin s (Some (Write hint at value)) props room e = absurd (cc)
+no_begin s (Some call) props room e = absurd (cc)
 
 nearer : (p : Plan) (c : Call) (r : Reply) → next_call p ≡ Some c → calls_left (answered p r) < calls_left p
 nearer p c r e = let l : p.at < length p.calls = slice_get_within p.calls p.at c (offers p.begun (slice_get p.calls p.at) c e) in omega arith
 
 depth_of : (b : Option ℕ) (at : ℕ) (c : Call) (r : Reply) → ((s : ℕ) → b ≡ Some s → (props : _) (room : ℕ) → c ≡ Begin props room → ⊥) → depth_in (begun_after b at (Some c) r) ≡ depth_after (depth_in b) c r
-depth_of None at (Begin props room) Done h = refl
-depth_of None at (Begin props room) (Bytes v) h = refl
 depth_of None at (Begin props room) (Code n) h = refl
-depth_of None at (Begin props room) (Refused w) h = refl
+depth_of None at (Begin props room) r h = refl
 depth_of (Some s) at (Begin props room) r h = absurd (h s refl props room refl)
 depth_of None at Commit Done h = refl
-depth_of None at Commit (Bytes v) h = refl
-depth_of None at Commit (Code n) h = refl
-depth_of None at Commit (Refused w) h = refl
+depth_of None at Commit r h = refl
 depth_of (Some s) at Commit Done h = refl
-depth_of (Some s) at Commit (Bytes v) h = refl
-depth_of (Some s) at Commit (Code n) h = refl
-depth_of (Some s) at Commit (Refused w) h = refl
-depth_of b at (Read hint width place) r h = refl
-depth_of b at (Write hint place value) r h = refl
+depth_of (Some s) at Commit r h = refl
+depth_of b at call r h = refl
 
 apart : (p : Plan) (c : Call) → next_call p ≡ Some c → (s : ℕ) → p.begun ≡ Some s → (props : _) (room : ℕ) → c ≡ Begin props room → ⊥
 apart p c e s b props room is =
@@ -57,23 +46,15 @@ nests p c r e = ap (λ (o : Option Call). depth_in (begun_after p.begun p.at o r
 goes_back : (calls : List Call) (at at' : ℕ) (b : Option ℕ) (c : Call) (r : Reply) → ((s : ℕ) → b ≡ Some s → (props : _) (room : ℕ) → c ≡ Begin props room → ⊥) → 0 < depth_after (depth_in b) c r
     → restarted_at (record { calls = calls; at = at'; begun = begun_after b at (Some c) r }) (begun_after b at (Some c) r)
     ≡ (if opens (depth_in b) c r then record { calls = calls; at = at; begun = b } else restarted_at (record { calls = calls; at = at; begun = b }) b)
-goes_back calls at at' None (Begin props room) Done h l = absurd (omega arith)
-goes_back calls at at' None (Begin props room) (Bytes v) h l = absurd (omega arith)
 goes_back calls at at' None (Begin props room) (Code n) h l = refl
-goes_back calls at at' None (Begin props room) (Refused w) h l = absurd (omega arith)
-goes_back calls at at' (Some s) (Begin props room) r h l = absurd (h s refl props room refl)
+goes_back calls at at' None (Begin props room) r h l = absurd (omega arith)
 goes_back calls at at' None Commit Done h l = absurd (omega arith)
-goes_back calls at at' None Commit (Bytes v) h l = absurd (omega arith)
-goes_back calls at at' None Commit (Code n) h l = absurd (omega arith)
-goes_back calls at at' None Commit (Refused w) h l = absurd (omega arith)
+goes_back calls at at' None Commit r h l = absurd (omega arith)
+goes_back calls at at' None call r h l = absurd (omega arith)
+goes_back calls at at' (Some s) (Begin props room) r h l = absurd (h s refl props room refl)
 goes_back calls at at' (Some s) Commit Done h l = absurd (omega arith)
-goes_back calls at at' (Some s) Commit (Bytes v) h l = refl
-goes_back calls at at' (Some s) Commit (Code n) h l = refl
-goes_back calls at at' (Some s) Commit (Refused w) h l = refl
-goes_back calls at at' None (Read hint width place) r h l = absurd (omega arith)
-goes_back calls at at' (Some s) (Read hint width place) r h l = refl
-goes_back calls at at' None (Write hint place value) r h l = absurd (omega arith)
-goes_back calls at at' (Some s) (Write hint place value) r h l = refl
+goes_back calls at at' (Some s) Commit r h l = refl
+goes_back calls at at' (Some s) call r h l = refl
 
 restarts : (p : Plan) (c : Call) (r : Reply) → next_call p ≡ Some c → 0 < depth_after (depth p) c r → restarted (answered p r) ≡ (if opens (depth p) c r then p else restarted p)
 restarts p c r e l =

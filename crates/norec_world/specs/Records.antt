@@ -90,17 +90,13 @@ asked_pending false clock a (Begin props room) = Some (record {
   calls = [];
   outcome = outcomes.Unfinished;
 })
-asked_pending false clock a Commit = a.pending
-asked_pending false clock a (Read hint width at) = a.pending
-asked_pending false clock a (Write hint at value) = a.pending
+asked_pending false clock a _ = a.pending
 
 -- whether the call begins a block that was begun before
 abbrev pub begins_again : Bool → Bool → Call → Bool
 begins_again true again call = false
 begins_again false again (Begin props room) = again
-begins_again false again Commit = false
-begins_again false again (Read hint width at) = false
-begins_again false again (Write hint at value) = false
+begins_again false again _ = false
 
 -- the call went to the engine, and nothing is recorded yet
 pub record Asks {P : Type 0} (clock : ℕ) (r r' : Rows) (old new : Actor P) (call : Call) (what : Next) : Type 0 where

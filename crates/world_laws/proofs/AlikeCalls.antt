@@ -78,9 +78,7 @@ pending_same false clock a b (requests.Begin props room) thread p = λ i. Some (
   calls = [];
   outcome = outcomes.Unfinished;
 })
-pending_same false clock a b requests.Commit thread p = p.pending
-pending_same false clock a b (requests.Read hint width at) thread p = p.pending
-pending_same false clock a b (requests.Write hint at value) thread p = p.pending
+pending_same false clock a b call thread p = p.pending
 
 -- no try comes to nothing at once
 counts_none : (answer : Answer) → IsAtOnce (Answers answer) → Counts answer → ⊥

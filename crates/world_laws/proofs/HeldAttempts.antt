@@ -169,9 +169,7 @@ module _ {P : Type 0} (rules : Rules P) (clock : ℕ) (r r' : Rows) (a a' : Acto
   opening_of : (o : Bool) (call : Call) → o ≡ false → IsBegin (Some call) → (row : Attempt) × (asked_pending o clock a call ≡ Some row) × (row.thread ≡ a.thread)
   opening_of true call e is = absurd (cc)
   opening_of false (calls.Begin props room) e is = (_, refl, refl)
-  opening_of false calls.Commit e is = absurd is
-  opening_of false (calls.Read hint width at) e is = absurd is
-  opening_of false (calls.Write hint at value) e is = absurd is
+  opening_of false call e is = absurd is
 
   waits_begin : (row : Attempt) × (asked_pending (in_transaction a.engine) clock a f.call ≡ Some row) × (row.thread ≡ a.thread) → a'.pending ≡ f.asked.pending → (row : Attempt) × (a'.pending ≡ Some row) × (row.thread ≡ a'.thread)
   waits_begin k same = (k.0, same ∙ (f.asks.pending ∙ k.1), k.2 ∙ sym f.same.thread)
