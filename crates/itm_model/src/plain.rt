@@ -187,7 +187,8 @@ impl Plain {
     /// A block opens. An outermost one has written nothing yet.
     fn enter(&mut self, alloc: Global, props: Props) -> Result<(), AllocError>
         ensures inner { IsTrue (is_open self.old) → OnOk result (self.new ≡ entered self.old props) }
-        ensures outermost { self.old.blocks ≡ [] → OnOk result (self.new ≡ opened self.old.memory self.old.arena props) }
+        ensures outermost { self.old.blocks ≡ []
+            → OnOk result (self.new ≡ opened self.old.memory self.old.arena props) }
         ensures err { OnErr result (self.new ≡ self.old) }
     {
         let wrote = self.wrote && !self.blocks.is_empty();

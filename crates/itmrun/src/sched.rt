@@ -24,7 +24,8 @@ use std::io::{Read, Write};
 
 /// Writes the history of a world; answers whether that failed.
 fn write_world<W: Write>(writer: &mut W, world: &World<Script>) -> bool
-    ensures text { Grows false (W.contents writer.old) result (W.contents writer.new) (history_text (history_of world.now)) }
+    ensures text { Grows false (W.contents writer.old) result (W.contents writer.new)
+        (history_text (history_of world.now)) }
     ensures commits { CommitsInOrder world.now }
     ensures opaque { AreOpaque thread_rules world.now }
     ensures alone { ShowsAlone thread_rules world.now }
@@ -71,7 +72,8 @@ fn answer<W: Write>(alloc: Global, text: &[u8], writer: &mut W) -> Finish
 
 /// Reads a script and answers it. Of its text no more is read than decides that it is too long.
 fn run<R: Read, W: Write>(alloc: Global, reader: &mut R, writer: &mut W) -> Finish
-    ensures answer { (text : List ℕ) × IfSome (R.remaining reader.old) (λ all. text ≡ all) × Runs result (program_of text) (W.contents writer.old) (W.contents writer.new) }
+    ensures answer { (text : List ℕ) × IfSome (R.remaining reader.old) (λ all. text ≡ all)
+        × Runs result (program_of text) (W.contents writer.old) (W.contents writer.new) }
     ensures few { IsFront (R.remaining reader.old) (R.remaining reader.new) (MAX_TEXT + 1) }
 {
     match read_up_to(alloc, reader, MAX_TEXT + 1) {
@@ -91,7 +93,9 @@ pub fn sched<R: Read, W: Write, E: Write>(
     writer: &mut W,
     errors: &mut E,
 ) -> u8
-    ensures answer { (text : List ℕ) × IfSome (R.remaining reader.old) (λ all. text ≡ all) × Answers result (program_of text) (W.contents writer.old) (W.contents writer.new) (E.contents errors.old) (E.contents errors.new) }
+    ensures answer { (text : List ℕ) × IfSome (R.remaining reader.old) (λ all. text ≡ all)
+        × Answers result (program_of text) (W.contents writer.old) (W.contents writer.new) (E.contents
+        errors.old) (E.contents errors.new) }
     ensures few { IsFront (R.remaining reader.old) (R.remaining reader.new) (MAX_TEXT + 1) }
 {
     let finish = run(alloc, reader, writer);

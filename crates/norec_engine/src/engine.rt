@@ -246,7 +246,8 @@ fn turned(state: &mut Data, phase: Phase, seen: u64) -> Turn
     ensures joins { Joins (core state.old phase) seen (core_after result state.new) }
     ensures order { phase_after result ≡ stage_after (core state.old phase) seen }
     ensures ends { TurnEndsSo (ending_after (core state.old phase) seen) result }
-    ensures tries { (core_after result state.new).tries ≡ tries_after (phase_after result) (core state.old phase).tries }
+    ensures tries { (core_after result state.new).tries ≡ tries_after (phase_after result)
+        (core state.old phase).tries }
     ensures snapshot { state.new.snapshot ≡ snapshot_after (core state.old phase) seen }
     ensures log { in_block state.new ≡ true → state.new.log.rows ≡ log_after (core state.old phase) seen }
 {

@@ -37,8 +37,10 @@ impl Reading {
         ensures piece { IfSome result IsPiece }
         ensures few { IfSome result (λ _. self.number < 5) }
         ensures in_value { IfSome result (λ p. p.at + p.count ≤ 32) }
-        ensures in_memory { IfSome result (λ p. (words : ℕ) → self.at + size_of self.width ≤ 8 * words → p.word < words) }
-        ensures before { IfSome result (λ p. (m : List ℕ) → length (gathered m (take self.number (parts self))) ≡ p.at) }
+        ensures in_memory { IfSome result (λ p. (words : ℕ) → self.at + size_of self.width ≤ 8 * words
+            → p.word < words) }
+        ensures before { IfSome result (λ p. (m : List ℕ)
+            → length (gathered m (take self.number (parts self))) ≡ p.at) }
         ensures reads_on { IfSome result (λ p. (m : List ℕ) →
             gathered m (take (self.number + 1) (parts self)) ≡ gathered m (take self.number (parts self)) ++ part_of p (slice_index m p.word)) }
     {

@@ -35,12 +35,14 @@ pub(crate) fn read(
 ) -> Result<Turn, AllocError>
     requires sound { IsSound state.old Phase.Idle }
     ensures sound { IfOk result (λ turn. IsSoundTurn turn state.new) }
-    ensures proceeds { IfOk result (λ turn. Turns (came (core state.old Phase.Idle) (Call.Read hint width at) false) turn state.new) }
+    ensures proceeds { IfOk result
+        (λ turn. Turns (came (core state.old Phase.Idle) (Call.Read hint width at) false) turn state.new) }
     ensures stays { OnOk result (Stays state.old state.new) }
     ensures err_sound { OnErr result (IsSound state.new Phase.Idle) }
     ensures err { OnErr result (core state.new Phase.Idle ≡ core state.old Phase.Idle) }
     ensures starves { OnErr result (MayStarve (core state.old Phase.Idle) (Call.Read hint width at)) }
-    ensures order { IfOk result (λ turn. phase_after turn ≡ stage_at (core state.old Phase.Idle) (Call.Read hint width at) false) }
+    ensures order { IfOk result
+        (λ turn. phase_after turn ≡ stage_at (core state.old Phase.Idle) (Call.Read hint width at) false) }
     ensures ends { IfOk result (TurnEndsSo (ending_at (core state.old Phase.Idle) (Call.Read hint width at))) }
     ensures tries { IfOk result (λ turn. (core_after turn state.new).tries ≡ tries_at (phase_after turn)) }
 {
@@ -67,7 +69,8 @@ fn next_piece(state: &mut Data, reading: Reading) -> Turn
     requires may { MayGather state.old reading }
     ensures sound { IsSoundTurn result state.new }
     // whatever the log was before a row joined it
-    ensures proceeds { (log : List LogRow) → Turns (logged (between state.old (Aim.Read reading)) log) result state.new }
+    ensures proceeds { (log : List LogRow)
+        → Turns (logged (between state.old (Aim.Read reading)) log) result state.new }
     ensures stays { Stays state.old state.new }
     ensures order { phase_after result ≡ load_stage state.old.writes reading }
     ensures ends { TurnEndsSo None result }
@@ -91,7 +94,8 @@ fn covered(state: &Data, piece: Piece) -> Option<u64>
     requires piece { IsPiece piece }
     requires rows { AreRows state.now.writes }
     ensures covered { is_some result ≡ is_covered state.now.writes piece }
-    ensures part { IfSome result (λ value. (m : List ℕ) → AllFit m → piece.word < length m → part_of piece (slice_index (overlay m state.now.writes) piece.word) ≡ part_of piece value) }
+    ensures part { IfSome result (λ value. (m : List ℕ) → AllFit m → piece.word < length m
+        → part_of piece (slice_index (overlay m state.now.writes) piece.word) ≡ part_of piece value) }
 {
     match state.writes.get(piece.word) {
         Some(row) if piece.is_within(row.mask) => Some(row.value),

@@ -29,12 +29,14 @@ pub(crate) fn write(
 ) -> Result<Turn, AllocError>
     requires sound { IsSound state.old Phase.Idle }
     ensures sound { IfOk result (λ turn. IsSoundTurn turn state.new) }
-    ensures proceeds { IfOk result (λ turn. Turns (came (core state.old Phase.Idle) (Call.Write hint at value.now) false) turn state.new) }
+    ensures proceeds { IfOk result
+        (λ turn. Turns (came (core state.old Phase.Idle) (Call.Write hint at value.now) false) turn state.new) }
     ensures stays { OnOk result (Stays state.old state.new) }
     ensures err_sound { OnErr result (IsSound state.new Phase.Idle) }
     ensures err { OnErr result (core state.new Phase.Idle ≡ core state.old Phase.Idle) }
     ensures starves { OnErr result (MayStarve (core state.old Phase.Idle) (Call.Write hint at value.now)) }
-    ensures order { IfOk result (λ turn. phase_after turn ≡ stage_at (core state.old Phase.Idle) (Call.Write hint at value.now) false) }
+    ensures order { IfOk result
+        (λ turn. phase_after turn ≡ stage_at (core state.old Phase.Idle) (Call.Write hint at value.now) false) }
     ensures ends { IfOk result (TurnEndsSo (ending_at (core state.old Phase.Idle) (Call.Write hint at value.now))) }
     ensures tries { IfOk result (λ turn. (core_after turn state.new).tries ≡ tries_at (phase_after turn)) }
 {

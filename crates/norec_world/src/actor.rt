@@ -52,7 +52,8 @@ impl<P: Player> Actor<P> {
 
     /// An actor that has made no call.
     pub(crate) fn new(alloc: Global, thread: u8, retries: u32, player: P, engine: Engine) -> Self
-        ensures parts { (result.thread ≡ thread) × (result.retries ≡ retries) × (result.player ≡ player) × (result.engine ≡ engine) }
+        ensures parts { (result.thread ≡ thread) × (result.retries ≡ retries) × (result.player ≡ player)
+            × (result.engine ≡ engine) }
         ensures tries { (result.nth ≡ 1) × (result.again ≡ false) }
         ensures nothing { (result.spare.items ≡ []) × (result.pending ≡ None) × (result.status ≡ Status.Ready) }
     {
@@ -113,7 +114,8 @@ impl<P: Player> Actor<P> {
             → IsDone P.Player was recorded.old recorded.new self.old self.new call next }
         ensures tells { (was : Bool) → IsDue P.Player was recorded.old self.old call next
             → Tells P.Player was recorded.old recorded.new self.old self.new call next }
-        ensures others { (was : Bool) → IsDue P.Player was recorded.old self.old call next → KeepsOthers self.old recorded.old self.new recorded.new }
+        ensures others { (was : Bool) → IsDue P.Player was recorded.old self.old call next
+            → KeepsOthers self.old recorded.old self.new recorded.new }
     {
         match next {
             Next::Step(step) => self.status = Status::Waits { call, step },
@@ -125,7 +127,8 @@ impl<P: Player> Actor<P> {
     fn follow(&self, recorded: &mut Recorded)
         requires { IsKept (in_transaction self.now.engine) recorded.old self.now }
         ensures kept { IsKept (in_transaction self.now.engine) recorded.new self.now }
-        ensures told { IsTold self.now.thread (in_transaction self.now.engine) recorded.old (self.now.engine.snapshot / 2) recorded.new }
+        ensures told { IsTold self.now.thread (in_transaction self.now.engine) recorded.old
+            (self.now.engine.snapshot / 2) recorded.new }
         ensures others { KeepsOthers self.now recorded.old self.now recorded.new }
         ensures status { (status : Status) → StatusIs P.Player recorded.old self.now status
             → StatusIs P.Player recorded.new self.now status }

@@ -91,8 +91,10 @@ impl Recorded {
     /// A call of the actor's open attempt has a reply.
     pub(crate) fn add(&mut self, thread: u8, spare: &mut Vec<Entry>, entry: Entry)
         requires empty { spare.old.items ≡ [] }
-        requires room { (row : Attempt) → active_of thread self.old.active ≡ Some row → length row.calls < vec_capacity spare.old }
-        ensures added { self.new ≡ with_changed thread (λ row. record row { calls = row.calls ++ entry ∷ [] }) self.old }
+        requires room { (row : Attempt) → active_of thread self.old.active ≡ Some row
+            → length row.calls < vec_capacity spare.old }
+        ensures added { self.new ≡ with_changed thread (λ row. record row { calls = row.calls ++ entry ∷ [] })
+            self.old }
         ensures empty { spare.new.items ≡ [] }
     {
         if let Some(place) = position_of(&self.rows[self.ended..], thread) {
@@ -104,7 +106,8 @@ impl Recorded {
     /// The actor's open attempt ends, at this position.
     pub(crate) fn end(&mut self, thread: u8, at: u64, outcome: Outcome)
         ensures gone { active_of thread self.new.active ≡ None }
-        ensures ended { (row : Attempt) → active_of thread self.old.active ≡ Some row → self.new ≡ with_ended thread (record row { at = at; outcome = outcome }) self.old }
+        ensures ended { (row : Attempt) → active_of thread self.old.active ≡ Some row
+            → self.new ≡ with_ended thread (record row { at = at; outcome = outcome }) self.old }
     {
         if let Some(place) = position_of(&self.rows[self.ended..], thread) {
             let mut row = self.rows.remove(self.ended + place);

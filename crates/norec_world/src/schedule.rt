@@ -27,7 +27,8 @@ impl<P: Player> World<P> {
 
     /// An event for each entry in turn, passing over those that name no actor or one that has ended.
     pub fn run(&mut self, alloc: Global, schedule: &[u8]) -> Passes
-        ensures led { (results : List (Result (Unit {0}) WorldFault)) × Leads P.Player self.old schedule.now results self.new × (result ≡ passes_of results) }
+        ensures led { (results : List (Result (Unit {0}) WorldFault))
+            × Leads P.Player self.old schedule.now results self.new × (result ≡ passes_of results) }
         ensures all { result.taken + result.passed + result.starved ≡ length schedule.now }
         ensures commits { CommitsInOrder self.new }
         ensures opaque { AreOpaque P.Player self.new }

@@ -40,7 +40,8 @@ impl<P: Player> Actor<P> {
         requires sound { IsSound P.Player memory.now recorded.old self.old }
         requires ready { self.old.status ≡ Status.Ready }
         ensures worked { HasWorked P.Player memory.now recorded.old self.old recorded.new self.new }
-        ensures falls { self.new.status ≡ Status.Ready → Falls P.Player (in_transaction self.old.engine) (in_transaction self.new.engine) self.old self.new }
+        ensures falls { self.new.status ≡ Status.Ready
+            → Falls P.Player (in_transaction self.old.engine) (in_transaction self.new.engine) self.old self.new }
     {
         let Some(call) = self.player.next() else {
             self.status = Status::Ended(End::Finished);
@@ -65,7 +66,8 @@ impl<P: Player> Actor<P> {
         requires ready { IsReady P.Player self.old }
         requires asks { P.next_call self.old.player ≡ Some call.now }
         ensures asked { IfOk result (λ next. IsAsked P.Player recorded.new self.old self.new call.now next) }
-        ensures told { IfOk result (λ next. Asks memory.now.clock recorded.old recorded.new self.old self.new call.now next) }
+        ensures told { IfOk result
+            (λ next. Asks memory.now.clock recorded.old recorded.new self.old self.new call.now next) }
         ensures unasked { OnErr result (IsUnasked P.Player recorded.new self.old self.new) }
         ensures rows { recorded.new ≡ record recorded.old { room = recorded.new.room } }
         ensures grows { OnErr result (in_transaction self.old.engine ≡ false → is_begin call.now ≡ true) }
@@ -122,7 +124,8 @@ impl<P: Player> Actor<P> {
             → IsSettledBy P.Player was recorded.new self.old self.new }
         ensures records { (was : Bool) → IsAnswered P.Player was recorded.old self.old call answer
             → Records P.Player was recorded.old recorded.new self.old self.new call answer }
-        ensures others { (was : Bool) → IsAnswered P.Player was recorded.old self.old call answer → KeepsOthers self.old recorded.old self.new recorded.new }
+        ensures others { (was : Bool) → IsAnswered P.Player was recorded.old self.old call answer
+            → KeepsOthers self.old recorded.old self.new recorded.new }
     {
         match answer {
             Answer::Reply(reply) => self.replied(recorded, call, reply),
@@ -150,7 +153,8 @@ impl<P: Player> Actor<P> {
             → IsSettledBy P.Player was recorded.new self.old self.new }
         ensures records { (was : Bool) → IsAnswered P.Player was recorded.old self.old call (Answer.Reply reply)
             → Records P.Player was recorded.old recorded.new self.old self.new call (Answer.Reply reply) }
-        ensures others { (was : Bool) → IsAnswered P.Player was recorded.old self.old call (Answer.Reply reply) → KeepsOthers self.old recorded.old self.new recorded.new }
+        ensures others { (was : Bool) → IsAnswered P.Player was recorded.old self.old call (Answer.Reply reply)
+            → KeepsOthers self.old recorded.old self.new recorded.new }
     {
         self.player.answer(&reply);
         let is_open = self.engine.is_open();
@@ -177,7 +181,8 @@ impl<P: Player> Actor<P> {
             → IsSettledBy P.Player was recorded.new self.old self.new }
         ensures records { (was : Bool) → IsAnswered P.Player was recorded.old self.old call (Answer.Committed at wrote)
             → Records P.Player was recorded.old recorded.new self.old self.new call (Answer.Committed at wrote) }
-        ensures others { (was : Bool) → IsAnswered P.Player was recorded.old self.old call (Answer.Committed at wrote) → KeepsOthers self.old recorded.old self.new recorded.new }
+        ensures others { (was : Bool) → IsAnswered P.Player was recorded.old self.old call (Answer.Committed at wrote)
+            → KeepsOthers self.old recorded.old self.new recorded.new }
     {
         self.player.answer(&Reply::Done);
         let entry = Entry {
@@ -215,10 +220,12 @@ impl<P: Player> Actor<P> {
         ensures engine { self.new.engine ≡ after_undoing self.old.engine }
         ensures holds { self.new.engine.holds ≡ self.old.engine.holds }
         ensures same { (self.new.nth ≡ self.old.nth) × (self.new.retries ≡ self.old.retries) }
-        ensures limit { (self.new.engine.max_commits ≡ self.old.engine.max_commits) × (self.new.engine.patience ≡ self.old.engine.patience) }
+        ensures limit { (self.new.engine.max_commits ≡ self.old.engine.max_commits)
+            × (self.new.engine.patience ≡ self.old.engine.patience) }
         ensures pending { self.new.pending ≡ self.old.pending }
         ensures again { self.new.again ≡ self.old.again }
-        ensures row { in_transaction self.old.engine ≡ true → StopsAt self.old.thread recorded.old (self.old.engine.snapshot / 2) Outcome.NoMemory recorded.new }
+        ensures row { in_transaction self.old.engine ≡ true
+            → StopsAt self.old.thread recorded.old (self.old.engine.snapshot / 2) Outcome.NoMemory recorded.new }
         ensures none { in_transaction self.old.engine ≡ false → recorded.new ≡ recorded.old }
         ensures others { KeepsOthers self.old recorded.old self.new recorded.new }
     {

@@ -74,7 +74,8 @@ impl<P: Player> World<P> {
         ensures patience { IfOk result (λ w. w.patience ≡ setup.limits.patience) }
         ensures limit { IfOk result (λ w. w.max_commits ≡ setup.limits.max_commits) }
         ensures retries { IfOk result (λ w. w.retries ≡ setup.limits.retries) }
-        ensures first { IfOk result (λ w. (place : ℕ) (a : Actor P) → slice_get w.actors place ≡ Some a → IsBetween 0 1 w.attempts a) }
+        ensures first { IfOk result (λ w. (place : ℕ) (a : Actor P) → slice_get w.actors place ≡ Some a
+            → IsBetween 0 1 w.attempts a) }
         ensures commits { IfOk result (λ w. CommitsInOrder w) }
         ensures opaque { IfOk result (AreOpaque P.Player) }
         ensures anew { IfOk result (IsNew P.Player) }
@@ -143,7 +144,8 @@ impl<P: Player> World<P> {
     fn event(&mut self, alloc: Global, actor: usize) -> bool
         requires { IsSome (waits_at self.old actor) }
         ensures goes { Goes P.Player actor self.old (told (ending_at self.new actor)) self.new }
-        ensures less { (a a' : Actor P) → slice_get self.old.actors actor ≡ Some a → slice_get self.new.actors actor ≡ Some a' → HasLess P.Player result a a' }
+        ensures less { (a a' : Actor P) → slice_get self.old.actors actor ≡ Some a
+            → slice_get self.new.actors actor ≡ Some a' → HasLess P.Player result a a' }
     {
         let a = &mut self.actors[actor];
         a.step(&mut self.memory, &mut self.recorded);
@@ -179,7 +181,8 @@ impl<P: Player> World<P> {
         ensures counts { self.new.events ≡ counted self.old.events result }
         ensures opening { SameOpening self.old self.new }
         ensures actors { length self.new.actors ≡ length self.old.actors }
-        ensures less { (a a' : Actor P) → slice_get self.old.actors actor ≡ Some a → slice_get self.new.actors actor ≡ Some a' → HasLess P.Player false a a' }
+        ensures less { (a a' : Actor P) → slice_get self.old.actors actor ≡ Some a
+            → slice_get self.new.actors actor ≡ Some a' → HasLess P.Player false a a' }
     {
         let _events = self.events();
         let mut taken = 0u64;

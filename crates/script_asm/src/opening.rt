@@ -107,7 +107,8 @@ impl Opening {
     /// Lays bytes from a place on over what is there.
     pub fn add(&mut self, at: usize, bytes: Vec<u8>) -> Result<(), AllocError>
         requires { at + vec_len bytes ≤ self.old.size }
-        ensures { OnOk result (self.new ≡ record self.old { inits = self.old.inits ++ record { at = at; bytes = bytes.items } ∷ [] }) }
+        ensures { OnOk result
+            (self.new ≡ record self.old { inits = self.old.inits ++ record { at = at; bytes = bytes.items } ∷ [] }) }
     {
         self.inits.push(Init { at, bytes })?;
         Ok(())

@@ -66,7 +66,8 @@ impl Plan {
 
     /// One more item, which stands in the line.
     pub fn push(&mut self, line: usize, item: Item) -> Result<(), AllocError>
-        ensures { OnOk result (self.new ≡ record { items = self.old.items ++ item ∷ []; lines = self.old.lines ++ line ∷ [] }) }
+        ensures { OnOk result
+            (self.new ≡ record { items = self.old.items ++ item ∷ []; lines = self.old.lines ++ line ∷ [] }) }
     {
         self.lines.push(line)?;
         if self.items.push(item).is_err() {

@@ -15,7 +15,8 @@ use script_vm::Player;
 pub fn isolation<P: Player>()
     ensures { (p : P) (a b : Attempt) (n m : ℕ) (memory : List ℕ)
         → IsOpaque P.Player MAX_DEPTH p a n memory → IsOpaque P.Player MAX_DEPTH p b m memory
-        → a.arena ≡ b.arena → a.props ≡ b.props → IsBeginningOf (pairs_of a) (pairs_of b) ⊎ IsBeginningOf (pairs_of b) (pairs_of a) }
+        → a.arena ≡ b.arena → a.props ≡ b.props
+        → IsBeginningOf (pairs_of a) (pairs_of b) ⊎ IsBeginningOf (pairs_of b) (pairs_of a) }
 {}
 
 /// A schedule decides everything: two worlds of equal beginning, led on by the same entries with no memory refused,

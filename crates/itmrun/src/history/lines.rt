@@ -26,7 +26,8 @@ fn outcome_name(outcome: Outcome) -> &'static [u8]
 #[tactic(auto, unfolding(crate::specs::Histories::head_line), using(crate::proofs::AppendedTexts::grows_as))]
 fn put_head<W: Write>(stream: &mut Stream<'_, W>, attempt: &Attempt)
     ensures same { stream.new.writer.ghost_name ≡ stream.old.writer.ghost_name }
-    ensures grows { Grows stream.old.failed (W.contents stream.old.writer.now) stream.new.failed (W.contents stream.new.writer.now) (head_line attempt.now) }
+    ensures grows { Grows stream.old.failed (W.contents stream.old.writer.now) stream.new.failed
+        (W.contents stream.new.writer.now) (head_line attempt.now) }
 {
     stream.put(&[
         Piece::Text(b"attempt "),
@@ -44,7 +45,8 @@ fn put_head<W: Write>(stream: &mut Stream<'_, W>, attempt: &Attempt)
 #[tactic(auto, unfolding(crate::specs::Histories::arena_line), using(crate::proofs::AppendedTexts::grows_as))]
 fn put_arena<W: Write>(stream: &mut Stream<'_, W>, bytes: &[u8])
     ensures same { stream.new.writer.ghost_name ≡ stream.old.writer.ghost_name }
-    ensures grows { Grows stream.old.failed (W.contents stream.old.writer.now) stream.new.failed (W.contents stream.new.writer.now) (arena_line bytes.now) }
+    ensures grows { Grows stream.old.failed (W.contents stream.old.writer.now) stream.new.failed
+        (W.contents stream.new.writer.now) (arena_line bytes.now) }
 {
     if bytes.is_empty() {
         stream.put(&[Piece::Text(b"arena -\n")]);
@@ -60,7 +62,8 @@ fn put_arena<W: Write>(stream: &mut Stream<'_, W>, bytes: &[u8])
 #[tactic(auto, unfolding(crate::specs::Histories::body_text), using(crate::proofs::AppendedTexts::grows_as))]
 fn put_body<W: Write>(stream: &mut Stream<'_, W>, call: &Call)
     ensures same { stream.new.writer.ghost_name ≡ stream.old.writer.ghost_name }
-    ensures grows { Grows stream.old.failed (W.contents stream.old.writer.now) stream.new.failed (W.contents stream.new.writer.now) (body_text call.now) }
+    ensures grows { Grows stream.old.failed (W.contents stream.old.writer.now) stream.new.failed
+        (W.contents stream.new.writer.now) (body_text call.now) }
 {
     match call {
         Call::Begin { .. } => stream.put(&[Piece::Text(b"_ITM_beginTransaction -")]),
@@ -83,7 +86,8 @@ fn put_body<W: Write>(stream: &mut Stream<'_, W>, call: &Call)
 #[tactic(auto, unfolding(crate::specs::Histories::reply_text), using(crate::proofs::AppendedTexts::grows_as))]
 fn put_reply<W: Write>(stream: &mut Stream<'_, W>, reply: &Reply)
     ensures same { stream.new.writer.ghost_name ≡ stream.old.writer.ghost_name }
-    ensures grows { Grows stream.old.failed (W.contents stream.old.writer.now) stream.new.failed (W.contents stream.new.writer.now) (reply_text reply.now) }
+    ensures grows { Grows stream.old.failed (W.contents stream.old.writer.now) stream.new.failed
+        (W.contents stream.new.writer.now) (reply_text reply.now) }
 {
     match reply {
         Reply::Done => stream.put(&[Piece::Text(b"ok")]),
@@ -98,7 +102,8 @@ fn put_reply<W: Write>(stream: &mut Stream<'_, W>, reply: &Reply)
 
 fn put_call<W: Write>(stream: &mut Stream<'_, W>, entry: &Entry)
     ensures same { stream.new.writer.ghost_name ≡ stream.old.writer.ghost_name }
-    ensures grows { Grows stream.old.failed (W.contents stream.old.writer.now) stream.new.failed (W.contents stream.new.writer.now) (call_line entry.now) }
+    ensures grows { Grows stream.old.failed (W.contents stream.old.writer.now) stream.new.failed
+        (W.contents stream.new.writer.now) (call_line entry.now) }
 {
     stream.put(&[Piece::Text(b"call ")]);
     put_body(stream, &entry.call);
@@ -110,7 +115,8 @@ fn put_call<W: Write>(stream: &mut Stream<'_, W>, entry: &Entry)
 #[tactic(auto, using(crate::proofs::AppendedTexts::grows_none, crate::proofs::AppendedTexts::grows_call))]
 fn put_calls<W: Write>(stream: &mut Stream<'_, W>, calls: &[Entry])
     ensures same { stream.new.writer.ghost_name ≡ stream.old.writer.ghost_name }
-    ensures grows { Grows stream.old.failed (W.contents stream.old.writer.now) stream.new.failed (W.contents stream.new.writer.now) (flat_map call_line calls.now) }
+    ensures grows { Grows stream.old.failed (W.contents stream.old.writer.now) stream.new.failed
+        (W.contents stream.new.writer.now) (flat_map call_line calls.now) }
 {
     for entry in calls {
         put_call(stream, entry);
@@ -121,7 +127,8 @@ fn put_calls<W: Write>(stream: &mut Stream<'_, W>, calls: &[Entry])
 #[tactic(auto, unfolding(crate::specs::Histories::first_lines), using(crate::proofs::AppendedTexts::grows_as))]
 fn put_first<W: Write>(stream: &mut Stream<'_, W>, memory: &[u8])
     ensures same { stream.new.writer.ghost_name ≡ stream.old.writer.ghost_name }
-    ensures grows { Grows stream.old.failed (W.contents stream.old.writer.now) stream.new.failed (W.contents stream.new.writer.now) (first_lines memory.now) }
+    ensures grows { Grows stream.old.failed (W.contents stream.old.writer.now) stream.new.failed
+        (W.contents stream.new.writer.now) (first_lines memory.now) }
 {
     stream.put(&[
         Piece::Text(b"itm-history 1\nmemory "),
@@ -132,7 +139,8 @@ fn put_first<W: Write>(stream: &mut Stream<'_, W>, memory: &[u8])
 
 fn put_attempt<W: Write>(stream: &mut Stream<'_, W>, attempt: &Attempt)
     ensures same { stream.new.writer.ghost_name ≡ stream.old.writer.ghost_name }
-    ensures grows { Grows stream.old.failed (W.contents stream.old.writer.now) stream.new.failed (W.contents stream.new.writer.now) (attempt_lines attempt.now) }
+    ensures grows { Grows stream.old.failed (W.contents stream.old.writer.now) stream.new.failed
+        (W.contents stream.new.writer.now) (attempt_lines attempt.now) }
 {
     put_head(stream, attempt);
     put_arena(stream, attempt.arena.as_slice());
@@ -143,7 +151,8 @@ fn put_attempt<W: Write>(stream: &mut Stream<'_, W>, attempt: &Attempt)
 #[tactic(auto, using(crate::proofs::AppendedTexts::grows_no_attempt, crate::proofs::AppendedTexts::grows_attempt))]
 fn put_attempts<W: Write>(stream: &mut Stream<'_, W>, attempts: &[Attempt])
     ensures same { stream.new.writer.ghost_name ≡ stream.old.writer.ghost_name }
-    ensures grows { Grows stream.old.failed (W.contents stream.old.writer.now) stream.new.failed (W.contents stream.new.writer.now) (flat_map attempt_lines attempts.now) }
+    ensures grows { Grows stream.old.failed (W.contents stream.old.writer.now) stream.new.failed
+        (W.contents stream.new.writer.now) (flat_map attempt_lines attempts.now) }
 {
     for attempt in attempts {
         put_attempt(stream, attempt);
@@ -154,7 +163,8 @@ fn put_attempts<W: Write>(stream: &mut Stream<'_, W>, attempts: &[Attempt])
 #[tactic(auto, unfolding(crate::specs::Histories::last_line), using(crate::proofs::AppendedTexts::grows_as))]
 fn put_last<W: Write>(stream: &mut Stream<'_, W>, clock: u64, bytes: &[u8])
     ensures same { stream.new.writer.ghost_name ≡ stream.old.writer.ghost_name }
-    ensures grows { Grows stream.old.failed (W.contents stream.old.writer.now) stream.new.failed (W.contents stream.new.writer.now) (last_line clock bytes.now) }
+    ensures grows { Grows stream.old.failed (W.contents stream.old.writer.now) stream.new.failed
+        (W.contents stream.new.writer.now) (last_line clock bytes.now) }
 {
     stream.put(&[
         Piece::Text(b"final "),
@@ -174,7 +184,8 @@ pub fn put_history<W: Write>(
     bytes: &[u8],
 )
     ensures same { stream.new.writer.ghost_name ≡ stream.old.writer.ghost_name }
-    ensures grows { Grows stream.old.failed (W.contents stream.old.writer.now) stream.new.failed (W.contents stream.new.writer.now)
+    ensures grows { Grows stream.old.failed (W.contents stream.old.writer.now) stream.new.failed
+        (W.contents stream.new.writer.now)
         (history_text (record { memory = memory.now; attempts = attempts.now; clock = clock; bytes = bytes.now })) }
 {
     put_first(stream, memory);

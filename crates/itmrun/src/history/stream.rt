@@ -18,7 +18,8 @@ impl<W: Write> Stream<'_, W> {
     #[tactic(auto, using(crate::proofs::TextPieces::remembered))]
     pub fn put(&mut self, pieces: &[Piece<'_>])
         ensures same { self.new.writer.ghost_name ≡ self.old.writer.ghost_name }
-        ensures grows { Grows self.old.failed (W.contents self.old.writer.now) self.new.failed (W.contents self.new.writer.now) (flat_map spelled pieces.now) }
+        ensures grows { Grows self.old.failed (W.contents self.old.writer.now) self.new.failed
+            (W.contents self.new.writer.now) (flat_map spelled pieces.now) }
     {
         if !self.failed {
             self.failed = put_pieces(self.writer, pieces).is_err();
@@ -28,7 +29,8 @@ impl<W: Write> Stream<'_, W> {
     /// Hands on what the writer holds back.
     pub fn flush(&mut self)
         ensures same { self.new.writer.ghost_name ≡ self.old.writer.ghost_name }
-        ensures grows { Grows self.old.failed (W.contents self.old.writer.now) self.new.failed (W.contents self.new.writer.now) [] }
+        ensures grows { Grows self.old.failed (W.contents self.old.writer.now) self.new.failed
+            (W.contents self.new.writer.now) [] }
     {
         if !self.failed {
             self.failed = self.writer.flush().is_err();

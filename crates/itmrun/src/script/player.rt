@@ -83,7 +83,8 @@ impl Script {
     /// Passes over a begin that was accepted.
     fn enter(&mut self)
         requires { 0 < length self.old.rest }
-        ensures { self.new ≡ record self.old { rest = drop 1 self.old.rest; block = Some (deeper self.old self.old.block) } }
+        ensures { self.new ≡ record self.old
+            { rest = drop 1 self.old.rest; block = Some (deeper self.old self.old.block) } }
     {
         if self.depth == 0 {
             self.begin = self.position;
