@@ -5,7 +5,7 @@ use Rattle.norec_world.specs.Opacity.{after_try, IsOpaque}
 
 -- ## The attempts of one actor
 
-of_thread_more : (thread : ℕ) (xs ys : List Attempt) → of_thread thread (xs ++ ys) ≡ of_thread thread xs ++ of_thread thread ys
+pub of_thread_more : (thread : ℕ) (xs ys : List Attempt) → of_thread thread (xs ++ ys) ≡ of_thread thread xs ++ of_thread thread ys
 of_thread_more thread [] ys = refl
 of_thread_more thread (x ∷ xs) ys = by_case (x.thread == thread) (of_thread_more thread xs ys)
   where

@@ -1,5 +1,6 @@
 -- The actors' runs: one's event leaves the others', and together they are the headline.
-use Rattle.std.proofs.Common.{◌≡◌, ◌≢◌, inl, inr, ℕ, ◌+◌, ◌/◌, ◌%◌, ◌<◌, ◌≤◌, ◌==◌, Bool, true, false, if◌then◌else◌, List, [], ◌∷◌, ◌++◌, length, length-set, replicate, None, Some, slice_get, slice_set, refl, sym, ap, subst, ◌∙◌, arith, eqb-true, eq-eqb, nat_lt, ltb-true}
+use Rattle.std.proofs.Common.{◌≡◌, ◌≢◌, inl, inr, ℕ, ◌+◌, ◌/◌, ◌%◌, ◌<◌, ◌≤◌, ◌==◌, Bool, true, false, if◌then◌else◌, List, [], ◌∷◌, ◌++◌, length, length-set, replicate, None, Some, slice_get, slice_set, refl, sym, ap, subst, ◌∙◌, arith, eqb-true, eq-eqb, nat_lt}
+use Rattle.std.proofs.lemmas.Bool.{false_from_ne_true, le-ltb}
 use Rattle.std.proofs.lemmas.List.{append-nil}
 use Rattle.norec_world.proofs.Common.{Actor, Agrees, AllFit, AreActors, AreFrom, AreLaid, AreOpaque, Attempt, Between, Cells, ClocksOn, Core, HasRead, HasRow, IsMemory, IsRunOf, IsTied, IsTryAt, IsWorld, KeepsOthers, MAX_DEPTH, NoMemory, Obeys, Ready, Rows, Rules, World, active_of, begins_at, bytes_at, bytes_of, ending_of, in_transaction, of_thread, run_after, words_at, words_of}
 use Rattle.norec_engine.specs.Core.{opening}
@@ -19,17 +20,9 @@ use Rattle.norec_world.proofs.SoundOthers.{set_place, within_of, there_is, are_o
 use Rattle.norec_world.proofs.Alones.{stands_open}
 use Rattle.norec_world.proofs.InTries.{try_stops}
 use Rattle.norec_world.proofs.Memories.{bytes_still}
-use Rattle.norec_world.proofs.RunLists.{run_still, run_more}
+use Rattle.norec_world.proofs.RunLists.{of_thread_more, run_still, run_more}
 
 -- ## The attempts of one thread
-
-of_thread_both : (thread : ℕ) (xs ys : List Attempt) → of_thread thread (xs ++ ys) ≡ of_thread thread xs ++ of_thread thread ys
-of_thread_both thread [] ys = refl
-of_thread_both thread (x ∷ xs) ys = by_case (x.thread == thread) (of_thread_both thread xs ys)
-  where
-    by_case : (b : Bool) → of_thread thread (xs ++ ys) ≡ of_thread thread xs ++ of_thread thread ys → (if b then x ∷ of_thread thread (xs ++ ys) else of_thread thread (xs ++ ys)) ≡ (if b then x ∷ of_thread thread xs else of_thread thread xs) ++ of_thread thread ys
-    by_case true more = ap (λ (l : List Attempt). x ∷ l) more
-    by_case false more = more
 
 -- of another one's attempts none
 of_thread_none : (thread other : ℕ) (xs : List Attempt) → AllOf other xs → (other ≡ thread → ⊥) → of_thread thread xs ≡ []
@@ -134,7 +127,7 @@ module _ {P : Type 0} (rules : Rules P) (laws : Obeys rules) where
 
       rows : of_thread b.thread r'.ended ≡ of_thread b.thread r.ended
       rows =
-          ap (of_thread b.thread) own.ended ∙ (of_thread_both b.thread r.ended own.more
+          ap (of_thread b.thread) own.ended ∙ (of_thread_more b.thread r.ended own.more
           ∙ (ap (λ (l : List Attempt). of_thread b.thread r.ended ++ l) (of_thread_none b.thread thread own.more own.mine (λ e. apart (sym e))) ∙ append-nil (of_thread b.thread r.ended)))
 
       on : IsRunOf rules MAX_DEPTH (cells'.clock / 2) (bytes_at base r'.ended) (Some first) (of_thread b.thread r.ended)
@@ -174,7 +167,7 @@ module _ {P : Type 0} (rules : Rules P) (laws : Obeys rules) where
             → IsRunOf rules MAX_DEPTH (w.cells.clock / 2) (bytes_at w.base (attempts_of w)) (Some (first_of p w.arena)) (of_thread a.thread (attempts_of w))
         by_open false o x on none tied =
             let rows : of_thread a.thread (attempts_of w) ≡ of_thread a.thread w.attempts.ended =
-            of_thread_both a.thread w.attempts.ended w.attempts.active ∙ (ap (λ (l : List Attempt). of_thread a.thread w.attempts.ended ++ l) (open_none 0 a.thread w.attempts.active open_rows.by_actor none) ∙ append-nil (of_thread a.thread w.attempts.ended)) in
+            of_thread_more a.thread w.attempts.ended w.attempts.active ∙ (ap (λ (l : List Attempt). of_thread a.thread w.attempts.ended ++ l) (open_none 0 a.thread w.attempts.active open_rows.by_actor none) ∙ append-nil (of_thread a.thread w.attempts.ended)) in
             subst (IsRunOf rules MAX_DEPTH (w.cells.clock / 2) (bytes_at w.base (attempts_of w)) (Some (first_of p w.arena))) (sym rows) on.0
         by_open true o x on some tied =
             let t = x.runs.inside o in
@@ -198,7 +191,7 @@ module _ {P : Type 0} (rules : Rules P) (laws : Obeys rules) where
             (subst (IsTryAt rules MAX_DEPTH (w.cells.clock / 2) (bytes_at w.base (attempts_of w)) t.0 (Some t.4.start)) as_it_is try) in
             let more = run_more rules (w.cells.clock / 2) (bytes_at w.base (attempts_of w)) (Some (first_of p w.arena)) (of_thread a.thread w.attempts.ended) t.0 row on.0 (on.1 ∙ t.2) here in
             let rows : of_thread a.thread (attempts_of w) ≡ of_thread a.thread w.attempts.ended ++ row ∷ [] =
-            of_thread_both a.thread w.attempts.ended w.attempts.active ∙ ap (λ (l : List Attempt). of_thread a.thread w.attempts.ended ++ l) (open_one 0 a.thread w.attempts.active row open_rows.by_actor t.3) in
+            of_thread_more a.thread w.attempts.ended w.attempts.active ∙ ap (λ (l : List Attempt). of_thread a.thread w.attempts.ended ++ l) (open_one 0 a.thread w.attempts.active row open_rows.by_actor t.3) in
             subst (IsRunOf rules MAX_DEPTH (w.cells.clock / 2) (bytes_at w.base (attempts_of w)) (Some (first_of p w.arena))) (sym rows) more.0
 
     pub are_opaque : AreOpaque rules w
@@ -254,11 +247,7 @@ module _ {P : Type 0} (rules : Rules P) (laws : Obeys rules) where
     others_held j b apart e h =
         let tied = (kept.actors.each j b e).sound.tied in
         let odd : w.cells.clock % 2 ≡ 1 = (let held = tied.holder h in let even = held_even b.engine tied.settled h in omega arith) in
-        (clocks.apart odd (not_holding got.engine.holds refl)).0
-      where
-        not_holding : (x : Bool) → got.engine.holds ≡ x → got.engine.holds ≡ false
-        not_holding true g = absurd (apart (kept.commits.one i j got b here e g h))
-        not_holding false g = g
+        (clocks.apart odd (false_from_ne_true got.engine.holds (λ g. apart (kept.commits.one i j got b here e g h)))).0
 
     pub running_after : AreRunning rules (record w { cells = cells'; actors = slice_set w.actors i new; attempts = r'; events = events })
     running_after = record {
@@ -325,7 +314,7 @@ laid_first base cells r is fit zero_clock none =
     record {
       counted = record {
         all = ap count_committed none ∙ ap (λ (k : ℕ). k / 2) (sym zero_clock);
-        each = λ position. ap (count_at position) none ∙ (sym (ap one_where (none_below position (nat_lt position 0) refl)) ∙ ap (λ (k : ℕ). one_where (nat_lt position (k / 2))) (sym zero_clock));
+        each = λ position. ap (count_at position) none ∙ (sym (ap one_where (le-ltb position 0 (omega arith))) ∙ ap (λ (k : ℕ). one_where (nat_lt position (k / 2))) (sym zero_clock));
       };
       memories = record {
         fits = λ k l. subst (λ (j : ℕ). IsMemory (length cells.words) (words_at base r.ended j)) (sym (at_zero k l)) (subst (IsMemory (length cells.words)) (sym words) (refl, fit));
@@ -336,7 +325,3 @@ laid_first base cells r is fit zero_clock none =
   where
     at_zero : (k : ℕ) → k ≤ cells.clock / 2 → k ≡ 0
     at_zero k l = omega (arith, l, zero_clock)
-
-    none_below : (position : ℕ) (b : Bool) → nat_lt position 0 ≡ b → nat_lt position 0 ≡ false
-    none_below position false e = e
-    none_below position true e = absurd (let l : position < 0 = ltb-true position 0 e in omega arith)

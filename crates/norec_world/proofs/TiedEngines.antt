@@ -1,5 +1,6 @@
 -- The engine and the cells, over one event: the engine's data stay as the cells have them.
 use Rattle.std.proofs.Common.{◌≡◌, ℕ, zero, suc, ◌+◌, ◌*◌, ◌/◌, ◌%◌, ◌<◌, ◌≤◌, ◌==◌, Bool, true, false, length, Option, Some, slice_index, refl, sym, ap, subst, ◌∙◌, arith, if◌then◌else◌, eqb-true, length-set}
+use Rattle.std.proofs.lemmas.Bool.{both_ways}
 use Rattle.norec_world.proofs.Common.{AllFit, Answer, Answers, Asks, Busy, Call, Cas, Cells, Commit, Committed, Conflict, Core, Ends, Full, IsLawful, IsTied, Load, Next, Proceeds, Replies, RepliesTo, Reply, Step, Store, came, cells_after, found, handed_to, in_transaction, word_loaded}
 use Rattle.norec_engine.specs.Core as core
 use Rattle.norec_engine.specs.Proceeds.{IsSettled, StaysOn, AsksFor, FitsStep}
@@ -10,9 +11,6 @@ use Rattle.norec_engine.specs.declared.phase.Phase.TheVariants.{Idle}
 use Rattle.norec_world.specs.Sound.{AnswerFits}
 use Rattle.norec_world.specs.ClockHolder.{HoldsOn}
 use Rattle.norec_world.proofs.PlayerDepths.{reply_fits}
-
-both : (n : Bool) → n ≡ true → n ≡ false → ⊥
-both n t f = absurd (cc)
 
 -- ## What the operation asks and gives
 
@@ -71,7 +69,7 @@ ended cells mid new a m g =
       words = r.words ∙ m.words;
       fit = m.fit;
       late = (let l = m.late in omega arith);
-      holder = λ h. absurd (both new.holds h r.holds);
+      holder = λ h. absurd (both_ways new.holds r.holds h);
       settled = m.settled;
     }
 
@@ -88,7 +86,7 @@ module _ (cells : Cells) (e new : Core) (t : IsTied cells e) (free : e.holds ≡
     words = t.words;
     fit = t.fit;
     late = t.late;
-    holder = λ h. absurd (both e.holds h free);
+    holder = λ h. absurd (both_ways e.holds free h);
     even = held_even e t.settled;
     settled = settled;
   }
@@ -114,8 +112,8 @@ module _ (cells : Cells) (e new : Core) (t : IsTied cells e) (settled : IsSettle
     fit = fit;
     late = (let k : cells.clock ≤ cells.clock = omega arith in k);
     settled = settled;
-    holder = λ h. absurd (both e.holds h l.1);
-    even = λ h. absurd (both e.holds h l.1);
+    holder = λ h. absurd (both_ways e.holds l.1 h);
+    even = λ h. absurd (both_ways e.holds l.1 h);
   }
   hands (Load (suc word)) l fit = word_taken word (slice_index cells.words word) fit e.holds
   hands (Store zero value) l fit = record {
@@ -170,8 +168,8 @@ taken_capped false clock from to max_commits even few up l = l
 -- the step's value came
 pub holds_handed : (cells : Cells) (e : Core) (step : Step) → IsTied cells e → IsLawful e step → HoldsOn cells e (cells_after cells step) (handed_to e (Some step) (found cells step))
 holds_handed cells e (Load zero) t l = record {
-  takes = λ f h. absurd (both e.holds h f);
-  frees = λ h f. absurd (both e.holds h f);
+  takes = λ f h. absurd (both_ways e.holds f h);
+  frees = λ h f. absurd (both_ways e.holds f h);
   stores = λ h k. refl;
   leaves = λ f k. refl;
   late = (let k : cells.clock ≤ cells.clock = omega arith in k);
@@ -183,8 +181,8 @@ holds_handed cells e (Load (suc word)) t l = by_holder e.holds refl
   where
     by_holder : (h : Bool) → e.holds ≡ h → HoldsOn cells e cells (word_loaded e h word (slice_index cells.words word))
     by_holder true is = record {
-      takes = λ f h. absurd (both e.holds is f);
-      frees = λ h f. absurd (both e.holds is f);
+      takes = λ f h. absurd (both_ways e.holds f is);
+      frees = λ h f. absurd (both_ways e.holds f is);
       stores = λ h k. refl;
       leaves = λ f k. refl;
       late = (let k : cells.clock ≤ cells.clock = omega arith in k);
@@ -193,8 +191,8 @@ holds_handed cells e (Load (suc word)) t l = by_holder e.holds refl
       capped = λ l. l;
     }
     by_holder false is = record {
-      takes = λ f h. absurd (both e.holds h is);
-      frees = λ h f. absurd (both e.holds h is);
+      takes = λ f h. absurd (both_ways e.holds is h);
+      frees = λ h f. absurd (both_ways e.holds is h);
       stores = λ h k. refl;
       leaves = λ f k. refl;
       late = (let k : cells.clock ≤ cells.clock = omega arith in k);
@@ -207,20 +205,20 @@ holds_handed cells e (Store zero value) t l =
     let held = t.holder l.1 in
     let value_is = l.2.0 in
     record {
-      takes = λ f h. absurd (both e.holds l.1 f);
+      takes = λ f h. absurd (both_ways e.holds f l.1);
       frees = λ h f. ((let z : value % 2 ≡ 0 = omega arith in z), refl);
       stores = λ h k. absurd (cc);
-      leaves = λ f k. absurd (both e.holds l.1 f);
+      leaves = λ f k. absurd (both_ways e.holds f l.1);
       late = (let k : cells.clock ≤ value = omega arith in k);
       long = refl;
       limit = (refl, refl);
       capped = λ m. (let few = held_below e t.settled l.1 in omega arith);
     }
 holds_handed cells e (Store (suc word) value) t l = record {
-  takes = λ f h. absurd (both e.holds l.1 f);
-  frees = λ h f. absurd (both e.holds h f);
+  takes = λ f h. absurd (both_ways e.holds f l.1);
+  frees = λ h f. absurd (both_ways e.holds f h);
   stores = λ h k. refl;
-  leaves = λ f k. absurd (both e.holds l.1 f);
+  leaves = λ f k. absurd (both_ways e.holds f l.1);
   late = (let k : cells.clock ≤ cells.clock = omega arith in k);
   long = length-set cells.words word value;
   limit = (refl, refl);
@@ -228,8 +226,8 @@ holds_handed cells e (Store (suc word) value) t l = record {
 }
 holds_handed cells e (Cas cell from to) t l = record {
   takes = λ f h. ((let same = eqb-true cells.clock from h in let even = l.4 in omega arith), refl);
-  frees = λ h f. absurd (both e.holds h l.1);
-  stores = λ h k. absurd (both e.holds h l.1);
+  frees = λ h f. absurd (both_ways e.holds l.1 h);
+  stores = λ h k. absurd (both_ways e.holds l.1 h);
   leaves = λ f k. ap (λ (b : Bool). record cells { clock = if b then to else cells.clock }) k;
   late = taken_late cells e e t t.settled (cells.clock == from) cells.clock from to (λ y. eqb-true cells.clock from y) l.6;
   long = refl;
