@@ -19,38 +19,32 @@ within_some f (x ∷ xs) (suc i) h = (let l = within_some f xs i h in omega arit
 -- the step that a sound actor waits for is one of the algorithm's
 module _ {P : Type 0} (rules : Rules P) where
   pub lawful_as : (r : Rows) (a : Actor P) (s : Status) (step : Step) → StatusIs rules r a s → waiting_step s ≡ Some step → IsLawful a.engine step
-  lawful_as r a Ready step i w = absurd (cc)
   lawful_as r a (Waits call other) step i w = (let same : other ≡ step = cc in subst (IsLawful a.engine) same i.lawful)
-  lawful_as r a (Ended end) step i w = absurd (cc)
+  lawful_as r a s step i w = absurd (cc)
 
   pub lawful_at : (w : World P) (r : Rows) → AreActors rules w.cells r w.actors → (i : ℕ) (a : Actor P) (step : Step)
       → slice_get w.actors i ≡ Some a → waiting_step a.status ≡ Some step → IsLawful a.engine step
   lawful_at w r s i a step e waits = lawful_as r a a.status step (s.each i a e).sound.status waits
 
 pub waiting_some : (s : Status) → IsSome (waiting_step s) → is_waiting s ≡ true
-waiting_some Ready e = absurd (cc)
 waiting_some (Waits call step) e = refl
-waiting_some (Ended end) e = absurd (cc)
+waiting_some s e = absurd (cc)
 
 pub waiting_going : (s : Status) → is_waiting s ≡ true → ending_of s ≡ None
-waiting_going Ready e = refl
-waiting_going (Waits call step) e = refl
 waiting_going (Ended end) e = absurd (cc)
+waiting_going s e = refl
 
 pub some_waiting : (s : Status) → is_waiting s ≡ true → IsSome (waiting_step s)
-some_waiting Ready e = absurd (cc)
 some_waiting (Waits call step) e = refl
-some_waiting (Ended end) e = absurd (cc)
+some_waiting s e = absurd (cc)
 
 pub some_ended : (s : Status) → is_waiting s ≡ false → is_ready s ≡ false → IsSome (ending_of s)
-some_ended Ready e r = absurd (cc)
-some_ended (Waits call step) e r = absurd (cc)
 some_ended (Ended end) e r = refl
+some_ended s e r = absurd (cc)
 
 pub ended_ready : (s : Status) → IsSome (ending_of s) → is_ready s ≡ false
 ended_ready Ready e = absurd (cc)
-ended_ready (Waits call step) e = refl
-ended_ready (Ended end) e = refl
+ended_ready s e = refl
 
 -- an actor that has made no call, over cells whose clock is 0
 module _ {P : Type 0} (rules : Rules P) where
