@@ -288,14 +288,6 @@ module _ {P : Type 0} (rules : Rules P)
         | inr x ↦ absurd (both_ways new.engine.holds free (ap (λ (z : Actor P). z.engine.holds) (sym x.1) ∙ ha))
       ]
 
-  -- nobody else has an attempt under its number
-  pub none_yet : active_of (length actors) r.active ≡ None
-  none_yet = by_found (active_of (length actors) r.active) refl
-    where
-      by_found : (o : Option Attempt) → active_of (length actors) r.active ≡ o → active_of (length actors) r.active ≡ None
-      by_found None e = e
-      by_found (Some row) e = absurd (let l = s.listed (length actors) row e in omega arith)
-
 -- where no actor has an open attempt, nobody has
 pub none_active : {P : Type 0} (rules : Rules P) (cells : Cells) (r : Rows) (actors : List (Actor P))
     → AreActors rules cells r actors → ((place : ℕ) (a : Actor P) → slice_get actors place ≡ Some a → active_of a.thread r.active ≡ None) → r.active ≡ []

@@ -3,8 +3,7 @@ use Rattle.std.proofs.Common.{◌≡◌, ℕ, zero, suc, ◌+◌, ◌*◌, ◌/�
 use Rattle.std.proofs.lemmas.Bool.{both_ways}
 use Rattle.norec_world.proofs.Common.{AllFit, Answer, Answers, Asks, Busy, Call, Cas, Cells, Commit, Committed, Conflict, Core, Ends, Full, IsLawful, IsTied, Load, Next, Proceeds, Replies, RepliesTo, Reply, Step, Store, came, cells_after, found, handed_to, in_transaction, word_loaded}
 use Rattle.norec_engine.specs.Core as core
-use Rattle.norec_engine.specs.Proceeds.{IsSettled, StaysOn, AsksFor, FitsStep}
-use Rattle.norec_world.specs.Cells.{IsCell}
+use Rattle.norec_engine.specs.Proceeds.{IsSettled, StaysOn, AsksFor}
 use Rattle.norec_engine.proofs.AnsweredEngines.{rests}
 use Rattle.norec_engine.specs.Undoing.{after_undoing}
 use Rattle.norec_engine.specs.declared.phase.Phase.TheVariants.{Idle}
@@ -13,19 +12,6 @@ use Rattle.norec_world.specs.ClockHolder.{HoldsOn}
 use Rattle.norec_world.proofs.PlayerDepths.{reply_fits}
 
 -- ## What the operation asks and gives
-
--- the operation is one on a cell of the memory
-pub is_cell : (e : Core) (words : ℕ) (step : Step) → IsLawful e step → e.words ≡ words → IsCell words step
-is_cell e words (Load cell) l w = let k = l.0 in omega arith
-is_cell e words (Store cell value) l w = let k = l.0 in omega arith
-is_cell e words (Cas cell from to) l w = l.0
-
--- the memory hands in a value that fits
-pub seen_fits : (e : Core) (cells : Cells) (step : Step) → e.clock ≤ cells.clock → FitsStep e (Some step) (found cells step)
-seen_fits e cells (Load zero) l = l
-seen_fits e cells (Load (suc word)) l = tt
-seen_fits e cells (Store cell value) l = tt
-seen_fits e cells (Cas cell from to) l = l
 
 -- ## The engine with a call that came, or with the value of its step
 
