@@ -1,6 +1,6 @@
 -- The actors' runs: one's event leaves the others', and together they are the headline.
-use Rattle.std.proofs.Common.{◌≡◌, ◌≢◌, inl, inr, ℕ, ◌+◌, ◌/◌, ◌%◌, ◌<◌, ◌≤◌, ◌==◌, Bool, true, false, if◌then◌else◌, List, [], ◌∷◌, ◌++◌, length, length-set, replicate, None, Some, slice_get, slice_set, refl, sym, ap, subst, ◌∙◌, arith, eqb-true, eq-eqb, nat_lt}
-use Rattle.std.proofs.lemmas.Bool.{false_from_ne_true, le-ltb}
+use Rattle.std.proofs.Common.{◌≡◌, ◌≢◌, inl, inr, ℕ, ◌+◌, ◌/◌, ◌%◌, ◌<◌, ◌≤◌, ◌==◌, Bool, true, false, List, [], ◌∷◌, ◌++◌, length, length-set, replicate, None, Some, slice_get, slice_set, refl, sym, ap, subst, ◌∙◌, arith, eqb-true, nat_lt}
+use Rattle.std.proofs.lemmas.Bool.{cases_Bool, false_from_ne_true, le-ltb, ne_eqb}
 use Rattle.std.proofs.lemmas.List.{append-nil}
 use Rattle.norec_world.proofs.Common.{Actor, Agrees, AllFit, AreActors, AreFrom, AreLaid, AreOpaque, Attempt, Between, Cells, ClocksOn, Core, HasRead, HasRow, IsMemory, IsRunOf, IsTied, IsTryAt, IsWorld, KeepsOthers, MAX_DEPTH, NoMemory, Obeys, Ready, Rows, Rules, World, active_of, begins_at, bytes_at, bytes_of, ending_of, in_transaction, of_thread, run_after, words_at, words_of}
 use Rattle.norec_engine.specs.Core.{opening}
@@ -16,7 +16,7 @@ use Rattle.norec_world.specs.World.{attempts_of}
 use Rattle.norec_world.specs.Runs.{RunsFrom, StillRuns}
 use Rattle.norec_world.specs.Opaque.{first_of}
 use Rattle.norec_world.specs.Invariant.{AreRunning}
-use Rattle.norec_world.proofs.SoundOthers.{set_place, within_of, there_is, are_open}
+use Rattle.norec_world.proofs.SoundOthers.{first_found, set_place, within_of, there_is, are_open}
 use Rattle.norec_world.proofs.Alones.{stands_open}
 use Rattle.norec_world.proofs.InTries.{try_stops}
 use Rattle.norec_world.proofs.Memories.{bytes_still}
@@ -27,39 +27,33 @@ use Rattle.norec_world.proofs.RunLists.{of_thread_more, run_still, run_more}
 -- of another one's attempts none
 of_thread_none : (thread other : ℕ) (xs : List Attempt) → AllOf other xs → (other ≡ thread → ⊥) → of_thread thread xs ≡ []
 of_thread_none thread other [] all apart = refl
-of_thread_none thread other (x ∷ xs) all apart = by_case (x.thread == thread) refl (of_thread_none thread other xs all.1 apart)
-  where
-    by_case : (b : Bool) → (x.thread == thread) ≡ b → of_thread thread xs ≡ [] → (if b then x ∷ of_thread thread xs else of_thread thread xs) ≡ []
-    by_case true e rest = absurd (apart (sym all.0 ∙ eqb-true x.thread thread e))
-    by_case false e rest = rest
+of_thread_none thread other (x ∷ xs) all apart = (let no = ne_eqb x.thread thread (λ same. apart (sym all.0 ∙ same)) in simp no (of_thread_none thread other xs all.1 apart))
 
 -- of open attempts the actor's one
 past_from : (n thread : ℕ) (xs : List Attempt) → AreFrom n xs → thread < n → of_thread thread xs ≡ []
 past_from n thread [] from l = refl
-past_from n thread (x ∷ xs) from l = by_case (x.thread == thread) refl (past_from (x.thread + 1) thread xs from.1 (let first = from.0 in omega arith))
-  where
-    by_case : (b : Bool) → (x.thread == thread) ≡ b → of_thread thread xs ≡ [] → (if b then x ∷ of_thread thread xs else of_thread thread xs) ≡ []
-    by_case true e rest = absurd (let same = eqb-true x.thread thread e in let first = from.0 in omega arith)
-    by_case false e rest = rest
+past_from n thread (x ∷ xs) from l =
+    let first = from.0 in
+    let no = ne_eqb x.thread thread (λ same. omega arith) in
+    simp no (past_from (x.thread + 1) thread xs from.1 (omega arith))
 
 pub open_none : (n thread : ℕ) (xs : List Attempt) → AreFrom n xs → active_of thread xs ≡ None → of_thread thread xs ≡ []
 open_none n thread [] from e = refl
-open_none n thread (x ∷ xs) from e = by_case (x.thread == thread) e (λ f. open_none (x.thread + 1) thread xs from.1 f)
-  where
-    by_case : (b : Bool) → (if b then Some x else active_of thread xs) ≡ None → (active_of thread xs ≡ None → of_thread thread xs ≡ []) → (if b then x ∷ of_thread thread xs else of_thread thread xs) ≡ []
-    by_case true e rest = absurd (cc)
-    by_case false e rest = rest e
+open_none n thread (x ∷ xs) from e = elim (cases_Bool (x.thread == thread)) [
+  | inl h ↦ absurd (let none = simp h at e in cc)
+  | inr h ↦ simp h (open_none (x.thread + 1) thread xs from.1 (simp h at e))
+]
 
 pub open_one : (n thread : ℕ) (xs : List Attempt) (row : Attempt) → AreFrom n xs → active_of thread xs ≡ Some row → of_thread thread xs ≡ row ∷ []
 open_one n thread [] row from e = absurd (cc)
-open_one n thread (x ∷ xs) row from e = by_case (x.thread == thread) refl e (λ f. open_one (x.thread + 1) thread xs row from.1 f)
-  where
-    by_case : (b : Bool) → (x.thread == thread) ≡ b → (if b then Some x else active_of thread xs) ≡ Some row → (active_of thread xs ≡ Some row → of_thread thread xs ≡ row ∷ []) → (if b then x ∷ of_thread thread xs else of_thread thread xs) ≡ row ∷ []
-    by_case true h e rest =
-        let same : x ≡ row = (let z : Some x ≡ Some row = e in cc) in
-        let none = past_from (x.thread + 1) thread xs from.1 (let is = eqb-true x.thread thread h in omega arith) in
-        (λ i. same i ∷ none i)
-    by_case false h e rest = rest e
+open_one n thread (x ∷ xs) row from e = elim (cases_Bool (x.thread == thread)) [
+  | inl h ↦
+      (let found = simp h at e in
+      let same : x ≡ row = cc in
+      let none = past_from (x.thread + 1) thread xs from.1 (let is = eqb-true x.thread thread h in omega arith) in
+      simp h (λ i. same i ∷ none i))
+  | inr h ↦ simp h (open_one (x.thread + 1) thread xs row from.1 (simp h at e))
+]
 
 -- ## The actors of attempts
 
@@ -73,15 +67,13 @@ of_actors_all n thread (x ∷ xs) l all = ((let same = all.0 in omega arith), of
 
 of_actors_active : (n : ℕ) (xs : List Attempt) → ((thread : ℕ) (row : Attempt) → active_of thread xs ≡ Some row → thread < n) → AreOfActors n xs
 of_actors_active n [] listed = tt
-of_actors_active n (x ∷ xs) listed = (listed x.thread x (here (x.thread == x.thread) (eq-eqb x.thread x.thread refl)), of_actors_active n xs (λ thread row e. later thread row e (x.thread == thread) refl))
-  where
-    here : (b : Bool) → b ≡ true → (if b then Some x else active_of x.thread xs) ≡ Some x
-    here true e = refl
-    here false e = absurd (cc)
-
-    later : (thread : ℕ) (row : Attempt) → active_of thread xs ≡ Some row → (b : Bool) → (x.thread == thread) ≡ b → thread < n
-    later thread row e true is = listed thread x (ap (λ (b : Bool). if b then Some x else active_of thread xs) is)
-    later thread row e false is = listed thread row (ap (λ (b : Bool). if b then Some x else active_of thread xs) is ∙ e)
+of_actors_active n (x ∷ xs) listed = (
+  listed x.thread x (first_found x xs),
+  of_actors_active n xs (λ thread row e. elim (cases_Bool (x.thread == thread)) [
+    | inl is ↦ listed thread x (simp is refl)
+    | inr is ↦ listed thread row (simp is e)
+  ]),
+)
 
 pub row_open : (b : Bool) (r : Rows) (thread : ℕ) (row : Attempt) → HasRow b r thread → active_of thread r.active ≡ Some row → b ≡ true
 row_open true r thread row h some = refl

@@ -29,9 +29,11 @@ module _ {P : Type 0} (rules : Rules P) where
     settled = t.settled;
   }
 
-  status_still : (r r' : Rows) (b : Actor P) → active_of b.thread r'.active ≡ active_of b.thread r.active → count_pending b.pending ≤ r'.room → (s : Status) → StatusIs rules r b s → StatusIs rules r' b s
-  status_still r r' b same room Ready s = s
-  status_still r r' b same room (Waits call step) s =
+  -- over other rows with room for what comes, where its open attempt is no longer
+  pub status_as : (r r' : Rows) (b : Actor P) → ((row : Attempt) → b.pending ≡ Some row → 0 < r.room → 0 < r'.room)
+      → ((row : Attempt) → active_of b.thread r'.active ≡ Some row → (was : Attempt) × (active_of b.thread r.active ≡ Some was) × (length row.calls ≡ length was.calls))
+      → (s : Status) → StatusIs rules r b s → StatusIs rules r' b s
+  status_as r r' b roomy calls (Waits call step) s =
       let i = s.in_call in
       record {
         nested = s.nested;
@@ -39,15 +41,16 @@ module _ {P : Type 0} (rules : Rules P) where
           asks = i.asks;
           begins = i.begins;
           inside = i.inside;
-          opens = λ row e. (let p = i.opens row e in record { thread = p.thread; nth = p.nth; outcome = p.outcome; room = pending_some b.pending row r'.room e room });
-          room = λ row o e. i.room row o (sym same ∙ e);
+          opens = λ row e. (let p = i.opens row e in record { thread = p.thread; nth = p.nth; outcome = p.outcome; room = roomy row e p.room });
+          room = λ row o e. (let was = calls row e in let some = i.room was.0 o was.1 in let same = was.2 in omega arith);
         };
         doing = s.doing;
         waits = s.waits;
         lawful = s.lawful;
         within = s.within;
       }
-  status_still r r' b same room (Ended end) s = tt
+  status_as r r' b roomy calls Ready s = s
+  status_as r r' b roomy calls (Ended end) s = tt
 
   pub sound_still : (cells cells' : Cells) (r r' : Rows) (b : Actor P) → IsSound rules cells r b
       → AllFit cells'.words → cells.clock ≤ cells'.clock → length cells'.words ≡ length cells.words → (b.engine.holds ≡ true → cells' ≡ cells)
@@ -57,7 +60,7 @@ module _ {P : Type 0} (rules : Rules P) where
       record {
         tied = tied_still cells cells' b s.tied fit late long held;
         kept = record { row = has_row_same (in_transaction b.engine) r r' b.thread same k.row; empty = k.empty; tried = k.tried; tries = k.tries; retries = k.retries };
-        status = status_still r r' b same room b.status s.status;
+        status = status_as r r' b (λ row e l. pending_some b.pending row r'.room e room) (λ row e. (row, sym same ∙ e, refl)) b.status s.status;
       }
 
 -- ## Sums
@@ -116,7 +119,7 @@ set_place xs i got new here j b e = elim (cases_Bool (i == j)) [
   | inr h ↦ (let apart : i ≢ j = eqb-false i j h in inr (apart, sym (slice_get-set_other xs i j new apart) ∙ e))
 ]
 
-first_found : (x : Attempt) (xs : List Attempt) → active_of x.thread (x ∷ xs) ≡ Some x
+pub first_found : (x : Attempt) (xs : List Attempt) → active_of x.thread (x ∷ xs) ≡ Some x
 first_found x xs = ap (λ (b : Bool). if b then Some x else active_of x.thread xs) (eq-eqb x.thread x.thread refl)
 
 pub there_is : {A : Type 0} (xs : List A) (i : ℕ) → i < length xs → (x : A) × (slice_get xs i ≡ Some x)
