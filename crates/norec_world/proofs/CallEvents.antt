@@ -10,9 +10,6 @@ use Rattle.norec_world.proofs.LessLeft.{HasLessSoFar, less_so_far, same_less, le
 
 -- ## Counts that stand still at the highest number
 
-pub counted_none : (events : ℕ) → events < 18446744073709551616 → counted events 0 ≡ events
-counted_none events h = omega arith
-
 pub counted_one : (n before now : ℕ) → before ≡ counted 0 n → now ≡ min (before + 1) 18446744073709551615 → now ≡ counted 0 (suc n)
 counted_one n before now b e = omega arith
 
@@ -81,14 +78,6 @@ module _ {P : Type 0} (rules : Rules P) (actor : ℕ) where
   pub leaves_on : (was on : Bool) (a b c : World P) → was ≡ true → IsSome (waits_at b actor) → LeavesLessSoFar was a b → LeavesLess on b c → LeavesLessSoFar on a c
   leaves_on false on a b c e waits f g x z here there = absurd (cc)
   leaves_on true on a b c e waits f g x z here there = (let y = waits_there b actor waits in less_so_far rules on x y.0 z (f x y.0 here y.1) (g y.0 z y.1 there))
-
-  pub leaves_first : (w : World P) → IsSome (waits_at w actor) → LeavesLessSoFar true w w
-  leaves_first w waits a b here there =
-      let y = waits_there w actor waits in
-      let same : a ≡ b = (let z : Some a ≡ Some b = sym here ∙ there in cc) in
-      let mine : y.0 ≡ a = (let z : Some y.0 ≡ Some a = sym y.1 ∙ here in cc) in
-      let waiting : is_waiting a.status ≡ true = ap (λ (x : Actor P). is_waiting x.status) (sym mine) ∙ y.2 in
-      (waiting, ap (λ (x : Actor P). is_waiting x.status) (sym same) ∙ waiting, subst (IsNoMore rules a) same (same_less rules a))
 
   -- while the call goes on, it has fewer and fewer steps left
   abbrev pub call_left_at : Bool → World P → ℕ

@@ -1,10 +1,8 @@
 -- An actor's steps, as the others see the clock.
 use Rattle.std.proofs.Common.{◌≡◌, ℕ, zero, suc, Some, ◌*◌, ◌≤◌, ◌%◌, Bool, true, false, refl, sym, ap, subst, ◌∙◌, arith}
-use Rattle.norec_world.proofs.Common.{Cas, Cells, ClocksOn, Core, Load, Step, Store, handed_to, word_loaded}
+use Rattle.std.proofs.lemmas.Bool.{both_ways}
+use Rattle.norec_world.proofs.Common.{Cells, ClocksOn, Core, Load, Step, Store, handed_to, word_loaded}
 use Rattle.norec_world.specs.ClockHolder.{HoldsOn}
-
-both : (n : Bool) → n ≡ true → n ≡ false → ⊥
-both n t f = absurd (cc)
 
 odd_even : (n : ℕ) → n % 2 ≡ 1 → n % 2 ≡ 0 → ⊥
 odd_even n o e = absurd (omega arith)
@@ -28,7 +26,7 @@ clocks_of cells cells' e e' h odd = record {
     by_both : (cells.clock % 2 ≡ 1 → e.holds ≡ true) → cells'.clock % 2 ≡ 1 → (a : Bool) → e.holds ≡ a → (b : Bool) → e'.holds ≡ b → e'.holds ≡ true
     by_both mine odd a o true n = n
     by_both mine odd true o false n = absurd (odd_even cells'.clock odd (h.frees o n).0)
-    by_both mine odd false o false n = absurd (both e.holds (mine (ap (λ (c : Cells). c.clock % 2) (sym (h.leaves o n)) ∙ odd)) o)
+    by_both mine odd false o false n = absurd (both_ways e.holds o (mine (ap (λ (c : Cells). c.clock % 2) (sym (h.leaves o n)) ∙ odd)))
 
 -- no step
 pub clocks_still : (cells : Cells) (e e' : Core) → e'.holds ≡ e.holds → (e'.max_commits ≡ e.max_commits) × (e'.patience ≡ e.patience) → ClocksOn cells e cells e'
@@ -58,10 +56,8 @@ clocks_twice c0 c1 c2 e0 e1 e2 x y = record {
 
 -- the store that frees the clock
 abbrev pub is_free : Step → Bool
-is_free (Load cell) = false
 is_free (Store zero value) = true
-is_free (Store (suc word) value) = false
-is_free (Cas cell from to) = false
+is_free s = false
 
 pub word_freed : (e : Core) (holds : Bool) (word seen : ℕ) → (word_loaded e holds word seen).freed ≡ e.freed
 word_freed e true word seen = refl
@@ -69,8 +65,6 @@ word_freed e false word seen = refl
 
 -- whether the clock was freed by it
 pub freed_by : (e : Core) (s : Step) (seen : ℕ) → e.freed ≡ false → (handed_to e (Some s) seen).freed ≡ is_free s
-freed_by e (Load zero) seen f = f
 freed_by e (Load (suc word)) seen f = word_freed e e.holds word seen ∙ f
 freed_by e (Store zero value) seen f = refl
-freed_by e (Store (suc word) value) seen f = f
-freed_by e (Cas cell from to) seen f = f
+freed_by e s seen f = f

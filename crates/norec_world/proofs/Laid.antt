@@ -1,20 +1,11 @@
 -- The words and the memories that the commits left, once attempts have ended.
-use Rattle.std.proofs.Common.{◌≡◌, ℕ, ◌+◌, ◌/◌, ◌%◌, ◌≤◌, ◌==◌, Bool, true, false, List, length, refl, sym, ap, subst, ◌∙◌, arith, eqb-true, eq-eqb}
+use Rattle.std.proofs.Common.{◌≡◌, ℕ, ◌+◌, ◌/◌, ◌%◌, ◌≤◌, ◌==◌, Bool, true, false, List, length, refl, sym, ap, subst, ◌∙◌, arith, eqb-true}
+use Rattle.std.proofs.lemmas.Bool.{eqb-false}
 use Rattle.norec_world.proofs.Common.{AllFit, AreCounted, AreLaid, Cells, IsMemory, Rows, bytes_at, bytes_of, words_at, words_of}
 use Rattle.norec_world.proofs.WordLists.{words_of-bytes_of}
 
-both : (n : Bool) → n ≡ true → n ≡ false → ⊥
-both n t f = absurd (cc)
-
 below_next : (k n n' : ℕ) → (k == n + 1) ≡ false → n' ≡ n + 1 → k ≤ n' → k ≤ n
-below_next k n n' e next l = by_case (k == n + 1) refl
-  where
-    by_case : (b : Bool) → (k == n + 1) ≡ b → k ≤ n
-    by_case true h = absurd (both (k == n + 1) h e)
-    by_case false h = omega (arith, next, l, ne_eqb' h)
-      where
-        ne_eqb' : (k == n + 1) ≡ false → k ≡ n + 1 → ⊥
-        ne_eqb' h same = both (k == n + 1) (eq-eqb k (n + 1) same) h
+below_next k n n' e next l = (let apart = eqb-false k (n + 1) e in omega arith)
 
 -- no commit is done by the event
 pub laid_on : (base : List ℕ) (cells cells' : Cells) (r r' : Rows) → AreLaid base cells r → AreCounted cells'.clock r'.ended → cells'.clock / 2 ≡ cells.clock / 2 → length cells'.words ≡ length cells.words

@@ -1,9 +1,14 @@
 -- Less and less is left to do.
-use Rattle.std.proofs.Common.{◌≡◌, ℕ, ◌+◌, ◌<◌, ◌≤◌, Bool, true, false, None, refl, sym, ap, subst, ◌∙◌, arith, if◌then◌else◌}
-use Rattle.norec_world.proofs.Common.{Actor, Ended, IsNoMore, Ready, Rules, Status, Waits, ending_of, in_transaction, is_ready, is_waiting, rank, whole}
+use Rattle.std.proofs.Common.{inl, inr, ◌≡◌, ℕ, ◌+◌, ◌<◌, ◌≤◌, Bool, true, false, None, refl, sym, ap, subst, ◌∙◌, arith, if◌then◌else◌}
+use Rattle.norec_world.proofs.Common.{Actor, IsNoMore, Ready, Rules, Status, ending_of, in_transaction, is_ready, is_waiting, rank, whole}
+use Rattle.norec_world.proofs.Worlds.{waiting_going}
+use Rattle.std.proofs.lemmas.Bool.{cases_Bool}
 use Rattle.norec_world.specs.Sound.{GoesOn, Falls, HasLess, steps_left, run_left}
 
 module _ {P : Type 0} (rules : Rules P) where
+  run_left_is : (k : ℕ) (a : Actor P) → is_waiting a.status ≡ true → run_left rules k a ≡ rank rules k (in_transaction a.engine) a + 1
+  run_left_is k a w = ap (λ (x : Bool). if x then rank rules k (in_transaction a.engine) a + 1 else 0) w
+
   pub same_less : (a : Actor P) → IsNoMore rules a a
   same_less a = record { whole_falls = (let o : whole rules (in_transaction a.engine) a.player ≤ whole rules (in_transaction a.engine) a.player = omega arith in o); rank_falls = λ k b. omega arith }
 
@@ -13,20 +18,8 @@ module _ {P : Type 0} (rules : Rules P) where
     rank_falls = λ k l. (let u = f.rank_falls k l in let v = g.rank_falls k (omega arith) in omega arith);
   }
 
-  pub less_falls : (a b c : Actor P) → IsNoMore rules a b → Falls rules (in_transaction b.engine) (in_transaction c.engine) b c
-      → Falls rules (in_transaction a.engine) (in_transaction c.engine) a c
-  less_falls a b c f g = let x = f.whole_falls in let y = g.whole_falls in record {
-    whole_falls = omega arith;
-    rank_falls = λ k l. (let u = f.rank_falls k l in let v = g.rank_falls k (omega arith) in omega arith);
-  }
-
   pub falls_less : (a b : Actor P) → Falls rules (in_transaction a.engine) (in_transaction b.engine) a b → IsNoMore rules a b
   falls_less a b f = record { whole_falls = f.whole_falls; rank_falls = λ k l. (let u = f.rank_falls k l in omega arith) }
-
-waiting_goes_on : (s : Status) → is_waiting s ≡ true → ending_of s ≡ None
-waiting_goes_on Ready e = absurd (cc)
-waiting_goes_on (Waits call step) e = refl
-waiting_goes_on (Ended end) e = absurd (cc)
 
 -- one event: the call of a is over at b, and local work leads to c
 module _ {P : Type 0} (rules : Rules P) (a b c : Actor P)
@@ -35,33 +28,23 @@ module _ {P : Type 0} (rules : Rules P) (a b c : Actor P)
     (still : is_ready b.status ≡ false → c.status ≡ b.status)
     (less : ending_of c.status ≡ None → IsNoMore rules b c) where
   fell : is_waiting c.status ≡ true → Falls rules (in_transaction a.engine) (in_transaction b.engine) a b
-  fell w = of_ready (is_ready b.status) refl
-    where
-      of_ready : (x : Bool) → is_ready b.status ≡ x → Falls rules (in_transaction a.engine) (in_transaction b.engine) a b
-      of_ready true e = falls e
-      of_ready false e = absurd (let f : is_waiting c.status ≡ false = ap is_waiting (still e) ∙ over in cc)
+  fell w = elim (cases_Bool (is_ready b.status)) [ inl e ↦ falls e | inr e ↦ absurd (let f : is_waiting c.status ≡ false = ap is_waiting (still e) ∙ over in cc) ]
 
   pub turn_less : is_waiting c.status ≡ true → IsNoMore rules a c
-  turn_less w = less_less rules a b c (falls_less rules a b (fell w)) (less (waiting_goes_on c.status w))
+  turn_less w = less_less rules a b c (falls_less rules a b (fell w)) (less (waiting_going c.status w))
 
   pub turn_falls : (k : ℕ) → whole rules (in_transaction a.engine) a.player ≤ k → run_left rules k c < run_left rules k a
-  turn_falls k l = of_waiting (is_waiting c.status) refl
-    where
-      before : run_left rules k a ≡ rank rules k (in_transaction a.engine) a + 1
-      before = ap (λ (x : Bool). if x then rank rules k (in_transaction a.engine) a + 1 else 0) waits
-
-      of_waiting : (x : Bool) → is_waiting c.status ≡ x → run_left rules k c < run_left rules k a
-      of_waiting true e =
-          let after : run_left rules k c ≡ rank rules k (in_transaction c.engine) c + 1 = ap (λ (x : Bool). if x then rank rules k (in_transaction c.engine) c + 1 else 0) e in
-          let f = (fell e).rank_falls k l in
-          let w = (fell e).whole_falls in
-          let m = (less (waiting_goes_on c.status e)).rank_falls k (omega arith) in
-          let u = before in
-          omega arith
-      of_waiting false e =
-          let after : run_left rules k c ≡ 0 = ap (λ (x : Bool). if x then rank rules k (in_transaction c.engine) c + 1 else 0) e in
-          let u = before in
-          omega arith
+  turn_falls k l =
+      let before = run_left_is rules k a waits in
+      elim (cases_Bool (is_waiting c.status)) [
+        | inl e ↦
+            (let after = run_left_is rules k c e in
+            let f = (fell e).rank_falls k l in
+            let w = (fell e).whole_falls in
+            let m = (less (waiting_going c.status e)).rank_falls k (omega arith) in
+            omega arith)
+        | inr e ↦ (let after : run_left rules k c ≡ 0 = ap (λ (x : Bool). if x then rank rules k (in_transaction c.engine) c + 1 else 0) e in omega arith)
+      ]
 
 module _ {P : Type 0} (rules : Rules P) where
   -- one event: the step leads to b, and local work to c
@@ -73,8 +56,7 @@ module _ {P : Type 0} (rules : Rules P) where
       where
         unready : (s : Status) → is_waiting s ≡ true → is_ready s ≡ false
         unready Ready e = absurd (cc)
-        unready (Waits call step) e = refl
-        unready (Ended end) e = refl
+        unready s e = refl
 
     pub event_less : (on : Bool) → is_waiting b.status ≡ on → HasLess rules on a c
     event_less true w =
@@ -95,9 +77,6 @@ module _ {P : Type 0} (rules : Rules P) where
   HasLessSoFar true a b = (is_waiting a.status ≡ true) × (is_waiting b.status ≡ true) × IsNoMore rules a b
   HasLessSoFar false a b = HasLess rules false a b
 
-  run_left_is : (k : ℕ) (a : Actor P) → is_waiting a.status ≡ true → run_left rules k a ≡ rank rules k (in_transaction a.engine) a + 1
-  run_left_is k a w = ap (λ (x : Bool). if x then rank rules k (in_transaction a.engine) a + 1 else 0) w
-
   -- with one event more
   pub less_so_far : (on : Bool) (a b c : Actor P) → HasLessSoFar true a b → HasLess rules on b c → HasLessSoFar on a c
   less_so_far true a b c f g = (let o = g.on refl in (f.0, o.0, less_less rules a b c f.2 (g.less o.0)))
@@ -108,7 +87,7 @@ module _ {P : Type 0} (rules : Rules P) where
         (let x = f.2.whole_falls in
         let r = f.2.rank_falls k l in
         let o = g.over refl k (omega arith) in
-        let u = run_left_is k a f.0 in
-        let v = run_left_is k b f.1 in
+        let u = run_left_is rules k a f.0 in
+        let v = run_left_is rules k b f.1 in
         omega arith);
   }

@@ -42,7 +42,6 @@ pub mod Solos
 pub mod SoleRuns
 pub mod SoleEvents
 pub mod ShownAlone
-pub mod OpenedRows
 pub mod Beginnings
 pub mod Events
 pub mod EventWorlds

@@ -1,14 +1,8 @@
 -- A step and local work, as what an event is made of.
-use Rattle.std.proofs.Common.{◌≡◌, ℕ, zero, suc, ◌/◌, false, None, Some, refl, sym, subst}
-use Rattle.norec_world.proofs.Common.{Actor, Acts, Call, Cells, Core, Ended, IsTold, Next, Ready, RestsAs, Rows, Rules, Status, StatusIs, Step, Tells, Waits, found, in_transaction, is_ready, waiting_step}
+use Rattle.std.proofs.Common.{◌≡◌, ℕ, zero, suc, ◌/◌, None, sym, subst}
+use Rattle.norec_world.proofs.Common.{Actor, Acts, Call, Cells, Core, IsTold, Next, Ready, Rows, Rules, Status, StatusIs, Step, Tells, Waits, found, in_transaction}
 use Rattle.norec_engine.specs.Moves.{IsResumed}
 use Rattle.norec_world.specs.LocalWork.{SameActor, TakesIn, ActsOn, Works}
-
--- who waits is not ready
-pub not_ready : (s : Status) (step : Step) → waiting_step s ≡ Some step → is_ready s ≡ false
-not_ready Ready step e = absurd (cc)
-not_ready (Waits call other) step e = refl
-not_ready (Ended end) step e = refl
 
 -- the value came to the engine, and what came of it was taken up
 module _ {P : Type 0} (rules : Rules P) (cells : Cells) (r : Rows) (old : Actor P) (call : Call) (step : Step) (waiting : old.status ≡ Waits call step)
@@ -30,9 +24,6 @@ module _ {P : Type 0} (rules : Rules P) (cells : Cells) (r : Rows) (old : Actor 
   }
 
 module _ {P : Type 0} (rules : Rules P) (clock : ℕ) where
-  pub works_none : (r : Rows) (a : Actor P) → Works rules clock r a r a
-  works_none r a = (0, (refl, refl))
-
   pub works_more : (r r1 r2 : Rows) (a a1 a2 : Actor P) → Works rules clock r a r1 a1 → a1.status ≡ Ready → Acts rules clock r1 a1 r2 a2
       → Works rules clock r a r2 a2
   works_more r r1 r2 a a1 a2 w ready acts = (suc w.0, (r1, a1, w.1, ready, acts))
@@ -51,10 +42,4 @@ module _ {P : Type 0} (rules : Rules P) (clock : ℕ) where
 module _ {P : Type 0} (rules : Rules P) where
   pub nothing_ready : (r : Rows) (a : Actor P) (s : Status) → StatusIs rules r a s → s ≡ Ready → a.pending ≡ None
   nothing_ready r a Ready is e = is.nothing
-  nothing_ready r a (Waits call step) is e = absurd (cc)
-  nothing_ready r a (Ended end) is e = absurd (cc)
-
-  pub nothing_rests : (a : Actor P) (s : Status) → RestsAs rules s a → s ≡ Ready → a.pending ≡ None
-  nothing_rests a Ready is e = is.nothing
-  nothing_rests a (Waits call step) is e = absurd is
-  nothing_rests a (Ended end) is e = absurd (cc)
+  nothing_ready r a s is e = absurd (cc)

@@ -1,6 +1,7 @@
 -- What an engine has seen, over a step.
 use Rattle.std.proofs.Common.{◌≡◌, ℕ, zero, suc, ◌/◌, ◌%◌, ◌<◌, ◌==◌, Bool, true, false, List, length, slice_get, slice_set, slice_index, Some, refl, sym, ap, subst, ◌∙◌, arith, if◌then◌else◌, eqb-true}
 use Rattle.std.proofs.lemmas.Option.{slice_get-get_or}
+use Rattle.std.proofs.lemmas.Bool.{both_ways}
 use Rattle.norec_world.proofs.Common.{Agrees, Cas, Cells, Core, IsLawful, IsMemory, IsTied, Load, Sees, Step, Store, cells_after, cond-true, found, handed_to, in_transaction, word_loaded}
 use Rattle.norec_engine.specs.Proceeds.{Joins, Settles, Got}
 use Rattle.norec_engine.specs.Rows.{write_at}
@@ -9,16 +10,13 @@ use Rattle.norec_world.specs.LogAgreement.{Loaded}
 use Rattle.norec_engine.proofs.Logs.{agrees_more}
 use Rattle.norec_world.proofs.ClockHolders.{is_free}
 
-both : (n : Bool) → n ≡ true → n ≡ false → ⊥
-both n t f = absurd (cc)
-
 module _ (memory : ℕ → List ℕ) (cells : Cells) (e : Core) (t : IsTied cells e) (free : cells.clock % 2 ≡ 0 → cells.words ≡ memory (cells.clock / 2)) (fits : IsMemory (length cells.words) (memory (cells.clock / 2))) where
   -- ## The value is handed in
 
   word_handed : Loaded memory cells e → (word : ℕ) → word < length cells.words → (holds : Bool) → e.holds ≡ holds → (e.holds ≡ true → word ≡ (write_at e.writes e.done).word)
       → Loaded memory cells (word_loaded e holds word (slice_index cells.words word))
   word_handed s word inside true h own = record {
-    fresh = λ even same f. absurd (both e.holds h f);
+    fresh = λ even same f. absurd (both_ways e.holds f h);
     held = s.held;
     got = λ g. ap (slice_get cells.words) (sym (own g)) ∙ slice_get-get_or cells.words word 0 inside;
   }
@@ -26,12 +24,12 @@ module _ (memory : ℕ → List ℕ) (cells : Cells) (e : Core) (t : IsTied cell
     fresh = λ even same f. agrees_more (memory (cells.clock / 2)) e.fresh _ (s.fresh even same f)
         (subst (λ (m : List ℕ). slice_get m word ≡ Some (slice_index cells.words word)) (free even) (slice_get-get_or cells.words word 0 inside), tt);
     held = s.held;
-    got = λ g. absurd (both e.holds g h);
+    got = λ g. absurd (both_ways e.holds h g);
   }
 
   -- any step but the store that frees the clock
   pub loaded_handed : Loaded memory cells e → (step : Step) → IsLawful e step → is_free step ≡ false → Loaded memory (cells_after cells step) (handed_to e (Some step) (found cells step))
-  loaded_handed s (Load zero) l n = record { fresh = λ even same f. tt; held = λ h. absurd (both e.holds h l.1); got = λ h. absurd (both e.holds h l.1) }
+  loaded_handed s (Load zero) l n = record { fresh = λ even same f. tt; held = λ h. absurd (both_ways e.holds l.1 h); got = λ h. absurd (both_ways e.holds l.1 h) }
   loaded_handed s (Load (suc word)) l n = word_handed s word (let k = l.0 in let w = t.words in omega arith) e.holds refl (λ h. (l.1.1 h).1)
   loaded_handed s (Store zero value) l n = absurd (cc)
   loaded_handed s (Store (suc word) value) l n =
@@ -39,7 +37,7 @@ module _ (memory : ℕ → List ℕ) (cells : Cells) (e : Core) (t : IsTied cell
       let mem : IsMemory e.words (memory (cells.clock / 2)) = (fits.0 ∙ sym t.words, fits.1) in
       let got : Got e.got (slice_get cells.words word) = subst (λ (k : ℕ). Got e.got (slice_get cells.words k)) (sym l.2.word_is) (s.got l.1) in
       record {
-        fresh = λ even same f. absurd (both e.holds l.1 f);
+        fresh = λ even same f. absurd (both_ways e.holds f l.1);
         held = λ h. ap (λ (m : List ℕ). slice_set m word value) held ∙ sym (l.2.value_is (memory (cells.clock / 2)) mem (subst (λ (m : List ℕ). Got e.got (slice_get m word)) held got));
         got = λ h. tt;
       }

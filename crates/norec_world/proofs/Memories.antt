@@ -1,5 +1,6 @@
 -- The memories that the commits left stay when more attempts end.
-use Rattle.std.proofs.Common.{◌≡◌, ℕ, zero, suc, ◌+◌, ◌/◌, ◌<◌, ◌≤◌, Bool, true, false, nat_lt, if◌then◌else◌, List, [], ◌∷◌, ◌++◌, None, Some, refl, sym, ap, ◌∙◌, arith, lt-ltb, ltb-true}
+use Rattle.std.proofs.Common.{◌≡◌, ℕ, zero, suc, ◌+◌, ◌/◌, ◌<◌, ◌≤◌, Bool, true, false, if◌then◌else◌, List, [], ◌∷◌, ◌++◌, None, Some, refl, sym, ap, ◌∙◌, arith, lt-ltb}
+use Rattle.std.proofs.lemmas.Bool.{le-ltb}
 use Rattle.norec_world.proofs.Common.{AreCounted, Attempt, MAX_DEPTH, bytes_at, committed_at}
 use Rattle.norec_world.specs.Attempts.{is_at, memory_left}
 use Rattle.norec_world.specs.Commits.{one_where, count_at}
@@ -48,11 +49,7 @@ module _ (base : List ℕ) (clock : ℕ) (xs : List Attempt) (counted : AreCount
 
   -- no attempt is at the next position
   pub none_next : (position : ℕ) → clock / 2 ≤ position → committed_at xs position ≡ None
-  none_next position l = none_at xs position (counted.each position ∙ ap one_where (past (nat_lt position (clock / 2)) refl))
-    where
-      past : (b : Bool) → nat_lt position (clock / 2) ≡ b → nat_lt position (clock / 2) ≡ false
-      past true e = absurd (let less : position < clock / 2 = ltb-true position (clock / 2) e in omega arith)
-      past false e = e
+  none_next position l = none_at xs position (counted.each position ∙ ap one_where (le-ltb position (clock / 2) l))
 
   -- with more attempts they are the same
   pub bytes_still : (ys : List Attempt) (k : ℕ) → k ≤ clock / 2 → bytes_at base (xs ++ ys) k ≡ bytes_at base xs k

@@ -1,5 +1,6 @@
 -- One actor's work leaves the others' attempts.
-use Rattle.std.proofs.Common.{◌≡◌, ℕ, ◌-◌, Bool, true, false, if◌then◌else◌, ◌+◌, ◌≤◌, subst, arith, List, [], ◌∷◌, ◌++◌, None, Some, refl, sym, ap, ◌∙◌, append_assoc, nat_lt}
+use Rattle.std.proofs.Common.{inl, inr, ◌≡◌, ℕ, ◌-◌, Bool, true, false, ◌+◌, ◌≤◌, subst, arith, List, [], ◌∷◌, ◌++◌, None, Some, refl, sym, ap, ◌∙◌, append_assoc, nat_lt}
+use Rattle.std.proofs.lemmas.Bool.{cases_Bool, cond_both}
 use Rattle.std.proofs.lemmas.List.{append-nil}
 use Rattle.norec_world.proofs.Common.{Actor, AreFrom, Attempt, Ended, GaveUp, HasRow, KeepsOthers, Outcome, Rows, active_of, with_changed, with_opened}
 use Rattle.norec_world.specs.Rows.{is_of, with_ended}
@@ -95,48 +96,26 @@ module _ {P : Type 0} where
   }
 
   -- a try that came to nothing changes neither
+  retried_is : {A : Type 0} (f : Actor P → A) (a : Actor P) → f (record a { status = Ended GaveUp }) ≡ f a → f (record a { nth = a.nth + 1 }) ≡ f a → f (retried a) ≡ f a
+  retried_is f a given_up next = cond_both (nat_lt a.retries a.nth) _ _ (λ (b : Actor P). f b ≡ f a) (λ e. given_up) (λ e. next)
+
   pub retried_thread : (a : Actor P) → (retried a).thread ≡ a.thread
-  retried_thread a = by_case (nat_lt a.retries a.nth)
-    where
-      by_case : (b : Bool) → (if b then record a { status = Ended GaveUp } else record a { nth = a.nth + 1 }).thread ≡ a.thread
-      by_case true = refl
-      by_case false = refl
+  retried_thread a = retried_is (λ (x : Actor P). x.thread) a refl refl
 
   pub retried_pending : (a : Actor P) → (retried a).pending ≡ a.pending
-  retried_pending a = by_case (nat_lt a.retries a.nth)
-    where
-      by_case : (b : Bool) → (if b then record a { status = Ended GaveUp } else record a { nth = a.nth + 1 }).pending ≡ a.pending
-      by_case true = refl
-      by_case false = refl
+  retried_pending a = retried_is (λ (x : Actor P). x.pending) a refl refl
 
   pub retried_player : (a : Actor P) → (retried a).player ≡ a.player
-  retried_player a = by_case (nat_lt a.retries a.nth)
-    where
-      by_case : (b : Bool) → (if b then record a { status = Ended GaveUp } else record a { nth = a.nth + 1 }).player ≡ a.player
-      by_case true = refl
-      by_case false = refl
+  retried_player a = retried_is (λ (x : Actor P). x.player) a refl refl
 
   pub retried_engine : (a : Actor P) → (retried a).engine ≡ a.engine
-  retried_engine a = by_case (nat_lt a.retries a.nth)
-    where
-      by_case : (b : Bool) → (if b then record a { status = Ended GaveUp } else record a { nth = a.nth + 1 }).engine ≡ a.engine
-      by_case true = refl
-      by_case false = refl
+  retried_engine a = retried_is (λ (x : Actor P). x.engine) a refl refl
 
   pub retried_counts : (a : Actor P) → CountsTry a (retried a)
-  retried_counts a = record { nth = nths (nat_lt a.retries a.nth); status = statuses (nat_lt a.retries a.nth); again = agains (nat_lt a.retries a.nth) }
-    where
-      nths : (b : Bool) → (if b then record a { status = Ended GaveUp } else record a { nth = a.nth + 1 }).nth ≡ (if b then a.nth else a.nth + 1)
-      nths true = refl
-      nths false = refl
-
-      statuses : (b : Bool) → (if b then record a { status = Ended GaveUp } else record a { nth = a.nth + 1 }).status ≡ (if b then Ended GaveUp else a.status)
-      statuses true = refl
-      statuses false = refl
-
-      agains : (b : Bool) → (if b then record a { status = Ended GaveUp } else record a { nth = a.nth + 1 }).again ≡ a.again
-      agains true = refl
-      agains false = refl
+  retried_counts a = elim (cases_Bool (nat_lt a.retries a.nth)) [
+    | inl e ↦ record { nth = simp e; status = simp e; again = simp e }
+    | inr e ↦ record { nth = simp e; status = simp e; again = simp e }
+  ]
 
   -- memory was refused
   pub others_starved : (a a' : Actor P) (r r' : Rows) (is_open : Bool) (at : ℕ) (outcome : Outcome) → HasRow is_open r a.thread → a'.thread ≡ a.thread → a'.pending ≡ a.pending

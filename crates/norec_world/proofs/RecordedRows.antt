@@ -6,15 +6,15 @@ use Rattle.norec_world.specs.Rows.{is_of, changed, without, with_ended}
 use Rattle.norec_world.proofs.ActiveRows.{opened_here, changed_here}
 use Rattle.norec_world.specs.Sound.{depth_if, IsKept}
 use Rattle.std.proofs.lemmas.Bool.{cond-false}
-use Rattle.norec_world.proofs.Common.{Actor, Attempt, Call, Ended, HasRow, Ready, Replied, Rows, Rules, Status, StatusIs, Waits, active_of, cond-true, in_transaction, is_begin, with_changed, with_opened}
+use Rattle.norec_world.proofs.Common.{Actor, Attempt, Call, HasRow, Replied, Rows, Rules, Status, StatusIs, active_of, cond-true, in_transaction, is_begin, with_changed, with_opened}
 use Rattle.norec_world.proofs.PlayerLaws.{opens_at_begin}
+use Rattle.norec_world.proofs.SoundOthers.{status_as}
 
 -- nothing is open, and was not
 pub row_stays : (r : Rows) (thread : ℕ) (was now : Bool) → (was ≡ true → now ≡ true) → now ≡ false → HasRow was r thread → HasRow now r thread
-row_stays r thread true true still e h = absurd (cc)
-row_stays r thread true false still e h = absurd (let f : false ≡ true = still refl in cc)
-row_stays r thread false true still e h = absurd (cc)
 row_stays r thread false false still e h = h
+row_stays r thread true now still e h = absurd (let f = still refl in cc)
+row_stays r thread was now still e h = absurd (cc)
 
 -- a block that opens was begun by this call
 pub was_open : (was now : Bool) (call : Call) (reply : Replied) → (was ≡ false → is_begin call ≡ false) → depth_after (depth_if was) call reply ≡ depth_if now → now ≡ true → was ≡ true
@@ -90,21 +90,5 @@ module _ {P : Type 0} (rules : Rules P)
       ap (λ (x : Attempt). x.calls) same ∙ k.calls had.0
 
   pub told_status : (status : Status) → StatusIs rules r a status → StatusIs rules r' a status
-  told_status Ready s = record { nested = s.nested; idle = s.idle; free = s.free; nothing = s.nothing }
-  told_status (Waits call step) s =
-      let i = s.in_call in
-      record {
-        nested = s.nested;
-        in_call = record {
-          asks = i.asks;
-          begins = i.begins;
-          inside = i.inside;
-          opens = λ row e. (let p = i.opens row e in record { thread = p.thread; nth = p.nth; outcome = p.outcome; room = (let same : r'.room ≡ r.room = ap (λ (x : Rows). x.room) is in let some = p.room in omega arith) });
-          room = λ row o e. (let same = ap length (told_calls row e) in let some = i.room had.0 o had.1 in omega arith);
-        };
-        doing = s.doing;
-        waits = s.waits;
-        lawful = s.lawful;
-        within = s.within;
-      }
-  told_status (Ended end) s = tt
+  told_status status s =
+      status_as rules r r' a (λ row e l. (let same : r'.room ≡ r.room = ap (λ (x : Rows). x.room) is in omega arith)) (λ row e. (had.0, had.1, ap length (told_calls row e))) status s

@@ -1,6 +1,7 @@
 -- What is answered where the actor waits for no operation.
-use Rattle.std.proofs.Common.{◌≡◌, ℕ, ◌≤◌, zero, suc, Bool, true, false, List, [], ◌∷◌, length, Option, None, Some, Err, IsSome, slice_get, refl, sym, ap, subst, ◌∙◌, arith}
+use Rattle.std.proofs.Common.{◌≡◌, ℕ, ◌≤◌, zero, suc, false, List, [], ◌∷◌, length, Option, None, Some, Err, IsSome, slice_get, refl, sym, ap, subst, ◌∙◌, arith}
 use Rattle.std.specs.Option.{option_map}
+use Rattle.std.proofs.lemmas.Bool.{both_ways}
 use Rattle.norec_world.proofs.Common.{Actor, AreOpaque, CommitsInOrder, Goes, Rules, World, ending_at, ending_of, is_ready, is_waiting, option_and_then, waiting_step, waits_at}
 use Rattle.norec_world.specs.declared.fault.WorldFault.TheVariants.{NoSuchActor, Ended}
 use Rattle.norec_world.specs.World.{ShowsAlone}
@@ -19,9 +20,6 @@ past_end : {A : Type 0} (xs : List A) (i : ℕ) → slice_get xs i ≡ None → 
 past_end [] i e = omega arith
 past_end (x ∷ xs) zero e = absurd (cc)
 past_end (x ∷ xs) (suc i) e = (let l = past_end xs i e in omega arith)
-
-both : (b : Bool) → b ≡ true → b ≡ false → ⊥
-both b t f = absurd (cc)
 
 module _ {P : Type 0} (rules : Rules P) (w : World P) (i : ℕ) (alone : ShowsAlone rules w)
     (commits : CommitsInOrder w) (opaque : AreOpaque rules w) where
@@ -50,7 +48,7 @@ module _ {P : Type 0} (rules : Rules P) (w : World P) (i : ℕ) (alone : ShowsAl
   goes_no_more a here still done =
       let step_is : waits_at w i ≡ waiting_step a.status = ap (option_and_then (λ (x : Actor P). waiting_step x.status)) here in
       let end_is : ending_at w i ≡ ending_of a.status = ap (option_and_then (λ (x : Actor P). ending_of x.status)) here in
-      let no_step : IsSome (waits_at w i) → ⊥ = λ e. both (is_waiting a.status) (waiting_some a.status (subst IsSome step_is e)) still in
+      let no_step : IsSome (waits_at w i) → ⊥ = λ e. both_ways (is_waiting a.status) still (waiting_some a.status (subst IsSome step_is e)) in
       record {
         no_such = (λ e. absurd (cc), λ l. absurd (let n = within_of w.actors i a here in omega arith));
         ended = (λ e. subst IsSome (sym end_is) (some_ended a.status still done), λ e. refl);

@@ -1,25 +1,17 @@
 -- An actor's run with one attempt more, and over more commits.
-use Rattle.std.proofs.Common.{◌≡◌, ℕ, ◌≤◌, ◌==◌, Bool, true, false, if◌then◌else◌, List, [], ◌∷◌, ◌++◌, Option, None, Some, refl, sym, ap, subst, ◌∙◌, arith, eqb-true, eq-eqb}
+use Rattle.std.proofs.Common.{◌≡◌, ℕ, ◌≤◌, ◌==◌, Bool, true, false, if◌then◌else◌, List, [], ◌∷◌, ◌++◌, Option, None, Some, refl, sym, ap, subst, ◌∙◌, arith, eq-eqb}
 use Rattle.norec_world.proofs.Common.{Attempt, Beginning, Between, IsRunOf, IsTryAt, MAX_DEPTH, Rules, begins_at, of_thread, run_after}
 use Rattle.norec_world.specs.Opacity.{after_try, IsOpaque}
 
 -- ## The attempts of one actor
 
-of_thread_more : (thread : ℕ) (xs ys : List Attempt) → of_thread thread (xs ++ ys) ≡ of_thread thread xs ++ of_thread thread ys
+pub of_thread_more : (thread : ℕ) (xs ys : List Attempt) → of_thread thread (xs ++ ys) ≡ of_thread thread xs ++ of_thread thread ys
 of_thread_more thread [] ys = refl
 of_thread_more thread (x ∷ xs) ys = by_case (x.thread == thread) (of_thread_more thread xs ys)
   where
     by_case : (b : Bool) → of_thread thread (xs ++ ys) ≡ of_thread thread xs ++ of_thread thread ys → (if b then x ∷ of_thread thread (xs ++ ys) else of_thread thread (xs ++ ys)) ≡ (if b then x ∷ of_thread thread xs else of_thread thread xs) ++ of_thread thread ys
     by_case true more = ap (λ (l : List Attempt). x ∷ l) more
     by_case false more = more
-
--- another one's end
-pub of_thread_other : (thread : ℕ) (xs : List Attempt) (a : Attempt) → (a.thread ≡ thread → ⊥) → of_thread thread (xs ++ a ∷ []) ≡ of_thread thread xs ++ []
-of_thread_other thread xs a apart = of_thread_more thread xs (a ∷ []) ∙ ap (λ (l : List Attempt). of_thread thread xs ++ l) (by_case (a.thread == thread) refl)
-  where
-    by_case : (b : Bool) → (a.thread == thread) ≡ b → (if b then a ∷ [] else []) ≡ []
-    by_case true e = absurd (apart (eqb-true a.thread thread e))
-    by_case false e = refl
 
 -- its own
 pub of_thread_own : (thread : ℕ) (xs : List Attempt) (a : Attempt) → a.thread ≡ thread → of_thread thread (xs ++ a ∷ []) ≡ of_thread thread xs ++ a ∷ []

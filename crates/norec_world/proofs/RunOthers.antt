@@ -1,5 +1,6 @@
 -- The actors' runs: one's event leaves the others', and together they are the headline.
-use Rattle.std.proofs.Common.{◌≡◌, ◌≢◌, inl, inr, ℕ, ◌+◌, ◌/◌, ◌%◌, ◌<◌, ◌≤◌, ◌==◌, Bool, true, false, if◌then◌else◌, List, [], ◌∷◌, ◌++◌, length, length-set, replicate, None, Some, slice_get, slice_set, refl, sym, ap, subst, ◌∙◌, arith, eqb-true, eq-eqb, nat_lt, ltb-true}
+use Rattle.std.proofs.Common.{◌≡◌, ◌≢◌, inl, inr, ℕ, ◌+◌, ◌/◌, ◌%◌, ◌<◌, ◌≤◌, ◌==◌, Bool, true, false, List, [], ◌∷◌, ◌++◌, length, length-set, replicate, None, Some, slice_get, slice_set, refl, sym, ap, subst, ◌∙◌, arith, eqb-true, nat_lt}
+use Rattle.std.proofs.lemmas.Bool.{cases_Bool, false_from_ne_true, le-ltb, ne_eqb}
 use Rattle.std.proofs.lemmas.List.{append-nil}
 use Rattle.norec_world.proofs.Common.{Actor, Agrees, AllFit, AreActors, AreFrom, AreLaid, AreOpaque, Attempt, Between, Cells, ClocksOn, Core, HasRead, HasRow, IsMemory, IsRunOf, IsTied, IsTryAt, IsWorld, KeepsOthers, MAX_DEPTH, NoMemory, Obeys, Ready, Rows, Rules, World, active_of, begins_at, bytes_at, bytes_of, ending_of, in_transaction, of_thread, run_after, words_at, words_of}
 use Rattle.norec_engine.specs.Core.{opening}
@@ -15,58 +16,44 @@ use Rattle.norec_world.specs.World.{attempts_of}
 use Rattle.norec_world.specs.Runs.{RunsFrom, StillRuns}
 use Rattle.norec_world.specs.Opaque.{first_of}
 use Rattle.norec_world.specs.Invariant.{AreRunning}
-use Rattle.norec_world.proofs.SoundOthers.{set_place, within_of, there_is, are_open}
+use Rattle.norec_world.proofs.SoundOthers.{first_found, set_place, within_of, there_is, are_open}
 use Rattle.norec_world.proofs.Alones.{stands_open}
 use Rattle.norec_world.proofs.InTries.{try_stops}
 use Rattle.norec_world.proofs.Memories.{bytes_still}
-use Rattle.norec_world.proofs.RunLists.{run_still, run_more}
+use Rattle.norec_world.proofs.RunLists.{of_thread_more, run_still, run_more}
 
 -- ## The attempts of one thread
-
-of_thread_both : (thread : ℕ) (xs ys : List Attempt) → of_thread thread (xs ++ ys) ≡ of_thread thread xs ++ of_thread thread ys
-of_thread_both thread [] ys = refl
-of_thread_both thread (x ∷ xs) ys = by_case (x.thread == thread) (of_thread_both thread xs ys)
-  where
-    by_case : (b : Bool) → of_thread thread (xs ++ ys) ≡ of_thread thread xs ++ of_thread thread ys → (if b then x ∷ of_thread thread (xs ++ ys) else of_thread thread (xs ++ ys)) ≡ (if b then x ∷ of_thread thread xs else of_thread thread xs) ++ of_thread thread ys
-    by_case true more = ap (λ (l : List Attempt). x ∷ l) more
-    by_case false more = more
 
 -- of another one's attempts none
 of_thread_none : (thread other : ℕ) (xs : List Attempt) → AllOf other xs → (other ≡ thread → ⊥) → of_thread thread xs ≡ []
 of_thread_none thread other [] all apart = refl
-of_thread_none thread other (x ∷ xs) all apart = by_case (x.thread == thread) refl (of_thread_none thread other xs all.1 apart)
-  where
-    by_case : (b : Bool) → (x.thread == thread) ≡ b → of_thread thread xs ≡ [] → (if b then x ∷ of_thread thread xs else of_thread thread xs) ≡ []
-    by_case true e rest = absurd (apart (sym all.0 ∙ eqb-true x.thread thread e))
-    by_case false e rest = rest
+of_thread_none thread other (x ∷ xs) all apart = (let no = ne_eqb x.thread thread (λ same. apart (sym all.0 ∙ same)) in simp no (of_thread_none thread other xs all.1 apart))
 
 -- of open attempts the actor's one
 past_from : (n thread : ℕ) (xs : List Attempt) → AreFrom n xs → thread < n → of_thread thread xs ≡ []
 past_from n thread [] from l = refl
-past_from n thread (x ∷ xs) from l = by_case (x.thread == thread) refl (past_from (x.thread + 1) thread xs from.1 (let first = from.0 in omega arith))
-  where
-    by_case : (b : Bool) → (x.thread == thread) ≡ b → of_thread thread xs ≡ [] → (if b then x ∷ of_thread thread xs else of_thread thread xs) ≡ []
-    by_case true e rest = absurd (let same = eqb-true x.thread thread e in let first = from.0 in omega arith)
-    by_case false e rest = rest
+past_from n thread (x ∷ xs) from l =
+    let first = from.0 in
+    let no = ne_eqb x.thread thread (λ same. omega arith) in
+    simp no (past_from (x.thread + 1) thread xs from.1 (omega arith))
 
 pub open_none : (n thread : ℕ) (xs : List Attempt) → AreFrom n xs → active_of thread xs ≡ None → of_thread thread xs ≡ []
 open_none n thread [] from e = refl
-open_none n thread (x ∷ xs) from e = by_case (x.thread == thread) e (λ f. open_none (x.thread + 1) thread xs from.1 f)
-  where
-    by_case : (b : Bool) → (if b then Some x else active_of thread xs) ≡ None → (active_of thread xs ≡ None → of_thread thread xs ≡ []) → (if b then x ∷ of_thread thread xs else of_thread thread xs) ≡ []
-    by_case true e rest = absurd (cc)
-    by_case false e rest = rest e
+open_none n thread (x ∷ xs) from e = elim (cases_Bool (x.thread == thread)) [
+  | inl h ↦ absurd (let none = simp h at e in cc)
+  | inr h ↦ simp h (open_none (x.thread + 1) thread xs from.1 (simp h at e))
+]
 
 pub open_one : (n thread : ℕ) (xs : List Attempt) (row : Attempt) → AreFrom n xs → active_of thread xs ≡ Some row → of_thread thread xs ≡ row ∷ []
 open_one n thread [] row from e = absurd (cc)
-open_one n thread (x ∷ xs) row from e = by_case (x.thread == thread) refl e (λ f. open_one (x.thread + 1) thread xs row from.1 f)
-  where
-    by_case : (b : Bool) → (x.thread == thread) ≡ b → (if b then Some x else active_of thread xs) ≡ Some row → (active_of thread xs ≡ Some row → of_thread thread xs ≡ row ∷ []) → (if b then x ∷ of_thread thread xs else of_thread thread xs) ≡ row ∷ []
-    by_case true h e rest =
-        let same : x ≡ row = (let z : Some x ≡ Some row = e in cc) in
-        let none = past_from (x.thread + 1) thread xs from.1 (let is = eqb-true x.thread thread h in omega arith) in
-        (λ i. same i ∷ none i)
-    by_case false h e rest = rest e
+open_one n thread (x ∷ xs) row from e = elim (cases_Bool (x.thread == thread)) [
+  | inl h ↦
+      (let found = simp h at e in
+      let same : x ≡ row = cc in
+      let none = past_from (x.thread + 1) thread xs from.1 (let is = eqb-true x.thread thread h in omega arith) in
+      simp h (λ i. same i ∷ none i))
+  | inr h ↦ simp h (open_one (x.thread + 1) thread xs row from.1 (simp h at e))
+]
 
 -- ## The actors of attempts
 
@@ -80,15 +67,13 @@ of_actors_all n thread (x ∷ xs) l all = ((let same = all.0 in omega arith), of
 
 of_actors_active : (n : ℕ) (xs : List Attempt) → ((thread : ℕ) (row : Attempt) → active_of thread xs ≡ Some row → thread < n) → AreOfActors n xs
 of_actors_active n [] listed = tt
-of_actors_active n (x ∷ xs) listed = (listed x.thread x (here (x.thread == x.thread) (eq-eqb x.thread x.thread refl)), of_actors_active n xs (λ thread row e. later thread row e (x.thread == thread) refl))
-  where
-    here : (b : Bool) → b ≡ true → (if b then Some x else active_of x.thread xs) ≡ Some x
-    here true e = refl
-    here false e = absurd (cc)
-
-    later : (thread : ℕ) (row : Attempt) → active_of thread xs ≡ Some row → (b : Bool) → (x.thread == thread) ≡ b → thread < n
-    later thread row e true is = listed thread x (ap (λ (b : Bool). if b then Some x else active_of thread xs) is)
-    later thread row e false is = listed thread row (ap (λ (b : Bool). if b then Some x else active_of thread xs) is ∙ e)
+of_actors_active n (x ∷ xs) listed = (
+  listed x.thread x (first_found x xs),
+  of_actors_active n xs (λ thread row e. elim (cases_Bool (x.thread == thread)) [
+    | inl is ↦ listed thread x (simp is refl)
+    | inr is ↦ listed thread row (simp is e)
+  ]),
+)
 
 pub row_open : (b : Bool) (r : Rows) (thread : ℕ) (row : Attempt) → HasRow b r thread → active_of thread r.active ≡ Some row → b ≡ true
 row_open true r thread row h some = refl
@@ -134,7 +119,7 @@ module _ {P : Type 0} (rules : Rules P) (laws : Obeys rules) where
 
       rows : of_thread b.thread r'.ended ≡ of_thread b.thread r.ended
       rows =
-          ap (of_thread b.thread) own.ended ∙ (of_thread_both b.thread r.ended own.more
+          ap (of_thread b.thread) own.ended ∙ (of_thread_more b.thread r.ended own.more
           ∙ (ap (λ (l : List Attempt). of_thread b.thread r.ended ++ l) (of_thread_none b.thread thread own.more own.mine (λ e. apart (sym e))) ∙ append-nil (of_thread b.thread r.ended)))
 
       on : IsRunOf rules MAX_DEPTH (cells'.clock / 2) (bytes_at base r'.ended) (Some first) (of_thread b.thread r.ended)
@@ -174,7 +159,7 @@ module _ {P : Type 0} (rules : Rules P) (laws : Obeys rules) where
             → IsRunOf rules MAX_DEPTH (w.cells.clock / 2) (bytes_at w.base (attempts_of w)) (Some (first_of p w.arena)) (of_thread a.thread (attempts_of w))
         by_open false o x on none tied =
             let rows : of_thread a.thread (attempts_of w) ≡ of_thread a.thread w.attempts.ended =
-            of_thread_both a.thread w.attempts.ended w.attempts.active ∙ (ap (λ (l : List Attempt). of_thread a.thread w.attempts.ended ++ l) (open_none 0 a.thread w.attempts.active open_rows.by_actor none) ∙ append-nil (of_thread a.thread w.attempts.ended)) in
+            of_thread_more a.thread w.attempts.ended w.attempts.active ∙ (ap (λ (l : List Attempt). of_thread a.thread w.attempts.ended ++ l) (open_none 0 a.thread w.attempts.active open_rows.by_actor none) ∙ append-nil (of_thread a.thread w.attempts.ended)) in
             subst (IsRunOf rules MAX_DEPTH (w.cells.clock / 2) (bytes_at w.base (attempts_of w)) (Some (first_of p w.arena))) (sym rows) on.0
         by_open true o x on some tied =
             let t = x.runs.inside o in
@@ -198,7 +183,7 @@ module _ {P : Type 0} (rules : Rules P) (laws : Obeys rules) where
             (subst (IsTryAt rules MAX_DEPTH (w.cells.clock / 2) (bytes_at w.base (attempts_of w)) t.0 (Some t.4.start)) as_it_is try) in
             let more = run_more rules (w.cells.clock / 2) (bytes_at w.base (attempts_of w)) (Some (first_of p w.arena)) (of_thread a.thread w.attempts.ended) t.0 row on.0 (on.1 ∙ t.2) here in
             let rows : of_thread a.thread (attempts_of w) ≡ of_thread a.thread w.attempts.ended ++ row ∷ [] =
-            of_thread_both a.thread w.attempts.ended w.attempts.active ∙ ap (λ (l : List Attempt). of_thread a.thread w.attempts.ended ++ l) (open_one 0 a.thread w.attempts.active row open_rows.by_actor t.3) in
+            of_thread_more a.thread w.attempts.ended w.attempts.active ∙ ap (λ (l : List Attempt). of_thread a.thread w.attempts.ended ++ l) (open_one 0 a.thread w.attempts.active row open_rows.by_actor t.3) in
             subst (IsRunOf rules MAX_DEPTH (w.cells.clock / 2) (bytes_at w.base (attempts_of w)) (Some (first_of p w.arena))) (sym rows) more.0
 
     pub are_opaque : AreOpaque rules w
@@ -254,11 +239,7 @@ module _ {P : Type 0} (rules : Rules P) (laws : Obeys rules) where
     others_held j b apart e h =
         let tied = (kept.actors.each j b e).sound.tied in
         let odd : w.cells.clock % 2 ≡ 1 = (let held = tied.holder h in let even = held_even b.engine tied.settled h in omega arith) in
-        (clocks.apart odd (not_holding got.engine.holds refl)).0
-      where
-        not_holding : (x : Bool) → got.engine.holds ≡ x → got.engine.holds ≡ false
-        not_holding true g = absurd (apart (kept.commits.one i j got b here e g h))
-        not_holding false g = g
+        (clocks.apart odd (false_from_ne_true got.engine.holds (λ g. apart (kept.commits.one i j got b here e g h)))).0
 
     pub running_after : AreRunning rules (record w { cells = cells'; actors = slice_set w.actors i new; attempts = r'; events = events })
     running_after = record {
@@ -325,7 +306,7 @@ laid_first base cells r is fit zero_clock none =
     record {
       counted = record {
         all = ap count_committed none ∙ ap (λ (k : ℕ). k / 2) (sym zero_clock);
-        each = λ position. ap (count_at position) none ∙ (sym (ap one_where (none_below position (nat_lt position 0) refl)) ∙ ap (λ (k : ℕ). one_where (nat_lt position (k / 2))) (sym zero_clock));
+        each = λ position. ap (count_at position) none ∙ (sym (ap one_where (le-ltb position 0 (omega arith))) ∙ ap (λ (k : ℕ). one_where (nat_lt position (k / 2))) (sym zero_clock));
       };
       memories = record {
         fits = λ k l. subst (λ (j : ℕ). IsMemory (length cells.words) (words_at base r.ended j)) (sym (at_zero k l)) (subst (IsMemory (length cells.words)) (sym words) (refl, fit));
@@ -336,7 +317,3 @@ laid_first base cells r is fit zero_clock none =
   where
     at_zero : (k : ℕ) → k ≤ cells.clock / 2 → k ≡ 0
     at_zero k l = omega (arith, l, zero_clock)
-
-    none_below : (position : ℕ) (b : Bool) → nat_lt position 0 ≡ b → nat_lt position 0 ≡ false
-    none_below position false e = e
-    none_below position true e = absurd (let l : position < 0 = ltb-true position 0 e in omega arith)

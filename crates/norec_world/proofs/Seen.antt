@@ -1,14 +1,12 @@
 -- What an engine has seen of the memories that the commits left, over a step or a call.
 use Rattle.std.proofs.Common.{◌≡◌, inl, inr, ℕ, zero, suc, ◌+◌, ◌/◌, ◌%◌, ◌≤◌, ◌==◌, Bool, true, false, if◌then◌else◌, List, length, length-set, Some, refl, sym, ap, subst, ◌∙◌, arith}
+use Rattle.std.proofs.lemmas.Bool.{both_ways}
 use Rattle.norec_world.proofs.Common.{Agrees, AreLaid, Call, Cas, Cells, Core, IsLawful, IsMemory, IsTied, Load, Rows, Sees, Step, Store, bytes_at, bytes_of, came, cells_after, found, handed_is, handed_to, in_transaction, is_inside, words_at}
 use Rattle.norec_engine.specs.Proceeds.{Joins, StaysOn, backed}
 use Rattle.norec_world.specs.LogAgreement.{Loaded}
 use Rattle.norec_world.proofs.ClockHolders.{freed_by, is_free}
 use Rattle.norec_world.proofs.LogAgreement.{less_logged, loaded_handed, log_now, still_logged}
 use Rattle.norec_world.proofs.TiedEngines.{held_even}
-
-both : (n : Bool) → n ≡ true → n ≡ false → ⊥
-both n t f = absurd (cc)
 
 -- over these cells and then those, by the engine mid, in which the value or the call is, and the engine that it became
 pub record HasSeen (base : List ℕ) (cells cells' : Cells) (r : Rows) (mid new : Core) : Type 0 where
@@ -44,14 +42,14 @@ call_seen base cells r e new call again laid tied free sees stays = record {
   long = refl;
   late = (let reached = tied.settled.reached in let late = tied.late in omega arith);
   up = λ o. (let same = stays.snapshot in omega arith);
-  opens = λ shut o. absurd (both (in_transaction e) (stays.opens o) shut);
+  opens = λ shut o. absurd (both_ways (in_transaction e) shut (stays.opens o));
   logged = sees.logged;
   still = λ o. subst (λ (k : ℕ). Agrees (words_at base r.ended (k / 2)) e.log) (sym stays.snapshot) (sees.logged o);
   now = λ o.
       subst (λ (l : _). Agrees (words_at base r.ended (new.snapshot / 2)) l) (sym (stays.log o))
       (subst (λ (k : ℕ). Agrees (words_at base r.ended (k / 2)) e.log) (sym stays.snapshot) (sees.logged (stays.opens o)));
   fewer = λ o m x. subst (Agrees m) (stays.log o) x;
-  loaded = λ f. record { fresh = λ even same h. tt; held = λ h. absurd (both e.holds h free); got = λ h. absurd (both e.holds h free) };
+  loaded = λ f. record { fresh = λ even same h. tt; held = λ h. absurd (both_ways e.holds free h); got = λ h. absurd (both_ways e.holds free h) };
   even = λ f even. refl;
   freed = λ f. absurd (cc);
 }

@@ -1,5 +1,6 @@
 -- An event of one actor leaves the others sound.
 use Rattle.std.proofs.Common.{◌≡◌, ◌≢◌, ◌⊎◌, inl, inr, ℕ, zero, suc, ◌+◌, ◌%◌, ◌<◌, ◌≤◌, Bool, true, false, List, [], ◌∷◌, ◌++◌, length, length-append, Option, None, Some, slice_get, slice_set, refl, sym, ap, subst, ◌∙◌, arith, eq-eqb, eqb-true, ◌==◌, length-set, if◌then◌else◌}
+use Rattle.std.proofs.lemmas.Bool.{both_ways, cases_Bool, cases_eq, cases_lt, eqb-false, false_from_ne_true, ne_eqb}
 use Rattle.norec_world.proofs.Common.{Actor, AllFit, AreActors, AreFrom, Attempt, Cells, ClocksOn, Ended, HasRow, IsSound, IsTied, KeepsOthers, Ready, Rows, Rules, Status, StatusIs, Waits, active_of, in_transaction, is_ready, slice_get-set_same}
 use Rattle.itm_types.proofs.Words.{slice_get-set_other}
 use Rattle.itm_types.specs.declared.limits.TheConstants.{MAX_ACTORS}
@@ -8,13 +9,6 @@ use Rattle.norec_world.specs.Rows.{AreUnfinished, AreOpen}
 use Rattle.norec_world.specs.OthersAttempts.{ChangesOwn, count_pending, pending_in}
 use Rattle.norec_world.proofs.TiedEngines.{held_even}
 use Rattle.norec_world.specs.Actors.{IsActor}
-
-both : (n : Bool) → n ≡ true → n ≡ false → ⊥
-both n t f = absurd (cc)
-
-true_or_false : (b : Bool) → (b ≡ true → ⊥) → b ≡ false
-true_or_false true h = absurd (h refl)
-true_or_false false h = refl
 
 has_row_same : (b : Bool) (r r' : Rows) (thread : ℕ) → active_of thread r'.active ≡ active_of thread r.active → HasRow b r thread → HasRow b r' thread
 has_row_same false r r' thread same h = same ∙ h
@@ -35,9 +29,11 @@ module _ {P : Type 0} (rules : Rules P) where
     settled = t.settled;
   }
 
-  status_still : (r r' : Rows) (b : Actor P) → active_of b.thread r'.active ≡ active_of b.thread r.active → count_pending b.pending ≤ r'.room → (s : Status) → StatusIs rules r b s → StatusIs rules r' b s
-  status_still r r' b same room Ready s = s
-  status_still r r' b same room (Waits call step) s =
+  -- over other rows with room for what comes, where its open attempt is no longer
+  pub status_as : (r r' : Rows) (b : Actor P) → ((row : Attempt) → b.pending ≡ Some row → 0 < r.room → 0 < r'.room)
+      → ((row : Attempt) → active_of b.thread r'.active ≡ Some row → (was : Attempt) × (active_of b.thread r.active ≡ Some was) × (length row.calls ≡ length was.calls))
+      → (s : Status) → StatusIs rules r b s → StatusIs rules r' b s
+  status_as r r' b roomy calls (Waits call step) s =
       let i = s.in_call in
       record {
         nested = s.nested;
@@ -45,15 +41,16 @@ module _ {P : Type 0} (rules : Rules P) where
           asks = i.asks;
           begins = i.begins;
           inside = i.inside;
-          opens = λ row e. (let p = i.opens row e in record { thread = p.thread; nth = p.nth; outcome = p.outcome; room = pending_some b.pending row r'.room e room });
-          room = λ row o e. i.room row o (sym same ∙ e);
+          opens = λ row e. (let p = i.opens row e in record { thread = p.thread; nth = p.nth; outcome = p.outcome; room = roomy row e p.room });
+          room = λ row o e. (let was = calls row e in let some = i.room was.0 o was.1 in let same = was.2 in omega arith);
         };
         doing = s.doing;
         waits = s.waits;
         lawful = s.lawful;
         within = s.within;
       }
-  status_still r r' b same room (Ended end) s = tt
+  status_as r r' b roomy calls Ready s = s
+  status_as r r' b roomy calls (Ended end) s = tt
 
   pub sound_still : (cells cells' : Cells) (r r' : Rows) (b : Actor P) → IsSound rules cells r b
       → AllFit cells'.words → cells.clock ≤ cells'.clock → length cells'.words ≡ length cells.words → (b.engine.holds ≡ true → cells' ≡ cells)
@@ -63,18 +60,18 @@ module _ {P : Type 0} (rules : Rules P) where
       record {
         tied = tied_still cells cells' b s.tied fit late long held;
         kept = record { row = has_row_same (in_transaction b.engine) r r' b.thread same k.row; empty = k.empty; tried = k.tried; tries = k.tries; retries = k.retries };
-        status = status_still r r' b same room b.status s.status;
+        status = status_as r r' b (λ row e l. pending_some b.pending row r'.room e room) (λ row e. (row, sym same ∙ e, refl)) b.status s.status;
       }
 
 -- ## Sums
 
+pending_one : (o : Option Attempt) → count_pending o ≤ 1
+pending_one None = (let z : 0 ≤ 1 = omega arith in z)
+pending_one (Some x) = (let z : 1 ≤ 1 = omega arith in z)
+
 pending_le : {P : Type 0} (actors : List (Actor P)) → pending_in actors ≤ length actors
 pending_le [] = (let z : 0 ≤ 0 = omega arith in z)
-pending_le (a ∷ rest) = (let l = pending_le rest in let m = one_at_most a.pending in omega arith)
-  where
-    one_at_most : (o : Option Attempt) → count_pending o ≤ 1
-    one_at_most None = (let z : 0 ≤ 1 = omega arith in z)
-    one_at_most (Some x) = (let z : 1 ≤ 1 = omega arith in z)
+pending_le (a ∷ rest) = (let l = pending_le rest in let m = pending_one a.pending in omega arith)
 
 -- the others' sum, where one is replaced
 replaced_sum : {P : Type 0} (actors : List (Actor P)) (i : ℕ) (got new : Actor P) → slice_get actors i ≡ Some got
@@ -99,10 +96,6 @@ replaced_sum (a ∷ rest) (suc i) got new e =
       omega arith,
       omega arith,
     )
-  where
-    pending_one : (o : Option Attempt) → count_pending o ≤ 1
-    pending_one None = (let z : 0 ≤ 1 = omega arith in z)
-    pending_one (Some x) = (let z : 1 ≤ 1 = omega arith in z)
 
 -- one's share of the sum
 pending_share : {P : Type 0} (actors : List (Actor P)) (i : ℕ) (a : Actor P) → slice_get actors i ≡ Some a → count_pending a.pending ≤ pending_in actors
@@ -113,28 +106,20 @@ within_of [] i x e = absurd (cc)
 within_of (y ∷ ys) zero x e = omega arith
 within_of (y ∷ ys) (suc i) x e = (let l = within_of ys i x e in omega arith)
 
-odd_or_even : (n : ℕ) → (n % 2 ≡ 0) ⊎ (n % 2 ≡ 1)
-odd_or_even n = by_rest (n % 2) refl
-  where
-    by_rest : (k : ℕ) → n % 2 ≡ k → (n % 2 ≡ 0) ⊎ (n % 2 ≡ 1)
-    by_rest zero e = inl e
-    by_rest (suc zero) e = inr e
-    by_rest (suc (suc k)) e = absurd (omega arith)
+pub odd_or_even : (n : ℕ) → (n % 2 ≡ 0) ⊎ (n % 2 ≡ 1)
+odd_or_even n = elim (cases_lt (n % 2) 1) [ inl l ↦ inl (omega arith) | inr l ↦ inr (omega arith) ]
 
 -- who stands where, once one is replaced
 pub set_place : {A : Type 0} (xs : List A) (i : ℕ) (got new : A) → slice_get xs i ≡ Some got → (j : ℕ) (b : A) → slice_get (slice_set xs i new) j ≡ Some b → ((i ≡ j) × (b ≡ new)) ⊎ ((i ≢ j) × (slice_get xs j ≡ Some b))
-set_place xs i got new here j b e = by_place (i == j) refl
-  where
-    by_place : (c : Bool) → (i == j) ≡ c → ((i ≡ j) × (b ≡ new)) ⊎ ((i ≢ j) × (slice_get xs j ≡ Some b))
-    by_place true h =
-        let same : i ≡ j = eqb-true i j h in
-        let found : Some b ≡ Some new = sym e ∙ (ap (slice_get (slice_set xs i new)) (sym same) ∙ slice_get-set_same xs i new (within_of xs i got here)) in
-        inl (same, cc)
-    by_place false h =
-        let apart : i ≢ j = λ same. both (i == j) (eq-eqb i j same) h in
-        inr (apart, sym (slice_get-set_other xs i j new apart) ∙ e)
+set_place xs i got new here j b e = elim (cases_Bool (i == j)) [
+  | inl h ↦
+      (let same : i ≡ j = eqb-true i j h in
+      let found : Some b ≡ Some new = sym e ∙ (ap (slice_get (slice_set xs i new)) (sym same) ∙ slice_get-set_same xs i new (within_of xs i got here)) in
+      inl (same, cc))
+  | inr h ↦ (let apart : i ≢ j = eqb-false i j h in inr (apart, sym (slice_get-set_other xs i j new apart) ∙ e))
+]
 
-first_found : (x : Attempt) (xs : List Attempt) → active_of x.thread (x ∷ xs) ≡ Some x
+pub first_found : (x : Attempt) (xs : List Attempt) → active_of x.thread (x ∷ xs) ≡ Some x
 first_found x xs = ap (λ (b : Bool). if b then Some x else active_of x.thread xs) (eq-eqb x.thread x.thread refl)
 
 pub there_is : {A : Type 0} (xs : List A) (i : ℕ) → i < length xs → (x : A) × (slice_get xs i ≡ Some x)
@@ -144,6 +129,43 @@ there_is (x ∷ xs) (suc i) l = there_is xs i (omega arith)
 
 -- ## One event
 
+-- who holds the clock, once one is replaced
+module _ {P : Type 0}
+    (cells cells' : Cells) (actors : List (Actor P)) (i : ℕ) (got new : Actor P) (here : slice_get actors i ≡ Some got) (clocks : ClocksOn cells got.engine cells' new.engine)
+    (one : (j k : ℕ) (a b : Actor P) → slice_get actors j ≡ Some a → slice_get actors k ≡ Some b → a.engine.holds ≡ true → b.engine.holds ≡ true → j ≡ k)
+    (odd_of : (j : ℕ) (b : Actor P) → slice_get actors j ≡ Some b → b.engine.holds ≡ true → cells.clock % 2 ≡ 1) where
+  -- one that holds the clock and is not this one sees no change
+  pub held_apart : (j : ℕ) (b : Actor P) → i ≢ j → slice_get actors j ≡ Some b → b.engine.holds ≡ true → (cells' ≡ cells) × (new.engine.holds ≡ false)
+  held_apart j b apart e h = clocks.apart (odd_of j b e h) (false_from_ne_true got.engine.holds (λ g. apart (one i j got b here e g h)))
+
+  pub one_after : (j k : ℕ) (a b : Actor P) → slice_get (slice_set actors i new) j ≡ Some a → slice_get (slice_set actors i new) k ≡ Some b → a.engine.holds ≡ true → b.engine.holds ≡ true → j ≡ k
+  one_after j k a b ea eb ha hb = elim (set_place actors i got new here j a ea) [
+    | inl x ↦ elim (set_place actors i got new here k b eb) [
+      | inl y ↦ sym x.0 ∙ y.0
+      | inr y ↦ absurd (both_ways new.engine.holds (held_apart k b y.0 y.1 hb).1 (ap (λ (z : Actor P). z.engine.holds) (sym x.1) ∙ ha))
+    ]
+    | inr x ↦ elim (set_place actors i got new here k b eb) [
+      | inl y ↦ absurd (both_ways new.engine.holds (held_apart j a x.0 x.1 ha).1 (ap (λ (z : Actor P). z.engine.holds) (sym y.1) ∙ hb))
+      | inr y ↦ one j k a b x.1 y.1 ha hb
+    ]
+  ]
+
+  pub held_after : (cells.clock % 2 ≡ 1 → (place : ℕ) × (a : Actor P) × (slice_get actors place ≡ Some a) × (a.engine.holds ≡ true)) → cells'.clock % 2 ≡ 1
+      → (place : ℕ) × (a : Actor P) × (slice_get (slice_set actors i new) place ≡ Some a) × (a.engine.holds ≡ true)
+  held_after held odd =
+      let here_after : slice_get (slice_set actors i new) i ≡ Some new = slice_get-set_same actors i new (within_of actors i got here) in
+      elim (odd_or_even cells.clock) [
+        | inl even ↦ (i, new, here_after, clocks.alone (λ o. absurd (let z : 0 ≡ 1 = sym even ∙ o in omega arith)) odd)
+        | inr was_odd ↦
+            (let h = held was_odd in
+            elim (cases_Bool (i == h.0)) [
+              | inl c ↦
+                  (let same : got ≡ h.1 = (let found : Some got ≡ Some h.1 = sym here ∙ (ap (slice_get actors) (eqb-true i h.0 c) ∙ h.2) in cc) in
+                  (i, new, here_after, clocks.alone (λ o. ap (λ (z : Actor P). z.engine.holds) same ∙ h.3) odd))
+              | inr c ↦ (h.0, h.1, slice_get-set_other actors i h.0 new (eqb-false i h.0 c) ∙ h.2, h.3)
+            ])
+      ]
+
 module _ {P : Type 0} (rules : Rules P)
     (cells cells' : Cells) (r r' : Rows) (actors : List (Actor P)) (s : AreActors rules cells r actors)
     (i : ℕ) (got new : Actor P) (here : slice_get actors i ≡ Some got)
@@ -152,12 +174,12 @@ module _ {P : Type 0} (rules : Rules P)
   mine : IsActor rules cells r i got
   mine = s.each i got here
 
-  -- one that holds the clock and is not this one sees no change
-  held_apart : (j : ℕ) (b : Actor P) → i ≢ j → slice_get actors j ≡ Some b → b.engine.holds ≡ true → (cells' ≡ cells) × (new.engine.holds ≡ false)
-  held_apart j b apart e h =
+  odd_held : (j : ℕ) (b : Actor P) → slice_get actors j ≡ Some b → b.engine.holds ≡ true → cells.clock % 2 ≡ 1
+  odd_held j b e h =
       let t = (s.each j b e).sound.tied in
-      let odd : cells.clock % 2 ≡ 1 = (let k = t.holder h in let even = held_even b.engine t.settled h in omega arith) in
-      clocks.apart odd (true_or_false got.engine.holds (λ g. apart (s.one i j got b here e g h)))
+      let k = t.holder h in
+      let even = held_even b.engine t.settled h in
+      omega arith
 
   room_after : pending_in (slice_set actors i new) ≤ r'.room
   room_after =
@@ -175,10 +197,15 @@ module _ {P : Type 0} (rules : Rules P)
   actors_after = record {
     few = (let n = length-set actors i new in let l = s.few in omega arith);
     each = each_after;
-    one = one_after;
-    held = held_after;
+    one = one_after cells cells' actors i got new here clocks s.one odd_held;
+    held = held_after cells cells' actors i got new here clocks s.one odd_held s.held;
     room = room_after;
-    listed = listed_after;
+    listed = λ thread row e.
+        (let n = length-set actors i new in
+        elim (cases_eq thread i) [
+          | inl same ↦ (let l = within_of actors i got here in omega arith)
+          | inr not_mine ↦ (let l = s.listed thread row (sym (others.own.others thread (λ same. not_mine (same ∙ mine.thread))) ∙ e) in omega arith)
+        ]);
   }
     where
       each_after : (j : ℕ) (b : Actor P) → slice_get (slice_set actors i new) j ≡ Some b → IsActor rules cells' r' j b
@@ -188,53 +215,12 @@ module _ {P : Type 0} (rules : Rules P)
             (let was = s.each j b h.1 in
             let not_mine : b.thread ≡ got.thread → ⊥ = λ same. h.0 (sym mine.thread ∙ (sym same ∙ was.thread)) in
             record {
-              sound = sound_still rules cells cells' r r' b was.sound sound.tied.fit clocks.late clocks.long (λ holds. (held_apart j b h.0 h.1 holds).0)
+              sound = sound_still rules cells cells' r r' b was.sound sound.tied.fit clocks.late clocks.long (λ holds. (held_apart cells cells' actors i got new here clocks s.one odd_held j b h.0 h.1 holds).0)
                   (others.own.others b.thread not_mine) (let share = pending_share (slice_set actors i new) j b e in let all = room_after in omega arith);
               done = was.done;
               thread = was.thread;
             })
       ]
-
-      one_after : (j k : ℕ) (a b : Actor P) → slice_get (slice_set actors i new) j ≡ Some a → slice_get (slice_set actors i new) k ≡ Some b → a.engine.holds ≡ true → b.engine.holds ≡ true → j ≡ k
-      one_after j k a b ea eb ha hb = elim (set_place actors i got new here j a ea) [
-        | inl x ↦ elim (set_place actors i got new here k b eb) [
-          | inl y ↦ sym x.0 ∙ y.0
-          | inr y ↦ absurd (both new.engine.holds (ap (λ (z : Actor P). z.engine.holds) (sym x.1) ∙ ha) (held_apart k b y.0 y.1 hb).1)
-        ]
-        | inr x ↦ elim (set_place actors i got new here k b eb) [
-          | inl y ↦ absurd (both new.engine.holds (ap (λ (z : Actor P). z.engine.holds) (sym y.1) ∙ hb) (held_apart j a x.0 x.1 ha).1)
-          | inr y ↦ s.one j k a b x.1 y.1 ha hb
-        ]
-      ]
-
-      here_after : slice_get (slice_set actors i new) i ≡ Some new
-      here_after = slice_get-set_same actors i new (within_of actors i got here)
-
-      held_after : cells'.clock % 2 ≡ 1 → (place : ℕ) × (a : Actor P) × (slice_get (slice_set actors i new) place ≡ Some a) × (a.engine.holds ≡ true)
-      held_after odd = elim (odd_or_even cells.clock) [
-        | inl even ↦ (i, new, here_after, clocks.alone (λ o. absurd (let z : 0 ≡ 1 = sym even ∙ o in omega arith)) odd)
-        | inr was_odd ↦
-            (let h = s.held was_odd in
-            by_place h.0 h.1 h.2 h.3 (i == h.0) refl)
-      ]
-        where
-          by_place : (j : ℕ) (a : Actor P) → slice_get actors j ≡ Some a → a.engine.holds ≡ true → (c : Bool) → (i == j) ≡ c
-              → (place : ℕ) × (x : Actor P) × (slice_get (slice_set actors i new) place ≡ Some x) × (x.engine.holds ≡ true)
-          by_place j a e h true c =
-              let same : got ≡ a = (let found : Some got ≡ Some a = sym here ∙ (ap (slice_get actors) (eqb-true i j c) ∙ e) in cc) in
-              (i, new, here_after, clocks.alone (λ o. ap (λ (z : Actor P). z.engine.holds) same ∙ h) odd)
-          by_place j a e h false c = (j, a, slice_get-set_other actors i j new (λ same. both (i == j) (eq-eqb i j same) c) ∙ e, h)
-
-      listed_after : (thread : ℕ) (row : Attempt) → active_of thread r'.active ≡ Some row → thread < length (slice_set actors i new)
-      listed_after thread row e = by_thread (thread == i) refl
-        where
-          by_thread : (c : Bool) → (thread == i) ≡ c → thread < length (slice_set actors i new)
-          by_thread true h = (let same : thread ≡ i = eqb-true thread i h in let l = within_of actors i got here in let n = length-set actors i new in omega arith)
-          by_thread false h =
-              let apart : thread ≡ got.thread → ⊥ = λ same. both (thread == i) (eq-eqb thread i (same ∙ mine.thread)) h in
-              let l = s.listed thread row (sym (others.own.others thread apart) ∙ e) in
-              let n = length-set actors i new in
-              omega arith
 
 -- ## One actor more
 
@@ -272,7 +258,12 @@ module _ {P : Type 0} (rules : Rules P)
     one = one_joined;
     held = λ odd. (let h = s.held odd in (h.0, h.1, still_there actors (new ∷ []) h.0 h.1 h.2, h.3));
     room = room_joined;
-    listed = listed_joined;
+    listed = λ other row e.
+        (let n = length-append actors (new ∷ []) in
+        elim (cases_eq other new.thread) [
+          | inl same ↦ omega arith
+          | inr apart ↦ (let l = s.listed other row (sym (own.others other apart) ∙ e) in omega arith)
+        ]);
   }
     where
       each_joined : (j : ℕ) (b : Actor P) → slice_get (actors ++ new ∷ []) j ≡ Some b → IsActor rules cells r' j b
@@ -295,29 +286,10 @@ module _ {P : Type 0} (rules : Rules P)
       one_joined j k a b ea eb ha hb = elim (last_or_before actors new j a ea) [
         | inl x ↦ elim (last_or_before actors new k b eb) [
           | inl y ↦ s.one j k a b x y ha hb
-          | inr y ↦ absurd (both new.engine.holds (ap (λ (z : Actor P). z.engine.holds) (sym y.1) ∙ hb) free)
+          | inr y ↦ absurd (both_ways new.engine.holds free (ap (λ (z : Actor P). z.engine.holds) (sym y.1) ∙ hb))
         ]
-        | inr x ↦ absurd (both new.engine.holds (ap (λ (z : Actor P). z.engine.holds) (sym x.1) ∙ ha) free)
+        | inr x ↦ absurd (both_ways new.engine.holds free (ap (λ (z : Actor P). z.engine.holds) (sym x.1) ∙ ha))
       ]
-
-      listed_joined : (other : ℕ) (row : Attempt) → active_of other r'.active ≡ Some row → other < length (actors ++ new ∷ [])
-      listed_joined other row e = by_thread (other == new.thread) refl
-        where
-          by_thread : (c : Bool) → (other == new.thread) ≡ c → other < length (actors ++ new ∷ [])
-          by_thread true h = (let same : other ≡ new.thread = eqb-true other new.thread h in let n = length-append actors (new ∷ []) in omega arith)
-          by_thread false h =
-              let apart : other ≡ new.thread → ⊥ = λ same. both (other == new.thread) (eq-eqb other new.thread same) h in
-              let l = s.listed other row (sym (own.others other apart) ∙ e) in
-              let n = length-append actors (new ∷ []) in
-              omega arith
-
-  -- nobody else has an attempt under its number
-  pub none_yet : active_of (length actors) r.active ≡ None
-  none_yet = by_found (active_of (length actors) r.active) refl
-    where
-      by_found : (o : Option Attempt) → active_of (length actors) r.active ≡ o → active_of (length actors) r.active ≡ None
-      by_found None e = e
-      by_found (Some row) e = absurd (let l = s.listed (length actors) row e in omega arith)
 
 -- where no actor has an open attempt, nobody has
 pub none_active : {P : Type 0} (rules : Rules P) (cells : Cells) (r : Rows) (actors : List (Actor P))
@@ -341,11 +313,7 @@ all_unfinished n (x ∷ xs) from each = (
 )
   where
     passed : (t : ℕ) → x.thread + 1 ≤ t → active_of t (x ∷ xs) ≡ active_of t xs
-    passed t l = ap (λ (b : Bool). if b then Some x else active_of t xs) (other (x.thread == t) refl)
-      where
-        other : (b : Bool) → (x.thread == t) ≡ b → (x.thread == t) ≡ false
-        other true e = absurd (let same = eqb-true x.thread t e in omega arith)
-        other false e = e
+    passed t l = ap (λ (b : Bool). if b then Some x else active_of t xs) (ne_eqb x.thread t (λ same. omega arith))
 
 pub are_open : {P : Type 0} (rules : Rules P) (cells : Cells) (r : Rows) (actors : List (Actor P))
     → AreActors rules cells r actors → AreFrom 0 r.active → AreOpen r.active

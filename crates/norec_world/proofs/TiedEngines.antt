@@ -1,33 +1,15 @@
 -- The engine and the cells, over one event: the engine's data stay as the cells have them.
 use Rattle.std.proofs.Common.{◌≡◌, ℕ, zero, suc, ◌+◌, ◌*◌, ◌/◌, ◌%◌, ◌<◌, ◌≤◌, ◌==◌, Bool, true, false, length, Option, Some, slice_index, refl, sym, ap, subst, ◌∙◌, arith, if◌then◌else◌, eqb-true, length-set}
+use Rattle.std.proofs.lemmas.Bool.{both_ways, cond_both}
 use Rattle.norec_world.proofs.Common.{AllFit, Answer, Answers, Asks, Busy, Call, Cas, Cells, Commit, Committed, Conflict, Core, Ends, Full, IsLawful, IsTied, Load, Next, Proceeds, Replies, RepliesTo, Reply, Step, Store, came, cells_after, found, handed_to, in_transaction, word_loaded}
-use Rattle.norec_engine.specs.Core as core
-use Rattle.norec_engine.specs.Proceeds.{IsSettled, StaysOn, AsksFor, FitsStep}
-use Rattle.norec_world.specs.Cells.{IsCell}
+use Rattle.norec_engine.specs.Proceeds.{IsSettled, StaysOn, AsksFor}
 use Rattle.norec_engine.proofs.AnsweredEngines.{rests}
 use Rattle.norec_engine.specs.Undoing.{after_undoing}
-use Rattle.norec_engine.specs.declared.phase.Phase.TheVariants.{Idle}
 use Rattle.norec_world.specs.Sound.{AnswerFits}
 use Rattle.norec_world.specs.ClockHolder.{HoldsOn}
 use Rattle.norec_world.proofs.PlayerDepths.{reply_fits}
 
-both : (n : Bool) → n ≡ true → n ≡ false → ⊥
-both n t f = absurd (cc)
-
 -- ## What the operation asks and gives
-
--- the operation is one on a cell of the memory
-pub is_cell : (e : Core) (words : ℕ) (step : Step) → IsLawful e step → e.words ≡ words → IsCell words step
-is_cell e words (Load cell) l w = let k = l.0 in omega arith
-is_cell e words (Store cell value) l w = let k = l.0 in omega arith
-is_cell e words (Cas cell from to) l w = l.0
-
--- the memory hands in a value that fits
-pub seen_fits : (e : Core) (cells : Cells) (step : Step) → e.clock ≤ cells.clock → FitsStep e (Some step) (found cells step)
-seen_fits e cells (Load zero) l = l
-seen_fits e cells (Load (suc word)) l = tt
-seen_fits e cells (Store cell value) l = tt
-seen_fits e cells (Cas cell from to) l = l
 
 -- ## The engine with a call that came, or with the value of its step
 
@@ -71,7 +53,7 @@ ended cells mid new a m g =
       words = r.words ∙ m.words;
       fit = m.fit;
       late = (let l = m.late in omega arith);
-      holder = λ h. absurd (both new.holds h r.holds);
+      holder = λ h. absurd (both_ways new.holds r.holds h);
       settled = m.settled;
     }
 
@@ -88,7 +70,7 @@ module _ (cells : Cells) (e new : Core) (t : IsTied cells e) (free : e.holds ≡
     words = t.words;
     fit = t.fit;
     late = t.late;
-    holder = λ h. absurd (both e.holds h free);
+    holder = λ h. absurd (both_ways e.holds free h);
     even = held_even e t.settled;
     settled = settled;
   }
@@ -114,8 +96,8 @@ module _ (cells : Cells) (e new : Core) (t : IsTied cells e) (settled : IsSettle
     fit = fit;
     late = (let k : cells.clock ≤ cells.clock = omega arith in k);
     settled = settled;
-    holder = λ h. absurd (both e.holds h l.1);
-    even = λ h. absurd (both e.holds h l.1);
+    holder = λ h. absurd (both_ways e.holds l.1 h);
+    even = λ h. absurd (both_ways e.holds l.1 h);
   }
   hands (Load (suc word)) l fit = word_taken word (slice_index cells.words word) fit e.holds
   hands (Store zero value) l fit = record {
@@ -152,11 +134,7 @@ limit_same mid new (Answers a) g = (let r = rests mid new a g in (r.max_commits,
 
 -- giving up leaves the snapshot
 pub snapshot_still : (e new : Core) → new ≡ after_undoing e → new.snapshot ≡ e.snapshot
-snapshot_still e new is = ap (λ (c : Core). c.snapshot) is ∙ by_holds e.holds
-  where
-    by_holds : (b : Bool) → (if b then e else record (core.ended e) { stage = Idle; tries = 0 }).snapshot ≡ e.snapshot
-    by_holds true = refl
-    by_holds false = refl
+snapshot_still e new is = ap (λ (c : Core). c.snapshot) is ∙ cond_both e.holds _ _ (λ (c : Core). c.snapshot ≡ e.snapshot) (λ h. refl) (λ h. refl)
 
 -- what the engine goes on to leaves that as it is
 pub holds_same : (mid new : Core) (what : Next) → Proceeds mid what new → new.holds ≡ mid.holds
@@ -167,69 +145,50 @@ taken_capped : (b : Bool) (clock from to max_commits : ℕ) → from % 2 ≡ 0 �
 taken_capped true clock from to max_commits even few up l = omega arith
 taken_capped false clock from to max_commits even few up l = l
 
+-- one that neither takes nor frees it
+holds_still : (cells cells' : Cells) (e e' : Core) → e'.holds ≡ e.holds → (e.holds ≡ false → cells' ≡ cells) → cells'.clock ≡ cells.clock → length cells'.words ≡ length cells.words
+    → (e'.max_commits ≡ e.max_commits) × (e'.patience ≡ e.patience) → HoldsOn cells e cells' e'
+holds_still cells cells' e e' same leaves clock long limit = record {
+  takes = λ f h. absurd (both_ways e.holds f (sym same ∙ h));
+  frees = λ h f. absurd (both_ways e.holds (sym same ∙ f) h);
+  stores = λ h k. clock;
+  leaves = λ f k. leaves f;
+  late = omega (arith, clock);
+  long = long;
+  limit = limit;
+  capped = λ l. omega arith;
+}
+
 -- the step's value came
 pub holds_handed : (cells : Cells) (e : Core) (step : Step) → IsTied cells e → IsLawful e step → HoldsOn cells e (cells_after cells step) (handed_to e (Some step) (found cells step))
-holds_handed cells e (Load zero) t l = record {
-  takes = λ f h. absurd (both e.holds h f);
-  frees = λ h f. absurd (both e.holds h f);
-  stores = λ h k. refl;
-  leaves = λ f k. refl;
-  late = (let k : cells.clock ≤ cells.clock = omega arith in k);
-  long = refl;
-  limit = (refl, refl);
-  capped = λ l. l;
-}
-holds_handed cells e (Load (suc word)) t l = by_holder e.holds refl
+holds_handed cells e (Load zero) t l = holds_still cells cells e _ refl (λ f. refl) refl refl (refl, refl)
+holds_handed cells e (Load (suc word)) t l =
+    let k = kept e.holds in
+    holds_still cells cells e (word_loaded e e.holds word (slice_index cells.words word)) k.0 (λ f. refl) refl refl k.1
   where
-    by_holder : (h : Bool) → e.holds ≡ h → HoldsOn cells e cells (word_loaded e h word (slice_index cells.words word))
-    by_holder true is = record {
-      takes = λ f h. absurd (both e.holds is f);
-      frees = λ h f. absurd (both e.holds is f);
-      stores = λ h k. refl;
-      leaves = λ f k. refl;
-      late = (let k : cells.clock ≤ cells.clock = omega arith in k);
-      long = refl;
-      limit = (refl, refl);
-      capped = λ l. l;
-    }
-    by_holder false is = record {
-      takes = λ f h. absurd (both e.holds h is);
-      frees = λ h f. absurd (both e.holds h is);
-      stores = λ h k. refl;
-      leaves = λ f k. refl;
-      late = (let k : cells.clock ≤ cells.clock = omega arith in k);
-      long = refl;
-      limit = (refl, refl);
-      capped = λ l. l;
-    }
+    kept : (h : Bool) → ((word_loaded e h word (slice_index cells.words word)).holds ≡ e.holds)
+        × (((word_loaded e h word (slice_index cells.words word)).max_commits ≡ e.max_commits) × ((word_loaded e h word (slice_index cells.words word)).patience ≡ e.patience))
+    kept true = (refl, (refl, refl))
+    kept false = (refl, (refl, refl))
+holds_handed cells e (Store (suc word) value) t l = holds_still cells _ e _ refl (λ f. absurd (both_ways e.holds f l.1)) refl (length-set cells.words word value) (refl, refl)
 holds_handed cells e (Store zero value) t l =
     let even = held_even e t.settled l.1 in
     let held = t.holder l.1 in
     let value_is = l.2.0 in
     record {
-      takes = λ f h. absurd (both e.holds l.1 f);
+      takes = λ f h. absurd (both_ways e.holds f l.1);
       frees = λ h f. ((let z : value % 2 ≡ 0 = omega arith in z), refl);
       stores = λ h k. absurd (cc);
-      leaves = λ f k. absurd (both e.holds l.1 f);
+      leaves = λ f k. absurd (both_ways e.holds f l.1);
       late = (let k : cells.clock ≤ value = omega arith in k);
       long = refl;
       limit = (refl, refl);
       capped = λ m. (let few = held_below e t.settled l.1 in omega arith);
     }
-holds_handed cells e (Store (suc word) value) t l = record {
-  takes = λ f h. absurd (both e.holds l.1 f);
-  frees = λ h f. absurd (both e.holds h f);
-  stores = λ h k. refl;
-  leaves = λ f k. absurd (both e.holds l.1 f);
-  late = (let k : cells.clock ≤ cells.clock = omega arith in k);
-  long = length-set cells.words word value;
-  limit = (refl, refl);
-  capped = λ l. l;
-}
 holds_handed cells e (Cas cell from to) t l = record {
   takes = λ f h. ((let same = eqb-true cells.clock from h in let even = l.4 in omega arith), refl);
-  frees = λ h f. absurd (both e.holds h l.1);
-  stores = λ h k. absurd (both e.holds h l.1);
+  frees = λ h f. absurd (both_ways e.holds l.1 h);
+  stores = λ h k. absurd (both_ways e.holds l.1 h);
   leaves = λ f k. ap (λ (b : Bool). record cells { clock = if b then to else cells.clock }) k;
   late = taken_late cells e e t t.settled (cells.clock == from) cells.clock from to (λ y. eqb-true cells.clock from y) l.6;
   long = refl;

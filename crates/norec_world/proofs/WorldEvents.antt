@@ -2,7 +2,7 @@
 use Rattle.std.proofs.Common.{◌≡◌, ℕ, ◌+◌, ◌<◌, Bool, true, false, cond, length, take, get_or, arith, List, [], ◌∷◌, ◌++◌, count_by, IsTrue, Option, None, Some, Result, Ok, Err, IsSome, refl, sym, ap, subst, ◌∙◌, slice_get}
 use Rattle.std.proofs.lemmas.List.{take_more}
 use Rattle.std.proofs.lemmas.List.Sums.{sum_by-append}
-use Rattle.norec_world.proofs.Common.{Actor, AreOpaque, CommitsInOrder, End, Ended, Finished, GaveUp, Goes, IsLawful, NoMemory, Ready, Rules, SameOpening, Status, Step, Waits, World, cells_after, counted, ending_at, ending_of, option_and_then, told, waiting_step, waits_at}
+use Rattle.norec_world.proofs.Common.{Actor, AreOpaque, CommitsInOrder, End, Finished, Goes, IsLawful, Ready, Rules, SameOpening, Status, Step, World, cells_after, counted, ending_at, ending_of, option_and_then, told, waiting_step, waits_at}
 use Rattle.norec_world.specs.declared.fault.WorldFault.{WorldFault}
 use Rattle.norec_world.specs.declared.fault.WorldFault.TheVariants as faults
 use Rattle.norec_world.specs.declared.schedule.Passes.{Passes}
@@ -14,26 +14,12 @@ use Rattle.norec_world.specs.WorldEvents.{ActorGoes, Leads, is_taken, is_passed,
 pub told_event : (e : Option End) → IsTrue (is_event (told e))
 told_event None = refl
 told_event (Some Finished) = refl
-told_event (Some GaveUp) = refl
-told_event (Some NoMemory) = refl
-
-pub told_ended : (e : Option End) → told e ≡ Err faults.Ended → ⊥
-told_ended None h = cc
-told_ended (Some Finished) h = cc
-told_ended (Some GaveUp) h = cc
-told_ended (Some NoMemory) h = cc
-
-pub told_no_such : (e : Option End) → told e ≡ Err faults.NoSuchActor → ⊥
-told_no_such None h = cc
-told_no_such (Some Finished) h = cc
-told_no_such (Some GaveUp) h = cc
-told_no_such (Some NoMemory) h = cc
+told_event e = refl
 
 -- who waits has not ended
 pub ending_waits : (s : Status) → IsSome (waiting_step s) → IsSome (ending_of s) → ⊥
 ending_waits Ready w e = cc
-ending_waits (Waits call step) w e = cc
-ending_waits (Ended end) w e = cc
+ending_waits s w e = cc
 
 pub waits_not_ended : {P : Type 0} (w : World P) (actor : ℕ) → IsSome (waits_at w actor) → IsSome (ending_at w actor) → ⊥
 waits_not_ended {P} w actor = of_got (slice_get w.actors actor)
@@ -48,10 +34,13 @@ module _ {P : Type 0} (rules : Rules P) (old new : World P) (actor : ℕ) (waits
     (operation : (step : Step) → waits_at old actor ≡ Some step → new.cells ≡ cells_after old.cells step) (counts : new.events ≡ counted old.events 1)
     (event_of : (a : Actor P) → slice_get old.actors actor ≡ Some a → ActorGoes rules actor old a new)
     (commits : CommitsInOrder new) (opaque : AreOpaque rules new) (same : SameOpening old new) (long : length new.actors ≡ length old.actors) (alone : ShowsAlone rules new) where
+  no_fault : {A : Type 0} {fault : WorldFault} → told (ending_at new actor) ≡ Err fault → is_event (Err fault) ≡ false → A
+  no_fault e none = absurd (let u = subst (λ (r : Result (Unit {0}) WorldFault). IsTrue (is_event r)) e (told_event (ending_at new actor)) in cc)
+
   pub event_goes : Goes rules actor old (told (ending_at new actor)) new
   event_goes = record {
-    no_such = (λ e. absurd (told_no_such (ending_at new actor) e), λ l. absurd (let n = within_some (λ (a : Actor P). waiting_step a.status) old.actors actor waits in omega arith));
-    ended = (λ e. absurd (told_ended (ending_at new actor) e), λ e. absurd (waits_not_ended old actor waits e));
+    no_such = (λ e. no_fault e refl, λ l. absurd (let n = within_some (λ (a : Actor P). waiting_step a.status) old.actors actor waits in omega arith));
+    ended = (λ e. no_fault e refl, λ e. absurd (waits_not_ended old actor waits e));
     event = (λ e. waits, λ e. told_event (ending_at new actor));
     answer = λ e. refl;
     lawful = lawful;
