@@ -1,34 +1,13 @@
 -- An actor's run, once an answer is recorded.
 use Rattle.std.proofs.Common.{◌≡◌, ℕ, ◌+◌, ◌/◌, ◌≤◌, Bool, true, false, nat_lt, if◌then◌else◌, List, [], ◌∷◌, ◌++◌, map, Option, None, Some, refl, sym, ap, subst, ◌∙◌, arith}
-use Rattle.itm_types.specs.declared.call.Call.{Call}
-use Rattle.itm_types.specs.declared.call.Call.TheVariants.{Commit}
-use Rattle.itm_types.specs.declared.call.Reply.{Reply as Replied}
-use Rattle.itm_types.specs.declared.call.Reply.TheVariants.{Done}
-use Rattle.itm_types.specs.Memory.{bytes_of, IsMemory, Agrees}
-use Rattle.itm_model.specs.declared.limits.TheConstants.{MAX_DEPTH}
-use Rattle.itm_model.specs.State.{State}
-use Rattle.itm_model.specs.Machine.{after, is_open, opened, undone, undone_from}
+use Rattle.norec_world.proofs.Common.{Actor, Agrees, Attempt, Between, Call, Cells, Commit, Committed, Conflict, Core, Done, Ended, Entry, Full, GaveUp, IsMemory, IsRun, IsRunOf, IsTryAt, MAX_DEPTH, Obeys, Outcome, Ready, Replied, Replies, RepliesTo, Reply, Rows, Rules, State, active_of, after, alone, begin_code, begins_at, bytes_at, bytes_of, ending_of, in_transaction, is_open, of_thread, opened, run_after, state_then, words_at, words_of}
+use Rattle.itm_model.specs.Machine.{undone, undone_from}
 use Rattle.itm_model.specs.State.{Block}
-use Rattle.norec_engine.specs.Core.{Core, in_transaction}
 use Rattle.norec_engine.specs.Stands.{stands_for}
-use Rattle.norec_engine.specs.Proceeds.{Replies, RepliesTo}
-use Rattle.norec_engine.specs.declared.answer.Answer.TheVariants.{Reply, Committed, Conflict, Full}
-use Rattle.norec_world.specs.declared.attempt.Attempt.{Attempt}
 use Rattle.norec_world.specs.declared.attempt.Outcome.TheVariants as outcomes
-use Rattle.norec_world.specs.declared.attempt.End.TheVariants.{GaveUp}
-use Rattle.norec_world.specs.declared.actor.Actor.{Actor}
-use Rattle.norec_world.specs.declared.actor.Status.TheVariants.{Ready, Ended}
-use Rattle.norec_world.specs.Attempts.{of_thread, alone}
-use Rattle.norec_world.specs.declared.attempt.Entry.{Entry}
-use Rattle.norec_world.specs.declared.attempt.Outcome.{Outcome}
-use Rattle.norec_world.specs.Alone.{state_then}
-use Rattle.norec_world.specs.Cells.{words_of, Cells}
-use Rattle.norec_world.specs.Opacity.{Between, EndsAs, answered_all, begin_code, follows, after_try, LacksCommit, IsRunOf, IsTryAt}
-use Rattle.norec_world.specs.Rows.{Rows, active_of}
-use Rattle.norec_world.specs.Status.{ending_of}
+use Rattle.norec_world.specs.Opacity.{EndsAs, answered_all, follows, after_try, LacksCommit}
 use Rattle.norec_world.specs.Records.{StopsAt}
-use Rattle.norec_world.specs.Memories.{bytes_at, words_at}
-use Rattle.norec_world.specs.Runs.{run_after, begins_at, IsInTry, IsRun}
+use Rattle.norec_world.specs.Runs.{IsInTry}
 use Rattle.norec_world.proofs.ActiveRows.{changed_here, row_is_of}
 use Rattle.norec_world.proofs.Alones.{player_snoc, stands_open}
 use Rattle.norec_world.proofs.TryEnds.{none_pending}
@@ -36,7 +15,6 @@ use Rattle.norec_world.proofs.RunLists.{of_thread_own, run_more, run_still}
 use Rattle.norec_world.proofs.Seen.{HasSeen, memory_at, same_at}
 use Rattle.norec_world.proofs.Taken.{HasAnswered}
 use Rattle.norec_world.proofs.InTries.{try_replies, try_stops, try_commits, left_state, lacks_commit}
-use Rattle.script_vm.specs.Rules.{Obeys, Rules}
 
 both : (n : Bool) → n ≡ true → n ≡ false → ⊥
 both n t f = absurd (cc)

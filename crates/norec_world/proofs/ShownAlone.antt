@@ -1,7 +1,7 @@
 -- What a world with one actor shows is what its player does alone.
-use Rattle.std.proofs.Common.{◌≡◌, ◌⊎◌, inl, inr, ℕ, zero, suc, ◌/◌, ◌%◌, ◌≤◌, Bool, true, false, nat_le, if◌then◌else◌, List, [], ◌∷◌, ◌++◌, length, map, replicate, Option, None, Some, slice_get, refl, sym, ap, subst, ◌∙◌, arith}
-use Rattle.std.proofs.lemmas.List.{append-nil, map-append}
-use Rattle.std.proofs.lemmas.Bool.{and_from, le-leb}
+use Rattle.std.proofs.Common.{◌≡◌, ◌⊎◌, inl, inr, ℕ, zero, suc, ◌/◌, ◌%◌, ◌≤◌, Bool, true, false, nat_le, if◌then◌else◌, List, [], ◌∷◌, ◌++◌, length, map, replicate, Option, None, Some, slice_get, refl, sym, ap, subst, ◌∙◌, arith, append-nil, le-leb}
+use Rattle.std.proofs.lemmas.List.{map-append}
+use Rattle.std.proofs.lemmas.Bool.{and_from}
 use Rattle.norec_world.proofs.Common.{Actor, AreOpaque, Attempt, Between, Call, Commit, Done, End, Entry, Finished, GaveUp, HasRow, IsAlone, IsRunOf, IsWorld, MAX_DEPTH, NoMemory, Obeys, Outcome, Rules, State, World, active_of, after, alone, answers, answers_within, begin_code, begin_of, bytes_at, committed_at, current_of, ending_at, ending_of, in_transaction, is_open, of_thread, opened, option_and_then, pair_of, player_then, run_after, state_then}
 use Rattle.itm_types.specs.declared.call.Reply.{Reply}
 use Rattle.norec_world.specs.declared.attempt.Outcome.TheVariants as outcomes

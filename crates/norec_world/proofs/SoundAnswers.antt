@@ -1,22 +1,8 @@
 -- What comes of an answer is recorded, and the actor is between calls again, or has ended.
-use Rattle.std.proofs.Common.{◌≡◌, ℕ, ◌+◌, ◌-◌, ◌*◌, ◌<◌, ◌≤◌, Bool, true, false, nat_lt, [], Option, None, refl, sym, ap, subst, arith, if◌then◌else◌, Vec, Global}
-use Rattle.std.proofs.lemmas.Bool.{ltb-false}
-use Rattle.itm_types.specs.declared.call.Call.{Call}
-use Rattle.itm_types.specs.declared.call.Reply.{Reply as Replied}
-use Rattle.itm_types.specs.declared.call.Reply.TheVariants.{Done}
-use Rattle.norec_engine.specs.declared.answer.Answer.TheVariants.{Reply, Committed}
-use Rattle.norec_engine.specs.Core.{in_transaction}
-use Rattle.norec_world.specs.declared.attempt.Entry.{Entry}
-use Rattle.norec_world.specs.declared.attempt.Attempt.{Attempt}
-use Rattle.norec_world.specs.declared.attempt.End.{End}
-use Rattle.norec_world.specs.declared.attempt.End.TheVariants.{GaveUp}
-use Rattle.norec_world.specs.Rows.{Rows, active_of}
-use Rattle.norec_world.specs.declared.actor.Actor.{Actor}
-use Rattle.norec_world.specs.declared.actor.Status.{Status}
-use Rattle.norec_world.specs.declared.actor.Status.TheVariants.{Ready, Ended}
-use Rattle.norec_world.specs.Sound.{HasRow, IsKept, IsNested, IsAnswered, IsSettledBy, RestsAs, Falls, whole, tries_left, retried}
+use Rattle.std.proofs.Common.{◌≡◌, ℕ, ◌+◌, ◌-◌, ◌*◌, ◌<◌, ◌≤◌, Bool, true, false, nat_lt, [], Option, None, refl, sym, ap, subst, arith, if◌then◌else◌, Vec, Global, ltb-false}
+use Rattle.norec_world.proofs.Common.{Actor, Attempt, Call, Committed, Done, End, Ended, Entry, GaveUp, HasRow, IsNested, Obeys, Ready, Replied, Reply, RestsAs, Rows, Rules, Status, active_of, in_transaction, whole}
+use Rattle.norec_world.specs.Sound.{IsKept, IsAnswered, IsSettledBy, Falls, tries_left, retried}
 use Rattle.norec_world.proofs.PlayerLaws.{Played, plays, closes, rank_less, rank_same, block_less, block_same}
-use Rattle.script_vm.specs.Rules.{Obeys, Rules}
 
 module _ {P : Type 0} (rules : Rules P) (laws : Obeys rules)
     (r r' : Rows) (a : Actor P) (call : Call) where

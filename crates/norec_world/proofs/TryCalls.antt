@@ -1,6 +1,5 @@
 -- What a call of an actor does to its try, up to its first step.
-use Rattle.std.proofs.Common.{◌≡◌, ℕ, ◌/◌, Bool, true, false, [], Option, None, Some, refl, sym, ap, subst, ◌∙◌, arith}
-use Rattle.std.proofs.lemmas.List.{append-nil}
+use Rattle.std.proofs.Common.{◌≡◌, ℕ, ◌/◌, Bool, true, false, [], Option, None, Some, refl, sym, ap, subst, ◌∙◌, arith, append-nil}
 use Rattle.norec_world.proofs.Common.{Actor, Answer, Answers, Asks, Attempt, Begin, Busy, Call, Cells, Commit, Committed, Conflict, Core, Ended, Full, HasRow, IsAtOnce, IsBetween, IsDone, IsReady, IsSound, Next, Opens, Prior, Read, Ready, Reply, Rows, Rules, Status, StatusIs, Step, Tells, Tries, Waits, Write, active_of, asked_pending, between, current_of, ending_of, in_transaction, over, prior_of, runs}
 use Rattle.norec_world.specs.declared.attempt.Outcome.TheVariants as outcomes
 use Rattle.norec_world.specs.declared.attempt.End.TheVariants as ends

@@ -1,6 +1,5 @@
 -- What an answer does to the try that its call belongs to.
-use Rattle.std.proofs.Common.{inl, inr, ◌≡◌, ℕ, ◌+◌, ◌*◌, ◌/◌, ◌%◌, ◌≤◌, Bool, true, false, nat_lt, if◌then◌else◌, is_some, List, [], ◌∷◌, ◌++◌, Option, None, Some, refl, sym, ap, subst, ◌∙◌, arith}
-use Rattle.std.proofs.lemmas.List.{append-nil}
+use Rattle.std.proofs.Common.{inl, inr, ◌≡◌, ℕ, ◌+◌, ◌*◌, ◌/◌, ◌%◌, ◌≤◌, Bool, true, false, nat_lt, if◌then◌else◌, is_some, List, [], ◌∷◌, ◌++◌, Option, None, Some, refl, sym, ap, subst, ◌∙◌, arith, append-nil}
 use Rattle.norec_world.proofs.Common.{Actor, Agrees, Answer, Attempt, Begin, Busy, Call, Cells, Committed, Conflict, Core, End, Ended, EndsAt, Full, HasRow, IsBetween, IsMemory, IsReady, IsTied, IsTold, MAX_DEPTH, Opens, Outcome, Prior, Props, Ready, Records, Replied, Replies, RepliesTo, Reply, RestsAs, Rows, Rules, State, Status, Tries, active_of, after, begins, between, current_of, ending_of, in_transaction, is_begin, over, prior_of, runs, turned_away}
 use Rattle.itm_types.specs.declared.call.Call.TheVariants as calls
 use Rattle.itm_types.specs.declared.call.Reply.TheVariants as replies

@@ -1,6 +1,5 @@
 -- What a step of an actor does to its try.
-use Rattle.std.proofs.Common.{◌≡◌, ℕ, ◌/◌, Bool, true, false, [], Option, None, Some, refl, sym, ap, subst, ◌∙◌}
-use Rattle.std.proofs.lemmas.List.{append-nil}
+use Rattle.std.proofs.Common.{◌≡◌, ℕ, ◌/◌, Bool, true, false, [], Option, None, Some, refl, sym, ap, subst, ◌∙◌, append-nil}
 use Rattle.norec_world.proofs.Common.{Actor, Answer, Asks, Attempt, Call, Cells, Core, HasRow, IsDone, IsTold, Next, Ready, Rows, Rules, Status, Step, Tells, Tries, Waits, active_of, begins, between, current_of, ending_of, in_transaction, prior_of, runs}
 use Rattle.norec_world.specs.declared.attempt.End.TheVariants as ends
 use Rattle.norec_world.proofs.SoundSteps.{IsStepping, limit_is, mid, step_taken}

@@ -1,11 +1,8 @@
 use Rattle.norec_world.proofs.OthersAttempts.{others_opened, others_changed}
 use Rattle.std.proofs.Common.{◌≡◌, ◌/◌, refl, Some, subst, ◌++◌, ◌∷◌, [], ap, ◌∙◌, sym, Bool, true, false, None, is_some}
-use Rattle.norec_engine.specs.Core.{in_transaction}
-use Rattle.norec_world.specs.declared.attempt.Attempt.{Attempt}
+use Rattle.norec_world.proofs.Common.{Attempt, HasRow, active_of, in_transaction}
 use Rattle.norec_world.proofs.SoundAnswers.{after_reply}
 use Rattle.norec_world.proofs.RecordedRows.{row_stays, was_open, row_opened, row_changed, row_none}
-use Rattle.norec_world.specs.Sound.{HasRow}
-use Rattle.norec_world.specs.Rows.{active_of}
 use Rattle.norec_world.proofs.actor.Actor.replied.Goals as goal
 
 pub returns-else-is_open-clause-settled : goal.returns-else-is_open-clause-settled

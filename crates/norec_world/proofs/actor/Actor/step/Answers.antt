@@ -1,9 +1,6 @@
 use Rattle.std.proofs.Common.{◌≡◌, Some, ap, sym, ◌∙◌}
 use Rattle.norec_engine.specs.Moves.{IsResumed}
-use Rattle.norec_engine.specs.Core.{in_transaction}
-use Rattle.norec_world.specs.Cells.{cells_after}
-use Rattle.norec_world.specs.Status.{waiting_step}
-use Rattle.norec_world.specs.Tries.{prior_of}
+use Rattle.norec_world.proofs.Common.{cells_after, in_transaction, prior_of, waiting_step}
 use Rattle.norec_world.proofs.CommitCounts.{counted_after}
 use Rattle.norec_world.proofs.LocalWork.{nothing_ready, takes_in}
 use Rattle.norec_world.proofs.OthersAttempts.{others_twice}
