@@ -24,6 +24,29 @@ pub unfreed_to : (mid new : Core) (o : Option Call) (r : Replied) → RepliesTo 
 unfreed_to mid new None r g = absurd g
 unfreed_to mid new (Some call) r g = g.unfreed
 
+-- ## Nothing ends
+
+module _ {P : Type 0} (clock clock' : ℕ) (r r' : Rows) (a a' : Actor P) (ended : r'.ended ≡ r.ended) (half : clock' / 2 ≡ clock / 2) where
+  -- no try is open before, and none after
+  pub stays_between : active_of a.thread r.active ≡ None → a.pending ≡ None → IsBetween clock' a.nth r' a' → Tries clock (prior_of r a) clock' r' a'
+  stays_between none nothing b = between (record { idle = ap (λ (o : Option Attempt). current_of o a.pending) none ∙ nothing; ended = ended; half = half; between = b })
+
+  -- the open attempt stays as it is
+  pub stays_open : (row : Attempt) → active_of a.thread r.active ≡ Some row → active_of a'.thread r'.active ≡ Some row → a'.nth ≡ a.nth → (ending_of a'.status ≡ Some ends.GaveUp → ⊥) → (ending_of a'.status ≡ Some ends.NoMemory → ⊥)
+      → Tries clock (prior_of r a) clock' r' a'
+  stays_open row was now nth goes_on fed = runs (record {
+    row = row;
+    row' = row;
+    was = ap (λ (o : Option Attempt). current_of o a.pending) was;
+    now = now;
+    continues = record { thread = refl; nth = refl; began = refl; props = refl; arena = refl; more = []; calls = sym (append-nil row.calls) };
+    ended = ended;
+    half = half;
+    tries = nth;
+    goes_on = goes_on;
+    fed = fed;
+  })
+
 module _ {P : Type 0} (rules : Rules P)
     (r r1 : Rows) (a last : Actor P) (was : Bool) (settled : IsSettledBy rules was r1 a last) where
   none_active : in_transaction a.engine ≡ false → active_of last.thread r1.active ≡ None
@@ -31,6 +54,14 @@ module _ {P : Type 0} (rules : Rules P)
 
   pub none_pending : last.status ≡ Ready → last.pending ≡ None
   none_pending ready = (let rest : IsReady rules last = subst (λ (s : Status). RestsAs rules s last) ready settled.rests in rest.nothing)
+
+  -- nor where it goes on to another try
+  pub none_retried : CountsTry a last → a.status ≡ Ready → (ending_of last.status ≡ Some ends.GaveUp → ⊥) → last.pending ≡ None
+  none_retried counts ready on = none_pending (by_case (nat_lt a.retries a.nth) counts.status)
+    where
+      by_case : (b : Bool) → last.status ≡ (if b then Ended ends.GaveUp else a.status) → last.status ≡ Ready
+      by_case true s = absurd (on (ap ending_of s))
+      by_case false s = s ∙ ready
 
   -- the actor is between two tries
   pub is_between : (clock nth : ℕ) → in_transaction a.engine ≡ false → last.status ≡ Ready → last.nth ≡ nth → IsBetween clock nth r1 last
@@ -150,15 +181,11 @@ begin_opens mid new m props room reply g outside memory agrees closed =
 
 pub begin_call : (call : Call) → is_begin call ≡ true → (props : Props) × (room : ℕ) × (call ≡ Begin props room)
 begin_call (Begin props room) e = (props, room, refl)
-begin_call calls.Commit e = absurd (cc)
-begin_call (calls.Read hint width at) e = absurd (cc)
-begin_call (calls.Write hint at value) e = absurd (cc)
+begin_call call e = absurd (cc)
 
 call_begins : (call : Call) → IsBegin (Some call) → is_begin call ≡ true
 call_begins (Begin props room) b = refl
-call_begins calls.Commit b = absurd b
-call_begins (calls.Read hint width at) b = absurd b
-call_begins (calls.Write hint at value) b = absurd b
+call_begins call b = absurd b
 
 module _ {P : Type 0} {rules : Rules P} {cells cells' : Cells} {r r1 : Rows} {mid : Core} {a last : Actor P} {call : Call} where
   pub begin_tries : (ans : Answer) → HasAnswered rules false cells cells' r r1 mid a last call ans → Tries cells.clock (prior_of r a) cells'.clock r1 last
@@ -203,8 +230,6 @@ module _ {P : Type 0} {rules : Rules P} {cells cells' : Cells} {r r1 : Rows} {mi
             half = ap (λ (n : ℕ). n / 2) (m.taken.outside refl).0;
             between = is_between rules r r1 a last false m.settled cells'.clock a.nth (opens_now false e) ready m.told.3;
           })
-  begin_tries (Committed at wrote) m = absurd (let f : false ≡ true = m.answered.fits.0 in cc)
-  begin_tries (Conflict clock word) m = absurd (let f : false ≡ true = m.answered.fits.0 in cc)
   begin_tries (Busy clock) m = by_pending a.pending refl
     where
       by_pending : (p : Option Attempt) → a.pending ≡ p → Tries cells.clock (prior_of r a) cells'.clock r1 last
@@ -221,7 +246,7 @@ module _ {P : Type 0} {rules : Rules P} {cells cells' : Cells} {r r1 : Rows} {mi
         same = (m.taken.outside refl).0;
         after = tries_again rules r r1 a last false m.settled cells'.clock m.answered.fits.1 m.answered.status m.told.2;
       })
-  begin_tries (Full at) m = absurd (let f : false ≡ true = m.answered.fits.0 in cc)
+  begin_tries answer m = absurd (let f : false ≡ true = m.answered.fits.0 in cc)
 
 -- ## An answer ends no actor but one that gives up
 
@@ -247,9 +272,8 @@ module _ {P : Type 0} (rules : Rules P) (r r1 : Rows) (a last : Actor P) (call :
         by_was true told = ready_not (told.4 ∙ ready) e
         by_was false told = ready_not (told.4 ∙ ready) e
     not_ended (Committed at wrote) told e = ready_not (told.4 ∙ ready) e
-    not_ended (Conflict clock word) told e = tried_on told.2 e
-    not_ended (Busy clock) told e = tried_on told.2 e
     not_ended (Full at) told e = gave_up_not told.1 e
+    not_ended answer told e = tried_on told.2 e
 
   pub not_finished : (ans : Answer) → Records rules was r r1 a last call ans → ending_of last.status ≡ Some ends.Finished → ⊥
   not_finished = not_ended ends.Finished (λ e. absurd (cc))
@@ -258,6 +282,10 @@ module _ {P : Type 0} (rules : Rules P) (r r1 : Rows) (a last : Actor P) (call :
   not_starved = not_ended ends.NoMemory (λ e. absurd (cc))
 
 -- ## The open attempt is told where it reads
+
+pub none_again : {P : Type 0} (clock nth : ℕ) (r : Rows) (a : Actor P) (b : Bool) → TriesAgain b clock nth r a → active_of a.thread r.active ≡ None
+none_again clock nth r a true t = t.none
+none_again clock nth r a false t = t.none
 
 module _ {P : Type 0} (clock clock' : ℕ) (p : Prior) (r r' : Rows) (a : Actor P) (row : HasRow (in_transaction a.engine) r a.thread) (told : IsTold a.thread (in_transaction a.engine) r (a.engine.snapshot / 2) r') where
   -- with none open nothing is told
@@ -279,23 +307,16 @@ module _ {P : Type 0} (clock clock' : ℕ) (p : Prior) (r r' : Rows) (a : Actor 
   unchanged none t = subst (λ (x : Rows). Tries clock p clock' x a) (sym (stays_none none)) t
 
   -- no row where one has stopped or is between two tries
-  none_again : (b : Bool) → TriesAgain b clock' p.nth r a → active_of a.thread r.active ≡ None
-  none_again true t = t.none
-  none_again false t = t.none
-
   none_after : (o : Outcome) → GoesOnAfter o clock' p r a → active_of a.thread r.active ≡ None
-  none_after outcomes.Committed t = t.none
-  none_after outcomes.ReadOnly t = t.none
-  none_after outcomes.Conflict t = none_again (nat_lt p.retries p.nth) t
-  none_after outcomes.Full t = t.none
-  none_after outcomes.NoMemory t = t.none
+  none_after outcomes.Conflict t = none_again clock' p.nth r a (nat_lt p.retries p.nth) t
   none_after outcomes.Unfinished t = absurd t
+  none_after o t = t.none
 
   pub told_tries : Tries clock p clock' r a → Tries clock p clock' r' a
   told_tries (between t) = unchanged t.between.none (between t)
   told_tries (begins t) = unchanged t.still (begins t)
   told_tries (over t) = unchanged (none_after t.row'.outcome t.after) (over t)
-  told_tries (turned_away t) = unchanged (none_again (nat_lt p.retries p.nth) t.after) (turned_away t)
+  told_tries (turned_away t) = unchanged (none_again clock' p.nth r a (nat_lt p.retries p.nth) t.after) (turned_away t)
   told_tries (runs t) =
       let at : Attempt → Attempt = λ x. record x { at = a.engine.snapshot / 2 } in
       let moved = told.moves (opened_so t.row' t.now) in

@@ -4,7 +4,7 @@ use Rattle.norec_world.proofs.Common.{Actor, Answer, Asks, Attempt, Call, Cells,
 use Rattle.norec_world.specs.declared.attempt.End.TheVariants as ends
 use Rattle.norec_world.proofs.SoundSteps.{IsStepping, limit_is, mid, step_taken}
 use Rattle.norec_world.proofs.Taken.{HasAnswered, HasTaken, now, recorded}
-use Rattle.norec_world.proofs.TryEnds.{begin_tries, not_finished, open_tries, told_tries}
+use Rattle.norec_world.proofs.TryEnds.{begin_tries, not_finished, open_tries, stays_between, stays_open, told_tries}
 
 module _ {P : Type 0} {rules : Rules P} {cells : Cells} {r : Rows} {old : Actor P} {call : Call} {what : Next} {cells' : Cells} {new : Core} (m : IsStepping rules cells r old call what cells' new) (status : Status) (ready : status ≡ Ready) where
   abbrev on : Status → Actor P
@@ -21,27 +21,11 @@ module _ {P : Type 0} {rules : Rules P} {cells : Cells} {r : Rows} {old : Actor 
       half = t.moves.keeps t.proceeds.unfreed
 
       by_pending : (p : Option Attempt) → old.pending ≡ p → active_of old.thread r.active ≡ None → Tried r (on (Waits call step))
-      by_pending None p none = between (record {
-        idle = ap (λ (o : Option Attempt). current_of o old.pending) none ∙ p;
-        ended = refl;
-        half = half;
-        between = record { none = none; tries = refl; opens = λ row e. absurd (let n = sym p ∙ e in cc); goes_on = λ e. absurd (cc) };
-      })
+      by_pending None p none = stays_between cells.clock cells'.clock r r old (on (Waits call step)) refl half none p (record { none = none; tries = refl; opens = λ row e. absurd (let n = sym p ∙ e in cc); goes_on = λ e. absurd (cc) })
       by_pending (Some row) p none = begins (record { none = none; row = row; was = p; now = p; ended = refl; still = none; half = half; tries = refl; on = refl })
 
       by_row : (b : Bool) → HasRow b r old.thread → Tried r (on (Waits call step))
-      by_row true h = runs (record {
-        row = h.0;
-        row' = h.0;
-        was = ap (λ (o : Option Attempt). current_of o old.pending) h.1;
-        now = h.1;
-        continues = record { thread = refl; nth = refl; began = refl; props = refl; arena = refl; more = []; calls = sym (append-nil h.0.calls) };
-        ended = refl;
-        half = half;
-        tries = refl;
-        goes_on = λ e. absurd (cc);
-        fed = λ e. absurd (cc);
-      })
+      by_row true h = stays_open cells.clock cells'.clock r r old (on (Waits call step)) refl half h.0 h.1 h.1 refl (λ e. absurd (cc)) (λ e. absurd (cc))
       by_row false h = by_pending old.pending refl h
 
   answered_on : (answer : Answer) {r1 : Rows} {last : Actor P} → HasAnswered rules (in_transaction old.engine) cells cells' r r1 (mid m) (on status) last call answer → Tried r1 last
