@@ -6,7 +6,7 @@ use Rattle.norec_world.specs.Runs.{StillRuns}
 use Rattle.norec_world.proofs.ClockHolders.{clocks_still, clocks_twice}
 use Rattle.norec_world.proofs.OthersAttempts.{others_twice}
 use Rattle.norec_world.proofs.TryChains.{no_pending, tries_then}
-use Rattle.norec_world.proofs.Worked.{ready_of}
+use Rattle.norec_world.proofs.Taken.{ready_of}
 
 module _ {P : Type 0} {rules : Rules P} {cells cells' : Cells} {r r1 r2 : Rows} {a a1 a2 : Actor P} (x : HasStepped rules cells r a cells' r1 a1) (y : HasWorked rules cells' r1 a1 r2 a2) where
   pub event_others : KeepsOthers a r a2 r2

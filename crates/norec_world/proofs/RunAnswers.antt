@@ -1,5 +1,5 @@
 -- An actor's run, once an answer is recorded.
-use Rattle.std.proofs.Common.{◌≡◌, ℕ, ◌+◌, ◌/◌, ◌≤◌, Bool, true, false, nat_lt, if◌then◌else◌, List, [], ◌∷◌, ◌++◌, map, Option, None, Some, refl, sym, ap, subst, ◌∙◌, arith}
+use Rattle.std.proofs.Common.{◌≡◌, ℕ, ◌+◌, ◌/◌, ◌≤◌, Bool, true, false, nat_lt, if◌then◌else◌, List, [], ◌∷◌, ◌++◌, map, Option, None, Some, refl, sym, true≢false, ap, subst, ◌∙◌, arith}
 use Rattle.norec_world.proofs.Common.{Actor, Agrees, Attempt, Between, Call, Cells, Commit, Committed, Conflict, Core, Done, Ended, Entry, Full, GaveUp, IsMemory, IsRun, IsRunOf, IsTryAt, MAX_DEPTH, Obeys, Outcome, Ready, Replied, Replies, RepliesTo, Reply, Rows, Rules, State, active_of, after, alone, begin_code, begins_at, bytes_at, bytes_of, ending_of, in_transaction, is_open, of_thread, opened, run_after, state_then, words_at, words_of}
 use Rattle.itm_model.specs.Machine.{undone, undone_from}
 use Rattle.itm_model.specs.State.{Block}
@@ -10,14 +10,11 @@ use Rattle.norec_world.specs.Records.{StopsAt}
 use Rattle.norec_world.specs.Runs.{IsInTry}
 use Rattle.norec_world.proofs.ActiveRows.{changed_here, row_is_of}
 use Rattle.norec_world.proofs.Alones.{player_snoc, stands_open}
-use Rattle.norec_world.proofs.TryEnds.{none_pending}
+use Rattle.norec_world.proofs.TryEnds.{none_pending, none_retried}
 use Rattle.norec_world.proofs.RunLists.{of_thread_own, run_more, run_still}
 use Rattle.norec_world.proofs.Seen.{HasSeen, memory_at, same_at}
 use Rattle.norec_world.proofs.Taken.{HasAnswered}
 use Rattle.norec_world.proofs.InTries.{try_replies, try_stops, try_commits, left_state, lacks_commit}
-
-both : (n : Bool) → n ≡ true → n ≡ false → ⊥
-both n t f = absurd (cc)
 
 -- a rollback leaves the arena
 undone_arena_from : (s : State) (blocks : List Block) → (undone_from s blocks).arena ≡ s.arena
@@ -76,7 +73,7 @@ module _ {P : Type 0} (rules : Rules P) (laws : Obeys rules) (first : Between P)
             m.told.2 ∙ t.5,
             t.6 ∙ sym m.told.3,
           );
-          between = λ o. absurd (both (in_transaction last.engine) still_open o);
+          between = λ o. absurd (true≢false (sym still_open ∙ o));
         }
 
   -- ## An attempt ends
@@ -133,7 +130,7 @@ module _ {P : Type 0} (rules : Rules P) (laws : Obeys rules) (first : Between P)
           player_snoc rules.answered (rules.answered t.4.start.player (begin_code t.0.again)) t.1.calls (record { call = call; reply = Done }) ∙ (ap (λ (q : P). rules.answered q Done) (sym t.4.player) ∙ sym m.told.1) in
           record {
             run = over.0;
-            inside = λ o. absurd (both (in_transaction last.engine) o closed);
+            inside = λ o. absurd (true≢false (sym o ∙ closed));
             between = λ o gave_up starved. (
               record { player = last.player; arena = last.engine.arena; again = false; tries = 0 },
               over.1 ∙ (follows_commit wrote (rules.answered t.4.start.player (begin_code t.0.again)) _ _ ∙ (λ i. Some (record { player = player i; arena = arena i; again = false; tries = 0 }))),
@@ -205,7 +202,7 @@ module _ {P : Type 0} (rules : Rules P) (laws : Obeys rules) (first : Between P)
           undone_arena (alone MAX_DEPTH (bytes_at base r1.ended k) (record t.1 { at = k; outcome = outcomes.Conflict })) ∙ (ap (λ (x : State). x.arena) state ∙ (ap (λ (c : Core). c.arena) (sym m.ends.stays) ∙ ap (λ (c : Core). c.arena) (sym m.settled.engine))) in
           record {
             run = over.0;
-            inside = λ o. absurd (both (in_transaction last.engine) o closed);
+            inside = λ o. absurd (true≢false (sym o ∙ closed));
             between = λ o gave_up starved. (
               record { player = last.player; arena = last.engine.arena; again = true; tries = t.1.nth },
               over.1 ∙ (λ i. Some (record { player = player i; arena = arena i; again = true; tries = t.1.nth })),
@@ -214,7 +211,7 @@ module _ {P : Type 0} (rules : Rules P) (laws : Obeys rules) (first : Between P)
                 arena = refl;
                 again = m.told.2.again ∙ t.5;
                 tries = (let more = one_more (nat_lt a.retries a.nth) m.told.2.nth m.told.2.status gave_up in let same_try = t.6 in omega arith);
-                pending = λ x e. absurd (let none = sym (nothing gave_up) ∙ e in cc);
+                pending = λ x e. absurd (let none = sym (none_retried rules r r1 a last true m.settled m.told.2 m.answered.status gave_up) ∙ e in cc);
               },
             );
           }
@@ -222,13 +219,6 @@ module _ {P : Type 0} (rules : Rules P) (laws : Obeys rules) (first : Between P)
           one_more : (w : Bool) → last.nth ≡ (if w then a.nth else a.nth + 1) → last.status ≡ (if w then Ended GaveUp else a.status) → (ending_of last.status ≡ Some GaveUp → ⊥) → last.nth ≡ a.nth + 1
           one_more true e f gave_up = absurd (gave_up (ap ending_of f))
           one_more false e f gave_up = e
-
-          ready : (w : Bool) → last.status ≡ (if w then Ended GaveUp else a.status) → (ending_of last.status ≡ Some GaveUp → ⊥) → last.status ≡ Ready
-          ready true f gave_up = absurd (gave_up (ap ending_of f))
-          ready false f gave_up = f ∙ m.answered.status
-
-          nothing : (ending_of last.status ≡ Some GaveUp → ⊥) → last.pending ≡ None
-          nothing gave_up = none_pending rules r r1 a last true m.settled (ready (nat_lt a.retries a.nth) m.told.2.status gave_up)
 
     -- as full: the actor gives up
     module _ (at : ℕ) (m : HasAnswered rules true cells cells' r r1 mid a last call (Full at)) (older : (run.inside inside).1.began ≤ at) (newer : at ≤ cells.clock / 2) where
@@ -241,6 +231,6 @@ module _ {P : Type 0} (rules : Rules P) (laws : Obeys rules) (first : Between P)
           record {
             run = (stop_run at outcomes.Full (λ x o. o) m.settled.thread m.told.0 older newer agrees
                 (λ f. lacks_commit rules laws (bytes_at base r1.ended at) t.0 t.1 a.player mid call (words_at base r.ended at) t.4 inside m.ends.outermost m.answered.in_call.asks is (memory_at seen at newer) (same_at seen at newer ∙ sym (still at newer)) agrees m.ends.some)).0;
-            inside = λ o. absurd (both (in_transaction last.engine) o closed);
+            inside = λ o. absurd (true≢false (sym o ∙ closed));
             between = λ o gave_up starved. absurd (gave_up (ap ending_of m.told.1));
           }

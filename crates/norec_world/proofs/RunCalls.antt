@@ -1,11 +1,11 @@
 -- An actor's run over a call, up to its first step.
-use Rattle.std.proofs.Common.{◌≡◌, ℕ, ◌/◌, ◌≤◌, ◌&&◌, Bool, true, false, not, List, [], ◌∷◌, ◌++◌, Some, refl, sym, ap, subst, ◌∙◌, arith}
+use Rattle.std.proofs.Common.{◌≡◌, ℕ, ◌/◌, ◌≤◌, ◌&&◌, Bool, true, false, not, List, [], ◌∷◌, ◌++◌, Some, refl, sym, true≢false, ap, subst, ◌∙◌, arith}
 use Rattle.norec_world.proofs.Common.{Actor, Answer, AreCounted, AreLaid, Attempt, Begin, Between, Busy, Call, Cells, Commit, Committed, Conflict, Core, End, Ended, Full, IsDone, IsRun, IsRunOf, IsSound, MAX_DEPTH, Next, Obeys, Read, Ready, Reply, Rows, Rules, Sees, Tells, Write, active_of, asked_pending, begin_of, begins_again, begins_at, bytes_at, ending_of, in_transaction, of_thread, run_after, words_at}
 use Rattle.norec_world.specs.declared.attempt.Outcome.TheVariants as outcomes
 use Rattle.norec_world.specs.declared.attempt.End.TheVariants as ends
 use Rattle.norec_world.specs.Runs.{IsBeforeTry, RunsFrom}
 use Rattle.norec_world.proofs.ActiveRows.{changed_here}
-use Rattle.norec_world.proofs.SoundCalls.{IsCalling, call_taken, mid, rests}
+use Rattle.norec_world.proofs.SoundCalls.{IsCalling, active_same, call_taken, ended_same, mid, rests}
 use Rattle.norec_world.proofs.Memories.{bytes_still}
 use Rattle.norec_world.proofs.Laid.{laid_on, laid_same}
 use Rattle.norec_world.proofs.RunTaken.{runs_recorded}
@@ -14,9 +14,6 @@ use Rattle.norec_world.proofs.Taken.{HasAnswered, recorded}
 use Rattle.norec_world.specs.LocalWork.{Starves}
 use Rattle.norec_world.proofs.RunAnswers.{stop_run}
 use Rattle.norec_world.proofs.RunBegins.{begin_here}
-
-both : (n : Bool) → n ≡ true → n ≡ false → ⊥
-both n t f = absurd (cc)
 
 -- ## The player has no more calls
 
@@ -42,12 +39,6 @@ module _ {P : Type 0} {rules : Rules P} {cells : Cells} {r0 : Rows} {old : Actor
 
 module _ {P : Type 0} {rules : Rules P} (laws : Obeys rules) {cells : Cells} {r0 r : Rows} {old a : Actor P} {call : Call} {what : Next} (m : IsCalling rules cells r0 r old a call what)
     (first : Between P) (base : List ℕ) (laid : AreLaid base cells r0) (runs : RunsFrom rules first base cells r0 old) where
-  ended_same : r.ended ≡ r0.ended
-  ended_same = ap (λ (x : Rows). x.ended) m.asks.rows_are
-
-  active_same : active_of a.thread r.active ≡ active_of old.thread r0.active
-  active_same = (λ i. active_of (m.asks.thread i) r.active) ∙ ap (λ (x : Rows). active_of old.thread x.active) m.asks.rows_are
-
   on_way_so : (end : End) → ending_of old.status ≡ Some end → ⊥
   on_way_so end e = absurd (let z = sym (ap ending_of m.ready) ∙ e in cc)
 
@@ -76,22 +67,20 @@ module _ {P : Type 0} {rules : Rules P} (laws : Obeys rules) {cells : Cells} {r0
         k.leads ∙ (here ∙ (λ i. Some (record { player = (sym m.asks.player) i; arena = b.arena; props = (ap (λ (x : Attempt). x.props) made) i }))),
         again_shut (in_transaction old.engine) refl o call props room (sym is) ∙ k.again,
       )
-  fresh_pending b k o Commit is row e = absurd (let z = sym (rests m.sound m.ready).nothing ∙ e in cc)
-  fresh_pending b k o (Read hint width at) is row e = absurd (let z = sym (rests m.sound m.ready).nothing ∙ e in cc)
-  fresh_pending b k o (Write hint at value) is row e = absurd (let z = sym (rests m.sound m.ready).nothing ∙ e in cc)
+  fresh_pending b k o c is row e = absurd (let z = sym (rests m.sound m.ready).nothing ∙ e in cc)
 
   run_came : IsRun rules first base (cells.clock / 2) r (record a { engine = mid m })
   run_came =
       let x = runs.runs in
       record {
-        run = subst (λ (l : List Attempt). IsRunOf rules MAX_DEPTH (cells.clock / 2) (bytes_at base l) (Some first) (of_thread a.thread l)) (sym ended_same)
+        run = subst (λ (l : List Attempt). IsRunOf rules MAX_DEPTH (cells.clock / 2) (bytes_at base l) (Some first) (of_thread a.thread l)) (sym (ended_same m))
             (subst (λ (t : ℕ). IsRunOf rules MAX_DEPTH (cells.clock / 2) (bytes_at base r0.ended) (Some first) (of_thread t r0.ended)) (sym m.asks.thread) x.run);
         inside = λ o.
             (let t = x.inside o in let y = t.4 in (
               t.0,
               t.1,
-              (λ i. run_after rules (bytes_at base (ended_same i)) (Some first) (of_thread (m.asks.thread i) (ended_same i))) ∙ t.2,
-              active_same ∙ t.3,
+              (λ i. run_after rules (bytes_at base (ended_same m i)) (Some first) (of_thread (m.asks.thread i) (ended_same m i))) ∙ t.2,
+              active_same m ∙ t.3,
               record {
                 start = y.start;
                 begins = y.begins;
@@ -110,7 +99,7 @@ module _ {P : Type 0} {rules : Rules P} (laws : Obeys rules) {cells : Cells} {r0
         between = λ o gave_up starved.
             (let t = x.between o (on_way_so ends.GaveUp) (on_way_so ends.NoMemory) in let k = t.2 in (
               t.0,
-              (λ i. run_after rules (bytes_at base (ended_same i)) (Some first) (of_thread (m.asks.thread i) (ended_same i))) ∙ t.1,
+              (λ i. run_after rules (bytes_at base (ended_same m i)) (Some first) (of_thread (m.asks.thread i) (ended_same m i))) ∙ t.1,
               record {
                 leads = k.leads ∙ ap (λ (q : P). begin_of rules MAX_DEPTH q t.0.arena) (sym m.asks.player);
                 arena = k.arena;
@@ -123,8 +112,8 @@ module _ {P : Type 0} {rules : Rules P} (laws : Obeys rules) {cells : Cells} {r0
 
   seen : HasSeen base cells cells r (mid m) a.engine
   seen =
-      call_seen base cells r old.engine a.engine call (begins_again (in_transaction old.engine) old.again call) (laid_same base cells r0 r ended_same laid) m.sound.tied (rests m.sound m.ready).free
-      (subst (λ (l : List Attempt). Sees (words_at base l) cells old.engine) (sym ended_same) (runs.sees (on_way_so ends.NoMemory))) m.asked.stays
+      call_seen base cells r old.engine a.engine call (begins_again (in_transaction old.engine) old.again call) (laid_same base cells r0 r (ended_same m) laid) m.sound.tied (rests m.sound m.ready).free
+      (subst (λ (l : List Attempt). Sees (words_at base l) cells old.engine) (sym (ended_same m)) (runs.sees (on_way_so ends.NoMemory))) m.asked.stays
 
   -- where its attempt reads
   abbrev ReadsAt : Rows → Actor P → Type 0
@@ -142,12 +131,9 @@ module _ {P : Type 0} {rules : Rules P} (laws : Obeys rules) {cells : Cells} {r0
           let here : active_of last.thread r1.active ≡ Some (with_call x.1) =
           ap (λ (k : ℕ). active_of k r1.active) t.settled.thread ∙ (ap (λ (x : Rows). active_of a.thread x.active) t.told.0 ∙ changed_here a.thread with_call r.active x.1 (λ x. refl) x.3) in
           let same : with_call x.1 ≡ row = (let z : Some (with_call x.1) ≡ Some row = sym here ∙ f in cc) in
-          ap (λ (x : Attempt). x.at) (sym same) ∙ (runs.reads was x.1 (sym active_same ∙ x.3) ∙ ap (λ (k : ℕ). k / 2) (sym (ap (λ (c : Core). c.snapshot) t.settled.engine ∙ m.asked.stays.snapshot)))
-      by_answer false (Reply reply) was t now row f = absurd (both (in_transaction old.engine) (m.asked.stays.opens now) was)
-      by_answer b (Committed at wrote) was t now row f = absurd (both (in_transaction a.engine) now t.answered.fits.1)
-      by_answer b (Conflict clock word) was t now row f = absurd (both (in_transaction a.engine) now t.answered.fits.1)
-      by_answer b (Busy clock) was t now row f = absurd (both (in_transaction a.engine) now t.answered.fits.1)
-      by_answer b (Full at) was t now row f = absurd (both (in_transaction a.engine) now t.answered.fits.1)
+          ap (λ (x : Attempt). x.at) (sym same) ∙ (runs.reads was x.1 (sym (active_same m) ∙ x.3) ∙ ap (λ (k : ℕ). k / 2) (sym (ap (λ (c : Core). c.snapshot) t.settled.engine ∙ m.asked.stays.snapshot)))
+      by_answer false (Reply reply) was t now row f = absurd (true≢false (sym (m.asked.stays.opens now) ∙ was))
+      by_answer b answer was t now row f = absurd (true≢false (sym now ∙ t.answered.fits.1))
 
   pub call_runs : (r1 : Rows) (last : Actor P) → IsDone rules (in_transaction old.engine) r r1 a last call what → Tells rules (in_transaction old.engine) r r1 a last call what → (more : List Attempt) → r1.ended ≡ r.ended ++ more → AreCounted cells.clock r1.ended
       → AreLaid base cells r1 × RunsFrom rules first base cells r1 last
@@ -160,7 +146,7 @@ module _ {P : Type 0} {rules : Rules P} (laws : Obeys rules) {cells : Cells} {r0
           sees = λ fed. x.sees;
           starved = λ e. absurd (x.fed e);
           reads = recorded ReadsAt taken done tells
-              (λ step t o row e. runs.reads (sym (ap in_transaction t.proceeds.stays) ∙ o) row (sym active_same ∙ e) ∙ ap (λ (k : ℕ). k / 2) (sym m.asked.stays.snapshot))
+              (λ step t o row e. runs.reads (sym (ap in_transaction t.proceeds.stays) ∙ o) row (sym (active_same m) ∙ e) ∙ ap (λ (k : ℕ). k / 2) (sym m.asked.stays.snapshot))
               (λ answer is t. answer_reads (in_transaction old.engine) answer refl t);
         },
       )
@@ -182,14 +168,14 @@ module _ {P : Type 0} {rules : Rules P} (laws : Obeys rules) {cells : Cells} {r0
     long = refl;
     late = (let reached = sound.tied.settled.reached in let late = sound.tied.late in omega arith);
     up = λ o. (let l : old.engine.snapshot ≤ old.engine.snapshot = omega arith in l);
-    opens = λ shut o. absurd (both (in_transaction old.engine) o shut);
+    opens = λ shut o. absurd (true≢false (sym o ∙ shut));
     logged = (runs.sees fed).logged;
     still = (runs.sees fed).logged;
     now = (runs.sees fed).logged;
     fewer = λ o m x. x;
     loaded = λ f. (runs.sees fed).loaded;
     even = λ f even. refl;
-    freed = λ f. absurd (both old.engine.freed f sound.tied.settled.unfreed);
+    freed = λ f. absurd (true≢false (sym f ∙ sound.tied.settled.unfreed));
   }
 
   starve_run : (b : Bool) → in_transaction old.engine ≡ b → RunAt r1.ended last.thread
@@ -197,7 +183,7 @@ module _ {P : Type 0} {rules : Rules P} (laws : Obeys rules) {cells : Cells} {r0
       let same : r1.ended ≡ r0.ended = ap (λ (x : Rows). x.ended) (s.stays o) in
       subst (λ (l : List Attempt). RunAt l last.thread) (sym same) (subst (RunAt r0.ended) (sym s.same.thread) runs.runs.run)
   starve_run true o =
-      let here : IsRun rules first base (cells.clock / 2) roomy old = record { run = runs.runs.run; inside = runs.runs.inside; between = λ x. absurd (both (in_transaction old.engine) o x) } in
+      let here : IsRun rules first base (cells.clock / 2) roomy old = record { run = runs.runs.run; inside = runs.runs.inside; between = λ x. absurd (true≢false (sym o ∙ x)) } in
       let early = (runs.runs.inside o).4.began in
       let late = still_seen.late in
       (stop_run rules laws first base cells cells roomy r1 old.engine old last Commit still_seen here (cells.clock / 2) (let l : cells.clock / 2 ≤ cells.clock / 2 = omega arith in l)
@@ -206,10 +192,10 @@ module _ {P : Type 0} {rules : Rules P} (laws : Obeys rules) {cells : Cells} {r0
 
   pub starve_runs : RunsFrom rules first base cells r1 last
   starve_runs = record {
-    runs = record { run = starve_run (in_transaction old.engine) refl; inside = λ o. absurd (both (in_transaction last.engine) o closed); between = λ o gave_up starved. absurd (starved (ap ending_of s.status)) };
+    runs = record { run = starve_run (in_transaction old.engine) refl; inside = λ o. absurd (true≢false (sym o ∙ closed)); between = λ o gave_up starved. absurd (starved (ap ending_of s.status)) };
     sees = λ fed. absurd (fed (ap ending_of s.status));
     starved = λ e. closed;
-    reads = λ o. absurd (both (in_transaction last.engine) o closed);
+    reads = λ o. absurd (true≢false (sym o ∙ closed));
   }
 
 -- ## The words

@@ -1,5 +1,5 @@
 -- An actor's run over a step.
-use Rattle.std.proofs.Common.{◌≡◌, ℕ, ◌/◌, Bool, true, false, List, ◌++◌, None, Some, refl, sym, ap, subst, ◌∙◌}
+use Rattle.std.proofs.Common.{◌≡◌, ℕ, ◌/◌, Bool, true, false, List, ◌++◌, None, Some, refl, sym, true≢false, ap, subst, ◌∙◌}
 use Rattle.norec_world.proofs.Common.{Actor, AreCounted, AreLaid, Attempt, Between, Call, Cells, Core, HasRow, IsDone, IsRun, IsRunOf, IsTold, MAX_DEPTH, Next, Obeys, Ready, Rows, Rules, Sees, Status, Step, Tells, active_of, bytes_at, ending_of, found, handed_is, handed_to, in_transaction, is_inside, of_thread, run_after, words_at}
 use Rattle.norec_world.proofs.ActiveRows.{changed_here}
 use Rattle.norec_world.proofs.InTries.{try_handed, try_told}
@@ -9,9 +9,6 @@ use Rattle.norec_world.proofs.RunTaken.{runs_recorded}
 use Rattle.norec_world.proofs.Seen.{HasSeen, step_seen}
 use Rattle.norec_world.proofs.SoundSteps.{IsStepping, mid, same, step_taken, waits}
 use Rattle.norec_world.proofs.Taken.{now}
-
-both : (n : Bool) → n ≡ true → n ≡ false → ⊥
-both n t f = absurd (cc)
 
 -- an attempt that is told where it reads
 abbrev reading : ℕ → Attempt → Attempt
@@ -44,7 +41,7 @@ module _ {P : Type 0} (rules : Rules P) (laws : Obeys rules) (first : Between P)
   run_told n r r' a has told x = by_open (in_transaction a.engine) refl
     where
       by_open : (b : Bool) → in_transaction a.engine ≡ b → Run n r' a × (in_transaction a.engine ≡ true → (row : Attempt) → active_of a.thread r'.active ≡ Some row → row.at ≡ a.engine.snapshot / 2) × (r'.ended ≡ r.ended)
-      by_open false o = (subst (λ (rows : Rows). Run n rows a) (sym (told.stays o)) x, λ y. absurd (both (in_transaction a.engine) y o), ap (λ (rows : Rows). rows.ended) (told.stays o))
+      by_open false o = (subst (λ (rows : Rows). Run n rows a) (sym (told.stays o)) x, λ y. absurd (true≢false (sym y ∙ o)), ap (λ (rows : Rows). rows.ended) (told.stays o))
       by_open true o =
           let moved = told.moves o in
           let ended : r'.ended ≡ r.ended = ap (λ (rows : Rows). rows.ended) moved in
@@ -61,7 +58,7 @@ module _ {P : Type 0} (rules : Rules P) (laws : Obeys rules) (first : Between P)
                 t.5,
                 t.6,
               );
-              between = λ y. absurd (both (in_transaction a.engine) o y);
+              between = λ y. absurd (true≢false (sym o ∙ y));
             },
             λ y row e. (let same : reading (a.engine.snapshot / 2) t.1 ≡ row = (let z : Some (reading (a.engine.snapshot / 2) t.1) ≡ Some row = sym now ∙ e in cc) in ap (λ (w : Attempt). w.at) (sym same)),
             ended,

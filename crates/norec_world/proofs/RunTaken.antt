@@ -1,5 +1,5 @@
 -- A value or a call was taken in, and what the engine gave is recorded: the actor's run goes on, and the words are still those that the commits left.
-use Rattle.std.proofs.Common.{◌≡◌, ℕ, suc, ◌+◌, ◌/◌, ◌≤◌, ◌==◌, Bool, true, false, List, [], ◌∷◌, ◌++◌, Option, None, Some, is_some, refl, sym, ap, subst, ◌∙◌, arith, eq-eqb, append-nil}
+use Rattle.std.proofs.Common.{◌≡◌, ℕ, suc, ◌+◌, ◌/◌, ◌≤◌, ◌==◌, Bool, true, false, List, [], ◌∷◌, ◌++◌, Option, None, Some, is_some, refl, sym, true≢false, ap, subst, ◌∙◌, arith, eq-eqb, append-nil}
 use Rattle.norec_world.proofs.Common.{Actor, Agrees, Answer, AreCounted, AreLaid, Asks, Attempt, Between, Busy, Call, Cells, Committed, Conflict, Core, Done, Ends, Full, IsDone, IsRun, MAX_DEPTH, Next, NoMemory, Obeys, Opens, RepliesTo, Reply, Rows, Rules, Sees, State, Step, Tells, Waits, alone, bytes_at, bytes_of, committed_at, cond-true, ending_of, in_transaction, words_at}
 use Rattle.norec_engine.specs.Proceeds.{backed}
 use Rattle.norec_engine.proofs.AnsweredEngines.{rests}
@@ -16,9 +16,6 @@ use Rattle.norec_world.proofs.Seen.{HasSeen, memory_at}
 use Rattle.norec_world.proofs.Taken.{HasAnswered, HasTaken, recorded}
 use Rattle.norec_world.proofs.TryEnds.{not_starved, unfreed_to}
 
-both : (n : Bool) → n ≡ true → n ≡ false → ⊥
-both n t f = absurd (cc)
-
 -- an answer clears what was loaded since the clock
 no_fresh : (mid new : Core) (answer : Answer) → Ends mid answer new → new.fresh ≡ []
 no_fresh mid new (Reply reply) g = by_doing mid.doing g
@@ -26,10 +23,7 @@ no_fresh mid new (Reply reply) g = by_doing mid.doing g
     by_doing : (o : Option Call) → RepliesTo mid o reply new → new.fresh ≡ []
     by_doing None g = absurd g
     by_doing (Some c) g = ap (λ (c : Core). c.fresh) g.stays
-no_fresh mid new (Committed at wrote) g = ap (λ (c : Core). c.fresh) g.stays
-no_fresh mid new (Conflict clock word) g = ap (λ (c : Core). c.fresh) g.stays
-no_fresh mid new (Busy clock) g = ap (λ (c : Core). c.fresh) g.stays
-no_fresh mid new (Full at) g = ap (λ (c : Core). c.fresh) g.stays
+no_fresh mid new answer g = ap (λ (c : Core). c.fresh) g.stays
 
 module _ {P : Type 0} (rules : Rules P) (laws : Obeys rules) (first : Between P) (base : List ℕ) where
   -- what is true of the actor then; the words are laid as soon as its attempts are counted
@@ -130,10 +124,7 @@ module _ {P : Type 0} (rules : Rules P) (laws : Obeys rules) (first : Between P)
           by_pending true e (Some row) p opens = ap (λ (x : Rows). x.ended) opens
           by_pending true e None p opens = absurd (let f : false ≡ true = was_open false (in_transaction a.engine) call reply (λ x. sym (m.answered.in_call.begins x) ∙ ap is_some p) m.answered.fits.0 o in cc)
           by_pending false e p q opens = absurd (cc)
-      open_ended b (Committed at wrote) m o = absurd (both (in_transaction a.engine) o m.answered.fits.1)
-      open_ended b (Conflict clock word) m o = absurd (both (in_transaction a.engine) o m.answered.fits.1)
-      open_ended b (Busy clock) m o = absurd (both (in_transaction a.engine) o m.answered.fits.1)
-      open_ended b (Full at) m o = absurd (both (in_transaction a.engine) o m.answered.fits.1)
+      open_ended b answer m o = absurd (true≢false (sym o ∙ m.answered.fits.1))
 
       sees_on : (answer : Answer) → HasAnswered rules was cells cells' r r1 mid a last call answer → Sees (words_at base r1.ended) cells' last.engine
       sees_on answer m =
@@ -141,8 +132,8 @@ module _ {P : Type 0} (rules : Rules P) (laws : Obeys rules) (first : Between P)
           subst (Sees (words_at base r1.ended) cells') (sym m.settled.engine) (record {
             loaded = record {
               fresh = λ even same f. subst (Agrees (words_at base r1.ended (cells'.clock / 2))) (sym (no_fresh mid a.engine answer m.ends)) tt;
-              held = λ h. absurd (both a.engine.holds h rest.holds);
-              got = λ h. absurd (both a.engine.holds h rest.holds);
+              held = λ h. absurd (true≢false (sym h ∙ rest.holds));
+              got = λ h. absurd (true≢false (sym h ∙ rest.holds));
             };
             logged = λ o. subst (λ (rows : List Attempt). Agrees (words_at base rows (a.engine.snapshot / 2)) a.engine.log) (sym (open_ended was answer m o)) (seen.now o);
           })
@@ -181,9 +172,7 @@ module _ {P : Type 0} (rules : Rules P) (laws : Obeys rules) (first : Between P)
       laid_answered b (Committed at false) m = laid_still r1 more ended (m.taken.moves.keeps m.ends.freed) m.ends.freed
       laid_answered true (Committed at true) m = laid_freed at m
       laid_answered false (Committed at true) m = absurd (let f : false ≡ true = m.answered.fits.0 in cc)
-      laid_answered b (Conflict clock word) m = laid_still r1 more ended (m.taken.moves.keeps m.ends.unfreed) m.ends.unfreed
-      laid_answered b (Busy clock) m = laid_still r1 more ended (m.taken.moves.keeps m.ends.unfreed) m.ends.unfreed
-      laid_answered b (Full at) m = laid_still r1 more ended (m.taken.moves.keeps m.ends.unfreed) m.ends.unfreed
+      laid_answered b answer m = laid_still r1 more ended (m.taken.moves.keeps m.ends.unfreed) m.ends.unfreed
 
       answers_on : (answer : Answer) → HasAnswered rules was cells cells' r r1 mid a last call answer → HasRun cells' r1 last
       answers_on answer m = record {

@@ -10,6 +10,9 @@ use Rattle.norec_world.specs.declared.attempt.Outcome.TheVariants.{Full, Unfinis
 use Rattle.norec_world.specs.Solo.{Progress, row_of, Solo, entry_of, one_if, ended_as, stopped, front, with_first, the_attempt, player_after, passed, block_then, begun_then, solo_within}
 use Rattle.norec_world.proofs.Alones.{asked}
 
+pub same_some : {A : Type 0} {a b : A} → Some a ≡ Some b → a ≡ b
+same_some e = cc
+
 pub state_pairs : (deepest : ℕ) (s : State) (xs : List Entry) → state_after deepest s (map (λ (c : Call × Reply). c.0) (map pair_of xs)) ≡ state_then deepest s xs
 state_pairs deepest s [] = refl
 state_pairs deepest s (x ∷ xs) = state_pairs deepest (after deepest s x.call) xs
@@ -28,9 +31,6 @@ module _ {P : Type 0} (rules : Rules P) (laws : Obeys rules) (deepest : ℕ) whe
   later : (p q : P) (start : Beginning P) → rules.calls_left q ≤ rules.calls_left p → IsBeginning q start → IsBeginning p start
   later p q start l b = record { room = b.room; asks = b.asks; accepted = b.accepted; less = (let m = b.less in omega arith) }
 
-  same_some : {A : Type 0} (a b : A) → Some a ≡ Some b → a ≡ b
-  same_some a b e = cc
-
   -- a begin that is accepted, or is refused and passed over
   begins : (n : ℕ) (p : P) (arena : List ℕ) (props : Props) (room : ℕ) (start : Beginning P) (b : Bool) → b ≡ is_none (refusal deepest (outside [] arena) (Begin props room)) → rules.next_call p ≡ Some (Begin props room)
       → ((q : P) → comes n q arena (rules.next_call q) ≡ Some start → IsBeginning q start)
@@ -38,61 +38,40 @@ module _ {P : Type 0} (rules : Rules P) (laws : Obeys rules) (deepest : ℕ) whe
       (comes n (rules.answered p (reply deepest (outside [] arena) (Begin props room))) arena (rules.next_call (rules.answered p (reply deepest (outside [] arena) (Begin props room))))) ≡ Some start
       → IsBeginning p start
   begins n p arena props room start true is e rest h =
-      subst (IsBeginning p) (same_some _ _ h) (record { room = room; asks = e; accepted = sym is; less = omega arith })
+      subst (IsBeginning p) (same_some h) (record { room = room; asks = e; accepted = sym is; less = omega arith })
   begins n p arena props room start false is e rest h = (
       let q : P = rules.answered p (reply deepest (outside [] arena) (Begin props room)) in
       let l = laws.nearer p (Begin props room) (reply deepest (outside [] arena) (Begin props room)) e in
       later p q start (omega arith) (rest q h))
 
   found : (n : ℕ) (p : P) (arena : List ℕ) (o : Option Call) (start : Beginning P) → rules.next_call p ≡ o → comes n p arena o ≡ Some start → IsBeginning p start
-  found zero p arena o start e h = absurd (cc)
-  found (suc n) p arena None start e h = absurd (cc)
   found (suc n) p arena (Some (Begin props room)) start e h = begins n p arena props room start _ refl e (λ q g. found n q arena (rules.next_call q) start refl g) h
-  found (suc n) p arena (Some Commit) start e h = (
-      let q : P = rules.answered p (reply deepest (outside [] arena) Commit) in
-      let l = laws.nearer p Commit (reply deepest (outside [] arena) Commit) e in
+  found (suc n) p arena (Some c) start e h = (
+      let q : P = rules.answered p (reply deepest (outside [] arena) c) in
+      let l = laws.nearer p c (reply deepest (outside [] arena) c) e in
       later p q start (omega arith) (found n q _ (rules.next_call q) start refl h))
-  found (suc n) p arena (Some (Read hint width at)) start e h = (
-      let q : P = rules.answered p (reply deepest (outside [] arena) (Read hint width at)) in
-      let l = laws.nearer p (Read hint width at) (reply deepest (outside [] arena) (Read hint width at)) e in
-      later p q start (omega arith) (found n q _ (rules.next_call q) start refl h))
-  found (suc n) p arena (Some (Write hint at value)) start e h = (
-      let q : P = rules.answered p (reply deepest (outside [] arena) (Write hint at value)) in
-      let l = laws.nearer p (Write hint at value) (reply deepest (outside [] arena) (Write hint at value)) e in
-      later p q start (omega arith) (found n q _ (rules.next_call q) start refl h))
+  found n p arena o start e h = absurd (cc)
 
   pub begin_found : (p : P) (arena : List ℕ) (start : Beginning P) → begin_of rules deepest p arena ≡ Some start → IsBeginning p start
   begin_found p arena start h = found (rules.calls_left p) p arena (rules.next_call p) start refl h
 
   -- ## Bounds that suffice
 
-  chooses : (b : Bool) (start : Option (Beginning P)) (x y : Option (Beginning P)) → x ≡ y → cond b start x ≡ cond b start y
-  chooses b start x y e = ap (cond b start) e
-
   comes_enough : (n k : ℕ) (p : P) (arena : List ℕ) (o : Option Call) → rules.next_call p ≡ o → rules.calls_left p ≤ n → rules.calls_left p ≤ k → comes n p arena o ≡ comes k p arena o
   comes_enough zero zero p arena o e a c = refl
-  comes_enough zero (suc k) p arena None e a c = refl
   comes_enough zero (suc k) p arena (Some call) e a c = (let l = laws.nearer p call (reply deepest (outside [] arena) call) e in absurd (omega arith))
-  comes_enough (suc n) zero p arena None e a c = refl
   comes_enough (suc n) zero p arena (Some call) e a c = (let l = laws.nearer p call (reply deepest (outside [] arena) call) e in absurd (omega arith))
-  comes_enough (suc n) (suc k) p arena None e a c = refl
   comes_enough (suc n) (suc k) p arena (Some (Begin props room)) e a c = (
       let q : P = rules.answered p (reply deepest (outside [] arena) (Begin props room)) in
       let l = laws.nearer p (Begin props room) (reply deepest (outside [] arena) (Begin props room)) e in
-      chooses (is_none (refusal deepest (outside [] arena) (Begin props room))) (Some (record { player = p; arena = arena; props = props })) _ _
+      ap (cond (is_none (refusal deepest (outside [] arena) (Begin props room))) (Some (record { player = p; arena = arena; props = props })))
       (comes_enough n k q arena (rules.next_call q) refl (omega arith) (omega arith)))
-  comes_enough (suc n) (suc k) p arena (Some Commit) e a c = (
-      let q : P = rules.answered p (reply deepest (outside [] arena) Commit) in
-      let l = laws.nearer p Commit (reply deepest (outside [] arena) Commit) e in
+  comes_enough (suc n) (suc k) p arena (Some call) e a c = (
+      let q : P = rules.answered p (reply deepest (outside [] arena) call) in
+      let l = laws.nearer p call (reply deepest (outside [] arena) call) e in
       comes_enough n k q _ (rules.next_call q) refl (omega arith) (omega arith))
-  comes_enough (suc n) (suc k) p arena (Some (Read hint width at)) e a c = (
-      let q : P = rules.answered p (reply deepest (outside [] arena) (Read hint width at)) in
-      let l = laws.nearer p (Read hint width at) (reply deepest (outside [] arena) (Read hint width at)) e in
-      comes_enough n k q _ (rules.next_call q) refl (omega arith) (omega arith))
-  comes_enough (suc n) (suc k) p arena (Some (Write hint at value)) e a c = (
-      let q : P = rules.answered p (reply deepest (outside [] arena) (Write hint at value)) in
-      let l = laws.nearer p (Write hint at value) (reply deepest (outside [] arena) (Write hint at value)) e in
-      comes_enough n k q _ (rules.next_call q) refl (omega arith) (omega arith))
+  comes_enough (suc n) zero p arena None e a c = refl
+  comes_enough n k p arena None e a c = refl
 
   -- the calls left do not grow along what a player gets
   falls_along : (n : ℕ) (p : P) (s : State) (o : Option Call) → turn rules.next_call rules.answered rules.calls_left p s ≡ o
@@ -252,9 +231,7 @@ module _ {P : Type 0} (rules : Rules P) (laws : Obeys rules) (deepest : ℕ) whe
     steps_past : (n : ℕ) (b : Progress P) (c : Call) → is_begin c ≡ false
         → comes (suc n) b.player b.arena (Some c) ≡ comes n (passing b c).player (passing b c).arena (rules.next_call (passing b c).player)
     steps_past n b (Begin props room) e = absurd (cc)
-    steps_past n b Commit e = refl
-    steps_past n b (Read hint width at) e = refl
-    steps_past n b (Write hint at value) e = refl
+    steps_past n b c e = refl
 
     pub comes_past : (n : ℕ) (b : Progress P) (c : Call) → rules.next_call b.player ≡ Some c → is_begin c ≡ false → rules.calls_left b.player ≤ n
         → comes n b.player b.arena (rules.next_call b.player) ≡ comes (rules.calls_left (passing b c).player) (passing b c).player (passing b c).arena (rules.next_call (passing b c).player)
