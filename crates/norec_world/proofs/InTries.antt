@@ -16,6 +16,7 @@ use Rattle.norec_world.specs.declared.attempt.Outcome.TheVariants as outcomes
 use Rattle.norec_world.specs.Opacity.{EndsAs, LacksCommit}
 use Rattle.norec_world.specs.Runs.{IsInTry}
 use Rattle.norec_world.proofs.Alones.{begins_alone, alone_snoc, player_snoc, state_snoc, stands_open}
+use Rattle.norec_world.proofs.Solos.{gets_none}
 
 module _ {P : Type 0} (rules : Rules P) (laws : Obeys rules) where
   abbrev InTry : Between P → Attempt → P → Core → Type 0
@@ -30,14 +31,10 @@ module _ {P : Type 0} (rules : Rules P) (laws : Obeys rules) where
       record { start = t.start; begins = t.begins; arena = t.arena; props = t.props; tries = t.tries; began = t.began; anew = t.anew; player = t.player; alone = t.alone; stands = t.stands }
 
   pub try_handed : (b : Between P) (row : Attempt) (p : P) (e : Core) (step : Step) (seen : ℕ) → InTry b row p e → InTry b row p (handed_to e (Some step) seen)
-  try_handed b row p e (Load zero) seen t =
-      record { start = t.start; begins = t.begins; arena = t.arena; props = t.props; tries = t.tries; began = t.began; anew = t.anew; player = t.player; alone = t.alone; stands = t.stands }
   try_handed b row p e (Load (suc word)) seen t = word_handed b row p e e.holds word seen t
   try_handed b row p e (Store zero value) seen t =
       record { start = t.start; begins = t.begins; arena = t.arena; props = t.props; tries = t.tries; began = t.began; anew = t.anew; player = t.player; alone = t.alone; stands = t.stands }
-  try_handed b row p e (Store (suc word) value) seen t =
-      record { start = t.start; begins = t.begins; arena = t.arena; props = t.props; tries = t.tries; began = t.began; anew = t.anew; player = t.player; alone = t.alone; stands = t.stands }
-  try_handed b row p e (Cas cell from to) seen t =
+  try_handed b row p e step seen t =
       record { start = t.start; begins = t.begins; arena = t.arena; props = t.props; tries = t.tries; began = t.began; anew = t.anew; player = t.player; alone = t.alone; stands = t.stands }
 
   -- the attempt is told where it reads
@@ -111,11 +108,7 @@ module _ {P : Type 0} (rules : Rules P) (laws : Obeys rules) where
       ∙ (ap (λ (rest : List (Call × Replied)). map pair_of xs ++ rest) (no_more (rules.calls_left p) (player_then rules.answered p xs) (state_then MAX_DEPTH s xs) shut) ∙ append-nil (map pair_of xs))
     where
       no_more : (k : ℕ) (q : P) (s : State) → is_open s ≡ false → answers_within rules.next_call rules.answered rules.calls_left MAX_DEPTH k q s (turn rules.next_call rules.answered rules.calls_left q s) ≡ []
-      no_more k q s shut = ap (λ (o : Bool). answers_within rules.next_call rules.answered rules.calls_left MAX_DEPTH k q s (if o then rules.next_call q else None)) shut ∙ none_more k
-        where
-          none_more : (k : ℕ) → answers_within rules.next_call rules.answered rules.calls_left MAX_DEPTH k q s None ≡ []
-          none_more zero = refl
-          none_more (suc k) = refl
+      no_more k q s shut = ap (λ (o : Bool). answers_within rules.next_call rules.answered rules.calls_left MAX_DEPTH k q s (if o then rules.next_call q else None)) shut ∙ gets_none rules laws MAX_DEPTH 0 0 k q s
 
   -- its calls are the first of those that its player makes alone on the memory of its position, and all of them where its block has ended
   pub is_try : (n : ℕ) (memory : ℕ → List ℕ) (b : Between P) (start : Beginning P) (row : Attempt) → row.arena ≡ start.arena → row.props ≡ start.props → b.tries < row.nth → row.began ≤ row.at → row.at ≤ n

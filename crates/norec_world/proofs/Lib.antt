@@ -44,5 +44,4 @@ pub mod SoleEvents
 pub mod ShownAlone
 pub mod OpenedRows
 pub mod Beginnings
-pub mod Events
 pub mod EventWorlds

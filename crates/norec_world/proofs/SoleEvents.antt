@@ -5,6 +5,7 @@ use Rattle.norec_world.specs.declared.attempt.Outcome.TheVariants as outcomes
 use Rattle.norec_world.specs.Invariant.{AreRunning}
 use Rattle.norec_world.specs.Opaque.{first_of}
 use Rattle.norec_world.proofs.SoundOthers.{within_of, there_is}
+use Rattle.norec_world.proofs.TryEnds.{none_again}
 use Rattle.norec_world.specs.Attempts.{is_committed}
 use Rattle.norec_world.specs.Opacity.{after_try}
 use Rattle.norec_world.specs.Rows.{AreOfActors}
@@ -120,10 +121,6 @@ module _ {P : Type 0} (rules : Rules P) (max_commits : ℕ) where
         stands = stands_between clock' (old.past ++ t.row' ∷ []) r' a' mine ended b finishes (ending_of a'.status) refl;
       }
 
-      again : (b : Bool) (nth : ℕ) → TriesAgain b clock' nth r' a' → active_of a'.thread r'.active ≡ None
-      again true nth h = h.none
-      again false nth h = h.none
-
       last : (outcome : Outcome) → t.row'.outcome ≡ outcome → clock' / 2 ≡ clock / 2 → EndsWith old.past (clock' / 2) outcome r'
       last outcome o half = record { row = t.row'; ended = ended; first = now 0 t.row' half first; outcome_is = o }
 
@@ -143,7 +140,7 @@ module _ {P : Type 0} (rules : Rules P) (max_commits : ℕ) where
           let half = at.0 in
           let reads = at.1 in
           let l = later in
-          let even = shut (again (nat_lt a.retries a.nth) a.nth g) in
+          let even = shut (none_again clock' a.nth r' a' (nat_lt a.retries a.nth) g) in
           absurd (omega arith)
       by_outcome outcomes.Full o at g =
           let half = at.0 in
@@ -182,11 +179,7 @@ module _ {P : Type 0} (rules : Rules P) (max_commits : ℕ) where
         by_ending (Some GaveUp) e = absurd (t.goes_on e)
         by_ending (Some NoMemory) e = absurd (t.fed e)
     sole_after (over t) = by_outcome t t.row'.outcome refl t.at t.after
-    sole_after (turned_away t) = absurd (let even = shut (away (nat_lt a.retries a.nth) t.after) in let odd = t.odd in omega arith)
-      where
-        away : (b : Bool) → TriesAgain b clock' a.nth r' a' → active_of a'.thread r'.active ≡ None
-        away true h = h.none
-        away false h = h.none
+    sole_after (turned_away t) = absurd (let even = shut (none_again clock' a.nth r' a' (nat_lt a.retries a.nth) t.after) in let odd = t.odd in omega arith)
 
 -- ## A world
 
@@ -231,5 +224,4 @@ module _ {P : Type 0} (rules : Rules P) where
     where
       by_status : (s : Status) → a1.status ≡ s → StatusIs rules r1 a1 s → a1.engine.holds ≡ false
       by_status Ready e s = s.free
-      by_status (Waits call step) e s = absurd (unfinished (ap (λ (x : Actor P). ending_of x.status) (sym (still (ap is_ready e)).0) ∙ end))
-      by_status (Ended x) e s = absurd (unfinished (ap (λ (x : Actor P). ending_of x.status) (sym (still (ap is_ready e)).0) ∙ end))
+      by_status x e s = absurd (unfinished (ap (λ (z : Actor P). ending_of z.status) (sym (still (ap is_ready e)).0) ∙ end))

@@ -25,8 +25,6 @@ module _ {P : Type 0} (rules : Rules P) (deepest : ℕ) where
   pub alone_of : (n : ℕ) (p : P) (s : State) (o : Option Call) (xs : List Entry) (rest : List (Call × Reply)) → turn rules.next_call rules.answered rules.calls_left p s ≡ o → map pair_of xs ++ rest ≡ answers_within rules.next_call rules.answered rules.calls_left deepest n p s o
       → IsAlone rules deepest p s xs
   alone_of n p s o [] rest t e = tt
-  alone_of zero p s o (x ∷ xs) rest t e = absurd (cc)
-  alone_of (suc n) p s None (x ∷ xs) rest t e = absurd (cc)
   alone_of (suc n) p s (Some c) (x ∷ xs) rest t e =
       let q : P = rules.answered p (reply deepest s c) in
       let parts = parts_of (pair_of x) (c, reply deepest s c) (map pair_of xs ++ rest) (answers_within rules.next_call rules.answered rules.calls_left deepest n q (after deepest s c) (turn rules.next_call rules.answered rules.calls_left q (after deepest s c))) e in
@@ -37,6 +35,7 @@ module _ {P : Type 0} (rules : Rules P) (deepest : ℕ) where
         subst (λ (r : Reply). IsAlone rules deepest (rules.answered p r) (after deepest s x.call) xs) (sym replied)
             (subst (λ (k : Call). IsAlone rules deepest q (after deepest s k) xs) (sym call) (alone_of n q (after deepest s c) (turn rules.next_call rules.answered rules.calls_left q (after deepest s c)) xs rest refl parts.1)),
       )
+  alone_of n p s o (x ∷ xs) rest t e = absurd (cc)
 
   in_open : (b : Bool) (o : Option Call) (c : Call) → (if b then o else None) ≡ Some c → b ≡ true
   in_open true o c e = refl
@@ -158,10 +157,7 @@ module _ {P : Type 0} (rules : Rules P) (laws : Obeys rules) (max_commits : ℕ)
       over_as : (o : Outcome) → is_done o ≡ true → EndsAs o ended → IsOver o
       over_as outcomes.Committed d e = record { shut = e.0; wrote = e.1; named = refl; led = refl }
       over_as outcomes.ReadOnly d e = record { shut = e.0; wrote = e.1; named = refl; led = refl }
-      over_as outcomes.Conflict d e = absurd (cc)
-      over_as outcomes.Full d e = absurd (cc)
-      over_as outcomes.NoMemory d e = absurd (cc)
-      over_as outcomes.Unfinished d e = absurd (cc)
+      over_as o d e = absurd (cc)
 
       over : IsOver a.outcome
       over = over_as a.outcome done x.opaque.ends
