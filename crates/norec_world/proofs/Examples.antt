@@ -50,17 +50,9 @@ call_at (suc (suc zero)) got = Some (Write W 0 (word (suc got)))
 call_at (suc (suc (suc zero))) got = Some Commit
 call_at (suc (suc (suc (suc n)))) got = None
 
-abbrev next : Counter → Option Call
-next p = call_at p.step p.got
-
 abbrev answered : Counter → Reply → Counter
-answered p Done = record { step = suc p.step; got = p.got }
 answered p (Bytes v) = record { step = suc p.step; got = first_byte v.items }
-answered p (Code n) = record { step = suc p.step; got = p.got }
-answered p (Refused r) = record { step = suc p.step; got = p.got }
-
-abbrev restarted : Counter → Counter
-restarted p = record { step = 0; got = 0 }
+answered p r = record { step = suc p.step; got = p.got }
 
 abbrev left_at : ℕ → ℕ
 left_at zero = 4
@@ -69,11 +61,8 @@ left_at (suc (suc zero)) = 2
 left_at (suc (suc (suc zero))) = 1
 left_at (suc (suc (suc (suc n)))) = 0
 
-abbrev left : Counter → ℕ
-left p = left_at p.step
-
 abbrev counter_rules : Rules Counter
-counter_rules = record { next_call = next; answered = answered; restarted = restarted; calls_left = left; depth = λ p. 0 }
+counter_rules = record { next_call = λ p. call_at p.step p.got; answered = answered; restarted = λ p. record { step = 0; got = 0 }; calls_left = λ p. left_at p.step; depth = λ p. 0 }
 
 abbrev fresh : Between Counter
 fresh = record { player = record { step = 0; got = 0 }; arena = []; again = false; tries = 0 }

@@ -24,22 +24,21 @@ undone_arena_from s (b ∷ bs) = undone_arena_from (record s { memory = b.saved.
 undone_arena : (s : State) → (undone s).arena ≡ s.arena
 undone_arena s = undone_arena_from s s.blocks
 
+-- the run of the thread over these attempts, where it stands then, and both under other names
+module _ {P : Type 0} (rules : Rules P) (first : Between P) (base : List ℕ) where
+  abbrev pub RunOf : ℕ → List Attempt → ℕ → Type 0
+  RunOf n ended thread = IsRunOf rules MAX_DEPTH n (bytes_at base ended) (Some first) (of_thread thread ended)
+
+  abbrev pub now_at : List Attempt → ℕ → Option (Between P)
+  now_at ended thread = run_after rules (bytes_at base ended) (Some first) (of_thread thread ended)
+
+  pub run_same : (n : ℕ) (xs ys : List Attempt) (t u : ℕ) → ys ≡ xs → u ≡ t → RunOf n xs t → RunOf n ys u
+  run_same n xs ys t u e f h = subst (λ (l : List Attempt). RunOf n l u) (sym e) (subst (RunOf n xs) (sym f) h)
+
 module _ {P : Type 0} (rules : Rules P) (laws : Obeys rules) (first : Between P) (base : List ℕ) (cells cells' : Cells) (r r1 : Rows) (mid : Core) (a last : Actor P) (call : Call)
     (seen : HasSeen base cells cells' r mid a.engine) (run : IsRun rules first base (cells.clock / 2) r (record a { engine = mid })) where
   abbrev n : ℕ
   n = cells.clock / 2
-
-  abbrev Run : ℕ → Rows → Actor P → Type 0
-  Run k rows x = IsRun rules first base k rows x
-
-  abbrev RunOf : List Attempt → ℕ → Type 0
-  RunOf ended thread = IsRunOf rules MAX_DEPTH (cells.clock / 2) (bytes_at base ended) (Some first) (of_thread thread ended)
-
-  abbrev now_at : List Attempt → ℕ → Option (Between P)
-  now_at ended thread = run_after rules (bytes_at base ended) (Some first) (of_thread thread ended)
-
-  run_same : (xs ys : List Attempt) (t u : ℕ) → ys ≡ xs → u ≡ t → RunOf xs t → RunOf ys u
-  run_same xs ys t u e f h = subst (λ (l : List Attempt). RunOf l u) (sym e) (subst (RunOf xs) (sym f) h)
 
   -- ## A call of an open transaction has its reply
 
@@ -53,7 +52,7 @@ module _ {P : Type 0} (rules : Rules P) (laws : Obeys rules) (first : Between P)
     with_call : Attempt → Attempt
     with_call x = record x { calls = x.calls ++ record { call = call; reply = reply } ∷ [] }
 
-    pub reply_runs : Run n r1 last
+    pub reply_runs : IsRun rules first base n r1 last
     unfolding with_call
     reply_runs =
         let t = run.inside inside in
@@ -63,11 +62,11 @@ module _ {P : Type 0} (rules : Rules P) (laws : Obeys rules) (first : Between P)
         let row : Attempt = with_call t.1 in
         let still_open : in_transaction last.engine ≡ true = ap in_transaction m.settled.engine ∙ g.still inside in
         record {
-          run = run_same r.ended r1.ended a.thread last.thread ended m.settled.thread run.run;
+          run = run_same rules first base n r.ended r1.ended a.thread last.thread ended m.settled.thread run.run;
           inside = λ o. (
             t.0,
             row,
-            (λ i. now_at (ended i) (m.settled.thread i)) ∙ t.2,
+            (λ i. now_at rules first base (ended i) (m.settled.thread i)) ∙ t.2,
             ap (λ (k : ℕ). active_of k r1.active) m.settled.thread ∙ (ap (λ (x : Rows). active_of a.thread x.active) m.told.0 ∙ changed_here a.thread with_call r.active t.1 (λ x. refl) t.3),
             subst (λ (c : Core). IsInTry rules t.0 row last.player c) (sym m.settled.engine) (subst (λ (q : P). IsInTry rules t.0 row q a.engine) (sym m.told.1) try),
             m.told.2 ∙ t.5,
@@ -115,7 +114,7 @@ module _ {P : Type 0} (rules : Rules P) (laws : Obeys rules) (first : Between P)
           let t = run.inside inside in
           left_state rules laws (bytes_at base r1.ended at) t.0 t.1 a.player mid call (words_at base r.ended at) t.4 inside m.ends.outermost m.answered.in_call.asks m.answered.fits.2 (memory_at seen at at_most) bytes_same commit_agrees n' at wrote a.engine m.ends
 
-      pub commit_runs : Run n' r1 last
+      pub commit_runs : IsRun rules first base n' r1 last
       commit_runs =
           let t = run.inside inside in
           let try = try_commits rules laws (bytes_at base r1.ended at) t.0 t.1 a.player mid call (words_at base r.ended at) t.4 inside m.ends.outermost m.answered.in_call.asks m.answered.fits.2 (memory_at seen at at_most) bytes_same commit_agrees n' at wrote a.engine m.ends
@@ -186,7 +185,7 @@ module _ {P : Type 0} (rules : Rules P) (laws : Obeys rules) (first : Between P)
 
     -- in conflict: its player goes back to its begin
     module _ (clock : ℕ) (word : Option ℕ) (m : HasAnswered rules true cells cells' r r1 mid a last call (Conflict clock word)) where
-      pub conflict_runs : Run n' r1 last
+      pub conflict_runs : IsRun rules first base n' r1 last
       conflict_runs =
           let t = run.inside inside in
           let k : ℕ = last.engine.snapshot / 2 in
@@ -222,7 +221,7 @@ module _ {P : Type 0} (rules : Rules P) (laws : Obeys rules) (first : Between P)
 
     -- as full: the actor gives up
     module _ (at : ℕ) (m : HasAnswered rules true cells cells' r r1 mid a last call (Full at)) (older : (run.inside inside).1.began ≤ at) (newer : at ≤ cells.clock / 2) where
-      pub full_runs : Run n' r1 last
+      pub full_runs : IsRun rules first base n' r1 last
       full_runs =
           let t = run.inside inside in
           let is : call ≡ Commit = (let doing : Some Commit ≡ Some call = sym m.ends.doing ∙ m.taken.doing in cc) in

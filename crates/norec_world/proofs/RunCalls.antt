@@ -12,7 +12,7 @@ use Rattle.norec_world.proofs.RunTaken.{runs_recorded}
 use Rattle.norec_world.proofs.Seen.{HasSeen, call_seen}
 use Rattle.norec_world.proofs.Taken.{HasAnswered, recorded}
 use Rattle.norec_world.specs.LocalWork.{Starves}
-use Rattle.norec_world.proofs.RunAnswers.{stop_run}
+use Rattle.norec_world.proofs.RunAnswers.{RunOf, now_at, run_same, stop_run}
 use Rattle.norec_world.proofs.RunBegins.{begin_here}
 
 -- ## The player has no more calls
@@ -73,13 +73,12 @@ module _ {P : Type 0} {rules : Rules P} (laws : Obeys rules) {cells : Cells} {r0
   run_came =
       let x = runs.runs in
       record {
-        run = subst (λ (l : List Attempt). IsRunOf rules MAX_DEPTH (cells.clock / 2) (bytes_at base l) (Some first) (of_thread a.thread l)) (sym (ended_same m))
-            (subst (λ (t : ℕ). IsRunOf rules MAX_DEPTH (cells.clock / 2) (bytes_at base r0.ended) (Some first) (of_thread t r0.ended)) (sym m.asks.thread) x.run);
+        run = run_same rules first base (cells.clock / 2) r0.ended r.ended old.thread a.thread (ended_same m) m.asks.thread x.run;
         inside = λ o.
             (let t = x.inside o in let y = t.4 in (
               t.0,
               t.1,
-              (λ i. run_after rules (bytes_at base (ended_same m i)) (Some first) (of_thread (m.asks.thread i) (ended_same m i))) ∙ t.2,
+              (λ i. now_at rules first base (ended_same m i) (m.asks.thread i)) ∙ t.2,
               active_same m ∙ t.3,
               record {
                 start = y.start;
@@ -99,7 +98,7 @@ module _ {P : Type 0} {rules : Rules P} (laws : Obeys rules) {cells : Cells} {r0
         between = λ o gave_up starved.
             (let t = x.between o (on_way_so ends.GaveUp) (on_way_so ends.NoMemory) in let k = t.2 in (
               t.0,
-              (λ i. run_after rules (bytes_at base (ended_same m i)) (Some first) (of_thread (m.asks.thread i) (ended_same m i))) ∙ t.1,
+              (λ i. now_at rules first base (ended_same m i) (m.asks.thread i)) ∙ t.1,
               record {
                 leads = k.leads ∙ ap (λ (q : P). begin_of rules MAX_DEPTH q t.0.arena) (sym m.asks.player);
                 arena = k.arena;
@@ -158,9 +157,6 @@ module _ {P : Type 0} {rules : Rules P} (laws : Obeys rules) {cells : Cells} {r0
   abbrev roomy : Rows
   roomy = record r0 { room = s.room }
 
-  abbrev RunAt : List Attempt → ℕ → Type 0
-  RunAt l t = IsRunOf rules MAX_DEPTH (cells.clock / 2) (bytes_at base l) (Some first) (of_thread t l)
-
   still_seen : HasSeen base cells cells roomy old.engine old.engine
   still_seen = record {
     laid = laid_same base cells r0 roomy refl laid;
@@ -178,10 +174,9 @@ module _ {P : Type 0} {rules : Rules P} (laws : Obeys rules) {cells : Cells} {r0
     freed = λ f. absurd (true≢false (sym f ∙ sound.tied.settled.unfreed));
   }
 
-  starve_run : (b : Bool) → in_transaction old.engine ≡ b → RunAt r1.ended last.thread
+  starve_run : (b : Bool) → in_transaction old.engine ≡ b → RunOf rules first base (cells.clock / 2) r1.ended last.thread
   starve_run false o =
-      let same : r1.ended ≡ r0.ended = ap (λ (x : Rows). x.ended) (s.stays o) in
-      subst (λ (l : List Attempt). RunAt l last.thread) (sym same) (subst (RunAt r0.ended) (sym s.same.thread) runs.runs.run)
+      run_same rules first base (cells.clock / 2) r0.ended r1.ended old.thread last.thread (ap (λ (x : Rows). x.ended) (s.stays o)) s.same.thread runs.runs.run
   starve_run true o =
       let here : IsRun rules first base (cells.clock / 2) roomy old = record { run = runs.runs.run; inside = runs.runs.inside; between = λ x. absurd (true≢false (sym o ∙ x)) } in
       let early = (runs.runs.inside o).4.began in

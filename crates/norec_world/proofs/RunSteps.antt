@@ -15,12 +15,9 @@ abbrev reading : ℕ → Attempt → Attempt
 reading k row = record row { at = k }
 
 module _ {P : Type 0} (rules : Rules P) (laws : Obeys rules) (first : Between P) (base : List ℕ) where
-  abbrev Run : ℕ → Rows → Actor P → Type 0
-  Run n r a = IsRun rules first base n r a
-
   -- the value is handed in
   pub run_handed : (n : ℕ) (r : Rows) (a : Actor P) (step : Step) (seen : ℕ) (status : Status) → ending_of a.status ≡ None → in_transaction (handed_to a.engine (Some step) seen) ≡ in_transaction a.engine
-      → Run n r a → Run n r (record a { engine = handed_to a.engine (Some step) seen; status = status })
+      → IsRun rules first base n r a → IsRun rules first base n r (record a { engine = handed_to a.engine (Some step) seen; status = status })
   run_handed n r a step seen status on same x =
       let kept = (handed_is a.engine step seen).keeps in
       record {
@@ -36,12 +33,12 @@ module _ {P : Type 0} (rules : Rules P) (laws : Obeys rules) (first : Between P)
       }
 
   -- the open attempt is told where it reads
-  pub run_told : (n : ℕ) (r r' : Rows) (a : Actor P) → HasRow (in_transaction a.engine) r a.thread → IsTold a.thread (in_transaction a.engine) r (a.engine.snapshot / 2) r' → Run n r a
-      → Run n r' a × (in_transaction a.engine ≡ true → (row : Attempt) → active_of a.thread r'.active ≡ Some row → row.at ≡ a.engine.snapshot / 2) × (r'.ended ≡ r.ended)
+  pub run_told : (n : ℕ) (r r' : Rows) (a : Actor P) → HasRow (in_transaction a.engine) r a.thread → IsTold a.thread (in_transaction a.engine) r (a.engine.snapshot / 2) r' → IsRun rules first base n r a
+      → IsRun rules first base n r' a × (in_transaction a.engine ≡ true → (row : Attempt) → active_of a.thread r'.active ≡ Some row → row.at ≡ a.engine.snapshot / 2) × (r'.ended ≡ r.ended)
   run_told n r r' a has told x = by_open (in_transaction a.engine) refl
     where
-      by_open : (b : Bool) → in_transaction a.engine ≡ b → Run n r' a × (in_transaction a.engine ≡ true → (row : Attempt) → active_of a.thread r'.active ≡ Some row → row.at ≡ a.engine.snapshot / 2) × (r'.ended ≡ r.ended)
-      by_open false o = (subst (λ (rows : Rows). Run n rows a) (sym (told.stays o)) x, λ y. absurd (true≢false (sym y ∙ o)), ap (λ (rows : Rows). rows.ended) (told.stays o))
+      by_open : (b : Bool) → in_transaction a.engine ≡ b → IsRun rules first base n r' a × (in_transaction a.engine ≡ true → (row : Attempt) → active_of a.thread r'.active ≡ Some row → row.at ≡ a.engine.snapshot / 2) × (r'.ended ≡ r.ended)
+      by_open false o = (subst (λ (rows : Rows). IsRun rules first base n rows a) (sym (told.stays o)) x, λ y. absurd (true≢false (sym y ∙ o)), ap (λ (rows : Rows). rows.ended) (told.stays o))
       by_open true o =
           let moved = told.moves o in
           let ended : r'.ended ≡ r.ended = ap (λ (rows : Rows). rows.ended) moved in

@@ -34,12 +34,6 @@ module _ {P : Type 0} (rules : Rules P) (laws : Obeys rules) (first : Between P)
     pub fed : ending_of last.status ≡ Some NoMemory → ⊥
 
   module _ (was : Bool) (cells cells' : Cells) (r : Rows) (mid : Core) (a : Actor P) (call : Call) (seen : HasSeen base cells cells' r mid a.engine) (run : IsRun rules first base (cells.clock / 2) r (record a { engine = mid })) where
-    abbrev n : ℕ
-    n = cells.clock / 2
-
-    abbrev Run : ℕ → Rows → Actor P → Type 0
-    Run k rows x = IsRun rules first base k rows x
-
     -- no commit is done
     laid_still : (r1 : Rows) (more : List Attempt) → r1.ended ≡ r.ended ++ more → cells'.clock / 2 ≡ cells.clock / 2 → mid.freed ≡ false → AreCounted cells'.clock r1.ended → AreLaid base cells' r1
     laid_still r1 more ended half unfreed counted =
@@ -53,7 +47,7 @@ module _ {P : Type 0} (rules : Rules P) (laws : Obeys rules) (first : Between P)
         let opens : in_transaction a.engine ≡ in_transaction mid = ap in_transaction g.stays in
         let half = t.moves.keeps g.unfreed in
         record {
-          run = subst (λ (k : ℕ). Run k r (record a { status = Waits call step })) (sym half) (record {
+          run = subst (λ (k : ℕ). IsRun rules first base k r (record a { status = Waits call step })) (sym half) (record {
             run = run.run;
             inside = λ o.
                 (let x = run.inside (sym opens ∙ o) in
@@ -88,10 +82,10 @@ module _ {P : Type 0} (rules : Rules P) (laws : Obeys rules) (first : Between P)
       still : (k : ℕ) → k ≤ cells.clock / 2 → bytes_at base r1.ended k ≡ bytes_at base r.ended k
       still k l = ap (λ (rows : List Attempt). bytes_at base rows k) ended ∙ bytes_still base cells.clock r.ended seen.laid.counted more k l
 
-      to_now : cells'.clock / 2 ≡ cells.clock / 2 → Run (cells.clock / 2) r1 last → Run (cells'.clock / 2) r1 last
-      to_now half x = subst (λ (k : ℕ). Run k r1 last) (sym half) x
+      to_now : cells'.clock / 2 ≡ cells.clock / 2 → IsRun rules first base (cells.clock / 2) r1 last → IsRun rules first base (cells'.clock / 2) r1 last
+      to_now half x = subst (λ (k : ℕ). IsRun rules first base k r1 last) (sym half) x
 
-      open_runs : (answer : Answer) → HasAnswered rules true cells cells' r r1 mid a last call answer → Run (cells'.clock / 2) r1 last
+      open_runs : (answer : Answer) → HasAnswered rules true cells cells' r r1 mid a last call answer → IsRun rules first base (cells'.clock / 2) r1 last
       open_runs (Reply reply) m = to_now (m.taken.moves.keeps (unfreed_to mid a.engine mid.doing reply m.ends)) (reply_runs rules laws first base cells cells' r r1 mid a last call seen run reply m)
       open_runs (Committed at wrote) m = commit_runs rules laws first base cells cells' r r1 mid a last call seen run (cells'.clock / 2) (later wrote refl) still m.taken.was_is at wrote m
         where
@@ -111,7 +105,7 @@ module _ {P : Type 0} (rules : Rules P) (laws : Obeys rules) (first : Between P)
           let up = seen.up m.taken.was_is in
           full_runs rules laws first base cells cells' r r1 mid a last call seen run (cells'.clock / 2) (omega arith) still m.taken.was_is at m (omega arith) (omega arith)
 
-      runs_on : (b : Bool) (answer : Answer) → HasAnswered rules b cells cells' r r1 mid a last call answer → Run (cells'.clock / 2) r1 last
+      runs_on : (b : Bool) (answer : Answer) → HasAnswered rules b cells cells' r r1 mid a last call answer → IsRun rules first base (cells'.clock / 2) r1 last
       runs_on true answer m = open_runs answer m
       runs_on false answer m = to_now (ap (λ (k : ℕ). k / 2) (m.taken.outside refl).0) (shut_runs rules laws first base cells cells' r r1 mid a last call seen run answer m)
 

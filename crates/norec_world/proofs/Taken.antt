@@ -117,11 +117,8 @@ module _ {P : Type 0} {rules : Rules P} {was : Bool} {cells cells' : Cells} {r :
   -- what holds of an actor that waits, and of one whose call is answered, holds once either is recorded
   pub recorded : {what : Next} {r1 : Rows} {last : Actor P} (Holds : Rows → Actor P → Type 0) → HasTaken rules was cells cells' r mid a call what → IsDone rules was r r1 a last call what → Tells rules was r r1 a last call what
       → ((step : Step) → HasTaken rules was cells cells' r mid a call (Asks step) → Holds r (record a { status = Waits call step })) → ((answer : Answer) → what ≡ Answers answer → HasAnswered rules was cells cells' r r1 mid a last call answer → Holds r1 last) → Holds r1 last
-  recorded {what} {r1} {last} Holds m done tells waits ends = by_what what refl m done tells
-    where
-      by_what : (x : Next) → what ≡ x → HasTaken rules was cells cells' r mid a call x → IsDone rules was r r1 a last call x → Tells rules was r r1 a last call x → Holds r1 last
-      by_what (Asks step) is m done tells = subst (λ (x : Rows). Holds x last) (sym done.1) (subst (Holds r) (sym done.0) (waits step m))
-      by_what (Answers answer) is m done tells = ends answer is (record { taken = m; answered = answered m; ends = m.proceeds; told = tells; settled = done })
+  recorded {what = Asks step} {last} Holds m done tells waits ends = subst (λ (x : Rows). Holds x last) (sym done.1) (subst (Holds r) (sym done.0) (waits step m))
+  recorded {what = Answers answer} Holds m done tells waits ends = ends answer refl (record { taken = m; answered = answered m; ends = m.proceeds; told = tells; settled = done })
 
   pub now : {what : Next} {r1 : Rows} {last : Actor P} → HasTaken rules was cells cells' r mid a call what → IsDone rules was r r1 a last call what → Tells rules was r r1 a last call what → IsNow rules cells' r1 a last
   now m done tells = recorded (λ x y. IsNow rules cells' x a y) m done tells (λ step t. waits_now t) (λ answer is t. answered_now t)

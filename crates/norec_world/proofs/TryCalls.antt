@@ -7,7 +7,7 @@ use Rattle.norec_world.proofs.TiedEngines.{limit_same, snapshot_still}
 use Rattle.norec_world.specs.LocalWork.{Starves}
 use Rattle.norec_world.proofs.SoundCalls.{IsCalling, active_same, call_taken, ended_same, mid, rests}
 use Rattle.norec_world.proofs.Taken.{HasAnswered, HasTaken, recorded}
-use Rattle.norec_world.proofs.TryEnds.{is_between, open_tries, stays_between, stays_open}
+use Rattle.norec_world.proofs.TryEnds.{is_between, open_tries, stays_between, stays_open, stops_try}
 
 module _ {P : Type 0} (rules : Rules P)
     (cells : Cells) (r0 : Rows) (old : Actor P) (sound : IsSound rules cells r0 old) (ready : old.status ≡ Ready) where
@@ -31,20 +31,10 @@ module _ {P : Type 0} (rules : Rules P)
     where
       by_row : (b : Bool) → in_transaction old.engine ≡ b → HasRow b r0 old.thread → Tries cells.clock (prior_of r0 old) cells.clock r1 last
       by_row true e h =
-          let done : Attempt = record h.0 { at = old.engine.snapshot / 2; outcome = outcomes.NoMemory } in
           let reached = sound.tied.settled.reached in
           let late = sound.tied.late in
-          over (record {
-            row = h.0;
-            row' = done;
-            was = ap (λ (o : Option Attempt). current_of o old.pending) h.1;
-            ended = ap (λ (x : Rows). x.ended) (s.stops e h.0 h.1);
-            continues = record { thread = refl; nth = refl; began = refl; props = refl; arena = refl; more = []; calls = sym (append-nil h.0.calls) };
-            reads = ap (λ (n : ℕ). n / 2) (sym (snapshot_still old.engine last.engine s.engine));
-            at = (refl, omega arith);
-            closed = λ e. absurd (cc);
-            after = record { none = none; status = s.status };
-          })
+          stops_try cells.clock cells.clock r0 r1 old last h.0 (old.engine.snapshot / 2) outcomes.NoMemory h.1 (ap (λ (x : Rows). x.ended) (s.stops e h.0 h.1)) (ap (λ (n : ℕ). n / 2) (sym (snapshot_still old.engine last.engine s.engine)))
+          (refl, omega arith) refl (record { none = none; status = s.status })
       by_row false e h = stays_between cells.clock cells.clock r0 r1 old last (ap (λ (x : Rows). x.ended) (s.stays e)) refl h nothing (record {
         none = none;
         tries = s.counts.0;

@@ -10,7 +10,7 @@ use Rattle.norec_world.specs.declared.attempt.Outcome.TheVariants as outcomes
 use Rattle.norec_world.specs.declared.attempt.End.TheVariants as ends
 use Rattle.norec_world.specs.Records.{CountsTry}
 use Rattle.norec_world.specs.Sound.{IsSettledBy}
-use Rattle.norec_world.specs.Tries.{TriesAgain, GoesOnAfter}
+use Rattle.norec_world.specs.Tries.{TriesAgain, GoesOnAfter, is_done}
 use Rattle.norec_world.proofs.Taken.{HasAnswered}
 use Rattle.norec_world.proofs.ActiveRows.{changed_here, opened_here}
 use Rattle.norec_world.proofs.RecordedRows.{was_open}
@@ -24,7 +24,7 @@ pub unfreed_to : (mid new : Core) (o : Option Call) (r : Replied) → RepliesTo 
 unfreed_to mid new None r g = absurd g
 unfreed_to mid new (Some call) r g = g.unfreed
 
--- ## Nothing ends
+-- ## What stays as it is, and what ends with no call more
 
 module _ {P : Type 0} (clock clock' : ℕ) (r r' : Rows) (a a' : Actor P) (ended : r'.ended ≡ r.ended) (half : clock' / 2 ≡ clock / 2) where
   -- no try is open before, and none after
@@ -46,6 +46,21 @@ module _ {P : Type 0} (clock clock' : ℕ) (r r' : Rows) (a a' : Actor P) (ended
     goes_on = goes_on;
     fed = fed;
   })
+
+-- the open attempt ends, and not by its commit
+pub stops_try : {P : Type 0} (clock clock' : ℕ) (r r' : Rows) (a a' : Actor P) (row : Attempt) (at : ℕ) (outcome : Outcome) → active_of a.thread r.active ≡ Some row → r'.ended ≡ r.ended ++ record row { at = at; outcome = outcome } ∷ []
+    → at ≡ a'.engine.snapshot / 2 → EndsAt a.engine.max_commits clock clock' at outcome → is_done outcome ≡ false → GoesOnAfter outcome clock' (prior_of r a) r' a' → Tries clock (prior_of r a) clock' r' a'
+stops_try clock clock' r r' a a' row at outcome was ended reads ends undone goes = over (record {
+  row = row;
+  row' = record row { at = at; outcome = outcome };
+  was = ap (λ (o : Option Attempt). current_of o a.pending) was;
+  ended = ended;
+  continues = record { thread = refl; nth = refl; began = refl; props = refl; arena = refl; more = []; calls = sym (append-nil row.calls) };
+  reads = reads;
+  at = ends;
+  closed = λ e. absurd (cc);
+  after = goes;
+})
 
 module _ {P : Type 0} (rules : Rules P)
     (r r1 : Rows) (a last : Actor P) (was : Bool) (settled : IsSettledBy rules was r1 a last) where
@@ -138,17 +153,8 @@ module _ {P : Type 0} {rules : Rules P} {cells cells' : Cells} {r r1 : Rows} {mi
       let later = m.ends.later in
       let clock_is = m.ends.clock_is in
       let late = m.taken.tied.late in
-      over (record {
-        row = row.0;
-        row' = record row.0 { at = last.engine.snapshot / 2; outcome = outcomes.Conflict };
-        was = ap (λ (o : Option Attempt). current_of o a.pending) row.1;
-        ended = ap (λ (x : Rows). x.ended) (m.told.0 row.0 row.1);
-        continues = record { thread = refl; nth = refl; began = refl; props = refl; arena = refl; more = []; calls = sym (append-nil row.0.calls) };
-        reads = refl;
-        at = (m.taken.moves.keeps m.ends.unfreed, omega arith);
-        closed = λ e. absurd (cc);
-        after = tries_again rules r r1 a last true m.settled cells'.clock m.answered.fits.1 m.answered.status m.told.2;
-      })
+      stops_try cells.clock cells'.clock r r1 a last row.0 (last.engine.snapshot / 2) outcomes.Conflict row.1 (ap (λ (x : Rows). x.ended) (m.told.0 row.0 row.1)) refl (m.taken.moves.keeps m.ends.unfreed, omega arith) refl
+      (tries_again rules r r1 a last true m.settled cells'.clock m.answered.fits.1 m.answered.status m.told.2)
   open_tries (Busy clock) m = absurd (let f : true ≡ false = m.answered.fits.0 in cc)
   open_tries (Full at) m =
       let row = m.answered.kept.row in
@@ -156,17 +162,8 @@ module _ {P : Type 0} {rules : Rules P} {cells cells' : Cells} {r r1 : Rows} {mi
       let full = m.ends.full in
       let is = m.ends.at_is in
       let l = seen cells' a.engine m.taken.tied in
-      over (record {
-        row = row.0;
-        row' = record row.0 { at = at; outcome = outcomes.Full };
-        was = ap (λ (o : Option Attempt). current_of o a.pending) row.1;
-        ended = ap (λ (x : Rows). x.ended) (m.told.0 row.0 row.1);
-        continues = record { thread = refl; nth = refl; began = refl; props = refl; arena = refl; more = []; calls = sym (append-nil row.0.calls) };
-        reads = m.ends.at_is ∙ ap (λ (n : ℕ). n / 2) (sym (ap (λ (c : Core). c.snapshot) m.settled.engine));
-        at = (m.taken.moves.keeps m.ends.unfreed, omega arith, omega arith);
-        closed = λ e. absurd (cc);
-        after = record { none = none_active rules r r1 a last true m.settled m.answered.fits.1; status = m.told.1 };
-      })
+      stops_try cells.clock cells'.clock r r1 a last row.0 at outcomes.Full row.1 (ap (λ (x : Rows). x.ended) (m.told.0 row.0 row.1)) (m.ends.at_is ∙ ap (λ (n : ℕ). n / 2) (sym (ap (λ (c : Core). c.snapshot) m.settled.engine)))
+      (m.taken.moves.keeps m.ends.unfreed, omega arith, omega arith) refl (record { none = none_active rules r r1 a last true m.settled m.answered.fits.1; status = m.told.1 })
 
 -- ## A begin is answered
 
@@ -265,21 +262,18 @@ module _ {P : Type 0} (rules : Rules P) (r r1 : Rows) (a last : Actor P) (call :
         by_case true s = gave_up_not s e
         by_case false s = ready_not (s ∙ ready) e
 
-    pub not_ended : (ans : Answer) → Records rules was r r1 a last call ans → ending_of last.status ≡ Some end → ⊥
-    not_ended (Reply reply) told e = by_was was told
-      where
-        by_was : (b : Bool) → Records rules b r r1 a last call (Reply reply) → ⊥
-        by_was true told = ready_not (told.4 ∙ ready) e
-        by_was false told = ready_not (told.4 ∙ ready) e
-    not_ended (Committed at wrote) told e = ready_not (told.4 ∙ ready) e
-    not_ended (Full at) told e = gave_up_not told.1 e
-    not_ended answer told e = tried_on told.2 e
+    not_ended : (b : Bool) (ans : Answer) → Records rules b r r1 a last call ans → ending_of last.status ≡ Some end → ⊥
+    not_ended true (Reply reply) told e = ready_not (told.4 ∙ ready) e
+    not_ended false (Reply reply) told e = ready_not (told.4 ∙ ready) e
+    not_ended b (Committed at wrote) told e = ready_not (told.4 ∙ ready) e
+    not_ended b (Full at) told e = gave_up_not told.1 e
+    not_ended b answer told e = tried_on told.2 e
 
   pub not_finished : (ans : Answer) → Records rules was r r1 a last call ans → ending_of last.status ≡ Some ends.Finished → ⊥
-  not_finished = not_ended ends.Finished (λ e. absurd (cc))
+  not_finished = not_ended ends.Finished (λ e. absurd (cc)) was
 
   pub not_starved : (ans : Answer) → Records rules was r r1 a last call ans → ending_of last.status ≡ Some ends.NoMemory → ⊥
-  not_starved = not_ended ends.NoMemory (λ e. absurd (cc))
+  not_starved = not_ended ends.NoMemory (λ e. absurd (cc)) was
 
 -- ## The open attempt is told where it reads
 
