@@ -1,5 +1,6 @@
 -- An actor's run over a call, up to its first step.
 use Rattle.std.proofs.Common.{◌≡◌, ℕ, ◌/◌, ◌≤◌, ◌&&◌, Bool, true, false, not, List, [], ◌∷◌, ◌++◌, Some, refl, sym, true≢false, ap, subst, ◌∙◌, arith}
+use Rattle.std.proofs.lemmas.Bool.{and_right, not_from_true}
 use Rattle.norec_world.proofs.Common.{Actor, Answer, AreCounted, AreLaid, Attempt, Begin, Between, Busy, Call, Cells, Commit, Committed, Conflict, Core, End, Ended, Full, IsDone, IsRun, IsRunOf, IsSound, MAX_DEPTH, Next, Obeys, Read, Ready, Reply, Rows, Rules, Sees, Tells, Write, active_of, asked_pending, begin_of, begins_again, begins_at, bytes_at, ending_of, in_transaction, of_thread, run_after, words_at}
 use Rattle.norec_world.specs.declared.attempt.Outcome.TheVariants as outcomes
 use Rattle.norec_world.specs.declared.attempt.End.TheVariants as ends
@@ -42,11 +43,6 @@ module _ {P : Type 0} {rules : Rules P} (laws : Obeys rules) {cells : Cells} {r0
   on_way_so : (end : End) → ending_of old.status ≡ Some end → ⊥
   on_way_so end e = absurd (let z = sym (ap ending_of m.ready) ∙ e in cc)
 
-  again_open : (b : Bool) (w : Bool) → b ≡ true → (w && not b) ≡ false
-  again_open true true e = refl
-  again_open true false e = refl
-  again_open false w e = absurd (cc)
-
   again_shut : (b : Bool) → in_transaction old.engine ≡ b → b ≡ false → (c : Call) (p : _) (room : ℕ) → c ≡ Begin p room → (begins_again (in_transaction old.engine) old.again c && not (in_transaction old.engine)) ≡ old.again
   again_shut true e f c p room is = absurd (cc)
   again_shut false e f c p room is = (λ i. begins_again (e i) old.again (is i) && not (e i)) ∙ with_true old.again
@@ -87,7 +83,7 @@ module _ {P : Type 0} {rules : Rules P} (laws : Obeys rules) {cells : Cells} {r0
                 props = y.props;
                 tries = y.tries;
                 began = y.began;
-                anew = again_open (in_transaction old.engine) (begins_again (in_transaction old.engine) old.again call) o;
+                anew = and_right (begins_again (in_transaction old.engine) old.again call) (not (in_transaction old.engine)) (not_from_true (in_transaction old.engine) o);
                 player = m.asks.player ∙ y.player;
                 alone = y.alone;
                 stands = y.stands;

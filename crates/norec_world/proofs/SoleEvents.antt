@@ -1,5 +1,6 @@
 -- An actor that has its world to itself goes on so over an event.
 use Rattle.std.proofs.Common.{◌≡◌, inl, inr, ℕ, zero, suc, ◌+◌, ◌/◌, ◌%◌, ◌≤◌, Bool, true, false, nat_lt, if◌then◌else◌, List, [], ◌∷◌, ◌++◌, Option, None, Some, slice_get, slice_set, length, length-set, refl, sym, ap, subst, ◌∙◌, arith, eq-eqb}
+use Rattle.std.proofs.lemmas.Bool.{false_from_ne_true}
 use Rattle.norec_world.proofs.Common.{Actor, AreActors, Attempt, Beginning, Between, Cells, CommitsInOrder, End, Ended, EndsAt, Finished, GaveUp, HasRow, IsBetween, IsEvent, IsRunOf, IsSound, IsTryAt, IsWorld, MAX_DEPTH, NoMemory, Outcome, Ready, Rows, Rules, Status, StatusIs, Tries, Waits, World, active_of, begin_of, begins, between, bytes_at, current_of, ending_of, is_ready, of_thread, over, prior_of, runs, slice_get-set_same, turned_away}
 use Rattle.norec_world.specs.declared.attempt.Outcome.TheVariants as outcomes
 use Rattle.norec_world.specs.Invariant.{AreRunning}
@@ -39,10 +40,6 @@ module _ {P : Type 0} (rules : Rules P) (n : ℕ) (memory : ℕ → List ℕ) wh
 
 -- ## The clock
 
-false_of : (b : Bool) → (b ≡ true → ⊥) → b ≡ false
-false_of true h = absurd (h refl)
-false_of false h = refl
-
 -- it is odd only while the one actor holds it
 pub even_free : {P : Type 0} (w : World P) → CommitsInOrder w → length w.actors ≡ 1 → (a : Actor P) → slice_get w.actors 0 ≡ Some a → a.engine.holds ≡ false → w.cells.clock % 2 ≡ 0
 even_free {P} w c one a here free = by_rest (w.cells.clock % 2) refl
@@ -61,7 +58,7 @@ module _ {P : Type 0} (rules : Rules P) where
   pub even_shut : (w : World P) → AreActors rules w.cells w.attempts w.actors → CommitsInOrder w → length w.actors ≡ 1 → (a : Actor P) → slice_get w.actors 0 ≡ Some a → active_of a.thread w.attempts.active ≡ None → w.cells.clock % 2 ≡ 0
   even_shut w actors c one a here none =
       let s = (actors.each 0 a here).sound in
-      even_free w c one a here (false_of a.engine.holds (λ h.
+      even_free w c one a here (false_from_ne_true a.engine.holds (λ h.
       (let row : HasRow true w.attempts a.thread = subst (λ (b : Bool). HasRow b w.attempts a.thread) (s.tied.settled.holder h).0 s.kept.row in
       let z : None ≡ Some row.0 = sym none ∙ row.1 in cc)))
 

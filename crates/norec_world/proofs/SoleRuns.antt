@@ -1,6 +1,6 @@
 -- The run of an actor that has its world to itself is what its player does alone.
 use Rattle.std.proofs.Common.{◌≡◌, ℕ, zero, suc, ◌+◌, ◌<◌, ◌≤◌, ◌==◌, ◌&&◌, Bool, true, false, nat_le, nat_lt, if◌then◌else◌, List, [], ◌∷◌, ◌++◌, length, map, Option, None, Some, refl, sym, ap, subst, ◌∙◌, arith, eqb-true, eq-eqb, lt-ltb, leb-true}
-use Rattle.std.proofs.lemmas.Bool.{or_parts}
+use Rattle.std.proofs.lemmas.Bool.{false_from_ne_true, or_parts}
 use Rattle.norec_world.proofs.Common.{Attempt, Begin, Beginning, Between, Call, Commit, Entry, IsAlone, IsRunOf, IsTryAt, MAX_DEPTH, Obeys, Outcome, Read, Rules, State, Write, after, alone, answers, answers_within, begin_code, begin_of, bytes_at, committed_at, is_open, opened, pair_of, player_then, reply, run_after, state_then, turn}
 use Rattle.itm_types.specs.declared.call.Refusal.{Refusal}
 use Rattle.itm_types.specs.declared.call.Reply.{Reply}
@@ -77,11 +77,7 @@ sole_up n (a ∷ rest) k s = (let l = sole_up (n + one_if (is_committed a.outcom
 
 not_full : (w : Bool) (n m : ℕ) → (w ≡ true → n < m) → (w && nat_le m n) ≡ false
 not_full false n m l = refl
-not_full true n m l = by_test (nat_le m n) refl
-  where
-    by_test : (b : Bool) → nat_le m n ≡ b → b ≡ false
-    by_test true e = absurd (let most = leb-true m n e in let less = l refl in omega arith)
-    by_test false e = refl
+not_full true n m l = false_from_ne_true (nat_le m n) (λ e. (let most = leb-true m n e in let less = l refl in omega arith))
 
 -- a player between two blocks, as the headline has it
 abbrev pub between : {P : Type 0} → Progress P → Between P
@@ -194,11 +190,7 @@ module _ {P : Type 0} (rules : Rules P) (laws : Obeys rules) (max_commits : ℕ)
         where
           missed : (w : Bool) → is_committed a.outcome ≡ w → is_at j a ≡ false
           missed false e = λ i. e i && (a.at == j)
-          missed true e = (λ i. e i && (a.at == j)) ∙ apart (a.at == j) refl
-            where
-              apart : (t : Bool) → (a.at == j) ≡ t → t ≡ false
-              apart true h = absurd (let same = eqb-true a.at j h in let one = ap one_if e in omega arith)
-              apart false h = refl
+          missed true e = (λ i. e i && (a.at == j)) ∙ false_from_ne_true (a.at == j) (λ h. (let same = eqb-true a.at j h in let one = ap one_if e in omega arith))
 
   -- where these attempts have led the player
   pub record Arrives (b : Progress P) (past tail : List Attempt) (k : ℕ) : Type 0 where

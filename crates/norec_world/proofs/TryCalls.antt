@@ -1,5 +1,6 @@
 -- What a call of an actor does to its try, up to its first step.
 use Rattle.std.proofs.Common.{◌≡◌, ℕ, ◌/◌, Bool, true, false, [], Option, None, Some, refl, sym, ap, subst, ◌∙◌, arith, append-nil}
+use Rattle.std.proofs.lemmas.Bool.{false_from_ne_true}
 use Rattle.norec_world.proofs.Common.{Actor, Answer, Answers, Asks, Attempt, Begin, Busy, Call, Cells, Commit, Committed, Conflict, Core, Ended, Full, HasRow, IsAtOnce, IsBetween, IsDone, IsReady, IsSound, Next, Opens, Prior, Read, Ready, Reply, Rows, Rules, Status, StatusIs, Step, Tells, Tries, Waits, Write, active_of, asked_pending, between, current_of, ending_of, in_transaction, over, prior_of, runs}
 use Rattle.norec_world.specs.declared.attempt.Outcome.TheVariants as outcomes
 use Rattle.norec_world.specs.declared.attempt.End.TheVariants as ends
@@ -83,11 +84,7 @@ module _ {P : Type 0} {rules : Rules P} {cells : Cells} {r0 r : Rows} {old a : A
       by_open false e t = shut answer soon t
         where
           closed : in_transaction a.engine ≡ false
-          closed = stays_shut (in_transaction a.engine) refl
-            where
-              stays_shut : (now : Bool) → in_transaction a.engine ≡ now → in_transaction a.engine ≡ false
-              stays_shut true o = absurd (let f : true ≡ false = sym (m.asked.stays.opens o) ∙ e in cc)
-              stays_shut false o = o
+          closed = false_from_ne_true (in_transaction a.engine) (λ o. absurd (let f : true ≡ false = sym (m.asked.stays.opens o) ∙ e in cc))
 
           shut : (ans : Answer) → IsAtOnce (Answers ans) → HasAnswered rules false cells cells r r1 (mid m) a last call ans → Tries cells.clock (prior_of r0 old) cells.clock r1 last
           shut (Reply reply) soon t =

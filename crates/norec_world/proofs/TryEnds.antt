@@ -1,5 +1,6 @@
 -- What an answer does to the try that its call belongs to.
 use Rattle.std.proofs.Common.{inl, inr, ◌≡◌, ℕ, ◌+◌, ◌*◌, ◌/◌, ◌%◌, ◌≤◌, Bool, true, false, nat_lt, if◌then◌else◌, is_some, List, [], ◌∷◌, ◌++◌, Option, None, Some, refl, sym, ap, subst, ◌∙◌, arith, append-nil}
+use Rattle.std.proofs.lemmas.Bool.{false_from_ne_true, true_from_ne_false}
 use Rattle.norec_world.proofs.Common.{Actor, Agrees, Answer, Attempt, Begin, Busy, Call, Cells, Committed, Conflict, Core, End, Ended, EndsAt, Full, HasRow, IsBetween, IsMemory, IsReady, IsTied, IsTold, MAX_DEPTH, Opens, Outcome, Prior, Props, Ready, Records, Replied, Replies, RepliesTo, Reply, RestsAs, Rows, Rules, State, Status, Tries, active_of, after, begins, between, current_of, ending_of, in_transaction, is_begin, over, prior_of, runs, turned_away}
 use Rattle.itm_types.specs.declared.call.Call.TheVariants as calls
 use Rattle.itm_types.specs.declared.call.Reply.TheVariants as replies
@@ -284,18 +285,10 @@ none_again clock nth r a false t = t.none
 module _ {P : Type 0} (clock clock' : ℕ) (p : Prior) (r r' : Rows) (a : Actor P) (row : HasRow (in_transaction a.engine) r a.thread) (told : IsTold a.thread (in_transaction a.engine) r (a.engine.snapshot / 2) r') where
   -- with none open nothing is told
   stays_none : active_of a.thread r.active ≡ None → r' ≡ r
-  stays_none none = by_open (in_transaction a.engine) refl row
-    where
-      by_open : (b : Bool) → in_transaction a.engine ≡ b → HasRow b r a.thread → r' ≡ r
-      by_open true e h = absurd (let n = sym none ∙ h.1 in cc)
-      by_open false e h = told.stays e
+  stays_none none = told.stays (false_from_ne_true (in_transaction a.engine) (λ o. absurd (let h = subst (λ (b : Bool). HasRow b r a.thread) o row in let n = sym none ∙ h.1 in cc)))
 
   opened_so : (x : Attempt) → active_of a.thread r.active ≡ Some x → in_transaction a.engine ≡ true
-  opened_so x some = by_open (in_transaction a.engine) refl row
-    where
-      by_open : (b : Bool) → in_transaction a.engine ≡ b → HasRow b r a.thread → in_transaction a.engine ≡ true
-      by_open true e h = e
-      by_open false e h = absurd (let n = sym h ∙ some in cc)
+  opened_so x some = true_from_ne_false (in_transaction a.engine) (λ o. absurd (let n = sym (subst (λ (b : Bool). HasRow b r a.thread) o row) ∙ some in cc))
 
   unchanged : active_of a.thread r.active ≡ None → Tries clock p clock' r a → Tries clock p clock' r' a
   unchanged none t = subst (λ (x : Rows). Tries clock p clock' x a) (sym (stays_none none)) t

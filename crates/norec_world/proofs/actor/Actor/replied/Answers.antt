@@ -7,51 +7,45 @@ use Rattle.norec_world.proofs.actor.Actor.replied.Goals as goal
 
 pub returns-else-is_open-clause-settled : goal.returns-else-is_open-clause-settled
 returns-else-is_open-clause-settled g c was d =
-    let l = g.met.P.Player in
     let a = c.args.self.now in
     let r = c.args.recorded.now in
     let closed : in_transaction a.engine ≡ false = sym c.is_open-is_open.ensures ∙ c.if-is_open.false in
-    after_reply g.P.Player l.laws r r a c.args.call
+    after_reply g.P.Player g.met.P.Player.laws r r a c.args.call
     was c.args.reply d c.answer.new.self c.answer.ensures a.spare d.kept.empty c.take.new.self c.take.ensures.after a.again
     (row_stays r a.thread was (in_transaction a.engine) d.fits.1 closed d.kept.row)
 
 pub returns-then-is_open-clause-settled : goal.returns-then-is_open-clause-settled
 returns-then-is_open-clause-settled g c was d =
-    let l = g.met.P.Player in
     let a = c.args.self.now in
     let r = c.args.recorded.now in
-    let r' = c.open.new.self in
     let row : Attempt = record c.in-Some.attempt { at = c.snapshot.result / 2 } in
     let some : a.pending ≡ Some c.in-Some.attempt = sym c.in-Some.ensures.value in
     let p = d.in_call.opens c.in-Some.attempt some in
     let shut : was ≡ true → ⊥ = λ e. (let n = d.in_call.inside e in absurd (cc)) in
     let none : active_of a.thread r.active ≡ None = row_none r a.thread was shut d.kept.row in
     let opened : in_transaction a.engine ≡ true = sym c.is_open-is_open.ensures ∙ c.if-is_open.true in
-    after_reply g.P.Player l.laws r r' a c.args.call
+    after_reply g.P.Player g.met.P.Player.laws r c.open.new.self a c.args.call
     was c.args.reply d c.answer.new.self c.answer.ensures a.spare d.kept.empty c.take.new.self c.take.ensures.after true
-    (row_opened r r' a.thread (in_transaction a.engine) row opened c.open.ensures none p.thread p.outcome)
+    (row_opened r c.open.new.self a.thread (in_transaction a.engine) row opened c.open.ensures none p.thread p.outcome)
 
 pub returns-then-is_open-2-clause-settled : goal.returns-then-is_open-2-clause-settled
 returns-then-is_open-2-clause-settled g c was d =
-    let l = g.met.P.Player in
     let a = c.args.self.now in
     let r = c.args.recorded.now in
-    let r' = c.add.new.self in
     let opened : in_transaction a.engine ≡ true = sym c.is_open-is_open.ensures ∙ c.if-is_open-2.true in
     let none : a.pending ≡ None = sym c.in-None.ensures.value in
     let open_before : was ≡ true = was_open was (in_transaction a.engine) c.args.call c.args.reply (λ e. sym (d.in_call.begins e) ∙ ap is_some none) d.fits.0 opened in
     let h : HasRow true r a.thread = subst (λ (b : Bool). HasRow b r a.thread) open_before d.kept.row in
-    after_reply g.P.Player l.laws r r' a c.args.call
+    after_reply g.P.Player g.met.P.Player.laws r c.add.new.self a c.args.call
     was c.args.reply d c.answer.new.self c.answer.ensures c.add.new.spare c.add.ensures.empty c.take.new.self c.take.ensures.after a.again
-    (row_changed r r' a.thread (in_transaction a.engine) (λ row. record row { calls = row.calls ++ record { call = c.args.call; reply = c.args.reply } ∷ [] }) (λ x. refl) (λ x. refl) c.add.ensures.added h opened)
+    (row_changed r c.add.new.self a.thread (in_transaction a.engine) (λ row. record row { calls = row.calls ++ record { call = c.args.call; reply = c.args.reply } ∷ [] }) (λ x. refl) (λ x. refl) c.add.ensures.added h opened)
 
 pub returns-else-is_open-2-clause-settled : goal.returns-else-is_open-2-clause-settled
 returns-else-is_open-2-clause-settled g c was d =
-    let l = g.met.P.Player in
     let a = c.args.self.now in
     let r = c.args.recorded.now in
     let closed : in_transaction a.engine ≡ false = sym c.is_open-is_open.ensures ∙ c.if-is_open-2.false in
-    after_reply g.P.Player l.laws r r a c.args.call
+    after_reply g.P.Player g.met.P.Player.laws r r a c.args.call
     was c.args.reply d c.answer.new.self c.answer.ensures a.spare d.kept.empty c.take.new.self c.take.ensures.after a.again
     (row_stays r a.thread was (in_transaction a.engine) d.fits.1 closed d.kept.row)
 
