@@ -6,7 +6,7 @@ use Rattle.itm_types.specs.declared.access.WriteHint.TheVariants.{W}
 use Rattle.itm_types.specs.declared.datum.Datum.{Datum}
 use Rattle.norec_world.proofs.Common.{Attempt, Begin, Between, Call, Commit, Done, Entry, Finished, GaveUp, IsRunOf, Props, Read, Rules, Write}
 use Rattle.itm_types.specs.declared.call.Reply.{Reply}
-use Rattle.itm_types.specs.declared.call.Reply.TheVariants.{Bytes, Code, Refused}
+use Rattle.itm_types.specs.declared.call.Reply.TheVariants.{Bytes}
 use Rattle.norec_world.specs.declared.attempt.Outcome.TheVariants.{Committed, Conflict, Full}
 use Rattle.norec_world.specs.declared.fault.WorldFault.TheVariants as faults
 use Rattle.norec_world.specs.Attempts.{memory_after}

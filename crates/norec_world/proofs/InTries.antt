@@ -1,7 +1,7 @@
 -- The open attempt, as its calls go on.
 use Rattle.std.proofs.Common.{◌≡◌, ◌≢◌, ℕ, zero, suc, ◌/◌, ◌<◌, ◌≤◌, Bool, true, false, if◌then◌else◌, List, [], ◌∷◌, ◌++◌, map, None, Some, refl, sym, ap, subst, ◌∙◌, arith, length, append-nil}
 use Rattle.std.proofs.lemmas.List.{map-append}
-use Rattle.norec_world.proofs.Common.{Agrees, Attempt, Begin, Beginning, Between, Call, Cas, Commit, Core, Done, Entry, IsAlone, IsMemory, IsTryAt, Load, MAX_DEPTH, Obeys, Outcome, Props, Replied, Replies, Rules, State, Step, Store, after, alone, answers, answers_within, begin_code, begins_at, bytes_at, bytes_of, handed_to, in_transaction, is_open, opened, pair_of, player_then, reply, state_then, turn, word_loaded, words_at}
+use Rattle.norec_world.proofs.Common.{Agrees, Attempt, Begin, Beginning, Between, Call, Commit, Core, Done, Entry, IsAlone, IsMemory, IsTryAt, Load, MAX_DEPTH, Obeys, Outcome, Props, Replied, Replies, Rules, State, Step, Store, after, alone, answers, answers_within, begin_code, begins_at, bytes_at, bytes_of, handed_to, in_transaction, is_open, opened, pair_of, player_then, reply, state_then, turn, word_loaded, words_at}
 use Rattle.write_set.specs.declared.row.Row.{Row}
 use Rattle.write_set.specs.Rows.{overlay}
 use Rattle.itm_types.specs.declared.call.Reply.TheVariants.{Code}

@@ -1,8 +1,8 @@
 -- What the engine's replies say of the player's depth.
 use Rattle.std.proofs.Common.{◌≡◌, Bool, sym, ap, ◌∙◌}
-use Rattle.norec_world.proofs.Common.{Begin, Call, Commit, Done, Read, Write}
+use Rattle.norec_world.proofs.Common.{Begin, Call, Commit, Read, Write}
 use Rattle.itm_types.specs.declared.call.Reply.{Reply}
-use Rattle.itm_types.specs.declared.call.Reply.TheVariants.{Bytes, Code, Refused}
+use Rattle.itm_types.specs.declared.call.Reply.TheVariants.{Code, Refused}
 use Rattle.norec_engine.specs.Proceeds.{OpensBy}
 use Rattle.script_vm.specs.Depth.{depth_after}
 use Rattle.norec_world.specs.Sound.{depth_if}

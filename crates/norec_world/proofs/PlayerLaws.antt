@@ -1,8 +1,8 @@
 -- The player's laws, over one answer: its depth, where it goes back to, and how much is left to do.
 use Rattle.std.proofs.Common.{◌≡◌, ℕ, ◌+◌, ◌*◌, ◌<◌, ◌≤◌, Bool, true, false, Some, refl, ap, subst, ◌∙◌, arith, if◌then◌else◌}
 use Rattle.std.proofs.Math.Nat.{mul-le-mul_right}
-use Rattle.norec_world.proofs.Common.{Begin, Call, Commit, Done, IsNested, Obeys, Read, Replied, Rules, Write, whole}
-use Rattle.itm_types.specs.declared.call.Reply.TheVariants.{Bytes, Code, Refused}
+use Rattle.norec_world.proofs.Common.{Begin, Call, Commit, Done, IsNested, Obeys, Replied, Rules, whole}
+use Rattle.itm_types.specs.declared.call.Reply.TheVariants.{Code}
 use Rattle.script_vm.specs.Depth.{depth_after, opens}
 use Rattle.norec_world.specs.Sound.{depth_if}
 

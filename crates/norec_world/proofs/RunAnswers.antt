@@ -1,5 +1,5 @@
 -- An actor's run, once an answer is recorded.
-use Rattle.std.proofs.Common.{◌≡◌, ℕ, ◌+◌, ◌/◌, ◌≤◌, Bool, true, false, nat_lt, if◌then◌else◌, List, [], ◌∷◌, ◌++◌, map, Option, None, Some, refl, sym, true≢false, ap, subst, ◌∙◌, arith}
+use Rattle.std.proofs.Common.{◌≡◌, ℕ, ◌+◌, ◌/◌, ◌≤◌, Bool, true, false, nat_lt, if◌then◌else◌, List, [], ◌∷◌, ◌++◌, map, Option, Some, refl, sym, true≢false, ap, subst, ◌∙◌, arith}
 use Rattle.norec_world.proofs.Common.{Actor, Agrees, Attempt, Between, Call, Cells, Commit, Committed, Conflict, Core, Done, Ended, Entry, Full, GaveUp, IsMemory, IsRun, IsRunOf, IsTryAt, MAX_DEPTH, Obeys, Outcome, Ready, Replied, Replies, RepliesTo, Reply, Rows, Rules, State, active_of, after, alone, begin_code, begins_at, bytes_at, bytes_of, ending_of, in_transaction, is_open, of_thread, opened, run_after, state_then, words_at, words_of}
 use Rattle.itm_model.specs.Machine.{undone, undone_from}
 use Rattle.itm_model.specs.State.{Block}

@@ -1,6 +1,6 @@
 -- An actor's run between two tries: calls outside a transaction, and begins.
 use Rattle.std.proofs.Common.{◌≡◌, ℕ, zero, suc, ◌+◌, ◌/◌, ◌≤◌, Bool, true, false, nat_lt, if◌then◌else◌, List, [], Option, None, Some, refl, sym, true≢false, ap, subst, ◌∙◌, arith, is_some}
-use Rattle.norec_world.proofs.Common.{Actor, Agrees, Answer, Attempt, Begin, Beginning, Between, Busy, Call, Cells, Commit, Committed, Conflict, Core, Ended, Full, GaveUp, IsMemory, IsRun, IsRunOf, MAX_DEPTH, Obeys, Opens, Props, Read, Ready, Replied, Replies, RepliesTo, Reply, Rows, Rules, Write, active_of, begin_of, bytes_at, ending_of, in_transaction, is_begin, of_thread, reply, run_after, with_opened, words_at}
+use Rattle.norec_world.proofs.Common.{Actor, Agrees, Answer, Attempt, Begin, Beginning, Between, Busy, Call, Cells, Core, IsMemory, IsRun, MAX_DEPTH, Obeys, Opens, Props, Ready, Replied, Replies, RepliesTo, Reply, Rows, Rules, active_of, begin_of, ending_of, in_transaction, is_begin, reply, with_opened, words_at}
 use Rattle.itm_types.specs.declared.call.Refusal.TheVariants.{Outside}
 use Rattle.itm_types.specs.declared.call.Reply.TheVariants.{Refused}
 use Rattle.norec_engine.proofs.Overlays.{Agrees-drop}

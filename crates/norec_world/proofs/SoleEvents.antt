@@ -1,7 +1,7 @@
 -- An actor that has its world to itself goes on so over an event.
 use Rattle.std.proofs.Common.{◌≡◌, inl, inr, ℕ, zero, suc, ◌+◌, ◌/◌, ◌%◌, ◌≤◌, Bool, true, false, nat_lt, if◌then◌else◌, List, [], ◌∷◌, ◌++◌, Option, None, Some, slice_get, slice_set, length, length-set, refl, sym, ap, subst, ◌∙◌, arith, eq-eqb}
 use Rattle.std.proofs.lemmas.Bool.{false_from_ne_true}
-use Rattle.norec_world.proofs.Common.{Actor, AreActors, Attempt, Beginning, Between, Cells, CommitsInOrder, End, Ended, EndsAt, Finished, GaveUp, HasRow, IsBetween, IsEvent, IsRunOf, IsSound, IsTryAt, IsWorld, MAX_DEPTH, NoMemory, Outcome, Ready, Rows, Rules, Status, StatusIs, Tries, Waits, World, active_of, begin_of, begins, between, bytes_at, current_of, ending_of, is_ready, of_thread, over, prior_of, runs, slice_get-set_same, turned_away}
+use Rattle.norec_world.proofs.Common.{Actor, AreActors, Attempt, Beginning, Between, Cells, CommitsInOrder, End, EndsAt, Finished, GaveUp, HasRow, IsBetween, IsEvent, IsRunOf, IsSound, IsTryAt, IsWorld, MAX_DEPTH, NoMemory, Outcome, Ready, Rows, Rules, Status, StatusIs, Tries, World, active_of, begin_of, begins, between, bytes_at, current_of, ending_of, is_ready, of_thread, over, prior_of, runs, slice_get-set_same, turned_away}
 use Rattle.norec_world.specs.declared.attempt.Outcome.TheVariants as outcomes
 use Rattle.norec_world.specs.Invariant.{AreRunning}
 use Rattle.norec_world.specs.Opaque.{first_of}
@@ -12,7 +12,7 @@ use Rattle.norec_world.specs.Opacity.{after_try}
 use Rattle.norec_world.specs.Rows.{AreOfActors}
 use Rattle.norec_world.specs.Solo.{one_if}
 use Rattle.norec_world.specs.Sole.{IsFirstTry, AreSole, EndsWith, IsOnWay, StandsSole, IsSole}
-use Rattle.norec_world.specs.Tries.{Continues, GoesOnAfter, TriesAgain, EndsIt, is_done}
+use Rattle.norec_world.specs.Tries.{Continues, GoesOnAfter, EndsIt, is_done}
 
 -- ## Lists of attempts
 

@@ -1,5 +1,5 @@
 -- The run of an actor that has its world to itself is what its player does alone.
-use Rattle.std.proofs.Common.{◌≡◌, ℕ, zero, suc, ◌+◌, ◌<◌, ◌≤◌, ◌==◌, ◌&&◌, Bool, true, false, nat_le, nat_lt, if◌then◌else◌, List, [], ◌∷◌, ◌++◌, length, map, Option, None, Some, refl, sym, ap, subst, ◌∙◌, arith, eqb-true, eq-eqb, lt-ltb, leb-true}
+use Rattle.std.proofs.Common.{◌≡◌, ℕ, suc, ◌+◌, ◌<◌, ◌≤◌, ◌==◌, ◌&&◌, Bool, true, false, nat_le, nat_lt, if◌then◌else◌, List, [], ◌∷◌, ◌++◌, length, map, Option, None, Some, refl, sym, ap, subst, ◌∙◌, arith, eqb-true, eq-eqb, lt-ltb, leb-true}
 use Rattle.std.proofs.lemmas.Bool.{false_from_ne_true, or_parts}
 use Rattle.norec_world.proofs.Common.{Attempt, Begin, Beginning, Between, Call, Commit, Entry, IsAlone, IsRunOf, IsTryAt, MAX_DEPTH, Obeys, Outcome, Read, Rules, State, Write, after, alone, answers, answers_within, begin_code, begin_of, bytes_at, committed_at, is_open, opened, pair_of, player_then, reply, run_after, state_then, turn}
 use Rattle.itm_types.specs.declared.call.Refusal.{Refusal}

@@ -1,13 +1,13 @@
 -- A player that runs alone, block by block.
 use Rattle.std.proofs.Common.{◌≡◌, ℕ, zero, suc, ◌+◌, ◌<◌, ◌≤◌, Bool, true, false, ◌&&◌, nat_le, is_none, List, [], ◌∷◌, ◌++◌, map, Option, None, Some, refl, sym, ap, subst, ◌∙◌, arith, cond}
 use Rattle.std.proofs.lemmas.Bool.{cond-false}
-use Rattle.norec_world.proofs.Common.{Begin, Beginning, Call, Commit, Entry, Finished, GaveUp, Obeys, Props, Read, Rules, State, Write, after, answers, answers_within, begin_code, begin_of, cond-true, is_begin, is_open, opened, pair_of, player_then, reply, state_then, turn}
+use Rattle.norec_world.proofs.Common.{Begin, Beginning, Call, Entry, Finished, GaveUp, Obeys, Props, Rules, State, after, answers, answers_within, begin_code, begin_of, cond-true, is_begin, is_open, opened, pair_of, player_then, reply, state_then, turn}
 use Rattle.itm_types.specs.declared.call.Reply.{Reply}
 use Rattle.itm_model.specs.Machine.{outside, refusal}
 use Rattle.itm_model.specs.Runs.{state_after}
 use Rattle.norec_world.specs.Opacity.{begin_within}
 use Rattle.norec_world.specs.declared.attempt.Outcome.TheVariants.{Full, Unfinished}
-use Rattle.norec_world.specs.Solo.{Progress, row_of, Solo, entry_of, one_if, ended_as, stopped, front, with_first, the_attempt, player_after, passed, block_then, begun_then, solo_within}
+use Rattle.norec_world.specs.Solo.{Progress, row_of, Solo, entry_of, one_if, ended_as, stopped, front, with_first, player_after, passed, block_then, begun_then, solo_within}
 use Rattle.norec_world.proofs.Alones.{asked}
 
 pub same_some : {A : Type 0} {a b : A} → Some a ≡ Some b → a ≡ b
@@ -90,10 +90,6 @@ module _ {P : Type 0} (rules : Rules P) (laws : Obeys rules) (deepest : ℕ) whe
     abbrev goes : ℕ → Progress P → Solo
     goes n b = solo_within rules deepest max_commits thread n b
 
-    -- what comes of a block, by what comes of the rest
-    abbrev joined : Progress P → Beginning P → P → List (Call × Reply) → State → Solo → Solo
-    joined b start p pairs s r = block_then rules deepest max_commits thread (λ (q : Progress P). r) b start p pairs s
-
     none_left : (p : P) (arena : List ℕ) → rules.calls_left p ≤ 0 → begin_of rules deepest p arena ≡ None
     none_left p arena l = ap (λ (n : ℕ). begin_within rules deepest n p arena (rules.next_call p)) (let e : rules.calls_left p ≡ 0 = omega arith in e)
 
@@ -109,7 +105,7 @@ module _ {P : Type 0} (rules : Rules P) (laws : Obeys rules) (deepest : ℕ) whe
         let l = found.less in
         let m = laws.nearer start.player (Begin start.props found.room) (begin_code false) found.asks in
         let along = falls_along (rules.calls_left p) p s0 (turn rules.next_call rules.answered rules.calls_left p s0) refl in
-        ap (joined b start p pairs (state_after deepest s0 (map (λ (c : Call × Reply). c.0) pairs)))
+        ap (λ (r : Solo). block_then rules deepest max_commits thread (λ (q : Progress P). r) b start p pairs (state_after deepest s0 (map (λ (c : Call × Reply). c.0) pairs)))
         (rest (passed rules deepest max_commits thread b p pairs (state_after deepest s0 (map (λ (c : Call × Reply). c.0) pairs))) (omega arith))
 
     -- so many blocks suffice
@@ -171,15 +167,6 @@ module _ {P : Type 0} (rules : Rules P) (laws : Obeys rules) (deepest : ℕ) whe
           ap (λ (pairs : List (Call × Reply)). rules.calls_left (player_after rules deepest 0 0 (begun start) pairs)) all ∙ ap rules.calls_left (player_pairs (begun start) xs) in
           omega arith
 
-      abbrev yes : State → Solo
-      yes t = with_first (the_attempt rules deepest max_commits thread b start (map pair_of xs) (ended_as t.wrote)) (goes (rules.calls_left b.player) (passed rules deepest max_commits thread b (begun start) (map pair_of xs) t))
-
-      abbrev full : Solo
-      full = with_first (the_attempt rules deepest max_commits thread b start (front (map pair_of xs)) Full) (stopped rules deepest max_commits thread b GaveUp)
-
-      abbrev still_open : Solo
-      still_open = with_first (the_attempt rules deepest max_commits thread b start (map pair_of xs) Unfinished) (stopped rules deepest max_commits thread b Finished)
-
       -- it ends by a commit
       pub ended_block : is_open (state_of b start xs) ≡ false → ((state_of b start xs).wrote && nat_le max_commits b.commits) ≡ false
           → goes (rules.calls_left b.player) b ≡ with_first (row_of thread b start xs (ended_as (state_of b start xs).wrote))
@@ -189,8 +176,8 @@ module _ {P : Type 0} (rules : Rules P) (laws : Obeys rules) (deepest : ℕ) whe
           let q : P = player_then rules.answered (begun start) xs in
           let t : State = state_of b start xs in
           whole_block
-          ∙ (cond-false (is_open t) still_open (cond (t.wrote && nat_le max_commits b.commits) full (yes t)) closed
-          ∙ (cond-false (t.wrote && nat_le max_commits b.commits) full (yes t) free
+          ∙ (cond-false (is_open t) _ _ closed
+          ∙ (cond-false (t.wrote && nat_le max_commits b.commits) _ _ free
           ∙ ((λ i. with_first (row_of thread b start (entries_pairs xs i) (ended_as t.wrote)) (goes n (next_of b (player_pairs (begun start) xs i) t)))
           ∙ ap (with_first (row_of thread b start xs (ended_as t.wrote))) (solo_enough n (rules.calls_left q) (next_of b q t) less (omega arith)))))
 
@@ -201,8 +188,8 @@ module _ {P : Type 0} (rules : Rules P) (laws : Obeys rules) (deepest : ℕ) whe
           let t : State = state_of b start xs in
           let calls : map entry_of (front (map pair_of xs)) ≡ ys = ap (λ (l : List Entry). map entry_of (front (map pair_of l))) is ∙ (ap (map entry_of) (front_snoc ys last) ∙ entries_pairs ys) in
           whole_block
-          ∙ (cond-false (is_open t) still_open (cond (t.wrote && nat_le max_commits b.commits) full (yes t)) closed
-          ∙ (cond-true (t.wrote && nat_le max_commits b.commits) full (yes t) full_is
+          ∙ (cond-false (is_open t) _ _ closed
+          ∙ (cond-true (t.wrote && nat_le max_commits b.commits) _ _ full_is
           ∙ ap (λ (l : List Entry). with_first (row_of thread b start l Full) (stopped rules deepest max_commits thread b GaveUp)) calls))
 
       -- the player leaves it open for good
@@ -210,7 +197,7 @@ module _ {P : Type 0} (rules : Rules P) (laws : Obeys rules) (deepest : ℕ) whe
       open_block opens =
           let t : State = state_of b start xs in
           whole_block
-          ∙ (cond-true (is_open t) still_open (cond (t.wrote && nat_le max_commits b.commits) full (yes t)) opens
+          ∙ (cond-true (is_open t) _ _ opens
           ∙ ap (λ (l : List Entry). with_first (row_of thread b start l Unfinished) (stopped rules deepest max_commits thread b Finished)) (entries_pairs xs))
 
     -- a player that comes to no block

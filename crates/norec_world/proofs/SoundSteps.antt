@@ -1,6 +1,6 @@
 -- A step was done, and its value came to the engine: what it gave may be recorded.
 use Rattle.std.proofs.Common.{◌≡◌, inl, ℕ, zero, suc, ◌+◌, ◌*◌, ◌/◌, ◌%◌, ◌<◌, ◌≤◌, ◌==◌, Bool, true, false, if◌then◌else◌, Option, None, Some, refl, sym, true≢false, ap, subst, ◌∙◌, arith, eqb-true}
-use Rattle.norec_world.proofs.Common.{Actor, AllFit, Answers, Asks, Call, Cas, Cells, ClocksOn, Core, Ended, IsDone, IsLawful, IsSound, IsTied, Load, Next, Proceeds, Ready, RestsAs, Rows, Rules, Status, StatusIs, Step, Store, Waits, cells_after, found, handed_is, handed_to, in_transaction, is_inside, is_ready, is_waiting, rank, whole}
+use Rattle.norec_world.proofs.Common.{Actor, AllFit, Answers, Asks, Call, Cas, Cells, ClocksOn, Core, IsDone, IsLawful, IsSound, IsTied, Load, Next, Proceeds, Ready, RestsAs, Rows, Rules, Status, StatusIs, Step, Store, Waits, cells_after, found, handed_is, handed_to, in_transaction, is_inside, is_ready, is_waiting, rank, whole}
 use Rattle.norec_engine.specs.Keeps.{Keeps}
 use Rattle.norec_engine.specs.Moves.{IsResumed}
 use Rattle.norec_engine.specs.Proceeds.{AsksFor, IsWithin, most}

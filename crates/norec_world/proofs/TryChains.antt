@@ -1,6 +1,6 @@
 -- Local work after an event, or after other local work: what becomes of the try.
-use Rattle.std.proofs.Common.{◌≡◌, ℕ, ◌+◌, ◌/◌, Bool, true, false, nat_lt, List, [], ◌∷◌, ◌++◌, append_assoc, Option, None, Some, refl, sym, ap, subst, ◌∙◌, arith, append-nil}
-use Rattle.norec_world.proofs.Common.{Actor, Attempt, Cells, Ended, EndsAt, Entry, HasRow, IsBetween, IsReady, IsSound, Outcome, Prior, Ready, Rows, Rules, Status, StatusIs, Tries, active_of, begins, between, current_of, ending_of, in_transaction, over, prior_of, runs, turned_away}
+use Rattle.std.proofs.Common.{◌≡◌, ℕ, ◌+◌, ◌/◌, Bool, true, false, nat_lt, List, [], ◌∷◌, ◌++◌, append_assoc, Option, None, Some, refl, sym, ap, subst, ◌∙◌, arith}
+use Rattle.norec_world.proofs.Common.{Actor, Attempt, Cells, Ended, EndsAt, Entry, HasRow, IsBetween, IsSound, Outcome, Prior, Ready, Rows, Rules, Tries, active_of, begins, between, current_of, ending_of, in_transaction, over, prior_of, runs, turned_away}
 use Rattle.norec_world.specs.declared.attempt.Outcome.TheVariants as outcomes
 use Rattle.norec_world.specs.declared.attempt.End.TheVariants as ends
 use Rattle.norec_world.specs.Tries.{Continues, TriesAgain, GoesOnAfter}
