@@ -2,7 +2,6 @@
 use Rattle.std.proofs.Common.{◌≡◌, ℕ, Bool, true, false, List, length-set, slice_get, slice_set, None, Some, IsSome, refl, sym, ap, subst, ◌∙◌}
 use Rattle.norec_world.proofs.Common.{Actor, Cells, ClocksOn, Finished, Goes, HasRead, IsEvent, IsWorld, KeepsOthers, Obeys, Rows, Rules, Tries, World, counted, ending_at, ending_of, is_ready, option_and_then, prior_of, told, waiting_step, waits_at}
 use Rattle.norec_world.specs.Moments.{HasStepped, HasWorked}
-use Rattle.norec_world.specs.Runs.{StillRuns}
 use Rattle.norec_world.specs.WorldEvents.{ActorGoes}
 use Rattle.norec_world.proofs.ClockHolders.{clocks_still, clocks_twice}
 use Rattle.norec_world.proofs.CommitCounts.{commits_after}
@@ -24,9 +23,6 @@ module _ {P : Type 0} {rules : Rules P} {cells cells' : Cells} {r r1 r2 : Rows} 
 
   event_clocks : ClocksOn cells a.engine cells' a2.engine
   event_clocks = clocks_twice cells cells' cells' a.engine a1.engine a2.engine x.clocks (clocks_still cells' a1.engine a2.engine y.holds y.limit)
-
-  event_runs : StillRuns rules cells r a cells' r2 a2
-  event_runs first base laid runs = let z = x.runs first base laid runs in y.runs first base z.0 z.1
 
   event_then : (base : List ℕ) → HasRead base r1 a1 → (event : IsEvent rules cells r a cells' r2 a2) × HasRead base event.rows event.stepped
   event_then base read = (
@@ -73,7 +69,7 @@ module _ {P : Type 0} {rules : Rules P} (laws : Obeys rules) (w : World P) (kept
   world_after =
       let actors = actors_after rules w.cells cells' w.attempts r2 w.actors kept.actors i got a2 here y.sound done (event_others x y) (event_clocks x y) in
       let commits = commits_after rules w kept.commits i got a2 here cells' r2 events event.0 in
-      let running = running_after rules laws w kept i got a2 here cells' r2 events (event_others x y) (event_clocks x y) (event_runs x y) in
+      let running = running_after rules laws w kept i got a2 here cells' r2 events (event_others x y) (event_clocks x y) (λ first base laid runs. (let z = x.runs first base laid runs in y.runs first base z.0 z.1)) in
       record {
         actors = actors;
         long = length-set w.actors i a2 ∙ kept.long;

@@ -98,12 +98,9 @@ module _ {P : Type 0} (rules : Rules P) (laws : Obeys rules) (first : Between P)
       open_runs (Busy clock) m = absurd (let f : true ≡ false = m.answered.fits.0 in cc)
       open_runs (Full at) m =
           let half = m.taken.moves.keeps m.ends.unfreed in
-          let reached = m.taken.tied.settled.reached in
-          let late = m.taken.tied.late in
           let at_is = m.ends.at_is in
-          let early = (run.inside m.taken.was_is).4.began in
-          let up = seen.up m.taken.was_is in
-          full_runs rules laws first base cells cells' r r1 mid a last call seen run (cells'.clock / 2) (omega arith) still m.taken.was_is at m (omega arith) (omega arith)
+          full_runs rules laws first base cells cells' r r1 mid a last call seen run (cells'.clock / 2) (omega arith) still m.taken.was_is at m
+          (omega (arith, (run.inside m.taken.was_is).4.began, seen.up m.taken.was_is)) (omega (arith, m.taken.tied.settled.reached, m.taken.tied.late))
 
       runs_on : (b : Bool) (answer : Answer) → HasAnswered rules b cells cells' r r1 mid a last call answer → IsRun rules first base (cells'.clock / 2) r1 last
       runs_on true answer m = open_runs answer m

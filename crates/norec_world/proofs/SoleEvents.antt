@@ -123,27 +123,14 @@ module _ {P : Type 0} (rules : Rules P) (max_commits : ℕ) where
 
       by_outcome : (o : Outcome) → t.row'.outcome ≡ o → EndsAt a.engine.max_commits clock clock' t.row'.at o → GoesOnAfter o clock' (prior_of r a) r' a' → IsSole rules max_commits clock' r' a'
       by_outcome outcomes.Committed o at g =
-          let odd = at.0 in
-          let even = at.1 in
           let one = ap (λ (x : Outcome). one_if (is_committed x)) o in
-          by_commit (ap is_done o) (omega arith) (omega arith) g
+          by_commit (ap is_done o) (omega (arith, at.0, at.1)) (omega (arith, at.0, at.1)) g
       by_outcome outcomes.ReadOnly o at g =
-          let half = at.0 in
-          let reads = at.1 in
-          let l = later in
           let none = ap (λ (x : Outcome). one_if (is_committed x)) o in
-          by_commit (ap is_done o) (omega arith) (omega arith) g
-      by_outcome outcomes.Conflict o at g =
-          let half = at.0 in
-          let reads = at.1 in
-          let l = later in
-          let even = shut (none_again clock' a.nth r' a' (nat_lt a.retries a.nth) g) in
-          absurd (omega arith)
+          by_commit (ap is_done o) (omega (arith, at.0, at.1, later)) (omega (arith, at.0, at.1)) g
+      by_outcome outcomes.Conflict o at g = absurd (omega (arith, at.0, at.1, later, shut (none_again clock' a.nth r' a' (nat_lt a.retries a.nth) g)))
       by_outcome outcomes.Full o at g =
-          let half = at.0 in
-          let reads = at.1 in
-          let full = at.2 in
-          goes_on half (subst (λ (x : Option End). StandsSole rules max_commits x old.past (clock' / 2) r' a') (sym (ap ending_of g.status)) (g.none, (omega arith), last outcomes.Full o half))
+          goes_on at.0 (subst (λ (x : Option End). StandsSole rules max_commits x old.past (clock' / 2) r' a') (sym (ap ending_of g.status)) (g.none, (omega (arith, at.0, at.1, at.2)), last outcomes.Full o at.0))
       by_outcome outcomes.NoMemory o at g =
           goes_on at.0 (subst (λ (x : Option End). StandsSole rules max_commits x old.past (clock' / 2) r' a') (sym (ap ending_of g.status)) (g.none, inr (last outcomes.NoMemory o at.0)))
       by_outcome outcomes.Unfinished o at g = absurd at

@@ -76,8 +76,6 @@ module _ {P : Type 0} (rules : Rules P) (laws : Obeys rules) (deepest : ℕ) whe
   -- the calls left do not grow along what a player gets
   falls_along : (n : ℕ) (p : P) (s : State) (o : Option Call) → turn rules.next_call rules.answered rules.calls_left p s ≡ o
       → rules.calls_left (player_after rules deepest 0 0 p (answers_within rules.next_call rules.answered rules.calls_left deepest n p s o)) ≤ rules.calls_left p
-  falls_along zero p s o e = omega arith
-  falls_along (suc n) p s None e = omega arith
   falls_along (suc n) p s (Some c) e = (
       let r = reply deepest s c in
       let q : P = rules.answered p r in
@@ -85,6 +83,7 @@ module _ {P : Type 0} (rules : Rules P) (laws : Obeys rules) (deepest : ℕ) whe
       let l = laws.nearer p c r (asked rules laws deepest p s c e) in
       let m = falls_along n q t (turn rules.next_call rules.answered rules.calls_left q t) refl in
       omega arith)
+  falls_along n p s o e = omega arith
 
   module _ (max_commits thread : ℕ) where
     abbrev goes : ℕ → Progress P → Solo

@@ -63,6 +63,19 @@ module _ {P : Type 0} (rules : Rules P) (laws : Obeys rules)
         });
       }
 
+  -- no more tries: the actor has ended
+  pub after_end : (was : Bool) (end : End) (player : P) (pending : Option Attempt) → IsKept was r a → in_transaction a.engine ≡ false → active_of a.thread r'.active ≡ None
+      → IsSettledBy rules was r' a (record a { player = player; pending = pending; status = Ended end })
+  after_end was end player pending k closed row =
+      record {
+        engine = refl;
+        thread = refl;
+        retries = refl;
+        kept = record { row = subst (λ (b : Bool). HasRow b r' a.thread) (sym closed) row; empty = k.empty; tried = k.tried; tries = k.tries; retries = k.retries };
+        rests = tt;
+        falls = λ over. absurd (cc);
+      }
+
   -- a try came to nothing, and the player is where it began the block
   pub after_try : (was : Bool) → IsKept was r a → IsNested rules was a.player → a.engine.waits ≡ None → a.engine.holds ≡ false → a.status ≡ Ready
       → (pending : Option Attempt) → pending ≡ None → (player : P) → rules.depth player ≡ 0 → rules.calls_left player ≡ whole rules was a.player
@@ -75,14 +88,7 @@ module _ {P : Type 0} (rules : Rules P) (laws : Obeys rules)
 
       tries : (b : Bool) → nat_lt a.retries a.nth ≡ b
           → IsSettledBy rules was r' a (if b then record a { player = player; pending = pending; status = Ended GaveUp } else record a { player = player; pending = pending; nth = a.nth + 1 })
-      tries true e = record {
-        engine = refl;
-        thread = refl;
-        retries = refl;
-        kept = record { row = subst HasIt (sym closed) row; empty = k.empty; tried = k.tried; tries = k.tries; retries = k.retries };
-        rests = tt;
-        falls = λ over. absurd (cc);
-      }
+      tries true e = after_end was GaveUp player pending k closed row
       tries false e =
           let new : Actor P = record a { player = player; pending = pending; nth = a.nth + 1 } in
           let low : a.nth ≤ a.retries = ltb-false a.retries a.nth e in
@@ -101,16 +107,3 @@ module _ {P : Type 0} (rules : Rules P) (laws : Obeys rules)
                   (let x = same in omega arith);
             });
           }
-
-  -- no more tries: the actor has ended
-  pub after_end : (was : Bool) (end : End) → IsKept was r a → in_transaction a.engine ≡ false → active_of a.thread r'.active ≡ None
-      → IsSettledBy rules was r' a (record a { status = Ended end })
-  after_end was end k closed row =
-      record {
-        engine = refl;
-        thread = refl;
-        retries = refl;
-        kept = record { row = subst (λ (b : Bool). HasRow b r' a.thread) (sym closed) row; empty = k.empty; tried = k.tried; tries = k.tries; retries = k.retries };
-        rests = tt;
-        falls = λ over. absurd (cc);
-      }

@@ -1,5 +1,5 @@
 -- What an answer does to the try that its call belongs to.
-use Rattle.std.proofs.Common.{inl, inr, ◌≡◌, ℕ, ◌+◌, ◌*◌, ◌/◌, ◌%◌, ◌≤◌, Bool, true, false, nat_lt, if◌then◌else◌, is_some, List, [], ◌∷◌, ◌++◌, Option, None, Some, refl, sym, ap, subst, ◌∙◌, arith, append-nil}
+use Rattle.std.proofs.Common.{true≢false, inl, inr, ◌≡◌, ℕ, ◌+◌, ◌*◌, ◌/◌, ◌%◌, ◌≤◌, Bool, true, false, nat_lt, if◌then◌else◌, is_some, List, [], ◌∷◌, ◌++◌, Option, None, Some, refl, sym, ap, subst, ◌∙◌, arith, append-nil}
 use Rattle.std.proofs.lemmas.Bool.{false_from_ne_true, true_from_ne_false}
 use Rattle.norec_world.proofs.Common.{Actor, Agrees, Answer, Attempt, Begin, Busy, Call, Cells, Committed, Conflict, Core, End, Ended, EndsAt, Full, HasRow, IsBetween, IsMemory, IsReady, IsTied, IsTold, MAX_DEPTH, Opens, Outcome, Prior, Props, Ready, Records, Replied, Replies, RepliesTo, Reply, RestsAs, Rows, Rules, State, Status, Tries, active_of, after, begins, between, current_of, ending_of, in_transaction, is_begin, over, prior_of, runs, turned_away}
 use Rattle.itm_types.specs.declared.call.Reply.TheVariants as replies
@@ -13,12 +13,7 @@ use Rattle.norec_world.specs.Sound.{IsSettledBy}
 use Rattle.norec_world.specs.Tries.{TriesAgain, GoesOnAfter, is_done}
 use Rattle.norec_world.proofs.Taken.{HasAnswered}
 use Rattle.norec_world.proofs.ActiveRows.{changed_here, opened_here}
-use Rattle.norec_world.proofs.RecordedRows.{was_open}
-
--- no row where the engine is outside
-pub no_row : (b : Bool) (r : Rows) (thread : ℕ) → b ≡ false → HasRow b r thread → active_of thread r.active ≡ None
-no_row true r thread e h = absurd (cc)
-no_row false r thread e h = h
+use Rattle.norec_world.proofs.RecordedRows.{row_none, was_open}
 
 pub unfreed_to : (mid new : Core) (o : Option Call) (r : Replied) → RepliesTo mid o r new → mid.freed ≡ false
 unfreed_to mid new None r g = absurd g
@@ -65,7 +60,7 @@ stops_try clock clock' r r' a a' row at outcome was ended reads ends undone goes
 module _ {P : Type 0} (rules : Rules P)
     (r r1 : Rows) (a last : Actor P) (was : Bool) (settled : IsSettledBy rules was r1 a last) where
   none_active : in_transaction a.engine ≡ false → active_of last.thread r1.active ≡ None
-  none_active closed = no_row (in_transaction last.engine) r1 last.thread (ap in_transaction settled.engine ∙ closed) settled.kept.row
+  none_active closed = row_none r1 last.thread (in_transaction last.engine) (λ o. true≢false (sym o ∙ (ap in_transaction settled.engine ∙ closed))) settled.kept.row
 
   pub none_pending : last.status ≡ Ready → last.pending ≡ None
   none_pending ready = (let rest : IsReady rules last = subst (λ (s : Status). RestsAs rules s last) ready settled.rests in rest.nothing)
@@ -148,12 +143,8 @@ module _ {P : Type 0} {rules : Rules P} {cells cells' : Cells} {r r1 : Rows} {mi
       after_end false x = x
   open_tries (Conflict clock word) m =
       let row = m.answered.kept.row in
-      let same : last.engine.snapshot ≡ mid.snapshot = ap (λ (c : Core). c.snapshot) (m.settled.engine ∙ m.ends.stays) in
-      let now : a.engine.clock ≡ mid.clock = ap (λ (c : Core). c.clock) m.ends.stays in
-      let later = m.ends.later in
-      let clock_is = m.ends.clock_is in
-      let late = m.taken.tied.late in
-      stops_try cells.clock cells'.clock r r1 a last row.0 (last.engine.snapshot / 2) outcomes.Conflict row.1 (ap (λ (x : Rows). x.ended) (m.told.0 row.0 row.1)) refl (m.taken.moves.keeps m.ends.unfreed, omega arith) refl
+      stops_try cells.clock cells'.clock r r1 a last row.0 (last.engine.snapshot / 2) outcomes.Conflict row.1 (ap (λ (x : Rows). x.ended) (m.told.0 row.0 row.1)) refl
+      (m.taken.moves.keeps m.ends.unfreed, omega (arith, ap (λ (c : Core). c.snapshot) (m.settled.engine ∙ m.ends.stays), ap (λ (c : Core). c.clock) m.ends.stays, m.ends.later, m.ends.clock_is, m.taken.tied.late)) refl
       (tries_again rules r r1 a last true m.settled cells'.clock m.answered.fits.1 m.answered.status m.told.2)
   open_tries (Busy clock) m = absurd (let f : true ≡ false = m.answered.fits.0 in cc)
   open_tries (Full at) m =

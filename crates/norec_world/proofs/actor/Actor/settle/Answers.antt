@@ -38,7 +38,7 @@ returns-in-Full-clause-settled g c was d =
     let r = c.args.recorded.now in
     let fits : AnswerFits was (in_transaction a.engine) c.args.call (Full c.in-Full.at) = subst (AnswerFits was (in_transaction a.engine) c.args.call) c.in-Full.is d.fits in
     after_end g.P.Player g.met.P.Player.laws r c.end-in-Full.new.self a c.args.call
-    was GaveUp d.kept fits.1 c.end-in-Full.ensures.gone
+    was GaveUp a.player a.pending d.kept fits.1 c.end-in-Full.ensures.gone
 
 pub returns-in-Conflict-clause-others : goal.returns-in-Conflict-clause-others
 returns-in-Conflict-clause-others g c was d =
