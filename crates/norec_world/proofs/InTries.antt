@@ -229,7 +229,6 @@ module _ {P : Type 0} (rules : Rules P) (laws : Obeys rules) where
 
     pub try_begins : (at : ℕ) → IsInTry rules b (record row { at = at }) (rules.answered p r) new
     try_begins at =
-        let same : new.words ≡ mid.words = ap (λ (c : Core). c.words) g.stays in
         record {
           start = record { player = p; arena = b.arena; props = row.props };
           begins = comes;
@@ -241,7 +240,7 @@ module _ {P : Type 0} (rules : Rules P) (laws : Obeys rules) where
           player = ap (rules.answered p) (entered b.again again) ∙ ap (λ (xs : List Entry). player_then rules.answered (rules.answered p (begin_code b.again)) xs) (sym row_calls);
           alone = λ m memory a. subst (λ (xs : List Entry). IsAlone rules MAX_DEPTH (rules.answered p (begin_code b.again)) (opened (bytes_of m) b.arena row.props) xs) (sym row_calls) tt;
           stands = λ m memory a.
-              g.meets m (subst (λ (n : ℕ). IsMemory n m) same memory) a
+              g.meets m (subst (λ (n : ℕ). IsMemory n m) (ap (λ (c : Core). c.words) g.stays) memory) a
               ∙ (ap (λ (o : List Props). after MAX_DEPTH (state_over mid.writes o mid.arena m) (Begin props room)) (none_inside mid.blocks outside)
               ∙ ((λ i. opened (bytes_of (overlay m (empty i))) (arena i) (sym row_props i)) ∙ ap (λ (xs : List Entry). state_then MAX_DEPTH (opened (bytes_of m) b.arena row.props) xs) (sym row_calls)));
         }

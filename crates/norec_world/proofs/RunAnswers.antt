@@ -60,7 +60,6 @@ module _ {P : Type 0} (rules : Rules P) (laws : Obeys rules) (first : Between P)
         let earlier = t.4.began in
         let try = try_replies rules laws t.0 t.1 a.player mid a.engine call reply t.4 inside m.answered.in_call.asks g (let up = seen.up inside in omega arith) (seen.fewer (g.still inside)) in
         let row : Attempt = with_call t.1 in
-        let still_open : in_transaction last.engine ≡ true = ap in_transaction m.settled.engine ∙ g.still inside in
         record {
           run = run_same rules first base n r.ended r1.ended a.thread last.thread ended m.settled.thread run.run;
           inside = λ o. (
@@ -72,7 +71,7 @@ module _ {P : Type 0} (rules : Rules P) (laws : Obeys rules) (first : Between P)
             m.told.2 ∙ t.5,
             t.6 ∙ sym m.told.3,
           );
-          between = λ o. absurd (true≢false (sym still_open ∙ o));
+          between = λ o. absurd (true≢false (sym (ap in_transaction m.settled.engine ∙ g.still inside) ∙ o));
         }
 
   -- ## An attempt ends
@@ -120,16 +119,13 @@ module _ {P : Type 0} (rules : Rules P) (laws : Obeys rules) (first : Between P)
           let try = try_commits rules laws (bytes_at base r1.ended at) t.0 t.1 a.player mid call (words_at base r.ended at) t.4 inside m.ends.outermost m.answered.in_call.asks m.answered.fits.2 (memory_at seen at at_most) bytes_same commit_agrees n' at wrote a.engine m.ends
           (bytes_at base r1.ended) refl (let e = t.4.began in let is = m.ends.at_is in omega arith) (omega (arith, at_most, later)) in
           let over = ended_run _ (row_is_of a.thread r.active t.1 t.3) commit_ended m.settled.thread try in
-          let closed : in_transaction last.engine ≡ false = ap in_transaction m.settled.engine ∙ m.answered.fits.1 in
-          let ready : last.status ≡ Ready = m.told.4 ∙ m.answered.status in
-          let nothing = none_pending rules r r1 a last true m.settled ready in
           let arena : (alone MAX_DEPTH (bytes_at base r1.ended at) (record t.1 { calls = t.1.calls ++ record { call = call; reply = Done } ∷ []; at = at; outcome = if wrote then outcomes.Committed else outcomes.ReadOnly })).arena ≡ last.engine.arena =
           ap (λ (x : State). x.arena) commit_left ∙ (sym (m.ends.arena_is (words_at base r.ended at)) ∙ ap (λ (c : Core). c.arena) (sym m.settled.engine)) in
           let player : answered_all rules.answered (rules.answered t.4.start.player (begin_code t.0.again)) (map (λ (x : Entry). x.reply) (t.1.calls ++ record { call = call; reply = Done } ∷ [])) ≡ last.player =
           player_snoc rules.answered (rules.answered t.4.start.player (begin_code t.0.again)) t.1.calls (record { call = call; reply = Done }) ∙ (ap (λ (q : P). rules.answered q Done) (sym t.4.player) ∙ sym m.told.1) in
           record {
             run = over.0;
-            inside = λ o. absurd (true≢false (sym o ∙ closed));
+            inside = λ o. absurd (true≢false (sym o ∙ (ap in_transaction m.settled.engine ∙ m.answered.fits.1)));
             between = λ o gave_up starved. (
               record { player = last.player; arena = last.engine.arena; again = false; tries = 0 },
               over.1 ∙ (follows_commit wrote (rules.answered t.4.start.player (begin_code t.0.again)) _ _ ∙ (λ i. Some (record { player = player i; arena = arena i; again = false; tries = 0 }))),
@@ -138,7 +134,7 @@ module _ {P : Type 0} (rules : Rules P) (laws : Obeys rules) (first : Between P)
                 arena = refl;
                 again = m.told.2;
                 tries = (let one = m.told.3 in omega arith);
-                pending = λ x e. absurd (let none = sym nothing ∙ e in cc);
+                pending = λ x e. absurd (let none = sym (none_pending rules r r1 a last true m.settled (m.told.4 ∙ m.answered.status)) ∙ e in cc);
               },
             );
           }
@@ -195,13 +191,12 @@ module _ {P : Type 0} (rules : Rules P) (laws : Obeys rules) (first : Between P)
           let agrees = subst (λ (j : ℕ). Agrees (words_at base r.ended (j / 2)) mid.log) (sym snapshot) (seen.logged inside) in
           let over = stop_run k outcomes.Conflict (λ x o. o) m.settled.thread m.told.0 (omega arith) (omega arith) agrees (λ f. absurd (cc)) in
           let state = stop_left k outcomes.Conflict (λ x o. o) m.settled.thread m.told.0 (omega arith) (omega arith) agrees in
-          let closed : in_transaction last.engine ≡ false = ap in_transaction m.settled.engine ∙ m.answered.fits.1 in
           let player : rules.restarted (answered_all rules.answered (rules.answered t.4.start.player (begin_code t.0.again)) (map (λ (x : Entry). x.reply) t.1.calls)) ≡ last.player = ap rules.restarted (sym t.4.player) ∙ sym m.told.1 in
           let arena : (undone (alone MAX_DEPTH (bytes_at base r1.ended k) (record t.1 { at = k; outcome = outcomes.Conflict }))).arena ≡ last.engine.arena =
           undone_arena (alone MAX_DEPTH (bytes_at base r1.ended k) (record t.1 { at = k; outcome = outcomes.Conflict })) ∙ (ap (λ (x : State). x.arena) state ∙ (ap (λ (c : Core). c.arena) (sym m.ends.stays) ∙ ap (λ (c : Core). c.arena) (sym m.settled.engine))) in
           record {
             run = over.0;
-            inside = λ o. absurd (true≢false (sym o ∙ closed));
+            inside = λ o. absurd (true≢false (sym o ∙ (ap in_transaction m.settled.engine ∙ m.answered.fits.1)));
             between = λ o gave_up starved. (
               record { player = last.player; arena = last.engine.arena; again = true; tries = t.1.nth },
               over.1 ∙ (λ i. Some (record { player = player i; arena = arena i; again = true; tries = t.1.nth })),
@@ -226,10 +221,9 @@ module _ {P : Type 0} (rules : Rules P) (laws : Obeys rules) (first : Between P)
           let t = run.inside inside in
           let is : call ≡ Commit = (let doing : Some Commit ≡ Some call = sym m.ends.doing ∙ m.taken.doing in cc) in
           let agrees = subst (λ (k : ℕ). Agrees (words_at base r.ended k) mid.log) (sym m.ends.at_is) (seen.still inside) in
-          let closed : in_transaction last.engine ≡ false = ap in_transaction m.settled.engine ∙ m.answered.fits.1 in
           record {
             run = (stop_run at outcomes.Full (λ x o. o) m.settled.thread m.told.0 older newer agrees
                 (λ f. lacks_commit rules laws (bytes_at base r1.ended at) t.0 t.1 a.player mid call (words_at base r.ended at) t.4 inside m.ends.outermost m.answered.in_call.asks is (memory_at seen at newer) (same_at seen at newer ∙ sym (still at newer)) agrees m.ends.some)).0;
-            inside = λ o. absurd (true≢false (sym o ∙ closed));
+            inside = λ o. absurd (true≢false (sym o ∙ (ap in_transaction m.settled.engine ∙ m.answered.fits.1)));
             between = λ o gave_up starved. absurd (gave_up (ap ending_of m.told.1));
           }

@@ -83,7 +83,6 @@ module _ {P : Type 0} (rules : Rules P) (laws : Obeys rules) (first : Between P)
         let k = t.2 in
         let refused = refused_outside rules laws mid a.engine call reply cells'.words g other outside memory (empty_log closed) in
         let arena : last.engine.arena ≡ mid.arena = ap (λ (c : Core). c.arena) (m.settled.engine ∙ g.stays) in
-        let nothing = none_pending rules r r1 a last false m.settled ready in
         record {
           run = run_same rules first base (cells.clock / 2) r.ended r1.ended a.thread last.thread ended m.settled.thread run.run;
           inside = λ o. absurd (true≢false (sym o ∙ closed));
@@ -95,7 +94,7 @@ module _ {P : Type 0} (rules : Rules P) (laws : Obeys rules) (first : Between P)
               arena = arena ∙ k.arena;
               again = agains (in_transaction last.engine) closed m.told.2 ∙ k.again;
               tries = (let nth = m.told.3 in let fewer = k.tries in omega arith);
-              pending = λ x e. absurd (let none = sym nothing ∙ e in cc);
+              pending = λ x e. absurd (let none = sym (none_pending rules r r1 a last false m.settled ready) ∙ e in cc);
             },
           );
         }
@@ -164,11 +163,10 @@ module _ {P : Type 0} (rules : Rules P) (laws : Obeys rules) (first : Between P)
   busy_runs clock m =
       let t = before m.ends.closed m.answered.status in
       let k = t.2 in
-      let closed : in_transaction last.engine ≡ false = ap in_transaction m.settled.engine ∙ m.answered.fits.1 in
       let ended : r1.ended ≡ r.ended = ap (λ (x : Rows). x.ended) m.told.0 in
       record {
         run = run_same rules first base (cells.clock / 2) r.ended r1.ended a.thread last.thread ended m.settled.thread run.run;
-        inside = λ o. absurd (true≢false (sym o ∙ closed));
+        inside = λ o. absurd (true≢false (sym o ∙ (ap in_transaction m.settled.engine ∙ m.answered.fits.1)));
         between = λ o gave_up starved. (
           t.0,
           (λ i. now_at rules first base (ended i) (m.settled.thread i)) ∙ t.1,

@@ -107,10 +107,9 @@ module _ {P : Type 0} (rules : Rules P) (laws : Obeys rules) (w : World P) (kept
       → place_now ≡ Some (between x.before)
   led tail x ended =
       let run = opaque.players 0 p a player_here here in
-      let top : w.cells.clock / 2 ≤ w.cells.clock / 2 = omega arith in
       let rows : of_thread a.thread w.attempts.ended ≡ sole.past =
       ap (λ (t : ℕ). of_thread t w.attempts.ended) own ∙ (of_thread_all w.attempts.ended (subst (λ (l : List (Actor P)). AreOfActors (length l) w.attempts.ended) actors kept.running.threads) ∙ ended) in
-      let still = run_still rules (w.cells.clock / 2) (w.cells.clock / 2) (bytes_at w.base w.attempts.ended) (bytes_at w.base (attempts_of w)) top
+      let still = run_still rules (w.cells.clock / 2) (w.cells.clock / 2) (bytes_at w.base w.attempts.ended) (bytes_at w.base (attempts_of w)) (omega arith)
       (λ k l. bytes_still w.base w.cells.clock w.attempts.ended kept.commits.counted w.attempts.active k l) (Some (first_of p w.arena)) (of_thread a.thread w.attempts.ended) run.run in
       sym still.1 ∙ (ap (run_after rules (bytes_at w.base (attempts_of w)) (Some (first_of p w.arena))) rows ∙ x.led)
 
@@ -193,8 +192,7 @@ module _ {P : Type 0} (rules : Rules P) (laws : Obeys rules) (w : World P) (kept
 
   none_comes : (b : Between P) (x : Arrived []) → IsBeforeTry rules (w.cells.clock / 2) b a → place_now ≡ Some b → w.attempts.ended ≡ sole.past → rules.next_call a.player ≡ None → begin_of rules MAX_DEPTH x.before.player x.before.arena ≡ None
   none_comes b x t led_to ended none =
-      let place : b ≡ between x.before = same_some (sym led_to ∙ led [] x ended) in
-      ap (λ (b : Between P). begin_of rules MAX_DEPTH b.player b.arena) (sym place)
+      ap (λ (b : Between P). begin_of rules MAX_DEPTH b.player b.arena) (sym (same_some (sym led_to ∙ led [] x ended)))
       ∙ (t.leads ∙ (ap (begin_within rules MAX_DEPTH (rules.calls_left a.player) a.player b.arena) none ∙ no_call (rules.calls_left a.player) b.arena))
     where
       no_call : (k : ℕ) (arena : List ℕ) → begin_within rules MAX_DEPTH k a.player arena None ≡ None
@@ -264,8 +262,7 @@ module _ {P : Type 0} (rules : Rules P) (laws : Obeys rules) (w : World P) (kept
 
   done_so : DoneBy rules w p (ending_at w 0)
   done_so =
-      let same : ending_of a.status ≡ ending_at w 0 = sym (ap (option_and_then (λ (x : Actor P). ending_of x.status)) here) in
-      subst (DoneBy rules w p) same (done_by (ending_of a.status) refl sole.stands)
+      subst (DoneBy rules w p) (sym (ap (option_and_then (λ (x : Actor P). ending_of x.status)) here)) (done_by (ending_of a.status) refl sole.stands)
 
 -- ## A world
 

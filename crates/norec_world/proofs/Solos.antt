@@ -194,9 +194,8 @@ module _ {P : Type 0} (rules : Rules P) (laws : Obeys rules) (deepest : ℕ) whe
       -- the player leaves it open for good
       pub open_block : is_open (state_of b start xs) ≡ true → goes (rules.calls_left b.player) b ≡ with_first (row_of thread b start xs Unfinished) (stopped rules deepest max_commits thread b Finished)
       open_block opens =
-          let t : State = state_of b start xs in
           whole_block
-          ∙ (cond-true (is_open t) _ _ opens
+          ∙ (cond-true (is_open (state_of b start xs)) _ _ opens
           ∙ ap (λ (l : List Entry). with_first (row_of thread b start l Unfinished) (stopped rules deepest max_commits thread b Finished)) (entries_pairs xs))
 
     -- a player that comes to no block

@@ -17,13 +17,12 @@ module _ {P : Type 0} (rules : Rules P) (laws : Obeys rules)
       let played : Played rules laws was now a.player player =
       subst (Played rules laws was now a.player) (sym is)
       (plays rules laws a.player call reply d.in_call.asks was now d.nested d.fits.0 d.fits.1) in
-      let new : Actor P = record a { player = player; spare = spare; pending = pending; again = again } in
       record {
         engine = refl;
         thread = refl;
         retries = refl;
         kept = record { row = row; empty = empty; tried = k.tried; tries = k.tries; retries = k.retries };
-        rests = subst (λ (s : Status). RestsAs rules s new) (sym d.status)
+        rests = subst (λ (s : Status). RestsAs rules s (record a { player = player; spare = spare; pending = pending; again = again })) (sym d.status)
             (record { nested = played.nested; idle = d.idle; free = d.free; nothing = nothing });
         falls = λ e. record {
           whole_falls = played.whole_falls;

@@ -116,7 +116,6 @@ module _ {P : Type 0} {rules : Rules P} {cells cells' : Cells} {r r1 : Rows} {mi
   open_tries (Committed at wrote) m =
       let row = m.answered.kept.row in
       let closed : in_transaction a.engine ≡ false = m.answered.fits.1 in
-      let ready : last.status ≡ Ready = m.told.4 ∙ m.answered.status in
       let done : Attempt = record row.0 { calls = row.0.calls ++ record { call = call; reply = replies.Done } ∷ []; at = at; outcome = if wrote then outcomes.Committed else outcomes.ReadOnly } in
       over (record {
         row = row.0;
@@ -127,7 +126,7 @@ module _ {P : Type 0} {rules : Rules P} {cells cells' : Cells} {r r1 : Rows} {mi
         reads = m.ends.at_is ∙ ap (λ (n : ℕ). n / 2) (sym (ap (λ (c : Core). c.snapshot) (m.settled.engine ∙ m.ends.stays)));
         at = at_end wrote refl;
         closed = λ e. (row.0.calls, (λ i. row.0.calls ++ record { call = m.answered.fits.2 i; reply = replies.Done } ∷ []));
-        after = after_end wrote (is_between rules r r1 a last true m.settled cells'.clock 1 closed ready m.told.3);
+        after = after_end wrote (is_between rules r r1 a last true m.settled cells'.clock 1 closed (m.told.4 ∙ m.answered.status) m.told.3);
       })
     where
       at_end : (b : Bool) → wrote ≡ b → EndsAt a.engine.max_commits cells.clock cells'.clock at (if b then outcomes.Committed else outcomes.ReadOnly)
@@ -163,8 +162,7 @@ pub begin_opens : (mid new : Core) (m : List ℕ) (props : Props) (room : ℕ) (
 begin_opens mid new m props room reply g outside memory agrees closed =
     let opened_blocks = ap (λ (b : List Props). (after MAX_DEPTH (state_over mid.writes b mid.arena m) (Begin props room)).blocks) (none_inside mid.blocks outside) in
     let blocks = ap (λ (s : State). s.blocks) (g.meets m memory agrees) in
-    let none : (stands_for new m).blocks ≡ [] = ap (λ (b : List Props). (state_over new.writes b new.arena m).blocks) (none_inside new.blocks closed) in
-    let some = sym none ∙ (blocks ∙ opened_blocks) in
+    let some = sym (ap (λ (b : List Props). (state_over new.writes b new.arena m).blocks) (none_inside new.blocks closed)) ∙ (blocks ∙ opened_blocks) in
     absurd (cc)
 
 pub begin_call : (call : Call) → is_begin call ≡ true → (props : Props) × (room : ℕ) × (call ≡ Begin props room)

@@ -9,24 +9,21 @@ pub returns-else-is_open-clause-settled : goal.returns-else-is_open-clause-settl
 returns-else-is_open-clause-settled g c was d =
     let a = c.args.self.now in
     let r = c.args.recorded.now in
-    let closed : in_transaction a.engine ≡ false = sym c.is_open-is_open.ensures ∙ c.if-is_open.false in
     after_reply g.P.Player g.met.P.Player.laws r r a c.args.call
     was c.args.reply d c.answer.new.self c.answer.ensures a.spare d.kept.empty c.take.new.self c.take.ensures.after a.again
-    (row_stays r a.thread was (in_transaction a.engine) d.fits.1 closed d.kept.row)
+    (row_stays r a.thread was (in_transaction a.engine) d.fits.1 (sym c.is_open-is_open.ensures ∙ c.if-is_open.false) d.kept.row)
 
 pub returns-then-is_open-clause-settled : goal.returns-then-is_open-clause-settled
 returns-then-is_open-clause-settled g c was d =
     let a = c.args.self.now in
     let r = c.args.recorded.now in
     let row : Attempt = record c.in-Some.attempt { at = c.snapshot.result / 2 } in
-    let some : a.pending ≡ Some c.in-Some.attempt = sym c.in-Some.ensures.value in
-    let p = d.in_call.opens c.in-Some.attempt some in
+    let p = d.in_call.opens c.in-Some.attempt (sym c.in-Some.ensures.value) in
     let shut : was ≡ true → ⊥ = λ e. (let n = d.in_call.inside e in absurd (cc)) in
-    let none : active_of a.thread r.active ≡ None = row_none r a.thread was shut d.kept.row in
     let opened : in_transaction a.engine ≡ true = sym c.is_open-is_open.ensures ∙ c.if-is_open.true in
     after_reply g.P.Player g.met.P.Player.laws r c.open.new.self a c.args.call
     was c.args.reply d c.answer.new.self c.answer.ensures a.spare d.kept.empty c.take.new.self c.take.ensures.after true
-    (row_opened r c.open.new.self a.thread (in_transaction a.engine) row opened c.open.ensures none p.thread p.outcome)
+    (row_opened r c.open.new.self a.thread (in_transaction a.engine) row opened c.open.ensures (row_none r a.thread was shut d.kept.row) p.thread p.outcome)
 
 pub returns-then-is_open-2-clause-settled : goal.returns-then-is_open-2-clause-settled
 returns-then-is_open-2-clause-settled g c was d =
@@ -44,10 +41,9 @@ pub returns-else-is_open-2-clause-settled : goal.returns-else-is_open-2-clause-s
 returns-else-is_open-2-clause-settled g c was d =
     let a = c.args.self.now in
     let r = c.args.recorded.now in
-    let closed : in_transaction a.engine ≡ false = sym c.is_open-is_open.ensures ∙ c.if-is_open-2.false in
     after_reply g.P.Player g.met.P.Player.laws r r a c.args.call
     was c.args.reply d c.answer.new.self c.answer.ensures a.spare d.kept.empty c.take.new.self c.take.ensures.after a.again
-    (row_stays r a.thread was (in_transaction a.engine) d.fits.1 closed d.kept.row)
+    (row_stays r a.thread was (in_transaction a.engine) d.fits.1 (sym c.is_open-is_open.ensures ∙ c.if-is_open-2.false) d.kept.row)
 
 pub returns-then-is_open-clause-others : goal.returns-then-is_open-clause-others
 returns-then-is_open-clause-others g c was d =
@@ -58,6 +54,5 @@ returns-then-is_open-clause-others g c was d =
 
 pub returns-then-is_open-2-clause-others : goal.returns-then-is_open-2-clause-others
 returns-then-is_open-2-clause-others g c was d =
-    let none : c.args.self.now.pending ≡ None = sym c.in-None.ensures.value in
     others_changed c.args.self.now _ c.args.recorded.now c.add.new.self (λ row. record row { calls = row.calls ++ record { call = c.args.call; reply = c.args.reply } ∷ [] }) (λ x. refl) refl
-    (c.take.ensures.after ∙ sym none) c.add.ensures.added
+    (c.take.ensures.after ∙ sym (sym c.in-None.ensures.value)) c.add.ensures.added
