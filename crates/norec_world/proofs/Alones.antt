@@ -20,16 +20,15 @@ module _ {P : Type 0} (rules : Rules P) (laws : Obeys rules) (deepest : ℕ) whe
   -- so many calls suffice
   enough : (n k : ℕ) (p : P) (s : State) (o : Option Call) → turn rules.next_call rules.answered rules.calls_left p s ≡ o → rules.calls_left p ≤ n → rules.calls_left p ≤ k → gets n p s o ≡ gets k p s o
   enough zero zero p s o e a b = refl
-  enough zero (suc k) p s None e a b = refl
   enough zero (suc k) p s (Some c) e a b = (let l = laws.nearer p c (reply deepest s c) (asked p s c e) in absurd (omega arith))
   enough (suc n) zero p s None e a b = refl
   enough (suc n) zero p s (Some c) e a b = (let l = laws.nearer p c (reply deepest s c) (asked p s c e) in absurd (omega arith))
-  enough (suc n) (suc k) p s None e a b = refl
   enough (suc n) (suc k) p s (Some c) e a b =
       let r = reply deepest s c in
       let l = laws.nearer p c r (asked p s c e) in
       ap (λ (xs : List (Call × Reply)). (c, r) ∷ xs)
       (enough n k (rules.answered p r) (after deepest s c) (turn rules.next_call rules.answered rules.calls_left (rules.answered p r) (after deepest s c)) refl (omega arith) (omega arith))
+  enough n k p s None e a b = refl
 
   -- the calls made alone come first, and then what the player gets after them
   pub begins_alone : (n : ℕ) (p : P) (s : State) (xs : List Entry) → rules.calls_left p ≤ n → IsAlone rules deepest p s xs

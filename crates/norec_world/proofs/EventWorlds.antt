@@ -1,16 +1,58 @@
--- An actor of a world took an event: the world that it leaves, and that the event says so.
-use Rattle.std.proofs.Common.{◌≡◌, ℕ, false, length-set, slice_get, slice_set, Some, IsSome, refl, sym, ap, subst, ◌∙◌, None}
-use Rattle.norec_world.proofs.Common.{Actor, Cells, Goes, HasRead, IsEvent, IsWorld, Obeys, Rows, Rules, World, counted, ending_at, ending_of, is_ready, option_and_then, told, waiting_step, waits_at}
+-- An actor of a world took an event, a step and the local work that follows it: the world that it leaves, and that the event says so.
+use Rattle.std.proofs.Common.{◌≡◌, ℕ, Bool, true, false, List, length-set, slice_get, slice_set, None, Some, IsSome, refl, sym, ap, subst, ◌∙◌}
+use Rattle.norec_world.proofs.Common.{Actor, Cells, ClocksOn, Finished, Goes, HasRead, IsEvent, IsWorld, KeepsOthers, Obeys, Rows, Rules, Tries, World, counted, ending_at, ending_of, is_ready, option_and_then, prior_of, told, waiting_step, waits_at}
 use Rattle.norec_world.specs.Moments.{HasStepped, HasWorked}
 use Rattle.norec_world.specs.WorldEvents.{ActorGoes}
+use Rattle.norec_world.proofs.ClockHolders.{clocks_still, clocks_twice}
 use Rattle.norec_world.proofs.CommitCounts.{commits_after}
+use Rattle.norec_world.proofs.OthersAttempts.{others_twice}
+use Rattle.norec_world.proofs.RunOthers.{has_read, running_after, world_opaque}
 use Rattle.norec_world.proofs.ShownAlone.{shows_alone}
 use Rattle.norec_world.proofs.SoleEvents.{finished_free, sole_still}
-use Rattle.norec_world.proofs.Events.{event_clocks, event_others, event_runs, event_then}
-use Rattle.norec_world.proofs.RunOthers.{has_read, running_after, world_opaque}
 use Rattle.norec_world.proofs.SoundOthers.{actors_after}
+use Rattle.norec_world.proofs.Taken.{ready_of}
+use Rattle.norec_world.proofs.TryChains.{no_pending, tries_then}
 use Rattle.norec_world.proofs.WorldEvents.{event_goes}
 use Rattle.norec_world.proofs.Worlds.{lawful_at, waiting_going, waiting_some}
+
+-- ## A step and its local work are one event
+
+module _ {P : Type 0} {rules : Rules P} {cells cells' : Cells} {r r1 r2 : Rows} {a a1 a2 : Actor P} (x : HasStepped rules cells r a cells' r1 a1) (y : HasWorked rules cells' r1 a1 r2 a2) where
+  event_others : KeepsOthers a r a2 r2
+  event_others = others_twice a a1 a2 r r1 r2 x.others y.others
+
+  event_clocks : ClocksOn cells a.engine cells' a2.engine
+  event_clocks = clocks_twice cells cells' cells' a.engine a1.engine a2.engine x.clocks (clocks_still cells' a1.engine a2.engine y.holds y.limit)
+
+  event_then : (base : List ℕ) → HasRead base r1 a1 → (event : IsEvent rules cells r a cells' r2 a2) × HasRead base event.rows event.stepped
+  event_then base read = (
+    record {
+      rows = r1;
+      stepped = a1;
+      takes = x.takes;
+      works = y.works;
+      tries = tries_on (is_ready a1.status) refl;
+      finishes = finishes_on (is_ready a1.status) refl;
+      others = event_others;
+      clocks = event_clocks;
+      retries = y.retries ∙ x.takes.same.retries;
+    },
+    read,
+  )
+    where
+      tries_on : (b : Bool) → is_ready a1.status ≡ b → Tries cells.clock (prior_of r a) cells'.clock r2 a2
+      tries_on true w =
+          let ready = ready_of a1.status w in
+          tries_then cells.clock cells'.clock (prior_of r a) r1 r2 a1 a2 ready (no_pending rules cells' r1 a1 x.sound ready) x.clocks.limit.0 x.takes.same.retries y.snapshot (y.tries w) x.tries
+      tries_on false n =
+          let same = y.still n in
+          subst (λ (z : Rows). Tries cells.clock (prior_of r a) cells'.clock z a2) (sym same.1) (subst (Tries cells.clock (prior_of r a) cells'.clock r1) (sym same.0) x.tries)
+
+      finishes_on : (b : Bool) → is_ready a1.status ≡ b → ending_of a2.status ≡ Some Finished → rules.next_call a2.player ≡ None
+      finishes_on true w end = y.finishes w end
+      finishes_on false n end = absurd (x.unfinished (ap (λ (z : Actor P). ending_of z.status) (sym (y.still n).0) ∙ end))
+
+-- ## In a world
 
 module _ {P : Type 0} {rules : Rules P} (laws : Obeys rules) (w : World P) (kept : IsWorld rules w) (i : ℕ) (got : Actor P) (here : slice_get w.actors i ≡ Some got)
     {cells' : Cells} {r1 r2 : Rows} {a1 a2 : Actor P} (x : HasStepped rules w.cells w.attempts got cells' r1 a1) (y : HasWorked rules cells' r1 a1 r2 a2) (done : is_ready a2.status ≡ false) (waits : IsSome (waits_at w i)) (events : ℕ) where
@@ -27,7 +69,7 @@ module _ {P : Type 0} {rules : Rules P} (laws : Obeys rules) (w : World P) (kept
   world_after =
       let actors = actors_after rules w.cells cells' w.attempts r2 w.actors kept.actors i got a2 here y.sound done (event_others x y) (event_clocks x y) in
       let commits = commits_after rules w kept.commits i got a2 here cells' r2 events event.0 in
-      let running = running_after rules laws w kept i got a2 here cells' r2 events (event_others x y) (event_clocks x y) (event_runs x y) in
+      let running = running_after rules laws w kept i got a2 here cells' r2 events (event_others x y) (event_clocks x y) (λ first base laid runs. (let z = x.runs first base laid runs in y.runs first base z.0 z.1)) in
       record {
         actors = actors;
         long = length-set w.actors i a2 ∙ kept.long;

@@ -4,21 +4,15 @@ use Rattle.itm_types.specs.declared.access.Width.TheVariants.{U8}
 use Rattle.itm_types.specs.declared.access.ReadHint.TheVariants.{R}
 use Rattle.itm_types.specs.declared.access.WriteHint.TheVariants.{W}
 use Rattle.itm_types.specs.declared.datum.Datum.{Datum}
-use Rattle.itm_types.specs.declared.call.Props.{Props}
-use Rattle.itm_types.specs.declared.call.Call.{Call}
-use Rattle.itm_types.specs.declared.call.Call.TheVariants.{Begin, Commit, Read, Write}
+use Rattle.norec_world.proofs.Common.{Attempt, Begin, Between, Call, Commit, Done, Entry, Finished, GaveUp, IsRunOf, Props, Read, Rules, Write}
 use Rattle.itm_types.specs.declared.call.Reply.{Reply}
-use Rattle.itm_types.specs.declared.call.Reply.TheVariants.{Done, Bytes, Code, Refused}
-use Rattle.norec_world.specs.declared.attempt.Entry.{Entry}
+use Rattle.itm_types.specs.declared.call.Reply.TheVariants.{Bytes}
 use Rattle.norec_world.specs.declared.attempt.Outcome.TheVariants.{Committed, Conflict, Full}
-use Rattle.norec_world.specs.declared.attempt.Attempt.{Attempt}
-use Rattle.norec_world.specs.declared.attempt.End.TheVariants.{Finished, GaveUp}
 use Rattle.norec_world.specs.declared.fault.WorldFault.TheVariants as faults
 use Rattle.norec_world.specs.Attempts.{memory_after}
 use Rattle.norec_world.specs.WorldEvents.{passes_of}
-use Rattle.norec_world.specs.Opacity.{IsOpaque, IsRunOf, Between}
+use Rattle.norec_world.specs.Opacity.{IsOpaque}
 use Rattle.norec_world.specs.Solo.{solo}
-use Rattle.script_vm.specs.Rules.{Rules}
 
 -- ## A player that adds one to the counter at place 0
 
@@ -56,17 +50,9 @@ call_at (suc (suc zero)) got = Some (Write W 0 (word (suc got)))
 call_at (suc (suc (suc zero))) got = Some Commit
 call_at (suc (suc (suc (suc n)))) got = None
 
-abbrev next : Counter → Option Call
-next p = call_at p.step p.got
-
 abbrev answered : Counter → Reply → Counter
-answered p Done = record { step = suc p.step; got = p.got }
 answered p (Bytes v) = record { step = suc p.step; got = first_byte v.items }
-answered p (Code n) = record { step = suc p.step; got = p.got }
-answered p (Refused r) = record { step = suc p.step; got = p.got }
-
-abbrev restarted : Counter → Counter
-restarted p = record { step = 0; got = 0 }
+answered p r = record { step = suc p.step; got = p.got }
 
 abbrev left_at : ℕ → ℕ
 left_at zero = 4
@@ -75,11 +61,8 @@ left_at (suc (suc zero)) = 2
 left_at (suc (suc (suc zero))) = 1
 left_at (suc (suc (suc (suc n)))) = 0
 
-abbrev left : Counter → ℕ
-left p = left_at p.step
-
 abbrev counter_rules : Rules Counter
-counter_rules = record { next_call = next; answered = answered; restarted = restarted; calls_left = left; depth = λ p. 0 }
+counter_rules = record { next_call = λ p. call_at p.step p.got; answered = answered; restarted = λ p. record { step = 0; got = 0 }; calls_left = λ p. left_at p.step; depth = λ p. 0 }
 
 abbrev fresh : Between Counter
 fresh = record { player = record { step = 0; got = 0 }; arena = []; again = false; tries = 0 }

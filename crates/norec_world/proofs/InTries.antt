@@ -1,7 +1,7 @@
 -- The open attempt, as its calls go on.
-use Rattle.std.proofs.Common.{◌≡◌, ◌≢◌, ℕ, zero, suc, ◌/◌, ◌<◌, ◌≤◌, Bool, true, false, if◌then◌else◌, List, [], ◌∷◌, ◌++◌, map, None, Some, refl, sym, ap, subst, ◌∙◌, arith, length}
-use Rattle.std.proofs.lemmas.List.{append-nil, map-append}
-use Rattle.norec_world.proofs.Common.{Agrees, Attempt, Begin, Beginning, Between, Call, Cas, Commit, Core, Done, Entry, IsAlone, IsMemory, IsTryAt, Load, MAX_DEPTH, Obeys, Outcome, Props, Replied, Replies, Rules, State, Step, Store, after, alone, answers, answers_within, begin_code, begins_at, bytes_at, bytes_of, handed_to, in_transaction, is_open, opened, pair_of, player_then, reply, state_then, turn, word_loaded, words_at}
+use Rattle.std.proofs.Common.{◌≡◌, ◌≢◌, ℕ, zero, suc, ◌/◌, ◌<◌, ◌≤◌, Bool, true, false, if◌then◌else◌, List, [], ◌∷◌, ◌++◌, map, None, Some, refl, sym, ap, subst, ◌∙◌, arith, length, append-nil}
+use Rattle.std.proofs.lemmas.List.{map-append}
+use Rattle.norec_world.proofs.Common.{Agrees, Attempt, Begin, Beginning, Between, Call, Commit, Core, Done, Entry, IsAlone, IsMemory, IsTryAt, Load, MAX_DEPTH, Obeys, Outcome, Props, Replied, Replies, Rules, State, Step, Store, after, alone, answers, answers_within, begin_code, begins_at, bytes_at, bytes_of, handed_to, in_transaction, is_open, opened, pair_of, player_then, reply, state_then, turn, word_loaded, words_at}
 use Rattle.write_set.specs.declared.row.Row.{Row}
 use Rattle.write_set.specs.Rows.{overlay}
 use Rattle.itm_types.specs.declared.call.Reply.TheVariants.{Code}
@@ -16,6 +16,7 @@ use Rattle.norec_world.specs.declared.attempt.Outcome.TheVariants as outcomes
 use Rattle.norec_world.specs.Opacity.{EndsAs, LacksCommit}
 use Rattle.norec_world.specs.Runs.{IsInTry}
 use Rattle.norec_world.proofs.Alones.{begins_alone, alone_snoc, player_snoc, state_snoc, stands_open}
+use Rattle.norec_world.proofs.Solos.{gets_none}
 
 module _ {P : Type 0} (rules : Rules P) (laws : Obeys rules) where
   abbrev InTry : Between P → Attempt → P → Core → Type 0
@@ -30,14 +31,10 @@ module _ {P : Type 0} (rules : Rules P) (laws : Obeys rules) where
       record { start = t.start; begins = t.begins; arena = t.arena; props = t.props; tries = t.tries; began = t.began; anew = t.anew; player = t.player; alone = t.alone; stands = t.stands }
 
   pub try_handed : (b : Between P) (row : Attempt) (p : P) (e : Core) (step : Step) (seen : ℕ) → InTry b row p e → InTry b row p (handed_to e (Some step) seen)
-  try_handed b row p e (Load zero) seen t =
-      record { start = t.start; begins = t.begins; arena = t.arena; props = t.props; tries = t.tries; began = t.began; anew = t.anew; player = t.player; alone = t.alone; stands = t.stands }
   try_handed b row p e (Load (suc word)) seen t = word_handed b row p e e.holds word seen t
   try_handed b row p e (Store zero value) seen t =
       record { start = t.start; begins = t.begins; arena = t.arena; props = t.props; tries = t.tries; began = t.began; anew = t.anew; player = t.player; alone = t.alone; stands = t.stands }
-  try_handed b row p e (Store (suc word) value) seen t =
-      record { start = t.start; begins = t.begins; arena = t.arena; props = t.props; tries = t.tries; began = t.began; anew = t.anew; player = t.player; alone = t.alone; stands = t.stands }
-  try_handed b row p e (Cas cell from to) seen t =
+  try_handed b row p e step seen t =
       record { start = t.start; begins = t.begins; arena = t.arena; props = t.props; tries = t.tries; began = t.began; anew = t.anew; player = t.player; alone = t.alone; stands = t.stands }
 
   -- the attempt is told where it reads
@@ -111,11 +108,7 @@ module _ {P : Type 0} (rules : Rules P) (laws : Obeys rules) where
       ∙ (ap (λ (rest : List (Call × Replied)). map pair_of xs ++ rest) (no_more (rules.calls_left p) (player_then rules.answered p xs) (state_then MAX_DEPTH s xs) shut) ∙ append-nil (map pair_of xs))
     where
       no_more : (k : ℕ) (q : P) (s : State) → is_open s ≡ false → answers_within rules.next_call rules.answered rules.calls_left MAX_DEPTH k q s (turn rules.next_call rules.answered rules.calls_left q s) ≡ []
-      no_more k q s shut = ap (λ (o : Bool). answers_within rules.next_call rules.answered rules.calls_left MAX_DEPTH k q s (if o then rules.next_call q else None)) shut ∙ none_more k
-        where
-          none_more : (k : ℕ) → answers_within rules.next_call rules.answered rules.calls_left MAX_DEPTH k q s None ≡ []
-          none_more zero = refl
-          none_more (suc k) = refl
+      no_more k q s shut = ap (λ (o : Bool). answers_within rules.next_call rules.answered rules.calls_left MAX_DEPTH k q s (if o then rules.next_call q else None)) shut ∙ gets_none rules laws MAX_DEPTH 0 0 k q s
 
   -- its calls are the first of those that its player makes alone on the memory of its position, and all of them where its block has ended
   pub is_try : (n : ℕ) (memory : ℕ → List ℕ) (b : Between P) (start : Beginning P) (row : Attempt) → row.arena ≡ start.arena → row.props ≡ start.props → b.tries < row.nth → row.began ≤ row.at → row.at ≤ n
@@ -236,7 +229,6 @@ module _ {P : Type 0} (rules : Rules P) (laws : Obeys rules) where
 
     pub try_begins : (at : ℕ) → IsInTry rules b (record row { at = at }) (rules.answered p r) new
     try_begins at =
-        let same : new.words ≡ mid.words = ap (λ (c : Core). c.words) g.stays in
         record {
           start = record { player = p; arena = b.arena; props = row.props };
           begins = comes;
@@ -248,7 +240,7 @@ module _ {P : Type 0} (rules : Rules P) (laws : Obeys rules) where
           player = ap (rules.answered p) (entered b.again again) ∙ ap (λ (xs : List Entry). player_then rules.answered (rules.answered p (begin_code b.again)) xs) (sym row_calls);
           alone = λ m memory a. subst (λ (xs : List Entry). IsAlone rules MAX_DEPTH (rules.answered p (begin_code b.again)) (opened (bytes_of m) b.arena row.props) xs) (sym row_calls) tt;
           stands = λ m memory a.
-              g.meets m (subst (λ (n : ℕ). IsMemory n m) same memory) a
+              g.meets m (subst (λ (n : ℕ). IsMemory n m) (ap (λ (c : Core). c.words) g.stays) memory) a
               ∙ (ap (λ (o : List Props). after MAX_DEPTH (state_over mid.writes o mid.arena m) (Begin props room)) (none_inside mid.blocks outside)
               ∙ ((λ i. opened (bytes_of (overlay m (empty i))) (arena i) (sym row_props i)) ∙ ap (λ (xs : List Entry). state_then MAX_DEPTH (opened (bytes_of m) b.arena row.props) xs) (sym row_calls)));
         }

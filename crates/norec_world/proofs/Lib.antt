@@ -19,7 +19,6 @@ pub mod RunBegins
 pub mod Seen
 pub mod Laid
 pub mod RunTaken
-pub mod RunSteps
 pub mod RunCalls
 pub mod RunOthers
 pub mod PlayerLaws
@@ -30,7 +29,6 @@ pub mod TryCalls
 pub mod TryChains
 pub mod LocalWork
 pub mod SoundSteps
-pub mod TrySteps
 pub mod LessLeft
 pub mod Worked
 pub mod Worlds
@@ -43,5 +41,4 @@ pub mod SoleRuns
 pub mod SoleEvents
 pub mod ShownAlone
 pub mod Beginnings
-pub mod Events
 pub mod EventWorlds

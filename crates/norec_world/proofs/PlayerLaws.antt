@@ -1,8 +1,8 @@
 -- The player's laws, over one answer: its depth, where it goes back to, and how much is left to do.
 use Rattle.std.proofs.Common.{◌≡◌, ℕ, ◌+◌, ◌*◌, ◌<◌, ◌≤◌, Bool, true, false, Some, refl, ap, subst, ◌∙◌, arith, if◌then◌else◌}
 use Rattle.std.proofs.Math.Nat.{mul-le-mul_right}
-use Rattle.norec_world.proofs.Common.{Begin, Call, Commit, Done, IsNested, Obeys, Read, Replied, Rules, Write, whole}
-use Rattle.itm_types.specs.declared.call.Reply.TheVariants.{Bytes, Code, Refused}
+use Rattle.norec_world.proofs.Common.{Begin, Call, Commit, Done, IsNested, Obeys, Replied, Rules, whole}
+use Rattle.itm_types.specs.declared.call.Reply.TheVariants.{Code}
 use Rattle.script_vm.specs.Depth.{depth_after, opens}
 use Rattle.norec_world.specs.Sound.{depth_if}
 
@@ -14,10 +14,6 @@ rank_less x x' k c c' less within = let up : x' + 1 ≤ x = omega arith in let m
 pub rank_same : (x x' k c c' : ℕ) → x' ≤ x → c' < c → x' * (k + 1) + c' < x * (k + 1) + c
 rank_same x x' k c c' below less = let m : x' * (k + 1) ≤ x * (k + 1) = mul-le-mul_right (k + 1) below in omega arith
 
--- fewer calls are left in the block
-pub block_less : (w w' r t t' : ℕ) → w' < w → t' ≤ r → w' * (r + 1) + t' < w * (r + 1) + t
-block_less w w' r t t' less within = let up : w' + 1 ≤ w = omega arith in let m : (w' + 1) * (r + 1) ≤ w * (r + 1) = mul-le-mul_right (r + 1) up in omega arith
-
 pub block_same : (w w' r t : ℕ) → w' ≤ w → w' * (r + 1) + t ≤ w * (r + 1) + t
 block_same w w' r t below = let m : w' * (r + 1) ≤ w * (r + 1) = mul-le-mul_right (r + 1) below in omega arith
 
@@ -25,22 +21,9 @@ block_same w w' r t below = let m : w' * (r + 1) ≤ w * (r + 1) = mul-le-mul_ri
 
 -- the accepted begin of an outermost block
 pub opens_at_begin : (c : Call) (r : Replied) → depth_after 0 c r ≡ 1 → opens 0 c r ≡ true
-opens_at_begin (Begin props room) Done e = absurd (cc)
-opens_at_begin (Begin props room) (Bytes value) e = absurd (cc)
 opens_at_begin (Begin props room) (Code n) e = refl
-opens_at_begin (Begin props room) (Refused why) e = absurd (cc)
-opens_at_begin Commit Done e = absurd (omega arith)
-opens_at_begin Commit (Bytes value) e = absurd (omega arith)
 opens_at_begin Commit (Code n) e = absurd (omega arith)
-opens_at_begin Commit (Refused why) e = absurd (omega arith)
-opens_at_begin (Read hint width at) r e = absurd (omega arith)
-opens_at_begin (Write hint at value) r e = absurd (omega arith)
-
-opens_within : (c : Call) (r : Replied) → opens 1 c r ≡ false
-opens_within c r = refl
-
-both : (n : Bool) → n ≡ true → n ≡ false → ⊥
-both n t f = absurd (cc)
+opens_at_begin c r e = absurd (omega arith)
 
 module _ {P : Type 0} (rules : Rules P) (laws : Obeys rules) where
   -- what a player is after a reply, by the blocks that were open and that are now
@@ -94,7 +77,7 @@ module _ {P : Type 0} (rules : Rules P) (laws : Obeys rules) where
 
     pub plays : (was now : Bool) → IsNested rules was p → depth_after (depth_if was) c r ≡ depth_if now → (was ≡ true → now ≡ true) → Played was now p (rules.answered p r)
     plays true true n fits still = within n.depth_is (n.begun refl) (n.less refl) fits
-    plays true false n fits still = absurd (both false (still refl) refl)
+    plays true false n fits still = absurd (let f : false ≡ true = still refl in cc)
     plays false true n fits still = entered n.depth_is fits
     plays false false n fits still = outside n.depth_is fits
 

@@ -1,45 +1,20 @@
 -- An actor's run, once an answer is recorded.
-use Rattle.std.proofs.Common.{◌≡◌, ℕ, ◌+◌, ◌/◌, ◌≤◌, Bool, true, false, nat_lt, if◌then◌else◌, List, [], ◌∷◌, ◌++◌, map, Option, None, Some, refl, sym, ap, subst, ◌∙◌, arith}
-use Rattle.itm_types.specs.declared.call.Call.{Call}
-use Rattle.itm_types.specs.declared.call.Call.TheVariants.{Commit}
-use Rattle.itm_types.specs.declared.call.Reply.{Reply as Replied}
-use Rattle.itm_types.specs.declared.call.Reply.TheVariants.{Done}
-use Rattle.itm_types.specs.Memory.{bytes_of, IsMemory, Agrees}
-use Rattle.itm_model.specs.declared.limits.TheConstants.{MAX_DEPTH}
-use Rattle.itm_model.specs.State.{State}
-use Rattle.itm_model.specs.Machine.{after, is_open, opened, undone, undone_from}
+use Rattle.std.proofs.Common.{◌≡◌, ℕ, ◌+◌, ◌/◌, ◌≤◌, Bool, true, false, nat_lt, if◌then◌else◌, List, [], ◌∷◌, ◌++◌, map, Option, Some, refl, sym, true≢false, ap, subst, ◌∙◌, arith}
+use Rattle.norec_world.proofs.Common.{Actor, Agrees, Attempt, Between, Call, Cells, Commit, Committed, Conflict, Core, Done, Ended, Entry, Full, GaveUp, IsMemory, IsRun, IsRunOf, IsTryAt, MAX_DEPTH, Obeys, Outcome, Ready, Replied, Replies, RepliesTo, Reply, Rows, Rules, State, active_of, after, alone, begin_code, begins_at, bytes_at, bytes_of, ending_of, in_transaction, is_open, of_thread, opened, run_after, state_then, words_at, words_of}
+use Rattle.itm_model.specs.Machine.{undone, undone_from}
 use Rattle.itm_model.specs.State.{Block}
-use Rattle.norec_engine.specs.Core.{Core, in_transaction}
 use Rattle.norec_engine.specs.Stands.{stands_for}
-use Rattle.norec_engine.specs.Proceeds.{Replies, RepliesTo}
-use Rattle.norec_engine.specs.declared.answer.Answer.TheVariants.{Reply, Committed, Conflict, Full}
-use Rattle.norec_world.specs.declared.attempt.Attempt.{Attempt}
 use Rattle.norec_world.specs.declared.attempt.Outcome.TheVariants as outcomes
-use Rattle.norec_world.specs.declared.attempt.End.TheVariants.{GaveUp}
-use Rattle.norec_world.specs.declared.actor.Actor.{Actor}
-use Rattle.norec_world.specs.declared.actor.Status.TheVariants.{Ready, Ended}
-use Rattle.norec_world.specs.Attempts.{of_thread, alone}
-use Rattle.norec_world.specs.declared.attempt.Entry.{Entry}
-use Rattle.norec_world.specs.declared.attempt.Outcome.{Outcome}
-use Rattle.norec_world.specs.Alone.{state_then}
-use Rattle.norec_world.specs.Cells.{words_of, Cells}
-use Rattle.norec_world.specs.Opacity.{Between, EndsAs, answered_all, begin_code, follows, after_try, LacksCommit, IsRunOf, IsTryAt}
-use Rattle.norec_world.specs.Rows.{Rows, active_of}
-use Rattle.norec_world.specs.Status.{ending_of}
+use Rattle.norec_world.specs.Opacity.{EndsAs, answered_all, follows, after_try, LacksCommit}
 use Rattle.norec_world.specs.Records.{StopsAt}
-use Rattle.norec_world.specs.Memories.{bytes_at, words_at}
-use Rattle.norec_world.specs.Runs.{run_after, begins_at, IsInTry, IsRun}
+use Rattle.norec_world.specs.Runs.{IsInTry}
 use Rattle.norec_world.proofs.ActiveRows.{changed_here, row_is_of}
 use Rattle.norec_world.proofs.Alones.{player_snoc, stands_open}
-use Rattle.norec_world.proofs.TryEnds.{none_pending}
+use Rattle.norec_world.proofs.TryEnds.{none_pending, none_retried}
 use Rattle.norec_world.proofs.RunLists.{of_thread_own, run_more, run_still}
 use Rattle.norec_world.proofs.Seen.{HasSeen, memory_at, same_at}
 use Rattle.norec_world.proofs.Taken.{HasAnswered}
 use Rattle.norec_world.proofs.InTries.{try_replies, try_stops, try_commits, left_state, lacks_commit}
-use Rattle.script_vm.specs.Rules.{Obeys, Rules}
-
-both : (n : Bool) → n ≡ true → n ≡ false → ⊥
-both n t f = absurd (cc)
 
 -- a rollback leaves the arena
 undone_arena_from : (s : State) (blocks : List Block) → (undone_from s blocks).arena ≡ s.arena
@@ -49,22 +24,21 @@ undone_arena_from s (b ∷ bs) = undone_arena_from (record s { memory = b.saved.
 undone_arena : (s : State) → (undone s).arena ≡ s.arena
 undone_arena s = undone_arena_from s s.blocks
 
+-- the run of the thread over these attempts, where it stands then, and both under other names
+module _ {P : Type 0} (rules : Rules P) (first : Between P) (base : List ℕ) where
+  abbrev pub RunOf : ℕ → List Attempt → ℕ → Type 0
+  RunOf n ended thread = IsRunOf rules MAX_DEPTH n (bytes_at base ended) (Some first) (of_thread thread ended)
+
+  abbrev pub now_at : List Attempt → ℕ → Option (Between P)
+  now_at ended thread = run_after rules (bytes_at base ended) (Some first) (of_thread thread ended)
+
+  pub run_same : (n : ℕ) (xs ys : List Attempt) (t u : ℕ) → ys ≡ xs → u ≡ t → RunOf n xs t → RunOf n ys u
+  run_same n xs ys t u e f h = subst (λ (l : List Attempt). RunOf n l u) (sym e) (subst (RunOf n xs) (sym f) h)
+
 module _ {P : Type 0} (rules : Rules P) (laws : Obeys rules) (first : Between P) (base : List ℕ) (cells cells' : Cells) (r r1 : Rows) (mid : Core) (a last : Actor P) (call : Call)
     (seen : HasSeen base cells cells' r mid a.engine) (run : IsRun rules first base (cells.clock / 2) r (record a { engine = mid })) where
   abbrev n : ℕ
   n = cells.clock / 2
-
-  abbrev Run : ℕ → Rows → Actor P → Type 0
-  Run k rows x = IsRun rules first base k rows x
-
-  abbrev RunOf : List Attempt → ℕ → Type 0
-  RunOf ended thread = IsRunOf rules MAX_DEPTH (cells.clock / 2) (bytes_at base ended) (Some first) (of_thread thread ended)
-
-  abbrev now_at : List Attempt → ℕ → Option (Between P)
-  now_at ended thread = run_after rules (bytes_at base ended) (Some first) (of_thread thread ended)
-
-  run_same : (xs ys : List Attempt) (t u : ℕ) → ys ≡ xs → u ≡ t → RunOf xs t → RunOf ys u
-  run_same xs ys t u e f h = subst (λ (l : List Attempt). RunOf l u) (sym e) (subst (RunOf xs) (sym f) h)
 
   -- ## A call of an open transaction has its reply
 
@@ -78,7 +52,7 @@ module _ {P : Type 0} (rules : Rules P) (laws : Obeys rules) (first : Between P)
     with_call : Attempt → Attempt
     with_call x = record x { calls = x.calls ++ record { call = call; reply = reply } ∷ [] }
 
-    pub reply_runs : Run n r1 last
+    pub reply_runs : IsRun rules first base n r1 last
     unfolding with_call
     reply_runs =
         let t = run.inside inside in
@@ -86,19 +60,18 @@ module _ {P : Type 0} (rules : Rules P) (laws : Obeys rules) (first : Between P)
         let earlier = t.4.began in
         let try = try_replies rules laws t.0 t.1 a.player mid a.engine call reply t.4 inside m.answered.in_call.asks g (let up = seen.up inside in omega arith) (seen.fewer (g.still inside)) in
         let row : Attempt = with_call t.1 in
-        let still_open : in_transaction last.engine ≡ true = ap in_transaction m.settled.engine ∙ g.still inside in
         record {
-          run = run_same r.ended r1.ended a.thread last.thread ended m.settled.thread run.run;
+          run = run_same rules first base n r.ended r1.ended a.thread last.thread ended m.settled.thread run.run;
           inside = λ o. (
             t.0,
             row,
-            (λ i. now_at (ended i) (m.settled.thread i)) ∙ t.2,
+            (λ i. now_at rules first base (ended i) (m.settled.thread i)) ∙ t.2,
             ap (λ (k : ℕ). active_of k r1.active) m.settled.thread ∙ (ap (λ (x : Rows). active_of a.thread x.active) m.told.0 ∙ changed_here a.thread with_call r.active t.1 (λ x. refl) t.3),
             subst (λ (c : Core). IsInTry rules t.0 row last.player c) (sym m.settled.engine) (subst (λ (q : P). IsInTry rules t.0 row q a.engine) (sym m.told.1) try),
             m.told.2 ∙ t.5,
             t.6 ∙ sym m.told.3,
           );
-          between = λ o. absurd (both (in_transaction last.engine) still_open o);
+          between = λ o. absurd (true≢false (sym (ap in_transaction m.settled.engine ∙ g.still inside) ∙ o));
         }
 
   -- ## An attempt ends
@@ -140,22 +113,19 @@ module _ {P : Type 0} (rules : Rules P) (laws : Obeys rules) (first : Between P)
           let t = run.inside inside in
           left_state rules laws (bytes_at base r1.ended at) t.0 t.1 a.player mid call (words_at base r.ended at) t.4 inside m.ends.outermost m.answered.in_call.asks m.answered.fits.2 (memory_at seen at at_most) bytes_same commit_agrees n' at wrote a.engine m.ends
 
-      pub commit_runs : Run n' r1 last
+      pub commit_runs : IsRun rules first base n' r1 last
       commit_runs =
           let t = run.inside inside in
           let try = try_commits rules laws (bytes_at base r1.ended at) t.0 t.1 a.player mid call (words_at base r.ended at) t.4 inside m.ends.outermost m.answered.in_call.asks m.answered.fits.2 (memory_at seen at at_most) bytes_same commit_agrees n' at wrote a.engine m.ends
           (bytes_at base r1.ended) refl (let e = t.4.began in let is = m.ends.at_is in omega arith) (omega (arith, at_most, later)) in
           let over = ended_run _ (row_is_of a.thread r.active t.1 t.3) commit_ended m.settled.thread try in
-          let closed : in_transaction last.engine ≡ false = ap in_transaction m.settled.engine ∙ m.answered.fits.1 in
-          let ready : last.status ≡ Ready = m.told.4 ∙ m.answered.status in
-          let nothing = none_pending rules r r1 a last true m.settled ready in
           let arena : (alone MAX_DEPTH (bytes_at base r1.ended at) (record t.1 { calls = t.1.calls ++ record { call = call; reply = Done } ∷ []; at = at; outcome = if wrote then outcomes.Committed else outcomes.ReadOnly })).arena ≡ last.engine.arena =
           ap (λ (x : State). x.arena) commit_left ∙ (sym (m.ends.arena_is (words_at base r.ended at)) ∙ ap (λ (c : Core). c.arena) (sym m.settled.engine)) in
           let player : answered_all rules.answered (rules.answered t.4.start.player (begin_code t.0.again)) (map (λ (x : Entry). x.reply) (t.1.calls ++ record { call = call; reply = Done } ∷ [])) ≡ last.player =
           player_snoc rules.answered (rules.answered t.4.start.player (begin_code t.0.again)) t.1.calls (record { call = call; reply = Done }) ∙ (ap (λ (q : P). rules.answered q Done) (sym t.4.player) ∙ sym m.told.1) in
           record {
             run = over.0;
-            inside = λ o. absurd (both (in_transaction last.engine) o closed);
+            inside = λ o. absurd (true≢false (sym o ∙ (ap in_transaction m.settled.engine ∙ m.answered.fits.1)));
             between = λ o gave_up starved. (
               record { player = last.player; arena = last.engine.arena; again = false; tries = 0 },
               over.1 ∙ (follows_commit wrote (rules.answered t.4.start.player (begin_code t.0.again)) _ _ ∙ (λ i. Some (record { player = player i; arena = arena i; again = false; tries = 0 }))),
@@ -164,7 +134,7 @@ module _ {P : Type 0} (rules : Rules P) (laws : Obeys rules) (first : Between P)
                 arena = refl;
                 again = m.told.2;
                 tries = (let one = m.told.3 in omega arith);
-                pending = λ x e. absurd (let none = sym nothing ∙ e in cc);
+                pending = λ x e. absurd (let none = sym (none_pending rules r r1 a last true m.settled (m.told.4 ∙ m.answered.status)) ∙ e in cc);
               },
             );
           }
@@ -211,7 +181,7 @@ module _ {P : Type 0} (rules : Rules P) (laws : Obeys rules) (first : Between P)
 
     -- in conflict: its player goes back to its begin
     module _ (clock : ℕ) (word : Option ℕ) (m : HasAnswered rules true cells cells' r r1 mid a last call (Conflict clock word)) where
-      pub conflict_runs : Run n' r1 last
+      pub conflict_runs : IsRun rules first base n' r1 last
       conflict_runs =
           let t = run.inside inside in
           let k : ℕ = last.engine.snapshot / 2 in
@@ -221,13 +191,12 @@ module _ {P : Type 0} (rules : Rules P) (laws : Obeys rules) (first : Between P)
           let agrees = subst (λ (j : ℕ). Agrees (words_at base r.ended (j / 2)) mid.log) (sym snapshot) (seen.logged inside) in
           let over = stop_run k outcomes.Conflict (λ x o. o) m.settled.thread m.told.0 (omega arith) (omega arith) agrees (λ f. absurd (cc)) in
           let state = stop_left k outcomes.Conflict (λ x o. o) m.settled.thread m.told.0 (omega arith) (omega arith) agrees in
-          let closed : in_transaction last.engine ≡ false = ap in_transaction m.settled.engine ∙ m.answered.fits.1 in
           let player : rules.restarted (answered_all rules.answered (rules.answered t.4.start.player (begin_code t.0.again)) (map (λ (x : Entry). x.reply) t.1.calls)) ≡ last.player = ap rules.restarted (sym t.4.player) ∙ sym m.told.1 in
           let arena : (undone (alone MAX_DEPTH (bytes_at base r1.ended k) (record t.1 { at = k; outcome = outcomes.Conflict }))).arena ≡ last.engine.arena =
           undone_arena (alone MAX_DEPTH (bytes_at base r1.ended k) (record t.1 { at = k; outcome = outcomes.Conflict })) ∙ (ap (λ (x : State). x.arena) state ∙ (ap (λ (c : Core). c.arena) (sym m.ends.stays) ∙ ap (λ (c : Core). c.arena) (sym m.settled.engine))) in
           record {
             run = over.0;
-            inside = λ o. absurd (both (in_transaction last.engine) o closed);
+            inside = λ o. absurd (true≢false (sym o ∙ (ap in_transaction m.settled.engine ∙ m.answered.fits.1)));
             between = λ o gave_up starved. (
               record { player = last.player; arena = last.engine.arena; again = true; tries = t.1.nth },
               over.1 ∙ (λ i. Some (record { player = player i; arena = arena i; again = true; tries = t.1.nth })),
@@ -236,7 +205,7 @@ module _ {P : Type 0} (rules : Rules P) (laws : Obeys rules) (first : Between P)
                 arena = refl;
                 again = m.told.2.again ∙ t.5;
                 tries = (let more = one_more (nat_lt a.retries a.nth) m.told.2.nth m.told.2.status gave_up in let same_try = t.6 in omega arith);
-                pending = λ x e. absurd (let none = sym (nothing gave_up) ∙ e in cc);
+                pending = λ x e. absurd (let none = sym (none_retried rules r r1 a last true m.settled m.told.2 m.answered.status gave_up) ∙ e in cc);
               },
             );
           }
@@ -245,24 +214,16 @@ module _ {P : Type 0} (rules : Rules P) (laws : Obeys rules) (first : Between P)
           one_more true e f gave_up = absurd (gave_up (ap ending_of f))
           one_more false e f gave_up = e
 
-          ready : (w : Bool) → last.status ≡ (if w then Ended GaveUp else a.status) → (ending_of last.status ≡ Some GaveUp → ⊥) → last.status ≡ Ready
-          ready true f gave_up = absurd (gave_up (ap ending_of f))
-          ready false f gave_up = f ∙ m.answered.status
-
-          nothing : (ending_of last.status ≡ Some GaveUp → ⊥) → last.pending ≡ None
-          nothing gave_up = none_pending rules r r1 a last true m.settled (ready (nat_lt a.retries a.nth) m.told.2.status gave_up)
-
     -- as full: the actor gives up
     module _ (at : ℕ) (m : HasAnswered rules true cells cells' r r1 mid a last call (Full at)) (older : (run.inside inside).1.began ≤ at) (newer : at ≤ cells.clock / 2) where
-      pub full_runs : Run n' r1 last
+      pub full_runs : IsRun rules first base n' r1 last
       full_runs =
           let t = run.inside inside in
           let is : call ≡ Commit = (let doing : Some Commit ≡ Some call = sym m.ends.doing ∙ m.taken.doing in cc) in
           let agrees = subst (λ (k : ℕ). Agrees (words_at base r.ended k) mid.log) (sym m.ends.at_is) (seen.still inside) in
-          let closed : in_transaction last.engine ≡ false = ap in_transaction m.settled.engine ∙ m.answered.fits.1 in
           record {
             run = (stop_run at outcomes.Full (λ x o. o) m.settled.thread m.told.0 older newer agrees
                 (λ f. lacks_commit rules laws (bytes_at base r1.ended at) t.0 t.1 a.player mid call (words_at base r.ended at) t.4 inside m.ends.outermost m.answered.in_call.asks is (memory_at seen at newer) (same_at seen at newer ∙ sym (still at newer)) agrees m.ends.some)).0;
-            inside = λ o. absurd (both (in_transaction last.engine) o closed);
+            inside = λ o. absurd (true≢false (sym o ∙ (ap in_transaction m.settled.engine ∙ m.answered.fits.1)));
             between = λ o gave_up starved. absurd (gave_up (ap ending_of m.told.1));
           }

@@ -1,6 +1,6 @@
 -- An actor's run between two tries: calls outside a transaction, and begins.
-use Rattle.std.proofs.Common.{◌≡◌, ℕ, zero, suc, ◌+◌, ◌/◌, ◌≤◌, Bool, true, false, nat_lt, if◌then◌else◌, List, [], Option, None, Some, refl, sym, ap, subst, ◌∙◌, arith, is_some}
-use Rattle.norec_world.proofs.Common.{Actor, Agrees, Answer, Attempt, Begin, Beginning, Between, Busy, Call, Cells, Commit, Committed, Conflict, Core, Ended, Full, GaveUp, IsMemory, IsRun, IsRunOf, MAX_DEPTH, Obeys, Opens, Props, Read, Ready, Replied, Replies, RepliesTo, Reply, Rows, Rules, Write, active_of, begin_of, bytes_at, ending_of, in_transaction, is_begin, of_thread, reply, run_after, with_opened, words_at}
+use Rattle.std.proofs.Common.{◌≡◌, ℕ, zero, suc, ◌+◌, ◌/◌, ◌≤◌, Bool, true, false, nat_lt, if◌then◌else◌, List, [], Option, None, Some, refl, sym, true≢false, ap, subst, ◌∙◌, arith, is_some}
+use Rattle.norec_world.proofs.Common.{Actor, Agrees, Answer, Attempt, Begin, Beginning, Between, Busy, Call, Cells, Core, IsMemory, IsRun, MAX_DEPTH, Obeys, Opens, Props, Ready, Replied, Replies, RepliesTo, Reply, Rows, Rules, active_of, begin_of, ending_of, in_transaction, is_begin, reply, with_opened, words_at}
 use Rattle.itm_types.specs.declared.call.Refusal.TheVariants.{Outside}
 use Rattle.itm_types.specs.declared.call.Reply.TheVariants.{Refused}
 use Rattle.norec_engine.proofs.Overlays.{Agrees-drop}
@@ -11,15 +11,13 @@ use Rattle.norec_world.specs.Opacity.{begin_within}
 use Rattle.norec_world.specs.Records.{again_after}
 use Rattle.norec_world.specs.Runs.{IsInTry, IsBeforeTry}
 use Rattle.norec_world.proofs.ActiveRows.{opened_here}
-use Rattle.norec_world.proofs.Solos.{comes_past}
+use Rattle.norec_world.proofs.RunAnswers.{now_at, run_same}
+use Rattle.norec_world.proofs.Solos.{comes_past, same_some}
 use Rattle.norec_world.proofs.RecordedRows.{was_open}
-use Rattle.norec_world.proofs.TryEnds.{none_pending, begin_call, begin_opens}
+use Rattle.norec_world.proofs.TryEnds.{none_pending, none_retried, begin_call, begin_opens}
 use Rattle.norec_world.proofs.Seen.{HasSeen, memory_at}
 use Rattle.norec_world.proofs.Taken.{HasAnswered}
 use Rattle.norec_world.proofs.InTries.{try_begins}
-
-both : (n : Bool) → n ≡ true → n ≡ false → ⊥
-both n t f = absurd (cc)
 
 module _ {P : Type 0} (rules : Rules P) (laws : Obeys rules) where
   abbrev comes_to : P → List ℕ → Option (Beginning P)
@@ -28,9 +26,7 @@ module _ {P : Type 0} (rules : Rules P) (laws : Obeys rules) where
   -- a call outside a transaction that begins none is refused, and leads on
   past_outside : (p : P) (arena : List ℕ) (c : Call) → rules.next_call p ≡ Some c → is_begin c ≡ false → comes_to p arena ≡ comes_to (rules.answered p (Refused Outside)) arena
   past_outside p arena (Begin props room) e nb = absurd (cc)
-  past_outside p arena Commit e nb = comes_past rules laws MAX_DEPTH 0 0 (rules.calls_left p) (record { player = p; arena = arena; memory = []; commits = 0 }) Commit e nb (omega arith)
-  past_outside p arena (Read hint width at) e nb = comes_past rules laws MAX_DEPTH 0 0 (rules.calls_left p) (record { player = p; arena = arena; memory = []; commits = 0 }) (Read hint width at) e nb (omega arith)
-  past_outside p arena (Write hint at value) e nb = comes_past rules laws MAX_DEPTH 0 0 (rules.calls_left p) (record { player = p; arena = arena; memory = []; commits = 0 }) (Write hint at value) e nb (omega arith)
+  past_outside p arena c e nb = comes_past rules laws MAX_DEPTH 0 0 (rules.calls_left p) (record { player = p; arena = arena; memory = []; commits = 0 }) c e nb (omega arith)
 
   -- a begin that the player calls is where it comes to
   pub begin_here : (p : P) (arena : List ℕ) (props : Props) (room : ℕ) → rules.next_call p ≡ Some (Begin props room) → comes_to p arena ≡ Some (record { player = p; arena = arena; props = props })
@@ -47,9 +43,7 @@ module _ {P : Type 0} (rules : Rules P) (laws : Obeys rules) where
     where
       refused : (c : Call) → is_begin c ≡ false → reply MAX_DEPTH (state_over mid.writes [] mid.arena m) c ≡ Refused Outside
       refused (Begin props room) nb = absurd (cc)
-      refused Commit nb = refl
-      refused (Read hint width at) nb = refl
-      refused (Write hint at value) nb = refl
+      refused c nb = refl
 
       coded : (w : Bool) → recoded w (Refused Outside) ≡ Refused Outside
       coded true = refl
@@ -57,20 +51,8 @@ module _ {P : Type 0} (rules : Rules P) (laws : Obeys rules) where
 
 module _ {P : Type 0} (rules : Rules P) (laws : Obeys rules) (first : Between P) (base : List ℕ) (cells cells' : Cells) (r r1 : Rows) (mid : Core) (a last : Actor P) (call : Call)
     (seen : HasSeen base cells cells' r mid a.engine) (run : IsRun rules first base (cells.clock / 2) r (record a { engine = mid })) where
-  abbrev Run : ℕ → Rows → Actor P → Type 0
-  Run k rows x = IsRun rules first base k rows x
-
-  abbrev RunOf : List Attempt → ℕ → Type 0
-  RunOf ended thread = IsRunOf rules MAX_DEPTH (cells.clock / 2) (bytes_at base ended) (Some first) (of_thread thread ended)
-
-  abbrev now_at : List Attempt → ℕ → Option (Between P)
-  now_at ended thread = run_after rules (bytes_at base ended) (Some first) (of_thread thread ended)
-
-  run_same : (xs ys : List Attempt) (t u : ℕ) → ys ≡ xs → u ≡ t → RunOf xs t → RunOf ys u
-  run_same xs ys t u e f h = subst (λ (l : List Attempt). RunOf l u) (sym e) (subst (RunOf xs) (sym f) h)
-
   -- where the actor stands before the answer
-  before : in_transaction mid ≡ false → a.status ≡ Ready → (b : Between P) × (now_at r.ended a.thread ≡ Some b) × IsBeforeTry rules (cells.clock / 2) b (record a { engine = mid })
+  before : in_transaction mid ≡ false → a.status ≡ Ready → (b : Between P) × (now_at rules first base r.ended a.thread ≡ Some b) × IsBeforeTry rules (cells.clock / 2) b (record a { engine = mid })
   before outside ready = run.between outside (λ e. absurd (let x = sym (ap ending_of ready) ∙ e in cc)) (λ e. absurd (let x = sym (ap ending_of ready) ∙ e in cc))
 
   -- ## A reply outside a transaction
@@ -95,25 +77,24 @@ module _ {P : Type 0} (rules : Rules P) (laws : Obeys rules) (first : Between P)
     empty_log : in_transaction last.engine ≡ false → Agrees cells'.words a.engine.log
     empty_log o = subst (Agrees cells'.words) (sym (m.taken.tied.settled.closed (shut o)).0) tt
 
-    outside_runs : is_begin call ≡ false → in_transaction last.engine ≡ false → r1.ended ≡ r.ended → Run (cells.clock / 2) r1 last
+    outside_runs : is_begin call ≡ false → in_transaction last.engine ≡ false → r1.ended ≡ r.ended → IsRun rules first base (cells.clock / 2) r1 last
     outside_runs other closed ended =
         let t = before outside m.answered.status in
         let k = t.2 in
         let refused = refused_outside rules laws mid a.engine call reply cells'.words g other outside memory (empty_log closed) in
         let arena : last.engine.arena ≡ mid.arena = ap (λ (c : Core). c.arena) (m.settled.engine ∙ g.stays) in
-        let nothing = none_pending rules r r1 a last false m.settled ready in
         record {
-          run = run_same r.ended r1.ended a.thread last.thread ended m.settled.thread run.run;
-          inside = λ o. absurd (both (in_transaction last.engine) o closed);
+          run = run_same rules first base (cells.clock / 2) r.ended r1.ended a.thread last.thread ended m.settled.thread run.run;
+          inside = λ o. absurd (true≢false (sym o ∙ closed));
           between = λ o gave_up starved. (
             t.0,
-            (λ i. now_at (ended i) (m.settled.thread i)) ∙ t.1,
+            (λ i. now_at rules first base (ended i) (m.settled.thread i)) ∙ t.1,
             record {
               leads = k.leads ∙ (past_outside rules laws a.player t.0.arena call m.answered.in_call.asks other ∙ (ap (λ (x : Replied). comes_to rules laws (rules.answered a.player x) t.0.arena) (sym refused) ∙ ap (λ (q : P). comes_to rules laws q t.0.arena) (sym m.told.1)));
               arena = arena ∙ k.arena;
               again = agains (in_transaction last.engine) closed m.told.2 ∙ k.again;
               tries = (let nth = m.told.3 in let fewer = k.tries in omega arith);
-              pending = λ x e. absurd (let none = sym nothing ∙ e in cc);
+              pending = λ x e. absurd (let none = sym (none_pending rules r r1 a last false m.settled ready) ∙ e in cc);
             },
           );
         }
@@ -123,7 +104,7 @@ module _ {P : Type 0} (rules : Rules P) (laws : Obeys rules) (first : Between P)
         agains false e f = f
 
     -- an accepted begin
-    begin_runs : (row : Attempt) → a.pending ≡ Some row → (props : Props) (room : ℕ) → call ≡ Begin props room → in_transaction last.engine ≡ true → r1 ≡ with_opened (record row { at = last.engine.snapshot / 2 }) r → Run (cells.clock / 2) r1 last
+    begin_runs : (row : Attempt) → a.pending ≡ Some row → (props : Props) (room : ℕ) → call ≡ Begin props room → in_transaction last.engine ≡ true → r1 ≡ with_opened (record row { at = last.engine.snapshot / 2 }) r → IsRun rules first base (cells.clock / 2) r1 last
     begin_runs row pending props room is opened rows =
         let now : in_transaction a.engine ≡ true = ap in_transaction (sym m.settled.engine) ∙ opened in
         let late = seen.opens outside now in
@@ -136,40 +117,37 @@ module _ {P : Type 0} (rules : Rules P) (laws : Obeys rules) (first : Between P)
         let ended : r1.ended ≡ r.ended = ap (λ (x : Rows). x.ended) rows in
         let g' : Replies mid (Begin props room) reply a.engine = subst (λ (c : Call). Replies mid c reply a.engine) is g in
         let asks : rules.next_call a.player ≡ Some (Begin props room) = m.answered.in_call.asks ∙ ap (λ (c : Call). Some c) is in
-        let props_same : row.props ≡ props = (let both_begin = sym p.3 ∙ (k.leads ∙ begin_here rules laws a.player t.0.arena props room asks) in ap (λ (x : Beginning P). x.props) (some_same _ _ both_begin)) in
+        let props_same : row.props ≡ props = (let both_begin = sym p.3 ∙ (k.leads ∙ begin_here rules laws a.player t.0.arena props room asks) in ap (λ (x : Beginning P). x.props) (same_some both_begin)) in
         let try = try_begins rules laws t.0 row a.player mid a.engine props room reply p.3 p.1 props_same p.2 (let nth = q.nth in let fewer = k.tries in omega arith) outside (m.taken.empty refl) k.arena p.4 g'
         (let early = p.0 in omega arith) (words_at base r.ended (a.engine.snapshot / 2)) (memory_at seen (a.engine.snapshot / 2) k_late) (seen.now now) at in
         let free : active_of row.thread r.active ≡ None = ap (λ (u : ℕ). active_of u r.active) q.thread ∙ m.answered.kept.row in
         record {
-          run = run_same r.ended r1.ended a.thread last.thread ended m.settled.thread run.run;
+          run = run_same rules first base (cells.clock / 2) r.ended r1.ended a.thread last.thread ended m.settled.thread run.run;
           inside = λ o. (
             t.0,
             record row { at = at },
-            (λ i. now_at (ended i) (m.settled.thread i)) ∙ t.1,
+            (λ i. now_at rules first base (ended i) (m.settled.thread i)) ∙ t.1,
             ap (λ (u : ℕ). active_of u r1.active) (m.settled.thread ∙ sym q.thread) ∙ (ap (λ (x : Rows). active_of row.thread x.active) rows ∙ opened_here (record row { at = at }) r.active free),
             subst (λ (c : Core). IsInTry rules t.0 (record row { at = at }) last.player c) (sym m.settled.engine) (subst (λ (x : P). IsInTry rules t.0 (record row { at = at }) x a.engine) (sym m.told.1) try),
             agains (in_transaction last.engine) opened a.pending pending m.told.2,
             q.nth ∙ sym m.told.3,
           );
-          between = λ o. absurd (both (in_transaction last.engine) opened o);
+          between = λ o. absurd (true≢false (sym opened ∙ o));
         }
       where
-        some_same : (x y : Beginning P) → Some x ≡ Some y → x ≡ y
-        some_same x y e = cc
-
         agains : (o : Bool) → o ≡ true → (x : Option Attempt) → x ≡ Some row → last.again ≡ again_after o x a.again → last.again ≡ true
         agains true e (Some y) f h = h
         agains true e None f h = absurd (cc)
         agains false e x f h = absurd (cc)
 
     -- of no open transaction
-    reply_shut : Run (cells.clock / 2) r1 last
+    reply_shut : IsRun rules first base (cells.clock / 2) r1 last
     reply_shut = by_open (in_transaction last.engine) refl a.pending refl m.told.0
       where
         begins : (row : Attempt) → a.pending ≡ Some row → is_begin call ≡ true
         begins row p = sym (m.answered.in_call.begins refl) ∙ ap is_some p
 
-        by_open : (o : Bool) → in_transaction last.engine ≡ o → (p : Option Attempt) → a.pending ≡ p → Opens o r p (last.engine.snapshot / 2) r1 → Run (cells.clock / 2) r1 last
+        by_open : (o : Bool) → in_transaction last.engine ≡ o → (p : Option Attempt) → a.pending ≡ p → Opens o r p (last.engine.snapshot / 2) r1 → IsRun rules first base (cells.clock / 2) r1 last
         by_open true o (Some row) p told = (let c = begin_call call (begins row p) in begin_runs row p c.0 c.1 c.2 o told)
         by_open true o None p told =
             let now = ap in_transaction (sym m.settled.engine) ∙ o in
@@ -181,24 +159,23 @@ module _ {P : Type 0} (rules : Rules P) (laws : Obeys rules) (first : Between P)
 
   -- ## A begin found the clock odd once too often
 
-  busy_runs : (clock : ℕ) (m : HasAnswered rules false cells cells' r r1 mid a last call (Busy clock)) → Run (cells.clock / 2) r1 last
+  busy_runs : (clock : ℕ) (m : HasAnswered rules false cells cells' r r1 mid a last call (Busy clock)) → IsRun rules first base (cells.clock / 2) r1 last
   busy_runs clock m =
       let t = before m.ends.closed m.answered.status in
       let k = t.2 in
-      let closed : in_transaction last.engine ≡ false = ap in_transaction m.settled.engine ∙ m.answered.fits.1 in
       let ended : r1.ended ≡ r.ended = ap (λ (x : Rows). x.ended) m.told.0 in
       record {
-        run = run_same r.ended r1.ended a.thread last.thread ended m.settled.thread run.run;
-        inside = λ o. absurd (both (in_transaction last.engine) o closed);
+        run = run_same rules first base (cells.clock / 2) r.ended r1.ended a.thread last.thread ended m.settled.thread run.run;
+        inside = λ o. absurd (true≢false (sym o ∙ (ap in_transaction m.settled.engine ∙ m.answered.fits.1)));
         between = λ o gave_up starved. (
           t.0,
-          (λ i. now_at (ended i) (m.settled.thread i)) ∙ t.1,
+          (λ i. now_at rules first base (ended i) (m.settled.thread i)) ∙ t.1,
           record {
             leads = k.leads ∙ ap (λ (q : P). comes_to rules laws q t.0.arena) (sym m.told.1);
             arena = ap (λ (c : Core). c.arena) (m.settled.engine ∙ m.ends.stays) ∙ k.arena;
             again = m.told.2.again ∙ k.again;
             tries = (let more = no_less (nat_lt a.retries a.nth) m.told.2.nth in let fewer = k.tries in omega arith);
-            pending = λ x e. absurd (let none = sym (none_pending rules r r1 a last false m.settled (ready (nat_lt a.retries a.nth) m.told.2.status gave_up)) ∙ e in cc);
+            pending = λ x e. absurd (let none = sym (none_retried rules r r1 a last false m.settled m.told.2 m.answered.status gave_up) ∙ e in cc);
           },
         );
       }
@@ -207,13 +184,7 @@ module _ {P : Type 0} (rules : Rules P) (laws : Obeys rules) (first : Between P)
       no_less true e = omega arith
       no_less false e = omega arith
 
-      ready : (w : Bool) → last.status ≡ (if w then Ended GaveUp else a.status) → (ending_of last.status ≡ Some GaveUp → ⊥) → last.status ≡ Ready
-      ready true f gave_up = absurd (gave_up (ap ending_of f))
-      ready false f gave_up = f ∙ m.answered.status
-
-  pub shut_runs : (answer : Answer) → HasAnswered rules false cells cells' r r1 mid a last call answer → Run (cells.clock / 2) r1 last
+  pub shut_runs : (answer : Answer) → HasAnswered rules false cells cells' r r1 mid a last call answer → IsRun rules first base (cells.clock / 2) r1 last
   shut_runs (Reply reply) m = reply_shut reply m
-  shut_runs (Committed at wrote) m = absurd (let f : false ≡ true = m.answered.fits.0 in cc)
-  shut_runs (Conflict clock word) m = absurd (let f : false ≡ true = m.answered.fits.0 in cc)
   shut_runs (Busy clock) m = busy_runs clock m
-  shut_runs (Full at) m = absurd (let f : false ≡ true = m.answered.fits.0 in cc)
+  shut_runs answer m = absurd (let f : false ≡ true = m.answered.fits.0 in cc)

@@ -1,22 +1,22 @@
--- An actor's run over a call, up to its first step.
-use Rattle.std.proofs.Common.{◌≡◌, ℕ, ◌/◌, ◌≤◌, ◌&&◌, Bool, true, false, not, List, [], ◌∷◌, ◌++◌, Some, refl, sym, ap, subst, ◌∙◌, arith}
-use Rattle.norec_world.proofs.Common.{Actor, Answer, AreCounted, AreLaid, Attempt, Begin, Between, Busy, Call, Cells, Commit, Committed, Conflict, Core, End, Ended, Full, IsDone, IsRun, IsRunOf, IsSound, MAX_DEPTH, Next, Obeys, Read, Ready, Reply, Rows, Rules, Sees, Tells, Write, active_of, asked_pending, begin_of, begins_again, begins_at, bytes_at, ending_of, in_transaction, of_thread, run_after, words_at}
+-- An actor's run over a call, up to its first step, and over a step.
+use Rattle.std.proofs.Common.{◌≡◌, ℕ, ◌/◌, ◌≤◌, ◌&&◌, Bool, true, false, not, List, [], ◌∷◌, ◌++◌, Some, refl, sym, true≢false, ap, subst, ◌∙◌, arith, None}
+use Rattle.std.proofs.lemmas.Bool.{and_right, not_from_true}
+use Rattle.norec_world.proofs.Common.{Actor, Answer, AreCounted, AreLaid, Attempt, Begin, Between, Call, Cells, Commit, Core, End, Ended, HasRow, IsDone, IsRun, IsRunOf, IsSound, IsTold, MAX_DEPTH, Next, Obeys, Ready, Reply, Rows, Rules, Sees, Status, Step, Tells, active_of, asked_pending, begin_of, begins_again, begins_at, bytes_at, ending_of, found, handed_is, handed_to, in_transaction, is_inside, of_thread, run_after, words_at}
 use Rattle.norec_world.specs.declared.attempt.Outcome.TheVariants as outcomes
 use Rattle.norec_world.specs.declared.attempt.End.TheVariants as ends
 use Rattle.norec_world.specs.Runs.{IsBeforeTry, RunsFrom}
 use Rattle.norec_world.proofs.ActiveRows.{changed_here}
-use Rattle.norec_world.proofs.SoundCalls.{IsCalling, call_taken, mid, rests}
+use Rattle.norec_world.proofs.SoundCalls.{IsCalling, active_same, call_taken, ended_same, mid, rests}
 use Rattle.norec_world.proofs.Memories.{bytes_still}
 use Rattle.norec_world.proofs.Laid.{laid_on, laid_same}
 use Rattle.norec_world.proofs.RunTaken.{runs_recorded}
-use Rattle.norec_world.proofs.Seen.{HasSeen, call_seen}
-use Rattle.norec_world.proofs.Taken.{HasAnswered, recorded}
+use Rattle.norec_world.proofs.Seen.{HasSeen, call_seen, step_seen}
+use Rattle.norec_world.proofs.Taken.{HasAnswered, recorded, now}
 use Rattle.norec_world.specs.LocalWork.{Starves}
-use Rattle.norec_world.proofs.RunAnswers.{stop_run}
+use Rattle.norec_world.proofs.RunAnswers.{RunOf, now_at, run_same, stop_run}
 use Rattle.norec_world.proofs.RunBegins.{begin_here}
-
-both : (n : Bool) → n ≡ true → n ≡ false → ⊥
-both n t f = absurd (cc)
+use Rattle.norec_world.proofs.InTries.{try_handed, try_told}
+use Rattle.norec_world.proofs.SoundSteps.{IsStepping, mid as mid_step, same, step_taken, waits}
 
 -- ## The player has no more calls
 
@@ -42,19 +42,8 @@ module _ {P : Type 0} {rules : Rules P} {cells : Cells} {r0 : Rows} {old : Actor
 
 module _ {P : Type 0} {rules : Rules P} (laws : Obeys rules) {cells : Cells} {r0 r : Rows} {old a : Actor P} {call : Call} {what : Next} (m : IsCalling rules cells r0 r old a call what)
     (first : Between P) (base : List ℕ) (laid : AreLaid base cells r0) (runs : RunsFrom rules first base cells r0 old) where
-  ended_same : r.ended ≡ r0.ended
-  ended_same = ap (λ (x : Rows). x.ended) m.asks.rows_are
-
-  active_same : active_of a.thread r.active ≡ active_of old.thread r0.active
-  active_same = (λ i. active_of (m.asks.thread i) r.active) ∙ ap (λ (x : Rows). active_of old.thread x.active) m.asks.rows_are
-
   on_way_so : (end : End) → ending_of old.status ≡ Some end → ⊥
   on_way_so end e = absurd (let z = sym (ap ending_of m.ready) ∙ e in cc)
-
-  again_open : (b : Bool) (w : Bool) → b ≡ true → (w && not b) ≡ false
-  again_open true true e = refl
-  again_open true false e = refl
-  again_open false w e = absurd (cc)
 
   again_shut : (b : Bool) → in_transaction old.engine ≡ b → b ≡ false → (c : Call) (p : _) (room : ℕ) → c ≡ Begin p room → (begins_again (in_transaction old.engine) old.again c && not (in_transaction old.engine)) ≡ old.again
   again_shut true e f c p room is = absurd (cc)
@@ -76,22 +65,19 @@ module _ {P : Type 0} {rules : Rules P} (laws : Obeys rules) {cells : Cells} {r0
         k.leads ∙ (here ∙ (λ i. Some (record { player = (sym m.asks.player) i; arena = b.arena; props = (ap (λ (x : Attempt). x.props) made) i }))),
         again_shut (in_transaction old.engine) refl o call props room (sym is) ∙ k.again,
       )
-  fresh_pending b k o Commit is row e = absurd (let z = sym (rests m.sound m.ready).nothing ∙ e in cc)
-  fresh_pending b k o (Read hint width at) is row e = absurd (let z = sym (rests m.sound m.ready).nothing ∙ e in cc)
-  fresh_pending b k o (Write hint at value) is row e = absurd (let z = sym (rests m.sound m.ready).nothing ∙ e in cc)
+  fresh_pending b k o c is row e = absurd (let z = sym (rests m.sound m.ready).nothing ∙ e in cc)
 
   run_came : IsRun rules first base (cells.clock / 2) r (record a { engine = mid m })
   run_came =
       let x = runs.runs in
       record {
-        run = subst (λ (l : List Attempt). IsRunOf rules MAX_DEPTH (cells.clock / 2) (bytes_at base l) (Some first) (of_thread a.thread l)) (sym ended_same)
-            (subst (λ (t : ℕ). IsRunOf rules MAX_DEPTH (cells.clock / 2) (bytes_at base r0.ended) (Some first) (of_thread t r0.ended)) (sym m.asks.thread) x.run);
+        run = run_same rules first base (cells.clock / 2) r0.ended r.ended old.thread a.thread (ended_same m) m.asks.thread x.run;
         inside = λ o.
             (let t = x.inside o in let y = t.4 in (
               t.0,
               t.1,
-              (λ i. run_after rules (bytes_at base (ended_same i)) (Some first) (of_thread (m.asks.thread i) (ended_same i))) ∙ t.2,
-              active_same ∙ t.3,
+              (λ i. now_at rules first base (ended_same m i) (m.asks.thread i)) ∙ t.2,
+              active_same m ∙ t.3,
               record {
                 start = y.start;
                 begins = y.begins;
@@ -99,7 +85,7 @@ module _ {P : Type 0} {rules : Rules P} (laws : Obeys rules) {cells : Cells} {r0
                 props = y.props;
                 tries = y.tries;
                 began = y.began;
-                anew = again_open (in_transaction old.engine) (begins_again (in_transaction old.engine) old.again call) o;
+                anew = and_right (begins_again (in_transaction old.engine) old.again call) (not (in_transaction old.engine)) (not_from_true (in_transaction old.engine) o);
                 player = m.asks.player ∙ y.player;
                 alone = y.alone;
                 stands = y.stands;
@@ -110,7 +96,7 @@ module _ {P : Type 0} {rules : Rules P} (laws : Obeys rules) {cells : Cells} {r0
         between = λ o gave_up starved.
             (let t = x.between o (on_way_so ends.GaveUp) (on_way_so ends.NoMemory) in let k = t.2 in (
               t.0,
-              (λ i. run_after rules (bytes_at base (ended_same i)) (Some first) (of_thread (m.asks.thread i) (ended_same i))) ∙ t.1,
+              (λ i. now_at rules first base (ended_same m i) (m.asks.thread i)) ∙ t.1,
               record {
                 leads = k.leads ∙ ap (λ (q : P). begin_of rules MAX_DEPTH q t.0.arena) (sym m.asks.player);
                 arena = k.arena;
@@ -123,8 +109,8 @@ module _ {P : Type 0} {rules : Rules P} (laws : Obeys rules) {cells : Cells} {r0
 
   seen : HasSeen base cells cells r (mid m) a.engine
   seen =
-      call_seen base cells r old.engine a.engine call (begins_again (in_transaction old.engine) old.again call) (laid_same base cells r0 r ended_same laid) m.sound.tied (rests m.sound m.ready).free
-      (subst (λ (l : List Attempt). Sees (words_at base l) cells old.engine) (sym ended_same) (runs.sees (on_way_so ends.NoMemory))) m.asked.stays
+      call_seen base cells r old.engine a.engine call (begins_again (in_transaction old.engine) old.again call) (laid_same base cells r0 r (ended_same m) laid) m.sound.tied (rests m.sound m.ready).free
+      (subst (λ (l : List Attempt). Sees (words_at base l) cells old.engine) (sym (ended_same m)) (runs.sees (on_way_so ends.NoMemory))) m.asked.stays
 
   -- where its attempt reads
   abbrev ReadsAt : Rows → Actor P → Type 0
@@ -142,12 +128,9 @@ module _ {P : Type 0} {rules : Rules P} (laws : Obeys rules) {cells : Cells} {r0
           let here : active_of last.thread r1.active ≡ Some (with_call x.1) =
           ap (λ (k : ℕ). active_of k r1.active) t.settled.thread ∙ (ap (λ (x : Rows). active_of a.thread x.active) t.told.0 ∙ changed_here a.thread with_call r.active x.1 (λ x. refl) x.3) in
           let same : with_call x.1 ≡ row = (let z : Some (with_call x.1) ≡ Some row = sym here ∙ f in cc) in
-          ap (λ (x : Attempt). x.at) (sym same) ∙ (runs.reads was x.1 (sym active_same ∙ x.3) ∙ ap (λ (k : ℕ). k / 2) (sym (ap (λ (c : Core). c.snapshot) t.settled.engine ∙ m.asked.stays.snapshot)))
-      by_answer false (Reply reply) was t now row f = absurd (both (in_transaction old.engine) (m.asked.stays.opens now) was)
-      by_answer b (Committed at wrote) was t now row f = absurd (both (in_transaction a.engine) now t.answered.fits.1)
-      by_answer b (Conflict clock word) was t now row f = absurd (both (in_transaction a.engine) now t.answered.fits.1)
-      by_answer b (Busy clock) was t now row f = absurd (both (in_transaction a.engine) now t.answered.fits.1)
-      by_answer b (Full at) was t now row f = absurd (both (in_transaction a.engine) now t.answered.fits.1)
+          ap (λ (x : Attempt). x.at) (sym same) ∙ (runs.reads was x.1 (sym (active_same m) ∙ x.3) ∙ ap (λ (k : ℕ). k / 2) (sym (ap (λ (c : Core). c.snapshot) t.settled.engine ∙ m.asked.stays.snapshot)))
+      by_answer false (Reply reply) was t now row f = absurd (true≢false (sym (m.asked.stays.opens now) ∙ was))
+      by_answer b answer was t now row f = absurd (true≢false (sym now ∙ t.answered.fits.1))
 
   pub call_runs : (r1 : Rows) (last : Actor P) → IsDone rules (in_transaction old.engine) r r1 a last call what → Tells rules (in_transaction old.engine) r r1 a last call what → (more : List Attempt) → r1.ended ≡ r.ended ++ more → AreCounted cells.clock r1.ended
       → AreLaid base cells r1 × RunsFrom rules first base cells r1 last
@@ -160,7 +143,7 @@ module _ {P : Type 0} {rules : Rules P} (laws : Obeys rules) {cells : Cells} {r0
           sees = λ fed. x.sees;
           starved = λ e. absurd (x.fed e);
           reads = recorded ReadsAt taken done tells
-              (λ step t o row e. runs.reads (sym (ap in_transaction t.proceeds.stays) ∙ o) row (sym active_same ∙ e) ∙ ap (λ (k : ℕ). k / 2) (sym m.asked.stays.snapshot))
+              (λ step t o row e. runs.reads (sym (ap in_transaction t.proceeds.stays) ∙ o) row (sym (active_same m) ∙ e) ∙ ap (λ (k : ℕ). k / 2) (sym m.asked.stays.snapshot))
               (λ answer is t. answer_reads (in_transaction old.engine) answer refl t);
         },
       )
@@ -172,9 +155,6 @@ module _ {P : Type 0} {rules : Rules P} (laws : Obeys rules) {cells : Cells} {r0
   abbrev roomy : Rows
   roomy = record r0 { room = s.room }
 
-  abbrev RunAt : List Attempt → ℕ → Type 0
-  RunAt l t = IsRunOf rules MAX_DEPTH (cells.clock / 2) (bytes_at base l) (Some first) (of_thread t l)
-
   still_seen : HasSeen base cells cells roomy old.engine old.engine
   still_seen = record {
     laid = laid_same base cells r0 roomy refl laid;
@@ -182,22 +162,21 @@ module _ {P : Type 0} {rules : Rules P} (laws : Obeys rules) {cells : Cells} {r0
     long = refl;
     late = (let reached = sound.tied.settled.reached in let late = sound.tied.late in omega arith);
     up = λ o. (let l : old.engine.snapshot ≤ old.engine.snapshot = omega arith in l);
-    opens = λ shut o. absurd (both (in_transaction old.engine) o shut);
+    opens = λ shut o. absurd (true≢false (sym o ∙ shut));
     logged = (runs.sees fed).logged;
     still = (runs.sees fed).logged;
     now = (runs.sees fed).logged;
     fewer = λ o m x. x;
     loaded = λ f. (runs.sees fed).loaded;
     even = λ f even. refl;
-    freed = λ f. absurd (both old.engine.freed f sound.tied.settled.unfreed);
+    freed = λ f. absurd (true≢false (sym f ∙ sound.tied.settled.unfreed));
   }
 
-  starve_run : (b : Bool) → in_transaction old.engine ≡ b → RunAt r1.ended last.thread
+  starve_run : (b : Bool) → in_transaction old.engine ≡ b → RunOf rules first base (cells.clock / 2) r1.ended last.thread
   starve_run false o =
-      let same : r1.ended ≡ r0.ended = ap (λ (x : Rows). x.ended) (s.stays o) in
-      subst (λ (l : List Attempt). RunAt l last.thread) (sym same) (subst (RunAt r0.ended) (sym s.same.thread) runs.runs.run)
+      run_same rules first base (cells.clock / 2) r0.ended r1.ended old.thread last.thread (ap (λ (x : Rows). x.ended) (s.stays o)) s.same.thread runs.runs.run
   starve_run true o =
-      let here : IsRun rules first base (cells.clock / 2) roomy old = record { run = runs.runs.run; inside = runs.runs.inside; between = λ x. absurd (both (in_transaction old.engine) o x) } in
+      let here : IsRun rules first base (cells.clock / 2) roomy old = record { run = runs.runs.run; inside = runs.runs.inside; between = λ x. absurd (true≢false (sym o ∙ x)) } in
       let early = (runs.runs.inside o).4.began in
       let late = still_seen.late in
       (stop_run rules laws first base cells cells roomy r1 old.engine old last Commit still_seen here (cells.clock / 2) (let l : cells.clock / 2 ≤ cells.clock / 2 = omega arith in l)
@@ -206,10 +185,10 @@ module _ {P : Type 0} {rules : Rules P} (laws : Obeys rules) {cells : Cells} {r0
 
   pub starve_runs : RunsFrom rules first base cells r1 last
   starve_runs = record {
-    runs = record { run = starve_run (in_transaction old.engine) refl; inside = λ o. absurd (both (in_transaction last.engine) o closed); between = λ o gave_up starved. absurd (starved (ap ending_of s.status)) };
+    runs = record { run = starve_run (in_transaction old.engine) refl; inside = λ o. absurd (true≢false (sym o ∙ closed)); between = λ o gave_up starved. absurd (starved (ap ending_of s.status)) };
     sees = λ fed. absurd (fed (ap ending_of s.status));
     starved = λ e. closed;
-    reads = λ o. absurd (both (in_transaction last.engine) o closed);
+    reads = λ o. absurd (true≢false (sym o ∙ closed));
   }
 
 -- ## The words
@@ -218,3 +197,85 @@ pub laid_calls : (base : List ℕ) (cells : Cells) (r0 r1 : Rows) → AreLaid ba
 laid_calls base cells r0 r1 laid more ended counted =
     laid_on base cells cells r0 r1 laid counted refl refl
     (λ k l. ap (λ (rows : List Attempt). bytes_at base rows k) ended ∙ bytes_still base cells.clock r0.ended laid.counted more k l) (λ even. refl)
+
+-- ## A step
+
+-- an attempt that is told where it reads
+abbrev reading : ℕ → Attempt → Attempt
+reading k row = record row { at = k }
+
+module _ {P : Type 0} (rules : Rules P) (laws : Obeys rules) (first : Between P) (base : List ℕ) where
+  -- the value is handed in
+  pub run_handed : (n : ℕ) (r : Rows) (a : Actor P) (step : Step) (seen : ℕ) (status : Status) → ending_of a.status ≡ None → in_transaction (handed_to a.engine (Some step) seen) ≡ in_transaction a.engine
+      → IsRun rules first base n r a → IsRun rules first base n r (record a { engine = handed_to a.engine (Some step) seen; status = status })
+  run_handed n r a step seen status on same x =
+      let kept = (handed_is a.engine step seen).keeps in
+      record {
+        run = x.run;
+        inside = λ o. (let t = x.inside (sym same ∙ o) in (t.0, t.1, t.2, t.3, try_handed rules laws t.0 t.1 a.player a.engine step seen t.4, t.5, t.6));
+        between = λ o gave_up starved.
+            (let t = x.between (sym same ∙ o) (λ e. absurd (let z = sym on ∙ e in cc)) (λ e. absurd (let z = sym on ∙ e in cc)) in
+            let k = t.2 in (
+              t.0,
+              t.1,
+              record { leads = k.leads; arena = kept.arena ∙ k.arena; again = k.again; tries = k.tries; pending = λ row e. (let p = k.pending row e in (p.0, p.1, p.2, p.3, kept.again ∙ p.4)) },
+            ));
+      }
+
+  -- the open attempt is told where it reads
+  pub run_told : (n : ℕ) (r r' : Rows) (a : Actor P) → HasRow (in_transaction a.engine) r a.thread → IsTold a.thread (in_transaction a.engine) r (a.engine.snapshot / 2) r' → IsRun rules first base n r a
+      → IsRun rules first base n r' a × (in_transaction a.engine ≡ true → (row : Attempt) → active_of a.thread r'.active ≡ Some row → row.at ≡ a.engine.snapshot / 2) × (r'.ended ≡ r.ended)
+  run_told n r r' a has told x = by_open (in_transaction a.engine) refl
+    where
+      by_open : (b : Bool) → in_transaction a.engine ≡ b → IsRun rules first base n r' a × (in_transaction a.engine ≡ true → (row : Attempt) → active_of a.thread r'.active ≡ Some row → row.at ≡ a.engine.snapshot / 2) × (r'.ended ≡ r.ended)
+      by_open false o = (subst (λ (rows : Rows). IsRun rules first base n rows a) (sym (told.stays o)) x, λ y. absurd (true≢false (sym y ∙ o)), ap (λ (rows : Rows). rows.ended) (told.stays o))
+      by_open true o =
+          let moved = told.moves o in
+          let ended : r'.ended ≡ r.ended = ap (λ (rows : Rows). rows.ended) moved in
+          let t = x.inside o in
+          let now : active_of a.thread r'.active ≡ Some (reading (a.engine.snapshot / 2) t.1) = ap (λ (rows : Rows). active_of a.thread rows.active) moved ∙ changed_here a.thread (reading (a.engine.snapshot / 2)) r.active t.1 (λ y. refl) t.3 in (
+            record {
+              run = subst (λ (rows : Rows). IsRunOf rules MAX_DEPTH n (bytes_at base rows.ended) (Some first) (of_thread a.thread rows.ended)) (sym moved) x.run;
+              inside = λ y. (
+                t.0,
+                reading (a.engine.snapshot / 2) t.1,
+                ap (λ (rows : Rows). run_after rules (bytes_at base rows.ended) (Some first) (of_thread a.thread rows.ended)) moved ∙ t.2,
+                now,
+                try_told rules laws t.0 t.1 a.player a.engine (a.engine.snapshot / 2) t.4,
+                t.5,
+                t.6,
+              );
+              between = λ y. absurd (true≢false (sym o ∙ y));
+            },
+            λ y row e. (let same : reading (a.engine.snapshot / 2) t.1 ≡ row = (let z : Some (reading (a.engine.snapshot / 2) t.1) ≡ Some row = sym now ∙ e in cc) in ap (λ (w : Attempt). w.at) (sym same)),
+            ended,
+          )
+
+-- it goes on, or is answered
+
+module _ {P : Type 0} {rules : Rules P} (laws : Obeys rules) {cells : Cells} {r : Rows} {old : Actor P} {call : Call} {what : Next} {cells' : Cells} {new : Core} (m : IsStepping rules cells r old call what cells' new)
+    (status : Status) (ready : status ≡ Ready) (first : Between P) (base : List ℕ) (laid : AreLaid base cells r) (runs : RunsFrom rules first base cells r old) where
+  seen_step : HasSeen base cells cells' r (mid_step m) new
+  seen_step =
+      let w = waits m in
+      let sees = runs.sees (λ e. absurd (let z = sym (ap ending_of m.waiting) ∙ e in cc)) in
+      subst (λ (c : Cells). HasSeen base cells c r (mid_step m) new) (sym m.cells_are) (step_seen base cells r old.engine new m.step laid m.sound.tied sees w.waits w.lawful m.resumed.joins)
+
+  run_mid : IsRun rules first base (cells.clock / 2) r (record old { engine = mid_step m; status = status })
+  run_mid = run_handed rules laws first base (cells.clock / 2) r old m.step (found cells m.step) status (ap ending_of m.waiting) (ap is_inside (same m).blocks) runs.runs
+
+  ended_told : (b : Bool) (thread at : ℕ) (r1 rows : Rows) → IsTold thread b r1 at rows → rows.ended ≡ r1.ended
+  ended_told true thread at r1 rows t = ap (λ (x : Rows). x.ended) (t.moves refl)
+  ended_told false thread at r1 rows t = ap (λ (x : Rows). x.ended) (t.stays refl)
+
+  pub step_runs : (r1 : Rows) (last : Actor P) → IsDone rules (in_transaction old.engine) r r1 (record old { engine = new; status = status }) last call what → Tells rules (in_transaction old.engine) r r1 (record old { engine = new; status = status }) last call what
+      → (rows : Rows) → IsTold last.thread (in_transaction last.engine) r1 (last.engine.snapshot / 2) rows → (more : List Attempt) → rows.ended ≡ r.ended ++ more → AreCounted cells'.clock rows.ended
+      → AreLaid base cells' rows × RunsFrom rules first base cells' rows last
+  step_runs r1 last done tells rows told more ended counted =
+      let taken = step_taken m status ready in
+      let same_ended = ended_told (in_transaction last.engine) last.thread (last.engine.snapshot / 2) r1 rows told in
+      let x = runs_recorded rules laws first base (in_transaction old.engine) cells cells' r (mid_step m) (record old { engine = new; status = status }) call seen_step run_mid r1 last more (sym same_ended ∙ ended) what taken done tells in
+      let t = run_told rules laws first base (cells'.clock / 2) r1 rows last (now taken done tells).sound.kept.row told x.run in (
+        laid_same base cells' r1 rows same_ended (x.laid (subst (AreCounted cells'.clock) same_ended counted)),
+        record { runs = t.0; sees = λ fed. subst (λ (l : List Attempt). Sees (words_at base l) cells' last.engine) (sym same_ended) x.sees; starved = λ e. absurd (x.fed e); reads = t.1 },
+      )

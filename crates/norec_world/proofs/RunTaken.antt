@@ -1,5 +1,5 @@
 -- A value or a call was taken in, and what the engine gave is recorded: the actor's run goes on, and the words are still those that the commits left.
-use Rattle.std.proofs.Common.{◌≡◌, ℕ, suc, ◌+◌, ◌/◌, ◌≤◌, ◌==◌, Bool, true, false, List, [], ◌∷◌, ◌++◌, Option, None, Some, is_some, refl, sym, ap, subst, ◌∙◌, arith, eq-eqb, append-nil}
+use Rattle.std.proofs.Common.{◌≡◌, ℕ, suc, ◌+◌, ◌/◌, ◌≤◌, ◌==◌, Bool, true, false, List, [], ◌∷◌, ◌++◌, Option, None, Some, is_some, refl, sym, true≢false, ap, subst, ◌∙◌, arith, eq-eqb, append-nil}
 use Rattle.norec_world.proofs.Common.{Actor, Agrees, Answer, AreCounted, AreLaid, Asks, Attempt, Between, Busy, Call, Cells, Committed, Conflict, Core, Done, Ends, Full, IsDone, IsRun, MAX_DEPTH, Next, NoMemory, Obeys, Opens, RepliesTo, Reply, Rows, Rules, Sees, State, Step, Tells, Waits, alone, bytes_at, bytes_of, committed_at, cond-true, ending_of, in_transaction, words_at}
 use Rattle.norec_engine.specs.Proceeds.{backed}
 use Rattle.norec_engine.proofs.AnsweredEngines.{rests}
@@ -16,9 +16,6 @@ use Rattle.norec_world.proofs.Seen.{HasSeen, memory_at}
 use Rattle.norec_world.proofs.Taken.{HasAnswered, HasTaken, recorded}
 use Rattle.norec_world.proofs.TryEnds.{not_starved, unfreed_to}
 
-both : (n : Bool) → n ≡ true → n ≡ false → ⊥
-both n t f = absurd (cc)
-
 -- an answer clears what was loaded since the clock
 no_fresh : (mid new : Core) (answer : Answer) → Ends mid answer new → new.fresh ≡ []
 no_fresh mid new (Reply reply) g = by_doing mid.doing g
@@ -26,10 +23,7 @@ no_fresh mid new (Reply reply) g = by_doing mid.doing g
     by_doing : (o : Option Call) → RepliesTo mid o reply new → new.fresh ≡ []
     by_doing None g = absurd g
     by_doing (Some c) g = ap (λ (c : Core). c.fresh) g.stays
-no_fresh mid new (Committed at wrote) g = ap (λ (c : Core). c.fresh) g.stays
-no_fresh mid new (Conflict clock word) g = ap (λ (c : Core). c.fresh) g.stays
-no_fresh mid new (Busy clock) g = ap (λ (c : Core). c.fresh) g.stays
-no_fresh mid new (Full at) g = ap (λ (c : Core). c.fresh) g.stays
+no_fresh mid new answer g = ap (λ (c : Core). c.fresh) g.stays
 
 module _ {P : Type 0} (rules : Rules P) (laws : Obeys rules) (first : Between P) (base : List ℕ) where
   -- what is true of the actor then; the words are laid as soon as its attempts are counted
@@ -40,12 +34,6 @@ module _ {P : Type 0} (rules : Rules P) (laws : Obeys rules) (first : Between P)
     pub fed : ending_of last.status ≡ Some NoMemory → ⊥
 
   module _ (was : Bool) (cells cells' : Cells) (r : Rows) (mid : Core) (a : Actor P) (call : Call) (seen : HasSeen base cells cells' r mid a.engine) (run : IsRun rules first base (cells.clock / 2) r (record a { engine = mid })) where
-    abbrev n : ℕ
-    n = cells.clock / 2
-
-    abbrev Run : ℕ → Rows → Actor P → Type 0
-    Run k rows x = IsRun rules first base k rows x
-
     -- no commit is done
     laid_still : (r1 : Rows) (more : List Attempt) → r1.ended ≡ r.ended ++ more → cells'.clock / 2 ≡ cells.clock / 2 → mid.freed ≡ false → AreCounted cells'.clock r1.ended → AreLaid base cells' r1
     laid_still r1 more ended half unfreed counted =
@@ -59,7 +47,7 @@ module _ {P : Type 0} (rules : Rules P) (laws : Obeys rules) (first : Between P)
         let opens : in_transaction a.engine ≡ in_transaction mid = ap in_transaction g.stays in
         let half = t.moves.keeps g.unfreed in
         record {
-          run = subst (λ (k : ℕ). Run k r (record a { status = Waits call step })) (sym half) (record {
+          run = subst (λ (k : ℕ). IsRun rules first base k r (record a { status = Waits call step })) (sym half) (record {
             run = run.run;
             inside = λ o.
                 (let x = run.inside (sym opens ∙ o) in
@@ -94,10 +82,10 @@ module _ {P : Type 0} (rules : Rules P) (laws : Obeys rules) (first : Between P)
       still : (k : ℕ) → k ≤ cells.clock / 2 → bytes_at base r1.ended k ≡ bytes_at base r.ended k
       still k l = ap (λ (rows : List Attempt). bytes_at base rows k) ended ∙ bytes_still base cells.clock r.ended seen.laid.counted more k l
 
-      to_now : cells'.clock / 2 ≡ cells.clock / 2 → Run (cells.clock / 2) r1 last → Run (cells'.clock / 2) r1 last
-      to_now half x = subst (λ (k : ℕ). Run k r1 last) (sym half) x
+      to_now : cells'.clock / 2 ≡ cells.clock / 2 → IsRun rules first base (cells.clock / 2) r1 last → IsRun rules first base (cells'.clock / 2) r1 last
+      to_now half x = subst (λ (k : ℕ). IsRun rules first base k r1 last) (sym half) x
 
-      open_runs : (answer : Answer) → HasAnswered rules true cells cells' r r1 mid a last call answer → Run (cells'.clock / 2) r1 last
+      open_runs : (answer : Answer) → HasAnswered rules true cells cells' r r1 mid a last call answer → IsRun rules first base (cells'.clock / 2) r1 last
       open_runs (Reply reply) m = to_now (m.taken.moves.keeps (unfreed_to mid a.engine mid.doing reply m.ends)) (reply_runs rules laws first base cells cells' r r1 mid a last call seen run reply m)
       open_runs (Committed at wrote) m = commit_runs rules laws first base cells cells' r r1 mid a last call seen run (cells'.clock / 2) (later wrote refl) still m.taken.was_is at wrote m
         where
@@ -110,14 +98,11 @@ module _ {P : Type 0} (rules : Rules P) (laws : Obeys rules) (first : Between P)
       open_runs (Busy clock) m = absurd (let f : true ≡ false = m.answered.fits.0 in cc)
       open_runs (Full at) m =
           let half = m.taken.moves.keeps m.ends.unfreed in
-          let reached = m.taken.tied.settled.reached in
-          let late = m.taken.tied.late in
           let at_is = m.ends.at_is in
-          let early = (run.inside m.taken.was_is).4.began in
-          let up = seen.up m.taken.was_is in
-          full_runs rules laws first base cells cells' r r1 mid a last call seen run (cells'.clock / 2) (omega arith) still m.taken.was_is at m (omega arith) (omega arith)
+          full_runs rules laws first base cells cells' r r1 mid a last call seen run (cells'.clock / 2) (omega arith) still m.taken.was_is at m
+          (omega (arith, (run.inside m.taken.was_is).4.began, seen.up m.taken.was_is)) (omega (arith, m.taken.tied.settled.reached, m.taken.tied.late))
 
-      runs_on : (b : Bool) (answer : Answer) → HasAnswered rules b cells cells' r r1 mid a last call answer → Run (cells'.clock / 2) r1 last
+      runs_on : (b : Bool) (answer : Answer) → HasAnswered rules b cells cells' r r1 mid a last call answer → IsRun rules first base (cells'.clock / 2) r1 last
       runs_on true answer m = open_runs answer m
       runs_on false answer m = to_now (ap (λ (k : ℕ). k / 2) (m.taken.outside refl).0) (shut_runs rules laws first base cells cells' r r1 mid a last call seen run answer m)
 
@@ -130,10 +115,7 @@ module _ {P : Type 0} (rules : Rules P) (laws : Obeys rules) (first : Between P)
           by_pending true e (Some row) p opens = ap (λ (x : Rows). x.ended) opens
           by_pending true e None p opens = absurd (let f : false ≡ true = was_open false (in_transaction a.engine) call reply (λ x. sym (m.answered.in_call.begins x) ∙ ap is_some p) m.answered.fits.0 o in cc)
           by_pending false e p q opens = absurd (cc)
-      open_ended b (Committed at wrote) m o = absurd (both (in_transaction a.engine) o m.answered.fits.1)
-      open_ended b (Conflict clock word) m o = absurd (both (in_transaction a.engine) o m.answered.fits.1)
-      open_ended b (Busy clock) m o = absurd (both (in_transaction a.engine) o m.answered.fits.1)
-      open_ended b (Full at) m o = absurd (both (in_transaction a.engine) o m.answered.fits.1)
+      open_ended b answer m o = absurd (true≢false (sym o ∙ m.answered.fits.1))
 
       sees_on : (answer : Answer) → HasAnswered rules was cells cells' r r1 mid a last call answer → Sees (words_at base r1.ended) cells' last.engine
       sees_on answer m =
@@ -141,8 +123,8 @@ module _ {P : Type 0} (rules : Rules P) (laws : Obeys rules) (first : Between P)
           subst (Sees (words_at base r1.ended) cells') (sym m.settled.engine) (record {
             loaded = record {
               fresh = λ even same f. subst (Agrees (words_at base r1.ended (cells'.clock / 2))) (sym (no_fresh mid a.engine answer m.ends)) tt;
-              held = λ h. absurd (both a.engine.holds h rest.holds);
-              got = λ h. absurd (both a.engine.holds h rest.holds);
+              held = λ h. absurd (true≢false (sym h ∙ rest.holds));
+              got = λ h. absurd (true≢false (sym h ∙ rest.holds));
             };
             logged = λ o. subst (λ (rows : List Attempt). Agrees (words_at base rows (a.engine.snapshot / 2)) a.engine.log) (sym (open_ended was answer m o)) (seen.now o);
           })
@@ -181,9 +163,7 @@ module _ {P : Type 0} (rules : Rules P) (laws : Obeys rules) (first : Between P)
       laid_answered b (Committed at false) m = laid_still r1 more ended (m.taken.moves.keeps m.ends.freed) m.ends.freed
       laid_answered true (Committed at true) m = laid_freed at m
       laid_answered false (Committed at true) m = absurd (let f : false ≡ true = m.answered.fits.0 in cc)
-      laid_answered b (Conflict clock word) m = laid_still r1 more ended (m.taken.moves.keeps m.ends.unfreed) m.ends.unfreed
-      laid_answered b (Busy clock) m = laid_still r1 more ended (m.taken.moves.keeps m.ends.unfreed) m.ends.unfreed
-      laid_answered b (Full at) m = laid_still r1 more ended (m.taken.moves.keeps m.ends.unfreed) m.ends.unfreed
+      laid_answered b answer m = laid_still r1 more ended (m.taken.moves.keeps m.ends.unfreed) m.ends.unfreed
 
       answers_on : (answer : Answer) → HasAnswered rules was cells cells' r r1 mid a last call answer → HasRun cells' r1 last
       answers_on answer m = record {

@@ -1,7 +1,7 @@
 -- What a world with one actor shows is what its player does alone.
-use Rattle.std.proofs.Common.{◌≡◌, ◌⊎◌, inl, inr, ℕ, zero, suc, ◌/◌, ◌%◌, ◌≤◌, Bool, true, false, nat_le, if◌then◌else◌, List, [], ◌∷◌, ◌++◌, length, map, replicate, Option, None, Some, slice_get, refl, sym, ap, subst, ◌∙◌, arith}
-use Rattle.std.proofs.lemmas.List.{append-nil, map-append}
-use Rattle.std.proofs.lemmas.Bool.{and_from, le-leb}
+use Rattle.std.proofs.Common.{◌≡◌, ◌⊎◌, inl, inr, ℕ, zero, suc, ◌/◌, ◌%◌, ◌≤◌, Bool, true, false, nat_le, if◌then◌else◌, List, [], ◌∷◌, ◌++◌, length, map, replicate, Option, None, Some, slice_get, refl, sym, ap, subst, ◌∙◌, arith, append-nil, le-leb}
+use Rattle.std.proofs.lemmas.List.{map-append}
+use Rattle.std.proofs.lemmas.Bool.{and_from}
 use Rattle.norec_world.proofs.Common.{Actor, AreOpaque, Attempt, Between, Call, Commit, Done, End, Entry, Finished, GaveUp, HasRow, IsAlone, IsRunOf, IsWorld, MAX_DEPTH, NoMemory, Obeys, Outcome, Rules, State, World, active_of, after, alone, answers, answers_within, begin_code, begin_of, bytes_at, committed_at, current_of, ending_at, ending_of, in_transaction, is_open, of_thread, opened, option_and_then, pair_of, player_then, run_after, state_then}
 use Rattle.itm_types.specs.declared.call.Reply.{Reply}
 use Rattle.norec_world.specs.declared.attempt.Outcome.TheVariants as outcomes
@@ -19,7 +19,7 @@ use Rattle.norec_world.proofs.RunLists.{run_still}
 use Rattle.norec_world.proofs.RunOthers.{world_opaque, open_none, open_one, row_open}
 use Rattle.norec_world.proofs.SoleEvents.{of_thread_all, even_free, even_shut}
 use Rattle.norec_world.proofs.SoleRuns.{Arrives, IsNext, between, arrives, is_next, same_state, same_answers, same_row, made_alone}
-use Rattle.norec_world.proofs.Solos.{gets_none, full_block, open_block, no_block}
+use Rattle.norec_world.proofs.Solos.{same_some, gets_none, full_block, open_block, no_block}
 use Rattle.norec_world.proofs.SoundOthers.{are_open}
 
 -- the list of one
@@ -27,9 +27,6 @@ one_of : {A : Type 0} (xs : List A) → length xs ≡ 1 → (x : A) × (xs ≡ x
 one_of [] e = absurd (omega arith)
 one_of (x ∷ []) e = (x, refl)
 one_of (x ∷ y ∷ ys) e = absurd (omega arith)
-
-same_some : {A : Type 0} (x y : A) → Some x ≡ Some y → x ≡ y
-same_some x y e = cc
 
 of_actors_parts : (n : ℕ) (xs ys : List Attempt) → AreOfActors n (xs ++ ys) → AreOfActors n ys
 of_actors_parts n [] ys f = f
@@ -110,10 +107,9 @@ module _ {P : Type 0} (rules : Rules P) (laws : Obeys rules) (w : World P) (kept
       → place_now ≡ Some (between x.before)
   led tail x ended =
       let run = opaque.players 0 p a player_here here in
-      let top : w.cells.clock / 2 ≤ w.cells.clock / 2 = omega arith in
       let rows : of_thread a.thread w.attempts.ended ≡ sole.past =
       ap (λ (t : ℕ). of_thread t w.attempts.ended) own ∙ (of_thread_all w.attempts.ended (subst (λ (l : List (Actor P)). AreOfActors (length l) w.attempts.ended) actors kept.running.threads) ∙ ended) in
-      let still = run_still rules (w.cells.clock / 2) (w.cells.clock / 2) (bytes_at w.base w.attempts.ended) (bytes_at w.base (attempts_of w)) top
+      let still = run_still rules (w.cells.clock / 2) (w.cells.clock / 2) (bytes_at w.base w.attempts.ended) (bytes_at w.base (attempts_of w)) (omega arith)
       (λ k l. bytes_still w.base w.cells.clock w.attempts.ended kept.commits.counted w.attempts.active k l) (Some (first_of p w.arena)) (of_thread a.thread w.attempts.ended) run.run in
       sym still.1 ∙ (ap (run_after rules (bytes_at w.base (attempts_of w)) (Some (first_of p w.arena))) rows ∙ x.led)
 
@@ -183,21 +179,20 @@ module _ {P : Type 0} (rules : Rules P) (laws : Obeys rules) (w : World P) (kept
     -- its player stands where its calls have led it
     stands_at : (b : Between P) (r : Attempt) → IsInTry rules b r a.player a.engine → place_now ≡ Some b → w.attempts.ended ≡ sole.past → r ≡ row → a.player ≡ player_then rules.answered begun row.calls
     stands_at b r t led_to ended same =
-        let place : b ≡ between x.before = same_some b (between x.before) (sym led_to ∙ led (row ∷ []) x ended) in
-        let start : t.start ≡ y.start = same_some t.start y.start (sym t.begins ∙ (ap (λ (b : Between P). begin_of rules MAX_DEPTH b.player b.arena) place ∙ y.comes)) in
+        let place : b ≡ between x.before = same_some (sym led_to ∙ led (row ∷ []) x ended) in
+        let start : t.start ≡ y.start = same_some (sym t.begins ∙ (ap (λ (b : Between P). begin_of rules MAX_DEPTH b.player b.arena) place ∙ y.comes)) in
         t.player ∙ (λ i. player_then rules.answered (rules.answered (start i).player (begin_code (place i).again)) (same i).calls)
 
     stands_so : w.attempts.ended ≡ sole.past → active_of a.thread w.attempts.active ≡ Some row → a.player ≡ player_then rules.answered begun row.calls
     stands_so ended some =
         let t = (opaque.players 0 p a player_here here).inside (row_open (in_transaction a.engine) w.attempts a.thread row (kept.actors.each 0 a here).sound.kept.row some) in
-        stands_at t.0 t.1 t.4 t.2 ended (same_some t.1 row (sym t.3 ∙ some))
+        stands_at t.0 t.1 t.4 t.2 ended (same_some (sym t.3 ∙ some))
 
   -- ## By how it stands
 
   none_comes : (b : Between P) (x : Arrived []) → IsBeforeTry rules (w.cells.clock / 2) b a → place_now ≡ Some b → w.attempts.ended ≡ sole.past → rules.next_call a.player ≡ None → begin_of rules MAX_DEPTH x.before.player x.before.arena ≡ None
   none_comes b x t led_to ended none =
-      let place : b ≡ between x.before = same_some b (between x.before) (sym led_to ∙ led [] x ended) in
-      ap (λ (b : Between P). begin_of rules MAX_DEPTH b.player b.arena) (sym place)
+      ap (λ (b : Between P). begin_of rules MAX_DEPTH b.player b.arena) (sym (same_some (sym led_to ∙ led [] x ended)))
       ∙ (t.leads ∙ (ap (begin_within rules MAX_DEPTH (rules.calls_left a.player) a.player b.arena) none ∙ no_call (rules.calls_left a.player) b.arena))
     where
       no_call : (k : ℕ) (arena : List ℕ) → begin_within rules MAX_DEPTH k a.player arena None ≡ None
@@ -267,8 +262,7 @@ module _ {P : Type 0} (rules : Rules P) (laws : Obeys rules) (w : World P) (kept
 
   done_so : DoneBy rules w p (ending_at w 0)
   done_so =
-      let same : ending_of a.status ≡ ending_at w 0 = sym (ap (option_and_then (λ (x : Actor P). ending_of x.status)) here) in
-      subst (DoneBy rules w p) same (done_by (ending_of a.status) refl sole.stands)
+      subst (DoneBy rules w p) (sym (ap (option_and_then (λ (x : Actor P). ending_of x.status)) here)) (done_by (ending_of a.status) refl sole.stands)
 
 -- ## A world
 

@@ -1,16 +1,18 @@
 -- An actor that has its world to itself goes on so over an event.
 use Rattle.std.proofs.Common.{◌≡◌, inl, inr, ℕ, zero, suc, ◌+◌, ◌/◌, ◌%◌, ◌≤◌, Bool, true, false, nat_lt, if◌then◌else◌, List, [], ◌∷◌, ◌++◌, Option, None, Some, slice_get, slice_set, length, length-set, refl, sym, ap, subst, ◌∙◌, arith, eq-eqb}
-use Rattle.norec_world.proofs.Common.{Actor, AreActors, Attempt, Beginning, Between, Cells, CommitsInOrder, End, Ended, EndsAt, Finished, GaveUp, HasRow, IsBetween, IsEvent, IsRunOf, IsSound, IsTryAt, IsWorld, MAX_DEPTH, NoMemory, Outcome, Ready, Rows, Rules, Status, StatusIs, Tries, Waits, World, active_of, begin_of, begins, between, bytes_at, current_of, ending_of, is_ready, of_thread, over, prior_of, runs, slice_get-set_same, turned_away}
+use Rattle.std.proofs.lemmas.Bool.{false_from_ne_true}
+use Rattle.norec_world.proofs.Common.{Actor, AreActors, Attempt, Beginning, Between, Cells, CommitsInOrder, End, EndsAt, Finished, GaveUp, HasRow, IsBetween, IsEvent, IsRunOf, IsSound, IsTryAt, IsWorld, MAX_DEPTH, NoMemory, Outcome, Ready, Rows, Rules, Status, StatusIs, Tries, World, active_of, begin_of, begins, between, bytes_at, current_of, ending_of, is_ready, of_thread, over, prior_of, runs, slice_get-set_same, turned_away}
 use Rattle.norec_world.specs.declared.attempt.Outcome.TheVariants as outcomes
 use Rattle.norec_world.specs.Invariant.{AreRunning}
 use Rattle.norec_world.specs.Opaque.{first_of}
 use Rattle.norec_world.proofs.SoundOthers.{within_of, there_is}
+use Rattle.norec_world.proofs.TryEnds.{none_again}
 use Rattle.norec_world.specs.Attempts.{is_committed}
 use Rattle.norec_world.specs.Opacity.{after_try}
 use Rattle.norec_world.specs.Rows.{AreOfActors}
 use Rattle.norec_world.specs.Solo.{one_if}
 use Rattle.norec_world.specs.Sole.{IsFirstTry, AreSole, EndsWith, IsOnWay, StandsSole, IsSole}
-use Rattle.norec_world.specs.Tries.{Continues, GoesOnAfter, TriesAgain, EndsIt, is_done}
+use Rattle.norec_world.specs.Tries.{Continues, GoesOnAfter, EndsIt, is_done}
 
 -- ## Lists of attempts
 
@@ -38,10 +40,6 @@ module _ {P : Type 0} (rules : Rules P) (n : ℕ) (memory : ℕ → List ℕ) wh
 
 -- ## The clock
 
-false_of : (b : Bool) → (b ≡ true → ⊥) → b ≡ false
-false_of true h = absurd (h refl)
-false_of false h = refl
-
 -- it is odd only while the one actor holds it
 pub even_free : {P : Type 0} (w : World P) → CommitsInOrder w → length w.actors ≡ 1 → (a : Actor P) → slice_get w.actors 0 ≡ Some a → a.engine.holds ≡ false → w.cells.clock % 2 ≡ 0
 even_free {P} w c one a here free = by_rest (w.cells.clock % 2) refl
@@ -60,7 +58,7 @@ module _ {P : Type 0} (rules : Rules P) where
   pub even_shut : (w : World P) → AreActors rules w.cells w.attempts w.actors → CommitsInOrder w → length w.actors ≡ 1 → (a : Actor P) → slice_get w.actors 0 ≡ Some a → active_of a.thread w.attempts.active ≡ None → w.cells.clock % 2 ≡ 0
   even_shut w actors c one a here none =
       let s = (actors.each 0 a here).sound in
-      even_free w c one a here (false_of a.engine.holds (λ h.
+      even_free w c one a here (false_from_ne_true a.engine.holds (λ h.
       (let row : HasRow true w.attempts a.thread = subst (λ (b : Bool). HasRow b w.attempts a.thread) (s.tied.settled.holder h).0 s.kept.row in
       let z : None ≡ Some row.0 = sym none ∙ row.1 in cc)))
 
@@ -120,36 +118,17 @@ module _ {P : Type 0} (rules : Rules P) (max_commits : ℕ) where
         stands = stands_between clock' (old.past ++ t.row' ∷ []) r' a' mine ended b finishes (ending_of a'.status) refl;
       }
 
-      again : (b : Bool) (nth : ℕ) → TriesAgain b clock' nth r' a' → active_of a'.thread r'.active ≡ None
-      again true nth h = h.none
-      again false nth h = h.none
-
       last : (outcome : Outcome) → t.row'.outcome ≡ outcome → clock' / 2 ≡ clock / 2 → EndsWith old.past (clock' / 2) outcome r'
       last outcome o half = record { row = t.row'; ended = ended; first = now 0 t.row' half first; outcome_is = o }
 
       by_outcome : (o : Outcome) → t.row'.outcome ≡ o → EndsAt a.engine.max_commits clock clock' t.row'.at o → GoesOnAfter o clock' (prior_of r a) r' a' → IsSole rules max_commits clock' r' a'
       by_outcome outcomes.Committed o at g =
-          let odd = at.0 in
-          let even = at.1 in
-          let one = ap (λ (x : Outcome). one_if (is_committed x)) o in
-          by_commit (ap is_done o) (omega arith) (omega arith) g
+          by_commit (ap is_done o) (omega (arith, at.0, at.1)) (omega (arith, at.0, at.1, ap (λ (x : Outcome). one_if (is_committed x)) o)) g
       by_outcome outcomes.ReadOnly o at g =
-          let half = at.0 in
-          let reads = at.1 in
-          let l = later in
-          let none = ap (λ (x : Outcome). one_if (is_committed x)) o in
-          by_commit (ap is_done o) (omega arith) (omega arith) g
-      by_outcome outcomes.Conflict o at g =
-          let half = at.0 in
-          let reads = at.1 in
-          let l = later in
-          let even = shut (again (nat_lt a.retries a.nth) a.nth g) in
-          absurd (omega arith)
+          by_commit (ap is_done o) (omega (arith, at.0, at.1, later)) (omega (arith, at.0, at.1, ap (λ (x : Outcome). one_if (is_committed x)) o)) g
+      by_outcome outcomes.Conflict o at g = absurd (omega (arith, at.0, at.1, later, shut (none_again clock' a.nth r' a' (nat_lt a.retries a.nth) g)))
       by_outcome outcomes.Full o at g =
-          let half = at.0 in
-          let reads = at.1 in
-          let full = at.2 in
-          goes_on half (subst (λ (x : Option End). StandsSole rules max_commits x old.past (clock' / 2) r' a') (sym (ap ending_of g.status)) (g.none, (omega arith), last outcomes.Full o half))
+          goes_on at.0 (subst (λ (x : Option End). StandsSole rules max_commits x old.past (clock' / 2) r' a') (sym (ap ending_of g.status)) (g.none, (omega (arith, at.0, at.1, at.2)), last outcomes.Full o at.0))
       by_outcome outcomes.NoMemory o at g =
           goes_on at.0 (subst (λ (x : Option End). StandsSole rules max_commits x old.past (clock' / 2) r' a') (sym (ap ending_of g.status)) (g.none, inr (last outcomes.NoMemory o at.0)))
       by_outcome outcomes.Unfinished o at g = absurd at
@@ -182,11 +161,7 @@ module _ {P : Type 0} (rules : Rules P) (max_commits : ℕ) where
         by_ending (Some GaveUp) e = absurd (t.goes_on e)
         by_ending (Some NoMemory) e = absurd (t.fed e)
     sole_after (over t) = by_outcome t t.row'.outcome refl t.at t.after
-    sole_after (turned_away t) = absurd (let even = shut (away (nat_lt a.retries a.nth) t.after) in let odd = t.odd in omega arith)
-      where
-        away : (b : Bool) → TriesAgain b clock' a.nth r' a' → active_of a'.thread r'.active ≡ None
-        away true h = h.none
-        away false h = h.none
+    sole_after (turned_away t) = absurd (let even = shut (none_again clock' a.nth r' a' (nat_lt a.retries a.nth) t.after) in let odd = t.odd in omega arith)
 
 -- ## A world
 
@@ -231,5 +206,4 @@ module _ {P : Type 0} (rules : Rules P) where
     where
       by_status : (s : Status) → a1.status ≡ s → StatusIs rules r1 a1 s → a1.engine.holds ≡ false
       by_status Ready e s = s.free
-      by_status (Waits call step) e s = absurd (unfinished (ap (λ (x : Actor P). ending_of x.status) (sym (still (ap is_ready e)).0) ∙ end))
-      by_status (Ended x) e s = absurd (unfinished (ap (λ (x : Actor P). ending_of x.status) (sym (still (ap is_ready e)).0) ∙ end))
+      by_status x e s = absurd (unfinished (ap (λ (z : Actor P). ending_of z.status) (sym (still (ap is_ready e)).0) ∙ end))

@@ -1,6 +1,6 @@
 -- The run of an actor that has its world to itself is what its player does alone.
-use Rattle.std.proofs.Common.{◌≡◌, ℕ, zero, suc, ◌+◌, ◌<◌, ◌≤◌, ◌==◌, ◌&&◌, Bool, true, false, nat_le, nat_lt, if◌then◌else◌, List, [], ◌∷◌, ◌++◌, length, map, Option, None, Some, refl, sym, ap, subst, ◌∙◌, arith, eqb-true, eq-eqb, lt-ltb}
-use Rattle.std.proofs.lemmas.Bool.{leb-true, or_parts}
+use Rattle.std.proofs.Common.{◌≡◌, ℕ, suc, ◌+◌, ◌<◌, ◌≤◌, ◌==◌, ◌&&◌, Bool, true, false, nat_le, nat_lt, if◌then◌else◌, List, [], ◌∷◌, ◌++◌, length, map, Option, None, Some, refl, sym, ap, subst, ◌∙◌, arith, eqb-true, eq-eqb, lt-ltb, leb-true}
+use Rattle.std.proofs.lemmas.Bool.{false_from_ne_true, or_parts}
 use Rattle.norec_world.proofs.Common.{Attempt, Begin, Beginning, Between, Call, Commit, Entry, IsAlone, IsRunOf, IsTryAt, MAX_DEPTH, Obeys, Outcome, Read, Rules, State, Write, after, alone, answers, answers_within, begin_code, begin_of, bytes_at, committed_at, is_open, opened, pair_of, player_then, reply, run_after, state_then, turn}
 use Rattle.itm_types.specs.declared.call.Refusal.{Refusal}
 use Rattle.itm_types.specs.declared.call.Reply.{Reply}
@@ -25,8 +25,6 @@ module _ {P : Type 0} (rules : Rules P) (deepest : ℕ) where
   pub alone_of : (n : ℕ) (p : P) (s : State) (o : Option Call) (xs : List Entry) (rest : List (Call × Reply)) → turn rules.next_call rules.answered rules.calls_left p s ≡ o → map pair_of xs ++ rest ≡ answers_within rules.next_call rules.answered rules.calls_left deepest n p s o
       → IsAlone rules deepest p s xs
   alone_of n p s o [] rest t e = tt
-  alone_of zero p s o (x ∷ xs) rest t e = absurd (cc)
-  alone_of (suc n) p s None (x ∷ xs) rest t e = absurd (cc)
   alone_of (suc n) p s (Some c) (x ∷ xs) rest t e =
       let q : P = rules.answered p (reply deepest s c) in
       let parts = parts_of (pair_of x) (c, reply deepest s c) (map pair_of xs ++ rest) (answers_within rules.next_call rules.answered rules.calls_left deepest n q (after deepest s c) (turn rules.next_call rules.answered rules.calls_left q (after deepest s c))) e in
@@ -37,6 +35,7 @@ module _ {P : Type 0} (rules : Rules P) (deepest : ℕ) where
         subst (λ (r : Reply). IsAlone rules deepest (rules.answered p r) (after deepest s x.call) xs) (sym replied)
             (subst (λ (k : Call). IsAlone rules deepest q (after deepest s k) xs) (sym call) (alone_of n q (after deepest s c) (turn rules.next_call rules.answered rules.calls_left q (after deepest s c)) xs rest refl parts.1)),
       )
+  alone_of n p s o (x ∷ xs) rest t e = absurd (cc)
 
   in_open : (b : Bool) (o : Option Call) (c : Call) → (if b then o else None) ≡ Some c → b ≡ true
   in_open true o c e = refl
@@ -78,11 +77,7 @@ sole_up n (a ∷ rest) k s = (let l = sole_up (n + one_if (is_committed a.outcom
 
 not_full : (w : Bool) (n m : ℕ) → (w ≡ true → n < m) → (w && nat_le m n) ≡ false
 not_full false n m l = refl
-not_full true n m l = by_test (nat_le m n) refl
-  where
-    by_test : (b : Bool) → nat_le m n ≡ b → b ≡ false
-    by_test true e = absurd (let most = leb-true m n e in let less = l refl in omega arith)
-    by_test false e = refl
+not_full true n m l = false_from_ne_true (nat_le m n) (λ e. (let most = leb-true m n e in let less = l refl in omega arith))
 
 -- a player between two blocks, as the headline has it
 abbrev pub between : {P : Type 0} → Progress P → Between P
@@ -158,10 +153,7 @@ module _ {P : Type 0} (rules : Rules P) (laws : Obeys rules) (max_commits : ℕ)
       over_as : (o : Outcome) → is_done o ≡ true → EndsAs o ended → IsOver o
       over_as outcomes.Committed d e = record { shut = e.0; wrote = e.1; named = refl; led = refl }
       over_as outcomes.ReadOnly d e = record { shut = e.0; wrote = e.1; named = refl; led = refl }
-      over_as outcomes.Conflict d e = absurd (cc)
-      over_as outcomes.Full d e = absurd (cc)
-      over_as outcomes.NoMemory d e = absurd (cc)
-      over_as outcomes.Unfinished d e = absurd (cc)
+      over_as o d e = absurd (cc)
 
       over : IsOver a.outcome
       over = over_as a.outcome done x.opaque.ends
@@ -198,11 +190,7 @@ module _ {P : Type 0} (rules : Rules P) (laws : Obeys rules) (max_commits : ℕ)
         where
           missed : (w : Bool) → is_committed a.outcome ≡ w → is_at j a ≡ false
           missed false e = λ i. e i && (a.at == j)
-          missed true e = (λ i. e i && (a.at == j)) ∙ apart (a.at == j) refl
-            where
-              apart : (t : Bool) → (a.at == j) ≡ t → t ≡ false
-              apart true h = absurd (let same = eqb-true a.at j h in let one = ap one_if e in omega arith)
-              apart false h = refl
+          missed true e = (λ i. e i && (a.at == j)) ∙ false_from_ne_true (a.at == j) (λ h. (let same = eqb-true a.at j h in let one = ap one_if e in omega arith))
 
   -- where these attempts have led the player
   pub record Arrives (b : Progress P) (past tail : List Attempt) (k : ℕ) : Type 0 where

@@ -1,14 +1,17 @@
 -- A player that runs alone, block by block.
 use Rattle.std.proofs.Common.{◌≡◌, ℕ, zero, suc, ◌+◌, ◌<◌, ◌≤◌, Bool, true, false, ◌&&◌, nat_le, is_none, List, [], ◌∷◌, ◌++◌, map, Option, None, Some, refl, sym, ap, subst, ◌∙◌, arith, cond}
 use Rattle.std.proofs.lemmas.Bool.{cond-false}
-use Rattle.norec_world.proofs.Common.{Begin, Beginning, Call, Commit, Entry, Finished, GaveUp, Obeys, Props, Read, Rules, State, Write, after, answers, answers_within, begin_code, begin_of, cond-true, is_begin, is_open, opened, pair_of, player_then, reply, state_then, turn}
+use Rattle.norec_world.proofs.Common.{Begin, Beginning, Call, Entry, Finished, GaveUp, Obeys, Props, Rules, State, after, answers, answers_within, begin_code, begin_of, cond-true, is_begin, is_open, opened, pair_of, player_then, reply, state_then, turn}
 use Rattle.itm_types.specs.declared.call.Reply.{Reply}
 use Rattle.itm_model.specs.Machine.{outside, refusal}
 use Rattle.itm_model.specs.Runs.{state_after}
 use Rattle.norec_world.specs.Opacity.{begin_within}
 use Rattle.norec_world.specs.declared.attempt.Outcome.TheVariants.{Full, Unfinished}
-use Rattle.norec_world.specs.Solo.{Progress, row_of, Solo, entry_of, one_if, ended_as, stopped, front, with_first, the_attempt, player_after, passed, block_then, begun_then, solo_within}
+use Rattle.norec_world.specs.Solo.{Progress, row_of, Solo, entry_of, one_if, ended_as, stopped, front, with_first, player_after, passed, block_then, begun_then, solo_within}
 use Rattle.norec_world.proofs.Alones.{asked}
+
+pub same_some : {A : Type 0} {a b : A} → Some a ≡ Some b → a ≡ b
+same_some e = cc
 
 pub state_pairs : (deepest : ℕ) (s : State) (xs : List Entry) → state_after deepest s (map (λ (c : Call × Reply). c.0) (map pair_of xs)) ≡ state_then deepest s xs
 state_pairs deepest s [] = refl
@@ -28,9 +31,6 @@ module _ {P : Type 0} (rules : Rules P) (laws : Obeys rules) (deepest : ℕ) whe
   later : (p q : P) (start : Beginning P) → rules.calls_left q ≤ rules.calls_left p → IsBeginning q start → IsBeginning p start
   later p q start l b = record { room = b.room; asks = b.asks; accepted = b.accepted; less = (let m = b.less in omega arith) }
 
-  same_some : {A : Type 0} (a b : A) → Some a ≡ Some b → a ≡ b
-  same_some a b e = cc
-
   -- a begin that is accepted, or is refused and passed over
   begins : (n : ℕ) (p : P) (arena : List ℕ) (props : Props) (room : ℕ) (start : Beginning P) (b : Bool) → b ≡ is_none (refusal deepest (outside [] arena) (Begin props room)) → rules.next_call p ≡ Some (Begin props room)
       → ((q : P) → comes n q arena (rules.next_call q) ≡ Some start → IsBeginning q start)
@@ -38,67 +38,44 @@ module _ {P : Type 0} (rules : Rules P) (laws : Obeys rules) (deepest : ℕ) whe
       (comes n (rules.answered p (reply deepest (outside [] arena) (Begin props room))) arena (rules.next_call (rules.answered p (reply deepest (outside [] arena) (Begin props room))))) ≡ Some start
       → IsBeginning p start
   begins n p arena props room start true is e rest h =
-      subst (IsBeginning p) (same_some _ _ h) (record { room = room; asks = e; accepted = sym is; less = omega arith })
+      subst (IsBeginning p) (same_some h) (record { room = room; asks = e; accepted = sym is; less = omega arith })
   begins n p arena props room start false is e rest h = (
       let q : P = rules.answered p (reply deepest (outside [] arena) (Begin props room)) in
       let l = laws.nearer p (Begin props room) (reply deepest (outside [] arena) (Begin props room)) e in
       later p q start (omega arith) (rest q h))
 
   found : (n : ℕ) (p : P) (arena : List ℕ) (o : Option Call) (start : Beginning P) → rules.next_call p ≡ o → comes n p arena o ≡ Some start → IsBeginning p start
-  found zero p arena o start e h = absurd (cc)
-  found (suc n) p arena None start e h = absurd (cc)
   found (suc n) p arena (Some (Begin props room)) start e h = begins n p arena props room start _ refl e (λ q g. found n q arena (rules.next_call q) start refl g) h
-  found (suc n) p arena (Some Commit) start e h = (
-      let q : P = rules.answered p (reply deepest (outside [] arena) Commit) in
-      let l = laws.nearer p Commit (reply deepest (outside [] arena) Commit) e in
+  found (suc n) p arena (Some c) start e h = (
+      let q : P = rules.answered p (reply deepest (outside [] arena) c) in
+      let l = laws.nearer p c (reply deepest (outside [] arena) c) e in
       later p q start (omega arith) (found n q _ (rules.next_call q) start refl h))
-  found (suc n) p arena (Some (Read hint width at)) start e h = (
-      let q : P = rules.answered p (reply deepest (outside [] arena) (Read hint width at)) in
-      let l = laws.nearer p (Read hint width at) (reply deepest (outside [] arena) (Read hint width at)) e in
-      later p q start (omega arith) (found n q _ (rules.next_call q) start refl h))
-  found (suc n) p arena (Some (Write hint at value)) start e h = (
-      let q : P = rules.answered p (reply deepest (outside [] arena) (Write hint at value)) in
-      let l = laws.nearer p (Write hint at value) (reply deepest (outside [] arena) (Write hint at value)) e in
-      later p q start (omega arith) (found n q _ (rules.next_call q) start refl h))
+  found n p arena o start e h = absurd (cc)
 
   pub begin_found : (p : P) (arena : List ℕ) (start : Beginning P) → begin_of rules deepest p arena ≡ Some start → IsBeginning p start
   begin_found p arena start h = found (rules.calls_left p) p arena (rules.next_call p) start refl h
 
   -- ## Bounds that suffice
 
-  chooses : (b : Bool) (start : Option (Beginning P)) (x y : Option (Beginning P)) → x ≡ y → cond b start x ≡ cond b start y
-  chooses b start x y e = ap (cond b start) e
-
   comes_enough : (n k : ℕ) (p : P) (arena : List ℕ) (o : Option Call) → rules.next_call p ≡ o → rules.calls_left p ≤ n → rules.calls_left p ≤ k → comes n p arena o ≡ comes k p arena o
   comes_enough zero zero p arena o e a c = refl
-  comes_enough zero (suc k) p arena None e a c = refl
   comes_enough zero (suc k) p arena (Some call) e a c = (let l = laws.nearer p call (reply deepest (outside [] arena) call) e in absurd (omega arith))
-  comes_enough (suc n) zero p arena None e a c = refl
   comes_enough (suc n) zero p arena (Some call) e a c = (let l = laws.nearer p call (reply deepest (outside [] arena) call) e in absurd (omega arith))
-  comes_enough (suc n) (suc k) p arena None e a c = refl
   comes_enough (suc n) (suc k) p arena (Some (Begin props room)) e a c = (
       let q : P = rules.answered p (reply deepest (outside [] arena) (Begin props room)) in
       let l = laws.nearer p (Begin props room) (reply deepest (outside [] arena) (Begin props room)) e in
-      chooses (is_none (refusal deepest (outside [] arena) (Begin props room))) (Some (record { player = p; arena = arena; props = props })) _ _
+      ap (cond (is_none (refusal deepest (outside [] arena) (Begin props room))) (Some (record { player = p; arena = arena; props = props })))
       (comes_enough n k q arena (rules.next_call q) refl (omega arith) (omega arith)))
-  comes_enough (suc n) (suc k) p arena (Some Commit) e a c = (
-      let q : P = rules.answered p (reply deepest (outside [] arena) Commit) in
-      let l = laws.nearer p Commit (reply deepest (outside [] arena) Commit) e in
+  comes_enough (suc n) (suc k) p arena (Some call) e a c = (
+      let q : P = rules.answered p (reply deepest (outside [] arena) call) in
+      let l = laws.nearer p call (reply deepest (outside [] arena) call) e in
       comes_enough n k q _ (rules.next_call q) refl (omega arith) (omega arith))
-  comes_enough (suc n) (suc k) p arena (Some (Read hint width at)) e a c = (
-      let q : P = rules.answered p (reply deepest (outside [] arena) (Read hint width at)) in
-      let l = laws.nearer p (Read hint width at) (reply deepest (outside [] arena) (Read hint width at)) e in
-      comes_enough n k q _ (rules.next_call q) refl (omega arith) (omega arith))
-  comes_enough (suc n) (suc k) p arena (Some (Write hint at value)) e a c = (
-      let q : P = rules.answered p (reply deepest (outside [] arena) (Write hint at value)) in
-      let l = laws.nearer p (Write hint at value) (reply deepest (outside [] arena) (Write hint at value)) e in
-      comes_enough n k q _ (rules.next_call q) refl (omega arith) (omega arith))
+  comes_enough (suc n) zero p arena None e a c = refl
+  comes_enough n k p arena None e a c = refl
 
   -- the calls left do not grow along what a player gets
   falls_along : (n : ℕ) (p : P) (s : State) (o : Option Call) → turn rules.next_call rules.answered rules.calls_left p s ≡ o
       → rules.calls_left (player_after rules deepest 0 0 p (answers_within rules.next_call rules.answered rules.calls_left deepest n p s o)) ≤ rules.calls_left p
-  falls_along zero p s o e = omega arith
-  falls_along (suc n) p s None e = omega arith
   falls_along (suc n) p s (Some c) e = (
       let r = reply deepest s c in
       let q : P = rules.answered p r in
@@ -106,14 +83,11 @@ module _ {P : Type 0} (rules : Rules P) (laws : Obeys rules) (deepest : ℕ) whe
       let l = laws.nearer p c r (asked rules laws deepest p s c e) in
       let m = falls_along n q t (turn rules.next_call rules.answered rules.calls_left q t) refl in
       omega arith)
+  falls_along n p s o e = omega arith
 
   module _ (max_commits thread : ℕ) where
     abbrev goes : ℕ → Progress P → Solo
     goes n b = solo_within rules deepest max_commits thread n b
-
-    -- what comes of a block, by what comes of the rest
-    abbrev joined : Progress P → Beginning P → P → List (Call × Reply) → State → Solo → Solo
-    joined b start p pairs s r = block_then rules deepest max_commits thread (λ (q : Progress P). r) b start p pairs s
 
     none_left : (p : P) (arena : List ℕ) → rules.calls_left p ≤ 0 → begin_of rules deepest p arena ≡ None
     none_left p arena l = ap (λ (n : ℕ). begin_within rules deepest n p arena (rules.next_call p)) (let e : rules.calls_left p ≡ 0 = omega arith in e)
@@ -130,7 +104,7 @@ module _ {P : Type 0} (rules : Rules P) (laws : Obeys rules) (deepest : ℕ) whe
         let l = found.less in
         let m = laws.nearer start.player (Begin start.props found.room) (begin_code false) found.asks in
         let along = falls_along (rules.calls_left p) p s0 (turn rules.next_call rules.answered rules.calls_left p s0) refl in
-        ap (joined b start p pairs (state_after deepest s0 (map (λ (c : Call × Reply). c.0) pairs)))
+        ap (λ (r : Solo). block_then rules deepest max_commits thread (λ (q : Progress P). r) b start p pairs (state_after deepest s0 (map (λ (c : Call × Reply). c.0) pairs)))
         (rest (passed rules deepest max_commits thread b p pairs (state_after deepest s0 (map (λ (c : Call × Reply). c.0) pairs))) (omega arith))
 
     -- so many blocks suffice
@@ -192,15 +166,6 @@ module _ {P : Type 0} (rules : Rules P) (laws : Obeys rules) (deepest : ℕ) whe
           ap (λ (pairs : List (Call × Reply)). rules.calls_left (player_after rules deepest 0 0 (begun start) pairs)) all ∙ ap rules.calls_left (player_pairs (begun start) xs) in
           omega arith
 
-      abbrev yes : State → Solo
-      yes t = with_first (the_attempt rules deepest max_commits thread b start (map pair_of xs) (ended_as t.wrote)) (goes (rules.calls_left b.player) (passed rules deepest max_commits thread b (begun start) (map pair_of xs) t))
-
-      abbrev full : Solo
-      full = with_first (the_attempt rules deepest max_commits thread b start (front (map pair_of xs)) Full) (stopped rules deepest max_commits thread b GaveUp)
-
-      abbrev still_open : Solo
-      still_open = with_first (the_attempt rules deepest max_commits thread b start (map pair_of xs) Unfinished) (stopped rules deepest max_commits thread b Finished)
-
       -- it ends by a commit
       pub ended_block : is_open (state_of b start xs) ≡ false → ((state_of b start xs).wrote && nat_le max_commits b.commits) ≡ false
           → goes (rules.calls_left b.player) b ≡ with_first (row_of thread b start xs (ended_as (state_of b start xs).wrote))
@@ -210,8 +175,8 @@ module _ {P : Type 0} (rules : Rules P) (laws : Obeys rules) (deepest : ℕ) whe
           let q : P = player_then rules.answered (begun start) xs in
           let t : State = state_of b start xs in
           whole_block
-          ∙ (cond-false (is_open t) still_open (cond (t.wrote && nat_le max_commits b.commits) full (yes t)) closed
-          ∙ (cond-false (t.wrote && nat_le max_commits b.commits) full (yes t) free
+          ∙ (cond-false (is_open t) _ _ closed
+          ∙ (cond-false (t.wrote && nat_le max_commits b.commits) _ _ free
           ∙ ((λ i. with_first (row_of thread b start (entries_pairs xs i) (ended_as t.wrote)) (goes n (next_of b (player_pairs (begun start) xs i) t)))
           ∙ ap (with_first (row_of thread b start xs (ended_as t.wrote))) (solo_enough n (rules.calls_left q) (next_of b q t) less (omega arith)))))
 
@@ -222,16 +187,15 @@ module _ {P : Type 0} (rules : Rules P) (laws : Obeys rules) (deepest : ℕ) whe
           let t : State = state_of b start xs in
           let calls : map entry_of (front (map pair_of xs)) ≡ ys = ap (λ (l : List Entry). map entry_of (front (map pair_of l))) is ∙ (ap (map entry_of) (front_snoc ys last) ∙ entries_pairs ys) in
           whole_block
-          ∙ (cond-false (is_open t) still_open (cond (t.wrote && nat_le max_commits b.commits) full (yes t)) closed
-          ∙ (cond-true (t.wrote && nat_le max_commits b.commits) full (yes t) full_is
+          ∙ (cond-false (is_open t) _ _ closed
+          ∙ (cond-true (t.wrote && nat_le max_commits b.commits) _ _ full_is
           ∙ ap (λ (l : List Entry). with_first (row_of thread b start l Full) (stopped rules deepest max_commits thread b GaveUp)) calls))
 
       -- the player leaves it open for good
       pub open_block : is_open (state_of b start xs) ≡ true → goes (rules.calls_left b.player) b ≡ with_first (row_of thread b start xs Unfinished) (stopped rules deepest max_commits thread b Finished)
       open_block opens =
-          let t : State = state_of b start xs in
           whole_block
-          ∙ (cond-true (is_open t) still_open (cond (t.wrote && nat_le max_commits b.commits) full (yes t)) opens
+          ∙ (cond-true (is_open (state_of b start xs)) _ _ opens
           ∙ ap (λ (l : List Entry). with_first (row_of thread b start l Unfinished) (stopped rules deepest max_commits thread b Finished)) (entries_pairs xs))
 
     -- a player that comes to no block
@@ -252,9 +216,7 @@ module _ {P : Type 0} (rules : Rules P) (laws : Obeys rules) (deepest : ℕ) whe
     steps_past : (n : ℕ) (b : Progress P) (c : Call) → is_begin c ≡ false
         → comes (suc n) b.player b.arena (Some c) ≡ comes n (passing b c).player (passing b c).arena (rules.next_call (passing b c).player)
     steps_past n b (Begin props room) e = absurd (cc)
-    steps_past n b Commit e = refl
-    steps_past n b (Read hint width at) e = refl
-    steps_past n b (Write hint at value) e = refl
+    steps_past n b c e = refl
 
     pub comes_past : (n : ℕ) (b : Progress P) (c : Call) → rules.next_call b.player ≡ Some c → is_begin c ≡ false → rules.calls_left b.player ≤ n
         → comes n b.player b.arena (rules.next_call b.player) ≡ comes (rules.calls_left (passing b c).player) (passing b c).player (passing b c).arena (rules.next_call (passing b c).player)

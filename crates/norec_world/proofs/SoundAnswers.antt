@@ -1,22 +1,8 @@
 -- What comes of an answer is recorded, and the actor is between calls again, or has ended.
-use Rattle.std.proofs.Common.{◌≡◌, ℕ, ◌+◌, ◌-◌, ◌*◌, ◌<◌, ◌≤◌, Bool, true, false, nat_lt, [], Option, None, refl, sym, ap, subst, arith, if◌then◌else◌, Vec, Global}
-use Rattle.std.proofs.lemmas.Bool.{ltb-false}
-use Rattle.itm_types.specs.declared.call.Call.{Call}
-use Rattle.itm_types.specs.declared.call.Reply.{Reply as Replied}
-use Rattle.itm_types.specs.declared.call.Reply.TheVariants.{Done}
-use Rattle.norec_engine.specs.declared.answer.Answer.TheVariants.{Reply, Committed}
-use Rattle.norec_engine.specs.Core.{in_transaction}
-use Rattle.norec_world.specs.declared.attempt.Entry.{Entry}
-use Rattle.norec_world.specs.declared.attempt.Attempt.{Attempt}
-use Rattle.norec_world.specs.declared.attempt.End.{End}
-use Rattle.norec_world.specs.declared.attempt.End.TheVariants.{GaveUp}
-use Rattle.norec_world.specs.Rows.{Rows, active_of}
-use Rattle.norec_world.specs.declared.actor.Actor.{Actor}
-use Rattle.norec_world.specs.declared.actor.Status.{Status}
-use Rattle.norec_world.specs.declared.actor.Status.TheVariants.{Ready, Ended}
-use Rattle.norec_world.specs.Sound.{HasRow, IsKept, IsNested, IsAnswered, IsSettledBy, RestsAs, Falls, whole, tries_left, retried}
-use Rattle.norec_world.proofs.PlayerLaws.{Played, plays, closes, rank_less, rank_same, block_less, block_same}
-use Rattle.script_vm.specs.Rules.{Obeys, Rules}
+use Rattle.std.proofs.Common.{◌≡◌, ℕ, ◌+◌, ◌-◌, ◌*◌, ◌<◌, ◌≤◌, Bool, true, false, nat_lt, [], Option, None, refl, sym, ap, subst, arith, if◌then◌else◌, Vec, Global, ltb-false}
+use Rattle.norec_world.proofs.Common.{Actor, Attempt, Call, Committed, Done, End, Ended, Entry, GaveUp, HasRow, IsNested, Obeys, Ready, Replied, Reply, RestsAs, Rows, Rules, Status, active_of, in_transaction, whole}
+use Rattle.norec_world.specs.Sound.{IsKept, IsAnswered, IsSettledBy, Falls, tries_left, retried}
+use Rattle.norec_world.proofs.PlayerLaws.{Played, plays, closes, rank_less, rank_same, block_same}
 
 module _ {P : Type 0} (rules : Rules P) (laws : Obeys rules)
     (r r' : Rows) (a : Actor P) (call : Call) where
@@ -31,13 +17,12 @@ module _ {P : Type 0} (rules : Rules P) (laws : Obeys rules)
       let played : Played rules laws was now a.player player =
       subst (Played rules laws was now a.player) (sym is)
       (plays rules laws a.player call reply d.in_call.asks was now d.nested d.fits.0 d.fits.1) in
-      let new : Actor P = record a { player = player; spare = spare; pending = pending; again = again } in
       record {
         engine = refl;
         thread = refl;
         retries = refl;
         kept = record { row = row; empty = empty; tried = k.tried; tries = k.tries; retries = k.retries };
-        rests = subst (λ (s : Status). RestsAs rules s new) (sym d.status)
+        rests = subst (λ (s : Status). RestsAs rules s (record a { player = player; spare = spare; pending = pending; again = again })) (sym d.status)
             (record { nested = played.nested; idle = d.idle; free = d.free; nothing = nothing });
         falls = λ e. record {
           whole_falls = played.whole_falls;
@@ -57,27 +42,37 @@ module _ {P : Type 0} (rules : Rules P) (laws : Obeys rules)
       let nested : IsNested rules false player = subst (IsNested rules false) (sym is) done.0 in
       let fewer : rules.calls_left player < rules.calls_left (rules.restarted a.player) = subst (λ (p : P). rules.calls_left p < rules.calls_left (rules.restarted a.player)) (sym is) done.1 in
       let closed : false ≡ in_transaction a.engine = sym d.fits.1 in
-      let HasIt : Bool → Type 0 = λ b. HasRow b r' a.thread in
-      let NestedIf : Bool → Type 0 = λ b. IsNested rules b player in
-      let FallsTo : Bool → Type 0 = λ b. Falls rules true b a new in
       let tried = k.tries in
       record {
         engine = refl;
         thread = refl;
         retries = refl;
         kept = record {
-          row = subst HasIt closed row;
+          row = subst (λ (b : Bool). HasRow b r' a.thread) closed row;
           empty = empty;
           tried = (let o : 0 < 1 = omega arith in o);
           tries = (let o : 1 ≤ a.retries + 1 = omega arith in o);
           retries = k.retries;
         };
         rests = subst (λ (s : Status). RestsAs rules s new) (sym d.status)
-            (record { nested = subst NestedIf closed nested; idle = d.idle; free = d.free; nothing = d.in_call.inside refl });
-        falls = λ e. subst FallsTo closed (record {
+            (record { nested = subst (λ (b : Bool). IsNested rules b player) closed nested; idle = d.idle; free = d.free; nothing = d.in_call.inside refl });
+        falls = λ e. subst (λ (b : Bool). Falls rules true b a new) closed (record {
           whole_falls = (let f = fewer in omega arith);
-          rank_falls = λ n b. rank_less _ _ n _ _ (block_less _ _ a.retries (tries_left a) (a.retries + 1 - 1) fewer (omega arith)) (let f = fewer in omega arith);
+          rank_falls = λ n b. rank_less _ _ n _ _ (rank_less _ _ a.retries (tries_left a) (a.retries + 1 - 1) fewer (omega arith)) (let f = fewer in omega arith);
         });
+      }
+
+  -- no more tries: the actor has ended
+  pub after_end : (was : Bool) (end : End) (player : P) (pending : Option Attempt) → IsKept was r a → in_transaction a.engine ≡ false → active_of a.thread r'.active ≡ None
+      → IsSettledBy rules was r' a (record a { player = player; pending = pending; status = Ended end })
+  after_end was end player pending k closed row =
+      record {
+        engine = refl;
+        thread = refl;
+        retries = refl;
+        kept = record { row = subst (λ (b : Bool). HasRow b r' a.thread) (sym closed) row; empty = k.empty; tried = k.tried; tries = k.tries; retries = k.retries };
+        rests = tt;
+        falls = λ over. absurd (cc);
       }
 
   -- a try came to nothing, and the player is where it began the block
@@ -92,45 +87,22 @@ module _ {P : Type 0} (rules : Rules P) (laws : Obeys rules)
 
       tries : (b : Bool) → nat_lt a.retries a.nth ≡ b
           → IsSettledBy rules was r' a (if b then record a { player = player; pending = pending; status = Ended GaveUp } else record a { player = player; pending = pending; nth = a.nth + 1 })
-      tries true e = record {
-        engine = refl;
-        thread = refl;
-        retries = refl;
-        kept = record { row = subst HasIt (sym closed) row; empty = k.empty; tried = k.tried; tries = k.tries; retries = k.retries };
-        rests = tt;
-        falls = λ over. absurd (cc);
-      }
+      tries true e = after_end was GaveUp player pending k closed row
       tries false e =
           let new : Actor P = record a { player = player; pending = pending; nth = a.nth + 1 } in
           let low : a.nth ≤ a.retries = ltb-false a.retries a.nth e in
           let nested' : IsNested rules false player = record { depth_is = outside; begun = λ o. absurd (cc); less = λ o. absurd (cc) } in
-          let NestedIf : Bool → Type 0 = λ b. IsNested rules b player in
-          let FallsTo : Bool → Type 0 = λ b. Falls rules was b a new in
           record {
             engine = refl;
             thread = refl;
             retries = refl;
             kept = record { row = subst HasIt (sym closed) row; empty = k.empty; tried = (let o : 0 < a.nth + 1 = omega arith in o); tries = (let o : a.nth + 1 ≤ a.retries + 1 = omega arith in o); retries = k.retries };
             rests = subst (λ (s : Status). RestsAs rules s new) (sym ready)
-                (record { nested = subst NestedIf (sym closed) nested'; idle = idle; free = free; nothing = nothing });
-            falls = λ over. subst FallsTo (sym closed) (record {
+                (record { nested = subst (λ (b : Bool). IsNested rules b player) (sym closed) nested'; idle = idle; free = free; nothing = nothing });
+            falls = λ over. subst (λ (b : Bool). Falls rules was b a new) (sym closed) (record {
               whole_falls = (let x = same in omega arith);
               rank_falls = λ n b. rank_less _ _ n _ _
                   (let w : rules.calls_left player * (a.retries + 1) ≡ whole rules was a.player * (a.retries + 1) = ap (λ (x : ℕ). x * (a.retries + 1)) same in omega arith)
                   (let x = same in omega arith);
             });
           }
-
-  -- no more tries: the actor has ended
-  pub after_end : (was : Bool) (end : End) → IsKept was r a → in_transaction a.engine ≡ false → active_of a.thread r'.active ≡ None
-      → IsSettledBy rules was r' a (record a { status = Ended end })
-  after_end was end k closed row =
-      let HasIt : Bool → Type 0 = λ b. HasRow b r' a.thread in
-      record {
-        engine = refl;
-        thread = refl;
-        retries = refl;
-        kept = record { row = subst HasIt (sym closed) row; empty = k.empty; tried = k.tried; tries = k.tries; retries = k.retries };
-        rests = tt;
-        falls = λ over. absurd (cc);
-      }

@@ -1,6 +1,6 @@
 -- A call of the player went to the engine: what the engine gave may be recorded.
-use Rattle.std.proofs.Common.{◌≡◌, inr, ℕ, ◌+◌, ◌-◌, ◌*◌, ◌<◌, ◌≤◌, None, refl, sym, subst, ◌∙◌, arith}
-use Rattle.norec_world.proofs.Common.{Actor, Call, Cells, Core, Ended, IsNested, IsNoMore, IsReady, IsSound, Next, Ready, RestsAs, Rows, Rules, Status, StatusIs, Waits, begins_again, came, ending_of, in_transaction, rank, whole}
+use Rattle.std.proofs.Common.{◌≡◌, inr, ℕ, ◌+◌, ◌-◌, ◌*◌, ◌<◌, ◌≤◌, None, refl, sym, ap, subst, ◌∙◌, arith}
+use Rattle.norec_world.proofs.Common.{Actor, Call, active_of, Cells, Core, Ended, IsNested, IsNoMore, IsReady, IsSound, Next, Ready, RestsAs, Rows, Rules, Status, StatusIs, Waits, begins_again, came, ending_of, in_transaction, rank, whole}
 use Rattle.norec_world.specs.Records.{Asks}
 use Rattle.norec_world.specs.Sound.{Falls, IsAsked, IsSettledBy}
 use Rattle.norec_world.proofs.Taken.{HasTaken}
@@ -40,6 +40,13 @@ module _ {P : Type 0} {rules : Rules P} {cells : Cells} {r0 r : Rows} {old a : A
         empty = λ o. (m.sound.tied.settled.closed o).1;
         outside = λ o. (refl, inr m.asked.at_once);
       }
+
+  -- the rows are those that were
+  pub active_same : active_of a.thread r.active ≡ active_of old.thread r0.active
+  active_same = (λ i. active_of (m.asks.thread i) r.active) ∙ ap (λ (x : Rows). active_of old.thread x.active) m.asks.rows_are
+
+  pub ended_same : r.ended ≡ r0.ended
+  ended_same = ap (λ (x : Rows). x.ended) m.asks.rows_are
 
   module _ {r1 : Rows} {last : Actor P} (s : IsSettledBy rules (in_transaction old.engine) r1 a last) where
     -- what comes of an answer is as if the actor had not changed before

@@ -1,6 +1,6 @@
 -- A step was done, and its value came to the engine: what it gave may be recorded.
-use Rattle.std.proofs.Common.{◌≡◌, inl, ℕ, zero, suc, ◌+◌, ◌*◌, ◌/◌, ◌%◌, ◌<◌, ◌≤◌, ◌==◌, Bool, true, false, if◌then◌else◌, Option, None, Some, refl, sym, ap, subst, ◌∙◌, arith, eqb-true}
-use Rattle.norec_world.proofs.Common.{Actor, AllFit, Answers, Asks, Call, Cas, Cells, ClocksOn, Core, Ended, IsDone, IsLawful, IsSound, IsTied, Load, Next, Proceeds, Ready, RestsAs, Rows, Rules, Status, StatusIs, Step, Store, Waits, cells_after, found, handed_is, handed_to, in_transaction, is_inside, is_ready, is_waiting, rank, whole}
+use Rattle.std.proofs.Common.{◌≡◌, inl, ℕ, zero, suc, ◌+◌, ◌*◌, ◌/◌, ◌%◌, ◌<◌, ◌≤◌, ◌==◌, Bool, true, false, if◌then◌else◌, Option, None, Some, refl, sym, true≢false, ap, subst, ◌∙◌, arith, eqb-true}
+use Rattle.norec_world.proofs.Common.{Actor, AllFit, Answers, Asks, Call, Cas, Cells, ClocksOn, Core, IsDone, IsLawful, IsSound, IsTied, Load, Next, Proceeds, Ready, RestsAs, Rows, Rules, Status, StatusIs, Step, Store, Waits, cells_after, found, handed_is, handed_to, in_transaction, is_inside, is_ready, is_waiting, rank, whole}
 use Rattle.norec_engine.specs.Keeps.{Keeps}
 use Rattle.norec_engine.specs.Moves.{IsResumed}
 use Rattle.norec_engine.specs.Proceeds.{AsksFor, IsWithin, most}
@@ -8,11 +8,8 @@ use Rattle.norec_engine.proofs.KeptFields.{most_same}
 use Rattle.norec_world.specs.ClockHolder.{HoldsOn}
 use Rattle.norec_world.specs.Sound.{GoesOn, IsWaiting, steps_left, Falls}
 use Rattle.norec_world.proofs.ClockHolders.{clocks_of, clocks_still, clocks_twice, word_freed}
-use Rattle.norec_world.proofs.Taken.{ClockMoves, HasTaken}
+use Rattle.norec_world.proofs.Taken.{ClockMoves, HasTaken, in_call_of, ready_of}
 use Rattle.norec_world.proofs.TiedEngines.{IsMid, hands, held_even, holds_handed, holds_same, limit_same, tied}
-
-both : (n : Bool) → n ≡ true → n ≡ false → ⊥
-both n t f = absurd (cc)
 
 -- ## The clock over a step
 
@@ -21,17 +18,17 @@ half_taken true clock from to is even up = (let same = is refl in omega arith)
 half_taken false clock from to is even up = refl
 
 moves_of : (cells : Cells) (e : Core) (step : Step) → IsTied cells e → IsLawful e step → ClockMoves cells (cells_after cells step) (handed_to e (Some step) (found cells step))
-moves_of cells e (Load zero) t l = record { frees = λ f. absurd (both e.freed f t.settled.unfreed); keeps = λ f. refl }
-moves_of cells e (Load (suc word)) t l = record { frees = λ f. absurd (both e.freed (sym (word_freed e e.holds word (found cells (Load (suc word)))) ∙ f) t.settled.unfreed); keeps = λ f. refl }
+moves_of cells e (Load zero) t l = record { frees = λ f. absurd (true≢false (sym f ∙ t.settled.unfreed)); keeps = λ f. refl }
+moves_of cells e (Load (suc word)) t l = record { frees = λ f. absurd (true≢false (sym (sym (word_freed e e.holds word (found cells (Load (suc word)))) ∙ f) ∙ t.settled.unfreed)); keeps = λ f. refl }
 moves_of cells e (Store zero value) t l =
     let held = t.holder l.1 in
     let even = held_even e t.settled l.1 in
     let value_is = l.2.0 in
     let half : e.clock / 2 ≡ e.snapshot / 2 = ap (λ (n : ℕ). n / 2) (t.settled.holder l.1).1 in
     record { frees = λ f. ((let x : cells.clock ≡ 2 * (e.snapshot / 2) + 1 = omega arith in x), (let y : value ≡ 2 * (e.snapshot / 2) + 2 = omega arith in y)); keeps = λ f. absurd (cc) }
-moves_of cells e (Store (suc word) value) t l = record { frees = λ f. absurd (both e.freed f t.settled.unfreed); keeps = λ f. refl }
+moves_of cells e (Store (suc word) value) t l = record { frees = λ f. absurd (true≢false (sym f ∙ t.settled.unfreed)); keeps = λ f. refl }
 moves_of cells e (Cas cell from to) t l = record {
-  frees = λ f. absurd (both e.freed f t.settled.unfreed);
+  frees = λ f. absurd (true≢false (sym f ∙ t.settled.unfreed));
   keeps = λ f. half_taken (cells.clock == from) cells.clock from to (λ y. eqb-true cells.clock from y) l.4 l.6;
 }
 
@@ -39,9 +36,9 @@ moves_of cells e (Cas cell from to) t l = record {
 loads_clock : (cells : Cells) (e : Core) (step : Step) → IsTied cells e → IsLawful e step → in_transaction e ≡ false
     → ((cells_after cells step).clock ≡ cells.clock) × ((handed_to e (Some step) (found cells step)).clock ≡ (cells_after cells step).clock)
 loads_clock cells e (Load zero) t l outside = (refl, refl)
-loads_clock cells e (Load (suc word)) t l outside = absurd (both (in_transaction e) l.1.0 outside)
-loads_clock cells e (Store cell value) t l outside = absurd (both (in_transaction e) (t.settled.holder l.1).0 outside)
-loads_clock cells e (Cas cell from to) t l outside = absurd (both (in_transaction e) l.2 outside)
+loads_clock cells e (Load (suc word)) t l outside = absurd (true≢false (sym l.1.0 ∙ outside))
+loads_clock cells e (Store cell value) t l outside = absurd (true≢false (sym (t.settled.holder l.1).0 ∙ outside))
+loads_clock cells e (Cas cell from to) t l outside = absurd (true≢false (sym l.2 ∙ outside))
 
 -- ## The step
 
@@ -80,7 +77,6 @@ module _ {P : Type 0} {rules : Rules P} {cells : Cells} {r : Rows} {old : Actor 
   pub step_taken : (status : Status) → status ≡ Ready → HasTaken rules (in_transaction old.engine) cells cells' r (handed_to old.engine (Some m.step) (found cells m.step)) (record old { engine = new; status = status }) call what
   step_taken status ready =
       let k = m.sound.kept in
-      let i = waits.in_call in
       record {
         was_is = ap is_inside same.blocks;
         proceeds = went;
@@ -90,13 +86,7 @@ module _ {P : Type 0} {rules : Rules P} {cells : Cells} {r : Rows} {old : Actor 
         within = m.within;
         kept = record { row = k.row; empty = k.empty; tried = k.tried; tries = k.tries; retries = k.retries };
         nested = waits.nested;
-        in_call = record {
-          asks = i.asks;
-          begins = i.begins;
-          inside = i.inside;
-          room = i.room;
-          opens = λ row e. (let p = i.opens row e in record { thread = p.thread; nth = p.nth; outcome = p.outcome; room = p.room });
-        };
+        in_call = in_call_of new status waits.in_call;
         ready = ready;
         moves = moves;
         empty = λ e. same.writes ∙ (m.sound.tied.settled.closed e).1;
@@ -152,9 +142,8 @@ module _ {P : Type 0} {rules : Rules P} {cells : Cells} {r : Rows} {old : Actor 
     (r1 : Rows) (last : Actor P) (done : IsDone rules (in_transaction old.engine) r r1 (record old { engine = new; status = status }) last call what) where
   -- an actor that has settled does not wait
   rests_not : {A : Type 0} (st : Status) → RestsAs rules st last → is_waiting st ≡ true → A
-  rests_not Ready rest e = absurd (cc)
   rests_not (Waits c step) rest e = absurd rest
-  rests_not (Ended end) rest e = absurd (cc)
+  rests_not st rest e = absurd (cc)
 
   pub step_on : is_waiting last.status ≡ true → GoesOn rules old last
   step_on = by_what what m done
@@ -166,11 +155,6 @@ module _ {P : Type 0} {rules : Rules P} {cells : Cells} {r : Rows} {old : Actor 
   pub step_falls : is_ready last.status ≡ true → Falls rules (in_transaction old.engine) (in_transaction last.engine) old last
   step_falls = by_what what done
     where
-      ready_of : (st : Status) → is_ready st ≡ true → st ≡ Ready
-      ready_of Ready e = refl
-      ready_of (Waits c step) e = absurd (cc)
-      ready_of (Ended end) e = absurd (cc)
-
       by_what : (x : Next) → IsDone rules (in_transaction old.engine) r r1 (record old { engine = new; status = status }) last call x → is_ready last.status ≡ true → Falls rules (in_transaction old.engine) (in_transaction last.engine) old last
       by_what (Asks step) done e = absurd (let z = sym (ap (λ (y : Actor P). is_ready y.status) done.0) ∙ e in cc)
       by_what (Answers answer) done e = (let f = done.falls (ready_of last.status e) in record { whole_falls = f.whole_falls; rank_falls = f.rank_falls })

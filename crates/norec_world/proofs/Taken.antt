@@ -1,10 +1,14 @@
 -- The moment that a step and a call of the player share: the engine has taken in a value or a call, and what it gave is recorded next.
 use Rattle.std.proofs.Common.{◌≡◌, ◌⊎◌, ◌+◌, ◌*◌, ◌/◌, Bool, true, false, [], refl, ap, subst, ◌∙◌, sym, length, Some}
-use Rattle.norec_world.proofs.Common.{Actor, Answer, Answers, Asks, Call, Cells, Core, Ended, Ends, HasRow, IsAtOnce, IsDone, IsNested, IsSound, IsTied, Next, Proceeds, Ready, Records, RestsAs, Rows, Rules, Status, StatusIs, Step, Tells, Waits, in_transaction}
+use Rattle.norec_world.proofs.Common.{Actor, Answer, Answers, Asks, Call, Cells, Core, Ended, Ends, HasRow, IsAtOnce, IsDone, IsNested, IsSound, IsTied, Next, Proceeds, Ready, Records, RestsAs, Rows, Rules, Status, StatusIs, Step, Tells, Waits, in_transaction, is_ready}
 use Rattle.norec_engine.specs.Proceeds.{IsWithin}
 use Rattle.norec_engine.proofs.AnsweredEngines.{rests}
 use Rattle.norec_world.specs.Sound.{AnswerFits, IsAnswered, IsDue, IsInCall, IsKept, IsSettledBy}
 use Rattle.norec_world.proofs.TiedEngines.{answer_fits}
+
+pub ready_of : (s : Status) → is_ready s ≡ true → s ≡ Ready
+ready_of Ready e = refl
+ready_of s e = absurd (cc)
 
 -- what becomes of the clock, by whether the engine freed it
 pub record ClockMoves (cells cells' : Cells) (mid : Core) : Type 0 where
@@ -44,6 +48,16 @@ module _ {P : Type 0} (rules : Rules P) where
     pub thread : last.thread ≡ a.thread
     pub retries : last.retries ≡ a.retries
 
+-- the call is the same, whatever the engine and the status
+pub in_call_of : {P : Type 0} {rules : Rules P} {was : Bool} {r : Rows} {a : Actor P} {call : Call} (e : Core) (s : Status) → IsInCall rules was r a call → IsInCall rules was r (record a { engine = e; status = s }) call
+in_call_of e s i = record {
+  asks = i.asks;
+  begins = i.begins;
+  inside = i.inside;
+  room = i.room;
+  opens = λ row e. (let p = i.opens row e in record { thread = p.thread; nth = p.nth; outcome = p.outcome; room = p.room });
+}
+
 module _ {P : Type 0} {rules : Rules P} {was : Bool} {cells cells' : Cells} {r : Rows} {mid : Core} {a : Actor P} {call : Call} where
   pub answered : {answer : Answer} → HasTaken rules was cells cells' r mid a call (Answers answer) → IsAnswered rules was r a call answer
   answered {answer} m =
@@ -59,11 +73,8 @@ module _ {P : Type 0} {rules : Rules P} {was : Bool} {cells cells' : Cells} {r :
       }
 
   pub due : {what : Next} → HasTaken rules was cells cells' r mid a call what → IsDue rules was r a call what
-  due {what} m = by_what what m
-    where
-      by_what : (x : Next) → HasTaken rules was cells cells' r mid a call x → IsDue rules was r a call x
-      by_what (Asks step) m = m.ready
-      by_what (Answers answer) m = answered m
+  due {what = Asks step} m = m.ready
+  due {what = Answers answer} m = answered m
 
   -- the actor waits for the step
   pub waits_now : {step : Step} → HasTaken rules was cells cells' r mid a call (Asks step) → IsNow rules cells' r a (record a { status = Waits call step })
@@ -71,7 +82,6 @@ module _ {P : Type 0} {rules : Rules P} {was : Bool} {cells cells' : Cells} {r :
       let g = m.proceeds in
       let opens : was ≡ in_transaction a.engine = sym m.was_is ∙ sym (ap in_transaction g.stays) in
       let k = m.kept in
-      let i = m.in_call in
       record {
         engine = refl;
         thread = refl;
@@ -81,13 +91,7 @@ module _ {P : Type 0} {rules : Rules P} {was : Bool} {cells cells' : Cells} {r :
           kept = record { row = subst (λ (b : Bool). HasRow b r a.thread) opens k.row; empty = k.empty; tried = k.tried; tries = k.tries; retries = k.retries };
           status = record {
             nested = subst (λ (b : Bool). IsNested rules b a.player) opens m.nested;
-            in_call = subst (λ (b : Bool). IsInCall rules b r (record a { status = Waits call step }) call) opens (record {
-              asks = i.asks;
-              begins = i.begins;
-              inside = i.inside;
-              room = i.room;
-              opens = λ row e. (let p = i.opens row e in record { thread = p.thread; nth = p.nth; outcome = p.outcome; room = p.room });
-            });
+            in_call = subst (λ (b : Bool). IsInCall rules b r (record a { status = Waits call step }) call) opens (in_call_of a.engine (Waits call step) m.in_call);
             doing = ap (λ (c : Core). c.doing) g.stays ∙ m.doing;
             waits = ap (λ (c : Core). c.waits) g.stays;
             lawful = g.lawful;
@@ -113,11 +117,8 @@ module _ {P : Type 0} {rules : Rules P} {was : Bool} {cells cells' : Cells} {r :
   -- what holds of an actor that waits, and of one whose call is answered, holds once either is recorded
   pub recorded : {what : Next} {r1 : Rows} {last : Actor P} (Holds : Rows → Actor P → Type 0) → HasTaken rules was cells cells' r mid a call what → IsDone rules was r r1 a last call what → Tells rules was r r1 a last call what
       → ((step : Step) → HasTaken rules was cells cells' r mid a call (Asks step) → Holds r (record a { status = Waits call step })) → ((answer : Answer) → what ≡ Answers answer → HasAnswered rules was cells cells' r r1 mid a last call answer → Holds r1 last) → Holds r1 last
-  recorded {what} {r1} {last} Holds m done tells waits ends = by_what what refl m done tells
-    where
-      by_what : (x : Next) → what ≡ x → HasTaken rules was cells cells' r mid a call x → IsDone rules was r r1 a last call x → Tells rules was r r1 a last call x → Holds r1 last
-      by_what (Asks step) is m done tells = subst (λ (x : Rows). Holds x last) (sym done.1) (subst (Holds r) (sym done.0) (waits step m))
-      by_what (Answers answer) is m done tells = ends answer is (record { taken = m; answered = answered m; ends = m.proceeds; told = tells; settled = done })
+  recorded {what = Asks step} {last} Holds m done tells waits ends = subst (λ (x : Rows). Holds x last) (sym done.1) (subst (Holds r) (sym done.0) (waits step m))
+  recorded {what = Answers answer} Holds m done tells waits ends = ends answer refl (record { taken = m; answered = answered m; ends = m.proceeds; told = tells; settled = done })
 
   pub now : {what : Next} {r1 : Rows} {last : Actor P} → HasTaken rules was cells cells' r mid a call what → IsDone rules was r r1 a last call what → Tells rules was r r1 a last call what → IsNow rules cells' r1 a last
   now m done tells = recorded (λ x y. IsNow rules cells' x a y) m done tells (λ step t. waits_now t) (λ answer is t. answered_now t)

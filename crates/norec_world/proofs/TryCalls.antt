@@ -1,39 +1,20 @@
--- What a call of an actor does to its try, up to its first step.
+-- What a call of an actor, up to its first step, and a step of it do to its try.
 use Rattle.std.proofs.Common.{◌≡◌, ℕ, ◌/◌, Bool, true, false, [], Option, None, Some, refl, sym, ap, subst, ◌∙◌, arith}
-use Rattle.std.proofs.lemmas.List.{append-nil}
-use Rattle.norec_world.proofs.Common.{Actor, Answer, Answers, Asks, Attempt, Begin, Busy, Call, Cells, Commit, Committed, Conflict, Core, Ended, Full, HasRow, IsAtOnce, IsBetween, IsDone, IsReady, IsSound, Next, Opens, Prior, Read, Ready, Reply, Rows, Rules, Status, StatusIs, Step, Tells, Tries, Waits, Write, active_of, asked_pending, between, current_of, ending_of, in_transaction, over, prior_of, runs}
+use Rattle.std.proofs.lemmas.Bool.{false_from_ne_true}
+use Rattle.norec_world.proofs.Common.{Actor, Answer, Answers, Asks, Attempt, Begin, Busy, Call, Cells, Core, Ended, HasRow, IsAtOnce, IsDone, IsSound, IsTold, Next, Opens, Prior, Ready, Reply, Rows, Rules, Status, Step, Tells, Tries, Waits, active_of, asked_pending, begins, ending_of, in_transaction, prior_of}
 use Rattle.norec_world.specs.declared.attempt.Outcome.TheVariants as outcomes
 use Rattle.norec_world.specs.declared.attempt.End.TheVariants as ends
 use Rattle.norec_world.proofs.TiedEngines.{limit_same, snapshot_still}
 use Rattle.norec_world.specs.LocalWork.{Starves}
-use Rattle.norec_world.proofs.SoundCalls.{IsCalling, call_taken, mid, rests as rests_so}
-use Rattle.norec_world.proofs.Taken.{HasAnswered, HasTaken, recorded}
-use Rattle.norec_world.proofs.TryEnds.{is_between, open_tries}
+use Rattle.norec_world.proofs.SoundCalls.{IsCalling, active_same, call_taken, ended_same, mid, rests}
+use Rattle.norec_world.proofs.Taken.{HasAnswered, HasTaken, recorded, now}
+use Rattle.norec_world.proofs.TryEnds.{is_between, open_tries, stays_between, stays_open, stops_try, begin_tries, not_finished, told_tries}
+use Rattle.norec_world.proofs.SoundSteps.{IsStepping, limit_is, mid as mid_step, step_taken}
 
 module _ {P : Type 0} (rules : Rules P)
     (cells : Cells) (r0 : Rows) (old : Actor P) (sound : IsSound rules cells r0 old) (ready : old.status ≡ Ready) where
-  rests : IsReady rules old
-  rests = subst (λ (s : Status). StatusIs rules r0 old s) ready sound.status
-
-  -- no try is open before, and none after
-  stays_between : (r : Rows) (last : Actor P) → active_of old.thread r0.active ≡ None → r.ended ≡ r0.ended → IsBetween cells.clock old.nth r last → Tries cells.clock (prior_of r0 old) cells.clock r last
-  stays_between r last none ended b = between (record { idle = ap (λ (o : Option Attempt). current_of o old.pending) none ∙ rests.nothing; ended = ended; half = refl; between = b })
-
-  -- the open attempt stays as it is
-  stays_open : (r : Rows) (last : Actor P) (row : Attempt) → active_of old.thread r0.active ≡ Some row → active_of last.thread r.active ≡ Some row → r.ended ≡ r0.ended → last.nth ≡ old.nth
-      → (ending_of last.status ≡ Some ends.GaveUp → ⊥) → (ending_of last.status ≡ Some ends.NoMemory → ⊥) → Tries cells.clock (prior_of r0 old) cells.clock r last
-  stays_open r last row was now ended nth goes_on fed = runs (record {
-    row = row;
-    row' = row;
-    was = ap (λ (o : Option Attempt). current_of o old.pending) was;
-    now = now;
-    continues = record { thread = refl; nth = refl; began = refl; props = refl; arena = refl; more = []; calls = sym (append-nil row.calls) };
-    ended = ended;
-    half = refl;
-    tries = nth;
-    goes_on = goes_on;
-    fed = fed;
-  })
+  nothing : old.pending ≡ None
+  nothing = (rests sound ready).nothing
 
   -- ## The player has no more calls
 
@@ -41,9 +22,9 @@ module _ {P : Type 0} (rules : Rules P)
   finish_tries last is = subst (Tries cells.clock (prior_of r0 old) cells.clock r0) (sym is) (by_row (in_transaction old.engine) sound.kept.row)
     where
       by_row : (b : Bool) → HasRow b r0 old.thread → Tries cells.clock (prior_of r0 old) cells.clock r0 (record old { status = Ended ends.Finished })
-      by_row true h = stays_open r0 (record old { status = Ended ends.Finished }) h.0 h.1 h.1 refl refl (λ e. absurd (cc)) (λ e. absurd (cc))
-      by_row false h = stays_between r0 (record old { status = Ended ends.Finished }) h refl
-          (record { none = h; tries = refl; opens = λ row e. absurd (let n = sym rests.nothing ∙ e in cc); goes_on = λ e. absurd (cc) })
+      by_row true h = stays_open cells.clock cells.clock r0 r0 old (record old { status = Ended ends.Finished }) refl refl h.0 h.1 h.1 refl (λ e. absurd (cc)) (λ e. absurd (cc))
+      by_row false h = stays_between cells.clock cells.clock r0 r0 old (record old { status = Ended ends.Finished }) refl refl h nothing
+          (record { none = h; tries = refl; opens = λ row e. absurd (let n = sym nothing ∙ e in cc); goes_on = λ e. absurd (cc) })
 
   -- ## Memory was refused
 
@@ -52,39 +33,20 @@ module _ {P : Type 0} (rules : Rules P)
     where
       by_row : (b : Bool) → in_transaction old.engine ≡ b → HasRow b r0 old.thread → Tries cells.clock (prior_of r0 old) cells.clock r1 last
       by_row true e h =
-          let done : Attempt = record h.0 { at = old.engine.snapshot / 2; outcome = outcomes.NoMemory } in
           let reached = sound.tied.settled.reached in
           let late = sound.tied.late in
-          over (record {
-            row = h.0;
-            row' = done;
-            was = ap (λ (o : Option Attempt). current_of o old.pending) h.1;
-            ended = ap (λ (x : Rows). x.ended) (s.stops e h.0 h.1);
-            continues = record { thread = refl; nth = refl; began = refl; props = refl; arena = refl; more = []; calls = sym (append-nil h.0.calls) };
-            reads = ap (λ (n : ℕ). n / 2) (sym (snapshot_still old.engine last.engine s.engine));
-            at = (refl, omega arith);
-            closed = λ e. absurd (cc);
-            after = record { none = none; status = s.status };
-          })
-      by_row false e h = stays_between r1 last h (ap (λ (x : Rows). x.ended) (s.stays e)) (record {
+          stops_try cells.clock cells.clock r0 r1 old last h.0 (old.engine.snapshot / 2) outcomes.NoMemory h.1 (ap (λ (x : Rows). x.ended) (s.stops e h.0 h.1)) (ap (λ (n : ℕ). n / 2) (sym (snapshot_still old.engine last.engine s.engine)))
+          (refl, omega arith) refl (record { none = none; status = s.status })
+      by_row false e h = stays_between cells.clock cells.clock r0 r1 old last (ap (λ (x : Rows). x.ended) (s.stays e)) refl h nothing (record {
         none = none;
         tries = s.counts.0;
-        opens = λ row p. absurd (let n = sym (s.counts.2 ∙ rests.nothing) ∙ p in cc);
+        opens = λ row p. absurd (let n = sym (s.counts.2 ∙ nothing) ∙ p in cc);
         goes_on = λ x. absurd (let n = ap ending_of s.status in cc);
       })
 
 -- ## The call went to the engine
 
 module _ {P : Type 0} {rules : Rules P} {cells : Cells} {r0 r : Rows} {old a : Actor P} {call : Call} {what : Next} (m : IsCalling rules cells r0 r old a call what) where
-  active_same : active_of a.thread r.active ≡ active_of old.thread r0.active
-  active_same = (λ i. active_of (m.asks.thread i) r.active) ∙ ap (λ (x : Rows). active_of old.thread x.active) m.asks.rows_are
-
-  ended_same : r.ended ≡ r0.ended
-  ended_same = ap (λ (x : Rows). x.ended) m.asks.rows_are
-
-  nothing : old.pending ≡ None
-  nothing = (rests_so m.sound m.ready).nothing
-
   -- an attempt that is to be opened then is one of this moment
   opens_now : (c : Call) → (row : Attempt) → asked_pending false cells.clock old c ≡ Some row → a.engine.arena ≡ old.engine.arena
       → row ≡ record { thread = a.thread; nth = old.nth; began = cells.clock / 2; at = 0; props = row.props; arena = a.engine.arena; calls = []; outcome = outcomes.Unfinished }
@@ -92,18 +54,16 @@ module _ {P : Type 0} {rules : Rules P} {cells : Cells} {r0 r : Rows} {old a : A
       let fresh : Attempt = record { thread = old.thread; nth = old.nth; began = cells.clock / 2; at = 0; props = props; arena = old.engine.arena; calls = []; outcome = outcomes.Unfinished } in
       let is : fresh ≡ row = cc in
       sym is ∙ (λ i. record { thread = (sym m.asks.thread) i; nth = old.nth; began = cells.clock / 2; at = 0; props = (ap (λ (x : Attempt). x.props) is) i; arena = (sym arena) i; calls = []; outcome = outcomes.Unfinished })
-  opens_now Commit row e arena = absurd (let n = sym nothing ∙ e in cc)
-  opens_now (Read hint width at) row e arena = absurd (let n = sym nothing ∙ e in cc)
-  opens_now (Write hint at value) row e arena = absurd (let n = sym nothing ∙ e in cc)
+  opens_now c row e arena = absurd (let n = sym (rests m.sound m.ready).nothing ∙ e in cc)
 
   -- it waits for its first step
   waits_tries : (step : Step) → HasTaken rules (in_transaction old.engine) cells cells r (mid m) a call (Asks step) → Tries cells.clock (prior_of r0 old) cells.clock r (record a { status = Waits call step })
   waits_tries step t = by_row (in_transaction old.engine) refl m.sound.kept.row
     where
       by_row : (b : Bool) → in_transaction old.engine ≡ b → HasRow b r0 old.thread → Tries cells.clock (prior_of r0 old) cells.clock r (record a { status = Waits call step })
-      by_row true e h = stays_open rules cells r0 old m.sound m.ready r (record a { status = Waits call step }) h.0 h.1 (active_same ∙ h.1) ended_same m.asks.nth (λ x. absurd (cc)) (λ x. absurd (cc))
-      by_row false e h = stays_between rules cells r0 old m.sound m.ready r (record a { status = Waits call step }) h ended_same (record {
-        none = active_same ∙ h;
+      by_row true e h = stays_open cells.clock cells.clock r0 r old (record a { status = Waits call step }) (ended_same m) refl h.0 h.1 (active_same m ∙ h.1) m.asks.nth (λ x. absurd (cc)) (λ x. absurd (cc))
+      by_row false e h = stays_between cells.clock cells.clock r0 r old (record a { status = Waits call step }) (ended_same m) refl h (rests m.sound m.ready).nothing (record {
+        none = active_same m ∙ h;
         tries = m.asks.nth;
         opens = λ row p. opens_now call row (ap (λ (b : Bool). asked_pending b cells.clock old call) (sym e) ∙ (sym m.asks.pending ∙ p)) (ap (λ (c : Core). c.arena) t.proceeds.stays);
         goes_on = λ x. absurd (cc);
@@ -120,27 +80,65 @@ module _ {P : Type 0} {rules : Rules P} {cells : Cells} {r0 r : Rows} {old a : A
       by_open true e t =
           let pending : a.pending ≡ old.pending = m.asks.pending ∙ ap (λ (b : Bool). asked_pending b cells.clock old call) e in
           subst (λ (p : Prior). Tries cells.clock p cells.clock r1 last)
-          (λ i. record { ended = ended_same i; active = active_same i; pending = pending i; nth = m.asks.nth i; retries = m.asked.same.retries i; max_commits = limit i })
+          (λ i. record { ended = ended_same m i; active = active_same m i; pending = pending i; nth = m.asks.nth i; retries = m.asked.same.retries i; max_commits = limit i })
           (open_tries answer t)
       by_open false e t = shut answer soon t
         where
           closed : in_transaction a.engine ≡ false
-          closed = stays_shut (in_transaction a.engine) refl
-            where
-              stays_shut : (now : Bool) → in_transaction a.engine ≡ now → in_transaction a.engine ≡ false
-              stays_shut true o = absurd (let f : true ≡ false = sym (m.asked.stays.opens o) ∙ e in cc)
-              stays_shut false o = o
+          closed = false_from_ne_true (in_transaction a.engine) (λ o. absurd (let f : true ≡ false = sym (m.asked.stays.opens o) ∙ e in cc))
 
           shut : (ans : Answer) → IsAtOnce (Answers ans) → HasAnswered rules false cells cells r r1 (mid m) a last call ans → Tries cells.clock (prior_of r0 old) cells.clock r1 last
           shut (Reply reply) soon t =
               let outside : in_transaction last.engine ≡ false = ap in_transaction t.settled.engine ∙ closed in
               let same : r1 ≡ r = subst (λ (b : Bool). Opens b r a.pending (last.engine.snapshot / 2) r1) outside t.told.0 in
-              stays_between rules cells r0 old m.sound m.ready r1 last (sym active_same ∙ t.answered.kept.row) (ap (λ (x : Rows). x.ended) same ∙ ended_same)
+              stays_between cells.clock cells.clock r0 r1 old last (ap (λ (x : Rows). x.ended) same ∙ ended_same m) refl (sym (active_same m) ∙ t.answered.kept.row) (rests m.sound m.ready).nothing
               (is_between rules r r1 a last false t.settled cells.clock old.nth closed (t.told.4 ∙ t.answered.status) (t.told.3 ∙ m.asks.nth))
-          shut (Committed at wrote) soon t = absurd (let f : false ≡ true = t.answered.fits.0 in cc)
-          shut (Conflict clock word) soon t = absurd (let f : false ≡ true = t.answered.fits.0 in cc)
           shut (Busy clock) soon t = absurd soon
-          shut (Full at) soon t = absurd (let f : false ≡ true = t.answered.fits.0 in cc)
+          shut ans soon t = absurd (let f : false ≡ true = t.answered.fits.0 in cc)
 
   pub call_tries : {r1 : Rows} {last : Actor P} → IsDone rules (in_transaction old.engine) r r1 a last call what → Tells rules (in_transaction old.engine) r r1 a last call what → Tries cells.clock (prior_of r0 old) cells.clock r1 last
   call_tries done tells = recorded (λ x y. Tries cells.clock (prior_of r0 old) cells.clock x y) (call_taken m) done tells waits_tries (λ answer is t. answer_tries answer (subst IsAtOnce is m.asked.at_once) t)
+
+-- ## A step
+
+module _ {P : Type 0} {rules : Rules P} {cells : Cells} {r : Rows} {old : Actor P} {call : Call} {what : Next} {cells' : Cells} {new : Core} (m : IsStepping rules cells r old call what cells' new) (status : Status) (ready : status ≡ Ready) where
+  abbrev on : Status → Actor P
+  on s = record old { engine = new; status = s }
+
+  abbrev Tried : Rows → Actor P → Type 0
+  Tried x y = Tries cells.clock (prior_of r old) cells'.clock x y
+
+  -- the call goes on
+  went_on : (step : Step) → HasTaken rules (in_transaction old.engine) cells cells' r (mid_step m) (on status) call (Asks step) → Tried r (on (Waits call step))
+  went_on step t = by_row (in_transaction old.engine) m.sound.kept.row
+    where
+      half : cells'.clock / 2 ≡ cells.clock / 2
+      half = t.moves.keeps t.proceeds.unfreed
+
+      by_pending : (p : Option Attempt) → old.pending ≡ p → active_of old.thread r.active ≡ None → Tried r (on (Waits call step))
+      by_pending None p none = stays_between cells.clock cells'.clock r r old (on (Waits call step)) refl half none p (record { none = none; tries = refl; opens = λ row e. absurd (let n = sym p ∙ e in cc); goes_on = λ e. absurd (cc) })
+      by_pending (Some row) p none = begins (record { none = none; row = row; was = p; now = p; ended = refl; still = none; half = half; tries = refl; on = refl })
+
+      by_row : (b : Bool) → HasRow b r old.thread → Tried r (on (Waits call step))
+      by_row true h = stays_open cells.clock cells'.clock r r old (on (Waits call step)) refl half h.0 h.1 h.1 refl (λ e. absurd (cc)) (λ e. absurd (cc))
+      by_row false h = by_pending old.pending refl h
+
+  answered_on : (answer : Answer) {r1 : Rows} {last : Actor P} → HasAnswered rules (in_transaction old.engine) cells cells' r r1 (mid_step m) (on status) last call answer → Tried r1 last
+  answered_on answer {r1} {last} t =
+      subst (λ (n : ℕ). Tries cells.clock (record (prior_of r old) { max_commits = n }) cells'.clock r1 last) (limit_is m) (by_open (in_transaction old.engine) t)
+    where
+      by_open : (b : Bool) → HasAnswered rules b cells cells' r r1 (mid_step m) (on status) last call answer → Tries cells.clock (prior_of r (on status)) cells'.clock r1 last
+      by_open true t = open_tries answer t
+      by_open false t = begin_tries answer t
+
+  module _ (r1 : Rows) (last : Actor P) (done : IsDone rules (in_transaction old.engine) r r1 (on status) last call what) (tells : Tells rules (in_transaction old.engine) r r1 (on status) last call what) where
+    -- what the step leaves, once the open attempt is told where it reads
+    pub step_tries : (rows : Rows) → IsTold last.thread (in_transaction last.engine) r1 (last.engine.snapshot / 2) rows → Tries cells.clock (prior_of r old) cells'.clock rows last
+    step_tries rows told =
+        let t = step_taken m status ready in
+        told_tries cells.clock cells'.clock (prior_of r old) r1 rows last (now t done tells).sound.kept.row told (recorded Tried t done tells went_on (λ answer is t. answered_on answer t))
+
+    -- an actor finishes in its local work alone
+    pub step_unfinished : ending_of last.status ≡ Some ends.Finished → ⊥
+    step_unfinished = recorded (λ x y. ending_of y.status ≡ Some ends.Finished → ⊥) (step_taken m status ready) done tells (λ step t e. absurd (cc))
+        (λ answer is t. not_finished rules r r1 (on status) last call (in_transaction old.engine) ready answer t.told)

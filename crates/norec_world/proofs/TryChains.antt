@@ -1,10 +1,12 @@
 -- Local work after an event, or after other local work: what becomes of the try.
 use Rattle.std.proofs.Common.{◌≡◌, ℕ, ◌+◌, ◌/◌, Bool, true, false, nat_lt, List, [], ◌∷◌, ◌++◌, append_assoc, Option, None, Some, refl, sym, ap, subst, ◌∙◌, arith}
-use Rattle.std.proofs.lemmas.List.{append-nil}
-use Rattle.norec_world.proofs.Common.{Actor, Attempt, Cells, Ended, EndsAt, Entry, HasRow, IsBetween, IsReady, IsSound, Outcome, Prior, Ready, Rows, Rules, Status, StatusIs, Tries, active_of, begins, between, current_of, ending_of, in_transaction, over, prior_of, runs, turned_away}
+use Rattle.norec_world.proofs.Common.{Actor, Attempt, Cells, Ended, EndsAt, Entry, HasRow, IsBetween, IsSound, Outcome, Prior, Ready, Rows, Rules, Tries, active_of, begins, between, current_of, ending_of, in_transaction, over, prior_of, runs, turned_away}
 use Rattle.norec_world.specs.declared.attempt.Outcome.TheVariants as outcomes
 use Rattle.norec_world.specs.declared.attempt.End.TheVariants as ends
 use Rattle.norec_world.specs.Tries.{Continues, TriesAgain, GoesOnAfter}
+use Rattle.norec_world.proofs.Beginnings.{starts_between}
+use Rattle.norec_world.proofs.SoundCalls.{rests}
+use Rattle.norec_world.proofs.TryEnds.{stays_between, stays_open}
 
 continues_twice : (a b c : Attempt) → Continues a b → Continues b c → Continues a c
 continues_twice a b c x y = record {
@@ -20,11 +22,9 @@ continues_twice a b c x y = record {
 -- with no step an attempt ends as it would have at the event before
 ends_on : (max_commits clock clock1 at : ℕ) (o : Outcome) → clock1 / 2 ≡ clock / 2 → EndsAt max_commits clock1 clock1 at o → EndsAt max_commits clock clock1 at o
 ends_on max_commits clock clock1 at outcomes.Committed half e = absurd (let x = e.0 in let y = e.1 in omega arith)
-ends_on max_commits clock clock1 at outcomes.ReadOnly half e = (half, e.1)
-ends_on max_commits clock clock1 at outcomes.Conflict half e = (half, e.1)
 ends_on max_commits clock clock1 at outcomes.Full half e = (half, e.1, e.2)
-ends_on max_commits clock clock1 at outcomes.NoMemory half e = (half, e.1)
 ends_on max_commits clock clock1 at outcomes.Unfinished half e = absurd e
+ends_on max_commits clock clock1 at o half e = (half, e.1)
 
 module _ {P : Type 0} (clock clock1 : ℕ) (p : Prior) (r1 r2 : Rows) (a1 a2 : Actor P) (ready : a1.status ≡ Ready) (nothing : a1.pending ≡ None)
     (limit : a1.engine.max_commits ≡ p.max_commits) (retries : a1.retries ≡ p.retries) (still : a2.engine.snapshot ≡ a1.engine.snapshot) (work : Tries clock1 (prior_of r1 a1) clock1 r2 a2) where
@@ -38,14 +38,7 @@ module _ {P : Type 0} (clock clock1 : ℕ) (p : Prior) (r1 r2 : Rows) (a1 a2 : A
 
   -- between two tries, it stays there
   from_between : (nth : ℕ) → IsBetween clock1 nth r1 a1 → IsBetween clock1 nth r2 a2 × (r2.ended ≡ r1.ended)
-  from_between nth b = by_work work
-    where
-      by_work : Tries clock1 (prior_of r1 a1) clock1 r2 a2 → IsBetween clock1 nth r2 a2 × (r2.ended ≡ r1.ended)
-      by_work (between t) = (subst (λ (n : ℕ). IsBetween clock1 n r2 a2) b.tries t.between, t.ended)
-      by_work (begins t) = absurd (let n = sym nothing ∙ t.was in cc)
-      by_work (runs t) = absurd (let n = sym b.none ∙ was_open t.row t.was in cc)
-      by_work (over t) = absurd (let n = sym b.none ∙ was_open t.row t.was in cc)
-      by_work (turned_away t) = absurd (let n = sym nothing ∙ t.was in cc)
+  from_between nth b = starts_between clock1 nth (prior_of r1 a1) r2 a2 work b.none nothing b.tries
 
   not_stopped : {A : Type 0} (end : _) → a1.status ≡ Ended end → A
   not_stopped end e = absurd (let n = sym ready ∙ e in cc)
@@ -58,19 +51,14 @@ module _ {P : Type 0} (clock clock1 : ℕ) (p : Prior) (r1 r2 : Rows) (a1 a2 : A
   after outcomes.Committed t = from_between 1 t
   after outcomes.ReadOnly t = from_between 1 t
   after outcomes.Conflict t = again (nat_lt p.retries p.nth) t
-  after outcomes.Full t = not_stopped ends.GaveUp t.status
-  after outcomes.NoMemory t = not_stopped ends.NoMemory t.status
   after outcomes.Unfinished t = absurd t
+  after o t = not_stopped _ t.status
 
   -- the tries left and the limit are what they were
   after_same : (o : Outcome) → (nth : ℕ) → nth ≡ p.nth → GoesOnAfter o clock1 (record { ended = r1.ended; active = active_of a1.thread r1.active; pending = a1.pending; nth = nth; retries = a1.retries; max_commits = a1.engine.max_commits }) r2 a2
       → GoesOnAfter o clock1 p r2 a2
-  after_same outcomes.Committed nth e t = t
-  after_same outcomes.ReadOnly nth e t = t
   after_same outcomes.Conflict nth e t = subst (λ (k : ℕ). TriesAgain (nat_lt k p.nth) clock1 p.nth r2 a2) retries (subst (λ (k : ℕ). TriesAgain (nat_lt a1.retries k) clock1 k r2 a2) e t)
-  after_same outcomes.Full nth e t = t
-  after_same outcomes.NoMemory nth e t = t
-  after_same outcomes.Unfinished nth e t = t
+  after_same o nth e t = t
 
   pub tries_then : Tries clock p clock1 r1 a1 → Tries clock p clock1 r2 a2
   tries_then (between t) = (let b = from_between p.nth t.between in between (record { idle = t.idle; ended = b.1 ∙ t.ended; half = t.half; between = b.0 }))
@@ -117,11 +105,8 @@ module _ {P : Type 0} (clock clock1 : ℕ) (p : Prior) (r1 r2 : Rows) (a1 a2 : A
 -- no work
 module _ {P : Type 0} (rules : Rules P)
     (cells : Cells) (r : Rows) (a : Actor P) (sound : IsSound rules cells r a) (ready : a.status ≡ Ready) where
-  rests : IsReady rules a
-  rests = subst (λ (s : Status). StatusIs rules r a s) ready sound.status
-
   pub no_pending : a.pending ≡ None
-  no_pending = rests.nothing
+  no_pending = (rests sound ready).nothing
 
   pub tries_still : Tries cells.clock (prior_of r a) cells.clock r a
   tries_still = by_row (in_transaction a.engine) sound.kept.row
@@ -130,21 +115,6 @@ module _ {P : Type 0} (rules : Rules P)
       goes_on e = absurd (let n = sym (ap ending_of ready) ∙ e in cc)
 
       by_row : (b : Bool) → HasRow b r a.thread → Tries cells.clock (prior_of r a) cells.clock r a
-      by_row true h = runs (record {
-        row = h.0;
-        row' = h.0;
-        was = ap (λ (o : Option Attempt). current_of o a.pending) h.1;
-        now = h.1;
-        continues = record { thread = refl; nth = refl; began = refl; props = refl; arena = refl; more = []; calls = sym (append-nil h.0.calls) };
-        ended = refl;
-        half = refl;
-        tries = refl;
-        goes_on = goes_on;
-        fed = goes_on;
-      })
-      by_row false h = between (record {
-        idle = ap (λ (o : Option Attempt). current_of o a.pending) h ∙ rests.nothing;
-        ended = refl;
-        half = refl;
-        between = record { none = h; tries = refl; opens = λ row e. absurd (let n = sym rests.nothing ∙ e in cc); goes_on = goes_on };
-      })
+      by_row true h = stays_open cells.clock cells.clock r r a a refl refl h.0 h.1 h.1 refl goes_on goes_on
+      by_row false h = stays_between cells.clock cells.clock r r a a refl refl h no_pending
+          (record { none = h; tries = refl; opens = λ row e. absurd (let n = sym no_pending ∙ e in cc); goes_on = goes_on })

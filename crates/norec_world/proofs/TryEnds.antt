@@ -1,8 +1,7 @@
 -- What an answer does to the try that its call belongs to.
-use Rattle.std.proofs.Common.{inl, inr, ◌≡◌, ℕ, ◌+◌, ◌*◌, ◌/◌, ◌%◌, ◌≤◌, Bool, true, false, nat_lt, if◌then◌else◌, is_some, List, [], ◌∷◌, ◌++◌, Option, None, Some, refl, sym, ap, subst, ◌∙◌, arith}
-use Rattle.std.proofs.lemmas.List.{append-nil}
+use Rattle.std.proofs.Common.{true≢false, inl, inr, ◌≡◌, ℕ, ◌+◌, ◌*◌, ◌/◌, ◌%◌, ◌≤◌, Bool, true, false, nat_lt, if◌then◌else◌, is_some, List, [], ◌∷◌, ◌++◌, Option, None, Some, refl, sym, ap, subst, ◌∙◌, arith, append-nil}
+use Rattle.std.proofs.lemmas.Bool.{false_from_ne_true, true_from_ne_false}
 use Rattle.norec_world.proofs.Common.{Actor, Agrees, Answer, Attempt, Begin, Busy, Call, Cells, Committed, Conflict, Core, End, Ended, EndsAt, Full, HasRow, IsBetween, IsMemory, IsReady, IsTied, IsTold, MAX_DEPTH, Opens, Outcome, Prior, Props, Ready, Records, Replied, Replies, RepliesTo, Reply, RestsAs, Rows, Rules, State, Status, Tries, active_of, after, begins, between, current_of, ending_of, in_transaction, is_begin, over, prior_of, runs, turned_away}
-use Rattle.itm_types.specs.declared.call.Call.TheVariants as calls
 use Rattle.itm_types.specs.declared.call.Reply.TheVariants as replies
 use Rattle.norec_engine.specs.Stands.{state_over, stands_for}
 use Rattle.norec_engine.specs.Proceeds.{IsBegin}
@@ -11,27 +10,68 @@ use Rattle.norec_world.specs.declared.attempt.Outcome.TheVariants as outcomes
 use Rattle.norec_world.specs.declared.attempt.End.TheVariants as ends
 use Rattle.norec_world.specs.Records.{CountsTry}
 use Rattle.norec_world.specs.Sound.{IsSettledBy}
-use Rattle.norec_world.specs.Tries.{TriesAgain, GoesOnAfter}
+use Rattle.norec_world.specs.Tries.{TriesAgain, GoesOnAfter, is_done}
 use Rattle.norec_world.proofs.Taken.{HasAnswered}
 use Rattle.norec_world.proofs.ActiveRows.{changed_here, opened_here}
-use Rattle.norec_world.proofs.RecordedRows.{was_open}
-
--- no row where the engine is outside
-pub no_row : (b : Bool) (r : Rows) (thread : ℕ) → b ≡ false → HasRow b r thread → active_of thread r.active ≡ None
-no_row true r thread e h = absurd (cc)
-no_row false r thread e h = h
+use Rattle.norec_world.proofs.RecordedRows.{row_none, was_open}
 
 pub unfreed_to : (mid new : Core) (o : Option Call) (r : Replied) → RepliesTo mid o r new → mid.freed ≡ false
 unfreed_to mid new None r g = absurd g
 unfreed_to mid new (Some call) r g = g.unfreed
 
+-- ## What stays as it is, and what ends with no call more
+
+module _ {P : Type 0} (clock clock' : ℕ) (r r' : Rows) (a a' : Actor P) (ended : r'.ended ≡ r.ended) (half : clock' / 2 ≡ clock / 2) where
+  -- no try is open before, and none after
+  pub stays_between : active_of a.thread r.active ≡ None → a.pending ≡ None → IsBetween clock' a.nth r' a' → Tries clock (prior_of r a) clock' r' a'
+  stays_between none nothing b = between (record { idle = ap (λ (o : Option Attempt). current_of o a.pending) none ∙ nothing; ended = ended; half = half; between = b })
+
+  -- the open attempt stays as it is
+  pub stays_open : (row : Attempt) → active_of a.thread r.active ≡ Some row → active_of a'.thread r'.active ≡ Some row → a'.nth ≡ a.nth → (ending_of a'.status ≡ Some ends.GaveUp → ⊥) → (ending_of a'.status ≡ Some ends.NoMemory → ⊥)
+      → Tries clock (prior_of r a) clock' r' a'
+  stays_open row was now nth goes_on fed = runs (record {
+    row = row;
+    row' = row;
+    was = ap (λ (o : Option Attempt). current_of o a.pending) was;
+    now = now;
+    continues = record { thread = refl; nth = refl; began = refl; props = refl; arena = refl; more = []; calls = sym (append-nil row.calls) };
+    ended = ended;
+    half = half;
+    tries = nth;
+    goes_on = goes_on;
+    fed = fed;
+  })
+
+-- the open attempt ends, and not by its commit
+pub stops_try : {P : Type 0} (clock clock' : ℕ) (r r' : Rows) (a a' : Actor P) (row : Attempt) (at : ℕ) (outcome : Outcome) → active_of a.thread r.active ≡ Some row → r'.ended ≡ r.ended ++ record row { at = at; outcome = outcome } ∷ []
+    → at ≡ a'.engine.snapshot / 2 → EndsAt a.engine.max_commits clock clock' at outcome → is_done outcome ≡ false → GoesOnAfter outcome clock' (prior_of r a) r' a' → Tries clock (prior_of r a) clock' r' a'
+stops_try clock clock' r r' a a' row at outcome was ended reads ends undone goes = over (record {
+  row = row;
+  row' = record row { at = at; outcome = outcome };
+  was = ap (λ (o : Option Attempt). current_of o a.pending) was;
+  ended = ended;
+  continues = record { thread = refl; nth = refl; began = refl; props = refl; arena = refl; more = []; calls = sym (append-nil row.calls) };
+  reads = reads;
+  at = ends;
+  closed = λ e. absurd (cc);
+  after = goes;
+})
+
 module _ {P : Type 0} (rules : Rules P)
     (r r1 : Rows) (a last : Actor P) (was : Bool) (settled : IsSettledBy rules was r1 a last) where
   none_active : in_transaction a.engine ≡ false → active_of last.thread r1.active ≡ None
-  none_active closed = no_row (in_transaction last.engine) r1 last.thread (ap in_transaction settled.engine ∙ closed) settled.kept.row
+  none_active closed = row_none r1 last.thread (in_transaction last.engine) (λ o. true≢false (sym o ∙ (ap in_transaction settled.engine ∙ closed))) settled.kept.row
 
   pub none_pending : last.status ≡ Ready → last.pending ≡ None
   none_pending ready = (let rest : IsReady rules last = subst (λ (s : Status). RestsAs rules s last) ready settled.rests in rest.nothing)
+
+  -- nor where it goes on to another try
+  pub none_retried : CountsTry a last → a.status ≡ Ready → (ending_of last.status ≡ Some ends.GaveUp → ⊥) → last.pending ≡ None
+  none_retried counts ready on = none_pending (by_case (nat_lt a.retries a.nth) counts.status)
+    where
+      by_case : (b : Bool) → last.status ≡ (if b then Ended ends.GaveUp else a.status) → last.status ≡ Ready
+      by_case true s = absurd (on (ap ending_of s))
+      by_case false s = s ∙ ready
 
   -- the actor is between two tries
   pub is_between : (clock nth : ℕ) → in_transaction a.engine ≡ false → last.status ≡ Ready → last.nth ≡ nth → IsBetween clock nth r1 last
@@ -76,7 +116,6 @@ module _ {P : Type 0} {rules : Rules P} {cells cells' : Cells} {r r1 : Rows} {mi
   open_tries (Committed at wrote) m =
       let row = m.answered.kept.row in
       let closed : in_transaction a.engine ≡ false = m.answered.fits.1 in
-      let ready : last.status ≡ Ready = m.told.4 ∙ m.answered.status in
       let done : Attempt = record row.0 { calls = row.0.calls ++ record { call = call; reply = replies.Done } ∷ []; at = at; outcome = if wrote then outcomes.Committed else outcomes.ReadOnly } in
       over (record {
         row = row.0;
@@ -87,7 +126,7 @@ module _ {P : Type 0} {rules : Rules P} {cells cells' : Cells} {r r1 : Rows} {mi
         reads = m.ends.at_is ∙ ap (λ (n : ℕ). n / 2) (sym (ap (λ (c : Core). c.snapshot) (m.settled.engine ∙ m.ends.stays)));
         at = at_end wrote refl;
         closed = λ e. (row.0.calls, (λ i. row.0.calls ++ record { call = m.answered.fits.2 i; reply = replies.Done } ∷ []));
-        after = after_end wrote (is_between rules r r1 a last true m.settled cells'.clock 1 closed ready m.told.3);
+        after = after_end wrote (is_between rules r r1 a last true m.settled cells'.clock 1 closed (m.told.4 ∙ m.answered.status) m.told.3);
       })
     where
       at_end : (b : Bool) → wrote ≡ b → EndsAt a.engine.max_commits cells.clock cells'.clock at (if b then outcomes.Committed else outcomes.ReadOnly)
@@ -103,22 +142,9 @@ module _ {P : Type 0} {rules : Rules P} {cells cells' : Cells} {r r1 : Rows} {mi
       after_end false x = x
   open_tries (Conflict clock word) m =
       let row = m.answered.kept.row in
-      let same : last.engine.snapshot ≡ mid.snapshot = ap (λ (c : Core). c.snapshot) (m.settled.engine ∙ m.ends.stays) in
-      let now : a.engine.clock ≡ mid.clock = ap (λ (c : Core). c.clock) m.ends.stays in
-      let later = m.ends.later in
-      let clock_is = m.ends.clock_is in
-      let late = m.taken.tied.late in
-      over (record {
-        row = row.0;
-        row' = record row.0 { at = last.engine.snapshot / 2; outcome = outcomes.Conflict };
-        was = ap (λ (o : Option Attempt). current_of o a.pending) row.1;
-        ended = ap (λ (x : Rows). x.ended) (m.told.0 row.0 row.1);
-        continues = record { thread = refl; nth = refl; began = refl; props = refl; arena = refl; more = []; calls = sym (append-nil row.0.calls) };
-        reads = refl;
-        at = (m.taken.moves.keeps m.ends.unfreed, omega arith);
-        closed = λ e. absurd (cc);
-        after = tries_again rules r r1 a last true m.settled cells'.clock m.answered.fits.1 m.answered.status m.told.2;
-      })
+      stops_try cells.clock cells'.clock r r1 a last row.0 (last.engine.snapshot / 2) outcomes.Conflict row.1 (ap (λ (x : Rows). x.ended) (m.told.0 row.0 row.1)) refl
+      (m.taken.moves.keeps m.ends.unfreed, omega (arith, ap (λ (c : Core). c.snapshot) (m.settled.engine ∙ m.ends.stays), ap (λ (c : Core). c.clock) m.ends.stays, m.ends.later, m.ends.clock_is, m.taken.tied.late)) refl
+      (tries_again rules r r1 a last true m.settled cells'.clock m.answered.fits.1 m.answered.status m.told.2)
   open_tries (Busy clock) m = absurd (let f : true ≡ false = m.answered.fits.0 in cc)
   open_tries (Full at) m =
       let row = m.answered.kept.row in
@@ -126,17 +152,8 @@ module _ {P : Type 0} {rules : Rules P} {cells cells' : Cells} {r r1 : Rows} {mi
       let full = m.ends.full in
       let is = m.ends.at_is in
       let l = seen cells' a.engine m.taken.tied in
-      over (record {
-        row = row.0;
-        row' = record row.0 { at = at; outcome = outcomes.Full };
-        was = ap (λ (o : Option Attempt). current_of o a.pending) row.1;
-        ended = ap (λ (x : Rows). x.ended) (m.told.0 row.0 row.1);
-        continues = record { thread = refl; nth = refl; began = refl; props = refl; arena = refl; more = []; calls = sym (append-nil row.0.calls) };
-        reads = m.ends.at_is ∙ ap (λ (n : ℕ). n / 2) (sym (ap (λ (c : Core). c.snapshot) m.settled.engine));
-        at = (m.taken.moves.keeps m.ends.unfreed, omega arith, omega arith);
-        closed = λ e. absurd (cc);
-        after = record { none = none_active rules r r1 a last true m.settled m.answered.fits.1; status = m.told.1 };
-      })
+      stops_try cells.clock cells'.clock r r1 a last row.0 at outcomes.Full row.1 (ap (λ (x : Rows). x.ended) (m.told.0 row.0 row.1)) (m.ends.at_is ∙ ap (λ (n : ℕ). n / 2) (sym (ap (λ (c : Core). c.snapshot) m.settled.engine)))
+      (m.taken.moves.keeps m.ends.unfreed, omega arith, omega arith) refl (record { none = none_active rules r r1 a last true m.settled m.answered.fits.1; status = m.told.1 })
 
 -- ## A begin is answered
 
@@ -145,21 +162,16 @@ pub begin_opens : (mid new : Core) (m : List ℕ) (props : Props) (room : ℕ) (
 begin_opens mid new m props room reply g outside memory agrees closed =
     let opened_blocks = ap (λ (b : List Props). (after MAX_DEPTH (state_over mid.writes b mid.arena m) (Begin props room)).blocks) (none_inside mid.blocks outside) in
     let blocks = ap (λ (s : State). s.blocks) (g.meets m memory agrees) in
-    let none : (stands_for new m).blocks ≡ [] = ap (λ (b : List Props). (state_over new.writes b new.arena m).blocks) (none_inside new.blocks closed) in
-    let some = sym none ∙ (blocks ∙ opened_blocks) in
+    let some = sym (ap (λ (b : List Props). (state_over new.writes b new.arena m).blocks) (none_inside new.blocks closed)) ∙ (blocks ∙ opened_blocks) in
     absurd (cc)
 
 pub begin_call : (call : Call) → is_begin call ≡ true → (props : Props) × (room : ℕ) × (call ≡ Begin props room)
 begin_call (Begin props room) e = (props, room, refl)
-begin_call calls.Commit e = absurd (cc)
-begin_call (calls.Read hint width at) e = absurd (cc)
-begin_call (calls.Write hint at value) e = absurd (cc)
+begin_call call e = absurd (cc)
 
 call_begins : (call : Call) → IsBegin (Some call) → is_begin call ≡ true
 call_begins (Begin props room) b = refl
-call_begins calls.Commit b = absurd b
-call_begins (calls.Read hint width at) b = absurd b
-call_begins (calls.Write hint at value) b = absurd b
+call_begins call b = absurd b
 
 module _ {P : Type 0} {rules : Rules P} {cells cells' : Cells} {r r1 : Rows} {mid : Core} {a last : Actor P} {call : Call} where
   pub begin_tries : (ans : Answer) → HasAnswered rules false cells cells' r r1 mid a last call ans → Tries cells.clock (prior_of r a) cells'.clock r1 last
@@ -204,8 +216,6 @@ module _ {P : Type 0} {rules : Rules P} {cells cells' : Cells} {r r1 : Rows} {mi
             half = ap (λ (n : ℕ). n / 2) (m.taken.outside refl).0;
             between = is_between rules r r1 a last false m.settled cells'.clock a.nth (opens_now false e) ready m.told.3;
           })
-  begin_tries (Committed at wrote) m = absurd (let f : false ≡ true = m.answered.fits.0 in cc)
-  begin_tries (Conflict clock word) m = absurd (let f : false ≡ true = m.answered.fits.0 in cc)
   begin_tries (Busy clock) m = by_pending a.pending refl
     where
       by_pending : (p : Option Attempt) → a.pending ≡ p → Tries cells.clock (prior_of r a) cells'.clock r1 last
@@ -222,7 +232,7 @@ module _ {P : Type 0} {rules : Rules P} {cells cells' : Cells} {r r1 : Rows} {mi
         same = (m.taken.outside refl).0;
         after = tries_again rules r r1 a last false m.settled cells'.clock m.answered.fits.1 m.answered.status m.told.2;
       })
-  begin_tries (Full at) m = absurd (let f : false ≡ true = m.answered.fits.0 in cc)
+  begin_tries answer m = absurd (let f : false ≡ true = m.answered.fits.0 in cc)
 
 -- ## An answer ends no actor but one that gives up
 
@@ -241,62 +251,47 @@ module _ {P : Type 0} (rules : Rules P) (r r1 : Rows) (a last : Actor P) (call :
         by_case true s = gave_up_not s e
         by_case false s = ready_not (s ∙ ready) e
 
-    pub not_ended : (ans : Answer) → Records rules was r r1 a last call ans → ending_of last.status ≡ Some end → ⊥
-    not_ended (Reply reply) told e = by_was was told
-      where
-        by_was : (b : Bool) → Records rules b r r1 a last call (Reply reply) → ⊥
-        by_was true told = ready_not (told.4 ∙ ready) e
-        by_was false told = ready_not (told.4 ∙ ready) e
-    not_ended (Committed at wrote) told e = ready_not (told.4 ∙ ready) e
-    not_ended (Conflict clock word) told e = tried_on told.2 e
-    not_ended (Busy clock) told e = tried_on told.2 e
-    not_ended (Full at) told e = gave_up_not told.1 e
+    not_ended : (b : Bool) (ans : Answer) → Records rules b r r1 a last call ans → ending_of last.status ≡ Some end → ⊥
+    not_ended true (Reply reply) told e = ready_not (told.4 ∙ ready) e
+    not_ended false (Reply reply) told e = ready_not (told.4 ∙ ready) e
+    not_ended b (Committed at wrote) told e = ready_not (told.4 ∙ ready) e
+    not_ended b (Full at) told e = gave_up_not told.1 e
+    not_ended b answer told e = tried_on told.2 e
 
   pub not_finished : (ans : Answer) → Records rules was r r1 a last call ans → ending_of last.status ≡ Some ends.Finished → ⊥
-  not_finished = not_ended ends.Finished (λ e. absurd (cc))
+  not_finished = not_ended ends.Finished (λ e. absurd (cc)) was
 
   pub not_starved : (ans : Answer) → Records rules was r r1 a last call ans → ending_of last.status ≡ Some ends.NoMemory → ⊥
-  not_starved = not_ended ends.NoMemory (λ e. absurd (cc))
+  not_starved = not_ended ends.NoMemory (λ e. absurd (cc)) was
 
 -- ## The open attempt is told where it reads
+
+pub none_again : {P : Type 0} (clock nth : ℕ) (r : Rows) (a : Actor P) (b : Bool) → TriesAgain b clock nth r a → active_of a.thread r.active ≡ None
+none_again clock nth r a true t = t.none
+none_again clock nth r a false t = t.none
 
 module _ {P : Type 0} (clock clock' : ℕ) (p : Prior) (r r' : Rows) (a : Actor P) (row : HasRow (in_transaction a.engine) r a.thread) (told : IsTold a.thread (in_transaction a.engine) r (a.engine.snapshot / 2) r') where
   -- with none open nothing is told
   stays_none : active_of a.thread r.active ≡ None → r' ≡ r
-  stays_none none = by_open (in_transaction a.engine) refl row
-    where
-      by_open : (b : Bool) → in_transaction a.engine ≡ b → HasRow b r a.thread → r' ≡ r
-      by_open true e h = absurd (let n = sym none ∙ h.1 in cc)
-      by_open false e h = told.stays e
+  stays_none none = told.stays (false_from_ne_true (in_transaction a.engine) (λ o. absurd (let h = subst (λ (b : Bool). HasRow b r a.thread) o row in let n = sym none ∙ h.1 in cc)))
 
   opened_so : (x : Attempt) → active_of a.thread r.active ≡ Some x → in_transaction a.engine ≡ true
-  opened_so x some = by_open (in_transaction a.engine) refl row
-    where
-      by_open : (b : Bool) → in_transaction a.engine ≡ b → HasRow b r a.thread → in_transaction a.engine ≡ true
-      by_open true e h = e
-      by_open false e h = absurd (let n = sym h ∙ some in cc)
+  opened_so x some = true_from_ne_false (in_transaction a.engine) (λ o. absurd (let n = sym (subst (λ (b : Bool). HasRow b r a.thread) o row) ∙ some in cc))
 
   unchanged : active_of a.thread r.active ≡ None → Tries clock p clock' r a → Tries clock p clock' r' a
   unchanged none t = subst (λ (x : Rows). Tries clock p clock' x a) (sym (stays_none none)) t
 
   -- no row where one has stopped or is between two tries
-  none_again : (b : Bool) → TriesAgain b clock' p.nth r a → active_of a.thread r.active ≡ None
-  none_again true t = t.none
-  none_again false t = t.none
-
   none_after : (o : Outcome) → GoesOnAfter o clock' p r a → active_of a.thread r.active ≡ None
-  none_after outcomes.Committed t = t.none
-  none_after outcomes.ReadOnly t = t.none
-  none_after outcomes.Conflict t = none_again (nat_lt p.retries p.nth) t
-  none_after outcomes.Full t = t.none
-  none_after outcomes.NoMemory t = t.none
+  none_after outcomes.Conflict t = none_again clock' p.nth r a (nat_lt p.retries p.nth) t
   none_after outcomes.Unfinished t = absurd t
+  none_after o t = t.none
 
   pub told_tries : Tries clock p clock' r a → Tries clock p clock' r' a
   told_tries (between t) = unchanged t.between.none (between t)
   told_tries (begins t) = unchanged t.still (begins t)
   told_tries (over t) = unchanged (none_after t.row'.outcome t.after) (over t)
-  told_tries (turned_away t) = unchanged (none_again (nat_lt p.retries p.nth) t.after) (turned_away t)
+  told_tries (turned_away t) = unchanged (none_again clock' p.nth r a (nat_lt p.retries p.nth) t.after) (turned_away t)
   told_tries (runs t) =
       let at : Attempt → Attempt = λ x. record x { at = a.engine.snapshot / 2 } in
       let moved = told.moves (opened_so t.row' t.now) in

@@ -1,6 +1,6 @@
 -- Local work of an actor, one call of its player after the other: all that it leaves.
 use Rattle.std.proofs.Common.{◌≡◌, ◌+◌, ◌-◌, ◌*◌, ◌≤◌, Bool, true, false, List, ◌++◌, None, Some, refl, sym, ap, subst, ◌∙◌, arith}
-use Rattle.norec_world.proofs.Common.{Actor, Acts, Attempt, Call, Cells, Core, Ended, Finished, HasRow, IsDone, IsNoMore, IsSound, KeepsOthers, Next, Obeys, Ready, Rows, Rules, Status, Tells, Waits, ending_of, in_transaction, is_ready, prior_of, rank, whole}
+use Rattle.norec_world.proofs.Common.{Actor, Acts, Attempt, Call, Cells, Core, Ended, Finished, HasRow, IsDone, IsNoMore, IsSound, KeepsOthers, Next, Obeys, Ready, Rows, Rules, Tells, ending_of, in_transaction, is_ready, prior_of, rank, whole}
 use Rattle.norec_world.specs.LocalWork.{Starves, Works, calls, finishes, starves}
 use Rattle.norec_world.specs.Moments.{HasWorked}
 use Rattle.norec_world.proofs.CommitCounts.{counted_after}
@@ -8,17 +8,12 @@ use Rattle.norec_world.proofs.LessLeft.{less_less}
 use Rattle.norec_world.proofs.LocalWork.{nothing_ready, works_both}
 use Rattle.norec_world.proofs.OthersAttempts.{others_same, others_twice}
 use Rattle.norec_world.proofs.RunCalls.{call_runs, finish_runs, laid_calls, starve_runs}
-use Rattle.norec_world.proofs.SoundCalls.{IsCalling, call_less, call_taken, mid}
-use Rattle.norec_world.proofs.Taken.{now, recorded}
+use Rattle.norec_world.proofs.SoundCalls.{IsCalling, call_less, call_taken, ended_same, mid}
+use Rattle.norec_world.proofs.Taken.{now, ready_of, recorded}
 use Rattle.norec_world.proofs.TiedEngines.{holds_same, limit_same, snapshot_still}
 use Rattle.norec_world.proofs.TryCalls.{call_tries, finish_tries, starve_tries}
 use Rattle.norec_world.proofs.TryChains.{no_pending, tries_still, tries_then}
 use Rattle.norec_world.proofs.TryEnds.{not_finished}
-
-pub ready_of : (s : Status) → is_ready s ≡ true → s ≡ Ready
-ready_of Ready e = refl
-ready_of (Waits call step) e = absurd (cc)
-ready_of (Ended end) e = absurd (cc)
 
 not_still : {P : Type 0} {A : Type 0} (a : Actor P) → a.status ≡ Ready → is_ready a.status ≡ false → A
 not_still a ready n = absurd (let both : true ≡ false = ap is_ready (sym ready) ∙ n in cc)
@@ -73,9 +68,6 @@ module _ {P : Type 0} {rules : Rules P} (laws : Obeys rules) {cells : Cells} {r0
 -- it goes to the engine
 module _ {P : Type 0} {rules : Rules P} (laws : Obeys rules) {cells : Cells} {r0 r : Rows} {old a : Actor P} {call : Call} {what : Next} (m : IsCalling rules cells r0 r old a call what) (r1 : Rows) (last : Actor P)
     (done : IsDone rules (in_transaction old.engine) r r1 a last call what) (tells : Tells rules (in_transaction old.engine) r r1 a last call what) where
-  ended_same : r.ended ≡ r0.ended
-  ended_same = ap (λ (x : Rows). x.ended) m.asks.rows_are
-
   -- while it waits, nothing is gained and nothing lost
   less_waits : in_transaction a.engine ≡ in_transaction old.engine → IsNoMore rules old a
   less_waits opens =
@@ -119,7 +111,7 @@ module _ {P : Type 0} {rules : Rules P} (laws : Obeys rules) {cells : Cells} {r0
           ),
         );
         tries = λ w. tries;
-        runs = λ first base laid runs. call_runs laws m first base laid runs r1 last done tells own.more (own.ended ∙ ap (λ (l : List Attempt). l ++ own.more) (sym ended_same)) (counted_after cells.clock cells.clock (prior_of r0 old) r1 last tries laid.counted);
+        runs = λ first base laid runs. call_runs laws m first base laid runs r1 last done tells own.more (own.ended ∙ ap (λ (l : List Attempt). l ++ own.more) (sym (ended_same m))) (counted_after cells.clock cells.clock (prior_of r0 old) r1 last tries laid.counted);
         others = others;
         holds = ap (λ (c : Core). c.holds) x.engine ∙ holds_same (mid m) a.engine what m.asks.called.proceeds;
         limit = (ap (λ (c : Core). c.max_commits) x.engine ∙ kept.0, ap (λ (c : Core). c.patience) x.engine ∙ kept.1);

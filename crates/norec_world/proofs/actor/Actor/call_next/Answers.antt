@@ -1,12 +1,9 @@
 use Rattle.std.proofs.Common.{◌≡◌, ◌/◌, ℕ, true, refl, sym, ap, subst, ◌∙◌}
-use Rattle.norec_engine.specs.Core.{Core, in_transaction}
+use Rattle.norec_world.proofs.Common.{Core, IsTied, Rows, StatusIs, Waits, in_transaction}
 use Rattle.norec_engine.specs.Undoing.{after_undoing}
 use Rattle.norec_world.specs.declared.attempt.Outcome.TheVariants as outcomes
-use Rattle.norec_world.specs.declared.actor.Status.TheVariants.{Waits}
 use Rattle.norec_world.specs.LocalWork.{Starves}
 use Rattle.norec_world.specs.Records.{StopsAt}
-use Rattle.norec_world.specs.Rows.{Rows}
-use Rattle.norec_world.specs.Sound.{IsTied, StatusIs}
 use Rattle.norec_world.proofs.OthersAttempts.{others_twice}
 use Rattle.norec_world.proofs.SoundCalls.{call_falls, call_taken, calling}
 use Rattle.norec_world.proofs.Taken.{due}

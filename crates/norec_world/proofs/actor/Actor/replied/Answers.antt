@@ -1,62 +1,49 @@
 use Rattle.norec_world.proofs.OthersAttempts.{others_opened, others_changed}
 use Rattle.std.proofs.Common.{◌≡◌, ◌/◌, refl, Some, subst, ◌++◌, ◌∷◌, [], ap, ◌∙◌, sym, Bool, true, false, None, is_some}
-use Rattle.norec_engine.specs.Core.{in_transaction}
-use Rattle.norec_world.specs.declared.attempt.Attempt.{Attempt}
+use Rattle.norec_world.proofs.Common.{Attempt, HasRow, active_of, in_transaction}
 use Rattle.norec_world.proofs.SoundAnswers.{after_reply}
 use Rattle.norec_world.proofs.RecordedRows.{row_stays, was_open, row_opened, row_changed, row_none}
-use Rattle.norec_world.specs.Sound.{HasRow}
-use Rattle.norec_world.specs.Rows.{active_of}
 use Rattle.norec_world.proofs.actor.Actor.replied.Goals as goal
 
 pub returns-else-is_open-clause-settled : goal.returns-else-is_open-clause-settled
 returns-else-is_open-clause-settled g c was d =
-    let l = g.met.P.Player in
     let a = c.args.self.now in
     let r = c.args.recorded.now in
-    let closed : in_transaction a.engine ≡ false = sym c.is_open-is_open.ensures ∙ c.if-is_open.false in
-    after_reply g.P.Player l.laws r r a c.args.call
+    after_reply g.P.Player g.met.P.Player.laws r r a c.args.call
     was c.args.reply d c.answer.new.self c.answer.ensures a.spare d.kept.empty c.take.new.self c.take.ensures.after a.again
-    (row_stays r a.thread was (in_transaction a.engine) d.fits.1 closed d.kept.row)
+    (row_stays r a.thread was (in_transaction a.engine) d.fits.1 (sym c.is_open-is_open.ensures ∙ c.if-is_open.false) d.kept.row)
 
 pub returns-then-is_open-clause-settled : goal.returns-then-is_open-clause-settled
 returns-then-is_open-clause-settled g c was d =
-    let l = g.met.P.Player in
     let a = c.args.self.now in
     let r = c.args.recorded.now in
-    let r' = c.open.new.self in
     let row : Attempt = record c.in-Some.attempt { at = c.snapshot.result / 2 } in
-    let some : a.pending ≡ Some c.in-Some.attempt = sym c.in-Some.ensures.value in
-    let p = d.in_call.opens c.in-Some.attempt some in
+    let p = d.in_call.opens c.in-Some.attempt (sym c.in-Some.ensures.value) in
     let shut : was ≡ true → ⊥ = λ e. (let n = d.in_call.inside e in absurd (cc)) in
-    let none : active_of a.thread r.active ≡ None = row_none r a.thread was shut d.kept.row in
     let opened : in_transaction a.engine ≡ true = sym c.is_open-is_open.ensures ∙ c.if-is_open.true in
-    after_reply g.P.Player l.laws r r' a c.args.call
+    after_reply g.P.Player g.met.P.Player.laws r c.open.new.self a c.args.call
     was c.args.reply d c.answer.new.self c.answer.ensures a.spare d.kept.empty c.take.new.self c.take.ensures.after true
-    (row_opened r r' a.thread (in_transaction a.engine) row opened c.open.ensures none p.thread p.outcome)
+    (row_opened r c.open.new.self a.thread (in_transaction a.engine) row opened c.open.ensures (row_none r a.thread was shut d.kept.row) p.thread p.outcome)
 
 pub returns-then-is_open-2-clause-settled : goal.returns-then-is_open-2-clause-settled
 returns-then-is_open-2-clause-settled g c was d =
-    let l = g.met.P.Player in
     let a = c.args.self.now in
     let r = c.args.recorded.now in
-    let r' = c.add.new.self in
     let opened : in_transaction a.engine ≡ true = sym c.is_open-is_open.ensures ∙ c.if-is_open-2.true in
     let none : a.pending ≡ None = sym c.in-None.ensures.value in
     let open_before : was ≡ true = was_open was (in_transaction a.engine) c.args.call c.args.reply (λ e. sym (d.in_call.begins e) ∙ ap is_some none) d.fits.0 opened in
     let h : HasRow true r a.thread = subst (λ (b : Bool). HasRow b r a.thread) open_before d.kept.row in
-    after_reply g.P.Player l.laws r r' a c.args.call
+    after_reply g.P.Player g.met.P.Player.laws r c.add.new.self a c.args.call
     was c.args.reply d c.answer.new.self c.answer.ensures c.add.new.spare c.add.ensures.empty c.take.new.self c.take.ensures.after a.again
-    (row_changed r r' a.thread (in_transaction a.engine) (λ row. record row { calls = row.calls ++ record { call = c.args.call; reply = c.args.reply } ∷ [] }) (λ x. refl) (λ x. refl) c.add.ensures.added h opened)
+    (row_changed r c.add.new.self a.thread (in_transaction a.engine) (λ row. record row { calls = row.calls ++ record { call = c.args.call; reply = c.args.reply } ∷ [] }) (λ x. refl) (λ x. refl) c.add.ensures.added h opened)
 
 pub returns-else-is_open-2-clause-settled : goal.returns-else-is_open-2-clause-settled
 returns-else-is_open-2-clause-settled g c was d =
-    let l = g.met.P.Player in
     let a = c.args.self.now in
     let r = c.args.recorded.now in
-    let closed : in_transaction a.engine ≡ false = sym c.is_open-is_open.ensures ∙ c.if-is_open-2.false in
-    after_reply g.P.Player l.laws r r a c.args.call
+    after_reply g.P.Player g.met.P.Player.laws r r a c.args.call
     was c.args.reply d c.answer.new.self c.answer.ensures a.spare d.kept.empty c.take.new.self c.take.ensures.after a.again
-    (row_stays r a.thread was (in_transaction a.engine) d.fits.1 closed d.kept.row)
+    (row_stays r a.thread was (in_transaction a.engine) d.fits.1 (sym c.is_open-is_open.ensures ∙ c.if-is_open-2.false) d.kept.row)
 
 pub returns-then-is_open-clause-others : goal.returns-then-is_open-clause-others
 returns-then-is_open-clause-others g c was d =
@@ -67,6 +54,5 @@ returns-then-is_open-clause-others g c was d =
 
 pub returns-then-is_open-2-clause-others : goal.returns-then-is_open-2-clause-others
 returns-then-is_open-2-clause-others g c was d =
-    let none : c.args.self.now.pending ≡ None = sym c.in-None.ensures.value in
     others_changed c.args.self.now _ c.args.recorded.now c.add.new.self (λ row. record row { calls = row.calls ++ record { call = c.args.call; reply = c.args.reply } ∷ [] }) (λ x. refl) refl
-    (c.take.ensures.after ∙ sym none) c.add.ensures.added
+    (c.take.ensures.after ∙ sym (sym c.in-None.ensures.value)) c.add.ensures.added

@@ -1,25 +1,18 @@
 use Rattle.norec_world.proofs.OthersAttempts.{others_ended, retried_thread, retried_pending, retried_player, retried_engine, retried_counts}
 use Rattle.std.proofs.Common.{◌≡◌, ◌/◌, ap, ◌∙◌, refl, sym, subst, Bool, true, false, None}
-use Rattle.norec_engine.specs.declared.answer.Answer.TheVariants.{Conflict, Busy, Full}
-use Rattle.norec_world.specs.declared.actor.Actor.{Actor}
+use Rattle.norec_world.proofs.Common.{Actor, Busy, Conflict, Core, Full, GaveUp, HasRow, Records, in_transaction, whole}
 use Rattle.norec_world.specs.declared.attempt.Outcome.TheVariants as outcomes
-use Rattle.norec_engine.specs.Core.{Core, in_transaction}
 use Rattle.norec_world.specs.Rows.{with_ended}
-use Rattle.norec_world.specs.Records.{Records}
-use Rattle.norec_world.specs.declared.attempt.End.TheVariants.{GaveUp}
-use Rattle.norec_world.specs.Sound.{depth_if, HasRow, AnswerFits, IsSettledBy, whole}
+use Rattle.norec_world.specs.Sound.{depth_if, AnswerFits, IsSettledBy}
 use Rattle.norec_world.proofs.SoundAnswers.{after_try, after_end}
 use Rattle.norec_world.proofs.actor.Actor.settle.Goals as goal
 
 pub returns-in-Conflict-clause-settled : goal.returns-in-Conflict-clause-settled
 returns-in-Conflict-clause-settled g c was d =
-    let l = g.met.P.Player in
     let a = c.args.self.now in
-    let r = c.args.recorded.now in
-    let r' = c.end.new.self in
     let fits : AnswerFits was (in_transaction a.engine) c.args.call (Conflict c.in-Conflict.clock c.in-Conflict.word) = subst (AnswerFits was (in_transaction a.engine) c.args.call) c.in-Conflict.is d.fits in
-    subst (IsSettledBy g.P.Player was r' a) (sym c.retry.ensures)
-    (after_try g.P.Player l.laws r r' a c.args.call
+    subst (IsSettledBy g.P.Player was c.end.new.self a) (sym c.retry.ensures)
+    (after_try g.P.Player g.met.P.Player.laws c.args.recorded.now c.end.new.self a c.args.call
     was d.kept d.nested d.idle d.free d.status a.pending (d.in_call.inside fits.0) c.restart.new.self
     (ap g.P.Player.depth c.restart.ensures ∙ d.nested.begun fits.0)
     (ap g.P.Player.calls_left c.restart.ensures ∙ sym (ap (λ (b : Bool). whole g.P.Player b a.player) fits.0))
@@ -27,27 +20,21 @@ returns-in-Conflict-clause-settled g c was d =
 
 pub returns-in-Busy-clause-settled : goal.returns-in-Busy-clause-settled
 returns-in-Busy-clause-settled g c was d =
-    let l = g.met.P.Player in
     let a = c.args.self.now in
     let r = c.args.recorded.now in
     let fits : AnswerFits was (in_transaction a.engine) c.args.call (Busy c.in-Busy.clock) = subst (AnswerFits was (in_transaction a.engine) c.args.call) c.in-Busy.is d.fits in
-    let h : HasRow false r a.thread = subst (λ (b : Bool). HasRow b r a.thread) fits.0 d.kept.row in
     subst (IsSettledBy g.P.Player was r a) (sym c.retry-in-Busy.ensures)
-    (after_try g.P.Player l.laws r r a c.args.call
+    (after_try g.P.Player g.met.P.Player.laws r r a c.args.call
     was d.kept d.nested d.idle d.free d.status None refl a.player
     (d.nested.depth_is ∙ ap depth_if fits.0)
     (sym (ap (λ (b : Bool). whole g.P.Player b a.player) fits.0))
-    fits.1 h)
+    fits.1 (subst (λ (b : Bool). HasRow b r a.thread) fits.0 d.kept.row))
 
 pub returns-in-Full-clause-settled : goal.returns-in-Full-clause-settled
 returns-in-Full-clause-settled g c was d =
-    let l = g.met.P.Player in
     let a = c.args.self.now in
-    let r = c.args.recorded.now in
-    let r' = c.end-in-Full.new.self in
-    let fits : AnswerFits was (in_transaction a.engine) c.args.call (Full c.in-Full.at) = subst (AnswerFits was (in_transaction a.engine) c.args.call) c.in-Full.is d.fits in
-    after_end g.P.Player l.laws r r' a c.args.call
-    was GaveUp d.kept fits.1 c.end-in-Full.ensures.gone
+    after_end g.P.Player g.met.P.Player.laws c.args.recorded.now c.end-in-Full.new.self a c.args.call
+    was GaveUp a.player a.pending d.kept (subst (AnswerFits was (in_transaction a.engine) c.args.call) c.in-Full.is d.fits).1 c.end-in-Full.ensures.gone
 
 pub returns-in-Conflict-clause-others : goal.returns-in-Conflict-clause-others
 returns-in-Conflict-clause-others g c was d =

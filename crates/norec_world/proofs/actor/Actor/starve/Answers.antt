@@ -1,5 +1,5 @@
 use Rattle.std.proofs.Common.{refl, rules, ◌/◌}
-use Rattle.norec_engine.specs.Core.{in_transaction}
+use Rattle.norec_world.proofs.Common.{in_transaction}
 use Rattle.norec_world.specs.declared.attempt.Outcome.TheVariants.{NoMemory}
 use Rattle.norec_world.proofs.OthersAttempts.{others_starved}
 use Rattle.norec_world.proofs.actor.Actor.starve.Goals as goal

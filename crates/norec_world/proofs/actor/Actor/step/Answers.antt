@@ -1,16 +1,13 @@
 use Rattle.std.proofs.Common.{◌≡◌, Some, ap, sym, ◌∙◌}
 use Rattle.norec_engine.specs.Moves.{IsResumed}
-use Rattle.norec_engine.specs.Core.{in_transaction}
-use Rattle.norec_world.specs.Cells.{cells_after}
-use Rattle.norec_world.specs.Status.{waiting_step}
-use Rattle.norec_world.specs.Tries.{prior_of}
+use Rattle.norec_world.proofs.Common.{cells_after, in_transaction, prior_of, waiting_step}
 use Rattle.norec_world.proofs.CommitCounts.{counted_after}
 use Rattle.norec_world.proofs.LocalWork.{nothing_ready, takes_in}
 use Rattle.norec_world.proofs.OthersAttempts.{others_twice}
-use Rattle.norec_world.proofs.RunSteps.{step_runs}
+use Rattle.norec_world.proofs.RunCalls.{step_runs}
 use Rattle.norec_world.proofs.SoundSteps.{step_clocks, step_falls, step_on, step_taken, stepping}
 use Rattle.norec_world.proofs.Taken.{due, now}
-use Rattle.norec_world.proofs.TrySteps.{step_tries, step_unfinished}
+use Rattle.norec_world.proofs.TryCalls.{step_tries, step_unfinished}
 use Rattle.norec_world.proofs.actor.Actor.step.Goals as goal
 
 pub proceed-requires : goal.proceed-requires

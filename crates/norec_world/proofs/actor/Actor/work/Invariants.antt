@@ -1,6 +1,6 @@
-use Rattle.norec_engine.specs.Core.{in_transaction}
+use Rattle.norec_world.proofs.Common.{in_transaction, whole}
 use Rattle.norec_world.specs.Moments.{HasWorked}
-use Rattle.norec_world.specs.Sound.{whole, work_left}
+use Rattle.norec_world.specs.Sound.{work_left}
 use Rattle.norec_world.proofs.actor.Actor.work.Given as goal
 
 abbrev pub invariant-loop-self : goal.invariant-loop-self
