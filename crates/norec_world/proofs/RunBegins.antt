@@ -92,16 +92,12 @@ module _ {P : Type 0} (rules : Rules P) (laws : Obeys rules) (first : Between P)
             record {
               leads = k.leads ∙ (past_outside rules laws a.player t.0.arena call m.answered.in_call.asks other ∙ (ap (λ (x : Replied). comes_to rules laws (rules.answered a.player x) t.0.arena) (sym refused) ∙ ap (λ (q : P). comes_to rules laws q t.0.arena) (sym m.told.1)));
               arena = arena ∙ k.arena;
-              again = agains (in_transaction last.engine) closed m.told.2 ∙ k.again;
+              again = m.told.2 ∙ (ap (λ (o : Bool). again_after o a.pending a.again) closed ∙ k.again);
               tries = (let nth = m.told.3 in let fewer = k.tries in omega arith);
               pending = λ x e. absurd (let none = sym (none_pending rules r r1 a last false m.settled ready) ∙ e in cc);
             },
           );
         }
-      where
-        agains : (o : Bool) → o ≡ false → last.again ≡ again_after o a.pending a.again → last.again ≡ a.again
-        agains true e f = absurd (cc)
-        agains false e f = f
 
     -- an accepted begin
     begin_runs : (row : Attempt) → a.pending ≡ Some row → (props : Props) (room : ℕ) → call ≡ Begin props room → in_transaction last.engine ≡ true → r1 ≡ with_opened (record row { at = last.engine.snapshot / 2 }) r → IsRun rules first base (cells.clock / 2) r1 last
@@ -129,16 +125,11 @@ module _ {P : Type 0} (rules : Rules P) (laws : Obeys rules) (first : Between P)
             (λ i. now_at rules first base (ended i) (m.settled.thread i)) ∙ t.1,
             ap (λ (u : ℕ). active_of u r1.active) (m.settled.thread ∙ sym q.thread) ∙ (ap (λ (x : Rows). active_of row.thread x.active) rows ∙ opened_here (record row { at = at }) r.active free),
             subst (λ (c : Core). IsInTry rules t.0 (record row { at = at }) last.player c) (sym m.settled.engine) (subst (λ (x : P). IsInTry rules t.0 (record row { at = at }) x a.engine) (sym m.told.1) try),
-            agains (in_transaction last.engine) opened a.pending pending m.told.2,
+            m.told.2 ∙ (λ i. again_after (opened i) (pending i) a.again),
             q.nth ∙ sym m.told.3,
           );
           between = λ o. absurd (true≢false (sym opened ∙ o));
         }
-      where
-        agains : (o : Bool) → o ≡ true → (x : Option Attempt) → x ≡ Some row → last.again ≡ again_after o x a.again → last.again ≡ true
-        agains true e (Some y) f h = h
-        agains true e None f h = absurd (cc)
-        agains false e x f h = absurd (cc)
 
     -- of no open transaction
     reply_shut : IsRun rules first base (cells.clock / 2) r1 last

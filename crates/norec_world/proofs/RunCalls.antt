@@ -177,11 +177,9 @@ module _ {P : Type 0} {rules : Rules P} (laws : Obeys rules) {cells : Cells} {r0
       run_same rules first base (cells.clock / 2) r0.ended r1.ended old.thread last.thread (ap (λ (x : Rows). x.ended) (s.stays o)) s.same.thread runs.runs.run
   starve_run true o =
       let here : IsRun rules first base (cells.clock / 2) roomy old = record { run = runs.runs.run; inside = runs.runs.inside; between = λ x. absurd (true≢false (sym o ∙ x)) } in
-      let early = (runs.runs.inside o).4.began in
-      let late = still_seen.late in
       (stop_run rules laws first base cells cells roomy r1 old.engine old last Commit still_seen here (cells.clock / 2) (let l : cells.clock / 2 ≤ cells.clock / 2 = omega arith in l)
       (λ k l. ap (λ (rows : List Attempt). bytes_at base rows k) ended ∙ bytes_still base cells.clock r0.ended laid.counted more k l) o (old.engine.snapshot / 2) outcomes.NoMemory (λ x y. y) s.same.thread (s.stops o)
-      early late ((runs.sees fed).logged o) (λ f. absurd (cc))).0
+      (runs.runs.inside o).4.began still_seen.late ((runs.sees fed).logged o) (λ f. absurd (cc))).0
 
   pub starve_runs : RunsFrom rules first base cells r1 last
   starve_runs = record {

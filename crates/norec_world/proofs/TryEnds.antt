@@ -132,10 +132,7 @@ module _ {P : Type 0} {rules : Rules P} {cells cells' : Cells} {r r1 : Rows} {mi
       at_end : (b : Bool) → wrote ≡ b → EndsAt a.engine.max_commits cells.clock cells'.clock at (if b then outcomes.Committed else outcomes.ReadOnly)
       at_end true e = subst (λ (n : ℕ). (cells.clock ≡ 2 * n + 1) × (cells'.clock ≡ 2 * n + 2)) (sym m.ends.at_is) (m.taken.moves.frees (m.ends.freed ∙ e))
       at_end false e =
-          let same : a.engine.snapshot ≡ mid.snapshot = ap (λ (c : Core). c.snapshot) m.ends.stays in
-          let is = m.ends.at_is in
-          let l = seen cells' a.engine m.taken.tied in
-          (m.taken.moves.keeps (m.ends.freed ∙ e), omega arith)
+          (m.taken.moves.keeps (m.ends.freed ∙ e), omega (arith, ap (λ (c : Core). c.snapshot) m.ends.stays, m.ends.at_is, seen cells' a.engine m.taken.tied))
 
       after_end : (b : Bool) → IsBetween cells'.clock 1 r1 last → GoesOnAfter (if b then outcomes.Committed else outcomes.ReadOnly) cells'.clock (prior_of r a) r1 last
       after_end true x = x
@@ -148,12 +145,9 @@ module _ {P : Type 0} {rules : Rules P} {cells cells' : Cells} {r r1 : Rows} {mi
   open_tries (Busy clock) m = absurd (let f : true ≡ false = m.answered.fits.0 in cc)
   open_tries (Full at) m =
       let row = m.answered.kept.row in
-      let limit : a.engine.max_commits ≡ mid.max_commits = ap (λ (c : Core). c.max_commits) m.ends.stays in
-      let full = m.ends.full in
-      let is = m.ends.at_is in
-      let l = seen cells' a.engine m.taken.tied in
       stops_try cells.clock cells'.clock r r1 a last row.0 at outcomes.Full row.1 (ap (λ (x : Rows). x.ended) (m.told.0 row.0 row.1)) (m.ends.at_is ∙ ap (λ (n : ℕ). n / 2) (sym (ap (λ (c : Core). c.snapshot) m.settled.engine)))
-      (m.taken.moves.keeps m.ends.unfreed, omega arith, omega arith) refl (record { none = none_active rules r r1 a last true m.settled m.answered.fits.1; status = m.told.1 })
+      (m.taken.moves.keeps m.ends.unfreed, omega (arith, m.ends.at_is, seen cells' a.engine m.taken.tied), omega (arith, m.ends.full, ap (λ (c : Core). c.max_commits) m.ends.stays)) refl
+      (record { none = none_active rules r r1 a last true m.settled m.answered.fits.1; status = m.told.1 })
 
 -- ## A begin is answered
 
