@@ -1,10 +1,10 @@
--- The player's laws, over one answer: its depth, where it goes back to, and how much is left to do.
-use Rattle.std.proofs.Common.{◌≡◌, ℕ, ◌+◌, ◌*◌, ◌<◌, ◌≤◌, Bool, true, false, Some, refl, ap, subst, ◌∙◌, arith, if◌then◌else◌}
+-- The player's laws, over one answer: its depth, where it goes back to, and how much is left to do; and what comes of the answer once it is recorded.
+use Rattle.std.proofs.Common.{◌≡◌, ℕ, ◌+◌, ◌*◌, ◌<◌, ◌≤◌, Bool, true, false, Some, refl, ap, subst, ◌∙◌, arith, if◌then◌else◌, ◌-◌, nat_lt, [], Option, None, sym, Vec, Global, ltb-false}
 use Rattle.std.proofs.Math.Nat.{mul-le-mul_right}
-use Rattle.norec_world.proofs.Common.{Begin, Call, Commit, Done, IsNested, Obeys, Replied, Rules, whole}
+use Rattle.norec_world.proofs.Common.{Actor, Attempt, Begin, Call, Commit, Committed, Done, End, Ended, Entry, GaveUp, HasRow, IsNested, Obeys, Ready, Replied, Reply, RestsAs, Rows, Rules, Status, active_of, in_transaction, whole}
 use Rattle.itm_types.specs.declared.call.Reply.TheVariants.{Code}
 use Rattle.script_vm.specs.Depth.{depth_after, opens}
-use Rattle.norec_world.specs.Sound.{depth_if}
+use Rattle.norec_world.specs.Sound.{depth_if, IsKept, IsAnswered, IsSettledBy, Falls, tries_left, retried}
 
 -- ## Numbers
 
@@ -87,3 +87,108 @@ module _ {P : Type 0} (rules : Rules P) (laws : Obeys rules) where
         let fewer = laws.nearer p c r asks in
         let room = n.less refl in
         (record { depth_is = deep 1 n.depth_is ∙ ((λ i. depth_after 1 (is i) (done i))); begun = λ o. absurd (cc); less = λ o. absurd (cc) }, omega arith)
+
+-- ## The answer is recorded: the actor is between calls again, or has ended
+
+module _ {P : Type 0} (rules : Rules P) (laws : Obeys rules)
+    (r r' : Rows) (a : Actor P) (call : Call) where
+  -- a reply
+  pub after_reply : (was : Bool) (reply : Replied) → IsAnswered rules was r a call (Reply reply)
+      → (player : P) → player ≡ rules.answered a.player reply → (spare : Vec Entry Global) → spare.items ≡ [] → (pending : Option Attempt) → pending ≡ None → (again : Bool)
+      → HasRow (in_transaction a.engine) r' a.thread
+      → IsSettledBy rules was r' a (record a { player = player; spare = spare; pending = pending; again = again })
+  after_reply was reply d player is spare empty pending nothing again row =
+      let now = in_transaction a.engine in
+      let k = d.kept in
+      let played : Played rules laws was now a.player player =
+      subst (Played rules laws was now a.player) (sym is)
+      (plays rules laws a.player call reply d.in_call.asks was now d.nested d.fits.0 d.fits.1) in
+      record {
+        engine = refl;
+        thread = refl;
+        retries = refl;
+        kept = record { row = row; empty = empty; tried = k.tried; tries = k.tries; retries = k.retries };
+        rests = subst (λ (s : Status). RestsAs rules s (record a { player = player; spare = spare; pending = pending; again = again })) (sym d.status)
+            (record { nested = played.nested; idle = d.idle; free = d.free; nothing = nothing });
+        falls = λ e. record {
+          whole_falls = played.whole_falls;
+          rank_falls = λ n b. rank_same _ _ n _ _ (block_same _ _ a.retries (tries_left a) played.whole_falls) played.less;
+        };
+      }
+
+  -- the block is done
+  pub after_commit : (was : Bool) (at : ℕ) (wrote : Bool) → IsAnswered rules was r a call (Committed at wrote)
+      → (player : P) → player ≡ rules.answered a.player Done → (spare : Vec Entry Global) → spare.items ≡ [] → active_of a.thread r'.active ≡ None
+      → IsSettledBy rules was r' a (record a { player = player; spare = spare; nth = 1; again = false })
+  after_commit false at wrote d player is spare empty row = absurd (let f : false ≡ true = d.fits.0 in cc)
+  after_commit true at wrote d player is spare empty row =
+      let k = d.kept in
+      let new : Actor P = record a { player = player; spare = spare; nth = 1; again = false } in
+      let done = closes rules laws a.player call Done d.in_call.asks d.nested d.fits.2 refl in
+      let nested : IsNested rules false player = subst (IsNested rules false) (sym is) done.0 in
+      let fewer : rules.calls_left player < rules.calls_left (rules.restarted a.player) = subst (λ (p : P). rules.calls_left p < rules.calls_left (rules.restarted a.player)) (sym is) done.1 in
+      let closed : false ≡ in_transaction a.engine = sym d.fits.1 in
+      let tried = k.tries in
+      record {
+        engine = refl;
+        thread = refl;
+        retries = refl;
+        kept = record {
+          row = subst (λ (b : Bool). HasRow b r' a.thread) closed row;
+          empty = empty;
+          tried = (let o : 0 < 1 = omega arith in o);
+          tries = (let o : 1 ≤ a.retries + 1 = omega arith in o);
+          retries = k.retries;
+        };
+        rests = subst (λ (s : Status). RestsAs rules s new) (sym d.status)
+            (record { nested = subst (λ (b : Bool). IsNested rules b player) closed nested; idle = d.idle; free = d.free; nothing = d.in_call.inside refl });
+        falls = λ e. subst (λ (b : Bool). Falls rules true b a new) closed (record {
+          whole_falls = (let f = fewer in omega arith);
+          rank_falls = λ n b. rank_less _ _ n _ _ (rank_less _ _ a.retries (tries_left a) (a.retries + 1 - 1) fewer (omega arith)) (let f = fewer in omega arith);
+        });
+      }
+
+  -- no more tries: the actor has ended
+  pub after_end : (was : Bool) (end : End) (player : P) (pending : Option Attempt) → IsKept was r a → in_transaction a.engine ≡ false → active_of a.thread r'.active ≡ None
+      → IsSettledBy rules was r' a (record a { player = player; pending = pending; status = Ended end })
+  after_end was end player pending k closed row =
+      record {
+        engine = refl;
+        thread = refl;
+        retries = refl;
+        kept = record { row = subst (λ (b : Bool). HasRow b r' a.thread) (sym closed) row; empty = k.empty; tried = k.tried; tries = k.tries; retries = k.retries };
+        rests = tt;
+        falls = λ over. absurd (cc);
+      }
+
+  -- a try came to nothing, and the player is where it began the block
+  pub after_try : (was : Bool) → IsKept was r a → IsNested rules was a.player → a.engine.waits ≡ None → a.engine.holds ≡ false → a.status ≡ Ready
+      → (pending : Option Attempt) → pending ≡ None → (player : P) → rules.depth player ≡ 0 → rules.calls_left player ≡ whole rules was a.player
+      → in_transaction a.engine ≡ false → active_of a.thread r'.active ≡ None
+      → IsSettledBy rules was r' a (retried (record a { player = player; pending = pending }))
+  after_try was k nested idle free ready pending nothing player outside same closed row = tries (nat_lt a.retries a.nth) refl
+    where
+      HasIt : Bool → Type 0
+      HasIt b = HasRow b r' a.thread
+
+      tries : (b : Bool) → nat_lt a.retries a.nth ≡ b
+          → IsSettledBy rules was r' a (if b then record a { player = player; pending = pending; status = Ended GaveUp } else record a { player = player; pending = pending; nth = a.nth + 1 })
+      tries true e = after_end was GaveUp player pending k closed row
+      tries false e =
+          let new : Actor P = record a { player = player; pending = pending; nth = a.nth + 1 } in
+          let low : a.nth ≤ a.retries = ltb-false a.retries a.nth e in
+          let nested' : IsNested rules false player = record { depth_is = outside; begun = λ o. absurd (cc); less = λ o. absurd (cc) } in
+          record {
+            engine = refl;
+            thread = refl;
+            retries = refl;
+            kept = record { row = subst HasIt (sym closed) row; empty = k.empty; tried = (let o : 0 < a.nth + 1 = omega arith in o); tries = (let o : a.nth + 1 ≤ a.retries + 1 = omega arith in o); retries = k.retries };
+            rests = subst (λ (s : Status). RestsAs rules s new) (sym ready)
+                (record { nested = subst (λ (b : Bool). IsNested rules b player) (sym closed) nested'; idle = idle; free = free; nothing = nothing });
+            falls = λ over. subst (λ (b : Bool). Falls rules was b a new) (sym closed) (record {
+              whole_falls = (let x = same in omega arith);
+              rank_falls = λ n b. rank_less _ _ n _ _
+                  (let w : rules.calls_left player * (a.retries + 1) ≡ whole rules was a.player * (a.retries + 1) = ap (λ (x : ℕ). x * (a.retries + 1)) same in omega arith)
+                  (let x = same in omega arith);
+            });
+          }

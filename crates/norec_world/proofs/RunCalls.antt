@@ -6,7 +6,7 @@ use Rattle.norec_world.specs.declared.attempt.Outcome.TheVariants as outcomes
 use Rattle.norec_world.specs.declared.attempt.End.TheVariants as ends
 use Rattle.norec_world.specs.Runs.{IsBeforeTry, RunsFrom}
 use Rattle.norec_world.proofs.ActiveRows.{changed_here}
-use Rattle.norec_world.proofs.SoundCalls.{IsCalling, active_same, call_taken, ended_same, mid, rests}
+use Rattle.norec_world.proofs.SoundSteps.{IsCalling, active_same, call_taken, ended_same, mid, rests, IsStepping, mid_step, same, step_taken, waits}
 use Rattle.norec_world.proofs.Memories.{bytes_still}
 use Rattle.norec_world.proofs.Laid.{laid_on, laid_same}
 use Rattle.norec_world.proofs.RunTaken.{runs_recorded}
@@ -16,7 +16,6 @@ use Rattle.norec_world.specs.LocalWork.{Starves}
 use Rattle.norec_world.proofs.RunAnswers.{RunOf, now_at, run_same, stop_run}
 use Rattle.norec_world.proofs.RunBegins.{begin_here}
 use Rattle.norec_world.proofs.InTries.{try_handed, try_told}
-use Rattle.norec_world.proofs.SoundSteps.{IsStepping, mid as mid_step, same, step_taken, waits}
 
 -- ## The player has no more calls
 

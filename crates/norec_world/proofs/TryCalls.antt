@@ -6,10 +6,9 @@ use Rattle.norec_world.specs.declared.attempt.Outcome.TheVariants as outcomes
 use Rattle.norec_world.specs.declared.attempt.End.TheVariants as ends
 use Rattle.norec_world.proofs.TiedEngines.{limit_same, snapshot_still}
 use Rattle.norec_world.specs.LocalWork.{Starves}
-use Rattle.norec_world.proofs.SoundCalls.{IsCalling, active_same, call_taken, ended_same, mid, rests}
+use Rattle.norec_world.proofs.SoundSteps.{IsCalling, active_same, call_taken, ended_same, mid, rests, IsStepping, limit_is, mid_step, step_taken}
 use Rattle.norec_world.proofs.Taken.{HasAnswered, HasTaken, recorded, now}
 use Rattle.norec_world.proofs.TryEnds.{is_between, open_tries, stays_between, stays_open, stops_try, begin_tries, not_finished, told_tries}
-use Rattle.norec_world.proofs.SoundSteps.{IsStepping, limit_is, mid as mid_step, step_taken}
 
 module _ {P : Type 0} (rules : Rules P)
     (cells : Cells) (r0 : Rows) (old : Actor P) (sound : IsSound rules cells r0 old) (ready : old.status ≡ Ready) where

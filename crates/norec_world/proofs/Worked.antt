@@ -8,7 +8,7 @@ use Rattle.norec_world.proofs.LessLeft.{less_less}
 use Rattle.norec_world.proofs.LocalWork.{nothing_ready, works_both}
 use Rattle.norec_world.proofs.OthersAttempts.{others_same, others_twice}
 use Rattle.norec_world.proofs.RunCalls.{call_runs, finish_runs, laid_calls, starve_runs}
-use Rattle.norec_world.proofs.SoundCalls.{IsCalling, call_less, call_taken, ended_same, mid}
+use Rattle.norec_world.proofs.SoundSteps.{IsCalling, call_less, call_taken, ended_same, mid}
 use Rattle.norec_world.proofs.Taken.{now, ready_of, recorded}
 use Rattle.norec_world.proofs.TiedEngines.{holds_same, limit_same, snapshot_still}
 use Rattle.norec_world.proofs.TryCalls.{call_tries, finish_tries, starve_tries}
