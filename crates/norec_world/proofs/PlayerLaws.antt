@@ -41,45 +41,35 @@ module _ {P : Type 0} (rules : Rules P) (laws : Obeys rules) where
     deep : (d : ℕ) → rules.depth p ≡ d → rules.depth (rules.answered p r) ≡ depth_after d c r
     deep d e = laws.nests p c r asks ∙ ap (λ x. depth_after x c r) e
 
+    pub plays : (was now : Bool) → IsNested rules was p → depth_after (depth_if was) c r ≡ depth_if now → (was ≡ true → now ≡ true) → Played was now p (rules.answered p r)
+    -- it stays open
+    plays true true n fits still =
+        let back : rules.restarted (rules.answered p r) ≡ rules.restarted p = goes_back 1 n.depth_is (omega arith) in
+        let fewer = laws.nearer p c r asks in
+        let room = n.less refl in
+        let same : rules.calls_left (rules.restarted (rules.answered p r)) ≡ rules.calls_left (rules.restarted p) = ap rules.calls_left back in
+        record {
+          nested = record { depth_is = deep 1 n.depth_is ∙ fits; begun = λ o. ap rules.depth back ∙ n.begun refl; less = λ o. omega arith };
+          whole_falls = omega arith;
+          less = fewer;
+        }
+    plays true false n fits still = absurd (let f : false ≡ true = still refl in cc)
     -- a block opened
-    entered : rules.depth p ≡ 0 → depth_after 0 c r ≡ 1 → Played false true p (rules.answered p r)
-    entered e fits =
-        let back : rules.restarted (rules.answered p r) ≡ p = goes_back 0 e (omega arith) ∙ ap (λ (b : Bool). if b then p else rules.restarted p) (opens_at_begin c r fits) in
+    plays false true n fits still =
+        let back : rules.restarted (rules.answered p r) ≡ p = goes_back 0 n.depth_is (omega arith) ∙ ap (λ (b : Bool). if b then p else rules.restarted p) (opens_at_begin c r fits) in
         let fewer = laws.nearer p c r asks in
         let same : rules.calls_left (rules.restarted (rules.answered p r)) ≡ rules.calls_left p = ap rules.calls_left back in
         record {
-          nested = record { depth_is = deep 0 e ∙ fits; begun = λ o. ap rules.depth back ∙ e; less = λ o. omega arith };
+          nested = record { depth_is = deep 0 n.depth_is ∙ fits; begun = λ o. ap rules.depth back ∙ n.depth_is; less = λ o. omega arith };
           whole_falls = omega arith;
           less = fewer;
         }
-
-    -- it stays open
-    within : rules.depth p ≡ 1 → rules.depth (rules.restarted p) ≡ 0 → rules.calls_left p < rules.calls_left (rules.restarted p) → depth_after 1 c r ≡ 1 → Played true true p (rules.answered p r)
-    within e back0 room fits =
-        let back : rules.restarted (rules.answered p r) ≡ rules.restarted p = goes_back 1 e (omega arith) in
-        let fewer = laws.nearer p c r asks in
-        let same : rules.calls_left (rules.restarted (rules.answered p r)) ≡ rules.calls_left (rules.restarted p) = ap rules.calls_left back in
-        record {
-          nested = record { depth_is = deep 1 e ∙ fits; begun = λ o. ap rules.depth back ∙ back0; less = λ o. omega arith };
-          whole_falls = omega arith;
-          less = fewer;
-        }
-
     -- none is open
-    outside : rules.depth p ≡ 0 → depth_after 0 c r ≡ 0 → Played false false p (rules.answered p r)
-    outside e fits =
-        let fewer = laws.nearer p c r asks in
-        record {
-          nested = record { depth_is = deep 0 e ∙ fits; begun = λ o. absurd (cc); less = λ o. absurd (cc) };
-          whole_falls = omega arith;
-          less = fewer;
-        }
-
-    pub plays : (was now : Bool) → IsNested rules was p → depth_after (depth_if was) c r ≡ depth_if now → (was ≡ true → now ≡ true) → Played was now p (rules.answered p r)
-    plays true true n fits still = within n.depth_is (n.begun refl) (n.less refl) fits
-    plays true false n fits still = absurd (let f : false ≡ true = still refl in cc)
-    plays false true n fits still = entered n.depth_is fits
-    plays false false n fits still = outside n.depth_is fits
+    plays false false n fits still = record {
+      nested = record { depth_is = deep 0 n.depth_is ∙ fits; begun = λ o. absurd (cc); less = λ o. absurd (cc) };
+      whole_falls = omega (arith, laws.nearer p c r asks);
+      less = laws.nearer p c r asks;
+    }
 
     -- the block is done
     pub closes : IsNested rules true p → c ≡ Commit → r ≡ Done → IsNested rules false (rules.answered p r) × (rules.calls_left (rules.answered p r) < rules.calls_left (rules.restarted p))

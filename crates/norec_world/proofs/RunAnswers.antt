@@ -43,9 +43,6 @@ module _ {P : Type 0} (rules : Rules P) (laws : Obeys rules) (first : Between P)
   -- ## A call of an open transaction has its reply
 
   module _ (reply : Replied) (m : HasAnswered rules true cells cells' r r1 mid a last call (Reply reply)) where
-    inside : in_transaction mid ≡ true
-    inside = m.taken.was_is
-
     g : Replies mid call reply a.engine
     g = subst (λ (o : Option Call). RepliesTo mid o reply a.engine) m.taken.doing m.ends
 
@@ -55,10 +52,10 @@ module _ {P : Type 0} (rules : Rules P) (laws : Obeys rules) (first : Between P)
     pub reply_runs : IsRun rules first base n r1 last
     unfolding with_call
     reply_runs =
-        let t = run.inside inside in
+        let t = run.inside m.taken.was_is in
         let ended : r1.ended ≡ r.ended = ap (λ (x : Rows). x.ended) m.told.0 in
         let earlier = t.4.began in
-        let try = try_replies rules laws t.0 t.1 a.player mid a.engine call reply t.4 inside m.answered.in_call.asks g (let up = seen.up inside in omega arith) (seen.fewer (g.still inside)) in
+        let try = try_replies rules laws t.0 t.1 a.player mid a.engine call reply t.4 m.taken.was_is m.answered.in_call.asks g (let up = seen.up m.taken.was_is in omega arith) (seen.fewer (g.still m.taken.was_is)) in
         let row : Attempt = with_call t.1 in
         record {
           run = run_same rules first base n r.ended r1.ended a.thread last.thread ended m.settled.thread run.run;
@@ -71,7 +68,7 @@ module _ {P : Type 0} (rules : Rules P) (laws : Obeys rules) (first : Between P)
             m.told.2 ∙ t.5,
             t.6 ∙ sym m.told.3,
           );
-          between = λ o. absurd (true≢false (sym (ap in_transaction m.settled.engine ∙ g.still inside) ∙ o));
+          between = λ o. absurd (true≢false (sym (ap in_transaction m.settled.engine ∙ g.still m.taken.was_is) ∙ o));
         }
 
   -- ## An attempt ends

@@ -171,12 +171,6 @@ module _ {P : Type 0} {rules : Rules P} {cells cells' : Cells} {r r1 : Rows} {mi
   pub begin_tries : (ans : Answer) → HasAnswered rules false cells cells' r r1 mid a last call ans → Tries cells.clock (prior_of r a) cells'.clock r1 last
   begin_tries (Reply reply) m = by_open (in_transaction last.engine) refl a.pending refl m.told.0
     where
-      none : active_of a.thread r.active ≡ None
-      none = m.answered.kept.row
-
-      ready : last.status ≡ Ready
-      ready = m.told.4 ∙ m.answered.status
-
       opens_now : (now : Bool) → in_transaction last.engine ≡ now → in_transaction a.engine ≡ now
       opens_now now e = sym (ap in_transaction m.settled.engine) ∙ e
 
@@ -184,18 +178,18 @@ module _ {P : Type 0} {rules : Rules P} {cells cells' : Cells} {r r1 : Rows} {mi
       by_open true e (Some row) p told_so =
           let q = m.answered.in_call.opens row p in
           let new_row : Attempt = record row { at = last.engine.snapshot / 2 } in
-          let free : active_of row.thread r.active ≡ None = ap (λ (t : ℕ). active_of t r.active) q.thread ∙ none in
+          let free : active_of row.thread r.active ≡ None = ap (λ (t : ℕ). active_of t r.active) q.thread ∙ m.answered.kept.row in
           runs (record {
             row = row;
             row' = new_row;
-            was = ap (λ (o : Option Attempt). current_of o a.pending) none ∙ p;
+            was = ap (λ (o : Option Attempt). current_of o a.pending) m.answered.kept.row ∙ p;
             now = ap (λ (t : ℕ). active_of t r1.active) (m.settled.thread ∙ sym q.thread) ∙ (ap (λ (x : Rows). active_of row.thread x.active) told_so ∙ opened_here new_row r.active free);
             continues = record { thread = refl; nth = refl; began = refl; props = refl; arena = refl; more = []; calls = sym (append-nil row.calls) };
             ended = ap (λ (x : Rows). x.ended) told_so;
             half = ap (λ (n : ℕ). n / 2) (m.taken.outside refl).0;
             tries = m.told.3;
-            goes_on = λ x. absurd (let n = ap ending_of ready in cc);
-            fed = λ x. absurd (let n = ap ending_of ready in cc);
+            goes_on = λ x. absurd (let n = ap ending_of (m.told.4 ∙ m.answered.status) in cc);
+            fed = λ x. absurd (let n = ap ending_of (m.told.4 ∙ m.answered.status) in cc);
           })
       by_open true e None p told_so = absurd (let f : false ≡ true = was_open false (in_transaction a.engine) call reply (λ x. sym (m.answered.in_call.begins x) ∙ ap is_some p) m.answered.fits.0 (opens_now true e) in cc)
       by_open false e (Some row) p told_so =
@@ -205,10 +199,10 @@ module _ {P : Type 0} {rules : Rules P} {cells cells' : Cells} {r r1 : Rows} {mi
           absurd (begin_opens mid a.engine cells'.words b.0 b.1 reply g' m.taken.was_is (sym m.taken.words, m.taken.tied.fit) (subst (Agrees cells'.words) (sym (m.taken.tied.settled.closed closed).0) tt) closed)
       by_open false e None p told_so =
           between (record {
-            idle = ap (λ (o : Option Attempt). current_of o a.pending) none ∙ p;
+            idle = ap (λ (o : Option Attempt). current_of o a.pending) m.answered.kept.row ∙ p;
             ended = ap (λ (x : Rows). x.ended) told_so;
             half = ap (λ (n : ℕ). n / 2) (m.taken.outside refl).0;
-            between = is_between rules r r1 a last false m.settled cells'.clock a.nth (opens_now false e) ready m.told.3;
+            between = is_between rules r r1 a last false m.settled cells'.clock a.nth (opens_now false e) (m.told.4 ∙ m.answered.status) m.told.3;
           })
   begin_tries (Busy clock) m = by_pending a.pending refl
     where
