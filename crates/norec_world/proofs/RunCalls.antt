@@ -228,7 +228,6 @@ module _ {P : Type 0} (rules : Rules P) (laws : Obeys rules) (first : Between P)
       by_open false o = (subst (λ (rows : Rows). IsRun rules first base n rows a) (sym (told.stays o)) x, λ y. absurd (true≢false (sym y ∙ o)), ap (λ (rows : Rows). rows.ended) (told.stays o))
       by_open true o =
           let moved = told.moves o in
-          let ended : r'.ended ≡ r.ended = ap (λ (rows : Rows). rows.ended) moved in
           let t = x.inside o in
           let now : active_of a.thread r'.active ≡ Some (reading (a.engine.snapshot / 2) t.1) = ap (λ (rows : Rows). active_of a.thread rows.active) moved ∙ changed_here a.thread (reading (a.engine.snapshot / 2)) r.active t.1 (λ y. refl) t.3 in (
             record {
@@ -245,7 +244,7 @@ module _ {P : Type 0} (rules : Rules P) (laws : Obeys rules) (first : Between P)
               between = λ y. absurd (true≢false (sym o ∙ y));
             },
             λ y row e. (let same : reading (a.engine.snapshot / 2) t.1 ≡ row = (let z : Some (reading (a.engine.snapshot / 2) t.1) ≡ Some row = sym now ∙ e in cc) in ap (λ (w : Attempt). w.at) (sym same)),
-            ended,
+            (ap (λ (rows : Rows). rows.ended) moved),
           )
 
 -- it goes on, or is answered

@@ -138,7 +138,6 @@ module _ {P : Type 0} (rules : Rules P) (laws : Obeys rules) (first : Between P)
           let after = x.1 in
           let at_is = m.ends.at_is in
           let position : at ≡ cells.clock / 2 = omega arith in
-          let half : cells'.clock / 2 ≡ cells.clock / 2 + 1 = omega arith in
           let up : cells.clock / 2 ≤ cells'.clock / 2 = omega arith in
           let here : at ≤ cells.clock / 2 = omega arith in
           let inside = m.taken.was_is in
@@ -152,7 +151,7 @@ module _ {P : Type 0} (rules : Rules P) (laws : Obeys rules) (first : Between P)
           ∙ (found_later r.ended (row ∷ []) (cells.clock / 2) (none_next base cells.clock r.ended seen.laid.counted (cells.clock / 2) (let l : cells.clock / 2 ≤ cells.clock / 2 = omega arith in l)) ∙ cond-true (at == cells.clock / 2) (Some row) None (eq-eqb at (cells.clock / 2) position)) in
           let backed_words : cells'.words ≡ backed mid (words_at base r.ended at) = seen.freed freed ∙ ap (λ (k : ℕ). backed mid (words_at base r.ended k)) (sym position) in
           let next_is : cells.clock / 2 + 1 ≡ suc (cells.clock / 2) = omega arith in
-          laid_more base cells cells' r r1 seen.laid counted half seen.long m.taken.tied.fit still
+          laid_more base cells cells' r r1 seen.laid counted (omega arith) seen.long m.taken.tied.fit still
           (ap (bytes_at base r1.ended) next_is
           ∙ (ap (memory_left MAX_DEPTH (bytes_at base r1.ended (cells.clock / 2))) found_row
           ∙ (ap (λ (k : ℕ). (alone MAX_DEPTH (bytes_at base r1.ended k) row).memory) (sym position)

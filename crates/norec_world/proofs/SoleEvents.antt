@@ -49,8 +49,7 @@ even_free {P} w c one a here free = by_rest (w.cells.clock % 2) refl
     by_rest (suc zero) k =
         let h = c.held k in
         let l = within_of w.actors h.0 h.1 h.2 in
-        let first : h.0 ≡ 0 = omega arith in
-        let same : a ≡ h.1 = (let z : Some a ≡ Some h.1 = sym here ∙ (ap (slice_get w.actors) (sym first) ∙ h.2) in cc) in
+        let same : a ≡ h.1 = (let z : Some a ≡ Some h.1 = sym here ∙ (ap (slice_get w.actors) (sym (omega arith)) ∙ h.2) in cc) in
         absurd (let z : true ≡ false = sym h.3 ∙ (ap (λ (x : Actor P). x.engine.holds) (sym same) ∙ free) in cc)
     by_rest (suc (suc n)) k = absurd (omega arith)
 
@@ -181,13 +180,12 @@ module _ {P : Type 0} (rules : Rules P) where
       → CommitsInOrder (record w { cells = cells'; actors = slice_set w.actors i new; attempts = r'; events = events }) → AreRunning rules (record w { cells = cells'; actors = slice_set w.actors i new; attempts = r'; events = events })
       → (ending_of new.status ≡ Some Finished → new.engine.holds ≡ false) → length w.opening ≡ 1 → (a : Actor P) → slice_get (slice_set w.actors i new) 0 ≡ Some a → IsSole rules w.max_commits cells'.clock r' a
   sole_still w kept i got new here going cells' r' events event actors commits running free one a here' =
-      let single : length w.actors ≡ 1 = kept.long ∙ one in
       let within = within_of w.actors i got here in
       let first : i ≡ 0 = omega arith in
       let placed : slice_get (slice_set w.actors i new) 0 ≡ Some new = ap (slice_get (slice_set w.actors i new)) (sym first) ∙ slice_get-set_same w.actors i new within in
       let same : new ≡ a = (let z : Some new ≡ Some a = sym placed ∙ here' in cc) in
       let mine = (actors.each 0 new placed).thread in
-      let still_one : length (slice_set w.actors i new) ≡ 1 = length-set w.actors i new ∙ single in
+      let still_one : length (slice_set w.actors i new) ≡ 1 = length-set w.actors i new ∙ (kept.long ∙ one) in
       let player = there_is w.opening 0 (omega arith) in
       subst (IsSole rules w.max_commits cells'.clock r') same
       (sole_after rules w.max_commits w.cells.clock cells'.clock w.attempts r' got new going (kept.sole one got (ap (slice_get w.actors) (sym first) ∙ here)) mine (kept.commits.limits i got here).max_commits

@@ -114,8 +114,7 @@ module _ {P : Type 0} {rules : Rules P} {cells : Cells} {r : Rows} {old : Actor 
       let opens : in_transaction old.engine ≡ in_transaction new = sym (ap in_transaction asks.stays ∙ ap is_inside kept.blocks) in
       let spent : new.spent ≡ old.engine.spent + 1 = ap (λ (c : Core). c.spent) asks.stays ∙ ap (λ (n : ℕ). n + 1) (handed_is old.engine m.step (found cells m.step)).spent in
       let most_is : most new new.doing ≡ most old.engine old.engine.doing = ap (λ (c : Core). most c c.doing) asks.stays ∙ (ap (most (mid_step m)) kept.doing ∙ most_same old.engine (mid_step m) kept old.engine.doing) in
-      let waited : new.waits ≡ Some step = ap (λ (c : Core). c.waits) asks.stays in
-      let enough : new.spent ≤ most new new.doing = m.within (λ e. absurd (let f : Some step ≡ None = sym waited ∙ e in cc)) in
+      let enough : new.spent ≤ most new new.doing = m.within (λ e. absurd (let f : Some step ≡ None = sym (ap (λ (c : Core). c.waits) asks.stays) ∙ e in cc)) in
       record {
         steps = (let fewer : steps_left new < steps_left old.engine = omega arith in fewer);
         less = record {
