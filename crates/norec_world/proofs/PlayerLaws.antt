@@ -158,9 +158,6 @@ module _ {P : Type 0} (rules : Rules P) (laws : Obeys rules)
       → IsSettledBy rules was r' a (retried (record a { player = player; pending = pending }))
   after_try was k nested idle free ready pending nothing player outside same closed row = tries (nat_lt a.retries a.nth) refl
     where
-      HasIt : Bool → Type 0
-      HasIt b = HasRow b r' a.thread
-
       tries : (b : Bool) → nat_lt a.retries a.nth ≡ b
           → IsSettledBy rules was r' a (if b then record a { player = player; pending = pending; status = Ended GaveUp } else record a { player = player; pending = pending; nth = a.nth + 1 })
       tries true e = after_end was GaveUp player pending k closed row
@@ -172,7 +169,7 @@ module _ {P : Type 0} (rules : Rules P) (laws : Obeys rules)
             engine = refl;
             thread = refl;
             retries = refl;
-            kept = record { row = subst HasIt (sym closed) row; empty = k.empty; tried = (let o : 0 < a.nth + 1 = omega arith in o); tries = (let o : a.nth + 1 ≤ a.retries + 1 = omega arith in o); retries = k.retries };
+            kept = record { row = subst (λ (b : Bool). HasRow b r' a.thread) (sym closed) row; empty = k.empty; tried = (let o : 0 < a.nth + 1 = omega arith in o); tries = (let o : a.nth + 1 ≤ a.retries + 1 = omega arith in o); retries = k.retries };
             rests = subst (λ (s : Status). RestsAs rules s new) (sym ready)
                 (record { nested = subst (λ (b : Bool). IsNested rules b player) (sym closed) nested'; idle = idle; free = free; nothing = nothing });
             falls = λ over. subst (λ (b : Bool). Falls rules was b a new) (sym closed) (record {
