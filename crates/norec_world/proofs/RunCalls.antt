@@ -13,7 +13,7 @@ use Rattle.norec_world.proofs.RunTaken.{runs_recorded}
 use Rattle.norec_world.proofs.Seen.{HasSeen, call_seen, step_seen}
 use Rattle.norec_world.proofs.Taken.{HasAnswered, recorded, now}
 use Rattle.norec_world.specs.LocalWork.{Starves}
-use Rattle.norec_world.proofs.RunAnswers.{RunOf, now_at, run_same, stop_run}
+use Rattle.norec_world.proofs.RunAnswers.{RunOf, before_on, now_at, run_same, stop_run}
 use Rattle.norec_world.proofs.RunBegins.{begin_here}
 use Rattle.norec_world.proofs.InTries.{try_handed, try_told}
 
@@ -29,8 +29,7 @@ module _ {P : Type 0} {rules : Rules P} {cells : Cells} {r0 : Rows} {old : Actor
       run = x.run;
       inside = x.inside;
       between = λ o gave_up starved.
-          (let t = x.between o (on_way ends.GaveUp) (on_way ends.NoMemory) in let k = t.2 in
-          (t.0, t.1, record { leads = k.leads; arena = k.arena; again = k.again; tries = k.tries; pending = k.pending }));
+          (let t = x.between o (on_way ends.GaveUp) (on_way ends.NoMemory) in (t.0, t.1, before_on t.2 old.engine (Ended ends.Finished) refl refl));
     });
     sees = λ fed. runs.sees (on_way ends.NoMemory);
     starved = λ e. absurd (cc);
@@ -212,11 +211,7 @@ module _ {P : Type 0} (rules : Rules P) (laws : Obeys rules) (first : Between P)
         inside = λ o. (let t = x.inside (sym same ∙ o) in (t.0, t.1, t.2, t.3, try_handed rules laws t.0 t.1 a.player a.engine step seen t.4, t.5, t.6));
         between = λ o gave_up starved.
             (let t = x.between (sym same ∙ o) (λ e. absurd (let z = sym on ∙ e in cc)) (λ e. absurd (let z = sym on ∙ e in cc)) in
-            let k = t.2 in (
-              t.0,
-              t.1,
-              record { leads = k.leads; arena = kept.arena ∙ k.arena; again = k.again; tries = k.tries; pending = λ row e. (let p = k.pending row e in (p.0, p.1, p.2, p.3, kept.again ∙ p.4)) },
-            ));
+            (t.0, t.1, before_on t.2 (handed_to a.engine (Some step) seen) status kept.arena kept.again));
       }
 
   -- the open attempt is told where it reads

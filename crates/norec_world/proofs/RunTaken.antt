@@ -10,7 +10,7 @@ use Rattle.norec_world.proofs.InTries.{try_asks}
 use Rattle.norec_world.proofs.Laid.{laid_more, laid_on}
 use Rattle.norec_world.proofs.Memories.{bytes_still, found_later, none_next}
 use Rattle.norec_world.proofs.RecordedRows.{was_open}
-use Rattle.norec_world.proofs.RunAnswers.{commit_agrees, commit_ended, commit_left, commit_runs, conflict_runs, full_runs, reply_runs}
+use Rattle.norec_world.proofs.RunAnswers.{before_on, commit_agrees, commit_ended, commit_left, commit_runs, conflict_runs, full_runs, reply_runs}
 use Rattle.norec_world.proofs.RunBegins.{shut_runs}
 use Rattle.norec_world.proofs.Seen.{HasSeen, memory_at}
 use Rattle.norec_world.proofs.Taken.{HasAnswered, HasTaken, recorded}
@@ -56,17 +56,7 @@ module _ {P : Type 0} (rules : Rules P) (laws : Obeys rules) (first : Between P)
                 (x.0, x.1, x.2, x.3, try_asks rules laws x.0 x.1 a.player mid a.engine step x.4 g (omega arith) (seen.fewer o), x.5, x.6));
             between = λ o gave_up starved.
                 (let x = run.between (sym opens ∙ o) (λ e. absurd (let z = sym (ap ending_of t.ready) ∙ e in cc)) (λ e. absurd (let z = sym (ap ending_of t.ready) ∙ e in cc)) in
-                let k = x.2 in (
-                  x.0,
-                  x.1,
-                  record {
-                    leads = k.leads;
-                    arena = ap (λ (c : Core). c.arena) g.stays ∙ k.arena;
-                    again = k.again;
-                    tries = k.tries;
-                    pending = λ row e. (let p = k.pending row e in (p.0, p.1, p.2, p.3, ap (λ (c : Core). c.again) g.stays ∙ p.4));
-                  },
-                ));
+                (x.0, x.1, before_on x.2 a.engine (Waits call step) (ap (λ (c : Core). c.arena) g.stays) (ap (λ (c : Core). c.again) g.stays)));
           });
           sees = record {
             loaded = subst (Loaded (words_at base r.ended) cells') (sym g.stays) (let l = seen.loaded g.unfreed in record { fresh = l.fresh; held = l.held; got = l.got });
