@@ -127,7 +127,8 @@ module _ {P : Type 0} (rules : Rules P) (max_commits : ℕ) where
           by_commit (ap is_done o) (omega (arith, at.0, at.1, later)) (omega (arith, at.0, at.1, ap (λ (x : Outcome). one_if (is_committed x)) o)) g
       by_outcome outcomes.Conflict o at g = absurd (omega (arith, at.0, at.1, later, shut (none_again clock' a.nth r' a' (nat_lt a.retries a.nth) g)))
       by_outcome outcomes.Full o at g =
-          goes_on at.0 (subst (λ (x : Option End). StandsSole rules max_commits x old.past (clock' / 2) r' a') (sym (ap ending_of g.status)) (g.none, (omega (arith, at.0, at.1, at.2)), last outcomes.Full o at.0))
+          goes_on at.0 (subst (λ (x : Option End). StandsSole rules max_commits x old.past (clock' / 2) r' a') (sym (ap ending_of g.status))
+          (g.none, (omega (arith, at.0, at.1, at.2)), last outcomes.Full o at.0))
       by_outcome outcomes.NoMemory o at g =
           goes_on at.0 (subst (λ (x : Option End). StandsSole rules max_commits x old.past (clock' / 2) r' a') (sym (ap ending_of g.status)) (g.none, inr (last outcomes.NoMemory o at.0)))
       by_outcome outcomes.Unfinished o at g = absurd at
