@@ -69,7 +69,8 @@ module _ {P : Type 0} {rules : Rules P} (laws : Obeys rules) (w : World P) (kept
   world_after =
       let actors = actors_after rules w.cells cells' w.attempts r2 w.actors kept.actors i got a2 here y.sound done (event_others x y) (event_clocks x y) in
       let commits = commits_after rules w kept.commits i got a2 here cells' r2 events event.0 in
-      let running = running_after rules laws w kept i got a2 here cells' r2 events (event_others x y) (event_clocks x y) (λ first base laid runs. (let z = x.runs first base laid runs in y.runs first base z.0 z.1)) in
+      let running = running_after rules laws w kept i got a2 here cells' r2 events (event_others x y) (event_clocks x y)
+      (λ first base laid runs. (let z = x.runs first base laid runs in y.runs first base z.0 z.1)) in
       record {
         actors = actors;
         long = length-set w.actors i a2 ∙ kept.long;

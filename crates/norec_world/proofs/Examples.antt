@@ -62,7 +62,13 @@ left_at (suc (suc (suc zero))) = 1
 left_at (suc (suc (suc (suc n)))) = 0
 
 abbrev counter_rules : Rules Counter
-counter_rules = record { next_call = λ p. call_at p.step p.got; answered = answered; restarted = λ p. record { step = 0; got = 0 }; calls_left = λ p. left_at p.step; depth = λ p. 0 }
+counter_rules = record {
+  next_call = λ p. call_at p.step p.got;
+  answered = answered;
+  restarted = λ p. record { step = 0; got = 0 };
+  calls_left = λ p. left_at p.step;
+  depth = λ p. 0;
+}
 
 abbrev fresh : Between Counter
 fresh = record { player = record { step = 0; got = 0 }; arena = []; again = false; tries = 0 }

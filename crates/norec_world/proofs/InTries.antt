@@ -19,18 +19,15 @@ use Rattle.norec_world.proofs.Alones.{begins_alone, alone_snoc, player_snoc, sta
 use Rattle.norec_world.proofs.Solos.{gets_none}
 
 module _ {P : Type 0} (rules : Rules P) (laws : Obeys rules) where
-  abbrev InTry : Between P → Attempt → P → Core → Type 0
-  InTry b row p e = IsInTry rules b row p e
-
   -- ## A step
 
-  word_handed : (b : Between P) (row : Attempt) (p : P) (e : Core) (holds : Bool) (word seen : ℕ) → InTry b row p e → InTry b row p (word_loaded e holds word seen)
+  word_handed : (b : Between P) (row : Attempt) (p : P) (e : Core) (holds : Bool) (word seen : ℕ) → IsInTry rules b row p e → IsInTry rules b row p (word_loaded e holds word seen)
   word_handed b row p e true word seen t =
       record { start = t.start; begins = t.begins; arena = t.arena; props = t.props; tries = t.tries; began = t.began; anew = t.anew; player = t.player; alone = t.alone; stands = t.stands }
   word_handed b row p e false word seen t =
       record { start = t.start; begins = t.begins; arena = t.arena; props = t.props; tries = t.tries; began = t.began; anew = t.anew; player = t.player; alone = t.alone; stands = t.stands }
 
-  pub try_handed : (b : Between P) (row : Attempt) (p : P) (e : Core) (step : Step) (seen : ℕ) → InTry b row p e → InTry b row p (handed_to e (Some step) seen)
+  pub try_handed : (b : Between P) (row : Attempt) (p : P) (e : Core) (step : Step) (seen : ℕ) → IsInTry rules b row p e → IsInTry rules b row p (handed_to e (Some step) seen)
   try_handed b row p e (Load (suc word)) seen t = word_handed b row p e e.holds word seen t
   try_handed b row p e (Store zero value) seen t =
       record { start = t.start; begins = t.begins; arena = t.arena; props = t.props; tries = t.tries; began = t.began; anew = t.anew; player = t.player; alone = t.alone; stands = t.stands }
@@ -38,12 +35,12 @@ module _ {P : Type 0} (rules : Rules P) (laws : Obeys rules) where
       record { start = t.start; begins = t.begins; arena = t.arena; props = t.props; tries = t.tries; began = t.began; anew = t.anew; player = t.player; alone = t.alone; stands = t.stands }
 
   -- the attempt is told where it reads
-  pub try_told : (b : Between P) (row : Attempt) (p : P) (e : Core) (at : ℕ) → InTry b row p e → InTry b (record row { at = at }) p e
+  pub try_told : (b : Between P) (row : Attempt) (p : P) (e : Core) (at : ℕ) → IsInTry rules b row p e → IsInTry rules b (record row { at = at }) p e
   try_told b row p e at t =
       record { start = t.start; begins = t.begins; arena = t.arena; props = t.props; tries = t.tries; began = t.began; anew = t.anew; player = t.player; alone = t.alone; stands = t.stands }
 
   -- a step is asked for
-  pub try_asks : (b : Between P) (row : Attempt) (p : P) (mid new : Core) (step : Step) → InTry b row p mid → AsksFor mid step new → row.began ≤ new.snapshot / 2 → ((m : List ℕ) → Agrees m new.log → Agrees m mid.log) → InTry b row p new
+  pub try_asks : (b : Between P) (row : Attempt) (p : P) (mid new : Core) (step : Step) → IsInTry rules b row p mid → AsksFor mid step new → row.began ≤ new.snapshot / 2 → ((m : List ℕ) → Agrees m new.log → Agrees m mid.log) → IsInTry rules b row p new
   try_asks b row p mid new step t g began less =
       let words : new.words ≡ mid.words = ap (λ (c : Core). c.words) g.stays in
       record {
@@ -61,7 +58,7 @@ module _ {P : Type 0} (rules : Rules P) (laws : Obeys rules) where
 
   -- ## A reply
 
-  module _ (b : Between P) (row : Attempt) (p : P) (mid new : Core) (call : Call) (r : Replied) (t : InTry b row p mid) (inside : in_transaction mid ≡ true) (asks : rules.next_call p ≡ Some call)
+  module _ (b : Between P) (row : Attempt) (p : P) (mid new : Core) (call : Call) (r : Replied) (t : IsInTry rules b row p mid) (inside : in_transaction mid ≡ true) (asks : rules.next_call p ≡ Some call)
       (g : Replies mid call r new) (began : row.began ≤ new.snapshot / 2) (less : (m : List ℕ) → Agrees m new.log → Agrees m mid.log) where
     begun : P
     begun = rules.answered t.start.player (begin_code b.again)
@@ -69,7 +66,7 @@ module _ {P : Type 0} (rules : Rules P) (laws : Obeys rules) where
     state : List ℕ → State
     state m = opened (bytes_of m) t.start.arena t.start.props
 
-    pub try_replies : InTry b (record row { calls = row.calls ++ record { call = call; reply = r } ∷ [] }) (rules.answered p r) new
+    pub try_replies : IsInTry rules b (record row { calls = row.calls ++ record { call = call; reply = r } ∷ [] }) (rules.answered p r) new
     unfolding begun state
     try_replies =
         let words : new.words ≡ mid.words = ap (λ (c : Core). c.words) g.stays in
@@ -134,7 +131,7 @@ module _ {P : Type 0} (rules : Rules P) (laws : Obeys rules) where
       )
 
   -- without a commit: in conflict, full, for want of memory, or not ended yet
-  pub try_stops : (n : ℕ) (base : List ℕ) (attempts : List Attempt) (b : Between P) (row : Attempt) (p : P) (e : Core) (t : InTry b row p e) (k : ℕ) (outcome : Outcome)
+  pub try_stops : (n : ℕ) (base : List ℕ) (attempts : List Attempt) (b : Between P) (row : Attempt) (p : P) (e : Core) (t : IsInTry rules b row p e) (k : ℕ) (outcome : Outcome)
       → (is_open_still : EndsAs outcome (stands_for e (words_at base attempts k))) → row.began ≤ k → k ≤ n → IsMemory e.words (words_at base attempts k) → bytes_of (words_at base attempts k) ≡ bytes_at base attempts k
       → Agrees (words_at base attempts k) e.log → (outcome ≡ outcomes.Full → LacksCommit rules MAX_DEPTH (rules.answered t.start.player (begin_code b.again)) row (bytes_at base attempts k))
       → IsTryAt rules MAX_DEPTH n (bytes_at base attempts) b (Some t.start) (record row { at = k; outcome = outcome })
@@ -145,7 +142,7 @@ module _ {P : Type 0} (rules : Rules P) (laws : Obeys rules) where
       (subst (λ (s : State). EndsAs outcome (state_then MAX_DEPTH s row.calls)) bytes (subst (EndsAs outcome) (t.stands (words_at base attempts k) memory agrees) ends)) full
 
   -- its commit: the state that it leaves is that of the commit over its memory
-  module _ (memory : List ℕ) (b : Between P) (row : Attempt) (p : P) (mid : Core) (call : Call) (m : List ℕ) (t : InTry b row p mid) (inside : in_transaction mid ≡ true) (outermost : length mid.blocks ≡ 1)
+  module _ (memory : List ℕ) (b : Between P) (row : Attempt) (p : P) (mid : Core) (call : Call) (m : List ℕ) (t : IsInTry rules b row p mid) (inside : in_transaction mid ≡ true) (outermost : length mid.blocks ≡ 1)
       (asks : rules.next_call p ≡ Some call) (is : call ≡ Commit) (mem : IsMemory mid.words m) (same : bytes_of m ≡ memory) (agrees : Agrees m mid.log) where
     abbrev last : Entry
     last = record { call = call; reply = Done }

@@ -22,9 +22,7 @@ pub mod RunTaken
 pub mod RunCalls
 pub mod RunOthers
 pub mod PlayerLaws
-pub mod SoundAnswers
 pub mod RecordedRows
-pub mod SoundCalls
 pub mod TryCalls
 pub mod TryChains
 pub mod LocalWork

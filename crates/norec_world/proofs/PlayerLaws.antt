@@ -1,10 +1,10 @@
--- The player's laws, over one answer: its depth, where it goes back to, and how much is left to do.
-use Rattle.std.proofs.Common.{◌≡◌, ℕ, ◌+◌, ◌*◌, ◌<◌, ◌≤◌, Bool, true, false, Some, refl, ap, subst, ◌∙◌, arith, if◌then◌else◌}
+-- The player's laws, over one answer: its depth, where it goes back to, and how much is left to do; and what comes of the answer once it is recorded.
+use Rattle.std.proofs.Common.{◌≡◌, ℕ, ◌+◌, ◌*◌, ◌<◌, ◌≤◌, Bool, true, false, Some, refl, ap, subst, ◌∙◌, arith, if◌then◌else◌, ◌-◌, nat_lt, [], Option, None, sym, Vec, Global, ltb-false}
 use Rattle.std.proofs.Math.Nat.{mul-le-mul_right}
-use Rattle.norec_world.proofs.Common.{Begin, Call, Commit, Done, IsNested, Obeys, Replied, Rules, whole}
+use Rattle.norec_world.proofs.Common.{Actor, Attempt, Begin, Call, Commit, Committed, Done, End, Ended, Entry, GaveUp, HasRow, IsNested, Obeys, Ready, Replied, Reply, RestsAs, Rows, Rules, Status, active_of, in_transaction, whole}
 use Rattle.itm_types.specs.declared.call.Reply.TheVariants.{Code}
 use Rattle.script_vm.specs.Depth.{depth_after, opens}
-use Rattle.norec_world.specs.Sound.{depth_if}
+use Rattle.norec_world.specs.Sound.{depth_if, IsKept, IsAnswered, IsSettledBy, Falls, tries_left, retried}
 
 -- ## Numbers
 
@@ -41,45 +41,35 @@ module _ {P : Type 0} (rules : Rules P) (laws : Obeys rules) where
     deep : (d : ℕ) → rules.depth p ≡ d → rules.depth (rules.answered p r) ≡ depth_after d c r
     deep d e = laws.nests p c r asks ∙ ap (λ x. depth_after x c r) e
 
+    pub plays : (was now : Bool) → IsNested rules was p → depth_after (depth_if was) c r ≡ depth_if now → (was ≡ true → now ≡ true) → Played was now p (rules.answered p r)
+    -- it stays open
+    plays true true n fits still =
+        let back : rules.restarted (rules.answered p r) ≡ rules.restarted p = goes_back 1 n.depth_is (omega arith) in
+        let fewer = laws.nearer p c r asks in
+        let room = n.less refl in
+        let same : rules.calls_left (rules.restarted (rules.answered p r)) ≡ rules.calls_left (rules.restarted p) = ap rules.calls_left back in
+        record {
+          nested = record { depth_is = deep 1 n.depth_is ∙ fits; begun = λ o. ap rules.depth back ∙ n.begun refl; less = λ o. omega arith };
+          whole_falls = omega arith;
+          less = fewer;
+        }
+    plays true false n fits still = absurd (let f : false ≡ true = still refl in cc)
     -- a block opened
-    entered : rules.depth p ≡ 0 → depth_after 0 c r ≡ 1 → Played false true p (rules.answered p r)
-    entered e fits =
-        let back : rules.restarted (rules.answered p r) ≡ p = goes_back 0 e (omega arith) ∙ ap (λ (b : Bool). if b then p else rules.restarted p) (opens_at_begin c r fits) in
+    plays false true n fits still =
+        let back : rules.restarted (rules.answered p r) ≡ p = goes_back 0 n.depth_is (omega arith) ∙ ap (λ (b : Bool). if b then p else rules.restarted p) (opens_at_begin c r fits) in
         let fewer = laws.nearer p c r asks in
         let same : rules.calls_left (rules.restarted (rules.answered p r)) ≡ rules.calls_left p = ap rules.calls_left back in
         record {
-          nested = record { depth_is = deep 0 e ∙ fits; begun = λ o. ap rules.depth back ∙ e; less = λ o. omega arith };
+          nested = record { depth_is = deep 0 n.depth_is ∙ fits; begun = λ o. ap rules.depth back ∙ n.depth_is; less = λ o. omega arith };
           whole_falls = omega arith;
           less = fewer;
         }
-
-    -- it stays open
-    within : rules.depth p ≡ 1 → rules.depth (rules.restarted p) ≡ 0 → rules.calls_left p < rules.calls_left (rules.restarted p) → depth_after 1 c r ≡ 1 → Played true true p (rules.answered p r)
-    within e back0 room fits =
-        let back : rules.restarted (rules.answered p r) ≡ rules.restarted p = goes_back 1 e (omega arith) in
-        let fewer = laws.nearer p c r asks in
-        let same : rules.calls_left (rules.restarted (rules.answered p r)) ≡ rules.calls_left (rules.restarted p) = ap rules.calls_left back in
-        record {
-          nested = record { depth_is = deep 1 e ∙ fits; begun = λ o. ap rules.depth back ∙ back0; less = λ o. omega arith };
-          whole_falls = omega arith;
-          less = fewer;
-        }
-
     -- none is open
-    outside : rules.depth p ≡ 0 → depth_after 0 c r ≡ 0 → Played false false p (rules.answered p r)
-    outside e fits =
-        let fewer = laws.nearer p c r asks in
-        record {
-          nested = record { depth_is = deep 0 e ∙ fits; begun = λ o. absurd (cc); less = λ o. absurd (cc) };
-          whole_falls = omega arith;
-          less = fewer;
-        }
-
-    pub plays : (was now : Bool) → IsNested rules was p → depth_after (depth_if was) c r ≡ depth_if now → (was ≡ true → now ≡ true) → Played was now p (rules.answered p r)
-    plays true true n fits still = within n.depth_is (n.begun refl) (n.less refl) fits
-    plays true false n fits still = absurd (let f : false ≡ true = still refl in cc)
-    plays false true n fits still = entered n.depth_is fits
-    plays false false n fits still = outside n.depth_is fits
+    plays false false n fits still = record {
+      nested = record { depth_is = deep 0 n.depth_is ∙ fits; begun = λ o. absurd (cc); less = λ o. absurd (cc) };
+      whole_falls = omega (arith, laws.nearer p c r asks);
+      less = laws.nearer p c r asks;
+    }
 
     -- the block is done
     pub closes : IsNested rules true p → c ≡ Commit → r ≡ Done → IsNested rules false (rules.answered p r) × (rules.calls_left (rules.answered p r) < rules.calls_left (rules.restarted p))
@@ -87,3 +77,105 @@ module _ {P : Type 0} (rules : Rules P) (laws : Obeys rules) where
         let fewer = laws.nearer p c r asks in
         let room = n.less refl in
         (record { depth_is = deep 1 n.depth_is ∙ ((λ i. depth_after 1 (is i) (done i))); begun = λ o. absurd (cc); less = λ o. absurd (cc) }, omega arith)
+
+-- ## The answer is recorded: the actor is between calls again, or has ended
+
+module _ {P : Type 0} (rules : Rules P) (laws : Obeys rules)
+    (r r' : Rows) (a : Actor P) (call : Call) where
+  -- a reply
+  pub after_reply : (was : Bool) (reply : Replied) → IsAnswered rules was r a call (Reply reply)
+      → (player : P) → player ≡ rules.answered a.player reply → (spare : Vec Entry Global) → spare.items ≡ [] → (pending : Option Attempt) → pending ≡ None → (again : Bool)
+      → HasRow (in_transaction a.engine) r' a.thread
+      → IsSettledBy rules was r' a (record a { player = player; spare = spare; pending = pending; again = again })
+  after_reply was reply d player is spare empty pending nothing again row =
+      let now = in_transaction a.engine in
+      let k = d.kept in
+      let played : Played rules laws was now a.player player =
+      subst (Played rules laws was now a.player) (sym is)
+      (plays rules laws a.player call reply d.in_call.asks was now d.nested d.fits.0 d.fits.1) in
+      record {
+        engine = refl;
+        thread = refl;
+        retries = refl;
+        kept = record { row = row; empty = empty; tried = k.tried; tries = k.tries; retries = k.retries };
+        rests = subst (λ (s : Status). RestsAs rules s (record a { player = player; spare = spare; pending = pending; again = again })) (sym d.status)
+            (record { nested = played.nested; idle = d.idle; free = d.free; nothing = nothing });
+        falls = λ e. record {
+          whole_falls = played.whole_falls;
+          rank_falls = λ n b. rank_same _ _ n _ _ (block_same _ _ a.retries (tries_left a) played.whole_falls) played.less;
+        };
+      }
+
+  -- the block is done
+  pub after_commit : (was : Bool) (at : ℕ) (wrote : Bool) → IsAnswered rules was r a call (Committed at wrote)
+      → (player : P) → player ≡ rules.answered a.player Done → (spare : Vec Entry Global) → spare.items ≡ [] → active_of a.thread r'.active ≡ None
+      → IsSettledBy rules was r' a (record a { player = player; spare = spare; nth = 1; again = false })
+  after_commit false at wrote d player is spare empty row = absurd (let f : false ≡ true = d.fits.0 in cc)
+  after_commit true at wrote d player is spare empty row =
+      let k = d.kept in
+      let new : Actor P = record a { player = player; spare = spare; nth = 1; again = false } in
+      let done = closes rules laws a.player call Done d.in_call.asks d.nested d.fits.2 refl in
+      let nested : IsNested rules false player = subst (IsNested rules false) (sym is) done.0 in
+      let fewer : rules.calls_left player < rules.calls_left (rules.restarted a.player) = subst (λ (p : P). rules.calls_left p < rules.calls_left (rules.restarted a.player)) (sym is) done.1 in
+      let closed : false ≡ in_transaction a.engine = sym d.fits.1 in
+      let tried = k.tries in
+      record {
+        engine = refl;
+        thread = refl;
+        retries = refl;
+        kept = record {
+          row = subst (λ (b : Bool). HasRow b r' a.thread) closed row;
+          empty = empty;
+          tried = (let o : 0 < 1 = omega arith in o);
+          tries = (let o : 1 ≤ a.retries + 1 = omega arith in o);
+          retries = k.retries;
+        };
+        rests = subst (λ (s : Status). RestsAs rules s new) (sym d.status)
+            (record { nested = subst (λ (b : Bool). IsNested rules b player) closed nested; idle = d.idle; free = d.free; nothing = d.in_call.inside refl });
+        falls = λ e. subst (λ (b : Bool). Falls rules true b a new) closed (record {
+          whole_falls = (let f = fewer in omega arith);
+          rank_falls = λ n b. rank_less _ _ n _ _ (rank_less _ _ a.retries (tries_left a) (a.retries + 1 - 1) fewer (omega arith)) (let f = fewer in omega arith);
+        });
+      }
+
+  -- no more tries: the actor has ended
+  pub after_end : (was : Bool) (end : End) (player : P) (pending : Option Attempt) → IsKept was r a → in_transaction a.engine ≡ false → active_of a.thread r'.active ≡ None
+      → IsSettledBy rules was r' a (record a { player = player; pending = pending; status = Ended end })
+  after_end was end player pending k closed row =
+      record {
+        engine = refl;
+        thread = refl;
+        retries = refl;
+        kept = record { row = subst (λ (b : Bool). HasRow b r' a.thread) (sym closed) row; empty = k.empty; tried = k.tried; tries = k.tries; retries = k.retries };
+        rests = tt;
+        falls = λ over. absurd (cc);
+      }
+
+  -- a try came to nothing, and the player is where it began the block
+  pub after_try : (was : Bool) → IsKept was r a → IsNested rules was a.player → a.engine.waits ≡ None → a.engine.holds ≡ false → a.status ≡ Ready
+      → (pending : Option Attempt) → pending ≡ None → (player : P) → rules.depth player ≡ 0 → rules.calls_left player ≡ whole rules was a.player
+      → in_transaction a.engine ≡ false → active_of a.thread r'.active ≡ None
+      → IsSettledBy rules was r' a (retried (record a { player = player; pending = pending }))
+  after_try was k nested idle free ready pending nothing player outside same closed row = tries (nat_lt a.retries a.nth) refl
+    where
+      tries : (b : Bool) → nat_lt a.retries a.nth ≡ b
+          → IsSettledBy rules was r' a (if b then record a { player = player; pending = pending; status = Ended GaveUp } else record a { player = player; pending = pending; nth = a.nth + 1 })
+      tries true e = after_end was GaveUp player pending k closed row
+      tries false e =
+          let new : Actor P = record a { player = player; pending = pending; nth = a.nth + 1 } in
+          let low : a.nth ≤ a.retries = ltb-false a.retries a.nth e in
+          let nested' : IsNested rules false player = record { depth_is = outside; begun = λ o. absurd (cc); less = λ o. absurd (cc) } in
+          record {
+            engine = refl;
+            thread = refl;
+            retries = refl;
+            kept = record { row = subst (λ (b : Bool). HasRow b r' a.thread) (sym closed) row; empty = k.empty; tried = (let o : 0 < a.nth + 1 = omega arith in o); tries = (let o : a.nth + 1 ≤ a.retries + 1 = omega arith in o); retries = k.retries };
+            rests = subst (λ (s : Status). RestsAs rules s new) (sym ready)
+                (record { nested = subst (λ (b : Bool). IsNested rules b player) (sym closed) nested'; idle = idle; free = free; nothing = nothing });
+            falls = λ over. subst (λ (b : Bool). Falls rules was b a new) (sym closed) (record {
+              whole_falls = (let x = same in omega arith);
+              rank_falls = λ n b. rank_less _ _ n _ _
+                  (let w : rules.calls_left player * (a.retries + 1) ≡ whole rules was a.player * (a.retries + 1) = ap (λ (x : ℕ). x * (a.retries + 1)) same in omega arith)
+                  (let x = same in omega arith);
+            });
+          }

@@ -1,13 +1,13 @@
 -- An actor's run, once an answer is recorded.
 use Rattle.std.proofs.Common.{◌≡◌, ℕ, ◌+◌, ◌/◌, ◌≤◌, Bool, true, false, nat_lt, if◌then◌else◌, List, [], ◌∷◌, ◌++◌, map, Option, Some, refl, sym, true≢false, ap, subst, ◌∙◌, arith}
-use Rattle.norec_world.proofs.Common.{Actor, Agrees, Attempt, Between, Call, Cells, Commit, Committed, Conflict, Core, Done, Ended, Entry, Full, GaveUp, IsMemory, IsRun, IsRunOf, IsTryAt, MAX_DEPTH, Obeys, Outcome, Ready, Replied, Replies, RepliesTo, Reply, Rows, Rules, State, active_of, after, alone, begin_code, begins_at, bytes_at, bytes_of, ending_of, in_transaction, is_open, of_thread, opened, run_after, state_then, words_at, words_of}
+use Rattle.norec_world.proofs.Common.{Actor, Agrees, Attempt, Between, Call, Cells, Commit, Committed, Conflict, Core, Done, Ended, Entry, Full, GaveUp, IsMemory, IsRun, IsRunOf, IsTryAt, MAX_DEPTH, Obeys, Outcome, Replied, Replies, RepliesTo, Reply, Rows, Rules, State, Status, active_of, after, alone, begin_code, begins_at, bytes_at, bytes_of, ending_of, in_transaction, is_open, of_thread, opened, run_after, state_then, words_at, words_of}
 use Rattle.itm_model.specs.Machine.{undone, undone_from}
 use Rattle.itm_model.specs.State.{Block}
 use Rattle.norec_engine.specs.Stands.{stands_for}
 use Rattle.norec_world.specs.declared.attempt.Outcome.TheVariants as outcomes
 use Rattle.norec_world.specs.Opacity.{EndsAs, answered_all, follows, after_try, LacksCommit}
 use Rattle.norec_world.specs.Records.{StopsAt}
-use Rattle.norec_world.specs.Runs.{IsInTry}
+use Rattle.norec_world.specs.Runs.{IsBeforeTry, IsInTry}
 use Rattle.norec_world.proofs.ActiveRows.{changed_here, row_is_of}
 use Rattle.norec_world.proofs.Alones.{player_snoc, stands_open}
 use Rattle.norec_world.proofs.TryEnds.{none_pending, none_retried}
@@ -23,6 +23,17 @@ undone_arena_from s (b ∷ bs) = undone_arena_from (record s { memory = b.saved.
 
 undone_arena : (s : State) → (undone s).arena ≡ s.arena
 undone_arena s = undone_arena_from s s.blocks
+
+-- a player before its try stays there while its engine goes on
+pub before_on : {P : Type 0} {rules : Rules P} {n : ℕ} {b : Between P} {a : Actor P} → IsBeforeTry rules n b a → (e : Core) (s : Status) → e.arena ≡ a.engine.arena → e.again ≡ a.engine.again
+    → IsBeforeTry rules n b (record a { engine = e; status = s })
+before_on k e s arena again = record {
+  leads = k.leads;
+  arena = arena ∙ k.arena;
+  again = k.again;
+  tries = k.tries;
+  pending = λ row is. (let p = k.pending row is in (p.0, p.1, p.2, p.3, again ∙ p.4));
+}
 
 -- the run of the thread over these attempts, where it stands then, and both under other names
 module _ {P : Type 0} (rules : Rules P) (first : Between P) (base : List ℕ) where
@@ -43,9 +54,6 @@ module _ {P : Type 0} (rules : Rules P) (laws : Obeys rules) (first : Between P)
   -- ## A call of an open transaction has its reply
 
   module _ (reply : Replied) (m : HasAnswered rules true cells cells' r r1 mid a last call (Reply reply)) where
-    inside : in_transaction mid ≡ true
-    inside = m.taken.was_is
-
     g : Replies mid call reply a.engine
     g = subst (λ (o : Option Call). RepliesTo mid o reply a.engine) m.taken.doing m.ends
 
@@ -55,10 +63,10 @@ module _ {P : Type 0} (rules : Rules P) (laws : Obeys rules) (first : Between P)
     pub reply_runs : IsRun rules first base n r1 last
     unfolding with_call
     reply_runs =
-        let t = run.inside inside in
+        let t = run.inside m.taken.was_is in
         let ended : r1.ended ≡ r.ended = ap (λ (x : Rows). x.ended) m.told.0 in
         let earlier = t.4.began in
-        let try = try_replies rules laws t.0 t.1 a.player mid a.engine call reply t.4 inside m.answered.in_call.asks g (let up = seen.up inside in omega arith) (seen.fewer (g.still inside)) in
+        let try = try_replies rules laws t.0 t.1 a.player mid a.engine call reply t.4 m.taken.was_is m.answered.in_call.asks g (let up = seen.up m.taken.was_is in omega arith) (seen.fewer (g.still m.taken.was_is)) in
         let row : Attempt = with_call t.1 in
         record {
           run = run_same rules first base n r.ended r1.ended a.thread last.thread ended m.settled.thread run.run;
@@ -71,7 +79,7 @@ module _ {P : Type 0} (rules : Rules P) (laws : Obeys rules) (first : Between P)
             m.told.2 ∙ t.5,
             t.6 ∙ sym m.told.3,
           );
-          between = λ o. absurd (true≢false (sym (ap in_transaction m.settled.engine ∙ g.still inside) ∙ o));
+          between = λ o. absurd (true≢false (sym (ap in_transaction m.settled.engine ∙ g.still m.taken.was_is) ∙ o));
         }
 
   -- ## An attempt ends

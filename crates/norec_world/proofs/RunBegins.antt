@@ -58,14 +58,8 @@ module _ {P : Type 0} (rules : Rules P) (laws : Obeys rules) (first : Between P)
   -- ## A reply outside a transaction
 
   module _ (reply : Replied) (m : HasAnswered rules false cells cells' r r1 mid a last call (Reply reply)) where
-    outside : in_transaction mid ≡ false
-    outside = m.taken.was_is
-
     g : Replies mid call reply a.engine
     g = subst (λ (o : Option Call). RepliesTo mid o reply a.engine) m.taken.doing m.ends
-
-    ready : last.status ≡ Ready
-    ready = m.told.4 ∙ m.answered.status
 
     -- its memory is the words as they are: nothing is logged
     shut : in_transaction last.engine ≡ false → in_transaction a.engine ≡ false
@@ -79,9 +73,9 @@ module _ {P : Type 0} (rules : Rules P) (laws : Obeys rules) (first : Between P)
 
     outside_runs : is_begin call ≡ false → in_transaction last.engine ≡ false → r1.ended ≡ r.ended → IsRun rules first base (cells.clock / 2) r1 last
     outside_runs other closed ended =
-        let t = before outside m.answered.status in
+        let t = before m.taken.was_is m.answered.status in
         let k = t.2 in
-        let refused = refused_outside rules laws mid a.engine call reply cells'.words g other outside memory (empty_log closed) in
+        let refused = refused_outside rules laws mid a.engine call reply cells'.words g other m.taken.was_is memory (empty_log closed) in
         let arena : last.engine.arena ≡ mid.arena = ap (λ (c : Core). c.arena) (m.settled.engine ∙ g.stays) in
         record {
           run = run_same rules first base (cells.clock / 2) r.ended r1.ended a.thread last.thread ended m.settled.thread run.run;
@@ -92,24 +86,20 @@ module _ {P : Type 0} (rules : Rules P) (laws : Obeys rules) (first : Between P)
             record {
               leads = k.leads ∙ (past_outside rules laws a.player t.0.arena call m.answered.in_call.asks other ∙ (ap (λ (x : Replied). comes_to rules laws (rules.answered a.player x) t.0.arena) (sym refused) ∙ ap (λ (q : P). comes_to rules laws q t.0.arena) (sym m.told.1)));
               arena = arena ∙ k.arena;
-              again = agains (in_transaction last.engine) closed m.told.2 ∙ k.again;
+              again = m.told.2 ∙ (ap (λ (o : Bool). again_after o a.pending a.again) closed ∙ k.again);
               tries = (let nth = m.told.3 in let fewer = k.tries in omega arith);
-              pending = λ x e. absurd (let none = sym (none_pending rules r r1 a last false m.settled ready) ∙ e in cc);
+              pending = λ x e. absurd (let none = sym (none_pending rules r r1 a last false m.settled (m.told.4 ∙ m.answered.status)) ∙ e in cc);
             },
           );
         }
-      where
-        agains : (o : Bool) → o ≡ false → last.again ≡ again_after o a.pending a.again → last.again ≡ a.again
-        agains true e f = absurd (cc)
-        agains false e f = f
 
     -- an accepted begin
     begin_runs : (row : Attempt) → a.pending ≡ Some row → (props : Props) (room : ℕ) → call ≡ Begin props room → in_transaction last.engine ≡ true → r1 ≡ with_opened (record row { at = last.engine.snapshot / 2 }) r → IsRun rules first base (cells.clock / 2) r1 last
     begin_runs row pending props room is opened rows =
         let now : in_transaction a.engine ≡ true = ap in_transaction (sym m.settled.engine) ∙ opened in
-        let late = seen.opens outside now in
+        let late = seen.opens m.taken.was_is now in
         let k_late : a.engine.snapshot / 2 ≤ cells.clock / 2 = (let reached = m.taken.tied.settled.reached in let late = m.taken.tied.late in let same = (m.taken.outside refl).0 in omega arith) in
-        let t = before outside m.answered.status in
+        let t = before m.taken.was_is m.answered.status in
         let k = t.2 in
         let p = k.pending row pending in
         let q = m.answered.in_call.opens row pending in
@@ -118,7 +108,7 @@ module _ {P : Type 0} (rules : Rules P) (laws : Obeys rules) (first : Between P)
         let g' : Replies mid (Begin props room) reply a.engine = subst (λ (c : Call). Replies mid c reply a.engine) is g in
         let asks : rules.next_call a.player ≡ Some (Begin props room) = m.answered.in_call.asks ∙ ap (λ (c : Call). Some c) is in
         let props_same : row.props ≡ props = (let both_begin = sym p.3 ∙ (k.leads ∙ begin_here rules laws a.player t.0.arena props room asks) in ap (λ (x : Beginning P). x.props) (same_some both_begin)) in
-        let try = try_begins rules laws t.0 row a.player mid a.engine props room reply p.3 p.1 props_same p.2 (let nth = q.nth in let fewer = k.tries in omega arith) outside (m.taken.empty refl) k.arena p.4 g'
+        let try = try_begins rules laws t.0 row a.player mid a.engine props room reply p.3 p.1 props_same p.2 (let nth = q.nth in let fewer = k.tries in omega arith) m.taken.was_is (m.taken.empty refl) k.arena p.4 g'
         (let early = p.0 in omega arith) (words_at base r.ended (a.engine.snapshot / 2)) (memory_at seen (a.engine.snapshot / 2) k_late) (seen.now now) at in
         let free : active_of row.thread r.active ≡ None = ap (λ (u : ℕ). active_of u r.active) q.thread ∙ m.answered.kept.row in
         record {
@@ -129,16 +119,11 @@ module _ {P : Type 0} (rules : Rules P) (laws : Obeys rules) (first : Between P)
             (λ i. now_at rules first base (ended i) (m.settled.thread i)) ∙ t.1,
             ap (λ (u : ℕ). active_of u r1.active) (m.settled.thread ∙ sym q.thread) ∙ (ap (λ (x : Rows). active_of row.thread x.active) rows ∙ opened_here (record row { at = at }) r.active free),
             subst (λ (c : Core). IsInTry rules t.0 (record row { at = at }) last.player c) (sym m.settled.engine) (subst (λ (x : P). IsInTry rules t.0 (record row { at = at }) x a.engine) (sym m.told.1) try),
-            agains (in_transaction last.engine) opened a.pending pending m.told.2,
+            m.told.2 ∙ (λ i. again_after (opened i) (pending i) a.again),
             q.nth ∙ sym m.told.3,
           );
           between = λ o. absurd (true≢false (sym opened ∙ o));
         }
-      where
-        agains : (o : Bool) → o ≡ true → (x : Option Attempt) → x ≡ Some row → last.again ≡ again_after o x a.again → last.again ≡ true
-        agains true e (Some y) f h = h
-        agains true e None f h = absurd (cc)
-        agains false e x f h = absurd (cc)
 
     -- of no open transaction
     reply_shut : IsRun rules first base (cells.clock / 2) r1 last
@@ -154,7 +139,7 @@ module _ {P : Type 0} (rules : Rules P) (laws : Obeys rules) (first : Between P)
             absurd (let f : false ≡ true = was_open false (in_transaction a.engine) call reply (λ x. sym (m.answered.in_call.begins x) ∙ ap is_some p) m.answered.fits.0 now in cc)
         by_open false o (Some row) p told =
             let c = begin_call call (begins row p) in
-            absurd (begin_opens mid a.engine cells'.words c.0 c.1 reply (subst (λ (x : Call). Replies mid x reply a.engine) c.2 g) outside memory (empty_log o) (shut o))
+            absurd (begin_opens mid a.engine cells'.words c.0 c.1 reply (subst (λ (x : Call). Replies mid x reply a.engine) c.2 g) m.taken.was_is memory (empty_log o) (shut o))
         by_open false o None p told = outside_runs (sym (m.answered.in_call.begins refl) ∙ ap is_some p) o (ap (λ (x : Rows). x.ended) told)
 
   -- ## A begin found the clock odd once too often

@@ -6,17 +6,16 @@ use Rattle.norec_world.specs.declared.attempt.Outcome.TheVariants as outcomes
 use Rattle.norec_world.specs.declared.attempt.End.TheVariants as ends
 use Rattle.norec_world.specs.Runs.{IsBeforeTry, RunsFrom}
 use Rattle.norec_world.proofs.ActiveRows.{changed_here}
-use Rattle.norec_world.proofs.SoundCalls.{IsCalling, active_same, call_taken, ended_same, mid, rests}
+use Rattle.norec_world.proofs.SoundSteps.{IsCalling, active_same, call_taken, ended_same, mid, rests, IsStepping, mid_step, same, step_taken, waits}
 use Rattle.norec_world.proofs.Memories.{bytes_still}
 use Rattle.norec_world.proofs.Laid.{laid_on, laid_same}
 use Rattle.norec_world.proofs.RunTaken.{runs_recorded}
 use Rattle.norec_world.proofs.Seen.{HasSeen, call_seen, step_seen}
 use Rattle.norec_world.proofs.Taken.{HasAnswered, recorded, now}
 use Rattle.norec_world.specs.LocalWork.{Starves}
-use Rattle.norec_world.proofs.RunAnswers.{RunOf, now_at, run_same, stop_run}
+use Rattle.norec_world.proofs.RunAnswers.{RunOf, before_on, now_at, run_same, stop_run}
 use Rattle.norec_world.proofs.RunBegins.{begin_here}
 use Rattle.norec_world.proofs.InTries.{try_handed, try_told}
-use Rattle.norec_world.proofs.SoundSteps.{IsStepping, mid as mid_step, same, step_taken, waits}
 
 -- ## The player has no more calls
 
@@ -30,8 +29,7 @@ module _ {P : Type 0} {rules : Rules P} {cells : Cells} {r0 : Rows} {old : Actor
       run = x.run;
       inside = x.inside;
       between = λ o gave_up starved.
-          (let t = x.between o (on_way ends.GaveUp) (on_way ends.NoMemory) in let k = t.2 in
-          (t.0, t.1, record { leads = k.leads; arena = k.arena; again = k.again; tries = k.tries; pending = k.pending }));
+          (let t = x.between o (on_way ends.GaveUp) (on_way ends.NoMemory) in (t.0, t.1, before_on t.2 old.engine (Ended ends.Finished) refl refl));
     });
     sees = λ fed. runs.sees (on_way ends.NoMemory);
     starved = λ e. absurd (cc);
@@ -177,11 +175,9 @@ module _ {P : Type 0} {rules : Rules P} (laws : Obeys rules) {cells : Cells} {r0
       run_same rules first base (cells.clock / 2) r0.ended r1.ended old.thread last.thread (ap (λ (x : Rows). x.ended) (s.stays o)) s.same.thread runs.runs.run
   starve_run true o =
       let here : IsRun rules first base (cells.clock / 2) roomy old = record { run = runs.runs.run; inside = runs.runs.inside; between = λ x. absurd (true≢false (sym o ∙ x)) } in
-      let early = (runs.runs.inside o).4.began in
-      let late = still_seen.late in
       (stop_run rules laws first base cells cells roomy r1 old.engine old last Commit still_seen here (cells.clock / 2) (let l : cells.clock / 2 ≤ cells.clock / 2 = omega arith in l)
       (λ k l. ap (λ (rows : List Attempt). bytes_at base rows k) ended ∙ bytes_still base cells.clock r0.ended laid.counted more k l) o (old.engine.snapshot / 2) outcomes.NoMemory (λ x y. y) s.same.thread (s.stops o)
-      early late ((runs.sees fed).logged o) (λ f. absurd (cc))).0
+      (runs.runs.inside o).4.began still_seen.late ((runs.sees fed).logged o) (λ f. absurd (cc))).0
 
   pub starve_runs : RunsFrom rules first base cells r1 last
   starve_runs = record {
@@ -215,11 +211,7 @@ module _ {P : Type 0} (rules : Rules P) (laws : Obeys rules) (first : Between P)
         inside = λ o. (let t = x.inside (sym same ∙ o) in (t.0, t.1, t.2, t.3, try_handed rules laws t.0 t.1 a.player a.engine step seen t.4, t.5, t.6));
         between = λ o gave_up starved.
             (let t = x.between (sym same ∙ o) (λ e. absurd (let z = sym on ∙ e in cc)) (λ e. absurd (let z = sym on ∙ e in cc)) in
-            let k = t.2 in (
-              t.0,
-              t.1,
-              record { leads = k.leads; arena = kept.arena ∙ k.arena; again = k.again; tries = k.tries; pending = λ row e. (let p = k.pending row e in (p.0, p.1, p.2, p.3, kept.again ∙ p.4)) },
-            ));
+            (t.0, t.1, before_on t.2 (handed_to a.engine (Some step) seen) status kept.arena kept.again));
       }
 
   -- the open attempt is told where it reads
@@ -231,7 +223,6 @@ module _ {P : Type 0} (rules : Rules P) (laws : Obeys rules) (first : Between P)
       by_open false o = (subst (λ (rows : Rows). IsRun rules first base n rows a) (sym (told.stays o)) x, λ y. absurd (true≢false (sym y ∙ o)), ap (λ (rows : Rows). rows.ended) (told.stays o))
       by_open true o =
           let moved = told.moves o in
-          let ended : r'.ended ≡ r.ended = ap (λ (rows : Rows). rows.ended) moved in
           let t = x.inside o in
           let now : active_of a.thread r'.active ≡ Some (reading (a.engine.snapshot / 2) t.1) = ap (λ (rows : Rows). active_of a.thread rows.active) moved ∙ changed_here a.thread (reading (a.engine.snapshot / 2)) r.active t.1 (λ y. refl) t.3 in (
             record {
@@ -248,7 +239,7 @@ module _ {P : Type 0} (rules : Rules P) (laws : Obeys rules) (first : Between P)
               between = λ y. absurd (true≢false (sym o ∙ y));
             },
             λ y row e. (let same : reading (a.engine.snapshot / 2) t.1 ≡ row = (let z : Some (reading (a.engine.snapshot / 2) t.1) ≡ Some row = sym now ∙ e in cc) in ap (λ (w : Attempt). w.at) (sym same)),
-            ended,
+            (ap (λ (rows : Rows). rows.ended) moved),
           )
 
 -- it goes on, or is answered

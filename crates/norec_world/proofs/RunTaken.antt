@@ -10,7 +10,7 @@ use Rattle.norec_world.proofs.InTries.{try_asks}
 use Rattle.norec_world.proofs.Laid.{laid_more, laid_on}
 use Rattle.norec_world.proofs.Memories.{bytes_still, found_later, none_next}
 use Rattle.norec_world.proofs.RecordedRows.{was_open}
-use Rattle.norec_world.proofs.RunAnswers.{commit_agrees, commit_ended, commit_left, commit_runs, conflict_runs, full_runs, reply_runs}
+use Rattle.norec_world.proofs.RunAnswers.{before_on, commit_agrees, commit_ended, commit_left, commit_runs, conflict_runs, full_runs, reply_runs}
 use Rattle.norec_world.proofs.RunBegins.{shut_runs}
 use Rattle.norec_world.proofs.Seen.{HasSeen, memory_at}
 use Rattle.norec_world.proofs.Taken.{HasAnswered, HasTaken, recorded}
@@ -56,17 +56,7 @@ module _ {P : Type 0} (rules : Rules P) (laws : Obeys rules) (first : Between P)
                 (x.0, x.1, x.2, x.3, try_asks rules laws x.0 x.1 a.player mid a.engine step x.4 g (omega arith) (seen.fewer o), x.5, x.6));
             between = λ o gave_up starved.
                 (let x = run.between (sym opens ∙ o) (λ e. absurd (let z = sym (ap ending_of t.ready) ∙ e in cc)) (λ e. absurd (let z = sym (ap ending_of t.ready) ∙ e in cc)) in
-                let k = x.2 in (
-                  x.0,
-                  x.1,
-                  record {
-                    leads = k.leads;
-                    arena = ap (λ (c : Core). c.arena) g.stays ∙ k.arena;
-                    again = k.again;
-                    tries = k.tries;
-                    pending = λ row e. (let p = k.pending row e in (p.0, p.1, p.2, p.3, ap (λ (c : Core). c.again) g.stays ∙ p.4));
-                  },
-                ));
+                (x.0, x.1, before_on x.2 a.engine (Waits call step) (ap (λ (c : Core). c.arena) g.stays) (ap (λ (c : Core). c.again) g.stays)));
           });
           sees = record {
             loaded = subst (Loaded (words_at base r.ended) cells') (sym g.stays) (let l = seen.loaded g.unfreed in record { fresh = l.fresh; held = l.held; got = l.got });
@@ -138,7 +128,6 @@ module _ {P : Type 0} (rules : Rules P) (laws : Obeys rules) (first : Between P)
           let after = x.1 in
           let at_is = m.ends.at_is in
           let position : at ≡ cells.clock / 2 = omega arith in
-          let half : cells'.clock / 2 ≡ cells.clock / 2 + 1 = omega arith in
           let up : cells.clock / 2 ≤ cells'.clock / 2 = omega arith in
           let here : at ≤ cells.clock / 2 = omega arith in
           let inside = m.taken.was_is in
@@ -152,7 +141,7 @@ module _ {P : Type 0} (rules : Rules P) (laws : Obeys rules) (first : Between P)
           ∙ (found_later r.ended (row ∷ []) (cells.clock / 2) (none_next base cells.clock r.ended seen.laid.counted (cells.clock / 2) (let l : cells.clock / 2 ≤ cells.clock / 2 = omega arith in l)) ∙ cond-true (at == cells.clock / 2) (Some row) None (eq-eqb at (cells.clock / 2) position)) in
           let backed_words : cells'.words ≡ backed mid (words_at base r.ended at) = seen.freed freed ∙ ap (λ (k : ℕ). backed mid (words_at base r.ended k)) (sym position) in
           let next_is : cells.clock / 2 + 1 ≡ suc (cells.clock / 2) = omega arith in
-          laid_more base cells cells' r r1 seen.laid counted half seen.long m.taken.tied.fit still
+          laid_more base cells cells' r r1 seen.laid counted (omega arith) seen.long m.taken.tied.fit still
           (ap (bytes_at base r1.ended) next_is
           ∙ (ap (memory_left MAX_DEPTH (bytes_at base r1.ended (cells.clock / 2))) found_row
           ∙ (ap (λ (k : ℕ). (alone MAX_DEPTH (bytes_at base r1.ended k) row).memory) (sym position)

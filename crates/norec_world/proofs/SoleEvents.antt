@@ -49,8 +49,7 @@ even_free {P} w c one a here free = by_rest (w.cells.clock % 2) refl
     by_rest (suc zero) k =
         let h = c.held k in
         let l = within_of w.actors h.0 h.1 h.2 in
-        let first : h.0 ≡ 0 = omega arith in
-        let same : a ≡ h.1 = (let z : Some a ≡ Some h.1 = sym here ∙ (ap (slice_get w.actors) (sym first) ∙ h.2) in cc) in
+        let same : a ≡ h.1 = (let z : Some a ≡ Some h.1 = sym here ∙ (ap (slice_get w.actors) (sym (omega arith)) ∙ h.2) in cc) in
         absurd (let z : true ≡ false = sym h.3 ∙ (ap (λ (x : Actor P). x.engine.holds) (sym same) ∙ free) in cc)
     by_rest (suc (suc n)) k = absurd (omega arith)
 
@@ -128,7 +127,8 @@ module _ {P : Type 0} (rules : Rules P) (max_commits : ℕ) where
           by_commit (ap is_done o) (omega (arith, at.0, at.1, later)) (omega (arith, at.0, at.1, ap (λ (x : Outcome). one_if (is_committed x)) o)) g
       by_outcome outcomes.Conflict o at g = absurd (omega (arith, at.0, at.1, later, shut (none_again clock' a.nth r' a' (nat_lt a.retries a.nth) g)))
       by_outcome outcomes.Full o at g =
-          goes_on at.0 (subst (λ (x : Option End). StandsSole rules max_commits x old.past (clock' / 2) r' a') (sym (ap ending_of g.status)) (g.none, (omega (arith, at.0, at.1, at.2)), last outcomes.Full o at.0))
+          goes_on at.0 (subst (λ (x : Option End). StandsSole rules max_commits x old.past (clock' / 2) r' a') (sym (ap ending_of g.status))
+          (g.none, (omega (arith, at.0, at.1, at.2)), last outcomes.Full o at.0))
       by_outcome outcomes.NoMemory o at g =
           goes_on at.0 (subst (λ (x : Option End). StandsSole rules max_commits x old.past (clock' / 2) r' a') (sym (ap ending_of g.status)) (g.none, inr (last outcomes.NoMemory o at.0)))
       by_outcome outcomes.Unfinished o at g = absurd at
@@ -181,13 +181,12 @@ module _ {P : Type 0} (rules : Rules P) where
       → CommitsInOrder (record w { cells = cells'; actors = slice_set w.actors i new; attempts = r'; events = events }) → AreRunning rules (record w { cells = cells'; actors = slice_set w.actors i new; attempts = r'; events = events })
       → (ending_of new.status ≡ Some Finished → new.engine.holds ≡ false) → length w.opening ≡ 1 → (a : Actor P) → slice_get (slice_set w.actors i new) 0 ≡ Some a → IsSole rules w.max_commits cells'.clock r' a
   sole_still w kept i got new here going cells' r' events event actors commits running free one a here' =
-      let single : length w.actors ≡ 1 = kept.long ∙ one in
       let within = within_of w.actors i got here in
       let first : i ≡ 0 = omega arith in
       let placed : slice_get (slice_set w.actors i new) 0 ≡ Some new = ap (slice_get (slice_set w.actors i new)) (sym first) ∙ slice_get-set_same w.actors i new within in
       let same : new ≡ a = (let z : Some new ≡ Some a = sym placed ∙ here' in cc) in
       let mine = (actors.each 0 new placed).thread in
-      let still_one : length (slice_set w.actors i new) ≡ 1 = length-set w.actors i new ∙ single in
+      let still_one : length (slice_set w.actors i new) ≡ 1 = length-set w.actors i new ∙ (kept.long ∙ one) in
       let player = there_is w.opening 0 (omega arith) in
       subst (IsSole rules w.max_commits cells'.clock r') same
       (sole_after rules w.max_commits w.cells.clock cells'.clock w.attempts r' got new going (kept.sole one got (ap (slice_get w.actors) (sym first) ∙ here)) mine (kept.commits.limits i got here).max_commits

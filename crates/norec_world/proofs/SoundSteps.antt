@@ -1,15 +1,16 @@
--- A step was done, and its value came to the engine: what it gave may be recorded.
-use Rattle.std.proofs.Common.{◌≡◌, inl, ℕ, zero, suc, ◌+◌, ◌*◌, ◌/◌, ◌%◌, ◌<◌, ◌≤◌, ◌==◌, Bool, true, false, if◌then◌else◌, Option, None, Some, refl, sym, true≢false, ap, subst, ◌∙◌, arith, eqb-true}
-use Rattle.norec_world.proofs.Common.{Actor, AllFit, Answers, Asks, Call, Cas, Cells, ClocksOn, Core, IsDone, IsLawful, IsSound, IsTied, Load, Next, Proceeds, Ready, RestsAs, Rows, Rules, Status, StatusIs, Step, Store, Waits, cells_after, found, handed_is, handed_to, in_transaction, is_inside, is_ready, is_waiting, rank, whole}
+-- A step was done, or a call of the player came: its value or the call went to the engine, and what the engine gave may be recorded.
+use Rattle.std.proofs.Common.{◌≡◌, inl, ℕ, zero, suc, ◌+◌, ◌*◌, ◌/◌, ◌%◌, ◌<◌, ◌≤◌, ◌==◌, Bool, true, false, if◌then◌else◌, Option, None, Some, refl, sym, true≢false, ap, subst, ◌∙◌, arith, eqb-true, inr, ◌-◌}
+use Rattle.norec_world.proofs.Common.{Actor, AllFit, Answers, Asks, Call, Cas, Cells, ClocksOn, Core, Ended, IsDone, IsLawful, IsNested, IsNoMore, IsReady, IsSound, IsTied, Load, Next, Proceeds, Ready, RestsAs, Rows, Rules, Status, StatusIs, Step, Store, Waits, active_of, begins_again, came, cells_after, ending_of, found, handed_is, handed_to, in_transaction, is_inside, is_ready, is_waiting, rank, whole}
 use Rattle.norec_engine.specs.Keeps.{Keeps}
 use Rattle.norec_engine.specs.Moves.{IsResumed}
 use Rattle.norec_engine.specs.Proceeds.{AsksFor, IsWithin, most}
 use Rattle.norec_engine.proofs.KeptFields.{most_same}
 use Rattle.norec_world.specs.ClockHolder.{HoldsOn}
-use Rattle.norec_world.specs.Sound.{GoesOn, IsWaiting, steps_left, Falls}
+use Rattle.norec_world.specs.Sound.{GoesOn, IsWaiting, steps_left, Falls, IsAsked, IsSettledBy}
 use Rattle.norec_world.proofs.ClockHolders.{clocks_of, clocks_still, clocks_twice, word_freed}
 use Rattle.norec_world.proofs.Taken.{ClockMoves, HasTaken, in_call_of, ready_of}
-use Rattle.norec_world.proofs.TiedEngines.{IsMid, hands, held_even, holds_handed, holds_same, limit_same, tied}
+use Rattle.norec_world.proofs.TiedEngines.{IsMid, hands, held_even, holds_handed, holds_same, limit_same, tied, comes}
+use Rattle.norec_world.specs.Records.{Asks as AsksOf}
 
 -- ## The clock over a step
 
@@ -54,8 +55,8 @@ pub record IsStepping {P : Type 0} (rules : Rules P) (cells : Cells) (r : Rows) 
 
 module _ {P : Type 0} {rules : Rules P} {cells : Cells} {r : Rows} {old : Actor P} {call : Call} {what : Next} {cells' : Cells} {new : Core} (m : IsStepping rules cells r old call what cells' new) where
   -- the engine with the value
-  abbrev pub mid : Core
-  mid = handed_to old.engine (Some m.step) (found cells m.step)
+  abbrev pub mid_step : Core
+  mid_step = handed_to old.engine (Some m.step) (found cells m.step)
 
   pub waits : IsWaiting rules r old call m.step
   waits = subst (StatusIs rules r old) m.waiting m.sound.status
@@ -68,11 +69,11 @@ module _ {P : Type 0} {rules : Rules P} {cells : Cells} {r : Rows} {old : Actor 
 
   is_mid : IsMid cells' (handed_to old.engine (Some m.step) (found cells m.step)) new
   is_mid =
-      subst (λ (c : Cells). IsMid c mid new) (sym m.cells_are)
+      subst (λ (c : Cells). IsMid c mid_step new) (sym m.cells_are)
       (hands cells old.engine new m.sound.tied m.resumed.settled m.step waits.lawful (subst (λ (c : Cells). AllFit c.words) m.cells_are m.fit))
 
   pub moves : ClockMoves cells cells' (handed_to old.engine (Some m.step) (found cells m.step))
-  moves = subst (λ (c : Cells). ClockMoves cells c mid) (sym m.cells_are) (moves_of cells old.engine m.step m.sound.tied waits.lawful)
+  moves = subst (λ (c : Cells). ClockMoves cells c mid_step) (sym m.cells_are) (moves_of cells old.engine m.step m.sound.tied waits.lawful)
 
   pub step_taken : (status : Status) → status ≡ Ready → HasTaken rules (in_transaction old.engine) cells cells' r (handed_to old.engine (Some m.step) (found cells m.step)) (record old { engine = new; status = status }) call what
   step_taken status ready =
@@ -82,7 +83,7 @@ module _ {P : Type 0} {rules : Rules P} {cells : Cells} {r : Rows} {old : Actor 
         proceeds = went;
         doing = same.doing ∙ waits.doing;
         words = is_mid.words;
-        tied = tied cells' mid new what is_mid went;
+        tied = tied cells' mid_step new what is_mid went;
         within = m.within;
         kept = record { row = k.row; empty = k.empty; tried = k.tried; tries = k.tries; retries = k.retries };
         nested = waits.nested;
@@ -96,25 +97,24 @@ module _ {P : Type 0} {rules : Rules P} {cells : Cells} {r : Rows} {old : Actor 
   -- what becomes of the clock, as the others see it
   pub step_clocks : (last : Core) → last ≡ new → ClocksOn cells old.engine cells' last
   step_clocks last is =
-      let taken = subst (λ (c : Cells). HoldsOn cells old.engine c mid) (sym m.cells_are) (holds_handed cells old.engine m.step m.sound.tied waits.lawful) in
-      let kept = limit_same mid new what went in
-      clocks_twice cells cells' cells' old.engine mid last (clocks_of cells cells' old.engine mid taken (λ h. (let held = is_mid.holder h in let even = is_mid.even h in omega arith)))
-      (clocks_still cells' mid last (ap (λ (c : Core). c.holds) is ∙ holds_same mid new what went) (ap (λ (c : Core). c.max_commits) is ∙ kept.0, ap (λ (c : Core). c.patience) is ∙ kept.1))
+      let taken = subst (λ (c : Cells). HoldsOn cells old.engine c mid_step) (sym m.cells_are) (holds_handed cells old.engine m.step m.sound.tied waits.lawful) in
+      let kept = limit_same mid_step new what went in
+      clocks_twice cells cells' cells' old.engine mid_step last (clocks_of cells cells' old.engine mid_step taken (λ h. (let held = is_mid.holder h in let even = is_mid.even h in omega arith)))
+      (clocks_still cells' mid_step last (ap (λ (c : Core). c.holds) is ∙ holds_same mid_step new what went) (ap (λ (c : Core). c.max_commits) is ∙ kept.0, ap (λ (c : Core). c.patience) is ∙ kept.1))
 
   pub limit_is : new.max_commits ≡ old.engine.max_commits
-  limit_is = (limit_same mid new what went).0 ∙ same.max_commits
+  limit_is = (limit_same mid_step new what went).0 ∙ same.max_commits
 
 -- the call goes on, with fewer steps left
 module _ {P : Type 0} {rules : Rules P} {cells : Cells} {r : Rows} {old : Actor P} {call : Call} {cells' : Cells} {new : Core} {step : Step} (m : IsStepping rules cells r old call (Asks step) cells' new) where
   pub step_goes_on : GoesOn rules old (record old { engine = new; status = Waits call step })
   step_goes_on =
-      let asks : AsksFor (mid m) step new = went m in
+      let asks : AsksFor (mid_step m) step new = went m in
       let kept = same m in
       let opens : in_transaction old.engine ≡ in_transaction new = sym (ap in_transaction asks.stays ∙ ap is_inside kept.blocks) in
       let spent : new.spent ≡ old.engine.spent + 1 = ap (λ (c : Core). c.spent) asks.stays ∙ ap (λ (n : ℕ). n + 1) (handed_is old.engine m.step (found cells m.step)).spent in
-      let most_is : most new new.doing ≡ most old.engine old.engine.doing = ap (λ (c : Core). most c c.doing) asks.stays ∙ (ap (most (mid m)) kept.doing ∙ most_same old.engine (mid m) kept old.engine.doing) in
-      let waited : new.waits ≡ Some step = ap (λ (c : Core). c.waits) asks.stays in
-      let enough : new.spent ≤ most new new.doing = m.within (λ e. absurd (let f : Some step ≡ None = sym waited ∙ e in cc)) in
+      let most_is : most new new.doing ≡ most old.engine old.engine.doing = ap (λ (c : Core). most c c.doing) asks.stays ∙ (ap (most (mid_step m)) kept.doing ∙ most_same old.engine (mid_step m) kept old.engine.doing) in
+      let enough : new.spent ≤ most new new.doing = m.within (λ e. absurd (let f : Some step ≡ None = sym (ap (λ (c : Core). c.waits) asks.stays) ∙ e in cc)) in
       record {
         steps = (let fewer : steps_left new < steps_left old.engine = omega arith in fewer);
         less = record {
@@ -158,3 +158,74 @@ module _ {P : Type 0} {rules : Rules P} {cells : Cells} {r : Rows} {old : Actor 
       by_what : (x : Next) → IsDone rules (in_transaction old.engine) r r1 (record old { engine = new; status = status }) last call x → is_ready last.status ≡ true → Falls rules (in_transaction old.engine) (in_transaction last.engine) old last
       by_what (Asks step) done e = absurd (let z = sym (ap (λ (y : Actor P). is_ready y.status) done.0) ∙ e in cc)
       by_what (Answers answer) done e = (let f = done.falls (ready_of last.status e) in record { whole_falls = f.whole_falls; rank_falls = f.rank_falls })
+
+-- ## A call
+
+-- an actor that was ready had room made for a call, which then went to its engine; nothing is recorded of that
+pub record IsCalling {P : Type 0} (rules : Rules P) (cells : Cells) (r0 r : Rows) (old a : Actor P) (call : Call) (what : Next) : Type 0 where
+  pub sound : IsSound rules cells r0 old
+  pub ready : old.status ≡ Ready
+  pub asked : IsAsked rules r old a call what
+  pub asks : AsksOf cells.clock r0 r old a call what
+
+-- between two calls
+pub rests : {P : Type 0} {rules : Rules P} {cells : Cells} {r : Rows} {a : Actor P} → IsSound rules cells r a → a.status ≡ Ready → IsReady rules a
+rests {rules} {r} {a} sound ready = subst (StatusIs rules r a) ready sound.status
+
+module _ {P : Type 0} {rules : Rules P} {cells : Cells} {r0 r : Rows} {old a : Actor P} {call : Call} {what : Next} (m : IsCalling rules cells r0 r old a call what) where
+  -- the engine with the call
+  abbrev pub mid : Core
+  mid = came old.engine call (begins_again (in_transaction old.engine) old.again call)
+
+  pub call_taken : HasTaken rules (in_transaction old.engine) cells cells r (came old.engine call (begins_again (in_transaction old.engine) old.again call)) a call what
+  call_taken =
+      let ready = rests m.sound m.ready in
+      record {
+        was_is = refl;
+        proceeds = m.asks.called.proceeds;
+        doing = refl;
+        words = m.sound.tied.words;
+        tied = tied cells mid a.engine what (comes cells old.engine a.engine m.sound.tied ready.free m.asked.settled call (begins_again (in_transaction old.engine) old.again call) m.asked.stays) m.asks.called.proceeds;
+        within = m.asked.within;
+        kept = m.asked.kept;
+        nested = subst (IsNested rules (in_transaction old.engine)) (sym m.asked.same.player) ready.nested;
+        in_call = m.asked.in_call;
+        ready = m.asked.same.status ∙ m.ready;
+        moves = record { frees = λ f. absurd (cc); keeps = λ f. refl };
+        empty = λ o. (m.sound.tied.settled.closed o).1;
+        outside = λ o. (refl, inr m.asked.at_once);
+      }
+
+  -- the rows are those that were
+  pub active_same : active_of a.thread r.active ≡ active_of old.thread r0.active
+  active_same = (λ i. active_of (m.asks.thread i) r.active) ∙ ap (λ (x : Rows). active_of old.thread x.active) m.asks.rows_are
+
+  pub ended_same : r.ended ≡ r0.ended
+  ended_same = ap (λ (x : Rows). x.ended) m.asks.rows_are
+
+  module _ {r1 : Rows} {last : Actor P} (s : IsSettledBy rules (in_transaction old.engine) r1 a last) where
+    -- what comes of an answer is as if the actor had not changed before
+    pub call_falls : last.status ≡ Ready → Falls rules (in_transaction old.engine) (in_transaction last.engine) old last
+    call_falls e =
+        let f = s.falls e in
+        record {
+          whole_falls = subst (λ (p : P). whole rules (in_transaction last.engine) last.player ≤ whole rules (in_transaction old.engine) p) m.asked.same.player f.whole_falls;
+          rank_falls = λ n b. subst (λ (x : ℕ). rank rules n (in_transaction last.engine) last < x) (same_rank n)
+              (f.rank_falls n (subst (λ (p : P). whole rules (in_transaction old.engine) p ≤ n) (sym m.asked.same.player) b));
+        }
+      where
+        same_rank : (n : ℕ) → rank rules n (in_transaction old.engine) a ≡ rank rules n (in_transaction old.engine) old
+        same_rank n = λ i. (whole rules (in_transaction old.engine) (m.asked.same.player i) * (m.asked.same.retries i + 1) + (m.asked.same.retries i + 1 - m.asked.same.nth i)) * (n + 1) + rules.calls_left (m.asked.same.player i)
+
+    pub call_less : ending_of last.status ≡ None → IsNoMore rules old last
+    call_less e = of_status last.status refl s.rests e
+      where
+        of_status : (x : Status) → last.status ≡ x → RestsAs rules x last → ending_of x ≡ None → IsNoMore rules old last
+        of_status Ready is rest e = let f = call_falls is in record { whole_falls = f.whole_falls; rank_falls = λ n b. (let x = f.rank_falls n b in omega arith) }
+        of_status (Waits c step) is rest e = absurd rest
+        of_status (Ended end) is rest e = absurd (cc)
+
+-- the same, where what the engine gave has another name
+pub calling : {P : Type 0} {rules : Rules P} {cells : Cells} {r0 r : Rows} {old a : Actor P} {call : Call} {given what : Next} → IsSound rules cells r0 old → old.status ≡ Ready → given ≡ what → IsAsked rules r old a call given → AsksOf cells.clock r0 r old a call given
+    → IsCalling rules cells r0 r old a call what
+calling {rules} {cells} {r0} {r} {old} {a} {call} sound ready is asked asks = record { sound = sound; ready = ready; asked = subst (IsAsked rules r old a call) is asked; asks = subst (AsksOf cells.clock r0 r old a call) is asks }

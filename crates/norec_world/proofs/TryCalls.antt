@@ -6,10 +6,9 @@ use Rattle.norec_world.specs.declared.attempt.Outcome.TheVariants as outcomes
 use Rattle.norec_world.specs.declared.attempt.End.TheVariants as ends
 use Rattle.norec_world.proofs.TiedEngines.{limit_same, snapshot_still}
 use Rattle.norec_world.specs.LocalWork.{Starves}
-use Rattle.norec_world.proofs.SoundCalls.{IsCalling, active_same, call_taken, ended_same, mid, rests}
+use Rattle.norec_world.proofs.SoundSteps.{IsCalling, active_same, call_taken, ended_same, mid, rests, IsStepping, limit_is, mid_step, step_taken}
 use Rattle.norec_world.proofs.Taken.{HasAnswered, HasTaken, recorded, now}
 use Rattle.norec_world.proofs.TryEnds.{is_between, open_tries, stays_between, stays_open, stops_try, begin_tries, not_finished, told_tries}
-use Rattle.norec_world.proofs.SoundSteps.{IsStepping, limit_is, mid as mid_step, step_taken}
 
 module _ {P : Type 0} (rules : Rules P)
     (cells : Cells) (r0 : Rows) (old : Actor P) (sound : IsSound rules cells r0 old) (ready : old.status ≡ Ready) where
@@ -35,7 +34,8 @@ module _ {P : Type 0} (rules : Rules P)
       by_row true e h =
           let reached = sound.tied.settled.reached in
           let late = sound.tied.late in
-          stops_try cells.clock cells.clock r0 r1 old last h.0 (old.engine.snapshot / 2) outcomes.NoMemory h.1 (ap (λ (x : Rows). x.ended) (s.stops e h.0 h.1)) (ap (λ (n : ℕ). n / 2) (sym (snapshot_still old.engine last.engine s.engine)))
+          stops_try cells.clock cells.clock r0 r1 old last h.0 (old.engine.snapshot / 2) outcomes.NoMemory h.1
+          (ap (λ (x : Rows). x.ended) (s.stops e h.0 h.1)) (ap (λ (n : ℕ). n / 2) (sym (snapshot_still old.engine last.engine s.engine)))
           (refl, omega arith) refl (record { none = none; status = s.status })
       by_row false e h = stays_between cells.clock cells.clock r0 r1 old last (ap (λ (x : Rows). x.ended) (s.stays e)) refl h nothing (record {
         none = none;
@@ -116,7 +116,8 @@ module _ {P : Type 0} {rules : Rules P} {cells : Cells} {r : Rows} {old : Actor 
       half = t.moves.keeps t.proceeds.unfreed
 
       by_pending : (p : Option Attempt) → old.pending ≡ p → active_of old.thread r.active ≡ None → Tried r (on (Waits call step))
-      by_pending None p none = stays_between cells.clock cells'.clock r r old (on (Waits call step)) refl half none p (record { none = none; tries = refl; opens = λ row e. absurd (let n = sym p ∙ e in cc); goes_on = λ e. absurd (cc) })
+      by_pending None p none = stays_between cells.clock cells'.clock r r old (on (Waits call step)) refl half none p
+          (record { none = none; tries = refl; opens = λ row e. absurd (let n = sym p ∙ e in cc); goes_on = λ e. absurd (cc) })
       by_pending (Some row) p none = begins (record { none = none; row = row; was = p; now = p; ended = refl; still = none; half = half; tries = refl; on = refl })
 
       by_row : (b : Bool) → HasRow b r old.thread → Tried r (on (Waits call step))

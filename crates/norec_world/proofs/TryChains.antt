@@ -5,7 +5,7 @@ use Rattle.norec_world.specs.declared.attempt.Outcome.TheVariants as outcomes
 use Rattle.norec_world.specs.declared.attempt.End.TheVariants as ends
 use Rattle.norec_world.specs.Tries.{Continues, TriesAgain, GoesOnAfter}
 use Rattle.norec_world.proofs.Beginnings.{starts_between}
-use Rattle.norec_world.proofs.SoundCalls.{rests}
+use Rattle.norec_world.proofs.SoundSteps.{rests}
 use Rattle.norec_world.proofs.TryEnds.{stays_between, stays_open}
 
 continues_twice : (a b c : Attempt) → Continues a b → Continues b c → Continues a c

@@ -3,7 +3,7 @@ use Rattle.std.proofs.Common.{true≢false, inl, inr, ◌≡◌, ℕ, ◌+◌, �
 use Rattle.std.proofs.lemmas.Bool.{false_from_ne_true, true_from_ne_false}
 use Rattle.norec_world.proofs.Common.{Actor, Agrees, Answer, Attempt, Begin, Busy, Call, Cells, Committed, Conflict, Core, End, Ended, EndsAt, Full, HasRow, IsBetween, IsMemory, IsReady, IsTied, IsTold, MAX_DEPTH, Opens, Outcome, Prior, Props, Ready, Records, Replied, Replies, RepliesTo, Reply, RestsAs, Rows, Rules, State, Status, Tries, active_of, after, begins, between, current_of, ending_of, in_transaction, is_begin, over, prior_of, runs, turned_away}
 use Rattle.itm_types.specs.declared.call.Reply.TheVariants as replies
-use Rattle.norec_engine.specs.Stands.{state_over, stands_for}
+use Rattle.norec_engine.specs.Stands.{state_over}
 use Rattle.norec_engine.specs.Proceeds.{IsBegin}
 use Rattle.norec_engine.proofs.Blocks.{none_inside}
 use Rattle.norec_world.specs.declared.attempt.Outcome.TheVariants as outcomes
@@ -43,8 +43,10 @@ module _ {P : Type 0} (clock clock' : ℕ) (r r' : Rows) (a a' : Actor P) (ended
   })
 
 -- the open attempt ends, and not by its commit
-pub stops_try : {P : Type 0} (clock clock' : ℕ) (r r' : Rows) (a a' : Actor P) (row : Attempt) (at : ℕ) (outcome : Outcome) → active_of a.thread r.active ≡ Some row → r'.ended ≡ r.ended ++ record row { at = at; outcome = outcome } ∷ []
-    → at ≡ a'.engine.snapshot / 2 → EndsAt a.engine.max_commits clock clock' at outcome → is_done outcome ≡ false → GoesOnAfter outcome clock' (prior_of r a) r' a' → Tries clock (prior_of r a) clock' r' a'
+pub stops_try : {P : Type 0} (clock clock' : ℕ) (r r' : Rows) (a a' : Actor P) (row : Attempt) (at : ℕ) (outcome : Outcome)
+    → active_of a.thread r.active ≡ Some row → r'.ended ≡ r.ended ++ record row { at = at; outcome = outcome } ∷ []
+    → at ≡ a'.engine.snapshot / 2 → EndsAt a.engine.max_commits clock clock' at outcome → is_done outcome ≡ false
+    → GoesOnAfter outcome clock' (prior_of r a) r' a' → Tries clock (prior_of r a) clock' r' a'
 stops_try clock clock' r r' a a' row at outcome was ended reads ends undone goes = over (record {
   row = row;
   row' = record row { at = at; outcome = outcome };
@@ -132,28 +134,28 @@ module _ {P : Type 0} {rules : Rules P} {cells cells' : Cells} {r r1 : Rows} {mi
       at_end : (b : Bool) → wrote ≡ b → EndsAt a.engine.max_commits cells.clock cells'.clock at (if b then outcomes.Committed else outcomes.ReadOnly)
       at_end true e = subst (λ (n : ℕ). (cells.clock ≡ 2 * n + 1) × (cells'.clock ≡ 2 * n + 2)) (sym m.ends.at_is) (m.taken.moves.frees (m.ends.freed ∙ e))
       at_end false e =
-          let same : a.engine.snapshot ≡ mid.snapshot = ap (λ (c : Core). c.snapshot) m.ends.stays in
-          let is = m.ends.at_is in
-          let l = seen cells' a.engine m.taken.tied in
-          (m.taken.moves.keeps (m.ends.freed ∙ e), omega arith)
+          (m.taken.moves.keeps (m.ends.freed ∙ e), omega (arith, ap (λ (c : Core). c.snapshot) m.ends.stays, m.ends.at_is, seen cells' a.engine m.taken.tied))
 
       after_end : (b : Bool) → IsBetween cells'.clock 1 r1 last → GoesOnAfter (if b then outcomes.Committed else outcomes.ReadOnly) cells'.clock (prior_of r a) r1 last
       after_end true x = x
       after_end false x = x
   open_tries (Conflict clock word) m =
       let row = m.answered.kept.row in
-      stops_try cells.clock cells'.clock r r1 a last row.0 (last.engine.snapshot / 2) outcomes.Conflict row.1 (ap (λ (x : Rows). x.ended) (m.told.0 row.0 row.1)) refl
-      (m.taken.moves.keeps m.ends.unfreed, omega (arith, ap (λ (c : Core). c.snapshot) (m.settled.engine ∙ m.ends.stays), ap (λ (c : Core). c.clock) m.ends.stays, m.ends.later, m.ends.clock_is, m.taken.tied.late)) refl
+      stops_try cells.clock cells'.clock r r1 a last row.0 (last.engine.snapshot / 2) outcomes.Conflict row.1 (ap (λ (x : Rows). x.ended) (m.told.0 row.0 row.1)) refl (
+        m.taken.moves.keeps m.ends.unfreed,
+        omega (arith, ap (λ (c : Core). c.snapshot) (m.settled.engine ∙ m.ends.stays), ap (λ (c : Core). c.clock) m.ends.stays, m.ends.later, m.ends.clock_is, m.taken.tied.late),
+      ) refl
       (tries_again rules r r1 a last true m.settled cells'.clock m.answered.fits.1 m.answered.status m.told.2)
   open_tries (Busy clock) m = absurd (let f : true ≡ false = m.answered.fits.0 in cc)
   open_tries (Full at) m =
       let row = m.answered.kept.row in
-      let limit : a.engine.max_commits ≡ mid.max_commits = ap (λ (c : Core). c.max_commits) m.ends.stays in
-      let full = m.ends.full in
-      let is = m.ends.at_is in
-      let l = seen cells' a.engine m.taken.tied in
-      stops_try cells.clock cells'.clock r r1 a last row.0 at outcomes.Full row.1 (ap (λ (x : Rows). x.ended) (m.told.0 row.0 row.1)) (m.ends.at_is ∙ ap (λ (n : ℕ). n / 2) (sym (ap (λ (c : Core). c.snapshot) m.settled.engine)))
-      (m.taken.moves.keeps m.ends.unfreed, omega arith, omega arith) refl (record { none = none_active rules r r1 a last true m.settled m.answered.fits.1; status = m.told.1 })
+      stops_try cells.clock cells'.clock r r1 a last row.0 at outcomes.Full row.1 (ap (λ (x : Rows). x.ended) (m.told.0 row.0 row.1))
+      (m.ends.at_is ∙ ap (λ (n : ℕ). n / 2) (sym (ap (λ (c : Core). c.snapshot) m.settled.engine))) (
+        m.taken.moves.keeps m.ends.unfreed,
+        omega (arith, m.ends.at_is, seen cells' a.engine m.taken.tied),
+        omega (arith, m.ends.full, ap (λ (c : Core). c.max_commits) m.ends.stays),
+      ) refl
+      (record { none = none_active rules r r1 a last true m.settled m.answered.fits.1; status = m.told.1 })
 
 -- ## A begin is answered
 
@@ -177,12 +179,6 @@ module _ {P : Type 0} {rules : Rules P} {cells cells' : Cells} {r r1 : Rows} {mi
   pub begin_tries : (ans : Answer) → HasAnswered rules false cells cells' r r1 mid a last call ans → Tries cells.clock (prior_of r a) cells'.clock r1 last
   begin_tries (Reply reply) m = by_open (in_transaction last.engine) refl a.pending refl m.told.0
     where
-      none : active_of a.thread r.active ≡ None
-      none = m.answered.kept.row
-
-      ready : last.status ≡ Ready
-      ready = m.told.4 ∙ m.answered.status
-
       opens_now : (now : Bool) → in_transaction last.engine ≡ now → in_transaction a.engine ≡ now
       opens_now now e = sym (ap in_transaction m.settled.engine) ∙ e
 
@@ -190,18 +186,18 @@ module _ {P : Type 0} {rules : Rules P} {cells cells' : Cells} {r r1 : Rows} {mi
       by_open true e (Some row) p told_so =
           let q = m.answered.in_call.opens row p in
           let new_row : Attempt = record row { at = last.engine.snapshot / 2 } in
-          let free : active_of row.thread r.active ≡ None = ap (λ (t : ℕ). active_of t r.active) q.thread ∙ none in
+          let free : active_of row.thread r.active ≡ None = ap (λ (t : ℕ). active_of t r.active) q.thread ∙ m.answered.kept.row in
           runs (record {
             row = row;
             row' = new_row;
-            was = ap (λ (o : Option Attempt). current_of o a.pending) none ∙ p;
+            was = ap (λ (o : Option Attempt). current_of o a.pending) m.answered.kept.row ∙ p;
             now = ap (λ (t : ℕ). active_of t r1.active) (m.settled.thread ∙ sym q.thread) ∙ (ap (λ (x : Rows). active_of row.thread x.active) told_so ∙ opened_here new_row r.active free);
             continues = record { thread = refl; nth = refl; began = refl; props = refl; arena = refl; more = []; calls = sym (append-nil row.calls) };
             ended = ap (λ (x : Rows). x.ended) told_so;
             half = ap (λ (n : ℕ). n / 2) (m.taken.outside refl).0;
             tries = m.told.3;
-            goes_on = λ x. absurd (let n = ap ending_of ready in cc);
-            fed = λ x. absurd (let n = ap ending_of ready in cc);
+            goes_on = λ x. absurd (let n = ap ending_of (m.told.4 ∙ m.answered.status) in cc);
+            fed = λ x. absurd (let n = ap ending_of (m.told.4 ∙ m.answered.status) in cc);
           })
       by_open true e None p told_so = absurd (let f : false ≡ true = was_open false (in_transaction a.engine) call reply (λ x. sym (m.answered.in_call.begins x) ∙ ap is_some p) m.answered.fits.0 (opens_now true e) in cc)
       by_open false e (Some row) p told_so =
@@ -211,10 +207,10 @@ module _ {P : Type 0} {rules : Rules P} {cells cells' : Cells} {r r1 : Rows} {mi
           absurd (begin_opens mid a.engine cells'.words b.0 b.1 reply g' m.taken.was_is (sym m.taken.words, m.taken.tied.fit) (subst (Agrees cells'.words) (sym (m.taken.tied.settled.closed closed).0) tt) closed)
       by_open false e None p told_so =
           between (record {
-            idle = ap (λ (o : Option Attempt). current_of o a.pending) none ∙ p;
+            idle = ap (λ (o : Option Attempt). current_of o a.pending) m.answered.kept.row ∙ p;
             ended = ap (λ (x : Rows). x.ended) told_so;
             half = ap (λ (n : ℕ). n / 2) (m.taken.outside refl).0;
-            between = is_between rules r r1 a last false m.settled cells'.clock a.nth (opens_now false e) ready m.told.3;
+            between = is_between rules r r1 a last false m.settled cells'.clock a.nth (opens_now false e) (m.told.4 ∙ m.answered.status) m.told.3;
           })
   begin_tries (Busy clock) m = by_pending a.pending refl
     where

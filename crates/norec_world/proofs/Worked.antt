@@ -8,7 +8,7 @@ use Rattle.norec_world.proofs.LessLeft.{less_less}
 use Rattle.norec_world.proofs.LocalWork.{nothing_ready, works_both}
 use Rattle.norec_world.proofs.OthersAttempts.{others_same, others_twice}
 use Rattle.norec_world.proofs.RunCalls.{call_runs, finish_runs, laid_calls, starve_runs}
-use Rattle.norec_world.proofs.SoundCalls.{IsCalling, call_less, call_taken, ended_same, mid}
+use Rattle.norec_world.proofs.SoundSteps.{IsCalling, call_less, call_taken, ended_same, mid}
 use Rattle.norec_world.proofs.Taken.{now, ready_of, recorded}
 use Rattle.norec_world.proofs.TiedEngines.{holds_same, limit_same, snapshot_still}
 use Rattle.norec_world.proofs.TryCalls.{call_tries, finish_tries, starve_tries}
@@ -89,27 +89,18 @@ module _ {P : Type 0} {rules : Rules P} (laws : Obeys rules) {cells : Cells} {r0
       let kept = limit_same (mid m) a.engine what m.asks.called.proceeds in
       record {
         sound = x.sound;
-        works = (
-          1,
-          (
-            r0,
-            old,
-            (refl, refl),
-            m.ready,
-            calls (record {
-              call = call;
-              next_is = asks;
-              what = what;
-              rows = r;
-              asked = a;
-              asks = m.asks;
-              ready = m.asked.same.status ∙ m.ready;
-              tells = tells;
-              engine = x.engine;
-              same = record { thread = x.thread ∙ m.asked.same.thread; retries = x.retries ∙ m.asked.same.retries; nothing = nothing_ready rules r1 last last.status x.sound.status };
-            }),
-          ),
-        );
+        works = one_act laws m.sound m.ready r1 last (calls (record {
+          call = call;
+          next_is = asks;
+          what = what;
+          rows = r;
+          asked = a;
+          asks = m.asks;
+          ready = m.asked.same.status ∙ m.ready;
+          tells = tells;
+          engine = x.engine;
+          same = record { thread = x.thread ∙ m.asked.same.thread; retries = x.retries ∙ m.asked.same.retries; nothing = nothing_ready rules r1 last last.status x.sound.status };
+        }));
         tries = λ w. tries;
         runs = λ first base laid runs. call_runs laws m first base laid runs r1 last done tells own.more (own.ended ∙ ap (λ (l : List Attempt). l ++ own.more) (sym (ended_same m))) (counted_after cells.clock cells.clock (prior_of r0 old) r1 last tries laid.counted);
         others = others;

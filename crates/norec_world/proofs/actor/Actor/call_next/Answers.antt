@@ -5,7 +5,7 @@ use Rattle.norec_world.specs.declared.attempt.Outcome.TheVariants as outcomes
 use Rattle.norec_world.specs.LocalWork.{Starves}
 use Rattle.norec_world.specs.Records.{StopsAt}
 use Rattle.norec_world.proofs.OthersAttempts.{others_twice}
-use Rattle.norec_world.proofs.SoundCalls.{call_falls, call_taken, calling}
+use Rattle.norec_world.proofs.SoundSteps.{call_falls, call_taken, calling}
 use Rattle.norec_world.proofs.Taken.{due}
 use Rattle.norec_world.proofs.Worked.{call_worked, finish_worked, starve_worked}
 use Rattle.norec_world.proofs.actor.Actor.call_next.Goals as goal

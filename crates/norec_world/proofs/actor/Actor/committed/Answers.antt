@@ -5,7 +5,7 @@ use Rattle.norec_world.specs.declared.attempt.Outcome.TheVariants.{Committed, Re
 use Rattle.norec_world.specs.Rows.{with_ended}
 use Rattle.norec_world.proofs.ActiveRows.{changed_here}
 use Rattle.norec_world.proofs.RecordedRows.{ended_changed}
-use Rattle.norec_world.proofs.SoundAnswers.{after_commit}
+use Rattle.norec_world.proofs.PlayerLaws.{after_commit}
 use Rattle.norec_world.proofs.actor.Actor.committed.Goals as goal
 
 pub returns-clause-settled : goal.returns-clause-settled

@@ -1,7 +1,7 @@
 use Rattle.norec_world.proofs.OthersAttempts.{others_opened, others_changed}
-use Rattle.std.proofs.Common.{◌≡◌, ◌/◌, refl, Some, subst, ◌++◌, ◌∷◌, [], ap, ◌∙◌, sym, Bool, true, false, None, is_some}
-use Rattle.norec_world.proofs.Common.{Attempt, HasRow, active_of, in_transaction}
-use Rattle.norec_world.proofs.SoundAnswers.{after_reply}
+use Rattle.std.proofs.Common.{◌≡◌, ◌/◌, refl, Some, subst, ◌++◌, ◌∷◌, [], ap, ◌∙◌, sym, Bool, true, None, is_some}
+use Rattle.norec_world.proofs.Common.{Attempt, HasRow, in_transaction}
+use Rattle.norec_world.proofs.PlayerLaws.{after_reply}
 use Rattle.norec_world.proofs.RecordedRows.{row_stays, was_open, row_opened, row_changed, row_none}
 use Rattle.norec_world.proofs.actor.Actor.replied.Goals as goal
 
