@@ -35,7 +35,6 @@ pub mod LessLeft
 pub mod Worked
 pub mod Worlds
 pub mod WorldEvents
-pub mod Refusals
 pub mod CallEvents
 pub mod Alones
 pub mod Solos

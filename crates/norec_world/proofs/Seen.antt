@@ -58,10 +58,8 @@ call_seen base cells r e new call again laid tied free sees stays = record {
 
 module _ (cells : Cells) (e : Core) (tied : IsTied cells e) where
   step_long : (s : Step) → length (cells_after cells s).words ≡ length cells.words
-  step_long (Load cell) = refl
-  step_long (Store zero value) = refl
   step_long (Store (suc word) value) = length-set cells.words word value
-  step_long (Cas cell from to) = refl
+  step_long s = refl
 
   exchanged_same : (b : Bool) (from to : ℕ) → (cells.clock == from) ≡ b → from % 2 ≡ 0 → to ≡ from + 1 → (if b then to else cells.clock) % 2 ≡ 0 → record cells { clock = if b then to else cells.clock } ≡ cells
   exchanged_same true from to e f up even = absurd (omega arith)
@@ -74,10 +72,8 @@ module _ (cells : Cells) (e : Core) (tied : IsTied cells e) where
   even_same (Cas cell from to) l k even = exchanged_same (cells.clock == from) from to refl l.4 l.6 even
 
   freed_words : (memory : ℕ → List ℕ) → Loaded memory cells e → (s : Step) → IsLawful e s → is_free s ≡ true → (cells_after cells s).words ≡ backed (handed_to e (Some s) (found cells s)) (memory (cells.clock / 2))
-  freed_words memory x (Load cell) l k = absurd (cc)
-  freed_words memory x (Store (suc word) value) l k = absurd (cc)
-  freed_words memory x (Cas cell from to) l k = absurd (cc)
   freed_words memory x (Store zero value) l k = x.held l.1
+  freed_words memory x s l k = absurd (cc)
 
 pub step_seen : (base : List ℕ) (cells : Cells) (r : Rows) (e new : Core) (step : Step) → AreLaid base cells r → IsTied cells e → Sees (words_at base r.ended) cells e → e.waits ≡ Some step → IsLawful e step → Joins e (found cells step) new
     → HasSeen base cells (cells_after cells step) r (handed_to e (Some step) (found cells step)) new

@@ -1,13 +1,15 @@
 -- Events of a world, and what their answers tell.
-use Rattle.std.proofs.Common.{◌≡◌, ℕ, ◌+◌, ◌<◌, Bool, true, false, cond, length, take, get_or, arith, List, [], ◌∷◌, ◌++◌, count_by, IsTrue, Option, None, Some, Result, Ok, Err, IsSome, refl, sym, ap, subst, ◌∙◌, slice_get}
+use Rattle.std.proofs.Common.{◌≡◌, ◌↔◌, ◌≤◌, zero, suc, ℕ, ◌+◌, ◌<◌, Bool, true, false, cond, length, take, get_or, arith, List, [], ◌∷◌, ◌++◌, count_by, IsTrue, Option, None, Some, Result, Ok, Err, IsSome, refl, sym, ap, subst, ◌∙◌, slice_get}
 use Rattle.std.proofs.lemmas.List.{take_more}
 use Rattle.std.proofs.lemmas.List.Sums.{sum_by-append}
-use Rattle.norec_world.proofs.Common.{Actor, AreOpaque, CommitsInOrder, End, Finished, Goes, IsLawful, Ready, Rules, SameOpening, Status, Step, World, cells_after, counted, ending_at, ending_of, option_and_then, told, waiting_step, waits_at}
+use Rattle.norec_world.proofs.Common.{Waits, is_ready, is_waiting, Actor, AreOpaque, CommitsInOrder, End, Finished, Goes, IsLawful, Ready, Rules, SameOpening, Status, Step, World, cells_after, counted, ending_at, ending_of, option_and_then, told, waiting_step, waits_at}
 use Rattle.norec_world.specs.declared.fault.WorldFault.{WorldFault}
 use Rattle.norec_world.specs.declared.fault.WorldFault.TheVariants as faults
 use Rattle.norec_world.specs.declared.schedule.Passes.{Passes}
 use Rattle.norec_world.specs.World.{ShowsAlone, is_event}
-use Rattle.norec_world.proofs.Worlds.{within_some}
+use Rattle.std.specs.Option.{option_map}
+use Rattle.norec_world.proofs.SoundOthers.{within_of}
+use Rattle.norec_world.proofs.Worlds.{some_ended, within_some}
 use Rattle.norec_world.specs.WorldEvents.{ActorGoes, Leads, is_taken, is_passed, is_starved, passes_of}
 
 -- an event is answered by no fault of the other two
@@ -54,6 +56,58 @@ module _ {P : Type 0} (rules : Rules P) (old new : World P) (actor : ℕ) (waits
     actors = long;
     alone = alone;
   }
+
+-- ## Where the actor waits for no operation
+
+pub mapped_none : {A B : Type 0} (f : A → B) (o : Option A) → None ≡ option_map f o → o ≡ None
+mapped_none f None e = refl
+mapped_none f (Some x) e = absurd (cc)
+
+pub mapped_some : {A B : Type 0} (f : A → B) (o : Option A) (y : B) → Some y ≡ option_map f o → (x : A) × (o ≡ Some x) × (f x ≡ y)
+mapped_some f None y e = absurd (cc)
+mapped_some f (Some x) y e = (x, refl, cc)
+
+past_end : {A : Type 0} (xs : List A) (i : ℕ) → slice_get xs i ≡ None → length xs ≤ i
+past_end [] i e = omega arith
+past_end (x ∷ xs) zero e = absurd (cc)
+past_end (x ∷ xs) (suc i) e = (let l = past_end xs i e in omega arith)
+
+waits_none : (s : Status) → is_waiting s ≡ false → waiting_step s ≡ None
+waits_none (Waits call step) e = absurd (cc)
+waits_none s e = refl
+
+module _ {P : Type 0} (rules : Rules P) (w : World P) (i : ℕ) (alone : ShowsAlone rules w)
+    (commits : CommitsInOrder w) (opaque : AreOpaque rules w) where
+  nothing_done : (result : Result (Unit {0}) WorldFault) → is_event result ≡ false → waits_at w i ≡ None
+      → ((result ≡ Err faults.NoSuchActor) ↔ (length w.actors ≤ i)) → ((result ≡ Err faults.Ended) ↔ IsSome (ending_at w i)) → Goes rules i w result w
+  nothing_done result none still no_such ended = record {
+    no_such = no_such;
+    ended = ended;
+    event = (λ e. absurd (cc), λ e. absurd (let z = subst IsSome still e in cc));
+    answer = λ e. absurd (cc);
+    lawful = λ a step here waits. absurd (let z : None ≡ Some step = sym still ∙ (ap (option_and_then (λ (x : Actor P). waiting_step x.status)) here ∙ waits) in cc);
+    operation = λ step e. absurd (let z : None ≡ Some step = sym still ∙ e in cc);
+    counts = λ e. absurd (cc);
+    unchanged = λ e. refl;
+    event_of = λ x is e. absurd (cc);
+    commits = commits;
+    opaque = opaque;
+    opening = record { opening = refl; base = refl; arena = refl; patience = refl; max_commits = refl; retries = refl };
+    actors = refl;
+    alone = alone;
+  }
+
+  pub goes_nowhere : slice_get w.actors i ≡ None → Goes rules i w (Err faults.NoSuchActor) w
+  goes_nowhere none =
+      let no_end : ending_at w i ≡ None = ap (option_and_then (λ (a : Actor P). ending_of a.status)) none in
+      nothing_done (Err faults.NoSuchActor) refl (ap (option_and_then (λ (a : Actor P). waiting_step a.status)) none)
+      (λ e. past_end w.actors i none, λ l. refl) (λ e. absurd (cc), λ e. absurd (let z = subst IsSome no_end e in cc))
+
+  pub goes_no_more : (a : Actor P) → slice_get w.actors i ≡ Some a → is_waiting a.status ≡ false → is_ready a.status ≡ false → Goes rules i w (Err faults.Ended) w
+  goes_no_more a here still done =
+      let end_is : ending_at w i ≡ ending_of a.status = ap (option_and_then (λ (x : Actor P). ending_of x.status)) here in
+      nothing_done (Err faults.Ended) refl (ap (option_and_then (λ (x : Actor P). waiting_step x.status)) here ∙ waits_none a.status still)
+      (λ e. absurd (cc), λ l. absurd (let n = within_of w.actors i a here in omega arith)) (λ e. subst IsSome (sym end_is) (some_ended a.status still done), λ e. refl)
 
 -- ## Many in a row
 
