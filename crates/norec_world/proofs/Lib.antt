@@ -12,7 +12,6 @@ pub mod SoundOthers
 pub mod CommitCounts
 pub mod Memories
 pub mod RunLists
-pub mod LogAgreement
 pub mod InTries
 pub mod RunAnswers
 pub mod RunBegins

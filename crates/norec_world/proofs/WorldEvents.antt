@@ -128,6 +128,17 @@ noted p (Err faults.NoSuchActor) = record p { passed = p.passed + 1 }
 noted p (Err faults.Ended) = record p { passed = p.passed + 1 }
 noted p (Err faults.NoMemory) = record p { starved = p.starved + 1 }
 
+pub noted_all : (p : Passes) (r : Result (Unit {0}) WorldFault) → (noted p r).taken + (noted p r).passed + (noted p r).starved ≡ p.taken + p.passed + p.starved + 1
+noted_all p (Ok done) = omega arith
+noted_all p (Err faults.NoMemory) = omega arith
+noted_all p r = omega arith
+
+pub noted_counts : (p : Passes) (r : Result (Unit {0}) WorldFault) (first before now : ℕ) → before ≡ counted first (p.taken + p.starved) → (IsTrue (is_event r) → now ≡ counted before 1) → (is_event r ≡ false → now ≡ before)
+    → now ≡ counted first ((noted p r).taken + (noted p r).starved)
+noted_counts p (Ok done) first before now is event none = (let e = event refl in omega arith)
+noted_counts p (Err faults.NoMemory) first before now is event none = (let e = event refl in omega arith)
+noted_counts p r first before now is event none = none refl ∙ is
+
 module _ {A : Type 0} (p : A → Bool) (xs : List A) (x : A) where
   count_yes : p x ≡ true → count_by p (xs ++ x ∷ []) ≡ count_by p xs + 1
   count_yes e =
