@@ -34,7 +34,6 @@ pub mod LessLeft
 pub mod Worked
 pub mod Worlds
 pub mod WorldEvents
-pub mod CallEvents
 pub mod Alones
 pub mod Solos
 pub mod SoleRuns
