@@ -155,11 +155,7 @@ pub changed_elsewhere : (thread other : ℕ) (f : Attempt → Attempt) (xs : Lis
 changed_elsewhere thread other f [] keeps ne = refl
 changed_elsewhere thread other f (x ∷ xs) keeps ne =
     elim (cases_Bool (x.thread == thread)) [
-      | inl e ↦ (
-          let same = eqb-true x.thread thread e in
-          let no : (x.thread == other) ≡ false = ne_eqb x.thread other (λ h. ne (sym h ∙ same)) in
-          let k = keeps x in
-          simp (e, k, no) refl)
+      | inl e ↦ (let no = ne_eqb x.thread other (λ h. ne (sym h ∙ eqb-true x.thread thread e)) in let k = keeps x in simp (e, k, no))
       | inr e ↦ simp e (ap (λ (o : Option Attempt). cond (x.thread == other) (Some x) o) (changed_elsewhere thread other f xs keeps ne))
     ]
 
@@ -182,10 +178,7 @@ pub without_elsewhere : (thread other : ℕ) (xs : List Attempt) → (other ≡ 
 without_elsewhere thread other [] ne = refl
 without_elsewhere thread other (x ∷ xs) ne =
     elim (cases_Bool (x.thread == thread)) [
-      | inl e ↦ (
-          let same = eqb-true x.thread thread e in
-          let no : (x.thread == other) ≡ false = ne_eqb x.thread other (λ h. ne (sym h ∙ same)) in
-          simp (e, no) refl)
+      | inl e ↦ (let no = ne_eqb x.thread other (λ h. ne (sym h ∙ eqb-true x.thread thread e)) in simp (e, no))
       | inr e ↦ simp e (ap (λ (o : Option Attempt). cond (x.thread == other) (Some x) o) (without_elsewhere thread other xs ne))
     ]
 

@@ -1,6 +1,6 @@
 -- An actor's steps, as the others see the clock.
-use Rattle.std.proofs.Common.{◌≡◌, ℕ, zero, suc, Some, ◌*◌, ◌≤◌, ◌%◌, Bool, true, false, refl, sym, ap, subst, ◌∙◌, arith}
-use Rattle.std.proofs.lemmas.Bool.{both_ways}
+use Rattle.std.proofs.Common.{inl, inr, ◌≡◌, ℕ, zero, suc, Some, ◌*◌, ◌≤◌, ◌%◌, Bool, true, false, refl, sym, ap, subst, ◌∙◌, arith}
+use Rattle.std.proofs.lemmas.Bool.{both_ways, cases_Bool}
 use Rattle.norec_world.proofs.Common.{Cells, ClocksOn, Core, Load, Step, Store, handed_to, word_loaded}
 use Rattle.norec_world.specs.ClockHolder.{HoldsOn}
 
@@ -11,22 +11,22 @@ odd_even n o e = absurd (omega arith)
 pub clocks_of : (cells cells' : Cells) (e e' : Core) → HoldsOn cells e cells' e' → (e'.holds ≡ true → cells'.clock % 2 ≡ 1) → ClocksOn cells e cells' e'
 clocks_of cells cells' e e' h odd = record {
   odd = λ before. odd;
-  apart = λ odd free. by_new odd free e'.holds refl;
-  alone = λ mine odd. by_both mine odd e.holds refl e'.holds refl;
+  apart = λ odd free. elim (cases_Bool e'.holds) [
+    | inl n ↦ absurd (odd_even cells.clock odd (h.takes free n).0)
+    | inr n ↦ (h.leaves free n, n)
+  ];
+  alone = λ mine odd. elim (cases_Bool e'.holds) [
+    | inl n ↦ n
+    | inr n ↦ elim (cases_Bool e.holds) [
+      | inl o ↦ absurd (odd_even cells'.clock odd (h.frees o n).0)
+      | inr o ↦ absurd (both_ways e.holds o (mine (ap (λ (c : Cells). c.clock % 2) (sym (h.leaves o n)) ∙ odd)))
+    ]
+  ];
   late = h.late;
   long = h.long;
   limit = h.limit;
   capped = h.capped;
 }
-  where
-    by_new : cells.clock % 2 ≡ 1 → e.holds ≡ false → (b : Bool) → e'.holds ≡ b → (cells' ≡ cells) × (e'.holds ≡ false)
-    by_new odd free true n = absurd (odd_even cells.clock odd (h.takes free n).0)
-    by_new odd free false n = (h.leaves free n, n)
-
-    by_both : (cells.clock % 2 ≡ 1 → e.holds ≡ true) → cells'.clock % 2 ≡ 1 → (a : Bool) → e.holds ≡ a → (b : Bool) → e'.holds ≡ b → e'.holds ≡ true
-    by_both mine odd a o true n = n
-    by_both mine odd true o false n = absurd (odd_even cells'.clock odd (h.frees o n).0)
-    by_both mine odd false o false n = absurd (both_ways e.holds o (mine (ap (λ (c : Cells). c.clock % 2) (sym (h.leaves o n)) ∙ odd)))
 
 -- no step
 pub clocks_still : (cells : Cells) (e e' : Core) → e'.holds ≡ e.holds → (e'.max_commits ≡ e.max_commits) × (e'.patience ≡ e.patience) → ClocksOn cells e cells e'

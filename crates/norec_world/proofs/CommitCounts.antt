@@ -89,15 +89,10 @@ module _ {P : Type 0} (rules : Rules P) (w : World P) (c : CommitsInOrder w) (i 
   odd_of : (j : ℕ) (b : Actor P) → slice_get w.actors j ≡ Some b → b.engine.holds ≡ true → w.cells.clock % 2 ≡ 1
   odd_of j b e h = elim (odd_or_even w.cells.clock) [ inl even ↦ absurd (both_ways b.engine.holds (c.free even j b e) h) | inr odd ↦ odd ]
 
-  limits_after : HasLimits w new
-  limits_after =
-      let l = c.limits i got here in
-      record { retries = event.retries ∙ l.retries; patience = event.clocks.limit.1 ∙ l.patience; max_commits = event.clocks.limit.0 ∙ l.max_commits }
-
   odd_new : new.engine.holds ≡ true → cells'.clock % 2 ≡ 1
   odd_new = event.clocks.odd (odd_of i got here)
 
-  pub commits_after : CommitsInOrder (record w { cells = cells'; actors = slice_set w.actors i new; attempts = r'; events = events })
+  pub commits_after : CommitsInOrder after
   commits_after = record {
     counted = counted_after w.cells.clock cells'.clock (prior_of w.attempts got) r' new event.tries c.counted;
     few = (let l = (c.limits i got here).max_commits in subst (λ (n : ℕ). cells'.clock ≤ 2 * n) l (event.clocks.capped (subst (λ (n : ℕ). w.cells.clock ≤ 2 * n) (sym l) c.few)));
@@ -113,9 +108,9 @@ module _ {P : Type 0} (rules : Rules P) (w : World P) (c : CommitsInOrder w) (i 
         | inr h ↦ false_from_ne_true b.engine.holds (λ x. absurd (let odd = odd_of j b h.1 x in let same = ap (λ (z : Cells). z.clock % 2) (held_apart w.cells cells' w.actors i got new here event.clocks c.one odd_of j b h.0 h.1 x).0 in omega arith))
       ]
 
-      each_limits : (place : ℕ) (a : Actor P) → slice_get (slice_set w.actors i new) place ≡ Some a → HasLimits (record w { cells = cells'; actors = slice_set w.actors i new; attempts = r'; events = events }) a
+      each_limits : (place : ℕ) (a : Actor P) → slice_get (slice_set w.actors i new) place ≡ Some a → HasLimits after a
       each_limits j b e = elim (set_place w.actors i got new here j b e) [
-        | inl h ↦ (let l = limits_after in record { retries = ap (λ (z : Actor P). z.retries) h.1 ∙ l.retries; patience = ap (λ (z : Actor P). z.engine.patience) h.1 ∙ l.patience; max_commits = ap (λ (z : Actor P). z.engine.max_commits) h.1 ∙ l.max_commits })
+        | inl h ↦ (let l = c.limits i got here in subst (HasLimits after) (sym h.1) (record { retries = event.retries ∙ l.retries; patience = event.clocks.limit.1 ∙ l.patience; max_commits = event.clocks.limit.0 ∙ l.max_commits }))
         | inr h ↦ (let l = c.limits j b h.1 in record { retries = l.retries; patience = l.patience; max_commits = l.max_commits })
       ]
 

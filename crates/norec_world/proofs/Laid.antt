@@ -1,11 +1,8 @@
 -- The words and the memories that the commits left, once attempts have ended.
-use Rattle.std.proofs.Common.{◌≡◌, ℕ, ◌+◌, ◌/◌, ◌%◌, ◌≤◌, ◌==◌, Bool, true, false, List, length, refl, sym, ap, subst, ◌∙◌, arith, eqb-true}
-use Rattle.std.proofs.lemmas.Bool.{eqb-false}
+use Rattle.std.proofs.Common.{inl, inr, ◌≡◌, ℕ, ◌+◌, ◌/◌, ◌%◌, ◌≤◌, List, length, refl, sym, ap, subst, ◌∙◌, arith}
+use Rattle.std.proofs.lemmas.Bool.{cases_eq}
 use Rattle.norec_world.proofs.Common.{AllFit, AreCounted, AreLaid, Cells, IsMemory, Rows, bytes_at, bytes_of, words_at, words_of}
 use Rattle.norec_world.proofs.WordLists.{words_of-bytes_of}
-
-below_next : (k n n' : ℕ) → (k == n + 1) ≡ false → n' ≡ n + 1 → k ≤ n' → k ≤ n
-below_next k n n' e next l = (let apart = eqb-false k (n + 1) e in omega arith)
 
 -- no commit is done by the event
 pub laid_on : (base : List ℕ) (cells cells' : Cells) (r r' : Rows) → AreLaid base cells r → AreCounted cells'.clock r'.ended → cells'.clock / 2 ≡ cells.clock / 2 → length cells'.words ≡ length cells.words
@@ -30,24 +27,23 @@ laid_more base cells cells' r r' laid counted half long fit still last =
     record {
       counted = counted;
       memories = record {
-        fits = λ k l. by_order k (k == cells.clock / 2 + 1) refl l (λ k s.
-            (let f = laid.memories.fits k s in subst (λ (m : List ℕ). IsMemory (length cells'.words) (words_of m)) (sym (still k s)) (f.0 ∙ sym long, f.1))) words;
-        same = λ k l. by_place k (k == cells.clock / 2 + 1) refl l (λ k s. (let e = still k s in ap (λ (m : List ℕ). bytes_of (words_of m)) e ∙ (laid.memories.same k s ∙ sym e))) words;
+        fits = λ k l. elim (cases_eq k (cells.clock / 2 + 1)) [
+          | inl is ↦ subst (IsMemory (length cells'.words)) (sym (ap (words_at base r'.ended) is ∙ words)) (refl, fit)
+          | inr apart ↦
+              (let s : k ≤ cells.clock / 2 = omega arith in
+              let f = laid.memories.fits k s in
+              subst (λ (m : List ℕ). IsMemory (length cells'.words) (words_of m)) (sym (still k s)) (f.0 ∙ sym long, f.1))
+        ];
+        same = λ k l. elim (cases_eq k (cells.clock / 2 + 1)) [
+          | inl is ↦ ap (λ (j : ℕ). bytes_of (words_at base r'.ended j)) is ∙ (ap bytes_of words ∙ (sym last ∙ ap (bytes_at base r'.ended) (sym is)))
+          | inr apart ↦
+              (let s : k ≤ cells.clock / 2 = omega arith in
+              let e = still k s in
+              ap (λ (m : List ℕ). bytes_of (words_of m)) e ∙ (laid.memories.same k s ∙ sym e))
+        ];
       };
       free = λ z. sym words ∙ ap (λ (n : ℕ). words_at base r'.ended n) (sym half);
     }
-  where
-    by_order : (k : ℕ) (b : Bool) → (k == cells.clock / 2 + 1) ≡ b → k ≤ cells'.clock / 2 → ((k : ℕ) → k ≤ cells.clock / 2 → IsMemory (length cells'.words) (words_at base r'.ended k))
-        → words_at base r'.ended (cells.clock / 2 + 1) ≡ cells'.words → IsMemory (length cells'.words) (words_at base r'.ended k)
-    by_order k true e l before words = subst (IsMemory (length cells'.words)) (sym (ap (words_at base r'.ended) (eqb-true k (cells.clock / 2 + 1) e) ∙ words)) (refl, fit)
-    by_order k false e l before words = before k (below_next k (cells.clock / 2) (cells'.clock / 2) e half l)
-
-    by_place : (k : ℕ) (b : Bool) → (k == cells.clock / 2 + 1) ≡ b → k ≤ cells'.clock / 2 → ((k : ℕ) → k ≤ cells.clock / 2 → bytes_of (words_at base r'.ended k) ≡ bytes_at base r'.ended k)
-        → words_at base r'.ended (cells.clock / 2 + 1) ≡ cells'.words → bytes_of (words_at base r'.ended k) ≡ bytes_at base r'.ended k
-    by_place k true e l before words =
-        let is = eqb-true k (cells.clock / 2 + 1) e in
-        ap (λ (j : ℕ). bytes_of (words_at base r'.ended j)) is ∙ (ap bytes_of words ∙ (sym last ∙ ap (bytes_at base r'.ended) (sym is)))
-    by_place k false e l before words = before k (below_next k (cells.clock / 2) (cells'.clock / 2) e half l)
 
 -- what is true of the ended attempts alone
 pub laid_same : (base : List ℕ) (cells : Cells) (r r' : Rows) → r'.ended ≡ r.ended → AreLaid base cells r → AreLaid base cells r'

@@ -12,7 +12,6 @@ pub mod SoundOthers
 pub mod CommitCounts
 pub mod Memories
 pub mod RunLists
-pub mod LogAgreement
 pub mod InTries
 pub mod RunAnswers
 pub mod RunBegins
@@ -31,8 +30,6 @@ pub mod LessLeft
 pub mod Worked
 pub mod Worlds
 pub mod WorldEvents
-pub mod Refusals
-pub mod CallEvents
 pub mod Alones
 pub mod Solos
 pub mod SoleRuns

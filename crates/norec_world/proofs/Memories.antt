@@ -1,6 +1,6 @@
 -- The memories that the commits left stay when more attempts end.
-use Rattle.std.proofs.Common.{◌≡◌, ℕ, zero, suc, ◌+◌, ◌/◌, ◌<◌, ◌≤◌, Bool, true, false, if◌then◌else◌, List, [], ◌∷◌, ◌++◌, None, Some, refl, sym, ap, ◌∙◌, arith, lt-ltb}
-use Rattle.std.proofs.lemmas.Bool.{le-ltb}
+use Rattle.std.proofs.Common.{inl, inr, ◌≡◌, ℕ, zero, suc, ◌/◌, ◌<◌, ◌≤◌, List, [], ◌∷◌, ◌++◌, None, Some, refl, sym, ap, ◌∙◌, arith, lt-ltb}
+use Rattle.std.proofs.lemmas.Bool.{cases_Bool, le-ltb}
 use Rattle.norec_world.proofs.Common.{AreCounted, Attempt, MAX_DEPTH, bytes_at, committed_at}
 use Rattle.norec_world.specs.Attempts.{is_at, memory_left}
 use Rattle.norec_world.specs.Commits.{one_where, count_at}
@@ -10,36 +10,32 @@ use Rattle.norec_world.specs.Commits.{one_where, count_at}
 -- one that is counted is found
 pub found_at : (xs : List Attempt) (position : ℕ) → 0 < count_at position xs → (a : Attempt) × (committed_at xs position ≡ Some a)
 found_at [] position c = absurd (omega arith)
-found_at (x ∷ xs) position c = by_case (is_at position x) c (λ l. found_at xs position l)
-  where
-    by_case : (b : Bool) → 0 < one_where b + count_at position xs → (0 < count_at position xs → (a : Attempt) × (committed_at xs position ≡ Some a)) → (a : Attempt) × ((if b then Some x else committed_at xs position) ≡ Some a)
-    by_case true c later = (x, refl)
-    by_case false c later = later (omega arith)
+found_at (x ∷ xs) position c = elim (cases_Bool (is_at position x)) [
+  | inl e ↦ simp e (x, refl)
+  | inr e ↦ simp e (found_at xs position (let l = simp e at c in omega arith))
+]
 
 -- one that is not is not
 pub none_at : (xs : List Attempt) (position : ℕ) → count_at position xs ≡ 0 → committed_at xs position ≡ None
 none_at [] position c = refl
-none_at (x ∷ xs) position c = by_case (is_at position x) c (λ l. none_at xs position l)
-  where
-    by_case : (b : Bool) → one_where b + count_at position xs ≡ 0 → (count_at position xs ≡ 0 → committed_at xs position ≡ None) → (if b then Some x else committed_at xs position) ≡ None
-    by_case true c later = absurd (omega arith)
-    by_case false c later = later (omega arith)
+none_at (x ∷ xs) position c = elim (cases_Bool (is_at position x)) [
+  | inl e ↦ absurd (let l = simp e at c in omega arith)
+  | inr e ↦ simp e (none_at xs position (let l = simp e at c in omega arith))
+]
 
 pub found_still : (xs ys : List Attempt) (position : ℕ) (a : Attempt) → committed_at xs position ≡ Some a → committed_at (xs ++ ys) position ≡ Some a
 found_still [] ys position a e = absurd (cc)
-found_still (x ∷ xs) ys position a e = by_case (is_at position x) e (λ l. found_still xs ys position a l)
-  where
-    by_case : (b : Bool) → (if b then Some x else committed_at xs position) ≡ Some a → (committed_at xs position ≡ Some a → committed_at (xs ++ ys) position ≡ Some a) → (if b then Some x else committed_at (xs ++ ys) position) ≡ Some a
-    by_case true e later = e
-    by_case false e later = later e
+found_still (x ∷ xs) ys position a e = elim (cases_Bool (is_at position x)) [
+  | inl is ↦ simp is (simp is at e)
+  | inr is ↦ simp is (found_still xs ys position a (simp is at e))
+]
 
 pub found_later : (xs ys : List Attempt) (position : ℕ) → committed_at xs position ≡ None → committed_at (xs ++ ys) position ≡ committed_at ys position
 found_later [] ys position e = refl
-found_later (x ∷ xs) ys position e = by_case (is_at position x) e (λ l. found_later xs ys position l)
-  where
-    by_case : (b : Bool) → (if b then Some x else committed_at xs position) ≡ None → (committed_at xs position ≡ None → committed_at (xs ++ ys) position ≡ committed_at ys position) → (if b then Some x else committed_at (xs ++ ys) position) ≡ committed_at ys position
-    by_case true e later = absurd (cc)
-    by_case false e later = later e
+found_later (x ∷ xs) ys position e = elim (cases_Bool (is_at position x)) [
+  | inl is ↦ absurd (let none = simp is at e in cc)
+  | inr is ↦ simp is (found_later xs ys position (simp is at e))
+]
 
 -- ## The memories
 

@@ -13,9 +13,12 @@ all_both : (thread : ℕ) (xs ys : List Attempt) → AllOf thread xs → AllOf t
 all_both thread [] ys a b = b
 all_both thread (x ∷ xs) ys a b = (a.0, all_both thread xs ys a.1 b)
 
+own_none : (thread : ℕ) (r r' : Rows) → r'.ended ≡ r.ended → ((other : ℕ) → (other ≡ thread → ⊥) → active_of other r'.active ≡ active_of other r.active) → (AreFrom 0 r.active → AreFrom 0 r'.active) → ChangesOwn thread r r'
+own_none thread r r' ended others ordered = record { more = []; ended = ended ∙ sym (append-nil r.ended); mine = tt; others = others; ordered = ordered }
+
 -- nothing ended, and the active ones are the same
 pub own_same : (thread : ℕ) (r r' : Rows) → r'.ended ≡ r.ended → r'.active ≡ r.active → ChangesOwn thread r r'
-own_same thread r r' ended active = record { more = []; ended = ended ∙ sym (append-nil r.ended); mine = tt; others = λ other n. ap (active_of other) active; ordered = subst (AreFrom 0) (sym active) }
+own_same thread r r' ended active = own_none thread r r' ended (λ other n. ap (active_of other) active) (subst (AreFrom 0) (sym active))
 
 pub own_twice : (thread : ℕ) (r r1 r2 : Rows) → ChangesOwn thread r r1 → ChangesOwn thread r1 r2 → ChangesOwn thread r r2
 own_twice thread r r1 r2 a b = record {
@@ -27,22 +30,14 @@ own_twice thread r r1 r2 a b = record {
 }
 
 pub own_changed : (thread : ℕ) (f : Attempt → Attempt) (r r' : Rows) → ((a : Attempt) → (f a).thread ≡ a.thread) → r' ≡ with_changed thread f r → ChangesOwn thread r r'
-own_changed thread f r r' same is = record {
-  more = [];
-  ended = ap (λ (x : Rows). x.ended) is ∙ sym (append-nil r.ended);
-  mine = tt;
-  others = λ other n. ap (λ (x : Rows). active_of other x.active) is ∙ changed_elsewhere thread other f r.active same n;
-  ordered = λ from. subst (λ (x : Rows). AreFrom 0 x.active) (sym is) (from_changed 0 (is_of thread) f r.active same from);
-}
+own_changed thread f r r' same is =
+    own_none thread r r' (ap (λ (x : Rows). x.ended) is) (λ other n. ap (λ (x : Rows). active_of other x.active) is ∙ changed_elsewhere thread other f r.active same n)
+    (λ from. subst (λ (x : Rows). AreFrom 0 x.active) (sym is) (from_changed 0 (is_of thread) f r.active same from))
 
 pub own_opened : (a : Attempt) (r r' : Rows) → active_of a.thread r.active ≡ None → r' ≡ with_opened a r → ChangesOwn a.thread r r'
-own_opened a r r' none is = record {
-  more = [];
-  ended = ap (λ (x : Rows). x.ended) is ∙ sym (append-nil r.ended);
-  mine = tt;
-  others = λ other n. ap (λ (x : Rows). active_of other x.active) is ∙ opened_elsewhere a other r.active n;
-  ordered = λ from. subst (λ (x : Rows). AreFrom 0 x.active) (sym is) (from_with_one a r.active 0 (omega arith) none from);
-}
+own_opened a r r' none is =
+    own_none a.thread r r' (ap (λ (x : Rows). x.ended) is) (λ other n. ap (λ (x : Rows). active_of other x.active) is ∙ opened_elsewhere a other r.active n)
+    (λ from. subst (λ (x : Rows). AreFrom 0 x.active) (sym is) (from_with_one a r.active 0 (omega arith) none from))
 
 pub own_ended : (thread : ℕ) (a : Attempt) (r r' : Rows) → a.thread ≡ thread → r' ≡ with_ended thread a r → ChangesOwn thread r r'
 own_ended thread a r r' mine is = record {
@@ -54,13 +49,16 @@ own_ended thread a r r' mine is = record {
 }
 
 module _ {P : Type 0} where
-  -- nothing changed but the room, which is no less for the same pending attempt
-  pub others_same : (a a' : Actor P) (r r' : Rows) → a'.thread ≡ a.thread → a'.pending ≡ a.pending → r'.ended ≡ r.ended → r'.active ≡ r.active → r.room ≤ r'.room → KeepsOthers a r a' r'
-  others_same a a' r r' thread pending ended active room = record {
+  others_own : (a a' : Actor P) (r r' : Rows) → a'.thread ≡ a.thread → a'.pending ≡ a.pending → ChangesOwn a.thread r r' → r.room ≤ r'.room → KeepsOthers a r a' r'
+  others_own a a' r r' thread pending own room = record {
     thread = thread;
-    own = own_same a.thread r r' ended active;
+    own = own;
     room = λ k few l. (let same : count_pending a'.pending ≡ count_pending a.pending = ap count_pending pending in omega arith);
   }
+
+  -- nothing changed but the room, which is no less for the same pending attempt
+  pub others_same : (a a' : Actor P) (r r' : Rows) → a'.thread ≡ a.thread → a'.pending ≡ a.pending → r'.ended ≡ r.ended → r'.active ≡ r.active → r.room ≤ r'.room → KeepsOthers a r a' r'
+  others_same a a' r r' thread pending ended active room = others_own a a' r r' thread pending (own_same a.thread r r' ended active) room
 
   pub others_twice : (a b c : Actor P) (r r1 r2 : Rows) → KeepsOthers a r b r1 → KeepsOthers b r1 c r2 → KeepsOthers a r c r2
   others_twice a b c r r1 r2 x y = record {
@@ -70,19 +68,12 @@ module _ {P : Type 0} where
   }
 
   pub others_changed : (a a' : Actor P) (r r' : Rows) (f : Attempt → Attempt) → ((x : Attempt) → (f x).thread ≡ x.thread) → a'.thread ≡ a.thread → a'.pending ≡ a.pending → r' ≡ with_changed a.thread f r → KeepsOthers a r a' r'
-  others_changed a a' r r' f same thread pending is = record {
-    thread = thread;
-    own = own_changed a.thread f r r' same is;
-    room = λ k few l. (let kept : count_pending a'.pending ≡ count_pending a.pending = ap count_pending pending in let roomy : r'.room ≡ r.room = ap (λ (x : Rows). x.room) is in omega arith);
-  }
+  others_changed a a' r r' f same thread pending is = others_own a a' r r' thread pending (own_changed a.thread f r r' same is) (let roomy = ap (λ (x : Rows). x.room) is in omega arith)
 
   pub others_ended : (a a' : Actor P) (r r' : Rows) (row x : Attempt) → active_of a.thread r.active ≡ Some row → x.thread ≡ row.thread → a'.thread ≡ a.thread → a'.pending ≡ a.pending → r' ≡ with_ended a.thread x r
       → KeepsOthers a r a' r'
-  others_ended a a' r r' row x found same thread pending is = record {
-    thread = thread;
-    own = own_ended a.thread x r r' (same ∙ row_is_of a.thread r.active row found) is;
-    room = λ k few l. (let kept : count_pending a'.pending ≡ count_pending a.pending = ap count_pending pending in let roomy : r'.room ≡ r.room = ap (λ (y : Rows). y.room) is in omega arith);
-  }
+  others_ended a a' r r' row x found same thread pending is =
+      others_own a a' r r' thread pending (own_ended a.thread x r r' (same ∙ row_is_of a.thread r.active row found) is) (let roomy = ap (λ (y : Rows). y.room) is in omega arith)
 
   pub others_opened : (a a' : Actor P) (r r' : Rows) (row pending : Attempt) → row.thread ≡ a.thread → active_of a.thread r.active ≡ None → a'.thread ≡ a.thread → a.pending ≡ Some pending → a'.pending ≡ None → r' ≡ with_opened row r → KeepsOthers a r a' r'
   others_opened a a' r r' row pending mine none thread before after is = record {

@@ -1,12 +1,12 @@
 -- What stands in the rows of attempts, after an answer.
-use Rattle.std.proofs.Common.{None, Some, ◌==◌, sym, subst, ◌≡◌, ℕ, ◌&&◌, Bool, true, false, List, [], ◌∷◌, length, refl, ap, ◌∙◌, arith}
+use Rattle.std.proofs.Common.{inl, inr, None, Some, sym, subst, ◌≡◌, ℕ, ◌&&◌, Bool, true, false, List, [], ◌∷◌, length, refl, ap, ◌∙◌, arith}
 use Rattle.script_vm.specs.Depth.{depth_after, is_code, opens}
 use Rattle.norec_world.specs.declared.attempt.Outcome.TheVariants.{Unfinished}
 use Rattle.norec_world.specs.Rows.{is_of, changed, without, with_ended}
 use Rattle.norec_world.proofs.ActiveRows.{opened_here, changed_here}
 use Rattle.norec_world.specs.Sound.{depth_if, IsKept}
-use Rattle.std.proofs.lemmas.Bool.{cond-false}
-use Rattle.norec_world.proofs.Common.{Actor, Attempt, Call, HasRow, Replied, Rows, Rules, Status, StatusIs, active_of, cond-true, in_transaction, is_begin, with_changed, with_opened}
+use Rattle.std.proofs.lemmas.Bool.{cases_Bool}
+use Rattle.norec_world.proofs.Common.{Actor, Attempt, Call, HasRow, Replied, Rows, Rules, Status, StatusIs, active_of, in_transaction, is_begin, with_changed, with_opened}
 use Rattle.norec_world.proofs.PlayerLaws.{opens_at_begin}
 use Rattle.norec_world.proofs.SoundOthers.{status_as}
 
@@ -51,17 +51,10 @@ row_none r thread false shut h = h
 
 without_changed : (thread : ℕ) (f : Attempt → Attempt) (xs : List Attempt) → ((b : Attempt) → (f b).thread ≡ b.thread) → without (is_of thread) (changed (is_of thread) f xs) ≡ without (is_of thread) xs
 without_changed thread f [] same = refl
-without_changed thread f (x ∷ xs) same = by_case (is_of thread x) refl (without_changed thread f xs same)
-  where
-    by_case : (b : Bool) → is_of thread x ≡ b → without (is_of thread) (changed (is_of thread) f xs) ≡ without (is_of thread) xs
-        → without (is_of thread) (changed (is_of thread) f (x ∷ xs)) ≡ without (is_of thread) (x ∷ xs)
-    by_case true e rest =
-        ap (without (is_of thread)) (cond-true (is_of thread x) (f x ∷ xs) (x ∷ changed (is_of thread) f xs) e)
-        ∙ (cond-true (is_of thread (f x)) xs (f x ∷ without (is_of thread) xs) (ap (λ (n : ℕ). n == thread) (same x) ∙ e) ∙ sym (cond-true (is_of thread x) xs (x ∷ without (is_of thread) xs) e))
-    by_case false e rest =
-        ap (without (is_of thread)) (cond-false (is_of thread x) (f x ∷ xs) (x ∷ changed (is_of thread) f xs) e)
-        ∙ (cond-false (is_of thread x) (changed (is_of thread) f xs) (x ∷ without (is_of thread) (changed (is_of thread) f xs)) e
-        ∙ (ap (λ (ys : List Attempt). x ∷ ys) rest ∙ sym (cond-false (is_of thread x) xs (x ∷ without (is_of thread) xs) e)))
+without_changed thread f (x ∷ xs) same = elim (cases_Bool (is_of thread x)) [
+  | inl e ↦ (let k = same x in simp (e, k))
+  | inr e ↦ simp e (ap (λ (ys : List Attempt). x ∷ ys) (without_changed thread f xs same))
+]
 
 -- ended where it was changed before
 pub ended_changed : (r : Rows) (thread : ℕ) (f : Attempt → Attempt) (a : Attempt) → ((b : Attempt) → (f b).thread ≡ b.thread) → with_ended thread a (with_changed thread f r) ≡ with_ended thread a r

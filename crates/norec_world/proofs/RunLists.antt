@@ -1,5 +1,6 @@
 -- An actor's run with one attempt more, and over more commits.
-use Rattle.std.proofs.Common.{◌≡◌, ℕ, ◌≤◌, ◌==◌, Bool, true, false, if◌then◌else◌, List, [], ◌∷◌, ◌++◌, Option, None, Some, refl, sym, ap, subst, ◌∙◌, arith, eq-eqb}
+use Rattle.std.proofs.Common.{inl, inr, ◌≡◌, ℕ, ◌≤◌, ◌==◌, Bool, if◌then◌else◌, List, [], ◌∷◌, ◌++◌, Option, None, Some, refl, sym, ap, subst, ◌∙◌, arith, eq-eqb}
+use Rattle.std.proofs.lemmas.Bool.{cases_Bool}
 use Rattle.norec_world.proofs.Common.{Attempt, Beginning, Between, IsRunOf, IsTryAt, MAX_DEPTH, Rules, begins_at, of_thread, run_after}
 use Rattle.norec_world.specs.Opacity.{after_try, IsOpaque}
 
@@ -7,11 +8,10 @@ use Rattle.norec_world.specs.Opacity.{after_try, IsOpaque}
 
 pub of_thread_more : (thread : ℕ) (xs ys : List Attempt) → of_thread thread (xs ++ ys) ≡ of_thread thread xs ++ of_thread thread ys
 of_thread_more thread [] ys = refl
-of_thread_more thread (x ∷ xs) ys = by_case (x.thread == thread) (of_thread_more thread xs ys)
-  where
-    by_case : (b : Bool) → of_thread thread (xs ++ ys) ≡ of_thread thread xs ++ of_thread thread ys → (if b then x ∷ of_thread thread (xs ++ ys) else of_thread thread (xs ++ ys)) ≡ (if b then x ∷ of_thread thread xs else of_thread thread xs) ++ of_thread thread ys
-    by_case true more = ap (λ (l : List Attempt). x ∷ l) more
-    by_case false more = more
+of_thread_more thread (x ∷ xs) ys = elim (cases_Bool (x.thread == thread)) [
+  | inl e ↦ simp e (ap (λ (l : List Attempt). x ∷ l) (of_thread_more thread xs ys))
+  | inr e ↦ simp e (of_thread_more thread xs ys)
+]
 
 -- its own
 pub of_thread_own : (thread : ℕ) (xs : List Attempt) (a : Attempt) → a.thread ≡ thread → of_thread thread (xs ++ a ∷ []) ≡ of_thread thread xs ++ a ∷ []

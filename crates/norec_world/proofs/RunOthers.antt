@@ -133,9 +133,6 @@ module _ {P : Type 0} (rules : Rules P) (laws : Obeys rules) where
 
   module _ (w : World P) (sound : AreActors rules w.cells w.attempts w.actors) (open_rows : AreOpen w.attempts.active) (long : length w.actors ≡ length w.opening)
       (running : AreRunning rules w) where
-    n : ℕ
-    n = w.cells.clock / 2
-
     shown_still : (k : ℕ) → k ≤ w.cells.clock / 2 → bytes_at w.base (attempts_of w) k ≡ bytes_at w.base w.attempts.ended k
     shown_still k l = bytes_still w.base w.cells.clock w.attempts.ended running.laid.counted w.attempts.active k l
 
@@ -147,44 +144,39 @@ module _ {P : Type 0} (rules : Rules P) (laws : Obeys rules) where
         let on = run_still rules (w.cells.clock / 2) (w.cells.clock / 2) (bytes_at w.base w.attempts.ended) (bytes_at w.base (attempts_of w)) (let l : w.cells.clock / 2 ≤ w.cells.clock / 2 = omega arith in l) shown_still
         (Some (first_of p w.arena)) (of_thread a.thread w.attempts.ended) x.runs.run in
         subst (λ (t : ℕ). IsRunOf rules MAX_DEPTH (w.cells.clock / 2) (bytes_at w.base (attempts_of w)) (Some (first_of p w.arena)) (of_thread t (attempts_of w))) s.thread
-        (by_open (in_transaction a.engine) refl x on s.sound.kept.row s.sound.tied)
-      where
-        Is : ℕ → Type 0
-        Is t = IsRunOf rules MAX_DEPTH (w.cells.clock / 2) (bytes_at w.base (attempts_of w)) (Some (first_of p w.arena)) (of_thread t (attempts_of w))
-
-        by_open : (b : Bool) → in_transaction a.engine ≡ b → RunsFrom rules (first_of p w.arena) w.base w.cells w.attempts a
-            → IsRunOf rules MAX_DEPTH (w.cells.clock / 2) (bytes_at w.base (attempts_of w)) (Some (first_of p w.arena)) (of_thread a.thread w.attempts.ended)
-            × (run_after rules (bytes_at w.base (attempts_of w)) (Some (first_of p w.arena)) (of_thread a.thread w.attempts.ended) ≡ run_after rules (bytes_at w.base w.attempts.ended) (Some (first_of p w.arena)) (of_thread a.thread w.attempts.ended))
-            → HasRow b w.attempts a.thread → IsTied w.cells a.engine
-            → IsRunOf rules MAX_DEPTH (w.cells.clock / 2) (bytes_at w.base (attempts_of w)) (Some (first_of p w.arena)) (of_thread a.thread (attempts_of w))
-        by_open false o x on none tied =
-            let rows : of_thread a.thread (attempts_of w) ≡ of_thread a.thread w.attempts.ended =
-            of_thread_more a.thread w.attempts.ended w.attempts.active ∙ (ap (λ (l : List Attempt). of_thread a.thread w.attempts.ended ++ l) (open_none 0 a.thread w.attempts.active open_rows.by_actor none) ∙ append-nil (of_thread a.thread w.attempts.ended)) in
-            subst (IsRunOf rules MAX_DEPTH (w.cells.clock / 2) (bytes_at w.base (attempts_of w)) (Some (first_of p w.arena))) (sym rows) on.0
-        by_open true o x on some tied =
-            let t = x.runs.inside o in
-            let k : ℕ = a.engine.snapshot / 2 in
-            let k_late : k ≤ w.cells.clock / 2 = (let reached = tied.settled.reached in let late = tied.late in omega arith) in
-            let fed : ending_of a.status ≡ Some NoMemory → ⊥ = λ e. absurd (let shut = x.starved e in let z = sym o ∙ shut in cc) in
-            let sees = x.sees fed in
-            let fits = running.laid.memories.fits k k_late in
-            let words : words_at w.base (attempts_of w) k ≡ words_at w.base w.attempts.ended k = ap words_of (shown_still k k_late) in
-            let row : Attempt = t.1 in
-            let same_row : some.0 ≡ row = (let z : Some some.0 ≡ Some row = sym some.1 ∙ t.3 in cc) in
-            let unfinished : row.outcome ≡ outcomes.Unfinished = ap (λ (y : Attempt). y.outcome) (sym same_row) ∙ some.2 in
-            let at : row.at ≡ k = x.reads o row t.3 in
-            let early = t.4.began in
-            let try = try_stops rules laws (w.cells.clock / 2) w.base (attempts_of w) t.0 row a.player a.engine t.4 k outcomes.Unfinished (stands_open rules laws a.engine (words_at w.base (attempts_of w) k) o) early k_late
-            (subst (IsMemory a.engine.words) (sym words) (fits.0 ∙ sym tied.words, fits.1)) (ap bytes_of words ∙ (running.laid.memories.same k k_late ∙ sym (shown_still k k_late)))
-            (subst (λ (m : List ℕ). Agrees m a.engine.log) (sym words) (sees.logged o)) (λ f. absurd (cc)) in
-            let as_it_is : record row { at = k; outcome = outcomes.Unfinished } ≡ row = λ i. record row { at = (sym at) i; outcome = (sym unfinished) i } in
-            let here : IsTryAt rules MAX_DEPTH (w.cells.clock / 2) (bytes_at w.base (attempts_of w)) t.0 (begins_at rules t.0) row =
-            subst (λ (y : _). IsTryAt rules MAX_DEPTH (w.cells.clock / 2) (bytes_at w.base (attempts_of w)) t.0 y row) (sym t.4.begins)
-            (subst (IsTryAt rules MAX_DEPTH (w.cells.clock / 2) (bytes_at w.base (attempts_of w)) t.0 (Some t.4.start)) as_it_is try) in
-            let more = run_more rules (w.cells.clock / 2) (bytes_at w.base (attempts_of w)) (Some (first_of p w.arena)) (of_thread a.thread w.attempts.ended) t.0 row on.0 (on.1 ∙ t.2) here in
-            let rows : of_thread a.thread (attempts_of w) ≡ of_thread a.thread w.attempts.ended ++ row ∷ [] =
-            of_thread_more a.thread w.attempts.ended w.attempts.active ∙ ap (λ (l : List Attempt). of_thread a.thread w.attempts.ended ++ l) (open_one 0 a.thread w.attempts.active row open_rows.by_actor t.3) in
-            subst (IsRunOf rules MAX_DEPTH (w.cells.clock / 2) (bytes_at w.base (attempts_of w)) (Some (first_of p w.arena))) (sym rows) more.0
+        (elim (cases_Bool (in_transaction a.engine)) [
+          | inl o ↦
+              (let some : HasRow true w.attempts a.thread = subst (λ (b : Bool). HasRow b w.attempts a.thread) o s.sound.kept.row in
+              let tied = s.sound.tied in
+              let t = x.runs.inside o in
+              let k : ℕ = a.engine.snapshot / 2 in
+              let k_late : k ≤ w.cells.clock / 2 = (let reached = tied.settled.reached in let late = tied.late in omega arith) in
+              let fed : ending_of a.status ≡ Some NoMemory → ⊥ = λ e. absurd (let shut = x.starved e in let z = sym o ∙ shut in cc) in
+              let sees = x.sees fed in
+              let fits = running.laid.memories.fits k k_late in
+              let words : words_at w.base (attempts_of w) k ≡ words_at w.base w.attempts.ended k = ap words_of (shown_still k k_late) in
+              let row : Attempt = t.1 in
+              let same_row : some.0 ≡ row = (let z : Some some.0 ≡ Some row = sym some.1 ∙ t.3 in cc) in
+              let unfinished : row.outcome ≡ outcomes.Unfinished = ap (λ (y : Attempt). y.outcome) (sym same_row) ∙ some.2 in
+              let at : row.at ≡ k = x.reads o row t.3 in
+              let early = t.4.began in
+              let try = try_stops rules laws (w.cells.clock / 2) w.base (attempts_of w) t.0 row a.player a.engine t.4 k outcomes.Unfinished (stands_open rules laws a.engine (words_at w.base (attempts_of w) k) o) early k_late
+              (subst (IsMemory a.engine.words) (sym words) (fits.0 ∙ sym tied.words, fits.1)) (ap bytes_of words ∙ (running.laid.memories.same k k_late ∙ sym (shown_still k k_late)))
+              (subst (λ (m : List ℕ). Agrees m a.engine.log) (sym words) (sees.logged o)) (λ f. absurd (cc)) in
+              let as_it_is : record row { at = k; outcome = outcomes.Unfinished } ≡ row = λ i. record row { at = (sym at) i; outcome = (sym unfinished) i } in
+              let here : IsTryAt rules MAX_DEPTH (w.cells.clock / 2) (bytes_at w.base (attempts_of w)) t.0 (begins_at rules t.0) row =
+              subst (λ (y : _). IsTryAt rules MAX_DEPTH (w.cells.clock / 2) (bytes_at w.base (attempts_of w)) t.0 y row) (sym t.4.begins)
+              (subst (IsTryAt rules MAX_DEPTH (w.cells.clock / 2) (bytes_at w.base (attempts_of w)) t.0 (Some t.4.start)) as_it_is try) in
+              let more = run_more rules (w.cells.clock / 2) (bytes_at w.base (attempts_of w)) (Some (first_of p w.arena)) (of_thread a.thread w.attempts.ended) t.0 row on.0 (on.1 ∙ t.2) here in
+              let rows : of_thread a.thread (attempts_of w) ≡ of_thread a.thread w.attempts.ended ++ row ∷ [] =
+              of_thread_more a.thread w.attempts.ended w.attempts.active ∙ ap (λ (l : List Attempt). of_thread a.thread w.attempts.ended ++ l) (open_one 0 a.thread w.attempts.active row open_rows.by_actor t.3) in
+              subst (IsRunOf rules MAX_DEPTH (w.cells.clock / 2) (bytes_at w.base (attempts_of w)) (Some (first_of p w.arena))) (sym rows) more.0)
+          | inr shut ↦
+              (let none : HasRow false w.attempts a.thread = subst (λ (b : Bool). HasRow b w.attempts a.thread) shut s.sound.kept.row in
+              let rows : of_thread a.thread (attempts_of w) ≡ of_thread a.thread w.attempts.ended =
+              of_thread_more a.thread w.attempts.ended w.attempts.active ∙ (ap (λ (l : List Attempt). of_thread a.thread w.attempts.ended ++ l) (open_none 0 a.thread w.attempts.active open_rows.by_actor none) ∙ append-nil (of_thread a.thread w.attempts.ended)) in
+              subst (IsRunOf rules MAX_DEPTH (w.cells.clock / 2) (bytes_at w.base (attempts_of w)) (Some (first_of p w.arena))) (sym rows) on.0)
+        ])
 
     pub are_opaque : AreOpaque rules w
     are_opaque = record {

@@ -1,14 +1,18 @@
--- Events of a world, and what their answers tell.
-use Rattle.std.proofs.Common.{◌≡◌, ℕ, ◌+◌, ◌<◌, Bool, true, false, cond, length, take, get_or, arith, List, [], ◌∷◌, ◌++◌, count_by, IsTrue, Option, None, Some, Result, Ok, Err, IsSome, refl, sym, ap, subst, ◌∙◌, slice_get}
+-- Events of a world: what their answers tell, many in a row, and the events of one call of an actor and of one call after the other.
+use Rattle.std.proofs.Common.{◌≡◌, ◌↔◌, ◌≤◌, zero, suc, ℕ, ◌+◌, ◌<◌, Bool, true, false, cond, length, take, get_or, arith, List, [], ◌∷◌, ◌++◌, count_by, IsTrue, Option, None, Some, Result, Ok, Err, IsSome, refl, sym, ap, subst, ◌∙◌, slice_get, min, if◌then◌else◌}
 use Rattle.std.proofs.lemmas.List.{take_more}
 use Rattle.std.proofs.lemmas.List.Sums.{sum_by-append}
-use Rattle.norec_world.proofs.Common.{Actor, AreOpaque, CommitsInOrder, End, Finished, Goes, IsLawful, Ready, Rules, SameOpening, Status, Step, World, cells_after, counted, ending_at, ending_of, option_and_then, told, waiting_step, waits_at}
+use Rattle.norec_world.proofs.Common.{Waits, is_ready, is_waiting, Actor, AreOpaque, CommitsInOrder, End, Finished, Goes, IsLawful, Ready, Rules, SameOpening, Status, Step, World, cells_after, counted, ending_at, ending_of, option_and_then, told, waiting_step, waits_at, AreActors, IsNoMore, in_transaction, whole}
 use Rattle.norec_world.specs.declared.fault.WorldFault.{WorldFault}
 use Rattle.norec_world.specs.declared.fault.WorldFault.TheVariants as faults
 use Rattle.norec_world.specs.declared.schedule.Passes.{Passes}
 use Rattle.norec_world.specs.World.{ShowsAlone, is_event}
-use Rattle.norec_world.proofs.Worlds.{within_some}
-use Rattle.norec_world.specs.WorldEvents.{ActorGoes, Leads, is_taken, is_passed, is_starved, passes_of}
+use Rattle.std.specs.Option.{option_map}
+use Rattle.norec_world.proofs.SoundOthers.{within_of, there_is}
+use Rattle.norec_world.proofs.Worlds.{some_ended, within_some, waiting_some, some_waiting}
+use Rattle.norec_world.specs.WorldEvents.{ActorGoes, Leads, is_taken, is_passed, is_starved, passes_of, Takes}
+use Rattle.norec_world.specs.Sound.{HasLess, steps_left, run_left}
+use Rattle.norec_world.proofs.LessLeft.{HasLessSoFar, less_so_far, same_less, less_less}
 
 -- an event is answered by no fault of the other two
 pub told_event : (e : Option End) → IsTrue (is_event (told e))
@@ -55,6 +59,58 @@ module _ {P : Type 0} (rules : Rules P) (old new : World P) (actor : ℕ) (waits
     alone = alone;
   }
 
+-- ## Where the actor waits for no operation
+
+pub mapped_none : {A B : Type 0} (f : A → B) (o : Option A) → None ≡ option_map f o → o ≡ None
+mapped_none f None e = refl
+mapped_none f (Some x) e = absurd (cc)
+
+pub mapped_some : {A B : Type 0} (f : A → B) (o : Option A) (y : B) → Some y ≡ option_map f o → (x : A) × (o ≡ Some x) × (f x ≡ y)
+mapped_some f None y e = absurd (cc)
+mapped_some f (Some x) y e = (x, refl, cc)
+
+past_end : {A : Type 0} (xs : List A) (i : ℕ) → slice_get xs i ≡ None → length xs ≤ i
+past_end [] i e = omega arith
+past_end (x ∷ xs) zero e = absurd (cc)
+past_end (x ∷ xs) (suc i) e = (let l = past_end xs i e in omega arith)
+
+waits_none : (s : Status) → is_waiting s ≡ false → waiting_step s ≡ None
+waits_none (Waits call step) e = absurd (cc)
+waits_none s e = refl
+
+module _ {P : Type 0} (rules : Rules P) (w : World P) (i : ℕ) (alone : ShowsAlone rules w)
+    (commits : CommitsInOrder w) (opaque : AreOpaque rules w) where
+  nothing_done : (result : Result (Unit {0}) WorldFault) → is_event result ≡ false → waits_at w i ≡ None
+      → ((result ≡ Err faults.NoSuchActor) ↔ (length w.actors ≤ i)) → ((result ≡ Err faults.Ended) ↔ IsSome (ending_at w i)) → Goes rules i w result w
+  nothing_done result none still no_such ended = record {
+    no_such = no_such;
+    ended = ended;
+    event = (λ e. absurd (cc), λ e. absurd (let z = subst IsSome still e in cc));
+    answer = λ e. absurd (cc);
+    lawful = λ a step here waits. absurd (let z : None ≡ Some step = sym still ∙ (ap (option_and_then (λ (x : Actor P). waiting_step x.status)) here ∙ waits) in cc);
+    operation = λ step e. absurd (let z : None ≡ Some step = sym still ∙ e in cc);
+    counts = λ e. absurd (cc);
+    unchanged = λ e. refl;
+    event_of = λ x is e. absurd (cc);
+    commits = commits;
+    opaque = opaque;
+    opening = record { opening = refl; base = refl; arena = refl; patience = refl; max_commits = refl; retries = refl };
+    actors = refl;
+    alone = alone;
+  }
+
+  pub goes_nowhere : slice_get w.actors i ≡ None → Goes rules i w (Err faults.NoSuchActor) w
+  goes_nowhere none =
+      let no_end : ending_at w i ≡ None = ap (option_and_then (λ (a : Actor P). ending_of a.status)) none in
+      nothing_done (Err faults.NoSuchActor) refl (ap (option_and_then (λ (a : Actor P). waiting_step a.status)) none)
+      (λ e. past_end w.actors i none, λ l. refl) (λ e. absurd (cc), λ e. absurd (let z = subst IsSome no_end e in cc))
+
+  pub goes_no_more : (a : Actor P) → slice_get w.actors i ≡ Some a → is_waiting a.status ≡ false → is_ready a.status ≡ false → Goes rules i w (Err faults.Ended) w
+  goes_no_more a here still done =
+      let end_is : ending_at w i ≡ ending_of a.status = ap (option_and_then (λ (x : Actor P). ending_of x.status)) here in
+      nothing_done (Err faults.Ended) refl (ap (option_and_then (λ (x : Actor P). waiting_step x.status)) here ∙ waits_none a.status still)
+      (λ e. absurd (cc), λ l. absurd (let n = within_of w.actors i a here in omega arith)) (λ e. subst IsSome (sym end_is) (some_ended a.status still done), λ e. refl)
+
 -- ## Many in a row
 
 module _ {P : Type 0} (rules : Rules P) where
@@ -73,6 +129,17 @@ noted p (Ok done) = record p { taken = p.taken + 1 }
 noted p (Err faults.NoSuchActor) = record p { passed = p.passed + 1 }
 noted p (Err faults.Ended) = record p { passed = p.passed + 1 }
 noted p (Err faults.NoMemory) = record p { starved = p.starved + 1 }
+
+pub noted_all : (p : Passes) (r : Result (Unit {0}) WorldFault) → (noted p r).taken + (noted p r).passed + (noted p r).starved ≡ p.taken + p.passed + p.starved + 1
+noted_all p (Ok done) = omega arith
+noted_all p (Err faults.NoMemory) = omega arith
+noted_all p r = omega arith
+
+pub noted_counts : (p : Passes) (r : Result (Unit {0}) WorldFault) (first before now : ℕ) → before ≡ counted first (p.taken + p.starved) → (IsTrue (is_event r) → now ≡ counted before 1) → (is_event r ≡ false → now ≡ before)
+    → now ≡ counted first ((noted p r).taken + (noted p r).starved)
+noted_counts p (Ok done) first before now is event none = (let e = event refl in omega arith)
+noted_counts p (Err faults.NoMemory) first before now is event none = (let e = event refl in omega arith)
+noted_counts p r first before now is event none = none refl ∙ is
 
 module _ {A : Type 0} (p : A → Bool) (xs : List A) (x : A) where
   count_yes : p x ≡ true → count_by p (xs ++ x ∷ []) ≡ count_by p xs + 1
@@ -108,3 +175,144 @@ module _ {P : Type 0} (rules : Rules P) where
         (leads_on rules old between new (take i schedule) led.0 (get_or schedule i d) result led.1 goes),
     is ∙ (ap (λ (p : Passes). noted p result) led.2 ∙ sym (passes_more led.0 result)),
   )
+
+-- ## Counts that stand still at the highest number
+
+pub counted_one : (n before now : ℕ) → before ≡ counted 0 n → now ≡ min (before + 1) 18446744073709551615 → now ≡ counted 0 (suc n)
+counted_one n before now b e = omega arith
+
+pub counted_both : (n k m before more now : ℕ) → before ≡ counted 0 n → more ≡ counted 0 k → m ≡ n + k → now ≡ min (before + more) 18446744073709551615 → now ≡ counted 0 m
+counted_both n k m before more now b f s e = omega arith
+
+pub events_both : (first between last before more now : ℕ) → between ≡ counted first before → last ≡ counted between more → now ≡ min (before + more) 18446744073709551615 → last ≡ counted first now
+events_both first between last before more now b l n = omega arith
+
+-- ## A number of the actor at a place
+
+abbrev pub at_place : {A : Type 0} → (A → ℕ) → List A → ℕ → ℕ
+at_place f [] place = 0
+at_place f (x ∷ xs) zero = f x
+at_place f (x ∷ xs) (suc place) = at_place f xs place
+
+pub at_place_is : {A : Type 0} (f : A → ℕ) (xs : List A) (place : ℕ) (x : A) → slice_get xs place ≡ Some x → at_place f xs place ≡ f x
+at_place_is f [] place x e = absurd (cc)
+at_place_is f (y ∷ xs) zero x e = (let same : y ≡ x = cc in ap f same)
+at_place_is f (y ∷ xs) (suc place) x e = at_place_is f xs place x e
+
+-- ## Worlds
+
+pub opening_same : {P : Type 0} (w : World P) → SameOpening w w
+opening_same w = record { opening = refl; base = refl; arena = refl; patience = refl; max_commits = refl; retries = refl }
+
+pub opening_both : {P : Type 0} (a b c : World P) → SameOpening a b → SameOpening b c → SameOpening a c
+opening_both a b c f g = record {
+  opening = g.opening ∙ f.opening;
+  base = g.base ∙ f.base;
+  arena = g.arena ∙ f.arena;
+  patience = g.patience ∙ f.patience;
+  max_commits = g.max_commits ∙ f.max_commits;
+  retries = g.retries ∙ f.retries;
+}
+
+module _ {P : Type 0} (rules : Rules P) (actor : ℕ) where
+  pub takes_one : (n : ℕ) (old between new : World P) → Takes rules actor n old between → Goes rules actor between (told (ending_at new actor)) new
+      → Takes rules actor (suc n) old new
+  takes_one n old between new f g = (between, told (ending_at new actor), f, told_event (ending_at new actor), g)
+
+  pub takes_both : (n k : ℕ) (a b c : World P) → Takes rules actor n a b → Takes rules actor k b c → (m : ℕ) × (m ≡ n + k) × Takes rules actor m a c
+  takes_both n zero a b c f g = (n, (let e : n ≡ n + 0 = omega arith in e), subst (λ (w : World P). Takes rules actor n a w) (sym g) f)
+  takes_both n (suc k) a b c f g =
+      let r = takes_both n k a b g.0 f g.2 in
+      (suc r.0, (let e = r.1 in omega arith), (g.0, g.1, r.2, g.3, g.4))
+
+-- who waits for an operation is there, and waits
+pub waits_there : {P : Type 0} (w : World P) (actor : ℕ) → IsSome (waits_at w actor) → (a : Actor P) × (slice_get w.actors actor ≡ Some a) × (is_waiting a.status ≡ true)
+waits_there {P} w actor some =
+    let within : actor < length w.actors = within_some (λ (a : Actor P). waiting_step a.status) w.actors actor some in
+    let here = there_is w.actors actor within in
+    (here.0, here.1, waiting_some here.0.status (subst IsSome (ap (option_and_then (λ (a : Actor P). waiting_step a.status)) here.1) some))
+
+module _ {P : Type 0} (rules : Rules P) (actor : ℕ) where
+  -- of the actor there
+  abbrev pub LeavesLess : Bool → World P → World P → Type 0
+  LeavesLess on old new = (a b : Actor P) → slice_get old.actors actor ≡ Some a → slice_get new.actors actor ≡ Some b → HasLess rules on a b
+
+  abbrev pub LeavesLessSoFar : Bool → World P → World P → Type 0
+  LeavesLessSoFar on old new = (a b : Actor P) → slice_get old.actors actor ≡ Some a → slice_get new.actors actor ≡ Some b → HasLessSoFar rules on a b
+
+  abbrev pub LeavesNoMore : World P → World P → Type 0
+  LeavesNoMore old new = (a b : Actor P) → slice_get old.actors actor ≡ Some a → slice_get new.actors actor ≡ Some b → is_waiting b.status ≡ true → IsNoMore rules a b
+
+  pub leaves_on : (was on : Bool) (a b c : World P) → was ≡ true → IsSome (waits_at b actor) → LeavesLessSoFar was a b → LeavesLess on b c → LeavesLessSoFar on a c
+  leaves_on false on a b c e waits f g x z here there = absurd (cc)
+  leaves_on true on a b c e waits f g x z here there = (let y = waits_there b actor waits in less_so_far rules on x y.0 z (f x y.0 here y.1) (g y.0 z y.1 there))
+
+  -- while the call goes on, it has fewer and fewer steps left
+  abbrev pub call_left_at : Bool → World P → ℕ
+  call_left_at on w = if on then at_place (λ (a : Actor P). steps_left a.engine) w.actors actor + 1 else 0
+
+  pub call_falls : (on : Bool) (old new : World P) → IsSome (waits_at old actor) → length new.actors ≡ length old.actors → LeavesLess on old new → call_left_at on new < call_left_at true old
+  call_falls false old new waits long f = omega arith
+  call_falls true old new waits long f =
+      let steps : Actor P → ℕ = λ (a : Actor P). steps_left a.engine in
+      let y = waits_there old actor waits in
+      let within = within_of old.actors actor y.0 y.1 in
+      let z = there_is new.actors actor (omega (arith, long, within)) in
+      let fewer = ((f y.0 z.0 y.1 z.1).on refl).1 in
+      let was = at_place_is steps old.actors actor y.0 y.1 in
+      let now = at_place_is steps new.actors actor z.0 z.1 in
+      omega arith
+
+  -- what is left of the whole run, once a call is over
+  abbrev pub whole_at : World P → ℕ
+  whole_at w = at_place (λ (a : Actor P). whole rules (in_transaction a.engine) a.player) w.actors actor
+
+  abbrev pub run_left_at : ℕ → World P → ℕ
+  run_left_at k w = at_place (run_left rules k) w.actors actor
+
+  pub run_falls : (first old new : World P) → length old.actors ≡ length first.actors → length new.actors ≡ length old.actors → IsSome (waits_at old actor) → LeavesNoMore first old → LeavesLess false old new
+      → run_left_at (whole_at first) new < run_left_at (whole_at first) old
+  run_falls first old new same long waits f g =
+      let whole_of : Actor P → ℕ = λ (a : Actor P). whole rules (in_transaction a.engine) a.player in
+      let k : ℕ = whole_at first in
+      let y = waits_there old actor waits in
+      let within = within_of old.actors actor y.0 y.1 in
+      let x = there_is first.actors actor (omega (arith, same, within)) in
+      let z = there_is new.actors actor (omega (arith, long, within)) in
+      let top : k ≡ whole_of x.0 = at_place_is whole_of first.actors actor x.0 x.1 in
+      let bound = (f x.0 y.0 x.1 y.1 y.2).whole_falls in
+      let fell = (g y.0 z.0 y.1 z.1).over refl k (omega arith) in
+      let was = at_place_is (run_left rules k) old.actors actor y.0 y.1 in
+      let now = at_place_is (run_left rules k) new.actors actor z.0 z.1 in
+      omega arith
+
+  pub no_more_on : (first old new : World P) → length old.actors ≡ length first.actors → IsSome (waits_at old actor) → LeavesNoMore first old → LeavesLess false old new → LeavesNoMore first new
+  no_more_on first old new same waits f g a c here there waiting =
+      let y = waits_there old actor waits in
+      less_less rules a y.0 c (f a y.0 here y.1 y.2) ((g y.0 c y.1 there).less waiting)
+
+  pub no_more_first : (w : World P) → LeavesNoMore w w
+  no_more_first w a b here there waiting =
+      (let same : a ≡ b = (let z : Some a ≡ Some b = sym here ∙ there in cc) in subst (IsNoMore rules a) same (same_less rules a))
+
+  -- who goes on with its call waits for its next operation
+  pub waits_still : (on : Bool) (old new : World P) → IsSome (waits_at old actor) → length new.actors ≡ length old.actors → LeavesLess on old new → on ≡ true → IsSome (waits_at new actor)
+  waits_still on old new waits long f e =
+      let y = waits_there old actor waits in
+      let within = within_of old.actors actor y.0 y.1 in
+      let z = there_is new.actors actor (omega (arith, long, within)) in
+      subst IsSome (sym (ap (option_and_then (λ (a : Actor P). waiting_step a.status)) z.1)) (some_waiting z.0.status ((f y.0 z.0 y.1 z.1).on e).0)
+
+  -- the actor of a call that is over
+  pub over_less : (on : Bool) (old new : World P) → on ≡ false → LeavesLessSoFar on old new → LeavesLess false old new
+  over_less true old new e f = absurd (cc)
+  over_less false old new e f = f
+
+-- who does not wait has ended, once all local work is done
+module _ {P : Type 0} (rules : Rules P) where
+  pub ended_there : (w : World P) (actor : ℕ) → AreActors rules w.cells w.attempts w.actors → (a : Actor P) → slice_get w.actors actor ≡ Some a → is_waiting a.status ≡ false → IsSome (ending_at w actor)
+  ended_there w actor sound a here still =
+      subst IsSome (sym (ap (option_and_then (λ (x : Actor P). ending_of x.status)) here)) (some_ended a.status still (sound.each actor a here).done)
+
+pub not_there : {P A : Type 0} (w : World P) (actor : ℕ) → actor < length w.actors → slice_get w.actors actor ≡ None → A
+not_there w actor within none = absurd (let here = there_is w.actors actor within in let both : Some here.0 ≡ None = sym here.1 ∙ none in cc)

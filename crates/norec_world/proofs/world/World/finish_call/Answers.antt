@@ -1,6 +1,5 @@
 use Rattle.std.proofs.Common.{suc, ◌<◌, Bool, sym, subst, ◌∙◌}
-use Rattle.norec_world.proofs.CallEvents.{counted_one, events_both, opening_both, takes_one, leaves_on, call_left_at, call_falls, waits_still, over_less}
-use Rattle.norec_world.proofs.WorldEvents.{told_event}
+use Rattle.norec_world.proofs.WorldEvents.{call_falls, call_left_at, counted_one, events_both, leaves_on, opening_both, over_less, takes_one, told_event, waits_still}
 use Rattle.norec_world.proofs.world.World.finish_call.Goals as goal
 
 pub event-goes_on-requires : goal.event-goes_on-requires

@@ -6,7 +6,7 @@ use Rattle.norec_world.specs.Status.{is_waiting, waiting_step}
 use Rattle.norec_world.specs.World.{told}
 use Rattle.norec_world.specs.WorldEvents.{Goes}
 use Rattle.norec_world.proofs.Worlds.{some_waiting}
-use Rattle.norec_world.proofs.Refusals.{mapped_none, mapped_some, goes_nowhere, goes_no_more}
+use Rattle.norec_world.proofs.WorldEvents.{mapped_none, mapped_some, goes_nowhere, goes_no_more}
 use Rattle.norec_world.proofs.world.World.go.Goals as goal
 
 pub returns-in-None-clause-goes : goal.returns-in-None-clause-goes

@@ -3,8 +3,7 @@ use Rattle.std.specs.Option.{option_and_then}
 use Rattle.norec_world.specs.declared.actor.Actor.{Actor}
 use Rattle.norec_world.specs.Status.{is_waiting, waiting_step}
 use Rattle.norec_world.proofs.Worlds.{some_waiting}
-use Rattle.norec_world.proofs.Refusals.{mapped_none, mapped_some}
-use Rattle.norec_world.proofs.CallEvents.{ended_there, not_there}
+use Rattle.norec_world.proofs.WorldEvents.{ended_there, mapped_none, mapped_some, not_there}
 use Rattle.norec_world.proofs.world.World.is_waiting.Goals as goal
 
 pub returns-in-None-clause-ended : goal.returns-in-None-clause-ended

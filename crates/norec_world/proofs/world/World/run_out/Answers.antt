@@ -1,6 +1,6 @@
 use Rattle.std.proofs.Common.{refl, ◌∙◌, arith, rules}
 use Rattle.norec_world.proofs.SoundOthers.{within_of}
-use Rattle.norec_world.proofs.CallEvents.{counted_both, events_both, opening_same, opening_both, takes_both, waits_there, run_falls, no_more_on, no_more_first}
+use Rattle.norec_world.proofs.WorldEvents.{counted_both, events_both, opening_same, opening_both, takes_both, waits_there, run_falls, no_more_on, no_more_first}
 use Rattle.norec_world.proofs.world.World.run_out.Goals as goal
 
 pub loop-alloc-init : goal.loop-alloc-init

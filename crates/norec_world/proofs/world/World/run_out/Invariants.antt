@@ -1,7 +1,7 @@
 use Rattle.std.proofs.Common.{◌≡◌, ◌≤◌, ℕ, length}
 use Rattle.norec_world.specs.World.{counted, SameOpening}
 use Rattle.norec_world.specs.WorldEvents.{Takes}
-use Rattle.norec_world.proofs.CallEvents.{LeavesNoMore, run_left_at, whole_at}
+use Rattle.norec_world.proofs.WorldEvents.{LeavesNoMore, run_left_at, whole_at}
 use Rattle.norec_world.proofs.world.World.run_out.Given as goal
 
 abbrev pub invariant-loop-alloc : goal.invariant-loop-alloc
