@@ -1,5 +1,6 @@
 //! Scripts from their bytes to what is written, said and answered.
 
+mod endings;
 mod schedules;
 mod threads;
 
@@ -255,7 +256,7 @@ fn meagre_writers(rt: HostRuntime) {
     let rows: [(&[u8], usize, &[u8]); 2] = [
         (b"no script", 2, b"itmrun: "),
         (
-            schedules::TWO_GAVE_UP,
+            endings::TWO_GAVE_UP,
             10,
             b"itmrun: thread 0 gave up\nitmrun: ",
         ),
