@@ -1,5 +1,7 @@
 //! How much of everything there may be.
 
+ghost use Rattle.std.specs.Prelude.{◌≡◌, ◌^◌, ◌-◌};
+
 /// How many bytes the largest shared memory has.
 pub const MAX_MEMORY: usize = 65_536;
 
@@ -20,6 +22,17 @@ pub const MAX_RETRIES: u32 = 10_000;
 
 /// The most commits that a memory may take: 2^62 - 1.
 pub const MAX_COMMITS: u64 = 4_611_686_018_427_387_903;
+
+/// What the largest sizes and counts are, as numbers. Does nothing.
+pub fn largest()
+    ensures memory { MAX_MEMORY ≡ 65536 }
+    ensures words { MAX_WORDS ≡ 8192 }
+    ensures arena { MAX_ARENA ≡ 4096 }
+    ensures actors { MAX_ACTORS ≡ 32 }
+    ensures patience { MAX_PATIENCE ≡ 1000 }
+    ensures retries { MAX_RETRIES ≡ 10000 }
+    ensures commits { MAX_COMMITS ≡ 2 ^ 62 - 1 }
+{}
 
 /// What the transactions over one memory may use up.
 #[derive(Clone, Copy, Debug, PartialEq, Eq)]

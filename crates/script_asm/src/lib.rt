@@ -40,7 +40,7 @@ mod words;
 
 pub use fault::{AsmFault, AsmKind};
 pub use instruction::{Instruction, Register};
-pub use limits::{MAX_INSTRUCTIONS, MAX_TEXT};
+pub use limits::{MAX_INSTRUCTIONS, MAX_TEXT, largest};
 pub use opening::Size;
 pub use program::Program;
 pub use schedule::Item;

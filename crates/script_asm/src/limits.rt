@@ -20,6 +20,14 @@ pub const MAX_EVENTS: u64 = 1_000_000;
 /// How many instructions the sections of a script have at most.
 pub const MAX_INSTRUCTIONS: usize = 65_536;
 
+/// What the limits of scripts are, as numbers. Does nothing.
+pub fn largest()
+    ensures text { MAX_TEXT ≡ 16777216 }
+    ensures items { MAX_ITEMS ≡ 65536 }
+    ensures events { MAX_EVENTS ≡ 1000000 }
+    ensures instructions { MAX_INSTRUCTIONS ≡ 65536 }
+{}
+
 /// The limits that were said, each within its range.
 #[derive(Drop)]
 pub struct SaidLimits {
