@@ -258,10 +258,7 @@ module _ {P : Type 0} (rules : Rules P) (actor : ℕ) where
       let y = waits_there old actor waits in
       let within = within_of old.actors actor y.0 y.1 in
       let z = there_is new.actors actor (omega (arith, long, within)) in
-      let fewer = ((f y.0 z.0 y.1 z.1).on refl).1 in
-      let was = at_place_is steps old.actors actor y.0 y.1 in
-      let now = at_place_is steps new.actors actor z.0 z.1 in
-      omega arith
+      omega (arith, ((f y.0 z.0 y.1 z.1).on refl).1, at_place_is steps old.actors actor y.0 y.1, at_place_is steps new.actors actor z.0 z.1)
 
   -- what is left of the whole run, once a call is over
   abbrev pub whole_at : World P → ℕ
@@ -280,11 +277,8 @@ module _ {P : Type 0} (rules : Rules P) (actor : ℕ) where
       let x = there_is first.actors actor (omega (arith, same, within)) in
       let z = there_is new.actors actor (omega (arith, long, within)) in
       let top : k ≡ whole_of x.0 = at_place_is whole_of first.actors actor x.0 x.1 in
-      let bound = (f x.0 y.0 x.1 y.1 y.2).whole_falls in
-      let fell = (g y.0 z.0 y.1 z.1).over refl k (omega arith) in
-      let was = at_place_is (run_left rules k) old.actors actor y.0 y.1 in
-      let now = at_place_is (run_left rules k) new.actors actor z.0 z.1 in
-      omega arith
+      let fell = (g y.0 z.0 y.1 z.1).over refl k (omega (arith, (f x.0 y.0 x.1 y.1 y.2).whole_falls)) in
+      omega (arith, at_place_is (run_left rules k) old.actors actor y.0 y.1, at_place_is (run_left rules k) new.actors actor z.0 z.1)
 
   pub no_more_on : (first old new : World P) → length old.actors ≡ length first.actors → IsSome (waits_at old actor) → LeavesNoMore first old → LeavesLess false old new → LeavesNoMore first new
   no_more_on first old new same waits f g a c here there waiting =
