@@ -73,9 +73,8 @@ module _ {A : Type 0} (p : A → Bool) where
       elim (cases_lt n (length xs)) [
         | inl lt ↦ ap (λ (o : Option ℕ). unwrap_or o (length xs)) (sym (cond_below n (length xs) (Some n) None lt))
         | inr le ↦ (
-            let within = prefix_len-le-length (λ (x : A). not (p x)) xs in
             let none : None ≡ position p xs = cond_above n (length xs) (Some n) None None le refl in
-            ap (λ (o : Option ℕ). unwrap_or o (length xs)) (sym none) ∙ omega arith)
+            ap (λ (o : Option ℕ). unwrap_or o (length xs)) (sym none) ∙ omega (arith, prefix_len-le-length (λ (x : A). not (p x)) xs))
       ]
 
   pub inserted_first : (y : A) (xs : List A) (i : ℕ) → i ≡ position_or_len p xs → insert xs i y ≡ with_one p y xs
@@ -162,9 +161,8 @@ changed_elsewhere thread other f (x ∷ xs) keeps ne =
 past_all : (thread n : ℕ) (xs : List Attempt) → thread < n → AreFrom n xs → active_of thread xs ≡ None
 past_all thread n [] lt from = refl
 past_all thread n (x ∷ xs) lt from =
-    let from_x = from.0 in
-    let no : (x.thread == thread) ≡ false = ne_eqb x.thread thread (λ h. omega arith) in
-    simp no (past_all thread (x.thread + 1) xs (omega arith) from.1)
+    let no = ne_eqb x.thread thread (λ h. omega (arith, from.0)) in
+    simp no (past_all thread (x.thread + 1) xs (omega (arith, from.0)) from.1)
 
 pub without_here : (thread : ℕ) (n : ℕ) (xs : List Attempt) → AreFrom n xs → active_of thread (without (is_of thread) xs) ≡ None
 without_here thread n [] from = refl

@@ -156,9 +156,8 @@ module _ {A : Type 0} (p : A → Bool) (xs : List A) (x : A) where
 
 pub passes_more : (results : List (Result (Unit {0}) WorldFault)) (r : Result (Unit {0}) WorldFault) → passes_of (results ++ r ∷ []) ≡ noted (passes_of results) r
 passes_more results (Ok done) = (λ i. record { taken = count_yes is_taken results (Ok done) refl i; passed = count_no is_passed results (Ok done) refl i; starved = count_no is_starved results (Ok done) refl i })
-passes_more results (Err faults.NoSuchActor) = (λ i. record { taken = count_no is_taken results (Err faults.NoSuchActor) refl i; passed = count_yes is_passed results (Err faults.NoSuchActor) refl i; starved = count_no is_starved results (Err faults.NoSuchActor) refl i })
-passes_more results (Err faults.Ended) = (λ i. record { taken = count_no is_taken results (Err faults.Ended) refl i; passed = count_yes is_passed results (Err faults.Ended) refl i; starved = count_no is_starved results (Err faults.Ended) refl i })
 passes_more results (Err faults.NoMemory) = (λ i. record { taken = count_no is_taken results (Err faults.NoMemory) refl i; passed = count_no is_passed results (Err faults.NoMemory) refl i; starved = count_yes is_starved results (Err faults.NoMemory) refl i })
+passes_more results r = (λ i. record { taken = count_no is_taken results r refl i; passed = count_yes is_passed results r refl i; starved = count_no is_starved results r refl i })
 
 -- an entry of a schedule more, and its result
 module _ {P : Type 0} (rules : Rules P) where
