@@ -236,9 +236,7 @@ module _ (items : List Attempt) (ended : ℕ) where
 
     pub no_row : (row : Attempt) → active_of thread r.active ≡ Some row → ⊥
     no_row row found =
-        let e = found_none (is_of thread) (drop ended items) none in
-        let same : active_of thread (drop ended items) ≡ active_of thread r.active = ap (λ (s : Rows). active_of thread s.active) are in
-        let clash : None ≡ Some row = sym e ∙ (same ∙ found) in
+        let clash : None ≡ Some row = sym (found_none (is_of thread) (drop ended items) none) ∙ (ap (λ (s : Rows). active_of thread s.active) are ∙ found) in
         absurd (cc)
 
   -- the actor's open row, read at its place, and another put there
