@@ -255,8 +255,7 @@ module _ {P : Type 0} (rules : Rules P) (actor : ℕ) where
   call_falls true old new waits long f =
       let steps : Actor P → ℕ = λ (a : Actor P). steps_left a.engine in
       let y = waits_there old actor waits in
-      let within = within_of old.actors actor y.0 y.1 in
-      let z = there_is new.actors actor (omega (arith, long, within)) in
+      let z = there_is new.actors actor (omega (arith, long, within_of old.actors actor y.0 y.1)) in
       omega (arith, ((f y.0 z.0 y.1 z.1).on refl).1, at_place_is steps old.actors actor y.0 y.1, at_place_is steps new.actors actor z.0 z.1)
 
   -- what is left of the whole run, once a call is over
@@ -292,8 +291,7 @@ module _ {P : Type 0} (rules : Rules P) (actor : ℕ) where
   pub waits_still : (on : Bool) (old new : World P) → IsSome (waits_at old actor) → length new.actors ≡ length old.actors → LeavesLess on old new → on ≡ true → IsSome (waits_at new actor)
   waits_still on old new waits long f e =
       let y = waits_there old actor waits in
-      let within = within_of old.actors actor y.0 y.1 in
-      let z = there_is new.actors actor (omega (arith, long, within)) in
+      let z = there_is new.actors actor (omega (arith, long, within_of old.actors actor y.0 y.1)) in
       subst IsSome (sym (ap (option_and_then (λ (a : Actor P). waiting_step a.status)) z.1)) (some_waiting z.0.status ((f y.0 z.0 y.1 z.1).on e).0)
 
   -- the actor of a call that is over
