@@ -13,9 +13,9 @@ module _ {P : Type 0} (rules : Rules P) where
   same_less a = record { whole_falls = (let o : whole rules (in_transaction a.engine) a.player ≤ whole rules (in_transaction a.engine) a.player = omega arith in o); rank_falls = λ k b. omega arith }
 
   pub less_less : (a b c : Actor P) → IsNoMore rules a b → IsNoMore rules b c → IsNoMore rules a c
-  less_less a b c f g = let x = f.whole_falls in let y = g.whole_falls in record {
-    whole_falls = omega arith;
-    rank_falls = λ k l. (let u = f.rank_falls k l in let v = g.rank_falls k (omega arith) in omega arith);
+  less_less a b c f g = record {
+    whole_falls = omega (arith, f.whole_falls, g.whole_falls);
+    rank_falls = λ k l. omega (arith, f.rank_falls k l, g.rank_falls k (omega (arith, f.whole_falls)));
   }
 
   pub falls_less : (a b : Actor P) → Falls rules (in_transaction a.engine) (in_transaction b.engine) a b → IsNoMore rules a b

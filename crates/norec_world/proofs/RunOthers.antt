@@ -179,7 +179,7 @@ module _ {P : Type 0} (rules : Rules P) (laws : Obeys rules) where
 
     pub are_opaque : AreOpaque rules w
     are_opaque = record {
-      runs = λ place p e. (let l = within_of w.opening place p e in let here = there_is w.actors place (omega (arith, long)) in of_actor place p here.0 e here.1);
+      runs = λ place p e. (let here = there_is w.actors place (omega (arith, long, within_of w.opening place p e)) in of_actor place p here.0 e here.1);
       players = λ place p a e f. (running.each place p a e f).runs;
       threads = of_actors_both (length w.actors) w.attempts.ended w.attempts.active running.threads (of_actors_active (length w.actors) w.attempts.active sound.listed);
       reads = λ place a row e some.
