@@ -73,9 +73,8 @@ module _ {A : Type 0} (p : A → Bool) where
       elim (cases_lt n (length xs)) [
         | inl lt ↦ ap (λ (o : Option ℕ). unwrap_or o (length xs)) (sym (cond_below n (length xs) (Some n) None lt))
         | inr le ↦ (
-            let within = prefix_len-le-length (λ (x : A). not (p x)) xs in
             let none : None ≡ position p xs = cond_above n (length xs) (Some n) None None le refl in
-            ap (λ (o : Option ℕ). unwrap_or o (length xs)) (sym none) ∙ omega arith)
+            ap (λ (o : Option ℕ). unwrap_or o (length xs)) (sym none) ∙ omega (arith, prefix_len-le-length (λ (x : A). not (p x)) xs))
       ]
 
   pub inserted_first : (y : A) (xs : List A) (i : ℕ) → i ≡ position_or_len p xs → insert xs i y ≡ with_one p y xs
@@ -162,9 +161,8 @@ changed_elsewhere thread other f (x ∷ xs) keeps ne =
 past_all : (thread n : ℕ) (xs : List Attempt) → thread < n → AreFrom n xs → active_of thread xs ≡ None
 past_all thread n [] lt from = refl
 past_all thread n (x ∷ xs) lt from =
-    let from_x = from.0 in
-    let no : (x.thread == thread) ≡ false = ne_eqb x.thread thread (λ h. omega arith) in
-    simp no (past_all thread (x.thread + 1) xs (omega arith) from.1)
+    let no = ne_eqb x.thread thread (λ h. omega (arith, from.0)) in
+    simp no (past_all thread (x.thread + 1) xs (omega (arith, from.0)) from.1)
 
 pub without_here : (thread : ℕ) (n : ℕ) (xs : List Attempt) → AreFrom n xs → active_of thread (without (is_of thread) xs) ≡ None
 without_here thread n [] from = refl
@@ -238,9 +236,7 @@ module _ (items : List Attempt) (ended : ℕ) where
 
     pub no_row : (row : Attempt) → active_of thread r.active ≡ Some row → ⊥
     no_row row found =
-        let e = found_none (is_of thread) (drop ended items) none in
-        let same : active_of thread (drop ended items) ≡ active_of thread r.active = ap (λ (s : Rows). active_of thread s.active) are in
-        let clash : None ≡ Some row = sym e ∙ (same ∙ found) in
+        let clash : None ≡ Some row = sym (found_none (is_of thread) (drop ended items) none) ∙ (ap (λ (s : Rows). active_of thread s.active) are ∙ found) in
         absurd (cc)
 
   -- the actor's open row, read at its place, and another put there

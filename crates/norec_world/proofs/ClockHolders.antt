@@ -4,21 +4,18 @@ use Rattle.std.proofs.lemmas.Bool.{both_ways, cases_Bool}
 use Rattle.norec_world.proofs.Common.{Cells, ClocksOn, Core, Load, Step, Store, handed_to, word_loaded}
 use Rattle.norec_world.specs.ClockHolder.{HoldsOn}
 
-odd_even : (n : ℕ) → n % 2 ≡ 1 → n % 2 ≡ 0 → ⊥
-odd_even n o e = absurd (omega arith)
-
 -- one step
 pub clocks_of : (cells cells' : Cells) (e e' : Core) → HoldsOn cells e cells' e' → (e'.holds ≡ true → cells'.clock % 2 ≡ 1) → ClocksOn cells e cells' e'
 clocks_of cells cells' e e' h odd = record {
   odd = λ before. odd;
   apart = λ odd free. elim (cases_Bool e'.holds) [
-    | inl n ↦ absurd (odd_even cells.clock odd (h.takes free n).0)
+    | inl n ↦ absurd (omega (arith, (h.takes free n).0))
     | inr n ↦ (h.leaves free n, n)
   ];
   alone = λ mine odd. elim (cases_Bool e'.holds) [
     | inl n ↦ n
     | inr n ↦ elim (cases_Bool e.holds) [
-      | inl o ↦ absurd (odd_even cells'.clock odd (h.frees o n).0)
+      | inl o ↦ absurd (omega (arith, (h.frees o n).0))
       | inr o ↦ absurd (both_ways e.holds o (mine (ap (λ (c : Cells). c.clock % 2) (sym (h.leaves o n)) ∙ odd)))
     ]
   ];

@@ -41,11 +41,8 @@ counted_other : (clock clock' : ℕ) (xs ys : List Attempt) (a : Attempt) → is
 counted_other clock clock' xs ys a other is half c = record {
   all = (let more = ap count_committed is ∙ count_committed_more xs a in let none : one_where (is_committed a.outcome) ≡ 0 = ap one_where other in let all = c.all in omega arith);
   each = λ position.
-      (let more = ap (count_at position) is ∙ count_at_more position xs a in
-      let none : one_where (is_at position a) ≡ 0 = ap (λ (b : Bool). one_where (b && (a.at == position))) other in
-      let each = c.each position in
-      let below = ap (λ (n : ℕ). one_where (nat_lt position n)) half in
-      omega arith);
+      (let none : one_where (is_at position a) ≡ 0 = ap (λ (b : Bool). one_where (b && (a.at == position))) other in
+      omega (arith, ap (count_at position) is ∙ count_at_more position xs a, c.each position, ap (λ (n : ℕ). one_where (nat_lt position n)) half));
 }
 
 -- one that did is
@@ -56,13 +53,10 @@ counted_one clock clock' xs ys a one is before now c =
     record {
       all = (let more = ap count_committed is ∙ count_committed_more xs a in let some : one_where (is_committed a.outcome) ≡ 1 = ap one_where one in let all = c.all in omega arith);
       each = λ position.
-          (let more = ap (count_at position) is ∙ count_at_more position xs a in
-          let some : one_where (is_at position a) ≡ one_where (a.at == position) = ap (λ (b : Bool). one_where (b && (a.at == position))) one in
-          let each = c.each position in
+          (let some : one_where (is_at position a) ≡ one_where (a.at == position) = ap (λ (b : Bool). one_where (b && (a.at == position))) one in
           let below_was : one_where (nat_lt position (clock / 2)) ≡ one_where (nat_lt position a.at) = ap (λ (n : ℕ). one_where (nat_lt position n)) was in
           let below : one_where (nat_lt position (clock' / 2)) ≡ one_where (nat_lt position (a.at + 1)) = ap (λ (n : ℕ). one_where (nat_lt position n)) half in
-          let next = below_more position a.at in
-          omega arith);
+          omega (arith, ap (count_at position) is ∙ count_at_more position xs a, c.each position, below_more position a.at));
     }
 
 module _ {P : Type 0} where

@@ -13,9 +13,9 @@ module _ {P : Type 0} (rules : Rules P) where
   same_less a = record { whole_falls = (let o : whole rules (in_transaction a.engine) a.player ≤ whole rules (in_transaction a.engine) a.player = omega arith in o); rank_falls = λ k b. omega arith }
 
   pub less_less : (a b c : Actor P) → IsNoMore rules a b → IsNoMore rules b c → IsNoMore rules a c
-  less_less a b c f g = let x = f.whole_falls in let y = g.whole_falls in record {
-    whole_falls = omega arith;
-    rank_falls = λ k l. (let u = f.rank_falls k l in let v = g.rank_falls k (omega arith) in omega arith);
+  less_less a b c f g = record {
+    whole_falls = omega (arith, f.whole_falls, g.whole_falls);
+    rank_falls = λ k l. omega (arith, f.rank_falls k l, g.rank_falls k (omega (arith, f.whole_falls)));
   }
 
   pub falls_less : (a b : Actor P) → Falls rules (in_transaction a.engine) (in_transaction b.engine) a b → IsNoMore rules a b
@@ -38,11 +38,8 @@ module _ {P : Type 0} (rules : Rules P) (a b c : Actor P)
       let before = run_left_is rules k a waits in
       elim (cases_Bool (is_waiting c.status)) [
         | inl e ↦
-            (let after = run_left_is rules k c e in
-            let f = (fell e).rank_falls k l in
-            let w = (fell e).whole_falls in
-            let m = (less (waiting_going c.status e)).rank_falls k (omega arith) in
-            omega arith)
+            (let m = (less (waiting_going c.status e)).rank_falls k (omega (arith, (fell e).whole_falls)) in
+            omega (arith, run_left_is rules k c e, (fell e).rank_falls k l))
         | inr e ↦ (let after : run_left rules k c ≡ 0 = ap (λ (x : Bool). if x then rank rules k (in_transaction c.engine) c + 1 else 0) e in omega arith)
       ]
 
@@ -84,10 +81,6 @@ module _ {P : Type 0} (rules : Rules P) where
     on = λ e. absurd (cc);
     less = λ w. less_less rules a b c f.2 (g.less w);
     over = λ e k l.
-        (let x = f.2.whole_falls in
-        let r = f.2.rank_falls k l in
-        let o = g.over refl k (omega arith) in
-        let u = run_left_is rules k a f.0 in
-        let v = run_left_is rules k b f.1 in
-        omega arith);
+        (let o = g.over refl k (omega (arith, f.2.whole_falls)) in
+        omega (arith, f.2.rank_falls k l, run_left_is rules k a f.0, run_left_is rules k b f.1));
   }

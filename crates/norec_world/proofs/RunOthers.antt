@@ -33,9 +33,8 @@ of_thread_none thread other (x ∷ xs) all apart = (let no = ne_eqb x.thread thr
 past_from : (n thread : ℕ) (xs : List Attempt) → AreFrom n xs → thread < n → of_thread thread xs ≡ []
 past_from n thread [] from l = refl
 past_from n thread (x ∷ xs) from l =
-    let first = from.0 in
-    let no = ne_eqb x.thread thread (λ same. omega arith) in
-    simp no (past_from (x.thread + 1) thread xs from.1 (omega arith))
+    let no = ne_eqb x.thread thread (λ same. omega (arith, from.0)) in
+    simp no (past_from (x.thread + 1) thread xs from.1 (omega (arith, from.0)))
 
 pub open_none : (n thread : ℕ) (xs : List Attempt) → AreFrom n xs → active_of thread xs ≡ None → of_thread thread xs ≡ []
 open_none n thread [] from e = refl
@@ -180,12 +179,11 @@ module _ {P : Type 0} (rules : Rules P) (laws : Obeys rules) where
 
     pub are_opaque : AreOpaque rules w
     are_opaque = record {
-      runs = λ place p e. (let l = within_of w.opening place p e in let here = there_is w.actors place (omega (arith, long)) in of_actor place p here.0 e here.1);
+      runs = λ place p e. (let here = there_is w.actors place (omega (arith, long, within_of w.opening place p e)) in of_actor place p here.0 e here.1);
       players = λ place p a e f. (running.each place p a e f).runs;
       threads = of_actors_both (length w.actors) w.attempts.ended w.attempts.active running.threads (of_actors_active (length w.actors) w.attempts.active sound.listed);
       reads = λ place a row e some.
-          (let l = within_of w.actors place a e in
-          let here = there_is w.opening place (omega (arith, long)) in
+          (let here = there_is w.opening place (omega (arith, long, within_of w.actors place a e)) in
           let own = sound.each place a e in
           let mine : active_of a.thread w.attempts.active ≡ Some row = ap (λ (t : ℕ). active_of t w.attempts.active) own.thread ∙ some in
           (running.each place here.0 a here.1 e).reads (row_open (in_transaction a.engine) w.attempts a.thread row own.sound.kept.row mine) row mine);

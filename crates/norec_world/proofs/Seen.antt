@@ -46,12 +46,9 @@ module _ (memory : ℕ → List ℕ) (cells : Cells) (e : Core) (t : IsTied cell
     fresh = λ even same f. tt;
     held = λ h.
         (let same : cells.clock ≡ from = eqb-true cells.clock from h in
-        let even = l.4 in
         let now : (if cells.clock == from then to else cells.clock) ≡ to = cond-true (cells.clock == from) to cells.clock h in
-        let up = l.6 in
-        let half : cells.clock / 2 ≡ (if cells.clock == from then to else cells.clock) / 2 = omega arith in
-        let was_even : cells.clock % 2 ≡ 0 = omega arith in
-        free was_even ∙ ap memory half);
+        let half : cells.clock / 2 ≡ (if cells.clock == from then to else cells.clock) / 2 = omega (arith, l.4, l.6) in
+        free (omega (arith, l.4)) ∙ ap memory half);
     got = λ h. tt;
   }
 
@@ -168,8 +165,7 @@ step_seen base cells r e new step laid tied sees waits lawful joins =
           (let b = joins.begins (sym (ap is_inside k.keeps.blocks) ∙ shut) o in
           let is : step ≡ Load 0 = (let x : Some step ≡ Some (Load 0) = sym waits ∙ b.0 in cc) in
           let clock : found cells step ≡ cells.clock = ap (found cells) is in
-          let to = b.1 in
-          omega arith);
+          omega (arith, b.1));
       logged = λ o. subst (λ (j : ℕ). Agrees (memory (j / 2)) mid.log) (sym k.snapshot) (subst (Agrees (memory (e.snapshot / 2))) (sym k.log) (sees.logged (sym (ap is_inside k.keeps.blocks) ∙ o)));
       still = λ o. subst (Agrees (memory (new.snapshot / 2))) (sym k.log) (still_logged memory cells e tied laid.free fits sees step waits lawful new joins (sym (ap is_inside k.keeps.blocks) ∙ o));
       now = log_now memory cells e tied laid.free fits sees step waits lawful new joins;

@@ -49,8 +49,7 @@ module _ {P : Type 0} (rules : Rules P) where
         lawful = s.lawful;
         within = s.within;
       }
-  status_as r r' b roomy calls Ready s = s
-  status_as r r' b roomy calls (Ended end) s = tt
+  status_as r r' b roomy calls status s = s
 
   pub sound_still : (cells cells' : Cells) (r r' : Rows) (b : Actor P) → IsSound rules cells r b
       → AllFit cells'.words → cells.clock ≤ cells'.clock → length cells'.words ≡ length cells.words → (b.engine.holds ≡ true → cells' ≡ cells)
@@ -79,23 +78,11 @@ replaced_sum : {P : Type 0} (actors : List (Actor P)) (i : ℕ) (got new : Actor
 replaced_sum [] i got new e = absurd (cc)
 replaced_sum (a ∷ rest) zero got new e =
     let same : a ≡ got = cc in
-    let few = pending_le rest in (
-      pending_in rest,
-      (let p : count_pending a.pending ≡ count_pending got.pending = ap (λ x. count_pending x.pending) same in omega arith),
-      omega arith,
-      omega arith,
-    )
+    let p : count_pending a.pending ≡ count_pending got.pending = ap (λ x. count_pending x.pending) same in
+    (pending_in rest, omega arith, omega arith, omega (arith, pending_le rest))
 replaced_sum (a ∷ rest) (suc i) got new e =
     let those = replaced_sum rest i got new e in
-    let first = those.1 in
-    let second = those.2 in
-    let fewer = those.3 in
-    let one = pending_one a.pending in (
-      count_pending a.pending + those.0,
-      omega arith,
-      omega arith,
-      omega arith,
-    )
+    (count_pending a.pending + those.0, omega (arith, those.1), omega (arith, those.2), omega (arith, those.3, pending_one a.pending))
 
 -- one's share of the sum
 pending_share : {P : Type 0} (actors : List (Actor P)) (i : ℕ) (a : Actor P) → slice_get actors i ≡ Some a → count_pending a.pending ≤ pending_in actors
@@ -177,20 +164,12 @@ module _ {P : Type 0} (rules : Rules P)
   odd_held : (j : ℕ) (b : Actor P) → slice_get actors j ≡ Some b → b.engine.holds ≡ true → cells.clock % 2 ≡ 1
   odd_held j b e h =
       let t = (s.each j b e).sound.tied in
-      let k = t.holder h in
-      let even = held_even b.engine t.settled h in
-      omega arith
+      omega (arith, t.holder h, held_even b.engine t.settled h)
 
   room_after : pending_in (slice_set actors i new) ≤ r'.room
   room_after =
       let w = replaced_sum actors i got new here in
-      let few = s.few in
-      let fewer = w.3 in
-      let before = w.1 in
-      let total = s.room in
-      let left_over = others.room w.0 (omega arith) (omega arith) in
-      let after = w.2 in
-      omega arith
+      omega (arith, w.2, others.room w.0 (omega (arith, s.few, w.3)) (omega (arith, s.room, w.1)))
 
   -- the world goes on
   pub actors_after : AreActors rules cells' r' (slice_set actors i new)
@@ -245,11 +224,7 @@ module _ {P : Type 0} (rules : Rules P)
     (own : ChangesOwn new.thread r r') (roomy : (others : ℕ) → others < MAX_ACTORS → others ≤ r.room → others + count_pending new.pending ≤ r'.room) (free : new.engine.holds ≡ false) where
   room_joined : pending_in (actors ++ new ∷ []) ≤ r'.room
   room_joined =
-      let all = pending_more actors new in
-      let few = pending_le actors in
-      let total = s.room in
-      let more = roomy (pending_in actors) (omega arith) total in
-      omega arith
+      omega (arith, pending_more actors new, roomy (pending_in actors) (omega (arith, pending_le actors)) s.room)
 
   pub actors_joined : AreActors rules cells r' (actors ++ new ∷ [])
   actors_joined = record {

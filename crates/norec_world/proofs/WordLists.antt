@@ -61,8 +61,7 @@ bytes_of-words_from (suc n) b e f =
 
 pub are_words : (b : List ℕ) → length b % 8 ≡ 0 → AreBytes b → AreWords b
 are_words b e f =
-    let n : length b ≡ 8 * (length b / 8) = omega arith in
-    let both = bytes_of-words_from (length b / 8) b n f in
+    let both = bytes_of-words_from (length b / 8) b (omega arith) f in
     record { again = both.0; fit = both.1 }
 
 -- a word is its eight bytes

@@ -156,9 +156,8 @@ module _ {A : Type 0} (p : A → Bool) (xs : List A) (x : A) where
 
 pub passes_more : (results : List (Result (Unit {0}) WorldFault)) (r : Result (Unit {0}) WorldFault) → passes_of (results ++ r ∷ []) ≡ noted (passes_of results) r
 passes_more results (Ok done) = (λ i. record { taken = count_yes is_taken results (Ok done) refl i; passed = count_no is_passed results (Ok done) refl i; starved = count_no is_starved results (Ok done) refl i })
-passes_more results (Err faults.NoSuchActor) = (λ i. record { taken = count_no is_taken results (Err faults.NoSuchActor) refl i; passed = count_yes is_passed results (Err faults.NoSuchActor) refl i; starved = count_no is_starved results (Err faults.NoSuchActor) refl i })
-passes_more results (Err faults.Ended) = (λ i. record { taken = count_no is_taken results (Err faults.Ended) refl i; passed = count_yes is_passed results (Err faults.Ended) refl i; starved = count_no is_starved results (Err faults.Ended) refl i })
 passes_more results (Err faults.NoMemory) = (λ i. record { taken = count_no is_taken results (Err faults.NoMemory) refl i; passed = count_no is_passed results (Err faults.NoMemory) refl i; starved = count_yes is_starved results (Err faults.NoMemory) refl i })
+passes_more results r = (λ i. record { taken = count_no is_taken results r refl i; passed = count_yes is_passed results r refl i; starved = count_no is_starved results r refl i })
 
 -- an entry of a schedule more, and its result
 module _ {P : Type 0} (rules : Rules P) where
@@ -256,12 +255,8 @@ module _ {P : Type 0} (rules : Rules P) (actor : ℕ) where
   call_falls true old new waits long f =
       let steps : Actor P → ℕ = λ (a : Actor P). steps_left a.engine in
       let y = waits_there old actor waits in
-      let within = within_of old.actors actor y.0 y.1 in
-      let z = there_is new.actors actor (omega (arith, long, within)) in
-      let fewer = ((f y.0 z.0 y.1 z.1).on refl).1 in
-      let was = at_place_is steps old.actors actor y.0 y.1 in
-      let now = at_place_is steps new.actors actor z.0 z.1 in
-      omega arith
+      let z = there_is new.actors actor (omega (arith, long, within_of old.actors actor y.0 y.1)) in
+      omega (arith, ((f y.0 z.0 y.1 z.1).on refl).1, at_place_is steps old.actors actor y.0 y.1, at_place_is steps new.actors actor z.0 z.1)
 
   -- what is left of the whole run, once a call is over
   abbrev pub whole_at : World P → ℕ
@@ -280,11 +275,8 @@ module _ {P : Type 0} (rules : Rules P) (actor : ℕ) where
       let x = there_is first.actors actor (omega (arith, same, within)) in
       let z = there_is new.actors actor (omega (arith, long, within)) in
       let top : k ≡ whole_of x.0 = at_place_is whole_of first.actors actor x.0 x.1 in
-      let bound = (f x.0 y.0 x.1 y.1 y.2).whole_falls in
-      let fell = (g y.0 z.0 y.1 z.1).over refl k (omega arith) in
-      let was = at_place_is (run_left rules k) old.actors actor y.0 y.1 in
-      let now = at_place_is (run_left rules k) new.actors actor z.0 z.1 in
-      omega arith
+      let fell = (g y.0 z.0 y.1 z.1).over refl k (omega (arith, (f x.0 y.0 x.1 y.1 y.2).whole_falls)) in
+      omega (arith, at_place_is (run_left rules k) old.actors actor y.0 y.1, at_place_is (run_left rules k) new.actors actor z.0 z.1)
 
   pub no_more_on : (first old new : World P) → length old.actors ≡ length first.actors → IsSome (waits_at old actor) → LeavesNoMore first old → LeavesLess false old new → LeavesNoMore first new
   no_more_on first old new same waits f g a c here there waiting =
@@ -299,8 +291,7 @@ module _ {P : Type 0} (rules : Rules P) (actor : ℕ) where
   pub waits_still : (on : Bool) (old new : World P) → IsSome (waits_at old actor) → length new.actors ≡ length old.actors → LeavesLess on old new → on ≡ true → IsSome (waits_at new actor)
   waits_still on old new waits long f e =
       let y = waits_there old actor waits in
-      let within = within_of old.actors actor y.0 y.1 in
-      let z = there_is new.actors actor (omega (arith, long, within)) in
+      let z = there_is new.actors actor (omega (arith, long, within_of old.actors actor y.0 y.1)) in
       subst IsSome (sym (ap (option_and_then (λ (a : Actor P). waiting_step a.status)) z.1)) (some_waiting z.0.status ((f y.0 z.0 y.1 z.1).on e).0)
 
   -- the actor of a call that is over

@@ -31,18 +31,16 @@ loop-player-preserved g c =
     let all : length c.loop-player.player-iterator.rest.items ≡ suc (length c.next.new.self.rest.items) = ap length steps in
     let items : c.push.new.self.items ≡ before ++ actor ∷ [] = c.in_ok-push.ensures.items in
     let longer : length c.push.new.self.items ≡ length before + 1 = ap length items ∙ length-append before (actor ∷ []) in
-    let few = i.few in
     let count = i.count in
-    let fewer : length before < MAX_ACTORS = omega arith in
-    let len = c.len-thread.ensures in
+    let fewer : length before < MAX_ACTORS = omega (arith, i.few) in
     let numbered = c.in_ok-actor.ensures.thread in
-    let thread : actor.thread ≡ length before = omega arith in
+    let thread : actor.thread ≡ length before = omega (arith, c.len-thread.ensures) in
     let o = c.in_ok-actor.ensures.others in
     let here = drop_head c.into_iter-player-iterator.result.rest.items (length before) c.in-Some.player c.next.new.self.rest.items (sym i.rest ∙ steps) in
     let own : ChangesOwn actor.thread c.loop-player.recorded c.start.new.recorded = subst (λ (n : ℕ). ChangesOwn n c.loop-player.recorded c.start.new.recorded) (sym o.3.thread) o.3.own in
     record {
       count = omega arith;
-      few = few;
+      few = i.few;
       outside = λ k d l. subst (λ (xs : List g.row.P.Denot). g.P.Player.depth (slice_index_or xs (suc k) d) ≡ 0) steps (i.outside (suc k) d (omega arith));
       sound = subst (AreActors g.P.Player c.args.memory.now c.start.new.recorded) (sym items)
           (actors_joined g.P.Player c.args.memory.now c.loop-player.recorded c.start.new.recorded before i.sound actor

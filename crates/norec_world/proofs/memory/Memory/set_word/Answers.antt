@@ -27,8 +27,7 @@ inside_is c = subst (λ (m : Cells). c.args.word < length m.words) (sym c.self.v
 
 stored : (c : goal.After-self-1) → c.put_word.new.bytes ≡ bytes_of (slice_set (words_of c.self.inside.bytes.items) c.args.word c.args.value)
 stored c =
-    let was : c.deref_mut.result.now ≡ c.self.inside.bytes.items = c.deref_mut.ensures.value in
-    (c.put_word.ensures ∙ ap (λ (b : List ℕ). take (c.args.word * 8) b ++ to_le_bytes w64 c.args.value ++ drop (c.args.word * 8 + 8) b) was)
+    (c.put_word.ensures ∙ ap (λ (b : List ℕ). take (c.args.word * 8) b ++ to_le_bytes w64 c.args.value ++ drop (c.args.word * 8 + 8) b) c.deref_mut.ensures.value)
     ∙ replaced c.self.inside.bytes.items c.args.word c.args.value c.self.invariant (inside_is c)
 
 same_length : (c : goal.After-self-1) → length c.put_word.new.bytes ≡ c.self.inside.bytes.len

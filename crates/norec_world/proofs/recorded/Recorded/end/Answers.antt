@@ -23,13 +23,8 @@ moved c =
 pub invariant_of-self : goal.invariant_of-self
 invariant_of-self c =
     let seen = c.deref.result.now in
-    let place_is = c.in-Some.ensures.within in
-    let part = length-take (length seen - c.self.inside.ended) (drop c.self.inside.ended seen) in
-    let rest = length-drop c.self.inside.ended seen in
-    let all = c.deref.ensures.len in
-    let removed = c.remove-row.ensures.len in
-    let inserted = c.insert_within.ensures.len in (
-      omega arith,
+    let part = length-take (length seen - c.self.inside.ended) (drop c.self.inside.ended seen) in (
+      omega (arith, c.in-Some.ensures.within, length-drop c.self.inside.ended seen, c.deref.ensures.len, c.remove-row.ensures.len, c.insert_within.ensures.len),
       moved_from c.self.inside.rows.items c.self.inside.ended c.args.thread c.in-Some.place (first c) (within c) (ended_row c)
           c.insert_within.new.rows.items (moved c) c.self.invariant.1,
     )

@@ -45,9 +45,7 @@ pub returns-clause-commits : goal.returns-clause-commits
 returns-clause-commits g c = (invariant_of-result g c).commits
 
 pub returns-clause-opaque : goal.returns-clause-opaque
-returns-clause-opaque g c =
-    let x = invariant_of-result g c in
-    world_opaque g.P.Player g.met.P.Player.laws _ x
+returns-clause-opaque g c = world_opaque g.P.Player g.met.P.Player.laws _ (invariant_of-result g c)
 
 pub returns-clause-anew : goal.returns-clause-anew
 returns-clause-anew g c =
