@@ -15,8 +15,7 @@ use Rattle.itm_types.specs.declared.call.Refusal.TheVariants.{Outside}
 use Rattle.norec_world.specs.declared.attempt.Outcome.TheVariants as outcomes
 use Rattle.norec_world.specs.Opacity.{EndsAs, LacksCommit}
 use Rattle.norec_world.specs.Runs.{IsInTry}
-use Rattle.norec_world.proofs.Alones.{begins_alone, alone_snoc, player_snoc, state_snoc, stands_open}
-use Rattle.norec_world.proofs.Solos.{gets_none}
+use Rattle.norec_world.proofs.Solos.{begins_alone, alone_snoc, player_snoc, state_snoc, stands_open, gets_none}
 
 module _ {P : Type 0} (rules : Rules P) (laws : Obeys rules) where
   -- ## A step

@@ -5,7 +5,6 @@ pub mod ActiveRows
 pub mod OthersAttempts
 pub mod Taken
 pub mod TryEnds
-pub mod PlayerDepths
 pub mod TiedEngines
 pub mod ClockHolders
 pub mod SoundOthers
@@ -30,10 +29,8 @@ pub mod LessLeft
 pub mod Worked
 pub mod Worlds
 pub mod WorldEvents
-pub mod Alones
 pub mod Solos
 pub mod SoleRuns
 pub mod SoleEvents
 pub mod ShownAlone
-pub mod Beginnings
 pub mod EventWorlds

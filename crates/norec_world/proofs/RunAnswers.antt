@@ -9,7 +9,7 @@ use Rattle.norec_world.specs.Opacity.{EndsAs, answered_all, follows, after_try, 
 use Rattle.norec_world.specs.Records.{StopsAt}
 use Rattle.norec_world.specs.Runs.{IsBeforeTry, IsInTry}
 use Rattle.norec_world.proofs.ActiveRows.{changed_here, row_is_of}
-use Rattle.norec_world.proofs.Alones.{player_snoc, stands_open}
+use Rattle.norec_world.proofs.Solos.{player_snoc, stands_open}
 use Rattle.norec_world.proofs.TryEnds.{none_pending, none_retried}
 use Rattle.norec_world.proofs.RunLists.{of_thread_own, run_more, run_still}
 use Rattle.norec_world.proofs.Seen.{HasSeen, memory_at, same_at}

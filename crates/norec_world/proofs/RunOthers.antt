@@ -17,7 +17,7 @@ use Rattle.norec_world.specs.Runs.{RunsFrom, StillRuns}
 use Rattle.norec_world.specs.Opaque.{first_of}
 use Rattle.norec_world.specs.Invariant.{AreRunning}
 use Rattle.norec_world.proofs.SoundOthers.{first_found, set_place, within_of, there_is, are_open}
-use Rattle.norec_world.proofs.Alones.{stands_open}
+use Rattle.norec_world.proofs.Solos.{stands_open}
 use Rattle.norec_world.proofs.InTries.{try_stops}
 use Rattle.norec_world.proofs.Memories.{bytes_still}
 use Rattle.norec_world.proofs.RunLists.{of_thread_more, run_still, run_more}

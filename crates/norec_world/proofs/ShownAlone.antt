@@ -13,13 +13,12 @@ use Rattle.norec_world.specs.Solo.{row_of, with_all, with_first, stopped, solo_w
 use Rattle.norec_world.specs.SoFar.{IsBegun, IsSoFar, IsAll}
 use Rattle.norec_world.specs.Sole.{IsFirstTry, EndsWith, IsOnWay, StandsSole, IsSole}
 use Rattle.norec_world.specs.World.{DoneBy, ShowsAlone, attempts_of, memory_of}
-use Rattle.norec_world.proofs.Alones.{begins_alone, state_snoc}
+use Rattle.norec_world.proofs.Solos.{begins_alone, state_snoc, same_some, gets_none, full_block, open_block, no_block}
 use Rattle.norec_world.proofs.Memories.{bytes_still}
 use Rattle.norec_world.proofs.RunLists.{run_still}
 use Rattle.norec_world.proofs.RunOthers.{world_opaque, open_none, open_one, row_open}
 use Rattle.norec_world.proofs.SoleEvents.{of_thread_all, even_free, even_shut}
 use Rattle.norec_world.proofs.SoleRuns.{Arrives, IsNext, between, arrives, is_next, same_state, same_answers, same_row, made_alone}
-use Rattle.norec_world.proofs.Solos.{same_some, gets_none, full_block, open_block, no_block}
 use Rattle.norec_world.proofs.SoundOthers.{are_open}
 
 -- the list of one

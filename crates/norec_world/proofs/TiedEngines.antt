@@ -7,7 +7,7 @@ use Rattle.norec_engine.proofs.AnsweredEngines.{rests}
 use Rattle.norec_engine.specs.Undoing.{after_undoing}
 use Rattle.norec_world.specs.Sound.{AnswerFits}
 use Rattle.norec_world.specs.ClockHolder.{HoldsOn}
-use Rattle.norec_world.proofs.PlayerDepths.{reply_fits}
+use Rattle.norec_world.proofs.PlayerLaws.{reply_fits}
 
 -- ## What the operation asks and gives
 

@@ -7,7 +7,7 @@ use Rattle.norec_world.specs.Tries.{prior_of}
 use Rattle.norec_world.specs.Runs.{RunsFrom}
 use Rattle.norec_world.specs.Opaque.{first_of}
 use Rattle.norec_world.proofs.RunOthers.{fresh_runs, laid_first}
-use Rattle.norec_world.proofs.Beginnings.{starts_between}
+use Rattle.norec_world.proofs.TryChains.{starts_between}
 use Rattle.norec_world.proofs.start.start.Goals as goal
 
 pub returns-in_default-clause-first : goal.returns-in_default-clause-first

@@ -10,7 +10,7 @@ use Rattle.itm_types.specs.Memory.{bytes_of}
 use Rattle.norec_world.specs.Runs.{RunsFrom}
 use Rattle.norec_world.specs.Opaque.{first_of}
 use Rattle.norec_world.proofs.RunOthers.{other_runs, laid_first}
-use Rattle.norec_world.proofs.Beginnings.{fed_joined, first_still}
+use Rattle.norec_world.proofs.TryChains.{fed_joined, first_still}
 use Rattle.std.specs.List.{slice_index_or}
 use Rattle.norec_world.proofs.SoundOthers.{actors_joined, last_or_before, within_of, none_active}
 use Rattle.norec_world.proofs.start.start_all.Goals as goal
