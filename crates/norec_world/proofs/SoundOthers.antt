@@ -1,7 +1,7 @@
 -- An event of one actor leaves the others sound.
 use Rattle.std.proofs.Common.{◌≡◌, ◌≢◌, ◌⊎◌, inl, inr, ℕ, zero, suc, ◌+◌, ◌%◌, ◌<◌, ◌≤◌, Bool, true, false, List, [], ◌∷◌, ◌++◌, length, length-append, Option, None, Some, slice_get, slice_set, refl, sym, ap, subst, ◌∙◌, arith, eq-eqb, eqb-true, ◌==◌, length-set, if◌then◌else◌}
 use Rattle.std.proofs.lemmas.Bool.{both_ways, cases_Bool, cases_eq, cases_lt, eqb-false, false_from_ne_true, ne_eqb}
-use Rattle.norec_world.proofs.Common.{Actor, AllFit, AreActors, AreFrom, Attempt, Cells, ClocksOn, Ended, HasRow, IsSound, IsTied, KeepsOthers, Ready, Rows, Rules, Status, StatusIs, Waits, active_of, in_transaction, is_ready, slice_get-set_same}
+use Rattle.norec_world.proofs.Common.{Actor, AllFit, AreActors, AreFrom, Attempt, Cells, ClocksOn, HasRow, IsSound, IsTied, KeepsOthers, Rows, Rules, Status, StatusIs, Waits, active_of, in_transaction, is_ready, slice_get-set_same}
 use Rattle.itm_types.proofs.Words.{slice_get-set_other}
 use Rattle.itm_types.specs.declared.limits.TheConstants.{MAX_ACTORS}
 use Rattle.norec_world.specs.declared.attempt.Outcome.TheVariants.{Unfinished}

@@ -1,9 +1,9 @@
 -- A list of calls that are made one after the other, whatever the replies are.
 use Rattle.std.specs.Prelude.{ℕ, ◌+◌, ◌-◌, min, List, length, Option, None, Some, slice_get}
 use Rattle.itm_types.specs.declared.call.Call.{Call}
-use Rattle.itm_types.specs.declared.call.Call.TheVariants.{Begin, Commit, Read, Write}
+use Rattle.itm_types.specs.declared.call.Call.TheVariants.{Begin, Commit}
 use Rattle.itm_types.specs.declared.call.Reply.{Reply}
-use Rattle.itm_types.specs.declared.call.Reply.TheVariants.{Done, Bytes, Code, Refused}
+use Rattle.itm_types.specs.declared.call.Reply.TheVariants.{Done, Code}
 
 pub record Plan : Type 0 where
   pub calls : List Call

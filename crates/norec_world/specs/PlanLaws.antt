@@ -2,9 +2,9 @@
 use Rattle.std.proofs.Common.{◌≡◌, ℕ, ◌+◌, ◌<◌, min, List, length, Option, None, Some, slice_get, refl, sym, ap, ◌∙◌, arith, if◌then◌else◌}
 use Rattle.std.proofs.lemmas.Option.{slice_get_within}
 use Rattle.itm_types.specs.declared.call.Call.{Call}
-use Rattle.itm_types.specs.declared.call.Call.TheVariants.{Begin, Commit, Read, Write}
+use Rattle.itm_types.specs.declared.call.Call.TheVariants.{Begin, Commit}
 use Rattle.itm_types.specs.declared.call.Reply.{Reply}
-use Rattle.itm_types.specs.declared.call.Reply.TheVariants.{Done, Bytes, Code, Refused}
+use Rattle.itm_types.specs.declared.call.Reply.TheVariants.{Done, Code}
 use Rattle.script_vm.specs.Laws.{Laws}
 use Rattle.script_vm.specs.Depth.{depth_after, opens}
 use Rattle.norec_world.specs.Plan.{Plan, offered, next_call, answered, restarted, restarted_at, calls_left, depth, depth_in, begun_after}

@@ -1,7 +1,7 @@
 -- What the actor's rows, player and counts are once an answer is recorded.
 use Rattle.std.specs.Prelude.{◌≡◌, ℕ, ◌+◌, ◌/◌, nat_lt, Bool, true, false, [], ◌∷◌, ◌++◌, Option, None, Some, if◌then◌else◌}
 use Rattle.itm_types.specs.declared.call.Call.{Call}
-use Rattle.itm_types.specs.declared.call.Call.TheVariants.{Begin, Commit, Read, Write}
+use Rattle.itm_types.specs.declared.call.Call.TheVariants.{Begin}
 use Rattle.norec_engine.specs.Moves.{IsCalled}
 use Rattle.norec_engine.specs.declared.answer.Next.{Next}
 use Rattle.norec_engine.specs.declared.answer.Next.TheVariants.{Step as Steps, Answer as Answers}
