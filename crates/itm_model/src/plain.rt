@@ -2,7 +2,7 @@
 
 ghost use Rattle.std.specs.Prelude.{◌≡◌, ◌≤◌, ◌%◌, nat_lt, IsTrue, IfOk, OnOk, OnErr, [], length};
 ghost use Rattle.itm_types.specs.Access.{size_of};
-ghost use Rattle.itm_model.specs.Machine.{after, answer, closed, effect, entered, in_shared, is_open, needs_open, opened, ranges, refusal, reply, standing, unless, written};
+ghost use Rattle.itm_model.specs.Machine.{after, answer, closed, effect, entered, in_shared, is_open, mode_code, needs_open, opened, ranges, refusal, reply, standing, unless, written};
 ghost use Rattle.itm_model.specs.Places.{in_range};
 
 use crate::block::{Block, Saved};
@@ -14,6 +14,11 @@ use std::marker::Model;
 
 /// The code that an accepted begin answers: the block was entered.
 const ENTERED: u32 = 5;
+
+/// The codes that tell whether a transaction is open: none is, or one that can be tried again.
+const NO_TRANSACTION: u32 = 0;
+
+const RETRYABLE: u32 = 1;
 
 /// A transaction alone on its bytes. Each block keeps the whole memory as at its begin, so nothing
 /// is said here of clocks, logs or write sets.
@@ -111,7 +116,8 @@ impl Plain {
     {
         match call {
             Call::Begin { .. } => self.too_deep(),
-            _ => self.outside(),
+            Call::InTransaction => None,
+            Call::Commit | Call::Read { .. } | Call::Write { .. } => self.outside(),
         }
     }
 
@@ -176,11 +182,23 @@ impl Plain {
                 self.close();
                 Ok(Reply::Done)
             }
+            Call::InTransaction => Ok(Reply::Code(self.mode())),
             Call::Read { width, at, .. } => Ok(Reply::Bytes(value_at(&self.memory, *at, *width))),
             Call::Write { at, value, .. } => {
                 self.write(*at, &value.bytes);
                 Ok(Reply::Done)
             }
+        }
+    }
+
+    /// Whether a transaction is open, as a code.
+    fn mode(&self) -> u32
+        ensures { result ≡ mode_code self.now }
+    {
+        if self.blocks.is_empty() {
+            NO_TRANSACTION
+        } else {
+            RETRYABLE
         }
     }
 

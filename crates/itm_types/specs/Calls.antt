@@ -2,7 +2,7 @@
 use Rattle.std.specs.Prelude.{ℕ, Bool, true, false, is_some, Option, None, Some}
 use Rattle.itm_types.specs.declared.call.Props.{Props}
 use Rattle.itm_types.specs.declared.call.Call.{Call}
-use Rattle.itm_types.specs.declared.call.Call.TheVariants.{Begin, Commit, Read, Write}
+use Rattle.itm_types.specs.declared.call.Call.TheVariants.{Begin, Commit, InTransaction, Read, Write}
 use Rattle.itm_types.specs.Access.{size_of}
 
 -- a begin's properties, and its room
@@ -16,6 +16,14 @@ is_begin call = is_some (begin_args call)
 abbrev pub is_commit : Call → Bool
 is_commit Commit = true
 is_commit _ = false
+
+-- the call is of a transaction: with none open it is refused
+abbrev pub needs_transaction : Call → Bool
+needs_transaction (Begin props room) = false
+needs_transaction Commit = true
+needs_transaction InTransaction = false
+needs_transaction (Read hint width at) = true
+needs_transaction (Write hint at value) = true
 
 -- the shared bytes of a read or a write: the first one's place, and how many they are
 abbrev pub access_of : Call → Option (ℕ × ℕ)

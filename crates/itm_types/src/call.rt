@@ -20,6 +20,8 @@ pub enum Call {
     },
     /// Ends the innermost block (section 5.12).
     Commit,
+    /// Tells whether a transaction is open.
+    InTransaction,
     /// Reads shared memory (section 5.15).
     Read {
         hint: ReadHint,

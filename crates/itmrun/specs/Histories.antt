@@ -38,6 +38,7 @@ arena_line bytes = if length bytes == 0 then codes "arena -\n" else codes "arena
 unfoldable pub body_text : Call → List ℕ
 body_text (calls.Begin props room) = codes "_ITM_beginTransaction -"
 body_text calls.Commit = codes "_ITM_commitTransaction"
+body_text calls.InTransaction = codes "_ITM_inTransaction"
 body_text (calls.Read hint width at) = name_of (entry.Read hint width) ++ codes " " ++ decimal at
 body_text (calls.Write hint at value) = name_of (entry.Write hint value.width) ++ codes " " ++ decimal at ++ codes " " ++ encode_lower value.bytes.items
 

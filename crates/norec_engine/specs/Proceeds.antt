@@ -66,10 +66,10 @@ pub record AsksFor (mid : Core) (step : Step) (new : Core) : Type 0 where
   pub unfreed : mid.freed ≡ false
   pub stays : new ≡ record mid { waits = Some step; spent = mid.spent + 1; stage = new.stage; tries = new.tries; log = new.log; snapshot = new.snapshot }
 
--- a block that was begun before is told so
-abbrev pub recoded : Bool → Replied → Replied
-recoded true (Code n) = Code 9
-recoded _ r = r
+-- the begin of a block that was begun before is told so
+abbrev pub recoded : Call → Bool → Replied → Replied
+recoded (Begin props room) true (Code n) = Code 9
+recoded _ again r = r
 
 -- an accepted write puts its pieces in the write set, which keeps the order of first writing
 abbrev pub writes_after : List Row → Call → Replied → List Row
@@ -97,7 +97,7 @@ own_rows entry log = drop entry log
 -- at a reply the engine is the plain machine's, over every memory that agrees with the log; the reply too, even over each that agrees with what the call itself has logged
 pub record Replies (mid : Core) (call : Call) (r : Replied) (new : Core) : Type 0 where
   pub meets : (m : List ℕ) → IsMemory mid.words m → Agrees m new.log → stands_for new m ≡ after MAX_DEPTH (stands_for mid m) call
-  pub reply_is : (m : List ℕ) → IsMemory mid.words m → Agrees m (own_rows mid.entry new.log) → r ≡ recoded mid.again (reply MAX_DEPTH (stands_for mid m) call)
+  pub reply_is : (m : List ℕ) → IsMemory mid.words m → Agrees m (own_rows mid.entry new.log) → r ≡ recoded call mid.again (reply MAX_DEPTH (stands_for mid m) call)
   pub stays : new ≡ record mid {
     stage = new.stage;
     tries = new.tries;

@@ -9,6 +9,7 @@ use Rattle.itm_model.specs.Machine.{reply_unless, or_else, unless}
 use Rattle.norec_engine.proofs.Overlays.{Agrees-drop}
 use Rattle.norec_engine.specs.Stands.{state_over, stands_for, is_some_row}
 use Rattle.norec_engine.specs.Proceeds.{AsksFor, Commits, recoded}
+use Rattle.norec_engine.proofs.Refusals.{told_plainly}
 use Rattle.norec_engine.proofs.Blocks.{none_inside}
 use Rattle.norec_engine.proofs.Machines.{commits}
 use Rattle.itm_types.specs.declared.call.Refusal.TheVariants.{Outside}
@@ -86,7 +87,8 @@ module _ {P : Type 0} (rules : Rules P) (laws : Obeys rules) where
               let turns : turn rules.next_call rules.answered rules.calls_left (player_then rules.answered begun row.calls) (state_then MAX_DEPTH (state m) row.calls) ≡ Some call =
               ap (λ (o : Bool). if o then rules.next_call (player_then rules.answered begun row.calls) else None) open_then ∙ (ap rules.next_call (sym t.player) ∙ asks) in
               let replied : r ≡ reply MAX_DEPTH (state_then MAX_DEPTH (state m) row.calls) call =
-              g.reply_is m memory (Agrees-drop m mid.entry new.log agrees) ∙ (ap (λ (a : Bool). recoded a (reply MAX_DEPTH (stands_for mid m) call)) t.anew ∙ ap (λ (s : State). reply MAX_DEPTH s call) stands) in
+              g.reply_is m memory (Agrees-drop m mid.entry new.log agrees) ∙ (ap (λ (a : Bool). recoded call a (reply MAX_DEPTH (stands_for mid m) call)) t.anew
+              ∙ (told_plainly call (reply MAX_DEPTH (stands_for mid m) call) ∙ ap (λ (s : State). reply MAX_DEPTH s call) stands)) in
               alone_snoc rules laws MAX_DEPTH begun (state m) row.calls (record { call = call; reply = r }) (t.alone m memory old) turns replied);
           stands = λ m mem agrees.
               (let memory : IsMemory mid.words m = subst (λ (n : ℕ). IsMemory n m) words mem in
@@ -217,9 +219,9 @@ module _ {P : Type 0} (rules : Rules P) (laws : Obeys rules) where
       (g : Replies mid (Begin props room) r new) (began : row.began ≤ new.snapshot / 2) (words : List ℕ) (mem : IsMemory mid.words words) (agrees : Agrees words new.log) where
     entered : (w : Bool) → mid.again ≡ w → r ≡ begin_code w
     entered w e =
-        g.reply_is words mem (Agrees-drop words mid.entry new.log agrees) ∙ (ap (λ (o : List Props). recoded mid.again (reply MAX_DEPTH (state_over mid.writes o mid.arena words) (Begin props room))) (none_inside mid.blocks outside) ∙ (ap (λ (a : Bool). recoded a (Code 5)) e ∙ coded w))
+        g.reply_is words mem (Agrees-drop words mid.entry new.log agrees) ∙ (ap (λ (o : List Props). recoded (Begin props room) mid.again (reply MAX_DEPTH (state_over mid.writes o mid.arena words) (Begin props room))) (none_inside mid.blocks outside) ∙ (ap (λ (a : Bool). recoded (Begin props room) a (Code 5)) e ∙ coded w))
       where
-        coded : (w : Bool) → recoded w (Code 5) ≡ begin_code w
+        coded : (w : Bool) → recoded (Begin props room) w (Code 5) ≡ begin_code w
         coded true = refl
         coded false = refl
 

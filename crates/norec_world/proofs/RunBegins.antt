@@ -1,8 +1,8 @@
 -- An actor's run between two tries: calls outside a transaction, and begins.
 use Rattle.std.proofs.Common.{◌≡◌, ℕ, zero, suc, ◌+◌, ◌/◌, ◌≤◌, Bool, true, false, nat_lt, if◌then◌else◌, List, [], Option, None, Some, refl, sym, true≢false, ap, subst, ◌∙◌, arith, is_some}
-use Rattle.norec_world.proofs.Common.{Actor, Agrees, Answer, Attempt, Begin, Beginning, Between, Busy, Call, Cells, Core, IsMemory, IsRun, MAX_DEPTH, Obeys, Opens, Props, Ready, Replied, Replies, RepliesTo, Reply, Rows, Rules, active_of, begin_of, ending_of, in_transaction, is_begin, reply, with_opened, words_at}
-use Rattle.itm_types.specs.declared.call.Refusal.TheVariants.{Outside}
-use Rattle.itm_types.specs.declared.call.Reply.TheVariants.{Refused}
+use Rattle.norec_world.proofs.Common.{Actor, Agrees, Answer, Attempt, Begin, Beginning, Between, Busy, Call, Cells, Core, IsMemory, IsRun, MAX_DEPTH, Obeys, Opens, Props, Ready, Replied, Replies, RepliesTo, Reply, Rows, Rules, active_of, begin_of, ending_of, in_transaction, is_begin, reply, with_opened, words_at, after, Done}
+use Rattle.itm_model.specs.Machine.{outside}
+use Rattle.write_set.specs.declared.row.Row.{Row}
 use Rattle.norec_engine.proofs.Overlays.{Agrees-drop}
 use Rattle.norec_engine.specs.Stands.{state_over}
 use Rattle.norec_engine.specs.Proceeds.{recoded}
@@ -23,9 +23,13 @@ module _ {P : Type 0} (rules : Rules P) (laws : Obeys rules) where
   abbrev comes_to : P → List ℕ → Option (Beginning P)
   comes_to p arena = begin_of rules MAX_DEPTH p arena
 
-  -- a call outside a transaction that begins none is refused, and leads on
-  past_outside : (p : P) (arena : List ℕ) (c : Call) → rules.next_call p ≡ Some c → is_begin c ≡ false → comes_to p arena ≡ comes_to (rules.answered p (Refused Outside)) arena
-  past_outside p arena (Begin props room) e nb = absurd (cc)
+  -- the player after a call outside a transaction
+  abbrev told_outside : P → List ℕ → Call → P
+  told_outside p arena c = rules.answered p (reply MAX_DEPTH (outside [] arena) c)
+
+  -- such a call, where it begins no block, leads on
+  past_outside : (p : P) (arena : List ℕ) (c : Call) → rules.next_call p ≡ Some c → is_begin c ≡ false
+      → comes_to p arena ≡ comes_to (told_outside p arena c) (after MAX_DEPTH (outside [] arena) c).arena
   past_outside p arena c e nb = comes_past rules laws MAX_DEPTH 0 0 (rules.calls_left p) (record { player = p; arena = arena; memory = []; commits = 0 }) c e nb (omega arith)
 
   -- a begin that the player calls is where it comes to
@@ -33,21 +37,27 @@ module _ {P : Type 0} (rules : Rules P) (laws : Obeys rules) where
   begin_here p arena props room e = by_left (rules.calls_left p) refl
     where
       by_left : (n : ℕ) → rules.calls_left p ≡ n → begin_within rules MAX_DEPTH n p arena (rules.next_call p) ≡ Some (record { player = p; arena = arena; props = props })
-      by_left zero l = absurd (let k = laws.nearer p (Begin props room) (Refused Outside) e in omega arith)
+      by_left zero l = absurd (let k = laws.nearer p (Begin props room) Done e in omega arith)
       by_left (suc n) l = ap (begin_within rules MAX_DEPTH (suc n) p arena) e
 
-  -- the engine's reply to such a call
-  refused_outside : (mid new : Core) (c : Call) (r : Replied) (m : List ℕ) → Replies mid c r new → is_begin c ≡ false → in_transaction mid ≡ false → IsMemory mid.words m → Agrees m new.log → r ≡ Refused Outside
-  refused_outside mid new c r m g nb outside mem agrees =
-      g.reply_is m mem (Agrees-drop m mid.entry new.log agrees) ∙ (ap (λ (o : List Props). recoded mid.again (reply MAX_DEPTH (state_over mid.writes o mid.arena m) c)) (none_inside mid.blocks outside) ∙ (ap (recoded mid.again) (refused c nb) ∙ coded mid.again))
-    where
-      refused : (c : Call) → is_begin c ≡ false → reply MAX_DEPTH (state_over mid.writes [] mid.arena m) c ≡ Refused Outside
-      refused (Begin props room) nb = absurd (cc)
-      refused c nb = refl
+-- such a call is served with no memory, and leaves the arena
+same_outside : (writes : List Row) (arena m : List ℕ) (c : Call) → is_begin c ≡ false
+    → (reply MAX_DEPTH (state_over writes [] arena m) c ≡ reply MAX_DEPTH (outside [] arena) c) × ((after MAX_DEPTH (outside [] arena) c).arena ≡ arena)
+same_outside writes arena m (Begin props room) nb = absurd (cc)
+same_outside writes arena m c nb = (refl, refl)
 
-      coded : (w : Bool) → recoded w (Refused Outside) ≡ Refused Outside
-      coded true = refl
-      coded false = refl
+-- the engine's reply to it
+served_outside : (mid new : Core) (c : Call) (r : Replied) (m : List ℕ) → Replies mid c r new → is_begin c ≡ false → in_transaction mid ≡ false → IsMemory mid.words m → Agrees m new.log
+    → r ≡ reply MAX_DEPTH (outside [] mid.arena) c
+served_outside mid new c r m g nb shut mem agrees =
+    let over = λ (o : List Props). state_over mid.writes o mid.arena m in
+    g.reply_is m mem (Agrees-drop m mid.entry new.log agrees)
+    ∙ (ap (λ (o : List Props). recoded c mid.again (reply MAX_DEPTH (over o) c)) (none_inside mid.blocks shut)
+    ∙ (plainly c mid.again (reply MAX_DEPTH (over []) c) nb ∙ (same_outside mid.writes mid.arena m c nb).0))
+  where
+    plainly : (c : Call) (again : Bool) (r : Replied) → is_begin c ≡ false → recoded c again r ≡ r
+    plainly (Begin props room) again r nb = absurd (cc)
+    plainly c again r nb = refl
 
 module _ {P : Type 0} (rules : Rules P) (laws : Obeys rules) (first : Between P) (base : List ℕ) (cells cells' : Cells) (r r1 : Rows) (mid : Core) (a last : Actor P) (call : Call)
     (seen : HasSeen base cells cells' r mid a.engine) (run : IsRun rules first base (cells.clock / 2) r (record a { engine = mid })) where
@@ -75,8 +85,10 @@ module _ {P : Type 0} (rules : Rules P) (laws : Obeys rules) (first : Between P)
     outside_runs other closed ended =
         let t = before m.taken.was_is m.answered.status in
         let k = t.2 in
-        let refused = refused_outside rules laws mid a.engine call reply cells'.words g other m.taken.was_is memory (empty_log closed) in
+        let served = served_outside mid a.engine call reply cells'.words g other m.taken.was_is memory (empty_log closed) in
         let arena : last.engine.arena ≡ mid.arena = ap (λ (c : Core). c.arena) (m.settled.engine ∙ g.stays) in
+        let player : told_outside rules laws a.player t.0.arena call ≡ last.player =
+        ap (λ (bytes : List ℕ). told_outside rules laws a.player bytes call) (sym k.arena) ∙ (ap (rules.answered a.player) (sym served) ∙ sym m.told.1) in
         record {
           run = run_same rules first base (cells.clock / 2) r.ended r1.ended a.thread last.thread ended m.settled.thread run.run;
           inside = λ o. absurd (true≢false (sym o ∙ closed));
@@ -84,7 +96,7 @@ module _ {P : Type 0} (rules : Rules P) (laws : Obeys rules) (first : Between P)
             t.0,
             (λ i. now_at rules first base (ended i) (m.settled.thread i)) ∙ t.1,
             record {
-              leads = k.leads ∙ (past_outside rules laws a.player t.0.arena call m.answered.in_call.asks other ∙ (ap (λ (x : Replied). comes_to rules laws (rules.answered a.player x) t.0.arena) (sym refused) ∙ ap (λ (q : P). comes_to rules laws q t.0.arena) (sym m.told.1)));
+              leads = k.leads ∙ (past_outside rules laws a.player t.0.arena call m.answered.in_call.asks other ∙ (λ i. comes_to rules laws (player i) ((same_outside [] t.0.arena [] call other).1 i)));
               arena = arena ∙ k.arena;
               again = m.told.2 ∙ (ap (λ (o : Bool). again_after o a.pending a.again) closed ∙ k.again);
               tries = (let nth = m.told.3 in let fewer = k.tries in omega arith);

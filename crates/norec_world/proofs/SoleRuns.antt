@@ -54,11 +54,11 @@ module _ {P : Type 0} (rules : Rules P) (deepest : ℕ) where
     unwritten_effect : (s : State) (c : Call) → is_open s ≡ true → (s.wrote ≡ false → s.memory ≡ m) → (effect s c).wrote ≡ false → (effect s c).memory ≡ m
     unwritten_effect s (Begin props room) o h = unwritten_begun (entered s props) (opened s.memory s.arena props) (is_open s) o h
     unwritten_effect s Commit o h = unwritten_closed s s.blocks h
-    unwritten_effect s (Read hint width at) o h = h
     unwritten_effect s (Write hint at value) o h = λ w.
         (let none : nat_lt 0 (length value.bytes.items) ≡ false = (or_parts s.wrote (nat_lt 0 (length value.bytes.items)) w).1 in
         let some : nat_lt 0 (length value.bytes.items) ≡ true = lt-ltb 0 (length value.bytes.items) (let k = some_bytes value.width in let l = value.sized in omega arith) in
         absurd (let z = sym some ∙ none in cc))
+    unwritten_effect s c o h = h
 
     unwritten_call : (s : State) (c : Call) (o : Option Refusal) → is_open s ≡ true → (s.wrote ≡ false → s.memory ≡ m) → (after_unless o s (effect s c)).wrote ≡ false → (after_unless o s (effect s c)).memory ≡ m
     unwritten_call s c None o h = unwritten_effect s c o h

@@ -68,6 +68,7 @@ fn put_body<W: Write>(stream: &mut Stream<'_, W>, call: &Call)
     match call {
         Call::Begin { .. } => stream.put(&[Piece::Text(b"_ITM_beginTransaction -")]),
         Call::Commit => stream.put(&[Piece::Text(b"_ITM_commitTransaction")]),
+        Call::InTransaction => stream.put(&[Piece::Text(b"_ITM_inTransaction")]),
         Call::Read { hint, width, at } => stream.put(&[
             Piece::Text(name_of(Function::Read(*hint, *width)).as_bytes()),
             Piece::Text(b" "),
