@@ -1,13 +1,13 @@
 -- The open attempts: one changed, one taken out, and one more.
 use Rattle.std.proofs.Common.{◌≡◌, ℕ, zero, suc, ◌+◌, ◌-◌, ◌<◌, ◌≤◌, ◌==◌, Bool, true, false, not, cond, nat_lt, List, [], ◌∷◌, ◌++◌, length, take, drop, slice_set, slice_index_or, find, position, Option, None, Some, inl, inr, refl, sym, ap, subst, ◌∙◌, arith, eq-eqb, append_assoc, length-take-le, take_at, drop_at}
-use Rattle.std.specs.List.{insert, remove, position_or_len}
+use Rattle.std.specs.List.{position_or_len}
 use Rattle.std.specs.Option.{unwrap_or}
-use Rattle.std.proofs.lemmas.Bool.{cases_Bool, cases_lt, ltb-true, ltb-false, eqb-true, eqb-false, ne_eqb, cond_below, cond_above}
-use Rattle.std.proofs.lemmas.List.{get_or-drop, take-set-le, drop-set-add, take_rest, length_push}
+use Rattle.std.proofs.lemmas.Bool.{ltb-true, ltb-false, eqb-true, cond_below, cond_above}
+use Rattle.std.proofs.lemmas.List.{take-set-le, drop-set-add, take_rest, length_push}
 use Rattle.std.proofs.lemmas.List.Sums.{prefix_len-le-length}
 use Rattle.std.proofs.lemmas.List.Quantifiers.{position-Some}
-use Rattle.norec_world.proofs.Common.{AreFrom, Attempt, Rows, active_of, with_changed, with_opened}
-use Rattle.norec_world.specs.Rows.{is_of, changed, without, with_one, with_ended}
+use Rattle.norec_world.proofs.Common.{AreFrom, Attempt, Rows, active_of, cases_Bool, cases_lt, changed, eqb-false, get_or-drop, insert, is_of, ne_eqb, remove, with_changed, with_ended, with_opened, without}
+use Rattle.norec_world.specs.Rows.{with_one}
 
 -- the first that passes is the one at this place
 abbrev pub IsFirstAt : {A : Type 0} → (A → Bool) → List A → ℕ → Type 0

@@ -1,11 +1,9 @@
 -- The commits stay in order over an event.
 use Rattle.std.proofs.Common.{◌≡◌, inl, inr, ℕ, ◌+◌, ◌*◌, ◌/◌, ◌%◌, ◌≤◌, ◌==◌, ◌&&◌, Bool, true, false, nat_lt, List, [], ◌∷◌, ◌++◌, Some, slice_get, slice_set, refl, sym, ap, subst, ◌∙◌, arith, eq-eqb, lt-ltb}
-use Rattle.std.proofs.lemmas.Bool.{both_ways, cases_order, false_from_ne_true, le-ltb, ne_eqb}
-use Rattle.norec_world.proofs.Common.{Actor, AreActors, AreCounted, Attempt, Cells, CommitsInOrder, EndsAt, IsEvent, Outcome, Prior, Rows, Rules, Tries, World, begins, between, over, prior_of, runs, turned_away}
+use Rattle.std.proofs.lemmas.Bool.{cases_order}
+use Rattle.norec_world.proofs.Common.{Actor, AreActors, AreCounted, Attempt, Cells, CommitsInOrder, EndsAt, IsEvent, IsFirst, Outcome, Prior, Rows, Rules, Tries, World, begins, between, both_ways, count_at, count_committed, false_from_ne_true, is_at, is_committed, le-ltb, ne_eqb, one_where, over, prior_of, runs, turned_away}
 use Rattle.norec_world.specs.declared.attempt.Outcome.TheVariants as outcomes
-use Rattle.norec_world.specs.Attempts.{is_committed, is_at}
-use Rattle.norec_world.specs.Starts.{IsFirst}
-use Rattle.norec_world.specs.Commits.{one_where, count_at, count_committed, HasLimits}
+use Rattle.norec_world.specs.Commits.{HasLimits}
 use Rattle.norec_world.proofs.SoundOthers.{held_after, held_apart, odd_or_even, one_after, set_place}
 
 -- ## Counts

@@ -1,20 +1,13 @@
 -- The open attempt, as its calls go on.
 use Rattle.std.proofs.Common.{◌≡◌, ◌≢◌, ℕ, zero, suc, ◌/◌, ◌<◌, ◌≤◌, Bool, true, false, if◌then◌else◌, List, [], ◌∷◌, ◌++◌, map, None, Some, refl, sym, ap, subst, ◌∙◌, arith, length, append-nil}
-use Rattle.std.proofs.lemmas.List.{map-append}
-use Rattle.norec_world.proofs.Common.{Agrees, Attempt, Begin, Beginning, Between, Call, Commit, Core, Done, Entry, IsAlone, IsMemory, IsTryAt, Load, MAX_DEPTH, Obeys, Outcome, Props, Replied, Replies, Rules, State, Step, Store, after, alone, answers, answers_within, begin_code, begins_at, bytes_at, bytes_of, handed_to, in_transaction, is_open, opened, pair_of, player_then, reply, state_then, turn, word_loaded, words_at}
+use Rattle.norec_world.proofs.Common.{Agrees, Agrees-drop, AsksFor, Attempt, Begin, Beginning, Between, Call, Code, Commit, Core, Done, EndsAs, Entry, IsAlone, IsInTry, IsMemory, IsTryAt, LacksCommit, Load, MAX_DEPTH, Obeys, Outcome, Outside, Props, Replied, Replies, Rules, State, Step, Store, after, alone, answers, answers_within, begin_code, begins_at, bytes_at, bytes_of, handed_to, in_transaction, is_open, map-append, none_inside, opened, pair_of, player_then, recoded, reply, stands_for, state_over, state_then, turn, word_loaded, words_at}
 use Rattle.write_set.specs.declared.row.Row.{Row}
 use Rattle.write_set.specs.Rows.{overlay}
-use Rattle.itm_types.specs.declared.call.Reply.TheVariants.{Code}
 use Rattle.itm_model.specs.Machine.{reply_unless, or_else, unless}
-use Rattle.norec_engine.proofs.Overlays.{Agrees-drop}
-use Rattle.norec_engine.specs.Stands.{state_over, stands_for, is_some_row}
-use Rattle.norec_engine.specs.Proceeds.{AsksFor, Commits, recoded}
-use Rattle.norec_engine.proofs.Blocks.{none_inside}
+use Rattle.norec_engine.specs.Stands.{is_some_row}
+use Rattle.norec_engine.specs.Proceeds.{Commits}
 use Rattle.norec_engine.proofs.Machines.{commits}
-use Rattle.itm_types.specs.declared.call.Refusal.TheVariants.{Outside}
 use Rattle.norec_world.specs.declared.attempt.Outcome.TheVariants as outcomes
-use Rattle.norec_world.specs.Opacity.{EndsAs, LacksCommit}
-use Rattle.norec_world.specs.Runs.{IsInTry}
 use Rattle.norec_world.proofs.Solos.{begins_alone, alone_snoc, player_snoc, state_snoc, stands_open, gets_none}
 
 module _ {P : Type 0} (rules : Rules P) (laws : Obeys rules) where

@@ -1,9 +1,7 @@
 -- Less and less is left to do.
 use Rattle.std.proofs.Common.{inl, inr, ◌≡◌, ℕ, ◌+◌, ◌<◌, ◌≤◌, Bool, true, false, None, refl, sym, ap, subst, ◌∙◌, arith, if◌then◌else◌}
-use Rattle.norec_world.proofs.Common.{Actor, IsNoMore, Ready, Rules, Status, ending_of, in_transaction, is_ready, is_waiting, rank, whole}
+use Rattle.norec_world.proofs.Common.{Actor, Falls, GoesOn, HasLess, IsNoMore, Ready, Rules, Status, cases_Bool, ending_of, in_transaction, is_ready, is_waiting, rank, run_left, steps_left, whole}
 use Rattle.norec_world.proofs.Worlds.{waiting_going}
-use Rattle.std.proofs.lemmas.Bool.{cases_Bool}
-use Rattle.norec_world.specs.Sound.{GoesOn, Falls, HasLess, steps_left, run_left}
 
 module _ {P : Type 0} (rules : Rules P) where
   run_left_is : (k : ℕ) (a : Actor P) → is_waiting a.status ≡ true → run_left rules k a ≡ rank rules k (in_transaction a.engine) a + 1

@@ -1,8 +1,7 @@
 -- A step and local work, as what an event is made of.
 use Rattle.std.proofs.Common.{◌≡◌, ℕ, zero, suc, ◌/◌, None, sym, subst}
-use Rattle.norec_world.proofs.Common.{Actor, Acts, Call, Cells, Core, IsTold, Next, Ready, Rows, Rules, Status, StatusIs, Step, Tells, Waits, found, in_transaction}
-use Rattle.norec_engine.specs.Moves.{IsResumed}
-use Rattle.norec_world.specs.LocalWork.{SameActor, TakesIn, ActsOn, Works}
+use Rattle.norec_world.proofs.Common.{Actor, Acts, Call, Cells, Core, IsResumed, IsTold, Next, Ready, Rows, Rules, Status, StatusIs, Step, Tells, Waits, Works, found, in_transaction}
+use Rattle.norec_world.specs.LocalWork.{SameActor, TakesIn, ActsOn}
 
 -- the value came to the engine, and what came of it was taken up
 module _ {P : Type 0} (rules : Rules P) (cells : Cells) (r : Rows) (old : Actor P) (call : Call) (step : Step) (waiting : old.status ≡ Waits call step)

@@ -1,12 +1,6 @@
 -- One actor's work leaves the others' attempts.
 use Rattle.std.proofs.Common.{inl, inr, ◌≡◌, ℕ, ◌-◌, Bool, true, false, ◌+◌, ◌≤◌, subst, arith, List, [], ◌∷◌, ◌++◌, None, Some, refl, sym, ap, ◌∙◌, append_assoc, nat_lt}
-use Rattle.std.proofs.lemmas.Bool.{cases_Bool, cond_both}
-use Rattle.std.proofs.lemmas.List.{append-nil}
-use Rattle.norec_world.proofs.Common.{Actor, AreFrom, Attempt, Ended, GaveUp, HasRow, KeepsOthers, Outcome, Rows, active_of, with_changed, with_opened}
-use Rattle.norec_world.specs.Rows.{is_of, with_ended}
-use Rattle.norec_world.specs.Records.{StopsAt, CountsTry}
-use Rattle.norec_world.specs.Sound.{retried}
-use Rattle.norec_world.specs.OthersAttempts.{AllOf, ChangesOwn, count_pending}
+use Rattle.norec_world.proofs.Common.{Actor, AllOf, AreFrom, Attempt, ChangesOwn, CountsTry, Ended, GaveUp, HasRow, KeepsOthers, Outcome, Rows, StopsAt, active_of, append-nil, cases_Bool, cond_both, count_pending, is_of, retried, with_changed, with_ended, with_opened}
 use Rattle.norec_world.proofs.ActiveRows.{row_is_of, changed_elsewhere, without_elsewhere, opened_elsewhere, from_changed, from_without, from_with_one}
 
 all_both : (thread : ℕ) (xs ys : List Attempt) → AllOf thread xs → AllOf thread ys → AllOf thread (xs ++ ys)

@@ -1,15 +1,7 @@
 -- An actor's run between two tries: calls outside a transaction, and begins.
 use Rattle.std.proofs.Common.{◌≡◌, ℕ, zero, suc, ◌+◌, ◌/◌, ◌≤◌, Bool, true, false, nat_lt, if◌then◌else◌, List, [], Option, None, Some, refl, sym, true≢false, ap, subst, ◌∙◌, arith, is_some}
-use Rattle.norec_world.proofs.Common.{Actor, Agrees, Answer, Attempt, Begin, Beginning, Between, Busy, Call, Cells, Core, IsMemory, IsRun, MAX_DEPTH, Obeys, Opens, Props, Ready, Replied, Replies, RepliesTo, Reply, Rows, Rules, active_of, begin_of, ending_of, in_transaction, is_begin, reply, with_opened, words_at}
-use Rattle.itm_types.specs.declared.call.Refusal.TheVariants.{Outside}
-use Rattle.itm_types.specs.declared.call.Reply.TheVariants.{Refused}
-use Rattle.norec_engine.proofs.Overlays.{Agrees-drop}
-use Rattle.norec_engine.specs.Stands.{state_over}
-use Rattle.norec_engine.specs.Proceeds.{recoded}
-use Rattle.norec_engine.proofs.Blocks.{none_inside}
-use Rattle.norec_world.specs.Opacity.{begin_within}
+use Rattle.norec_world.proofs.Common.{Actor, Agrees, Agrees-drop, Answer, Attempt, Begin, Beginning, Between, Busy, Call, Cells, Core, IsBeforeTry, IsInTry, IsMemory, IsRun, MAX_DEPTH, Obeys, Opens, Outside, Props, Ready, Refused, Replied, Replies, RepliesTo, Reply, Rows, Rules, active_of, begin_of, begin_within, ending_of, in_transaction, is_begin, none_inside, recoded, reply, state_over, with_opened, words_at}
 use Rattle.norec_world.specs.Records.{again_after}
-use Rattle.norec_world.specs.Runs.{IsInTry, IsBeforeTry}
 use Rattle.norec_world.proofs.ActiveRows.{opened_here}
 use Rattle.norec_world.proofs.RunAnswers.{now_at, run_same}
 use Rattle.norec_world.proofs.Solos.{comes_past, same_some}

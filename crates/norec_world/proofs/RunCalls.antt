@@ -1,10 +1,9 @@
 -- An actor's run over a call, up to its first step, and over a step.
 use Rattle.std.proofs.Common.{◌≡◌, ℕ, ◌/◌, ◌≤◌, ◌&&◌, Bool, true, false, not, List, [], ◌∷◌, ◌++◌, Some, refl, sym, true≢false, ap, subst, ◌∙◌, arith, None}
 use Rattle.std.proofs.lemmas.Bool.{and_right, not_from_true}
-use Rattle.norec_world.proofs.Common.{Actor, Answer, AreCounted, AreLaid, Attempt, Begin, Between, Call, Cells, Commit, Core, End, Ended, HasRow, IsDone, IsRun, IsRunOf, IsSound, IsTold, MAX_DEPTH, Next, Obeys, Ready, Reply, Rows, Rules, Sees, Status, Step, Tells, active_of, asked_pending, begin_of, begins_again, begins_at, bytes_at, ending_of, found, handed_is, handed_to, in_transaction, is_inside, of_thread, run_after, words_at}
+use Rattle.norec_world.proofs.Common.{Actor, Answer, AreCounted, AreLaid, Attempt, Begin, Between, Call, Cells, Commit, Core, End, Ended, HasRow, IsBeforeTry, IsDone, IsRun, IsRunOf, IsSound, IsTold, MAX_DEPTH, Next, Obeys, Ready, Reply, Rows, Rules, RunsFrom, Sees, Starves, Status, Step, Tells, active_of, asked_pending, begin_of, begins_again, begins_at, bytes_at, ending_of, found, handed_is, handed_to, in_transaction, is_inside, of_thread, run_after, words_at}
 use Rattle.norec_world.specs.declared.attempt.Outcome.TheVariants as outcomes
 use Rattle.norec_world.specs.declared.attempt.End.TheVariants as ends
-use Rattle.norec_world.specs.Runs.{IsBeforeTry, RunsFrom}
 use Rattle.norec_world.proofs.ActiveRows.{changed_here}
 use Rattle.norec_world.proofs.SoundSteps.{IsCalling, active_same, call_taken, ended_same, mid, rests, IsStepping, mid_step, same, step_taken, waits}
 use Rattle.norec_world.proofs.Memories.{bytes_still}
@@ -12,7 +11,6 @@ use Rattle.norec_world.proofs.Laid.{laid_on, laid_same}
 use Rattle.norec_world.proofs.RunTaken.{runs_recorded}
 use Rattle.norec_world.proofs.Seen.{HasSeen, call_seen, step_seen}
 use Rattle.norec_world.proofs.Taken.{HasAnswered, recorded, now}
-use Rattle.norec_world.specs.LocalWork.{Starves}
 use Rattle.norec_world.proofs.RunAnswers.{RunOf, before_on, now_at, run_same, stop_run}
 use Rattle.norec_world.proofs.RunBegins.{begin_here}
 use Rattle.norec_world.proofs.InTries.{try_handed, try_told}

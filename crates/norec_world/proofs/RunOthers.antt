@@ -1,21 +1,10 @@
 -- The actors' runs: one's event leaves the others', and together they are the headline.
 use Rattle.std.proofs.Common.{◌≡◌, ◌≢◌, inl, inr, ℕ, ◌+◌, ◌/◌, ◌%◌, ◌<◌, ◌≤◌, ◌==◌, Bool, true, false, List, [], ◌∷◌, ◌++◌, length, length-set, replicate, None, Some, slice_get, slice_set, refl, sym, ap, subst, ◌∙◌, arith, eqb-true, nat_lt}
-use Rattle.std.proofs.lemmas.Bool.{cases_Bool, false_from_ne_true, le-ltb, ne_eqb}
-use Rattle.std.proofs.lemmas.List.{append-nil}
-use Rattle.norec_world.proofs.Common.{Actor, Agrees, AllFit, AreActors, AreFrom, AreLaid, AreOpaque, Attempt, Between, Cells, ClocksOn, Core, HasRead, HasRow, IsMemory, IsRunOf, IsTied, IsTryAt, IsWorld, KeepsOthers, MAX_DEPTH, NoMemory, Obeys, Ready, Rows, Rules, World, active_of, begins_at, bytes_at, bytes_of, ending_of, in_transaction, of_thread, run_after, words_at, words_of}
-use Rattle.norec_engine.specs.Core.{opening}
-use Rattle.norec_engine.specs.Proceeds.{backed, Got}
-use Rattle.norec_engine.specs.Rows.{write_at}
+use Rattle.norec_world.proofs.Common.{Actor, Agrees, AllFit, AllOf, AreActors, AreFrom, AreLaid, AreOfActors, AreOpaque, AreOpen, AreRunning, Attempt, Between, Cells, ChangesOwn, ClocksOn, Core, Got, HasRead, HasRow, IsMemory, IsRunOf, IsTied, IsTryAt, IsWorld, KeepsOthers, MAX_DEPTH, NoMemory, Obeys, Ready, Rows, Rules, RunsFrom, World, active_of, append-nil, attempts_of, backed, begins_at, bytes_at, bytes_of, cases_Bool, count_at, count_committed, ending_of, false_from_ne_true, first_of, in_transaction, le-ltb, ne_eqb, of_thread, one_where, opening, run_after, words_at, words_of, write_at}
 use Rattle.norec_world.specs.declared.attempt.Outcome.TheVariants as outcomes
-use Rattle.norec_world.specs.Commits.{one_where, count_at, count_committed}
 use Rattle.norec_world.proofs.WordLists.{words_of-bytes_of}
-use Rattle.norec_world.specs.OthersAttempts.{AllOf, ChangesOwn}
-use Rattle.norec_world.specs.Rows.{AreOfActors, AreOpen}
 use Rattle.norec_world.proofs.TiedEngines.{held_even}
-use Rattle.norec_world.specs.World.{attempts_of}
-use Rattle.norec_world.specs.Runs.{RunsFrom, StillRuns}
-use Rattle.norec_world.specs.Opaque.{first_of}
-use Rattle.norec_world.specs.Invariant.{AreRunning}
+use Rattle.norec_world.specs.Runs.{StillRuns}
 use Rattle.norec_world.proofs.SoundOthers.{first_found, set_place, within_of, there_is, are_open}
 use Rattle.norec_world.proofs.Solos.{stands_open}
 use Rattle.norec_world.proofs.InTries.{try_stops}

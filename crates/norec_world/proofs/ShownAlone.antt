@@ -1,18 +1,11 @@
 -- What a world with one actor shows is what its player does alone.
 use Rattle.std.proofs.Common.{◌≡◌, ◌⊎◌, inl, inr, ℕ, zero, suc, ◌/◌, ◌%◌, ◌≤◌, Bool, true, false, nat_le, if◌then◌else◌, List, [], ◌∷◌, ◌++◌, length, map, replicate, Option, None, Some, slice_get, refl, sym, ap, subst, ◌∙◌, arith, append-nil, le-leb}
-use Rattle.std.proofs.lemmas.List.{map-append}
 use Rattle.std.proofs.lemmas.Bool.{and_from}
-use Rattle.norec_world.proofs.Common.{Actor, AreOpaque, Attempt, Between, Call, Commit, Done, End, Entry, Finished, GaveUp, HasRow, IsAlone, IsRunOf, IsWorld, MAX_DEPTH, NoMemory, Obeys, Outcome, Rules, State, World, active_of, after, alone, answers, answers_within, begin_code, begin_of, bytes_at, committed_at, current_of, ending_at, ending_of, in_transaction, is_open, of_thread, opened, option_and_then, pair_of, player_then, run_after, state_then}
+use Rattle.norec_world.proofs.Common.{Actor, AreOfActors, AreOpaque, AreUnfinished, Attempt, Between, Call, Commit, Done, End, EndsAs, EndsWith, Entry, Finished, GaveUp, HasRow, IsAlone, IsBeforeTry, IsFirstTry, IsInTry, IsOnWay, IsRunOf, IsSole, IsWorld, MAX_DEPTH, NoMemory, Obeys, Outcome, Rules, ShowsAlone, StandsSole, State, World, active_of, after, alone, answers, answers_within, attempts_of, begin_code, begin_of, begin_within, bytes_at, committed_at, current_of, ending_at, ending_of, first_of, in_transaction, is_open, map-append, of_thread, opened, option_and_then, pair_of, player_then, row_of, run_after, solo_within, state_then, stopped, with_all, with_first}
 use Rattle.itm_types.specs.declared.call.Reply.{Reply}
 use Rattle.norec_world.specs.declared.attempt.Outcome.TheVariants as outcomes
-use Rattle.norec_world.specs.Opacity.{EndsAs, begin_within}
-use Rattle.norec_world.specs.Opaque.{first_of}
-use Rattle.norec_world.specs.Rows.{AreOfActors, AreUnfinished}
-use Rattle.norec_world.specs.Runs.{IsBeforeTry, IsInTry}
-use Rattle.norec_world.specs.Solo.{row_of, with_all, with_first, stopped, solo_within}
 use Rattle.norec_world.specs.SoFar.{IsBegun, IsSoFar, IsAll}
-use Rattle.norec_world.specs.Sole.{IsFirstTry, EndsWith, IsOnWay, StandsSole, IsSole}
-use Rattle.norec_world.specs.World.{DoneBy, ShowsAlone, attempts_of, memory_of}
+use Rattle.norec_world.specs.World.{DoneBy, memory_of}
 use Rattle.norec_world.proofs.Solos.{begins_alone, state_snoc, same_some, gets_none, full_block, open_block, no_block}
 use Rattle.norec_world.proofs.Memories.{bytes_still}
 use Rattle.norec_world.proofs.RunLists.{run_still}

@@ -1,18 +1,10 @@
 -- An actor that has its world to itself goes on so over an event.
 use Rattle.std.proofs.Common.{◌≡◌, inl, inr, ℕ, zero, suc, ◌+◌, ◌/◌, ◌%◌, ◌≤◌, Bool, true, false, nat_lt, if◌then◌else◌, List, [], ◌∷◌, ◌++◌, Option, None, Some, slice_get, slice_set, length, length-set, refl, sym, ap, subst, ◌∙◌, arith, eq-eqb}
-use Rattle.std.proofs.lemmas.Bool.{false_from_ne_true}
-use Rattle.norec_world.proofs.Common.{Actor, AreActors, Attempt, Beginning, Between, Cells, CommitsInOrder, End, EndsAt, Finished, GaveUp, HasRow, IsBetween, IsEvent, IsRunOf, IsSound, IsTryAt, IsWorld, MAX_DEPTH, NoMemory, Outcome, Ready, Rows, Rules, Status, StatusIs, Tries, World, active_of, begin_of, begins, between, bytes_at, current_of, ending_of, is_ready, of_thread, over, prior_of, runs, slice_get-set_same, turned_away}
+use Rattle.norec_world.proofs.Common.{Actor, AreActors, AreOfActors, AreRunning, AreSole, Attempt, Beginning, Between, Cells, CommitsInOrder, Continues, End, EndsAt, EndsWith, Finished, GaveUp, GoesOnAfter, HasRow, IsBetween, IsEvent, IsFirstTry, IsOnWay, IsRunOf, IsSole, IsSound, IsTryAt, IsWorld, MAX_DEPTH, NoMemory, Outcome, Ready, Rows, Rules, StandsSole, Status, StatusIs, Tries, World, active_of, after_try, begin_of, begins, between, bytes_at, current_of, ending_of, false_from_ne_true, first_of, is_committed, is_done, is_ready, of_thread, one_if, over, prior_of, runs, slice_get-set_same, turned_away}
 use Rattle.norec_world.specs.declared.attempt.Outcome.TheVariants as outcomes
-use Rattle.norec_world.specs.Invariant.{AreRunning}
-use Rattle.norec_world.specs.Opaque.{first_of}
 use Rattle.norec_world.proofs.SoundOthers.{within_of, there_is}
 use Rattle.norec_world.proofs.TryEnds.{none_again}
-use Rattle.norec_world.specs.Attempts.{is_committed}
-use Rattle.norec_world.specs.Opacity.{after_try}
-use Rattle.norec_world.specs.Rows.{AreOfActors}
-use Rattle.norec_world.specs.Solo.{one_if}
-use Rattle.norec_world.specs.Sole.{IsFirstTry, AreSole, EndsWith, IsOnWay, StandsSole, IsSole}
-use Rattle.norec_world.specs.Tries.{Continues, GoesOnAfter, EndsIt, is_done}
+use Rattle.norec_world.specs.Tries.{EndsIt}
 
 -- ## Lists of attempts
 

@@ -2,14 +2,12 @@
 -- Its calls alone come first in what it gets.
 use Rattle.std.proofs.Common.{◌≡◌, ℕ, zero, suc, ◌+◌, ◌<◌, ◌≤◌, Bool, true, false, ◌&&◌, nat_le, is_none, List, [], ◌∷◌, ◌++◌, map, Option, None, Some, refl, sym, ap, subst, ◌∙◌, arith, cond}
 use Rattle.std.proofs.lemmas.Bool.{cond-false}
-use Rattle.norec_world.proofs.Common.{Begin, Beginning, Call, Entry, Finished, GaveUp, Obeys, Props, Rules, State, after, answers, answers_within, begin_code, begin_of, cond-true, is_begin, is_open, opened, pair_of, player_then, reply, state_then, turn, Core, IsAlone, in_transaction}
+use Rattle.norec_world.proofs.Common.{Begin, Beginning, Call, Core, Entry, Finished, GaveUp, IsAlone, Obeys, Progress, Props, Rules, Solo, State, Unfinished, after, answers, answers_within, begin_code, begin_of, begin_within, cond-true, ended_as, in_transaction, is_begin, is_open, one_if, opened, pair_of, player_then, refusal, reply, row_of, solo_within, stands_for, state_then, stopped, turn, with_first}
 use Rattle.itm_types.specs.declared.call.Reply.{Reply}
-use Rattle.itm_model.specs.Machine.{outside, refusal}
+use Rattle.itm_model.specs.Machine.{outside}
 use Rattle.itm_model.specs.Runs.{state_after}
-use Rattle.norec_world.specs.Opacity.{begin_within}
-use Rattle.norec_world.specs.declared.attempt.Outcome.TheVariants.{Full, Unfinished}
-use Rattle.norec_world.specs.Solo.{Progress, row_of, Solo, entry_of, one_if, ended_as, stopped, front, with_first, player_after, passed, block_then, begun_then, solo_within}
-use Rattle.norec_engine.specs.Stands.{stands_for}
+use Rattle.norec_world.specs.declared.attempt.Outcome.TheVariants.{Full}
+use Rattle.norec_world.specs.Solo.{entry_of, front, player_after, passed, block_then, begun_then}
 use Rattle.norec_engine.proofs.Machines.{open_is}
 
 -- a call that is made in an open block is the player's next

@@ -1,12 +1,8 @@
 -- An event of one actor leaves the others sound.
 use Rattle.std.proofs.Common.{◌≡◌, ◌≢◌, ◌⊎◌, inl, inr, ℕ, zero, suc, ◌+◌, ◌%◌, ◌<◌, ◌≤◌, Bool, true, false, List, [], ◌∷◌, ◌++◌, length, length-append, Option, None, Some, slice_get, slice_set, refl, sym, ap, subst, ◌∙◌, arith, eq-eqb, eqb-true, ◌==◌, length-set, if◌then◌else◌}
-use Rattle.std.proofs.lemmas.Bool.{both_ways, cases_Bool, cases_eq, cases_lt, eqb-false, false_from_ne_true, ne_eqb}
-use Rattle.norec_world.proofs.Common.{Actor, AllFit, AreActors, AreFrom, Attempt, Cells, ClocksOn, HasRow, IsSound, IsTied, KeepsOthers, Rows, Rules, Status, StatusIs, Waits, active_of, in_transaction, is_ready, slice_get-set_same}
+use Rattle.norec_world.proofs.Common.{Actor, AllFit, AreActors, AreFrom, AreOpen, AreUnfinished, Attempt, Cells, ChangesOwn, ClocksOn, HasRow, IsSound, IsTied, KeepsOthers, MAX_ACTORS, Rows, Rules, Status, StatusIs, Unfinished, Waits, active_of, both_ways, cases_Bool, cases_eq, cases_lt, count_pending, eqb-false, false_from_ne_true, in_transaction, is_ready, ne_eqb, slice_get-set_same}
 use Rattle.itm_types.proofs.Words.{slice_get-set_other}
-use Rattle.itm_types.specs.declared.limits.TheConstants.{MAX_ACTORS}
-use Rattle.norec_world.specs.declared.attempt.Outcome.TheVariants.{Unfinished}
-use Rattle.norec_world.specs.Rows.{AreUnfinished, AreOpen}
-use Rattle.norec_world.specs.OthersAttempts.{ChangesOwn, count_pending, pending_in}
+use Rattle.norec_world.specs.OthersAttempts.{pending_in}
 use Rattle.norec_world.proofs.TiedEngines.{held_even}
 use Rattle.norec_world.specs.Actors.{IsActor}
 

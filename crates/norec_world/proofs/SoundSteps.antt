@@ -1,12 +1,10 @@
 -- A step was done, or a call of the player came: its value or the call went to the engine, and what the engine gave may be recorded.
 use Rattle.std.proofs.Common.{◌≡◌, inl, ℕ, zero, suc, ◌+◌, ◌*◌, ◌/◌, ◌%◌, ◌<◌, ◌≤◌, ◌==◌, Bool, true, false, if◌then◌else◌, Option, None, Some, refl, sym, true≢false, ap, subst, ◌∙◌, arith, eqb-true, inr, ◌-◌}
-use Rattle.norec_world.proofs.Common.{Actor, AllFit, Answers, Asks, Call, Cas, Cells, ClocksOn, Core, Ended, IsDone, IsLawful, IsNested, IsNoMore, IsReady, IsSound, IsTied, Load, Next, Proceeds, Ready, RestsAs, Rows, Rules, Status, StatusIs, Step, Store, Waits, active_of, begins_again, came, cells_after, ending_of, found, handed_is, handed_to, in_transaction, is_inside, is_ready, is_waiting, rank, whole}
+use Rattle.norec_world.proofs.Common.{Actor, AllFit, Answers, Asks, AsksFor, Call, Cas, Cells, ClocksOn, Core, Ended, Falls, GoesOn, HoldsOn, IsDone, IsLawful, IsNested, IsNoMore, IsReady, IsResumed, IsSettledBy, IsSound, IsTied, IsWithin, Load, Next, Proceeds, Ready, RestsAs, Rows, Rules, Status, StatusIs, Step, Store, Waits, active_of, begins_again, came, cells_after, ending_of, found, handed_is, handed_to, in_transaction, is_inside, is_ready, is_waiting, rank, steps_left, whole}
 use Rattle.norec_engine.specs.Keeps.{Keeps}
-use Rattle.norec_engine.specs.Moves.{IsResumed}
-use Rattle.norec_engine.specs.Proceeds.{AsksFor, IsWithin, most}
+use Rattle.norec_engine.specs.Proceeds.{most}
 use Rattle.norec_engine.proofs.KeptFields.{most_same}
-use Rattle.norec_world.specs.ClockHolder.{HoldsOn}
-use Rattle.norec_world.specs.Sound.{GoesOn, IsWaiting, steps_left, Falls, IsAsked, IsSettledBy}
+use Rattle.norec_world.specs.Sound.{IsWaiting, IsAsked}
 use Rattle.norec_world.proofs.ClockHolders.{clocks_of, clocks_still, clocks_twice, word_freed}
 use Rattle.norec_world.proofs.Taken.{ClockMoves, HasTaken, in_call_of, ready_of}
 use Rattle.norec_world.proofs.TiedEngines.{IsMid, hands, held_even, holds_handed, holds_same, limit_same, tied, comes}

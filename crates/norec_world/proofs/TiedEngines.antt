@@ -1,12 +1,7 @@
 -- The engine and the cells, over one event: the engine's data stay as the cells have them.
 use Rattle.std.proofs.Common.{◌≡◌, ℕ, zero, suc, ◌+◌, ◌*◌, ◌/◌, ◌%◌, ◌<◌, ◌≤◌, ◌==◌, Bool, true, false, length, Option, Some, slice_index, refl, sym, ap, subst, ◌∙◌, arith, if◌then◌else◌, eqb-true, length-set}
-use Rattle.std.proofs.lemmas.Bool.{both_ways, cond_both}
-use Rattle.norec_world.proofs.Common.{AllFit, Answer, Answers, Asks, Busy, Call, Cas, Cells, Commit, Committed, Conflict, Core, Ends, Full, IsLawful, IsTied, Load, Next, Proceeds, Replies, RepliesTo, Reply, Step, Store, came, cells_after, found, handed_to, in_transaction, word_loaded}
-use Rattle.norec_engine.specs.Proceeds.{IsSettled, StaysOn, AsksFor}
-use Rattle.norec_engine.proofs.AnsweredEngines.{rests}
-use Rattle.norec_engine.specs.Undoing.{after_undoing}
-use Rattle.norec_world.specs.Sound.{AnswerFits}
-use Rattle.norec_world.specs.ClockHolder.{HoldsOn}
+use Rattle.norec_world.proofs.Common.{AllFit, Answer, AnswerFits, Answers, Asks, AsksFor, Busy, Call, Cas, Cells, Commit, Committed, Conflict, Core, Ends, Full, HoldsOn, IsLawful, IsTied, Load, Next, Proceeds, Replies, RepliesTo, Reply, StaysOn, Step, Store, after_undoing, both_ways, came, cells_after, cond_both, found, handed_to, in_transaction, rests, word_loaded}
+use Rattle.norec_engine.specs.Proceeds.{IsSettled}
 use Rattle.norec_world.proofs.PlayerLaws.{reply_fits}
 
 -- ## What the operation asks and gives

@@ -1,8 +1,6 @@
 -- The actors of a world, over one event.
 use Rattle.std.proofs.Common.{◌≡◌, ℕ, zero, suc, ◌<◌, true, false, List, [], ◌∷◌, length, Option, None, Some, IsSome, slice_get, refl, sym, ap, subst, ◌∙◌, arith}
-use Rattle.std.specs.List.{slice_index_or}
-use Rattle.std.proofs.lemmas.Option.{slice_get-get_or}
-use Rattle.norec_world.proofs.Common.{Actor, AreActors, Ended, IsLawful, Rows, Rules, Status, StatusIs, Step, Waits, World, ending_of, is_ready, is_waiting, option_and_then, waiting_step}
+use Rattle.norec_world.proofs.Common.{Actor, AreActors, Ended, IsLawful, Rows, Rules, Status, StatusIs, Step, Waits, World, ending_of, is_ready, is_waiting, option_and_then, slice_get-get_or, slice_index_or, waiting_step}
 
 -- the actor at a place
 pub got_at : {A : Type 0} (xs : List A) (i : ℕ) (got : A) → i < length xs → got ≡ slice_index_or xs i got → slice_get xs i ≡ Some got

@@ -1,9 +1,7 @@
 use Rattle.norec_world.proofs.OthersAttempts.{others_ended, retried_thread, retried_pending, retried_player, retried_engine, retried_counts}
 use Rattle.std.proofs.Common.{◌≡◌, ◌/◌, ap, ◌∙◌, refl, sym, subst, Bool, true, None}
-use Rattle.norec_world.proofs.Common.{Actor, Busy, Conflict, Core, Full, GaveUp, HasRow, Records, in_transaction, whole}
+use Rattle.norec_world.proofs.Common.{Actor, AnswerFits, Busy, Conflict, Core, Full, GaveUp, HasRow, IsSettledBy, Records, depth_if, in_transaction, whole, with_ended}
 use Rattle.norec_world.specs.declared.attempt.Outcome.TheVariants as outcomes
-use Rattle.norec_world.specs.Rows.{with_ended}
-use Rattle.norec_world.specs.Sound.{depth_if, AnswerFits, IsSettledBy}
 use Rattle.norec_world.proofs.PlayerLaws.{after_try, after_end}
 use Rattle.norec_world.proofs.actor.Actor.settle.Goals as goal
 

@@ -1,7 +1,5 @@
 use Rattle.std.proofs.Common.{◌≡◌, ◌+◌, ◌-◌, ◌≤◌, List, length, length-take, length-drop, arith, sym, ap, ◌∙◌, drop, vec_len, vec_capacity}
-use Rattle.std.specs.List.{insert, remove}
-use Rattle.norec_world.specs.declared.attempt.Attempt.{Attempt}
-use Rattle.norec_world.specs.Rows.{Rows, is_of, active_of, with_ended}
+use Rattle.norec_world.proofs.Common.{Attempt, Rows, active_of, insert, is_of, remove, with_ended}
 use Rattle.norec_world.proofs.ActiveRows.{IsFirstAt, place_first, place_none, is_row, no_row, moved_from, moved_rows, without_here, found_none}
 use Rattle.norec_world.proofs.recorded.Recorded.end.Goals as goal
 

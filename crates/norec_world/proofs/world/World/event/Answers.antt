@@ -1,12 +1,5 @@
 use Rattle.std.proofs.Common.{◌≡◌, ◌<◌, true, Some, ap, ◌∙◌, sym, subst, length, IsSome, slice_get, slice_set}
-use Rattle.std.specs.Option.{option_and_then}
-use Rattle.itm_types.proofs.Words.{slice_get-set_same}
-use Rattle.norec_world.specs.declared.actor.Actor.{Actor}
-use Rattle.norec_world.specs.Status.{is_waiting, waiting_step}
-use Rattle.norec_world.specs.Sound.{HasLess}
-use Rattle.norec_world.specs.World.{World, ending_at, told, waits_at}
-use Rattle.norec_world.specs.WorldEvents.{Goes}
-use Rattle.norec_world.specs.Views.{world_of}
+use Rattle.norec_world.proofs.Common.{Actor, Goes, HasLess, World, ending_at, is_waiting, option_and_then, slice_get-set_same, told, waiting_step, waits_at, world_of}
 use Rattle.norec_world.proofs.Worlds.{got_at, within_some, waiting_some}
 use Rattle.norec_world.proofs.LessLeft.{event_less}
 use Rattle.norec_world.proofs.EventWorlds.{goes_after, world_after}
