@@ -1,11 +1,11 @@
 -- The actors' runs: one's event leaves the others', and together they are the headline.
 use Rattle.std.proofs.Common.{◌≡◌, ◌≢◌, inl, inr, ℕ, ◌+◌, ◌/◌, ◌%◌, ◌<◌, ◌≤◌, ◌==◌, Bool, true, false, List, [], ◌∷◌, ◌++◌, length, length-set, replicate, None, Some, slice_get, slice_set, refl, sym, ap, subst, ◌∙◌, arith, eqb-true, nat_lt}
-use Rattle.norec_world.proofs.Common.{Actor, Agrees, AllFit, AllOf, AreActors, AreFrom, AreLaid, AreOfActors, AreOpaque, AreOpen, AreRunning, Attempt, Between, Cells, ChangesOwn, ClocksOn, Core, Got, HasRead, HasRow, IsMemory, IsRunOf, IsTied, IsTryAt, IsWorld, KeepsOthers, MAX_DEPTH, NoMemory, Obeys, Ready, Rows, Rules, RunsFrom, World, active_of, append-nil, attempts_of, backed, begins_at, bytes_at, bytes_of, cases_Bool, count_at, count_committed, ending_of, false_from_ne_true, first_of, in_transaction, le-ltb, ne_eqb, of_thread, one_where, opening, run_after, words_at, words_of, write_at}
+use Rattle.norec_world.proofs.Common.{Actor, Agrees, AllFit, AllOf, AreActors, AreFrom, AreLaid, AreOfActors, AreOpaque, AreOpen, AreRunning, Attempt, Between, Cells, ChangesOwn, ClocksOn, Core, Got, HasRead, HasRow, IsMemory, IsRunOf, IsTied, IsTryAt, IsWorld, KeepsOthers, MAX_DEPTH, NoMemory, Obeys, Ready, Rows, Rules, RunsFrom, World, active_of, append-nil, attempts_of, backed, begins_at, bytes_at, bytes_of, cases_Bool, count_at, count_committed, ending_of, false_from_ne_true, first_of, in_transaction, le-ltb, ne_eqb, of_thread, one_where, opening, run_after, words_at, words_of, write_at, slice_get_within}
 use Rattle.norec_world.specs.declared.attempt.Outcome.TheVariants as outcomes
 use Rattle.norec_world.proofs.WordLists.{words_of-bytes_of}
 use Rattle.norec_world.proofs.TiedEngines.{held_even}
 use Rattle.norec_world.specs.Runs.{StillRuns}
-use Rattle.norec_world.proofs.SoundOthers.{first_found, set_place, within_of, there_is, are_open}
+use Rattle.norec_world.proofs.SoundOthers.{first_found, set_place, there_is, are_open}
 use Rattle.norec_world.proofs.Solos.{stands_open}
 use Rattle.norec_world.proofs.InTries.{try_stops}
 use Rattle.norec_world.proofs.Memories.{bytes_still}
@@ -168,11 +168,11 @@ module _ {P : Type 0} (rules : Rules P) (laws : Obeys rules) where
 
     pub are_opaque : AreOpaque rules w
     are_opaque = record {
-      runs = λ place p e. (let here = there_is w.actors place (omega (arith, long, within_of w.opening place p e)) in of_actor place p here.0 e here.1);
+      runs = λ place p e. (let here = there_is w.actors place (omega (arith, long, slice_get_within w.opening place p e)) in of_actor place p here.0 e here.1);
       players = λ place p a e f. (running.each place p a e f).runs;
       threads = of_actors_both (length w.actors) w.attempts.ended w.attempts.active running.threads (of_actors_active (length w.actors) w.attempts.active sound.listed);
       reads = λ place a row e some.
-          (let here = there_is w.opening place (omega (arith, long, within_of w.actors place a e)) in
+          (let here = there_is w.opening place (omega (arith, long, slice_get_within w.actors place a e)) in
           let own = sound.each place a e in
           let mine : active_of a.thread w.attempts.active ≡ Some row = ap (λ (t : ℕ). active_of t w.attempts.active) own.thread ∙ some in
           (running.each place here.0 a here.1 e).reads (row_open (in_transaction a.engine) w.attempts a.thread row own.sound.kept.row mine) row mine);
@@ -180,7 +180,7 @@ module _ {P : Type 0} (rules : Rules P) (laws : Obeys rules) where
           (let top : w.cells.clock / 2 ≤ w.cells.clock / 2 = omega arith in
           ap bytes_of (running.laid.free even) ∙ (running.laid.memories.same (w.cells.clock / 2) top ∙ sym (shown_still (w.cells.clock / 2) top)));
       held = λ place a e h.
-          (let l = within_of w.actors place a e in
+          (let l = slice_get_within w.actors place a e in
           let top : w.cells.clock / 2 ≤ w.cells.clock / 2 = omega arith in
           let here = there_is w.opening place (omega (arith, long)) in
           let x = running.each place here.0 a here.1 e in
@@ -200,7 +200,7 @@ module _ {P : Type 0} (rules : Rules P) (laws : Obeys rules) where
     mine = (kept.actors.each i got here).thread
 
     player : (p : P) × (slice_get w.opening i ≡ Some p)
-    player = there_is w.opening i (let l = within_of w.actors i got here in omega (arith, kept.long))
+    player = there_is w.opening i (let l = slice_get_within w.actors i got here in omega (arith, kept.long))
 
     went : AreLaid w.base cells' r' × RunsFrom rules (first_of player.0 w.arena) w.base cells' r' new
     went = runs (first_of player.0 w.arena) w.base kept.running.laid (kept.running.each i player.0 got player.1 here)
@@ -225,7 +225,7 @@ module _ {P : Type 0} (rules : Rules P) (laws : Obeys rules) where
       laid = went.0;
       ordered = others.own.ordered kept.running.ordered;
       threads = subst (λ (n : ℕ). AreOfActors n r'.ended) (sym (length-set w.actors i new)) (subst (AreOfActors (length w.actors)) (sym others.own.ended)
-          (of_actors_both (length w.actors) w.attempts.ended others.own.more kept.running.threads (of_actors_all (length w.actors) got.thread others.own.more (let l = within_of w.actors i got here in let t = mine in omega arith) others.own.mine)));
+          (of_actors_both (length w.actors) w.attempts.ended others.own.more kept.running.threads (of_actors_all (length w.actors) got.thread others.own.more (let l = slice_get_within w.actors i got here in let t = mine in omega arith) others.own.mine)));
       each = each_after;
     }
       where

@@ -2,11 +2,11 @@
 use Rattle.std.proofs.Common.{◌≡◌, ◌↔◌, ◌≤◌, zero, suc, ℕ, ◌+◌, ◌<◌, Bool, true, false, cond, length, take, get_or, arith, List, [], ◌∷◌, ◌++◌, count_by, IsTrue, Option, None, Some, Result, Ok, Err, IsSome, refl, sym, ap, subst, ◌∙◌, slice_get, min, if◌then◌else◌}
 use Rattle.std.proofs.lemmas.List.{take_more}
 use Rattle.std.proofs.lemmas.List.Sums.{sum_by-append}
-use Rattle.norec_world.proofs.Common.{Actor, ActorGoes, AreActors, AreOpaque, CommitsInOrder, End, Finished, Goes, HasLess, IsLawful, IsNoMore, Leads, Passes, Ready, Rules, SameOpening, ShowsAlone, Status, Step, Takes, Waits, World, WorldFault, cells_after, counted, ending_at, ending_of, in_transaction, is_ready, is_waiting, option_and_then, passes_of, run_left, steps_left, told, waiting_step, waits_at, whole}
+use Rattle.norec_world.proofs.Common.{Actor, ActorGoes, AreActors, AreOpaque, CommitsInOrder, End, Finished, Goes, HasLess, IsLawful, IsNoMore, Leads, Passes, Ready, Rules, SameOpening, ShowsAlone, Status, Step, Takes, Waits, World, WorldFault, cells_after, counted, ending_at, ending_of, in_transaction, is_ready, is_waiting, option_and_then, passes_of, run_left, steps_left, told, waiting_step, waits_at, whole, slice_get_within}
 use Rattle.norec_world.specs.declared.fault.WorldFault.TheVariants as faults
 use Rattle.norec_world.specs.World.{is_event}
 use Rattle.std.specs.Option.{option_map}
-use Rattle.norec_world.proofs.SoundOthers.{within_of, there_is}
+use Rattle.norec_world.proofs.SoundOthers.{there_is}
 use Rattle.norec_world.proofs.Worlds.{some_ended, within_some, waiting_some, some_waiting}
 use Rattle.norec_world.specs.WorldEvents.{is_taken, is_passed, is_starved}
 use Rattle.norec_world.proofs.LessLeft.{HasLessSoFar, less_so_far, same_less, less_less}
@@ -106,7 +106,7 @@ module _ {P : Type 0} (rules : Rules P) (w : World P) (i : ℕ) (alone : ShowsAl
   goes_no_more a here still done =
       let end_is : ending_at w i ≡ ending_of a.status = ap (option_and_then (λ (x : Actor P). ending_of x.status)) here in
       nothing_done (Err faults.Ended) refl (ap (option_and_then (λ (x : Actor P). waiting_step x.status)) here ∙ waits_none a.status still)
-      (λ e. absurd (cc), λ l. absurd (let n = within_of w.actors i a here in omega arith)) (λ e. subst IsSome (sym end_is) (some_ended a.status still done), λ e. refl)
+      (λ e. absurd (cc), λ l. absurd (let n = slice_get_within w.actors i a here in omega arith)) (λ e. subst IsSome (sym end_is) (some_ended a.status still done), λ e. refl)
 
 -- ## Many in a row
 
@@ -252,7 +252,7 @@ module _ {P : Type 0} (rules : Rules P) (actor : ℕ) where
   call_falls true old new waits long f =
       let steps : Actor P → ℕ = λ (a : Actor P). steps_left a.engine in
       let y = waits_there old actor waits in
-      let z = there_is new.actors actor (omega (arith, long, within_of old.actors actor y.0 y.1)) in
+      let z = there_is new.actors actor (omega (arith, long, slice_get_within old.actors actor y.0 y.1)) in
       omega (arith, ((f y.0 z.0 y.1 z.1).on refl).1, at_place_is steps old.actors actor y.0 y.1, at_place_is steps new.actors actor z.0 z.1)
 
   -- what is left of the whole run, once a call is over
@@ -268,7 +268,7 @@ module _ {P : Type 0} (rules : Rules P) (actor : ℕ) where
       let whole_of : Actor P → ℕ = λ (a : Actor P). whole rules (in_transaction a.engine) a.player in
       let k : ℕ = whole_at first in
       let y = waits_there old actor waits in
-      let within = within_of old.actors actor y.0 y.1 in
+      let within = slice_get_within old.actors actor y.0 y.1 in
       let x = there_is first.actors actor (omega (arith, same, within)) in
       let z = there_is new.actors actor (omega (arith, long, within)) in
       let top : k ≡ whole_of x.0 = at_place_is whole_of first.actors actor x.0 x.1 in
@@ -288,7 +288,7 @@ module _ {P : Type 0} (rules : Rules P) (actor : ℕ) where
   pub waits_still : (on : Bool) (old new : World P) → IsSome (waits_at old actor) → length new.actors ≡ length old.actors → LeavesLess on old new → on ≡ true → IsSome (waits_at new actor)
   waits_still on old new waits long f e =
       let y = waits_there old actor waits in
-      let z = there_is new.actors actor (omega (arith, long, within_of old.actors actor y.0 y.1)) in
+      let z = there_is new.actors actor (omega (arith, long, slice_get_within old.actors actor y.0 y.1)) in
       subst IsSome (sym (ap (option_and_then (λ (a : Actor P). waiting_step a.status)) z.1)) (some_waiting z.0.status ((f y.0 z.0 y.1 z.1).on e).0)
 
   -- the actor of a call that is over
