@@ -1,10 +1,10 @@
 -- An actor's run between two tries: calls outside a transaction, and begins.
 use Rattle.std.proofs.Common.{◌≡◌, ℕ, zero, suc, ◌+◌, ◌/◌, ◌≤◌, Bool, true, false, nat_lt, if◌then◌else◌, List, [], Option, None, Some, refl, sym, true≢false, ap, subst, ◌∙◌, arith, is_some}
-use Rattle.norec_world.proofs.Common.{Actor, Agrees, Agrees-drop, Answer, Attempt, Begin, Beginning, Between, Busy, Call, Cells, Core, IsBeforeTry, IsInTry, IsMemory, IsRun, MAX_DEPTH, Obeys, Opens, Outside, Props, Ready, Refused, Replied, Replies, RepliesTo, Reply, Rows, Rules, active_of, begin_of, begin_within, ending_of, in_transaction, is_begin, none_inside, recoded, reply, state_over, with_opened, words_at}
+use Rattle.norec_world.proofs.Common.{same_Some, Actor, Agrees, Agrees-drop, Answer, Attempt, Begin, Beginning, Between, Busy, Call, Cells, Core, IsBeforeTry, IsInTry, IsMemory, IsRun, MAX_DEPTH, Obeys, Opens, Outside, Props, Ready, Refused, Replied, Replies, RepliesTo, Reply, Rows, Rules, active_of, begin_of, begin_within, ending_of, in_transaction, is_begin, none_inside, recoded, reply, state_over, with_opened, words_at}
 use Rattle.norec_world.specs.Records.{again_after}
 use Rattle.norec_world.proofs.ActiveRows.{opened_here}
 use Rattle.norec_world.proofs.RunAnswers.{now_at, run_same}
-use Rattle.norec_world.proofs.Solos.{comes_past, same_some}
+use Rattle.norec_world.proofs.Solos.{comes_past}
 use Rattle.norec_world.proofs.RecordedRows.{was_open}
 use Rattle.norec_world.proofs.TryEnds.{none_pending, none_retried, begin_call, begin_opens}
 use Rattle.norec_world.proofs.Seen.{HasSeen, memory_at}
@@ -99,7 +99,7 @@ module _ {P : Type 0} (rules : Rules P) (laws : Obeys rules) (first : Between P)
         let ended : r1.ended ≡ r.ended = ap (λ (x : Rows). x.ended) rows in
         let g' : Replies mid (Begin props room) reply a.engine = subst (λ (c : Call). Replies mid c reply a.engine) is g in
         let asks : rules.next_call a.player ≡ Some (Begin props room) = m.answered.in_call.asks ∙ ap (λ (c : Call). Some c) is in
-        let props_same : row.props ≡ props = (let both_begin = sym p.3 ∙ (k.leads ∙ begin_here rules laws a.player t.0.arena props room asks) in ap (λ (x : Beginning P). x.props) (same_some both_begin)) in
+        let props_same : row.props ≡ props = (let both_begin = sym p.3 ∙ (k.leads ∙ begin_here rules laws a.player t.0.arena props room asks) in ap (λ (x : Beginning P). x.props) (same_Some _ _ both_begin)) in
         let try = try_begins rules laws t.0 row a.player mid a.engine props room reply p.3 p.1 props_same p.2 (let nth = q.nth in let fewer = k.tries in omega arith) m.taken.was_is (m.taken.empty refl) k.arena p.4 g'
         (let early = p.0 in omega arith) (words_at base r.ended (a.engine.snapshot / 2)) (memory_at seen (a.engine.snapshot / 2) k_late) (seen.now now) at in
         let free : active_of row.thread r.active ≡ None = ap (λ (u : ℕ). active_of u r.active) q.thread ∙ m.answered.kept.row in

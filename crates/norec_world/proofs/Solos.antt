@@ -2,7 +2,7 @@
 -- Its calls alone come first in what it gets.
 use Rattle.std.proofs.Common.{◌≡◌, ℕ, zero, suc, ◌+◌, ◌<◌, ◌≤◌, Bool, true, false, ◌&&◌, nat_le, is_none, List, [], ◌∷◌, ◌++◌, map, Option, None, Some, refl, sym, ap, subst, ◌∙◌, arith, cond}
 use Rattle.std.proofs.lemmas.Bool.{cond-false}
-use Rattle.norec_world.proofs.Common.{Begin, Beginning, Call, Core, Entry, Finished, GaveUp, IsAlone, Obeys, Progress, Props, Rules, Solo, State, Unfinished, after, answers, answers_within, begin_code, begin_of, begin_within, cond-true, ended_as, in_transaction, is_begin, is_open, one_if, opened, pair_of, player_then, refusal, reply, row_of, solo_within, stands_for, state_then, stopped, turn, with_first}
+use Rattle.norec_world.proofs.Common.{same_Some, Begin, Beginning, Call, Core, Entry, Finished, GaveUp, IsAlone, Obeys, Progress, Props, Rules, Solo, State, Unfinished, after, answers, answers_within, begin_code, begin_of, begin_within, cond-true, ended_as, in_transaction, is_begin, is_open, one_if, opened, pair_of, player_then, refusal, reply, row_of, solo_within, stands_for, state_then, stopped, turn, with_first}
 use Rattle.itm_types.specs.declared.call.Reply.{Reply}
 use Rattle.itm_model.specs.Machine.{outside}
 use Rattle.itm_model.specs.Runs.{state_after}
@@ -71,9 +71,6 @@ module _ {P : Type 0} (rules : Rules P) (laws : Obeys rules) where
   pub stands_open : (e : Core) (m : List ℕ) → in_transaction e ≡ true → is_open (stands_for e m) ≡ true
   stands_open e m o = open_is e.writes e.blocks e.arena m ∙ o
 
-pub same_some : {A : Type 0} {a b : A} → Some a ≡ Some b → a ≡ b
-same_some e = cc
-
 pub state_pairs : (deepest : ℕ) (s : State) (xs : List Entry) → state_after deepest s (map (λ (c : Call × Reply). c.0) (map pair_of xs)) ≡ state_then deepest s xs
 state_pairs deepest s [] = refl
 state_pairs deepest s (x ∷ xs) = state_pairs deepest (after deepest s x.call) xs
@@ -99,7 +96,7 @@ module _ {P : Type 0} (rules : Rules P) (laws : Obeys rules) (deepest : ℕ) whe
       (comes n (rules.answered p (reply deepest (outside [] arena) (Begin props room))) arena (rules.next_call (rules.answered p (reply deepest (outside [] arena) (Begin props room))))) ≡ Some start
       → IsBeginning p start
   begins n p arena props room start true is e rest h =
-      subst (IsBeginning p) (same_some h) (record { room = room; asks = e; accepted = sym is; less = omega arith })
+      subst (IsBeginning p) (same_Some _ _ h) (record { room = room; asks = e; accepted = sym is; less = omega arith })
   begins n p arena props room start false is e rest h = (
       let q : P = rules.answered p (reply deepest (outside [] arena) (Begin props room)) in
       let l = laws.nearer p (Begin props room) (reply deepest (outside [] arena) (Begin props room)) e in

@@ -1,9 +1,8 @@
 use Rattle.std.proofs.Common.{rules, ◌≡◌, ◌≢◌, ◌+◌, ◌<◌, ◌≤◌, ℕ, zero, suc, Some, [], ◌∷◌, ◌++◌, inl, inr, slice_get, drop, replicate, List, length, length-append, ap, sym, subst, refl, ◌∙◌, arith}
-use Rattle.norec_world.proofs.Common.{Actor, AreActors, ChangesOwn, HasStarted, IsFirst, MAX_ACTORS, RunsFrom, bytes_of, count_pending, ending_in, first_of, opening, slice_index_or, slice_get_within}
+use Rattle.norec_world.proofs.Common.{same_Some, Actor, AreActors, ChangesOwn, HasStarted, IsFirst, MAX_ACTORS, RunsFrom, bytes_of, count_pending, ending_in, first_of, opening, slice_index_or, slice_get_within}
 use Rattle.norec_world.proofs.RunOthers.{other_runs, laid_first}
 use Rattle.norec_world.proofs.TryChains.{fed_joined, first_still}
 use Rattle.norec_world.proofs.SoundOthers.{actors_joined, joined_place, none_active, joined_place}
-use Rattle.norec_world.proofs.Solos.{same_some}
 use Rattle.norec_world.proofs.start.start_all.Goals as goal
 
 -- the next one of a list
@@ -30,7 +29,7 @@ loop-player-preserved g c =
     let here = drop_head c.into_iter-player-iterator.result.rest.items (length before) c.in-Some.player c.next.new.self.rest.items (sym i.rest ∙ steps) in
     let placed = λ (place : ℕ) (a : Actor g.row.P.Denot) (e : slice_get c.push.new.self.items place ≡ Some a). joined_place before actor place a (ap (λ (xs : List (Actor g.row.P.Denot)). slice_get xs place) (sym items) ∙ e) in
     let same_player : (place : ℕ) (p : g.row.P.Denot) → length before ≡ place → slice_get c.into_iter-player-iterator.result.rest.items place ≡ Some p → c.in-Some.player ≡ p =
-    λ place p last e. same_some (sym here.0 ∙ (ap (slice_get c.into_iter-player-iterator.result.rest.items) last ∙ e)) in
+    λ place p last e. same_Some _ _ (sym here.0 ∙ (ap (slice_get c.into_iter-player-iterator.result.rest.items) last ∙ e)) in
     let other = λ (place : ℕ) (a : Actor g.row.P.Denot) (apart : length before ≢ place) (e : slice_get before place ≡ Some a) (same : a.thread ≡ actor.thread). apart (sym thread ∙ (sym same ∙ (i.sound.each place a e).thread)) in
     let own : ChangesOwn actor.thread c.loop-player.recorded c.start.new.recorded = subst (λ (n : ℕ). ChangesOwn n c.loop-player.recorded c.start.new.recorded) (sym o.3.thread) o.3.own in
     record {
