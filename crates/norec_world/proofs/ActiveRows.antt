@@ -136,7 +136,7 @@ changed_elsewhere thread other f (x ∷ xs) keeps ne =
       | inr e ↦ simp e (ap (λ (o : Option Attempt). cond (x.thread == other) (Some x) o) (changed_elsewhere thread other f xs keeps ne))
     ]
 
-past_all : (thread n : ℕ) (xs : List Attempt) → thread < n → AreFrom n xs → active_of thread xs ≡ None
+pub past_all : (thread n : ℕ) (xs : List Attempt) → thread < n → AreFrom n xs → active_of thread xs ≡ None
 past_all thread n [] lt from = refl
 past_all thread n (x ∷ xs) lt from =
     let no = ne_eqb x.thread thread (λ h. omega (arith, from.0)) in

@@ -5,11 +5,12 @@ use Rattle.norec_world.specs.declared.attempt.Outcome.TheVariants as outcomes
 use Rattle.norec_world.proofs.WordLists.{words_of-bytes_of}
 use Rattle.norec_world.proofs.TiedEngines.{held_even}
 use Rattle.norec_world.specs.Runs.{StillRuns}
-use Rattle.norec_world.proofs.SoundOthers.{first_found, set_place, there_is, are_open}
+use Rattle.norec_world.proofs.SoundOthers.{first_found, set_place, there_is, are_open, held_apart, odd_held}
 use Rattle.norec_world.proofs.Solos.{stands_open}
 use Rattle.norec_world.proofs.InTries.{try_stops}
 use Rattle.norec_world.proofs.Memories.{bytes_still}
 use Rattle.norec_world.proofs.RunLists.{of_thread_more, run_still, run_more}
+use Rattle.norec_world.proofs.ActiveRows.{past_all}
 
 -- ## The attempts of one thread
 
@@ -19,12 +20,6 @@ of_thread_none thread other [] all apart = refl
 of_thread_none thread other (x ∷ xs) all apart = (let no = ne_eqb x.thread thread (λ same. apart (sym all.0 ∙ same)) in simp no (of_thread_none thread other xs all.1 apart))
 
 -- of open attempts the actor's one
-past_from : (n thread : ℕ) (xs : List Attempt) → AreFrom n xs → thread < n → of_thread thread xs ≡ []
-past_from n thread [] from l = refl
-past_from n thread (x ∷ xs) from l =
-    let no = ne_eqb x.thread thread (λ same. omega (arith, from.0)) in
-    simp no (past_from (x.thread + 1) thread xs from.1 (omega (arith, from.0)))
-
 pub open_none : (n thread : ℕ) (xs : List Attempt) → AreFrom n xs → active_of thread xs ≡ None → of_thread thread xs ≡ []
 open_none n thread [] from e = refl
 open_none n thread (x ∷ xs) from e = elim (cases_Bool (x.thread == thread)) [
@@ -38,7 +33,7 @@ open_one n thread (x ∷ xs) row from e = elim (cases_Bool (x.thread == thread))
   | inl h ↦
       (let found = simp h at e in
       let same : x ≡ row = cc in
-      let none = past_from (x.thread + 1) thread xs from.1 (let is = eqb-true x.thread thread h in omega arith) in
+      let none = open_none (x.thread + 1) thread xs from.1 (past_all thread (x.thread + 1) xs (omega (arith, eqb-true x.thread thread h)) from.1) in
       simp h (λ i. same i ∷ none i))
   | inr h ↦ simp h (open_one (x.thread + 1) thread xs row from.1 (simp h at e))
 ]
@@ -215,10 +210,7 @@ module _ {P : Type 0} (rules : Rules P) (laws : Obeys rules) where
 
     -- another one that holds the clock sees no change
     others_held : (j : ℕ) (b : Actor P) → i ≢ j → slice_get w.actors j ≡ Some b → b.engine.holds ≡ true → cells' ≡ w.cells
-    others_held j b apart e h =
-        let tied = (kept.actors.each j b e).sound.tied in
-        let odd : w.cells.clock % 2 ≡ 1 = (let held = tied.holder h in let even = held_even b.engine tied.settled h in omega arith) in
-        (clocks.apart odd (false_from_ne_true got.engine.holds (λ g. apart (kept.commits.one i j got b here e g h)))).0
+    others_held j b apart e h = (held_apart w.cells cells' w.actors i got new here clocks kept.commits.one (odd_held kept.actors) j b apart e h).0
 
     pub running_after : AreRunning rules (record w { cells = cells'; actors = slice_set w.actors i new; attempts = r'; events = events })
     running_after = record {

@@ -105,6 +105,12 @@ there_is [] i l = absurd (omega arith)
 there_is (x ∷ xs) zero l = (x, refl)
 there_is (x ∷ xs) (suc i) l = there_is xs i (omega arith)
 
+-- where one holds it, the clock is odd
+pub odd_held : {P : Type 0} {rules : Rules P} {cells : Cells} {r : Rows} {actors : List (Actor P)} → AreActors rules cells r actors → (j : ℕ) (b : Actor P) → slice_get actors j ≡ Some b → b.engine.holds ≡ true → cells.clock % 2 ≡ 1
+odd_held s j b e h =
+    let t = (s.each j b e).sound.tied in
+    omega (arith, t.holder h, held_even b.engine t.settled h)
+
 -- ## One actor is new
 
 module _ {P : Type 0} where
@@ -197,11 +203,6 @@ module _ {P : Type 0} (rules : Rules P)
     (i : ℕ) (got new : Actor P) (here : slice_get actors i ≡ Some got)
     (sound : IsSound rules cells' r' new) (done : is_ready new.status ≡ false)
     (others : KeepsOthers got r new r') (clocks : ClocksOn cells got.engine cells' new.engine) where
-  odd_held : (j : ℕ) (b : Actor P) → slice_get actors j ≡ Some b → b.engine.holds ≡ true → cells.clock % 2 ≡ 1
-  odd_held j b e h =
-      let t = (s.each j b e).sound.tied in
-      omega (arith, t.holder h, held_even b.engine t.settled h)
-
   -- the world goes on
   pub actors_after : AreActors rules cells' r' (slice_set actors i new)
   actors_after =
@@ -211,8 +212,8 @@ module _ {P : Type 0} (rules : Rules P)
       let within = slice_get_within actors i got here in
       let w = replaced_sum actors i got new here in
       let room : pending_in (slice_set actors i new) ≤ r'.room = omega (arith, w.2, others.room w.0 (omega (arith, s.few, w.3)) (omega (arith, s.room, w.1))) in
-      actors_then cells cells' actors (slice_set actors i new) i new (set_place actors i got new here) (held_apart cells cells' actors i got new here clocks s.one odd_held)
-      rules r r' s sound done (others.thread ∙ mine) own clocks.late clocks.long room (omega (arith, s.few)) (omega arith) (omega arith) (held_after cells cells' actors i got new here clocks s.one odd_held s.held)
+      actors_then cells cells' actors (slice_set actors i new) i new (set_place actors i got new here) (held_apart cells cells' actors i got new here clocks s.one (odd_held s))
+      rules r r' s sound done (others.thread ∙ mine) own clocks.late clocks.long room (omega (arith, s.few)) (omega arith) (omega arith) (held_after cells cells' actors i got new here clocks s.one (odd_held s) s.held)
 
 -- ## One actor more
 
