@@ -10,7 +10,7 @@ use Rattle.norec_world.proofs.Memories.{bytes_still}
 use Rattle.norec_world.proofs.Laid.{laid_on, laid_same}
 use Rattle.norec_world.proofs.RunTaken.{runs_recorded}
 use Rattle.norec_world.proofs.Seen.{HasSeen, call_seen, step_seen}
-use Rattle.norec_world.proofs.Taken.{HasAnswered, recorded, now}
+use Rattle.norec_world.proofs.Taken.{HasAnswered, recorded, now, still_going}
 use Rattle.norec_world.proofs.RunAnswers.{RunOf, before_on, now_at, run_same, stop_run}
 use Rattle.norec_world.proofs.RunBegins.{begin_here}
 use Rattle.norec_world.proofs.InTries.{try_handed, try_told, try_kept}
@@ -18,18 +18,15 @@ use Rattle.norec_world.proofs.InTries.{try_handed, try_told, try_kept}
 -- ## The player has no more calls
 
 module _ {P : Type 0} {rules : Rules P} {cells : Cells} {r0 : Rows} {old : Actor P} (sound : IsSound rules cells r0 old) (ready : old.status ≡ Ready) (first : Between P) (base : List ℕ) (runs : RunsFrom rules first base cells r0 old) where
-  on_way : (end : End) → ending_of old.status ≡ Some end → ⊥
-  on_way end e = absurd (let z = sym (ap ending_of ready) ∙ e in cc)
-
   pub finish_runs : RunsFrom rules first base cells r0 (record old { status = Ended ends.Finished })
   finish_runs = record {
     runs = (let x = runs.runs in record {
       run = x.run;
       inside = x.inside;
       between = λ o gave_up starved.
-          (let t = x.between o (on_way ends.GaveUp) (on_way ends.NoMemory) in (t.0, t.1, before_on t.2 old.engine (Ended ends.Finished) refl refl));
+          (let t = x.between o (still_going ready) (still_going ready) in (t.0, t.1, before_on t.2 old.engine (Ended ends.Finished) refl refl));
     });
-    sees = λ fed. runs.sees (on_way ends.NoMemory);
+    sees = λ fed. runs.sees (still_going ready);
     starved = λ e. absurd (cc);
     reads = runs.reads;
   }
@@ -38,9 +35,6 @@ module _ {P : Type 0} {rules : Rules P} {cells : Cells} {r0 : Rows} {old : Actor
 
 module _ {P : Type 0} {rules : Rules P} (laws : Obeys rules) {cells : Cells} {r0 r : Rows} {old a : Actor P} {call : Call} {what : Next} (m : IsCalling rules cells r0 r old a call what)
     (first : Between P) (base : List ℕ) (laid : AreLaid base cells r0) (runs : RunsFrom rules first base cells r0 old) where
-  on_way_so : (end : End) → ending_of old.status ≡ Some end → ⊥
-  on_way_so end e = absurd (let z = sym (ap ending_of m.ready) ∙ e in cc)
-
   again_shut : (b : Bool) → in_transaction old.engine ≡ b → b ≡ false → (c : Call) (p : _) (room : ℕ) → c ≡ Begin p room → (begins_again (in_transaction old.engine) old.again c && not (in_transaction old.engine)) ≡ old.again
   again_shut true e f c p room is = absurd (cc)
   again_shut false e f c p room is = (λ i. begins_again (e i) old.again (is i) && not (e i)) ∙ with_true old.again
@@ -81,7 +75,7 @@ module _ {P : Type 0} {rules : Rules P} (laws : Obeys rules) {cells : Cells} {r0
               t.6 ∙ sym m.asks.nth,
             ));
         between = λ o gave_up starved.
-            (let t = x.between o (on_way_so ends.GaveUp) (on_way_so ends.NoMemory) in let k = t.2 in (
+            (let t = x.between o (still_going m.ready) (still_going m.ready) in let k = t.2 in (
               t.0,
               (λ i. now_at rules first base (ended_same m i) (m.asks.thread i)) ∙ t.1,
               record {
@@ -97,7 +91,7 @@ module _ {P : Type 0} {rules : Rules P} (laws : Obeys rules) {cells : Cells} {r0
   seen : HasSeen base cells cells r (mid m) a.engine
   seen =
       call_seen base cells r old.engine a.engine call (begins_again (in_transaction old.engine) old.again call) (laid_same base cells r0 r (ended_same m) laid) m.sound.tied (rests m.sound m.ready).free
-      (subst (λ (l : List Attempt). Sees (words_at base l) cells old.engine) (sym (ended_same m)) (runs.sees (on_way_so ends.NoMemory))) m.asked.stays
+      (subst (λ (l : List Attempt). Sees (words_at base l) cells old.engine) (sym (ended_same m)) (runs.sees (still_going m.ready))) m.asked.stays
 
   -- where its attempt reads
   abbrev ReadsAt : Rows → Actor P → Type 0

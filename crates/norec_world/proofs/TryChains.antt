@@ -6,6 +6,7 @@ use Rattle.norec_world.specs.declared.attempt.Outcome.TheVariants as outcomes
 use Rattle.norec_world.specs.declared.attempt.End.TheVariants as ends
 use Rattle.norec_world.proofs.SoundSteps.{rests}
 use Rattle.norec_world.proofs.TryEnds.{stays_between, stays_open}
+use Rattle.norec_world.proofs.Taken.{still_going}
 
 -- none found no memory
 pub fed_joined : {P : Type 0} (actors : List (Actor P)) (a : Actor P) → ((place : ℕ) → ending_in actors place ≡ Some NoMemory → ⊥) → (ending_of a.status ≡ Some NoMemory → ⊥)
@@ -138,10 +139,7 @@ module _ {P : Type 0} (rules : Rules P)
   pub tries_still : Tries cells.clock (prior_of r a) cells.clock r a
   tries_still = by_row (in_transaction a.engine) sound.kept.row
     where
-      goes_on : {end : _} → ending_of a.status ≡ Some end → ⊥
-      goes_on e = absurd (let n = sym (ap ending_of ready) ∙ e in cc)
-
       by_row : (b : Bool) → HasRow b r a.thread → Tries cells.clock (prior_of r a) cells.clock r a
-      by_row true h = stays_open cells.clock cells.clock r r a a refl refl h.0 h.1 h.1 refl goes_on goes_on
+      by_row true h = stays_open cells.clock cells.clock r r a a refl refl h.0 h.1 h.1 refl (still_going ready) (still_going ready)
       by_row false h = stays_between cells.clock cells.clock r r a a refl refl h no_pending
-          (record { none = h; tries = refl; opens = λ row e. absurd (let n = sym no_pending ∙ e in cc); goes_on = goes_on })
+          (record { none = h; tries = refl; opens = λ row e. absurd (let n = sym no_pending ∙ e in cc); goes_on = still_going ready })

@@ -8,7 +8,7 @@ use Rattle.norec_world.proofs.LocalWork.{nothing_ready, works_both}
 use Rattle.norec_world.proofs.OthersAttempts.{others_same, others_twice}
 use Rattle.norec_world.proofs.RunCalls.{call_runs, finish_runs, laid_calls, starve_runs}
 use Rattle.norec_world.proofs.SoundSteps.{IsCalling, call_less, call_taken, ended_same, mid}
-use Rattle.norec_world.proofs.Taken.{now, ready_of, recorded}
+use Rattle.norec_world.proofs.Taken.{now, ready_of, recorded, still_going}
 use Rattle.norec_world.proofs.TiedEngines.{holds_same, limit_same, snapshot_still}
 use Rattle.norec_world.proofs.TryCalls.{call_tries, finish_tries, starve_tries}
 use Rattle.norec_world.proofs.TryChains.{no_pending, tries_still, tries_then}
@@ -52,7 +52,7 @@ module _ {P : Type 0} {rules : Rules P} (laws : Obeys rules) {cells : Cells} {r0
         tries = λ w. tries;
         runs = λ first base laid runs. (
           laid_calls base cells r0 r1 laid own.more own.ended (counted_after cells.clock cells.clock (prior_of r0 old) r1 last tries laid.counted),
-          starve_runs laws sound s first base laid runs (λ e. absurd (let z = sym (ap ending_of ready) ∙ e in cc)) closed own.more own.ended,
+          starve_runs laws sound s first base laid runs (still_going ready) closed own.more own.ended,
         );
         others = others;
         holds = holds;
@@ -127,7 +127,7 @@ module _ {P : Type 0} {rules : Rules P} {cells : Cells} {r : Rows} {a : Actor P}
     limit = (refl, refl);
     snapshot = refl;
     retries = refl;
-    finishes = λ w e. absurd (let z = sym (ap ending_of (ready_of a.status w)) ∙ e in cc);
+    finishes = λ w. still_going (ready_of a.status w);
     still = λ n. (refl, refl);
     less = λ e. record { whole_falls = omega arith; rank_falls = λ n b. omega arith };
   }
