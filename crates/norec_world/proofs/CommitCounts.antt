@@ -19,13 +19,9 @@ count_committed_more (x ∷ xs) a = (let e = count_committed_more xs a in omega 
 -- the clock of one more commit
 below_more : (position n : ℕ) → one_where (nat_lt position (n + 1)) ≡ one_where (nat_lt position n) + one_where (n == position)
 below_more position n = elim (cases_order position n) [
-  | inl same ↦ (let l = ap one_where (lt-ltb position (n + 1) (omega arith)) in let m = ap one_where (le-ltb position n (omega arith)) in let e = ap one_where (eq-eqb n position (sym same)) in omega arith)
-  | inr apart ↦
-      (let e : one_where (n == position) ≡ 0 = ap one_where (ne_eqb n position (λ same. elim apart [ inl l ↦ absurd (omega arith) | inr l ↦ absurd (omega arith) ])) in
-      elim apart [
-        | inl l ↦ (let k = ap one_where (lt-ltb position (n + 1) (omega arith)) in let m = ap one_where (lt-ltb position n l) in omega arith)
-        | inr l ↦ (let k = ap one_where (le-ltb position (n + 1) (omega arith)) in let m = ap one_where (le-ltb position n (omega arith)) in omega arith)
-      ])
+  | inl same ↦ omega (arith, ap one_where (lt-ltb position (n + 1) (omega arith)), ap one_where (le-ltb position n (omega arith)), ap one_where (eq-eqb n position (sym same)))
+  | inr (inl l) ↦ omega (arith, ap one_where (lt-ltb position (n + 1) (omega arith)), ap one_where (lt-ltb position n l), ap one_where (ne_eqb n position (λ same. omega arith)))
+  | inr (inr l) ↦ omega (arith, ap one_where (le-ltb position (n + 1) (omega arith)), ap one_where (le-ltb position n (omega arith)), ap one_where (ne_eqb n position (λ same. omega arith)))
 ]
 
 counted_same : (clock clock' : ℕ) (xs ys : List Attempt) → ys ≡ xs → clock' / 2 ≡ clock / 2 → AreCounted clock xs → AreCounted clock' ys

@@ -150,20 +150,26 @@ module _ {P : Type 0} (rules : Rules P) (laws : Obeys rules) (deepest : ℕ) whe
     none_left : (p : P) (arena : List ℕ) → rules.calls_left p ≤ 0 → begin_of rules deepest p arena ≡ None
     none_left p arena l = ap (λ (n : ℕ). begin_within rules deepest n p arena (rules.next_call p)) (let e : rules.calls_left p ≡ 0 = omega arith in e)
 
+    -- the block that begins here takes calls
+    passed_less : (b : Progress P) (start : Beginning P) → begin_of rules deepest b.player b.arena ≡ Some start
+        → rules.calls_left (player_after rules deepest max_commits thread (rules.answered start.player (begin_code false)) (answers rules.next_call rules.answered rules.calls_left deepest (rules.answered start.player (begin_code false)) b.memory start.arena start.props))
+        < rules.calls_left b.player
+    passed_less b start e =
+        let p : P = rules.answered start.player (begin_code false) in
+        let s : State = opened b.memory start.arena start.props in
+        let found = begin_found b.player b.arena start e in
+        let m = laws.nearer start.player (Begin start.props found.room) (begin_code false) found.asks in
+        omega (arith, found.less, falls_along (rules.calls_left p) p s (turn rules.next_call rules.answered rules.calls_left p s) refl)
+
     same_from : (n k : ℕ) (b : Progress P) (o : Option (Beginning P)) → begin_of rules deepest b.player b.arena ≡ o
         → ((c : Progress P) → rules.calls_left c.player < rules.calls_left b.player → goes n c ≡ goes k c)
         → begun_then rules deepest max_commits thread (goes n) b o ≡ begun_then rules deepest max_commits thread (goes k) b o
     same_from n k b None e rest = refl
     same_from n k b (Some start) e rest =
         let p : P = rules.answered start.player (begin_code false) in
-        let s0 : State = opened b.memory start.arena start.props in
         let pairs : List (Call × Reply) = answers rules.next_call rules.answered rules.calls_left deepest p b.memory start.arena start.props in
-        let found = begin_found b.player b.arena start e in
-        let l = found.less in
-        let m = laws.nearer start.player (Begin start.props found.room) (begin_code false) found.asks in
-        let along = falls_along (rules.calls_left p) p s0 (turn rules.next_call rules.answered rules.calls_left p s0) refl in
-        ap (λ (r : Solo). block_then rules deepest max_commits thread (λ (q : Progress P). r) b start p pairs (state_after deepest s0 (map (λ (c : Call × Reply). c.0) pairs)))
-        (rest (passed rules deepest max_commits thread b p pairs (state_after deepest s0 (map (λ (c : Call × Reply). c.0) pairs))) (omega arith))
+        let t : State = state_after deepest (opened b.memory start.arena start.props) (map (λ (c : Call × Reply). c.0) pairs) in
+        ap (λ (r : Solo). block_then rules deepest max_commits thread (λ (q : Progress P). r) b start p pairs t) (rest (passed rules deepest max_commits thread b p pairs t) (passed_less b start e))
 
     -- so many blocks suffice
     pub solo_enough : (n k : ℕ) (b : Progress P) → rules.calls_left b.player ≤ n → rules.calls_left b.player ≤ k → goes n b ≡ goes k b
@@ -216,13 +222,7 @@ module _ {P : Type 0} (rules : Rules P) (laws : Obeys rules) (deepest : ℕ) whe
 
       less : rules.calls_left (player_then rules.answered (begun start) xs) ≤ rules.calls_left b.player
       less =
-          let found = begin_found b.player b.arena start comes_to in
-          let l = found.less in
-          let m = laws.nearer start.player (Begin start.props found.room) (begin_code false) found.asks in
-          let along = falls_along (rules.calls_left (begun start)) (begun start) (opened b.memory start.arena start.props) (turn rules.next_call rules.answered rules.calls_left (begun start) (opened b.memory start.arena start.props)) refl in
-          let same : rules.calls_left (player_after rules deepest 0 0 (begun start) (answers rules.next_call rules.answered rules.calls_left deepest (begun start) b.memory start.arena start.props)) ≡ rules.calls_left (player_then rules.answered (begun start) xs) =
-          ap (λ (pairs : List (Call × Reply)). rules.calls_left (player_after rules deepest 0 0 (begun start) pairs)) all ∙ ap rules.calls_left (player_pairs (begun start) xs) in
-          omega arith
+          omega (arith, passed_less b start comes_to, ap (λ (pairs : List (Call × Reply)). rules.calls_left (player_after rules deepest max_commits thread (begun start) pairs)) all, ap rules.calls_left (player_pairs (begun start) xs))
 
       -- it ends by a commit
       pub ended_block : is_open (state_of b start xs) ≡ false → ((state_of b start xs).wrote && nat_le max_commits b.commits) ≡ false

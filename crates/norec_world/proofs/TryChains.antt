@@ -5,8 +5,9 @@ use Rattle.norec_world.proofs.Common.{Actor, Attempt, Cells, Continues, Ended, E
 use Rattle.norec_world.specs.declared.attempt.Outcome.TheVariants as outcomes
 use Rattle.norec_world.specs.declared.attempt.End.TheVariants as ends
 use Rattle.norec_world.proofs.SoundSteps.{rests}
-use Rattle.norec_world.proofs.TryEnds.{stays_between, stays_open}
+use Rattle.norec_world.proofs.TryEnds.{stays_between, stays_open, stays}
 use Rattle.norec_world.proofs.Taken.{still_going}
+use Rattle.std.proofs.lemmas.Option.{none-some}
 
 -- none found no memory
 pub fed_joined : {P : Type 0} (actors : List (Actor P)) (a : Actor P) → ((place : ℕ) → ending_in actors place ≡ Some NoMemory → ⊥) → (ending_of a.status ≡ Some NoMemory → ⊥)
@@ -137,9 +138,5 @@ module _ {P : Type 0} (rules : Rules P)
   no_pending = (rests sound ready).nothing
 
   pub tries_still : Tries cells.clock (prior_of r a) cells.clock r a
-  tries_still = by_row (in_transaction a.engine) sound.kept.row
-    where
-      by_row : (b : Bool) → HasRow b r a.thread → Tries cells.clock (prior_of r a) cells.clock r a
-      by_row true h = stays_open cells.clock cells.clock r r a a refl refl h.0 h.1 h.1 refl (still_going ready) (still_going ready)
-      by_row false h = stays_between cells.clock cells.clock r r a a refl refl h no_pending
-          (record { none = h; tries = refl; opens = λ row e. absurd (let n = sym no_pending ∙ e in cc); goes_on = still_going ready })
+  tries_still =
+      stays cells.clock cells.clock r r a a refl refl (in_transaction a.engine) sound.kept.row no_pending refl refl (λ shut row e. absurd (none-some row (sym no_pending ∙ e))) (still_going ready) (still_going ready)
