@@ -11,7 +11,7 @@ returns-in-Conflict-clause-settled g c was d =
     let fits : AnswerFits was (in_transaction a.engine) c.args.call (Conflict c.in-Conflict.clock c.in-Conflict.word) = subst (AnswerFits was (in_transaction a.engine) c.args.call) c.in-Conflict.is d.fits in
     subst (IsSettledBy g.P.Player was c.end.new.self a) (sym c.retry.ensures)
     (after_try g.P.Player g.met.P.Player.laws c.args.recorded.now c.end.new.self a c.args.call
-    was d.kept d.nested d.idle d.free d.status a.pending (d.in_call.inside fits.0) c.restart.new.self
+    was d a.pending (d.in_call.inside fits.0) c.restart.new.self
     (ap g.P.Player.depth c.restart.ensures ∙ d.nested.begun fits.0)
     (ap g.P.Player.calls_left c.restart.ensures ∙ sym (ap (λ (b : Bool). whole g.P.Player b a.player) fits.0))
     fits.1 c.end.ensures.gone)
@@ -23,7 +23,7 @@ returns-in-Busy-clause-settled g c was d =
     let fits : AnswerFits was (in_transaction a.engine) c.args.call (Busy c.in-Busy.clock) = subst (AnswerFits was (in_transaction a.engine) c.args.call) c.in-Busy.is d.fits in
     subst (IsSettledBy g.P.Player was r a) (sym c.retry-in-Busy.ensures)
     (after_try g.P.Player g.met.P.Player.laws r r a c.args.call
-    was d.kept d.nested d.idle d.free d.status None refl a.player
+    was d None refl a.player
     (d.nested.depth_is ∙ ap depth_if fits.0)
     (sym (ap (λ (b : Bool). whole g.P.Player b a.player) fits.0))
     fits.1 (subst (λ (b : Bool). HasRow b r a.thread) fits.0 d.kept.row))
