@@ -1,23 +1,21 @@
 -- The open attempts: one changed, one taken out, and one more.
 use Rattle.std.proofs.Common.{◌≡◌, ℕ, zero, suc, ◌+◌, ◌-◌, ◌<◌, ◌≤◌, ◌==◌, Bool, true, false, not, cond, nat_lt, List, [], ◌∷◌, ◌++◌, length, take, drop, slice_set, slice_index_or, find, position, Option, None, Some, inl, inr, refl, sym, ap, subst, ◌∙◌, arith, eq-eqb, append_assoc, length-take-le, take_at, drop_at}
-use Rattle.std.specs.List.{insert, remove, position_or_len}
+use Rattle.std.specs.List.{position_or_len}
 use Rattle.std.specs.Option.{unwrap_or}
-use Rattle.std.proofs.lemmas.Bool.{cases_Bool, cases_lt, ltb-true, ltb-false, eqb-true, eqb-false, ne_eqb, cond_below, cond_above}
-use Rattle.std.proofs.lemmas.List.{get_or-drop, take-set-le, drop-set-add, take_rest, length_push}
+use Rattle.std.proofs.lemmas.Bool.{ltb-true, ltb-false, eqb-true, cond_below}
+use Rattle.std.proofs.lemmas.List.{take-set-le, drop-set-add, take_rest, length_push, drop_at}
+use Rattle.std.proofs.lemmas.List.Folds.{find_at}
+use Rattle.std.proofs.lemmas.Option.{slice_get_past}
 use Rattle.std.proofs.lemmas.List.Sums.{prefix_len-le-length}
 use Rattle.std.proofs.lemmas.List.Quantifiers.{position-Some}
-use Rattle.norec_world.proofs.Common.{AreFrom, Attempt, Rows, active_of, with_changed, with_opened}
-use Rattle.norec_world.specs.Rows.{is_of, changed, without, with_one, with_ended}
+use Rattle.norec_world.proofs.Common.{AreFrom, Attempt, Rows, active_of, cases_Bool, cases_lt, changed, eqb-false, get_or-drop, insert, is_of, ne_eqb, remove, with_changed, with_ended, with_opened, without, cond_both}
+use Rattle.norec_world.specs.Rows.{with_one}
 
 -- the first that passes is the one at this place
 abbrev pub IsFirstAt : {A : Type 0} → (A → Bool) → List A → ℕ → Type 0
 IsFirstAt p [] i = ⊥
 IsFirstAt p (x ∷ xs) zero = p x ≡ true
 IsFirstAt p (x ∷ xs) (suc i) = (p x ≡ false) × IsFirstAt p xs i
-
-abbrev pub NonePasses : {A : Type 0} → (A → Bool) → List A → Type 0
-NonePasses p [] = Unit {0}
-NonePasses p (x ∷ xs) = (p x ≡ false) × NonePasses p xs
 
 module _ {A : Type 0} (p : A → Bool) where
   first_at : (xs : List A) (i : ℕ) (d : A) → i < length xs → p (slice_index_or xs i d) ≡ true → ((k : ℕ) → k < i → p (slice_index_or xs k d) ≡ false) → IsFirstAt p xs i
@@ -29,19 +27,11 @@ module _ {A : Type 0} (p : A → Bool) where
   first_from_position [] i found = absurd (cc)
   first_from_position (x ∷ xs) i found = let h = position-Some p (x ∷ xs) i x found in first_at (x ∷ xs) i x h.0 h.1 h.2
 
-  none_pass : (xs : List A) → length xs ≤ position_or_len p xs → NonePasses p xs
-  none_pass [] past = tt
-  none_pass (x ∷ xs) past =
-      elim (cases_Bool (p x)) [
-        | inl e ↦ absurd (let h = simp e at past in omega arith)
-        | inr e ↦ (let h = simp e at past in (e, none_pass xs (omega arith)))
-      ]
-
-  pub none_from_position : (xs : List A) → position p xs ≡ None → NonePasses p xs
-  none_from_position xs none =
-      elim (cases_lt (position_or_len p xs) (length xs)) [
+  pub not_found : (xs : List A) → position p xs ≡ None → find p xs ≡ None
+  not_found xs none =
+      find_at p xs ∙ elim (cases_lt (position_or_len p xs) (length xs)) [
         | inl lt ↦ absurd (let e = cond_below (position_or_len p xs) (length xs) (Some (position_or_len p xs)) None lt in cc)
-        | inr le ↦ none_pass xs le
+        | inr le ↦ slice_get_past xs (position_or_len p xs) le
       ]
 
   pub found_first : (xs : List A) (i : ℕ) (x : A) → IsFirstAt p xs i → x ≡ slice_index_or xs i x → find p xs ≡ Some x
@@ -49,18 +39,17 @@ module _ {A : Type 0} (p : A → Bool) where
   found_first (y ∷ ys) zero x first read = simp first (ap Some (sym read))
   found_first (y ∷ ys) (suc i) x first read = let e = first.0 in simp e (found_first ys i x first.1 read)
 
-  pub found_none : (xs : List A) → NonePasses p xs → find p xs ≡ None
-  found_none [] none = refl
-  found_none (y ∷ ys) none = let e = none.0 in simp e (found_none ys none.1)
-
   pub set_first : (f : A → A) (xs : List A) (i : ℕ) (x : A) → IsFirstAt p xs i → x ≡ slice_index_or xs i x → slice_set xs i (f x) ≡ changed p f xs
   set_first f [] i x first read = absurd first
   set_first f (y ∷ ys) zero x first read = simp first (ap (λ (z : A). f z ∷ ys) read)
   set_first f (y ∷ ys) (suc i) x first read = let e = first.0 in simp e (ap (λ (zs : List A). y ∷ zs) (set_first f ys i x first.1 read))
 
-  pub changed_none : (f : A → A) (xs : List A) → NonePasses p xs → changed p f xs ≡ xs
+  pub changed_none : (f : A → A) (xs : List A) → find p xs ≡ None → changed p f xs ≡ xs
   changed_none f [] none = refl
-  changed_none f (y ∷ ys) none = let e = none.0 in simp e (ap (λ (zs : List A). y ∷ zs) (changed_none f ys none.1))
+  changed_none f (y ∷ ys) none = elim (cases_Bool (p y)) [
+    | inl e ↦ absurd (let some = simp e at none in cc)
+    | inr e ↦ simp e (ap (λ (zs : List A). y ∷ zs) (changed_none f ys (simp e at none)))
+  ]
 
   pub removed_first : (xs : List A) (i : ℕ) → IsFirstAt p xs i → remove xs i ≡ without p xs
   removed_first [] i first = absurd first
@@ -70,26 +59,15 @@ module _ {A : Type 0} (p : A → Bool) where
   pub first_or_len : (xs : List A) → unwrap_or (position p xs) (length xs) ≡ position_or_len p xs
   first_or_len xs =
       let n = position_or_len p xs in
-      elim (cases_lt n (length xs)) [
-        | inl lt ↦ ap (λ (o : Option ℕ). unwrap_or o (length xs)) (sym (cond_below n (length xs) (Some n) None lt))
-        | inr le ↦ (
-            let none : None ≡ position p xs = cond_above n (length xs) (Some n) None None le refl in
-            ap (λ (o : Option ℕ). unwrap_or o (length xs)) (sym none) ∙ omega (arith, prefix_len-le-length (λ (x : A). not (p x)) xs))
-      ]
+      cond_both (nat_lt n (length xs)) (Some n) None (λ (o : Option ℕ). unwrap_or o (length xs) ≡ n) (λ lt. refl)
+      (λ past. omega (arith, ltb-false n (length xs) past, prefix_len-le-length (λ (x : A). not (p x)) xs))
 
-  pub inserted_first : (y : A) (xs : List A) (i : ℕ) → i ≡ position_or_len p xs → insert xs i y ≡ with_one p y xs
-  inserted_first y [] zero at_len = refl
-  inserted_first y [] (suc i) at_len = absurd (omega arith)
-  inserted_first y (x ∷ xs) zero at_len =
-      elim (cases_Bool (p x)) [
-        | inl e ↦ simp e refl
-        | inr e ↦ absurd (let h = simp e at at_len in omega arith)
-      ]
-  inserted_first y (x ∷ xs) (suc i) at_len =
-      elim (cases_Bool (p x)) [
-        | inl e ↦ absurd (let h = simp e at at_len in omega arith)
-        | inr e ↦ (let h = simp e at at_len in simp e (ap (λ (zs : List A). x ∷ zs) (inserted_first y xs i (omega arith))))
-      ]
+  pub inserted_first : (y : A) (xs : List A) → insert xs (position_or_len p xs) y ≡ with_one p y xs
+  inserted_first y [] = refl
+  inserted_first y (x ∷ xs) = elim (cases_Bool (p x)) [
+    | inl e ↦ simp e refl
+    | inr e ↦ (let one : 1 + position_or_len p xs ≡ suc (position_or_len p xs) = omega arith in simp (e, one) (ap (λ (zs : List A). x ∷ zs) (inserted_first y xs)))
+  ]
 
 module _ {A : Type 0} where
   -- one moved from behind the first ones to their end
@@ -158,7 +136,7 @@ changed_elsewhere thread other f (x ∷ xs) keeps ne =
       | inr e ↦ simp e (ap (λ (o : Option Attempt). cond (x.thread == other) (Some x) o) (changed_elsewhere thread other f xs keeps ne))
     ]
 
-past_all : (thread n : ℕ) (xs : List Attempt) → thread < n → AreFrom n xs → active_of thread xs ≡ None
+pub past_all : (thread n : ℕ) (xs : List Attempt) → thread < n → AreFrom n xs → active_of thread xs ≡ None
 past_all thread n [] lt from = refl
 past_all thread n (x ∷ xs) lt from =
     let no = ne_eqb x.thread thread (λ h. omega (arith, from.0)) in
@@ -212,6 +190,12 @@ row_is_of thread (x ∷ xs) row found =
 abbrev pub parted : List Attempt → ℕ → ℕ → Rows
 parted items ended room = record { ended = take ended items; active = drop ended items; room = room }
 
+parted_as : {front back new : List Attempt} {n : ℕ} → new ≡ front ++ back → length front ≡ n → (room : ℕ) → parted new n room ≡ record { ended = front; active = back; room = room }
+parted_as {front} {back} {n} is long room =
+    let first = ap (λ (xs : List Attempt). take n xs) is ∙ take_at front back n long in
+    let rest = ap (λ (xs : List Attempt). drop n xs) is ∙ drop_at front back n long in
+    λ j. record { ended = first j; active = rest j; room = room }
+
 module _ (items : List Attempt) (ended : ℕ) where
   open_part : (seen : List Attempt) → seen ≡ items → take (length seen - ended) (drop ended seen) ≡ drop ended items
   open_part seen same = ap (λ (xs : List Attempt). take (length xs - ended) (drop ended xs)) same ∙ take_rest items ended
@@ -222,12 +206,12 @@ module _ (items : List Attempt) (ended : ℕ) where
       first_from_position (is_of thread) (drop ended items) place (sym (found ∙ ap (λ (xs : List Attempt). position (is_of thread) xs) (open_part seen same)))
 
   pub place_none : (seen : List Attempt) (thread : ℕ) → seen ≡ items → None ≡ position (is_of thread) (take (length seen - ended) (drop ended seen))
-      → NonePasses (is_of thread) (drop ended items)
+      → active_of thread (drop ended items) ≡ None
   place_none seen thread same none =
-      none_from_position (is_of thread) (drop ended items) (sym (none ∙ ap (λ (xs : List Attempt). position (is_of thread) xs) (open_part seen same)))
+      not_found (is_of thread) (drop ended items) (sym (none ∙ ap (λ (xs : List Attempt). position (is_of thread) xs) (open_part seen same)))
 
   -- the actor has no open row
-  module _ (thread : ℕ) (none : NonePasses (is_of thread) (drop ended items)) (room : ℕ) (r : Rows) (are : parted items ended room ≡ r) where
+  module _ (thread : ℕ) (none : active_of thread (drop ended items) ≡ None) (room : ℕ) (r : Rows) (are : parted items ended room ≡ r) where
     pub same_rows : (f : Attempt → Attempt) → r ≡ with_changed thread f r
     same_rows f =
         let back = sym (changed_none (is_of thread) f (drop ended items) none) in
@@ -236,7 +220,7 @@ module _ (items : List Attempt) (ended : ℕ) where
 
     pub no_row : (row : Attempt) → active_of thread r.active ≡ Some row → ⊥
     no_row row found =
-        let clash : None ≡ Some row = sym (found_none (is_of thread) (drop ended items) none) ∙ (ap (λ (s : Rows). active_of thread s.active) are ∙ found) in
+        let clash : None ≡ Some row = sym none ∙ (ap (λ (s : Rows). active_of thread s.active) are ∙ found) in
         absurd (cc)
 
   -- the actor's open row, read at its place, and another put there
@@ -272,20 +256,14 @@ module _ (items : List Attempt) (ended : ℕ) where
         ∙ (ap (λ (xs : List Attempt). take ended items ++ y ∷ xs) (removed_first (is_of thread) (drop ended items) place first)
         ∙ sym (append_assoc (take ended items) (y ∷ []) (without (is_of thread) (drop ended items)))))
 
-    one_more : length (take ended items ++ y ∷ []) ≡ ended + 1
-    one_more = length_push (take ended items) y ∙ ap (λ (n : ℕ). n + 1) (length-take-le ended items within)
-
-    moved_front : take (ended + 1) new ≡ take ended items ++ y ∷ []
-    moved_front = ap (λ (xs : List Attempt). take (ended + 1) xs) moved ∙ take_at (take ended items ++ y ∷ []) (without (is_of thread) (drop ended items)) (ended + 1) one_more
-
-    moved_back : drop (ended + 1) new ≡ without (is_of thread) (drop ended items)
-    moved_back = ap (λ (xs : List Attempt). drop (ended + 1) xs) moved ∙ drop_at (take ended items ++ y ∷ []) (without (is_of thread) (drop ended items)) (ended + 1) one_more
+    moved_parts : (room : ℕ) → parted new (ended + 1) room ≡ record { ended = take ended items ++ y ∷ []; active = without (is_of thread) (drop ended items); room = room }
+    moved_parts = parted_as moved (length_push (take ended items) y ∙ ap (λ (n : ℕ). n + 1) (length-take-le ended items within))
 
     pub moved_from : AreFrom 0 (drop ended items) → AreFrom 0 (drop (ended + 1) new)
-    moved_from from = subst (λ (xs : List Attempt). AreFrom 0 xs) (sym moved_back) (from_without 0 (is_of thread) (drop ended items) from)
+    moved_from from = subst (λ (r : Rows). AreFrom 0 r.active) (sym (moved_parts 0)) (from_without 0 (is_of thread) (drop ended items) from)
 
     pub moved_rows : (room room' : ℕ) → room' ≡ room → parted new (ended + 1) room' ≡ with_ended thread y (parted items ended room)
-    moved_rows room room' same = let front = moved_front in let back = moved_back in λ j. record { ended = front j; active = back j; room = same j }
+    moved_rows room room' same = moved_parts room' ∙ ap (λ (n : ℕ). with_ended thread y (parted items ended n)) same
 
   -- one more open row
   module _ (a : Attempt) (seen : List Attempt) (after : Option ℕ) (place : ℕ) (same : seen ≡ items) (within : ended ≤ length items)
@@ -302,16 +280,14 @@ module _ (items : List Attempt) (ended : ℕ) where
     opened =
         is
         ∙ (inserted_items items ended place a within
-        ∙ ap (λ (xs : List Attempt). take ended items ++ xs) (inserted_first (λ (b : Attempt). nat_lt a.thread b.thread) a (drop ended items) place at_place))
+        ∙ (ap (λ (n : ℕ). take ended items ++ insert (drop ended items) n a) at_place
+        ∙ ap (λ (xs : List Attempt). take ended items ++ xs) (inserted_first (λ (b : Attempt). nat_lt a.thread b.thread) a (drop ended items))))
 
-    opened_front : take ended new ≡ take ended items
-    opened_front = ap (λ (xs : List Attempt). take ended xs) opened ∙ take_at (take ended items) _ ended (length-take-le ended items within)
-
-    opened_back : drop ended new ≡ with_one (λ b. nat_lt a.thread b.thread) a (drop ended items)
-    opened_back = ap (λ (xs : List Attempt). drop ended xs) opened ∙ drop_at (take ended items) _ ended (length-take-le ended items within)
+    opened_parts : (room : ℕ) → parted new ended room ≡ record { ended = take ended items; active = with_one (λ b. nat_lt a.thread b.thread) a (drop ended items); room = room }
+    opened_parts = parted_as opened (length-take-le ended items within)
 
     pub opened_from : active_of a.thread (drop ended items) ≡ None → AreFrom 0 (drop ended items) → AreFrom 0 (drop ended new)
-    opened_from none from = subst (λ (xs : List Attempt). AreFrom 0 xs) (sym opened_back) (from_with_one a (drop ended items) 0 (omega arith) none from)
+    opened_from none from = subst (λ (r : Rows). AreFrom 0 r.active) (sym (opened_parts 0)) (from_with_one a (drop ended items) 0 (omega arith) none from)
 
     pub opened_rows : (room room' : ℕ) → room' ≡ room - 1 → parted new ended room' ≡ with_opened a (parted items ended room)
-    opened_rows room room' less = let front = opened_front in let back = opened_back in λ j. record { ended = front j; active = back j; room = less j }
+    opened_rows room room' less = opened_parts room' ∙ ap (λ (n : ℕ). record (with_opened a (parted items ended room)) { room = n }) less

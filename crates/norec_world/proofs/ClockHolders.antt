@@ -1,8 +1,6 @@
 -- An actor's steps, as the others see the clock.
 use Rattle.std.proofs.Common.{inl, inr, ◌≡◌, ℕ, zero, suc, Some, ◌*◌, ◌≤◌, ◌%◌, Bool, true, false, refl, sym, ap, subst, ◌∙◌, arith}
-use Rattle.std.proofs.lemmas.Bool.{both_ways, cases_Bool}
-use Rattle.norec_world.proofs.Common.{Cells, ClocksOn, Core, Load, Step, Store, handed_to, word_loaded}
-use Rattle.norec_world.specs.ClockHolder.{HoldsOn}
+use Rattle.norec_world.proofs.Common.{Cells, ClocksOn, Core, HoldsOn, Load, Step, Store, both_ways, cases_Bool, handed_to, word_loaded}
 
 -- one step
 pub clocks_of : (cells cells' : Cells) (e e' : Core) → HoldsOn cells e cells' e' → (e'.holds ≡ true → cells'.clock % 2 ≡ 1) → ClocksOn cells e cells' e'

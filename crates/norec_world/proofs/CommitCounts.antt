@@ -1,11 +1,9 @@
 -- The commits stay in order over an event.
 use Rattle.std.proofs.Common.{◌≡◌, inl, inr, ℕ, ◌+◌, ◌*◌, ◌/◌, ◌%◌, ◌≤◌, ◌==◌, ◌&&◌, Bool, true, false, nat_lt, List, [], ◌∷◌, ◌++◌, Some, slice_get, slice_set, refl, sym, ap, subst, ◌∙◌, arith, eq-eqb, lt-ltb}
-use Rattle.std.proofs.lemmas.Bool.{both_ways, cases_order, false_from_ne_true, le-ltb, ne_eqb}
-use Rattle.norec_world.proofs.Common.{Actor, AreActors, AreCounted, Attempt, Cells, CommitsInOrder, EndsAt, IsEvent, Outcome, Prior, Rows, Rules, Tries, World, begins, between, over, prior_of, runs, turned_away}
+use Rattle.std.proofs.lemmas.Bool.{cases_order}
+use Rattle.norec_world.proofs.Common.{Actor, AreActors, AreCounted, Attempt, Cells, CommitsInOrder, EndsAt, IsEvent, IsFirst, Outcome, Prior, Rows, Rules, Tries, World, begins, between, both_ways, count_at, count_committed, false_from_ne_true, is_at, is_committed, le-ltb, ne_eqb, one_where, over, prior_of, runs, turned_away}
 use Rattle.norec_world.specs.declared.attempt.Outcome.TheVariants as outcomes
-use Rattle.norec_world.specs.Attempts.{is_committed, is_at}
-use Rattle.norec_world.specs.Starts.{IsFirst}
-use Rattle.norec_world.specs.Commits.{one_where, count_at, count_committed, HasLimits}
+use Rattle.norec_world.specs.Commits.{HasLimits}
 use Rattle.norec_world.proofs.SoundOthers.{held_after, held_apart, odd_or_even, one_after, set_place}
 
 -- ## Counts
@@ -21,13 +19,9 @@ count_committed_more (x ∷ xs) a = (let e = count_committed_more xs a in omega 
 -- the clock of one more commit
 below_more : (position n : ℕ) → one_where (nat_lt position (n + 1)) ≡ one_where (nat_lt position n) + one_where (n == position)
 below_more position n = elim (cases_order position n) [
-  | inl same ↦ (let l = ap one_where (lt-ltb position (n + 1) (omega arith)) in let m = ap one_where (le-ltb position n (omega arith)) in let e = ap one_where (eq-eqb n position (sym same)) in omega arith)
-  | inr apart ↦
-      (let e : one_where (n == position) ≡ 0 = ap one_where (ne_eqb n position (λ same. elim apart [ inl l ↦ absurd (omega arith) | inr l ↦ absurd (omega arith) ])) in
-      elim apart [
-        | inl l ↦ (let k = ap one_where (lt-ltb position (n + 1) (omega arith)) in let m = ap one_where (lt-ltb position n l) in omega arith)
-        | inr l ↦ (let k = ap one_where (le-ltb position (n + 1) (omega arith)) in let m = ap one_where (le-ltb position n (omega arith)) in omega arith)
-      ])
+  | inl same ↦ omega (arith, ap one_where (lt-ltb position (n + 1) (omega arith)), ap one_where (le-ltb position n (omega arith)), ap one_where (eq-eqb n position (sym same)))
+  | inr (inl l) ↦ omega (arith, ap one_where (lt-ltb position (n + 1) (omega arith)), ap one_where (lt-ltb position n l), ap one_where (ne_eqb n position (λ same. omega arith)))
+  | inr (inr l) ↦ omega (arith, ap one_where (le-ltb position (n + 1) (omega arith)), ap one_where (le-ltb position n (omega arith)), ap one_where (ne_eqb n position (λ same. omega arith)))
 ]
 
 counted_same : (clock clock' : ℕ) (xs ys : List Attempt) → ys ≡ xs → clock' / 2 ≡ clock / 2 → AreCounted clock xs → AreCounted clock' ys

@@ -1,55 +1,77 @@
--- The names that most proofs cite, passed on from one place. Declares nothing.
-pub use Rattle.itm_model.specs.Machine.{after, is_open, opened, reply}
+-- The names that more than one proof cites, passed on from one place. Declares nothing.
+pub use Rattle.itm_model.specs.Machine.{after, is_open, opened, refusal, reply}
 pub use Rattle.itm_model.specs.Runs.{answers, answers_within, turn}
-pub use Rattle.itm_model.specs.State.{State}
+pub use Rattle.itm_model.specs.State.{Block, State}
 pub use Rattle.itm_model.specs.declared.limits.TheConstants.{MAX_DEPTH}
 pub use Rattle.itm_types.proofs.Words.{slice_get-set_same}
 pub use Rattle.itm_types.specs.Calls.{is_begin}
 pub use Rattle.itm_types.specs.Memory.{Agrees, AllFit, IsMemory, bytes_of}
-pub use Rattle.itm_types.specs.declared.call.Call.{Call}
 pub use Rattle.itm_types.specs.declared.call.Call.TheVariants.{Begin, Commit, Read, Write}
+pub use Rattle.itm_types.specs.declared.call.Call.{Call}
 pub use Rattle.itm_types.specs.declared.call.Props.{Props}
+pub use Rattle.itm_types.specs.declared.call.Refusal.TheVariants.{Outside}
+pub use Rattle.itm_types.specs.declared.call.Reply.TheVariants.{Code, Done, Refused}
 pub use Rattle.itm_types.specs.declared.call.Reply.{Reply as Replied}
-pub use Rattle.itm_types.specs.declared.call.Reply.TheVariants.{Done}
-pub use Rattle.itm_types.specs.declared.step.Step.{Step}
+pub use Rattle.itm_types.specs.declared.limits.TheConstants.{MAX_ACTORS}
 pub use Rattle.itm_types.specs.declared.step.Step.TheVariants.{Cas, Load, Store}
+pub use Rattle.itm_types.specs.declared.step.Step.{Step}
+pub use Rattle.norec_engine.proofs.AnsweredEngines.{rests}
+pub use Rattle.norec_engine.proofs.Blocks.{none_inside}
 pub use Rattle.norec_engine.proofs.KeptFields.{handed_is}
-pub use Rattle.norec_engine.specs.Core.{Core, came, handed_to, in_transaction, is_inside, word_loaded}
-pub use Rattle.norec_engine.specs.Proceeds.{Ends, IsAtOnce, IsLawful, Proceeds, Replies, RepliesTo}
-pub use Rattle.norec_engine.specs.declared.answer.Answer.{Answer}
+pub use Rattle.norec_engine.proofs.Overlays.{Agrees-drop}
+pub use Rattle.norec_engine.specs.Core.{Core, came, handed_to, in_transaction, is_inside, opening, word_loaded}
+pub use Rattle.norec_engine.specs.Moves.{IsResumed}
+pub use Rattle.norec_engine.specs.Proceeds.{AsksFor, Ends, Got, IsAtOnce, IsLawful, IsWithin, Proceeds, Replies, RepliesTo, StaysOn, backed, recoded}
+pub use Rattle.norec_engine.specs.Rows.{write_at}
+pub use Rattle.norec_engine.specs.Stands.{stands_for, state_over}
+pub use Rattle.norec_engine.specs.Undoing.{after_undoing}
 pub use Rattle.norec_engine.specs.declared.answer.Answer.TheVariants.{Busy, Committed, Conflict, Full, Reply}
-pub use Rattle.norec_engine.specs.declared.answer.Next.{Next}
+pub use Rattle.norec_engine.specs.declared.answer.Answer.{Answer}
 pub use Rattle.norec_engine.specs.declared.answer.Next.TheVariants.{Answer as Answers, Step as Asks}
+pub use Rattle.norec_engine.specs.declared.answer.Next.{Next}
 pub use Rattle.norec_world.specs.Actors.{AreActors}
 pub use Rattle.norec_world.specs.Alone.{IsAlone, player_then, state_then}
-pub use Rattle.norec_world.specs.Attempts.{alone, committed_at, of_thread, pair_of}
-pub use Rattle.norec_world.specs.Cells.{Cells, cells_after, found, words_of}
-pub use Rattle.norec_world.specs.ClockHolder.{ClocksOn}
-pub use Rattle.norec_world.specs.Commits.{AreCounted, CommitsInOrder}
+pub use Rattle.norec_world.specs.Attempts.{alone, committed_at, is_at, is_committed, memory_left, of_thread, pair_of}
+pub use Rattle.norec_world.specs.Cells.{AreWords, Cells, cells_after, found, words_of}
+pub use Rattle.norec_world.specs.ClockHolder.{ClocksOn, HoldsOn}
+pub use Rattle.norec_world.specs.Commits.{AreCounted, CommitsInOrder, count_at, count_committed, one_where}
 pub use Rattle.norec_world.specs.Events.{IsEvent}
-pub use Rattle.norec_world.specs.Invariant.{IsWorld}
-pub use Rattle.norec_world.specs.LocalWork.{Acts}
-pub use Rattle.norec_world.specs.LogAgreement.{AreLaid, Sees}
+pub use Rattle.norec_world.specs.Invariant.{AreRunning, IsWorld}
+pub use Rattle.norec_world.specs.LocalWork.{Acts, Starves, Works}
+pub use Rattle.norec_world.specs.LogAgreement.{AreLaid, Loaded, Sees}
 pub use Rattle.norec_world.specs.Memories.{bytes_at, words_at}
-pub use Rattle.norec_world.specs.Opacity.{Beginning, Between, IsRunOf, IsTryAt, begin_code, begin_of}
-pub use Rattle.norec_world.specs.Opaque.{AreOpaque}
-pub use Rattle.norec_world.specs.OthersAttempts.{KeepsOthers}
-pub use Rattle.norec_world.specs.Records.{IsTold, Opens, Records, Tells, asked_pending, begins_again}
-pub use Rattle.norec_world.specs.Rows.{AreFrom, Rows, active_of, with_changed, with_opened}
-pub use Rattle.norec_world.specs.Runs.{IsRun, begins_at, run_after}
-pub use Rattle.norec_world.specs.Sound.{HasRow, IsDone, IsNested, IsNoMore, IsReady, IsSound, IsTied, RestsAs, StatusIs, rank, whole}
+pub use Rattle.norec_world.specs.Moments.{HasWorked}
+pub use Rattle.norec_world.specs.Opacity.{Beginning, Between, EndsAs, IsOpaque, IsRunOf, IsTryAt, LacksCommit, after_try, answered_all, begin_code, begin_of, begin_within, follows}
+pub use Rattle.norec_world.specs.Opaque.{AreOpaque, first_of}
+pub use Rattle.norec_world.specs.OthersAttempts.{AllOf, ChangesOwn, KeepsOthers, count_pending}
+pub use Rattle.norec_world.specs.Records.{CountsTry, IsTold, Opens, Records, StopsAt, Tells, asked_pending, begins_again}
+pub use Rattle.norec_world.specs.Rows.{AreFrom, AreOfActors, AreOpen, AreUnfinished, Rows, active_of, changed, is_of, with_changed, with_ended, with_opened, without}
+pub use Rattle.norec_world.specs.Runs.{IsBeforeTry, IsInTry, IsRun, RunsFrom, begins_at, run_after}
+pub use Rattle.norec_world.specs.Sole.{AreSole, EndsWith, IsFirstTry, IsOnWay, IsSole, StandsSole}
+pub use Rattle.norec_world.specs.Solo.{Progress, Solo, ended_as, one_if, row_of, solo_within, stopped, with_all, with_first}
+pub use Rattle.norec_world.specs.Sound.{AnswerFits, Falls, GoesOn, HasLess, HasRow, IsAnswered, IsDone, IsKept, IsNested, IsNoMore, IsReady, IsSettledBy, IsSound, IsTied, RestsAs, StatusIs, depth_if, rank, retried, run_left, steps_left, whole}
+pub use Rattle.norec_world.specs.Starts.{HasStarted, IsFirst}
 pub use Rattle.norec_world.specs.Status.{ending_of, is_ready, is_waiting, waiting_step}
-pub use Rattle.norec_world.specs.Tries.{EndsAt, IsBetween, Prior, Tries, begins, between, current_of, over, prior_of, runs, turned_away}
-pub use Rattle.norec_world.specs.World.{SameOpening, World, counted, ending_at, told, waits_at}
-pub use Rattle.norec_world.specs.WorldEvents.{Goes, HasRead}
+pub use Rattle.norec_world.specs.Tries.{Continues, EndsAt, GoesOnAfter, IsBetween, Prior, Tries, TriesAgain, begins, between, current_of, is_done, over, prior_of, runs, turned_away}
+pub use Rattle.norec_world.specs.Views.{world_of}
+pub use Rattle.norec_world.specs.World.{SameOpening, ShowsAlone, World, attempts_of, counted, ending_at, ending_in, told, waits_at}
+pub use Rattle.norec_world.specs.WorldEvents.{ActorGoes, Goes, HasRead, Leads, Takes, passes_of}
 pub use Rattle.norec_world.specs.declared.actor.Actor.{Actor}
-pub use Rattle.norec_world.specs.declared.actor.Status.{Status}
 pub use Rattle.norec_world.specs.declared.actor.Status.TheVariants.{Ended, Ready, Waits}
+pub use Rattle.norec_world.specs.declared.actor.Status.{Status}
 pub use Rattle.norec_world.specs.declared.attempt.Attempt.{Attempt}
-pub use Rattle.norec_world.specs.declared.attempt.End.{End}
 pub use Rattle.norec_world.specs.declared.attempt.End.TheVariants.{Finished, GaveUp, NoMemory}
+pub use Rattle.norec_world.specs.declared.attempt.End.{End}
 pub use Rattle.norec_world.specs.declared.attempt.Entry.{Entry}
+pub use Rattle.norec_world.specs.declared.attempt.Outcome.TheVariants.{Unfinished}
 pub use Rattle.norec_world.specs.declared.attempt.Outcome.{Outcome}
+pub use Rattle.norec_world.specs.declared.fault.WorldFault.{WorldFault}
+pub use Rattle.norec_world.specs.declared.schedule.Passes.{Passes}
+pub use Rattle.script_vm.specs.Depth.{depth_after, opens}
 pub use Rattle.script_vm.specs.Rules.{Obeys, Rules}
-pub use Rattle.std.proofs.lemmas.Bool.{cond-true}
+pub use Rattle.std.proofs.lemmas.Bool.{both_ways, cases_Bool, cases_eq, cases_lt, cond-true, cond_both, eqb-false, false_from_ne_true, le-ltb, ne_eqb}
+pub use Rattle.std.proofs.lemmas.List.{append-nil, get_or-drop, map-append}
+pub use Rattle.std.proofs.lemmas.Option.{same_Some, slice_get-get_or, slice_get_past, slice_get_within}
+pub use Rattle.std.specs.Int.{from_le_bytes, to_le_bytes, w64}
+pub use Rattle.std.specs.List.{insert, remove, slice_index_or}
 pub use Rattle.std.specs.Option.{option_and_then}

@@ -1,8 +1,7 @@
 -- An actor of a world took an event, a step and the local work that follows it: the world that it leaves, and that the event says so.
 use Rattle.std.proofs.Common.{◌≡◌, ℕ, Bool, true, false, List, length-set, slice_get, slice_set, None, Some, IsSome, refl, sym, ap, subst, ◌∙◌}
-use Rattle.norec_world.proofs.Common.{Actor, Cells, ClocksOn, Finished, Goes, HasRead, IsEvent, IsWorld, KeepsOthers, Obeys, Rows, Rules, Tries, World, counted, ending_at, ending_of, is_ready, option_and_then, prior_of, told, waiting_step, waits_at}
-use Rattle.norec_world.specs.Moments.{HasStepped, HasWorked}
-use Rattle.norec_world.specs.WorldEvents.{ActorGoes}
+use Rattle.norec_world.proofs.Common.{Actor, ActorGoes, Cells, ClocksOn, Finished, Goes, HasRead, HasWorked, IsEvent, IsWorld, KeepsOthers, Obeys, Rows, Rules, Tries, World, counted, ending_at, ending_of, is_ready, option_and_then, prior_of, told, waiting_step, waits_at}
+use Rattle.norec_world.specs.Moments.{HasStepped}
 use Rattle.norec_world.proofs.ClockHolders.{clocks_still, clocks_twice}
 use Rattle.norec_world.proofs.CommitCounts.{commits_after}
 use Rattle.norec_world.proofs.OthersAttempts.{others_twice}

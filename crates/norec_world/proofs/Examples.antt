@@ -4,14 +4,12 @@ use Rattle.itm_types.specs.declared.access.Width.TheVariants.{U8}
 use Rattle.itm_types.specs.declared.access.ReadHint.TheVariants.{R}
 use Rattle.itm_types.specs.declared.access.WriteHint.TheVariants.{W}
 use Rattle.itm_types.specs.declared.datum.Datum.{Datum}
-use Rattle.norec_world.proofs.Common.{Attempt, Begin, Between, Call, Commit, Done, Entry, Finished, GaveUp, IsRunOf, Props, Read, Rules, Write}
+use Rattle.norec_world.proofs.Common.{Attempt, Begin, Between, Call, Commit, Done, Entry, Finished, GaveUp, IsOpaque, IsRunOf, Props, Read, Rules, Write, passes_of}
 use Rattle.itm_types.specs.declared.call.Reply.{Reply}
 use Rattle.itm_types.specs.declared.call.Reply.TheVariants.{Bytes}
 use Rattle.norec_world.specs.declared.attempt.Outcome.TheVariants.{Committed, Conflict, Full}
 use Rattle.norec_world.specs.declared.fault.WorldFault.TheVariants as faults
 use Rattle.norec_world.specs.Attempts.{memory_after}
-use Rattle.norec_world.specs.WorldEvents.{passes_of}
-use Rattle.norec_world.specs.Opacity.{IsOpaque}
 use Rattle.norec_world.specs.Solo.{solo}
 
 -- ## A player that adds one to the counter at place 0

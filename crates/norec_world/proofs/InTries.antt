@@ -1,38 +1,41 @@
 -- The open attempt, as its calls go on.
-use Rattle.std.proofs.Common.{◌≡◌, ◌≢◌, ℕ, zero, suc, ◌/◌, ◌<◌, ◌≤◌, Bool, true, false, if◌then◌else◌, List, [], ◌∷◌, ◌++◌, map, None, Some, refl, sym, ap, subst, ◌∙◌, arith, length, append-nil}
-use Rattle.std.proofs.lemmas.List.{map-append}
-use Rattle.norec_world.proofs.Common.{Agrees, Attempt, Begin, Beginning, Between, Call, Commit, Core, Done, Entry, IsAlone, IsMemory, IsTryAt, Load, MAX_DEPTH, Obeys, Outcome, Props, Replied, Replies, Rules, State, Step, Store, after, alone, answers, answers_within, begin_code, begins_at, bytes_at, bytes_of, handed_to, in_transaction, is_open, opened, pair_of, player_then, reply, state_then, turn, word_loaded, words_at}
+use Rattle.std.proofs.Common.{◌≡◌, ◌≢◌, ℕ, ◌/◌, ◌<◌, ◌≤◌, Bool, true, false, if◌then◌else◌, List, [], ◌∷◌, ◌++◌, map, None, Some, refl, sym, ap, subst, ◌∙◌, arith, length, append-nil}
+use Rattle.norec_world.proofs.Common.{Agrees, Agrees-drop, AsksFor, Attempt, Begin, Beginning, Between, Call, Code, Commit, Core, Done, EndsAs, Entry, IsAlone, IsInTry, IsMemory, IsTryAt, LacksCommit, MAX_DEPTH, Obeys, Outcome, Outside, Props, Replied, Replies, Rules, State, Step, after, alone, answers, answers_within, begin_code, begins_at, bytes_at, bytes_of, handed_to, in_transaction, is_open, map-append, none_inside, opened, pair_of, player_then, recoded, reply, stands_for, state_over, state_then, turn, words_at, handed_is}
 use Rattle.write_set.specs.declared.row.Row.{Row}
 use Rattle.write_set.specs.Rows.{overlay}
-use Rattle.itm_types.specs.declared.call.Reply.TheVariants.{Code}
 use Rattle.itm_model.specs.Machine.{reply_unless, or_else, unless}
-use Rattle.norec_engine.proofs.Overlays.{Agrees-drop}
-use Rattle.norec_engine.specs.Stands.{state_over, stands_for, is_some_row}
-use Rattle.norec_engine.specs.Proceeds.{AsksFor, Commits, recoded}
+use Rattle.norec_engine.specs.Stands.{is_some_row}
+use Rattle.norec_engine.specs.Proceeds.{Commits}
 use Rattle.norec_engine.proofs.Refusals.{told_plainly}
-use Rattle.norec_engine.proofs.Blocks.{none_inside}
 use Rattle.norec_engine.proofs.Machines.{commits}
-use Rattle.itm_types.specs.declared.call.Refusal.TheVariants.{Outside}
 use Rattle.norec_world.specs.declared.attempt.Outcome.TheVariants as outcomes
-use Rattle.norec_world.specs.Opacity.{EndsAs, LacksCommit}
-use Rattle.norec_world.specs.Runs.{IsInTry}
 use Rattle.norec_world.proofs.Solos.{begins_alone, alone_snoc, player_snoc, state_snoc, stands_open, gets_none}
 
 module _ {P : Type 0} (rules : Rules P) (laws : Obeys rules) where
   -- ## A step
 
-  word_handed : (b : Between P) (row : Attempt) (p : P) (e : Core) (holds : Bool) (word seen : ℕ) → IsInTry rules b row p e → IsInTry rules b row p (word_loaded e holds word seen)
-  word_handed b row p e true word seen t =
-      record { start = t.start; begins = t.begins; arena = t.arena; props = t.props; tries = t.tries; began = t.began; anew = t.anew; player = t.player; alone = t.alone; stands = t.stands }
-  word_handed b row p e false word seen t =
-      record { start = t.start; begins = t.begins; arena = t.arena; props = t.props; tries = t.tries; began = t.began; anew = t.anew; player = t.player; alone = t.alone; stands = t.stands }
+  -- the engine goes on with the same blocks, and its log says no less
+  pub try_kept : (b : Between P) (row : Attempt) (p : P) (mid new : Core) → IsInTry rules b row p mid → new.words ≡ mid.words → new.again ≡ false → ((m : List ℕ) → stands_for new m ≡ stands_for mid m) → row.began ≤ new.snapshot / 2
+      → ((m : List ℕ) → Agrees m new.log → Agrees m mid.log) → IsInTry rules b row p new
+  try_kept b row p mid new t words anew stands began less = record {
+    start = t.start;
+    begins = t.begins;
+    arena = t.arena;
+    props = t.props;
+    tries = t.tries;
+    began = began;
+    anew = anew;
+    player = t.player;
+    alone = λ m mem agrees. t.alone m (subst (λ (n : ℕ). IsMemory n m) words mem) (less m agrees);
+    stands = λ m mem agrees. stands m ∙ t.stands m (subst (λ (n : ℕ). IsMemory n m) words mem) (less m agrees);
+  }
 
+  -- the value is handed in
   pub try_handed : (b : Between P) (row : Attempt) (p : P) (e : Core) (step : Step) (seen : ℕ) → IsInTry rules b row p e → IsInTry rules b row p (handed_to e (Some step) seen)
-  try_handed b row p e (Load (suc word)) seen t = word_handed b row p e e.holds word seen t
-  try_handed b row p e (Store zero value) seen t =
-      record { start = t.start; begins = t.begins; arena = t.arena; props = t.props; tries = t.tries; began = t.began; anew = t.anew; player = t.player; alone = t.alone; stands = t.stands }
   try_handed b row p e step seen t =
-      record { start = t.start; begins = t.begins; arena = t.arena; props = t.props; tries = t.tries; began = t.began; anew = t.anew; player = t.player; alone = t.alone; stands = t.stands }
+      let h = handed_is e step seen in
+      let k = h.keeps in
+      try_kept b row p e (handed_to e (Some step) seen) t k.words (k.again ∙ t.anew) (λ m i. state_over (k.writes i) (k.blocks i) (k.arena i) m) (omega (arith, t.began, h.snapshot)) (λ m. subst (Agrees m) h.log)
 
   -- the attempt is told where it reads
   pub try_told : (b : Between P) (row : Attempt) (p : P) (e : Core) (at : ℕ) → IsInTry rules b row p e → IsInTry rules b (record row { at = at }) p e
@@ -42,19 +45,7 @@ module _ {P : Type 0} (rules : Rules P) (laws : Obeys rules) where
   -- a step is asked for
   pub try_asks : (b : Between P) (row : Attempt) (p : P) (mid new : Core) (step : Step) → IsInTry rules b row p mid → AsksFor mid step new → row.began ≤ new.snapshot / 2 → ((m : List ℕ) → Agrees m new.log → Agrees m mid.log) → IsInTry rules b row p new
   try_asks b row p mid new step t g began less =
-      let words : new.words ≡ mid.words = ap (λ (c : Core). c.words) g.stays in
-      record {
-        start = t.start;
-        begins = t.begins;
-        arena = t.arena;
-        props = t.props;
-        tries = t.tries;
-        began = began;
-        anew = ap (λ (c : Core). c.again) g.stays ∙ t.anew;
-        player = t.player;
-        alone = λ m mem agrees. t.alone m (subst (λ (n : ℕ). IsMemory n m) words mem) (less m agrees);
-        stands = λ m mem agrees. ap (λ (c : Core). stands_for c m) g.stays ∙ t.stands m (subst (λ (n : ℕ). IsMemory n m) words mem) (less m agrees);
-      }
+      try_kept b row p mid new t (ap (λ (c : Core). c.words) g.stays) (ap (λ (c : Core). c.again) g.stays ∙ t.anew) (λ m. ap (λ (c : Core). stands_for c m) g.stays) began less
 
   -- ## A reply
 

@@ -1,7 +1,6 @@
 -- The words and the memories that the commits left, once attempts have ended.
 use Rattle.std.proofs.Common.{inl, inr, ◌≡◌, ℕ, ◌+◌, ◌/◌, ◌%◌, ◌≤◌, List, length, refl, sym, ap, subst, ◌∙◌, arith}
-use Rattle.std.proofs.lemmas.Bool.{cases_eq}
-use Rattle.norec_world.proofs.Common.{AllFit, AreCounted, AreLaid, Cells, IsMemory, Rows, bytes_at, bytes_of, words_at, words_of}
+use Rattle.norec_world.proofs.Common.{AllFit, AreCounted, AreLaid, Cells, IsMemory, Rows, bytes_at, bytes_of, cases_eq, words_at, words_of}
 use Rattle.norec_world.proofs.WordLists.{words_of-bytes_of}
 
 -- no commit is done by the event

@@ -1,9 +1,7 @@
 -- Less and less is left to do.
 use Rattle.std.proofs.Common.{inl, inr, ◌≡◌, ℕ, ◌+◌, ◌<◌, ◌≤◌, Bool, true, false, None, refl, sym, ap, subst, ◌∙◌, arith, if◌then◌else◌}
-use Rattle.norec_world.proofs.Common.{Actor, IsNoMore, Ready, Rules, Status, ending_of, in_transaction, is_ready, is_waiting, rank, whole}
+use Rattle.norec_world.proofs.Common.{Actor, Falls, GoesOn, HasLess, IsNoMore, Ready, Rules, Status, cases_Bool, ending_of, in_transaction, is_ready, is_waiting, rank, run_left, steps_left, whole}
 use Rattle.norec_world.proofs.Worlds.{waiting_going}
-use Rattle.std.proofs.lemmas.Bool.{cases_Bool}
-use Rattle.norec_world.specs.Sound.{GoesOn, Falls, HasLess, steps_left, run_left}
 
 module _ {P : Type 0} (rules : Rules P) where
   run_left_is : (k : ℕ) (a : Actor P) → is_waiting a.status ≡ true → run_left rules k a ≡ rank rules k (in_transaction a.engine) a + 1
@@ -21,54 +19,46 @@ module _ {P : Type 0} (rules : Rules P) where
   pub falls_less : (a b : Actor P) → Falls rules (in_transaction a.engine) (in_transaction b.engine) a b → IsNoMore rules a b
   falls_less a b f = record { whole_falls = f.whole_falls; rank_falls = λ k l. (let u = f.rank_falls k l in omega arith) }
 
--- one event: the call of a is over at b, and local work leads to c
-module _ {P : Type 0} (rules : Rules P) (a b c : Actor P)
-    (waits : is_waiting a.status ≡ true) (over : is_waiting b.status ≡ false)
-    (falls : is_ready b.status ≡ true → Falls rules (in_transaction a.engine) (in_transaction b.engine) a b)
-    (still : is_ready b.status ≡ false → c.status ≡ b.status)
+-- one event: the step leads to b, and local work to c
+module _ {P : Type 0} (rules : Rules P) (a b c : Actor P) (waits : is_waiting a.status ≡ true) (goes_on : is_waiting b.status ≡ true → GoesOn rules a b)
+    (falls : is_ready b.status ≡ true → Falls rules (in_transaction a.engine) (in_transaction b.engine) a b) (still : is_ready b.status ≡ false → c ≡ b)
     (less : ending_of c.status ≡ None → IsNoMore rules b c) where
-  fell : is_waiting c.status ≡ true → Falls rules (in_transaction a.engine) (in_transaction b.engine) a b
-  fell w = elim (cases_Bool (is_ready b.status)) [ inl e ↦ falls e | inr e ↦ absurd (let f : is_waiting c.status ≡ false = ap is_waiting (still e) ∙ over in cc) ]
+  stays : is_waiting b.status ≡ true → c ≡ b
+  stays w = still (unready b.status w)
+    where
+      unready : (s : Status) → is_waiting s ≡ true → is_ready s ≡ false
+      unready Ready e = absurd (cc)
+      unready s e = refl
 
-  pub turn_less : is_waiting c.status ≡ true → IsNoMore rules a c
-  turn_less w = less_less rules a b c (falls_less rules a b (fell w)) (less (waiting_going c.status w))
+  -- where the call is over at b
+  fell : is_waiting b.status ≡ false → is_waiting c.status ≡ true → Falls rules (in_transaction a.engine) (in_transaction b.engine) a b
+  fell over w = elim (cases_Bool (is_ready b.status)) [ inl e ↦ falls e | inr e ↦ absurd (let f : is_waiting c.status ≡ false = ap (λ (x : Actor P). is_waiting x.status) (still e) ∙ over in cc) ]
 
-  pub turn_falls : (k : ℕ) → whole rules (in_transaction a.engine) a.player ≤ k → run_left rules k c < run_left rules k a
-  turn_falls k l =
+  turn_falls : is_waiting b.status ≡ false → (k : ℕ) → whole rules (in_transaction a.engine) a.player ≤ k → run_left rules k c < run_left rules k a
+  turn_falls over k l =
       let before = run_left_is rules k a waits in
       elim (cases_Bool (is_waiting c.status)) [
         | inl e ↦
-            (let m = (less (waiting_going c.status e)).rank_falls k (omega (arith, (fell e).whole_falls)) in
-            omega (arith, run_left_is rules k c e, (fell e).rank_falls k l))
+            (let f = fell over e in
+            omega (arith, run_left_is rules k c e, f.rank_falls k l, (less (waiting_going c.status e)).rank_falls k (omega (arith, f.whole_falls))))
         | inr e ↦ (let after : run_left rules k c ≡ 0 = ap (λ (x : Bool). if x then rank rules k (in_transaction c.engine) c + 1 else 0) e in omega arith)
       ]
 
+  pub event_less : (on : Bool) → is_waiting b.status ≡ on → HasLess rules on a c
+  event_less true w =
+      let same = stays w in
+      let on = goes_on w in record {
+        on = λ e. (ap (λ (x : Actor P). is_waiting x.status) same ∙ w, (let s = ap (λ (x : Actor P). steps_left x.engine) same in let f = on.steps in omega arith));
+        less = λ e. subst (IsNoMore rules a) (sym same) on.less;
+        over = λ e. absurd (cc);
+      }
+  event_less false over = record {
+    on = λ e. absurd (cc);
+    less = λ e. less_less rules a b c (falls_less rules a b (fell over e)) (less (waiting_going c.status e));
+    over = λ e. turn_falls over;
+  }
+
 module _ {P : Type 0} (rules : Rules P) where
-  -- one event: the step leads to b, and local work to c
-  module _ (a b c : Actor P) (waits : is_waiting a.status ≡ true) (goes_on : is_waiting b.status ≡ true → GoesOn rules a b)
-      (falls : is_ready b.status ≡ true → Falls rules (in_transaction a.engine) (in_transaction b.engine) a b) (still : is_ready b.status ≡ false → c ≡ b)
-      (less : ending_of c.status ≡ None → IsNoMore rules b c) where
-    stays : is_waiting b.status ≡ true → c ≡ b
-    stays w = still (unready b.status w)
-      where
-        unready : (s : Status) → is_waiting s ≡ true → is_ready s ≡ false
-        unready Ready e = absurd (cc)
-        unready s e = refl
-
-    pub event_less : (on : Bool) → is_waiting b.status ≡ on → HasLess rules on a c
-    event_less true w =
-        let same = stays w in
-        let on = goes_on w in record {
-          on = λ e. (ap (λ (x : Actor P). is_waiting x.status) same ∙ w, (let s = ap (λ (x : Actor P). steps_left x.engine) same in let f = on.steps in omega arith));
-          less = λ e. subst (IsNoMore rules a) (sym same) on.less;
-          over = λ e. absurd (cc);
-        }
-    event_less false w = record {
-      on = λ e. absurd (cc);
-      less = λ e. turn_less rules a b c waits w falls (λ n. ap (λ (x : Actor P). x.status) (still n)) less e;
-      over = λ e k l. turn_falls rules a b c waits w falls (λ n. ap (λ (x : Actor P). x.status) (still n)) less k l;
-    }
-
   -- a call so far: it goes on, or is over
   abbrev pub HasLessSoFar : Bool → Actor P → Actor P → Type 0
   HasLessSoFar true a b = (is_waiting a.status ≡ true) × (is_waiting b.status ≡ true) × IsNoMore rules a b

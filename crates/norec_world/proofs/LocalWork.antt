@@ -1,27 +1,7 @@
 -- A step and local work, as what an event is made of.
-use Rattle.std.proofs.Common.{◌≡◌, ℕ, zero, suc, ◌/◌, None, sym, subst}
-use Rattle.norec_world.proofs.Common.{Actor, Acts, Call, Cells, Core, IsTold, Next, Ready, Rows, Rules, Status, StatusIs, Step, Tells, Waits, found, in_transaction}
-use Rattle.norec_engine.specs.Moves.{IsResumed}
-use Rattle.norec_world.specs.LocalWork.{SameActor, TakesIn, ActsOn, Works}
-
--- the value came to the engine, and what came of it was taken up
-module _ {P : Type 0} (rules : Rules P) (cells : Cells) (r : Rows) (old : Actor P) (call : Call) (step : Step) (waiting : old.status ≡ Waits call step)
-    (seen : ℕ) (seen_is : seen ≡ found cells step) (new : Core) (what : Next) (resumed : IsResumed old.engine seen what new) where
-  pub takes_in : (status : Status) → status ≡ Ready → (rows r' : Rows) (last : Actor P) → last.engine ≡ new
-      → Tells rules (in_transaction old.engine) r rows (record old { engine = new; status = status }) last call what
-      → IsTold last.thread (in_transaction last.engine) rows (last.engine.snapshot / 2) r' → SameActor old last → TakesIn rules cells r old r' last
-  takes_in status ready rows r' last engine tells told same = record {
-    call = call;
-    step = step;
-    waits = waiting;
-    what = what;
-    resumed = subst (λ (e : Core). IsResumed old.engine (found cells step) what e) (sym engine) (subst (λ (n : ℕ). IsResumed old.engine n what new) seen_is resumed);
-    rows = rows;
-    tells = subst (λ (e : Core). Tells rules (in_transaction old.engine) r rows (record old { engine = e; status = Ready }) last call what) (sym engine)
-        (subst (λ (s : Status). Tells rules (in_transaction old.engine) r rows (record old { engine = new; status = s }) last call what) ready tells);
-    told = subst (λ (n : ℕ). IsTold n (in_transaction last.engine) rows (last.engine.snapshot / 2) r') same.thread told;
-    same = same;
-  }
+use Rattle.std.proofs.Common.{◌≡◌, ℕ, zero, suc, None, sym, subst}
+use Rattle.norec_world.proofs.Common.{Actor, Acts, Ready, Rows, Rules, Status, StatusIs, Works}
+use Rattle.norec_world.specs.LocalWork.{ActsOn}
 
 module _ {P : Type 0} (rules : Rules P) (clock : ℕ) where
   pub works_more : (r r1 r2 : Rows) (a a1 a2 : Actor P) → Works rules clock r a r1 a1 → a1.status ≡ Ready → Acts rules clock r1 a1 r2 a2

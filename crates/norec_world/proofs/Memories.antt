@@ -1,9 +1,6 @@
 -- The memories that the commits left stay when more attempts end.
 use Rattle.std.proofs.Common.{inl, inr, ◌≡◌, ℕ, zero, suc, ◌/◌, ◌<◌, ◌≤◌, List, [], ◌∷◌, ◌++◌, None, Some, refl, sym, ap, ◌∙◌, arith, lt-ltb}
-use Rattle.std.proofs.lemmas.Bool.{cases_Bool, le-ltb}
-use Rattle.norec_world.proofs.Common.{AreCounted, Attempt, MAX_DEPTH, bytes_at, committed_at}
-use Rattle.norec_world.specs.Attempts.{is_at, memory_left}
-use Rattle.norec_world.specs.Commits.{one_where, count_at}
+use Rattle.norec_world.proofs.Common.{AreCounted, Attempt, MAX_DEPTH, bytes_at, cases_Bool, committed_at, count_at, is_at, le-ltb, memory_left, one_where}
 
 -- ## Which attempt committed at a position
 

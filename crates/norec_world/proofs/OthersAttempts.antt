@@ -1,12 +1,6 @@
 -- One actor's work leaves the others' attempts.
-use Rattle.std.proofs.Common.{inl, inr, ◌≡◌, ℕ, ◌-◌, Bool, true, false, ◌+◌, ◌≤◌, subst, arith, List, [], ◌∷◌, ◌++◌, None, Some, refl, sym, ap, ◌∙◌, append_assoc, nat_lt}
-use Rattle.std.proofs.lemmas.Bool.{cases_Bool, cond_both}
-use Rattle.std.proofs.lemmas.List.{append-nil}
-use Rattle.norec_world.proofs.Common.{Actor, AreFrom, Attempt, Ended, GaveUp, HasRow, KeepsOthers, Outcome, Rows, active_of, with_changed, with_opened}
-use Rattle.norec_world.specs.Rows.{is_of, with_ended}
-use Rattle.norec_world.specs.Records.{StopsAt, CountsTry}
-use Rattle.norec_world.specs.Sound.{retried}
-use Rattle.norec_world.specs.OthersAttempts.{AllOf, ChangesOwn, count_pending}
+use Rattle.std.proofs.Common.{inl, inr, ◌≡◌, ℕ, ◌-◌, Bool, true, false, ◌+◌, ◌≤◌, subst, arith, List, [], ◌∷◌, ◌++◌, None, Some, refl, sym, ap, ◌∙◌, append_assoc, nat_lt, Option}
+use Rattle.norec_world.proofs.Common.{Actor, AllOf, AreFrom, Attempt, ChangesOwn, CountsTry, Ended, GaveUp, HasRow, KeepsOthers, Outcome, Rows, StopsAt, active_of, append-nil, cases_Bool, cond_both, count_pending, is_of, retried, with_changed, with_ended, with_opened}
 use Rattle.norec_world.proofs.ActiveRows.{row_is_of, changed_elsewhere, without_elsewhere, opened_elsewhere, from_changed, from_without, from_with_one}
 
 all_both : (thread : ℕ) (xs ys : List Attempt) → AllOf thread xs → AllOf thread ys → AllOf thread (xs ++ ys)
@@ -31,22 +25,20 @@ own_twice thread r r1 r2 a b = record {
 
 pub own_changed : (thread : ℕ) (f : Attempt → Attempt) (r r' : Rows) → ((a : Attempt) → (f a).thread ≡ a.thread) → r' ≡ with_changed thread f r → ChangesOwn thread r r'
 own_changed thread f r r' same is =
-    own_none thread r r' (ap (λ (x : Rows). x.ended) is) (λ other n. ap (λ (x : Rows). active_of other x.active) is ∙ changed_elsewhere thread other f r.active same n)
-    (λ from. subst (λ (x : Rows). AreFrom 0 x.active) (sym is) (from_changed 0 (is_of thread) f r.active same from))
+    subst (ChangesOwn thread r) (sym is) (own_none thread r (with_changed thread f r) refl (λ other. changed_elsewhere thread other f r.active same) (from_changed 0 (is_of thread) f r.active same))
 
 pub own_opened : (a : Attempt) (r r' : Rows) → active_of a.thread r.active ≡ None → r' ≡ with_opened a r → ChangesOwn a.thread r r'
 own_opened a r r' none is =
-    own_none a.thread r r' (ap (λ (x : Rows). x.ended) is) (λ other n. ap (λ (x : Rows). active_of other x.active) is ∙ opened_elsewhere a other r.active n)
-    (λ from. subst (λ (x : Rows). AreFrom 0 x.active) (sym is) (from_with_one a r.active 0 (omega arith) none from))
+    subst (ChangesOwn a.thread r) (sym is) (own_none a.thread r (with_opened a r) refl (λ other. opened_elsewhere a other r.active) (from_with_one a r.active 0 (omega arith) none))
 
 pub own_ended : (thread : ℕ) (a : Attempt) (r r' : Rows) → a.thread ≡ thread → r' ≡ with_ended thread a r → ChangesOwn thread r r'
-own_ended thread a r r' mine is = record {
+own_ended thread a r r' mine is = subst (ChangesOwn thread r) (sym is) (record {
   more = a ∷ [];
-  ended = ap (λ (x : Rows). x.ended) is;
+  ended = refl;
   mine = (mine, tt);
-  others = λ other n. ap (λ (x : Rows). active_of other x.active) is ∙ without_elsewhere thread other r.active n;
-  ordered = λ from. subst (λ (x : Rows). AreFrom 0 x.active) (sym is) (from_without 0 (is_of thread) r.active from);
-}
+  others = λ other. without_elsewhere thread other r.active;
+  ordered = from_without 0 (is_of thread) r.active;
+})
 
 module _ {P : Type 0} where
   others_own : (a a' : Actor P) (r r' : Rows) → a'.thread ≡ a.thread → a'.pending ≡ a.pending → ChangesOwn a.thread r r' → r.room ≤ r'.room → KeepsOthers a r a' r'
@@ -86,27 +78,15 @@ module _ {P : Type 0} where
         omega arith);
   }
 
-  -- a try that came to nothing changes neither
-  retried_is : {A : Type 0} (f : Actor P → A) (a : Actor P) → f (record a { status = Ended GaveUp }) ≡ f a → f (record a { nth = a.nth + 1 }) ≡ f a → f (retried a) ≡ f a
-  retried_is f a given_up next = cond_both (nat_lt a.retries a.nth) _ _ (λ (b : Actor P). f b ≡ f a) (λ e. given_up) (λ e. next)
+  -- a try that came to nothing changes the status and the number of tries alone
+  pub retried_is : {A : Type 0} (f : Actor P → A) {a last : Actor P} → last ≡ retried a → f (record a { status = Ended GaveUp }) ≡ f a → f (record a { nth = a.nth + 1 }) ≡ f a → f last ≡ f a
+  retried_is f {a} is given_up next = ap f is ∙ cond_both (nat_lt a.retries a.nth) _ _ (λ (b : Actor P). f b ≡ f a) (λ e. given_up) (λ e. next)
 
-  pub retried_thread : (a : Actor P) → (retried a).thread ≡ a.thread
-  retried_thread a = retried_is (λ (x : Actor P). x.thread) a refl refl
-
-  pub retried_pending : (a : Actor P) → (retried a).pending ≡ a.pending
-  retried_pending a = retried_is (λ (x : Actor P). x.pending) a refl refl
-
-  pub retried_player : (a : Actor P) → (retried a).player ≡ a.player
-  retried_player a = retried_is (λ (x : Actor P). x.player) a refl refl
-
-  pub retried_engine : (a : Actor P) → (retried a).engine ≡ a.engine
-  retried_engine a = retried_is (λ (x : Actor P). x.engine) a refl refl
-
-  pub retried_counts : (a : Actor P) → CountsTry a (retried a)
-  retried_counts a = elim (cases_Bool (nat_lt a.retries a.nth)) [
+  pub retried_counts : (a : Actor P) (player : P) (pending : Option Attempt) {last : Actor P} → last ≡ retried (record a { player = player; pending = pending }) → CountsTry a last
+  retried_counts a player pending is = subst (CountsTry a) (sym is) (elim (cases_Bool (nat_lt a.retries a.nth)) [
     | inl e ↦ record { nth = simp e; status = simp e; again = simp e }
     | inr e ↦ record { nth = simp e; status = simp e; again = simp e }
-  ]
+  ])
 
   -- memory was refused
   pub others_starved : (a a' : Actor P) (r r' : Rows) (is_open : Bool) (at : ℕ) (outcome : Outcome) → HasRow is_open r a.thread → a'.thread ≡ a.thread → a'.pending ≡ a.pending

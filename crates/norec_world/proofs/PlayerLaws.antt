@@ -1,10 +1,8 @@
 -- The player's laws, over one answer: its depth, where it goes back to, and how much is left to do; and what comes of the answer once it is recorded.
 use Rattle.std.proofs.Common.{◌≡◌, ℕ, ◌+◌, ◌*◌, ◌<◌, ◌≤◌, Bool, true, false, Some, refl, ap, subst, ◌∙◌, arith, if◌then◌else◌, ◌-◌, nat_lt, [], Option, None, sym, Vec, Global, ltb-false}
 use Rattle.std.proofs.Math.Nat.{mul-le-mul_right}
-use Rattle.norec_world.proofs.Common.{Actor, Attempt, Begin, Call, Commit, Committed, Done, End, Ended, Entry, GaveUp, HasRow, IsNested, Obeys, Ready, Replied, Reply, RestsAs, Rows, Rules, Status, active_of, in_transaction, whole}
-use Rattle.itm_types.specs.declared.call.Reply.TheVariants.{Code, Refused}
-use Rattle.script_vm.specs.Depth.{depth_after, opens}
-use Rattle.norec_world.specs.Sound.{depth_if, IsKept, IsAnswered, IsSettledBy, Falls, tries_left, retried}
+use Rattle.norec_world.proofs.Common.{Actor, Attempt, Begin, Call, Code, Commit, Committed, Done, End, Ended, Entry, Falls, GaveUp, HasRow, IsAnswered, IsKept, IsNested, IsSettledBy, Obeys, Refused, Replied, Reply, RestsAs, Rows, Rules, Status, active_of, depth_after, depth_if, in_transaction, opens, retried, whole, Answer}
+use Rattle.norec_world.specs.Sound.{tries_left}
 use Rattle.norec_engine.specs.Proceeds.{OpensBy}
 
 -- the player is as deep as the engine says
@@ -92,6 +90,22 @@ module _ {P : Type 0} (rules : Rules P) (laws : Obeys rules) where
 
 module _ {P : Type 0} (rules : Rules P) (laws : Obeys rules)
     (r r' : Rows) (a : Actor P) (call : Call) where
+  -- it is ready for its next call, with its block open or not
+  ready_again : (was now : Bool) → in_transaction a.engine ≡ now → {answer : Answer} → IsAnswered rules was r a call answer → (player : P) (spare : Vec Entry Global) (pending : Option Attempt) (nth : ℕ) (again : Bool)
+      → HasRow now r' a.thread → spare.items ≡ [] → (0 < nth) × (nth ≤ a.retries + 1) → IsNested rules now player → pending ≡ None
+      → Falls rules was now a (record a { player = player; spare = spare; pending = pending; nth = nth; again = again })
+      → IsSettledBy rules was r' a (record a { player = player; spare = spare; pending = pending; nth = nth; again = again })
+  ready_again was now is d player spare pending nth again row empty tries nested nothing falls =
+      let new : Actor P = record a { player = player; spare = spare; pending = pending; nth = nth; again = again } in
+      record {
+        engine = refl;
+        thread = refl;
+        retries = refl;
+        kept = record { row = subst (λ (b : Bool). HasRow b r' a.thread) (sym is) row; empty = empty; tried = tries.0; tries = tries.1; retries = d.kept.retries };
+        rests = subst (λ (s : Status). RestsAs rules s new) (sym d.status) (record { nested = subst (λ (b : Bool). IsNested rules b player) (sym is) nested; idle = d.idle; free = d.free; nothing = nothing });
+        falls = λ e. subst (λ (b : Bool). Falls rules was b a new) (sym is) falls;
+      }
+
   -- a reply
   pub after_reply : (was : Bool) (reply : Replied) → IsAnswered rules was r a call (Reply reply)
       → (player : P) → player ≡ rules.answered a.player reply → (spare : Vec Entry Global) → spare.items ≡ [] → (pending : Option Attempt) → pending ≡ None → (again : Bool)
@@ -99,22 +113,13 @@ module _ {P : Type 0} (rules : Rules P) (laws : Obeys rules)
       → IsSettledBy rules was r' a (record a { player = player; spare = spare; pending = pending; again = again })
   after_reply was reply d player is spare empty pending nothing again row =
       let now = in_transaction a.engine in
-      let k = d.kept in
       let played : Played rules laws was now a.player player =
       subst (Played rules laws was now a.player) (sym is)
       (plays rules laws a.player call reply d.in_call.asks was now d.nested d.fits.0 d.fits.1) in
-      record {
-        engine = refl;
-        thread = refl;
-        retries = refl;
-        kept = record { row = row; empty = empty; tried = k.tried; tries = k.tries; retries = k.retries };
-        rests = subst (λ (s : Status). RestsAs rules s (record a { player = player; spare = spare; pending = pending; again = again })) (sym d.status)
-            (record { nested = played.nested; idle = d.idle; free = d.free; nothing = nothing });
-        falls = λ e. record {
-          whole_falls = played.whole_falls;
-          rank_falls = λ n b. rank_same _ _ n _ _ (block_same _ _ a.retries (tries_left a) played.whole_falls) played.less;
-        };
-      }
+      ready_again was now refl d player spare pending a.nth again row empty (d.kept.tried, d.kept.tries) played.nested nothing (record {
+        whole_falls = played.whole_falls;
+        rank_falls = λ n b. rank_same _ _ n _ _ (block_same _ _ a.retries (tries_left a) played.whole_falls) played.less;
+      })
 
   -- the block is done
   pub after_commit : (was : Bool) (at : ℕ) (wrote : Bool) → IsAnswered rules was r a call (Committed at wrote)
@@ -122,31 +127,14 @@ module _ {P : Type 0} (rules : Rules P) (laws : Obeys rules)
       → IsSettledBy rules was r' a (record a { player = player; spare = spare; nth = 1; again = false })
   after_commit false at wrote d player is spare empty row = absurd (let f : false ≡ true = d.fits.0 in cc)
   after_commit true at wrote d player is spare empty row =
-      let k = d.kept in
-      let new : Actor P = record a { player = player; spare = spare; nth = 1; again = false } in
       let done = closes rules laws a.player call Done d.in_call.asks d.nested d.fits.2 refl in
       let nested : IsNested rules false player = subst (IsNested rules false) (sym is) done.0 in
       let fewer : rules.calls_left player < rules.calls_left (rules.restarted a.player) = subst (λ (p : P). rules.calls_left p < rules.calls_left (rules.restarted a.player)) (sym is) done.1 in
-      let closed : false ≡ in_transaction a.engine = sym d.fits.1 in
-      let tried = k.tries in
-      record {
-        engine = refl;
-        thread = refl;
-        retries = refl;
-        kept = record {
-          row = subst (λ (b : Bool). HasRow b r' a.thread) closed row;
-          empty = empty;
-          tried = (let o : 0 < 1 = omega arith in o);
-          tries = (let o : 1 ≤ a.retries + 1 = omega arith in o);
-          retries = k.retries;
-        };
-        rests = subst (λ (s : Status). RestsAs rules s new) (sym d.status)
-            (record { nested = subst (λ (b : Bool). IsNested rules b player) closed nested; idle = d.idle; free = d.free; nothing = d.in_call.inside refl });
-        falls = λ e. subst (λ (b : Bool). Falls rules true b a new) closed (record {
-          whole_falls = (let f = fewer in omega arith);
-          rank_falls = λ n b. rank_less _ _ n _ _ (rank_less _ _ a.retries (tries_left a) (a.retries + 1 - 1) fewer (omega arith)) (let f = fewer in omega arith);
-        });
-      }
+      let tried = d.kept.tries in
+      ready_again true false d.fits.1 d player spare a.pending 1 false row empty (omega arith, omega arith) nested (d.in_call.inside refl) (record {
+        whole_falls = (let f = fewer in omega arith);
+        rank_falls = λ n b. rank_less _ _ n _ _ (rank_less _ _ a.retries (tries_left a) (a.retries + 1 - 1) fewer (omega arith)) (let f = fewer in omega arith);
+      })
 
   -- no more tries: the actor has ended
   pub after_end : (was : Bool) (end : End) (player : P) (pending : Option Attempt) → IsKept was r a → in_transaction a.engine ≡ false → active_of a.thread r'.active ≡ None
@@ -162,30 +150,21 @@ module _ {P : Type 0} (rules : Rules P) (laws : Obeys rules)
       }
 
   -- a try came to nothing, and the player is where it began the block
-  pub after_try : (was : Bool) → IsKept was r a → IsNested rules was a.player → a.engine.waits ≡ None → a.engine.holds ≡ false → a.status ≡ Ready
+  pub after_try : (was : Bool) {answer : Answer} → IsAnswered rules was r a call answer
       → (pending : Option Attempt) → pending ≡ None → (player : P) → rules.depth player ≡ 0 → rules.calls_left player ≡ whole rules was a.player
       → in_transaction a.engine ≡ false → active_of a.thread r'.active ≡ None
       → IsSettledBy rules was r' a (retried (record a { player = player; pending = pending }))
-  after_try was k nested idle free ready pending nothing player outside same closed row = tries (nat_lt a.retries a.nth) refl
+  after_try was d pending nothing player outside same closed row = tries (nat_lt a.retries a.nth) refl
     where
       tries : (b : Bool) → nat_lt a.retries a.nth ≡ b
           → IsSettledBy rules was r' a (if b then record a { player = player; pending = pending; status = Ended GaveUp } else record a { player = player; pending = pending; nth = a.nth + 1 })
-      tries true e = after_end was GaveUp player pending k closed row
+      tries true e = after_end was GaveUp player pending d.kept closed row
       tries false e =
-          let new : Actor P = record a { player = player; pending = pending; nth = a.nth + 1 } in
           let low : a.nth ≤ a.retries = ltb-false a.retries a.nth e in
-          let nested' : IsNested rules false player = record { depth_is = outside; begun = λ o. absurd (cc); less = λ o. absurd (cc) } in
-          record {
-            engine = refl;
-            thread = refl;
-            retries = refl;
-            kept = record { row = subst (λ (b : Bool). HasRow b r' a.thread) (sym closed) row; empty = k.empty; tried = (let o : 0 < a.nth + 1 = omega arith in o); tries = (let o : a.nth + 1 ≤ a.retries + 1 = omega arith in o); retries = k.retries };
-            rests = subst (λ (s : Status). RestsAs rules s new) (sym ready)
-                (record { nested = subst (λ (b : Bool). IsNested rules b player) (sym closed) nested'; idle = idle; free = free; nothing = nothing });
-            falls = λ over. subst (λ (b : Bool). Falls rules was b a new) (sym closed) (record {
-              whole_falls = (let x = same in omega arith);
-              rank_falls = λ n b. rank_less _ _ n _ _
-                  (let w : rules.calls_left player * (a.retries + 1) ≡ whole rules was a.player * (a.retries + 1) = ap (λ (x : ℕ). x * (a.retries + 1)) same in omega arith)
-                  (let x = same in omega arith);
-            });
-          }
+          let nested : IsNested rules false player = record { depth_is = outside; begun = λ o. absurd (cc); less = λ o. absurd (cc) } in
+          ready_again was false closed d player a.spare pending (a.nth + 1) a.again row d.kept.empty (omega arith, omega arith) nested nothing (record {
+            whole_falls = (let x = same in omega arith);
+            rank_falls = λ n b. rank_less _ _ n _ _
+                (let w : rules.calls_left player * (a.retries + 1) ≡ whole rules was a.player * (a.retries + 1) = ap (λ (x : ℕ). x * (a.retries + 1)) same in omega arith)
+                (let x = same in omega arith);
+          })

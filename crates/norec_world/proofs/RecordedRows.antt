@@ -1,12 +1,8 @@
 -- What stands in the rows of attempts, after an answer.
 use Rattle.std.proofs.Common.{inl, inr, None, Some, sym, subst, ◌≡◌, ℕ, ◌&&◌, Bool, true, false, List, [], ◌∷◌, length, refl, ap, ◌∙◌, arith}
-use Rattle.script_vm.specs.Depth.{depth_after, is_code, opens}
-use Rattle.norec_world.specs.declared.attempt.Outcome.TheVariants.{Unfinished}
-use Rattle.norec_world.specs.Rows.{is_of, changed, without, with_ended}
+use Rattle.script_vm.specs.Depth.{is_code}
 use Rattle.norec_world.proofs.ActiveRows.{opened_here, changed_here}
-use Rattle.norec_world.specs.Sound.{depth_if, IsKept}
-use Rattle.std.proofs.lemmas.Bool.{cases_Bool}
-use Rattle.norec_world.proofs.Common.{Actor, Attempt, Call, HasRow, Replied, Rows, Rules, Status, StatusIs, active_of, in_transaction, is_begin, with_changed, with_opened}
+use Rattle.norec_world.proofs.Common.{Actor, Attempt, Call, HasRow, IsKept, Replied, Rows, Rules, Status, StatusIs, Unfinished, active_of, cases_Bool, changed, depth_after, depth_if, in_transaction, is_begin, is_of, opens, with_changed, with_ended, with_opened, without}
 use Rattle.norec_world.proofs.PlayerLaws.{opens_at_begin}
 use Rattle.norec_world.proofs.SoundOthers.{status_as}
 

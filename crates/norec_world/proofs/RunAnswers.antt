@@ -1,16 +1,11 @@
 -- An actor's run, once an answer is recorded.
-use Rattle.std.proofs.Common.{◌≡◌, ℕ, ◌+◌, ◌/◌, ◌≤◌, Bool, true, false, nat_lt, if◌then◌else◌, List, [], ◌∷◌, ◌++◌, map, Option, Some, refl, sym, true≢false, ap, subst, ◌∙◌, arith}
-use Rattle.norec_world.proofs.Common.{Actor, Agrees, Attempt, Between, Call, Cells, Commit, Committed, Conflict, Core, Done, Ended, Entry, Full, GaveUp, IsMemory, IsRun, IsRunOf, IsTryAt, MAX_DEPTH, Obeys, Outcome, Replied, Replies, RepliesTo, Reply, Rows, Rules, State, Status, active_of, after, alone, begin_code, begins_at, bytes_at, bytes_of, ending_of, in_transaction, is_open, of_thread, opened, run_after, state_then, words_at, words_of}
+use Rattle.std.proofs.Common.{◌≡◌, ℕ, ◌/◌, ◌≤◌, Bool, true, false, if◌then◌else◌, List, [], ◌∷◌, ◌++◌, map, Option, Some, refl, sym, true≢false, ap, subst, ◌∙◌, arith}
+use Rattle.norec_world.proofs.Common.{Actor, Agrees, Attempt, Between, Block, Call, Cells, Commit, Committed, Conflict, Core, Done, EndsAs, Entry, Full, IsBeforeTry, IsInTry, IsMemory, IsRun, IsRunOf, IsTryAt, LacksCommit, MAX_DEPTH, Obeys, Outcome, Replied, Replies, RepliesTo, Reply, Rows, Rules, State, Status, StopsAt, active_of, after, after_try, alone, answered_all, begin_code, begins_at, bytes_at, bytes_of, ending_of, follows, in_transaction, is_open, of_thread, opened, run_after, stands_for, state_then, words_at, words_of}
 use Rattle.itm_model.specs.Machine.{undone, undone_from}
-use Rattle.itm_model.specs.State.{Block}
-use Rattle.norec_engine.specs.Stands.{stands_for}
 use Rattle.norec_world.specs.declared.attempt.Outcome.TheVariants as outcomes
-use Rattle.norec_world.specs.Opacity.{EndsAs, answered_all, follows, after_try, LacksCommit}
-use Rattle.norec_world.specs.Records.{StopsAt}
-use Rattle.norec_world.specs.Runs.{IsBeforeTry, IsInTry}
 use Rattle.norec_world.proofs.ActiveRows.{changed_here, row_is_of}
 use Rattle.norec_world.proofs.Solos.{player_snoc, stands_open}
-use Rattle.norec_world.proofs.TryEnds.{none_pending, none_retried}
+use Rattle.norec_world.proofs.TryEnds.{none_pending, none_retried, next_try}
 use Rattle.norec_world.proofs.RunLists.{of_thread_own, run_more, run_still}
 use Rattle.norec_world.proofs.Seen.{HasSeen, memory_at, same_at}
 use Rattle.norec_world.proofs.Taken.{HasAnswered}
@@ -212,15 +207,11 @@ module _ {P : Type 0} (rules : Rules P) (laws : Obeys rules) (first : Between P)
                 leads = refl;
                 arena = refl;
                 again = m.told.2.again ∙ t.5;
-                tries = (let more = one_more (nat_lt a.retries a.nth) m.told.2.nth m.told.2.status gave_up in let same_try = t.6 in omega arith);
+                tries = (let more = (next_try m.told.2 m.answered.status gave_up).1 in let same_try = t.6 in omega arith);
                 pending = λ x e. absurd (let none = sym (none_retried rules r r1 a last true m.settled m.told.2 m.answered.status gave_up) ∙ e in cc);
               },
             );
           }
-        where
-          one_more : (w : Bool) → last.nth ≡ (if w then a.nth else a.nth + 1) → last.status ≡ (if w then Ended GaveUp else a.status) → (ending_of last.status ≡ Some GaveUp → ⊥) → last.nth ≡ a.nth + 1
-          one_more true e f gave_up = absurd (gave_up (ap ending_of f))
-          one_more false e f gave_up = e
 
     -- as full: the actor gives up
     module _ (at : ℕ) (m : HasAnswered rules true cells cells' r r1 mid a last call (Full at)) (older : (run.inside inside).1.began ≤ at) (newer : at ≤ cells.clock / 2) where

@@ -1,22 +1,16 @@
 -- An actor's run between two tries: calls outside a transaction, and begins.
-use Rattle.std.proofs.Common.{◌≡◌, ℕ, zero, suc, ◌+◌, ◌/◌, ◌≤◌, Bool, true, false, nat_lt, if◌then◌else◌, List, [], Option, None, Some, refl, sym, true≢false, ap, subst, ◌∙◌, arith, is_some}
-use Rattle.norec_world.proofs.Common.{Actor, Agrees, Answer, Attempt, Begin, Beginning, Between, Busy, Call, Cells, Core, IsMemory, IsRun, MAX_DEPTH, Obeys, Opens, Props, Ready, Replied, Replies, RepliesTo, Reply, Rows, Rules, active_of, begin_of, ending_of, in_transaction, is_begin, reply, with_opened, words_at, after, Done}
-use Rattle.itm_model.specs.Machine.{outside}
+use Rattle.std.proofs.Common.{◌≡◌, ℕ, zero, suc, ◌/◌, ◌≤◌, Bool, true, false, List, [], Option, None, Some, refl, sym, true≢false, ap, subst, ◌∙◌, arith, is_some, inl, inr}
+use Rattle.norec_world.proofs.Common.{same_Some, Actor, Agrees, Agrees-drop, Answer, Attempt, Begin, Beginning, Between, Busy, Call, Cells, Core, IsBeforeTry, IsInTry, IsMemory, IsRun, MAX_DEPTH, Obeys, Props, Ready, Replied, Replies, RepliesTo, Reply, Rows, Rules, active_of, begin_of, begin_within, in_transaction, is_begin, none_inside, recoded, reply, state_over, with_opened, words_at}
+use Rattle.itm_model.specs.Machine.{after, outside}
+use Rattle.itm_types.specs.declared.call.Reply.TheVariants.{Done}
 use Rattle.write_set.specs.declared.row.Row.{Row}
-use Rattle.norec_engine.proofs.Overlays.{Agrees-drop}
-use Rattle.norec_engine.specs.Stands.{state_over}
-use Rattle.norec_engine.specs.Proceeds.{recoded}
-use Rattle.norec_engine.proofs.Blocks.{none_inside}
-use Rattle.norec_world.specs.Opacity.{begin_within}
 use Rattle.norec_world.specs.Records.{again_after}
-use Rattle.norec_world.specs.Runs.{IsInTry, IsBeforeTry}
 use Rattle.norec_world.proofs.ActiveRows.{opened_here}
 use Rattle.norec_world.proofs.RunAnswers.{now_at, run_same}
-use Rattle.norec_world.proofs.Solos.{comes_past, same_some}
-use Rattle.norec_world.proofs.RecordedRows.{was_open}
-use Rattle.norec_world.proofs.TryEnds.{none_pending, none_retried, begin_call, begin_opens}
+use Rattle.norec_world.proofs.Solos.{comes_past}
+use Rattle.norec_world.proofs.TryEnds.{none_pending, none_retried, begin_call, next_try, begun_or_not}
 use Rattle.norec_world.proofs.Seen.{HasSeen, memory_at}
-use Rattle.norec_world.proofs.Taken.{HasAnswered}
+use Rattle.norec_world.proofs.Taken.{HasAnswered, still_going}
 use Rattle.norec_world.proofs.InTries.{try_begins}
 
 module _ {P : Type 0} (rules : Rules P) (laws : Obeys rules) where
@@ -63,7 +57,7 @@ module _ {P : Type 0} (rules : Rules P) (laws : Obeys rules) (first : Between P)
     (seen : HasSeen base cells cells' r mid a.engine) (run : IsRun rules first base (cells.clock / 2) r (record a { engine = mid })) where
   -- where the actor stands before the answer
   before : in_transaction mid ≡ false → a.status ≡ Ready → (b : Between P) × (now_at rules first base r.ended a.thread ≡ Some b) × IsBeforeTry rules (cells.clock / 2) b (record a { engine = mid })
-  before outside ready = run.between outside (λ e. absurd (let x = sym (ap ending_of ready) ∙ e in cc)) (λ e. absurd (let x = sym (ap ending_of ready) ∙ e in cc))
+  before outside ready = run.between outside (still_going ready) (still_going ready)
 
   -- ## A reply outside a transaction
 
@@ -72,14 +66,11 @@ module _ {P : Type 0} (rules : Rules P) (laws : Obeys rules) (first : Between P)
     g = subst (λ (o : Option Call). RepliesTo mid o reply a.engine) m.taken.doing m.ends
 
     -- its memory is the words as they are: nothing is logged
-    shut : in_transaction last.engine ≡ false → in_transaction a.engine ≡ false
-    shut o = ap in_transaction (sym m.settled.engine) ∙ o
-
     memory : IsMemory mid.words cells'.words
     memory = (sym m.taken.words, m.taken.tied.fit)
 
     empty_log : in_transaction last.engine ≡ false → Agrees cells'.words a.engine.log
-    empty_log o = subst (Agrees cells'.words) (sym (m.taken.tied.settled.closed (shut o)).0) tt
+    empty_log o = subst (Agrees cells'.words) (sym (m.taken.tied.settled.closed (ap in_transaction (sym m.settled.engine) ∙ o)).0) tt
 
     outside_runs : is_begin call ≡ false → in_transaction last.engine ≡ false → r1.ended ≡ r.ended → IsRun rules first base (cells.clock / 2) r1 last
     outside_runs other closed ended =
@@ -119,7 +110,7 @@ module _ {P : Type 0} (rules : Rules P) (laws : Obeys rules) (first : Between P)
         let ended : r1.ended ≡ r.ended = ap (λ (x : Rows). x.ended) rows in
         let g' : Replies mid (Begin props room) reply a.engine = subst (λ (c : Call). Replies mid c reply a.engine) is g in
         let asks : rules.next_call a.player ≡ Some (Begin props room) = m.answered.in_call.asks ∙ ap (λ (c : Call). Some c) is in
-        let props_same : row.props ≡ props = (let both_begin = sym p.3 ∙ (k.leads ∙ begin_here rules laws a.player t.0.arena props room asks) in ap (λ (x : Beginning P). x.props) (same_some both_begin)) in
+        let props_same : row.props ≡ props = (let both_begin = sym p.3 ∙ (k.leads ∙ begin_here rules laws a.player t.0.arena props room asks) in ap (λ (x : Beginning P). x.props) (same_Some _ _ both_begin)) in
         let try = try_begins rules laws t.0 row a.player mid a.engine props room reply p.3 p.1 props_same p.2 (let nth = q.nth in let fewer = k.tries in omega arith) m.taken.was_is (m.taken.empty refl) k.arena p.4 g'
         (let early = p.0 in omega arith) (words_at base r.ended (a.engine.snapshot / 2)) (memory_at seen (a.engine.snapshot / 2) k_late) (seen.now now) at in
         let free : active_of row.thread r.active ≡ None = ap (λ (u : ℕ). active_of u r.active) q.thread ∙ m.answered.kept.row in
@@ -139,20 +130,10 @@ module _ {P : Type 0} (rules : Rules P) (laws : Obeys rules) (first : Between P)
 
     -- of no open transaction
     reply_shut : IsRun rules first base (cells.clock / 2) r1 last
-    reply_shut = by_open (in_transaction last.engine) refl a.pending refl m.told.0
-      where
-        begins : (row : Attempt) → a.pending ≡ Some row → is_begin call ≡ true
-        begins row p = sym (m.answered.in_call.begins refl) ∙ ap is_some p
-
-        by_open : (o : Bool) → in_transaction last.engine ≡ o → (p : Option Attempt) → a.pending ≡ p → Opens o r p (last.engine.snapshot / 2) r1 → IsRun rules first base (cells.clock / 2) r1 last
-        by_open true o (Some row) p told = (let c = begin_call call (begins row p) in begin_runs row p c.0 c.1 c.2 o told)
-        by_open true o None p told =
-            let now = ap in_transaction (sym m.settled.engine) ∙ o in
-            absurd (let f : false ≡ true = was_open false (in_transaction a.engine) call reply (λ x. sym (m.answered.in_call.begins x) ∙ ap is_some p) m.answered.fits.0 now in cc)
-        by_open false o (Some row) p told =
-            let c = begin_call call (begins row p) in
-            absurd (begin_opens mid a.engine cells'.words c.0 c.1 reply (subst (λ (x : Call). Replies mid x reply a.engine) c.2 g) m.taken.was_is memory (empty_log o) (shut o))
-        by_open false o None p told = outside_runs (sym (m.answered.in_call.begins refl) ∙ ap is_some p) o (ap (λ (x : Rows). x.ended) told)
+    reply_shut = elim (begun_or_not reply m) [
+      | inl b ↦ (let c = begin_call call (sym (m.answered.in_call.begins refl) ∙ ap is_some b.1) in begin_runs b.0 b.1 c.0 c.1 c.2 b.2 b.3)
+      | inr n ↦ outside_runs (sym (m.answered.in_call.begins refl) ∙ ap is_some n.0) n.1 (ap (λ (x : Rows). x.ended) n.2)
+    ]
 
   -- ## A begin found the clock odd once too often
 
@@ -171,15 +152,11 @@ module _ {P : Type 0} (rules : Rules P) (laws : Obeys rules) (first : Between P)
             leads = k.leads ∙ ap (λ (q : P). comes_to rules laws q t.0.arena) (sym m.told.1);
             arena = ap (λ (c : Core). c.arena) (m.settled.engine ∙ m.ends.stays) ∙ k.arena;
             again = m.told.2.again ∙ k.again;
-            tries = (let more = no_less (nat_lt a.retries a.nth) m.told.2.nth in let fewer = k.tries in omega arith);
+            tries = (let more = (next_try m.told.2 m.answered.status gave_up).1 in let fewer = k.tries in omega arith);
             pending = λ x e. absurd (let none = sym (none_retried rules r r1 a last false m.settled m.told.2 m.answered.status gave_up) ∙ e in cc);
           },
         );
       }
-    where
-      no_less : (w : Bool) → last.nth ≡ (if w then a.nth else a.nth + 1) → a.nth ≤ last.nth
-      no_less true e = omega arith
-      no_less false e = omega arith
 
   pub shut_runs : (answer : Answer) → HasAnswered rules false cells cells' r r1 mid a last call answer → IsRun rules first base (cells.clock / 2) r1 last
   shut_runs (Reply reply) m = reply_shut reply m

@@ -1,37 +1,32 @@
 -- An actor's run over a call, up to its first step, and over a step.
 use Rattle.std.proofs.Common.{◌≡◌, ℕ, ◌/◌, ◌≤◌, ◌&&◌, Bool, true, false, not, List, [], ◌∷◌, ◌++◌, Some, refl, sym, true≢false, ap, subst, ◌∙◌, arith, None}
 use Rattle.std.proofs.lemmas.Bool.{and_right, not_from_true}
-use Rattle.norec_world.proofs.Common.{Actor, Answer, AreCounted, AreLaid, Attempt, Begin, Between, Call, Cells, Commit, Core, End, Ended, HasRow, IsDone, IsRun, IsRunOf, IsSound, IsTold, MAX_DEPTH, Next, Obeys, Ready, Reply, Rows, Rules, Sees, Status, Step, Tells, active_of, asked_pending, begin_of, begins_again, begins_at, bytes_at, ending_of, found, handed_is, handed_to, in_transaction, is_inside, of_thread, run_after, words_at}
+use Rattle.norec_world.proofs.Common.{Actor, Answer, AreCounted, AreLaid, Attempt, Begin, Between, Call, Cells, Commit, Core, Ended, HasRow, IsBeforeTry, IsDone, IsRun, IsRunOf, IsSound, IsTold, MAX_DEPTH, Next, Obeys, Ready, Reply, Rows, Rules, RunsFrom, Sees, Starves, Status, Step, Tells, active_of, asked_pending, begin_of, begins_again, begins_at, bytes_at, ending_of, found, handed_is, handed_to, in_transaction, is_inside, of_thread, run_after, words_at, IsInTry}
 use Rattle.norec_world.specs.declared.attempt.Outcome.TheVariants as outcomes
 use Rattle.norec_world.specs.declared.attempt.End.TheVariants as ends
-use Rattle.norec_world.specs.Runs.{IsBeforeTry, RunsFrom}
 use Rattle.norec_world.proofs.ActiveRows.{changed_here}
 use Rattle.norec_world.proofs.SoundSteps.{IsCalling, active_same, call_taken, ended_same, mid, rests, IsStepping, mid_step, same, step_taken, waits}
 use Rattle.norec_world.proofs.Memories.{bytes_still}
 use Rattle.norec_world.proofs.Laid.{laid_on, laid_same}
 use Rattle.norec_world.proofs.RunTaken.{runs_recorded}
 use Rattle.norec_world.proofs.Seen.{HasSeen, call_seen, step_seen}
-use Rattle.norec_world.proofs.Taken.{HasAnswered, recorded, now}
-use Rattle.norec_world.specs.LocalWork.{Starves}
+use Rattle.norec_world.proofs.Taken.{HasAnswered, recorded, now, still_going}
 use Rattle.norec_world.proofs.RunAnswers.{RunOf, before_on, now_at, run_same, stop_run}
 use Rattle.norec_world.proofs.RunBegins.{begin_here}
-use Rattle.norec_world.proofs.InTries.{try_handed, try_told}
+use Rattle.norec_world.proofs.InTries.{try_handed, try_told, try_kept}
 
 -- ## The player has no more calls
 
 module _ {P : Type 0} {rules : Rules P} {cells : Cells} {r0 : Rows} {old : Actor P} (sound : IsSound rules cells r0 old) (ready : old.status ≡ Ready) (first : Between P) (base : List ℕ) (runs : RunsFrom rules first base cells r0 old) where
-  on_way : (end : End) → ending_of old.status ≡ Some end → ⊥
-  on_way end e = absurd (let z = sym (ap ending_of ready) ∙ e in cc)
-
   pub finish_runs : RunsFrom rules first base cells r0 (record old { status = Ended ends.Finished })
   finish_runs = record {
     runs = (let x = runs.runs in record {
       run = x.run;
       inside = x.inside;
       between = λ o gave_up starved.
-          (let t = x.between o (on_way ends.GaveUp) (on_way ends.NoMemory) in (t.0, t.1, before_on t.2 old.engine (Ended ends.Finished) refl refl));
+          (let t = x.between o (still_going ready) (still_going ready) in (t.0, t.1, before_on t.2 old.engine (Ended ends.Finished) refl refl));
     });
-    sees = λ fed. runs.sees (on_way ends.NoMemory);
+    sees = λ fed. runs.sees (still_going ready);
     starved = λ e. absurd (cc);
     reads = runs.reads;
   }
@@ -40,9 +35,6 @@ module _ {P : Type 0} {rules : Rules P} {cells : Cells} {r0 : Rows} {old : Actor
 
 module _ {P : Type 0} {rules : Rules P} (laws : Obeys rules) {cells : Cells} {r0 r : Rows} {old a : Actor P} {call : Call} {what : Next} (m : IsCalling rules cells r0 r old a call what)
     (first : Between P) (base : List ℕ) (laid : AreLaid base cells r0) (runs : RunsFrom rules first base cells r0 old) where
-  on_way_so : (end : End) → ending_of old.status ≡ Some end → ⊥
-  on_way_so end e = absurd (let z = sym (ap ending_of m.ready) ∙ e in cc)
-
   again_shut : (b : Bool) → in_transaction old.engine ≡ b → b ≡ false → (c : Call) (p : _) (room : ℕ) → c ≡ Begin p room → (begins_again (in_transaction old.engine) old.again c && not (in_transaction old.engine)) ≡ old.again
   again_shut true e f c p room is = absurd (cc)
   again_shut false e f c p room is = (λ i. begins_again (e i) old.again (is i) && not (e i)) ∙ with_true old.again
@@ -71,28 +63,19 @@ module _ {P : Type 0} {rules : Rules P} (laws : Obeys rules) {cells : Cells} {r0
       record {
         run = run_same rules first base (cells.clock / 2) r0.ended r.ended old.thread a.thread (ended_same m) m.asks.thread x.run;
         inside = λ o.
-            (let t = x.inside o in let y = t.4 in (
+            (let t = x.inside o in (
               t.0,
               t.1,
               (λ i. now_at rules first base (ended_same m i) (m.asks.thread i)) ∙ t.2,
               active_same m ∙ t.3,
-              record {
-                start = y.start;
-                begins = y.begins;
-                arena = y.arena;
-                props = y.props;
-                tries = y.tries;
-                began = y.began;
-                anew = and_right (begins_again (in_transaction old.engine) old.again call) (not (in_transaction old.engine)) (not_from_true (in_transaction old.engine) o);
-                player = m.asks.player ∙ y.player;
-                alone = y.alone;
-                stands = y.stands;
-              },
+              subst (λ (q : P). IsInTry rules t.0 t.1 q (mid m)) (sym m.asks.player)
+                  (try_kept rules laws t.0 t.1 old.player old.engine (mid m) t.4 refl (and_right (begins_again (in_transaction old.engine) old.again call) (not (in_transaction old.engine)) (not_from_true (in_transaction old.engine) o))
+                  (λ k. refl) t.4.began (λ k agrees. agrees)),
               m.asks.again ∙ t.5,
               t.6 ∙ sym m.asks.nth,
             ));
         between = λ o gave_up starved.
-            (let t = x.between o (on_way_so ends.GaveUp) (on_way_so ends.NoMemory) in let k = t.2 in (
+            (let t = x.between o (still_going m.ready) (still_going m.ready) in let k = t.2 in (
               t.0,
               (λ i. now_at rules first base (ended_same m i) (m.asks.thread i)) ∙ t.1,
               record {
@@ -108,7 +91,7 @@ module _ {P : Type 0} {rules : Rules P} (laws : Obeys rules) {cells : Cells} {r0
   seen : HasSeen base cells cells r (mid m) a.engine
   seen =
       call_seen base cells r old.engine a.engine call (begins_again (in_transaction old.engine) old.again call) (laid_same base cells r0 r (ended_same m) laid) m.sound.tied (rests m.sound m.ready).free
-      (subst (λ (l : List Attempt). Sees (words_at base l) cells old.engine) (sym (ended_same m)) (runs.sees (on_way_so ends.NoMemory))) m.asked.stays
+      (subst (λ (l : List Attempt). Sees (words_at base l) cells old.engine) (sym (ended_same m)) (runs.sees (still_going m.ready))) m.asked.stays
 
   -- where its attempt reads
   abbrev ReadsAt : Rows → Actor P → Type 0
@@ -216,11 +199,11 @@ module _ {P : Type 0} (rules : Rules P) (laws : Obeys rules) (first : Between P)
 
   -- the open attempt is told where it reads
   pub run_told : (n : ℕ) (r r' : Rows) (a : Actor P) → HasRow (in_transaction a.engine) r a.thread → IsTold a.thread (in_transaction a.engine) r (a.engine.snapshot / 2) r' → IsRun rules first base n r a
-      → IsRun rules first base n r' a × (in_transaction a.engine ≡ true → (row : Attempt) → active_of a.thread r'.active ≡ Some row → row.at ≡ a.engine.snapshot / 2) × (r'.ended ≡ r.ended)
+      → IsRun rules first base n r' a × (in_transaction a.engine ≡ true → (row : Attempt) → active_of a.thread r'.active ≡ Some row → row.at ≡ a.engine.snapshot / 2)
   run_told n r r' a has told x = by_open (in_transaction a.engine) refl
     where
-      by_open : (b : Bool) → in_transaction a.engine ≡ b → IsRun rules first base n r' a × (in_transaction a.engine ≡ true → (row : Attempt) → active_of a.thread r'.active ≡ Some row → row.at ≡ a.engine.snapshot / 2) × (r'.ended ≡ r.ended)
-      by_open false o = (subst (λ (rows : Rows). IsRun rules first base n rows a) (sym (told.stays o)) x, λ y. absurd (true≢false (sym y ∙ o)), ap (λ (rows : Rows). rows.ended) (told.stays o))
+      by_open : (b : Bool) → in_transaction a.engine ≡ b → IsRun rules first base n r' a × (in_transaction a.engine ≡ true → (row : Attempt) → active_of a.thread r'.active ≡ Some row → row.at ≡ a.engine.snapshot / 2)
+      by_open false o = (subst (λ (rows : Rows). IsRun rules first base n rows a) (sym (told.stays o)) x, λ y. absurd (true≢false (sym y ∙ o)))
       by_open true o =
           let moved = told.moves o in
           let t = x.inside o in
@@ -239,7 +222,6 @@ module _ {P : Type 0} (rules : Rules P) (laws : Obeys rules) (first : Between P)
               between = λ y. absurd (true≢false (sym o ∙ y));
             },
             λ y row e. (let same : reading (a.engine.snapshot / 2) t.1 ≡ row = (let z : Some (reading (a.engine.snapshot / 2) t.1) ≡ Some row = sym now ∙ e in cc) in ap (λ (w : Attempt). w.at) (sym same)),
-            (ap (λ (rows : Rows). rows.ended) moved),
           )
 
 -- it goes on, or is answered

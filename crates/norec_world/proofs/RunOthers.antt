@@ -1,26 +1,15 @@
 -- The actors' runs: one's event leaves the others', and together they are the headline.
 use Rattle.std.proofs.Common.{◌≡◌, ◌≢◌, inl, inr, ℕ, ◌+◌, ◌/◌, ◌%◌, ◌<◌, ◌≤◌, ◌==◌, Bool, true, false, List, [], ◌∷◌, ◌++◌, length, length-set, replicate, None, Some, slice_get, slice_set, refl, sym, ap, subst, ◌∙◌, arith, eqb-true, nat_lt}
-use Rattle.std.proofs.lemmas.Bool.{cases_Bool, false_from_ne_true, le-ltb, ne_eqb}
-use Rattle.std.proofs.lemmas.List.{append-nil}
-use Rattle.norec_world.proofs.Common.{Actor, Agrees, AllFit, AreActors, AreFrom, AreLaid, AreOpaque, Attempt, Between, Cells, ClocksOn, Core, HasRead, HasRow, IsMemory, IsRunOf, IsTied, IsTryAt, IsWorld, KeepsOthers, MAX_DEPTH, NoMemory, Obeys, Ready, Rows, Rules, World, active_of, begins_at, bytes_at, bytes_of, ending_of, in_transaction, of_thread, run_after, words_at, words_of}
-use Rattle.norec_engine.specs.Core.{opening}
-use Rattle.norec_engine.specs.Proceeds.{backed, Got}
-use Rattle.norec_engine.specs.Rows.{write_at}
+use Rattle.norec_world.proofs.Common.{Actor, Agrees, AllFit, AllOf, AreActors, AreFrom, AreLaid, AreOfActors, AreOpaque, AreOpen, AreRunning, Attempt, Between, Cells, ChangesOwn, ClocksOn, Core, Got, HasRead, HasRow, IsMemory, IsRunOf, IsTied, IsTryAt, IsWorld, KeepsOthers, MAX_DEPTH, NoMemory, Obeys, Ready, Rows, Rules, RunsFrom, World, active_of, append-nil, attempts_of, backed, begins_at, bytes_at, bytes_of, cases_Bool, count_at, count_committed, ending_of, first_of, in_transaction, le-ltb, ne_eqb, of_thread, one_where, opening, run_after, words_at, words_of, write_at, slice_get_within}
 use Rattle.norec_world.specs.declared.attempt.Outcome.TheVariants as outcomes
-use Rattle.norec_world.specs.Commits.{one_where, count_at, count_committed}
 use Rattle.norec_world.proofs.WordLists.{words_of-bytes_of}
-use Rattle.norec_world.specs.OthersAttempts.{AllOf, ChangesOwn}
-use Rattle.norec_world.specs.Rows.{AreOfActors, AreOpen}
-use Rattle.norec_world.proofs.TiedEngines.{held_even}
-use Rattle.norec_world.specs.World.{attempts_of}
-use Rattle.norec_world.specs.Runs.{RunsFrom, StillRuns}
-use Rattle.norec_world.specs.Opaque.{first_of}
-use Rattle.norec_world.specs.Invariant.{AreRunning}
-use Rattle.norec_world.proofs.SoundOthers.{first_found, set_place, within_of, there_is, are_open}
+use Rattle.norec_world.specs.Runs.{StillRuns}
+use Rattle.norec_world.proofs.SoundOthers.{first_found, set_place, there_is, are_open, held_apart, odd_held}
 use Rattle.norec_world.proofs.Solos.{stands_open}
 use Rattle.norec_world.proofs.InTries.{try_stops}
 use Rattle.norec_world.proofs.Memories.{bytes_still}
 use Rattle.norec_world.proofs.RunLists.{of_thread_more, run_still, run_more}
+use Rattle.norec_world.proofs.ActiveRows.{past_all}
 
 -- ## The attempts of one thread
 
@@ -30,12 +19,6 @@ of_thread_none thread other [] all apart = refl
 of_thread_none thread other (x ∷ xs) all apart = (let no = ne_eqb x.thread thread (λ same. apart (sym all.0 ∙ same)) in simp no (of_thread_none thread other xs all.1 apart))
 
 -- of open attempts the actor's one
-past_from : (n thread : ℕ) (xs : List Attempt) → AreFrom n xs → thread < n → of_thread thread xs ≡ []
-past_from n thread [] from l = refl
-past_from n thread (x ∷ xs) from l =
-    let no = ne_eqb x.thread thread (λ same. omega (arith, from.0)) in
-    simp no (past_from (x.thread + 1) thread xs from.1 (omega (arith, from.0)))
-
 pub open_none : (n thread : ℕ) (xs : List Attempt) → AreFrom n xs → active_of thread xs ≡ None → of_thread thread xs ≡ []
 open_none n thread [] from e = refl
 open_none n thread (x ∷ xs) from e = elim (cases_Bool (x.thread == thread)) [
@@ -49,7 +32,7 @@ open_one n thread (x ∷ xs) row from e = elim (cases_Bool (x.thread == thread))
   | inl h ↦
       (let found = simp h at e in
       let same : x ≡ row = cc in
-      let none = past_from (x.thread + 1) thread xs from.1 (let is = eqb-true x.thread thread h in omega arith) in
+      let none = open_none (x.thread + 1) thread xs from.1 (past_all thread (x.thread + 1) xs (omega (arith, eqb-true x.thread thread h)) from.1) in
       simp h (λ i. same i ∷ none i))
   | inr h ↦ simp h (open_one (x.thread + 1) thread xs row from.1 (simp h at e))
 ]
@@ -179,11 +162,11 @@ module _ {P : Type 0} (rules : Rules P) (laws : Obeys rules) where
 
     pub are_opaque : AreOpaque rules w
     are_opaque = record {
-      runs = λ place p e. (let here = there_is w.actors place (omega (arith, long, within_of w.opening place p e)) in of_actor place p here.0 e here.1);
+      runs = λ place p e. (let here = there_is w.actors place (omega (arith, long, slice_get_within w.opening place p e)) in of_actor place p here.0 e here.1);
       players = λ place p a e f. (running.each place p a e f).runs;
       threads = of_actors_both (length w.actors) w.attempts.ended w.attempts.active running.threads (of_actors_active (length w.actors) w.attempts.active sound.listed);
       reads = λ place a row e some.
-          (let here = there_is w.opening place (omega (arith, long, within_of w.actors place a e)) in
+          (let here = there_is w.opening place (omega (arith, long, slice_get_within w.actors place a e)) in
           let own = sound.each place a e in
           let mine : active_of a.thread w.attempts.active ≡ Some row = ap (λ (t : ℕ). active_of t w.attempts.active) own.thread ∙ some in
           (running.each place here.0 a here.1 e).reads (row_open (in_transaction a.engine) w.attempts a.thread row own.sound.kept.row mine) row mine);
@@ -191,7 +174,7 @@ module _ {P : Type 0} (rules : Rules P) (laws : Obeys rules) where
           (let top : w.cells.clock / 2 ≤ w.cells.clock / 2 = omega arith in
           ap bytes_of (running.laid.free even) ∙ (running.laid.memories.same (w.cells.clock / 2) top ∙ sym (shown_still (w.cells.clock / 2) top)));
       held = λ place a e h.
-          (let l = within_of w.actors place a e in
+          (let l = slice_get_within w.actors place a e in
           let top : w.cells.clock / 2 ≤ w.cells.clock / 2 = omega arith in
           let here = there_is w.opening place (omega (arith, long)) in
           let x = running.each place here.0 a here.1 e in
@@ -211,7 +194,7 @@ module _ {P : Type 0} (rules : Rules P) (laws : Obeys rules) where
     mine = (kept.actors.each i got here).thread
 
     player : (p : P) × (slice_get w.opening i ≡ Some p)
-    player = there_is w.opening i (let l = within_of w.actors i got here in omega (arith, kept.long))
+    player = there_is w.opening i (let l = slice_get_within w.actors i got here in omega (arith, kept.long))
 
     went : AreLaid w.base cells' r' × RunsFrom rules (first_of player.0 w.arena) w.base cells' r' new
     went = runs (first_of player.0 w.arena) w.base kept.running.laid (kept.running.each i player.0 got player.1 here)
@@ -226,17 +209,14 @@ module _ {P : Type 0} (rules : Rules P) (laws : Obeys rules) where
 
     -- another one that holds the clock sees no change
     others_held : (j : ℕ) (b : Actor P) → i ≢ j → slice_get w.actors j ≡ Some b → b.engine.holds ≡ true → cells' ≡ w.cells
-    others_held j b apart e h =
-        let tied = (kept.actors.each j b e).sound.tied in
-        let odd : w.cells.clock % 2 ≡ 1 = (let held = tied.holder h in let even = held_even b.engine tied.settled h in omega arith) in
-        (clocks.apart odd (false_from_ne_true got.engine.holds (λ g. apart (kept.commits.one i j got b here e g h)))).0
+    others_held j b apart e h = (held_apart w.cells cells' w.actors i got new here clocks kept.commits.one (odd_held kept.actors) j b apart e h).0
 
     pub running_after : AreRunning rules (record w { cells = cells'; actors = slice_set w.actors i new; attempts = r'; events = events })
     running_after = record {
       laid = went.0;
       ordered = others.own.ordered kept.running.ordered;
       threads = subst (λ (n : ℕ). AreOfActors n r'.ended) (sym (length-set w.actors i new)) (subst (AreOfActors (length w.actors)) (sym others.own.ended)
-          (of_actors_both (length w.actors) w.attempts.ended others.own.more kept.running.threads (of_actors_all (length w.actors) got.thread others.own.more (let l = within_of w.actors i got here in let t = mine in omega arith) others.own.mine)));
+          (of_actors_both (length w.actors) w.attempts.ended others.own.more kept.running.threads (of_actors_all (length w.actors) got.thread others.own.more (let l = slice_get_within w.actors i got here in let t = mine in omega arith) others.own.mine)));
       each = each_after;
     }
       where

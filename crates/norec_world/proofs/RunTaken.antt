@@ -1,20 +1,15 @@
 -- A value or a call was taken in, and what the engine gave is recorded: the actor's run goes on, and the words are still those that the commits left.
-use Rattle.std.proofs.Common.{◌≡◌, ℕ, suc, ◌+◌, ◌/◌, ◌≤◌, ◌==◌, Bool, true, false, List, [], ◌∷◌, ◌++◌, Option, None, Some, is_some, refl, sym, true≢false, ap, subst, ◌∙◌, arith, eq-eqb, append-nil}
-use Rattle.norec_world.proofs.Common.{Actor, Agrees, Answer, AreCounted, AreLaid, Asks, Attempt, Between, Busy, Call, Cells, Committed, Conflict, Core, Done, Ends, Full, IsDone, IsRun, MAX_DEPTH, Next, NoMemory, Obeys, Opens, RepliesTo, Reply, Rows, Rules, Sees, State, Step, Tells, Waits, alone, bytes_at, bytes_of, committed_at, cond-true, ending_of, in_transaction, words_at}
-use Rattle.norec_engine.specs.Proceeds.{backed}
-use Rattle.norec_engine.proofs.AnsweredEngines.{rests}
+use Rattle.std.proofs.Common.{◌≡◌, ℕ, suc, ◌+◌, ◌/◌, ◌≤◌, ◌==◌, Bool, true, false, List, [], ◌∷◌, ◌++◌, Option, None, Some, refl, sym, true≢false, ap, subst, ◌∙◌, arith, eq-eqb, append-nil, inl, inr}
+use Rattle.norec_world.proofs.Common.{Actor, Agrees, Answer, AreCounted, AreLaid, Asks, Attempt, Between, Busy, Call, Cells, Committed, Conflict, Core, Done, Ends, Full, IsDone, IsRun, Loaded, MAX_DEPTH, Next, NoMemory, Obeys, RepliesTo, Reply, Rows, Rules, Sees, State, Step, Tells, Waits, alone, backed, bytes_at, bytes_of, committed_at, cond-true, ending_of, in_transaction, memory_left, rests, words_at}
 use Rattle.norec_world.specs.declared.attempt.Outcome.TheVariants as outcomes
-use Rattle.norec_world.specs.Attempts.{memory_left}
-use Rattle.norec_world.specs.LogAgreement.{Loaded}
 use Rattle.norec_world.proofs.InTries.{try_asks}
 use Rattle.norec_world.proofs.Laid.{laid_more, laid_on}
 use Rattle.norec_world.proofs.Memories.{bytes_still, found_later, none_next}
-use Rattle.norec_world.proofs.RecordedRows.{was_open}
 use Rattle.norec_world.proofs.RunAnswers.{before_on, commit_agrees, commit_ended, commit_left, commit_runs, conflict_runs, full_runs, reply_runs}
 use Rattle.norec_world.proofs.RunBegins.{shut_runs}
 use Rattle.norec_world.proofs.Seen.{HasSeen, memory_at}
-use Rattle.norec_world.proofs.Taken.{HasAnswered, HasTaken, recorded}
-use Rattle.norec_world.proofs.TryEnds.{not_starved, unfreed_to}
+use Rattle.norec_world.proofs.Taken.{HasAnswered, HasTaken, recorded, still_going}
+use Rattle.norec_world.proofs.TryEnds.{not_starved, unfreed_to, begun_or_not}
 
 -- an answer clears what was loaded since the clock
 no_fresh : (mid new : Core) (answer : Answer) → Ends mid answer new → new.fresh ≡ []
@@ -55,7 +50,7 @@ module _ {P : Type 0} (rules : Rules P) (laws : Obeys rules) (first : Between P)
                 let early = x.4.began in
                 (x.0, x.1, x.2, x.3, try_asks rules laws x.0 x.1 a.player mid a.engine step x.4 g (omega arith) (seen.fewer o), x.5, x.6));
             between = λ o gave_up starved.
-                (let x = run.between (sym opens ∙ o) (λ e. absurd (let z = sym (ap ending_of t.ready) ∙ e in cc)) (λ e. absurd (let z = sym (ap ending_of t.ready) ∙ e in cc)) in
+                (let x = run.between (sym opens ∙ o) (still_going t.ready) (still_going t.ready) in
                 (x.0, x.1, before_on x.2 a.engine (Waits call step) (ap (λ (c : Core). c.arena) g.stays) (ap (λ (c : Core). c.again) g.stays)));
           });
           sees = record {
@@ -99,12 +94,7 @@ module _ {P : Type 0} (rules : Rules P) (laws : Obeys rules) (first : Between P)
       -- an answer that leaves the transaction open ends no attempt
       pub open_ended : (b : Bool) (answer : Answer) → HasAnswered rules b cells cells' r r1 mid a last call answer → in_transaction a.engine ≡ true → r1.ended ≡ r.ended
       open_ended true (Reply reply) m o = ap (λ (x : Rows). x.ended) m.told.0
-      open_ended false (Reply reply) m o = by_pending (in_transaction last.engine) (ap in_transaction m.settled.engine ∙ o) a.pending refl m.told.0
-        where
-          by_pending : (b : Bool) → b ≡ true → (p : Option Attempt) → a.pending ≡ p → Opens b r p (last.engine.snapshot / 2) r1 → r1.ended ≡ r.ended
-          by_pending true e (Some row) p opens = ap (λ (x : Rows). x.ended) opens
-          by_pending true e None p opens = absurd (let f : false ≡ true = was_open false (in_transaction a.engine) call reply (λ x. sym (m.answered.in_call.begins x) ∙ ap is_some p) m.answered.fits.0 o in cc)
-          by_pending false e p q opens = absurd (cc)
+      open_ended false (Reply reply) m o = elim (begun_or_not reply m) [ inl b ↦ ap (λ (x : Rows). x.ended) b.3 | inr n ↦ ap (λ (x : Rows). x.ended) n.2 ]
       open_ended b answer m o = absurd (true≢false (sym o ∙ m.answered.fits.1))
 
       sees_on : (answer : Answer) → HasAnswered rules was cells cells' r r1 mid a last call answer → Sees (words_at base r1.ended) cells' last.engine

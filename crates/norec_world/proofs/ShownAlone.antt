@@ -1,19 +1,12 @@
 -- What a world with one actor shows is what its player does alone.
 use Rattle.std.proofs.Common.{◌≡◌, ◌⊎◌, inl, inr, ℕ, zero, suc, ◌/◌, ◌%◌, ◌≤◌, Bool, true, false, nat_le, if◌then◌else◌, List, [], ◌∷◌, ◌++◌, length, map, replicate, Option, None, Some, slice_get, refl, sym, ap, subst, ◌∙◌, arith, append-nil, le-leb}
-use Rattle.std.proofs.lemmas.List.{map-append}
 use Rattle.std.proofs.lemmas.Bool.{and_from}
-use Rattle.norec_world.proofs.Common.{Actor, AreOpaque, Attempt, Between, Call, Commit, Done, End, Entry, Finished, GaveUp, HasRow, IsAlone, IsRunOf, IsWorld, MAX_DEPTH, NoMemory, Obeys, Outcome, Rules, State, World, active_of, after, alone, answers, answers_within, begin_code, begin_of, bytes_at, committed_at, current_of, ending_at, ending_of, in_transaction, is_open, of_thread, opened, option_and_then, pair_of, player_then, run_after, state_then}
+use Rattle.norec_world.proofs.Common.{same_Some, Actor, AreOfActors, AreOpaque, AreUnfinished, Attempt, Between, Call, Commit, Done, End, EndsAs, EndsWith, Entry, Finished, GaveUp, HasRow, IsAlone, IsBeforeTry, IsFirstTry, IsInTry, IsOnWay, IsRunOf, IsSole, IsWorld, MAX_DEPTH, NoMemory, Obeys, Outcome, Rules, ShowsAlone, StandsSole, State, World, active_of, after, alone, answers, answers_within, attempts_of, begin_code, begin_of, begin_within, bytes_at, committed_at, current_of, ending_at, ending_of, first_of, in_transaction, is_open, map-append, of_thread, opened, option_and_then, pair_of, player_then, row_of, run_after, solo_within, state_then, stopped, with_all, with_first}
 use Rattle.itm_types.specs.declared.call.Reply.{Reply}
 use Rattle.norec_world.specs.declared.attempt.Outcome.TheVariants as outcomes
-use Rattle.norec_world.specs.Opacity.{EndsAs, begin_within}
-use Rattle.norec_world.specs.Opaque.{first_of}
-use Rattle.norec_world.specs.Rows.{AreOfActors, AreUnfinished}
-use Rattle.norec_world.specs.Runs.{IsBeforeTry, IsInTry}
-use Rattle.norec_world.specs.Solo.{row_of, with_all, with_first, stopped, solo_within}
 use Rattle.norec_world.specs.SoFar.{IsBegun, IsSoFar, IsAll}
-use Rattle.norec_world.specs.Sole.{IsFirstTry, EndsWith, IsOnWay, StandsSole, IsSole}
-use Rattle.norec_world.specs.World.{DoneBy, ShowsAlone, attempts_of, memory_of}
-use Rattle.norec_world.proofs.Solos.{begins_alone, state_snoc, same_some, gets_none, full_block, open_block, no_block}
+use Rattle.norec_world.specs.World.{DoneBy, memory_of}
+use Rattle.norec_world.proofs.Solos.{begins_alone, state_snoc, gets_none, full_block, open_block, no_block}
 use Rattle.norec_world.proofs.Memories.{bytes_still}
 use Rattle.norec_world.proofs.RunLists.{run_still}
 use Rattle.norec_world.proofs.RunOthers.{world_opaque, open_none, open_one, row_open}
@@ -178,20 +171,20 @@ module _ {P : Type 0} (rules : Rules P) (laws : Obeys rules) (w : World P) (kept
     -- its player stands where its calls have led it
     stands_at : (b : Between P) (r : Attempt) → IsInTry rules b r a.player a.engine → place_now ≡ Some b → w.attempts.ended ≡ sole.past → r ≡ row → a.player ≡ player_then rules.answered begun row.calls
     stands_at b r t led_to ended same =
-        let place : b ≡ between x.before = same_some (sym led_to ∙ led (row ∷ []) x ended) in
-        let start : t.start ≡ y.start = same_some (sym t.begins ∙ (ap (λ (b : Between P). begin_of rules MAX_DEPTH b.player b.arena) place ∙ y.comes)) in
+        let place : b ≡ between x.before = same_Some _ _ (sym led_to ∙ led (row ∷ []) x ended) in
+        let start : t.start ≡ y.start = same_Some _ _ (sym t.begins ∙ (ap (λ (b : Between P). begin_of rules MAX_DEPTH b.player b.arena) place ∙ y.comes)) in
         t.player ∙ (λ i. player_then rules.answered (rules.answered (start i).player (begin_code (place i).again)) (same i).calls)
 
     stands_so : w.attempts.ended ≡ sole.past → active_of a.thread w.attempts.active ≡ Some row → a.player ≡ player_then rules.answered begun row.calls
     stands_so ended some =
         let t = (opaque.players 0 p a player_here here).inside (row_open (in_transaction a.engine) w.attempts a.thread row (kept.actors.each 0 a here).sound.kept.row some) in
-        stands_at t.0 t.1 t.4 t.2 ended (same_some (sym t.3 ∙ some))
+        stands_at t.0 t.1 t.4 t.2 ended (same_Some _ _ (sym t.3 ∙ some))
 
   -- ## By how it stands
 
   none_comes : (b : Between P) (x : Arrived []) → IsBeforeTry rules (w.cells.clock / 2) b a → place_now ≡ Some b → w.attempts.ended ≡ sole.past → rules.next_call a.player ≡ None → begin_of rules MAX_DEPTH x.before.player x.before.arena ≡ None
   none_comes b x t led_to ended none =
-      ap (λ (b : Between P). begin_of rules MAX_DEPTH b.player b.arena) (sym (same_some (sym led_to ∙ led [] x ended)))
+      ap (λ (b : Between P). begin_of rules MAX_DEPTH b.player b.arena) (sym (same_Some _ _ (sym led_to ∙ led [] x ended)))
       ∙ (t.leads ∙ (ap (begin_within rules MAX_DEPTH (rules.calls_left a.player) a.player b.arena) none ∙ no_call (rules.calls_left a.player) b.arena))
     where
       no_call : (k : ℕ) (arena : List ℕ) → begin_within rules MAX_DEPTH k a.player arena None ≡ None

@@ -1,18 +1,10 @@
 -- An actor that has its world to itself goes on so over an event.
-use Rattle.std.proofs.Common.{◌≡◌, inl, inr, ℕ, zero, suc, ◌+◌, ◌/◌, ◌%◌, ◌≤◌, Bool, true, false, nat_lt, if◌then◌else◌, List, [], ◌∷◌, ◌++◌, Option, None, Some, slice_get, slice_set, length, length-set, refl, sym, ap, subst, ◌∙◌, arith, eq-eqb}
-use Rattle.std.proofs.lemmas.Bool.{false_from_ne_true}
-use Rattle.norec_world.proofs.Common.{Actor, AreActors, Attempt, Beginning, Between, Cells, CommitsInOrder, End, EndsAt, Finished, GaveUp, HasRow, IsBetween, IsEvent, IsRunOf, IsSound, IsTryAt, IsWorld, MAX_DEPTH, NoMemory, Outcome, Ready, Rows, Rules, Status, StatusIs, Tries, World, active_of, begin_of, begins, between, bytes_at, current_of, ending_of, is_ready, of_thread, over, prior_of, runs, slice_get-set_same, turned_away}
+use Rattle.std.proofs.Common.{◌≡◌, inl, inr, ℕ, ◌+◌, ◌/◌, ◌%◌, ◌≤◌, Bool, true, false, nat_lt, if◌then◌else◌, List, [], ◌∷◌, ◌++◌, Option, None, Some, slice_get, slice_set, length, length-set, refl, sym, ap, subst, ◌∙◌, arith, eq-eqb}
+use Rattle.norec_world.proofs.Common.{Actor, AreActors, AreOfActors, AreRunning, AreSole, Attempt, Beginning, Between, Cells, CommitsInOrder, Continues, End, EndsAt, EndsWith, Finished, GaveUp, GoesOnAfter, HasRow, IsBetween, IsEvent, IsFirstTry, IsOnWay, IsRunOf, IsSole, IsSound, IsTryAt, IsWorld, MAX_DEPTH, NoMemory, Outcome, Ready, Rows, Rules, StandsSole, Status, StatusIs, Tries, World, active_of, after_try, begin_of, begins, between, bytes_at, current_of, ending_of, false_from_ne_true, first_of, is_committed, is_done, is_ready, of_thread, one_if, over, prior_of, runs, slice_get-set_same, turned_away, slice_get_within, same_Some, both_ways}
 use Rattle.norec_world.specs.declared.attempt.Outcome.TheVariants as outcomes
-use Rattle.norec_world.specs.Invariant.{AreRunning}
-use Rattle.norec_world.specs.Opaque.{first_of}
-use Rattle.norec_world.proofs.SoundOthers.{within_of, there_is}
+use Rattle.norec_world.proofs.SoundOthers.{there_is, odd_or_even}
 use Rattle.norec_world.proofs.TryEnds.{none_again}
-use Rattle.norec_world.specs.Attempts.{is_committed}
-use Rattle.norec_world.specs.Opacity.{after_try}
-use Rattle.norec_world.specs.Rows.{AreOfActors}
-use Rattle.norec_world.specs.Solo.{one_if}
-use Rattle.norec_world.specs.Sole.{IsFirstTry, AreSole, EndsWith, IsOnWay, StandsSole, IsSole}
-use Rattle.norec_world.specs.Tries.{Continues, GoesOnAfter, EndsIt, is_done}
+use Rattle.norec_world.specs.Tries.{EndsIt}
 
 -- ## Lists of attempts
 
@@ -42,16 +34,14 @@ module _ {P : Type 0} (rules : Rules P) (n : ℕ) (memory : ℕ → List ℕ) wh
 
 -- it is odd only while the one actor holds it
 pub even_free : {P : Type 0} (w : World P) → CommitsInOrder w → length w.actors ≡ 1 → (a : Actor P) → slice_get w.actors 0 ≡ Some a → a.engine.holds ≡ false → w.cells.clock % 2 ≡ 0
-even_free {P} w c one a here free = by_rest (w.cells.clock % 2) refl
-  where
-    by_rest : (k : ℕ) → w.cells.clock % 2 ≡ k → w.cells.clock % 2 ≡ 0
-    by_rest zero k = k
-    by_rest (suc zero) k =
-        let h = c.held k in
-        let l = within_of w.actors h.0 h.1 h.2 in
-        let same : a ≡ h.1 = (let z : Some a ≡ Some h.1 = sym here ∙ (ap (slice_get w.actors) (sym (omega arith)) ∙ h.2) in cc) in
-        absurd (let z : true ≡ false = sym h.3 ∙ (ap (λ (x : Actor P). x.engine.holds) (sym same) ∙ free) in cc)
-    by_rest (suc (suc n)) k = absurd (omega arith)
+even_free {P} w c one a here free = elim (odd_or_even w.cells.clock) [
+  | inl even ↦ even
+  | inr odd ↦
+      (let h = c.held odd in
+      let l = slice_get_within w.actors h.0 h.1 h.2 in
+      let same : a ≡ h.1 = same_Some _ _ (sym here ∙ (ap (slice_get w.actors) (sym (omega arith)) ∙ h.2)) in
+      absurd (both_ways a.engine.holds free (ap (λ (x : Actor P). x.engine.holds) same ∙ h.3)))
+]
 
 module _ {P : Type 0} (rules : Rules P) where
   pub even_shut : (w : World P) → AreActors rules w.cells w.attempts w.actors → CommitsInOrder w → length w.actors ≡ 1 → (a : Actor P) → slice_get w.actors 0 ≡ Some a → active_of a.thread w.attempts.active ≡ None → w.cells.clock % 2 ≡ 0
@@ -181,7 +171,7 @@ module _ {P : Type 0} (rules : Rules P) where
       → CommitsInOrder (record w { cells = cells'; actors = slice_set w.actors i new; attempts = r'; events = events }) → AreRunning rules (record w { cells = cells'; actors = slice_set w.actors i new; attempts = r'; events = events })
       → (ending_of new.status ≡ Some Finished → new.engine.holds ≡ false) → length w.opening ≡ 1 → (a : Actor P) → slice_get (slice_set w.actors i new) 0 ≡ Some a → IsSole rules w.max_commits cells'.clock r' a
   sole_still w kept i got new here going cells' r' events event actors commits running free one a here' =
-      let within = within_of w.actors i got here in
+      let within = slice_get_within w.actors i got here in
       let first : i ≡ 0 = omega arith in
       let placed : slice_get (slice_set w.actors i new) 0 ≡ Some new = ap (slice_get (slice_set w.actors i new)) (sym first) ∙ slice_get-set_same w.actors i new within in
       let same : new ≡ a = (let z : Some new ≡ Some a = sym placed ∙ here' in cc) in

@@ -2,14 +2,12 @@
 -- Its calls alone come first in what it gets.
 use Rattle.std.proofs.Common.{◌≡◌, ℕ, zero, suc, ◌+◌, ◌<◌, ◌≤◌, Bool, true, false, ◌&&◌, nat_le, is_none, List, [], ◌∷◌, ◌++◌, map, Option, None, Some, refl, sym, ap, subst, ◌∙◌, arith, cond}
 use Rattle.std.proofs.lemmas.Bool.{cond-false}
-use Rattle.norec_world.proofs.Common.{Begin, Beginning, Call, Entry, Finished, GaveUp, Obeys, Props, Rules, State, after, answers, answers_within, begin_code, begin_of, cond-true, is_begin, is_open, opened, pair_of, player_then, reply, state_then, turn, Core, IsAlone, in_transaction}
+use Rattle.norec_world.proofs.Common.{same_Some, Begin, Beginning, Call, Core, Entry, Finished, GaveUp, IsAlone, Obeys, Progress, Props, Rules, Solo, State, Unfinished, after, answers, answers_within, begin_code, begin_of, begin_within, cond-true, ended_as, in_transaction, is_begin, is_open, one_if, opened, pair_of, player_then, refusal, reply, row_of, solo_within, stands_for, state_then, stopped, turn, with_first}
 use Rattle.itm_types.specs.declared.call.Reply.{Reply}
-use Rattle.itm_model.specs.Machine.{outside, refusal}
+use Rattle.itm_model.specs.Machine.{outside}
 use Rattle.itm_model.specs.Runs.{state_after}
-use Rattle.norec_world.specs.Opacity.{begin_within}
-use Rattle.norec_world.specs.declared.attempt.Outcome.TheVariants.{Full, Unfinished}
-use Rattle.norec_world.specs.Solo.{Progress, row_of, Solo, entry_of, one_if, ended_as, stopped, front, with_first, player_after, passed, block_then, begun_then, solo_within}
-use Rattle.norec_engine.specs.Stands.{stands_for}
+use Rattle.norec_world.specs.declared.attempt.Outcome.TheVariants.{Full}
+use Rattle.norec_world.specs.Solo.{entry_of, front, player_after, passed, block_then, begun_then}
 use Rattle.norec_engine.proofs.Machines.{open_is}
 
 -- a call that is made in an open block is the player's next
@@ -73,9 +71,6 @@ module _ {P : Type 0} (rules : Rules P) (laws : Obeys rules) where
   pub stands_open : (e : Core) (m : List ℕ) → in_transaction e ≡ true → is_open (stands_for e m) ≡ true
   stands_open e m o = open_is e.writes e.blocks e.arena m ∙ o
 
-pub same_some : {A : Type 0} {a b : A} → Some a ≡ Some b → a ≡ b
-same_some e = cc
-
 pub state_pairs : (deepest : ℕ) (s : State) (xs : List Entry) → state_after deepest s (map (λ (c : Call × Reply). c.0) (map pair_of xs)) ≡ state_then deepest s xs
 state_pairs deepest s [] = refl
 state_pairs deepest s (x ∷ xs) = state_pairs deepest (after deepest s x.call) xs
@@ -101,7 +96,7 @@ module _ {P : Type 0} (rules : Rules P) (laws : Obeys rules) (deepest : ℕ) whe
       (comes n (rules.answered p (reply deepest (outside [] arena) (Begin props room))) arena (rules.next_call (rules.answered p (reply deepest (outside [] arena) (Begin props room))))) ≡ Some start
       → IsBeginning p start
   begins n p arena props room start true is e rest h =
-      subst (IsBeginning p) (same_some h) (record { room = room; asks = e; accepted = sym is; less = omega arith })
+      subst (IsBeginning p) (same_Some _ _ h) (record { room = room; asks = e; accepted = sym is; less = omega arith })
   begins n p arena props room start false is e rest h = (
       let q : P = rules.answered p (reply deepest (outside [] arena) (Begin props room)) in
       let l = laws.nearer p (Begin props room) (reply deepest (outside [] arena) (Begin props room)) e in
@@ -155,20 +150,26 @@ module _ {P : Type 0} (rules : Rules P) (laws : Obeys rules) (deepest : ℕ) whe
     none_left : (p : P) (arena : List ℕ) → rules.calls_left p ≤ 0 → begin_of rules deepest p arena ≡ None
     none_left p arena l = ap (λ (n : ℕ). begin_within rules deepest n p arena (rules.next_call p)) (let e : rules.calls_left p ≡ 0 = omega arith in e)
 
+    -- the block that begins here takes calls
+    passed_less : (b : Progress P) (start : Beginning P) → begin_of rules deepest b.player b.arena ≡ Some start
+        → rules.calls_left (player_after rules deepest max_commits thread (rules.answered start.player (begin_code false)) (answers rules.next_call rules.answered rules.calls_left deepest (rules.answered start.player (begin_code false)) b.memory start.arena start.props))
+        < rules.calls_left b.player
+    passed_less b start e =
+        let p : P = rules.answered start.player (begin_code false) in
+        let s : State = opened b.memory start.arena start.props in
+        let found = begin_found b.player b.arena start e in
+        let m = laws.nearer start.player (Begin start.props found.room) (begin_code false) found.asks in
+        omega (arith, found.less, falls_along (rules.calls_left p) p s (turn rules.next_call rules.answered rules.calls_left p s) refl)
+
     same_from : (n k : ℕ) (b : Progress P) (o : Option (Beginning P)) → begin_of rules deepest b.player b.arena ≡ o
         → ((c : Progress P) → rules.calls_left c.player < rules.calls_left b.player → goes n c ≡ goes k c)
         → begun_then rules deepest max_commits thread (goes n) b o ≡ begun_then rules deepest max_commits thread (goes k) b o
     same_from n k b None e rest = refl
     same_from n k b (Some start) e rest =
         let p : P = rules.answered start.player (begin_code false) in
-        let s0 : State = opened b.memory start.arena start.props in
         let pairs : List (Call × Reply) = answers rules.next_call rules.answered rules.calls_left deepest p b.memory start.arena start.props in
-        let found = begin_found b.player b.arena start e in
-        let l = found.less in
-        let m = laws.nearer start.player (Begin start.props found.room) (begin_code false) found.asks in
-        let along = falls_along (rules.calls_left p) p s0 (turn rules.next_call rules.answered rules.calls_left p s0) refl in
-        ap (λ (r : Solo). block_then rules deepest max_commits thread (λ (q : Progress P). r) b start p pairs (state_after deepest s0 (map (λ (c : Call × Reply). c.0) pairs)))
-        (rest (passed rules deepest max_commits thread b p pairs (state_after deepest s0 (map (λ (c : Call × Reply). c.0) pairs))) (omega arith))
+        let t : State = state_after deepest (opened b.memory start.arena start.props) (map (λ (c : Call × Reply). c.0) pairs) in
+        ap (λ (r : Solo). block_then rules deepest max_commits thread (λ (q : Progress P). r) b start p pairs t) (rest (passed rules deepest max_commits thread b p pairs t) (passed_less b start e))
 
     -- so many blocks suffice
     pub solo_enough : (n k : ℕ) (b : Progress P) → rules.calls_left b.player ≤ n → rules.calls_left b.player ≤ k → goes n b ≡ goes k b
@@ -221,13 +222,7 @@ module _ {P : Type 0} (rules : Rules P) (laws : Obeys rules) (deepest : ℕ) whe
 
       less : rules.calls_left (player_then rules.answered (begun start) xs) ≤ rules.calls_left b.player
       less =
-          let found = begin_found b.player b.arena start comes_to in
-          let l = found.less in
-          let m = laws.nearer start.player (Begin start.props found.room) (begin_code false) found.asks in
-          let along = falls_along (rules.calls_left (begun start)) (begun start) (opened b.memory start.arena start.props) (turn rules.next_call rules.answered rules.calls_left (begun start) (opened b.memory start.arena start.props)) refl in
-          let same : rules.calls_left (player_after rules deepest 0 0 (begun start) (answers rules.next_call rules.answered rules.calls_left deepest (begun start) b.memory start.arena start.props)) ≡ rules.calls_left (player_then rules.answered (begun start) xs) =
-          ap (λ (pairs : List (Call × Reply)). rules.calls_left (player_after rules deepest 0 0 (begun start) pairs)) all ∙ ap rules.calls_left (player_pairs (begun start) xs) in
-          omega arith
+          omega (arith, passed_less b start comes_to, ap (λ (pairs : List (Call × Reply)). rules.calls_left (player_after rules deepest max_commits thread (begun start) pairs)) all, ap rules.calls_left (player_pairs (begun start) xs))
 
       -- it ends by a commit
       pub ended_block : is_open (state_of b start xs) ≡ false → ((state_of b start xs).wrote && nat_le max_commits b.commits) ≡ false

@@ -1,12 +1,8 @@
 -- An event of one actor leaves the others sound.
 use Rattle.std.proofs.Common.{◌≡◌, ◌≢◌, ◌⊎◌, inl, inr, ℕ, zero, suc, ◌+◌, ◌%◌, ◌<◌, ◌≤◌, Bool, true, false, List, [], ◌∷◌, ◌++◌, length, length-append, Option, None, Some, slice_get, slice_set, refl, sym, ap, subst, ◌∙◌, arith, eq-eqb, eqb-true, ◌==◌, length-set, if◌then◌else◌}
-use Rattle.std.proofs.lemmas.Bool.{both_ways, cases_Bool, cases_eq, cases_lt, eqb-false, false_from_ne_true, ne_eqb}
-use Rattle.norec_world.proofs.Common.{Actor, AllFit, AreActors, AreFrom, Attempt, Cells, ClocksOn, HasRow, IsSound, IsTied, KeepsOthers, Rows, Rules, Status, StatusIs, Waits, active_of, in_transaction, is_ready, slice_get-set_same}
+use Rattle.norec_world.proofs.Common.{Actor, AllFit, AreActors, AreFrom, AreOpen, AreUnfinished, Attempt, Cells, ChangesOwn, ClocksOn, HasRow, IsSound, IsTied, KeepsOthers, MAX_ACTORS, Rows, Rules, Status, StatusIs, Unfinished, Waits, active_of, both_ways, cases_Bool, cases_eq, cases_lt, count_pending, eqb-false, false_from_ne_true, in_transaction, is_ready, ne_eqb, slice_get-set_same, slice_get_within}
 use Rattle.itm_types.proofs.Words.{slice_get-set_other}
-use Rattle.itm_types.specs.declared.limits.TheConstants.{MAX_ACTORS}
-use Rattle.norec_world.specs.declared.attempt.Outcome.TheVariants.{Unfinished}
-use Rattle.norec_world.specs.Rows.{AreUnfinished, AreOpen}
-use Rattle.norec_world.specs.OthersAttempts.{ChangesOwn, count_pending, pending_in}
+use Rattle.norec_world.specs.OthersAttempts.{pending_in}
 use Rattle.norec_world.proofs.TiedEngines.{held_even}
 use Rattle.norec_world.specs.Actors.{IsActor}
 
@@ -88,11 +84,6 @@ replaced_sum (a ∷ rest) (suc i) got new e =
 pending_share : {P : Type 0} (actors : List (Actor P)) (i : ℕ) (a : Actor P) → slice_get actors i ≡ Some a → count_pending a.pending ≤ pending_in actors
 pending_share actors i a e = (let s = replaced_sum actors i a a e in let l = s.1 in omega arith)
 
-pub within_of : {A : Type 0} (xs : List A) (i : ℕ) (x : A) → slice_get xs i ≡ Some x → i < length xs
-within_of [] i x e = absurd (cc)
-within_of (y ∷ ys) zero x e = omega arith
-within_of (y ∷ ys) (suc i) x e = (let l = within_of ys i x e in omega arith)
-
 pub odd_or_even : (n : ℕ) → (n % 2 ≡ 0) ⊎ (n % 2 ≡ 1)
 odd_or_even n = elim (cases_lt (n % 2) 1) [ inl l ↦ inl (omega arith) | inr l ↦ inr (omega arith) ]
 
@@ -101,7 +92,7 @@ pub set_place : {A : Type 0} (xs : List A) (i : ℕ) (got new : A) → slice_get
 set_place xs i got new here j b e = elim (cases_Bool (i == j)) [
   | inl h ↦
       (let same : i ≡ j = eqb-true i j h in
-      let found : Some b ≡ Some new = sym e ∙ (ap (slice_get (slice_set xs i new)) (sym same) ∙ slice_get-set_same xs i new (within_of xs i got here)) in
+      let found : Some b ≡ Some new = sym e ∙ (ap (slice_get (slice_set xs i new)) (sym same) ∙ slice_get-set_same xs i new (slice_get_within xs i got here)) in
       inl (same, cc))
   | inr h ↦ (let apart : i ≢ j = eqb-false i j h in inr (apart, sym (slice_get-set_other xs i j new apart) ∙ e))
 ]
@@ -114,33 +105,87 @@ there_is [] i l = absurd (omega arith)
 there_is (x ∷ xs) zero l = (x, refl)
 there_is (x ∷ xs) (suc i) l = there_is xs i (omega arith)
 
+-- where one holds it, the clock is odd
+pub odd_held : {P : Type 0} {rules : Rules P} {cells : Cells} {r : Rows} {actors : List (Actor P)} → AreActors rules cells r actors → (j : ℕ) (b : Actor P) → slice_get actors j ≡ Some b → b.engine.holds ≡ true → cells.clock % 2 ≡ 1
+odd_held s j b e h =
+    let t = (s.each j b e).sound.tied in
+    omega (arith, t.holder h, held_even b.engine t.settled h)
+
+-- ## One actor is new
+
+module _ {P : Type 0} where
+  -- at this place stands the new one, and elsewhere who stood there
+  abbrev IsPlaced : List (Actor P) → List (Actor P) → ℕ → Actor P → Type 0
+  IsPlaced actors actors' i new = (j : ℕ) (b : Actor P) → slice_get actors' j ≡ Some b → ((i ≡ j) × (b ≡ new)) ⊎ ((i ≢ j) × (slice_get actors j ≡ Some b))
+
+  -- at most one holds the clock
+  abbrev OneHolds : List (Actor P) → Type 0
+  OneHolds actors = (j k : ℕ) (a b : Actor P) → slice_get actors j ≡ Some a → slice_get actors k ≡ Some b → a.engine.holds ≡ true → b.engine.holds ≡ true → j ≡ k
+
+  -- another one that holds the clock sees no change, and the new one does not hold it
+  abbrev LeavesHeld : Cells → Cells → List (Actor P) → ℕ → Actor P → Type 0
+  LeavesHeld cells cells' actors i new = (j : ℕ) (b : Actor P) → i ≢ j → slice_get actors j ≡ Some b → b.engine.holds ≡ true → (cells' ≡ cells) × (new.engine.holds ≡ false)
+
+module _ {P : Type 0} (cells cells' : Cells) (actors actors' : List (Actor P)) (i : ℕ) (new : Actor P) (placed : IsPlaced actors actors' i new) (apart : LeavesHeld cells cells' actors i new) where
+  one_then : OneHolds actors → OneHolds actors'
+  one_then one j k a b ea eb ha hb = elim (placed j a ea) [
+    | inl x ↦ elim (placed k b eb) [
+      | inl y ↦ sym x.0 ∙ y.0
+      | inr y ↦ absurd (both_ways new.engine.holds (apart k b y.0 y.1 hb).1 (ap (λ (z : Actor P). z.engine.holds) (sym x.1) ∙ ha))
+    ]
+    | inr x ↦ elim (placed k b eb) [
+      | inl y ↦ absurd (both_ways new.engine.holds (apart j a x.0 x.1 ha).1 (ap (λ (z : Actor P). z.engine.holds) (sym y.1) ∙ hb))
+      | inr y ↦ one j k a b x.1 y.1 ha hb
+    ]
+  ]
+
+  module _ (rules : Rules P) (r r' : Rows) (s : AreActors rules cells r actors) (sound : IsSound rules cells' r' new) (done : is_ready new.status ≡ false) (thread : new.thread ≡ i) (own : ChangesOwn i r r')
+      (late : cells.clock ≤ cells'.clock) (long : length cells'.words ≡ length cells.words) (room : pending_in actors' ≤ r'.room) where
+    each_then : (j : ℕ) (b : Actor P) → slice_get actors' j ≡ Some b → IsActor rules cells' r' j b
+    each_then j b e = elim (placed j b e) [
+      | inl h ↦ subst (IsActor rules cells' r' j) (sym h.1) (record { sound = sound; done = done; thread = thread ∙ h.0 })
+      | inr h ↦
+          (let was = s.each j b h.1 in
+          record {
+            sound = sound_still rules cells cells' r r' b was.sound sound.tied.fit late long (λ holds. (apart j b h.0 h.1 holds).0)
+                (own.others b.thread (λ same. h.0 (sym same ∙ was.thread))) (let share = pending_share actors' j b e in omega arith);
+            done = was.done;
+            thread = was.thread;
+          })
+    ]
+
+    actors_then : length actors' ≤ MAX_ACTORS → i < length actors' → length actors ≤ length actors' → (cells'.clock % 2 ≡ 1 → (place : ℕ) × (a : Actor P) × (slice_get actors' place ≡ Some a) × (a.engine.holds ≡ true))
+        → AreActors rules cells' r' actors'
+    actors_then few within more held = record {
+      few = few;
+      each = each_then;
+      one = one_then s.one;
+      held = held;
+      room = room;
+      listed = λ other row e. elim (cases_eq other i) [
+        | inl same ↦ omega arith
+        | inr apart ↦ (let l = s.listed other row (sym (own.others other apart) ∙ e) in omega arith)
+      ];
+    }
+
 -- ## One event
 
 -- who holds the clock, once one is replaced
 module _ {P : Type 0}
     (cells cells' : Cells) (actors : List (Actor P)) (i : ℕ) (got new : Actor P) (here : slice_get actors i ≡ Some got) (clocks : ClocksOn cells got.engine cells' new.engine)
-    (one : (j k : ℕ) (a b : Actor P) → slice_get actors j ≡ Some a → slice_get actors k ≡ Some b → a.engine.holds ≡ true → b.engine.holds ≡ true → j ≡ k)
+    (one : OneHolds actors)
     (odd_of : (j : ℕ) (b : Actor P) → slice_get actors j ≡ Some b → b.engine.holds ≡ true → cells.clock % 2 ≡ 1) where
   -- one that holds the clock and is not this one sees no change
-  pub held_apart : (j : ℕ) (b : Actor P) → i ≢ j → slice_get actors j ≡ Some b → b.engine.holds ≡ true → (cells' ≡ cells) × (new.engine.holds ≡ false)
+  pub held_apart : LeavesHeld cells cells' actors i new
   held_apart j b apart e h = clocks.apart (odd_of j b e h) (false_from_ne_true got.engine.holds (λ g. apart (one i j got b here e g h)))
 
-  pub one_after : (j k : ℕ) (a b : Actor P) → slice_get (slice_set actors i new) j ≡ Some a → slice_get (slice_set actors i new) k ≡ Some b → a.engine.holds ≡ true → b.engine.holds ≡ true → j ≡ k
-  one_after j k a b ea eb ha hb = elim (set_place actors i got new here j a ea) [
-    | inl x ↦ elim (set_place actors i got new here k b eb) [
-      | inl y ↦ sym x.0 ∙ y.0
-      | inr y ↦ absurd (both_ways new.engine.holds (held_apart k b y.0 y.1 hb).1 (ap (λ (z : Actor P). z.engine.holds) (sym x.1) ∙ ha))
-    ]
-    | inr x ↦ elim (set_place actors i got new here k b eb) [
-      | inl y ↦ absurd (both_ways new.engine.holds (held_apart j a x.0 x.1 ha).1 (ap (λ (z : Actor P). z.engine.holds) (sym y.1) ∙ hb))
-      | inr y ↦ one j k a b x.1 y.1 ha hb
-    ]
-  ]
+  pub one_after : OneHolds (slice_set actors i new)
+  one_after = one_then cells cells' actors (slice_set actors i new) i new (set_place actors i got new here) held_apart one
 
   pub held_after : (cells.clock % 2 ≡ 1 → (place : ℕ) × (a : Actor P) × (slice_get actors place ≡ Some a) × (a.engine.holds ≡ true)) → cells'.clock % 2 ≡ 1
       → (place : ℕ) × (a : Actor P) × (slice_get (slice_set actors i new) place ≡ Some a) × (a.engine.holds ≡ true)
   held_after held odd =
-      let here_after : slice_get (slice_set actors i new) i ≡ Some new = slice_get-set_same actors i new (within_of actors i got here) in
+      let here_after : slice_get (slice_set actors i new) i ≡ Some new = slice_get-set_same actors i new (slice_get_within actors i got here) in
       elim (odd_or_even cells.clock) [
         | inl even ↦ (i, new, here_after, clocks.alone (λ o. absurd (let z : 0 ≡ 1 = sym even ∙ o in omega arith)) odd)
         | inr was_odd ↦
@@ -158,56 +203,25 @@ module _ {P : Type 0} (rules : Rules P)
     (i : ℕ) (got new : Actor P) (here : slice_get actors i ≡ Some got)
     (sound : IsSound rules cells' r' new) (done : is_ready new.status ≡ false)
     (others : KeepsOthers got r new r') (clocks : ClocksOn cells got.engine cells' new.engine) where
-  mine : IsActor rules cells r i got
-  mine = s.each i got here
-
-  odd_held : (j : ℕ) (b : Actor P) → slice_get actors j ≡ Some b → b.engine.holds ≡ true → cells.clock % 2 ≡ 1
-  odd_held j b e h =
-      let t = (s.each j b e).sound.tied in
-      omega (arith, t.holder h, held_even b.engine t.settled h)
-
-  room_after : pending_in (slice_set actors i new) ≤ r'.room
-  room_after =
-      let w = replaced_sum actors i got new here in
-      omega (arith, w.2, others.room w.0 (omega (arith, s.few, w.3)) (omega (arith, s.room, w.1)))
-
   -- the world goes on
   pub actors_after : AreActors rules cells' r' (slice_set actors i new)
-  actors_after = record {
-    few = (let n = length-set actors i new in let l = s.few in omega arith);
-    each = each_after;
-    one = one_after cells cells' actors i got new here clocks s.one odd_held;
-    held = held_after cells cells' actors i got new here clocks s.one odd_held s.held;
-    room = room_after;
-    listed = λ thread row e.
-        (let n = length-set actors i new in
-        elim (cases_eq thread i) [
-          | inl same ↦ (let l = within_of actors i got here in omega arith)
-          | inr not_mine ↦ (let l = s.listed thread row (sym (others.own.others thread (λ same. not_mine (same ∙ mine.thread))) ∙ e) in omega arith)
-        ]);
-  }
-    where
-      each_after : (j : ℕ) (b : Actor P) → slice_get (slice_set actors i new) j ≡ Some b → IsActor rules cells' r' j b
-      each_after j b e = elim (set_place actors i got new here j b e) [
-        | inl h ↦ subst (IsActor rules cells' r' j) (sym h.1) (record { sound = sound; done = done; thread = others.thread ∙ (mine.thread ∙ h.0) })
-        | inr h ↦
-            (let was = s.each j b h.1 in
-            let not_mine : b.thread ≡ got.thread → ⊥ = λ same. h.0 (sym mine.thread ∙ (sym same ∙ was.thread)) in
-            record {
-              sound = sound_still rules cells cells' r r' b was.sound sound.tied.fit clocks.late clocks.long (λ holds. (held_apart cells cells' actors i got new here clocks s.one odd_held j b h.0 h.1 holds).0)
-                  (others.own.others b.thread not_mine) (let share = pending_share (slice_set actors i new) j b e in let all = room_after in omega arith);
-              done = was.done;
-              thread = was.thread;
-            })
-      ]
+  actors_after =
+      let mine = (s.each i got here).thread in
+      let own : ChangesOwn i r r' = subst (λ (t : ℕ). ChangesOwn t r r') mine others.own in
+      let long = length-set actors i new in
+      let within = slice_get_within actors i got here in
+      let w = replaced_sum actors i got new here in
+      let room : pending_in (slice_set actors i new) ≤ r'.room = omega (arith, w.2, others.room w.0 (omega (arith, s.few, w.3)) (omega (arith, s.room, w.1))) in
+      actors_then cells cells' actors (slice_set actors i new) i new (set_place actors i got new here) (held_apart cells cells' actors i got new here clocks s.one (odd_held s))
+      rules r r' s sound done (others.thread ∙ mine) own clocks.late clocks.long room (omega (arith, s.few)) (omega arith) (omega arith) (held_after cells cells' actors i got new here clocks s.one (odd_held s) s.held)
 
 -- ## One actor more
 
-pub last_or_before : {A : Type 0} (xs : List A) (y : A) (j : ℕ) (b : A) → slice_get (xs ++ y ∷ []) j ≡ Some b → (slice_get xs j ≡ Some b) ⊎ ((j ≡ length xs) × (b ≡ y))
-last_or_before [] y zero b e = inr (refl, cc)
-last_or_before [] y (suc j) b e = absurd (cc)
-last_or_before (x ∷ xs) y zero b e = inl e
-last_or_before (x ∷ xs) y (suc j) b e = elim (last_or_before xs y j b e) [ inl h ↦ inl h | inr h ↦ inr (ap (λ n. suc n) h.0, h.1) ]
+pub joined_place : {A : Type 0} (xs : List A) (y : A) (j : ℕ) (b : A) → slice_get (xs ++ y ∷ []) j ≡ Some b → ((length xs ≡ j) × (b ≡ y)) ⊎ ((length xs ≢ j) × (slice_get xs j ≡ Some b))
+joined_place [] y zero b e = inl (refl, cc)
+joined_place [] y (suc j) b e = absurd (cc)
+joined_place (x ∷ xs) y zero b e = inr (λ same. absurd (omega arith), e)
+joined_place (x ∷ xs) y (suc j) b e = elim (joined_place xs y j b e) [ inl h ↦ inl (ap suc h.0, h.1) | inr h ↦ inr (λ same. h.0 (omega arith), h.1) ]
 
 still_there : {A : Type 0} (xs ys : List A) (j : ℕ) (b : A) → slice_get xs j ≡ Some b → slice_get (xs ++ ys) j ≡ Some b
 still_there [] ys j b e = absurd (cc)
@@ -222,49 +236,13 @@ module _ {P : Type 0} (rules : Rules P)
     (cells : Cells) (r r' : Rows) (actors : List (Actor P)) (s : AreActors rules cells r actors) (new : Actor P)
     (sound : IsSound rules cells r' new) (done : is_ready new.status ≡ false) (thread : new.thread ≡ length actors) (fewer : length actors < MAX_ACTORS)
     (own : ChangesOwn new.thread r r') (roomy : (others : ℕ) → others < MAX_ACTORS → others ≤ r.room → others + count_pending new.pending ≤ r'.room) (free : new.engine.holds ≡ false) where
-  room_joined : pending_in (actors ++ new ∷ []) ≤ r'.room
-  room_joined =
-      omega (arith, pending_more actors new, roomy (pending_in actors) (omega (arith, pending_le actors)) s.room)
-
   pub actors_joined : AreActors rules cells r' (actors ++ new ∷ [])
-  actors_joined = record {
-    few = (let n = length-append actors (new ∷ []) in omega arith);
-    each = each_joined;
-    one = one_joined;
-    held = λ odd. (let h = s.held odd in (h.0, h.1, still_there actors (new ∷ []) h.0 h.1 h.2, h.3));
-    room = room_joined;
-    listed = λ other row e.
-        (let n = length-append actors (new ∷ []) in
-        elim (cases_eq other new.thread) [
-          | inl same ↦ omega arith
-          | inr apart ↦ (let l = s.listed other row (sym (own.others other apart) ∙ e) in omega arith)
-        ]);
-  }
-    where
-      each_joined : (j : ℕ) (b : Actor P) → slice_get (actors ++ new ∷ []) j ≡ Some b → IsActor rules cells r' j b
-      each_joined j b e = elim (last_or_before actors new j b e) [
-        | inl h ↦
-            (let was = s.each j b h in
-            let within = within_of actors j b h in
-            let mine = was.thread in
-            let not_new : b.thread ≡ new.thread → ⊥ = λ same. absurd (omega arith) in
-            record {
-              sound = sound_still rules cells cells r r' b was.sound sound.tied.fit (let k : cells.clock ≤ cells.clock = omega arith in k) refl (λ holds. refl)
-                  (own.others b.thread not_new) (let share = pending_share (actors ++ new ∷ []) j b e in let all = room_joined in omega arith);
-              done = was.done;
-              thread = was.thread;
-            })
-        | inr h ↦ subst (IsActor rules cells r' j) (sym h.1) (record { sound = sound; done = done; thread = thread ∙ sym h.0 })
-      ]
-
-      one_joined : (j k : ℕ) (a b : Actor P) → slice_get (actors ++ new ∷ []) j ≡ Some a → slice_get (actors ++ new ∷ []) k ≡ Some b → a.engine.holds ≡ true → b.engine.holds ≡ true → j ≡ k
-      one_joined j k a b ea eb ha hb = elim (last_or_before actors new j a ea) [
-        | inl x ↦ elim (last_or_before actors new k b eb) [
-          | inl y ↦ s.one j k a b x y ha hb
-          | inr y ↦ absurd (both_ways new.engine.holds free (ap (λ (z : Actor P). z.engine.holds) (sym y.1) ∙ hb))
-        ]
-        | inr x ↦ absurd (both_ways new.engine.holds free (ap (λ (z : Actor P). z.engine.holds) (sym x.1) ∙ ha))
-      ]
+  actors_joined =
+      let long = length-append actors (new ∷ []) in
+      let mine : ChangesOwn (length actors) r r' = subst (λ (t : ℕ). ChangesOwn t r r') thread own in
+      let room : pending_in (actors ++ new ∷ []) ≤ r'.room = omega (arith, pending_more actors new, roomy (pending_in actors) (omega (arith, pending_le actors)) s.room) in
+      actors_then cells cells actors (actors ++ new ∷ []) (length actors) new (joined_place actors new) (λ j b other e h. (refl, free))
+      rules r r' s sound done thread mine (omega arith) refl room (omega arith) (omega arith) (omega arith) (λ odd. (let h = s.held odd in (h.0, h.1, still_there actors (new ∷ []) h.0 h.1 h.2, h.3)))
 
 -- where no actor has an open attempt, nobody has
 pub none_active : {P : Type 0} (rules : Rules P) (cells : Cells) (r : Rows) (actors : List (Actor P))

@@ -1,16 +1,15 @@
 -- A step was done, or a call of the player came: its value or the call went to the engine, and what the engine gave may be recorded.
 use Rattle.std.proofs.Common.{◌≡◌, inl, ℕ, zero, suc, ◌+◌, ◌*◌, ◌/◌, ◌%◌, ◌<◌, ◌≤◌, ◌==◌, Bool, true, false, if◌then◌else◌, Option, None, Some, refl, sym, true≢false, ap, subst, ◌∙◌, arith, eqb-true, inr, ◌-◌}
-use Rattle.norec_world.proofs.Common.{Actor, AllFit, Answers, Asks, Call, Cas, Cells, ClocksOn, Core, Ended, IsDone, IsLawful, IsNested, IsNoMore, IsReady, IsSound, IsTied, Load, Next, Proceeds, Ready, RestsAs, Rows, Rules, Status, StatusIs, Step, Store, Waits, active_of, begins_again, came, cells_after, ending_of, found, handed_is, handed_to, in_transaction, is_inside, is_ready, is_waiting, rank, whole}
+use Rattle.norec_world.proofs.Common.{Actor, AllFit, Answers, Asks, AsksFor, Call, Cas, Cells, ClocksOn, Core, Ended, Falls, GoesOn, HoldsOn, IsDone, IsLawful, IsNested, IsNoMore, IsReady, IsResumed, IsSettledBy, IsSound, IsTied, IsWithin, Load, Next, Proceeds, Ready, RestsAs, Rows, Rules, Status, StatusIs, Step, Store, Waits, active_of, begins_again, came, cells_after, ending_of, found, handed_is, handed_to, in_transaction, is_inside, is_ready, is_waiting, rank, steps_left, whole, IsTold, Tells}
 use Rattle.norec_engine.specs.Keeps.{Keeps}
-use Rattle.norec_engine.specs.Moves.{IsResumed}
-use Rattle.norec_engine.specs.Proceeds.{AsksFor, IsWithin, most}
+use Rattle.norec_engine.specs.Proceeds.{most}
 use Rattle.norec_engine.proofs.KeptFields.{most_same}
-use Rattle.norec_world.specs.ClockHolder.{HoldsOn}
-use Rattle.norec_world.specs.Sound.{GoesOn, IsWaiting, steps_left, Falls, IsAsked, IsSettledBy}
+use Rattle.norec_world.specs.Sound.{IsWaiting, IsAsked}
 use Rattle.norec_world.proofs.ClockHolders.{clocks_of, clocks_still, clocks_twice, word_freed}
 use Rattle.norec_world.proofs.Taken.{ClockMoves, HasTaken, in_call_of, ready_of}
 use Rattle.norec_world.proofs.TiedEngines.{IsMid, hands, held_even, holds_handed, holds_same, limit_same, tied, comes}
 use Rattle.norec_world.specs.Records.{Asks as AsksOf}
+use Rattle.norec_world.specs.LocalWork.{SameActor, TakesIn}
 
 -- ## The clock over a step
 
@@ -101,6 +100,22 @@ module _ {P : Type 0} {rules : Rules P} {cells : Cells} {r : Rows} {old : Actor 
       let kept = limit_same mid_step new what went in
       clocks_twice cells cells' cells' old.engine mid_step last (clocks_of cells cells' old.engine mid_step taken (λ h. (let held = is_mid.holder h in let even = is_mid.even h in omega arith)))
       (clocks_still cells' mid_step last (ap (λ (c : Core). c.holds) is ∙ holds_same mid_step new what went) (ap (λ (c : Core). c.max_commits) is ∙ kept.0, ap (λ (c : Core). c.patience) is ∙ kept.1))
+
+  -- the value came to the engine, and what came of it was taken up
+  pub takes_in : (status : Status) → status ≡ Ready → {rows r' : Rows} {last : Actor P} → last.engine ≡ new → Tells rules (in_transaction old.engine) r rows (record old { engine = new; status = status }) last call what
+      → IsTold last.thread (in_transaction last.engine) rows (last.engine.snapshot / 2) r' → SameActor old last → TakesIn rules cells r old r' last
+  takes_in status ready {rows} {r'} {last} engine tells told same = record {
+    call = call;
+    step = m.step;
+    waits = m.waiting;
+    what = what;
+    resumed = subst (IsResumed old.engine (found cells m.step) what) (sym engine) m.resumed;
+    rows = rows;
+    tells = subst (λ (e : Core). Tells rules (in_transaction old.engine) r rows (record old { engine = e; status = Ready }) last call what) (sym engine)
+        (subst (λ (s : Status). Tells rules (in_transaction old.engine) r rows (record old { engine = new; status = s }) last call what) ready tells);
+    told = subst (λ (n : ℕ). IsTold n (in_transaction last.engine) rows (last.engine.snapshot / 2) r') same.thread told;
+    same = same;
+  }
 
   pub limit_is : new.max_commits ≡ old.engine.max_commits
   limit_is = (limit_same mid_step new what went).0 ∙ same.max_commits

@@ -1,14 +1,16 @@
 -- The moment that a step and a call of the player share: the engine has taken in a value or a call, and what it gave is recorded next.
 use Rattle.std.proofs.Common.{◌≡◌, ◌⊎◌, ◌+◌, ◌*◌, ◌/◌, Bool, true, false, [], refl, ap, subst, ◌∙◌, sym, length, Some}
-use Rattle.norec_world.proofs.Common.{Actor, Answer, Answers, Asks, Call, Cells, Core, Ended, Ends, HasRow, IsAtOnce, IsDone, IsNested, IsSound, IsTied, Next, Proceeds, Ready, Records, RestsAs, Rows, Rules, Status, StatusIs, Step, Tells, Waits, in_transaction, is_ready}
-use Rattle.norec_engine.specs.Proceeds.{IsWithin}
-use Rattle.norec_engine.proofs.AnsweredEngines.{rests}
-use Rattle.norec_world.specs.Sound.{AnswerFits, IsAnswered, IsDue, IsInCall, IsKept, IsSettledBy}
+use Rattle.norec_world.proofs.Common.{Actor, Answer, AnswerFits, Answers, Asks, Call, Cells, Core, Ended, Ends, HasRow, IsAnswered, IsAtOnce, IsDone, IsKept, IsNested, IsSettledBy, IsSound, IsTied, IsWithin, Next, Proceeds, Ready, Records, RestsAs, Rows, Rules, Status, StatusIs, Step, Tells, Waits, in_transaction, is_ready, rests, End, ending_of}
+use Rattle.norec_world.specs.Sound.{IsDue, IsInCall}
 use Rattle.norec_world.proofs.TiedEngines.{answer_fits}
 
 pub ready_of : (s : Status) → is_ready s ≡ true → s ≡ Ready
 ready_of Ready e = refl
 ready_of s e = absurd (cc)
+
+-- one that is ready has not ended
+pub still_going : {s : Status} {end : End} {A : Type 0} → s ≡ Ready → ending_of s ≡ Some end → A
+still_going ready e = absurd (let none = sym (ap ending_of ready) ∙ e in cc)
 
 -- what becomes of the clock, by whether the engine freed it
 pub record ClockMoves (cells cells' : Cells) (mid : Core) : Type 0 where

@@ -1,12 +1,7 @@
 -- The engine and the cells, over one event: the engine's data stay as the cells have them.
 use Rattle.std.proofs.Common.{◌≡◌, ℕ, zero, suc, ◌+◌, ◌*◌, ◌/◌, ◌%◌, ◌<◌, ◌≤◌, ◌==◌, Bool, true, false, length, Option, Some, slice_index, refl, sym, ap, subst, ◌∙◌, arith, if◌then◌else◌, eqb-true, length-set}
-use Rattle.std.proofs.lemmas.Bool.{both_ways, cond_both}
-use Rattle.norec_world.proofs.Common.{AllFit, Answer, Answers, Asks, Busy, Call, Cas, Cells, Commit, Committed, Conflict, Core, Ends, Full, IsLawful, IsTied, Load, Next, Proceeds, Replies, RepliesTo, Reply, Step, Store, came, cells_after, found, handed_to, in_transaction, word_loaded}
-use Rattle.norec_engine.specs.Proceeds.{IsSettled, StaysOn, AsksFor}
-use Rattle.norec_engine.proofs.AnsweredEngines.{rests}
-use Rattle.norec_engine.specs.Undoing.{after_undoing}
-use Rattle.norec_world.specs.Sound.{AnswerFits}
-use Rattle.norec_world.specs.ClockHolder.{HoldsOn}
+use Rattle.norec_world.proofs.Common.{AllFit, Answer, AnswerFits, Answers, Asks, AsksFor, Busy, Call, Cas, Cells, Commit, Committed, Conflict, Core, Ends, Full, HoldsOn, IsLawful, IsTied, Load, Next, Proceeds, Replies, RepliesTo, Reply, StaysOn, Step, Store, after_undoing, both_ways, came, cells_after, cond_both, found, handed_to, in_transaction, rests, word_loaded}
+use Rattle.norec_engine.specs.Proceeds.{IsSettled}
 use Rattle.norec_world.proofs.PlayerLaws.{reply_fits}
 
 -- ## What the operation asks and gives
@@ -28,6 +23,17 @@ pub record IsMid (cells : Cells) (mid new : Core) : Type 0 where
   pub holder : mid.holds ≡ true → cells.clock ≡ mid.clock + 1
   pub even : mid.holds ≡ true → mid.clock % 2 ≡ 0
   pub settled : IsSettled new
+
+-- one that does not hold the clock
+loose : {cells : Cells} {mid new : Core} → mid.words ≡ length cells.words → AllFit cells.words → mid.clock ≤ cells.clock → mid.holds ≡ false → IsSettled new → IsMid cells mid new
+loose {mid} words fit late free settled = record {
+  words = words;
+  fit = fit;
+  late = late;
+  holder = λ h. absurd (both_ways mid.holds free h);
+  even = λ h. absurd (both_ways mid.holds free h);
+  settled = settled;
+}
 
 -- a step is asked for
 asked : (cells : Cells) (mid new : Core) (step : Step) → IsMid cells mid new → AsksFor mid step new → IsTied cells new
@@ -66,14 +72,7 @@ tied cells mid new (Answers a) m g = ended cells mid new a m g
 
 module _ (cells : Cells) (e new : Core) (t : IsTied cells e) (free : e.holds ≡ false) (settled : IsSettled new) where
   pub comes : (call : Call) (again : Bool) → StaysOn e new → IsMid cells (came e call again) new
-  comes call again stays = record {
-    words = t.words;
-    fit = t.fit;
-    late = t.late;
-    holder = λ h. absurd (both_ways e.holds free h);
-    even = held_even e t.settled;
-    settled = settled;
-  }
+  comes call again stays = loose t.words t.fit t.late free settled
 
 -- ## A value is handed in
 
@@ -91,23 +90,9 @@ module _ (cells : Cells) (e new : Core) (t : IsTied cells e) (settled : IsSettle
 
   pub hands : (step : Step) → IsLawful e step → AllFit (cells_after cells step).words
       → IsMid (cells_after cells step) (handed_to e (Some step) (found cells step)) new
-  hands (Load zero) l fit = record {
-    words = t.words;
-    fit = fit;
-    late = (let k : cells.clock ≤ cells.clock = omega arith in k);
-    settled = settled;
-    holder = λ h. absurd (both_ways e.holds l.1 h);
-    even = λ h. absurd (both_ways e.holds l.1 h);
-  }
+  hands (Load zero) l fit = loose t.words fit (omega arith) l.1 settled
   hands (Load (suc word)) l fit = word_taken word (slice_index cells.words word) fit e.holds
-  hands (Store zero value) l fit = record {
-    words = t.words;
-    fit = fit;
-    late = (let k : value ≤ value = omega arith in k);
-    settled = settled;
-    holder = λ h. absurd (cc);
-    even = λ h. absurd (cc);
-  }
+  hands (Store zero value) l fit = loose t.words fit (omega arith) refl settled
   hands (Store (suc word) value) l fit = record {
     words = t.words ∙ sym (length-set cells.words word value);
     fit = fit;

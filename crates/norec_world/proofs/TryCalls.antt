@@ -1,14 +1,13 @@
 -- What a call of an actor, up to its first step, and a step of it do to its try.
 use Rattle.std.proofs.Common.{◌≡◌, ℕ, ◌/◌, Bool, true, false, [], Option, None, Some, refl, sym, ap, subst, ◌∙◌, arith}
-use Rattle.std.proofs.lemmas.Bool.{false_from_ne_true}
-use Rattle.norec_world.proofs.Common.{Actor, Answer, Answers, Asks, Attempt, Begin, Busy, Call, Cells, Core, Ended, HasRow, IsAtOnce, IsDone, IsSound, IsTold, Next, Opens, Prior, Ready, Reply, Rows, Rules, Status, Step, Tells, Tries, Waits, active_of, asked_pending, begins, ending_of, in_transaction, prior_of}
+use Rattle.norec_world.proofs.Common.{Actor, Answer, Answers, Asks, Attempt, Begin, Busy, Call, Cells, Core, Ended, HasRow, IsAtOnce, IsDone, IsSound, IsTold, Next, Opens, Prior, Ready, Reply, Rows, Rules, Starves, Status, Step, Tells, Tries, Waits, active_of, asked_pending, begins, ending_of, false_from_ne_true, in_transaction, prior_of}
 use Rattle.norec_world.specs.declared.attempt.Outcome.TheVariants as outcomes
 use Rattle.norec_world.specs.declared.attempt.End.TheVariants as ends
 use Rattle.norec_world.proofs.TiedEngines.{limit_same, snapshot_still}
-use Rattle.norec_world.specs.LocalWork.{Starves}
 use Rattle.norec_world.proofs.SoundSteps.{IsCalling, active_same, call_taken, ended_same, mid, rests, IsStepping, limit_is, mid_step, step_taken}
 use Rattle.norec_world.proofs.Taken.{HasAnswered, HasTaken, recorded, now}
-use Rattle.norec_world.proofs.TryEnds.{is_between, open_tries, stays_between, stays_open, stops_try, begin_tries, not_finished, told_tries}
+use Rattle.norec_world.proofs.TryEnds.{is_between, open_tries, stays_between, stays_open, stops_try, begin_tries, not_finished, told_tries, stays}
+use Rattle.std.proofs.lemmas.Option.{none-some}
 
 module _ {P : Type 0} (rules : Rules P)
     (cells : Cells) (r0 : Rows) (old : Actor P) (sound : IsSound rules cells r0 old) (ready : old.status ≡ Ready) where
@@ -18,12 +17,10 @@ module _ {P : Type 0} (rules : Rules P)
   -- ## The player has no more calls
 
   pub finish_tries : (last : Actor P) → last ≡ record old { status = Ended ends.Finished } → Tries cells.clock (prior_of r0 old) cells.clock r0 last
-  finish_tries last is = subst (Tries cells.clock (prior_of r0 old) cells.clock r0) (sym is) (by_row (in_transaction old.engine) sound.kept.row)
-    where
-      by_row : (b : Bool) → HasRow b r0 old.thread → Tries cells.clock (prior_of r0 old) cells.clock r0 (record old { status = Ended ends.Finished })
-      by_row true h = stays_open cells.clock cells.clock r0 r0 old (record old { status = Ended ends.Finished }) refl refl h.0 h.1 h.1 refl (λ e. absurd (cc)) (λ e. absurd (cc))
-      by_row false h = stays_between cells.clock cells.clock r0 r0 old (record old { status = Ended ends.Finished }) refl refl h nothing
-          (record { none = h; tries = refl; opens = λ row e. absurd (let n = sym nothing ∙ e in cc); goes_on = λ e. absurd (cc) })
+  finish_tries last is =
+      subst (Tries cells.clock (prior_of r0 old) cells.clock r0) (sym is)
+      (stays cells.clock cells.clock r0 r0 old (record old { status = Ended ends.Finished }) refl refl (in_transaction old.engine) sound.kept.row nothing refl refl
+      (λ shut row e. absurd (none-some row (sym nothing ∙ e))) (λ e. absurd (cc)) (λ e. absurd (cc)))
 
   -- ## Memory was refused
 
@@ -58,16 +55,9 @@ module _ {P : Type 0} {rules : Rules P} {cells : Cells} {r0 r : Rows} {old a : A
 
   -- it waits for its first step
   waits_tries : (step : Step) → HasTaken rules (in_transaction old.engine) cells cells r (mid m) a call (Asks step) → Tries cells.clock (prior_of r0 old) cells.clock r (record a { status = Waits call step })
-  waits_tries step t = by_row (in_transaction old.engine) refl m.sound.kept.row
-    where
-      by_row : (b : Bool) → in_transaction old.engine ≡ b → HasRow b r0 old.thread → Tries cells.clock (prior_of r0 old) cells.clock r (record a { status = Waits call step })
-      by_row true e h = stays_open cells.clock cells.clock r0 r old (record a { status = Waits call step }) (ended_same m) refl h.0 h.1 (active_same m ∙ h.1) m.asks.nth (λ x. absurd (cc)) (λ x. absurd (cc))
-      by_row false e h = stays_between cells.clock cells.clock r0 r old (record a { status = Waits call step }) (ended_same m) refl h (rests m.sound m.ready).nothing (record {
-        none = active_same m ∙ h;
-        tries = m.asks.nth;
-        opens = λ row p. opens_now call row (ap (λ (b : Bool). asked_pending b cells.clock old call) (sym e) ∙ (sym m.asks.pending ∙ p)) (ap (λ (c : Core). c.arena) t.proceeds.stays);
-        goes_on = λ x. absurd (cc);
-      })
+  waits_tries step t =
+      stays cells.clock cells.clock r0 r old (record a { status = Waits call step }) (ended_same m) refl (in_transaction old.engine) m.sound.kept.row (rests m.sound m.ready).nothing (active_same m) m.asks.nth
+      (λ shut row p. opens_now call row (ap (λ (b : Bool). asked_pending b cells.clock old call) (sym shut) ∙ (sym m.asks.pending ∙ p)) (ap (λ (c : Core). c.arena) t.proceeds.stays)) (λ x. absurd (cc)) (λ x. absurd (cc))
 
   -- it is answered at once
   answer_tries : (answer : Answer) → IsAtOnce (Answers answer) → {r1 : Rows} {last : Actor P} → HasAnswered rules (in_transaction old.engine) cells cells r r1 (mid m) a last call answer → Tries cells.clock (prior_of r0 old) cells.clock r1 last

@@ -1,14 +1,13 @@
 -- Local work after an event, or after other local work: what becomes of the try.
 -- Also what holds of actors that have taken no step.
 use Rattle.std.proofs.Common.{◌≡◌, ℕ, ◌+◌, ◌/◌, Bool, true, false, nat_lt, List, [], ◌∷◌, ◌++◌, append_assoc, Option, None, Some, refl, sym, ap, subst, ◌∙◌, arith, zero, suc}
-use Rattle.norec_world.proofs.Common.{Actor, Attempt, Cells, Ended, EndsAt, Entry, HasRow, IsBetween, IsSound, Outcome, Prior, Ready, Rows, Rules, Tries, active_of, begins, between, current_of, ending_of, in_transaction, over, prior_of, runs, turned_away, NoMemory}
+use Rattle.norec_world.proofs.Common.{Actor, Attempt, Cells, Continues, Ended, EndsAt, Entry, GoesOnAfter, IsBetween, IsFirst, IsSound, NoMemory, Outcome, Prior, Ready, Rows, Rules, Tries, TriesAgain, active_of, begins, between, current_of, ending_in, ending_of, in_transaction, over, prior_of, runs, turned_away}
 use Rattle.norec_world.specs.declared.attempt.Outcome.TheVariants as outcomes
 use Rattle.norec_world.specs.declared.attempt.End.TheVariants as ends
-use Rattle.norec_world.specs.Tries.{Continues, TriesAgain, GoesOnAfter}
 use Rattle.norec_world.proofs.SoundSteps.{rests}
-use Rattle.norec_world.proofs.TryEnds.{stays_between, stays_open}
-use Rattle.norec_world.specs.World.{ending_in}
-use Rattle.norec_world.specs.Starts.{IsFirst}
+use Rattle.norec_world.proofs.TryEnds.{stays}
+use Rattle.norec_world.proofs.Taken.{still_going}
+use Rattle.std.proofs.lemmas.Option.{none-some}
 
 -- none found no memory
 pub fed_joined : {P : Type 0} (actors : List (Actor P)) (a : Actor P) → ((place : ℕ) → ending_in actors place ≡ Some NoMemory → ⊥) → (ending_of a.status ≡ Some NoMemory → ⊥)
@@ -139,12 +138,5 @@ module _ {P : Type 0} (rules : Rules P)
   no_pending = (rests sound ready).nothing
 
   pub tries_still : Tries cells.clock (prior_of r a) cells.clock r a
-  tries_still = by_row (in_transaction a.engine) sound.kept.row
-    where
-      goes_on : {end : _} → ending_of a.status ≡ Some end → ⊥
-      goes_on e = absurd (let n = sym (ap ending_of ready) ∙ e in cc)
-
-      by_row : (b : Bool) → HasRow b r a.thread → Tries cells.clock (prior_of r a) cells.clock r a
-      by_row true h = stays_open cells.clock cells.clock r r a a refl refl h.0 h.1 h.1 refl goes_on goes_on
-      by_row false h = stays_between cells.clock cells.clock r r a a refl refl h no_pending
-          (record { none = h; tries = refl; opens = λ row e. absurd (let n = sym no_pending ∙ e in cc); goes_on = goes_on })
+  tries_still =
+      stays cells.clock cells.clock r r a a refl refl (in_transaction a.engine) sound.kept.row no_pending refl refl (λ shut row e. absurd (none-some row (sym no_pending ∙ e))) (still_going ready) (still_going ready)

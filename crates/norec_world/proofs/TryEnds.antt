@@ -1,17 +1,12 @@
 -- What an answer does to the try that its call belongs to.
-use Rattle.std.proofs.Common.{true≢false, inl, inr, ◌≡◌, ℕ, ◌+◌, ◌*◌, ◌/◌, ◌%◌, ◌≤◌, Bool, true, false, nat_lt, if◌then◌else◌, is_some, List, [], ◌∷◌, ◌++◌, Option, None, Some, refl, sym, ap, subst, ◌∙◌, arith, append-nil}
-use Rattle.std.proofs.lemmas.Bool.{false_from_ne_true, true_from_ne_false}
-use Rattle.norec_world.proofs.Common.{Actor, Agrees, Answer, Attempt, Begin, Busy, Call, Cells, Committed, Conflict, Core, End, Ended, EndsAt, Full, HasRow, IsBetween, IsMemory, IsReady, IsTied, IsTold, MAX_DEPTH, Opens, Outcome, Prior, Props, Ready, Records, Replied, Replies, RepliesTo, Reply, RestsAs, Rows, Rules, State, Status, Tries, active_of, after, begins, between, current_of, ending_of, in_transaction, is_begin, over, prior_of, runs, turned_away}
+use Rattle.std.proofs.Common.{true≢false, inl, inr, ◌≡◌, ℕ, ◌+◌, ◌*◌, ◌/◌, ◌%◌, ◌≤◌, Bool, true, false, nat_lt, if◌then◌else◌, is_some, List, [], ◌∷◌, ◌++◌, Option, None, Some, refl, sym, ap, subst, ◌∙◌, arith, append-nil, ◌⊎◌}
+use Rattle.std.proofs.lemmas.Bool.{true_from_ne_false, cond-false}
+use Rattle.norec_world.proofs.Common.{Actor, Agrees, Answer, Attempt, Begin, Busy, Call, Cells, Committed, Conflict, Core, CountsTry, End, Ended, EndsAt, Full, GoesOnAfter, HasRow, IsBetween, IsMemory, IsReady, IsSettledBy, IsTied, IsTold, MAX_DEPTH, Opens, Outcome, Prior, Props, Ready, Records, Replied, Replies, RepliesTo, Reply, RestsAs, Rows, Rules, State, Status, Tries, TriesAgain, active_of, after, begins, between, current_of, ending_of, false_from_ne_true, in_transaction, is_begin, is_done, none_inside, over, prior_of, runs, state_over, turned_away, with_opened, cases_Bool, cond-true}
 use Rattle.itm_types.specs.declared.call.Reply.TheVariants as replies
-use Rattle.norec_engine.specs.Stands.{state_over}
 use Rattle.norec_engine.specs.Proceeds.{IsBegin}
-use Rattle.norec_engine.proofs.Blocks.{none_inside}
 use Rattle.norec_world.specs.declared.attempt.Outcome.TheVariants as outcomes
 use Rattle.norec_world.specs.declared.attempt.End.TheVariants as ends
-use Rattle.norec_world.specs.Records.{CountsTry}
-use Rattle.norec_world.specs.Sound.{IsSettledBy}
-use Rattle.norec_world.specs.Tries.{TriesAgain, GoesOnAfter, is_done}
-use Rattle.norec_world.proofs.Taken.{HasAnswered}
+use Rattle.norec_world.proofs.Taken.{HasAnswered, still_going}
 use Rattle.norec_world.proofs.ActiveRows.{changed_here, opened_here}
 use Rattle.norec_world.proofs.RecordedRows.{row_none, was_open}
 
@@ -42,6 +37,13 @@ module _ {P : Type 0} (clock clock' : ℕ) (r r' : Rows) (a a' : Actor P) (ended
     fed = fed;
   })
 
+  -- either
+  pub stays : (b : Bool) → HasRow b r a.thread → a.pending ≡ None → active_of a'.thread r'.active ≡ active_of a.thread r.active → a'.nth ≡ a.nth
+      → (b ≡ false → (row : Attempt) → a'.pending ≡ Some row → row ≡ record { thread = a'.thread; nth = a.nth; began = clock' / 2; at = 0; props = row.props; arena = a'.engine.arena; calls = []; outcome = outcomes.Unfinished })
+      → (ending_of a'.status ≡ Some ends.GaveUp → ⊥) → (ending_of a'.status ≡ Some ends.NoMemory → ⊥) → Tries clock (prior_of r a) clock' r' a'
+  stays true h nothing same nth opens goes_on fed = stays_open h.0 h.1 (same ∙ h.1) nth goes_on fed
+  stays false h nothing same nth opens goes_on fed = stays_between h nothing (record { none = same ∙ h; tries = nth; opens = opens refl; goes_on = goes_on })
+
 -- the open attempt ends, and not by its commit
 pub stops_try : {P : Type 0} (clock clock' : ℕ) (r r' : Rows) (a a' : Actor P) (row : Attempt) (at : ℕ) (outcome : Outcome)
     → active_of a.thread r.active ≡ Some row → r'.ended ≡ r.ended ++ record row { at = at; outcome = outcome } ∷ []
@@ -59,6 +61,17 @@ stops_try clock clock' r r' a a' row at outcome was ended reads ends undone goes
   after = goes;
 })
 
+-- a try came to nothing: it was the last one, or one more comes
+one_try_more : {P : Type 0} {a last : Actor P} → CountsTry a last → a.status ≡ Ready
+    → ((nat_lt a.retries a.nth ≡ true) × (last.status ≡ Ended ends.GaveUp)) ⊎ ((nat_lt a.retries a.nth ≡ false) × (last.status ≡ Ready) × (last.nth ≡ a.nth + 1))
+one_try_more {a} counts ready = elim (cases_Bool (nat_lt a.retries a.nth)) [
+  | inl e ↦ inl (e, counts.status ∙ cond-true _ _ _ e)
+  | inr e ↦ inr (e, counts.status ∙ (cond-false _ _ _ e ∙ ready), counts.nth ∙ cond-false _ _ _ e)
+]
+
+pub next_try : {P : Type 0} {a last : Actor P} → CountsTry a last → a.status ≡ Ready → (ending_of last.status ≡ Some ends.GaveUp → ⊥) → (last.status ≡ Ready) × (last.nth ≡ a.nth + 1)
+next_try counts ready on = elim (one_try_more counts ready) [ inl last_one ↦ absurd (on (ap ending_of last_one.1)) | inr more ↦ (more.1, more.2) ]
+
 module _ {P : Type 0} (rules : Rules P)
     (r r1 : Rows) (a last : Actor P) (was : Bool) (settled : IsSettledBy rules was r1 a last) where
   none_active : in_transaction a.engine ≡ false → active_of last.thread r1.active ≡ None
@@ -69,11 +82,7 @@ module _ {P : Type 0} (rules : Rules P)
 
   -- nor where it goes on to another try
   pub none_retried : CountsTry a last → a.status ≡ Ready → (ending_of last.status ≡ Some ends.GaveUp → ⊥) → last.pending ≡ None
-  none_retried counts ready on = none_pending (by_case (nat_lt a.retries a.nth) counts.status)
-    where
-      by_case : (b : Bool) → last.status ≡ (if b then Ended ends.GaveUp else a.status) → last.status ≡ Ready
-      by_case true s = absurd (on (ap ending_of s))
-      by_case false s = s ∙ ready
+  none_retried counts ready on = none_pending (next_try counts ready on).0
 
   -- the actor is between two tries
   pub is_between : (clock nth : ℕ) → in_transaction a.engine ≡ false → last.status ≡ Ready → last.nth ≡ nth → IsBetween clock nth r1 last
@@ -81,16 +90,15 @@ module _ {P : Type 0} (rules : Rules P)
     none = none_active closed;
     tries = tries;
     opens = λ row e. absurd (let n : Some row ≡ None = sym e ∙ none_pending ready in cc);
-    goes_on = λ e. absurd (let n = ap ending_of ready in cc);
+    goes_on = still_going ready;
   }
 
   -- a try came to nothing
   pub tries_again : (clock : ℕ) → in_transaction a.engine ≡ false → a.status ≡ Ready → CountsTry a last → TriesAgain (nat_lt a.retries a.nth) clock a.nth r1 last
-  tries_again clock closed ready counts = by_case (nat_lt a.retries a.nth) counts.nth counts.status
-    where
-      by_case : (b : Bool) → last.nth ≡ (if b then a.nth else a.nth + 1) → last.status ≡ (if b then Ended ends.GaveUp else a.status) → TriesAgain b clock a.nth r1 last
-      by_case true n s = record { none = none_active closed; status = s }
-      by_case false n s = is_between clock (a.nth + 1) closed (s ∙ ready) n
+  tries_again clock closed ready counts = elim (one_try_more counts ready) [
+    | inl last_one ↦ subst (λ (b : Bool). TriesAgain b clock a.nth r1 last) (sym last_one.0) (record { none = none_active closed; status = last_one.1 })
+    | inr more ↦ subst (λ (b : Bool). TriesAgain b clock a.nth r1 last) (sym more.0) (is_between clock (a.nth + 1) closed more.1 more.2)
+  ]
 
 -- ## A call of an open transaction is answered
 
@@ -112,8 +120,8 @@ module _ {P : Type 0} {rules : Rules P} {cells cells' : Cells} {r r1 : Rows} {mi
         ended = ap (λ (x : Rows). x.ended) m.told.0;
         half = m.taken.moves.keeps (unfreed_to mid a.engine mid.doing reply m.ends);
         tries = m.told.3;
-        goes_on = λ e. absurd (let n = ap ending_of (m.told.4 ∙ m.answered.status) in cc);
-        fed = λ e. absurd (let n = ap ending_of (m.told.4 ∙ m.answered.status) in cc);
+        goes_on = still_going (m.told.4 ∙ m.answered.status);
+        fed = still_going (m.told.4 ∙ m.answered.status);
       })
   open_tries (Committed at wrote) m =
       let row = m.answered.kept.row in
@@ -176,42 +184,52 @@ call_begins (Begin props room) b = refl
 call_begins call b = absurd b
 
 module _ {P : Type 0} {rules : Rules P} {cells cells' : Cells} {r r1 : Rows} {mid : Core} {a last : Actor P} {call : Call} where
-  pub begin_tries : (ans : Answer) → HasAnswered rules false cells cells' r r1 mid a last call ans → Tries cells.clock (prior_of r a) cells'.clock r1 last
-  begin_tries (Reply reply) m = by_open (in_transaction last.engine) refl a.pending refl m.told.0
+  -- a reply outside a transaction: a begin's attempt is open, or the call was no begin
+  pub begun_or_not : (reply : Replied) → HasAnswered rules false cells cells' r r1 mid a last call (Reply reply)
+      → ((row : Attempt) × (a.pending ≡ Some row) × (in_transaction last.engine ≡ true) × (r1 ≡ with_opened (record row { at = last.engine.snapshot / 2 }) r))
+      ⊎ ((a.pending ≡ None) × (in_transaction last.engine ≡ false) × (r1 ≡ r))
+  begun_or_not reply m = by_open (in_transaction last.engine) refl a.pending refl m.told.0
     where
-      opens_now : (now : Bool) → in_transaction last.engine ≡ now → in_transaction a.engine ≡ now
-      opens_now now e = sym (ap in_transaction m.settled.engine) ∙ e
-
-      by_open : (now : Bool) → in_transaction last.engine ≡ now → (p : Option Attempt) → a.pending ≡ p → Opens now r p (last.engine.snapshot / 2) r1 → Tries cells.clock (prior_of r a) cells'.clock r1 last
-      by_open true e (Some row) p told_so =
-          let q = m.answered.in_call.opens row p in
-          let new_row : Attempt = record row { at = last.engine.snapshot / 2 } in
-          let free : active_of row.thread r.active ≡ None = ap (λ (t : ℕ). active_of t r.active) q.thread ∙ m.answered.kept.row in
-          runs (record {
-            row = row;
-            row' = new_row;
-            was = ap (λ (o : Option Attempt). current_of o a.pending) m.answered.kept.row ∙ p;
-            now = ap (λ (t : ℕ). active_of t r1.active) (m.settled.thread ∙ sym q.thread) ∙ (ap (λ (x : Rows). active_of row.thread x.active) told_so ∙ opened_here new_row r.active free);
-            continues = record { thread = refl; nth = refl; began = refl; props = refl; arena = refl; more = []; calls = sym (append-nil row.calls) };
-            ended = ap (λ (x : Rows). x.ended) told_so;
-            half = ap (λ (n : ℕ). n / 2) (m.taken.outside refl).0;
-            tries = m.told.3;
-            goes_on = λ x. absurd (let n = ap ending_of (m.told.4 ∙ m.answered.status) in cc);
-            fed = λ x. absurd (let n = ap ending_of (m.told.4 ∙ m.answered.status) in cc);
-          })
-      by_open true e None p told_so = absurd (let f : false ≡ true = was_open false (in_transaction a.engine) call reply (λ x. sym (m.answered.in_call.begins x) ∙ ap is_some p) m.answered.fits.0 (opens_now true e) in cc)
-      by_open false e (Some row) p told_so =
+      by_open : (now : Bool) → in_transaction last.engine ≡ now → (p : Option Attempt) → a.pending ≡ p → Opens now r p (last.engine.snapshot / 2) r1
+          → ((row : Attempt) × (a.pending ≡ Some row) × (in_transaction last.engine ≡ true) × (r1 ≡ with_opened (record row { at = last.engine.snapshot / 2 }) r))
+          ⊎ ((a.pending ≡ None) × (in_transaction last.engine ≡ false) × (r1 ≡ r))
+      by_open true e (Some row) p told = inl (row, p, e, told)
+      by_open false e None p told = inr (p, e, told)
+      by_open true e None p told =
+          let now = ap in_transaction (sym m.settled.engine) ∙ e in
+          absurd (let f : false ≡ true = was_open false (in_transaction a.engine) call reply (λ x. sym (m.answered.in_call.begins x) ∙ ap is_some p) m.answered.fits.0 now in cc)
+      by_open false e (Some row) p told =
           let b = begin_call call (sym (m.answered.in_call.begins refl) ∙ ap is_some p) in
-          let g' : Replies mid (Begin b.0 b.1) reply a.engine = subst (λ (o : Option Call). RepliesTo mid o reply a.engine) (m.taken.doing ∙ ap (λ (x : Call). Some x) b.2) m.ends in
-          let closed = opens_now false e in
-          absurd (begin_opens mid a.engine cells'.words b.0 b.1 reply g' m.taken.was_is (sym m.taken.words, m.taken.tied.fit) (subst (Agrees cells'.words) (sym (m.taken.tied.settled.closed closed).0) tt) closed)
-      by_open false e None p told_so =
-          between (record {
-            idle = ap (λ (o : Option Attempt). current_of o a.pending) m.answered.kept.row ∙ p;
-            ended = ap (λ (x : Rows). x.ended) told_so;
-            half = ap (λ (n : ℕ). n / 2) (m.taken.outside refl).0;
-            between = is_between rules r r1 a last false m.settled cells'.clock a.nth (opens_now false e) (m.told.4 ∙ m.answered.status) m.told.3;
-          })
+          let g : Replies mid (Begin b.0 b.1) reply a.engine = subst (λ (o : Option Call). RepliesTo mid o reply a.engine) (m.taken.doing ∙ ap (λ (x : Call). Some x) b.2) m.ends in
+          let closed = ap in_transaction (sym m.settled.engine) ∙ e in
+          absurd (begin_opens mid a.engine cells'.words b.0 b.1 reply g m.taken.was_is (sym m.taken.words, m.taken.tied.fit) (subst (Agrees cells'.words) (sym (m.taken.tied.settled.closed closed).0) tt) closed)
+
+  pub begin_tries : (ans : Answer) → HasAnswered rules false cells cells' r r1 mid a last call ans → Tries cells.clock (prior_of r a) cells'.clock r1 last
+  begin_tries (Reply reply) m = elim (begun_or_not reply m) [
+    | inl b ↦
+        (let row = b.0 in
+        let q = m.answered.in_call.opens row b.1 in
+        let new_row : Attempt = record row { at = last.engine.snapshot / 2 } in
+        let free : active_of row.thread r.active ≡ None = ap (λ (t : ℕ). active_of t r.active) q.thread ∙ m.answered.kept.row in
+        runs (record {
+          row = row;
+          row' = new_row;
+          was = ap (λ (o : Option Attempt). current_of o a.pending) m.answered.kept.row ∙ b.1;
+          now = ap (λ (t : ℕ). active_of t r1.active) (m.settled.thread ∙ sym q.thread) ∙ (ap (λ (x : Rows). active_of row.thread x.active) b.3 ∙ opened_here new_row r.active free);
+          continues = record { thread = refl; nth = refl; began = refl; props = refl; arena = refl; more = []; calls = sym (append-nil row.calls) };
+          ended = ap (λ (x : Rows). x.ended) b.3;
+          half = ap (λ (n : ℕ). n / 2) (m.taken.outside refl).0;
+          tries = m.told.3;
+          goes_on = still_going (m.told.4 ∙ m.answered.status);
+          fed = still_going (m.told.4 ∙ m.answered.status);
+        }))
+    | inr n ↦ between (record {
+      idle = ap (λ (o : Option Attempt). current_of o a.pending) m.answered.kept.row ∙ n.0;
+      ended = ap (λ (x : Rows). x.ended) n.2;
+      half = ap (λ (n : ℕ). n / 2) (m.taken.outside refl).0;
+      between = is_between rules r r1 a last false m.settled cells'.clock a.nth (ap in_transaction (sym m.settled.engine) ∙ n.1) (m.told.4 ∙ m.answered.status) m.told.3;
+    })
+  ]
   begin_tries (Busy clock) m = by_pending a.pending refl
     where
       by_pending : (p : Option Attempt) → a.pending ≡ p → Tries cells.clock (prior_of r a) cells'.clock r1 last
@@ -237,20 +255,13 @@ module _ {P : Type 0} (rules : Rules P) (r r1 : Rows) (a last : Actor P) (call :
     gave_up_not : last.status ≡ Ended ends.GaveUp → ending_of last.status ≡ Some end → ⊥
     gave_up_not s e = other (let z : Some end ≡ Some ends.GaveUp = sym e ∙ ap ending_of s in cc)
 
-    ready_not : last.status ≡ Ready → ending_of last.status ≡ Some end → ⊥
-    ready_not s e = absurd (let n = sym (ap ending_of s) ∙ e in cc)
-
     tried_on : CountsTry a last → ending_of last.status ≡ Some end → ⊥
-    tried_on counts e = by_case (nat_lt a.retries a.nth) counts.status
-      where
-        by_case : (b : Bool) → last.status ≡ (if b then Ended ends.GaveUp else a.status) → ⊥
-        by_case true s = gave_up_not s e
-        by_case false s = ready_not (s ∙ ready) e
+    tried_on counts e = elim (one_try_more counts ready) [ inl last_one ↦ gave_up_not last_one.1 e | inr more ↦ still_going more.1 e ]
 
     not_ended : (b : Bool) (ans : Answer) → Records rules b r r1 a last call ans → ending_of last.status ≡ Some end → ⊥
-    not_ended true (Reply reply) told e = ready_not (told.4 ∙ ready) e
-    not_ended false (Reply reply) told e = ready_not (told.4 ∙ ready) e
-    not_ended b (Committed at wrote) told e = ready_not (told.4 ∙ ready) e
+    not_ended true (Reply reply) told e = still_going (told.4 ∙ ready) e
+    not_ended false (Reply reply) told e = still_going (told.4 ∙ ready) e
+    not_ended b (Committed at wrote) told e = still_going (told.4 ∙ ready) e
     not_ended b (Full at) told e = gave_up_not told.1 e
     not_ended b answer told e = tried_on told.2 e
 

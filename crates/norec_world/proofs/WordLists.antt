@@ -1,11 +1,10 @@
 -- Bytes as words, there and back.
 use Rattle.std.proofs.Common.{◌≡◌, ℕ, zero, suc, ◌+◌, ◌*◌, ◌/◌, ◌%◌, ◌^◌, ◌<◌, List, [], ◌∷◌, ◌++◌, length, take, drop, get_or, slice_set, slice_index, refl, sym, ap, subst, ◌∙◌, arith}
-use Rattle.std.specs.Int.{w64, to_le_bytes, from_le_bytes}
-use Rattle.std.proofs.lemmas.List.{take_at, drop_at, take-append-drop, drop-drop, length-drop, length-take-le, get_or-drop}
+use Rattle.std.proofs.lemmas.List.{take_at, drop_at, take-append-drop, drop-drop, length-drop, length-take-le}
 use Rattle.std.proofs.lemmas.Nat.{le_bytes_8, from_le_bytes-to_le_bytes_8}
-use Rattle.norec_world.proofs.Common.{AllFit, bytes_of, words_of}
+use Rattle.norec_world.proofs.Common.{AllFit, AreWords, bytes_of, from_le_bytes, get_or-drop, to_le_bytes, w64, words_of}
 use Rattle.itm_types.proofs.Words.{length-bytes_of}
-use Rattle.norec_world.specs.Cells.{words_from, AreWords}
+use Rattle.norec_world.specs.Cells.{words_from}
 
 abbrev pub AreBytes : List ℕ → Type 0
 AreBytes bytes = (i : ℕ) → get_or bytes i 0 < 256

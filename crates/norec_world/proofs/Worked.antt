@@ -1,15 +1,14 @@
 -- Local work of an actor, one call of its player after the other: all that it leaves.
 use Rattle.std.proofs.Common.{◌≡◌, ◌+◌, ◌-◌, ◌*◌, ◌≤◌, Bool, true, false, List, ◌++◌, None, Some, refl, sym, ap, subst, ◌∙◌, arith}
-use Rattle.norec_world.proofs.Common.{Actor, Acts, Attempt, Call, Cells, Core, Ended, Finished, HasRow, IsDone, IsNoMore, IsSound, KeepsOthers, Next, Obeys, Ready, Rows, Rules, Tells, ending_of, in_transaction, is_ready, prior_of, rank, whole}
-use Rattle.norec_world.specs.LocalWork.{Starves, Works, calls, finishes, starves}
-use Rattle.norec_world.specs.Moments.{HasWorked}
+use Rattle.norec_world.proofs.Common.{Actor, Acts, Attempt, Call, Cells, Core, Ended, Finished, HasRow, HasWorked, IsDone, IsNoMore, IsSound, KeepsOthers, Next, Obeys, Ready, Rows, Rules, Starves, Tells, Works, ending_of, in_transaction, is_ready, prior_of, rank, whole}
+use Rattle.norec_world.specs.LocalWork.{calls, finishes, starves}
 use Rattle.norec_world.proofs.CommitCounts.{counted_after}
 use Rattle.norec_world.proofs.LessLeft.{less_less}
 use Rattle.norec_world.proofs.LocalWork.{nothing_ready, works_both}
 use Rattle.norec_world.proofs.OthersAttempts.{others_same, others_twice}
 use Rattle.norec_world.proofs.RunCalls.{call_runs, finish_runs, laid_calls, starve_runs}
 use Rattle.norec_world.proofs.SoundSteps.{IsCalling, call_less, call_taken, ended_same, mid}
-use Rattle.norec_world.proofs.Taken.{now, ready_of, recorded}
+use Rattle.norec_world.proofs.Taken.{now, ready_of, recorded, still_going}
 use Rattle.norec_world.proofs.TiedEngines.{holds_same, limit_same, snapshot_still}
 use Rattle.norec_world.proofs.TryCalls.{call_tries, finish_tries, starve_tries}
 use Rattle.norec_world.proofs.TryChains.{no_pending, tries_still, tries_then}
@@ -53,7 +52,7 @@ module _ {P : Type 0} {rules : Rules P} (laws : Obeys rules) {cells : Cells} {r0
         tries = λ w. tries;
         runs = λ first base laid runs. (
           laid_calls base cells r0 r1 laid own.more own.ended (counted_after cells.clock cells.clock (prior_of r0 old) r1 last tries laid.counted),
-          starve_runs laws sound s first base laid runs (λ e. absurd (let z = sym (ap ending_of ready) ∙ e in cc)) closed own.more own.ended,
+          starve_runs laws sound s first base laid runs (still_going ready) closed own.more own.ended,
         );
         others = others;
         holds = holds;
@@ -128,7 +127,7 @@ module _ {P : Type 0} {rules : Rules P} {cells : Cells} {r : Rows} {a : Actor P}
     limit = (refl, refl);
     snapshot = refl;
     retries = refl;
-    finishes = λ w e. absurd (let z = sym (ap ending_of (ready_of a.status w)) ∙ e in cc);
+    finishes = λ w. still_going (ready_of a.status w);
     still = λ n. (refl, refl);
     less = λ e. record { whole_falls = omega arith; rank_falls = λ n b. omega arith };
   }

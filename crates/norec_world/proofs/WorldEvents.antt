@@ -1,17 +1,14 @@
 -- Events of a world: what their answers tell, many in a row, and the events of one call of an actor and of one call after the other.
-use Rattle.std.proofs.Common.{◌≡◌, ◌↔◌, ◌≤◌, zero, suc, ℕ, ◌+◌, ◌<◌, Bool, true, false, cond, length, take, get_or, arith, List, [], ◌∷◌, ◌++◌, count_by, IsTrue, Option, None, Some, Result, Ok, Err, IsSome, refl, sym, ap, subst, ◌∙◌, slice_get, min, if◌then◌else◌}
+use Rattle.std.proofs.Common.{inl, inr, ◌≡◌, ◌↔◌, ◌≤◌, zero, suc, ℕ, ◌+◌, ◌<◌, Bool, true, false, cond, length, take, get_or, arith, List, [], ◌∷◌, ◌++◌, count_by, IsTrue, Option, None, Some, Result, Ok, Err, IsSome, refl, sym, ap, subst, ◌∙◌, slice_get, min, if◌then◌else◌}
 use Rattle.std.proofs.lemmas.List.{take_more}
 use Rattle.std.proofs.lemmas.List.Sums.{sum_by-append}
-use Rattle.norec_world.proofs.Common.{Waits, is_ready, is_waiting, Actor, AreOpaque, CommitsInOrder, End, Finished, Goes, IsLawful, Ready, Rules, SameOpening, Status, Step, World, cells_after, counted, ending_at, ending_of, option_and_then, told, waiting_step, waits_at, AreActors, IsNoMore, in_transaction, whole}
-use Rattle.norec_world.specs.declared.fault.WorldFault.{WorldFault}
+use Rattle.norec_world.proofs.Common.{Actor, ActorGoes, AreActors, AreOpaque, CommitsInOrder, End, Finished, Goes, HasLess, IsLawful, IsNoMore, Leads, Passes, Rules, SameOpening, ShowsAlone, Status, Step, Takes, Waits, World, WorldFault, cells_after, counted, ending_at, ending_of, in_transaction, is_ready, is_waiting, option_and_then, passes_of, run_left, steps_left, told, waiting_step, waits_at, whole, slice_get_within, cases_lt}
 use Rattle.norec_world.specs.declared.fault.WorldFault.TheVariants as faults
-use Rattle.norec_world.specs.declared.schedule.Passes.{Passes}
-use Rattle.norec_world.specs.World.{ShowsAlone, is_event}
-use Rattle.std.specs.Option.{option_map}
-use Rattle.norec_world.proofs.SoundOthers.{within_of, there_is}
-use Rattle.norec_world.proofs.Worlds.{some_ended, within_some, waiting_some, some_waiting}
-use Rattle.norec_world.specs.WorldEvents.{ActorGoes, Leads, is_taken, is_passed, is_starved, passes_of, Takes}
-use Rattle.norec_world.specs.Sound.{HasLess, steps_left, run_left}
+use Rattle.norec_world.specs.World.{is_event}
+use Rattle.std.specs.Option.{option_map, option_map_or}
+use Rattle.norec_world.proofs.SoundOthers.{there_is}
+use Rattle.norec_world.proofs.Worlds.{some_ended, within_some, some_waiting, waits_there, waiting_going}
+use Rattle.norec_world.specs.WorldEvents.{is_taken, is_passed, is_starved}
 use Rattle.norec_world.proofs.LessLeft.{HasLessSoFar, less_so_far, same_less, less_less}
 
 -- an event is answered by no fault of the other two
@@ -21,16 +18,10 @@ told_event (Some Finished) = refl
 told_event e = refl
 
 -- who waits has not ended
-pub ending_waits : (s : Status) → IsSome (waiting_step s) → IsSome (ending_of s) → ⊥
-ending_waits Ready w e = cc
-ending_waits s w e = cc
-
 pub waits_not_ended : {P : Type 0} (w : World P) (actor : ℕ) → IsSome (waits_at w actor) → IsSome (ending_at w actor) → ⊥
-waits_not_ended {P} w actor = of_got (slice_get w.actors actor)
-  where
-    of_got : (o : Option (Actor P)) → IsSome (option_and_then (λ a. waiting_step a.status) o) → IsSome (option_and_then (λ a. ending_of a.status) o) → ⊥
-    of_got None x e = cc
-    of_got (Some a) x e = ending_waits a.status x e
+waits_not_ended {P} w actor waits ended =
+    let y = waits_there w actor waits in
+    absurd (let none = subst IsSome (ap (option_and_then (λ (a : Actor P). ending_of a.status)) y.1 ∙ waiting_going y.0.status y.2) ended in cc)
 
 -- an event is one of the world
 module _ {P : Type 0} (rules : Rules P) (old new : World P) (actor : ℕ) (waits : IsSome (waits_at old actor))
@@ -69,10 +60,8 @@ pub mapped_some : {A B : Type 0} (f : A → B) (o : Option A) (y : B) → Some y
 mapped_some f None y e = absurd (cc)
 mapped_some f (Some x) y e = (x, refl, cc)
 
-past_end : {A : Type 0} (xs : List A) (i : ℕ) → slice_get xs i ≡ None → length xs ≤ i
-past_end [] i e = omega arith
-past_end (x ∷ xs) zero e = absurd (cc)
-past_end (x ∷ xs) (suc i) e = (let l = past_end xs i e in omega arith)
+pub not_there : {P A : Type 0} (w : World P) (actor : ℕ) → actor < length w.actors → slice_get w.actors actor ≡ None → A
+not_there w actor within none = absurd (let here = there_is w.actors actor within in let both : Some here.0 ≡ None = sym here.1 ∙ none in cc)
 
 waits_none : (s : Status) → is_waiting s ≡ false → waiting_step s ≡ None
 waits_none (Waits call step) e = absurd (cc)
@@ -103,13 +92,13 @@ module _ {P : Type 0} (rules : Rules P) (w : World P) (i : ℕ) (alone : ShowsAl
   goes_nowhere none =
       let no_end : ending_at w i ≡ None = ap (option_and_then (λ (a : Actor P). ending_of a.status)) none in
       nothing_done (Err faults.NoSuchActor) refl (ap (option_and_then (λ (a : Actor P). waiting_step a.status)) none)
-      (λ e. past_end w.actors i none, λ l. refl) (λ e. absurd (cc), λ e. absurd (let z = subst IsSome no_end e in cc))
+      (λ e. (elim (cases_lt i (length w.actors)) [ inl l ↦ not_there w i l none | inr le ↦ le ]), λ l. refl) (λ e. absurd (cc), λ e. absurd (let z = subst IsSome no_end e in cc))
 
   pub goes_no_more : (a : Actor P) → slice_get w.actors i ≡ Some a → is_waiting a.status ≡ false → is_ready a.status ≡ false → Goes rules i w (Err faults.Ended) w
   goes_no_more a here still done =
       let end_is : ending_at w i ≡ ending_of a.status = ap (option_and_then (λ (x : Actor P). ending_of x.status)) here in
       nothing_done (Err faults.Ended) refl (ap (option_and_then (λ (x : Actor P). waiting_step x.status)) here ∙ waits_none a.status still)
-      (λ e. absurd (cc), λ l. absurd (let n = within_of w.actors i a here in omega arith)) (λ e. subst IsSome (sym end_is) (some_ended a.status still done), λ e. refl)
+      (λ e. absurd (cc), λ l. absurd (let n = slice_get_within w.actors i a here in omega arith)) (λ e. subst IsSome (sym end_is) (some_ended a.status still done), λ e. refl)
 
 -- ## Many in a row
 
@@ -142,22 +131,14 @@ noted_counts p (Err faults.NoMemory) first before now is event none = (let e = e
 noted_counts p r first before now is event none = none refl ∙ is
 
 module _ {A : Type 0} (p : A → Bool) (xs : List A) (x : A) where
-  count_yes : p x ≡ true → count_by p (xs ++ x ∷ []) ≡ count_by p xs + 1
-  count_yes e =
-      let all : count_by p (xs ++ x ∷ []) ≡ count_by p xs + (0 + cond (p x) 1 0) = sum_by-append (λ y. cond (p y) 1 0) xs (x ∷ []) in
-      let one : ◌≡◌ {A = ℕ} (cond (p x) 1 0) 1 = ap (λ (b : Bool). cond {A = ℕ} b 1 0) e in
-      omega arith
-
-  count_no : p x ≡ false → count_by p (xs ++ x ∷ []) ≡ count_by p xs
-  count_no e =
-      let all : count_by p (xs ++ x ∷ []) ≡ count_by p xs + (0 + cond (p x) 1 0) = sum_by-append (λ y. cond (p y) 1 0) xs (x ∷ []) in
-      let none : ◌≡◌ {A = ℕ} (cond (p x) 1 0) 0 = ap (λ (b : Bool). cond {A = ℕ} b 1 0) e in
-      omega arith
+  count_more : (b : Bool) → p x ≡ b → count_by p (xs ++ x ∷ []) ≡ (if b then count_by p xs + 1 else count_by p xs)
+  count_more true e = omega (arith, sum_by-append (λ y. cond (p y) 1 0) xs (x ∷ []), ap (λ (b : Bool). cond {A = ℕ} b 1 0) e)
+  count_more false e = omega (arith, sum_by-append (λ y. cond (p y) 1 0) xs (x ∷ []), ap (λ (b : Bool). cond {A = ℕ} b 1 0) e)
 
 pub passes_more : (results : List (Result (Unit {0}) WorldFault)) (r : Result (Unit {0}) WorldFault) → passes_of (results ++ r ∷ []) ≡ noted (passes_of results) r
-passes_more results (Ok done) = (λ i. record { taken = count_yes is_taken results (Ok done) refl i; passed = count_no is_passed results (Ok done) refl i; starved = count_no is_starved results (Ok done) refl i })
-passes_more results (Err faults.NoMemory) = (λ i. record { taken = count_no is_taken results (Err faults.NoMemory) refl i; passed = count_no is_passed results (Err faults.NoMemory) refl i; starved = count_yes is_starved results (Err faults.NoMemory) refl i })
-passes_more results r = (λ i. record { taken = count_no is_taken results r refl i; passed = count_yes is_passed results r refl i; starved = count_no is_starved results r refl i })
+passes_more results (Ok done) = (λ i. record { taken = count_more is_taken results (Ok done) true refl i; passed = count_more is_passed results (Ok done) false refl i; starved = count_more is_starved results (Ok done) false refl i })
+passes_more results (Err faults.NoMemory) = (λ i. record { taken = count_more is_taken results (Err faults.NoMemory) false refl i; passed = count_more is_passed results (Err faults.NoMemory) false refl i; starved = count_more is_starved results (Err faults.NoMemory) true refl i })
+passes_more results r = (λ i. record { taken = count_more is_taken results r false refl i; passed = count_more is_passed results r true refl i; starved = count_more is_starved results r false refl i })
 
 -- an entry of a schedule more, and its result
 module _ {P : Type 0} (rules : Rules P) where
@@ -189,14 +170,10 @@ events_both first between last before more now b l n = omega arith
 -- ## A number of the actor at a place
 
 abbrev pub at_place : {A : Type 0} → (A → ℕ) → List A → ℕ → ℕ
-at_place f [] place = 0
-at_place f (x ∷ xs) zero = f x
-at_place f (x ∷ xs) (suc place) = at_place f xs place
+at_place f xs place = option_map_or f (slice_get xs place) 0
 
 pub at_place_is : {A : Type 0} (f : A → ℕ) (xs : List A) (place : ℕ) (x : A) → slice_get xs place ≡ Some x → at_place f xs place ≡ f x
-at_place_is f [] place x e = absurd (cc)
-at_place_is f (y ∷ xs) zero x e = (let same : y ≡ x = cc in ap f same)
-at_place_is f (y ∷ xs) (suc place) x e = at_place_is f xs place x e
+at_place_is {A} f xs place x e = ap (λ (o : Option A). option_map_or f o 0) e
 
 -- ## Worlds
 
@@ -224,13 +201,6 @@ module _ {P : Type 0} (rules : Rules P) (actor : ℕ) where
       let r = takes_both n k a b g.0 f g.2 in
       (suc r.0, (let e = r.1 in omega arith), (g.0, g.1, r.2, g.3, g.4))
 
--- who waits for an operation is there, and waits
-pub waits_there : {P : Type 0} (w : World P) (actor : ℕ) → IsSome (waits_at w actor) → (a : Actor P) × (slice_get w.actors actor ≡ Some a) × (is_waiting a.status ≡ true)
-waits_there {P} w actor some =
-    let within : actor < length w.actors = within_some (λ (a : Actor P). waiting_step a.status) w.actors actor some in
-    let here = there_is w.actors actor within in
-    (here.0, here.1, waiting_some here.0.status (subst IsSome (ap (option_and_then (λ (a : Actor P). waiting_step a.status)) here.1) some))
-
 module _ {P : Type 0} (rules : Rules P) (actor : ℕ) where
   -- of the actor there
   abbrev pub LeavesLess : Bool → World P → World P → Type 0
@@ -255,7 +225,7 @@ module _ {P : Type 0} (rules : Rules P) (actor : ℕ) where
   call_falls true old new waits long f =
       let steps : Actor P → ℕ = λ (a : Actor P). steps_left a.engine in
       let y = waits_there old actor waits in
-      let z = there_is new.actors actor (omega (arith, long, within_of old.actors actor y.0 y.1)) in
+      let z = there_is new.actors actor (omega (arith, long, slice_get_within old.actors actor y.0 y.1)) in
       omega (arith, ((f y.0 z.0 y.1 z.1).on refl).1, at_place_is steps old.actors actor y.0 y.1, at_place_is steps new.actors actor z.0 z.1)
 
   -- what is left of the whole run, once a call is over
@@ -271,7 +241,7 @@ module _ {P : Type 0} (rules : Rules P) (actor : ℕ) where
       let whole_of : Actor P → ℕ = λ (a : Actor P). whole rules (in_transaction a.engine) a.player in
       let k : ℕ = whole_at first in
       let y = waits_there old actor waits in
-      let within = within_of old.actors actor y.0 y.1 in
+      let within = slice_get_within old.actors actor y.0 y.1 in
       let x = there_is first.actors actor (omega (arith, same, within)) in
       let z = there_is new.actors actor (omega (arith, long, within)) in
       let top : k ≡ whole_of x.0 = at_place_is whole_of first.actors actor x.0 x.1 in
@@ -291,7 +261,7 @@ module _ {P : Type 0} (rules : Rules P) (actor : ℕ) where
   pub waits_still : (on : Bool) (old new : World P) → IsSome (waits_at old actor) → length new.actors ≡ length old.actors → LeavesLess on old new → on ≡ true → IsSome (waits_at new actor)
   waits_still on old new waits long f e =
       let y = waits_there old actor waits in
-      let z = there_is new.actors actor (omega (arith, long, within_of old.actors actor y.0 y.1)) in
+      let z = there_is new.actors actor (omega (arith, long, slice_get_within old.actors actor y.0 y.1)) in
       subst IsSome (sym (ap (option_and_then (λ (a : Actor P). waiting_step a.status)) z.1)) (some_waiting z.0.status ((f y.0 z.0 y.1 z.1).on e).0)
 
   -- the actor of a call that is over
@@ -304,6 +274,3 @@ module _ {P : Type 0} (rules : Rules P) where
   pub ended_there : (w : World P) (actor : ℕ) → AreActors rules w.cells w.attempts w.actors → (a : Actor P) → slice_get w.actors actor ≡ Some a → is_waiting a.status ≡ false → IsSome (ending_at w actor)
   ended_there w actor sound a here still =
       subst IsSome (sym (ap (option_and_then (λ (x : Actor P). ending_of x.status)) here)) (some_ended a.status still (sound.each actor a here).done)
-
-pub not_there : {P A : Type 0} (w : World P) (actor : ℕ) → actor < length w.actors → slice_get w.actors actor ≡ None → A
-not_there w actor within none = absurd (let here = there_is w.actors actor within in let both : Some here.0 ≡ None = sym here.1 ∙ none in cc)

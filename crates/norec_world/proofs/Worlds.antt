@@ -1,12 +1,8 @@
 -- The actors of a world, over one event.
-use Rattle.std.proofs.Common.{◌≡◌, ℕ, zero, suc, ◌<◌, true, false, List, [], ◌∷◌, length, Option, None, Some, IsSome, slice_get, refl, sym, ap, subst, ◌∙◌, arith}
-use Rattle.std.specs.List.{slice_index_or}
-use Rattle.std.proofs.lemmas.Option.{slice_get-get_or}
-use Rattle.norec_world.proofs.Common.{Actor, AreActors, Ended, IsLawful, Rows, Rules, Status, StatusIs, Step, Waits, World, ending_of, is_ready, is_waiting, option_and_then, waiting_step}
-
--- the actor at a place
-pub got_at : {A : Type 0} (xs : List A) (i : ℕ) (got : A) → i < length xs → got ≡ slice_index_or xs i got → slice_get xs i ≡ Some got
-got_at xs i got within is = slice_get-get_or xs i got within ∙ ap Some (sym is)
+use Rattle.std.proofs.Common.{◌≡◌, ℕ, zero, suc, ◌<◌, true, false, List, [], ◌∷◌, length, Option, None, Some, IsSome, slice_get, refl, ap, subst, arith}
+use Rattle.std.proofs.lemmas.Option.{slice_get_read}
+use Rattle.norec_world.proofs.SoundOthers.{there_is}
+use Rattle.norec_world.proofs.Common.{Actor, AreActors, Ended, IsLawful, Rows, Rules, Status, StatusIs, Step, Waits, World, ending_of, is_ready, is_waiting, option_and_then, slice_index_or, waiting_step, waits_at}
 
 pub within_some : {A B : Type 0} (f : A → Option B) (xs : List A) (i : ℕ) → IsSome (option_and_then f (slice_get xs i)) → i < length xs
 within_some f [] i h = absurd (cc)
@@ -38,3 +34,15 @@ some_waiting s e = absurd (cc)
 pub some_ended : (s : Status) → is_waiting s ≡ false → is_ready s ≡ false → IsSome (ending_of s)
 some_ended (Ended end) e r = refl
 some_ended s e r = absurd (cc)
+
+-- the actor at its place in a world, where it waits for an operation
+pub going_here : {P : Type 0} (w : World P) (actor : ℕ) (a : Actor P) → IsSome (waits_at w actor) → a ≡ slice_index_or w.actors actor a → (slice_get w.actors actor ≡ Some a) × (is_waiting a.status ≡ true)
+going_here w actor a waits is =
+    let here = slice_get_read w.actors (length w.actors) actor a refl (within_some (λ x. waiting_step x.status) w.actors actor waits) is in
+    (here, waiting_some a.status (subst IsSome (ap (option_and_then (λ x. waiting_step x.status)) here) waits))
+
+-- who waits for an operation is there, and waits
+pub waits_there : {P : Type 0} (w : World P) (actor : ℕ) → IsSome (waits_at w actor) → (a : Actor P) × (slice_get w.actors actor ≡ Some a) × (is_waiting a.status ≡ true)
+waits_there {P} w actor some =
+    let here = there_is w.actors actor (within_some (λ (a : Actor P). waiting_step a.status) w.actors actor some) in
+    (here.0, here.1, waiting_some here.0.status (subst IsSome (ap (option_and_then (λ (a : Actor P). waiting_step a.status)) here.1) some))

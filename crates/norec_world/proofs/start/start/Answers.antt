@@ -1,11 +1,5 @@
 use Rattle.std.proofs.Common.{◌≡◌, ℕ, true, refl, replicate, length, ◌∙◌, ap, subst}
-use Rattle.itm_types.specs.Memory.{bytes_of}
-use Rattle.norec_engine.specs.Core.{Core, opening}
-use Rattle.norec_world.specs.Status.{is_ready}
-use Rattle.norec_world.specs.Rows.{active_of}
-use Rattle.norec_world.specs.Tries.{prior_of}
-use Rattle.norec_world.specs.Runs.{RunsFrom}
-use Rattle.norec_world.specs.Opaque.{first_of}
+use Rattle.norec_world.proofs.Common.{Core, RunsFrom, active_of, bytes_of, first_of, is_ready, opening, prior_of}
 use Rattle.norec_world.proofs.RunOthers.{fresh_runs, laid_first}
 use Rattle.norec_world.proofs.TryChains.{starts_between}
 use Rattle.norec_world.proofs.start.start.Goals as goal

@@ -1,18 +1,8 @@
-use Rattle.std.proofs.Common.{rules, ◌≡◌, ◌+◌, ◌<◌, ◌≤◌, ℕ, zero, suc, Some, [], ◌∷◌, ◌++◌, inl, inr, slice_get, drop, replicate, List, length, length-append, ap, sym, subst, refl, ◌∙◌, arith}
-use Rattle.itm_types.specs.declared.limits.TheConstants.{MAX_ACTORS}
-use Rattle.norec_world.specs.declared.actor.Actor.{Actor}
-use Rattle.norec_world.specs.Actors.{AreActors}
-use Rattle.norec_world.specs.World.{ending_in}
-use Rattle.norec_world.specs.OthersAttempts.{ChangesOwn, count_pending}
-use Rattle.norec_world.specs.Starts.{IsFirst, HasStarted}
-use Rattle.norec_engine.specs.Core.{opening}
-use Rattle.itm_types.specs.Memory.{bytes_of}
-use Rattle.norec_world.specs.Runs.{RunsFrom}
-use Rattle.norec_world.specs.Opaque.{first_of}
+use Rattle.std.proofs.Common.{rules, ◌≡◌, ◌≢◌, ◌+◌, ◌<◌, ◌≤◌, ℕ, zero, suc, Some, [], ◌∷◌, ◌++◌, inl, inr, slice_get, drop, replicate, List, length, length-append, ap, sym, subst, refl, ◌∙◌, arith}
+use Rattle.norec_world.proofs.Common.{same_Some, Actor, AreActors, ChangesOwn, HasStarted, IsFirst, MAX_ACTORS, RunsFrom, bytes_of, count_pending, ending_in, first_of, opening, slice_index_or}
 use Rattle.norec_world.proofs.RunOthers.{other_runs, laid_first}
 use Rattle.norec_world.proofs.TryChains.{fed_joined, first_still}
-use Rattle.std.specs.List.{slice_index_or}
-use Rattle.norec_world.proofs.SoundOthers.{actors_joined, last_or_before, within_of, none_active}
+use Rattle.norec_world.proofs.SoundOthers.{actors_joined, joined_place, none_active, joined_place}
 use Rattle.norec_world.proofs.start.start_all.Goals as goal
 
 -- the next one of a list
@@ -37,6 +27,10 @@ loop-player-preserved g c =
     let thread : actor.thread ≡ length before = omega (arith, c.len-thread.ensures) in
     let o = c.in_ok-actor.ensures.others in
     let here = drop_head c.into_iter-player-iterator.result.rest.items (length before) c.in-Some.player c.next.new.self.rest.items (sym i.rest ∙ steps) in
+    let placed = λ (place : ℕ) (a : Actor g.row.P.Denot) (e : slice_get c.push.new.self.items place ≡ Some a). joined_place before actor place a (ap (λ (xs : List (Actor g.row.P.Denot)). slice_get xs place) (sym items) ∙ e) in
+    let same_player : (place : ℕ) (p : g.row.P.Denot) → length before ≡ place → slice_get c.into_iter-player-iterator.result.rest.items place ≡ Some p → c.in-Some.player ≡ p =
+    λ place p last e. same_Some _ _ (sym here.0 ∙ (ap (slice_get c.into_iter-player-iterator.result.rest.items) last ∙ e)) in
+    let other = λ (place : ℕ) (a : Actor g.row.P.Denot) (apart : length before ≢ place) (e : slice_get before place ≡ Some a) (same : a.thread ≡ actor.thread). apart (sym thread ∙ (sym same ∙ (i.sound.each place a e).thread)) in
     let own : ChangesOwn actor.thread c.loop-player.recorded c.start.new.recorded = subst (λ (n : ℕ). ChangesOwn n c.loop-player.recorded c.start.new.recorded) (sym o.3.thread) o.3.own in
     record {
       count = omega arith;
@@ -47,33 +41,31 @@ loop-player-preserved g c =
           c.in_ok-actor.ensures.sound c.in_ok-actor.ensures.done thread fewer own
           (λ k less l. o.3.room k less (let none : count_pending o.0.pending ≡ 0 = ap count_pending o.2 in omega arith)) c.in_ok-actor.ensures.free);
       ended = c.in_ok-actor.ensures.ended ∙ i.ended;
-      tries = λ place a e. elim (last_or_before before actor place a (ap (λ (xs : List (Actor g.row.P.Denot)). slice_get xs place) (sym items) ∙ e)) [
-        | inl h ↦
+      tries = λ place a e. elim (placed place a e) [
+        | inl h ↦ subst (IsFirst c.args.memory.now.clock c.args.terms.limits.patience c.args.terms.limits.max_commits c.args.terms.limits.retries c.start.new.recorded) (sym h.1) c.in_ok-actor.ensures.first
+        | inr h ↦
             first_still c.args.memory.now.clock c.args.terms.limits.patience c.args.terms.limits.max_commits c.args.terms.limits.retries c.loop-player.recorded c.start.new.recorded a
-            (own.others a.thread (λ same. absurd (let l = within_of before place a h in let mine = (i.sound.each place a h).thread in omega arith))) (i.tries place a h)
-        | inr h ↦ subst (IsFirst c.args.memory.now.clock c.args.terms.limits.patience c.args.terms.limits.max_commits c.args.terms.limits.retries c.start.new.recorded) (sym h.1) c.in_ok-actor.ensures.first
+            (own.others a.thread (other place a h.0 h.1)) (i.tries place a h.1)
       ];
       rest = sym here.1 ∙ ap (λ (k : ℕ). drop k c.into_iter-player-iterator.result.rest.items) (let e : suc (length before) ≡ length c.push.new.self.items = omega arith in e);
-      runs = λ place p a e f. elim (last_or_before before actor place a (ap (λ (xs : List (Actor g.row.P.Denot)). slice_get xs place) (sym items) ∙ f)) [
+      runs = λ place p a e f. elim (placed place a f) [
         | inl h ↦
-            other_runs g.P.Player g.met.P.Player.laws (first_of p c.args.terms.arena) (bytes_of c.args.memory.now.words) c.args.memory.now c.args.memory.now
-            c.loop-player.recorded c.start.new.recorded actor.thread a (laid_first (bytes_of c.args.memory.now.words) c.args.memory.now c.loop-player.recorded refl c.requires.fit c.requires.clock i.ended) (i.sound.each place a h).sound.tied own
-            (λ same. absurd (let l = within_of before place a h in let mine = (i.sound.each place a h).thread in omega arith)) (let z : c.args.memory.now.clock ≤ c.args.memory.now.clock = omega arith in z) (λ x. refl) (i.runs place p a e h)
-        | inr h ↦
-            (let same : c.in-Some.player ≡ p = (let z : Some c.in-Some.player ≡ Some p = sym here.0 ∙ (ap (slice_get c.into_iter-player-iterator.result.rest.items) (sym h.0) ∙ e) in cc) in
             subst (λ (x : Actor g.row.P.Denot). RunsFrom g.P.Player (first_of p c.args.terms.arena) (bytes_of c.args.memory.now.words) c.args.memory.now c.start.new.recorded x) (sym h.1)
-            (subst (λ (q : g.row.P.Denot). RunsFrom g.P.Player (first_of q c.args.terms.arena) (bytes_of c.args.memory.now.words) c.args.memory.now c.start.new.recorded actor) same
-            (c.in_ok-actor.ensures.runs i.ended)))
-      ];
-      starts = λ place p a e f. elim (last_or_before before actor place a (ap (λ (xs : List (Actor g.row.P.Denot)). slice_get xs place) (sym items) ∙ f)) [
-        | inl h ↦ i.starts place p a e h
+            (subst (λ (q : g.row.P.Denot). RunsFrom g.P.Player (first_of q c.args.terms.arena) (bytes_of c.args.memory.now.words) c.args.memory.now c.start.new.recorded actor) (same_player place p h.0 e)
+            (c.in_ok-actor.ensures.runs i.ended))
         | inr h ↦
-            (let same : c.in-Some.player ≡ p = (let z : Some c.in-Some.player ≡ Some p = sym here.0 ∙ (ap (slice_get c.into_iter-player-iterator.result.rest.items) (sym h.0) ∙ e) in cc) in
-            let Started : ℕ → g.row.P.Denot → Actor g.row.P.Denot → Type 0 =
+            other_runs g.P.Player g.met.P.Player.laws (first_of p c.args.terms.arena) (bytes_of c.args.memory.now.words) c.args.memory.now c.args.memory.now
+            c.loop-player.recorded c.start.new.recorded actor.thread a (laid_first (bytes_of c.args.memory.now.words) c.args.memory.now c.loop-player.recorded refl c.requires.fit c.requires.clock i.ended) (i.sound.each place a h.1).sound.tied own
+            (other place a h.0 h.1) (let z : c.args.memory.now.clock ≤ c.args.memory.now.clock = omega arith in z) (λ x. refl) (i.runs place p a e h.1)
+      ];
+      starts = λ place p a e f. elim (placed place a f) [
+        | inl h ↦
+            (let Started : ℕ → g.row.P.Denot → Actor g.row.P.Denot → Type 0 =
             HasStarted g.P.Player c.args.memory.now.clock
             (opening (length c.args.memory.now.words) (replicate c.args.terms.arena 0) c.args.terms.limits.patience c.args.terms.limits.max_commits) c.args.terms.limits.retries in
-            subst (Started place p) (sym h.1) (subst (λ (q : g.row.P.Denot). Started place q actor) same
-            (subst (λ (n : ℕ). Started n c.in-Some.player actor) (sym numbered ∙ (thread ∙ sym h.0)) c.in_ok-actor.ensures.starts)))
+            subst (Started place p) (sym h.1) (subst (λ (q : g.row.P.Denot). Started place q actor) (same_player place p h.0 e)
+            (subst (λ (n : ℕ). Started n c.in-Some.player actor) (sym numbered ∙ (thread ∙ h.0)) c.in_ok-actor.ensures.starts)))
+        | inr h ↦ i.starts place p a e h.1
       ];
       fed = λ place e. fed_joined before actor i.fed c.in_ok-actor.ensures.fed place (ap (λ (xs : List (Actor g.row.P.Denot)). ending_in xs place) (sym items) ∙ e);
     }

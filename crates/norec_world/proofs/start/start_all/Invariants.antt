@@ -1,14 +1,5 @@
 use Rattle.std.proofs.Common.{◌≡◌, ℕ, ◌+◌, ◌≤◌, [], length, slice_get, drop, replicate, All, Some}
-use Rattle.itm_types.specs.Memory.{bytes_of}
-use Rattle.itm_types.specs.declared.limits.TheConstants.{MAX_ACTORS}
-use Rattle.norec_world.specs.Actors.{AreActors}
-use Rattle.norec_world.specs.World.{ending_in}
-use Rattle.norec_world.specs.declared.attempt.End.TheVariants.{NoMemory}
-use Rattle.norec_world.specs.declared.actor.Actor.{Actor}
-use Rattle.norec_world.specs.Starts.{IsFirst, HasStarted}
-use Rattle.norec_engine.specs.Core.{opening}
-use Rattle.norec_world.specs.Runs.{RunsFrom}
-use Rattle.norec_world.specs.Opaque.{first_of}
+use Rattle.norec_world.proofs.Common.{Actor, AreActors, HasStarted, IsFirst, MAX_ACTORS, NoMemory, RunsFrom, bytes_of, ending_in, first_of, opening}
 use Rattle.norec_world.proofs.start.start_all.Given as goal
 
 abbrev pub invariant-loop-player : goal.invariant-loop-player

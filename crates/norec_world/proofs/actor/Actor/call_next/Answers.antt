@@ -1,9 +1,6 @@
 use Rattle.std.proofs.Common.{◌≡◌, ◌/◌, ℕ, true, refl, sym, ap, subst, ◌∙◌}
-use Rattle.norec_world.proofs.Common.{Core, IsTied, Rows, StatusIs, Waits, in_transaction}
-use Rattle.norec_engine.specs.Undoing.{after_undoing}
+use Rattle.norec_world.proofs.Common.{Core, IsTied, Rows, Starves, StatusIs, StopsAt, Waits, after_undoing, in_transaction}
 use Rattle.norec_world.specs.declared.attempt.Outcome.TheVariants as outcomes
-use Rattle.norec_world.specs.LocalWork.{Starves}
-use Rattle.norec_world.specs.Records.{StopsAt}
 use Rattle.norec_world.proofs.OthersAttempts.{others_twice}
 use Rattle.norec_world.proofs.SoundSteps.{call_falls, call_taken, calling}
 use Rattle.norec_world.proofs.Taken.{due}

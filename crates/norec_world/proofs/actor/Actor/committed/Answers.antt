@@ -1,8 +1,7 @@
-use Rattle.norec_world.proofs.Common.{Attempt, Done, HasRow, Rows, active_of}
+use Rattle.norec_world.proofs.Common.{Attempt, Done, HasRow, Rows, active_of, with_ended}
 use Rattle.norec_world.proofs.OthersAttempts.{others_ended}
 use Rattle.std.proofs.Common.{Bool, true, subst, ◌≡◌, ◌++◌, ◌∷◌, [], Some, refl, ap, ◌∙◌, if◌then◌else◌}
 use Rattle.norec_world.specs.declared.attempt.Outcome.TheVariants.{Committed, ReadOnly}
-use Rattle.norec_world.specs.Rows.{with_ended}
 use Rattle.norec_world.proofs.ActiveRows.{changed_here}
 use Rattle.norec_world.proofs.RecordedRows.{ended_changed}
 use Rattle.norec_world.proofs.PlayerLaws.{after_commit}

@@ -1,9 +1,7 @@
-use Rattle.norec_world.proofs.OthersAttempts.{others_ended, retried_thread, retried_pending, retried_player, retried_engine, retried_counts}
+use Rattle.norec_world.proofs.OthersAttempts.{others_ended, retried_counts, retried_is}
 use Rattle.std.proofs.Common.{◌≡◌, ◌/◌, ap, ◌∙◌, refl, sym, subst, Bool, true, None}
-use Rattle.norec_world.proofs.Common.{Actor, Busy, Conflict, Core, Full, GaveUp, HasRow, Records, in_transaction, whole}
+use Rattle.norec_world.proofs.Common.{Actor, AnswerFits, Busy, Conflict, Full, GaveUp, HasRow, IsSettledBy, Records, depth_if, in_transaction, whole, with_ended}
 use Rattle.norec_world.specs.declared.attempt.Outcome.TheVariants as outcomes
-use Rattle.norec_world.specs.Rows.{with_ended}
-use Rattle.norec_world.specs.Sound.{depth_if, AnswerFits, IsSettledBy}
 use Rattle.norec_world.proofs.PlayerLaws.{after_try, after_end}
 use Rattle.norec_world.proofs.actor.Actor.settle.Goals as goal
 
@@ -13,7 +11,7 @@ returns-in-Conflict-clause-settled g c was d =
     let fits : AnswerFits was (in_transaction a.engine) c.args.call (Conflict c.in-Conflict.clock c.in-Conflict.word) = subst (AnswerFits was (in_transaction a.engine) c.args.call) c.in-Conflict.is d.fits in
     subst (IsSettledBy g.P.Player was c.end.new.self a) (sym c.retry.ensures)
     (after_try g.P.Player g.met.P.Player.laws c.args.recorded.now c.end.new.self a c.args.call
-    was d.kept d.nested d.idle d.free d.status a.pending (d.in_call.inside fits.0) c.restart.new.self
+    was d a.pending (d.in_call.inside fits.0) c.restart.new.self
     (ap g.P.Player.depth c.restart.ensures ∙ d.nested.begun fits.0)
     (ap g.P.Player.calls_left c.restart.ensures ∙ sym (ap (λ (b : Bool). whole g.P.Player b a.player) fits.0))
     fits.1 c.end.ensures.gone)
@@ -25,7 +23,7 @@ returns-in-Busy-clause-settled g c was d =
     let fits : AnswerFits was (in_transaction a.engine) c.args.call (Busy c.in-Busy.clock) = subst (AnswerFits was (in_transaction a.engine) c.args.call) c.in-Busy.is d.fits in
     subst (IsSettledBy g.P.Player was r a) (sym c.retry-in-Busy.ensures)
     (after_try g.P.Player g.met.P.Player.laws r r a c.args.call
-    was d.kept d.nested d.idle d.free d.status None refl a.player
+    was d None refl a.player
     (d.nested.depth_is ∙ ap depth_if fits.0)
     (sym (ap (λ (b : Bool). whole g.P.Player b a.player) fits.0))
     fits.1 (subst (λ (b : Bool). HasRow b r a.thread) fits.0 d.kept.row))
@@ -42,7 +40,7 @@ returns-in-Conflict-clause-others g c was d =
     let r = c.args.recorded.now in
     let fits : AnswerFits was (in_transaction a.engine) c.args.call (Conflict c.in-Conflict.clock c.in-Conflict.word) = subst (AnswerFits was (in_transaction a.engine) c.args.call) c.in-Conflict.is d.fits in
     let h : HasRow true r a.thread = subst (λ (b : Bool). HasRow b r a.thread) fits.0 d.kept.row in
-    others_ended a c.retry.new.self r c.end.new.self h.0 _ h.1 refl (ap (λ (x : _). x.thread) c.retry.ensures ∙ retried_thread _) (ap (λ (x : _). x.pending) c.retry.ensures ∙ retried_pending _) (c.end.ensures.ended h.0 h.1)
+    others_ended a c.retry.new.self r c.end.new.self h.0 _ h.1 refl (retried_is (λ (x : _). x.thread) c.retry.ensures refl refl) (retried_is (λ (x : _). x.pending) c.retry.ensures refl refl) (c.end.ensures.ended h.0 h.1)
 
 pub returns-in-Full-clause-others : goal.returns-in-Full-clause-others
 returns-in-Full-clause-others g c was d =
@@ -55,25 +53,20 @@ returns-in-Full-clause-others g c was d =
 pub returns-in-Conflict-clause-records : goal.returns-in-Conflict-clause-records
 returns-in-Conflict-clause-records g c was d =
     let a = c.args.self.now in
-    let counts = retried_counts (record a { player = c.restart.new.self }) in
-    let snapshot : c.snapshot.result ≡ c.retry.new.self.engine.snapshot =
-    c.snapshot.ensures ∙ sym (ap (λ (x : Actor g.row.P.Denot). x.engine.snapshot) c.retry.ensures ∙ ap (λ (e : Core). e.snapshot) (retried_engine (record a { player = c.restart.new.self }))) in
-    let told : Records g.P.Player was c.args.recorded.now c.end.new.self a c.retry.new.self c.args.call (Conflict c.in-Conflict.clock c.in-Conflict.word) = (
+    let snapshot : c.snapshot.result ≡ c.retry.new.self.engine.snapshot = c.snapshot.ensures ∙ sym (retried_is (λ (x : Actor g.row.P.Denot). x.engine.snapshot) c.retry.ensures refl refl) in
+    subst (Records g.P.Player was c.args.recorded.now c.end.new.self a c.retry.new.self c.args.call) (sym c.in-Conflict.is) (
       λ row e. c.end.ensures.ended row e ∙ (λ i. with_ended a.thread (record row { at = snapshot i / 2; outcome = outcomes.Conflict }) c.args.recorded.now),
-      ap (λ (x : Actor g.row.P.Denot). x.player) c.retry.ensures ∙ (retried_player (record a { player = c.restart.new.self }) ∙ c.restart.ensures),
-      record { nth = ap (λ (x : Actor g.row.P.Denot). x.nth) c.retry.ensures ∙ counts.nth; status = ap (λ (x : Actor g.row.P.Denot). x.status) c.retry.ensures ∙ counts.status; again = ap (λ (x : Actor g.row.P.Denot). x.again) c.retry.ensures ∙ counts.again },
-      ap (λ (x : Actor g.row.P.Denot). x.pending) c.retry.ensures ∙ retried_pending (record a { player = c.restart.new.self }),
-    ) in
-    subst (Records g.P.Player was c.args.recorded.now c.end.new.self a c.retry.new.self c.args.call) (sym c.in-Conflict.is) told
+      retried_is (λ (x : Actor g.row.P.Denot). x.player) c.retry.ensures refl refl ∙ c.restart.ensures,
+      retried_counts a c.restart.new.self a.pending c.retry.ensures,
+      retried_is (λ (x : Actor g.row.P.Denot). x.pending) c.retry.ensures refl refl,
+    )
 
 pub returns-in-Busy-clause-records : goal.returns-in-Busy-clause-records
 returns-in-Busy-clause-records g c was d =
     let a = c.args.self.now in
-    let counts = retried_counts (record a { pending = None }) in
-    let told : Records g.P.Player was c.args.recorded.now c.args.recorded.now a c.retry-in-Busy.new.self c.args.call (Busy c.in-Busy.clock) = (
+    subst (Records g.P.Player was c.args.recorded.now c.args.recorded.now a c.retry-in-Busy.new.self c.args.call) (sym c.in-Busy.is) (
       refl,
-      ap (λ (x : Actor g.row.P.Denot). x.player) c.retry-in-Busy.ensures ∙ retried_player (record a { pending = None }),
-      record { nth = ap (λ (x : Actor g.row.P.Denot). x.nth) c.retry-in-Busy.ensures ∙ counts.nth; status = ap (λ (x : Actor g.row.P.Denot). x.status) c.retry-in-Busy.ensures ∙ counts.status; again = ap (λ (x : Actor g.row.P.Denot). x.again) c.retry-in-Busy.ensures ∙ counts.again },
-      ap (λ (x : Actor g.row.P.Denot). x.pending) c.retry-in-Busy.ensures ∙ retried_pending (record a { pending = None }),
-    ) in
-    subst (Records g.P.Player was c.args.recorded.now c.args.recorded.now a c.retry-in-Busy.new.self c.args.call) (sym c.in-Busy.is) told
+      retried_is (λ (x : Actor g.row.P.Denot). x.player) c.retry-in-Busy.ensures refl refl,
+      retried_counts a a.player None c.retry-in-Busy.ensures,
+      retried_is (λ (x : Actor g.row.P.Denot). x.pending) c.retry-in-Busy.ensures refl refl,
+    )

@@ -1,5 +1,4 @@
-use Rattle.norec_world.proofs.Common.{in_transaction, whole}
-use Rattle.norec_world.specs.Moments.{HasWorked}
+use Rattle.norec_world.proofs.Common.{HasWorked, in_transaction, whole}
 use Rattle.norec_world.specs.Sound.{work_left}
 use Rattle.norec_world.proofs.actor.Actor.work.Given as goal
 

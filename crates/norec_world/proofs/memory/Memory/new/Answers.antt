@@ -1,5 +1,5 @@
 use Rattle.std.proofs.Common.{◌/◌, arith, length}
-use Rattle.norec_world.specs.Cells.{AreWords}
+use Rattle.norec_world.proofs.Common.{AreWords}
 use Rattle.norec_world.proofs.WordLists.{are_words, are_bytes, length-words_from}
 use Rattle.norec_world.proofs.memory.Memory.new.Goals as goal
 

@@ -1,6 +1,5 @@
 use Rattle.std.proofs.Common.{arith, ◌≡◌, ◌<◌, ◌*◌, ◌/◌, length, take, drop, sym, ap, ◌∙◌, subst, ℕ, List, slice_index}
-use Rattle.std.specs.Int.{w64, from_le_bytes}
-use Rattle.norec_world.specs.Cells.{Cells, words_of}
+use Rattle.norec_world.proofs.Common.{Cells, from_le_bytes, w64, words_of}
 use Rattle.norec_world.proofs.WordLists.{word_at, length-words_from}
 use Rattle.norec_world.proofs.memory.Memory.word.Goals as goal
 

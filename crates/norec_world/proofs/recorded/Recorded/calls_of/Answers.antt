@@ -1,5 +1,5 @@
 use Rattle.std.proofs.Common.{length, sym, ap, ◌∙◌}
-use Rattle.norec_world.specs.declared.attempt.Attempt.{Attempt}
+use Rattle.norec_world.proofs.Common.{Attempt}
 use Rattle.norec_world.proofs.ActiveRows.{place_first, place_none, is_row, no_row}
 use Rattle.norec_world.proofs.recorded.Recorded.calls_of.Goals as goal
 

@@ -1,8 +1,6 @@
 use Rattle.std.proofs.Common.{◌≡◌, ◌+◌, ◌-◌, ◌≤◌, List, length, length-take, length-drop, arith, sym, ap, ◌∙◌, drop, vec_len, vec_capacity}
-use Rattle.std.specs.List.{insert, remove}
-use Rattle.norec_world.specs.declared.attempt.Attempt.{Attempt}
-use Rattle.norec_world.specs.Rows.{Rows, is_of, active_of, with_ended}
-use Rattle.norec_world.proofs.ActiveRows.{IsFirstAt, place_first, place_none, is_row, no_row, moved_from, moved_rows, without_here, found_none}
+use Rattle.norec_world.proofs.Common.{Attempt, Rows, active_of, insert, is_of, remove, with_ended}
+use Rattle.norec_world.proofs.ActiveRows.{IsFirstAt, place_first, place_none, is_row, no_row, moved_from, moved_rows, without_here}
 use Rattle.norec_world.proofs.recorded.Recorded.end.Goals as goal
 
 first : (c : goal.After-self-1) → IsFirstAt (is_of c.args.thread) (drop c.self.inside.ended c.self.inside.rows.items) c.in-Some.place
@@ -54,5 +52,4 @@ returns-in-Some-clause-gone c =
 pub returns-in_default-clause-gone : goal.returns-in_default-clause-gone
 returns-in_default-clause-gone c =
     ap (λ (r : Rows). active_of c.args.thread r.active) (sym c.self.view_is)
-    ∙ found_none (is_of c.args.thread) (drop c.self.inside.ended c.self.inside.rows.items)
-    (place_none c.self.inside.rows.items c.self.inside.ended c.deref.result.now c.args.thread c.deref.ensures.value c.in_default.ensures.value)
+    ∙ place_none c.self.inside.rows.items c.self.inside.ended c.deref.result.now c.args.thread c.deref.ensures.value c.in_default.ensures.value

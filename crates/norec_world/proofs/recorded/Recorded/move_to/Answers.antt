@@ -1,5 +1,5 @@
 use Rattle.std.proofs.Common.{refl, ap, ◌∙◌, drop}
-use Rattle.norec_world.specs.Rows.{Rows, is_of, with_changed}
+use Rattle.norec_world.proofs.Common.{Rows, is_of, with_changed}
 use Rattle.norec_world.proofs.ActiveRows.{IsFirstAt, place_first, place_none, put_from, put_rows, same_rows}
 use Rattle.norec_world.proofs.recorded.Recorded.move_to.Goals as goal
 

@@ -1,10 +1,7 @@
 use Rattle.std.proofs.Common.{subst}
-use Rattle.norec_world.specs.Views.{world_of}
-use Rattle.norec_world.specs.Opaque.{AreOpaque}
+use Rattle.norec_world.proofs.Common.{AreOpaque, AreOpen, ShowsAlone, World, world_of}
 use Rattle.norec_world.proofs.ShownAlone.{shows_alone}
 use Rattle.norec_world.proofs.RunOthers.{world_opaque}
-use Rattle.norec_world.specs.World.{World, ShowsAlone}
-use Rattle.norec_world.specs.Rows.{AreOpen}
 use Rattle.norec_world.proofs.SoundOthers.{are_open}
 use Rattle.norec_world.proofs.world.World.attempts.Goals as goal
 

@@ -1,6 +1,5 @@
 use Rattle.std.proofs.Common.{◌≡◌, ℕ, length, true, IsSome}
-use Rattle.norec_world.specs.World.{counted, waits_at, SameOpening}
-use Rattle.norec_world.specs.WorldEvents.{Takes}
+use Rattle.norec_world.proofs.Common.{SameOpening, Takes, counted, waits_at}
 use Rattle.norec_world.proofs.WorldEvents.{LeavesLessSoFar, call_left_at}
 use Rattle.norec_world.proofs.world.World.finish_call.Given as goal
 

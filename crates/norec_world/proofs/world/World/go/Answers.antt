@@ -1,10 +1,5 @@
 use Rattle.std.proofs.Common.{slice_get, IsSome, Result, sym, ap, subst, ◌∙◌}
-use Rattle.std.specs.Option.{option_and_then}
-use Rattle.norec_world.specs.declared.actor.Actor.{Actor}
-use Rattle.norec_world.specs.declared.fault.WorldFault.{WorldFault}
-use Rattle.norec_world.specs.Status.{is_waiting, waiting_step}
-use Rattle.norec_world.specs.World.{told}
-use Rattle.norec_world.specs.WorldEvents.{Goes}
+use Rattle.norec_world.proofs.Common.{Actor, Goes, WorldFault, is_waiting, option_and_then, told, waiting_step}
 use Rattle.norec_world.proofs.Worlds.{some_waiting}
 use Rattle.norec_world.proofs.WorldEvents.{mapped_none, mapped_some, goes_nowhere, goes_no_more}
 use Rattle.norec_world.proofs.world.World.go.Goals as goal

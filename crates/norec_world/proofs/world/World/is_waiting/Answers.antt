@@ -1,7 +1,5 @@
 use Rattle.std.proofs.Common.{slice_get, IsSome, sym, ap, subst, ◌∙◌}
-use Rattle.std.specs.Option.{option_and_then}
-use Rattle.norec_world.specs.declared.actor.Actor.{Actor}
-use Rattle.norec_world.specs.Status.{is_waiting, waiting_step}
+use Rattle.norec_world.proofs.Common.{Actor, is_waiting, option_and_then, waiting_step}
 use Rattle.norec_world.proofs.Worlds.{some_waiting}
 use Rattle.norec_world.proofs.WorldEvents.{ended_there, mapped_none, mapped_some, not_there}
 use Rattle.norec_world.proofs.world.World.is_waiting.Goals as goal

@@ -1,14 +1,6 @@
 use Rattle.std.proofs.Common.{rules, arith, ◌≡◌, ◌/◌, ℕ, length, replicate, List, slice_get, sym, ap, subst, ◌∙◌}
-use Rattle.norec_engine.specs.Core.{opening}
-use Rattle.norec_world.specs.Starts.{HasStarted}
-use Rattle.norec_world.specs.World.{World}
-use Rattle.norec_world.specs.Tries.{IsBetween}
-use Rattle.itm_types.specs.Memory.{bytes_of}
-use Rattle.norec_world.specs.Cells.{words_of}
+use Rattle.norec_world.proofs.Common.{AreFrom, AreOfActors, HasStarted, IsBetween, RunsFrom, World, bytes_of, first_of, opening, words_of}
 use Rattle.norec_world.proofs.WordLists.{words_of-bytes_of}
-use Rattle.norec_world.specs.Rows.{AreFrom, AreOfActors}
-use Rattle.norec_world.specs.Runs.{RunsFrom}
-use Rattle.norec_world.specs.Opaque.{first_of}
 use Rattle.norec_world.proofs.RunOthers.{laid_first, world_opaque}
 use Rattle.norec_world.proofs.CommitCounts.{commits_first}
 use Rattle.norec_world.proofs.SoleEvents.{sole_first}

@@ -1,9 +1,5 @@
 use Rattle.std.proofs.Common.{◌≡◌, ◌+◌, List, length, take, Result}
-use Rattle.norec_world.specs.declared.fault.WorldFault.{WorldFault}
-use Rattle.norec_world.specs.World.{counted, SameOpening}
-use Rattle.norec_world.specs.Commits.{CommitsInOrder}
-use Rattle.norec_world.specs.Opaque.{AreOpaque}
-use Rattle.norec_world.specs.WorldEvents.{Leads, passes_of}
+use Rattle.norec_world.proofs.Common.{AreOpaque, CommitsInOrder, Leads, SameOpening, WorldFault, counted, passes_of}
 use Rattle.norec_world.proofs.world.World.run.Given as goal
 
 abbrev pub invariant-loop-actor : goal.invariant-loop-actor

@@ -1,6 +1,7 @@
 use Rattle.std.proofs.Common.{refl, ◌∙◌, arith, rules}
-use Rattle.norec_world.proofs.SoundOthers.{within_of}
-use Rattle.norec_world.proofs.WorldEvents.{counted_both, events_both, opening_same, opening_both, takes_both, waits_there, run_falls, no_more_on, no_more_first}
+use Rattle.norec_world.proofs.Common.{slice_get_within}
+use Rattle.norec_world.proofs.WorldEvents.{counted_both, events_both, opening_same, opening_both, takes_both, run_falls, no_more_on, no_more_first}
+use Rattle.norec_world.proofs.Worlds.{waits_there}
 use Rattle.norec_world.proofs.world.World.run_out.Goals as goal
 
 pub loop-alloc-init : goal.loop-alloc-init
@@ -26,7 +27,7 @@ loop-alloc-preserved g c =
     let t = c.finish_call.ensures.took in
     let both = takes_both g.P.Player c.args.actor before.took.0 t.0 c.args.self.now c.loop-alloc.self c.finish_call.new.self before.took.1 t.1 in
     let there = waits_there c.loop-alloc.self c.args.actor waits in
-    let within = within_of c.loop-alloc.self.actors c.args.actor there.0 there.1 in
+    let within = slice_get_within c.loop-alloc.self.actors c.args.actor there.0 there.1 in
     record {
       took = (both.0, both.2, counted_both before.took.0 t.0 both.0 c.loop-alloc.taken c.finish_call.result c.saturating_add-taken.result before.took.2 t.2 both.1 c.saturating_add-taken.ensures);
       counts = events_both c.args.self.now.events c.loop-alloc.self.events c.finish_call.new.self.events c.loop-alloc.taken c.finish_call.result c.saturating_add-taken.result before.counts c.finish_call.ensures.counts c.saturating_add-taken.ensures;

@@ -1,6 +1,5 @@
 use Rattle.std.proofs.Common.{◌≡◌, ◌≤◌, ℕ, length}
-use Rattle.norec_world.specs.World.{counted, SameOpening}
-use Rattle.norec_world.specs.WorldEvents.{Takes}
+use Rattle.norec_world.proofs.Common.{SameOpening, Takes, counted}
 use Rattle.norec_world.proofs.WorldEvents.{LeavesNoMore, run_left_at, whole_at}
 use Rattle.norec_world.proofs.world.World.run_out.Given as goal
 

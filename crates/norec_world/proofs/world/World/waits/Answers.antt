@@ -1,7 +1,5 @@
 use Rattle.std.proofs.Common.{subst}
-use Rattle.norec_world.specs.Views.{world_of}
-use Rattle.norec_world.specs.Opaque.{AreOpaque}
-use Rattle.norec_world.specs.World.{ShowsAlone}
+use Rattle.norec_world.proofs.Common.{AreOpaque, ShowsAlone, world_of}
 use Rattle.norec_world.proofs.ShownAlone.{shows_alone}
 use Rattle.norec_world.proofs.RunOthers.{world_opaque}
 use Rattle.norec_world.proofs.world.World.waits.Goals as goal
