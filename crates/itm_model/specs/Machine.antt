@@ -3,9 +3,9 @@ use Rattle.std.specs.Prelude.{ℕ, Bool, true, false, ◌||◌, nat_lt, if◌the
 use Rattle.itm_types.specs.Access.{size_of}
 use Rattle.itm_types.specs.declared.call.Props.{Props}
 use Rattle.itm_types.specs.declared.call.Refusal.{Refusal}
-use Rattle.itm_types.specs.declared.call.Refusal.TheVariants.{Outside, OutOfRange, TooDeep}
+use Rattle.itm_types.specs.declared.call.Refusal.TheVariants.{Outside, OutOfRange, OutOfArena, TooDeep}
 use Rattle.itm_types.specs.declared.call.Call.{Call}
-use Rattle.itm_types.specs.declared.call.Call.TheVariants.{Begin, Commit, InTransaction, Read, Write}
+use Rattle.itm_types.specs.declared.call.Call.TheVariants.{Begin, Commit, InTransaction, Read, Write, Load, Save}
 use Rattle.itm_types.specs.declared.call.Reply.{Reply}
 use Rattle.itm_types.specs.declared.call.Reply.TheVariants.{Done, Bytes, Code, Refused}
 use Rattle.itm_types.specs.Calls.{begin_args, needs_transaction}
@@ -47,11 +47,18 @@ standing deepest s call = standing_for deepest s (needs_transaction call) (begin
 abbrev pub in_shared : State → ℕ → ℕ → Option Refusal
 in_shared s place size = unless (in_range s.memory place size) OutOfRange
 
+abbrev pub in_arena : State → ℕ → ℕ → Option Refusal
+in_arena s place size = unless (in_range s.arena place size) OutOfArena
+
 -- why the call's bytes are not to be had, if they are not
 abbrev pub ranges : State → Call → Option Refusal
+ranges s (Begin props room) = None
+ranges s Commit = None
+ranges s InTransaction = None
 ranges s (Read hint width at) = in_shared s at (size_of width)
 ranges s (Write hint at value) = in_shared s at (size_of value.width)
-ranges s _ = None
+ranges s (Load width at) = in_arena s at (size_of width)
+ranges s (Save at value) = in_arena s at (size_of value.width)
 
 -- why the call is refused, if it is
 abbrev pub refusal : ℕ → State → Call → Option Refusal
@@ -62,6 +69,10 @@ refusal deepest s call = or_else (standing deepest s call) (ranges s call)
 -- a shared slice is replaced
 abbrev pub written : State → ℕ → List ℕ → State
 written s place bytes = record s { memory = with_slice s.memory place bytes; wrote = s.wrote || nat_lt 0 (length bytes) }
+
+-- a slice of the arena is replaced
+abbrev pub saved_in_arena : State → ℕ → List ℕ → State
+saved_in_arena s place bytes = record s { arena = with_slice s.arena place bytes }
 
 -- the innermost block closes
 abbrev pub closed : State → List Block → State
@@ -106,6 +117,8 @@ effect s Commit = closed s s.blocks
 effect s InTransaction = s
 effect s (Read hint width at) = s
 effect s (Write hint at value) = written s at value.bytes.items
+effect s (Load width at) = s
+effect s (Save at value) = saved_in_arena s at value.bytes.items
 
 abbrev pub bytes_reply : List ℕ → Reply
 bytes_reply bytes = Bytes (record { items = bytes })
@@ -120,6 +133,8 @@ answer s Commit = Done
 answer s InTransaction = Code (mode_code s)
 answer s (Read hint width at) = bytes_reply (slice s.memory at (size_of width))
 answer s (Write hint at value) = Done
+answer s (Load width at) = bytes_reply (slice s.arena at (size_of width))
+answer s (Save at value) = Done
 
 -- ## One call
 

@@ -79,6 +79,8 @@ stage_at c calls.InTransaction again = Idle
 stage_at c (calls.Read hint width at) again =
     if in_transaction c && nat_le (at + size_of width) (8 * c.words) then load_stage c.writes (record { hint = hint; width = width; at = at; number = 0 }) else Idle
 stage_at c (calls.Write hint at value) again = Idle
+stage_at c (calls.Load width at) again = Idle
+stage_at c (calls.Save at value) again = Idle
 
 -- ## Tries
 

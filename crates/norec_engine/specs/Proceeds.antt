@@ -5,7 +5,7 @@ use Rattle.itm_types.specs.declared.row.LogRow.{LogRow}
 use Rattle.write_set.specs.declared.row.Row.{Row}
 use Rattle.itm_types.specs.declared.call.Call.{Call}
 use Rattle.itm_types.specs.declared.call.Props.{Props}
-use Rattle.itm_types.specs.declared.call.Call.TheVariants.{Begin, Commit, Read, Write}
+use Rattle.itm_types.specs.declared.call.Call.TheVariants.{Begin, Commit, Read, Write, Save}
 use Rattle.itm_types.specs.declared.call.Reply.{Reply as Replied}
 use Rattle.itm_types.specs.declared.call.Reply.TheVariants.{Done, Code, Refused}
 use Rattle.itm_types.specs.declared.step.Step.{Step}
@@ -14,6 +14,7 @@ use Rattle.itm_types.specs.Access.{size_of}
 use Rattle.word_pieces.specs.Pieces.{pieces_of, count_of}
 use Rattle.itm_model.specs.declared.limits.TheConstants.{MAX_DEPTH}
 use Rattle.itm_types.specs.Memory.{bytes_of, IsMemory, Agrees}
+use Rattle.itm_types.specs.Slices.{with_slice}
 use Rattle.itm_model.specs.Machine.{after, reply, undone}
 use Rattle.norec_engine.specs.declared.answer.Answer.{Answer as Answered}
 use Rattle.norec_engine.specs.declared.answer.Answer.TheVariants.{Reply, Committed, Conflict, Busy, Full}
@@ -76,6 +77,11 @@ abbrev pub writes_after : List Row → Call → Replied → List Row
 writes_after writes (Write hint at value) Done = (let ps = pieces_of at (size_of value.width) in put_all (reserved_all writes ps) ps value.bytes.items)
 writes_after writes _ r = writes
 
+-- an accepted save puts its bytes in the arena
+abbrev pub arena_after : List ℕ → Call → Replied → List ℕ
+arena_after arena (Save at value) Done = with_slice arena at value.bytes.items
+arena_after arena _ r = arena
+
 -- whether a transaction is open before a call's reply and after it: an accepted begin opens one, and no other reply opens or closes one
 abbrev pub OpensBy : Bool → Call → Replied → Bool → Type 0
 OpensBy was (Begin props room) (Code n) now = (was ≡ false) × (now ≡ true)
@@ -110,8 +116,10 @@ pub record Replies (mid : Core) (call : Call) (r : Replied) (new : Core) : Type 
     snapshot = new.snapshot;
     writes = new.writes;
     blocks = new.blocks;
+    arena = new.arena;
   }
   pub writes : new.writes ≡ writes_after mid.writes call r
+  pub arena : new.arena ≡ arena_after mid.arena call r
   pub free : mid.holds ≡ false
   pub unfreed : mid.freed ≡ false
   pub still : in_transaction mid ≡ true → in_transaction new ≡ true

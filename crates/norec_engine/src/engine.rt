@@ -13,7 +13,7 @@ use crate::arena::Arena;
 use crate::begin::{begin, begin_seen};
 use crate::commit::{back_loaded, commit, exchanged, freed, stored};
 use crate::data::{Data, end};
-use crate::local::in_transaction;
+use crate::local::{in_transaction, load, save};
 use crate::phase::{Phase, Turn};
 use crate::read::{confirmed, loaded, read};
 use crate::rounds::{round_ended, round_started, row_seen};
@@ -286,5 +286,7 @@ fn called(state: &mut Data, call: &Call) -> Result<Turn, AllocError>
         Call::InTransaction => Ok(in_transaction(state)),
         Call::Read { hint, width, at } => read(state, *hint, *width, *at),
         Call::Write { hint, at, value } => write(state, *hint, *at, value),
+        Call::Load { width, at } => Ok(load(state, *width, *at)),
+        Call::Save { at, value } => Ok(save(state, *at, value)),
     }
 }

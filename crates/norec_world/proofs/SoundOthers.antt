@@ -1,10 +1,11 @@
 -- An event of one actor leaves the others sound.
 use Rattle.std.proofs.Common.{◌≡◌, ◌≢◌, ◌⊎◌, inl, inr, ℕ, zero, suc, ◌+◌, ◌%◌, ◌<◌, ◌≤◌, Bool, true, false, List, [], ◌∷◌, ◌++◌, length, length-append, Option, None, Some, slice_get, slice_set, refl, sym, ap, subst, ◌∙◌, arith, eq-eqb, eqb-true, ◌==◌, length-set, if◌then◌else◌}
-use Rattle.norec_world.proofs.Common.{Actor, AllFit, AreActors, AreFrom, AreOpen, AreUnfinished, Attempt, Cells, ChangesOwn, ClocksOn, HasRow, IsSound, IsTied, KeepsOthers, MAX_ACTORS, Rows, Rules, Status, StatusIs, Unfinished, Waits, active_of, both_ways, cases_Bool, cases_eq, cases_lt, count_pending, eqb-false, false_from_ne_true, in_transaction, is_ready, ne_eqb, slice_get-set_same, slice_get_within}
+use Rattle.norec_world.proofs.Common.{Actor, AllFit, AreActors, AreFrom, AreOpen, AreUnfinished, Attempt, Cells, ChangesOwn, ClocksOn, HasRow, IsSound, IsTied, KeepsOthers, MAX_ACTORS, Rows, Rules, Status, StatusIs, Unfinished, Waits, active_of, both_ways, cases_Bool, cases_eq, cases_lt, count_pending, eqb-false, false_from_ne_true, in_transaction, is_ready, ne_eqb, slice_get-set_same, slice_get_within, none-some, same_Some}
 use Rattle.itm_types.proofs.Words.{slice_get-set_other}
 use Rattle.norec_world.specs.OthersAttempts.{pending_in}
 use Rattle.norec_world.proofs.TiedEngines.{held_even}
 use Rattle.norec_world.specs.Actors.{IsActor}
+pub use Rattle.std.proofs.lemmas.Option.{slice_get_within as within_of}
 
 has_row_same : (b : Bool) (r r' : Rows) (thread : ℕ) → active_of thread r'.active ≡ active_of thread r.active → HasRow b r thread → HasRow b r' thread
 has_row_same false r r' thread same h = same ∙ h
@@ -257,7 +258,20 @@ none_active {P} rules cells r actors s none = by_rows r.active refl
         let mine = (s.each x.thread here.0 here.1).thread in
         absurd (let n : active_of x.thread r.active ≡ None = ap (λ (t : ℕ). active_of t r.active) (sym mine) ∙ none x.thread here.0 here.1 in let f = sym n ∙ some in cc)
 
+-- whether the transaction is open, by whether its attempt is there
+pub row_open : (b : Bool) (r : Rows) (thread : ℕ) (row : Attempt) → HasRow b r thread → active_of thread r.active ≡ Some row → b ≡ true
+row_open true r thread row h some = refl
+row_open false r thread row h some = absurd (none-some row (sym h ∙ some))
+
+pub row_shut : (b : Bool) (r : Rows) (thread : ℕ) → HasRow b r thread → active_of thread r.active ≡ None → b ≡ false
+row_shut true r thread h none = absurd (none-some h.0 (sym none ∙ h.1))
+row_shut false r thread h none = refl
+
 -- open attempts have not ended
+pub row_unfinished : (b : Bool) (r : Rows) (thread : ℕ) (row : Attempt) → HasRow b r thread → active_of thread r.active ≡ Some row → row.outcome ≡ Unfinished
+row_unfinished false r thread row h e = absurd (none-some row (sym h ∙ e))
+row_unfinished true r thread row h e = ap (λ (x : Attempt). x.outcome) (same_Some _ _ (sym e ∙ h.1)) ∙ h.2
+
 all_unfinished : (n : ℕ) (xs : List Attempt) → AreFrom n xs → ((t : ℕ) (row : Attempt) → n ≤ t → active_of t xs ≡ Some row → row.outcome ≡ Unfinished) → AreUnfinished xs
 all_unfinished n [] from each = tt
 all_unfinished n (x ∷ xs) from each = (
@@ -270,16 +284,10 @@ all_unfinished n (x ∷ xs) from each = (
 
 pub are_open : {P : Type 0} (rules : Rules P) (cells : Cells) (r : Rows) (actors : List (Actor P))
     → AreActors rules cells r actors → AreFrom 0 r.active → AreOpen r.active
-are_open {P} rules cells r actors s from = record { by_actor = from; unfinished = all_unfinished 0 r.active from (λ t row l e. each t row e) }
-  where
-    of_row : (b : Bool) (a : Actor P) (t : ℕ) (row : Attempt) → a.thread ≡ t → active_of t r.active ≡ Some row → HasRow b r a.thread → row.outcome ≡ Unfinished
-    of_row false a t row mine e h = absurd (let n : active_of t r.active ≡ None = ap (λ (k : ℕ). active_of k r.active) (sym mine) ∙ h in let f = sym n ∙ e in cc)
-    of_row true a t row mine e h =
-        let same : h.0 ≡ row = (let found : Some h.0 ≡ Some row = sym h.1 ∙ (ap (λ (k : ℕ). active_of k r.active) mine ∙ e) in cc) in
-        ap (λ (x : Attempt). x.outcome) (sym same) ∙ h.2
-
-    each : (t : ℕ) (row : Attempt) → active_of t r.active ≡ Some row → row.outcome ≡ Unfinished
-    each t row e =
-        let here = there_is actors t (s.listed t row e) in
-        let a = s.each t here.0 here.1 in
-        of_row (in_transaction here.0.engine) here.0 t row a.thread e a.sound.kept.row
+are_open {P} rules cells r actors s from = record {
+  by_actor = from;
+  unfinished = all_unfinished 0 r.active from (λ t row l e.
+      (let here = there_is actors t (s.listed t row e) in
+      let a = s.each t here.0 here.1 in
+      row_unfinished (in_transaction here.0.engine) r here.0.thread row a.sound.kept.row (ap (λ (k : ℕ). active_of k r.active) a.thread ∙ e)));
+}

@@ -81,6 +81,20 @@ fn put_body<W: Write>(stream: &mut Stream<'_, W>, call: &Call)
             Piece::Text(b" "),
             Piece::Hex(value.bytes.as_slice()),
         ]),
+        Call::Load { width, at } => stream.put(&[
+            Piece::Text(b"ld"),
+            Piece::Number(u64::from(width.size())),
+            Piece::Text(b" "),
+            Piece::Number(*at),
+        ]),
+        Call::Save { at, value } => stream.put(&[
+            Piece::Text(b"st"),
+            Piece::Number(u64::from(value.width.size())),
+            Piece::Text(b" "),
+            Piece::Number(*at),
+            Piece::Text(b" "),
+            Piece::Hex(value.bytes.as_slice()),
+        ]),
     }
 }
 
