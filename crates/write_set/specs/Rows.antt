@@ -37,6 +37,11 @@ abbrev pub reserved : List Row → ℕ → List Row
 reserved [] word = row word 0 0 ∷ []
 reserved (r ∷ rs) word = if r.word == word then r ∷ rs else r ∷ reserved rs word
 
+-- the rows with this one in the place of its word's
+abbrev pub replaced : List Row → Row → List Row
+replaced [] row = []
+replaced (r ∷ rs) row = if r.word == row.word then row ∷ rs else r ∷ replaced rs row
+
 -- the rows write nothing
 abbrev pub AreEmpty : List Row → Type 0
 AreEmpty rows = AllByRecursion (λ r. r.mask ≡ 0) rows
