@@ -1,7 +1,7 @@
 -- The rows, as a map from words has them.
 use Rattle.std.specs.Prelude.{ℕ, List, map}
 use Rattle.write_set.specs.declared.row.Row.{Row}
-use Rattle.write_set.specs.declared.rows.Cell.{Cell}
+use Rattle.write_set.specs.declared.keyed_rows.Cell.{Cell}
 use Rattle.write_set.specs.Rows.{row}
 
 abbrev pub row_of : ℕ × Cell → Row

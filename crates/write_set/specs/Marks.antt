@@ -3,7 +3,7 @@ use Rattle.std.specs.Prelude.{◌≡◌, ℕ, ◌≤◌, ◌⊎◌, ◌++◌, Li
 use Rattle.write_set.specs.declared.mark.Mark.{Mark}
 use Rattle.write_set.specs.declared.mark.Place.{Place}
 use Rattle.write_set.specs.declared.row.Row.{Row}
-use Rattle.write_set.specs.Rows.{lookup, put, replaced, reserved, AllRowsFit, AreRows}
+use Rattle.write_set.specs.Rows.{lookup, replaced, reserved, AllRowsFit}
 
 pub record Written : Type 0 where
   pub rows : List Row  -- in the order of first writing
@@ -26,9 +26,9 @@ pub record IsBy (a b : Place) : Type 0 where
   pub rows : a.rows ≤ b.rows
   pub saves : a.saves ≤ b.saves
 
--- what holds of every write set
-pub record IsWritten (w : Written) : Type 0 where
-  pub rows : AreRows w.rows
+-- what holds of the marks of every write set: the saves' masks and values fit 64 bits, and the innermost mark is no
+-- later than now
+pub record AreMarks (w : Written) : Type 0 where
   pub saves : AllRowsFit w.saves
   pub inner : IsBy w.inner (place_of w)
 

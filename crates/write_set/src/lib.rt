@@ -2,9 +2,10 @@
 //! to which it goes back.
 #![tactic(auto)]
 
+mod keyed_rows;
 mod mark;
 mod row;
-mod rows;
+mod saves;
 mod set;
 
 pub use mark::Mark;

@@ -4,11 +4,13 @@ ghost use Rattle.std.specs.Prelude.{◌≡◌, ◌+◌, ◌<◌, ◌≤◌, ℕ,
 ghost use Rattle.itm_types.specs.Memory.{AllFit};
 ghost use Rattle.word_pieces.specs.Masks.{merged_at};
 ghost use Rattle.write_set.specs.Rows.{lookup, laid, put, reserved, overlay, AreEmpty, AreRows};
-ghost use Rattle.write_set.specs.Marks.{put_back, rows_at, unwritten, place_of, reserve, mark_of, back_at, IsBy, IsMark, IsNew, IsWritten, KeepsMarks, KeepsOuter, KeepsRoom, MayPut};
+ghost use Rattle.write_set.specs.declared.mark.Mark.{Mark};
+ghost use Rattle.write_set.specs.Marks.{rows_at, unwritten, place_of, reserve, mark_of, back_at, AreMarks, IsMark, IsNew, KeepsMarks, KeepsOuter, KeepsRoom, MayPut};
 
+use crate::keyed_rows::Rows;
 use crate::mark::{Mark, Place};
 use crate::row::Row;
-use crate::rows::Rows;
+use crate::saves::{put_back, reserve_row};
 use std::alloc::{AllocError, Global};
 use std::marker::Model;
 use word_pieces::merge;
@@ -26,13 +28,13 @@ pub struct WriteSet {
 }
 
 impl Model for WriteSet {
-    ghost use Rattle.write_set.specs.Marks.{Written, IsWritten};
+    ghost use Rattle.write_set.specs.Marks.{Written, AreMarks};
 
     ghost Value = { Written };
 
     ghost view = { λ s. record { rows = s.rows; saves = s.saves.items; inner = s.inner } };
 
-    ghost invariant = { λ s. IsWritten (record { rows = s.rows; saves = s.saves.items; inner = s.inner }) };
+    ghost invariant = { λ s. AreMarks (record { rows = s.rows; saves = s.saves.items; inner = s.inner }) };
 }
 
 impl WriteSet {
@@ -51,9 +53,10 @@ impl WriteSet {
     pub fn len(&self) -> usize
         ensures len { result ≡ length self.now.rows }
 
-        // Of every write set: no two rows have one word.
+        // Of every write set: no two rows have one word, now and as they were at each mark.
         ensures rows { AreRows self.now.rows }
-        ensures written { IsWritten self.now }
+        ensures marks { AreMarks self.now }
+        ensures at_marks { (m : Mark) → AreRows (rows_at self.now m) }
     {
         self.rows.len()
     }
@@ -102,18 +105,7 @@ impl WriteSet {
         ensures can_cut { (n : ℕ) → n ≤ length self.old.rows → AreEmpty (drop n self.old.rows) →
             AreEmpty (drop n self.new.rows) × (take n self.new.rows ≡ take n self.old.rows) }
     {
-        match self.rows.place(word) {
-            Some(place) => {
-                if place < self.inner.rows {
-                    let row = self.rows.row(place);
-                    if self.saves.push(row).is_err() {
-                        return Err(AllocError);
-                    }
-                }
-                Ok(())
-            }
-            None => self.rows.add(word),
-        }
+        reserve_row(&mut self.rows, &mut self.saves, self.inner.rows, word)
     }
 
     /// Writes the masked bytes of a value to a word that was reserved. Takes no memory.
@@ -205,20 +197,5 @@ impl WriteSet {
         ensures marks { KeepsOuter mark self.old self.new }
     {
         self.inner = mark.outer;
-    }
-}
-
-/// Puts the saved rows from a place on back, the newest one first, and takes them off the saved ones.
-fn put_back(rows: &mut Rows, saves: &mut Vec<Row>, from: usize)
-    requires { from ≤ length saves.old.items }
-    ensures rows { rows.new ≡ put_back (drop from saves.old.items) rows.old }
-    ensures saves { saves.new.items ≡ take from saves.old.items }
-{
-    for _ in from..saves.len() {
-        if let Some(row) = saves.pop() {
-            if let Some(place) = rows.place(row.word) {
-                rows.set(place, row.mask, row.value);
-            }
-        }
     }
 }

@@ -1,7 +1,7 @@
 //! The rows of a write set, found by their words.
 
-ghost use Rattle.std.specs.Prelude.{◌≡◌, ◌<◌, ◌++◌, [], ◌∷◌, MatchOption, None, OnOk, OnErr, Some, length, slice_get, slice_set, take};
-ghost use Rattle.write_set.specs.Rows.{lookup, row, row_at, AreRows, IsFirst};
+ghost use Rattle.std.specs.Prelude.{◌≡◌, ◌<◌, ◌++◌, [], ◌∷◌, MatchOption, None, OnOk, OnErr, Some, length, slice_get, take};
+ghost use Rattle.write_set.specs.Rows.{lookup, replaced, row, set_row, AreRows, IsFirst};
 
 use crate::row::Row;
 use indexmap::IndexMap;
@@ -69,7 +69,8 @@ impl Rows {
 
     /// The place of the word's row.
     pub(crate) fn place(&self, word: u32) -> Option<usize>
-        ensures { MatchOption result (lookup word self.now ≡ None) (λ i. IsFirst self.now word i) }
+        ensures place { MatchOption result (lookup word self.now ≡ None) (λ i. IsFirst self.now word i) }
+        ensures rows { AreRows self.now }
     {
         self.cells.get_index_of(&word)
     }
@@ -80,23 +81,31 @@ impl Rows {
         ensures ok { OnOk result (self.new ≡ self.old ++ row word 0 0 ∷ []) }
         ensures err { OnErr result (self.new ≡ self.old) }
     {
-        match self.cells.insert(word, Cell { mask: 0, value: 0 }) {
-            Ok(_) => Ok(()),
-            Err(_) => Err(AllocError),
-        }
+        self.cells.insert(word, Cell { mask: 0, value: 0 })?;
+        Ok(())
     }
 
     /// Gives the row at a place this mask and value. Takes no memory.
     pub(crate) fn set(&mut self, place: usize, mask: u64, value: u64)
         requires { place < length self.old }
-        ensures { self.new ≡ slice_set self.old place (row (row_at self.old place).word mask value) }
+        ensures { self.new ≡ set_row self.old place mask value }
     {
         self.cells[place] = Cell { mask, value };
     }
 
+    /// Puts a row in the place of its word's, if that has one. Takes no memory.
+    pub(crate) fn replace(&mut self, row: Row)
+        ensures { self.new ≡ replaced self.old row }
+    {
+        if let Some(place) = self.place(row.word) {
+            self.set(place, row.mask, row.value);
+        }
+    }
+
     /// Keeps this many rows. Takes no memory.
     pub(crate) fn truncate(&mut self, len: usize)
-        ensures { self.new ≡ take len self.old }
+        ensures new { self.new ≡ take len self.old }
+        ensures rows { AreRows self.old }
     {
         self.cells.truncate(len);
     }
