@@ -1,2 +1,5 @@
-pub mod Overlays
+pub mod Cells
 pub mod Examples
+pub mod OpenMarks
+pub mod Overlays
+pub mod PutBack
