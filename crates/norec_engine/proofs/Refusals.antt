@@ -44,12 +44,12 @@ pub refused_replies : (d : Data) (call : Call) (at size : ℕ) (why : Refusal) �
     → access_refusal (in_block d) d.words at size ≡ Some why
     → Replies (came (core d Idle) call false) call (Refused why) (core (record d { spent = 0; entry = length d.log.rows }) Idle)
 refused_replies d call at size why s is e =
-    let all = λ (m : List ℕ) (mem : IsMemory d.words m). access_refused d.writes (blocks_of d.block) d.arena m d.words call at size why mem is e in
+    let all = λ (m : List ℕ) (mem : IsMemory d.words m). access_refused d.writes.rows (blocks_of d.block) d.arena m d.words call at size why mem is e in
     record {
       meets = λ m mem agrees. (all m mem).0;
       reply_is = λ m mem agrees. (all m mem).1;
       stays = refl;
-      writes = sym (writes_kept d.writes call why);
+      writes = sym (writes_kept d.writes.rows call why);
       free = refl;
       unfreed = refl;
       still = λ o. o;

@@ -28,6 +28,7 @@ use Rattle.norec_engine.specs.declared.answer.Answer.{Answer}
 use Rattle.norec_engine.specs.declared.answer.Next.{Next}
 use Rattle.norec_engine.specs.declared.answer.Next.TheVariants.{Step as Asks, Answer as Answers}
 use Rattle.norec_engine.specs.Rows.{write_at, is_covered, AllWithin, AllWritesWithin}
+use Rattle.write_set.specs.Marks.{start, unwritten}
 use Rattle.write_set.specs.Rows.{overlay, AreRows}
 use Rattle.norec_engine.specs.Core.{Core, is_inside}
 use Rattle.norec_engine.specs.Order.{word_of, step_in, asked_in}
@@ -66,10 +67,10 @@ again_of _ = false
 
 -- the step that the phase waits for
 abbrev pub step_of : Data → Phase → Step
-step_of d phase = step_in d.log.rows d.snapshot d.writes phase
+step_of d phase = step_in d.log.rows d.snapshot d.writes.rows phase
 
 abbrev pub waits_of : Data → Phase → Option Step
-waits_of d phase = asked_in d.log.rows d.snapshot d.writes phase
+waits_of d phase = asked_in d.log.rows d.snapshot d.writes.rows phase
 
 abbrev pub fresh_of : List LogRow → Phase → List LogRow
 fresh_of log (at.Confirm r value) = record { word = word_of r; value = value } ∷ []
@@ -117,10 +118,10 @@ core d phase = record {
   clock = d.clock;
   fresh = fresh_of d.log.rows phase;
   log = d.log.rows;
-  writes = d.writes;
+  writes = d.writes.rows;
   blocks = blocks_of d.block;
   holds = holds_of phase;
-  done = done_of d.writes phase;
+  done = done_of d.writes.rows phase;
   freed = false;
   got = got_of phase;
   doing = doing_of phase;
@@ -154,18 +155,19 @@ pub record IsBounded (words : ℕ) (limits : Limits) (snapshot : ℕ) : Type 0 w
   pub small : words ≤ MAX_WORDS
   pub even : snapshot % 2 ≡ 0
 
--- a transaction is open, and its words lie within the memory
+-- a transaction is open, and its words lie within the memory; no mark of the write set is open
 pub record IsOpen (d : Data) : Type 0 where
   pub is_open : in_block d ≡ true
   pub log : AllWithin d.words d.log.rows
-  pub writes : AllWritesWithin d.words d.writes
-  pub rows : AreRows d.writes
+  pub writes : AllWritesWithin d.words d.writes.rows
+  pub rows : AreRows d.writes.rows
+  pub unmarked : d.writes.inner ≡ start
   pub tries : d.tries ≤ d.limits.patience
 
 pub record IsOutside (d : Data) : Type 0 where
   pub is_open : in_block d ≡ false
   pub log : d.log.rows ≡ []
-  pub writes : d.writes ≡ []
+  pub writes : d.writes ≡ unwritten
   pub tries : d.tries ≤ d.limits.patience
 
 -- the pieces before this one are gathered, and there is room in the log for the others
@@ -175,18 +177,18 @@ pub record IsReading (d : Data) (r : Reading) : Type 0 where
   pub room : count r - r.number ≤ d.log.room
   pub since : d.entry ≤ length d.log.rows
   pub grown : length d.log.rows ≤ d.entry + r.number
-  pub has : (m : List ℕ) → IsMemory d.words m → Agrees m (own_rows d.entry d.log.rows) → d.gathered.items ≡ gathered (overlay m d.writes) (take r.number (parts r))
+  pub has : (m : List ℕ) → IsMemory d.words m → Agrees m (own_rows d.entry d.log.rows) → d.gathered.items ≡ gathered (overlay m d.writes.rows) (take r.number (parts r))
   pub sized : length d.gathered.items ≡ length (gathered [] (take r.number (parts r)))
 
 -- the write set does not have all of this piece
 pub record MayRead (d : Data) (r : Reading) : Type 0 where
   pub reading : IsReading d r
   pub some : r.number < count r
-  pub uncovered : is_covered d.writes (part r) ≡ false
+  pub uncovered : is_covered d.writes.rows (part r) ≡ false
 
 -- there is something to write
 pub record MayCommit (d : Data) : Type 0 where
-  pub some : d.writes ≢ []
+  pub some : d.writes.rows ≢ []
   pub grown : length d.log.rows ≤ d.entry
 
 abbrev pub Aims : Data → Aim → Type 0
@@ -203,7 +205,7 @@ pub record InRound (d : Data) (aim : Aim) (steps : ℕ) : Type 0 where
 -- the clock is held: so many steps may have been asked for
 pub record IsHolding (d : Data) (steps : ℕ) : Type 0 where
   pub is_open : IsOpen d
-  pub some : 0 < length d.writes
+  pub some : 0 < length d.writes.rows
   pub settled : d.clock ≡ d.snapshot
   pub free : d.snapshot / 2 < d.limits.max_commits
   pub spent : d.spent ≤ 1 + d.tries * round_of aims.Commit d + steps
@@ -217,10 +219,10 @@ InPhase d (at.RoundStart aim) = InRound d aim 1
 InPhase d (at.RoundRow aim row) = InRound d aim (row + 2) × (d.clock % 2 ≡ 0) × (row < length d.log.rows)
 InPhase d (at.RoundEnd aim) = InRound d aim (length d.log.rows + 2) × (d.clock % 2 ≡ 0)
 InPhase d at.Exchange = IsOpen d × MayCommit d × (d.clock ≡ d.snapshot) × (d.snapshot / 2 < d.limits.max_commits) × (d.spent ≤ 1 + d.tries * round_of aims.Commit d)
-InPhase d (at.BackLoad row) = IsHolding d (2 * row + 1) × (row < length d.writes) × ((write_at d.writes row).mask ≢ whole)
-InPhase d (at.Store row None) = IsHolding d (2 * row + 1) × (row < length d.writes) × ((write_at d.writes row).mask ≡ whole)
-InPhase d (at.Store row (Some word)) = IsHolding d (2 * row + 2) × (row < length d.writes)
-InPhase d at.Free = IsHolding d (2 * length d.writes + 1)
+InPhase d (at.BackLoad row) = IsHolding d (2 * row + 1) × (row < length d.writes.rows) × ((write_at d.writes.rows row).mask ≢ whole)
+InPhase d (at.Store row None) = IsHolding d (2 * row + 1) × (row < length d.writes.rows) × ((write_at d.writes.rows row).mask ≡ whole)
+InPhase d (at.Store row (Some word)) = IsHolding d (2 * row + 2) × (row < length d.writes.rows)
+InPhase d at.Free = IsHolding d (2 * length d.writes.rows + 1)
 
 pub record IsSound (d : Data) (phase : Phase) : Type 0 where
   pub bounds : IsBounded d.words d.limits d.snapshot
@@ -299,7 +301,7 @@ pub record Stays (old new : Data) : Type 0 where
 pub record IsEnded (old new : Data) : Type 0 where
   pub block : new.block ≡ None
   pub log : new.log.rows ≡ []
-  pub writes : new.writes ≡ []
+  pub writes : new.writes ≡ unwritten
   pub words : new.words ≡ old.words
   pub limits : new.limits ≡ old.limits
   pub arena : new.arena ≡ old.arena
@@ -344,4 +346,4 @@ pub record MayExchange (d : Data) : Type 0 where
 pub record InStores (d : Data) (row : ℕ) : Type 0 where
   pub bounds : IsBounded d.words d.limits d.snapshot
   pub holding : IsHolding d (2 * row)
-  pub far : row ≤ length d.writes
+  pub far : row ≤ length d.writes.rows

@@ -81,7 +81,7 @@ fn next_store(state: &mut Data, row: usize) -> Turn
     ensures sound { IsSoundTurn result state.new }
     ensures proceeds { Turns (in_stores state.old row) result state.new }
     ensures stays { Stays state.old state.new }
-    ensures order { phase_after result ≡ store_stage state.old.writes row }
+    ensures order { phase_after result ≡ store_stage state.old.writes.rows row }
     ensures ends { (end : Option Answer) → TurnEndsSo end result }
     ensures tries { (core_after result state.new).tries ≡ tries_after (phase_after result) state.old.tries }
 {

@@ -3,6 +3,7 @@
 ghost use Rattle.std.specs.Prelude.{◌≡◌, ◌≤◌, ◌+◌, false, true, IfOk, OnOk, OnErr, IsSome, All, length};
 ghost use Rattle.word_pieces.specs.Pieces.{IsPiece};
 ghost use Rattle.itm_types.specs.Slices.{AreBytes};
+ghost use Rattle.write_set.specs.Marks.{start};
 ghost use Rattle.write_set.specs.Rows.{lookup};
 ghost use Rattle.norec_engine.specs.Rows.{HaveRows, reserved_all, put_all};
 ghost use Rattle.norec_engine.specs.Fields.{core, core_after, phase_after, IsSound, IsSoundTurn, Turns, TurnEndsSo, Stays};
@@ -52,9 +53,11 @@ pub(crate) fn write(
 
 /// Gives each piece's word a row. Where memory is refused, none is given.
 fn reserve_all(writes: &mut WriteSet, pieces: &[Piece]) -> Result<(), AllocError>
-    ensures ok { OnOk result (writes.new ≡ reserved_all writes.old pieces.now) }
-    ensures err { OnErr result (writes.new ≡ writes.old) }
-    ensures grows { OnErr result (HaveRows writes.old pieces.now → ⊥) }
+    requires unmarked { writes.old.inner ≡ start }
+    ensures ok { OnOk result (writes.new.rows ≡ reserved_all writes.old.rows pieces.now) }
+    ensures err { OnErr result (writes.new.rows ≡ writes.old.rows) }
+    ensures unmarked { writes.new.inner ≡ start }
+    ensures grows { OnErr result (HaveRows writes.old.rows pieces.now → ⊥) }
 {
     let len = writes.len();
     for piece in pieces {
@@ -68,10 +71,12 @@ fn reserve_all(writes: &mut WriteSet, pieces: &[Piece]) -> Result<(), AllocError
 
 /// Puts the pieces of a value in the write set, where each has a row.
 fn put_all(writes: &mut WriteSet, pieces: &[Piece], bytes: &[u8])
-    requires room { HaveRows writes.old pieces.now }
+    requires room { HaveRows writes.old.rows pieces.now }
+    requires unmarked { writes.old.inner ≡ start }
     requires pieces { All IsPiece pieces.now }
     requires bytes { All (λ p. p.at + p.count ≤ length bytes.now) pieces.now }
-    ensures rows { writes.new ≡ put_all writes.old pieces.now bytes.now }
+    ensures rows { writes.new.rows ≡ put_all writes.old.rows pieces.now bytes.now }
+    ensures unmarked { writes.new.inner ≡ start }
     ensures bytes { AreBytes bytes.now }
 {
     for piece in pieces {

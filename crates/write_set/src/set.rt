@@ -1,6 +1,6 @@
 //! The write set.
 
-ghost use Rattle.std.specs.Prelude.{◌≡◌, ◌+◌, ◌<◌, ◌≤◌, ℕ, List, IsOk, IsSome, None, OnOk, OnErr, Some, length, map, take, drop, slice_get};
+ghost use Rattle.std.specs.Prelude.{◌≡◌, ◌+◌, ◌<◌, ◌≤◌, ◌↔◌, ℕ, List, IsOk, IsSome, IsTrue, OnOk, OnErr, Some, length, map, take, drop, slice_get};
 ghost use Rattle.itm_types.specs.Memory.{AllFit};
 ghost use Rattle.word_pieces.specs.Masks.{merged_at};
 ghost use Rattle.write_set.specs.Rows.{lookup, laid, put, reserved, overlay, AreEmpty, AreRows};
@@ -176,6 +176,13 @@ impl WriteSet {
         mark
     }
 
+    /// Whether a mark is open.
+    pub fn is_open(&self, mark: &Mark) -> bool
+        ensures { IsTrue result ↔ IsMark self.now mark.now }
+    {
+        mark.here.is_by(self.inner) && mark.outer.is_by(mark.here)
+    }
+
     /// Takes back all that was written since the mark was made, and closes it with those inside it. Takes no memory.
     pub fn back_to(&mut self, mark: Mark)
         requires { IsMark self.old mark }
@@ -183,9 +190,10 @@ impl WriteSet {
         ensures rows { self.new.rows ≡ rows_at self.old mark }
         ensures marks { KeepsOuter mark self.old self.new }
     {
-        put_back(&mut self.rows, &mut self.saves, mark.here.saves);
-        self.rows.truncate(mark.here.rows);
-        self.inner = mark.outer;
+        let Mark { here, outer } = mark;
+        put_back(&mut self.rows, &mut self.saves, here.saves);
+        self.rows.truncate(here.rows);
+        self.inner = outer;
     }
 
     /// Closes a mark with those inside it, and takes nothing back: the marks around it still can. Takes no memory.

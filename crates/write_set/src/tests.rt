@@ -127,23 +127,146 @@ fn cancelled_block(rt: HostRuntime) -> Result<(), Fail> {
     let mut set = WriteSet::new(rt.alloc());
     write(&rt, &mut set, 0, [0x11].as_slice())?;
     let outer = overlay(&rt, &set);
-    let mark = set.mark()?;
+    let mark = set.mark();
     write(&rt, &mut set, 0, [0x22].as_slice())?;
     write(&rt, &mut set, 8, [0x33].as_slice())?;
     assert_eq!(rt; byte_at(&overlay(&rt, &set), 0), Some(0x22));
     assert_eq!(rt; byte_at(&overlay(&rt, &set), 8), Some(0x33));
+    assert!(rt; set.is_open(&mark));
     set.back_to(mark);
     assert_eq!(rt; overlay(&rt, &set), outer);
     assert_eq!(rt; set.len(), 1);
-    let mark = set.mark()?;
+    let mark = set.mark();
     write(&rt, &mut set, 8, [0x44].as_slice())?;
+    assert!(rt; set.is_open(&mark));
     set.forget_mark(mark);
     assert_eq!(rt; set.len(), 2);
     assert_eq!(rt; byte_at(&overlay(&rt, &set), 8), Some(0x44));
     Ok(())
 }
 
-/// Run with each allocation refused in turn, a refusal leaves the set as it was, and the next call is served.
+/// The bytes of some words.
+fn bytes_of(words: &[u64; 5]) -> [u8; 40] {
+    let mut bytes = [0; 40];
+    for (place, byte) in bytes.iter_mut().enumerate() {
+        *byte = words[place / 8].to_le_bytes()[place % 8];
+    }
+    bytes
+}
+
+/// The place that a level writes alone.
+fn own_place(level: u8) -> u64 {
+    u64::from(level % 4) * 8 + u64::from(level / 4)
+}
+
+/// The bytes that the writes at so many levels leave: each level writes its number, from 1 on, to a place of its own
+/// and to one that every level writes.
+fn after_levels(levels: u8) -> [u8; 40] {
+    let mut bytes = bytes_of(&WORDS);
+    for level in 0..levels.min(16) {
+        for place in [own_place(level), 33] {
+            if let Some(byte) = bytes.get_mut(place as usize) {
+                *byte = level + 1;
+            }
+        }
+    }
+    bytes
+}
+
+/// Nests of sixteen marks with writes at each level: those of the levels in `forgotten` are forgotten as their turn
+/// comes, and the others go back.
+fn nest(rt: &impl Abort, alloc: Global, forgotten: u32) -> Result<(), Fail> {
+    let mut set = WriteSet::new(alloc);
+    let mut marks = Vec::new(alloc);
+    for level in 0..16u8 {
+        assert_eq!(rt; bytes_of(&overlay(rt, &set)), after_levels(level));
+        marks.push(set.mark())?;
+        write(rt, &mut set, own_place(level), [level + 1].as_slice())?;
+        write(rt, &mut set, 33, [level + 1].as_slice())?;
+    }
+    let mut bytes = after_levels(16);
+    assert_eq!(rt; bytes_of(&overlay(rt, &set)), bytes);
+    for level in (0..16u8).rev() {
+        let Some(mark) = marks.pop() else {
+            break;
+        };
+        assert!(rt; set.is_open(&mark));
+        if forgotten >> level & 1 == 1 {
+            set.forget_mark(mark);
+        } else {
+            set.back_to(mark);
+            bytes = after_levels(level);
+        }
+        assert_eq!(rt;
+            bytes_of(&overlay(rt, &set)),
+            bytes,
+            "level {level} of {forgotten}"
+        );
+    }
+    assert!(rt; marks.is_empty());
+    Ok(())
+}
+
+#[test]
+fn nests_of_sixteen_marks(rt: HostRuntime) -> Result<(), Fail> {
+    for forgotten in [
+        0, 0xffff, 0x5555, 0xaaaa, 0xfffe, 0x7fff, 0x00ff, 0xff00, 0x0ff0,
+    ] {
+        nest(&rt, rt.alloc(), forgotten)?;
+    }
+    Ok(())
+}
+
+/// Going back to a mark closes those inside it, which stay closed.
+#[test]
+fn marks_inside_are_closed(rt: HostRuntime) -> Result<(), Fail> {
+    let mut set = WriteSet::new(rt.alloc());
+    write(&rt, &mut set, 0, [0x11].as_slice())?;
+    let outer = set.mark();
+    write(&rt, &mut set, 8, [0x22].as_slice())?;
+    let inner = set.mark();
+    write(&rt, &mut set, 16, [0x33].as_slice())?;
+    assert!(rt; set.is_open(&inner));
+    assert!(rt; set.is_open(&outer));
+    set.back_to(outer);
+    assert!(rt; !set.is_open(&inner));
+    assert_eq!(rt; set.len(), 1);
+    Ok(())
+}
+
+#[test]
+fn as_many_words_as_a_memory_has(rt: HostRuntime) -> Result<(), Fail> {
+    let mut set = WriteSet::new(rt.alloc());
+    for word in 0..8192u32 {
+        set.reserve(word)?;
+        set.put(word, u64::MAX, u64::from(word) * 3);
+    }
+    let mark = set.mark();
+    for word in 0..8192u32 {
+        set.reserve(word)?;
+        set.put(word, 0xff, 0x77);
+    }
+    assert!(rt; set.is_open(&mark));
+    set.back_to(mark);
+    assert_eq!(rt; set.len(), 8192);
+    for word in 0..8192u32 {
+        let value = u64::from(word) * 3;
+        let row = Row {
+            word,
+            mask: u64::MAX,
+            value,
+        };
+        assert_eq!(rt; set.get(word), Some(row));
+        let place = word as usize;
+        assert!(rt; place < set.len());
+        assert_eq!(rt; set.row(place), row);
+    }
+    assert_eq!(rt; set.get(8192), None);
+    Ok(())
+}
+
+/// Run with each allocation refused in turn, a refusal leaves the set as it was, and the next call is served. A mark,
+/// a put to a row that was reserved, and going back take no memory.
 #[test]
 fn no_memory(rt: HostRuntime) -> Result<(), Fail> {
     let mut set = WriteSet::new(rt.alloc());
@@ -153,11 +276,14 @@ fn no_memory(rt: HostRuntime) -> Result<(), Fail> {
     }
     set.put(1, 0xff, 5);
     let row = set.get(1);
-    let mark = match set.mark() {
-        Ok(mark) => mark,
-        Err(_) => set.mark()?,
-    };
+    let mark = set.mark();
     assert_eq!(rt; set.get(1), row);
+    if set.reserve(1).is_err() {
+        assert_eq!(rt; set.get(1), row);
+        set.reserve(1)?;
+    }
+    set.put(1, 0xff, 6);
+    assert!(rt; set.is_open(&mark));
     set.back_to(mark);
     assert_eq!(rt; set.get(1), row);
     Ok(())

@@ -23,10 +23,10 @@ returns-in_default-clause-proceeds t c log =
     let may = c.requires.may in
     let none = sym c.piece.ensures.value ∙ c.in_default.is in
     let bytes = λ (m : List ℕ) (mem : IsMemory s.words m) (agrees : Agrees m (drop s.entry s.log.rows)).
-    (let size : length (overlay m s.writes) ≡ s.words = length-overlay m s.writes ∙ mem.0 in
-    may.reading.has m mem agrees ∙ (ap (gathered (overlay m s.writes)) (none_take (parts r) r.number none) ∙ gathered-pieces_of (overlay m s.writes) r.at (size_of r.width) (omega (arith, size, may.reading.within)))) in
+    (let size : length (overlay m s.writes.rows) ≡ s.words = length-overlay m s.writes.rows ∙ mem.0 in
+    may.reading.has m mem agrees ∙ (ap (gathered (overlay m s.writes.rows)) (none_take (parts r) r.number none) ∙ gathered-pieces_of (overlay m s.writes.rows) r.at (size_of r.width) (omega (arith, size, may.reading.within)))) in
     let all = λ (m : List ℕ) (mem : IsMemory s.words m) (agrees : Agrees m (drop s.entry s.log.rows)).
-    reads s.writes (blocks_of s.block) s.arena m s.words r.hint r.width r.at may.is_open.is_open mem c.replace-bytes.result.items may.reading.within (ap (λ v. v.items) c.replace-bytes.ensures.value ∙ bytes m mem agrees) in
+    reads s.writes.rows (blocks_of s.block) s.arena m s.words r.hint r.width r.at may.is_open.is_open mem c.replace-bytes.result.items may.reading.within (ap (λ v. v.items) c.replace-bytes.ensures.value ∙ bytes m mem agrees) in
     record {
       meets = λ m mem agrees. (all m mem (Agrees-drop m s.entry s.log.rows agrees)).0;
       reply_is = λ m mem agrees. (all m mem agrees).1;
@@ -41,7 +41,7 @@ returns-in_default-clause-proceeds t c log =
     }
 
 pub returns-in_default-clause-order : goal.returns-in_default-clause-order
-returns-in_default-clause-order t c = sym (load_ends c.args.state.now.writes c.args.reading (sym c.piece.ensures.value ∙ c.in_default.is))
+returns-in_default-clause-order t c = sym (load_ends c.args.state.now.writes.rows c.args.reading (sym c.piece.ensures.value ∙ c.in_default.is))
 
 pub gather-requires-clause-room : goal.gather-requires-clause-room
 gather-requires-clause-room t c =
@@ -63,7 +63,7 @@ next_piece-requires t c =
       rw c.next.ensures (omega (arith, left, c.decreases)),
       rw c.next.ensures (record {
         bounds = may.bounds;
-        is_open = record { is_open = may.is_open.is_open; log = may.is_open.log; writes = may.is_open.writes; rows = may.is_open.rows; tries = may.is_open.tries };
+        is_open = record { is_open = may.is_open.is_open; log = may.is_open.log; writes = may.is_open.writes; rows = may.is_open.rows; unmarked = may.is_open.unmarked; tries = may.is_open.tries };
         reading = record {
           within = may.reading.within;
           far = omega (arith, left);
@@ -73,7 +73,7 @@ next_piece-requires t c =
           has = λ m mem agrees.
               (let word = c.in-Some.ensures.in_memory s.words may.reading.within in
               let same = covered m mem.1 (omega (arith, word, mem.0)) in
-              gone ∙ ((λ i. may.reading.has m mem agrees i ++ sym same i) ∙ sym (more (overlay m s.writes))));
+              gone ∙ ((λ i. may.reading.has m mem agrees i ++ sym same i) ∙ sym (more (overlay m s.writes.rows))));
           sized =
               (let parts_are = more [] in
               let in_word = c.in-Some.ensures.piece.in_word in
@@ -95,8 +95,8 @@ next_piece-requires t c =
 
 pub returns-in-Some-covered-clause-order : goal.returns-in-Some-covered-clause-order
 returns-in-Some-covered-clause-order t c =
-    c.next_piece.ensures.order ∙ (ap (load_stage c.args.state.now.writes) c.next.ensures
-    ∙ sym (load_next c.args.state.now.writes c.args.reading c.in-Some.piece (sym c.piece.ensures.value ∙ c.in-Some.is) (sym c.in-Some-covered.ensures.covered)))
+    c.next_piece.ensures.order ∙ (ap (load_stage c.args.state.now.writes.rows) c.next.ensures
+    ∙ sym (load_next c.args.state.now.writes.rows c.args.reading c.in-Some.piece (sym c.piece.ensures.value ∙ c.in-Some.is) (sym c.in-Some-covered.ensures.covered)))
 
 pub returns-in-None-clause-sound : goal.returns-in-None-clause-sound
 returns-in-None-clause-sound t c =
@@ -107,11 +107,11 @@ returns-in-None-clause-sound t c =
         bounds = may.bounds;
         reached = omega (arith, may.settled);
         in_phase = (
-          record { is_open = may.is_open.is_open; log = may.is_open.log; writes = may.is_open.writes; rows = may.is_open.rows; tries = may.is_open.tries },
+          record { is_open = may.is_open.is_open; log = may.is_open.log; writes = may.is_open.writes; rows = may.is_open.rows; unmarked = may.is_open.unmarked; tries = may.is_open.tries },
           record {
             reading = record { within = may.reading.within; far = may.reading.far; room = may.reading.room; since = may.reading.since; grown = may.reading.grown; has = may.reading.has; sized = may.reading.sized };
             some = some_left c.args.reading c.in-Some.piece (sym c.piece.ensures.value ∙ c.in-Some.is);
-            uncovered = ap (is_covered c.args.state.now.writes) (sym (part_is c.args.reading c.in-Some.piece (sym c.piece.ensures.value ∙ c.in-Some.is))) ∙ sym c.in-None.ensures.covered;
+            uncovered = ap (is_covered c.args.state.now.writes.rows) (sym (part_is c.args.reading c.in-Some.piece (sym c.piece.ensures.value ∙ c.in-Some.is))) ∙ sym c.in-None.ensures.covered;
           },
           may.settled,
           omega (arith, may.spent),
@@ -131,4 +131,4 @@ returns-in-None-clause-proceeds t c log = record {
 }
 
 pub returns-in-None-clause-order : goal.returns-in-None-clause-order
-returns-in-None-clause-order t c = sym (load_here c.args.state.now.writes c.args.reading c.in-Some.piece (sym c.piece.ensures.value ∙ c.in-Some.is) (sym c.in-None.ensures.covered))
+returns-in-None-clause-order t c = sym (load_here c.args.state.now.writes.rows c.args.reading c.in-Some.piece (sym c.piece.ensures.value ∙ c.in-Some.is) (sym c.in-None.ensures.covered))

@@ -19,9 +19,9 @@ pub put_all-requires-clause-room : goal.put_all-requires-clause-room
 put_all-requires-clause-room c =
     let s = c.args.state.now in
     let ps = c.deref-2.result.now in
-    let same : c.reserve_all.new.writes ≡ reserved_all s.writes ps = c.in_ok-reserve_all.ensures.ok ∙ ap (reserved_all s.writes) (c.deref.ensures.0 ∙ sym c.deref-2.ensures.0) in
+    let same : c.reserve_all.new.writes.rows ≡ reserved_all s.writes.rows ps = c.in_ok-reserve_all.ensures.ok ∙ ap (reserved_all s.writes.rows) (c.deref.ensures.0 ∙ sym c.deref-2.ensures.0) in
     subst (λ (rows : List Row). All (λ (p : Piece). IsSome (lookup p.word rows)) ps) (sym same)
-    (All-from_recursion (λ (p : Piece). IsSome (lookup p.word (reserved_all s.writes ps))) ps (all_reserved s.writes ps))
+    (All-from_recursion (λ (p : Piece). IsSome (lookup p.word (reserved_all s.writes.rows ps))) ps (all_reserved s.writes.rows ps))
 
 pub returns-clause-sound : goal.returns-clause-sound
 returns-clause-sound c =
@@ -33,8 +33,8 @@ returns-clause-sound c =
     let sound = c.requires.sound in
     let idle = sound.in_phase.0 may.0 in
     let pieces_are : c.pieces-pieces.result.items ≡ ps = c.pieces-pieces.ensures.value ∙ ap (pieces_of c.args.at) c.size-2.ensures.value in
-    let rows : c.put_all.new.writes ≡ put_all (reserved_all s.writes ps) ps bytes =
-    c.put_all.ensures.rows ∙ (λ i. put_all ((c.in_ok-reserve_all.ensures.ok ∙ ap (reserved_all s.writes) (c.deref.ensures.0 ∙ pieces_are)) i) ((c.deref-2.ensures.0 ∙ pieces_are) i) (c.as_slice.ensures.value i)) in
+    let rows : c.put_all.new.writes.rows ≡ put_all (reserved_all s.writes.rows ps) ps bytes =
+    c.put_all.ensures.rows ∙ (λ i. put_all ((c.in_ok-reserve_all.ensures.ok ∙ ap (reserved_all s.writes.rows) (c.deref.ensures.0 ∙ pieces_are)) i) ((c.deref-2.ensures.0 ∙ pieces_are) i) (c.as_slice.ensures.value i)) in
     let fit : AllFitIn s.words ps bytes = fit_pieces s.words c.args.at (size_of w) bytes
     (subst (λ (n : ℕ). c.args.at + n ≤ 8 * s.words) c.size.ensures.value may.1)
     (omega (arith, c.size.ensures.value, c.size.ensures.most)) (subst AreBytes c.as_slice.ensures.value c.put_all.ensures.bytes) in
@@ -48,8 +48,9 @@ returns-clause-sound c =
             record {
               is_open = o;
               log = idle.0.log;
-              writes = subst (AllWritesWithin s.words) (sym rows) (AllWritesWithin-put_all s.words (reserved_all s.writes ps) ps bytes (AllWritesWithin-reserved_all s.words s.writes ps bytes idle.0.writes fit) fit);
-              rows = subst AreRows (sym rows) (AreRows-put_all s.words (reserved_all s.writes ps) ps bytes (AreRows-reserved_all s.writes ps idle.0.rows) fit);
+              writes = subst (AllWritesWithin s.words) (sym rows) (AllWritesWithin-put_all s.words (reserved_all s.writes.rows ps) ps bytes (AllWritesWithin-reserved_all s.words s.writes.rows ps bytes idle.0.writes fit) fit);
+              rows = subst AreRows (sym rows) (AreRows-put_all s.words (reserved_all s.writes.rows ps) ps bytes (AreRows-reserved_all s.writes.rows ps idle.0.rows) fit);
+              unmarked = c.put_all.ensures.unmarked;
               tries = idle.0.tries;
             },
             idle.1,
@@ -69,15 +70,15 @@ returns-clause-proceeds c =
     let ps = pieces_of c.args.at size in
     let idle = c.requires.sound.in_phase.0 may.0 in
     let pieces_are : c.pieces-pieces.result.items ≡ ps = c.pieces-pieces.ensures.value ∙ ap (pieces_of c.args.at) c.size-2.ensures.value in
-    let rows : c.put_all.new.writes ≡ put_all (reserved_all s.writes ps) ps bytes =
-    c.put_all.ensures.rows ∙ (λ i. put_all ((c.in_ok-reserve_all.ensures.ok ∙ ap (reserved_all s.writes) (c.deref.ensures.0 ∙ pieces_are)) i) ((c.deref-2.ensures.0 ∙ pieces_are) i) (c.as_slice.ensures.value i)) in
+    let rows : c.put_all.new.writes.rows ≡ put_all (reserved_all s.writes.rows ps) ps bytes =
+    c.put_all.ensures.rows ∙ (λ i. put_all ((c.in_ok-reserve_all.ensures.ok ∙ ap (reserved_all s.writes.rows) (c.deref.ensures.0 ∙ pieces_are)) i) ((c.deref-2.ensures.0 ∙ pieces_are) i) (c.as_slice.ensures.value i)) in
     let within : c.args.at + size ≤ 8 * s.words = subst (λ (n : ℕ). c.args.at + n ≤ 8 * s.words) c.size.ensures.value may.1 in
     let some : 0 < length ps = some_pieces c.args.at size (some_bytes value.width) in
     let all = λ (m : List ℕ) (mem : IsMemory s.words m).
-    writes s.writes (blocks_of s.block) s.arena m s.words c.args.hint value c.args.at may.0 mem c.put_all.new.writes within
-    (ap is_some_row rows ∙ some_put (reserved_all s.writes ps) ps bytes some)
+    writes s.writes.rows (blocks_of s.block) s.arena m s.words c.args.hint value c.args.at may.0 mem c.put_all.new.writes.rows within
+    (ap is_some_row rows ∙ some_put (reserved_all s.writes.rows ps) ps bytes some)
     (ap (λ (xs : List Row). bytes_of (overlay m xs)) rows
-    ∙ bytes_of-put_all m s.writes c.args.at size bytes mem.1 idle.0.rows (omega (arith, within, mem.0)) (omega (arith, c.size.ensures.value, c.size.ensures.most)) (subst AreBytes c.as_slice.ensures.value c.put_all.ensures.bytes) value.sized) in
+    ∙ bytes_of-put_all m s.writes.rows c.args.at size bytes mem.1 idle.0.rows (omega (arith, within, mem.0)) (omega (arith, c.size.ensures.value, c.size.ensures.most)) (subst AreBytes c.as_slice.ensures.value c.put_all.ensures.bytes) value.sized) in
     rw c.come.ensures (record {
       meets = λ m mem agrees. (all m mem).0;
       reply_is = λ m mem agrees. (all m mem).1;
