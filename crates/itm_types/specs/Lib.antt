@@ -7,3 +7,4 @@ pub mod Calls
 pub mod Memory
 pub mod Slices
 pub mod Limits
+pub mod Kept

@@ -1,0 +1,2 @@
+pub mod OpenBlocks
+pub mod Examples

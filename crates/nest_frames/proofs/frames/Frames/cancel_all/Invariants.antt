@@ -1,0 +1,13 @@
+use Rattle.std.proofs.Common.{◌≡◌, length}
+use Rattle.nest_frames.specs.Nest.{arena_back}
+use Rattle.nest_frames.proofs.frames.Frames.cancel_all.Given as goal
+
+abbrev pub invariant-loop-self : goal.invariant-loop-self
+invariant-loop-self l = record {
+  size : l.self.size ≡ l.fn.self.size;
+  arena_size : length l.arena ≡ length l.fn.arena;
+  back : arena_back l.self.blocks l.arena ≡ arena_back l.fn.self.blocks l.fn.arena;
+}
+
+abbrev pub decreases-loop-self : goal.decreases-loop-self
+decreases-loop-self l = length l.self.blocks

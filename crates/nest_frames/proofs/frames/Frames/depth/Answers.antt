@@ -1,0 +1,16 @@
+use Rattle.std.proofs.Common.{length, ap, sym, ◌∙◌, arith}
+use Rattle.nest_frames.specs.Nest.{Nest}
+use Rattle.nest_frames.proofs.OpenBlocks.{length-frames_of, no_frames}
+use Rattle.nest_frames.proofs.frames.Frames.depth.Goals as goal
+
+pub returns-clause-depth : goal.returns-clause-depth
+returns-clause-depth c =
+    let f = c.self.inside in
+    let blocks = ap (λ (v : Nest). length v.blocks) c.self.view_is in
+    omega (arith, c.len.ensures, f.moments.ok.0, length-frames_of f.writes f.undo.olds f.moments.items, blocks)
+
+pub returns-clause-none : goal.returns-clause-none
+returns-clause-none c e =
+    let f = c.self.inside in
+    let writes = ap (λ (v : Nest). v.writes) c.self.view_is in
+    sym writes ∙ no_frames f.writes f.undo.olds f.moments.items c.self.invariant (ap (λ (v : Nest). v.blocks) c.self.view_is ∙ e)

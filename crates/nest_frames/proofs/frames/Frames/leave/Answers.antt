@@ -1,0 +1,46 @@
+use Rattle.std.proofs.Common.{◌≡◌, ◌<◌, List, length, ap, sym, subst, ◌∙◌, arith, rules}
+use Rattle.std.specs.Prelude.{vec_len}
+use Rattle.undo_log.specs.Rollback.{Undo, kept_of}
+use Rattle.write_set.specs.Marks.{Written}
+use Rattle.nest_frames.specs.Nest.{Frame, Nest, closed, log_of}
+use Rattle.nest_frames.specs.Moments.{frames_of, IsSound}
+use Rattle.nest_frames.proofs.OpenBlocks.{moment_popped, length-frames_of, frames_closed, IsSound-closed, kept_of-closed}
+use Rattle.nest_frames.proofs.frames.Frames.leave.Goals as goal
+
+-- the blocks as the call leaves them
+blocks_are : (c : goal.After-forget_mark-else-is_empty) → frames_of c.forget_mark.new.self c.forget_mark-else-is_empty.new.self.olds c.pop.new.self.items ≡ closed c.args.self.now.blocks
+blocks_are c =
+    let f = c.self.inside in
+    let rest = c.pop.new.self.items in
+    let h = moment_popped f.writes f.undo.olds f.moments.items rest _ c.in-Some.closed c.self.invariant c.pop.ensures.items c.in-Some.is in
+    ap (λ (u : Undo). frames_of c.forget_mark.new.self u.olds rest) c.forget_mark-else-is_empty.ensures.log
+    ∙ (frames_closed f.writes c.forget_mark.new.self f.undo.olds f.moments.items rest c.in-Some.closed h c.forget_mark.ensures.marks
+    ∙ ap (λ (v : Nest). closed v.blocks) c.self.view_is)
+
+-- the block that closes is not the outermost one
+not_alone : (c : goal.After-forget_mark-else-is_empty) → 0 < length c.pop.new.self.items
+not_alone c =
+    let some : 0 < vec_len c.pop.new.self = search (rules, c.is_empty.ensures, c.if-is_empty.false) in
+    omega (arith, some, c.pop.new.self.ok.0)
+
+pub invariant_of-self-else-is_empty : goal.invariant_of-self-else-is_empty
+invariant_of-self-else-is_empty c =
+    let f = c.self.inside in
+    let rest = c.pop.new.self.items in
+    let h = moment_popped f.writes f.undo.olds f.moments.items rest _ c.in-Some.closed c.self.invariant c.pop.ensures.items c.in-Some.is in
+    let inner = ap (λ (w : Written). w.inner) c.forget_mark.ensures.new in
+    subst (λ (u : Undo). IsSound c.forget_mark.new.self u.olds rest) (sym c.forget_mark-else-is_empty.ensures.log)
+    (IsSound-closed f.writes c.forget_mark.new.self f.undo.olds f.moments.items rest c.in-Some.closed h inner (not_alone c))
+
+pub returns-else-is_empty-clause-blocks : goal.returns-else-is_empty-clause-blocks
+returns-else-is_empty-clause-blocks c = blocks_are c
+
+pub returns-else-is_empty-clause-outermost : goal.returns-else-is_empty-clause-outermost
+returns-else-is_empty-clause-outermost c e =
+    let f = c.self.inside in
+    let h = moment_popped f.writes f.undo.olds f.moments.items c.pop.new.self.items _ c.in-Some.closed c.self.invariant c.pop.ensures.items c.in-Some.is in
+    let blocks = ap (λ (v : Nest). length v.blocks) c.self.view_is in
+    absurd (omega (arith, e, h.count, not_alone c, blocks, length-frames_of f.writes f.undo.olds f.moments.items))
+
+pub returns-else-is_empty-clause-handed : goal.returns-else-is_empty-clause-handed
+returns-else-is_empty-clause-handed c h arena = ap (λ (bs : List Frame). kept_of arena (log_of bs)) (blocks_are c) ∙ kept_of-closed arena c.args.self.now.blocks h

@@ -1,0 +1,47 @@
+-- The open blocks of a transaction, as contracts see them.
+use Rattle.std.specs.Prelude.{ℕ, List, [], ◌∷◌, ◌++◌}
+use Rattle.itm_types.specs.declared.call.Props.{Props}
+use Rattle.undo_log.specs.Rollback.{Old, put_back}
+use Rattle.write_set.specs.declared.row.Row.{Row}
+use Rattle.write_set.specs.Marks.{Written}
+
+-- an open block
+pub record Frame : Type 0 where
+  pub props : Props
+  pub rows : List Row  -- the write set's rows as at its begin
+  pub log : List Old  -- what was logged in it and in the blocks that closed within it, the oldest first
+
+pub record Nest : Type 0 where
+  pub writes : Written
+  pub size : ℕ  -- how many bytes the arena has
+  pub blocks : List Frame  -- the innermost first
+
+-- a block that begins on these rows
+abbrev pub begun : Props → List Row → Frame
+begun props rows = record { props = props; rows = rows; log = [] }
+
+-- what was logged in the innermost block
+abbrev pub log_of : List Frame → List Old
+log_of [] = []
+log_of (b ∷ bs) = b.log
+
+-- the rows as at the begin of the innermost block
+abbrev pub rows_of : List Frame → List Row
+rows_of [] = []
+rows_of (b ∷ bs) = b.rows
+
+-- the blocks once these were logged in the innermost one
+abbrev pub logged : List Frame → List Old → List Frame
+logged [] olds = []
+logged (b ∷ bs) olds = record b { log = b.log ++ olds } ∷ bs
+
+-- the blocks once the innermost one has closed: the one around it has what was logged in it
+abbrev pub closed : List Frame → List Frame
+closed [] = []
+closed (b ∷ []) = []
+closed (b ∷ p ∷ bs) = record p { log = p.log ++ b.log } ∷ bs
+
+-- the arena once every block is rolled back, the innermost first
+abbrev pub arena_back : List Frame → List ℕ → List ℕ
+arena_back [] arena = arena
+arena_back (b ∷ bs) arena = arena_back bs (put_back b.log arena)

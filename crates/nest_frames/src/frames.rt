@@ -1,0 +1,245 @@
+//! The open blocks.
+
+ghost use Rattle.std.specs.Prelude.{◌≡◌, ◌+◌, ◌<◌, ◌≤◌, ℕ, List, [], ◌∷◌, IsOk, IsSome, OnOk, OnErr, Some, length, map, take, drop, option_map, slice_get};
+ghost use Rattle.itm_types.specs.Kept.{also_kept, merged, restored};
+ghost use Rattle.itm_types.specs.Memory.{AllFit};
+ghost use Rattle.word_pieces.specs.Masks.{merged_at};
+ghost use Rattle.write_set.specs.Rows.{lookup, put, reserved, overlay, AreEmpty};
+ghost use Rattle.write_set.specs.Marks.{unwritten, place_of, reserve, IsNew, KeepsRoom, MayPut};
+ghost use Rattle.undo_log.specs.Rollback.{found, put_back, kept_of};
+ghost use Rattle.nest_frames.specs.Nest.{Frame, begun, log_of, rows_of, logged, closed, arena_back};
+
+use itm_types::Props;
+use std::alloc::{AllocError, Global};
+use std::marker::Model;
+use undo_log::{Arena, UndoLog};
+use write_set::WriteSet;
+
+/// Where an open block began.
+#[derive(Debug, Drop)]
+pub(crate) struct Moment {
+    pub(crate) props: Props,
+    pub(crate) rows: write_set::Mark,
+    pub(crate) log: undo_log::Mark,
+}
+
+/// What a transaction has written and logged, and its open blocks.
+#[derive(Debug, Drop)]
+pub struct Frames {
+    writes: WriteSet,
+    undo: UndoLog,
+    /// Of each open block where it began, the innermost last.
+    moments: Vec<Moment>,
+}
+
+impl Model for Frames {
+    ghost use Rattle.nest_frames.specs.Nest.{Nest};
+
+    ghost Value = { Nest };
+
+    ghost use Rattle.nest_frames.specs.Moments.{frames_of, IsSound};
+
+    ghost view = { λ f. record { writes = f.writes; size = f.undo.size; blocks = frames_of f.writes f.undo.olds f.moments.items } };
+
+    ghost invariant = { λ f. IsSound f.writes f.undo.olds f.moments.items };
+}
+
+impl Frames {
+    /// No block is open, over an arena of this size. Takes no memory.
+    pub fn new(alloc: Global, size: usize) -> Frames
+        ensures { result ≡ record { writes = unwritten; size = size; blocks = [] } }
+    {
+        Frames {
+            writes: WriteSet::new(alloc),
+            undo: UndoLog::new(alloc, size),
+            moments: Vec::new(alloc),
+        }
+    }
+
+    /// How many blocks are open.
+    pub fn depth(&self) -> usize
+        ensures depth { result ≡ length self.now.blocks }
+
+        // Where none is, nothing is written.
+        ensures none { self.now.blocks ≡ [] → self.now.writes ≡ unwritten }
+    {
+        self.moments.len()
+    }
+
+    /// How many bytes the arena has.
+    pub fn size(&self) -> usize
+        ensures { result ≡ self.now.size }
+    {
+        self.undo.size()
+    }
+
+    /// What is written.
+    pub fn writes(&self) -> &WriteSet
+        ensures { result.now ≡ self.now.writes }
+    {
+        &self.writes
+    }
+
+    /// The properties of the innermost block, if one is open.
+    pub fn innermost(&self) -> Option<Props>
+        ensures { result ≡ option_map (λ b. b.props) (slice_get self.now.blocks 0) }
+    {
+        let moment = self.moments.last()?;
+        Some(moment.props)
+    }
+
+    /// The properties of an open block, counted outwards: the innermost one is at 0.
+    pub fn props(&self, place: usize) -> Props
+        requires { place < length self.now.blocks }
+        ensures { slice_get (map (λ b. b.props) self.now.blocks) place ≡ Some result }
+    {
+        self.moments[self.moments.len() - 1 - place].props
+    }
+
+    /// A block begins within those that are open.
+    pub fn enter(&mut self, props: Props) -> Result<(), AllocError>
+        ensures blocks { OnOk result (self.new.blocks ≡ begun props self.old.writes.rows ∷ self.old.blocks) }
+        ensures writes { OnOk result (self.new.writes ≡ record self.old.writes { inner = place_of self.old.writes }) }
+        ensures size { self.new.size ≡ self.old.size }
+        ensures err { OnErr result (self.new ≡ self.old) }
+    {
+        self.moments.reserve(1)?;
+        let rows = self.writes.mark();
+        let log = self.undo.mark();
+        self.moments.push_reserved(Moment { props, rows, log });
+        Ok(())
+    }
+
+    /// The innermost block closes: what was logged in it goes to the one around it, and what was written stays. With
+    /// the outermost one all of it is forgotten. Takes no memory.
+    pub fn leave(&mut self)
+        requires { 0 < length self.old.blocks }
+        ensures blocks { self.new.blocks ≡ closed self.old.blocks }
+        ensures size { self.new.size ≡ self.old.size }
+        ensures rows { 1 < length self.old.blocks → self.new.writes.rows ≡ self.old.writes.rows }
+        ensures outermost { length self.old.blocks ≡ 1 → self.new.writes ≡ unwritten }
+
+        // What the one around it keeps of the arena wins.
+        ensures handed { 1 < length self.old.blocks → (arena : List ℕ) →
+            kept_of arena (log_of self.new.blocks)
+            ≡ merged (kept_of arena (log_of (drop 1 self.old.blocks))) (kept_of arena (log_of self.old.blocks)) }
+    {
+        let Some(closed) = self.moments.pop() else {
+            unreachable!()
+        };
+        if self.moments.is_empty() {
+            self.writes.clear();
+            self.undo.clear();
+        } else {
+            self.writes.forget_mark(closed.rows);
+            self.undo.forget_mark(closed.log);
+        }
+    }
+
+    /// The innermost block is rolled back and gone. Takes no memory.
+    pub fn cancel(&mut self, arena: &mut Arena)
+        requires open { 0 < length self.old.blocks }
+        requires arena { length arena.old ≡ self.old.size }
+        ensures blocks { self.new.blocks ≡ drop 1 self.old.blocks }
+        ensures size { self.new.size ≡ self.old.size }
+        ensures rows { self.new.writes.rows ≡ rows_of self.old.blocks }
+        ensures arena_size { length arena.new ≡ length arena.old }
+        ensures arena { arena.new ≡ put_back (log_of self.old.blocks) arena.old }
+        ensures restored { arena.new ≡ restored (kept_of arena.old (log_of self.old.blocks)) arena.old }
+    {
+        let Some(cancelled) = self.moments.pop() else {
+            unreachable!()
+        };
+        self.writes.back_to(cancelled.rows);
+        self.undo.back_to(arena, cancelled.log);
+    }
+
+    /// Every open block is rolled back, the innermost first. Takes no memory.
+    pub fn cancel_all(&mut self, arena: &mut Arena)
+        requires { length arena.old ≡ self.old.size }
+        ensures none { self.new ≡ record { writes = unwritten; size = self.old.size; blocks = [] } }
+        ensures arena_size { length arena.new ≡ length arena.old }
+        ensures arena { arena.new ≡ arena_back self.old.blocks arena.old }
+    {
+        while self.depth() > 0 {
+            self.cancel(arena);
+        }
+    }
+
+    /// Keeps so many bytes of the arena from a place on, as they are now, for the innermost block's rollback.
+    pub fn log(&mut self, arena: &Arena, place: u64, size: u64) -> Result<(), AllocError>
+        requires open { 0 < length self.old.blocks }
+        requires arena { length arena.now ≡ self.old.size }
+        requires range { place + size ≤ length arena.now }
+        ensures ok { OnOk result
+            (self.new ≡ record self.old { blocks = logged self.old.blocks (found arena.now place size) }) }
+        ensures err { OnErr result (self.new ≡ self.old) }
+        ensures none { size ≡ 0 → IsOk result }
+
+        // What was logged first is kept.
+        ensures kept { OnOk result (kept_of arena.now (log_of self.new.blocks)
+            ≡ also_kept (kept_of arena.now (log_of self.old.blocks)) arena.now place size) }
+    {
+        self.undo.log(arena, place, size)?;
+        Ok(())
+    }
+
+    /// Makes ready for a put of the word.
+    pub fn reserve(&mut self, word: u32) -> Result<(), AllocError>
+        requires { 0 < length self.old.blocks }
+        ensures ok { OnOk result (self.new ≡ record self.old { writes = reserve self.old.writes word }) }
+        ensures err { OnErr result (self.new ≡ self.old) }
+        ensures rows { OnOk result (self.new.writes.rows ≡ reserved self.old.writes.rows word) }
+        ensures room { OnOk result (IsSome (lookup word self.new.writes.rows)) }
+        ensures may_put { OnOk result (MayPut self.new.writes word) }
+        ensures others { KeepsRoom self.old.writes self.new.writes }
+
+        // A row that no block around the innermost one has takes no memory.
+        ensures has_row { IsSome (lookup word self.old.writes.rows) → IsNew self.old.writes word → IsOk result }
+
+        // Nothing is written, and a cut at an earlier length takes the row back.
+        ensures memory { (m : List ℕ) → AllFit m →
+            overlay m self.new.writes.rows ≡ overlay m self.old.writes.rows }
+        ensures can_cut { (n : ℕ) → n ≤ length self.old.writes.rows → AreEmpty (drop n self.old.writes.rows) →
+            AreEmpty (drop n self.new.writes.rows) × (take n self.new.writes.rows ≡ take n self.old.writes.rows) }
+    {
+        self.writes.reserve(word)?;
+        Ok(())
+    }
+
+    /// Writes the masked bytes of a value to a word that was made ready. Takes no memory.
+    pub fn put(&mut self, word: u32, mask: u64, value: u64)
+        requires room { IsSome (lookup word self.old.writes.rows) }
+        requires may_put { MayPut self.old.writes word }
+        ensures new { self.new ≡ record self.old {
+          writes =
+              record self.old.writes { rows = put self.old.writes.rows word mask value };
+        } }
+        ensures words { map (λ r. r.word) self.new.writes.rows ≡ map (λ r. r.word) self.old.writes.rows }
+        ensures others { KeepsRoom self.old.writes self.new.writes }
+
+        // The memory gets these bytes, and no other changes.
+        ensures memory { (m : List ℕ) → AllFit m → word < length m →
+            overlay m self.new.writes.rows ≡ merged_at (overlay m self.old.writes.rows) word mask value }
+    {
+        self.writes.put(word, mask, value);
+    }
+
+    /// Takes the rows from a place on, which are of empty mask and newer than the innermost block, off the end. Takes
+    /// no memory.
+    pub fn cut(&mut self, len: usize)
+        requires empty { AreEmpty (drop len self.old.writes.rows) }
+        requires inner { self.old.writes.inner.rows ≤ len }
+        ensures new { self.new ≡ record self.old {
+          writes =
+              record self.old.writes { rows = take len self.old.writes.rows };
+        } }
+        ensures others { KeepsRoom self.old.writes self.new.writes }
+
+        // Nothing was written in them.
+        ensures memory { (m : List ℕ) → AllFit m →
+            overlay m self.new.writes.rows ≡ overlay m self.old.writes.rows }
+    {
+        self.writes.cut(len);
+    }
+}

@@ -1,0 +1,9 @@
+//! The open blocks of a transaction, one within the other: what each goes back to, and what it hands on.
+#![tactic(auto)]
+
+mod frames;
+
+pub use frames::Frames;
+
+#[cfg(test)]
+mod tests;
