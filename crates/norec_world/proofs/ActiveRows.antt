@@ -2,13 +2,12 @@
 use Rattle.std.proofs.Common.{◌≡◌, ℕ, zero, suc, ◌+◌, ◌-◌, ◌<◌, ◌≤◌, ◌==◌, Bool, true, false, not, cond, nat_lt, List, [], ◌∷◌, ◌++◌, length, take, drop, slice_set, slice_index_or, find, position, Option, None, Some, inl, inr, refl, sym, ap, subst, ◌∙◌, arith, eq-eqb, append_assoc, length-take-le, take_at, drop_at}
 use Rattle.std.specs.List.{position_or_len}
 use Rattle.std.specs.Option.{unwrap_or}
-use Rattle.std.proofs.lemmas.Bool.{ltb-true, ltb-false, eqb-true, cond_below, cond_above}
-use Rattle.std.proofs.lemmas.List.{take-set-le, drop-set-add, take_rest, length_push, drop_at}
+use Rattle.std.proofs.lemmas.Bool.{ltb-true, ltb-false, eqb-true, cond_below}
+use Rattle.std.proofs.lemmas.List.{take-set-le, drop-set-add, take_rest, length_push}
 use Rattle.std.proofs.lemmas.List.Folds.{find_at}
-use Rattle.std.proofs.lemmas.Option.{slice_get_past}
 use Rattle.std.proofs.lemmas.List.Sums.{prefix_len-le-length}
 use Rattle.std.proofs.lemmas.List.Quantifiers.{position-Some}
-use Rattle.norec_world.proofs.Common.{AreFrom, Attempt, Rows, active_of, cases_Bool, cases_lt, changed, eqb-false, get_or-drop, insert, is_of, ne_eqb, remove, with_changed, with_ended, with_opened, without, cond_both}
+use Rattle.norec_world.proofs.Common.{AreFrom, Attempt, Rows, active_of, cases_Bool, cases_lt, changed, cond_both, drop_at, eqb-false, get_or-drop, insert, is_of, ne_eqb, remove, slice_get_past, with_changed, with_ended, with_opened, without}
 use Rattle.norec_world.specs.Rows.{with_one}
 
 -- the first that passes is the one at this place

@@ -69,9 +69,9 @@ pub use Rattle.norec_world.specs.declared.fault.WorldFault.{WorldFault}
 pub use Rattle.norec_world.specs.declared.schedule.Passes.{Passes}
 pub use Rattle.script_vm.specs.Depth.{depth_after, opens}
 pub use Rattle.script_vm.specs.Rules.{Obeys, Rules}
-pub use Rattle.std.proofs.lemmas.Bool.{both_ways, cases_Bool, cases_eq, cases_lt, cond-true, cond_both, eqb-false, false_from_ne_true, le-ltb, ne_eqb}
-pub use Rattle.std.proofs.lemmas.List.{append-nil, get_or-drop, map-append}
-pub use Rattle.std.proofs.lemmas.Option.{same_Some, slice_get-get_or, slice_get_past, slice_get_within}
+pub use Rattle.std.proofs.lemmas.Bool.{both_ways, cases_Bool, cases_eq, cases_lt, cond-false, cond-true, cond_both, eqb-false, false_from_ne_true, le-ltb, ne_eqb}
+pub use Rattle.std.proofs.lemmas.List.{append-nil, drop_at, get_or-drop, map-append}
+pub use Rattle.std.proofs.lemmas.Option.{none-some, same_Some, slice_get-get_or, slice_get_past, slice_get_within}
 pub use Rattle.std.specs.Int.{from_le_bytes, to_le_bytes, w64}
 pub use Rattle.std.specs.List.{insert, remove, slice_index_or}
 pub use Rattle.std.specs.Option.{option_and_then}

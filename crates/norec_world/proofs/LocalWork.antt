@@ -1,7 +1,7 @@
 -- A step and local work, as what an event is made of.
-use Rattle.std.proofs.Common.{◌≡◌, ℕ, zero, suc, ◌/◌, None, sym, subst}
-use Rattle.norec_world.proofs.Common.{Actor, Acts, Call, Cells, Core, IsResumed, IsTold, Next, Ready, Rows, Rules, Status, StatusIs, Step, Tells, Waits, Works, found, in_transaction}
-use Rattle.norec_world.specs.LocalWork.{SameActor, TakesIn, ActsOn}
+use Rattle.std.proofs.Common.{◌≡◌, ℕ, zero, suc, None, sym, subst}
+use Rattle.norec_world.proofs.Common.{Actor, Acts, Ready, Rows, Rules, Status, StatusIs, Works}
+use Rattle.norec_world.specs.LocalWork.{ActsOn}
 
 module _ {P : Type 0} (rules : Rules P) (clock : ℕ) where
   pub works_more : (r r1 r2 : Rows) (a a1 a2 : Actor P) → Works rules clock r a r1 a1 → a1.status ≡ Ready → Acts rules clock r1 a1 r2 a2

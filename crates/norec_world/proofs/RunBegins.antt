@@ -1,12 +1,11 @@
 -- An actor's run between two tries: calls outside a transaction, and begins.
-use Rattle.std.proofs.Common.{◌≡◌, ℕ, zero, suc, ◌+◌, ◌/◌, ◌≤◌, Bool, true, false, nat_lt, if◌then◌else◌, List, [], Option, None, Some, refl, sym, true≢false, ap, subst, ◌∙◌, arith, is_some, inl, inr}
-use Rattle.norec_world.proofs.Common.{same_Some, Actor, Agrees, Agrees-drop, Answer, Attempt, Begin, Beginning, Between, Busy, Call, Cells, Core, IsBeforeTry, IsInTry, IsMemory, IsRun, MAX_DEPTH, Obeys, Opens, Outside, Props, Ready, Refused, Replied, Replies, RepliesTo, Reply, Rows, Rules, active_of, begin_of, begin_within, ending_of, in_transaction, is_begin, none_inside, recoded, reply, state_over, with_opened, words_at}
+use Rattle.std.proofs.Common.{◌≡◌, ℕ, zero, suc, ◌/◌, ◌≤◌, Bool, true, false, List, [], Option, None, Some, refl, sym, true≢false, ap, subst, ◌∙◌, arith, is_some, inl, inr}
+use Rattle.norec_world.proofs.Common.{same_Some, Actor, Agrees, Agrees-drop, Answer, Attempt, Begin, Beginning, Between, Busy, Call, Cells, Core, IsBeforeTry, IsInTry, IsMemory, IsRun, MAX_DEPTH, Obeys, Outside, Props, Ready, Refused, Replied, Replies, RepliesTo, Reply, Rows, Rules, active_of, begin_of, begin_within, in_transaction, is_begin, none_inside, recoded, reply, state_over, with_opened, words_at}
 use Rattle.norec_world.specs.Records.{again_after}
 use Rattle.norec_world.proofs.ActiveRows.{opened_here}
 use Rattle.norec_world.proofs.RunAnswers.{now_at, run_same}
 use Rattle.norec_world.proofs.Solos.{comes_past}
-use Rattle.norec_world.proofs.RecordedRows.{was_open}
-use Rattle.norec_world.proofs.TryEnds.{none_pending, none_retried, begin_call, begin_opens, next_try, begun_or_not}
+use Rattle.norec_world.proofs.TryEnds.{none_pending, none_retried, begin_call, next_try, begun_or_not}
 use Rattle.norec_world.proofs.Seen.{HasSeen, memory_at}
 use Rattle.norec_world.proofs.Taken.{HasAnswered, still_going}
 use Rattle.norec_world.proofs.InTries.{try_begins}

@@ -1,9 +1,8 @@
 -- The actors' runs: one's event leaves the others', and together they are the headline.
 use Rattle.std.proofs.Common.{◌≡◌, ◌≢◌, inl, inr, ℕ, ◌+◌, ◌/◌, ◌%◌, ◌<◌, ◌≤◌, ◌==◌, Bool, true, false, List, [], ◌∷◌, ◌++◌, length, length-set, replicate, None, Some, slice_get, slice_set, refl, sym, ap, subst, ◌∙◌, arith, eqb-true, nat_lt}
-use Rattle.norec_world.proofs.Common.{Actor, Agrees, AllFit, AllOf, AreActors, AreFrom, AreLaid, AreOfActors, AreOpaque, AreOpen, AreRunning, Attempt, Between, Cells, ChangesOwn, ClocksOn, Core, Got, HasRead, HasRow, IsMemory, IsRunOf, IsTied, IsTryAt, IsWorld, KeepsOthers, MAX_DEPTH, NoMemory, Obeys, Ready, Rows, Rules, RunsFrom, World, active_of, append-nil, attempts_of, backed, begins_at, bytes_at, bytes_of, cases_Bool, count_at, count_committed, ending_of, false_from_ne_true, first_of, in_transaction, le-ltb, ne_eqb, of_thread, one_where, opening, run_after, words_at, words_of, write_at, slice_get_within}
+use Rattle.norec_world.proofs.Common.{Actor, Agrees, AllFit, AllOf, AreActors, AreFrom, AreLaid, AreOfActors, AreOpaque, AreOpen, AreRunning, Attempt, Between, Cells, ChangesOwn, ClocksOn, Core, Got, HasRead, HasRow, IsMemory, IsRunOf, IsTied, IsTryAt, IsWorld, KeepsOthers, MAX_DEPTH, NoMemory, Obeys, Ready, Rows, Rules, RunsFrom, World, active_of, append-nil, attempts_of, backed, begins_at, bytes_at, bytes_of, cases_Bool, count_at, count_committed, ending_of, first_of, in_transaction, le-ltb, ne_eqb, of_thread, one_where, opening, run_after, words_at, words_of, write_at, slice_get_within}
 use Rattle.norec_world.specs.declared.attempt.Outcome.TheVariants as outcomes
 use Rattle.norec_world.proofs.WordLists.{words_of-bytes_of}
-use Rattle.norec_world.proofs.TiedEngines.{held_even}
 use Rattle.norec_world.specs.Runs.{StillRuns}
 use Rattle.norec_world.proofs.SoundOthers.{first_found, set_place, there_is, are_open, held_apart, odd_held}
 use Rattle.norec_world.proofs.Solos.{stands_open}

@@ -1,8 +1,7 @@
 -- A player that runs alone, block by block.
 -- Its calls alone come first in what it gets.
 use Rattle.std.proofs.Common.{◌≡◌, ℕ, zero, suc, ◌+◌, ◌<◌, ◌≤◌, Bool, true, false, ◌&&◌, nat_le, is_none, List, [], ◌∷◌, ◌++◌, map, Option, None, Some, refl, sym, ap, subst, ◌∙◌, arith, cond}
-use Rattle.std.proofs.lemmas.Bool.{cond-false}
-use Rattle.norec_world.proofs.Common.{same_Some, Begin, Beginning, Call, Core, Entry, Finished, GaveUp, IsAlone, Obeys, Progress, Props, Rules, Solo, State, Unfinished, after, answers, answers_within, begin_code, begin_of, begin_within, cond-true, ended_as, in_transaction, is_begin, is_open, one_if, opened, pair_of, player_then, refusal, reply, row_of, solo_within, stands_for, state_then, stopped, turn, with_first}
+use Rattle.norec_world.proofs.Common.{Begin, Beginning, Call, Core, Entry, Finished, GaveUp, IsAlone, Obeys, Progress, Props, Rules, Solo, State, Unfinished, after, answers, answers_within, begin_code, begin_of, begin_within, cond-false, cond-true, ended_as, in_transaction, is_begin, is_open, one_if, opened, pair_of, player_then, refusal, reply, row_of, same_Some, solo_within, stands_for, state_then, stopped, turn, with_first}
 use Rattle.itm_types.specs.declared.call.Reply.{Reply}
 use Rattle.itm_model.specs.Machine.{outside}
 use Rattle.itm_model.specs.Runs.{state_after}

@@ -1,13 +1,12 @@
 -- What a call of an actor, up to its first step, and a step of it do to its try.
 use Rattle.std.proofs.Common.{◌≡◌, ℕ, ◌/◌, Bool, true, false, [], Option, None, Some, refl, sym, ap, subst, ◌∙◌, arith}
-use Rattle.norec_world.proofs.Common.{Actor, Answer, Answers, Asks, Attempt, Begin, Busy, Call, Cells, Core, Ended, HasRow, IsAtOnce, IsDone, IsSound, IsTold, Next, Opens, Prior, Ready, Reply, Rows, Rules, Starves, Status, Step, Tells, Tries, Waits, active_of, asked_pending, begins, ending_of, false_from_ne_true, in_transaction, prior_of}
+use Rattle.norec_world.proofs.Common.{Actor, Answer, Answers, Asks, Attempt, Begin, Busy, Call, Cells, Core, Ended, HasRow, IsAtOnce, IsDone, IsSound, IsTold, Next, Opens, Prior, Ready, Reply, Rows, Rules, Starves, Status, Step, Tells, Tries, Waits, active_of, asked_pending, begins, ending_of, false_from_ne_true, in_transaction, none-some, prior_of}
 use Rattle.norec_world.specs.declared.attempt.Outcome.TheVariants as outcomes
 use Rattle.norec_world.specs.declared.attempt.End.TheVariants as ends
 use Rattle.norec_world.proofs.TiedEngines.{limit_same, snapshot_still}
 use Rattle.norec_world.proofs.SoundSteps.{IsCalling, active_same, call_taken, ended_same, mid, rests, IsStepping, limit_is, mid_step, step_taken}
 use Rattle.norec_world.proofs.Taken.{HasAnswered, HasTaken, recorded, now}
 use Rattle.norec_world.proofs.TryEnds.{is_between, open_tries, stays_between, stays_open, stops_try, begin_tries, not_finished, told_tries, stays}
-use Rattle.std.proofs.lemmas.Option.{none-some}
 
 module _ {P : Type 0} (rules : Rules P)
     (cells : Cells) (r0 : Rows) (old : Actor P) (sound : IsSound rules cells r0 old) (ready : old.status ≡ Ready) where

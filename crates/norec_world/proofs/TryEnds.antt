@@ -1,7 +1,7 @@
 -- What an answer does to the try that its call belongs to.
 use Rattle.std.proofs.Common.{true≢false, inl, inr, ◌≡◌, ℕ, ◌+◌, ◌*◌, ◌/◌, ◌%◌, ◌≤◌, Bool, true, false, nat_lt, if◌then◌else◌, is_some, List, [], ◌∷◌, ◌++◌, Option, None, Some, refl, sym, ap, subst, ◌∙◌, arith, append-nil, ◌⊎◌}
-use Rattle.std.proofs.lemmas.Bool.{true_from_ne_false, cond-false}
-use Rattle.norec_world.proofs.Common.{Actor, Agrees, Answer, Attempt, Begin, Busy, Call, Cells, Committed, Conflict, Core, CountsTry, End, Ended, EndsAt, Full, GoesOnAfter, HasRow, IsBetween, IsMemory, IsReady, IsSettledBy, IsTied, IsTold, MAX_DEPTH, Opens, Outcome, Prior, Props, Ready, Records, Replied, Replies, RepliesTo, Reply, RestsAs, Rows, Rules, State, Status, Tries, TriesAgain, active_of, after, begins, between, current_of, ending_of, false_from_ne_true, in_transaction, is_begin, is_done, none_inside, over, prior_of, runs, state_over, turned_away, with_opened, cases_Bool, cond-true}
+use Rattle.std.proofs.lemmas.Bool.{true_from_ne_false}
+use Rattle.norec_world.proofs.Common.{Actor, Agrees, Answer, Attempt, Begin, Busy, Call, Cells, Committed, Conflict, Core, CountsTry, End, Ended, EndsAt, Full, GoesOnAfter, HasRow, IsBetween, IsMemory, IsReady, IsSettledBy, IsTied, IsTold, MAX_DEPTH, Opens, Outcome, Prior, Props, Ready, Records, Replied, Replies, RepliesTo, Reply, RestsAs, Rows, Rules, State, Status, Tries, TriesAgain, active_of, after, begins, between, cases_Bool, cond-false, cond-true, current_of, ending_of, false_from_ne_true, in_transaction, is_begin, is_done, none_inside, over, prior_of, runs, state_over, turned_away, with_opened}
 use Rattle.itm_types.specs.declared.call.Reply.TheVariants as replies
 use Rattle.norec_engine.specs.Proceeds.{IsBegin}
 use Rattle.norec_world.specs.declared.attempt.Outcome.TheVariants as outcomes

@@ -1,8 +1,8 @@
 -- Bytes as words, there and back.
 use Rattle.std.proofs.Common.{◌≡◌, ℕ, zero, suc, ◌+◌, ◌*◌, ◌/◌, ◌%◌, ◌^◌, ◌<◌, List, [], ◌∷◌, ◌++◌, length, take, drop, get_or, slice_set, slice_index, refl, sym, ap, subst, ◌∙◌, arith}
-use Rattle.std.proofs.lemmas.List.{take_at, drop_at, take-append-drop, drop-drop, length-drop, length-take-le}
+use Rattle.std.proofs.lemmas.List.{take_at, take-append-drop, drop-drop, length-drop, length-take-le}
 use Rattle.std.proofs.lemmas.Nat.{le_bytes_8, from_le_bytes-to_le_bytes_8}
-use Rattle.norec_world.proofs.Common.{AllFit, AreWords, bytes_of, from_le_bytes, get_or-drop, to_le_bytes, w64, words_of}
+use Rattle.norec_world.proofs.Common.{AllFit, AreWords, bytes_of, drop_at, from_le_bytes, get_or-drop, to_le_bytes, w64, words_of}
 use Rattle.itm_types.proofs.Words.{length-bytes_of}
 use Rattle.norec_world.specs.Cells.{words_from}
 

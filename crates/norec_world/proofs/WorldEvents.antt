@@ -2,12 +2,12 @@
 use Rattle.std.proofs.Common.{inl, inr, ◌≡◌, ◌↔◌, ◌≤◌, zero, suc, ℕ, ◌+◌, ◌<◌, Bool, true, false, cond, length, take, get_or, arith, List, [], ◌∷◌, ◌++◌, count_by, IsTrue, Option, None, Some, Result, Ok, Err, IsSome, refl, sym, ap, subst, ◌∙◌, slice_get, min, if◌then◌else◌}
 use Rattle.std.proofs.lemmas.List.{take_more}
 use Rattle.std.proofs.lemmas.List.Sums.{sum_by-append}
-use Rattle.norec_world.proofs.Common.{Actor, ActorGoes, AreActors, AreOpaque, CommitsInOrder, End, Finished, Goes, HasLess, IsLawful, IsNoMore, Leads, Passes, Ready, Rules, SameOpening, ShowsAlone, Status, Step, Takes, Waits, World, WorldFault, cells_after, counted, ending_at, ending_of, in_transaction, is_ready, is_waiting, option_and_then, passes_of, run_left, steps_left, told, waiting_step, waits_at, whole, slice_get_within, cases_lt}
+use Rattle.norec_world.proofs.Common.{Actor, ActorGoes, AreActors, AreOpaque, CommitsInOrder, End, Finished, Goes, HasLess, IsLawful, IsNoMore, Leads, Passes, Rules, SameOpening, ShowsAlone, Status, Step, Takes, Waits, World, WorldFault, cells_after, counted, ending_at, ending_of, in_transaction, is_ready, is_waiting, option_and_then, passes_of, run_left, steps_left, told, waiting_step, waits_at, whole, slice_get_within, cases_lt}
 use Rattle.norec_world.specs.declared.fault.WorldFault.TheVariants as faults
 use Rattle.norec_world.specs.World.{is_event}
 use Rattle.std.specs.Option.{option_map, option_map_or}
 use Rattle.norec_world.proofs.SoundOthers.{there_is}
-use Rattle.norec_world.proofs.Worlds.{some_ended, within_some, waiting_some, some_waiting, waits_there, waiting_going}
+use Rattle.norec_world.proofs.Worlds.{some_ended, within_some, some_waiting, waits_there, waiting_going}
 use Rattle.norec_world.specs.WorldEvents.{is_taken, is_passed, is_starved}
 use Rattle.norec_world.proofs.LessLeft.{HasLessSoFar, less_so_far, same_less, less_less}
 

@@ -1,6 +1,6 @@
 use Rattle.norec_world.proofs.OthersAttempts.{others_ended, retried_counts, retried_is}
 use Rattle.std.proofs.Common.{◌≡◌, ◌/◌, ap, ◌∙◌, refl, sym, subst, Bool, true, None}
-use Rattle.norec_world.proofs.Common.{Actor, AnswerFits, Busy, Conflict, Core, Full, GaveUp, HasRow, IsSettledBy, Records, depth_if, in_transaction, whole, with_ended}
+use Rattle.norec_world.proofs.Common.{Actor, AnswerFits, Busy, Conflict, Full, GaveUp, HasRow, IsSettledBy, Records, depth_if, in_transaction, whole, with_ended}
 use Rattle.norec_world.specs.declared.attempt.Outcome.TheVariants as outcomes
 use Rattle.norec_world.proofs.PlayerLaws.{after_try, after_end}
 use Rattle.norec_world.proofs.actor.Actor.settle.Goals as goal

@@ -1,5 +1,5 @@
 use Rattle.std.proofs.Common.{◌≡◌, Some, ap, sym, ◌∙◌}
-use Rattle.norec_world.proofs.Common.{IsResumed, cells_after, in_transaction, prior_of, waiting_step}
+use Rattle.norec_world.proofs.Common.{cells_after, in_transaction, prior_of, waiting_step}
 use Rattle.norec_world.proofs.CommitCounts.{counted_after}
 use Rattle.norec_world.proofs.LocalWork.{nothing_ready}
 use Rattle.norec_world.proofs.OthersAttempts.{others_twice}

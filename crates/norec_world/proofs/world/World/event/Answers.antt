@@ -1,5 +1,5 @@
-use Rattle.std.proofs.Common.{◌≡◌, ◌<◌, true, Some, ap, ◌∙◌, sym, subst, length, IsSome, slice_get, slice_set}
-use Rattle.norec_world.proofs.Common.{same_Some, Actor, Goes, HasLess, World, ending_at, is_waiting, option_and_then, slice_get-set_same, told, waiting_step, waits_at, world_of, slice_get_within}
+use Rattle.std.proofs.Common.{◌≡◌, ap, ◌∙◌, sym, subst, IsSome, slice_get, slice_set}
+use Rattle.norec_world.proofs.Common.{same_Some, Actor, Goes, HasLess, World, ending_at, slice_get-set_same, told, waits_at, world_of, slice_get_within}
 use Rattle.norec_world.proofs.Worlds.{going_here}
 use Rattle.norec_world.proofs.LessLeft.{event_less}
 use Rattle.norec_world.proofs.EventWorlds.{goes_after, world_after}
