@@ -4,7 +4,7 @@ use Rattle.norec_world.proofs.Common.{Actor, Agrees, AllFit, AllOf, AreActors, A
 use Rattle.norec_world.specs.declared.attempt.Outcome.TheVariants as outcomes
 use Rattle.norec_world.proofs.WordLists.{words_of-bytes_of}
 use Rattle.norec_world.specs.Runs.{StillRuns}
-use Rattle.norec_world.proofs.SoundOthers.{first_found, set_place, there_is, are_open, held_apart, odd_held}
+use Rattle.norec_world.proofs.SoundOthers.{first_found, set_place, there_is, are_open, held_apart, odd_held, row_unfinished}
 use Rattle.norec_world.proofs.Solos.{stands_open}
 use Rattle.norec_world.proofs.InTries.{try_stops}
 use Rattle.norec_world.proofs.Memories.{bytes_still}
@@ -128,8 +128,7 @@ module _ {P : Type 0} (rules : Rules P) (laws : Obeys rules) where
         subst (λ (t : ℕ). IsRunOf rules MAX_DEPTH (w.cells.clock / 2) (bytes_at w.base (attempts_of w)) (Some (first_of p w.arena)) (of_thread t (attempts_of w))) s.thread
         (elim (cases_Bool (in_transaction a.engine)) [
           | inl o ↦
-              (let some : HasRow true w.attempts a.thread = subst (λ (b : Bool). HasRow b w.attempts a.thread) o s.sound.kept.row in
-              let tied = s.sound.tied in
+              (let tied = s.sound.tied in
               let t = x.runs.inside o in
               let k : ℕ = a.engine.snapshot / 2 in
               let k_late : k ≤ w.cells.clock / 2 = (let reached = tied.settled.reached in let late = tied.late in omega arith) in
@@ -138,8 +137,7 @@ module _ {P : Type 0} (rules : Rules P) (laws : Obeys rules) where
               let fits = running.laid.memories.fits k k_late in
               let words : words_at w.base (attempts_of w) k ≡ words_at w.base w.attempts.ended k = ap words_of (shown_still k k_late) in
               let row : Attempt = t.1 in
-              let same_row : some.0 ≡ row = (let z : Some some.0 ≡ Some row = sym some.1 ∙ t.3 in cc) in
-              let unfinished : row.outcome ≡ outcomes.Unfinished = ap (λ (y : Attempt). y.outcome) (sym same_row) ∙ some.2 in
+              let unfinished : row.outcome ≡ outcomes.Unfinished = row_unfinished (in_transaction a.engine) w.attempts a.thread row s.sound.kept.row t.3 in
               let at : row.at ≡ k = x.reads o row t.3 in
               let early = t.4.began in
               let try = try_stops rules laws (w.cells.clock / 2) w.base (attempts_of w) t.0 row a.player a.engine t.4 k outcomes.Unfinished (stands_open rules laws a.engine (words_at w.base (attempts_of w) k) o) early k_late

@@ -54,25 +54,28 @@ module _ {P : Type 0} (rules : Rules P) where
 -- ## The event
 
 module _ {P : Type 0} (rules : Rules P) (max_commits : ℕ) where
+  -- on its way, it goes on or has finished
+  stands_on : {n : ℕ} {past : List Attempt} {r : Rows} {a : Actor P} → IsOnWay rules max_commits past n r a → (ending_of a.status ≡ Some Finished → (rules.next_call a.player ≡ None) × (a.engine.holds ≡ false))
+      → (ending_of a.status ≡ Some GaveUp → ⊥) → (ending_of a.status ≡ Some NoMemory → StandsSole rules max_commits (Some NoMemory) past n r a) → StandsSole rules max_commits (ending_of a.status) past n r a
+  stands_on {n} {past} {r} {a} way finishes goes_on starved = by_ending (ending_of a.status) refl
+    where
+      by_ending : (o : Option End) → ending_of a.status ≡ o → StandsSole rules max_commits o past n r a
+      by_ending None e = way
+      by_ending (Some Finished) e = (let f = finishes e in (way, f.0, f.1))
+      by_ending (Some GaveUp) e = absurd (goes_on e)
+      by_ending (Some NoMemory) e = starved e
+
   -- between two tries, its attempts so far have ended by their commits
   pub stands_between : (clock : ℕ) (past : List Attempt) (r : Rows) (a : Actor P) → a.thread ≡ 0 → r.ended ≡ past → IsBetween clock 1 r a → (ending_of a.status ≡ Some Finished → (rules.next_call a.player ≡ None) × (a.engine.holds ≡ false))
-      → (o : Option End) → ending_of a.status ≡ o → StandsSole rules max_commits o past (clock / 2) r a
-  stands_between clock past r a mine ended b finishes = by_ending
-    where
-      on_way : IsOnWay rules max_commits past (clock / 2) r a
-      on_way = record {
+      → StandsSole rules max_commits (ending_of a.status) past (clock / 2) r a
+  stands_between clock past r a mine ended b finishes =
+      stands_on (record {
         ended = ended;
         nth = b.tries;
         current = λ row e.
             (let is = b.opens row (ap (λ (o : Option Attempt). current_of o a.pending) (sym b.none) ∙ e) in
             record { thread = ap (λ (x : Attempt). x.thread) is ∙ mine; nth = ap (λ (x : Attempt). x.nth) is; began = ap (λ (x : Attempt). x.began) is });
-      }
-
-      by_ending : (o : Option End) → ending_of a.status ≡ o → StandsSole rules max_commits o past (clock / 2) r a
-      by_ending None e = on_way
-      by_ending (Some Finished) e = (let f = finishes e in (on_way, f.0, f.1))
-      by_ending (Some GaveUp) e = absurd (b.goes_on e)
-      by_ending (Some NoMemory) e = (b.none, inl ended)
+      }) finishes b.goes_on (λ e. (b.none, inl ended))
 
   continued : (n : ℕ) (row row' : Attempt) → Continues row row' → IsFirstTry n row → IsFirstTry n row'
   continued n row row' c f = record { thread = c.thread ∙ f.thread; nth = c.nth ∙ f.nth; began = c.began ∙ f.began }
@@ -104,7 +107,7 @@ module _ {P : Type 0} (rules : Rules P) (max_commits : ℕ) where
       by_commit d at n b = record {
         past = old.past ++ t.row' ∷ [];
         commit = subst (AreSole 0 (old.past ++ t.row' ∷ [])) n (sole_more 0 (clock / 2) old.past t.row' old.commit first at d);
-        stands = stands_between clock' (old.past ++ t.row' ∷ []) r' a' mine ended b finishes (ending_of a'.status) refl;
+        stands = stands_between clock' (old.past ++ t.row' ∷ []) r' a' mine ended b finishes;
       }
 
       last : (outcome : Outcome) → t.row'.outcome ≡ outcome → clock' / 2 ≡ clock / 2 → EndsWith old.past (clock' / 2) outcome r'
@@ -125,7 +128,7 @@ module _ {P : Type 0} (rules : Rules P) (max_commits : ℕ) where
 
     pub sole_after : Tries clock (prior_of r a) clock' r' a' → IsSole rules max_commits clock' r' a'
     sole_after (between t) =
-        goes_on t.half (stands_between clock' old.past r' a' mine (t.ended ∙ way.ended) (subst (λ (n : ℕ). IsBetween clock' n r' a') way.nth t.between) finishes (ending_of a'.status) refl)
+        goes_on t.half (stands_between clock' old.past r' a' mine (t.ended ∙ way.ended) (subst (λ (n : ℕ). IsBetween clock' n r' a') way.nth t.between) finishes)
     sole_after (begins t) =
         goes_on t.half (subst (λ (o : Option End). StandsSole rules max_commits o old.past (clock' / 2) r' a') (sym t.on) (record {
           ended = t.ended ∙ way.ended;
@@ -134,22 +137,14 @@ module _ {P : Type 0} (rules : Rules P) (max_commits : ℕ) where
               (let same : t.row ≡ row = (let z : Some t.row ≡ Some row = sym t.now ∙ (ap (λ (o : Option Attempt). current_of o a'.pending) (sym t.still) ∙ e) in cc) in
               subst (IsFirstTry (clock' / 2)) same (now 0 t.row t.half (way.current t.row (ap (λ (o : Option Attempt). current_of o a.pending) t.none ∙ t.was))));
         }))
-    sole_after (runs t) = goes_on t.half (by_ending (ending_of a'.status) refl)
-      where
-        on_way : IsOnWay rules max_commits old.past (clock' / 2) r' a'
-        on_way = record {
+    sole_after (runs t) =
+        goes_on t.half (stands_on (record {
           ended = t.ended ∙ way.ended;
           nth = t.tries ∙ way.nth;
           current = λ row e.
-              (let same : t.row' ≡ row = (let z : Some t.row' ≡ Some row = ap (λ (o : Option Attempt). current_of o a'.pending) (sym t.now) ∙ e in cc) in
+              (let same : t.row' ≡ row = same_Some _ _ (ap (λ (o : Option Attempt). current_of o a'.pending) (sym t.now) ∙ e) in
               subst (IsFirstTry (clock' / 2)) same (now 0 t.row' t.half (continued (clock / 2) t.row t.row' t.continues (way.current t.row t.was))));
-        }
-
-        by_ending : (o : Option End) → ending_of a'.status ≡ o → StandsSole rules max_commits o old.past (clock' / 2) r' a'
-        by_ending None e = on_way
-        by_ending (Some Finished) e = (let f = finishes e in (on_way, f.0, f.1))
-        by_ending (Some GaveUp) e = absurd (t.goes_on e)
-        by_ending (Some NoMemory) e = absurd (t.fed e)
+        }) finishes t.goes_on (λ e. absurd (t.fed e)))
     sole_after (over t) = by_outcome t t.row'.outcome refl t.at t.after
     sole_after (turned_away t) = absurd (let even = shut (none_again clock' a.nth r' a' (nat_lt a.retries a.nth) t.after) in let odd = t.odd in omega arith)
 
@@ -162,7 +157,7 @@ module _ {P : Type 0} (rules : Rules P) where
   sole_first w actors c zero_clock none a here b finishes = record {
     past = [];
     commit = ap (λ (n : ℕ). n / 2) (sym zero_clock);
-    stands = stands_between rules w.max_commits w.cells.clock [] w.attempts a (actors.each 0 a here).thread none b (λ e. (finishes e, c.free (ap (λ (n : ℕ). n % 2) zero_clock) 0 a here)) (ending_of a.status) refl;
+    stands = stands_between rules w.max_commits w.cells.clock [] w.attempts a (actors.each 0 a here).thread none b (λ e. (finishes e, c.free (ap (λ (n : ℕ). n % 2) zero_clock) 0 a here));
   }
 
   -- and over an event

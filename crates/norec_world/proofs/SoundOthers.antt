@@ -1,6 +1,6 @@
 -- An event of one actor leaves the others sound.
 use Rattle.std.proofs.Common.{◌≡◌, ◌≢◌, ◌⊎◌, inl, inr, ℕ, zero, suc, ◌+◌, ◌%◌, ◌<◌, ◌≤◌, Bool, true, false, List, [], ◌∷◌, ◌++◌, length, length-append, Option, None, Some, slice_get, slice_set, refl, sym, ap, subst, ◌∙◌, arith, eq-eqb, eqb-true, ◌==◌, length-set, if◌then◌else◌}
-use Rattle.norec_world.proofs.Common.{Actor, AllFit, AreActors, AreFrom, AreOpen, AreUnfinished, Attempt, Cells, ChangesOwn, ClocksOn, HasRow, IsSound, IsTied, KeepsOthers, MAX_ACTORS, Rows, Rules, Status, StatusIs, Unfinished, Waits, active_of, both_ways, cases_Bool, cases_eq, cases_lt, count_pending, eqb-false, false_from_ne_true, in_transaction, is_ready, ne_eqb, slice_get-set_same, slice_get_within}
+use Rattle.norec_world.proofs.Common.{Actor, AllFit, AreActors, AreFrom, AreOpen, AreUnfinished, Attempt, Cells, ChangesOwn, ClocksOn, HasRow, IsSound, IsTied, KeepsOthers, MAX_ACTORS, Rows, Rules, Status, StatusIs, Unfinished, Waits, active_of, both_ways, cases_Bool, cases_eq, cases_lt, count_pending, eqb-false, false_from_ne_true, in_transaction, is_ready, ne_eqb, slice_get-set_same, slice_get_within, none-some, same_Some}
 use Rattle.itm_types.proofs.Words.{slice_get-set_other}
 use Rattle.norec_world.specs.OthersAttempts.{pending_in}
 use Rattle.norec_world.proofs.TiedEngines.{held_even}
@@ -258,6 +258,10 @@ none_active {P} rules cells r actors s none = by_rows r.active refl
         absurd (let n : active_of x.thread r.active ≡ None = ap (λ (t : ℕ). active_of t r.active) (sym mine) ∙ none x.thread here.0 here.1 in let f = sym n ∙ some in cc)
 
 -- open attempts have not ended
+pub row_unfinished : (b : Bool) (r : Rows) (thread : ℕ) (row : Attempt) → HasRow b r thread → active_of thread r.active ≡ Some row → row.outcome ≡ Unfinished
+row_unfinished false r thread row h e = absurd (none-some row (sym h ∙ e))
+row_unfinished true r thread row h e = ap (λ (x : Attempt). x.outcome) (same_Some _ _ (sym e ∙ h.1)) ∙ h.2
+
 all_unfinished : (n : ℕ) (xs : List Attempt) → AreFrom n xs → ((t : ℕ) (row : Attempt) → n ≤ t → active_of t xs ≡ Some row → row.outcome ≡ Unfinished) → AreUnfinished xs
 all_unfinished n [] from each = tt
 all_unfinished n (x ∷ xs) from each = (
@@ -270,16 +274,10 @@ all_unfinished n (x ∷ xs) from each = (
 
 pub are_open : {P : Type 0} (rules : Rules P) (cells : Cells) (r : Rows) (actors : List (Actor P))
     → AreActors rules cells r actors → AreFrom 0 r.active → AreOpen r.active
-are_open {P} rules cells r actors s from = record { by_actor = from; unfinished = all_unfinished 0 r.active from (λ t row l e. each t row e) }
-  where
-    of_row : (b : Bool) (a : Actor P) (t : ℕ) (row : Attempt) → a.thread ≡ t → active_of t r.active ≡ Some row → HasRow b r a.thread → row.outcome ≡ Unfinished
-    of_row false a t row mine e h = absurd (let n : active_of t r.active ≡ None = ap (λ (k : ℕ). active_of k r.active) (sym mine) ∙ h in let f = sym n ∙ e in cc)
-    of_row true a t row mine e h =
-        let same : h.0 ≡ row = (let found : Some h.0 ≡ Some row = sym h.1 ∙ (ap (λ (k : ℕ). active_of k r.active) mine ∙ e) in cc) in
-        ap (λ (x : Attempt). x.outcome) (sym same) ∙ h.2
-
-    each : (t : ℕ) (row : Attempt) → active_of t r.active ≡ Some row → row.outcome ≡ Unfinished
-    each t row e =
-        let here = there_is actors t (s.listed t row e) in
-        let a = s.each t here.0 here.1 in
-        of_row (in_transaction here.0.engine) here.0 t row a.thread e a.sound.kept.row
+are_open {P} rules cells r actors s from = record {
+  by_actor = from;
+  unfinished = all_unfinished 0 r.active from (λ t row l e.
+      (let here = there_is actors t (s.listed t row e) in
+      let a = s.each t here.0 here.1 in
+      row_unfinished (in_transaction here.0.engine) r here.0.thread row a.sound.kept.row (ap (λ (k : ℕ). active_of k r.active) a.thread ∙ e)));
+}
