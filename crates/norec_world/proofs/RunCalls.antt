@@ -14,6 +14,7 @@ use Rattle.norec_world.proofs.Taken.{HasAnswered, recorded, now, still_going}
 use Rattle.norec_world.proofs.RunAnswers.{RunOf, before_on, now_at, run_same, stop_run}
 use Rattle.norec_world.proofs.RunBegins.{begin_here}
 use Rattle.norec_world.proofs.InTries.{try_handed, try_told, try_kept}
+use Rattle.std.proofs.Math.Bool.{and-true}
 
 -- ## The player has no more calls
 
@@ -35,14 +36,6 @@ module _ {P : Type 0} {rules : Rules P} {cells : Cells} {r0 : Rows} {old : Actor
 
 module _ {P : Type 0} {rules : Rules P} (laws : Obeys rules) {cells : Cells} {r0 r : Rows} {old a : Actor P} {call : Call} {what : Next} (m : IsCalling rules cells r0 r old a call what)
     (first : Between P) (base : List ℕ) (laid : AreLaid base cells r0) (runs : RunsFrom rules first base cells r0 old) where
-  again_shut : (b : Bool) → in_transaction old.engine ≡ b → b ≡ false → (c : Call) (p : _) (room : ℕ) → c ≡ Begin p room → (begins_again (in_transaction old.engine) old.again c && not (in_transaction old.engine)) ≡ old.again
-  again_shut true e f c p room is = absurd (cc)
-  again_shut false e f c p room is = (λ i. begins_again (e i) old.again (is i) && not (e i)) ∙ with_true old.again
-    where
-      with_true : (w : Bool) → (w && true) ≡ w
-      with_true true = refl
-      with_true false = refl
-
   -- the attempt that is to be opened then
   fresh_pending : (b : Between P) → IsBeforeTry rules (cells.clock / 2) b old → in_transaction old.engine ≡ false → (c : Call) → c ≡ call → (row : Attempt) → asked_pending false cells.clock old c ≡ Some row
       → (row.began ≤ cells.clock / 2) × (row.arena ≡ b.arena) × (row.calls ≡ []) × (begins_at rules b ≡ Some (record { player = a.player; arena = b.arena; props = row.props })) × ((mid m).again ≡ b.again)
@@ -53,7 +46,7 @@ module _ {P : Type 0} {rules : Rules P} (laws : Obeys rules) {cells : Cells} {r0
         ap (λ (x : Attempt). x.arena) (sym made) ∙ k.arena,
         ap (λ (x : Attempt). x.calls) (sym made),
         k.leads ∙ (here ∙ (λ i. Some (record { player = (sym m.asks.player) i; arena = b.arena; props = (ap (λ (x : Attempt). x.props) made) i }))),
-        again_shut (in_transaction old.engine) refl o call props room (sym is) ∙ k.again,
+        (λ i. begins_again (o i) old.again (sym is i) && not (o i)) ∙ (and-true old.again ∙ k.again),
       )
   fresh_pending b k o c is row e = absurd (let z = sym (rests m.sound m.ready).nothing ∙ e in cc)
 

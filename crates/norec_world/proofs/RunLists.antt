@@ -58,3 +58,8 @@ module _ {P : Type 0} (rules : Rules P) where
   run_more n memory (Some c) (x ∷ xs) b a r e t =
       let more = run_more n memory (after_try rules MAX_DEPTH memory c (begins_at rules c) x) xs b a r.1 e t in
       ((r.0, more.0), more.1)
+
+  -- an attempt of the run is of the block that its player comes to
+  pub try_begun : (n : ℕ) (memory : ℕ → List ℕ) (b : Between P) (a : Attempt) (o : Option (Beginning P)) → IsTryAt rules MAX_DEPTH n memory b o a → (start : Beginning P) × (o ≡ Some start) × IsTryAt rules MAX_DEPTH n memory b (Some start) a
+  try_begun n memory b a None t = absurd t
+  try_begun n memory b a (Some start) t = (start, refl, t)

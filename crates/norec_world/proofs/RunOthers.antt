@@ -4,7 +4,7 @@ use Rattle.norec_world.proofs.Common.{Actor, Agrees, AllFit, AllOf, AreActors, A
 use Rattle.norec_world.specs.declared.attempt.Outcome.TheVariants as outcomes
 use Rattle.norec_world.proofs.WordLists.{words_of-bytes_of}
 use Rattle.norec_world.specs.Runs.{StillRuns}
-use Rattle.norec_world.proofs.SoundOthers.{first_found, set_place, there_is, are_open, held_apart, odd_held, row_unfinished}
+use Rattle.norec_world.proofs.SoundOthers.{first_found, set_place, there_is, are_open, held_apart, odd_held, row_unfinished, row_open}
 use Rattle.norec_world.proofs.Solos.{stands_open}
 use Rattle.norec_world.proofs.InTries.{try_stops}
 use Rattle.norec_world.proofs.Memories.{bytes_still}
@@ -56,10 +56,6 @@ of_actors_active n (x ∷ xs) listed = (
     | inr is ↦ listed thread row (simp is e)
   ]),
 )
-
-pub row_open : (b : Bool) (r : Rows) (thread : ℕ) (row : Attempt) → HasRow b r thread → active_of thread r.active ≡ Some row → b ≡ true
-row_open true r thread row h some = refl
-row_open false r thread row h some = absurd (let z = sym h ∙ some in cc)
 
 module _ {P : Type 0} (rules : Rules P) (laws : Obeys rules) where
   -- ## Another one's event

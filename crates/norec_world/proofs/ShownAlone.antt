@@ -1,7 +1,7 @@
 -- What a world with one actor shows is what its player does alone.
 use Rattle.std.proofs.Common.{◌≡◌, ◌⊎◌, inl, inr, ℕ, zero, suc, ◌/◌, ◌%◌, ◌≤◌, Bool, true, false, nat_le, if◌then◌else◌, List, [], ◌∷◌, ◌++◌, length, map, replicate, Option, None, Some, slice_get, refl, sym, ap, subst, ◌∙◌, arith, append-nil, le-leb}
 use Rattle.std.proofs.lemmas.Bool.{and_from}
-use Rattle.norec_world.proofs.Common.{same_Some, Actor, AreOfActors, AreOpaque, AreUnfinished, Attempt, Between, Call, Commit, Done, End, EndsAs, EndsWith, Entry, Finished, GaveUp, HasRow, IsAlone, IsBeforeTry, IsFirstTry, IsInTry, IsOnWay, IsRunOf, IsSole, IsWorld, MAX_DEPTH, NoMemory, Obeys, Outcome, Rules, ShowsAlone, StandsSole, State, World, active_of, after, alone, answers, answers_within, attempts_of, begin_code, begin_of, begin_within, bytes_at, committed_at, current_of, ending_at, ending_of, first_of, in_transaction, is_open, map-append, of_thread, opened, option_and_then, pair_of, player_then, row_of, run_after, solo_within, state_then, stopped, with_all, with_first}
+use Rattle.norec_world.proofs.Common.{same_Some, Actor, AreOfActors, AreOpaque, AreUnfinished, Attempt, Between, Call, Commit, Done, End, EndsAs, EndsWith, Entry, Finished, GaveUp, IsAlone, IsBeforeTry, IsFirstTry, IsInTry, IsOnWay, IsRunOf, IsSole, IsWorld, MAX_DEPTH, NoMemory, Obeys, Outcome, Rules, ShowsAlone, StandsSole, State, World, active_of, after, alone, answers, answers_within, attempts_of, begin_code, begin_of, begin_within, bytes_at, committed_at, current_of, ending_at, ending_of, first_of, in_transaction, is_open, map-append, of_thread, opened, option_and_then, pair_of, player_then, row_of, run_after, solo_within, state_then, stopped, with_all, with_first}
 use Rattle.itm_types.specs.declared.call.Reply.{Reply}
 use Rattle.norec_world.specs.declared.attempt.Outcome.TheVariants as outcomes
 use Rattle.norec_world.specs.SoFar.{IsBegun, IsSoFar, IsAll}
@@ -9,10 +9,10 @@ use Rattle.norec_world.specs.World.{DoneBy, memory_of}
 use Rattle.norec_world.proofs.Solos.{begins_alone, state_snoc, gets_none, full_block, open_block, no_block}
 use Rattle.norec_world.proofs.Memories.{bytes_still}
 use Rattle.norec_world.proofs.RunLists.{run_still}
-use Rattle.norec_world.proofs.RunOthers.{world_opaque, open_none, open_one, row_open}
+use Rattle.norec_world.proofs.RunOthers.{world_opaque, open_none, open_one}
 use Rattle.norec_world.proofs.SoleEvents.{of_thread_all, even_free, even_shut}
 use Rattle.norec_world.proofs.SoleRuns.{Arrives, IsNext, between, arrives, is_next, same_state, same_answers, same_row, made_alone}
-use Rattle.norec_world.proofs.SoundOthers.{are_open}
+use Rattle.norec_world.proofs.SoundOthers.{are_open, row_open, row_shut}
 
 -- the list of one
 one_of : {A : Type 0} (xs : List A) → length xs ≡ 1 → (x : A) × (xs ≡ x ∷ [])
@@ -194,12 +194,8 @@ module _ {P : Type 0} (rules : Rules P) (laws : Obeys rules) (w : World P) (kept
   -- between two blocks its player makes no more calls
   rests : (x : Arrived []) → attempts_of w ≡ sole.past ++ [] → w.attempts.ended ≡ sole.past → ending_of a.status ≡ Some Finished → active_of a.thread w.attempts.active ≡ None → rules.next_call a.player ≡ None → w.cells.clock % 2 ≡ 0 → All Finished
   rests x is ended finished shut none z =
-      let t = (opaque.players 0 p a player_here here).between (closed (in_transaction a.engine) (kept.actors.each 0 a here).sound.kept.row) (λ e. absurd (let both = sym finished ∙ e in cc)) (λ e. absurd (let both = sym finished ∙ e in cc)) in
+      let t = (opaque.players 0 p a player_here here).between (row_shut (in_transaction a.engine) w.attempts a.thread (kept.actors.each 0 a here).sound.kept.row shut) (λ e. absurd (let both = sym finished ∙ e in cc)) (λ e. absurd (let both = sym finished ∙ e in cc)) in
       stops [] x Finished (no_block rules laws MAX_DEPTH w.max_commits 0 x.before (none_comes t.0 x t.2 t.1 ended none)) is z
-    where
-      closed : (b : Bool) → HasRow b w.attempts a.thread → b ≡ false
-      closed true row = absurd (let z : None ≡ Some row.0 = sym shut ∙ row.1 in cc)
-      closed false row = refl
 
   module _ (ended : w.attempts.ended ≡ sole.past) where
     is_none : active_of a.thread w.attempts.active ≡ None → attempts_of w ≡ sole.past ++ []

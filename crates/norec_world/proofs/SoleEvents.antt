@@ -1,10 +1,11 @@
 -- An actor that has its world to itself goes on so over an event.
-use Rattle.std.proofs.Common.{◌≡◌, inl, inr, ℕ, ◌+◌, ◌/◌, ◌%◌, ◌≤◌, Bool, true, false, nat_lt, if◌then◌else◌, List, [], ◌∷◌, ◌++◌, Option, None, Some, slice_get, slice_set, length, length-set, refl, sym, ap, subst, ◌∙◌, arith, eq-eqb}
-use Rattle.norec_world.proofs.Common.{Actor, AreActors, AreOfActors, AreRunning, AreSole, Attempt, Beginning, Between, Cells, CommitsInOrder, Continues, End, EndsAt, EndsWith, Finished, GaveUp, GoesOnAfter, HasRow, IsBetween, IsEvent, IsFirstTry, IsOnWay, IsRunOf, IsSole, IsSound, IsTryAt, IsWorld, MAX_DEPTH, NoMemory, Outcome, Ready, Rows, Rules, StandsSole, Status, StatusIs, Tries, World, active_of, after_try, begin_of, begins, between, bytes_at, current_of, ending_of, false_from_ne_true, first_of, is_committed, is_done, is_ready, of_thread, one_if, over, prior_of, runs, slice_get-set_same, turned_away, slice_get_within, same_Some, both_ways}
+use Rattle.std.proofs.Common.{◌≡◌, inl, inr, ℕ, ◌+◌, ◌/◌, ◌%◌, ◌≤◌, true, false, nat_lt, if◌then◌else◌, List, [], ◌∷◌, ◌++◌, Option, None, Some, slice_get, slice_set, length, length-set, refl, sym, ap, subst, ◌∙◌, arith, eq-eqb}
+use Rattle.norec_world.proofs.Common.{Actor, AreActors, AreOfActors, AreRunning, AreSole, Attempt, Between, Cells, CommitsInOrder, Continues, End, EndsAt, EndsWith, Finished, GaveUp, GoesOnAfter, IsBetween, IsEvent, IsFirstTry, IsOnWay, IsRunOf, IsSole, IsSound, IsWorld, MAX_DEPTH, NoMemory, Outcome, Ready, Rows, Rules, StandsSole, Status, StatusIs, Tries, World, active_of, after_try, begin_of, begins, between, bytes_at, current_of, ending_of, false_from_ne_true, first_of, is_committed, is_done, is_ready, of_thread, one_if, over, prior_of, runs, slice_get-set_same, turned_away, slice_get_within, same_Some, both_ways, in_transaction}
 use Rattle.norec_world.specs.declared.attempt.Outcome.TheVariants as outcomes
-use Rattle.norec_world.proofs.SoundOthers.{there_is, odd_or_even}
+use Rattle.norec_world.proofs.SoundOthers.{there_is, odd_or_even, row_shut}
 use Rattle.norec_world.proofs.TryEnds.{none_again}
 use Rattle.norec_world.specs.Tries.{EndsIt}
+use Rattle.norec_world.proofs.RunLists.{try_begun}
 
 -- ## Lists of attempts
 
@@ -22,11 +23,7 @@ sole_more n k (x ∷ xs) a s f at d = (s.0, s.1, s.2, sole_more (n + one_if (is_
 module _ {P : Type 0} (rules : Rules P) (n : ℕ) (memory : ℕ → List ℕ) where
   pub last_early : (b : Option (Between P)) (xs : List Attempt) (a : Attempt) → IsRunOf rules MAX_DEPTH n memory b (xs ++ a ∷ []) → a.began ≤ a.at
   last_early None [] a r = absurd r
-  last_early (Some b) [] a r = by_begin (begin_of rules MAX_DEPTH b.player b.arena) r.0
-    where
-      by_begin : (o : Option (Beginning P)) → IsTryAt rules MAX_DEPTH n memory b o a → a.began ≤ a.at
-      by_begin None t = absurd t
-      by_begin (Some start) t = t.3.no_older
+  last_early (Some b) [] a r = (try_begun rules n memory b a (begin_of rules MAX_DEPTH b.player b.arena) r.0).2.3.no_older
   last_early None (x ∷ xs) a r = absurd r
   last_early (Some b) (x ∷ xs) a r = last_early (after_try rules MAX_DEPTH memory b (begin_of rules MAX_DEPTH b.player b.arena) x) xs a r.1
 
@@ -47,9 +44,7 @@ module _ {P : Type 0} (rules : Rules P) where
   pub even_shut : (w : World P) → AreActors rules w.cells w.attempts w.actors → CommitsInOrder w → length w.actors ≡ 1 → (a : Actor P) → slice_get w.actors 0 ≡ Some a → active_of a.thread w.attempts.active ≡ None → w.cells.clock % 2 ≡ 0
   even_shut w actors c one a here none =
       let s = (actors.each 0 a here).sound in
-      even_free w c one a here (false_from_ne_true a.engine.holds (λ h.
-      (let row : HasRow true w.attempts a.thread = subst (λ (b : Bool). HasRow b w.attempts a.thread) (s.tied.settled.holder h).0 s.kept.row in
-      let z : None ≡ Some row.0 = sym none ∙ row.1 in cc)))
+      even_free w c one a here (false_from_ne_true a.engine.holds (λ h. both_ways (in_transaction a.engine) (row_shut (in_transaction a.engine) w.attempts a.thread s.kept.row none) (s.tied.settled.holder h).0))
 
 -- ## The event
 

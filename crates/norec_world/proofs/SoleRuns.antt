@@ -1,7 +1,7 @@
 -- The run of an actor that has its world to itself is what its player does alone.
 use Rattle.std.proofs.Common.{◌≡◌, ℕ, suc, ◌+◌, ◌<◌, ◌≤◌, ◌==◌, ◌&&◌, Bool, true, false, nat_le, nat_lt, if◌then◌else◌, List, [], ◌∷◌, ◌++◌, length, map, Option, None, Some, refl, sym, ap, subst, ◌∙◌, arith, eqb-true, eq-eqb, lt-ltb, leb-true}
 use Rattle.std.proofs.lemmas.Bool.{or_parts}
-use Rattle.norec_world.proofs.Common.{AreSole, Attempt, Begin, Beginning, Between, Block, Call, Commit, EndsAs, Entry, IsAlone, IsFirstTry, IsOpaque, IsRunOf, IsTryAt, MAX_DEPTH, Obeys, Outcome, Progress, Read, Rules, Solo, State, Write, after, after_try, alone, answered_all, answers, answers_within, begin_code, begin_of, bytes_at, committed_at, ended_as, false_from_ne_true, follows, is_at, is_committed, is_done, is_open, memory_left, one_if, opened, pair_of, player_then, refusal, reply, row_of, run_after, solo_within, state_then, turn, with_all, with_first}
+use Rattle.norec_world.proofs.Common.{AreSole, Attempt, Begin, Beginning, Between, Block, Call, Commit, EndsAs, Entry, IsAlone, IsFirstTry, IsOpaque, IsRunOf, MAX_DEPTH, Obeys, Outcome, Progress, Read, Rules, Solo, State, Write, after, after_try, alone, answered_all, answers, answers_within, begin_code, begin_of, bytes_at, committed_at, ended_as, false_from_ne_true, follows, is_at, is_committed, is_done, is_open, memory_left, one_if, opened, pair_of, player_then, refusal, reply, row_of, run_after, solo_within, state_then, turn, with_all, with_first}
 use Rattle.itm_types.specs.declared.call.Refusal.{Refusal}
 use Rattle.itm_types.specs.declared.call.Reply.{Reply}
 use Rattle.itm_model.specs.Machine.{effect, after_unless, closed, entered}
@@ -9,6 +9,7 @@ use Rattle.norec_engine.proofs.Machines.{some_bytes}
 use Rattle.norec_world.specs.declared.attempt.Outcome.TheVariants as outcomes
 use Rattle.norec_world.specs.Attempts.{replies_of}
 use Rattle.norec_world.proofs.Solos.{ended_block}
+use Rattle.norec_world.proofs.RunLists.{try_begun}
 
 -- ## The calls of an attempt
 
@@ -93,12 +94,9 @@ module _ {P : Type 0} (rules : Rules P) (laws : Obeys rules) (max_commits : ℕ)
         ≡ follows rules MAX_DEPTH a.outcome (rules.answered start.player (begin_code false)) a (alone MAX_DEPTH (bytes_at base all a.at) a)
 
   pub is_next : (b : Progress P) (a : Attempt) (rest : List Attempt) → IsRunOf rules MAX_DEPTH total (bytes_at base all) (Some (between b)) (a ∷ rest) → IsNext b a
-  is_next b a rest r = by_begin (begin_of rules MAX_DEPTH b.player b.arena) refl r.0
-    where
-      by_begin : (o : Option (Beginning P)) → begin_of rules MAX_DEPTH b.player b.arena ≡ o → IsTryAt rules MAX_DEPTH total (bytes_at base all) (between b) o a → IsNext b a
-      by_begin None e t = absurd t
-      by_begin (Some start) e t =
-          record { start = start; comes = e; arena = t.0; props = t.1; opaque = t.3; leads = ap (λ (o : Option (Beginning P)). after_try rules MAX_DEPTH (bytes_at base all) (between b) o a) e }
+  is_next b a rest r =
+      let t = try_begun rules total (bytes_at base all) (between b) a (begin_of rules MAX_DEPTH b.player b.arena) r.0 in
+      record { start = t.0; comes = t.1; arena = t.2.0; props = t.2.1; opaque = t.2.3; leads = ap (λ (o : Option (Beginning P)). after_try rules MAX_DEPTH (bytes_at base all) (between b) o a) t.1 }
 
   -- such an attempt, which reads where all before it had committed
   module _ (b : Progress P) (a : Attempt) (x : IsNext b a) (now : b.memory ≡ bytes_at base all b.commits) (first : IsFirstTry b.commits a) (at : a.at ≡ b.commits) where

@@ -257,6 +257,15 @@ none_active {P} rules cells r actors s none = by_rows r.active refl
         let mine = (s.each x.thread here.0 here.1).thread in
         absurd (let n : active_of x.thread r.active ≡ None = ap (λ (t : ℕ). active_of t r.active) (sym mine) ∙ none x.thread here.0 here.1 in let f = sym n ∙ some in cc)
 
+-- whether the transaction is open, by whether its attempt is there
+pub row_open : (b : Bool) (r : Rows) (thread : ℕ) (row : Attempt) → HasRow b r thread → active_of thread r.active ≡ Some row → b ≡ true
+row_open true r thread row h some = refl
+row_open false r thread row h some = absurd (none-some row (sym h ∙ some))
+
+pub row_shut : (b : Bool) (r : Rows) (thread : ℕ) → HasRow b r thread → active_of thread r.active ≡ None → b ≡ false
+row_shut true r thread h none = absurd (none-some h.0 (sym none ∙ h.1))
+row_shut false r thread h none = refl
+
 -- open attempts have not ended
 pub row_unfinished : (b : Bool) (r : Rows) (thread : ℕ) (row : Attempt) → HasRow b r thread → active_of thread r.active ≡ Some row → row.outcome ≡ Unfinished
 row_unfinished false r thread row h e = absurd (none-some row (sym h ∙ e))

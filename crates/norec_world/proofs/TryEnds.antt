@@ -1,7 +1,6 @@
 -- What an answer does to the try that its call belongs to.
 use Rattle.std.proofs.Common.{true≢false, inl, inr, ◌≡◌, ℕ, ◌+◌, ◌*◌, ◌/◌, ◌%◌, ◌≤◌, Bool, true, false, nat_lt, if◌then◌else◌, is_some, List, [], ◌∷◌, ◌++◌, Option, None, Some, refl, sym, ap, subst, ◌∙◌, arith, append-nil, ◌⊎◌}
-use Rattle.std.proofs.lemmas.Bool.{true_from_ne_false}
-use Rattle.norec_world.proofs.Common.{Actor, Agrees, Answer, Attempt, Begin, Busy, Call, Cells, Committed, Conflict, Core, CountsTry, End, Ended, EndsAt, Full, GoesOnAfter, HasRow, IsBetween, IsMemory, IsReady, IsSettledBy, IsTied, IsTold, MAX_DEPTH, Opens, Outcome, Prior, Props, Ready, Records, Replied, Replies, RepliesTo, Reply, RestsAs, Rows, Rules, State, Status, Tries, TriesAgain, active_of, after, begins, between, cases_Bool, cond-false, cond-true, current_of, ending_of, false_from_ne_true, in_transaction, is_begin, is_done, none_inside, over, prior_of, runs, state_over, turned_away, with_opened}
+use Rattle.norec_world.proofs.Common.{Actor, Agrees, Answer, Attempt, Begin, Busy, Call, Cells, Committed, Conflict, Core, CountsTry, End, Ended, EndsAt, Full, GoesOnAfter, HasRow, IsBetween, IsMemory, IsReady, IsSettledBy, IsTied, IsTold, MAX_DEPTH, Opens, Outcome, Prior, Props, Ready, Records, Replied, Replies, RepliesTo, Reply, RestsAs, Rows, Rules, State, Status, Tries, TriesAgain, active_of, after, begins, between, cases_Bool, cond-false, cond-true, current_of, ending_of, in_transaction, is_begin, is_done, none_inside, over, prior_of, runs, state_over, turned_away, with_opened}
 use Rattle.itm_types.specs.declared.call.Reply.TheVariants as replies
 use Rattle.norec_engine.specs.Proceeds.{IsBegin}
 use Rattle.norec_world.specs.declared.attempt.Outcome.TheVariants as outcomes
@@ -9,6 +8,7 @@ use Rattle.norec_world.specs.declared.attempt.End.TheVariants as ends
 use Rattle.norec_world.proofs.Taken.{HasAnswered, still_going}
 use Rattle.norec_world.proofs.ActiveRows.{changed_here, opened_here}
 use Rattle.norec_world.proofs.RecordedRows.{row_none, was_open}
+use Rattle.norec_world.proofs.SoundOthers.{row_open, row_shut}
 
 pub unfreed_to : (mid new : Core) (o : Option Call) (r : Replied) → RepliesTo mid o r new → mid.freed ≡ false
 unfreed_to mid new None r g = absurd g
@@ -279,14 +279,8 @@ none_again clock nth r a false t = t.none
 
 module _ {P : Type 0} (clock clock' : ℕ) (p : Prior) (r r' : Rows) (a : Actor P) (row : HasRow (in_transaction a.engine) r a.thread) (told : IsTold a.thread (in_transaction a.engine) r (a.engine.snapshot / 2) r') where
   -- with none open nothing is told
-  stays_none : active_of a.thread r.active ≡ None → r' ≡ r
-  stays_none none = told.stays (false_from_ne_true (in_transaction a.engine) (λ o. absurd (let h = subst (λ (b : Bool). HasRow b r a.thread) o row in let n = sym none ∙ h.1 in cc)))
-
-  opened_so : (x : Attempt) → active_of a.thread r.active ≡ Some x → in_transaction a.engine ≡ true
-  opened_so x some = true_from_ne_false (in_transaction a.engine) (λ o. absurd (let n = sym (subst (λ (b : Bool). HasRow b r a.thread) o row) ∙ some in cc))
-
   unchanged : active_of a.thread r.active ≡ None → Tries clock p clock' r a → Tries clock p clock' r' a
-  unchanged none t = subst (λ (x : Rows). Tries clock p clock' x a) (sym (stays_none none)) t
+  unchanged none t = subst (λ (x : Rows). Tries clock p clock' x a) (sym (told.stays (row_shut (in_transaction a.engine) r a.thread row none))) t
 
   -- no row where one has stopped or is between two tries
   none_after : (o : Outcome) → GoesOnAfter o clock' p r a → active_of a.thread r.active ≡ None
@@ -301,7 +295,7 @@ module _ {P : Type 0} (clock clock' : ℕ) (p : Prior) (r r' : Rows) (a : Actor 
   told_tries (turned_away t) = unchanged (none_again clock' p.nth r a (nat_lt p.retries p.nth) t.after) (turned_away t)
   told_tries (runs t) =
       let at : Attempt → Attempt = λ x. record x { at = a.engine.snapshot / 2 } in
-      let moved = told.moves (opened_so t.row' t.now) in
+      let moved = told.moves (row_open (in_transaction a.engine) r a.thread t.row' row t.now) in
       let k = t.continues in
       runs (record {
         row = t.row;
