@@ -48,6 +48,12 @@ module _ {P : Type 0} (rules : Rules P) (laws : Obeys rules) where
 
   -- ## A reply
 
+  -- a call that the player makes in its open block
+  alone_more : (p q : P) (s : State) (xs : List Entry) (x : Entry) → IsAlone rules MAX_DEPTH p s xs → is_open (state_then MAX_DEPTH s xs) ≡ true → q ≡ player_then rules.answered p xs → rules.next_call q ≡ Some x.call
+      → x.reply ≡ reply MAX_DEPTH (state_then MAX_DEPTH s xs) x.call → IsAlone rules MAX_DEPTH p s (xs ++ x ∷ [])
+  alone_more p q s xs x h opened is asks =
+      alone_snoc rules laws MAX_DEPTH p s xs x h (ap (λ (o : Bool). if o then rules.next_call (player_then rules.answered p xs) else None) opened ∙ (ap rules.next_call (sym is) ∙ asks))
+
   module _ (b : Between P) (row : Attempt) (p : P) (mid new : Core) (call : Call) (r : Replied) (t : IsInTry rules b row p mid) (inside : in_transaction mid ≡ true) (asks : rules.next_call p ≡ Some call)
       (g : Replies mid call r new) (began : row.began ≤ new.snapshot / 2) (less : (m : List ℕ) → Agrees m new.log → Agrees m mid.log) where
     begun : P
@@ -73,12 +79,9 @@ module _ {P : Type 0} (rules : Rules P) (laws : Obeys rules) where
               (let memory : IsMemory mid.words m = subst (λ (n : ℕ). IsMemory n m) words mem in
               let old = less m agrees in
               let stands = t.stands m memory old in
-              let open_then : is_open (state_then MAX_DEPTH (state m) row.calls) ≡ true = ap is_open (sym stands) ∙ stands_open rules laws mid m inside in
-              let turns : turn rules.next_call rules.answered rules.calls_left (player_then rules.answered begun row.calls) (state_then MAX_DEPTH (state m) row.calls) ≡ Some call =
-              ap (λ (o : Bool). if o then rules.next_call (player_then rules.answered begun row.calls) else None) open_then ∙ (ap rules.next_call (sym t.player) ∙ asks) in
               let replied : r ≡ reply MAX_DEPTH (state_then MAX_DEPTH (state m) row.calls) call =
               g.reply_is m memory (Agrees-drop m mid.entry new.log agrees) ∙ (ap (λ (a : Bool). recoded a (reply MAX_DEPTH (stands_for mid m) call)) t.anew ∙ ap (λ (s : State). reply MAX_DEPTH s call) stands) in
-              alone_snoc rules laws MAX_DEPTH begun (state m) row.calls (record { call = call; reply = r }) (t.alone m memory old) turns replied);
+              alone_more begun p (state m) row.calls (record { call = call; reply = r }) (t.alone m memory old) (ap is_open (sym stands) ∙ stands_open rules laws mid m inside) t.player asks replied);
           stands = λ m mem agrees.
               (let memory : IsMemory mid.words m = subst (λ (n : ℕ). IsMemory n m) words mem in
               g.meets m memory agrees ∙ (ap (λ (s : State). after MAX_DEPTH s call) (t.stands m memory (less m agrees)) ∙ sym (state_snoc MAX_DEPTH (state m) row.calls (record { call = call; reply = r }))));
@@ -154,13 +157,10 @@ module _ {P : Type 0} (rules : Rules P) (laws : Obeys rules) where
 
     commit_alone : IsAlone rules MAX_DEPTH by (from memory) (row.calls ++ last ∷ [])
     commit_alone =
-        let open_then : is_open (state_then MAX_DEPTH (from memory) row.calls) ≡ true = ap is_open (sym stands) ∙ stands_open rules laws mid m inside in
-        let turns : turn rules.next_call rules.answered rules.calls_left (player_then rules.answered by row.calls) (state_then MAX_DEPTH (from memory) row.calls) ≡ Some call =
-        ap (λ (o : Bool). if o then rules.next_call (player_then rules.answered by row.calls) else None) open_then ∙ (ap rules.next_call (sym t.player) ∙ asks) in
         let replied : Done ≡ reply MAX_DEPTH (state_then MAX_DEPTH (from memory) row.calls) call =
         sym (ap (λ (o : Bool). reply_unless (or_else (unless o Outside) None) Done) (stands_open rules laws mid m inside)) ∙ (λ i. reply MAX_DEPTH (stands i) (sym is i)) in
-        alone_snoc rules laws MAX_DEPTH by (from memory) row.calls last
-        (subst (λ (bytes : List ℕ). IsAlone rules MAX_DEPTH by (from bytes) row.calls) same (t.alone m mem agrees)) turns replied
+        alone_more by p (from memory) row.calls last (subst (λ (bytes : List ℕ). IsAlone rules MAX_DEPTH by (from bytes) row.calls) same (t.alone m mem agrees))
+        (ap is_open (sym stands) ∙ stands_open rules laws mid m inside) t.player asks replied
 
     -- refused as full, it is all that the player would have gone on to
     pub lacks_commit : mid.writes ≢ [] → LacksCommit rules MAX_DEPTH by row memory

@@ -8,7 +8,7 @@ use Rattle.norec_world.proofs.Memories.{bytes_still, found_later, none_next}
 use Rattle.norec_world.proofs.RunAnswers.{before_on, commit_agrees, commit_ended, commit_left, commit_runs, conflict_runs, full_runs, reply_runs}
 use Rattle.norec_world.proofs.RunBegins.{shut_runs}
 use Rattle.norec_world.proofs.Seen.{HasSeen, memory_at}
-use Rattle.norec_world.proofs.Taken.{HasAnswered, HasTaken, recorded, still_going}
+use Rattle.norec_world.proofs.Taken.{HasAnswered, HasTaken, recorded, still_going, clock_grows}
 use Rattle.norec_world.proofs.TryEnds.{not_starved, unfreed_to, begun_or_not}
 
 -- an answer clears what was loaded since the clock
@@ -72,20 +72,13 @@ module _ {P : Type 0} (rules : Rules P) (laws : Obeys rules) (first : Between P)
 
       open_runs : (answer : Answer) → HasAnswered rules true cells cells' r r1 mid a last call answer → IsRun rules first base (cells'.clock / 2) r1 last
       open_runs (Reply reply) m = to_now (m.taken.moves.keeps (unfreed_to mid a.engine mid.doing reply m.ends)) (reply_runs rules laws first base cells cells' r r1 mid a last call seen run reply m)
-      open_runs (Committed at wrote) m = commit_runs rules laws first base cells cells' r r1 mid a last call seen run (cells'.clock / 2) (later wrote refl) still m.taken.was_is at wrote m
-        where
-          later : (b : Bool) → wrote ≡ b → cells.clock / 2 ≤ cells'.clock / 2
-          later true is = (let x = m.taken.moves.frees (m.ends.freed ∙ is) in let y = x.0 in let z = x.1 in omega arith)
-          later false is = (let half = m.taken.moves.keeps (m.ends.freed ∙ is) in omega arith)
-      open_runs (Conflict clock word) m =
-          let half = m.taken.moves.keeps m.ends.unfreed in
-          conflict_runs rules laws first base cells cells' r r1 mid a last call seen run (cells'.clock / 2) (omega arith) still m.taken.was_is clock word m
+      open_runs (Committed at wrote) m = commit_runs rules laws first base cells cells' r r1 mid a last call seen run (cells'.clock / 2) (clock_grows m.taken.moves) still m.taken.was_is at wrote m
+      open_runs (Conflict clock word) m = conflict_runs rules laws first base cells cells' r r1 mid a last call seen run (cells'.clock / 2) (clock_grows m.taken.moves) still m.taken.was_is clock word m
       open_runs (Busy clock) m = absurd (let f : true ≡ false = m.answered.fits.0 in cc)
       open_runs (Full at) m =
-          let half = m.taken.moves.keeps m.ends.unfreed in
           let at_is = m.ends.at_is in
-          full_runs rules laws first base cells cells' r r1 mid a last call seen run (cells'.clock / 2) (omega arith) still m.taken.was_is at m
-          (omega (arith, (run.inside m.taken.was_is).4.began, seen.up m.taken.was_is)) (omega (arith, m.taken.tied.settled.reached, m.taken.tied.late))
+          full_runs rules laws first base cells cells' r r1 mid a last call seen run (cells'.clock / 2) (clock_grows m.taken.moves) still m.taken.was_is at m
+          (omega (arith, (run.inside m.taken.was_is).4.began, seen.up m.taken.was_is)) (omega (arith, m.taken.tied.settled.reached, m.taken.tied.late, clock_grows m.taken.moves, m.taken.moves.keeps m.ends.unfreed))
 
       runs_on : (b : Bool) (answer : Answer) → HasAnswered rules b cells cells' r r1 mid a last call answer → IsRun rules first base (cells'.clock / 2) r1 last
       runs_on true answer m = open_runs answer m
@@ -118,7 +111,7 @@ module _ {P : Type 0} (rules : Rules P) (laws : Obeys rules) (first : Between P)
           let after = x.1 in
           let at_is = m.ends.at_is in
           let position : at ≡ cells.clock / 2 = omega arith in
-          let up : cells.clock / 2 ≤ cells'.clock / 2 = omega arith in
+          let up = clock_grows m.taken.moves in
           let here : at ≤ cells.clock / 2 = omega arith in
           let inside = m.taken.was_is in
           let t = run.inside inside in

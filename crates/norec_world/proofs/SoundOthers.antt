@@ -5,6 +5,7 @@ use Rattle.itm_types.proofs.Words.{slice_get-set_other}
 use Rattle.norec_world.specs.OthersAttempts.{pending_in}
 use Rattle.norec_world.proofs.TiedEngines.{held_even}
 use Rattle.norec_world.specs.Actors.{IsActor}
+pub use Rattle.std.proofs.lemmas.Option.{slice_get_within as within_of}
 
 has_row_same : (b : Bool) (r r' : Rows) (thread : ℕ) → active_of thread r'.active ≡ active_of thread r.active → HasRow b r thread → HasRow b r' thread
 has_row_same false r r' thread same h = same ∙ h

@@ -1,6 +1,6 @@
 -- The moment that a step and a call of the player share: the engine has taken in a value or a call, and what it gave is recorded next.
-use Rattle.std.proofs.Common.{◌≡◌, ◌⊎◌, ◌+◌, ◌*◌, ◌/◌, Bool, true, false, [], refl, ap, subst, ◌∙◌, sym, length, Some}
-use Rattle.norec_world.proofs.Common.{Actor, Answer, AnswerFits, Answers, Asks, Call, Cells, Core, Ended, Ends, HasRow, IsAnswered, IsAtOnce, IsDone, IsKept, IsNested, IsSettledBy, IsSound, IsTied, IsWithin, Next, Proceeds, Ready, Records, RestsAs, Rows, Rules, Status, StatusIs, Step, Tells, Waits, in_transaction, is_ready, rests, End, ending_of}
+use Rattle.std.proofs.Common.{◌≡◌, ◌⊎◌, ◌+◌, ◌*◌, ◌/◌, Bool, true, false, [], refl, ap, subst, ◌∙◌, sym, length, Some, ◌≤◌, inl, inr, arith}
+use Rattle.norec_world.proofs.Common.{Actor, Answer, AnswerFits, Answers, Asks, Call, Cells, Core, Ended, Ends, HasRow, IsAnswered, IsAtOnce, IsDone, IsKept, IsNested, IsSettledBy, IsSound, IsTied, IsWithin, Next, Proceeds, Ready, Records, RestsAs, Rows, Rules, Status, StatusIs, Step, Tells, Waits, in_transaction, is_ready, rests, End, ending_of, cases_Bool}
 use Rattle.norec_world.specs.Sound.{IsDue, IsInCall}
 use Rattle.norec_world.proofs.TiedEngines.{answer_fits}
 
@@ -16,6 +16,9 @@ still_going ready e = absurd (let none = sym (ap ending_of ready) ∙ e in cc)
 pub record ClockMoves (cells cells' : Cells) (mid : Core) : Type 0 where
   pub frees : mid.freed ≡ true → (cells.clock ≡ 2 * (mid.snapshot / 2) + 1) × (cells'.clock ≡ 2 * (mid.snapshot / 2) + 2)
   pub keeps : mid.freed ≡ false → cells'.clock / 2 ≡ cells.clock / 2
+
+pub clock_grows : {cells cells' : Cells} {mid : Core} → ClockMoves cells cells' mid → cells.clock / 2 ≤ cells'.clock / 2
+clock_grows {mid} m = elim (cases_Bool mid.freed) [ inl f ↦ omega (arith, (m.frees f).0, (m.frees f).1) | inr f ↦ omega (arith, m.keeps f) ]
 
 module _ {P : Type 0} (rules : Rules P) where
   -- over these cells and then those, the engine mid, in which the value or the call is, gave this for the call and became the actor's; it was open before or not
