@@ -41,7 +41,7 @@ module _ {P : Type 0} (rules : Rules P) (first : Between P) (base : List ℕ) wh
   pub run_same : (n : ℕ) (xs ys : List Attempt) (t u : ℕ) → ys ≡ xs → u ≡ t → RunOf n xs t → RunOf n ys u
   run_same n xs ys t u e f h = subst (λ (l : List Attempt). RunOf n l u) (sym e) (subst (RunOf n xs) (sym f) h)
 
-module _ {P : Type 0} (rules : Rules P) (laws : Obeys rules) (first : Between P) (base : List ℕ) (cells cells' : Cells) (r r1 : Rows) (mid : Core) (a last : Actor P) (call : Call)
+module _ {P : Type 0} {rules : Rules P} (laws : Obeys rules) {first : Between P} {base : List ℕ} {cells cells' : Cells} {r : Rows} (r1 : Rows) {mid : Core} (a last : Actor P) (call : Call)
     (seen : HasSeen base cells cells' r mid a.engine) (run : IsRun rules first base (cells.clock / 2) r (record a { engine = mid })) where
   abbrev n : ℕ
   n = cells.clock / 2

@@ -40,7 +40,7 @@ module _ {P : Type 0} (rules : Rules P) (laws : Obeys rules) where
       coded true = refl
       coded false = refl
 
-module _ {P : Type 0} (rules : Rules P) (laws : Obeys rules) (first : Between P) (base : List ℕ) (cells cells' : Cells) (r r1 : Rows) (mid : Core) (a last : Actor P) (call : Call)
+module _ {P : Type 0} {rules : Rules P} (laws : Obeys rules) {first : Between P} {base : List ℕ} {cells cells' : Cells} {r : Rows} (r1 : Rows) {mid : Core} (a last : Actor P) (call : Call)
     (seen : HasSeen base cells cells' r mid a.engine) (run : IsRun rules first base (cells.clock / 2) r (record a { engine = mid })) where
   -- where the actor stands before the answer
   before : in_transaction mid ≡ false → a.status ≡ Ready → (b : Between P) × (now_at rules first base r.ended a.thread ≡ Some b) × IsBeforeTry rules (cells.clock / 2) b (record a { engine = mid })

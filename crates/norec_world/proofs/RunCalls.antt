@@ -110,7 +110,7 @@ module _ {P : Type 0} {rules : Rules P} (laws : Obeys rules) {cells : Cells} {r0
       → AreLaid base cells r1 × RunsFrom rules first base cells r1 last
   call_runs r1 last done tells more ended counted =
       let taken = call_taken m in
-      let x = runs_recorded rules laws first base (in_transaction old.engine) cells cells r (mid m) a call seen run_came r1 last more ended what taken done tells in (
+      let x = runs_recorded laws (in_transaction old.engine) a call seen run_came r1 last more ended what taken done tells in (
         x.laid counted,
         record {
           runs = x.run;
@@ -151,7 +151,7 @@ module _ {P : Type 0} {rules : Rules P} (laws : Obeys rules) {cells : Cells} {r0
       run_same rules first base (cells.clock / 2) r0.ended r1.ended old.thread last.thread (ap (λ (x : Rows). x.ended) (s.stays o)) s.same.thread runs.runs.run
   starve_run true o =
       let here : IsRun rules first base (cells.clock / 2) roomy old = record { run = runs.runs.run; inside = runs.runs.inside; between = λ x. absurd (true≢false (sym o ∙ x)) } in
-      (stop_run rules laws first base cells cells roomy r1 old.engine old last Commit still_seen here (cells.clock / 2) (let l : cells.clock / 2 ≤ cells.clock / 2 = omega arith in l)
+      (stop_run laws r1 old last Commit still_seen here (cells.clock / 2) (let l : cells.clock / 2 ≤ cells.clock / 2 = omega arith in l)
       (λ k l. ap (λ (rows : List Attempt). bytes_at base rows k) ended ∙ bytes_still base cells.clock r0.ended laid.counted more k l) o (old.engine.snapshot / 2) outcomes.NoMemory (λ x y. y) s.same.thread (s.stops o)
       (runs.runs.inside o).4.began still_seen.late ((runs.sees fed).logged o) (λ f. absurd (cc))).0
 
@@ -240,7 +240,7 @@ module _ {P : Type 0} {rules : Rules P} (laws : Obeys rules) {cells : Cells} {r 
   step_runs r1 last done tells rows told more ended counted =
       let taken = step_taken m status ready in
       let same_ended = ended_told (in_transaction last.engine) last.thread (last.engine.snapshot / 2) r1 rows told in
-      let x = runs_recorded rules laws first base (in_transaction old.engine) cells cells' r (mid_step m) (record old { engine = new; status = status }) call seen_step run_mid r1 last more (sym same_ended ∙ ended) what taken done tells in
+      let x = runs_recorded laws (in_transaction old.engine) (record old { engine = new; status = status }) call seen_step run_mid r1 last more (sym same_ended ∙ ended) what taken done tells in
       let t = run_told rules laws first base (cells'.clock / 2) r1 rows last (now taken done tells).sound.kept.row told x.run in (
         laid_same base cells' r1 rows same_ended (x.laid (subst (AreCounted cells'.clock) same_ended counted)),
         record { runs = t.0; sees = λ fed. subst (λ (l : List Attempt). Sees (words_at base l) cells' last.engine) (sym same_ended) x.sees; starved = λ e. absurd (x.fed e); reads = t.1 },
