@@ -61,7 +61,7 @@ module _ {P : Type 0} {rules : Rules P} (laws : Obeys rules) {first : Between P}
         let t = run.inside m.taken.was_is in
         let ended : r1.ended ≡ r.ended = ap (λ (x : Rows). x.ended) m.told.0 in
         let earlier = t.4.began in
-        let try = try_replies rules laws t.0 t.1 a.player mid a.engine call reply t.4 m.taken.was_is m.answered.in_call.asks g (let up = seen.up m.taken.was_is in omega arith) (seen.fewer (g.still m.taken.was_is)) in
+        let try = try_replies laws t.4 m.taken.was_is m.answered.in_call.asks g (let up = seen.up m.taken.was_is in omega arith) (seen.fewer (g.still m.taken.was_is)) in
         let row : Attempt = with_call t.1 in
         record {
           run = run_same rules first base n r.ended r1.ended a.thread last.thread ended m.settled.thread run.run;
@@ -114,13 +114,13 @@ module _ {P : Type 0} {rules : Rules P} (laws : Obeys rules) {first : Between P}
           ≡ after MAX_DEPTH (stands_for mid (words_at base r.ended at)) Commit
       commit_left =
           let t = run.inside inside in
-          left_state rules laws (bytes_at base r1.ended at) t.0 t.1 a.player mid call (words_at base r.ended at) t.4 inside m.ends.outermost m.answered.in_call.asks m.answered.fits.2 (memory_at seen at at_most) bytes_same commit_agrees n' at wrote a.engine m.ends
+          left_state laws (bytes_at base r1.ended at) call (words_at base r.ended at) t.4 inside m.ends.outermost m.answered.in_call.asks m.answered.fits.2 (memory_at seen at at_most) bytes_same commit_agrees m.ends
 
       pub commit_runs : IsRun rules first base n' r1 last
       commit_runs =
           let t = run.inside inside in
-          let try = try_commits rules laws (bytes_at base r1.ended at) t.0 t.1 a.player mid call (words_at base r.ended at) t.4 inside m.ends.outermost m.answered.in_call.asks m.answered.fits.2 (memory_at seen at at_most) bytes_same commit_agrees n' at wrote a.engine m.ends
-          (bytes_at base r1.ended) refl (let e = t.4.began in let is = m.ends.at_is in omega arith) (omega (arith, at_most, later)) in
+          let try = try_commits laws (bytes_at base r1.ended at) call (words_at base r.ended at) t.4 inside m.ends.outermost m.answered.in_call.asks m.answered.fits.2 (memory_at seen at at_most) bytes_same commit_agrees m.ends
+          n' (bytes_at base r1.ended) refl (let e = t.4.began in let is = m.ends.at_is in omega arith) (omega (arith, at_most, later)) in
           let over = ended_run _ (row_is_of a.thread r.active t.1 t.3) commit_ended m.settled.thread try in
           let arena : (alone MAX_DEPTH (bytes_at base r1.ended at) (record t.1 { calls = t.1.calls ++ record { call = call; reply = Done } ∷ []; at = at; outcome = if wrote then outcomes.Committed else outcomes.ReadOnly })).arena ≡ last.engine.arena =
           ap (λ (x : State). x.arena) commit_left ∙ (sym (m.ends.arena_is (words_at base r.ended at)) ∙ ap (λ (c : Core). c.arena) (sym m.settled.engine)) in
@@ -171,7 +171,7 @@ module _ {P : Type 0} {rules : Rules P} (laws : Obeys rules) {first : Between P}
       stop_run full =
           let t = run.inside inside in
           ended_run (record t.1 { at = k; outcome = outcome }) (row_is_of a.thread r.active t.1 t.3) stop_ended thread
-          (try_stops rules laws n' base r1.ended t.0 t.1 a.player mid t.4 k outcome
+          (try_stops laws n' base r1.ended t.4 k outcome
           (ends (stands_for mid (words_at base r1.ended k)) (stands_open rules laws mid (words_at base r1.ended k) inside)) older (omega (arith, newer, later)) memory_now same_now agrees_now full)
 
       -- the plain state that it leaves
@@ -222,7 +222,7 @@ module _ {P : Type 0} {rules : Rules P} (laws : Obeys rules) {first : Between P}
           let agrees = subst (λ (k : ℕ). Agrees (words_at base r.ended k) mid.log) (sym m.ends.at_is) (seen.still inside) in
           record {
             run = (stop_run at outcomes.Full (λ x o. o) m.settled.thread m.told.0 older newer agrees
-                (λ f. lacks_commit rules laws (bytes_at base r1.ended at) t.0 t.1 a.player mid call (words_at base r.ended at) t.4 inside m.ends.outermost m.answered.in_call.asks is (memory_at seen at newer) (same_at seen at newer ∙ sym (still at newer)) agrees m.ends.some)).0;
+                (λ f. lacks_commit laws (bytes_at base r1.ended at) call (words_at base r.ended at) t.4 inside m.ends.outermost m.answered.in_call.asks is (memory_at seen at newer) (same_at seen at newer ∙ sym (still at newer)) agrees m.ends.some)).0;
             inside = λ o. absurd (true≢false (sym o ∙ (ap in_transaction m.settled.engine ∙ m.answered.fits.1)));
             between = λ o gave_up starved. absurd (gave_up (ap ending_of m.told.1));
           }

@@ -96,7 +96,7 @@ module _ {P : Type 0} {rules : Rules P} (laws : Obeys rules) {first : Between P}
         let g' : Replies mid (Begin props room) reply a.engine = subst (λ (c : Call). Replies mid c reply a.engine) is g in
         let asks : rules.next_call a.player ≡ Some (Begin props room) = m.answered.in_call.asks ∙ ap (λ (c : Call). Some c) is in
         let props_same : row.props ≡ props = (let both_begin = sym p.3 ∙ (k.leads ∙ begin_here rules laws a.player t.0.arena props room asks) in ap (λ (x : Beginning P). x.props) (same_Some _ _ both_begin)) in
-        let try = try_begins rules laws t.0 row a.player mid a.engine props room reply p.3 p.1 props_same p.2 (let nth = q.nth in let fewer = k.tries in omega arith) m.taken.was_is (m.taken.empty refl) k.arena p.4 g'
+        let try = try_begins laws t.0 row a.player mid a.engine props room reply p.3 p.1 props_same p.2 (let nth = q.nth in let fewer = k.tries in omega arith) m.taken.was_is (m.taken.empty refl) k.arena p.4 g'
         (let early = p.0 in omega arith) (words_at base r.ended (a.engine.snapshot / 2)) (memory_at seen (a.engine.snapshot / 2) k_late) (seen.now now) at in
         let free : active_of row.thread r.active ≡ None = ap (λ (u : ℕ). active_of u r.active) q.thread ∙ m.answered.kept.row in
         record {

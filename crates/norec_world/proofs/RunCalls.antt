@@ -62,7 +62,7 @@ module _ {P : Type 0} {rules : Rules P} (laws : Obeys rules) {cells : Cells} {r0
               (λ i. now_at rules first base (ended_same m i) (m.asks.thread i)) ∙ t.2,
               active_same m ∙ t.3,
               subst (λ (q : P). IsInTry rules t.0 t.1 q (mid m)) (sym m.asks.player)
-                  (try_kept rules laws t.0 t.1 old.player old.engine (mid m) t.4 refl (and_right (begins_again (in_transaction old.engine) old.again call) (not (in_transaction old.engine)) (not_from_true (in_transaction old.engine) o))
+                  (try_kept laws (mid m) t.4 refl (and_right (begins_again (in_transaction old.engine) old.again call) (not (in_transaction old.engine)) (not_from_true (in_transaction old.engine) o))
                   (λ k. refl) t.4.began (λ k agrees. agrees)),
               m.asks.again ∙ t.5,
               t.6 ∙ sym m.asks.nth,
@@ -184,7 +184,7 @@ module _ {P : Type 0} (rules : Rules P) (laws : Obeys rules) (first : Between P)
       let kept = (handed_is a.engine step seen).keeps in
       record {
         run = x.run;
-        inside = λ o. (let t = x.inside (sym same ∙ o) in (t.0, t.1, t.2, t.3, try_handed rules laws t.0 t.1 a.player a.engine step seen t.4, t.5, t.6));
+        inside = λ o. (let t = x.inside (sym same ∙ o) in (t.0, t.1, t.2, t.3, try_handed laws step seen t.4, t.5, t.6));
         between = λ o gave_up starved.
             (let t = x.between (sym same ∙ o) (λ e. absurd (let z = sym on ∙ e in cc)) (λ e. absurd (let z = sym on ∙ e in cc)) in
             (t.0, t.1, before_on t.2 (handed_to a.engine (Some step) seen) status kept.arena kept.again));
@@ -208,7 +208,7 @@ module _ {P : Type 0} (rules : Rules P) (laws : Obeys rules) (first : Between P)
                 reading (a.engine.snapshot / 2) t.1,
                 ap (λ (rows : Rows). run_after rules (bytes_at base rows.ended) (Some first) (of_thread a.thread rows.ended)) moved ∙ t.2,
                 now,
-                try_told rules laws t.0 t.1 a.player a.engine (a.engine.snapshot / 2) t.4,
+                try_told laws (a.engine.snapshot / 2) t.4,
                 t.5,
                 t.6,
               );

@@ -136,7 +136,7 @@ module _ {P : Type 0} (rules : Rules P) (laws : Obeys rules) where
               let unfinished : row.outcome ≡ outcomes.Unfinished = row_unfinished (in_transaction a.engine) w.attempts a.thread row s.sound.kept.row t.3 in
               let at : row.at ≡ k = x.reads o row t.3 in
               let early = t.4.began in
-              let try = try_stops rules laws (w.cells.clock / 2) w.base (attempts_of w) t.0 row a.player a.engine t.4 k outcomes.Unfinished (stands_open rules laws a.engine (words_at w.base (attempts_of w) k) o) early k_late
+              let try = try_stops laws (w.cells.clock / 2) w.base (attempts_of w) t.4 k outcomes.Unfinished (stands_open rules laws a.engine (words_at w.base (attempts_of w) k) o) early k_late
               (subst (IsMemory a.engine.words) (sym words) (fits.0 ∙ sym tied.words, fits.1)) (ap bytes_of words ∙ (running.laid.memories.same k k_late ∙ sym (shown_still k k_late)))
               (subst (λ (m : List ℕ). Agrees m a.engine.log) (sym words) (sees.logged o)) (λ f. absurd (cc)) in
               let as_it_is : record row { at = k; outcome = outcomes.Unfinished } ≡ row = λ i. record row { at = (sym at) i; outcome = (sym unfinished) i } in

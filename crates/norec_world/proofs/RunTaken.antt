@@ -49,7 +49,7 @@ module _ {P : Type 0} {rules : Rules P} (laws : Obeys rules) {first : Between P}
               (let x = run.inside (sym opens ∙ o) in
               let up = seen.up (sym opens ∙ o) in
               let early = x.4.began in
-              (x.0, x.1, x.2, x.3, try_asks rules laws x.0 x.1 a.player mid a.engine step x.4 g (omega arith) (seen.fewer o), x.5, x.6));
+              (x.0, x.1, x.2, x.3, try_asks laws x.4 g (omega arith) (seen.fewer o), x.5, x.6));
           between = λ o gave_up starved.
               (let x = run.between (sym opens ∙ o) (still_going t.ready) (still_going t.ready) in
               (x.0, x.1, before_on x.2 a.engine (Waits call step) (ap (λ (c : Core). c.arena) g.stays) (ap (λ (c : Core). c.again) g.stays)));
