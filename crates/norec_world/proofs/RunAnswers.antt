@@ -12,12 +12,9 @@ use Rattle.norec_world.proofs.Taken.{HasAnswered}
 use Rattle.norec_world.proofs.InTries.{try_replies, try_stops, try_commits, left_state, lacks_commit}
 
 -- a rollback leaves the arena
-undone_arena_from : (s : State) (blocks : List Block) → (undone_from s blocks).arena ≡ s.arena
-undone_arena_from s [] = refl
-undone_arena_from s (b ∷ bs) = undone_arena_from (record s { memory = b.saved.memory; blocks = bs; wrote = b.saved.wrote }) bs
-
-undone_arena : (s : State) → (undone s).arena ≡ s.arena
-undone_arena s = undone_arena_from s s.blocks
+undone_arena : (s : State) (blocks : List Block) → (undone_from s blocks).arena ≡ s.arena
+undone_arena s [] = refl
+undone_arena s (b ∷ bs) = undone_arena (record s { memory = b.saved.memory; blocks = bs; wrote = b.saved.wrote }) bs
 
 -- a player before its try stays there while its engine goes on
 pub before_on : {P : Type 0} {rules : Rules P} {n : ℕ} {b : Between P} {a : Actor P} → IsBeforeTry rules n b a → (e : Core) (s : Status) → e.arena ≡ a.engine.arena → e.again ≡ a.engine.again
@@ -82,9 +79,8 @@ module _ {P : Type 0} {rules : Rules P} (laws : Obeys rules) {first : Between P}
   -- the run with it, over perhaps more commits
   module _ (n' : ℕ) (later : cells.clock / 2 ≤ n') (still : (k : ℕ) → k ≤ cells.clock / 2 → bytes_at base r1.ended k ≡ bytes_at base r.ended k) (inside : in_transaction mid ≡ true) where
     pub ended_run : (over : Attempt) → over.thread ≡ a.thread → r1.ended ≡ r.ended ++ over ∷ [] → last.thread ≡ a.thread → IsTryAt rules MAX_DEPTH n' (bytes_at base r1.ended) (run.inside inside).0 (Some (run.inside inside).4.start) over
-        → IsRunOf rules MAX_DEPTH n' (bytes_at base r1.ended) (Some first) (of_thread last.thread r1.ended)
-        × (run_after rules (bytes_at base r1.ended) (Some first) (of_thread last.thread r1.ended)
-        ≡ after_try rules MAX_DEPTH (bytes_at base r1.ended) (run.inside inside).0 (Some (run.inside inside).4.start) over)
+        → RunOf rules first base n' r1.ended last.thread
+        × (now_at rules first base r1.ended last.thread ≡ after_try rules MAX_DEPTH (bytes_at base r1.ended) (run.inside inside).0 (Some (run.inside inside).4.start) over)
     ended_run over mine ended thread try =
         let t = run.inside inside in
         let memory = bytes_at base r1.ended in
@@ -165,9 +161,8 @@ module _ {P : Type 0} {rules : Rules P} (laws : Obeys rules) {first : Between P}
       agrees_now = subst (λ (m : List ℕ). Agrees m mid.log) (sym words_same) agrees
 
       pub stop_run : (outcome ≡ outcomes.Full → LacksCommit rules MAX_DEPTH (rules.answered (run.inside inside).4.start.player (begin_code (run.inside inside).0.again)) (run.inside inside).1 (bytes_at base r1.ended k))
-          → IsRunOf rules MAX_DEPTH n' (bytes_at base r1.ended) (Some first) (of_thread last.thread r1.ended)
-          × (run_after rules (bytes_at base r1.ended) (Some first) (of_thread last.thread r1.ended)
-          ≡ after_try rules MAX_DEPTH (bytes_at base r1.ended) (run.inside inside).0 (Some (run.inside inside).4.start) (record (run.inside inside).1 { at = k; outcome = outcome }))
+          → RunOf rules first base n' r1.ended last.thread
+          × (now_at rules first base r1.ended last.thread ≡ after_try rules MAX_DEPTH (bytes_at base r1.ended) (run.inside inside).0 (Some (run.inside inside).4.start) (record (run.inside inside).1 { at = k; outcome = outcome }))
       stop_run full =
           let t = run.inside inside in
           ended_run (record t.1 { at = k; outcome = outcome }) (row_is_of a.thread r.active t.1 t.3) stop_ended thread
@@ -195,8 +190,8 @@ module _ {P : Type 0} {rules : Rules P} (laws : Obeys rules) {first : Between P}
           let over = stop_run k outcomes.Conflict (λ x o. o) m.settled.thread m.told.0 (omega arith) (omega arith) agrees (λ f. absurd (cc)) in
           let state = stop_left k outcomes.Conflict (λ x o. o) m.settled.thread m.told.0 (omega arith) (omega arith) agrees in
           let player : rules.restarted (answered_all rules.answered (rules.answered t.4.start.player (begin_code t.0.again)) (map (λ (x : Entry). x.reply) t.1.calls)) ≡ last.player = ap rules.restarted (sym t.4.player) ∙ sym m.told.1 in
-          let arena : (undone (alone MAX_DEPTH (bytes_at base r1.ended k) (record t.1 { at = k; outcome = outcomes.Conflict }))).arena ≡ last.engine.arena =
-          undone_arena (alone MAX_DEPTH (bytes_at base r1.ended k) (record t.1 { at = k; outcome = outcomes.Conflict })) ∙ (ap (λ (x : State). x.arena) state ∙ (ap (λ (c : Core). c.arena) (sym m.ends.stays) ∙ ap (λ (c : Core). c.arena) (sym m.settled.engine))) in
+          let left : State = alone MAX_DEPTH (bytes_at base r1.ended k) (record t.1 { at = k; outcome = outcomes.Conflict }) in
+          let arena : (undone left).arena ≡ last.engine.arena = undone_arena left left.blocks ∙ (ap (λ (x : State). x.arena) state ∙ ap (λ (c : Core). c.arena) (sym (m.settled.engine ∙ m.ends.stays))) in
           record {
             run = over.0;
             inside = λ o. absurd (true≢false (sym o ∙ (ap in_transaction m.settled.engine ∙ m.answered.fits.1)));

@@ -52,18 +52,13 @@ module _ {P : Type 0} {rules : Rules P} (laws : Obeys rules) {first : Between P}
     g : Replies mid call reply a.engine
     g = subst (λ (o : Option Call). RepliesTo mid o reply a.engine) m.taken.doing m.ends
 
-    -- its memory is the words as they are: nothing is logged
-    memory : IsMemory mid.words cells'.words
-    memory = (sym m.taken.words, m.taken.tied.fit)
-
-    empty_log : in_transaction last.engine ≡ false → Agrees cells'.words a.engine.log
-    empty_log o = subst (Agrees cells'.words) (sym (m.taken.tied.settled.closed (ap in_transaction (sym m.settled.engine) ∙ o)).0) tt
-
     outside_runs : is_begin call ≡ false → in_transaction last.engine ≡ false → r1.ended ≡ r.ended → IsRun rules first base (cells.clock / 2) r1 last
     outside_runs other closed ended =
         let t = before m.taken.was_is m.answered.status in
         let k = t.2 in
-        let refused = refused_outside rules laws mid a.engine call reply cells'.words g other m.taken.was_is memory (empty_log closed) in
+        -- its memory is the words as they are: nothing is logged
+        let refused = refused_outside rules laws mid a.engine call reply cells'.words g other m.taken.was_is (sym m.taken.words, m.taken.tied.fit)
+        (subst (Agrees cells'.words) (sym (m.taken.tied.settled.closed (ap in_transaction (sym m.settled.engine) ∙ closed)).0) tt) in
         let arena : last.engine.arena ≡ mid.arena = ap (λ (c : Core). c.arena) (m.settled.engine ∙ g.stays) in
         record {
           run = run_same rules first base (cells.clock / 2) r.ended r1.ended a.thread last.thread ended m.settled.thread run.run;

@@ -133,9 +133,6 @@ module _ {P : Type 0} (clock clock1 : ℕ) (p : Prior) (r1 r2 : Rows) (a1 a2 : A
 -- no work
 module _ {P : Type 0} (rules : Rules P)
     (cells : Cells) (r : Rows) (a : Actor P) (sound : IsSound rules cells r a) (ready : a.status ≡ Ready) where
-  pub no_pending : a.pending ≡ None
-  no_pending = (rests sound ready).nothing
-
   pub tries_still : Tries cells.clock (prior_of r a) cells.clock r a
   tries_still =
-      stays cells.clock cells.clock r r a a refl refl (in_transaction a.engine) sound.kept.row no_pending refl refl (λ shut row e. absurd (none-some row (sym no_pending ∙ e))) (still_going ready) (still_going ready)
+      stays cells.clock cells.clock r r a a refl refl (in_transaction a.engine) sound.kept.row (rests sound ready).nothing refl refl (λ shut row e. absurd (none-some row (sym (rests sound ready).nothing ∙ e))) (still_going ready) (still_going ready)

@@ -4,14 +4,14 @@ use Rattle.norec_world.proofs.Common.{Actor, Acts, Attempt, Call, Cells, Core, E
 use Rattle.norec_world.specs.LocalWork.{calls, finishes, starves}
 use Rattle.norec_world.proofs.CommitCounts.{counted_after}
 use Rattle.norec_world.proofs.LessLeft.{less_less}
-use Rattle.norec_world.proofs.LocalWork.{nothing_ready, works_both}
+use Rattle.norec_world.proofs.LocalWork.{works_both}
 use Rattle.norec_world.proofs.OthersAttempts.{others_same, others_twice}
 use Rattle.norec_world.proofs.RunCalls.{call_runs, finish_runs, laid_calls, starve_runs}
-use Rattle.norec_world.proofs.SoundSteps.{IsCalling, call_less, call_taken, ended_same, mid}
+use Rattle.norec_world.proofs.SoundSteps.{IsCalling, call_less, call_taken, ended_same, mid, rests}
 use Rattle.norec_world.proofs.Taken.{now, ready_of, recorded, still_going}
 use Rattle.norec_world.proofs.TiedEngines.{holds_same, limit_same, snapshot_still}
 use Rattle.norec_world.proofs.TryCalls.{call_tries, finish_tries, starve_tries}
-use Rattle.norec_world.proofs.TryChains.{no_pending, tries_still, tries_then}
+use Rattle.norec_world.proofs.TryChains.{tries_still, tries_then}
 use Rattle.norec_world.proofs.TryEnds.{not_finished}
 
 not_still : {P : Type 0} {A : Type 0} (a : Actor P) → a.status ≡ Ready → is_ready a.status ≡ false → A
@@ -98,7 +98,7 @@ module _ {P : Type 0} {rules : Rules P} (laws : Obeys rules) {cells : Cells} {r0
           ready = m.asked.same.status ∙ m.ready;
           tells = tells;
           engine = x.engine;
-          same = record { thread = x.thread ∙ m.asked.same.thread; retries = x.retries ∙ m.asked.same.retries; nothing = nothing_ready rules r1 last last.status x.sound.status };
+          same = record { thread = x.thread ∙ m.asked.same.thread; retries = x.retries ∙ m.asked.same.retries; nothing = λ e. (rests x.sound e).nothing };
         }));
         tries = λ w. tries;
         runs = λ first base laid runs. call_runs laws m first base laid runs r1 last done tells own.more (own.ended ∙ ap (λ (l : List Attempt). l ++ own.more) (sym (ended_same m))) (counted_after cells.clock cells.clock (prior_of r0 old) r1 last tries laid.counted);
@@ -138,7 +138,7 @@ module _ {P : Type 0} {rules : Rules P} {cells : Cells} {r : Rows} {a : Actor P}
       record {
         sound = y.sound;
         works = works_both rules cells.clock r r1 r2 a a1 a2 x.works y.works;
-        tries = λ w. tries_then cells.clock cells.clock (prior_of r a) r1 r2 a1 a2 ready (no_pending rules cells r1 a1 x.sound ready) x.limit.0 x.retries y.snapshot (y.tries ready_1) (x.tries w);
+        tries = λ w. tries_then cells.clock cells.clock (prior_of r a) r1 r2 a1 a2 ready (rests x.sound ready).nothing x.limit.0 x.retries y.snapshot (y.tries ready_1) (x.tries w);
         runs = λ first base laid runs. (let z = x.runs first base laid runs in y.runs first base z.0 z.1);
         others = others_twice a a1 a2 r r1 r2 x.others y.others;
         holds = y.holds ∙ x.holds;
