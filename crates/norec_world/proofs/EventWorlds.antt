@@ -62,11 +62,9 @@ module _ {P : Type 0} {rules : Rules P} (laws : Obeys rules) (w : World P) (kept
   event : (e : IsEvent rules w.cells w.attempts got cells' r2 a2) × HasRead w.base e.rows e.stepped
   event = event_then x y w.base (has_read rules laws w kept i got a1 here cells' r1 events x.others x.clocks x.runs x.sound.tied)
 
-  going : ending_of got.status ≡ None
-  going = waiting_going got.status (waiting_some got.status (subst IsSome (ap (option_and_then (λ (a : Actor P). waiting_step a.status)) here) waits))
-
   pub world_after : IsWorld rules (record w { cells = cells'; actors = slice_set w.actors i a2; attempts = r2; events = events })
   world_after =
+      let going = waiting_going got.status (waiting_some got.status (subst IsSome (ap (option_and_then (λ (a : Actor P). waiting_step a.status)) here) waits)) in
       let actors = actors_after rules w.cells cells' w.attempts r2 w.actors kept.actors i got a2 here y.sound done (event_others x y) (event_clocks x y) in
       let commits = commits_after rules w kept.commits i got a2 here cells' r2 events event.0 in
       let running = running_after rules laws w kept i got a2 here cells' r2 events (event_others x y) (event_clocks x y)

@@ -1,12 +1,12 @@
 -- An actor's run over a call, up to its first step, and over a step.
-use Rattle.std.proofs.Common.{◌≡◌, ℕ, ◌/◌, ◌≤◌, ◌&&◌, Bool, true, false, not, List, [], ◌∷◌, ◌++◌, Some, refl, sym, true≢false, ap, subst, ◌∙◌, arith, None}
+use Rattle.std.proofs.Common.{◌≡◌, ℕ, ◌/◌, ◌≤◌, ◌&&◌, Bool, true, false, not, List, [], ◌∷◌, ◌++◌, Some, refl, sym, true≢false, ap, subst, ◌∙◌, arith, None, inl, inr}
 use Rattle.std.proofs.lemmas.Bool.{and_right, not_from_true}
-use Rattle.norec_world.proofs.Common.{Actor, Answer, AreCounted, AreLaid, Attempt, Begin, Between, Call, Cells, Commit, Core, Ended, HasRow, IsBeforeTry, IsDone, IsRun, IsRunOf, IsSound, IsTold, MAX_DEPTH, Next, Obeys, Ready, Reply, Rows, Rules, RunsFrom, Sees, Starves, Status, Step, Tells, active_of, asked_pending, begin_of, begins_again, begins_at, bytes_at, ending_of, found, handed_is, handed_to, in_transaction, is_inside, of_thread, run_after, words_at, IsInTry}
+use Rattle.norec_world.proofs.Common.{Actor, Answer, AreCounted, AreLaid, Attempt, Begin, Between, Call, Cells, Commit, Core, Ended, HasRow, IsBeforeTry, IsDone, IsRun, IsRunOf, IsSound, IsTold, MAX_DEPTH, Next, Obeys, Ready, Reply, Rows, Rules, RunsFrom, Sees, Starves, Status, Step, Tells, active_of, asked_pending, begin_of, begins_again, begins_at, bytes_at, ending_of, found, handed_is, handed_to, in_transaction, is_inside, of_thread, run_after, words_at, IsInTry, cases_Bool}
 use Rattle.norec_world.specs.declared.attempt.Outcome.TheVariants as outcomes
 use Rattle.norec_world.specs.declared.attempt.End.TheVariants as ends
 use Rattle.norec_world.proofs.ActiveRows.{changed_here}
 use Rattle.norec_world.proofs.SoundSteps.{IsCalling, active_same, call_taken, ended_same, mid, rests, IsStepping, mid_step, same, step_taken, waits}
-use Rattle.norec_world.proofs.Memories.{bytes_still}
+use Rattle.norec_world.proofs.Memories.{bytes_stay}
 use Rattle.norec_world.proofs.Laid.{laid_on, laid_same}
 use Rattle.norec_world.proofs.RunTaken.{runs_recorded}
 use Rattle.norec_world.proofs.Seen.{HasSeen, call_seen, step_seen}
@@ -152,7 +152,7 @@ module _ {P : Type 0} {rules : Rules P} (laws : Obeys rules) {cells : Cells} {r0
   starve_run true o =
       let here : IsRun rules first base (cells.clock / 2) roomy old = record { run = runs.runs.run; inside = runs.runs.inside; between = λ x. absurd (true≢false (sym o ∙ x)) } in
       (stop_run laws r1 old last Commit still_seen here (cells.clock / 2) (let l : cells.clock / 2 ≤ cells.clock / 2 = omega arith in l)
-      (λ k l. ap (λ (rows : List Attempt). bytes_at base rows k) ended ∙ bytes_still base cells.clock r0.ended laid.counted more k l) o (old.engine.snapshot / 2) outcomes.NoMemory (λ x y. y) s.same.thread (s.stops o)
+      (bytes_stay laid more ended) o (old.engine.snapshot / 2) outcomes.NoMemory (λ x y. y) s.same.thread (s.stops o)
       (runs.runs.inside o).4.began still_seen.late ((runs.sees fed).logged o) (λ f. absurd (cc))).0
 
   pub starve_runs : RunsFrom rules first base cells r1 last
@@ -167,8 +167,7 @@ module _ {P : Type 0} {rules : Rules P} (laws : Obeys rules) {cells : Cells} {r0
 
 pub laid_calls : (base : List ℕ) (cells : Cells) (r0 r1 : Rows) → AreLaid base cells r0 → (more : List Attempt) → r1.ended ≡ r0.ended ++ more → AreCounted cells.clock r1.ended → AreLaid base cells r1
 laid_calls base cells r0 r1 laid more ended counted =
-    laid_on base cells cells r0 r1 laid counted refl refl
-    (λ k l. ap (λ (rows : List Attempt). bytes_at base rows k) ended ∙ bytes_still base cells.clock r0.ended laid.counted more k l) (λ even. refl)
+    laid_on base cells cells r0 r1 laid counted refl refl (bytes_stay laid more ended) (λ even. refl)
 
 -- ## A step
 
@@ -230,16 +229,12 @@ module _ {P : Type 0} {rules : Rules P} (laws : Obeys rules) {cells : Cells} {r 
   run_mid : IsRun rules first base (cells.clock / 2) r (record old { engine = mid_step m; status = status })
   run_mid = run_handed rules laws first base (cells.clock / 2) r old m.step (found cells m.step) status (ap ending_of m.waiting) (ap is_inside (same m).blocks) runs.runs
 
-  ended_told : (b : Bool) (thread at : ℕ) (r1 rows : Rows) → IsTold thread b r1 at rows → rows.ended ≡ r1.ended
-  ended_told true thread at r1 rows t = ap (λ (x : Rows). x.ended) (t.moves refl)
-  ended_told false thread at r1 rows t = ap (λ (x : Rows). x.ended) (t.stays refl)
-
   pub step_runs : (r1 : Rows) (last : Actor P) → IsDone rules (in_transaction old.engine) r r1 (record old { engine = new; status = status }) last call what → Tells rules (in_transaction old.engine) r r1 (record old { engine = new; status = status }) last call what
       → (rows : Rows) → IsTold last.thread (in_transaction last.engine) r1 (last.engine.snapshot / 2) rows → (more : List Attempt) → rows.ended ≡ r.ended ++ more → AreCounted cells'.clock rows.ended
       → AreLaid base cells' rows × RunsFrom rules first base cells' rows last
   step_runs r1 last done tells rows told more ended counted =
       let taken = step_taken m status ready in
-      let same_ended = ended_told (in_transaction last.engine) last.thread (last.engine.snapshot / 2) r1 rows told in
+      let same_ended : rows.ended ≡ r1.ended = elim (cases_Bool (in_transaction last.engine)) [ inl o ↦ ap (λ (x : Rows). x.ended) (told.moves o) | inr shut ↦ ap (λ (x : Rows). x.ended) (told.stays shut) ] in
       let x = runs_recorded laws (in_transaction old.engine) (record old { engine = new; status = status }) call seen_step run_mid r1 last more (sym same_ended ∙ ended) what taken done tells in
       let t = run_told rules laws first base (cells'.clock / 2) r1 rows last (now taken done tells).sound.kept.row told x.run in (
         laid_same base cells' r1 rows same_ended (x.laid (subst (AreCounted cells'.clock) same_ended counted)),

@@ -4,7 +4,7 @@ use Rattle.norec_world.proofs.Common.{Actor, Agrees, Answer, AreCounted, AreLaid
 use Rattle.norec_world.specs.declared.attempt.Outcome.TheVariants as outcomes
 use Rattle.norec_world.proofs.InTries.{try_asks}
 use Rattle.norec_world.proofs.Laid.{laid_more, laid_on}
-use Rattle.norec_world.proofs.Memories.{bytes_still, found_later, none_next}
+use Rattle.norec_world.proofs.Memories.{bytes_stay, found_later, none_next}
 use Rattle.norec_world.proofs.RunAnswers.{before_on, commit_agrees, commit_ended, commit_left, commit_runs, conflict_runs, full_runs, reply_runs}
 use Rattle.norec_world.proofs.RunBegins.{shut_runs}
 use Rattle.norec_world.proofs.Seen.{HasSeen, memory_at}
@@ -33,7 +33,7 @@ module _ {P : Type 0} {rules : Rules P} (laws : Obeys rules) {first : Between P}
   -- no commit is done
   laid_still : (r1 : Rows) (more : List Attempt) → r1.ended ≡ r.ended ++ more → cells'.clock / 2 ≡ cells.clock / 2 → mid.freed ≡ false → AreCounted cells'.clock r1.ended → AreLaid base cells' r1
   laid_still r1 more ended half unfreed counted =
-      laid_on base cells cells' r r1 seen.laid counted half seen.long (λ k l. ap (λ (rows : List Attempt). bytes_at base rows k) ended ∙ bytes_still base cells.clock r.ended seen.laid.counted more k l) (seen.even unfreed)
+      laid_on base cells cells' r r1 seen.laid counted half seen.long (bytes_stay seen.laid more ended) (seen.even unfreed)
 
   -- ## The call goes on
 
@@ -65,20 +65,17 @@ module _ {P : Type 0} {rules : Rules P} (laws : Obeys rules) {first : Between P}
   -- ## The call is answered
 
   module _ (r1 : Rows) (last : Actor P) (more : List Attempt) (ended : r1.ended ≡ r.ended ++ more) where
-    still : (k : ℕ) → k ≤ cells.clock / 2 → bytes_at base r1.ended k ≡ bytes_at base r.ended k
-    still k l = ap (λ (rows : List Attempt). bytes_at base rows k) ended ∙ bytes_still base cells.clock r.ended seen.laid.counted more k l
-
     to_now : cells'.clock / 2 ≡ cells.clock / 2 → IsRun rules first base (cells.clock / 2) r1 last → IsRun rules first base (cells'.clock / 2) r1 last
     to_now half x = subst (λ (k : ℕ). IsRun rules first base k r1 last) (sym half) x
 
     open_runs : (answer : Answer) → HasAnswered rules true cells cells' r r1 mid a last call answer → IsRun rules first base (cells'.clock / 2) r1 last
     open_runs (Reply reply) m = to_now (m.taken.moves.keeps (unfreed_to mid a.engine mid.doing reply m.ends)) (reply_runs laws r1 a last call seen run reply m)
-    open_runs (Committed at wrote) m = commit_runs laws r1 a last call seen run (cells'.clock / 2) (clock_grows m.taken.moves) still m.taken.was_is at wrote m
-    open_runs (Conflict clock word) m = conflict_runs laws r1 a last call seen run (cells'.clock / 2) (clock_grows m.taken.moves) still m.taken.was_is clock word m
+    open_runs (Committed at wrote) m = commit_runs laws r1 a last call seen run (cells'.clock / 2) (clock_grows m.taken.moves) (bytes_stay seen.laid more ended) m.taken.was_is at wrote m
+    open_runs (Conflict clock word) m = conflict_runs laws r1 a last call seen run (cells'.clock / 2) (clock_grows m.taken.moves) (bytes_stay seen.laid more ended) m.taken.was_is clock word m
     open_runs (Busy clock) m = absurd (let f : true ≡ false = m.answered.fits.0 in cc)
     open_runs (Full at) m =
         let at_is = m.ends.at_is in
-        full_runs laws r1 a last call seen run (cells'.clock / 2) (clock_grows m.taken.moves) still m.taken.was_is at m
+        full_runs laws r1 a last call seen run (cells'.clock / 2) (clock_grows m.taken.moves) (bytes_stay seen.laid more ended) m.taken.was_is at m
         (omega (arith, (run.inside m.taken.was_is).4.began, seen.up m.taken.was_is)) (omega (arith, m.taken.tied.settled.reached, m.taken.tied.late, clock_grows m.taken.moves, m.taken.moves.keeps m.ends.unfreed))
 
     runs_on : (b : Bool) (answer : Answer) → HasAnswered rules b cells cells' r r1 mid a last call answer → IsRun rules first base (cells'.clock / 2) r1 last
@@ -117,15 +114,15 @@ module _ {P : Type 0} {rules : Rules P} (laws : Obeys rules) {first : Between P}
         let inside = m.taken.was_is in
         let t = run.inside inside in
         let row : Attempt = record t.1 { calls = t.1.calls ++ record { call = call; reply = Done } ∷ []; at = at; outcome = outcomes.Committed } in
-        let rows : r1.ended ≡ r.ended ++ row ∷ [] = commit_ended laws r1 a last call seen run (cells'.clock / 2) up still inside at true m in
-        let left_so = commit_left laws r1 a last call seen run (cells'.clock / 2) up still inside at true m in
-        let agrees = commit_agrees laws r1 a last call seen run (cells'.clock / 2) up still inside at true m in
+        let rows : r1.ended ≡ r.ended ++ row ∷ [] = commit_ended laws r1 a last call seen run (cells'.clock / 2) up (bytes_stay seen.laid more ended) inside at true m in
+        let left_so = commit_left laws r1 a last call seen run (cells'.clock / 2) up (bytes_stay seen.laid more ended) inside at true m in
+        let agrees = commit_agrees laws r1 a last call seen run (cells'.clock / 2) up (bytes_stay seen.laid more ended) inside at true m in
         let found_row : committed_at r1.ended (cells.clock / 2) ≡ Some row =
         ap (λ (x : List Attempt). committed_at x (cells.clock / 2)) rows
         ∙ (found_later r.ended (row ∷ []) (cells.clock / 2) (none_next base cells.clock r.ended seen.laid.counted (cells.clock / 2) (let l : cells.clock / 2 ≤ cells.clock / 2 = omega arith in l)) ∙ cond-true (at == cells.clock / 2) (Some row) None (eq-eqb at (cells.clock / 2) position)) in
         let backed_words : cells'.words ≡ backed mid (words_at base r.ended at) = seen.freed freed ∙ ap (λ (k : ℕ). backed mid (words_at base r.ended k)) (sym position) in
         let next_is : cells.clock / 2 + 1 ≡ suc (cells.clock / 2) = omega arith in
-        laid_more base cells cells' r r1 seen.laid counted (omega arith) seen.long m.taken.tied.fit still
+        laid_more base cells cells' r r1 seen.laid counted (omega arith) seen.long m.taken.tied.fit (bytes_stay seen.laid more ended)
         (ap (bytes_at base r1.ended) next_is
         ∙ (ap (memory_left MAX_DEPTH (bytes_at base r1.ended (cells.clock / 2))) found_row
         ∙ (ap (λ (k : ℕ). (alone MAX_DEPTH (bytes_at base r1.ended k) row).memory) (sym position)
