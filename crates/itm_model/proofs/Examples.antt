@@ -8,7 +8,7 @@ use Rattle.itm_types.specs.declared.datum.Datum.{Datum}
 use Rattle.itm_types.specs.declared.call.Props.{Props}
 use Rattle.itm_types.specs.declared.call.Refusal.TheVariants.{Outside, OutOfRange, TooDeep}
 use Rattle.itm_types.specs.declared.call.Call.{Call}
-use Rattle.itm_types.specs.declared.call.Call.TheVariants.{Begin, Commit, Read, Write}
+use Rattle.itm_types.specs.declared.call.Call.TheVariants.{Begin, Commit, InTransaction, Read, Write}
 use Rattle.itm_types.specs.declared.call.Reply.{Reply}
 use Rattle.itm_types.specs.declared.call.Reply.TheVariants.{Done, Bytes, Code, Refused}
 use Rattle.itm_model.specs.State.{State}
@@ -50,6 +50,11 @@ empty_block_replies = refl
 
 empty_block_state : state_after 1 (start 8) (Commit ∷ []) ≡ outside (eight 0) []
 empty_block_state = refl
+
+-- ## Whether a transaction is open is told in and outside of one
+
+inquiries : replies 1 (outside (eight 0) []) (InTransaction ∷ Begin plain 2 ∷ InTransaction ∷ Commit ∷ InTransaction ∷ []) ≡ Code 0 ∷ Code 5 ∷ Code 1 ∷ Done ∷ Code 0 ∷ []
+inquiries = refl
 
 -- ## A read at the end of the memory is refused and changes nothing; the write after it is served
 

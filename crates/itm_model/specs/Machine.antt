@@ -1,14 +1,14 @@
 -- One call on the plain machine: its refusal, its reply and the state after it.
-use Rattle.std.specs.Prelude.{ℕ, Bool, false, ◌||◌, nat_lt, if◌then◌else◌, List, [], ◌∷◌, length, Option, None, Some}
+use Rattle.std.specs.Prelude.{ℕ, Bool, true, false, ◌||◌, nat_lt, if◌then◌else◌, List, [], ◌∷◌, length, Option, None, Some}
 use Rattle.itm_types.specs.Access.{size_of}
 use Rattle.itm_types.specs.declared.call.Props.{Props}
 use Rattle.itm_types.specs.declared.call.Refusal.{Refusal}
-use Rattle.itm_types.specs.declared.call.Refusal.TheVariants.{Outside, OutOfRange, TooDeep}
+use Rattle.itm_types.specs.declared.call.Refusal.TheVariants.{Outside, OutOfRange, OutOfArena, TooDeep}
 use Rattle.itm_types.specs.declared.call.Call.{Call}
-use Rattle.itm_types.specs.declared.call.Call.TheVariants.{Begin, Commit, Read, Write}
+use Rattle.itm_types.specs.declared.call.Call.TheVariants.{Begin, Commit, InTransaction, Read, Write, Load, Save}
 use Rattle.itm_types.specs.declared.call.Reply.{Reply}
 use Rattle.itm_types.specs.declared.call.Reply.TheVariants.{Done, Bytes, Code, Refused}
-use Rattle.itm_types.specs.Calls.{begin_args}
+use Rattle.itm_types.specs.Calls.{begin_args, needs_transaction}
 use Rattle.itm_types.specs.Slices.{slice, with_slice}
 use Rattle.itm_model.specs.Places.{in_range}
 use Rattle.itm_model.specs.State.{Saved, Block, State}
@@ -30,23 +30,35 @@ or_else (Some refusal) later = Some refusal
 abbrev pub needs_open : State → Option Refusal
 needs_open s = unless (is_open s) Outside
 
--- a begin may be one block too many, and each other call needs an open block
-abbrev pub standing_for : ℕ → State → Option (Props × ℕ) → Option Refusal
-standing_for deepest s (Some begin) = unless (nat_lt (length s.blocks) deepest) TooDeep
-standing_for deepest s None = needs_open s
+-- a call of a transaction needs an open block
+abbrev pub place_for : State → Bool → Option Refusal
+place_for s true = needs_open s
+place_for s false = None
+
+-- a begin may be one block too many
+abbrev pub standing_for : ℕ → State → Bool → Option (Props × ℕ) → Option Refusal
+standing_for deepest s needs (Some begin) = unless (nat_lt (length s.blocks) deepest) TooDeep
+standing_for deepest s needs None = place_for s needs
 
 -- why no such call is served with these blocks open, if it is not; `deepest` may be open
 abbrev pub standing : ℕ → State → Call → Option Refusal
-standing deepest s call = standing_for deepest s (begin_args call)
+standing deepest s call = standing_for deepest s (needs_transaction call) (begin_args call)
 
 abbrev pub in_shared : State → ℕ → ℕ → Option Refusal
 in_shared s place size = unless (in_range s.memory place size) OutOfRange
 
+abbrev pub in_arena : State → ℕ → ℕ → Option Refusal
+in_arena s place size = unless (in_range s.arena place size) OutOfArena
+
 -- why the call's bytes are not to be had, if they are not
 abbrev pub ranges : State → Call → Option Refusal
+ranges s (Begin props room) = None
+ranges s Commit = None
+ranges s InTransaction = None
 ranges s (Read hint width at) = in_shared s at (size_of width)
 ranges s (Write hint at value) = in_shared s at (size_of value.width)
-ranges s _ = None
+ranges s (Load width at) = in_arena s at (size_of width)
+ranges s (Save at value) = in_arena s at (size_of value.width)
 
 -- why the call is refused, if it is
 abbrev pub refusal : ℕ → State → Call → Option Refusal
@@ -57,6 +69,10 @@ refusal deepest s call = or_else (standing deepest s call) (ranges s call)
 -- a shared slice is replaced
 abbrev pub written : State → ℕ → List ℕ → State
 written s place bytes = record s { memory = with_slice s.memory place bytes; wrote = s.wrote || nat_lt 0 (length bytes) }
+
+-- a slice of the arena is replaced
+abbrev pub saved_in_arena : State → ℕ → List ℕ → State
+saved_in_arena s place bytes = record s { arena = with_slice s.arena place bytes }
 
 -- the innermost block closes
 abbrev pub closed : State → List Block → State
@@ -98,16 +114,27 @@ opened memory arena props = entered (outside memory arena) props
 abbrev pub effect : State → Call → State
 effect s (Begin props room) = if is_open s then entered s props else opened s.memory s.arena props
 effect s Commit = closed s s.blocks
+effect s InTransaction = s
+effect s (Read hint width at) = s
 effect s (Write hint at value) = written s at value.bytes.items
-effect s _ = s
+effect s (Load width at) = s
+effect s (Save at value) = saved_in_arena s at value.bytes.items
 
 abbrev pub bytes_reply : List ℕ → Reply
 bytes_reply bytes = Bytes (record { items = bytes })
 
+-- whether a transaction is open, as a code
+abbrev pub mode_code : State → ℕ
+mode_code s = if is_open s then 1 else 0
+
 abbrev pub answer : State → Call → Reply
 answer s (Begin props room) = Code 5
+answer s Commit = Done
+answer s InTransaction = Code (mode_code s)
 answer s (Read hint width at) = bytes_reply (slice s.memory at (size_of width))
-answer s _ = Done
+answer s (Write hint at value) = Done
+answer s (Load width at) = bytes_reply (slice s.arena at (size_of width))
+answer s (Save at value) = Done
 
 -- ## One call
 

@@ -2,7 +2,7 @@
 
 ghost use Rattle.std.specs.Prelude.{◌≡◌, ◌≤◌, ◌%◌, nat_lt, IsTrue, IfOk, OnOk, OnErr, [], length};
 ghost use Rattle.itm_types.specs.Access.{size_of};
-ghost use Rattle.itm_model.specs.Machine.{after, answer, closed, effect, entered, in_shared, is_open, needs_open, opened, ranges, refusal, reply, standing, unless, written};
+ghost use Rattle.itm_model.specs.Machine.{after, answer, closed, effect, entered, in_arena, in_shared, is_open, mode_code, needs_open, opened, ranges, refusal, reply, saved_in_arena, standing, unless, written};
 ghost use Rattle.itm_model.specs.Places.{in_range};
 
 use crate::block::{Block, Saved};
@@ -14,6 +14,11 @@ use std::marker::Model;
 
 /// The code that an accepted begin answers: the block was entered.
 const ENTERED: u32 = 5;
+
+/// The codes that tell whether a transaction is open: none is, or one that can be tried again.
+const NO_TRANSACTION: u32 = 0;
+
+const RETRYABLE: u32 = 1;
 
 /// A transaction alone on its bytes. Each block keeps the whole memory as at its begin, so nothing
 /// is said here of clocks, logs or write sets.
@@ -111,7 +116,8 @@ impl Plain {
     {
         match call {
             Call::Begin { .. } => self.too_deep(),
-            _ => self.outside(),
+            Call::InTransaction | Call::Load { .. } | Call::Save { .. } => None,
+            Call::Commit | Call::Read { .. } | Call::Write { .. } => self.outside(),
         }
     }
 
@@ -122,7 +128,9 @@ impl Plain {
         match call {
             Call::Read { width, at, .. } => self.out_of_range(*at, *width),
             Call::Write { at, value, .. } => self.out_of_range(*at, value.width),
-            _ => None,
+            Call::Load { width, at } => self.out_of_arena(*at, *width),
+            Call::Save { at, value } => self.out_of_arena(*at, value.width),
+            Call::Begin { .. } | Call::Commit | Call::InTransaction => None,
         }
     }
 
@@ -159,6 +167,17 @@ impl Plain {
         }
     }
 
+    /// An access leaves the arena.
+    fn out_of_arena(&self, place: u64, width: Width) -> Option<Refusal>
+        ensures { result ≡ in_arena self.now place (size_of width) }
+    {
+        if is_in_range(&self.arena, place, width.size()) {
+            None
+        } else {
+            Some(Refusal::OutOfArena)
+        }
+    }
+
     /// The effect and the answer of a call that is not refused.
     fn accept(&mut self, alloc: Global, call: &Call) -> Result<Reply, AllocError>
         requires { refusal MAX_DEPTH self.old call.now ≡ None }
@@ -176,11 +195,28 @@ impl Plain {
                 self.close();
                 Ok(Reply::Done)
             }
+            Call::InTransaction => Ok(Reply::Code(self.mode())),
             Call::Read { width, at, .. } => Ok(Reply::Bytes(value_at(&self.memory, *at, *width))),
             Call::Write { at, value, .. } => {
                 self.write(*at, &value.bytes);
                 Ok(Reply::Done)
             }
+            Call::Load { width, at } => Ok(Reply::Bytes(value_at(&self.arena, *at, *width))),
+            Call::Save { at, value } => {
+                self.save(*at, &value.bytes);
+                Ok(Reply::Done)
+            }
+        }
+    }
+
+    /// Whether a transaction is open, as a code.
+    fn mode(&self) -> u32
+        ensures { result ≡ mode_code self.now }
+    {
+        if self.blocks.is_empty() {
+            NO_TRANSACTION
+        } else {
+            RETRYABLE
         }
     }
 
@@ -213,6 +249,14 @@ impl Plain {
     {
         replace(&mut self.memory, place, bytes);
         self.wrote = self.wrote || !bytes.is_empty();
+    }
+
+    /// Bytes of the arena are replaced.
+    fn save(&mut self, place: u64, bytes: &[u8])
+        requires { IsTrue (in_range self.old.arena place (length bytes.now)) }
+        ensures { self.new ≡ saved_in_arena self.old place bytes.now }
+    {
+        replace(&mut self.arena, place, bytes);
     }
 }
 

@@ -2,7 +2,7 @@
 use Rattle.std.specs.Prelude.{ℕ, Bool, true, false, is_some, Option, None, Some}
 use Rattle.itm_types.specs.declared.call.Props.{Props}
 use Rattle.itm_types.specs.declared.call.Call.{Call}
-use Rattle.itm_types.specs.declared.call.Call.TheVariants.{Begin, Commit, Read, Write}
+use Rattle.itm_types.specs.declared.call.Call.TheVariants.{Begin, Commit, InTransaction, Read, Write, Load, Save}
 use Rattle.itm_types.specs.Access.{size_of}
 
 -- a begin's properties, and its room
@@ -17,8 +17,24 @@ abbrev pub is_commit : Call → Bool
 is_commit Commit = true
 is_commit _ = false
 
+-- the call is of a transaction: with none open it is refused
+abbrev pub needs_transaction : Call → Bool
+needs_transaction (Begin props room) = false
+needs_transaction Commit = true
+needs_transaction InTransaction = false
+needs_transaction (Read hint width at) = true
+needs_transaction (Write hint at value) = true
+needs_transaction (Load width at) = false
+needs_transaction (Save at value) = false
+
 -- the shared bytes of a read or a write: the first one's place, and how many they are
 abbrev pub access_of : Call → Option (ℕ × ℕ)
 access_of (Read hint width at) = Some (at, size_of width)
 access_of (Write hint at value) = Some (at, size_of value.width)
 access_of _ = None
+
+-- the bytes of the arena that a call takes: the first one's place, and how many they are
+abbrev pub arena_access_of : Call → Option (ℕ × ℕ)
+arena_access_of (Load width at) = Some (at, size_of width)
+arena_access_of (Save at value) = Some (at, size_of value.width)
+arena_access_of _ = None

@@ -20,6 +20,8 @@ pub enum Call {
     },
     /// Ends the innermost block (section 5.12).
     Commit,
+    /// Tells whether a transaction is open.
+    InTransaction,
     /// Reads shared memory (section 5.15).
     Read {
         hint: ReadHint,
@@ -32,6 +34,16 @@ pub enum Call {
         at: u64,
         value: Datum,
     },
+    /// Reads the thread's arena: its own access, which no entry point of the runtime serves.
+    Load {
+        width: Width,
+        at: u64,
+    },
+    /// Writes the thread's arena, likewise.
+    Save {
+        at: u64,
+        value: Datum,
+    },
 }
 
 /// Why a call is refused. A refused call changes nothing.
@@ -41,6 +53,8 @@ pub enum Refusal {
     Outside,
     /// A shared range leaves the memory.
     OutOfRange,
+    /// A range of the arena leaves it.
+    OutOfArena,
     /// As many blocks are open as may be.
     TooDeep,
 }
@@ -53,6 +67,7 @@ impl Refusal {
         match self {
             Refusal::Outside => 1,
             Refusal::OutOfRange => 2,
+            Refusal::OutOfArena => 3,
             Refusal::TooDeep => 8,
         }
     }

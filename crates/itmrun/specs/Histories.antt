@@ -1,6 +1,7 @@
 -- The text of a history.
 use Rattle.std.specs.Prelude.{ℕ, List, ◌++◌, length, flat_map, decimal, codes, if◌then◌else◌, ◌==◌}
 use Rattle.hex.specs.Hex.{encode_lower}
+use Rattle.itm_types.specs.Access.{size_of}
 use Rattle.itm_types.specs.Names.{name_of}
 use Rattle.itm_types.specs.Refusals.{number_of}
 use Rattle.itm_types.specs.declared.call.Call.{Call}
@@ -38,8 +39,11 @@ arena_line bytes = if length bytes == 0 then codes "arena -\n" else codes "arena
 unfoldable pub body_text : Call → List ℕ
 body_text (calls.Begin props room) = codes "_ITM_beginTransaction -"
 body_text calls.Commit = codes "_ITM_commitTransaction"
+body_text calls.InTransaction = codes "_ITM_inTransaction"
 body_text (calls.Read hint width at) = name_of (entry.Read hint width) ++ codes " " ++ decimal at
 body_text (calls.Write hint at value) = name_of (entry.Write hint value.width) ++ codes " " ++ decimal at ++ codes " " ++ encode_lower value.bytes.items
+body_text (calls.Load width at) = codes "ld" ++ decimal (size_of width) ++ codes " " ++ decimal at
+body_text (calls.Save at value) = codes "st" ++ decimal (size_of value.width) ++ codes " " ++ decimal at ++ codes " " ++ encode_lower value.bytes.items
 
 unfoldable pub reply_text : Reply → List ℕ
 reply_text replies.Done = codes "ok"

@@ -106,6 +106,11 @@ exchanges from to = Some (steps.Cas 0 from to)
 abbrev stores : ℕ → ℕ → Option Step
 stores cell value = Some (steps.Store cell value)
 
+-- ## Inquiries
+
+inquiry_outside : lines (outside 8) calls.InTransaction [] ≡ Ends None ∷ []
+inquiry_outside = refl
+
 -- ## Begins
 
 even_clock : lines (outside 8) begin (6 ∷ []) ≡ Asks begins (loads 0) ∷ Ends None ∷ []

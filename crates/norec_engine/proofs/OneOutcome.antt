@@ -16,7 +16,7 @@ use Rattle.norec_engine.specs.Core.{Core, came, handed, ended, is_inside, in_tra
 use Rattle.norec_engine.specs.Stands.{SeesOne}
 use Rattle.norec_engine.specs.Order.{asked, asked_in, asked_from, tries_at, tries_after}
 use Rattle.norec_engine.specs.Endings.{EndsSo, IsEnding, ending_at, ending_after}
-use Rattle.norec_engine.specs.Proceeds.{Proceeds, AsksFor, Ends, RepliesTo, writes_after, blocks_after, IsSettled}
+use Rattle.norec_engine.specs.Proceeds.{Proceeds, AsksFor, Ends, RepliesTo, writes_after, arena_after, blocks_after, IsSettled}
 use Rattle.norec_engine.specs.Moves.{IsCalled, IsResumed}
 
 -- a memory of so many words
@@ -88,6 +88,7 @@ module _ (mid new new' : Core) (end : Option Answer)
       let one : r ≡ r' = g.reply_is m.0 m.1 (Agrees-drop m.0 mid.entry new.log m.2) ∙ sym (g'.reply_is m.0 m.1 (Agrees-drop m.0 mid.entry new'.log m.3)) in
       let writes : new.writes ≡ new'.writes = g.writes ∙ (ap (writes_after mid.writes call) one ∙ sym g'.writes) in
       let blocks : new.blocks ≡ new'.blocks = g.blocks ∙ (ap (blocks_after mid.blocks call) one ∙ sym g'.blocks) in
+      let arena : new.arena ≡ new'.arena = g.arena ∙ (ap (arena_after mid.arena call) one ∙ sym g'.arena) in
       let log = same_log (ap is_inside blocks) in (
         one,
         e ∙ ((λ i. record mid {
@@ -102,6 +103,7 @@ module _ (mid new new' : Core) (end : Option Answer)
           snapshot = snapshot i;
           writes = writes i;
           blocks = blocks i;
+          arena = arena i;
         }) ∙ sym e'),
       )
 

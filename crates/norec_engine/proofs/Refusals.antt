@@ -1,22 +1,33 @@
 -- A refused read or write.
-use Rattle.std.proofs.Common.{◌≡◌, ℕ, ◌+◌, ◌*◌, ◌≤◌, nat_le, Bool, true, false, List, length, None, Some, refl, sym, ap, ◌∙◌, inl, inr}
-use Rattle.std.proofs.lemmas.Bool.{cases_Bool, leb-true}
+use Rattle.std.proofs.Common.{◌≡◌, ℕ, ◌+◌, ◌*◌, ◌≤◌, nat_le, Bool, true, false, List, length, None, Some, refl, sym, ap, ◌∙◌, inl, inr, if◌then◌else◌, Option, ◌<◌}
+use Rattle.std.proofs.lemmas.Bool.{cases_Bool, leb-true, le-leb, lt-leb}
 use Rattle.itm_types.specs.declared.call.Call.{Call}
-use Rattle.itm_types.specs.declared.call.Call.TheVariants.{Begin, Commit, Write}
+use Rattle.itm_types.specs.declared.call.Call.TheVariants.{Begin, Commit, InTransaction, Write, Load, Save}
 use Rattle.itm_types.specs.declared.call.Props.{Props}
 use Rattle.itm_types.specs.declared.call.Refusal.{Refusal}
-use Rattle.itm_types.specs.declared.call.Refusal.TheVariants.{OutOfRange}
-use Rattle.itm_types.specs.declared.call.Reply.TheVariants.{Refused}
-use Rattle.itm_types.specs.Calls.{access_of}
+use Rattle.itm_types.specs.declared.call.Refusal.TheVariants.{OutOfRange, OutOfArena}
+use Rattle.itm_types.specs.declared.call.Reply.TheVariants.{Done, Bytes, Code, Refused}
+use Rattle.itm_types.specs.Calls.{access_of, arena_access_of}
+use Rattle.itm_types.specs.Access.{size_of}
+use Rattle.itm_types.specs.Slices.{slice, with_slice}
+use Rattle.itm_types.specs.declared.access.Width.{Width}
+use Rattle.itm_types.specs.declared.datum.Datum.{Datum}
+use Rattle.arrayvec.specs.ArrayVec.{ArrayVec}
 use Rattle.itm_types.specs.Memory.{IsMemory}
-use Rattle.itm_model.specs.Machine.{unless}
+use Rattle.itm_types.specs.declared.call.Reply.{Reply as Replied}
+use Rattle.itm_model.specs.State.{State}
+use Rattle.itm_model.specs.Machine.{unless, refusal, in_arena, effect, after, after_unless, reply, reply_unless}
+use Rattle.norec_engine.specs.Stands.{state_over}
 use Rattle.write_set.specs.declared.row.Row.{Row}
 use Rattle.norec_engine.specs.declared.data.Data.{Data}
 use Rattle.norec_engine.specs.declared.phase.Phase.TheVariants.{Idle}
 use Rattle.norec_engine.specs.Core.{came}
 use Rattle.norec_engine.specs.Fields.{access_refusal, core, blocks_of, in_block, IsSound}
-use Rattle.norec_engine.specs.Proceeds.{Replies, OpensBy, writes_after, blocks_after}
-use Rattle.norec_engine.proofs.Machines.{access_refused}
+use Rattle.norec_engine.specs.Proceeds.{Replies, OpensBy, recoded, writes_after, arena_after, blocks_after}
+use Rattle.norec_engine.proofs.Machines.{access_refused, open_is, refuses}
+
+abbrev stands : Data → List ℕ → State
+stands d m = state_over d.writes (blocks_of d.block) d.arena m
 
 -- what is not refused
 pub served : (is_open : Bool) (words place size : ℕ) → access_refusal is_open words place size ≡ None → (is_open ≡ true) × (place + size ≤ 8 * words)
@@ -39,21 +50,89 @@ blocks_kept : (was : List Props) (call : Call) (why : Refusal) → was ≡ block
 blocks_kept was (Begin props room) why = refl
 blocks_kept was call why = refl
 
--- the engine is as it was, but for the counts
+arena_kept : (arena : List ℕ) (call : Call) (why : Refusal) → arena_after arena call (Refused why) ≡ arena
+arena_kept arena (Save at value) why = refl
+arena_kept arena call why = refl
+
+-- a call that begins no block anew is told what it is answered
+pub told_plainly : (call : Call) (r : Replied) → recoded call false r ≡ r
+told_plainly (Begin props room) r = refl
+told_plainly call r = refl
+
+-- a reply that leaves the engine as it was, but for the counts and perhaps the arena
+local_replies : (d : Data) (call : Call) (r : Replied) (arena : List ℕ) → IsSound d Idle
+    → ((m : List ℕ) → IsMemory d.words m → (state_over d.writes (blocks_of d.block) arena m ≡ after 1 (stands d m) call) × (r ≡ reply 1 (stands d m) call))
+    → d.writes ≡ writes_after d.writes call r → arena ≡ arena_after d.arena call r → OpensBy (in_block d) call r (in_block d) → blocks_of d.block ≡ blocks_after (blocks_of d.block) call r
+    → Replies (came (core d Idle) call false) call r (core (record d { arena = arena; spent = 0; entry = length d.log.rows }) Idle)
+local_replies d call r arena s all writes left opens blocks = record {
+  meets = λ m mem agrees. (all m mem).0;
+  reply_is = λ m mem agrees. (all m mem).1 ∙ sym (told_plainly call (reply 1 (stands d m) call));
+  stays = refl;
+  writes = writes;
+  arena = left;
+  free = refl;
+  unfreed = refl;
+  still = λ o. o;
+  opens = opens;
+  blocks = blocks;
+  settled = λ o. ((s.in_phase.0 o).1, s.bounds.even);
+}
+
+-- of a refused call
+denied : (d : Data) (call : Call) (why : Refusal) → IsSound d Idle
+    → ((m : List ℕ) → IsMemory d.words m → (stands d m ≡ after 1 (stands d m) call) × (Refused why ≡ reply 1 (stands d m) call))
+    → Replies (came (core d Idle) call false) call (Refused why) (core (record d { spent = 0; entry = length d.log.rows }) Idle)
+denied d call why s all =
+    local_replies d call (Refused why) d.arena s all
+    (sym (writes_kept d.writes call why)) (sym (arena_kept d.arena call why)) (opens_kept (in_block d) call why) (blocks_kept (blocks_of d.block) call why)
+
 pub refused_replies : (d : Data) (call : Call) (at size : ℕ) (why : Refusal) → IsSound d Idle → access_of call ≡ Some (at, size)
     → access_refusal (in_block d) d.words at size ≡ Some why
     → Replies (came (core d Idle) call false) call (Refused why) (core (record d { spent = 0; entry = length d.log.rows }) Idle)
 refused_replies d call at size why s is e =
-    let all = λ (m : List ℕ) (mem : IsMemory d.words m). access_refused d.writes (blocks_of d.block) d.arena m d.words call at size why mem is e in
-    record {
-      meets = λ m mem agrees. (all m mem).0;
-      reply_is = λ m mem agrees. (all m mem).1;
-      stays = refl;
-      writes = sym (writes_kept d.writes call why);
-      free = refl;
-      unfreed = refl;
-      still = λ o. o;
-      opens = opens_kept (in_block d) call why;
-      blocks = blocks_kept (blocks_of d.block) call why;
-      settled = λ o. ((s.in_phase.0 o).1, s.bounds.even);
-    }
+    denied d call why s (λ m mem. access_refused d.writes (blocks_of d.block) d.arena m d.words call at size why mem is e)
+
+-- it is told whether a transaction is open
+pub asked_replies : (d : Data) → IsSound d Idle
+    → Replies (came (core d Idle) InTransaction false) InTransaction (Code (if in_block d then 1 else 0)) (core (record d { spent = 0; entry = length d.log.rows }) Idle)
+asked_replies d s =
+    local_replies d InTransaction (Code (if in_block d then 1 else 0)) d.arena s
+    (λ m mem. (refl, ap (λ (o : Bool). Code (if o then 1 else 0)) (sym (open_is d.writes (blocks_of d.block) d.arena m)))) refl refl refl refl
+
+-- bytes of the arena are read
+pub load_replies : (d : Data) (width : Width) (at : ℕ) (value : ArrayVec ℕ) → IsSound d Idle → at + size_of width ≤ length d.arena → value.items ≡ slice d.arena at (size_of width)
+    → Replies (came (core d Idle) (Load width at) false) (Load width at) (Bytes value) (core (record d { spent = 0; entry = length d.log.rows }) Idle)
+load_replies d width at value s within is =
+    local_replies d (Load width at) (Bytes value) d.arena s
+    (λ m mem.
+        (let none : refusal 1 (stands d m) (Load width at) ≡ None = ap (λ (b : Bool). unless b OutOfArena) (le-leb (at + size_of width) (length d.arena) within) in (
+          sym (ap (λ (r : Option Refusal). after_unless r (stands d m) (stands d m)) none),
+          ap (λ (bytes : List ℕ). Bytes (record { items = bytes })) is ∙ sym (ap (λ (r : Option Refusal). reply_unless r (Bytes (record { items = slice d.arena at (size_of width) }))) none),
+        )))
+    refl refl refl refl
+
+-- and written
+pub save_replies : (d : Data) (at : ℕ) (value : Datum) → IsSound d Idle → at + size_of value.width ≤ length d.arena
+    → Replies (came (core d Idle) (Save at value) false) (Save at value) Done (core (record d { arena = with_slice d.arena at value.bytes.items; spent = 0; entry = length d.log.rows }) Idle)
+save_replies d at value s within =
+    local_replies d (Save at value) Done (with_slice d.arena at value.bytes.items) s
+    (λ m mem.
+        (let none : refusal 1 (stands d m) (Save at value) ≡ None = ap (λ (b : Bool). unless b OutOfArena) (le-leb (at + size_of value.width) (length d.arena) within) in (
+          sym (ap (λ (r : Option Refusal). after_unless r (stands d m) (effect (stands d m) (Save at value))) none),
+          sym (ap (λ (r : Option Refusal). reply_unless r Done) none),
+        )))
+    refl refl refl refl
+
+-- bytes that leave the arena
+pub far_replies : (d : Data) (call : Call) (at size : ℕ) → IsSound d Idle → arena_access_of call ≡ Some (at, size) → length d.arena < at + size
+    → Replies (came (core d Idle) call false) call (Refused OutOfArena) (core (record d { spent = 0; entry = length d.log.rows }) Idle)
+far_replies d call at size s is far = denied d call OutOfArena s (λ m mem. refuses (stands d m) call OutOfArena (refusal_of_arena (stands d m) call at size is far))
+  where
+    refusal_of_arena : (t : State) (c : Call) (at size : ℕ) → arena_access_of c ≡ Some (at, size) → length t.arena < at + size → refusal 1 t c ≡ Some OutOfArena
+    refusal_of_arena t (Load width at') at size is far =
+        let same : (at', size_of width) ≡ (at, size) = cc in
+        ap (λ (x : ℕ × ℕ). in_arena t x.0 x.1) same ∙ ap (λ (b : Bool). unless b OutOfArena) (lt-leb (at + size) (length t.arena) far)
+    refusal_of_arena t (Save at' value) at size is far =
+        let same : (at', size_of value.width) ≡ (at, size) = cc in
+        ap (λ (x : ℕ × ℕ). in_arena t x.0 x.1) same ∙ ap (λ (b : Bool). unless b OutOfArena) (lt-leb (at + size) (length t.arena) far)
+    refusal_of_arena t c at size is far = absurd (cc)

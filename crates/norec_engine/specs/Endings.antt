@@ -38,8 +38,13 @@ commit_ending c = if length c.writes == 0 then Some (Committed (c.snapshot / 2) 
 
 -- and of any call
 abbrev pub ending_at : Core → Call → Option Answer
+ending_at c (calls.Begin props room) = None
 ending_at c calls.Commit = if in_transaction c then commit_ending c else None
-ending_at c _ = None
+ending_at c calls.InTransaction = None
+ending_at c (calls.Read hint width at) = None
+ending_at c (calls.Write hint at value) = None
+ending_at c (calls.Load width at) = None
+ending_at c (calls.Save at value) = None
 
 -- the answer is this end, or, where there is none, a reply
 abbrev pub IsEnding : Option Answer → Answer → Type 0

@@ -75,9 +75,12 @@ commit_stage c = if length c.writes == 0 then Idle else exchange_stage c.max_com
 abbrev pub stage_at : Core → Call → Bool → Phase
 stage_at c (calls.Begin props room) again = if in_transaction c then Idle else Begin (record { props = props; room = room; again = again })
 stage_at c calls.Commit again = if in_transaction c then commit_stage c else Idle
+stage_at c calls.InTransaction again = Idle
 stage_at c (calls.Read hint width at) again =
     if in_transaction c && nat_le (at + size_of width) (8 * c.words) then load_stage c.writes (record { hint = hint; width = width; at = at; number = 0 }) else Idle
-stage_at c _ again = Idle
+stage_at c (calls.Write hint at value) again = Idle
+stage_at c (calls.Load width at) again = Idle
+stage_at c (calls.Save at value) again = Idle
 
 -- ## Tries
 

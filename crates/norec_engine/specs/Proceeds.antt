@@ -5,7 +5,7 @@ use Rattle.itm_types.specs.declared.row.LogRow.{LogRow}
 use Rattle.write_set.specs.declared.row.Row.{Row}
 use Rattle.itm_types.specs.declared.call.Call.{Call}
 use Rattle.itm_types.specs.declared.call.Props.{Props}
-use Rattle.itm_types.specs.declared.call.Call.TheVariants.{Begin, Commit, Read, Write}
+use Rattle.itm_types.specs.declared.call.Call.TheVariants.{Begin, Commit, Read, Write, Save}
 use Rattle.itm_types.specs.declared.call.Reply.{Reply as Replied}
 use Rattle.itm_types.specs.declared.call.Reply.TheVariants.{Done, Code, Refused}
 use Rattle.itm_types.specs.declared.step.Step.{Step}
@@ -14,6 +14,7 @@ use Rattle.itm_types.specs.Access.{size_of}
 use Rattle.word_pieces.specs.Pieces.{pieces_of, count_of}
 use Rattle.itm_model.specs.declared.limits.TheConstants.{MAX_DEPTH}
 use Rattle.itm_types.specs.Memory.{bytes_of, IsMemory, Agrees}
+use Rattle.itm_types.specs.Slices.{with_slice}
 use Rattle.itm_model.specs.Machine.{after, reply, undone}
 use Rattle.norec_engine.specs.declared.answer.Answer.{Answer as Answered}
 use Rattle.norec_engine.specs.declared.answer.Answer.TheVariants.{Reply, Committed, Conflict, Busy, Full}
@@ -66,15 +67,20 @@ pub record AsksFor (mid : Core) (step : Step) (new : Core) : Type 0 where
   pub unfreed : mid.freed ≡ false
   pub stays : new ≡ record mid { waits = Some step; spent = mid.spent + 1; stage = new.stage; tries = new.tries; log = new.log; snapshot = new.snapshot }
 
--- a block that was begun before is told so
-abbrev pub recoded : Bool → Replied → Replied
-recoded true (Code n) = Code 9
-recoded _ r = r
+-- the begin of a block that was begun before is told so
+abbrev pub recoded : Call → Bool → Replied → Replied
+recoded (Begin props room) true (Code n) = Code 9
+recoded _ again r = r
 
 -- an accepted write puts its pieces in the write set, which keeps the order of first writing
 abbrev pub writes_after : List Row → Call → Replied → List Row
 writes_after writes (Write hint at value) Done = (let ps = pieces_of at (size_of value.width) in put_all (reserved_all writes ps) ps value.bytes.items)
 writes_after writes _ r = writes
+
+-- an accepted save puts its bytes in the arena
+abbrev pub arena_after : List ℕ → Call → Replied → List ℕ
+arena_after arena (Save at value) Done = with_slice arena at value.bytes.items
+arena_after arena _ r = arena
 
 -- whether a transaction is open before a call's reply and after it: an accepted begin opens one, and no other reply opens or closes one
 abbrev pub OpensBy : Bool → Call → Replied → Bool → Type 0
@@ -97,7 +103,7 @@ own_rows entry log = drop entry log
 -- at a reply the engine is the plain machine's, over every memory that agrees with the log; the reply too, even over each that agrees with what the call itself has logged
 pub record Replies (mid : Core) (call : Call) (r : Replied) (new : Core) : Type 0 where
   pub meets : (m : List ℕ) → IsMemory mid.words m → Agrees m new.log → stands_for new m ≡ after MAX_DEPTH (stands_for mid m) call
-  pub reply_is : (m : List ℕ) → IsMemory mid.words m → Agrees m (own_rows mid.entry new.log) → r ≡ recoded mid.again (reply MAX_DEPTH (stands_for mid m) call)
+  pub reply_is : (m : List ℕ) → IsMemory mid.words m → Agrees m (own_rows mid.entry new.log) → r ≡ recoded call mid.again (reply MAX_DEPTH (stands_for mid m) call)
   pub stays : new ≡ record mid {
     stage = new.stage;
     tries = new.tries;
@@ -110,8 +116,10 @@ pub record Replies (mid : Core) (call : Call) (r : Replied) (new : Core) : Type 
     snapshot = new.snapshot;
     writes = new.writes;
     blocks = new.blocks;
+    arena = new.arena;
   }
   pub writes : new.writes ≡ writes_after mid.writes call r
+  pub arena : new.arena ≡ arena_after mid.arena call r
   pub free : mid.holds ≡ false
   pub unfreed : mid.freed ≡ false
   pub still : in_transaction mid ≡ true → in_transaction new ≡ true

@@ -13,6 +13,7 @@ use crate::arena::Arena;
 use crate::begin::{begin, begin_seen};
 use crate::commit::{back_loaded, commit, exchanged, freed, stored};
 use crate::data::{Data, end};
+use crate::local::{in_transaction, load, save};
 use crate::phase::{Phase, Turn};
 use crate::read::{confirmed, loaded, read};
 use crate::rounds::{round_ended, round_started, row_seen};
@@ -282,7 +283,10 @@ fn called(state: &mut Data, call: &Call) -> Result<Turn, AllocError>
     match call {
         Call::Begin { props, room } => Ok(begin(state, *props, *room, false)),
         Call::Commit => Ok(commit(state)),
+        Call::InTransaction => Ok(in_transaction(state)),
         Call::Read { hint, width, at } => read(state, *hint, *width, *at),
         Call::Write { hint, at, value } => write(state, *hint, *at, value),
+        Call::Load { width, at } => Ok(load(state, *width, *at)),
+        Call::Save { at, value } => Ok(save(state, *at, value)),
     }
 }

@@ -9,6 +9,7 @@ mod begin;
 mod commit;
 mod data;
 mod engine;
+mod local;
 mod phase;
 mod read;
 mod rounds;

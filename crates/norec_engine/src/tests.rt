@@ -31,6 +31,7 @@ const WIDEST: [u8; 32] = [
 #[derive(Clone, Copy)]
 enum Ask {
     Commit,
+    InTransaction,
     Read(ReadHint, Width, u64),
     /// These bytes are written, as many as the type has.
     Write(WriteHint, Width, u64, &'static [u8]),
@@ -75,6 +76,7 @@ enum Line {
 fn call_of(rt: &impl Abort, ask: Ask) -> Call {
     match ask {
         Ask::Commit => Call::Commit,
+        Ask::InTransaction => Call::InTransaction,
         Ask::Read(hint, width, at) => Call::Read { hint, width, at },
         Ask::Write(hint, width, at, bytes) => {
             assert_eq!(rt; bytes.len(), usize::from(width.size()));

@@ -6,6 +6,7 @@ use Rattle.write_set.specs.Rows.{overlay}
 use Rattle.itm_model.specs.Machine.{reply_unless, or_else, unless}
 use Rattle.norec_engine.specs.Stands.{is_some_row}
 use Rattle.norec_engine.specs.Proceeds.{Commits}
+use Rattle.norec_engine.proofs.Refusals.{told_plainly}
 use Rattle.norec_engine.proofs.Machines.{commits}
 use Rattle.norec_world.specs.declared.attempt.Outcome.TheVariants as outcomes
 use Rattle.norec_world.proofs.Solos.{begins_alone, alone_snoc, player_snoc, state_snoc, stands_open, gets_none}
@@ -80,7 +81,8 @@ module _ {P : Type 0} {rules : Rules P} (laws : Obeys rules) where
               let old = less m agrees in
               let stands = t.stands m memory old in
               let replied : r ≡ reply MAX_DEPTH (state_then MAX_DEPTH (state m) row.calls) call =
-              g.reply_is m memory (Agrees-drop m mid.entry new.log agrees) ∙ (ap (λ (a : Bool). recoded a (reply MAX_DEPTH (stands_for mid m) call)) t.anew ∙ ap (λ (s : State). reply MAX_DEPTH s call) stands) in
+              g.reply_is m memory (Agrees-drop m mid.entry new.log agrees) ∙ (ap (λ (a : Bool). recoded call a (reply MAX_DEPTH (stands_for mid m) call)) t.anew
+              ∙ (told_plainly call (reply MAX_DEPTH (stands_for mid m) call) ∙ ap (λ (s : State). reply MAX_DEPTH s call) stands)) in
               alone_more begun p (state m) row.calls (record { call = call; reply = r }) (t.alone m memory old) (ap is_open (sym stands) ∙ stands_open rules laws mid m inside) t.player asks replied);
           stands = λ m mem agrees.
               (let memory : IsMemory mid.words m = subst (λ (n : ℕ). IsMemory n m) words mem in
@@ -203,21 +205,21 @@ module _ {P : Type 0} {rules : Rules P} (laws : Obeys rules) where
 
   -- ## A begin is accepted
 
-  module _ (b : Between P) (row : Attempt) (p : P) (mid new : Core) (props : Props) (room : ℕ) (r : Replied) (comes : begins_at rules b ≡ Some (record { player = p; arena = b.arena; props = row.props }))
-      (row_arena : row.arena ≡ b.arena) (row_props : row.props ≡ props) (row_calls : row.calls ≡ []) (tries : b.tries < row.nth) (outside : in_transaction mid ≡ false) (empty : mid.writes ≡ []) (arena : mid.arena ≡ b.arena) (again : mid.again ≡ b.again)
+  module _ (b : Between P) (row : Attempt) (p : P) (mid new : Core) (props : Props) (room : ℕ) (r : Replied) (comes : begins_at rules b ≡ Some (record { player = p; arena = mid.arena; props = row.props }))
+      (row_arena : row.arena ≡ mid.arena) (row_props : row.props ≡ props) (row_calls : row.calls ≡ []) (tries : b.tries < row.nth) (outside : in_transaction mid ≡ false) (empty : mid.writes ≡ []) (again : mid.again ≡ b.again)
       (g : Replies mid (Begin props room) r new) (began : row.began ≤ new.snapshot / 2) (words : List ℕ) (mem : IsMemory mid.words words) (agrees : Agrees words new.log) where
     entered : (w : Bool) → mid.again ≡ w → r ≡ begin_code w
     entered w e =
-        g.reply_is words mem (Agrees-drop words mid.entry new.log agrees) ∙ (ap (λ (o : List Props). recoded mid.again (reply MAX_DEPTH (state_over mid.writes o mid.arena words) (Begin props room))) (none_inside mid.blocks outside) ∙ (ap (λ (a : Bool). recoded a (Code 5)) e ∙ coded w))
+        g.reply_is words mem (Agrees-drop words mid.entry new.log agrees) ∙ (ap (λ (o : List Props). recoded (Begin props room) mid.again (reply MAX_DEPTH (state_over mid.writes o mid.arena words) (Begin props room))) (none_inside mid.blocks outside) ∙ (ap (λ (a : Bool). recoded (Begin props room) a (Code 5)) e ∙ coded w))
       where
-        coded : (w : Bool) → recoded w (Code 5) ≡ begin_code w
+        coded : (w : Bool) → recoded (Begin props room) w (Code 5) ≡ begin_code w
         coded true = refl
         coded false = refl
 
     pub try_begins : (at : ℕ) → IsInTry rules b (record row { at = at }) (rules.answered p r) new
     try_begins at =
         record {
-          start = record { player = p; arena = b.arena; props = row.props };
+          start = record { player = p; arena = mid.arena; props = row.props };
           begins = comes;
           arena = row_arena;
           props = refl;
@@ -225,9 +227,9 @@ module _ {P : Type 0} {rules : Rules P} (laws : Obeys rules) where
           began = began;
           anew = ap (λ (c : Core). c.again) g.stays;
           player = ap (rules.answered p) (entered b.again again) ∙ ap (λ (xs : List Entry). player_then rules.answered (rules.answered p (begin_code b.again)) xs) (sym row_calls);
-          alone = λ m memory a. subst (λ (xs : List Entry). IsAlone rules MAX_DEPTH (rules.answered p (begin_code b.again)) (opened (bytes_of m) b.arena row.props) xs) (sym row_calls) tt;
+          alone = λ m memory a. subst (λ (xs : List Entry). IsAlone rules MAX_DEPTH (rules.answered p (begin_code b.again)) (opened (bytes_of m) mid.arena row.props) xs) (sym row_calls) tt;
           stands = λ m memory a.
               g.meets m (subst (λ (n : ℕ). IsMemory n m) (ap (λ (c : Core). c.words) g.stays) memory) a
               ∙ (ap (λ (o : List Props). after MAX_DEPTH (state_over mid.writes o mid.arena m) (Begin props room)) (none_inside mid.blocks outside)
-              ∙ ((λ i. opened (bytes_of (overlay m (empty i))) (arena i) (sym row_props i)) ∙ ap (λ (xs : List Entry). state_then MAX_DEPTH (opened (bytes_of m) b.arena row.props) xs) (sym row_calls)));
+              ∙ ((λ i. opened (bytes_of (overlay m (empty i))) mid.arena (sym row_props i)) ∙ ap (λ (xs : List Entry). state_then MAX_DEPTH (opened (bytes_of m) mid.arena row.props) xs) (sym row_calls)));
         }

@@ -1,7 +1,7 @@
 -- The player's laws, over one answer: its depth, where it goes back to, and how much is left to do; and what comes of the answer once it is recorded.
 use Rattle.std.proofs.Common.{◌≡◌, ℕ, ◌+◌, ◌*◌, ◌<◌, ◌≤◌, Bool, true, false, Some, refl, ap, subst, ◌∙◌, arith, if◌then◌else◌, ◌-◌, nat_lt, [], Option, None, sym, Vec, Global, ltb-false}
 use Rattle.std.proofs.Math.Nat.{mul-le-mul_right}
-use Rattle.norec_world.proofs.Common.{Actor, Attempt, Begin, Call, Code, Commit, Committed, Done, End, Ended, Entry, Falls, GaveUp, HasRow, IsAnswered, IsKept, IsNested, IsSettledBy, Obeys, Read, Refused, Replied, Reply, RestsAs, Rows, Rules, Status, Write, active_of, depth_after, depth_if, in_transaction, opens, retried, whole, Answer}
+use Rattle.norec_world.proofs.Common.{Actor, Attempt, Begin, Call, Code, Commit, Committed, Done, End, Ended, Entry, Falls, GaveUp, HasRow, IsAnswered, IsKept, IsNested, IsSettledBy, Obeys, Refused, Replied, Reply, RestsAs, Rows, Rules, Status, active_of, depth_after, depth_if, in_transaction, opens, retried, whole, Answer}
 use Rattle.norec_world.specs.Sound.{tries_left}
 use Rattle.norec_engine.specs.Proceeds.{OpensBy}
 
@@ -9,10 +9,10 @@ use Rattle.norec_engine.specs.Proceeds.{OpensBy}
 pub reply_fits : (was now : Bool) (call : Call) (r : Replied) → OpensBy was call r now → depth_after (depth_if was) call r ≡ depth_if now
 reply_fits was now (Begin props room) (Code n) o = (λ i. depth_after (depth_if (o.0 i)) (Begin props room) (Code n)) ∙ ap depth_if (sym o.1)
 reply_fits was now (Begin props room) (Refused refusal) o = ap depth_if (sym o)
+reply_fits was now (Begin props room) r o = absurd o
 reply_fits was now Commit (Refused refusal) o = ap depth_if (sym o)
-reply_fits was now (Read hint width at) r o = ap depth_if (sym o)
-reply_fits was now (Write hint at value) r o = ap depth_if (sym o)
-reply_fits was now c r o = absurd o
+reply_fits was now Commit r o = absurd o
+reply_fits was now c r o = ap depth_if (sym o)
 
 -- ## Numbers
 

@@ -1,6 +1,7 @@
 -- An actor's run, once an answer is recorded.
 use Rattle.std.proofs.Common.{◌≡◌, ℕ, ◌/◌, ◌≤◌, Bool, true, false, if◌then◌else◌, List, [], ◌∷◌, ◌++◌, map, Option, Some, refl, sym, true≢false, ap, subst, ◌∙◌, arith}
 use Rattle.norec_world.proofs.Common.{Actor, Agrees, Attempt, Between, Block, Call, Cells, Commit, Committed, Conflict, Core, Done, EndsAs, Entry, Full, IsBeforeTry, IsInTry, IsMemory, IsRun, IsRunOf, IsTryAt, LacksCommit, MAX_DEPTH, Obeys, Outcome, Replied, Replies, RepliesTo, Reply, Rows, Rules, State, Status, StopsAt, active_of, after, after_try, alone, answered_all, begin_code, begins_at, bytes_at, bytes_of, ending_of, follows, in_transaction, is_open, of_thread, opened, run_after, stands_for, state_then, words_at, words_of}
+use Rattle.norec_world.specs.Runs.{LeadsTo}
 use Rattle.itm_model.specs.Machine.{undone, undone_from}
 use Rattle.norec_world.specs.declared.attempt.Outcome.TheVariants as outcomes
 use Rattle.norec_world.proofs.ActiveRows.{changed_here, row_is_of}
@@ -19,12 +20,12 @@ undone_arena s (b ∷ bs) = undone_arena (record s { memory = b.saved.memory; bl
 -- a player before its try stays there while its engine goes on
 pub before_on : {P : Type 0} {rules : Rules P} {n : ℕ} {b : Between P} {a : Actor P} → IsBeforeTry rules n b a → (e : Core) (s : Status) → e.arena ≡ a.engine.arena → e.again ≡ a.engine.again
     → IsBeforeTry rules n b (record a { engine = e; status = s })
-before_on k e s arena again = record {
-  leads = k.leads;
-  arena = arena ∙ k.arena;
+before_on {rules = rules} {b = b} {a = a} k e s arena again = record {
+  calls = k.calls;
+  leads = subst (LeadsTo rules k.calls b.player b.arena a.player) (sym arena) k.leads;
   again = k.again;
   tries = k.tries;
-  pending = λ row is. (let p = k.pending row is in (p.0, p.1, p.2, p.3, again ∙ p.4));
+  pending = λ row is. (let p = k.pending row is in (p.0, p.1 ∙ sym arena, p.2, p.3 ∙ (λ i. Some (record { player = a.player; arena = sym arena i; props = row.props })), again ∙ p.4));
 }
 
 -- the run of the thread over these attempts, where it stands then, and both under other names
@@ -129,8 +130,8 @@ module _ {P : Type 0} {rules : Rules P} (laws : Obeys rules) {first : Between P}
               record { player = last.player; arena = last.engine.arena; again = false; tries = 0 },
               over.1 ∙ (follows_commit wrote (rules.answered t.4.start.player (begin_code t.0.again)) _ _ ∙ (λ i. Some (record { player = player i; arena = arena i; again = false; tries = 0 }))),
               record {
-                leads = refl;
-                arena = refl;
+                calls = 0;
+                leads = (refl, refl);
                 again = m.told.2;
                 tries = (let one = m.told.3 in omega arith);
                 pending = λ x e. absurd (let none = sym (none_pending rules r r1 a last true m.settled (m.told.4 ∙ m.answered.status)) ∙ e in cc);
@@ -199,8 +200,8 @@ module _ {P : Type 0} {rules : Rules P} (laws : Obeys rules) {first : Between P}
               record { player = last.player; arena = last.engine.arena; again = true; tries = t.1.nth },
               over.1 ∙ (λ i. Some (record { player = player i; arena = arena i; again = true; tries = t.1.nth })),
               record {
-                leads = refl;
-                arena = refl;
+                calls = 0;
+                leads = (refl, refl);
                 again = m.told.2.again ∙ t.5;
                 tries = (let more = (next_try m.told.2 m.answered.status gave_up).1 in let same_try = t.6 in omega arith);
                 pending = λ x e. absurd (let none = sym (none_retried rules r r1 a last true m.settled m.told.2 m.answered.status gave_up) ∙ e in cc);

@@ -1,6 +1,13 @@
 -- An actor's run between two tries: calls outside a transaction, and begins.
 use Rattle.std.proofs.Common.{◌≡◌, ℕ, zero, suc, ◌/◌, ◌≤◌, Bool, true, false, List, [], Option, None, Some, refl, sym, true≢false, ap, subst, ◌∙◌, arith, is_some, inl, inr}
-use Rattle.norec_world.proofs.Common.{same_Some, Actor, Agrees, Agrees-drop, Answer, Attempt, Begin, Beginning, Between, Busy, Call, Cells, Core, IsBeforeTry, IsInTry, IsMemory, IsRun, MAX_DEPTH, Obeys, Outside, Props, Ready, Refused, Replied, Replies, RepliesTo, Reply, Rows, Rules, active_of, begin_of, begin_within, in_transaction, is_begin, none_inside, recoded, reply, state_over, with_opened, words_at}
+use Rattle.norec_world.proofs.Common.{same_Some, Actor, Agrees, Agrees-drop, Answer, Attempt, Begin, Beginning, Between, Busy, Call, Cells, Core, IsBeforeTry, IsInTry, IsMemory, IsRun, MAX_DEPTH, Obeys, Props, Ready, Replied, Replies, RepliesTo, Reply, Rows, Rules, active_of, begin_of, begin_within, in_transaction, is_begin, none_inside, recoded, reply, state_over, with_opened, words_at, State, begins_at}
+use Rattle.norec_world.specs.Runs.{LeadsTo}
+use Rattle.itm_model.specs.Machine.{after, outside, after_unless, in_arena}
+use Rattle.itm_types.specs.Access.{size_of}
+use Rattle.itm_types.specs.declared.call.Call.TheVariants.{Load, Save}
+use Rattle.itm_types.specs.declared.call.Refusal.{Refusal}
+use Rattle.itm_types.specs.declared.call.Reply.TheVariants.{Done}
+use Rattle.write_set.specs.declared.row.Row.{Row}
 use Rattle.norec_world.specs.Records.{again_after}
 use Rattle.norec_world.proofs.ActiveRows.{opened_here}
 use Rattle.norec_world.proofs.RunAnswers.{now_at, run_same}
@@ -14,9 +21,13 @@ module _ {P : Type 0} (rules : Rules P) (laws : Obeys rules) where
   abbrev comes_to : P → List ℕ → Option (Beginning P)
   comes_to p arena = begin_of rules MAX_DEPTH p arena
 
-  -- a call outside a transaction that begins none is refused, and leads on
-  past_outside : (p : P) (arena : List ℕ) (c : Call) → rules.next_call p ≡ Some c → is_begin c ≡ false → comes_to p arena ≡ comes_to (rules.answered p (Refused Outside)) arena
-  past_outside p arena (Begin props room) e nb = absurd (cc)
+  -- the player after a call outside a transaction
+  abbrev told_outside : P → List ℕ → Call → P
+  told_outside p arena c = rules.answered p (reply MAX_DEPTH (outside [] arena) c)
+
+  -- such a call, where it begins no block, leads on
+  past_outside : (p : P) (arena : List ℕ) (c : Call) → rules.next_call p ≡ Some c → is_begin c ≡ false
+      → comes_to p arena ≡ comes_to (told_outside p arena c) (after MAX_DEPTH (outside [] arena) c).arena
   past_outside p arena c e nb = comes_past rules laws MAX_DEPTH 0 0 (rules.calls_left p) (record { player = p; arena = arena; memory = []; commits = 0 }) c e nb (omega arith)
 
   -- a begin that the player calls is where it comes to
@@ -24,21 +35,45 @@ module _ {P : Type 0} (rules : Rules P) (laws : Obeys rules) where
   begin_here p arena props room e = by_left (rules.calls_left p) refl
     where
       by_left : (n : ℕ) → rules.calls_left p ≡ n → begin_within rules MAX_DEPTH n p arena (rules.next_call p) ≡ Some (record { player = p; arena = arena; props = props })
-      by_left zero l = absurd (let k = laws.nearer p (Begin props room) (Refused Outside) e in omega arith)
+      by_left zero l = absurd (let k = laws.nearer p (Begin props room) Done e in omega arith)
       by_left (suc n) l = ap (begin_within rules MAX_DEPTH (suc n) p arena) e
 
-  -- the engine's reply to such a call
-  refused_outside : (mid new : Core) (c : Call) (r : Replied) (m : List ℕ) → Replies mid c r new → is_begin c ≡ false → in_transaction mid ≡ false → IsMemory mid.words m → Agrees m new.log → r ≡ Refused Outside
-  refused_outside mid new c r m g nb outside mem agrees =
-      g.reply_is m mem (Agrees-drop m mid.entry new.log agrees) ∙ (ap (λ (o : List Props). recoded mid.again (reply MAX_DEPTH (state_over mid.writes o mid.arena m) c)) (none_inside mid.blocks outside) ∙ (ap (recoded mid.again) (refused c nb) ∙ coded mid.again))
-    where
-      refused : (c : Call) → is_begin c ≡ false → reply MAX_DEPTH (state_over mid.writes [] mid.arena m) c ≡ Refused Outside
-      refused (Begin props room) nb = absurd (cc)
-      refused c nb = refl
+  -- where its calls have led, it comes to the same begin
+  pub led : (n : ℕ) (p : P) (arena : List ℕ) (q : P) (bytes : List ℕ) → LeadsTo rules n p arena q bytes → comes_to p arena ≡ comes_to q bytes
+  led zero p arena q bytes l = λ i. comes_to (sym l.0 i) (sym l.1 i)
+  led (suc n) p arena q bytes l = led n p arena l.0 l.1 l.3 ∙ (past_outside l.0 l.1 l.2 l.4 l.5 ∙ (λ i. comes_to (sym l.6 i) (sym l.7 i)))
 
-      coded : (w : Bool) → recoded w (Refused Outside) ≡ Refused Outside
-      coded true = refl
-      coded false = refl
+  pub led_before : {n : ℕ} {b : Between P} {a : Actor P} → IsBeforeTry rules n b a → begins_at rules b ≡ comes_to a.player a.engine.arena
+  led_before {b = b} {a = a} k = led k.calls b.player b.arena a.player a.engine.arena k.leads
+
+same_arena : (why : Option Refusal) (s t s' t' : State) → s.arena ≡ s'.arena → t.arena ≡ t'.arena → (after_unless why s t).arena ≡ (after_unless why s' t').arena
+same_arena None s t s' t' old new = new
+same_arena (Some refusal) s t s' t' old new = old
+
+-- such a call is served with no memory
+same_outside : (writes : List Row) (arena m : List ℕ) (c : Call) → is_begin c ≡ false
+    → (reply MAX_DEPTH (state_over writes [] arena m) c ≡ reply MAX_DEPTH (outside [] arena) c)
+    × ((after MAX_DEPTH (state_over writes [] arena m) c).arena ≡ (after MAX_DEPTH (outside [] arena) c).arena)
+same_outside writes arena m (Begin props room) nb = absurd (cc)
+same_outside writes arena m (Load width at) nb = (refl, same_arena (in_arena (outside [] arena) at (size_of width)) _ _ _ _ refl refl)
+same_outside writes arena m (Save at value) nb = (refl, same_arena (in_arena (outside [] arena) at (size_of value.width)) _ _ _ _ refl refl)
+same_outside writes arena m c nb = (refl, refl)
+
+-- the engine's reply to it, and its arena then
+served_outside : (mid new : Core) (c : Call) (r : Replied) (m : List ℕ) → Replies mid c r new → is_begin c ≡ false → in_transaction mid ≡ false → IsMemory mid.words m → Agrees m new.log
+    → (r ≡ reply MAX_DEPTH (outside [] mid.arena) c) × (new.arena ≡ (after MAX_DEPTH (outside [] mid.arena) c).arena)
+served_outside mid new c r m g nb shut mem agrees =
+    let over = λ (o : List Props). state_over mid.writes o mid.arena m in
+    let same = same_outside mid.writes mid.arena m c nb in
+    let none = none_inside mid.blocks shut in (
+      g.reply_is m mem (Agrees-drop m mid.entry new.log agrees)
+          ∙ (ap (λ (o : List Props). recoded c mid.again (reply MAX_DEPTH (over o) c)) none ∙ (plainly c mid.again (reply MAX_DEPTH (over []) c) nb ∙ same.0)),
+      ap (λ (s : State). s.arena) (g.meets m mem agrees) ∙ (ap (λ (o : List Props). (after MAX_DEPTH (over o) c).arena) none ∙ same.1),
+    )
+  where
+    plainly : (c : Call) (again : Bool) (r : Replied) → is_begin c ≡ false → recoded c again r ≡ r
+    plainly (Begin props room) again r nb = absurd (cc)
+    plainly c again r nb = refl
 
 module _ {P : Type 0} {rules : Rules P} (laws : Obeys rules) {first : Between P} {base : List ℕ} {cells cells' : Cells} {r : Rows} (r1 : Rows) {mid : Core} (a last : Actor P) (call : Call)
     (seen : HasSeen base cells cells' r mid a.engine) (run : IsRun rules first base (cells.clock / 2) r (record a { engine = mid })) where
@@ -57,9 +92,8 @@ module _ {P : Type 0} {rules : Rules P} (laws : Obeys rules) {first : Between P}
         let t = before m.taken.was_is m.answered.status in
         let k = t.2 in
         -- its memory is the words as they are: nothing is logged
-        let refused = refused_outside rules laws mid a.engine call reply cells'.words g other m.taken.was_is (sym m.taken.words, m.taken.tied.fit)
+        let served = served_outside mid a.engine call reply cells'.words g other m.taken.was_is (sym m.taken.words, m.taken.tied.fit)
         (subst (Agrees cells'.words) (sym (m.taken.tied.settled.closed (ap in_transaction (sym m.settled.engine) ∙ closed)).0) tt) in
-        let arena : last.engine.arena ≡ mid.arena = ap (λ (c : Core). c.arena) (m.settled.engine ∙ g.stays) in
         record {
           run = run_same rules first base (cells.clock / 2) r.ended r1.ended a.thread last.thread ended m.settled.thread run.run;
           inside = λ o. absurd (true≢false (sym o ∙ closed));
@@ -67,8 +101,8 @@ module _ {P : Type 0} {rules : Rules P} (laws : Obeys rules) {first : Between P}
             t.0,
             (λ i. now_at rules first base (ended i) (m.settled.thread i)) ∙ t.1,
             record {
-              leads = k.leads ∙ (past_outside rules laws a.player t.0.arena call m.answered.in_call.asks other ∙ (ap (λ (x : Replied). comes_to rules laws (rules.answered a.player x) t.0.arena) (sym refused) ∙ ap (λ (q : P). comes_to rules laws q t.0.arena) (sym m.told.1)));
-              arena = arena ∙ k.arena;
+              calls = suc k.calls;
+              leads = (a.player, mid.arena, call, k.leads, m.answered.in_call.asks, other, m.told.1 ∙ ap (rules.answered a.player) served.0, ap (λ (c : Core). c.arena) m.settled.engine ∙ served.1);
               again = m.told.2 ∙ (ap (λ (o : Bool). again_after o a.pending a.again) closed ∙ k.again);
               tries = (let nth = m.told.3 in let fewer = k.tries in omega arith);
               pending = λ x e. absurd (let none = sym (none_pending rules r r1 a last false m.settled (m.told.4 ∙ m.answered.status)) ∙ e in cc);
@@ -90,8 +124,8 @@ module _ {P : Type 0} {rules : Rules P} (laws : Obeys rules) {first : Between P}
         let ended : r1.ended ≡ r.ended = ap (λ (x : Rows). x.ended) rows in
         let g' : Replies mid (Begin props room) reply a.engine = subst (λ (c : Call). Replies mid c reply a.engine) is g in
         let asks : rules.next_call a.player ≡ Some (Begin props room) = m.answered.in_call.asks ∙ ap (λ (c : Call). Some c) is in
-        let props_same : row.props ≡ props = (let both_begin = sym p.3 ∙ (k.leads ∙ begin_here rules laws a.player t.0.arena props room asks) in ap (λ (x : Beginning P). x.props) (same_Some _ _ both_begin)) in
-        let try = try_begins laws t.0 row a.player mid a.engine props room reply p.3 p.1 props_same p.2 (let nth = q.nth in let fewer = k.tries in omega arith) m.taken.was_is (m.taken.empty refl) k.arena p.4 g'
+        let props_same : row.props ≡ props = (let both_begin = sym p.3 ∙ (led_before rules laws k ∙ begin_here rules laws a.player mid.arena props room asks) in ap (λ (x : Beginning P). x.props) (same_Some _ _ both_begin)) in
+        let try = try_begins laws t.0 row a.player mid a.engine props room reply p.3 p.1 props_same p.2 (let nth = q.nth in let fewer = k.tries in omega arith) m.taken.was_is (m.taken.empty refl) p.4 g'
         (let early = p.0 in omega arith) (words_at base r.ended (a.engine.snapshot / 2)) (memory_at seen (a.engine.snapshot / 2) k_late) (seen.now now) at in
         let free : active_of row.thread r.active ≡ None = ap (λ (u : ℕ). active_of u r.active) q.thread ∙ m.answered.kept.row in
         record {
@@ -129,8 +163,9 @@ module _ {P : Type 0} {rules : Rules P} (laws : Obeys rules) {first : Between P}
           t.0,
           (λ i. now_at rules first base (ended i) (m.settled.thread i)) ∙ t.1,
           record {
-            leads = k.leads ∙ ap (λ (q : P). comes_to rules laws q t.0.arena) (sym m.told.1);
-            arena = ap (λ (c : Core). c.arena) (m.settled.engine ∙ m.ends.stays) ∙ k.arena;
+            calls = k.calls;
+            leads = subst (λ (q : P). LeadsTo rules k.calls t.0.player t.0.arena q last.engine.arena) (sym m.told.1)
+                (subst (LeadsTo rules k.calls t.0.player t.0.arena a.player) (sym (ap (λ (c : Core). c.arena) (m.settled.engine ∙ m.ends.stays))) k.leads);
             again = m.told.2.again ∙ k.again;
             tries = (let more = (next_try m.told.2 m.answered.status gave_up).1 in let fewer = k.tries in omega arith);
             pending = λ x e. absurd (let none = sym (none_retried rules r r1 a last false m.settled m.told.2 m.answered.status gave_up) ∙ e in cc);

@@ -1,7 +1,8 @@
 -- An actor's run over a call, up to its first step, and over a step.
 use Rattle.std.proofs.Common.{◌≡◌, ℕ, ◌/◌, ◌≤◌, ◌&&◌, Bool, true, false, not, List, [], ◌∷◌, ◌++◌, Some, refl, sym, true≢false, ap, subst, ◌∙◌, arith, None, inl, inr}
 use Rattle.std.proofs.lemmas.Bool.{and_right, not_from_true}
-use Rattle.norec_world.proofs.Common.{Actor, Answer, AreCounted, AreLaid, Attempt, Begin, Between, Call, Cells, Commit, Core, Ended, HasRow, IsBeforeTry, IsDone, IsRun, IsRunOf, IsSound, IsTold, MAX_DEPTH, Next, Obeys, Ready, Reply, Rows, Rules, RunsFrom, Sees, Starves, Status, Step, Tells, active_of, asked_pending, begin_of, begins_again, begins_at, bytes_at, ending_of, found, handed_is, handed_to, in_transaction, is_inside, of_thread, run_after, words_at, IsInTry, cases_Bool}
+use Rattle.norec_world.proofs.Common.{Actor, Answer, AreCounted, AreLaid, Attempt, Begin, Between, Call, Cells, Commit, Core, Ended, HasRow, IsBeforeTry, IsDone, IsInTry, IsRun, IsRunOf, IsSound, IsTold, MAX_DEPTH, Next, Obeys, Ready, Reply, Rows, Rules, RunsFrom, Sees, Starves, Status, Step, Tells, active_of, asked_pending, begins_again, begins_at, bytes_at, cases_Bool, ending_of, found, handed_is, handed_to, in_transaction, is_inside, of_thread, run_after, words_at}
+use Rattle.norec_world.specs.Runs.{LeadsTo}
 use Rattle.norec_world.specs.declared.attempt.Outcome.TheVariants as outcomes
 use Rattle.norec_world.specs.declared.attempt.End.TheVariants as ends
 use Rattle.norec_world.proofs.ActiveRows.{changed_here}
@@ -12,7 +13,7 @@ use Rattle.norec_world.proofs.RunTaken.{runs_recorded}
 use Rattle.norec_world.proofs.Seen.{HasSeen, call_seen, step_seen}
 use Rattle.norec_world.proofs.Taken.{HasAnswered, recorded, now, still_going}
 use Rattle.norec_world.proofs.RunAnswers.{RunOf, before_on, now_at, run_same, stop_run}
-use Rattle.norec_world.proofs.RunBegins.{begin_here}
+use Rattle.norec_world.proofs.RunBegins.{begin_here, led_before}
 use Rattle.norec_world.proofs.InTries.{try_handed, try_told, try_kept}
 use Rattle.std.proofs.Math.Bool.{and-true}
 
@@ -38,14 +39,14 @@ module _ {P : Type 0} {rules : Rules P} (laws : Obeys rules) {cells : Cells} {r0
     (first : Between P) (base : List ℕ) (laid : AreLaid base cells r0) (runs : RunsFrom rules first base cells r0 old) where
   -- the attempt that is to be opened then
   fresh_pending : (b : Between P) → IsBeforeTry rules (cells.clock / 2) b old → in_transaction old.engine ≡ false → (c : Call) → c ≡ call → (row : Attempt) → asked_pending false cells.clock old c ≡ Some row
-      → (row.began ≤ cells.clock / 2) × (row.arena ≡ b.arena) × (row.calls ≡ []) × (begins_at rules b ≡ Some (record { player = a.player; arena = b.arena; props = row.props })) × ((mid m).again ≡ b.again)
+      → (row.began ≤ cells.clock / 2) × (row.arena ≡ old.engine.arena) × (row.calls ≡ []) × (begins_at rules b ≡ Some (record { player = a.player; arena = old.engine.arena; props = row.props })) × ((mid m).again ≡ b.again)
   fresh_pending b k o (Begin props room) is row e =
       let made : record { thread = old.thread; nth = old.nth; began = cells.clock / 2; at = 0; props = props; arena = old.engine.arena; calls = []; outcome = outcomes.Unfinished } ≡ row = cc in
-      let here = begin_here rules laws old.player b.arena props room (ap rules.next_call (sym m.asked.same.player) ∙ (m.asked.in_call.asks ∙ ap (λ (c : Call). Some c) (sym is))) in (
+      let here = begin_here rules laws old.player old.engine.arena props room (ap rules.next_call (sym m.asked.same.player) ∙ (m.asked.in_call.asks ∙ ap (λ (c : Call). Some c) (sym is))) in (
         (let began = ap (λ (x : Attempt). x.began) made in omega arith),
-        ap (λ (x : Attempt). x.arena) (sym made) ∙ k.arena,
+        ap (λ (x : Attempt). x.arena) (sym made),
         ap (λ (x : Attempt). x.calls) (sym made),
-        k.leads ∙ (here ∙ (λ i. Some (record { player = (sym m.asks.player) i; arena = b.arena; props = (ap (λ (x : Attempt). x.props) made) i }))),
+        led_before rules laws k ∙ (here ∙ (λ i. Some (record { player = (sym m.asks.player) i; arena = old.engine.arena; props = (ap (λ (x : Attempt). x.props) made) i }))),
         (λ i. begins_again (o i) old.again (sym is i) && not (o i)) ∙ (and-true old.again ∙ k.again),
       )
   fresh_pending b k o c is row e = absurd (let z = sym (rests m.sound m.ready).nothing ∙ e in cc)
@@ -72,8 +73,8 @@ module _ {P : Type 0} {rules : Rules P} (laws : Obeys rules) {cells : Cells} {r0
               t.0,
               (λ i. now_at rules first base (ended_same m i) (m.asks.thread i)) ∙ t.1,
               record {
-                leads = k.leads ∙ ap (λ (q : P). begin_of rules MAX_DEPTH q t.0.arena) (sym m.asks.player);
-                arena = k.arena;
+                calls = k.calls;
+                leads = subst (λ (q : P). LeadsTo rules k.calls t.0.player t.0.arena q old.engine.arena) (sym m.asks.player) k.leads;
                 again = m.asks.again ∙ k.again;
                 tries = (let nth = m.asks.nth in let fewer = k.tries in omega arith);
                 pending = λ row e. fresh_pending t.0 k o call refl row (ap (λ (b : Bool). asked_pending b cells.clock old call) (sym o) ∙ (sym m.asks.pending ∙ e));

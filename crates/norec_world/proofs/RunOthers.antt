@@ -71,7 +71,7 @@ module _ {P : Type 0} (rules : Rules P) (laws : Obeys rules) where
               (let t = x.runs.between o gave_up starved in let k = t.2 in (
                 t.0,
                 now ∙ t.1,
-                record { leads = k.leads; arena = k.arena; again = k.again; tries = k.tries; pending = λ row e. (let p = k.pending row e in ((let early = p.0 in omega arith), p.1, p.2, p.3, p.4)) },
+                record { calls = k.calls; leads = k.leads; again = k.again; tries = k.tries; pending = λ row e. (let p = k.pending row e in ((let early = p.0 in omega arith), p.1, p.2, p.3, p.4)) },
               ));
         };
         sees = λ fed. (let s = x.sees fed in record {
@@ -240,8 +240,8 @@ module _ {P : Type 0} (rules : Rules P) (laws : Obeys rules) where
             first_of a.player size,
             ap (run_after rules (bytes_at base r.ended) (Some (first_of a.player size))) rows,
             record {
-              leads = refl;
-              arena = ap (λ (c : Core). c.arena) is;
+              calls = 0;
+              leads = (refl, ap (λ (c : Core). c.arena) is);
               again = anew;
               tries = (let one = first in omega arith);
               pending = λ row e. absurd (let z = sym nothing ∙ e in cc);

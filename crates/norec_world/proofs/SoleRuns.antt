@@ -1,7 +1,7 @@
 -- The run of an actor that has its world to itself is what its player does alone.
 use Rattle.std.proofs.Common.{◌≡◌, ℕ, suc, ◌+◌, ◌<◌, ◌≤◌, ◌==◌, ◌&&◌, Bool, true, false, nat_le, nat_lt, if◌then◌else◌, List, [], ◌∷◌, ◌++◌, length, map, Option, None, Some, refl, sym, ap, subst, ◌∙◌, arith, eqb-true, eq-eqb, lt-ltb, leb-true}
 use Rattle.std.proofs.lemmas.Bool.{or_parts}
-use Rattle.norec_world.proofs.Common.{AreSole, Attempt, Begin, Beginning, Between, Block, Call, Commit, EndsAs, Entry, IsAlone, IsFirstTry, IsOpaque, IsRunOf, MAX_DEPTH, Obeys, Outcome, Progress, Read, Rules, Solo, State, Write, after, after_try, alone, answered_all, answers, answers_within, begin_code, begin_of, bytes_at, committed_at, ended_as, false_from_ne_true, follows, is_at, is_committed, is_done, is_open, memory_left, one_if, opened, pair_of, player_then, refusal, reply, row_of, run_after, solo_within, state_then, turn, with_all, with_first}
+use Rattle.norec_world.proofs.Common.{AreSole, Attempt, Begin, Beginning, Between, Block, Call, Commit, EndsAs, Entry, IsAlone, IsFirstTry, IsOpaque, IsRunOf, MAX_DEPTH, Obeys, Outcome, Progress, Rules, Solo, State, Write, after, after_try, alone, answered_all, answers, answers_within, begin_code, begin_of, bytes_at, committed_at, ended_as, false_from_ne_true, follows, is_at, is_committed, is_done, is_open, memory_left, one_if, opened, pair_of, player_then, refusal, reply, row_of, run_after, solo_within, state_then, turn, with_all, with_first}
 use Rattle.itm_types.specs.declared.call.Refusal.{Refusal}
 use Rattle.itm_types.specs.declared.call.Reply.{Reply}
 use Rattle.itm_model.specs.Machine.{effect, after_unless, closed, entered}
@@ -50,11 +50,11 @@ module _ {P : Type 0} (rules : Rules P) (deepest : ℕ) where
     unwritten_effect : (s : State) (c : Call) → is_open s ≡ true → (s.wrote ≡ false → s.memory ≡ m) → (effect s c).wrote ≡ false → (effect s c).memory ≡ m
     unwritten_effect s (Begin props room) o h = unwritten_begun (entered s props) (opened s.memory s.arena props) (is_open s) o h
     unwritten_effect s Commit o h = unwritten_closed s s.blocks h
-    unwritten_effect s (Read hint width at) o h = h
     unwritten_effect s (Write hint at value) o h = λ w.
         (let none : nat_lt 0 (length value.bytes.items) ≡ false = (or_parts s.wrote (nat_lt 0 (length value.bytes.items)) w).1 in
         let some : nat_lt 0 (length value.bytes.items) ≡ true = lt-ltb 0 (length value.bytes.items) (let k = some_bytes value.width in let l = value.sized in omega arith) in
         absurd (let z = sym some ∙ none in cc))
+    unwritten_effect s c o h = h
 
     unwritten_call : (s : State) (c : Call) (o : Option Refusal) → is_open s ≡ true → (s.wrote ≡ false → s.memory ≡ m) → (after_unless o s (effect s c)).wrote ≡ false → (after_unless o s (effect s c)).memory ≡ m
     unwritten_call s c None o h = unwritten_effect s c o h

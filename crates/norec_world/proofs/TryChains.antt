@@ -1,7 +1,7 @@
 -- Local work after an event, or after other local work: what becomes of the try.
 -- Also what holds of actors that have taken no step.
 use Rattle.std.proofs.Common.{◌≡◌, ℕ, ◌+◌, ◌/◌, Bool, true, false, nat_lt, List, [], ◌∷◌, ◌++◌, append_assoc, Option, None, Some, refl, sym, ap, subst, ◌∙◌, arith, zero, suc}
-use Rattle.norec_world.proofs.Common.{Actor, Attempt, Cells, Continues, Ended, EndsAt, Entry, GoesOnAfter, IsBetween, IsFirst, IsSound, NoMemory, Outcome, Prior, Ready, Rows, Rules, Tries, TriesAgain, active_of, begins, between, current_of, ending_in, ending_of, in_transaction, none-some, over, prior_of, runs, turned_away}
+use Rattle.norec_world.proofs.Common.{Actor, Attempt, Cells, Continues, Ended, EndsAt, Entry, GoesOnAfter, IsBetween, IsFirst, IsSound, NoMemory, Outcome, Prior, Ready, Rows, Rules, Tries, TriesAgain, active_of, begins, between, current_of, ending_in, ending_of, in_transaction, over, prior_of, runs, turned_away, none-some}
 use Rattle.norec_world.specs.declared.attempt.Outcome.TheVariants as outcomes
 use Rattle.norec_world.specs.declared.attempt.End.TheVariants as ends
 use Rattle.norec_world.proofs.SoundSteps.{rests}

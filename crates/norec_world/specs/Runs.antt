@@ -1,8 +1,10 @@
 -- The run of an actor's player, as far as it has come.
-use Rattle.std.specs.Prelude.{◌≡◌, ℕ, ◌<◌, ◌≤◌, ◌/◌, true, false, List, [], ◌∷◌, Option, None, Some}
+use Rattle.std.specs.Prelude.{◌≡◌, ℕ, zero, suc, ◌<◌, ◌≤◌, ◌/◌, true, false, List, [], ◌∷◌, Option, None, Some}
 use Rattle.itm_types.specs.Memory.{bytes_of, IsMemory, Agrees}
 use Rattle.itm_model.specs.declared.limits.TheConstants.{MAX_DEPTH}
-use Rattle.itm_model.specs.Machine.{opened}
+use Rattle.itm_types.specs.declared.call.Call.{Call}
+use Rattle.itm_types.specs.Calls.{is_begin}
+use Rattle.itm_model.specs.Machine.{opened, outside, reply, after}
 use Rattle.norec_engine.specs.Core.{Core, in_transaction}
 use Rattle.norec_engine.specs.Stands.{stands_for}
 use Rattle.norec_world.specs.declared.attempt.Attempt.{Attempt}
@@ -43,14 +45,22 @@ module _ {P : Type 0} (rules : Rules P) where
         → IsAlone rules MAX_DEPTH (rules.answered start.player (begin_code b.again)) (opened (bytes_of m) start.arena start.props) row.calls
     pub stands : (m : List ℕ) → IsMemory e.words m → Agrees m e.log → stands_for e m ≡ state_then MAX_DEPTH (opened (bytes_of m) start.arena start.props) row.calls
 
+  -- so many calls outside a transaction, none of which begins a block, lead a player with its arena from here to there
+  abbrev pub LeadsTo : ℕ → P → List ℕ → P → List ℕ → Type 0
+  LeadsTo zero p arena q bytes = (q ≡ p) × (bytes ≡ arena)
+  LeadsTo (suc n) p arena q bytes =
+      (last : P) × (held : List ℕ) × (c : Call) × LeadsTo n p arena last held × (rules.next_call last ≡ Some c) × (is_begin c ≡ false)
+      × (q ≡ rules.answered last (reply MAX_DEPTH (outside [] held) c)) × (bytes ≡ (after MAX_DEPTH (outside [] held) c).arena)
+
   -- before the next one, with so many commits done: the player has come as far as its calls outside a transaction led, and perhaps called its begin
   pub record IsBeforeTry (n : ℕ) (b : Between P) (a : Actor P) : Type 0 where
-    pub leads : begins_at b ≡ begin_of rules MAX_DEPTH a.player b.arena
-    pub arena : a.engine.arena ≡ b.arena
+    pub calls : ℕ
+    pub leads : LeadsTo calls b.player b.arena a.player a.engine.arena
     pub again : a.again ≡ b.again
     pub tries : b.tries < a.nth
     pub pending : (row : Attempt) → a.pending ≡ Some row
-        → (row.began ≤ n) × (row.arena ≡ b.arena) × (row.calls ≡ []) × (begins_at b ≡ Some (record { player = a.player; arena = b.arena; props = row.props })) × (a.engine.again ≡ b.again)
+        → (row.began ≤ n) × (row.arena ≡ a.engine.arena) × (row.calls ≡ [])
+        × (begins_at b ≡ Some (record { player = a.player; arena = a.engine.arena; props = row.props })) × (a.engine.again ≡ b.again)
 
   -- the actor's attempts are its player's run from here, over the memories of so many commits, and each saw what its player gets alone
   pub record IsRun (first : Between P) (base : List ℕ) (n : ℕ) (r : Rows) (a : Actor P) : Type 0 where

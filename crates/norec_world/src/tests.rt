@@ -3,6 +3,7 @@
 ghost use Rattle.std.specs.Prelude.{◌≡◌, ◌%◌, ◌<◌, ◌≤◌, length, IfOk};
 
 mod barriers;
+mod local;
 mod many;
 mod planned;
 

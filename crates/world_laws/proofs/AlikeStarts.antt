@@ -11,7 +11,8 @@ use Rattle.norec_world.specs.Starts.{HasStarted, IsNew}
 use Rattle.world_laws.specs.Alike.{SameRows}
 use Rattle.world_laws.specs.SameWorlds.{SameWorld}
 use Rattle.world_laws.proofs.AlikeWork.{IsFed, GoAlike, ready_fed, work_alike}
-use Rattle.norec_world.proofs.SoundOthers.{there_is, within_of}
+use Rattle.norec_world.proofs.SoundOthers.{there_is}
+use Rattle.std.proofs.lemmas.Option.{slice_get_within as within_of}
 
 -- ## Outside a transaction local work leaves the rows
 

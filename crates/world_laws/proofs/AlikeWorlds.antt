@@ -9,7 +9,8 @@ use Rattle.norec_world.specs.declared.fault.WorldFault.{WorldFault}
 use Rattle.norec_world.specs.declared.fault.WorldFault.TheVariants as faults
 use Rattle.norec_world.specs.World.{is_event}
 use Rattle.world_laws.specs.SameWorlds.{SameWorld}
-use Rattle.norec_world.proofs.SoundOthers.{set_place, there_is, within_of}
+use Rattle.norec_world.proofs.SoundOthers.{set_place, there_is}
+use Rattle.std.proofs.lemmas.Option.{slice_get_within as within_of}
 use Rattle.norec_world.proofs.Worlds.{within_some}
 use Rattle.world_laws.proofs.AlikeWork.{IsFed, GoAlike, event_alike}
 

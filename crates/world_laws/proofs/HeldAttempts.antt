@@ -42,7 +42,7 @@ idle_outside c (calls.Begin props room) again shut = inr tt
 idle_outside c calls.Commit again shut = inl (ap (λ (b : Bool). if b then commit_stage c else at.Idle) shut)
 idle_outside c (calls.Read hint width place) again shut =
     inl (ap (λ (b : Bool). if b && nat_le (place + size_of width) (8 * c.words) then load_stage c.writes (record { hint = hint; width = width; at = place; number = 0 }) else at.Idle) shut)
-idle_outside c (calls.Write hint at value) again shut = inl refl
+idle_outside c call again shut = inl refl
 
 begin_asks : (c new : Core) (call : Call) (again : Bool) (step : Step) → in_transaction c ≡ false → new.stage ≡ stage_at c call again → new.waits ≡ asked new → new.waits ≡ Some step → IsBegin (Some call)
 begin_asks c new call again step shut order asks waits = elim (idle_outside c call again shut) [

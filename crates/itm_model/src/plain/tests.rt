@@ -94,7 +94,15 @@ fn blocks(rt: HostRuntime) -> Result<(), Fail> {
         plain.one(rt.alloc(), &BEGIN)?,
         Reply::Refused(Refusal::TooDeep)
     );
+    assert_eq!(rt;
+        plain.one(rt.alloc(), &Call::InTransaction)?,
+        Reply::Code(1)
+    );
     assert_eq!(rt; plain.one(rt.alloc(), &Call::Commit)?, Reply::Done);
+    assert_eq!(rt;
+        plain.one(rt.alloc(), &Call::InTransaction)?,
+        Reply::Code(0)
+    );
     for call in [Call::Commit, read(0), write(0, FOUR)] {
         assert_eq!(rt;
             plain.one(rt.alloc(), &call)?,

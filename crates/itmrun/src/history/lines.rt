@@ -68,6 +68,7 @@ fn put_body<W: Write>(stream: &mut Stream<'_, W>, call: &Call)
     match call {
         Call::Begin { .. } => stream.put(&[Piece::Text(b"_ITM_beginTransaction -")]),
         Call::Commit => stream.put(&[Piece::Text(b"_ITM_commitTransaction")]),
+        Call::InTransaction => stream.put(&[Piece::Text(b"_ITM_inTransaction")]),
         Call::Read { hint, width, at } => stream.put(&[
             Piece::Text(name_of(Function::Read(*hint, *width)).as_bytes()),
             Piece::Text(b" "),
@@ -75,6 +76,20 @@ fn put_body<W: Write>(stream: &mut Stream<'_, W>, call: &Call)
         ]),
         Call::Write { hint, at, value } => stream.put(&[
             Piece::Text(name_of(Function::Write(*hint, value.width)).as_bytes()),
+            Piece::Text(b" "),
+            Piece::Number(*at),
+            Piece::Text(b" "),
+            Piece::Hex(value.bytes.as_slice()),
+        ]),
+        Call::Load { width, at } => stream.put(&[
+            Piece::Text(b"ld"),
+            Piece::Number(u64::from(width.size())),
+            Piece::Text(b" "),
+            Piece::Number(*at),
+        ]),
+        Call::Save { at, value } => stream.put(&[
+            Piece::Text(b"st"),
+            Piece::Number(u64::from(value.width.size())),
             Piece::Text(b" "),
             Piece::Number(*at),
             Piece::Text(b" "),

@@ -59,6 +59,27 @@ fn refusals_take_no_step(rt: HostRuntime) -> Result<(), Fail> {
     Ok(())
 }
 
+/// Asked before a block, in it, while it writes and after it, with no step.
+const INQUIRIES: &[Line] = &[
+    Line::Call(Ask::InTransaction, Gives::Code(0)),
+    Line::Spent(0),
+    BEGIN,
+    AT_0,
+    Line::Call(Ask::InTransaction, Gives::Code(1)),
+    Line::Spent(0),
+    Line::Call(Ask::Write(WriteHint::W, Width::U1, 0, &[7]), Gives::Done),
+    Line::Call(Ask::InTransaction, Gives::Code(1)),
+    Line::Abort(Undone::Done),
+    Line::Call(Ask::InTransaction, Gives::Code(0)),
+    Line::Closed,
+];
+
+#[test]
+fn inquiries_take_no_step(rt: HostRuntime) -> Result<(), Fail> {
+    play_over(&rt, rt.alloc(), 2, 8, INQUIRIES)?;
+    Ok(())
+}
+
 const FULL: &[Line] = &[
     BEGIN,
     Line::Hand(2, Gives::Code(5)),

@@ -62,6 +62,7 @@ fn again(call: &Call) -> Call
             room: *room,
         },
         Call::Commit => Call::Commit,
+        Call::InTransaction => Call::InTransaction,
         Call::Read { hint, width, at } => Call::Read {
             hint: *hint,
             width: *width,

@@ -32,6 +32,7 @@ returns-in_default-clause-proceeds t c log =
       reply_is = λ m mem agrees. (all m mem agrees).1;
       stays = refl;
       writes = refl;
+      arena = refl;
       free = refl;
       unfreed = refl;
       still = λ o. o;

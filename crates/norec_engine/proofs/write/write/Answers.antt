@@ -83,6 +83,7 @@ returns-clause-proceeds c =
       reply_is = λ m mem agrees. (all m mem).1;
       stays = search rules;
       writes = rows;
+      arena = refl;
       free = refl;
       unfreed = refl;
       still = λ o. o;
