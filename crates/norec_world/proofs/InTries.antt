@@ -1,7 +1,6 @@
 -- The open attempt, as its calls go on.
 use Rattle.std.proofs.Common.{◌≡◌, ◌≢◌, ℕ, ◌/◌, ◌<◌, ◌≤◌, Bool, true, false, if◌then◌else◌, List, [], ◌∷◌, ◌++◌, map, None, Some, refl, sym, ap, subst, ◌∙◌, arith, length, append-nil}
-use Rattle.norec_world.proofs.Common.{Agrees, Agrees-drop, AsksFor, Attempt, Begin, Beginning, Between, Call, Code, Commit, Core, Done, EndsAs, Entry, IsAlone, IsInTry, IsMemory, IsTryAt, LacksCommit, MAX_DEPTH, Obeys, Outcome, Outside, Props, Replied, Replies, Rules, State, Step, after, alone, answers, answers_within, begin_code, begins_at, bytes_at, bytes_of, handed_to, in_transaction, is_open, map-append, none_inside, opened, pair_of, player_then, recoded, reply, stands_for, state_over, state_then, turn, words_at, handed_is}
-use Rattle.write_set.specs.declared.row.Row.{Row}
+use Rattle.norec_world.proofs.Common.{Agrees, Agrees-drop, AsksFor, Attempt, Begin, Beginning, Between, Call, Code, Commit, Core, Done, EndsAs, Entry, IsAlone, IsInTry, IsMemory, IsTryAt, LacksCommit, MAX_DEPTH, Obeys, Outcome, Outside, Props, Replied, Replies, Row, Rules, State, Step, after, alone, answers, answers_within, begin_code, begins_at, bytes_at, bytes_of, handed_is, handed_to, in_transaction, is_open, map-append, none_inside, opened, pair_of, player_then, recoded, reply, stands_for, state_over, state_then, turn, words_at}
 use Rattle.write_set.specs.Rows.{overlay}
 use Rattle.itm_model.specs.Machine.{reply_unless, or_else, unless}
 use Rattle.norec_engine.specs.Stands.{is_some_row}

@@ -1,7 +1,6 @@
 -- An actor's run, once an answer is recorded.
 use Rattle.std.proofs.Common.{◌≡◌, ℕ, ◌/◌, ◌≤◌, Bool, true, false, if◌then◌else◌, List, [], ◌∷◌, ◌++◌, map, Option, Some, refl, sym, true≢false, ap, subst, ◌∙◌, arith}
-use Rattle.norec_world.proofs.Common.{Actor, Agrees, Attempt, Between, Block, Call, Cells, Commit, Committed, Conflict, Core, Done, EndsAs, Entry, Full, IsBeforeTry, IsInTry, IsMemory, IsRun, IsRunOf, IsTryAt, LacksCommit, MAX_DEPTH, Obeys, Outcome, Replied, Replies, RepliesTo, Reply, Rows, Rules, State, Status, StopsAt, active_of, after, after_try, alone, answered_all, begin_code, begins_at, bytes_at, bytes_of, ending_of, follows, in_transaction, is_open, of_thread, opened, run_after, stands_for, state_then, words_at, words_of}
-use Rattle.norec_world.specs.Runs.{LeadsTo}
+use Rattle.norec_world.proofs.Common.{Actor, Agrees, Attempt, Between, Block, Call, Cells, Commit, Committed, Conflict, Core, Done, EndsAs, Entry, Full, IsBeforeTry, IsInTry, IsMemory, IsRun, IsRunOf, IsTryAt, LacksCommit, LeadsTo, MAX_DEPTH, Obeys, Outcome, Replied, Replies, RepliesTo, Reply, Rows, Rules, State, Status, StopsAt, active_of, after, after_try, alone, answered_all, begin_code, begins_at, bytes_at, bytes_of, ending_of, follows, in_transaction, is_open, of_thread, opened, run_after, stands_for, state_then, words_at, words_of}
 use Rattle.itm_model.specs.Machine.{undone, undone_from}
 use Rattle.norec_world.specs.declared.attempt.Outcome.TheVariants as outcomes
 use Rattle.norec_world.proofs.ActiveRows.{changed_here, row_is_of}

@@ -1,13 +1,9 @@
 -- An actor's run between two tries: calls outside a transaction, and begins.
 use Rattle.std.proofs.Common.{◌≡◌, ℕ, zero, suc, ◌/◌, ◌≤◌, Bool, true, false, List, [], Option, None, Some, refl, sym, true≢false, ap, subst, ◌∙◌, arith, is_some, inl, inr}
-use Rattle.norec_world.proofs.Common.{same_Some, Actor, Agrees, Agrees-drop, Answer, Attempt, Begin, Beginning, Between, Busy, Call, Cells, Core, IsBeforeTry, IsInTry, IsMemory, IsRun, MAX_DEPTH, Obeys, Props, Ready, Replied, Replies, RepliesTo, Reply, Rows, Rules, active_of, begin_of, begin_within, in_transaction, is_begin, none_inside, recoded, reply, state_over, with_opened, words_at, State, begins_at}
-use Rattle.norec_world.specs.Runs.{LeadsTo}
-use Rattle.itm_model.specs.Machine.{after, outside, after_unless, in_arena}
+use Rattle.norec_world.proofs.Common.{Actor, Agrees, Agrees-drop, Answer, Attempt, Begin, Beginning, Between, Busy, Call, Cells, Core, Done, IsBeforeTry, IsInTry, IsMemory, IsRun, LeadsTo, MAX_DEPTH, Obeys, Props, Ready, Refusal, Replied, Replies, RepliesTo, Reply, Row, Rows, Rules, State, active_of, after, after_unless, begin_of, begin_within, begins_at, in_transaction, is_begin, none_inside, outside, recoded, reply, same_Some, state_over, with_opened, words_at}
+use Rattle.itm_model.specs.Machine.{in_arena}
 use Rattle.itm_types.specs.Access.{size_of}
 use Rattle.itm_types.specs.declared.call.Call.TheVariants.{Load, Save}
-use Rattle.itm_types.specs.declared.call.Refusal.{Refusal}
-use Rattle.itm_types.specs.declared.call.Reply.TheVariants.{Done}
-use Rattle.write_set.specs.declared.row.Row.{Row}
 use Rattle.norec_world.specs.Records.{again_after}
 use Rattle.norec_world.proofs.ActiveRows.{opened_here}
 use Rattle.norec_world.proofs.RunAnswers.{now_at, run_same}
