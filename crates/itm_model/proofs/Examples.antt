@@ -6,9 +6,9 @@ use Rattle.itm_types.specs.declared.access.ReadHint.TheVariants.{R, RaR, RaW}
 use Rattle.itm_types.specs.declared.access.WriteHint.TheVariants.{W}
 use Rattle.itm_types.specs.declared.datum.Datum.{Datum}
 use Rattle.itm_types.specs.declared.call.Props.{Props}
-use Rattle.itm_types.specs.declared.call.Refusal.TheVariants.{Outside, OutOfRange, TooDeep}
+use Rattle.itm_types.specs.declared.call.Refusal.TheVariants.{Outside, OutOfRange, OutOfArena, TooDeep}
 use Rattle.itm_types.specs.declared.call.Call.{Call}
-use Rattle.itm_types.specs.declared.call.Call.TheVariants.{Begin, Commit, InTransaction, Read, Write}
+use Rattle.itm_types.specs.declared.call.Call.TheVariants.{Begin, Commit, InTransaction, Read, Write, Load, Save}
 use Rattle.itm_types.specs.declared.call.Reply.{Reply}
 use Rattle.itm_types.specs.declared.call.Reply.TheVariants.{Done, Bytes, Code, Refused}
 use Rattle.itm_model.specs.State.{State}
@@ -55,6 +55,12 @@ empty_block_state = refl
 
 inquiries : replies 1 (outside (eight 0) []) (InTransaction ∷ Begin plain 2 ∷ InTransaction ∷ Commit ∷ InTransaction ∷ []) ≡ Code 0 ∷ Code 5 ∷ Code 1 ∷ Done ∷ Code 0 ∷ []
 inquiries = refl
+
+-- ## The arena is read and written with a block open and with none
+
+arena_replies : replies 1 (outside (eight 0) (eight 0)) (Save 0 (word 5) ∷ Begin plain 2 ∷ Save 1 (word 6) ∷ Load U8 0 ∷ Commit ∷ Load U8 0 ∷ [])
+    ≡ Done ∷ Code 5 ∷ Refused OutOfArena ∷ Bytes (value 5) ∷ Done ∷ Bytes (value 5) ∷ []
+arena_replies = refl
 
 -- ## A read at the end of the memory is refused and changes nothing; the write after it is served
 

@@ -105,10 +105,10 @@ pub load_replies : (d : Data) (width : Width) (at : ℕ) (value : ArrayVec ℕ) 
 load_replies d width at value s within is =
     local_replies d (Load width at) (Bytes value) d.arena s
     (λ m mem.
-        (let none : refusal 1 (stands d m) (Load width at) ≡ None = ap (λ (b : Bool). unless b OutOfArena) (le-leb (at + size_of width) (length d.arena) within) in (
-          sym (ap (λ (r : Option Refusal). after_unless r (stands d m) (stands d m)) none),
-          ap (λ (bytes : List ℕ). Bytes (record { items = bytes })) is ∙ sym (ap (λ (r : Option Refusal). reply_unless r (Bytes (record { items = slice d.arena at (size_of width) }))) none),
-        )))
+    (let none : refusal 1 (stands d m) (Load width at) ≡ None = ap (λ (b : Bool). unless b OutOfArena) (le-leb (at + size_of width) (length d.arena) within) in (
+      sym (ap (λ (r : Option Refusal). after_unless r (stands d m) (stands d m)) none),
+      ap (λ (bytes : List ℕ). Bytes (record { items = bytes })) is ∙ sym (ap (λ (r : Option Refusal). reply_unless r (Bytes (record { items = slice d.arena at (size_of width) }))) none),
+    )))
     refl refl refl refl
 
 -- and written
@@ -117,10 +117,10 @@ pub save_replies : (d : Data) (at : ℕ) (value : Datum) → IsSound d Idle → 
 save_replies d at value s within =
     local_replies d (Save at value) Done (with_slice d.arena at value.bytes.items) s
     (λ m mem.
-        (let none : refusal 1 (stands d m) (Save at value) ≡ None = ap (λ (b : Bool). unless b OutOfArena) (le-leb (at + size_of value.width) (length d.arena) within) in (
-          sym (ap (λ (r : Option Refusal). after_unless r (stands d m) (effect (stands d m) (Save at value))) none),
-          sym (ap (λ (r : Option Refusal). reply_unless r Done) none),
-        )))
+    (let none : refusal 1 (stands d m) (Save at value) ≡ None = ap (λ (b : Bool). unless b OutOfArena) (le-leb (at + size_of value.width) (length d.arena) within) in (
+      sym (ap (λ (r : Option Refusal). after_unless r (stands d m) (effect (stands d m) (Save at value))) none),
+      sym (ap (λ (r : Option Refusal). reply_unless r Done) none),
+    )))
     refl refl refl refl
 
 -- bytes that leave the arena

@@ -35,6 +35,9 @@ enum Ask {
     Read(ReadHint, Width, u64),
     /// These bytes are written, as many as the type has.
     Write(WriteHint, Width, u64, &'static [u8]),
+    Load(Width, u64),
+    /// These bytes go to the arena, as many as the type has.
+    Save(Width, u64, &'static [u8]),
 }
 
 /// What is to come next.
@@ -86,6 +89,14 @@ fn call_of(rt: &impl Abort, ask: Ask) -> Call {
                 value: Datum::new(width, bytes),
             }
         }
+        Ask::Load(width, at) => Call::Load { width, at },
+        Ask::Save(width, at, bytes) => {
+            assert_eq!(rt; bytes.len(), usize::from(width.size()));
+            Call::Save {
+                at,
+                value: Datum::new(width, bytes),
+            }
+        }
     }
 }
 
@@ -125,7 +136,7 @@ fn engine(alloc: Global, words: u32, patience: u32, max_commits: u64) -> Result<
         retries: 0,
         max_commits,
     };
-    Ok(Engine::new(alloc, words, Arena::new(alloc, 0)?, limits))
+    Ok(Engine::new(alloc, words, Arena::new(alloc, 4)?, limits))
 }
 
 /// Plays a line, and gives what comes of it, if it is an event.

@@ -133,3 +133,28 @@ fn begin_without_memory(rt: HostRuntime) -> Result<(), Fail> {
     assert_eq!(rt; plain.memory(), FOUR.as_slice());
     Ok(())
 }
+
+/// The arena is read and written with a block open and with none, and no rollback of a refusal changes it.
+#[test]
+fn arena(rt: HostRuntime) -> Result<(), Fail> {
+    let alloc = rt.alloc();
+    let mut plain = Plain::new(alloc, &THREE, &[1, 2, 3, 4], Props {})?;
+    let save = Call::Save {
+        at: 1,
+        value: Datum::new(Width::U2, &[8, 9]),
+    };
+    let far = Call::Load {
+        width: Width::U2,
+        at: 3,
+    };
+    assert_eq!(rt; plain.one(alloc, &save)?, Reply::Done);
+    assert_eq!(rt;
+        plain.one(alloc, &far)?,
+        Reply::Refused(Refusal::OutOfArena)
+    );
+    assert_eq!(rt; plain.one(alloc, &Call::Commit)?, Reply::Done);
+    assert_eq!(rt; plain.arena(), [1, 8, 9, 4].as_slice());
+    assert_eq!(rt; plain.one(alloc, &save)?, Reply::Done);
+    assert!(rt; !plain.wrote());
+    Ok(())
+}

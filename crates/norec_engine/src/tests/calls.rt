@@ -80,6 +80,33 @@ fn inquiries_take_no_step(rt: HostRuntime) -> Result<(), Fail> {
     Ok(())
 }
 
+const OUT_OF_ARENA: Gives = Gives::Refused(Refusal::OutOfArena);
+
+/// An arena of 4 bytes is read and written before a block, in it and after it, and keeps what was written when the
+/// transaction is given up.
+const ARENA: &[Line] = &[
+    Line::Call(Ask::Load(Width::U4, 0), Gives::Bytes(&[0, 0, 0, 0])),
+    Line::Call(Ask::Save(Width::U2, 1, &[7, 8]), Gives::Done),
+    BEGIN,
+    AT_0,
+    Line::Call(Ask::Load(Width::F, 0), Gives::Bytes(&[0, 7, 8, 0])),
+    Line::Call(Ask::Save(Width::U1, 3, &[9]), Gives::Done),
+    Line::Call(Ask::Load(Width::U2, 3), OUT_OF_ARENA),
+    Line::Call(Ask::Save(Width::U2, 3, &[1, 1]), OUT_OF_ARENA),
+    Line::Call(Ask::Save(Width::U1, u64::MAX, &[1]), OUT_OF_ARENA),
+    Line::Call(Ask::Load(Width::U8, 0), OUT_OF_ARENA),
+    Line::Spent(0),
+    Line::Abort(Undone::Done),
+    Line::Call(Ask::Load(Width::U4, 0), Gives::Bytes(&[0, 7, 8, 9])),
+    Line::Closed,
+];
+
+#[test]
+fn arena_accesses_take_no_step(rt: HostRuntime) -> Result<(), Fail> {
+    play_over(&rt, rt.alloc(), 2, 8, ARENA)?;
+    Ok(())
+}
+
 const FULL: &[Line] = &[
     BEGIN,
     Line::Hand(2, Gives::Code(5)),
@@ -95,7 +122,7 @@ const FULL: &[Line] = &[
 fn the_last_commit_is_full(rt: HostRuntime) -> Result<(), Fail> {
     let mut engine = engine(rt.alloc(), 2, 8, 1)?;
     play(&rt, &mut engine, FULL)?;
-    assert!(rt; engine.arena().as_slice().is_empty());
+    assert_eq!(rt; engine.arena().as_slice(), [0, 0, 0, 0].as_slice());
     Ok(())
 }
 

@@ -8,18 +8,20 @@ use std::alloc::{AllocError, Global};
 use std::process::Abort;
 use std::test::Fail;
 
-/// A world of two actors over these bytes.
-fn two_over(
+/// A world of two actors over these bytes, each with an arena of so many.
+pub(super) fn two_over(
     rt: &impl Abort,
     alloc: Global,
     bytes: &[u8],
+    arena: u32,
     first: Vec<Call>,
     second: Vec<Call>,
 ) -> Result<World<Planned>, AllocError> {
     assert!(rt; 8 <= bytes.len() && bytes.len() <= 64 && bytes.len() % 8 == 0);
+    assert!(rt; arena <= 8);
     let setup = Setup {
         bytes: Bytes::new(bytes.to_vec(alloc)?),
-        arena: 0,
+        arena,
         limits: Limits {
             patience: 8,
             retries: 100,
@@ -33,7 +35,13 @@ fn two_over(
 }
 
 /// So many events of the actor, each of which has to be one.
-fn take(rt: &impl Abort, alloc: Global, world: &mut World<Planned>, actor: u8, events: usize) {
+pub(super) fn take(
+    rt: &impl Abort,
+    alloc: Global,
+    world: &mut World<Planned>,
+    actor: u8,
+    events: usize,
+) {
     for _ in 0..events {
         let passes = world.run(alloc, &[actor]);
         assert_eq!(rt;
@@ -66,6 +74,7 @@ fn one_word_two_writers(rt: HostRuntime) -> Result<(), Fail> {
         &rt,
         alloc,
         &bytes,
+        0,
         writer(alloc, 3, 0xaa)?,
         writer(alloc, 4, 0xbb)?,
     )?;
@@ -101,7 +110,7 @@ fn read_over_a_commit(rt: HostRuntime) -> Result<(), Fail> {
         },
         Call::Commit,
     ]?;
-    let mut world = two_over(&rt, alloc, &bytes, reader, writer(alloc, 38, 0xff)?)?;
+    let mut world = two_over(&rt, alloc, &bytes, 0, reader, writer(alloc, 38, 0xff)?)?;
     take(&rt, alloc, &mut world, 0, 7);
     take(&rt, alloc, &mut world, 1, 5);
     take(&rt, alloc, &mut world, 0, 11);

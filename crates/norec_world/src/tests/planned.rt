@@ -73,6 +73,14 @@ fn again(call: &Call) -> Call
             at: *at,
             value: copied(value),
         },
+        Call::Load { width, at } => Call::Load {
+            width: *width,
+            at: *at,
+        },
+        Call::Save { at, value } => Call::Save {
+            at: *at,
+            value: copied(value),
+        },
     }
 }
 
