@@ -3,7 +3,7 @@ use Rattle.std.proofs.Common.{◌≡◌, ℕ, zero, suc, ◌+◌, ◌-◌, ◌<�
 use Rattle.std.specs.List.{position_or_len}
 use Rattle.std.specs.Option.{unwrap_or}
 use Rattle.std.proofs.lemmas.Bool.{ltb-true, ltb-false, eqb-true, cond_below}
-use Rattle.std.proofs.lemmas.List.{take-set-le, drop-set-add, take_rest, length_push, drop_at}
+use Rattle.std.proofs.lemmas.List.{take-set-le, drop-set-add, take_rest, length_push}
 use Rattle.std.proofs.lemmas.List.Folds.{find_at}
 use Rattle.std.proofs.lemmas.List.Sums.{prefix_len-le-length}
 use Rattle.std.proofs.lemmas.List.Quantifiers.{position-Some}

@@ -1,5 +1,5 @@
 -- The names that more than one proof cites, passed on from one place. Declares nothing.
-pub use Rattle.itm_model.specs.Machine.{after, is_open, opened, refusal, reply}
+pub use Rattle.itm_model.specs.Machine.{after, after_unless, is_open, opened, outside, refusal, reply}
 pub use Rattle.itm_model.specs.Runs.{answers, answers_within, turn}
 pub use Rattle.itm_model.specs.State.{Block, State}
 pub use Rattle.itm_model.specs.declared.limits.TheConstants.{MAX_DEPTH}
@@ -10,6 +10,7 @@ pub use Rattle.itm_types.specs.declared.call.Call.TheVariants.{Begin, Commit, Re
 pub use Rattle.itm_types.specs.declared.call.Call.{Call}
 pub use Rattle.itm_types.specs.declared.call.Props.{Props}
 pub use Rattle.itm_types.specs.declared.call.Refusal.TheVariants.{Outside}
+pub use Rattle.itm_types.specs.declared.call.Refusal.{Refusal}
 pub use Rattle.itm_types.specs.declared.call.Reply.TheVariants.{Code, Done, Refused}
 pub use Rattle.itm_types.specs.declared.call.Reply.{Reply as Replied}
 pub use Rattle.itm_types.specs.declared.limits.TheConstants.{MAX_ACTORS}
@@ -46,7 +47,7 @@ pub use Rattle.norec_world.specs.Opaque.{AreOpaque, first_of}
 pub use Rattle.norec_world.specs.OthersAttempts.{AllOf, ChangesOwn, KeepsOthers, count_pending}
 pub use Rattle.norec_world.specs.Records.{CountsTry, IsTold, Opens, Records, StopsAt, Tells, asked_pending, begins_again}
 pub use Rattle.norec_world.specs.Rows.{AreFrom, AreOfActors, AreOpen, AreUnfinished, Rows, active_of, changed, is_of, with_changed, with_ended, with_opened, without}
-pub use Rattle.norec_world.specs.Runs.{IsBeforeTry, IsInTry, IsRun, RunsFrom, begins_at, run_after}
+pub use Rattle.norec_world.specs.Runs.{IsBeforeTry, IsInTry, IsRun, LeadsTo, RunsFrom, begins_at, run_after}
 pub use Rattle.norec_world.specs.Sole.{AreSole, EndsWith, IsFirstTry, IsOnWay, IsSole, StandsSole}
 pub use Rattle.norec_world.specs.Solo.{Progress, Solo, ended_as, one_if, row_of, solo_within, stopped, with_all, with_first}
 pub use Rattle.norec_world.specs.Sound.{AnswerFits, Falls, GoesOn, HasLess, HasRow, IsAnswered, IsDone, IsKept, IsNested, IsNoMore, IsReady, IsSettledBy, IsSound, IsTied, RestsAs, StatusIs, depth_if, rank, retried, run_left, steps_left, whole}
@@ -75,3 +76,4 @@ pub use Rattle.std.proofs.lemmas.Option.{none-some, same_Some, slice_get-get_or,
 pub use Rattle.std.specs.Int.{from_le_bytes, to_le_bytes, w64}
 pub use Rattle.std.specs.List.{insert, remove, slice_index_or}
 pub use Rattle.std.specs.Option.{option_and_then}
+pub use Rattle.write_set.specs.declared.row.Row.{Row}

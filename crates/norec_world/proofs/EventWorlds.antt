@@ -10,9 +10,10 @@ use Rattle.norec_world.proofs.ShownAlone.{shows_alone}
 use Rattle.norec_world.proofs.SoleEvents.{finished_free, sole_still}
 use Rattle.norec_world.proofs.SoundOthers.{actors_after}
 use Rattle.norec_world.proofs.Taken.{ready_of}
-use Rattle.norec_world.proofs.TryChains.{no_pending, tries_then}
+use Rattle.norec_world.proofs.TryChains.{tries_then}
 use Rattle.norec_world.proofs.WorldEvents.{event_goes}
 use Rattle.norec_world.proofs.Worlds.{lawful_at, waiting_going, waiting_some}
+use Rattle.norec_world.proofs.SoundSteps.{rests}
 
 -- ## A step and its local work are one event
 
@@ -42,7 +43,7 @@ module _ {P : Type 0} {rules : Rules P} {cells cells' : Cells} {r r1 r2 : Rows} 
       tries_on : (b : Bool) → is_ready a1.status ≡ b → Tries cells.clock (prior_of r a) cells'.clock r2 a2
       tries_on true w =
           let ready = ready_of a1.status w in
-          tries_then cells.clock cells'.clock (prior_of r a) r1 r2 a1 a2 ready (no_pending rules cells' r1 a1 x.sound ready) x.clocks.limit.0 x.takes.same.retries y.snapshot (y.tries w) x.tries
+          tries_then cells.clock cells'.clock (prior_of r a) r1 r2 a1 a2 ready (rests x.sound ready).nothing x.clocks.limit.0 x.takes.same.retries y.snapshot (y.tries w) x.tries
       tries_on false n =
           let same = y.still n in
           subst (λ (z : Rows). Tries cells.clock (prior_of r a) cells'.clock z a2) (sym same.1) (subst (Tries cells.clock (prior_of r a) cells'.clock r1) (sym same.0) x.tries)
@@ -61,11 +62,9 @@ module _ {P : Type 0} {rules : Rules P} (laws : Obeys rules) (w : World P) (kept
   event : (e : IsEvent rules w.cells w.attempts got cells' r2 a2) × HasRead w.base e.rows e.stepped
   event = event_then x y w.base (has_read rules laws w kept i got a1 here cells' r1 events x.others x.clocks x.runs x.sound.tied)
 
-  going : ending_of got.status ≡ None
-  going = waiting_going got.status (waiting_some got.status (subst IsSome (ap (option_and_then (λ (a : Actor P). waiting_step a.status)) here) waits))
-
   pub world_after : IsWorld rules (record w { cells = cells'; actors = slice_set w.actors i a2; attempts = r2; events = events })
   world_after =
+      let going = waiting_going got.status (waiting_some got.status (subst IsSome (ap (option_and_then (λ (a : Actor P). waiting_step a.status)) here) waits)) in
       let actors = actors_after rules w.cells cells' w.attempts r2 w.actors kept.actors i got a2 here y.sound done (event_others x y) (event_clocks x y) in
       let commits = commits_after rules w kept.commits i got a2 here cells' r2 events event.0 in
       let running = running_after rules laws w kept i got a2 here cells' r2 events (event_others x y) (event_clocks x y)

@@ -1,7 +1,6 @@
 -- The open attempt, as its calls go on.
 use Rattle.std.proofs.Common.{◌≡◌, ◌≢◌, ℕ, ◌/◌, ◌<◌, ◌≤◌, Bool, true, false, if◌then◌else◌, List, [], ◌∷◌, ◌++◌, map, None, Some, refl, sym, ap, subst, ◌∙◌, arith, length, append-nil}
-use Rattle.norec_world.proofs.Common.{Agrees, Agrees-drop, AsksFor, Attempt, Begin, Beginning, Between, Call, Code, Commit, Core, Done, EndsAs, Entry, IsAlone, IsInTry, IsMemory, IsTryAt, LacksCommit, MAX_DEPTH, Obeys, Outcome, Outside, Props, Replied, Replies, Rules, State, Step, after, alone, answers, answers_within, begin_code, begins_at, bytes_at, bytes_of, handed_to, in_transaction, is_open, map-append, none_inside, opened, pair_of, player_then, recoded, reply, stands_for, state_over, state_then, turn, words_at, handed_is}
-use Rattle.write_set.specs.declared.row.Row.{Row}
+use Rattle.norec_world.proofs.Common.{Agrees, Agrees-drop, AsksFor, Attempt, Begin, Beginning, Between, Call, Code, Commit, Core, Done, EndsAs, Entry, IsAlone, IsInTry, IsMemory, IsTryAt, LacksCommit, MAX_DEPTH, Obeys, Outcome, Outside, Props, Replied, Replies, Row, Rules, State, Step, after, alone, answers, answers_within, begin_code, begins_at, bytes_at, bytes_of, handed_is, handed_to, in_transaction, is_open, map-append, none_inside, opened, pair_of, player_then, recoded, reply, stands_for, state_over, state_then, turn, words_at}
 use Rattle.write_set.specs.Rows.{overlay}
 use Rattle.itm_model.specs.Machine.{reply_unless, or_else, unless}
 use Rattle.norec_engine.specs.Stands.{is_some_row}
@@ -11,13 +10,13 @@ use Rattle.norec_engine.proofs.Machines.{commits}
 use Rattle.norec_world.specs.declared.attempt.Outcome.TheVariants as outcomes
 use Rattle.norec_world.proofs.Solos.{begins_alone, alone_snoc, player_snoc, state_snoc, stands_open, gets_none}
 
-module _ {P : Type 0} (rules : Rules P) (laws : Obeys rules) where
+module _ {P : Type 0} {rules : Rules P} (laws : Obeys rules) where
   -- ## A step
 
   -- the engine goes on with the same blocks, and its log says no less
-  pub try_kept : (b : Between P) (row : Attempt) (p : P) (mid new : Core) → IsInTry rules b row p mid → new.words ≡ mid.words → new.again ≡ false → ((m : List ℕ) → stands_for new m ≡ stands_for mid m) → row.began ≤ new.snapshot / 2
+  pub try_kept : {b : Between P} {row : Attempt} {p : P} {mid : Core} (new : Core) → IsInTry rules b row p mid → new.words ≡ mid.words → new.again ≡ false → ((m : List ℕ) → stands_for new m ≡ stands_for mid m) → row.began ≤ new.snapshot / 2
       → ((m : List ℕ) → Agrees m new.log → Agrees m mid.log) → IsInTry rules b row p new
-  try_kept b row p mid new t words anew stands began less = record {
+  try_kept new t words anew stands began less = record {
     start = t.start;
     begins = t.begins;
     arena = t.arena;
@@ -31,21 +30,21 @@ module _ {P : Type 0} (rules : Rules P) (laws : Obeys rules) where
   }
 
   -- the value is handed in
-  pub try_handed : (b : Between P) (row : Attempt) (p : P) (e : Core) (step : Step) (seen : ℕ) → IsInTry rules b row p e → IsInTry rules b row p (handed_to e (Some step) seen)
-  try_handed b row p e step seen t =
+  pub try_handed : {b : Between P} {row : Attempt} {p : P} {e : Core} (step : Step) (seen : ℕ) → IsInTry rules b row p e → IsInTry rules b row p (handed_to e (Some step) seen)
+  try_handed {e} step seen t =
       let h = handed_is e step seen in
       let k = h.keeps in
-      try_kept b row p e (handed_to e (Some step) seen) t k.words (k.again ∙ t.anew) (λ m i. state_over (k.writes i) (k.blocks i) (k.arena i) m) (omega (arith, t.began, h.snapshot)) (λ m. subst (Agrees m) h.log)
+      try_kept (handed_to e (Some step) seen) t k.words (k.again ∙ t.anew) (λ m i. state_over (k.writes i) (k.blocks i) (k.arena i) m) (omega (arith, t.began, h.snapshot)) (λ m. subst (Agrees m) h.log)
 
   -- the attempt is told where it reads
-  pub try_told : (b : Between P) (row : Attempt) (p : P) (e : Core) (at : ℕ) → IsInTry rules b row p e → IsInTry rules b (record row { at = at }) p e
-  try_told b row p e at t =
+  pub try_told : {b : Between P} {row : Attempt} {p : P} {e : Core} (at : ℕ) → IsInTry rules b row p e → IsInTry rules b (record row { at = at }) p e
+  try_told at t =
       record { start = t.start; begins = t.begins; arena = t.arena; props = t.props; tries = t.tries; began = t.began; anew = t.anew; player = t.player; alone = t.alone; stands = t.stands }
 
   -- a step is asked for
-  pub try_asks : (b : Between P) (row : Attempt) (p : P) (mid new : Core) (step : Step) → IsInTry rules b row p mid → AsksFor mid step new → row.began ≤ new.snapshot / 2 → ((m : List ℕ) → Agrees m new.log → Agrees m mid.log) → IsInTry rules b row p new
-  try_asks b row p mid new step t g began less =
-      try_kept b row p mid new t (ap (λ (c : Core). c.words) g.stays) (ap (λ (c : Core). c.again) g.stays ∙ t.anew) (λ m. ap (λ (c : Core). stands_for c m) g.stays) began less
+  pub try_asks : {b : Between P} {row : Attempt} {p : P} {mid new : Core} {step : Step} → IsInTry rules b row p mid → AsksFor mid step new → row.began ≤ new.snapshot / 2 → ((m : List ℕ) → Agrees m new.log → Agrees m mid.log) → IsInTry rules b row p new
+  try_asks {new} t g began less =
+      try_kept new t (ap (λ (c : Core). c.words) g.stays) (ap (λ (c : Core). c.again) g.stays ∙ t.anew) (λ m. ap (λ (c : Core). stands_for c m) g.stays) began less
 
   -- ## A reply
 
@@ -55,7 +54,7 @@ module _ {P : Type 0} (rules : Rules P) (laws : Obeys rules) where
   alone_more p q s xs x h opened is asks =
       alone_snoc rules laws MAX_DEPTH p s xs x h (ap (λ (o : Bool). if o then rules.next_call (player_then rules.answered p xs) else None) opened ∙ (ap rules.next_call (sym is) ∙ asks))
 
-  module _ (b : Between P) (row : Attempt) (p : P) (mid new : Core) (call : Call) (r : Replied) (t : IsInTry rules b row p mid) (inside : in_transaction mid ≡ true) (asks : rules.next_call p ≡ Some call)
+  module _ {b : Between P} {row : Attempt} {p : P} {mid new : Core} {call : Call} {r : Replied} (t : IsInTry rules b row p mid) (inside : in_transaction mid ≡ true) (asks : rules.next_call p ≡ Some call)
       (g : Replies mid call r new) (began : row.began ≤ new.snapshot / 2) (less : (m : List ℕ) → Agrees m new.log → Agrees m mid.log) where
     begun : P
     begun = rules.answered t.start.player (begin_code b.again)
@@ -126,18 +125,18 @@ module _ {P : Type 0} (rules : Rules P) (laws : Obeys rules) where
       )
 
   -- without a commit: in conflict, full, for want of memory, or not ended yet
-  pub try_stops : (n : ℕ) (base : List ℕ) (attempts : List Attempt) (b : Between P) (row : Attempt) (p : P) (e : Core) (t : IsInTry rules b row p e) (k : ℕ) (outcome : Outcome)
+  pub try_stops : (n : ℕ) (base : List ℕ) (attempts : List Attempt) {b : Between P} {row : Attempt} {p : P} {e : Core} (t : IsInTry rules b row p e) (k : ℕ) (outcome : Outcome)
       → (is_open_still : EndsAs outcome (stands_for e (words_at base attempts k))) → row.began ≤ k → k ≤ n → IsMemory e.words (words_at base attempts k) → bytes_of (words_at base attempts k) ≡ bytes_at base attempts k
       → Agrees (words_at base attempts k) e.log → (outcome ≡ outcomes.Full → LacksCommit rules MAX_DEPTH (rules.answered t.start.player (begin_code b.again)) row (bytes_at base attempts k))
       → IsTryAt rules MAX_DEPTH n (bytes_at base attempts) b (Some t.start) (record row { at = k; outcome = outcome })
-  try_stops n base attempts b row p e t k outcome ends older newer memory same agrees full =
+  try_stops n base attempts {b} {row} t k outcome ends older newer memory same agrees full =
       let bytes : opened (bytes_of (words_at base attempts k)) t.start.arena t.start.props ≡ opened (bytes_at base attempts k) t.start.arena t.start.props = ap (λ (m : List ℕ). opened m t.start.arena t.start.props) same in
       is_try n (bytes_at base attempts) b t.start (record row { at = k; outcome = outcome }) t.arena t.props t.tries older newer
       (subst (λ (s : State). IsAlone rules MAX_DEPTH (rules.answered t.start.player (begin_code b.again)) s row.calls) bytes (t.alone (words_at base attempts k) memory agrees))
       (subst (λ (s : State). EndsAs outcome (state_then MAX_DEPTH s row.calls)) bytes (subst (EndsAs outcome) (t.stands (words_at base attempts k) memory agrees) ends)) full
 
   -- its commit: the state that it leaves is that of the commit over its memory
-  module _ (memory : List ℕ) (b : Between P) (row : Attempt) (p : P) (mid : Core) (call : Call) (m : List ℕ) (t : IsInTry rules b row p mid) (inside : in_transaction mid ≡ true) (outermost : length mid.blocks ≡ 1)
+  module _ (memory : List ℕ) {b : Between P} {row : Attempt} {p : P} {mid : Core} (call : Call) (m : List ℕ) (t : IsInTry rules b row p mid) (inside : in_transaction mid ≡ true) (outermost : length mid.blocks ≡ 1)
       (asks : rules.next_call p ≡ Some call) (is : call ≡ Commit) (mem : IsMemory mid.words m) (same : bytes_of m ≡ memory) (agrees : Agrees m mid.log) where
     abbrev last : Entry
     last = record { call = call; reply = Done }
@@ -183,7 +182,7 @@ module _ {P : Type 0} (rules : Rules P) (laws : Obeys rules) where
         written (x ∷ xs) n = refl
 
     -- accepted
-    module _ (n at : ℕ) (wrote : Bool) (new : Core) (g : Commits mid at wrote new) where
+    module _ {at : ℕ} {wrote : Bool} {new : Core} (g : Commits mid at wrote new) where
       ends_so : (w : Bool) → wrote ≡ w → EndsAs (if w then outcomes.Committed else outcomes.ReadOnly) (after MAX_DEPTH (stands_for mid m) Commit)
       ends_so true e = (closes, sym (g.wrote_is m mem agrees) ∙ e)
       ends_so false e = (closes, sym (g.wrote_is m mem agrees) ∙ e)
@@ -192,9 +191,9 @@ module _ {P : Type 0} (rules : Rules P) (laws : Obeys rules) where
       never_full true e = cc
       never_full false e = cc
 
-      pub try_commits : (memories : ℕ → List ℕ) → memories at ≡ memory → row.began ≤ at → at ≤ n
+      pub try_commits : (n : ℕ) (memories : ℕ → List ℕ) → memories at ≡ memory → row.began ≤ at → at ≤ n
           → IsTryAt rules MAX_DEPTH n memories b (Some t.start) (record row { calls = row.calls ++ record { call = call; reply = Done } ∷ []; at = at; outcome = if wrote then outcomes.Committed else outcomes.ReadOnly })
-      try_commits memories here older newer =
+      try_commits n memories here older newer =
           is_try n memories b t.start (record row { calls = row.calls ++ last ∷ []; at = at; outcome = if wrote then outcomes.Committed else outcomes.ReadOnly }) t.arena t.props t.tries older newer
           (subst (λ (bytes : List ℕ). IsAlone rules MAX_DEPTH by (from bytes) (row.calls ++ last ∷ [])) (sym here) commit_alone)
           (subst (EndsAs (if wrote then outcomes.Committed else outcomes.ReadOnly)) (sym (ap (λ (bytes : List ℕ). state_then MAX_DEPTH (from bytes) (row.calls ++ last ∷ [])) here ∙ commit_state)) (ends_so wrote refl))

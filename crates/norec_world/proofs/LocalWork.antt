@@ -1,6 +1,6 @@
 -- A step and local work, as what an event is made of.
-use Rattle.std.proofs.Common.{◌≡◌, ℕ, zero, suc, None, sym, subst}
-use Rattle.norec_world.proofs.Common.{Actor, Acts, Ready, Rows, Rules, Status, StatusIs, Works}
+use Rattle.std.proofs.Common.{◌≡◌, ℕ, zero, suc, sym, subst}
+use Rattle.norec_world.proofs.Common.{Actor, Acts, Ready, Rows, Rules, Works}
 use Rattle.norec_world.specs.LocalWork.{ActsOn}
 
 module _ {P : Type 0} (rules : Rules P) (clock : ℕ) where
@@ -17,9 +17,3 @@ module _ {P : Type 0} (rules : Rules P) (clock : ℕ) where
   pub works_both : (r r1 r2 : Rows) (a a1 a2 : Actor P) → Works rules clock r a r1 a1 → Works rules clock r1 a1 r2 a2
       → Works rules clock r a r2 a2
   works_both r r1 r2 a a1 a2 f g = acts_both f.0 g.0 r r1 r2 a a1 a2 f.1 g.1
-
--- who is ready is to open none
-module _ {P : Type 0} (rules : Rules P) where
-  pub nothing_ready : (r : Rows) (a : Actor P) (s : Status) → StatusIs rules r a s → s ≡ Ready → a.pending ≡ None
-  nothing_ready r a Ready is e = is.nothing
-  nothing_ready r a s is e = absurd (cc)

@@ -1,7 +1,7 @@
 -- The player's laws, over one answer: its depth, where it goes back to, and how much is left to do; and what comes of the answer once it is recorded.
 use Rattle.std.proofs.Common.{◌≡◌, ℕ, ◌+◌, ◌*◌, ◌<◌, ◌≤◌, Bool, true, false, Some, refl, ap, subst, ◌∙◌, arith, if◌then◌else◌, ◌-◌, nat_lt, [], Option, None, sym, Vec, Global, ltb-false}
 use Rattle.std.proofs.Math.Nat.{mul-le-mul_right}
-use Rattle.norec_world.proofs.Common.{Actor, Attempt, Begin, Call, Code, Commit, Committed, Done, End, Ended, Entry, Falls, GaveUp, HasRow, IsAnswered, IsKept, IsNested, IsSettledBy, Obeys, Refused, Replied, Reply, RestsAs, Rows, Rules, Status, active_of, depth_after, depth_if, in_transaction, opens, retried, whole, Answer, Read, Write}
+use Rattle.norec_world.proofs.Common.{Actor, Attempt, Begin, Call, Code, Commit, Committed, Done, End, Ended, Entry, Falls, GaveUp, HasRow, IsAnswered, IsKept, IsNested, IsSettledBy, Obeys, Refused, Replied, Reply, RestsAs, Rows, Rules, Status, active_of, depth_after, depth_if, in_transaction, opens, retried, whole, Answer}
 use Rattle.norec_world.specs.Sound.{tries_left}
 use Rattle.norec_engine.specs.Proceeds.{OpensBy}
 

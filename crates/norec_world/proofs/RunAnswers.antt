@@ -1,7 +1,6 @@
 -- An actor's run, once an answer is recorded.
 use Rattle.std.proofs.Common.{◌≡◌, ℕ, ◌/◌, ◌≤◌, Bool, true, false, if◌then◌else◌, List, [], ◌∷◌, ◌++◌, map, Option, Some, refl, sym, true≢false, ap, subst, ◌∙◌, arith}
-use Rattle.norec_world.proofs.Common.{Actor, Agrees, Attempt, Between, Block, Call, Cells, Commit, Committed, Conflict, Core, Done, EndsAs, Entry, Full, IsBeforeTry, IsInTry, IsMemory, IsRun, IsRunOf, IsTryAt, LacksCommit, MAX_DEPTH, Obeys, Outcome, Replied, Replies, RepliesTo, Reply, Rows, Rules, State, Status, StopsAt, active_of, after, after_try, alone, answered_all, begin_code, begins_at, bytes_at, bytes_of, ending_of, follows, in_transaction, is_open, of_thread, opened, run_after, stands_for, state_then, words_at, words_of}
-use Rattle.norec_world.specs.Runs.{LeadsTo}
+use Rattle.norec_world.proofs.Common.{Actor, Agrees, Attempt, Between, Block, Call, Cells, Commit, Committed, Conflict, Core, Done, EndsAs, Entry, Full, IsBeforeTry, IsInTry, IsMemory, IsRun, IsRunOf, IsTryAt, LacksCommit, LeadsTo, MAX_DEPTH, Obeys, Outcome, Replied, Replies, RepliesTo, Reply, Rows, Rules, State, Status, StopsAt, active_of, after, after_try, alone, answered_all, begin_code, begins_at, bytes_at, bytes_of, ending_of, follows, in_transaction, is_open, of_thread, opened, run_after, stands_for, state_then, words_at, words_of}
 use Rattle.itm_model.specs.Machine.{undone, undone_from}
 use Rattle.norec_world.specs.declared.attempt.Outcome.TheVariants as outcomes
 use Rattle.norec_world.proofs.ActiveRows.{changed_here, row_is_of}
@@ -13,12 +12,9 @@ use Rattle.norec_world.proofs.Taken.{HasAnswered}
 use Rattle.norec_world.proofs.InTries.{try_replies, try_stops, try_commits, left_state, lacks_commit}
 
 -- a rollback leaves the arena
-undone_arena_from : (s : State) (blocks : List Block) → (undone_from s blocks).arena ≡ s.arena
-undone_arena_from s [] = refl
-undone_arena_from s (b ∷ bs) = undone_arena_from (record s { memory = b.saved.memory; blocks = bs; wrote = b.saved.wrote }) bs
-
-undone_arena : (s : State) → (undone s).arena ≡ s.arena
-undone_arena s = undone_arena_from s s.blocks
+undone_arena : (s : State) (blocks : List Block) → (undone_from s blocks).arena ≡ s.arena
+undone_arena s [] = refl
+undone_arena s (b ∷ bs) = undone_arena (record s { memory = b.saved.memory; blocks = bs; wrote = b.saved.wrote }) bs
 
 -- a player before its try stays there while its engine goes on
 pub before_on : {P : Type 0} {rules : Rules P} {n : ℕ} {b : Between P} {a : Actor P} → IsBeforeTry rules n b a → (e : Core) (s : Status) → e.arena ≡ a.engine.arena → e.again ≡ a.engine.again
@@ -42,7 +38,7 @@ module _ {P : Type 0} (rules : Rules P) (first : Between P) (base : List ℕ) wh
   pub run_same : (n : ℕ) (xs ys : List Attempt) (t u : ℕ) → ys ≡ xs → u ≡ t → RunOf n xs t → RunOf n ys u
   run_same n xs ys t u e f h = subst (λ (l : List Attempt). RunOf n l u) (sym e) (subst (RunOf n xs) (sym f) h)
 
-module _ {P : Type 0} (rules : Rules P) (laws : Obeys rules) (first : Between P) (base : List ℕ) (cells cells' : Cells) (r r1 : Rows) (mid : Core) (a last : Actor P) (call : Call)
+module _ {P : Type 0} {rules : Rules P} (laws : Obeys rules) {first : Between P} {base : List ℕ} {cells cells' : Cells} {r : Rows} (r1 : Rows) {mid : Core} (a last : Actor P) (call : Call)
     (seen : HasSeen base cells cells' r mid a.engine) (run : IsRun rules first base (cells.clock / 2) r (record a { engine = mid })) where
   abbrev n : ℕ
   n = cells.clock / 2
@@ -62,7 +58,7 @@ module _ {P : Type 0} (rules : Rules P) (laws : Obeys rules) (first : Between P)
         let t = run.inside m.taken.was_is in
         let ended : r1.ended ≡ r.ended = ap (λ (x : Rows). x.ended) m.told.0 in
         let earlier = t.4.began in
-        let try = try_replies rules laws t.0 t.1 a.player mid a.engine call reply t.4 m.taken.was_is m.answered.in_call.asks g (let up = seen.up m.taken.was_is in omega arith) (seen.fewer (g.still m.taken.was_is)) in
+        let try = try_replies laws t.4 m.taken.was_is m.answered.in_call.asks g (let up = seen.up m.taken.was_is in omega arith) (seen.fewer (g.still m.taken.was_is)) in
         let row : Attempt = with_call t.1 in
         record {
           run = run_same rules first base n r.ended r1.ended a.thread last.thread ended m.settled.thread run.run;
@@ -83,9 +79,8 @@ module _ {P : Type 0} (rules : Rules P) (laws : Obeys rules) (first : Between P)
   -- the run with it, over perhaps more commits
   module _ (n' : ℕ) (later : cells.clock / 2 ≤ n') (still : (k : ℕ) → k ≤ cells.clock / 2 → bytes_at base r1.ended k ≡ bytes_at base r.ended k) (inside : in_transaction mid ≡ true) where
     pub ended_run : (over : Attempt) → over.thread ≡ a.thread → r1.ended ≡ r.ended ++ over ∷ [] → last.thread ≡ a.thread → IsTryAt rules MAX_DEPTH n' (bytes_at base r1.ended) (run.inside inside).0 (Some (run.inside inside).4.start) over
-        → IsRunOf rules MAX_DEPTH n' (bytes_at base r1.ended) (Some first) (of_thread last.thread r1.ended)
-        × (run_after rules (bytes_at base r1.ended) (Some first) (of_thread last.thread r1.ended)
-        ≡ after_try rules MAX_DEPTH (bytes_at base r1.ended) (run.inside inside).0 (Some (run.inside inside).4.start) over)
+        → RunOf rules first base n' r1.ended last.thread
+        × (now_at rules first base r1.ended last.thread ≡ after_try rules MAX_DEPTH (bytes_at base r1.ended) (run.inside inside).0 (Some (run.inside inside).4.start) over)
     ended_run over mine ended thread try =
         let t = run.inside inside in
         let memory = bytes_at base r1.ended in
@@ -115,13 +110,13 @@ module _ {P : Type 0} (rules : Rules P) (laws : Obeys rules) (first : Between P)
           ≡ after MAX_DEPTH (stands_for mid (words_at base r.ended at)) Commit
       commit_left =
           let t = run.inside inside in
-          left_state rules laws (bytes_at base r1.ended at) t.0 t.1 a.player mid call (words_at base r.ended at) t.4 inside m.ends.outermost m.answered.in_call.asks m.answered.fits.2 (memory_at seen at at_most) bytes_same commit_agrees n' at wrote a.engine m.ends
+          left_state laws (bytes_at base r1.ended at) call (words_at base r.ended at) t.4 inside m.ends.outermost m.answered.in_call.asks m.answered.fits.2 (memory_at seen at at_most) bytes_same commit_agrees m.ends
 
       pub commit_runs : IsRun rules first base n' r1 last
       commit_runs =
           let t = run.inside inside in
-          let try = try_commits rules laws (bytes_at base r1.ended at) t.0 t.1 a.player mid call (words_at base r.ended at) t.4 inside m.ends.outermost m.answered.in_call.asks m.answered.fits.2 (memory_at seen at at_most) bytes_same commit_agrees n' at wrote a.engine m.ends
-          (bytes_at base r1.ended) refl (let e = t.4.began in let is = m.ends.at_is in omega arith) (omega (arith, at_most, later)) in
+          let try = try_commits laws (bytes_at base r1.ended at) call (words_at base r.ended at) t.4 inside m.ends.outermost m.answered.in_call.asks m.answered.fits.2 (memory_at seen at at_most) bytes_same commit_agrees m.ends
+          n' (bytes_at base r1.ended) refl (let e = t.4.began in let is = m.ends.at_is in omega arith) (omega (arith, at_most, later)) in
           let over = ended_run _ (row_is_of a.thread r.active t.1 t.3) commit_ended m.settled.thread try in
           let arena : (alone MAX_DEPTH (bytes_at base r1.ended at) (record t.1 { calls = t.1.calls ++ record { call = call; reply = Done } ∷ []; at = at; outcome = if wrote then outcomes.Committed else outcomes.ReadOnly })).arena ≡ last.engine.arena =
           ap (λ (x : State). x.arena) commit_left ∙ (sym (m.ends.arena_is (words_at base r.ended at)) ∙ ap (λ (c : Core). c.arena) (sym m.settled.engine)) in
@@ -166,13 +161,12 @@ module _ {P : Type 0} (rules : Rules P) (laws : Obeys rules) (first : Between P)
       agrees_now = subst (λ (m : List ℕ). Agrees m mid.log) (sym words_same) agrees
 
       pub stop_run : (outcome ≡ outcomes.Full → LacksCommit rules MAX_DEPTH (rules.answered (run.inside inside).4.start.player (begin_code (run.inside inside).0.again)) (run.inside inside).1 (bytes_at base r1.ended k))
-          → IsRunOf rules MAX_DEPTH n' (bytes_at base r1.ended) (Some first) (of_thread last.thread r1.ended)
-          × (run_after rules (bytes_at base r1.ended) (Some first) (of_thread last.thread r1.ended)
-          ≡ after_try rules MAX_DEPTH (bytes_at base r1.ended) (run.inside inside).0 (Some (run.inside inside).4.start) (record (run.inside inside).1 { at = k; outcome = outcome }))
+          → RunOf rules first base n' r1.ended last.thread
+          × (now_at rules first base r1.ended last.thread ≡ after_try rules MAX_DEPTH (bytes_at base r1.ended) (run.inside inside).0 (Some (run.inside inside).4.start) (record (run.inside inside).1 { at = k; outcome = outcome }))
       stop_run full =
           let t = run.inside inside in
           ended_run (record t.1 { at = k; outcome = outcome }) (row_is_of a.thread r.active t.1 t.3) stop_ended thread
-          (try_stops rules laws n' base r1.ended t.0 t.1 a.player mid t.4 k outcome
+          (try_stops laws n' base r1.ended t.4 k outcome
           (ends (stands_for mid (words_at base r1.ended k)) (stands_open rules laws mid (words_at base r1.ended k) inside)) older (omega (arith, newer, later)) memory_now same_now agrees_now full)
 
       -- the plain state that it leaves
@@ -196,8 +190,8 @@ module _ {P : Type 0} (rules : Rules P) (laws : Obeys rules) (first : Between P)
           let over = stop_run k outcomes.Conflict (λ x o. o) m.settled.thread m.told.0 (omega arith) (omega arith) agrees (λ f. absurd (cc)) in
           let state = stop_left k outcomes.Conflict (λ x o. o) m.settled.thread m.told.0 (omega arith) (omega arith) agrees in
           let player : rules.restarted (answered_all rules.answered (rules.answered t.4.start.player (begin_code t.0.again)) (map (λ (x : Entry). x.reply) t.1.calls)) ≡ last.player = ap rules.restarted (sym t.4.player) ∙ sym m.told.1 in
-          let arena : (undone (alone MAX_DEPTH (bytes_at base r1.ended k) (record t.1 { at = k; outcome = outcomes.Conflict }))).arena ≡ last.engine.arena =
-          undone_arena (alone MAX_DEPTH (bytes_at base r1.ended k) (record t.1 { at = k; outcome = outcomes.Conflict })) ∙ (ap (λ (x : State). x.arena) state ∙ (ap (λ (c : Core). c.arena) (sym m.ends.stays) ∙ ap (λ (c : Core). c.arena) (sym m.settled.engine))) in
+          let left : State = alone MAX_DEPTH (bytes_at base r1.ended k) (record t.1 { at = k; outcome = outcomes.Conflict }) in
+          let arena : (undone left).arena ≡ last.engine.arena = undone_arena left left.blocks ∙ (ap (λ (x : State). x.arena) state ∙ ap (λ (c : Core). c.arena) (sym (m.settled.engine ∙ m.ends.stays))) in
           record {
             run = over.0;
             inside = λ o. absurd (true≢false (sym o ∙ (ap in_transaction m.settled.engine ∙ m.answered.fits.1)));
@@ -223,7 +217,7 @@ module _ {P : Type 0} (rules : Rules P) (laws : Obeys rules) (first : Between P)
           let agrees = subst (λ (k : ℕ). Agrees (words_at base r.ended k) mid.log) (sym m.ends.at_is) (seen.still inside) in
           record {
             run = (stop_run at outcomes.Full (λ x o. o) m.settled.thread m.told.0 older newer agrees
-                (λ f. lacks_commit rules laws (bytes_at base r1.ended at) t.0 t.1 a.player mid call (words_at base r.ended at) t.4 inside m.ends.outermost m.answered.in_call.asks is (memory_at seen at newer) (same_at seen at newer ∙ sym (still at newer)) agrees m.ends.some)).0;
+                (λ f. lacks_commit laws (bytes_at base r1.ended at) call (words_at base r.ended at) t.4 inside m.ends.outermost m.answered.in_call.asks is (memory_at seen at newer) (same_at seen at newer ∙ sym (still at newer)) agrees m.ends.some)).0;
             inside = λ o. absurd (true≢false (sym o ∙ (ap in_transaction m.settled.engine ∙ m.answered.fits.1)));
             between = λ o gave_up starved. absurd (gave_up (ap ending_of m.told.1));
           }

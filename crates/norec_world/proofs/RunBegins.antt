@@ -1,13 +1,9 @@
 -- An actor's run between two tries: calls outside a transaction, and begins.
 use Rattle.std.proofs.Common.{◌≡◌, ℕ, zero, suc, ◌/◌, ◌≤◌, Bool, true, false, List, [], Option, None, Some, refl, sym, true≢false, ap, subst, ◌∙◌, arith, is_some, inl, inr}
-use Rattle.norec_world.proofs.Common.{same_Some, Actor, Agrees, Agrees-drop, Answer, Attempt, Begin, Beginning, Between, Busy, Call, Cells, Core, IsBeforeTry, IsInTry, IsMemory, IsRun, MAX_DEPTH, Obeys, Props, Ready, Replied, Replies, RepliesTo, Reply, Rows, Rules, active_of, begin_of, begin_within, in_transaction, is_begin, none_inside, recoded, reply, state_over, with_opened, words_at, State, begins_at, Outside, Refused}
-use Rattle.norec_world.specs.Runs.{LeadsTo}
-use Rattle.itm_model.specs.Machine.{after, outside, after_unless, in_arena}
+use Rattle.norec_world.proofs.Common.{Actor, Agrees, Agrees-drop, Answer, Attempt, Begin, Beginning, Between, Busy, Call, Cells, Core, Done, IsBeforeTry, IsInTry, IsMemory, IsRun, LeadsTo, MAX_DEPTH, Obeys, Props, Ready, Refusal, Replied, Replies, RepliesTo, Reply, Row, Rows, Rules, State, active_of, after, after_unless, begin_of, begin_within, begins_at, in_transaction, is_begin, none_inside, outside, recoded, reply, same_Some, state_over, with_opened, words_at}
+use Rattle.itm_model.specs.Machine.{in_arena}
 use Rattle.itm_types.specs.Access.{size_of}
 use Rattle.itm_types.specs.declared.call.Call.TheVariants.{Load, Save}
-use Rattle.itm_types.specs.declared.call.Refusal.{Refusal}
-use Rattle.itm_types.specs.declared.call.Reply.TheVariants.{Done}
-use Rattle.write_set.specs.declared.row.Row.{Row}
 use Rattle.norec_world.specs.Records.{again_after}
 use Rattle.norec_world.proofs.ActiveRows.{opened_here}
 use Rattle.norec_world.proofs.RunAnswers.{now_at, run_same}
@@ -75,7 +71,7 @@ served_outside mid new c r m g nb shut mem agrees =
     plainly (Begin props room) again r nb = absurd (cc)
     plainly c again r nb = refl
 
-module _ {P : Type 0} (rules : Rules P) (laws : Obeys rules) (first : Between P) (base : List ℕ) (cells cells' : Cells) (r r1 : Rows) (mid : Core) (a last : Actor P) (call : Call)
+module _ {P : Type 0} {rules : Rules P} (laws : Obeys rules) {first : Between P} {base : List ℕ} {cells cells' : Cells} {r : Rows} (r1 : Rows) {mid : Core} (a last : Actor P) (call : Call)
     (seen : HasSeen base cells cells' r mid a.engine) (run : IsRun rules first base (cells.clock / 2) r (record a { engine = mid })) where
   -- where the actor stands before the answer
   before : in_transaction mid ≡ false → a.status ≡ Ready → (b : Between P) × (now_at rules first base r.ended a.thread ≡ Some b) × IsBeforeTry rules (cells.clock / 2) b (record a { engine = mid })
@@ -87,18 +83,13 @@ module _ {P : Type 0} (rules : Rules P) (laws : Obeys rules) (first : Between P)
     g : Replies mid call reply a.engine
     g = subst (λ (o : Option Call). RepliesTo mid o reply a.engine) m.taken.doing m.ends
 
-    -- its memory is the words as they are: nothing is logged
-    memory : IsMemory mid.words cells'.words
-    memory = (sym m.taken.words, m.taken.tied.fit)
-
-    empty_log : in_transaction last.engine ≡ false → Agrees cells'.words a.engine.log
-    empty_log o = subst (Agrees cells'.words) (sym (m.taken.tied.settled.closed (ap in_transaction (sym m.settled.engine) ∙ o)).0) tt
-
     outside_runs : is_begin call ≡ false → in_transaction last.engine ≡ false → r1.ended ≡ r.ended → IsRun rules first base (cells.clock / 2) r1 last
     outside_runs other closed ended =
         let t = before m.taken.was_is m.answered.status in
         let k = t.2 in
-        let served = served_outside mid a.engine call reply cells'.words g other m.taken.was_is memory (empty_log closed) in
+        -- its memory is the words as they are: nothing is logged
+        let served = served_outside mid a.engine call reply cells'.words g other m.taken.was_is (sym m.taken.words, m.taken.tied.fit)
+        (subst (Agrees cells'.words) (sym (m.taken.tied.settled.closed (ap in_transaction (sym m.settled.engine) ∙ closed)).0) tt) in
         record {
           run = run_same rules first base (cells.clock / 2) r.ended r1.ended a.thread last.thread ended m.settled.thread run.run;
           inside = λ o. absurd (true≢false (sym o ∙ closed));
@@ -130,7 +121,7 @@ module _ {P : Type 0} (rules : Rules P) (laws : Obeys rules) (first : Between P)
         let g' : Replies mid (Begin props room) reply a.engine = subst (λ (c : Call). Replies mid c reply a.engine) is g in
         let asks : rules.next_call a.player ≡ Some (Begin props room) = m.answered.in_call.asks ∙ ap (λ (c : Call). Some c) is in
         let props_same : row.props ≡ props = (let both_begin = sym p.3 ∙ (led_before rules laws k ∙ begin_here rules laws a.player mid.arena props room asks) in ap (λ (x : Beginning P). x.props) (same_Some _ _ both_begin)) in
-        let try = try_begins rules laws t.0 row a.player mid a.engine props room reply p.3 p.1 props_same p.2 (let nth = q.nth in let fewer = k.tries in omega arith) m.taken.was_is (m.taken.empty refl) p.4 g'
+        let try = try_begins laws t.0 row a.player mid a.engine props room reply p.3 p.1 props_same p.2 (let nth = q.nth in let fewer = k.tries in omega arith) m.taken.was_is (m.taken.empty refl) p.4 g'
         (let early = p.0 in omega arith) (words_at base r.ended (a.engine.snapshot / 2)) (memory_at seen (a.engine.snapshot / 2) k_late) (seen.now now) at in
         let free : active_of row.thread r.active ≡ None = ap (λ (u : ℕ). active_of u r.active) q.thread ∙ m.answered.kept.row in
         record {

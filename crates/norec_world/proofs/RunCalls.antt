@@ -1,13 +1,12 @@
 -- An actor's run over a call, up to its first step, and over a step.
-use Rattle.std.proofs.Common.{◌≡◌, ℕ, ◌/◌, ◌≤◌, ◌&&◌, Bool, true, false, not, List, [], ◌∷◌, ◌++◌, Some, refl, sym, true≢false, ap, subst, ◌∙◌, arith, None}
+use Rattle.std.proofs.Common.{◌≡◌, ℕ, ◌/◌, ◌≤◌, ◌&&◌, Bool, true, false, not, List, [], ◌∷◌, ◌++◌, Some, refl, sym, true≢false, ap, subst, ◌∙◌, arith, None, inl, inr}
 use Rattle.std.proofs.lemmas.Bool.{and_right, not_from_true}
-use Rattle.norec_world.proofs.Common.{Actor, Answer, AreCounted, AreLaid, Attempt, Begin, Between, Call, Cells, Commit, Core, Ended, HasRow, IsBeforeTry, IsDone, IsRun, IsRunOf, IsSound, IsTold, MAX_DEPTH, Next, Obeys, Ready, Reply, Rows, Rules, RunsFrom, Sees, Starves, Status, Step, Tells, active_of, asked_pending, begin_of, begins_again, begins_at, bytes_at, ending_of, found, handed_is, handed_to, in_transaction, is_inside, of_thread, run_after, words_at, IsInTry}
-use Rattle.norec_world.specs.Runs.{LeadsTo}
+use Rattle.norec_world.proofs.Common.{Actor, Answer, AreCounted, AreLaid, Attempt, Begin, Between, Call, Cells, Commit, Core, Ended, HasRow, IsBeforeTry, IsDone, IsInTry, IsRun, IsRunOf, IsSound, IsTold, LeadsTo, MAX_DEPTH, Next, Obeys, Ready, Reply, Rows, Rules, RunsFrom, Sees, Starves, Status, Step, Tells, active_of, asked_pending, begins_again, begins_at, bytes_at, cases_Bool, ending_of, found, handed_is, handed_to, in_transaction, is_inside, of_thread, run_after, words_at}
 use Rattle.norec_world.specs.declared.attempt.Outcome.TheVariants as outcomes
 use Rattle.norec_world.specs.declared.attempt.End.TheVariants as ends
 use Rattle.norec_world.proofs.ActiveRows.{changed_here}
 use Rattle.norec_world.proofs.SoundSteps.{IsCalling, active_same, call_taken, ended_same, mid, rests, IsStepping, mid_step, same, step_taken, waits}
-use Rattle.norec_world.proofs.Memories.{bytes_still}
+use Rattle.norec_world.proofs.Memories.{bytes_stay}
 use Rattle.norec_world.proofs.Laid.{laid_on, laid_same}
 use Rattle.norec_world.proofs.RunTaken.{runs_recorded}
 use Rattle.norec_world.proofs.Seen.{HasSeen, call_seen, step_seen}
@@ -63,7 +62,7 @@ module _ {P : Type 0} {rules : Rules P} (laws : Obeys rules) {cells : Cells} {r0
               (λ i. now_at rules first base (ended_same m i) (m.asks.thread i)) ∙ t.2,
               active_same m ∙ t.3,
               subst (λ (q : P). IsInTry rules t.0 t.1 q (mid m)) (sym m.asks.player)
-                  (try_kept rules laws t.0 t.1 old.player old.engine (mid m) t.4 refl (and_right (begins_again (in_transaction old.engine) old.again call) (not (in_transaction old.engine)) (not_from_true (in_transaction old.engine) o))
+                  (try_kept laws (mid m) t.4 refl (and_right (begins_again (in_transaction old.engine) old.again call) (not (in_transaction old.engine)) (not_from_true (in_transaction old.engine) o))
                   (λ k. refl) t.4.began (λ k agrees. agrees)),
               m.asks.again ∙ t.5,
               t.6 ∙ sym m.asks.nth,
@@ -111,7 +110,7 @@ module _ {P : Type 0} {rules : Rules P} (laws : Obeys rules) {cells : Cells} {r0
       → AreLaid base cells r1 × RunsFrom rules first base cells r1 last
   call_runs r1 last done tells more ended counted =
       let taken = call_taken m in
-      let x = runs_recorded rules laws first base (in_transaction old.engine) cells cells r (mid m) a call seen run_came r1 last more ended what taken done tells in (
+      let x = runs_recorded laws (in_transaction old.engine) a call seen run_came r1 last more ended what taken done tells in (
         x.laid counted,
         record {
           runs = x.run;
@@ -152,8 +151,8 @@ module _ {P : Type 0} {rules : Rules P} (laws : Obeys rules) {cells : Cells} {r0
       run_same rules first base (cells.clock / 2) r0.ended r1.ended old.thread last.thread (ap (λ (x : Rows). x.ended) (s.stays o)) s.same.thread runs.runs.run
   starve_run true o =
       let here : IsRun rules first base (cells.clock / 2) roomy old = record { run = runs.runs.run; inside = runs.runs.inside; between = λ x. absurd (true≢false (sym o ∙ x)) } in
-      (stop_run rules laws first base cells cells roomy r1 old.engine old last Commit still_seen here (cells.clock / 2) (let l : cells.clock / 2 ≤ cells.clock / 2 = omega arith in l)
-      (λ k l. ap (λ (rows : List Attempt). bytes_at base rows k) ended ∙ bytes_still base cells.clock r0.ended laid.counted more k l) o (old.engine.snapshot / 2) outcomes.NoMemory (λ x y. y) s.same.thread (s.stops o)
+      (stop_run laws r1 old last Commit still_seen here (cells.clock / 2) (let l : cells.clock / 2 ≤ cells.clock / 2 = omega arith in l)
+      (bytes_stay laid more ended) o (old.engine.snapshot / 2) outcomes.NoMemory (λ x y. y) s.same.thread (s.stops o)
       (runs.runs.inside o).4.began still_seen.late ((runs.sees fed).logged o) (λ f. absurd (cc))).0
 
   pub starve_runs : RunsFrom rules first base cells r1 last
@@ -168,8 +167,7 @@ module _ {P : Type 0} {rules : Rules P} (laws : Obeys rules) {cells : Cells} {r0
 
 pub laid_calls : (base : List ℕ) (cells : Cells) (r0 r1 : Rows) → AreLaid base cells r0 → (more : List Attempt) → r1.ended ≡ r0.ended ++ more → AreCounted cells.clock r1.ended → AreLaid base cells r1
 laid_calls base cells r0 r1 laid more ended counted =
-    laid_on base cells cells r0 r1 laid counted refl refl
-    (λ k l. ap (λ (rows : List Attempt). bytes_at base rows k) ended ∙ bytes_still base cells.clock r0.ended laid.counted more k l) (λ even. refl)
+    laid_on base cells cells r0 r1 laid counted refl refl (bytes_stay laid more ended) (λ even. refl)
 
 -- ## A step
 
@@ -185,7 +183,7 @@ module _ {P : Type 0} (rules : Rules P) (laws : Obeys rules) (first : Between P)
       let kept = (handed_is a.engine step seen).keeps in
       record {
         run = x.run;
-        inside = λ o. (let t = x.inside (sym same ∙ o) in (t.0, t.1, t.2, t.3, try_handed rules laws t.0 t.1 a.player a.engine step seen t.4, t.5, t.6));
+        inside = λ o. (let t = x.inside (sym same ∙ o) in (t.0, t.1, t.2, t.3, try_handed laws step seen t.4, t.5, t.6));
         between = λ o gave_up starved.
             (let t = x.between (sym same ∙ o) (λ e. absurd (let z = sym on ∙ e in cc)) (λ e. absurd (let z = sym on ∙ e in cc)) in
             (t.0, t.1, before_on t.2 (handed_to a.engine (Some step) seen) status kept.arena kept.again));
@@ -209,7 +207,7 @@ module _ {P : Type 0} (rules : Rules P) (laws : Obeys rules) (first : Between P)
                 reading (a.engine.snapshot / 2) t.1,
                 ap (λ (rows : Rows). run_after rules (bytes_at base rows.ended) (Some first) (of_thread a.thread rows.ended)) moved ∙ t.2,
                 now,
-                try_told rules laws t.0 t.1 a.player a.engine (a.engine.snapshot / 2) t.4,
+                try_told laws (a.engine.snapshot / 2) t.4,
                 t.5,
                 t.6,
               );
@@ -231,17 +229,13 @@ module _ {P : Type 0} {rules : Rules P} (laws : Obeys rules) {cells : Cells} {r 
   run_mid : IsRun rules first base (cells.clock / 2) r (record old { engine = mid_step m; status = status })
   run_mid = run_handed rules laws first base (cells.clock / 2) r old m.step (found cells m.step) status (ap ending_of m.waiting) (ap is_inside (same m).blocks) runs.runs
 
-  ended_told : (b : Bool) (thread at : ℕ) (r1 rows : Rows) → IsTold thread b r1 at rows → rows.ended ≡ r1.ended
-  ended_told true thread at r1 rows t = ap (λ (x : Rows). x.ended) (t.moves refl)
-  ended_told false thread at r1 rows t = ap (λ (x : Rows). x.ended) (t.stays refl)
-
   pub step_runs : (r1 : Rows) (last : Actor P) → IsDone rules (in_transaction old.engine) r r1 (record old { engine = new; status = status }) last call what → Tells rules (in_transaction old.engine) r r1 (record old { engine = new; status = status }) last call what
       → (rows : Rows) → IsTold last.thread (in_transaction last.engine) r1 (last.engine.snapshot / 2) rows → (more : List Attempt) → rows.ended ≡ r.ended ++ more → AreCounted cells'.clock rows.ended
       → AreLaid base cells' rows × RunsFrom rules first base cells' rows last
   step_runs r1 last done tells rows told more ended counted =
       let taken = step_taken m status ready in
-      let same_ended = ended_told (in_transaction last.engine) last.thread (last.engine.snapshot / 2) r1 rows told in
-      let x = runs_recorded rules laws first base (in_transaction old.engine) cells cells' r (mid_step m) (record old { engine = new; status = status }) call seen_step run_mid r1 last more (sym same_ended ∙ ended) what taken done tells in
+      let same_ended : rows.ended ≡ r1.ended = elim (cases_Bool (in_transaction last.engine)) [ inl o ↦ ap (λ (x : Rows). x.ended) (told.moves o) | inr shut ↦ ap (λ (x : Rows). x.ended) (told.stays shut) ] in
+      let x = runs_recorded laws (in_transaction old.engine) (record old { engine = new; status = status }) call seen_step run_mid r1 last more (sym same_ended ∙ ended) what taken done tells in
       let t = run_told rules laws first base (cells'.clock / 2) r1 rows last (now taken done tells).sound.kept.row told x.run in (
         laid_same base cells' r1 rows same_ended (x.laid (subst (AreCounted cells'.clock) same_ended counted)),
         record { runs = t.0; sees = λ fed. subst (λ (l : List Attempt). Sees (words_at base l) cells' last.engine) (sym same_ended) x.sees; starved = λ e. absurd (x.fed e); reads = t.1 },

@@ -7,7 +7,7 @@ use Rattle.norec_world.specs.Runs.{StillRuns}
 use Rattle.norec_world.proofs.SoundOthers.{first_found, set_place, there_is, are_open, held_apart, odd_held, row_unfinished, row_open}
 use Rattle.norec_world.proofs.Solos.{stands_open}
 use Rattle.norec_world.proofs.InTries.{try_stops}
-use Rattle.norec_world.proofs.Memories.{bytes_still}
+use Rattle.norec_world.proofs.Memories.{bytes_still, bytes_stay}
 use Rattle.norec_world.proofs.RunLists.{of_thread_more, run_still, run_more}
 use Rattle.norec_world.proofs.ActiveRows.{past_all}
 
@@ -78,23 +78,20 @@ module _ {P : Type 0} (rules : Rules P) (laws : Obeys rules) where
           loaded = record {
             fresh = λ even same f.
                 (let clock : cells'.clock ≡ cells.clock = (let late = tied.late in omega arith) in
-                let words : words_at base r'.ended (cells'.clock / 2) ≡ words_at base r.ended (cells.clock / 2) = ap (λ (k : ℕ). words_at base r'.ended (k / 2)) clock ∙ ap words_of (still (cells.clock / 2) (let l : cells.clock / 2 ≤ cells.clock / 2 = omega arith in l)) in
+                let words : words_at base r'.ended (cells'.clock / 2) ≡ words_at base r.ended (cells.clock / 2) = ap (λ (k : ℕ). words_at base r'.ended (k / 2)) clock ∙ ap words_of (bytes_stay laid own.more own.ended (cells.clock / 2) (let l : cells.clock / 2 ≤ cells.clock / 2 = omega arith in l)) in
                 subst (λ (m : List ℕ). Agrees m b.engine.fresh) (sym words) (s.loaded.fresh (ap (λ (k : ℕ). k % 2) (sym clock) ∙ even) (same ∙ clock) f));
             held = λ h.
                 (let is = held h in
-                ap (λ (c : Cells). c.words) is ∙ (s.loaded.held h ∙ (ap (λ (m : List ℕ). backed b.engine m) (ap words_of (sym (still (cells.clock / 2) (let l : cells.clock / 2 ≤ cells.clock / 2 = omega arith in l))))
+                ap (λ (c : Cells). c.words) is ∙ (s.loaded.held h ∙ (ap (λ (m : List ℕ). backed b.engine m) (ap words_of (sym (bytes_stay laid own.more own.ended (cells.clock / 2) (let l : cells.clock / 2 ≤ cells.clock / 2 = omega arith in l))))
                 ∙ ap (λ (c : Cells). backed b.engine (words_at base r'.ended (c.clock / 2))) (sym is))));
             got = λ h. subst (λ (c : Cells). Got b.engine.got (slice_get c.words (write_at b.engine.writes b.engine.done).word)) (sym (held h)) (s.loaded.got h);
           };
-          logged = λ o. subst (λ (m : List ℕ). Agrees m b.engine.log) (sym (ap words_of (still (b.engine.snapshot / 2) (let reached = tied.settled.reached in let late = tied.late in omega arith)))) (s.logged o);
+          logged = λ o. subst (λ (m : List ℕ). Agrees m b.engine.log) (sym (ap words_of (bytes_stay laid own.more own.ended (b.engine.snapshot / 2) (let reached = tied.settled.reached in let late = tied.late in omega arith)))) (s.logged o);
         });
         starved = x.starved;
         reads = λ o row e. x.reads o row (sym (own.others b.thread apart) ∙ e);
       }
     where
-      still : (k : ℕ) → k ≤ cells.clock / 2 → bytes_at base r'.ended k ≡ bytes_at base r.ended k
-      still k l = ap (λ (l : List Attempt). bytes_at base l k) own.ended ∙ bytes_still base cells.clock r.ended laid.counted own.more k l
-
       rows : of_thread b.thread r'.ended ≡ of_thread b.thread r.ended
       rows =
           ap (of_thread b.thread) own.ended ∙ (of_thread_more b.thread r.ended own.more
@@ -102,7 +99,7 @@ module _ {P : Type 0} (rules : Rules P) (laws : Obeys rules) where
 
       on : IsRunOf rules MAX_DEPTH (cells'.clock / 2) (bytes_at base r'.ended) (Some first) (of_thread b.thread r.ended)
           × (run_after rules (bytes_at base r'.ended) (Some first) (of_thread b.thread r.ended) ≡ run_after rules (bytes_at base r.ended) (Some first) (of_thread b.thread r.ended))
-      on = run_still rules (cells.clock / 2) (cells'.clock / 2) (bytes_at base r.ended) (bytes_at base r'.ended) (omega (arith, later)) still (Some first) (of_thread b.thread r.ended) x.runs.run
+      on = run_still rules (cells.clock / 2) (cells'.clock / 2) (bytes_at base r.ended) (bytes_at base r'.ended) (omega (arith, later)) (bytes_stay laid own.more own.ended) (Some first) (of_thread b.thread r.ended) x.runs.run
 
       now : run_after rules (bytes_at base r'.ended) (Some first) (of_thread b.thread r'.ended) ≡ run_after rules (bytes_at base r.ended) (Some first) (of_thread b.thread r.ended)
       now = ap (run_after rules (bytes_at base r'.ended) (Some first)) rows ∙ on.1
@@ -136,7 +133,7 @@ module _ {P : Type 0} (rules : Rules P) (laws : Obeys rules) where
               let unfinished : row.outcome ≡ outcomes.Unfinished = row_unfinished (in_transaction a.engine) w.attempts a.thread row s.sound.kept.row t.3 in
               let at : row.at ≡ k = x.reads o row t.3 in
               let early = t.4.began in
-              let try = try_stops rules laws (w.cells.clock / 2) w.base (attempts_of w) t.0 row a.player a.engine t.4 k outcomes.Unfinished (stands_open rules laws a.engine (words_at w.base (attempts_of w) k) o) early k_late
+              let try = try_stops laws (w.cells.clock / 2) w.base (attempts_of w) t.4 k outcomes.Unfinished (stands_open rules laws a.engine (words_at w.base (attempts_of w) k) o) early k_late
               (subst (IsMemory a.engine.words) (sym words) (fits.0 ∙ sym tied.words, fits.1)) (ap bytes_of words ∙ (running.laid.memories.same k k_late ∙ sym (shown_still k k_late)))
               (subst (λ (m : List ℕ). Agrees m a.engine.log) (sym words) (sees.logged o)) (λ f. absurd (cc)) in
               let as_it_is : record row { at = k; outcome = outcomes.Unfinished } ≡ row = λ i. record row { at = (sym at) i; outcome = (sym unfinished) i } in

@@ -1,7 +1,7 @@
 -- What a world with one actor shows is what its player does alone.
 use Rattle.std.proofs.Common.{◌≡◌, ◌⊎◌, inl, inr, ℕ, zero, suc, ◌/◌, ◌%◌, ◌≤◌, Bool, true, false, nat_le, if◌then◌else◌, List, [], ◌∷◌, ◌++◌, length, map, replicate, Option, None, Some, slice_get, refl, sym, ap, subst, ◌∙◌, arith, append-nil, le-leb}
 use Rattle.std.proofs.lemmas.Bool.{and_from}
-use Rattle.norec_world.proofs.Common.{same_Some, Actor, AreOfActors, AreOpaque, AreUnfinished, Attempt, Between, Call, Commit, Done, End, EndsAs, EndsWith, Entry, Finished, GaveUp, HasRow, IsAlone, IsBeforeTry, IsFirstTry, IsInTry, IsOnWay, IsRunOf, IsSole, IsWorld, MAX_DEPTH, NoMemory, Obeys, Outcome, Rules, ShowsAlone, StandsSole, State, World, active_of, after, alone, answers, answers_within, attempts_of, begin_code, begin_of, begin_within, bytes_at, committed_at, current_of, ending_at, ending_of, first_of, in_transaction, is_open, map-append, of_thread, opened, option_and_then, pair_of, player_then, row_of, run_after, solo_within, state_then, stopped, with_all, with_first}
+use Rattle.norec_world.proofs.Common.{Actor, AreOfActors, AreOpaque, AreUnfinished, Attempt, Between, Call, Commit, Done, End, EndsAs, EndsWith, Entry, Finished, GaveUp, IsAlone, IsBeforeTry, IsFirstTry, IsOnWay, IsRunOf, IsSole, IsWorld, MAX_DEPTH, NoMemory, Obeys, Outcome, Rules, ShowsAlone, StandsSole, State, World, active_of, after, alone, answers, answers_within, attempts_of, begin_code, begin_of, begin_within, bytes_at, committed_at, current_of, ending_at, ending_of, first_of, in_transaction, is_open, map-append, of_thread, opened, option_and_then, pair_of, player_then, row_of, run_after, same_Some, solo_within, state_then, stopped, with_all, with_first}
 use Rattle.norec_world.proofs.RunBegins.{led_before}
 use Rattle.itm_types.specs.declared.call.Reply.{Reply}
 use Rattle.norec_world.specs.declared.attempt.Outcome.TheVariants as outcomes
@@ -170,16 +170,13 @@ module _ {P : Type 0} (rules : Rules P) (laws : Obeys rules) (w : World P) (kept
         ∙ ap (λ (r : Attempt). with_first r (stopped rules MAX_DEPTH w.max_commits 0 x.before GaveUp)) (row_here outcomes.Full (sym o))) is z
 
     -- its player stands where its calls have led it
-    stands_at : (b : Between P) (r : Attempt) → IsInTry rules b r a.player a.engine → place_now ≡ Some b → w.attempts.ended ≡ sole.past → r ≡ row → a.player ≡ player_then rules.answered begun row.calls
-    stands_at b r t led_to ended same =
-        let place : b ≡ between x.before = same_Some _ _ (sym led_to ∙ led (row ∷ []) x ended) in
-        let start : t.start ≡ y.start = same_Some _ _ (sym t.begins ∙ (ap (λ (b : Between P). begin_of rules MAX_DEPTH b.player b.arena) place ∙ y.comes)) in
-        t.player ∙ (λ i. player_then rules.answered (rules.answered (start i).player (begin_code (place i).again)) (same i).calls)
-
     stands_so : w.attempts.ended ≡ sole.past → active_of a.thread w.attempts.active ≡ Some row → a.player ≡ player_then rules.answered begun row.calls
     stands_so ended some =
         let t = (opaque.players 0 p a player_here here).inside (row_open (in_transaction a.engine) w.attempts a.thread row (kept.actors.each 0 a here).sound.kept.row some) in
-        stands_at t.0 t.1 t.4 t.2 ended (same_Some _ _ (sym t.3 ∙ some))
+        let place : t.0 ≡ between x.before = same_Some _ _ (sym t.2 ∙ led (row ∷ []) x ended) in
+        let start : t.4.start ≡ y.start = same_Some _ _ (sym t.4.begins ∙ (ap (λ (b : Between P). begin_of rules MAX_DEPTH b.player b.arena) place ∙ y.comes)) in
+        let same : t.1 ≡ row = same_Some _ _ (sym t.3 ∙ some) in
+        t.4.player ∙ (λ i. player_then rules.answered (rules.answered (start i).player (begin_code (place i).again)) (same i).calls)
 
   -- ## By how it stands
 

@@ -1,6 +1,6 @@
 -- An actor that has its world to itself goes on so over an event.
-use Rattle.std.proofs.Common.{◌≡◌, inl, inr, ℕ, ◌+◌, ◌/◌, ◌%◌, ◌≤◌, Bool, true, false, nat_lt, if◌then◌else◌, List, [], ◌∷◌, ◌++◌, Option, None, Some, slice_get, slice_set, length, length-set, refl, sym, ap, subst, ◌∙◌, arith, eq-eqb}
-use Rattle.norec_world.proofs.Common.{Actor, AreActors, AreOfActors, AreRunning, AreSole, Attempt, Beginning, Between, Cells, CommitsInOrder, Continues, End, EndsAt, EndsWith, Finished, GaveUp, GoesOnAfter, HasRow, IsBetween, IsEvent, IsFirstTry, IsOnWay, IsRunOf, IsSole, IsSound, IsTryAt, IsWorld, MAX_DEPTH, NoMemory, Outcome, Ready, Rows, Rules, StandsSole, Status, StatusIs, Tries, World, active_of, after_try, begin_of, begins, between, bytes_at, current_of, ending_of, false_from_ne_true, first_of, is_committed, is_done, is_ready, of_thread, one_if, over, prior_of, runs, slice_get-set_same, turned_away, slice_get_within, same_Some, both_ways, in_transaction}
+use Rattle.std.proofs.Common.{◌≡◌, inl, inr, ℕ, ◌+◌, ◌/◌, ◌%◌, ◌≤◌, true, false, nat_lt, if◌then◌else◌, List, [], ◌∷◌, ◌++◌, Option, None, Some, slice_get, slice_set, length, length-set, refl, sym, ap, subst, ◌∙◌, arith, eq-eqb}
+use Rattle.norec_world.proofs.Common.{Actor, AreActors, AreOfActors, AreRunning, AreSole, Attempt, Between, Cells, CommitsInOrder, Continues, End, EndsAt, EndsWith, Finished, GaveUp, GoesOnAfter, IsBetween, IsEvent, IsFirstTry, IsOnWay, IsRunOf, IsSole, IsSound, IsWorld, MAX_DEPTH, NoMemory, Outcome, Ready, Rows, Rules, StandsSole, Status, StatusIs, Tries, World, active_of, after_try, begin_of, begins, between, bytes_at, current_of, ending_of, false_from_ne_true, first_of, is_committed, is_done, is_ready, of_thread, one_if, over, prior_of, runs, slice_get-set_same, turned_away, slice_get_within, same_Some, both_ways, in_transaction}
 use Rattle.norec_world.specs.declared.attempt.Outcome.TheVariants as outcomes
 use Rattle.norec_world.proofs.SoundOthers.{there_is, odd_or_even, row_shut}
 use Rattle.norec_world.proofs.TryEnds.{none_again}
@@ -84,8 +84,8 @@ module _ {P : Type 0} (rules : Rules P) (max_commits : ℕ) where
     goes_on : clock' / 2 ≡ clock / 2 → StandsSole rules max_commits (ending_of a'.status) old.past (clock' / 2) r' a' → IsSole rules max_commits clock' r' a'
     goes_on half s = record { past = old.past; commit = subst (AreSole 0 old.past) (sym half) old.commit; stands = s }
 
-    now : (n : ℕ) (row : Attempt) → clock' / 2 ≡ clock / 2 → IsFirstTry (clock / 2) row → IsFirstTry (clock' / 2) row
-    now n row half f = subst (λ (k : ℕ). IsFirstTry k row) (sym half) f
+    now : (row : Attempt) → clock' / 2 ≡ clock / 2 → IsFirstTry (clock / 2) row → IsFirstTry (clock' / 2) row
+    now row half f = subst (λ (k : ℕ). IsFirstTry k row) (sym half) f
 
     -- one has ended, and if not by its commit it was the last one
     module _ (t : EndsIt clock (prior_of r a) clock' r' a') where
@@ -106,7 +106,7 @@ module _ {P : Type 0} (rules : Rules P) (max_commits : ℕ) where
       }
 
       last : (outcome : Outcome) → t.row'.outcome ≡ outcome → clock' / 2 ≡ clock / 2 → EndsWith old.past (clock' / 2) outcome r'
-      last outcome o half = record { row = t.row'; ended = ended; first = now 0 t.row' half first; outcome_is = o }
+      last outcome o half = record { row = t.row'; ended = ended; first = now t.row' half first; outcome_is = o }
 
       by_outcome : (o : Outcome) → t.row'.outcome ≡ o → EndsAt a.engine.max_commits clock clock' t.row'.at o → GoesOnAfter o clock' (prior_of r a) r' a' → IsSole rules max_commits clock' r' a'
       by_outcome outcomes.Committed o at g =
@@ -130,7 +130,7 @@ module _ {P : Type 0} (rules : Rules P) (max_commits : ℕ) where
           nth = t.tries ∙ way.nth;
           current = λ row e.
               (let same : t.row ≡ row = (let z : Some t.row ≡ Some row = sym t.now ∙ (ap (λ (o : Option Attempt). current_of o a'.pending) (sym t.still) ∙ e) in cc) in
-              subst (IsFirstTry (clock' / 2)) same (now 0 t.row t.half (way.current t.row (ap (λ (o : Option Attempt). current_of o a.pending) t.none ∙ t.was))));
+              subst (IsFirstTry (clock' / 2)) same (now t.row t.half (way.current t.row (ap (λ (o : Option Attempt). current_of o a.pending) t.none ∙ t.was))));
         }))
     sole_after (runs t) =
         goes_on t.half (stands_on (record {
@@ -138,7 +138,7 @@ module _ {P : Type 0} (rules : Rules P) (max_commits : ℕ) where
           nth = t.tries ∙ way.nth;
           current = λ row e.
               (let same : t.row' ≡ row = same_Some _ _ (ap (λ (o : Option Attempt). current_of o a'.pending) (sym t.now) ∙ e) in
-              subst (IsFirstTry (clock' / 2)) same (now 0 t.row' t.half (continued (clock / 2) t.row t.row' t.continues (way.current t.row t.was))));
+              subst (IsFirstTry (clock' / 2)) same (now t.row' t.half (continued (clock / 2) t.row t.row' t.continues (way.current t.row t.was))));
         }) finishes t.goes_on (λ e. absurd (t.fed e)))
     sole_after (over t) = by_outcome t t.row'.outcome refl t.at t.after
     sole_after (turned_away t) = absurd (let even = shut (none_again clock' a.nth r' a' (nat_lt a.retries a.nth) t.after) in let odd = t.odd in omega arith)

@@ -1,10 +1,9 @@
 -- The run of an actor that has its world to itself is what its player does alone.
 use Rattle.std.proofs.Common.{◌≡◌, ℕ, suc, ◌+◌, ◌<◌, ◌≤◌, ◌==◌, ◌&&◌, Bool, true, false, nat_le, nat_lt, if◌then◌else◌, List, [], ◌∷◌, ◌++◌, length, map, Option, None, Some, refl, sym, ap, subst, ◌∙◌, arith, eqb-true, eq-eqb, lt-ltb, leb-true}
 use Rattle.std.proofs.lemmas.Bool.{or_parts}
-use Rattle.norec_world.proofs.Common.{AreSole, Attempt, Begin, Beginning, Between, Block, Call, Commit, EndsAs, Entry, IsAlone, IsFirstTry, IsOpaque, IsRunOf, IsTryAt, MAX_DEPTH, Obeys, Outcome, Progress, Rules, Solo, State, Write, after, after_try, alone, answered_all, answers, answers_within, begin_code, begin_of, bytes_at, committed_at, ended_as, false_from_ne_true, follows, is_at, is_committed, is_done, is_open, memory_left, one_if, opened, pair_of, player_then, refusal, reply, row_of, run_after, solo_within, state_then, turn, with_all, with_first, Read}
-use Rattle.itm_types.specs.declared.call.Refusal.{Refusal}
+use Rattle.norec_world.proofs.Common.{AreSole, Attempt, Begin, Beginning, Between, Block, Call, Commit, EndsAs, Entry, IsAlone, IsFirstTry, IsOpaque, IsRunOf, MAX_DEPTH, Obeys, Outcome, Progress, Refusal, Rules, Solo, State, Write, after, after_try, after_unless, alone, answered_all, answers, answers_within, begin_code, begin_of, bytes_at, committed_at, ended_as, false_from_ne_true, follows, is_at, is_committed, is_done, is_open, memory_left, one_if, opened, pair_of, player_then, refusal, reply, row_of, run_after, solo_within, state_then, turn, with_all, with_first}
 use Rattle.itm_types.specs.declared.call.Reply.{Reply}
-use Rattle.itm_model.specs.Machine.{effect, after_unless, closed, entered}
+use Rattle.itm_model.specs.Machine.{effect, closed, entered}
 use Rattle.norec_engine.proofs.Machines.{some_bytes}
 use Rattle.norec_world.specs.declared.attempt.Outcome.TheVariants as outcomes
 use Rattle.norec_world.specs.Attempts.{replies_of}

@@ -1,9 +1,8 @@
 -- A player that runs alone, block by block.
 -- Its calls alone come first in what it gets.
 use Rattle.std.proofs.Common.{◌≡◌, ℕ, zero, suc, ◌+◌, ◌<◌, ◌≤◌, Bool, true, false, ◌&&◌, nat_le, is_none, List, [], ◌∷◌, ◌++◌, map, Option, None, Some, refl, sym, ap, subst, ◌∙◌, arith, cond}
-use Rattle.norec_world.proofs.Common.{Begin, Beginning, Call, Core, Entry, Finished, GaveUp, IsAlone, Obeys, Progress, Props, Rules, Solo, State, Unfinished, after, answers, answers_within, begin_code, begin_of, begin_within, cond-false, cond-true, ended_as, in_transaction, is_begin, is_open, one_if, opened, pair_of, player_then, refusal, reply, row_of, same_Some, solo_within, stands_for, state_then, stopped, turn, with_first}
+use Rattle.norec_world.proofs.Common.{Begin, Beginning, Call, Core, Entry, Finished, GaveUp, IsAlone, Obeys, Progress, Props, Rules, Solo, State, Unfinished, after, answers, answers_within, begin_code, begin_of, begin_within, cond-false, cond-true, ended_as, in_transaction, is_begin, is_open, one_if, opened, outside, pair_of, player_then, refusal, reply, row_of, same_Some, solo_within, stands_for, state_then, stopped, turn, with_first}
 use Rattle.itm_types.specs.declared.call.Reply.{Reply}
-use Rattle.itm_model.specs.Machine.{outside}
 use Rattle.itm_model.specs.Runs.{state_after}
 use Rattle.norec_world.specs.declared.attempt.Outcome.TheVariants.{Full}
 use Rattle.norec_world.specs.Solo.{entry_of, front, player_after, passed, block_then, begun_then}

@@ -7,7 +7,7 @@ use Rattle.norec_engine.proofs.KeptFields.{most_same}
 use Rattle.norec_world.specs.Sound.{IsWaiting, IsAsked}
 use Rattle.norec_world.proofs.ClockHolders.{clocks_of, clocks_still, clocks_twice, word_freed}
 use Rattle.norec_world.proofs.Taken.{ClockMoves, HasTaken, in_call_of, ready_of}
-use Rattle.norec_world.proofs.TiedEngines.{IsMid, hands, held_even, holds_handed, holds_same, limit_same, tied, comes}
+use Rattle.norec_world.proofs.TiedEngines.{IsMid, hands, held_even, holds_handed, clock_same, limit_same, tied, comes}
 use Rattle.norec_world.specs.Records.{Asks as AsksOf}
 use Rattle.norec_world.specs.LocalWork.{SameActor, TakesIn}
 
@@ -99,7 +99,7 @@ module _ {P : Type 0} {rules : Rules P} {cells : Cells} {r : Rows} {old : Actor 
       let taken = subst (λ (c : Cells). HoldsOn cells old.engine c mid_step) (sym m.cells_are) (holds_handed cells old.engine m.step m.sound.tied waits.lawful) in
       let kept = limit_same mid_step new what went in
       clocks_twice cells cells' cells' old.engine mid_step last (clocks_of cells cells' old.engine mid_step taken (λ h. (let held = is_mid.holder h in let even = is_mid.even h in omega arith)))
-      (clocks_still cells' mid_step last (ap (λ (c : Core). c.holds) is ∙ holds_same mid_step new what went) (ap (λ (c : Core). c.max_commits) is ∙ kept.0, ap (λ (c : Core). c.patience) is ∙ kept.1))
+      (clocks_still cells' mid_step last (ap (λ (c : Core). c.holds) is ∙ (clock_same mid_step new what went).2) (ap (λ (c : Core). c.max_commits) is ∙ kept.0, ap (λ (c : Core). c.patience) is ∙ kept.1))
 
   -- the value came to the engine, and what came of it was taken up
   pub takes_in : (status : Status) → status ≡ Ready → {rows r' : Rows} {last : Actor P} → last.engine ≡ new → Tells rules (in_transaction old.engine) r rows (record old { engine = new; status = status }) last call what
@@ -218,6 +218,10 @@ module _ {P : Type 0} {rules : Rules P} {cells : Cells} {r0 r : Rows} {old a : A
   pub ended_same : r.ended ≡ r0.ended
   ended_same = ap (λ (x : Rows). x.ended) m.asks.rows_are
 
+  -- nor does what is left
+  pub same_rank : (n : ℕ) → rank rules n (in_transaction old.engine) a ≡ rank rules n (in_transaction old.engine) old
+  same_rank n = λ i. (whole rules (in_transaction old.engine) (m.asked.same.player i) * (m.asked.same.retries i + 1) + (m.asked.same.retries i + 1 - m.asked.same.nth i)) * (n + 1) + rules.calls_left (m.asked.same.player i)
+
   module _ {r1 : Rows} {last : Actor P} (s : IsSettledBy rules (in_transaction old.engine) r1 a last) where
     -- what comes of an answer is as if the actor had not changed before
     pub call_falls : last.status ≡ Ready → Falls rules (in_transaction old.engine) (in_transaction last.engine) old last
@@ -228,9 +232,6 @@ module _ {P : Type 0} {rules : Rules P} {cells : Cells} {r0 r : Rows} {old a : A
           rank_falls = λ n b. subst (λ (x : ℕ). rank rules n (in_transaction last.engine) last < x) (same_rank n)
               (f.rank_falls n (subst (λ (p : P). whole rules (in_transaction old.engine) p ≤ n) (sym m.asked.same.player) b));
         }
-      where
-        same_rank : (n : ℕ) → rank rules n (in_transaction old.engine) a ≡ rank rules n (in_transaction old.engine) old
-        same_rank n = λ i. (whole rules (in_transaction old.engine) (m.asked.same.player i) * (m.asked.same.retries i + 1) + (m.asked.same.retries i + 1 - m.asked.same.nth i)) * (n + 1) + rules.calls_left (m.asked.same.player i)
 
     pub call_less : ending_of last.status ≡ None → IsNoMore rules old last
     call_less e = of_status last.status refl s.rests e

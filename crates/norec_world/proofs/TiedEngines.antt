@@ -1,6 +1,6 @@
 -- The engine and the cells, over one event: the engine's data stay as the cells have them.
 use Rattle.std.proofs.Common.{◌≡◌, ℕ, zero, suc, ◌+◌, ◌*◌, ◌/◌, ◌%◌, ◌<◌, ◌≤◌, ◌==◌, Bool, true, false, length, Option, Some, slice_index, refl, sym, ap, subst, ◌∙◌, arith, if◌then◌else◌, eqb-true, length-set}
-use Rattle.norec_world.proofs.Common.{AllFit, Answer, AnswerFits, Answers, Asks, AsksFor, Busy, Call, Cas, Cells, Commit, Committed, Conflict, Core, Ends, Full, HoldsOn, IsLawful, IsTied, Load, Next, Proceeds, Replies, RepliesTo, Reply, StaysOn, Step, Store, after_undoing, both_ways, came, cells_after, cond_both, found, handed_to, in_transaction, rests, word_loaded}
+use Rattle.norec_world.proofs.Common.{AllFit, Answer, AnswerFits, Answers, Asks, Busy, Call, Cas, Cells, Commit, Committed, Conflict, Core, Ends, Full, HoldsOn, IsLawful, IsTied, Load, Next, Proceeds, Replies, RepliesTo, Reply, StaysOn, Step, Store, after_undoing, both_ways, came, cells_after, cond_both, found, handed_to, in_transaction, rests, word_loaded}
 use Rattle.norec_engine.specs.Proceeds.{IsSettled}
 use Rattle.norec_world.proofs.PlayerLaws.{reply_fits}
 
@@ -35,13 +35,15 @@ loose {mid} words fit late free settled = record {
   settled = settled;
 }
 
--- a step is asked for
-asked : (cells : Cells) (mid new : Core) (step : Step) → IsMid cells mid new → AsksFor mid step new → IsTied cells new
-asked cells mid new step m g =
-    let same = g.stays in
-    let words : new.words ≡ mid.words = ap (λ (c : Core). c.words) same in
-    let clock : new.clock ≡ mid.clock = ap (λ (c : Core). c.clock) same in
-    let holds : new.holds ≡ mid.holds = ap (λ (c : Core). c.holds) same in
+-- what the engine goes on to has the same words and the same clock, and holds it or not as before
+pub clock_same : (mid new : Core) (what : Next) → Proceeds mid what new → (new.words ≡ mid.words) × (new.clock ≡ mid.clock) × (new.holds ≡ mid.holds)
+clock_same mid new (Asks step) g = (ap (λ (c : Core). c.words) g.stays, ap (λ (c : Core). c.clock) g.stays, ap (λ (c : Core). c.holds) g.stays)
+clock_same mid new (Answers a) g = (let r = rests mid new a g in (r.words, r.clock, r.holds ∙ sym r.free))
+
+-- the engine stays as the cells have it
+pub tied : (cells : Cells) (mid new : Core) (what : Next) → IsMid cells mid new → Proceeds mid what new → IsTied cells new
+tied cells mid new what m g =
+    let (words, clock, holds) = clock_same mid new what g in
     record {
       words = words ∙ m.words;
       fit = m.fit;
@@ -49,24 +51,6 @@ asked cells mid new step m g =
       holder = λ h. (let l = m.holder (sym holds ∙ h) in omega arith);
       settled = m.settled;
     }
-
--- an engine that has answered holds nothing
-ended : (cells : Cells) (mid new : Core) (a : Answer) → IsMid cells mid new → Ends mid a new → IsTied cells new
-ended cells mid new a m g =
-    let r = rests mid new a g in
-    let clock = r.clock in
-    record {
-      words = r.words ∙ m.words;
-      fit = m.fit;
-      late = (let l = m.late in omega arith);
-      holder = λ h. absurd (both_ways new.holds r.holds h);
-      settled = m.settled;
-    }
-
--- the engine stays as the cells have it
-pub tied : (cells : Cells) (mid new : Core) (what : Next) → IsMid cells mid new → Proceeds mid what new → IsTied cells new
-tied cells mid new (Asks step) m g = asked cells mid new step m g
-tied cells mid new (Answers a) m g = ended cells mid new a m g
 
 -- ## A call comes
 
@@ -120,11 +104,6 @@ limit_same mid new (Answers a) g = (let r = rests mid new a g in (r.max_commits,
 -- giving up leaves the snapshot
 pub snapshot_still : (e new : Core) → new ≡ after_undoing e → new.snapshot ≡ e.snapshot
 snapshot_still e new is = ap (λ (c : Core). c.snapshot) is ∙ cond_both e.holds _ _ (λ (c : Core). c.snapshot ≡ e.snapshot) (λ h. refl) (λ h. refl)
-
--- what the engine goes on to leaves that as it is
-pub holds_same : (mid new : Core) (what : Next) → Proceeds mid what new → new.holds ≡ mid.holds
-holds_same mid new (Asks step) g = ap (λ (c : Core). c.holds) g.stays
-holds_same mid new (Answers a) g = (let r = rests mid new a g in r.holds ∙ sym r.free)
 
 taken_capped : (b : Bool) (clock from to max_commits : ℕ) → from % 2 ≡ 0 → from / 2 < max_commits → to ≡ from + 1 → clock ≤ 2 * max_commits → (if b then to else clock) ≤ 2 * max_commits
 taken_capped true clock from to max_commits even few up l = omega arith

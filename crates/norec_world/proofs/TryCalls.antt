@@ -10,16 +10,13 @@ use Rattle.norec_world.proofs.TryEnds.{is_between, open_tries, stays_between, st
 
 module _ {P : Type 0} (rules : Rules P)
     (cells : Cells) (r0 : Rows) (old : Actor P) (sound : IsSound rules cells r0 old) (ready : old.status ≡ Ready) where
-  nothing : old.pending ≡ None
-  nothing = (rests sound ready).nothing
-
   -- ## The player has no more calls
 
   pub finish_tries : (last : Actor P) → last ≡ record old { status = Ended ends.Finished } → Tries cells.clock (prior_of r0 old) cells.clock r0 last
   finish_tries last is =
       subst (Tries cells.clock (prior_of r0 old) cells.clock r0) (sym is)
-      (stays cells.clock cells.clock r0 r0 old (record old { status = Ended ends.Finished }) refl refl (in_transaction old.engine) sound.kept.row nothing refl refl
-      (λ shut row e. absurd (none-some row (sym nothing ∙ e))) (λ e. absurd (cc)) (λ e. absurd (cc)))
+      (stays cells.clock cells.clock r0 r0 old (record old { status = Ended ends.Finished }) refl refl (in_transaction old.engine) sound.kept.row (rests sound ready).nothing refl refl
+      (λ shut row e. absurd (none-some row (sym (rests sound ready).nothing ∙ e))) (λ e. absurd (cc)) (λ e. absurd (cc)))
 
   -- ## Memory was refused
 
@@ -33,10 +30,10 @@ module _ {P : Type 0} (rules : Rules P)
           stops_try cells.clock cells.clock r0 r1 old last h.0 (old.engine.snapshot / 2) outcomes.NoMemory h.1
           (ap (λ (x : Rows). x.ended) (s.stops e h.0 h.1)) (ap (λ (n : ℕ). n / 2) (sym (snapshot_still old.engine last.engine s.engine)))
           (refl, omega arith) refl (record { none = none; status = s.status })
-      by_row false e h = stays_between cells.clock cells.clock r0 r1 old last (ap (λ (x : Rows). x.ended) (s.stays e)) refl h nothing (record {
+      by_row false e h = stays_between cells.clock cells.clock r0 r1 old last (ap (λ (x : Rows). x.ended) (s.stays e)) refl h (rests sound ready).nothing (record {
         none = none;
         tries = s.counts.0;
-        opens = λ row p. absurd (let n = sym (s.counts.2 ∙ nothing) ∙ p in cc);
+        opens = λ row p. absurd (let n = sym (s.counts.2 ∙ (rests sound ready).nothing) ∙ p in cc);
         goes_on = λ x. absurd (let n = ap ending_of s.status in cc);
       })
 

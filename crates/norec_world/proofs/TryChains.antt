@@ -1,7 +1,7 @@
 -- Local work after an event, or after other local work: what becomes of the try.
 -- Also what holds of actors that have taken no step.
 use Rattle.std.proofs.Common.{◌≡◌, ℕ, ◌+◌, ◌/◌, Bool, true, false, nat_lt, List, [], ◌∷◌, ◌++◌, append_assoc, Option, None, Some, refl, sym, ap, subst, ◌∙◌, arith, zero, suc}
-use Rattle.norec_world.proofs.Common.{Actor, Attempt, Cells, Continues, Ended, EndsAt, Entry, GoesOnAfter, IsBetween, IsFirst, IsSound, NoMemory, Outcome, Prior, Ready, Rows, Rules, Tries, TriesAgain, active_of, begins, between, current_of, ending_in, ending_of, in_transaction, over, prior_of, runs, turned_away, none-some}
+use Rattle.norec_world.proofs.Common.{Actor, Attempt, Cells, Continues, EndsAt, Entry, GoesOnAfter, IsBetween, IsFirst, IsSound, NoMemory, Outcome, Prior, Ready, Rows, Rules, Tries, TriesAgain, active_of, begins, between, current_of, ending_in, ending_of, in_transaction, over, prior_of, runs, turned_away, none-some}
 use Rattle.norec_world.specs.declared.attempt.Outcome.TheVariants as outcomes
 use Rattle.norec_world.specs.declared.attempt.End.TheVariants as ends
 use Rattle.norec_world.proofs.SoundSteps.{rests}
@@ -68,11 +68,8 @@ module _ {P : Type 0} (clock clock1 : ℕ) (p : Prior) (r1 r2 : Rows) (a1 a2 : A
   from_between : (nth : ℕ) → IsBetween clock1 nth r1 a1 → IsBetween clock1 nth r2 a2 × (r2.ended ≡ r1.ended)
   from_between nth b = starts_between clock1 nth (prior_of r1 a1) r2 a2 work b.none nothing b.tries
 
-  not_stopped : {A : Type 0} (end : _) → a1.status ≡ Ended end → A
-  not_stopped end e = absurd (let n = sym ready ∙ e in cc)
-
   again : (b : Bool) → TriesAgain b clock1 p.nth r1 a1 → TriesAgain b clock1 p.nth r2 a2 × (r2.ended ≡ r1.ended)
-  again true t = not_stopped ends.GaveUp t.status
+  again true t = still_going ready (ap ending_of t.status)
   again false t = from_between (p.nth + 1) t
 
   after : (o : Outcome) → GoesOnAfter o clock1 p r1 a1 → GoesOnAfter o clock1 p r2 a2 × (r2.ended ≡ r1.ended)
@@ -80,7 +77,7 @@ module _ {P : Type 0} (clock clock1 : ℕ) (p : Prior) (r1 r2 : Rows) (a1 a2 : A
   after outcomes.ReadOnly t = from_between 1 t
   after outcomes.Conflict t = again (nat_lt p.retries p.nth) t
   after outcomes.Unfinished t = absurd t
-  after o t = not_stopped _ t.status
+  after o t = still_going ready (ap ending_of t.status)
 
   -- the tries left and the limit are what they were
   after_same : (o : Outcome) → (nth : ℕ) → nth ≡ p.nth → GoesOnAfter o clock1 (record { ended = r1.ended; active = active_of a1.thread r1.active; pending = a1.pending; nth = nth; retries = a1.retries; max_commits = a1.engine.max_commits }) r2 a2
@@ -133,9 +130,6 @@ module _ {P : Type 0} (clock clock1 : ℕ) (p : Prior) (r1 r2 : Rows) (a1 a2 : A
 -- no work
 module _ {P : Type 0} (rules : Rules P)
     (cells : Cells) (r : Rows) (a : Actor P) (sound : IsSound rules cells r a) (ready : a.status ≡ Ready) where
-  pub no_pending : a.pending ≡ None
-  no_pending = (rests sound ready).nothing
-
   pub tries_still : Tries cells.clock (prior_of r a) cells.clock r a
   tries_still =
-      stays cells.clock cells.clock r r a a refl refl (in_transaction a.engine) sound.kept.row no_pending refl refl (λ shut row e. absurd (none-some row (sym no_pending ∙ e))) (still_going ready) (still_going ready)
+      stays cells.clock cells.clock r r a a refl refl (in_transaction a.engine) sound.kept.row (rests sound ready).nothing refl refl (λ shut row e. absurd (none-some row (sym (rests sound ready).nothing ∙ e))) (still_going ready) (still_going ready)

@@ -1,17 +1,17 @@
 -- Local work of an actor, one call of its player after the other: all that it leaves.
-use Rattle.std.proofs.Common.{◌≡◌, ◌+◌, ◌-◌, ◌*◌, ◌≤◌, Bool, true, false, List, ◌++◌, None, Some, refl, sym, ap, subst, ◌∙◌, arith}
+use Rattle.std.proofs.Common.{◌≡◌, ◌+◌, ◌≤◌, Bool, true, false, List, ◌++◌, None, Some, refl, sym, ap, subst, ◌∙◌, arith}
 use Rattle.norec_world.proofs.Common.{Actor, Acts, Attempt, Call, Cells, Core, Ended, Finished, HasRow, HasWorked, IsDone, IsNoMore, IsSound, KeepsOthers, Next, Obeys, Ready, Rows, Rules, Starves, Tells, Works, ending_of, in_transaction, is_ready, prior_of, rank, whole}
 use Rattle.norec_world.specs.LocalWork.{calls, finishes, starves}
 use Rattle.norec_world.proofs.CommitCounts.{counted_after}
 use Rattle.norec_world.proofs.LessLeft.{less_less}
-use Rattle.norec_world.proofs.LocalWork.{nothing_ready, works_both}
+use Rattle.norec_world.proofs.LocalWork.{works_both}
 use Rattle.norec_world.proofs.OthersAttempts.{others_same, others_twice}
 use Rattle.norec_world.proofs.RunCalls.{call_runs, finish_runs, laid_calls, starve_runs}
-use Rattle.norec_world.proofs.SoundSteps.{IsCalling, call_less, call_taken, ended_same, mid}
+use Rattle.norec_world.proofs.SoundSteps.{IsCalling, call_less, call_taken, ended_same, mid, rests, same_rank}
 use Rattle.norec_world.proofs.Taken.{now, ready_of, recorded, still_going}
-use Rattle.norec_world.proofs.TiedEngines.{holds_same, limit_same, snapshot_still}
+use Rattle.norec_world.proofs.TiedEngines.{clock_same, limit_same, snapshot_still}
 use Rattle.norec_world.proofs.TryCalls.{call_tries, finish_tries, starve_tries}
-use Rattle.norec_world.proofs.TryChains.{no_pending, tries_still, tries_then}
+use Rattle.norec_world.proofs.TryChains.{tries_still, tries_then}
 use Rattle.norec_world.proofs.TryEnds.{not_finished}
 
 not_still : {P : Type 0} {A : Type 0} (a : Actor P) → a.status ≡ Ready → is_ready a.status ≡ false → A
@@ -69,15 +69,10 @@ module _ {P : Type 0} {rules : Rules P} (laws : Obeys rules) {cells : Cells} {r0
     (done : IsDone rules (in_transaction old.engine) r r1 a last call what) (tells : Tells rules (in_transaction old.engine) r r1 a last call what) where
   -- while it waits, nothing is gained and nothing lost
   less_waits : in_transaction a.engine ≡ in_transaction old.engine → IsNoMore rules old a
-  less_waits opens =
-      let same = m.asked.same in
-      record {
-        whole_falls = (let e : whole rules (in_transaction a.engine) a.player ≡ whole rules (in_transaction old.engine) old.player = λ i. whole rules (opens i) (same.player i) in omega arith);
-        rank_falls = λ n b.
-            (let e : rank rules n (in_transaction a.engine) a ≡ rank rules n (in_transaction old.engine) old =
-            λ i. (whole rules (opens i) (same.player i) * (same.retries i + 1) + (same.retries i + 1 - same.nth i)) * (n + 1) + rules.calls_left (same.player i) in
-            omega arith);
-      }
+  less_waits opens = record {
+    whole_falls = (let e : whole rules (in_transaction a.engine) a.player ≡ whole rules (in_transaction old.engine) old.player = λ i. whole rules (opens i) (m.asked.same.player i) in omega arith);
+    rank_falls = λ n b. (let e : rank rules n (in_transaction a.engine) a ≡ rank rules n (in_transaction old.engine) old = ap (λ (x : Bool). rank rules n x a) opens ∙ same_rank m n in omega arith);
+  }
 
   pub call_worked : rules.next_call old.player ≡ Some call → KeepsOthers old r0 last r1 → HasWorked rules cells r0 old r1 last
   call_worked asks others =
@@ -98,12 +93,12 @@ module _ {P : Type 0} {rules : Rules P} (laws : Obeys rules) {cells : Cells} {r0
           ready = m.asked.same.status ∙ m.ready;
           tells = tells;
           engine = x.engine;
-          same = record { thread = x.thread ∙ m.asked.same.thread; retries = x.retries ∙ m.asked.same.retries; nothing = nothing_ready rules r1 last last.status x.sound.status };
+          same = record { thread = x.thread ∙ m.asked.same.thread; retries = x.retries ∙ m.asked.same.retries; nothing = λ e. (rests x.sound e).nothing };
         }));
         tries = λ w. tries;
         runs = λ first base laid runs. call_runs laws m first base laid runs r1 last done tells own.more (own.ended ∙ ap (λ (l : List Attempt). l ++ own.more) (sym (ended_same m))) (counted_after cells.clock cells.clock (prior_of r0 old) r1 last tries laid.counted);
         others = others;
-        holds = ap (λ (c : Core). c.holds) x.engine ∙ holds_same (mid m) a.engine what m.asks.called.proceeds;
+        holds = ap (λ (c : Core). c.holds) x.engine ∙ (clock_same (mid m) a.engine what m.asks.called.proceeds).2;
         limit = (ap (λ (c : Core). c.max_commits) x.engine ∙ kept.0, ap (λ (c : Core). c.patience) x.engine ∙ kept.1);
         snapshot = ap (λ (c : Core). c.snapshot) x.engine ∙ m.asked.stays.snapshot;
         retries = x.retries ∙ m.asked.same.retries;
@@ -138,7 +133,7 @@ module _ {P : Type 0} {rules : Rules P} {cells : Cells} {r : Rows} {a : Actor P}
       record {
         sound = y.sound;
         works = works_both rules cells.clock r r1 r2 a a1 a2 x.works y.works;
-        tries = λ w. tries_then cells.clock cells.clock (prior_of r a) r1 r2 a1 a2 ready (no_pending rules cells r1 a1 x.sound ready) x.limit.0 x.retries y.snapshot (y.tries ready_1) (x.tries w);
+        tries = λ w. tries_then cells.clock cells.clock (prior_of r a) r1 r2 a1 a2 ready (rests x.sound ready).nothing x.limit.0 x.retries y.snapshot (y.tries ready_1) (x.tries w);
         runs = λ first base laid runs. (let z = x.runs first base laid runs in y.runs first base z.0 z.1);
         others = others_twice a a1 a2 r r1 r2 x.others y.others;
         holds = y.holds ∙ x.holds;

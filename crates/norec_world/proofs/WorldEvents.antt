@@ -270,7 +270,6 @@ module _ {P : Type 0} (rules : Rules P) (actor : ℕ) where
   over_less false old new e f = f
 
 -- who does not wait has ended, once all local work is done
-module _ {P : Type 0} (rules : Rules P) where
-  pub ended_there : (w : World P) (actor : ℕ) → AreActors rules w.cells w.attempts w.actors → (a : Actor P) → slice_get w.actors actor ≡ Some a → is_waiting a.status ≡ false → IsSome (ending_at w actor)
-  ended_there w actor sound a here still =
-      subst IsSome (sym (ap (option_and_then (λ (x : Actor P). ending_of x.status)) here)) (some_ended a.status still (sound.each actor a here).done)
+pub ended_there : {P : Type 0} {rules : Rules P} (w : World P) (actor : ℕ) → AreActors rules w.cells w.attempts w.actors → (a : Actor P) → slice_get w.actors actor ≡ Some a → is_waiting a.status ≡ false → IsSome (ending_at w actor)
+ended_there {P} w actor sound a here still =
+    subst IsSome (sym (ap (option_and_then (λ (x : Actor P). ending_of x.status)) here)) (some_ended a.status still (sound.each actor a here).done)

@@ -1,10 +1,9 @@
 use Rattle.std.proofs.Common.{◌≡◌, Some, ap, sym, ◌∙◌}
 use Rattle.norec_world.proofs.Common.{cells_after, in_transaction, prior_of, waiting_step}
 use Rattle.norec_world.proofs.CommitCounts.{counted_after}
-use Rattle.norec_world.proofs.LocalWork.{nothing_ready}
 use Rattle.norec_world.proofs.OthersAttempts.{others_twice}
 use Rattle.norec_world.proofs.RunCalls.{step_runs}
-use Rattle.norec_world.proofs.SoundSteps.{step_clocks, step_falls, step_on, step_taken, stepping, takes_in, IsStepping}
+use Rattle.norec_world.proofs.SoundSteps.{step_clocks, step_falls, step_on, step_taken, stepping, takes_in, IsStepping, rests}
 use Rattle.norec_world.proofs.Taken.{due, now}
 use Rattle.norec_world.proofs.TryCalls.{step_tries, step_unfinished}
 use Rattle.norec_world.proofs.actor.Actor.step.Goals as goal
@@ -43,7 +42,7 @@ returns-in-Waits g c =
     record {
       sound = record { tied = x.sound.tied; kept = c.follow.ensures.kept; status = c.follow.ensures.status last.status x.sound.status };
       cells_are = λ step w. c.apply-seen.ensures.cells ∙ ap (cells_after c.args.memory.now) (let some : Some c.in-Waits.step ≡ Some step = sym (ap waiting_step (sym c.in-Waits.ensures.value)) ∙ w in let same : c.in-Waits.step ≡ step = cc in same);
-      takes = takes_in m c.replace.new.dest ready x.engine tells told (record { thread = x.thread; retries = x.retries; nothing = nothing_ready g.P.Player c.proceed.new.recorded last last.status x.sound.status });
+      takes = takes_in m c.replace.new.dest ready x.engine tells told (record { thread = x.thread; retries = x.retries; nothing = λ e. (rests x.sound e).nothing });
       tries = tries;
       runs = λ first base laid runs. (let own = others.own in
           step_runs g.met.P.Player.laws m c.replace.new.dest ready first base laid runs c.proceed.new.recorded last done tells c.follow.new.recorded told own.more own.ended

@@ -16,4 +16,4 @@ returns-in-Some-clause-waits g c on =
 pub returns-in-Some-clause-ended : goal.returns-in-Some-clause-ended
 returns-in-Some-clause-ended g c off within =
     let found = mapped_some (λ (a : Actor g.row.P.Denot). is_waiting a.status) (slice_get c.args.self.now.actors c.args.actor) c.in-Some.waits (sym c.in-Some.is ∙ c.waits.ensures.value) in
-    ended_there g.P.Player c.args.self.now c.args.actor c.waits.ensures.sound found.0 found.1 (found.2 ∙ off)
+    ended_there c.args.self.now c.args.actor c.waits.ensures.sound found.0 found.1 (found.2 ∙ off)
