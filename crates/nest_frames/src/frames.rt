@@ -39,7 +39,11 @@ impl Model for Frames {
 
     ghost use Rattle.nest_frames.specs.Moments.{frames_of, IsSound};
 
-    ghost view = { λ f. record { writes = f.writes; size = f.undo.size; blocks = frames_of f.writes f.undo.olds f.moments.items } };
+    ghost view = { λ f. record {
+      writes = f.writes;
+      size = f.undo.size;
+      blocks = frames_of f.writes f.undo.olds f.moments.items;
+    } };
 
     ghost invariant = { λ f. IsSound f.writes f.undo.olds f.moments.items };
 }
