@@ -5,7 +5,7 @@ use Rattle.write_set.specs.declared.row.Row.{Row}
 use Rattle.write_set.specs.Marks.{Written, start}
 use Rattle.write_set.specs.Rows.{row}
 use Rattle.nest_frames.specs.declared.frames.Moment.{Moment}
-use Rattle.nest_frames.specs.Nest.{Frame, begun, log_of, logged, closed, arena_back}
+use Rattle.nest_frames.specs.Nest.{Frame, begun, log_of, logged, closed, arena_back, arena_restored}
 use Rattle.nest_frames.specs.Moments.{frames_of}
 
 abbrev old : ℕ → ℕ → Old
@@ -41,6 +41,9 @@ inner_goes_back = refl
 
 both_go_back : arena_back (inner ∷ outer ∷ []) (1 ∷ 2 ∷ []) ≡ 5 ∷ 8 ∷ []
 both_go_back = refl
+
+both_restored : arena_restored (inner ∷ outer ∷ []) (1 ∷ 2 ∷ []) ≡ 5 ∷ 8 ∷ []
+both_restored = refl
 
 -- ## What the moments stand for
 

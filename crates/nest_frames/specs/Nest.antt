@@ -1,7 +1,8 @@
 -- The open blocks of a transaction, as contracts see them.
 use Rattle.std.specs.Prelude.{ℕ, List, [], ◌∷◌, ◌++◌}
 use Rattle.itm_types.specs.declared.call.Props.{Props}
-use Rattle.undo_log.specs.Rollback.{Old, put_back}
+use Rattle.itm_types.specs.Kept.{restored}
+use Rattle.undo_log.specs.Rollback.{Old, put_back, kept_of}
 use Rattle.write_set.specs.declared.row.Row.{Row}
 use Rattle.write_set.specs.Marks.{Written}
 
@@ -45,3 +46,8 @@ closed (b ∷ p ∷ bs) = record p { log = p.log ++ b.log } ∷ bs
 abbrev pub arena_back : List Frame → List ℕ → List ℕ
 arena_back [] arena = arena
 arena_back (b ∷ bs) arena = arena_back bs (put_back b.log arena)
+
+-- the same, by what each block keeps of the arena
+abbrev pub arena_restored : List Frame → List ℕ → List ℕ
+arena_restored [] arena = arena
+arena_restored (b ∷ bs) arena = arena_restored bs (restored (kept_of arena b.log) arena)

@@ -7,7 +7,7 @@ ghost use Rattle.word_pieces.specs.Masks.{merged_at};
 ghost use Rattle.write_set.specs.Rows.{lookup, put, reserved, overlay, AreEmpty};
 ghost use Rattle.write_set.specs.Marks.{unwritten, place_of, reserve, IsNew, KeepsRoom, MayPut};
 ghost use Rattle.undo_log.specs.Rollback.{found, put_back, kept_of};
-ghost use Rattle.nest_frames.specs.Nest.{Frame, begun, log_of, rows_of, logged, closed, arena_back};
+ghost use Rattle.nest_frames.specs.Nest.{Frame, begun, log_of, rows_of, logged, closed, arena_back, arena_restored};
 
 use itm_types::Props;
 use std::alloc::{AllocError, Global};
@@ -39,7 +39,11 @@ impl Model for Frames {
 
     ghost use Rattle.nest_frames.specs.Moments.{frames_of, IsSound};
 
-    ghost view = { λ f. record { writes = f.writes; size = f.undo.size; blocks = frames_of f.writes f.undo.olds f.moments.items } };
+    ghost view = { λ f. record {
+      writes = f.writes;
+      size = f.undo.size;
+      blocks = frames_of f.writes f.undo.olds f.moments.items;
+    } };
 
     ghost invariant = { λ f. IsSound f.writes f.undo.olds f.moments.items };
 }
@@ -160,6 +164,7 @@ impl Frames {
         ensures none { self.new ≡ record { writes = unwritten; size = self.old.size; blocks = [] } }
         ensures arena_size { length arena.new ≡ length arena.old }
         ensures arena { arena.new ≡ arena_back self.old.blocks arena.old }
+        ensures restored { arena.new ≡ arena_restored self.old.blocks arena.old }
     {
         while self.depth() > 0 {
             self.cancel(arena);

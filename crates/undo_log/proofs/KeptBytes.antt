@@ -27,6 +27,10 @@ nothing_same [] (y ∷ ys) h = absurd (omega (arith, h))
 nothing_same (x ∷ xs) [] h = absurd (omega (arith, h))
 nothing_same (x ∷ xs) (y ∷ ys) h = ap (λ t. None ∷ t) (nothing_same xs ys (omega (arith, h)))
 
+-- what is kept does not depend on the arena's bytes
+pub kept_of-same : (a b : List ℕ) (os : List Old) → length a ≡ length b → kept_of a os ≡ kept_of b os
+kept_of-same a b os h = ap (λ t. kept_from t os) (nothing_same a b h)
+
 kept_from-append : (ks : List (Option ℕ)) (xs ys : List Old) → kept_from ks (xs ++ ys) ≡ kept_from (kept_from ks xs) ys
 kept_from-append ks [] ys = refl
 kept_from-append ks (x ∷ xs) ys = kept_from-append (laid ks x.place x.bytes) xs ys
