@@ -3,8 +3,8 @@
 ghost use Rattle.std.specs.Prelude.{◌≡◌, length};
 ghost use Rattle.norec_engine.specs.Fields.{in_block, IsEnded};
 
-use crate::arena::Arena;
 use itm_types::{Limits, Props, Value};
+use undo_log::Arena;
 use value_log::ValueLog;
 use write_set::WriteSet;
 

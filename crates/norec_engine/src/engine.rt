@@ -9,7 +9,6 @@ ghost use Rattle.norec_engine.specs.Fields.{in_block, core, core_after, phase_af
 ghost use Rattle.norec_engine.specs.Undoing.{undone_of, after_undoing};
 
 use crate::answer::{Answer, Next, Undone};
-use crate::arena::Arena;
 use crate::begin::{begin, begin_seen};
 use crate::commit::{back_loaded, commit, exchanged, freed, stored};
 use crate::data::{Data, end};
@@ -22,6 +21,7 @@ use crate::write::write;
 use itm_types::{Call, Limits, MAX_COMMITS, MAX_PATIENCE, MAX_WORDS, Props, Value};
 use std::alloc::{AllocError, Global};
 use std::marker::Model;
+use undo_log::Arena;
 use value_log::ValueLog;
 use write_set::WriteSet;
 

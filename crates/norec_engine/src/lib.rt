@@ -4,7 +4,6 @@
 
 mod access;
 mod answer;
-mod arena;
 mod begin;
 mod commit;
 mod data;
@@ -17,7 +16,6 @@ mod steps;
 mod write;
 
 pub use answer::{Answer, Next, Undone};
-pub use arena::Arena;
 pub use engine::Engine;
 
 #[cfg(test)]

@@ -2,13 +2,14 @@
 
 ghost use Rattle.std.specs.Prelude.{◌≡◌, ◌<◌, ◌≤◌, IfOk, None};
 
-use crate::{Answer, Arena, Engine, Next, Undone};
+use crate::{Answer, Engine, Next, Undone};
 use itm_types::{
     Call, Datum, Limits, MAX_PATIENCE, Props, ReadHint, Refusal, Reply, Step, Value, Width,
     WriteHint,
 };
 use std::alloc::{AllocError, Global};
 use std::process::Abort;
+use undo_log::Arena;
 
 mod calls;
 mod reads;

@@ -20,9 +20,10 @@ use crate::attempt::End;
 use crate::memory::Memory;
 use crate::recorded::Recorded;
 use itm_types::{Limits, MAX_ACTORS, MAX_WORDS};
-use norec_engine::{Arena, Engine};
+use norec_engine::Engine;
 use script_vm::Player;
 use std::alloc::{AllocError, Global};
+use undo_log::Arena;
 
 /// What every actor begins with.
 #[derive(Clone, Copy)]
@@ -106,7 +107,7 @@ fn start<P: Player>(
     ensures others { IfOk result (λ a. (fresh : Actor P) × (fresh.thread ≡ thread) × (fresh.pending ≡ None)
         × KeepsOthers fresh recorded.old a recorded.new) }
 {
-    let arena = Arena::new(alloc, terms.arena)?;
+    let arena = Arena::new(alloc, terms.arena as usize)?;
     let engine = Engine::new(alloc, memory.words(), arena, terms.limits);
     let mut actor = Actor::new(alloc, thread, terms.limits.retries, player, engine);
     actor.work(alloc, memory, recorded);

@@ -104,7 +104,7 @@ impl<P: Player> Actor<P> {
           outcome = Outcome.Unfinished;
         }) }
     {
-        let arena = self.engine.arena().as_slice().to_vec(alloc)?;
+        let arena = self.engine.arena().bytes().to_vec(alloc)?;
         Ok(Attempt {
             thread: self.thread,
             nth: self.nth,

@@ -122,7 +122,7 @@ const FULL: &[Line] = &[
 fn the_last_commit_is_full(rt: HostRuntime) -> Result<(), Fail> {
     let mut engine = engine(rt.alloc(), 2, 8, 1)?;
     play(&rt, &mut engine, FULL)?;
-    assert_eq!(rt; engine.arena().as_slice(), [0, 0, 0, 0].as_slice());
+    assert_eq!(rt; engine.arena().bytes(), [0, 0, 0, 0].as_slice());
     Ok(())
 }
 
