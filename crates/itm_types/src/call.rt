@@ -7,7 +7,7 @@ use crate::access::{ReadHint, Value, Width, WriteHint};
 use crate::datum::Datum;
 
 /// The code properties of a block (Intel TM ABI 1.1, section 5.10.1). None of those served so far changes an answer.
-#[derive(Clone, Copy, Debug, PartialEq, Eq)]
+#[derive(Clone, Copy, Debug, Default, PartialEq, Eq)]
 pub struct Props {}
 
 /// One call of the runtime. Places are bytes, counted from 0.

@@ -20,8 +20,8 @@ pub use datum::Datum;
 pub use entries::all_entries;
 pub use entry::{Control, Entry};
 pub use limits::{
-    Limits, MAX_ACTORS, MAX_ARENA, MAX_COMMITS, MAX_MEMORY, MAX_PATIENCE, MAX_RETRIES, MAX_WORDS,
-    largest,
+    Limits, MAX_ACTORS, MAX_ARENA, MAX_COMMITS, MAX_MEMORY, MAX_OPEN_BLOCKS, MAX_PATIENCE,
+    MAX_RETRIES, MAX_WORDS, largest,
 };
 pub use names::{entry_of, name_of};
 pub use row::LogRow;

@@ -160,10 +160,10 @@ props_from : (w : Written) (os : List Old) (ms : List Moment) → map (λ (f : F
 props_from w os [] = refl
 props_from w os (m ∷ ms) = ap (λ t. m.props ∷ t) (props_from w (take m.log os) ms)
 
-pub props_at : (w : Written) (os : List Old) (ms : List Moment) (place : ℕ) (m : Moment) → place < length ms → m ≡ get_or ms (length ms - 1 - place) m
-    → slice_get (map (λ (f : Frame). f.props) (frames_of w os ms)) place ≡ Some m.props
-props_at w os ms place m h e =
-    let there : slice_get (reverse ms) place ≡ Some m =
-    slice_get-get_or (reverse ms) place m (omega (arith, h, length-reverse ms)) ∙ ap (λ t. Some t) (get_or-reverse ms place m h ∙ sym e) in
+pub props_at : (w : Written) (os : List Old) (ms : List Moment) (place : ℕ) (m : Moment) → place < length ms
+    → slice_get (map (λ (f : Frame). f.props) (frames_of w os ms)) place ≡ Some (get_or ms (length ms - 1 - place) m).props
+props_at w os ms place m h =
+    let there : slice_get (reverse ms) place ≡ Some (get_or ms (length ms - 1 - place) m) =
+    slice_get-get_or (reverse ms) place m (omega (arith, h, length-reverse ms)) ∙ ap (λ t. Some t) (get_or-reverse ms place m h) in
     ap (λ t. slice_get t place) (props_from w os (reverse ms))
     ∙ (slice_get-map (λ (k : Moment). k.props) (reverse ms) place ∙ ap (option_map (λ (k : Moment). k.props)) there)

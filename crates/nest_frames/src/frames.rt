@@ -9,14 +9,15 @@ ghost use Rattle.write_set.specs.Marks.{unwritten, place_of, reserve, IsNew, Kee
 ghost use Rattle.undo_log.specs.Rollback.{found, put_back, kept_of};
 ghost use Rattle.nest_frames.specs.Nest.{Frame, begun, log_of, rows_of, logged, closed, arena_back, arena_restored};
 
-use itm_types::Props;
+use arrayvec::ArrayVec;
+use itm_types::{MAX_OPEN_BLOCKS, Props};
 use std::alloc::{AllocError, Global};
 use std::marker::Model;
 use undo_log::{Arena, UndoLog};
 use write_set::WriteSet;
 
 /// Where an open block began.
-#[derive(Debug, Drop)]
+#[derive(Debug, Default, Drop)]
 pub(crate) struct Moment {
     pub(crate) props: Props,
     pub(crate) rows: write_set::Mark,
@@ -29,7 +30,7 @@ pub struct Frames {
     writes: WriteSet,
     undo: UndoLog,
     /// Of each open block where it began, the innermost last.
-    moments: Vec<Moment>,
+    moments: ArrayVec<Moment, MAX_OPEN_BLOCKS>,
 }
 
 impl Model for Frames {
@@ -56,13 +57,16 @@ impl Frames {
         Frames {
             writes: WriteSet::new(alloc),
             undo: UndoLog::new(alloc, size),
-            moments: Vec::new(alloc),
+            moments: ArrayVec::new(),
         }
     }
 
     /// How many blocks are open.
     pub fn depth(&self) -> usize
         ensures depth { result ≡ length self.now.blocks }
+
+        // So many may be open.
+        ensures few { length self.now.blocks ≤ MAX_OPEN_BLOCKS }
 
         // Where none is, nothing is written.
         ensures none { self.now.blocks ≡ [] → self.now.writes ≡ unwritten }
@@ -97,21 +101,20 @@ impl Frames {
         requires { place < length self.now.blocks }
         ensures { slice_get (map (λ b. b.props) self.now.blocks) place ≡ Some result }
     {
-        self.moments[self.moments.len() - 1 - place].props
+        let moments = self.moments.as_slice();
+        moments[moments.len() - 1 - place].props
     }
 
-    /// A block begins within those that are open.
-    pub fn enter(&mut self, props: Props) -> Result<(), AllocError>
-        ensures blocks { OnOk result (self.new.blocks ≡ begun props self.old.writes.rows ∷ self.old.blocks) }
-        ensures writes { OnOk result (self.new.writes ≡ record self.old.writes { inner = place_of self.old.writes }) }
+    /// A block begins within those that are open. Takes no memory.
+    pub fn enter(&mut self, props: Props)
+        requires { length self.old.blocks < MAX_OPEN_BLOCKS }
+        ensures blocks { self.new.blocks ≡ begun props self.old.writes.rows ∷ self.old.blocks }
+        ensures writes { self.new.writes ≡ record self.old.writes { inner = place_of self.old.writes } }
         ensures size { self.new.size ≡ self.old.size }
-        ensures err { OnErr result (self.new ≡ self.old) }
     {
-        self.moments.reserve(1)?;
         let rows = self.writes.mark();
         let log = self.undo.mark();
-        self.moments.push_reserved(Moment { props, rows, log });
-        Ok(())
+        self.moments.push(Moment { props, rows, log });
     }
 
     /// The innermost block closes: what was logged in it goes to the one around it, and what was written stays. With

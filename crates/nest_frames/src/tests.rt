@@ -1,7 +1,7 @@
 ghost use Rattle.std.specs.Prelude.{◌≡◌, length};
 
 use crate::Frames;
-use itm_types::{Datum, Props, Width};
+use itm_types::{Datum, MAX_OPEN_BLOCKS, Props, Width};
 use std::alloc::AllocError;
 use std::process::Abort;
 use std::test::Fail;
@@ -95,6 +95,11 @@ fn log(
     frames.log(arena, place, size)
 }
 
+fn enter(rt: &impl Abort, frames: &mut Frames) {
+    assert!(rt; frames.depth() < MAX_OPEN_BLOCKS);
+    frames.enter(BLOCK);
+}
+
 fn leave(rt: &impl Abort, frames: &mut Frames) {
     assert!(rt; frames.depth() > 0);
     frames.leave();
@@ -165,8 +170,8 @@ fn nest(rt: &impl Abort, alloc: std::alloc::Global, order: u32) -> Result<(), Fa
         blocks: Vec::new(alloc),
     };
     let mut step = 1;
-    for _ in 0..16u8 {
-        frames.enter(BLOCK)?;
+    for _ in 0..MAX_OPEN_BLOCKS {
+        enter(rt, &mut frames);
         plain.enter()?;
         for _ in 0..5u8 {
             work(rt, &mut frames, &mut arena, &mut plain, step)?;
@@ -209,7 +214,7 @@ fn every_block_is_cancelled(rt: HostRuntime) -> Result<(), Fail> {
     let mut arena = Arena::new(rt.alloc(), 3)?;
     let mut frames = Frames::new(rt.alloc(), 3);
     for block in 0..3 {
-        frames.enter(BLOCK)?;
+        enter(&rt, &mut frames);
         log(&rt, &mut frames, &arena, 0, 1)?;
         log(&rt, &mut frames, &arena, block, 1)?;
         store(&rt, &mut arena, 0, 7);
@@ -231,8 +236,8 @@ fn every_block_is_cancelled(rt: HostRuntime) -> Result<(), Fail> {
 fn properties(rt: HostRuntime) -> Result<(), Fail> {
     let mut frames = Frames::new(rt.alloc(), 0);
     assert_eq!(rt; frames.innermost(), None);
-    frames.enter(BLOCK)?;
-    frames.enter(BLOCK)?;
+    enter(&rt, &mut frames);
+    enter(&rt, &mut frames);
     assert_eq!(rt; frames.innermost(), Some(BLOCK));
     assert!(rt; frames.depth() == 2);
     assert_eq!(rt; frames.props(0), BLOCK);
@@ -247,13 +252,13 @@ fn properties(rt: HostRuntime) -> Result<(), Fail> {
 #[test]
 fn rows_of_a_block(rt: HostRuntime) -> Result<(), Fail> {
     let mut frames = Frames::new(rt.alloc(), 0);
-    frames.enter(BLOCK)?;
+    frames.enter(BLOCK);
     frames.reserve(4)?;
     assert_eq!(rt; frames.writes().len(), 1);
     frames.cut(0);
     assert_eq!(rt; frames.writes().len(), 0);
     write(&rt, &mut frames, 3, u64::MAX, 0x0102)?;
-    frames.enter(BLOCK)?;
+    enter(&rt, &mut frames);
     write(&rt, &mut frames, 3, 0xff, 5)?;
     leave(&rt, &mut frames);
     assert_eq!(rt; word_of(&frames, 3), 0x0105);
@@ -270,18 +275,15 @@ fn no_memory(rt: HostRuntime) -> Result<(), Fail> {
         Err(_) => Arena::new(rt.alloc(), 2)?,
     };
     let mut frames = Frames::new(rt.alloc(), 2);
-    for depth in 0..3 {
-        if frames.enter(BLOCK).is_err() {
-            assert_eq!(rt; frames.depth(), depth);
-            frames.enter(BLOCK)?;
-        }
+    for depth in 0..3u8 {
+        enter(&rt, &mut frames);
         if write(&rt, &mut frames, 1, 0xff, depth as u64).is_err() {
             write(&rt, &mut frames, 1, 0xff, depth as u64)?;
         }
         if log(&rt, &mut frames, &arena, 1, 1).is_err() {
             log(&rt, &mut frames, &arena, 1, 1)?;
         }
-        store(&rt, &mut arena, 1, depth as u8 + 1);
+        store(&rt, &mut arena, 1, depth + 1);
     }
     cancel(&rt, &mut frames, &mut arena);
     assert_eq!(rt; arena.bytes(), [0, 2].as_slice());

@@ -7,7 +7,13 @@ pub returns-clause-depth : goal.returns-clause-depth
 returns-clause-depth c =
     let f = c.self.inside in
     let blocks = ap (λ (v : Nest). length v.blocks) c.self.view_is in
-    omega (arith, c.len.ensures, f.moments.ok.0, length-frames_of f.writes f.undo.olds f.moments.items, blocks)
+    omega (arith, c.len.ensures.value, length-frames_of f.writes f.undo.olds f.moments.items, blocks)
+
+pub returns-clause-few : goal.returns-clause-few
+returns-clause-few c =
+    let f = c.self.inside in
+    let blocks = ap (λ (v : Nest). length v.blocks) c.self.view_is in
+    omega (arith, c.len.ensures.value, c.len.ensures.fits, length-frames_of f.writes f.undo.olds f.moments.items, blocks)
 
 pub returns-clause-none : goal.returns-clause-none
 returns-clause-none c e =

@@ -1,5 +1,4 @@
 use Rattle.std.proofs.Common.{◌≡◌, ◌<◌, List, length, ap, sym, subst, ◌∙◌, arith, rules}
-use Rattle.std.specs.Prelude.{vec_len}
 use Rattle.undo_log.specs.Rollback.{Undo, kept_of}
 use Rattle.write_set.specs.Marks.{Written}
 use Rattle.nest_frames.specs.Nest.{Frame, Nest, closed, log_of}
@@ -19,9 +18,7 @@ blocks_are c =
 
 -- the block that closes is not the outermost one
 not_alone : (c : goal.After-forget_mark-else-is_empty) → 0 < length c.pop.new.self.items
-not_alone c =
-    let some : 0 < vec_len c.pop.new.self = search (rules, c.is_empty.ensures, c.if-is_empty.false) in
-    omega (arith, some, c.pop.new.self.ok.0)
+not_alone c = search (rules, c.is_empty.ensures, c.if-is_empty.false)
 
 pub invariant_of-self-else-is_empty : goal.invariant_of-self-else-is_empty
 invariant_of-self-else-is_empty c =

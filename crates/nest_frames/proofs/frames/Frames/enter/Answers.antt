@@ -1,0 +1,10 @@
+use Rattle.std.proofs.Common.{length, ap, arith}
+use Rattle.nest_frames.specs.Nest.{Nest}
+use Rattle.nest_frames.proofs.OpenBlocks.{length-frames_of}
+use Rattle.nest_frames.proofs.frames.Frames.enter.Goals as goal
+
+pub push-requires : goal.push-requires
+push-requires c =
+    let f = c.self.inside in
+    let blocks = ap (λ (v : Nest). length v.blocks) c.self.view_is in
+    (omega arith, omega (arith, c.requires, blocks, length-frames_of f.writes f.undo.olds f.moments.items))
