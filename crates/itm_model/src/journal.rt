@@ -36,7 +36,8 @@ pub(crate) fn write(
     requires range { IsTrue (in_range memory.old.items place (length value.now.bytes.items)) }
     requires within { AreWithin (length memory.old.items) journal.old.items }
     ensures memory { OnOk result (memory.new.items ≡ with_slice memory.old.items place value.now.bytes.items) }
-    ensures restores { OnOk result (Restores (length journal.old.items) journal.old.items memory.old.items journal.new.items memory.new.items) }
+    ensures restores { OnOk result
+        (Restores (length journal.old.items) journal.old.items memory.old.items journal.new.items memory.new.items) }
     ensures longer { OnOk result (length journal.old.items ≤ length journal.new.items) }
     ensures within { OnOk result (AreWithin (length memory.new.items) journal.new.items) }
     ensures err_memory { OnErr result (memory.new.items ≡ memory.old.items) }

@@ -42,7 +42,12 @@ impl Model for Plain {
     ghost use Rattle.itm_model.specs.Undoing.{put_back, blocks_of, IsSound};
 
     ghost view = { λ p. record {
-      state = record { memory = p.memory.items; arena = p.arena.items; blocks = blocks_of p.journal.items p.memory.items p.marks.items; wrote = p.wrote };
+      state = record {
+        memory = p.memory.items;
+        arena = p.arena.items;
+        blocks = blocks_of p.journal.items p.memory.items p.marks.items;
+        wrote = p.wrote;
+      };
       before = put_back p.journal.items p.memory.items;
     } };
 
@@ -290,7 +295,8 @@ impl Plain {
         ensures inner { IsTrue (is_open self.old.state) → OnOk result (self.new.state ≡ entered self.old.state props) }
         ensures outermost { self.old.state.blocks ≡ []
             → OnOk result (self.new.state ≡ opened self.old.state.memory self.old.state.arena props) }
-        ensures before { OnOk result (self.new.before ≡ (if is_open self.old.state then self.old.before else self.old.state.memory)) }
+        ensures before { OnOk result
+            (self.new.before ≡ (if is_open self.old.state then self.old.before else self.old.state.memory)) }
         ensures err { OnErr result (self.new ≡ self.old) }
     {
         if self.marks.is_empty() {
