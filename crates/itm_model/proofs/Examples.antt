@@ -1,5 +1,5 @@
 -- Worked cases of the plain machine, computed.
-use Rattle.std.proofs.Common.{◌≡◌, ℕ, zero, suc, List, [], ◌∷◌, ◌++◌, Option, None, Some, true, refl, replicate}
+use Rattle.std.proofs.Common.{◌≡◌, ℕ, zero, suc, List, [], ◌∷◌, ◌++◌, Option, None, Some, true, false, map, refl, replicate}
 use Rattle.arrayvec.specs.ArrayVec.{ArrayVec}
 use Rattle.itm_types.specs.declared.access.Width.TheVariants.{U1, U2, U4, U8}
 use Rattle.itm_types.specs.declared.access.ReadHint.TheVariants.{R, RaR, RaW}
@@ -13,6 +13,9 @@ use Rattle.itm_types.specs.declared.call.Reply.{Reply}
 use Rattle.itm_types.specs.declared.call.Reply.TheVariants.{Done, Bytes, Code, Refused}
 use Rattle.itm_model.specs.State.{State}
 use Rattle.itm_model.specs.Machine.{after, back, opened, outside, undone}
+use Rattle.itm_model.specs.declared.journal.Old.{Old}
+use Rattle.itm_model.specs.Undoing.{blocks_of, put_back}
+use Rattle.itm_model.specs.Undoable.{Undoable, before_after}
 use Rattle.itm_model.specs.Runs.{answers, replies, state_after}
 
 abbrev plain : Props
@@ -148,6 +151,32 @@ rollback_all = refl
 -- an inner block that closed goes back with the outer one
 rollback_closed : undone (after 2 inner Commit) ≡ outside (eight 0) []
 rollback_closed = refl
+
+-- ## What was overwritten comes back, the newest first
+
+abbrev old : ℕ → ℕ → Old
+old place b = record { place = place; bytes = value b }
+
+newest_first : put_back (old 0 1 ∷ old 0 2 ∷ old 8 3 ∷ []) (eight 4 ++ eight 5) ≡ eight 1 ++ eight 3
+newest_first = refl
+
+-- of two blocks the inner one began after the first write
+marked_blocks : blocks_of (old 0 1 ∷ old 0 2 ∷ []) (eight 3) (record { props = plain; at = 0; wrote = false } ∷ record { props = plain; at = 1; wrote = true } ∷ [])
+    ≡ record { props = plain; saved = record { memory = eight 2; wrote = true } } ∷ record { props = plain; saved = record { memory = eight 1; wrote = false } } ∷ []
+marked_blocks = refl
+
+-- an accepted outermost begin alone goes on from the memory that is there
+abbrev committed : Undoable
+committed = record { state = outside (eight 2) []; before = eight 1 }
+
+abbrev begun : Undoable
+begun = record { state = opened (eight 2) [] plain; before = eight 1 }
+
+befores : map (before_after 2 committed) (Begin plain 0 ∷ Write W 0 (word 3) ∷ Save 0 (word 3) ∷ []) ≡ eight 2 ∷ eight 1 ∷ eight 1 ∷ []
+befores = refl
+
+befores_open : map (before_after 2 begun) (Begin plain 0 ∷ Write W 0 (word 3) ∷ Commit ∷ []) ≡ eight 1 ∷ eight 1 ∷ eight 1 ∷ []
+befores_open = refl
 
 -- ## Outside a transaction only a begin is served, and it starts anew
 

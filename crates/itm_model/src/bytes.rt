@@ -27,9 +27,9 @@ pub(crate) fn value_at(bytes: &[u8], place: u64, width: Width) -> Value
 }
 
 /// Puts new bytes from a place on.
-pub(crate) fn replace(bytes: &mut [u8], place: u64, new: &[u8])
-    requires { IsTrue (in_range bytes.old place (length new.now)) }
-    ensures { bytes.new ≡ with_slice bytes.old place new.now }
+pub(crate) fn replace(bytes: &mut Vec<u8>, place: u64, new: &Value)
+    requires { IsTrue (in_range bytes.old.items place (length new.now.items)) }
+    ensures { bytes.new.items ≡ with_slice bytes.old.items place new.now.items }
 {
     let start = place as usize;
     bytes[start..start + new.len()].copy_from_slice(new);

@@ -1,8 +1,8 @@
 //! The plain machine: a transaction is a run of calls on a whole list of bytes.
 #![tactic(auto)]
 
-mod block;
 mod bytes;
+mod journal;
 mod limits;
 mod plain;
 

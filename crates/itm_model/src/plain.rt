@@ -1,14 +1,15 @@
 //! The plain machine.
 
-ghost use Rattle.std.specs.Prelude.{◌≡◌, ◌≤◌, ◌%◌, nat_lt, IsTrue, IfOk, OnOk, OnErr, [], length};
+ghost use Rattle.std.specs.Prelude.{◌≡◌, ◌≤◌, ◌%◌, nat_lt, if◌then◌else◌, IsTrue, IfOk, OnOk, OnErr, None, [], length};
 ghost use Rattle.itm_types.specs.Access.{size_of};
-ghost use Rattle.itm_model.specs.Machine.{after, answer, closed, effect, entered, in_arena, in_shared, is_open, mode_code, needs_open, opened, ranges, refusal, reply, saved_in_arena, standing, unless, written};
+ghost use Rattle.itm_model.specs.Machine.{after, answer, back, closed, effect, entered, in_arena, in_shared, is_open, mode_code, needs_open, opened, outside, ranges, refusal, reply, saved_in_arena, standing, undone, unless, written};
 ghost use Rattle.itm_model.specs.Places.{in_range};
+ghost use Rattle.itm_model.specs.Undoable.{before_after, before_next, takes_memory};
 
-use crate::block::{Block, Saved};
 use crate::bytes::{is_in_range, replace, value_at};
+use crate::journal::{Mark, Old, unwind, write};
 use crate::limits::{MAX_DEPTH, WORD};
-use itm_types::{Call, MAX_ARENA, MAX_MEMORY, Props, Refusal, Reply, Width};
+use itm_types::{Call, Datum, MAX_ARENA, MAX_MEMORY, Props, Refusal, Reply, Width};
 use std::alloc::{AllocError, Global};
 use std::marker::Model;
 
@@ -20,24 +21,37 @@ const NO_TRANSACTION: u32 = 0;
 
 const RETRYABLE: u32 = 1;
 
-/// A transaction alone on its bytes. Each block keeps the whole memory as at its begin, so nothing
-/// is said here of clocks, logs or write sets.
+/// A transaction alone on its bytes. It keeps what its writes overwrote, so that a begin copies
+/// nothing and a rollback costs what was written.
 #[derive(Debug, Drop)]
 pub struct Plain {
     memory: Vec<u8>,
     arena: Vec<u8>,
+    /// What was overwritten since the last outermost begin, oldest first.
+    journal: Vec<Old>,
     /// The open blocks, innermost last.
-    blocks: Vec<Block>,
+    marks: Vec<Mark>,
     wrote: bool,
 }
 
 impl Model for Plain {
-    ghost use Rattle.std.specs.Prelude.{reverse};
-    ghost use Rattle.itm_model.specs.State.{State};
+    ghost use Rattle.itm_model.specs.Undoable.{Undoable};
 
-    ghost Value = { State };
+    ghost Value = { Undoable };
 
-    ghost view = { λ p. record { memory = p.memory.items; arena = p.arena.items; blocks = reverse p.blocks.items; wrote = p.wrote } };
+    ghost use Rattle.itm_model.specs.Undoing.{put_back, blocks_of, IsSound};
+
+    ghost view = { λ p. record {
+      state = record {
+        memory = p.memory.items;
+        arena = p.arena.items;
+        blocks = blocks_of p.journal.items p.memory.items p.marks.items;
+        wrote = p.wrote;
+      };
+      before = put_back p.journal.items p.memory.items;
+    } };
+
+    ghost invariant = { λ p. IsSound p.memory.items p.journal.items p.marks.items };
 }
 
 impl Plain {
@@ -47,72 +61,127 @@ impl Plain {
         requires room { length bytes.now ≤ MAX_MEMORY }
         requires words { length bytes.now % WORD ≡ 0 }
         requires arena { length arena.now ≤ MAX_ARENA }
-        ensures { IfOk result (λ p. p ≡ opened bytes.now arena.now props) }
+        ensures state { IfOk result (λ p. p.state ≡ opened bytes.now arena.now props) }
+        ensures before { IfOk result (λ p. p.before ≡ bytes.now) }
     {
         let mut plain = Plain {
             memory: bytes.to_vec(alloc)?,
             arena: arena.to_vec(alloc)?,
-            blocks: Vec::new(alloc),
+            journal: Vec::new(alloc),
+            marks: Vec::new(alloc),
             wrote: false,
         };
-        plain.enter(alloc, props)?;
+        plain.enter(props)?;
         Ok(plain)
     }
 
     /// Makes one call. A refused call changes nothing, and an outermost begin starts anew on the bytes
-    /// that are there.
-    pub fn one(&mut self, alloc: Global, call: &Call) -> Result<Reply, AllocError>
-        ensures reply { IfOk result (λ r. r ≡ reply MAX_DEPTH self.old call.now) }
-        ensures after { OnOk result (self.new ≡ after MAX_DEPTH self.old call.now) }
+    /// that are there. It costs what it touches, and a begin a mark.
+    pub fn one(&mut self, call: &Call) -> Result<Reply, AllocError>
+        ensures reply { IfOk result (λ r. r ≡ reply MAX_DEPTH self.old.state call.now) }
+        ensures after { OnOk result (self.new.state ≡ after MAX_DEPTH self.old.state call.now) }
+        ensures before { OnOk result (self.new.before ≡ before_after MAX_DEPTH self.old call.now) }
 
-        // Memory is refused only to a begin that would be accepted.
-        ensures only_begin { OnErr result (reply MAX_DEPTH self.old call.now ≡ Reply.Code 5) }
+        // Memory is refused only to a begin or a write that would be accepted.
+        ensures only_some { OnErr result (IsTrue (takes_memory call.now)) }
+        ensures only_accepted { OnErr result (refusal MAX_DEPTH self.old.state call.now ≡ None) }
         ensures err { OnErr result (self.new ≡ self.old) }
     {
         match self.refusal(call) {
             Some(refusal) => Ok(Reply::Refused(refusal)),
-            None => self.accept(alloc, call),
+            None => self.accept(call),
         }
+    }
+
+    /// Rolls the innermost block back, if one is open.
+    pub fn back(&mut self)
+        ensures back { self.new.state ≡ back self.old.state }
+        ensures before { self.new.before ≡ self.old.before }
+    {
+        if let Some(mark) = self.marks.pop() {
+            unwind(&mut self.memory, &mut self.journal, mark.at);
+            self.wrote = mark.wrote;
+        }
+    }
+
+    /// Rolls every open block back.
+    pub fn back_all(&mut self)
+        ensures undone { self.new.state ≡ undone self.old.state }
+        ensures before { self.new.before ≡ self.old.before }
+    {
+        while self.depth() > 0 {
+            self.back();
+        }
+    }
+
+    /// Puts back all that was written since the last outermost begin, after its commit too, and leaves
+    /// no block open. The arena stays.
+    pub fn take_back(&mut self)
+        ensures state { self.new.state ≡ outside self.old.before self.old.state.arena }
+        ensures before { self.new.before ≡ self.old.before }
+    {
+        unwind(&mut self.memory, &mut self.journal, 0);
+        self.marks.clear();
+        self.wrote = false;
+    }
+
+    /// Begins another transaction, on the bytes that the last one left. What is still open is dropped
+    /// with what it wrote in place.
+    pub fn again(&mut self, props: Props) -> Result<(), AllocError>
+        ensures state { OnOk result (self.new.state ≡ opened self.old.state.memory self.old.state.arena props) }
+        ensures before { OnOk result (self.new.before ≡ self.old.state.memory) }
+        ensures err { OnErr result (self.new ≡ self.old) }
+    {
+        self.marks.reserve(1)?;
+        self.marks.clear();
+        self.marks.push_reserved(Mark {
+            props,
+            at: 0,
+            wrote: false,
+        });
+        self.journal.clear();
+        self.wrote = false;
+        Ok(())
     }
 
     /// The shared memory.
     pub fn memory(&self) -> &[u8]
-        ensures { result.now ≡ self.now.memory }
+        ensures { result.now ≡ self.now.state.memory }
     {
         self.memory.as_slice()
     }
 
     /// The thread's own bytes.
     pub fn arena(&self) -> &[u8]
-        ensures { result.now ≡ self.now.arena }
+        ensures { result.now ≡ self.now.state.arena }
     {
         self.arena.as_slice()
     }
 
     /// How many blocks are open.
     pub fn depth(&self) -> usize
-        ensures { result ≡ length self.now.blocks }
+        ensures { result ≡ length self.now.state.blocks }
     {
-        self.blocks.len()
+        self.marks.len()
     }
 
     /// Whether a shared byte was written and not rolled back.
     pub fn wrote(&self) -> bool
-        ensures { result ≡ self.now.wrote }
+        ensures { result ≡ self.now.state.wrote }
     {
         self.wrote
     }
 
     /// Why the call is refused, if it is.
     fn refusal(&self, call: &Call) -> Option<Refusal>
-        ensures { result ≡ refusal MAX_DEPTH self.now call.now }
+        ensures { result ≡ refusal MAX_DEPTH self.now.state call.now }
     {
         self.standing(call).or(self.ranges(call))
     }
 
     /// Why no such call is served with these blocks open, if it is not.
     fn standing(&self, call: &Call) -> Option<Refusal>
-        ensures { result ≡ standing MAX_DEPTH self.now call.now }
+        ensures { result ≡ standing MAX_DEPTH self.now.state call.now }
     {
         match call {
             Call::Begin { .. } => self.too_deep(),
@@ -123,7 +192,7 @@ impl Plain {
 
     /// Why the call's bytes are not to be had, if they are not.
     fn ranges(&self, call: &Call) -> Option<Refusal>
-        ensures { result ≡ ranges self.now call.now }
+        ensures { result ≡ ranges self.now.state call.now }
     {
         match call {
             Call::Read { width, at, .. } => self.out_of_range(*at, *width),
@@ -136,7 +205,7 @@ impl Plain {
 
     /// One more block is too many.
     fn too_deep(&self) -> Option<Refusal>
-        ensures { result ≡ unless (nat_lt (length self.now.blocks) MAX_DEPTH) Refusal.TooDeep }
+        ensures { result ≡ unless (nat_lt (length self.now.state.blocks) MAX_DEPTH) Refusal.TooDeep }
     {
         if self.depth() < MAX_DEPTH {
             None
@@ -147,9 +216,9 @@ impl Plain {
 
     /// No transaction is open.
     fn outside(&self) -> Option<Refusal>
-        ensures { result ≡ needs_open self.now }
+        ensures { result ≡ needs_open self.now.state }
     {
-        if self.blocks.is_empty() {
+        if self.depth() == 0 {
             Some(Refusal::Outside)
         } else {
             None
@@ -158,7 +227,7 @@ impl Plain {
 
     /// An access leaves the memory.
     fn out_of_range(&self, place: u64, width: Width) -> Option<Refusal>
-        ensures { result ≡ in_shared self.now place (size_of width) }
+        ensures { result ≡ in_shared self.now.state place (size_of width) }
     {
         if is_in_range(&self.memory, place, width.size()) {
             None
@@ -169,7 +238,7 @@ impl Plain {
 
     /// An access leaves the arena.
     fn out_of_arena(&self, place: u64, width: Width) -> Option<Refusal>
-        ensures { result ≡ in_arena self.now place (size_of width) }
+        ensures { result ≡ in_arena self.now.state place (size_of width) }
     {
         if is_in_range(&self.arena, place, width.size()) {
             None
@@ -179,16 +248,17 @@ impl Plain {
     }
 
     /// The effect and the answer of a call that is not refused.
-    fn accept(&mut self, alloc: Global, call: &Call) -> Result<Reply, AllocError>
-        requires { refusal MAX_DEPTH self.old call.now ≡ None }
-        ensures answer { IfOk result (λ r. r ≡ answer self.old call.now) }
-        ensures effect { OnOk result (self.new ≡ effect self.old call.now) }
-        ensures only_begin { OnErr result (answer self.old call.now ≡ Reply.Code 5) }
+    fn accept(&mut self, call: &Call) -> Result<Reply, AllocError>
+        requires { refusal MAX_DEPTH self.old.state call.now ≡ None }
+        ensures answer { IfOk result (λ r. r ≡ answer self.old.state call.now) }
+        ensures effect { OnOk result (self.new.state ≡ effect self.old.state call.now) }
+        ensures before { OnOk result (self.new.before ≡ before_next self.old call.now) }
+        ensures only_some { OnErr result (IsTrue (takes_memory call.now)) }
         ensures err { OnErr result (self.new ≡ self.old) }
     {
         match call {
             Call::Begin { props, .. } => {
-                self.enter(alloc, *props)?;
+                self.enter(*props)?;
                 Ok(Reply::Code(ENTERED))
             }
             Call::Commit => {
@@ -198,12 +268,12 @@ impl Plain {
             Call::InTransaction => Ok(Reply::Code(self.mode())),
             Call::Read { width, at, .. } => Ok(Reply::Bytes(value_at(&self.memory, *at, *width))),
             Call::Write { at, value, .. } => {
-                self.write(*at, &value.bytes);
+                self.write(*at, value)?;
                 Ok(Reply::Done)
             }
             Call::Load { width, at } => Ok(Reply::Bytes(value_at(&self.arena, *at, *width))),
             Call::Save { at, value } => {
-                self.save(*at, &value.bytes);
+                self.save(*at, value);
                 Ok(Reply::Done)
             }
         }
@@ -211,52 +281,64 @@ impl Plain {
 
     /// Whether a transaction is open, as a code.
     fn mode(&self) -> u32
-        ensures { result ≡ mode_code self.now }
+        ensures { result ≡ mode_code self.now.state }
     {
-        if self.blocks.is_empty() {
+        if self.depth() == 0 {
             NO_TRANSACTION
         } else {
             RETRYABLE
         }
     }
 
-    /// A block opens. An outermost one has written nothing yet.
-    fn enter(&mut self, alloc: Global, props: Props) -> Result<(), AllocError>
-        ensures inner { IsTrue (is_open self.old) → OnOk result (self.new ≡ entered self.old props) }
-        ensures outermost { self.old.blocks ≡ []
-            → OnOk result (self.new ≡ opened self.old.memory self.old.arena props) }
+    /// A block opens. An outermost one has written nothing yet, and what stands is what it began on.
+    fn enter(&mut self, props: Props) -> Result<(), AllocError>
+        ensures inner { IsTrue (is_open self.old.state) → OnOk result (self.new.state ≡ entered self.old.state props) }
+        ensures outermost { self.old.state.blocks ≡ []
+            → OnOk result (self.new.state ≡ opened self.old.state.memory self.old.state.arena props) }
+        ensures before { OnOk result
+            (self.new.before ≡ (if is_open self.old.state then self.old.before else self.old.state.memory)) }
         ensures err { OnErr result (self.new ≡ self.old) }
     {
-        let wrote = self.wrote && !self.blocks.is_empty();
-        let memory = self.memory.to_vec(alloc)?;
-        let saved = Saved { memory, wrote };
-        self.blocks.push(Block { props, saved })?;
-        self.wrote = wrote;
+        if self.marks.is_empty() {
+            return self.again(props);
+        }
+        self.marks.push(Mark {
+            props,
+            at: self.journal.len(),
+            wrote: self.wrote,
+        })?;
         Ok(())
     }
 
     /// The innermost block closes.
     fn close(&mut self)
-        ensures { self.new ≡ closed self.old self.old.blocks }
+        ensures closed { self.new.state ≡ closed self.old.state self.old.state.blocks }
+        ensures before { self.new.before ≡ self.old.before }
     {
-        let _closed = self.blocks.pop();
+        let Some(_closed) = self.marks.pop() else {
+            return;
+        };
     }
 
     /// Shared bytes are replaced.
-    fn write(&mut self, place: u64, bytes: &[u8])
-        requires { IsTrue (in_range self.old.memory place (length bytes.now)) }
-        ensures { self.new ≡ written self.old place bytes.now }
+    fn write(&mut self, place: u64, value: &Datum) -> Result<(), AllocError>
+        requires { IsTrue (in_range self.old.state.memory place (length value.now.bytes.items)) }
+        ensures ok { OnOk result (self.new.state ≡ written self.old.state place value.now.bytes.items) }
+        ensures before { OnOk result (self.new.before ≡ self.old.before) }
+        ensures err { OnErr result (self.new ≡ self.old) }
     {
-        replace(&mut self.memory, place, bytes);
-        self.wrote = self.wrote || !bytes.is_empty();
+        write(&mut self.memory, &mut self.journal, place, value)?;
+        self.wrote = self.wrote || !value.bytes.is_empty();
+        Ok(())
     }
 
     /// Bytes of the arena are replaced.
-    fn save(&mut self, place: u64, bytes: &[u8])
-        requires { IsTrue (in_range self.old.arena place (length bytes.now)) }
-        ensures { self.new ≡ saved_in_arena self.old place bytes.now }
+    fn save(&mut self, place: u64, value: &Datum)
+        requires { IsTrue (in_range self.old.state.arena place (length value.now.bytes.items)) }
+        ensures ok { self.new.state ≡ saved_in_arena self.old.state place value.now.bytes.items }
+        ensures before { self.new.before ≡ self.old.before }
     {
-        replace(&mut self.arena, place, bytes);
+        replace(&mut self.arena, place, &value.bytes);
     }
 }
 

@@ -49,13 +49,10 @@ fn begun(alloc: Global) -> Result<Plain, AllocError> {
 fn counter(rt: HostRuntime) -> Result<(), Fail> {
     let mut plain = begun(rt.alloc())?;
     assert_eq!(rt; plain.depth(), 1);
-    assert_eq!(rt;
-        plain.one(rt.alloc(), &read(0))?,
-        Reply::Bytes(value(THREE))
-    );
+    assert_eq!(rt; plain.one(&read(0))?, Reply::Bytes(value(THREE)));
     assert!(rt; !plain.wrote());
-    assert_eq!(rt; plain.one(rt.alloc(), &write(0, FOUR))?, Reply::Done);
-    assert_eq!(rt; plain.one(rt.alloc(), &Call::Commit)?, Reply::Done);
+    assert_eq!(rt; plain.one(&write(0, FOUR))?, Reply::Done);
+    assert_eq!(rt; plain.one(&Call::Commit)?, Reply::Done);
     assert_eq!(rt; plain.depth(), 0);
     assert_eq!(rt; plain.memory(), FOUR.as_slice());
     assert_eq!(rt; plain.arena(), [1, 2].as_slice());
@@ -68,69 +65,121 @@ fn boundary(rt: HostRuntime) -> Result<(), Fail> {
     let mut plain = begun(rt.alloc())?;
     let out_of_range = Reply::Refused(Refusal::OutOfRange);
     for place in [1, 7, 8, u64::MAX - 7, u64::MAX] {
+        assert_eq!(rt; plain.one(&read(place))?, out_of_range, "read at {place}");
         assert_eq!(rt;
-            plain.one(rt.alloc(), &read(place))?,
-            out_of_range,
-            "read at {place}"
-        );
-        assert_eq!(rt;
-            plain.one(rt.alloc(), &write(place, FOUR))?,
+            plain.one(&write(place, FOUR))?,
             out_of_range,
             "write at {place}"
         );
     }
     assert!(rt; !plain.wrote());
-    assert_eq!(rt;
-        plain.one(rt.alloc(), &read(0))?,
-        Reply::Bytes(value(THREE))
-    );
+    assert_eq!(rt; plain.one(&read(0))?, Reply::Bytes(value(THREE)));
     Ok(())
 }
 
 #[test]
 fn blocks(rt: HostRuntime) -> Result<(), Fail> {
     let mut plain = begun(rt.alloc())?;
-    assert_eq!(rt;
-        plain.one(rt.alloc(), &BEGIN)?,
-        Reply::Refused(Refusal::TooDeep)
-    );
-    assert_eq!(rt;
-        plain.one(rt.alloc(), &Call::InTransaction)?,
-        Reply::Code(1)
-    );
-    assert_eq!(rt; plain.one(rt.alloc(), &Call::Commit)?, Reply::Done);
-    assert_eq!(rt;
-        plain.one(rt.alloc(), &Call::InTransaction)?,
-        Reply::Code(0)
-    );
+    assert_eq!(rt; plain.one(&BEGIN)?, Reply::Refused(Refusal::TooDeep));
+    assert_eq!(rt; plain.one(&Call::InTransaction)?, Reply::Code(1));
+    assert_eq!(rt; plain.one(&Call::Commit)?, Reply::Done);
+    assert_eq!(rt; plain.one(&Call::InTransaction)?, Reply::Code(0));
     for call in [Call::Commit, read(0), write(0, FOUR)] {
         assert_eq!(rt;
-            plain.one(rt.alloc(), &call)?,
+            plain.one(&call)?,
             Reply::Refused(Refusal::Outside),
             "{call:?}"
         );
     }
     assert_eq!(rt; plain.memory(), THREE.as_slice());
-    assert_eq!(rt; plain.one(rt.alloc(), &BEGIN)?, Reply::Code(5));
+    assert_eq!(rt; plain.one(&BEGIN)?, Reply::Code(5));
     assert_eq!(rt; plain.depth(), 1);
     Ok(())
 }
 
-/// Run with each allocation refused in turn, a begin that finds no memory leaves all as it was, and
+/// Run with each allocation refused in turn, a begin or a write that finds no memory leaves all as it was, and
 /// the next one is served.
 #[test]
-fn begin_without_memory(rt: HostRuntime) -> Result<(), Fail> {
+fn without_memory(rt: HostRuntime) -> Result<(), Fail> {
     let mut plain = begun(rt.alloc())?;
-    plain.one(rt.alloc(), &write(0, FOUR))?;
-    plain.one(rt.alloc(), &Call::Commit)?;
-    if plain.one(rt.alloc(), &BEGIN).is_err() {
+    if plain.one(&write(0, FOUR)).is_err() {
+        assert_eq!(rt; plain.depth(), 1);
+        assert!(rt; !plain.wrote());
+        assert_eq!(rt; plain.memory(), THREE.as_slice());
+        assert_eq!(rt; plain.one(&write(0, FOUR))?, Reply::Done);
+    }
+    plain.one(&Call::Commit)?;
+    if plain.one(&BEGIN).is_err() {
         assert_eq!(rt; plain.depth(), 0);
         assert!(rt; plain.wrote());
-        assert_eq!(rt; plain.one(rt.alloc(), &BEGIN)?, Reply::Code(5));
+        assert_eq!(rt; plain.one(&BEGIN)?, Reply::Code(5));
     }
     assert_eq!(rt; plain.depth(), 1);
     assert!(rt; !plain.wrote());
     assert_eq!(rt; plain.memory(), FOUR.as_slice());
+    Ok(())
+}
+
+#[test]
+fn rollback(rt: HostRuntime) -> Result<(), Fail> {
+    let mut plain = begun(rt.alloc())?;
+    plain.one(&write(0, FOUR))?;
+    plain.back();
+    assert_eq!(rt; plain.depth(), 0);
+    assert_eq!(rt; plain.memory(), THREE.as_slice());
+    assert!(rt; !plain.wrote());
+    plain.back();
+    assert_eq!(rt; plain.memory(), THREE.as_slice());
+    plain.one(&BEGIN)?;
+    plain.one(&write(0, FOUR))?;
+    plain.one(&write(0, THREE))?;
+    plain.one(&write(0, FOUR))?;
+    plain.back_all();
+    assert_eq!(rt; plain.depth(), 0);
+    assert_eq!(rt; plain.memory(), THREE.as_slice());
+    assert!(rt; !plain.wrote());
+    Ok(())
+}
+
+/// What a transaction wrote is taken back after its commit too, and the next one begins on what the last one left.
+#[test]
+fn attempts(rt: HostRuntime) -> Result<(), Fail> {
+    let mut plain = begun(rt.alloc())?;
+    plain.one(&write(0, FOUR))?;
+    plain.one(&Call::Commit)?;
+    plain.take_back();
+    assert_eq!(rt; plain.depth(), 0);
+    assert!(rt; !plain.wrote());
+    assert_eq!(rt; plain.memory(), THREE.as_slice());
+    plain.again(Props {})?;
+    assert_eq!(rt; plain.depth(), 1);
+    plain.one(&write(0, FOUR))?;
+    plain.again(Props {})?;
+    assert!(rt; !plain.wrote());
+    plain.take_back();
+    assert_eq!(rt; plain.memory(), FOUR.as_slice());
+    assert_eq!(rt; plain.arena(), [1, 2].as_slice());
+    Ok(())
+}
+
+/// On the largest memory a thousand attempts take room for a mark and an entry each, and none for the memory.
+#[test]
+fn room(rt: HostRuntime) -> Result<(), Fail> {
+    let alloc = rt.alloc();
+    let bytes = vec![in alloc; 0; 65_536]?;
+    let mut plain = Plain::new(alloc, &bytes, &[], Props {})?;
+    assert_eq!(rt; plain.journal.capacity(), 0);
+    for _ in 0..1_000 {
+        plain.again(Props {})?;
+        plain.one(&write(8, FOUR))?;
+        plain.one(&Call::Commit)?;
+        plain.take_back();
+    }
+    plain.one(&BEGIN)?;
+    assert!(rt; plain.marks.capacity() <= 8);
+    assert!(rt; plain.journal.capacity() <= 8);
+    assert_eq!(rt; plain.memory.capacity(), 65_536);
+    assert_eq!(rt; plain.memory(), bytes.as_slice());
     Ok(())
 }
 
@@ -147,14 +196,11 @@ fn arena(rt: HostRuntime) -> Result<(), Fail> {
         width: Width::U2,
         at: 3,
     };
-    assert_eq!(rt; plain.one(alloc, &save)?, Reply::Done);
-    assert_eq!(rt;
-        plain.one(alloc, &far)?,
-        Reply::Refused(Refusal::OutOfArena)
-    );
-    assert_eq!(rt; plain.one(alloc, &Call::Commit)?, Reply::Done);
+    assert_eq!(rt; plain.one(&save)?, Reply::Done);
+    assert_eq!(rt; plain.one(&far)?, Reply::Refused(Refusal::OutOfArena));
+    assert_eq!(rt; plain.one(&Call::Commit)?, Reply::Done);
     assert_eq!(rt; plain.arena(), [1, 8, 9, 4].as_slice());
-    assert_eq!(rt; plain.one(alloc, &save)?, Reply::Done);
+    assert_eq!(rt; plain.one(&save)?, Reply::Done);
     assert!(rt; !plain.wrote());
     Ok(())
 }

@@ -1,0 +1,121 @@
+-- Laws of putting back.
+use Rattle.std.proofs.Common.{◌≡◌, ℕ, zero, suc, Bool, map, subst, ◌+◌, ◌≤◌, List, [], ◌∷◌, ◌++◌, length, take, drop, reverse, refl, ap, sym, ◌∙◌, arith, length-append, length-drop, append_assoc}
+use Rattle.std.proofs.lemmas.List.{take_at, drop_at, drop-append-le, length-take-le, take-append-drop, reverse-append}
+use Rattle.std.proofs.Math.Seq.{drop-nil}
+use Rattle.itm_types.specs.Slices.{slice, with_slice}
+use Rattle.itm_model.specs.declared.journal.Old.{Old}
+use Rattle.itm_model.specs.declared.journal.Mark.{Mark}
+use Rattle.itm_model.specs.State.{State, Block}
+use Rattle.itm_model.specs.Machine.{back, closed}
+use Rattle.itm_model.specs.Undoing.{put_back, block_of, blocks_of, AreWithin, AreUnder, Restores}
+
+-- a slice in range keeps the length
+pub length-with_slice : (m : List ℕ) (p : ℕ) (new : List ℕ) → p + length new ≤ length m → length (with_slice m p new) ≡ length m
+length-with_slice m p new h =
+    let b = drop (p + length new) m in
+    let whole : length (with_slice m p new) ≡ length (take p m ++ new) + length b = length-append (take p m ++ new) b in
+    omega (arith, whole, length-append (take p m) new, length-take-le p m (omega arith), length-drop (p + length new) m)
+
+pub length-slice : (m : List ℕ) (p n : ℕ) → p + n ≤ length m → length (slice m p n) ≡ n
+length-slice m p n h = length-take-le n (drop p m) (omega (arith, length-drop p m))
+
+drop-drop : {X : Type 0} (p n : ℕ) (m : List X) → drop n (drop p m) ≡ drop (p + n) m
+drop-drop p n [] = ap (drop n) (drop-nil p) ∙ (drop-nil n ∙ sym (drop-nil (p + n)))
+drop-drop zero n (x ∷ m) =
+    let e : 0 + n ≡ n = omega arith in
+    sym (ap (λ k. drop k (x ∷ m)) e)
+drop-drop (suc p) n (x ∷ m) =
+    let e : suc p + n ≡ suc (p + n) = omega arith in
+    drop-drop p n m ∙ sym (ap (λ k. drop k (x ∷ m)) e)
+
+pub take-take : {X : Type 0} (k n : ℕ) (xs : List X) → k ≤ n → take k (take n xs) ≡ take k xs
+take-take zero n xs h = refl
+take-take (suc k) zero xs h = absurd (omega (arith, h))
+take-take (suc k) (suc n) [] h = refl
+take-take (suc k) (suc n) (x ∷ xs) h = ap (λ t. x ∷ t) (take-take k n xs (omega (arith, h)))
+
+-- what stood there, put back over what was written
+pub there_and_back : (m : List ℕ) (p : ℕ) (new : List ℕ) → p + length new ≤ length m → with_slice (with_slice m p new) p (slice m p (length new)) ≡ m
+there_and_back m p new h =
+    let n = length new in
+    let b = drop (p + n) m in
+    let old = slice m p n in
+    let len : length (take p m) ≡ p = length-take-le p m (omega arith) in
+    let front : take p (with_slice m p new) ≡ take p m = ap (take p) (append_assoc (take p m) new b) ∙ take_at (take p m) (new ++ b) p len in
+    let rest : drop (p + length old) (with_slice m p new) ≡ b =
+    ap (λ k. drop (p + k) (with_slice m p new)) (length-slice m p n h)
+    ∙ drop_at (take p m ++ new) b (p + n) (length-append (take p m) new ∙ ap (λ k. k + n) len) in
+    (λ i. front i ++ old ++ rest i)
+    ∙ (append_assoc (take p m) old b
+    ∙ (ap (λ t. take p m ++ (old ++ t)) (sym (drop-drop p n m))
+    ∙ (ap (λ t. take p m ++ t) (take-append-drop n (drop p m)) ∙ take-append-drop p m)))
+
+pub put_back-append : (xs ys : List Old) (m : List ℕ) → put_back (xs ++ ys) m ≡ put_back xs (put_back ys m)
+put_back-append [] ys m = refl
+put_back-append (x ∷ xs) ys m = ap (λ t. with_slice t x.place x.bytes.items) (put_back-append xs ys m)
+
+pub AreWithin-append : (n : ℕ) (xs ys : List Old) → AreWithin n xs → AreWithin n ys → AreWithin n (xs ++ ys)
+AreWithin-append n [] ys a b = b
+AreWithin-append n (x ∷ xs) ys a b = (a.0, AreWithin-append n xs ys a.1 b)
+
+pub AreWithin-front : (n : ℕ) (xs ys : List Old) → AreWithin n (xs ++ ys) → AreWithin n xs
+AreWithin-front n [] ys a = tt
+AreWithin-front n (x ∷ xs) ys a = (a.0, AreWithin-front n xs ys a.1)
+
+pub AreWithin-last : (n : ℕ) (xs : List Old) (y : Old) → AreWithin n (xs ++ y ∷ []) → y.place + length y.bytes.items ≤ n
+AreWithin-last n [] y a = a.0
+AreWithin-last n (x ∷ xs) y a = AreWithin-last n xs y a.1
+
+-- the blocks are the same where what stood at their begins is
+pub blocks_same : (j : List Old) (m : List ℕ) (j' : List Old) (m' : List ℕ) (top : ℕ) (ms : List Mark) → AreUnder top ms → Restores top j m j' m'
+    → map (block_of j' m') ms ≡ map (block_of j m) ms
+blocks_same j m j' m' top [] u r = refl
+blocks_same j m j' m' top (x ∷ ms) u r =
+    let head : block_of j' m' x ≡ block_of j m x = ap (λ t. record { props = x.props; saved = record { memory = t; wrote = x.wrote } }) (r x.at u.0) in
+    let tail = blocks_same j m j' m' x.at ms u.1 (λ k h. r k (omega (arith, u.0, h))) in
+    (λ i. head i ∷ tail i)
+
+-- more entries
+pub AreUnder-more : (n n' : ℕ) (ms : List Mark) → n ≤ n' → AreUnder n ms → AreUnder n' ms
+AreUnder-more n n' [] e u = tt
+AreUnder-more n n' (x ∷ ms) e u = (omega (arith, e, u.0), u.1)
+
+-- one write, with its entry at the end
+pub write_restores : (j : List Old) (m : List ℕ) (o : Old) (new : List ℕ) → o.place + length new ≤ length m → o.bytes.items ≡ slice m o.place (length new)
+    → Restores (length j) j m (j ++ o ∷ []) (with_slice m o.place new)
+write_restores j m o new h e k l =
+    let m' = with_slice m o.place new in
+    ap (λ t. put_back t m') (drop-append-le k j (o ∷ []) l)
+    ∙ (put_back-append (drop k j) (o ∷ []) m'
+    ∙ ap (put_back (drop k j)) (ap (λ t. with_slice m' o.place t) e ∙ there_and_back m o.place new h))
+
+-- the newest entry put back
+pub pop_restores : (j j' : List Old) (o : Old) (m : List ℕ) → j ≡ j' ++ o ∷ [] → Restores (length j') j m j' (with_slice m o.place o.bytes.items)
+pop_restores j j' o m e k l =
+    sym (ap (λ t. put_back (drop k t) m) e
+    ∙ (ap (λ t. put_back t m) (drop-append-le k j' (o ∷ []) l)
+    ∙ put_back-append (drop k j') (o ∷ []) m))
+
+-- the innermost mark gone
+pub under_last : (top : ℕ) (ms : List Mark) (x : Mark) → AreUnder top (reverse (ms ++ x ∷ [])) → (x.at ≤ top) × AreUnder x.at (reverse ms)
+under_last top ms x u = subst (AreUnder top) (reverse-append ms (x ∷ [])) u
+
+-- the state of a machine with these fields
+abbrev pub state_of : List Old → List ℕ → List ℕ → List Mark → Bool → State
+state_of j m a marks wrote = record { memory = m; arena = a; blocks = blocks_of j m marks; wrote = wrote }
+
+-- the innermost block rolled back
+pub back_is : (j : List Old) (m : List ℕ) (j' : List Old) (m' a : List ℕ) (marks : List Mark) (x : Mark) (wrote : Bool)
+    → m' ≡ put_back (drop x.at j) m → Restores x.at j m j' m' → AreUnder x.at (reverse marks)
+    → state_of j' m' a marks x.wrote ≡ back (state_of j m a (marks ++ x ∷ []) wrote)
+back_is j m j' m' a marks x wrote e r u =
+    let blocks : blocks_of j m (marks ++ x ∷ []) ≡ block_of j m x ∷ blocks_of j m marks = ap (map (block_of j m)) (reverse-append marks (x ∷ [])) in
+    let same : blocks_of j' m' marks ≡ blocks_of j m marks = blocks_same j m j' m' x.at (reverse marks) u r in
+    let s : List Block → State = λ bs. record { memory = m; arena = a; blocks = bs; wrote = wrote } in
+    (λ i. record { memory = e i; arena = a; blocks = same i; wrote = x.wrote }) ∙ sym (ap (λ bs. back (s bs)) blocks)
+
+-- the innermost block closed
+pub closed_is : (j : List Old) (m a : List ℕ) (marks : List Mark) (x : Mark) (wrote : Bool)
+    → state_of j m a marks wrote ≡ closed (state_of j m a (marks ++ x ∷ []) wrote) (blocks_of j m (marks ++ x ∷ []))
+closed_is j m a marks x wrote =
+    sym (ap (λ t. closed (record { memory = m; arena = a; blocks = map (block_of j m) t; wrote = wrote }) (map (block_of j m) t)) (reverse-append marks (x ∷ [])))

@@ -1,0 +1,12 @@
+use Rattle.std.proofs.Common.{◌≡◌, length}
+use Rattle.itm_model.specs.Machine.{undone}
+use Rattle.itm_model.proofs.plain.Plain.back_all.Given as goal
+
+abbrev pub invariant-loop-self : goal.invariant-loop-self
+invariant-loop-self l = record {
+  undone : undone l.self.state ≡ undone l.fn.self.state;
+  before : l.self.before ≡ l.fn.self.before;
+}
+
+abbrev pub decreases-loop-self : goal.decreases-loop-self
+decreases-loop-self l = length l.self.state.blocks

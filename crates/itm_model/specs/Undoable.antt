@@ -1,0 +1,38 @@
+-- The plain machine's state, and the memory that it can go back to.
+use Rattle.std.specs.Prelude.{ℕ, Bool, true, false, if◌then◌else◌, List, Option, None, Some}
+use Rattle.itm_types.specs.declared.call.Refusal.{Refusal}
+use Rattle.itm_types.specs.declared.call.Call.{Call}
+use Rattle.itm_types.specs.declared.call.Call.TheVariants.{Begin, Commit, InTransaction, Read, Write, Load, Save}
+use Rattle.itm_model.specs.State.{State}
+use Rattle.itm_model.specs.Machine.{is_open, refusal}
+
+pub record Undoable : Type 0 where
+  pub state : State
+  pub before : List ℕ  -- the memory as at the last outermost begin
+
+-- what an accepted call leaves of it: an outermost begin goes on from the memory that is there
+abbrev pub before_next : Undoable → Call → List ℕ
+before_next u (Begin props room) = if is_open u.state then u.before else u.state.memory
+before_next u Commit = u.before
+before_next u InTransaction = u.before
+before_next u (Read hint width at) = u.before
+before_next u (Write hint at value) = u.before
+before_next u (Load width at) = u.before
+before_next u (Save at value) = u.before
+
+abbrev pub before_unless : Option Refusal → List ℕ → List ℕ → List ℕ
+before_unless None old new = new
+before_unless (Some refusal) old new = old
+
+abbrev pub before_after : ℕ → Undoable → Call → List ℕ
+before_after deepest u call = before_unless (refusal deepest u.state call) u.before (before_next u call)
+
+-- can memory be refused to the call
+abbrev pub takes_memory : Call → Bool
+takes_memory (Begin props room) = true
+takes_memory Commit = false
+takes_memory InTransaction = false
+takes_memory (Read hint width at) = false
+takes_memory (Write hint at value) = true
+takes_memory (Load width at) = false
+takes_memory (Save at value) = false
