@@ -1,2 +1,2 @@
 mod Examples
-mod Restoring
+mod JournalRollbacks

@@ -123,7 +123,7 @@ writes rows (props ∷ outer) arena m words hint value at o mem rows' l some is 
 
 -- ## Refusals
 
-pub refuses : (s : State) (call : Call) (why : Refusal) → refusal 1 s call ≡ Some why → (s ≡ after 1 s call) × (Refused why ≡ reply 1 s call)
+refuses : (s : State) (call : Call) (why : Refusal) → refusal 1 s call ≡ Some why → (s ≡ after 1 s call) × (Refused why ≡ reply 1 s call)
 refuses s call why e = (sym (ap (λ r. after_unless r s (effect s call)) e), sym (ap (λ r. reply_unless r (answer s call)) e))
 
 -- a read or a write of these bytes

@@ -1,22 +1,17 @@
--- A refused read or write.
-use Rattle.std.proofs.Common.{◌≡◌, ℕ, ◌+◌, ◌*◌, ◌≤◌, nat_le, Bool, true, false, List, length, None, Some, refl, sym, ap, ◌∙◌, inl, inr, if◌then◌else◌, Option, ◌<◌}
-use Rattle.std.proofs.lemmas.Bool.{cases_Bool, leb-true, le-leb, lt-leb}
+-- Replies that leave an engine as it was but for the counts and perhaps the arena: refusals, and what the thread's own state answers.
+use Rattle.std.proofs.Common.{◌≡◌, ℕ, ◌+◌, ◌*◌, ◌≤◌, nat_le, Bool, true, false, List, length, None, Some, refl, sym, ap, ◌∙◌, inl, inr, if◌then◌else◌}
+use Rattle.std.proofs.lemmas.Bool.{cases_Bool, leb-true}
 use Rattle.itm_types.specs.declared.call.Call.{Call}
-use Rattle.itm_types.specs.declared.call.Call.TheVariants.{Begin, Commit, InTransaction, Write, Load, Save}
+use Rattle.itm_types.specs.declared.call.Call.TheVariants.{Begin, Commit, InTransaction, Write, Save}
 use Rattle.itm_types.specs.declared.call.Props.{Props}
 use Rattle.itm_types.specs.declared.call.Refusal.{Refusal}
-use Rattle.itm_types.specs.declared.call.Refusal.TheVariants.{OutOfRange, OutOfArena}
-use Rattle.itm_types.specs.declared.call.Reply.TheVariants.{Done, Bytes, Code, Refused}
-use Rattle.itm_types.specs.Calls.{access_of, arena_access_of}
-use Rattle.itm_types.specs.Access.{size_of}
-use Rattle.itm_types.specs.Slices.{slice, with_slice}
-use Rattle.itm_types.specs.declared.access.Width.{Width}
-use Rattle.itm_types.specs.declared.datum.Datum.{Datum}
-use Rattle.arrayvec.specs.ArrayVec.{ArrayVec}
+use Rattle.itm_types.specs.declared.call.Refusal.TheVariants.{OutOfRange}
+use Rattle.itm_types.specs.declared.call.Reply.TheVariants.{Code, Refused}
+use Rattle.itm_types.specs.Calls.{access_of}
 use Rattle.itm_types.specs.Memory.{IsMemory}
 use Rattle.itm_types.specs.declared.call.Reply.{Reply as Replied}
 use Rattle.itm_model.specs.State.{State}
-use Rattle.itm_model.specs.Machine.{unless, refusal, in_arena, effect, after, after_unless, reply, reply_unless}
+use Rattle.itm_model.specs.Machine.{unless, after, reply}
 use Rattle.norec_engine.specs.Stands.{state_over}
 use Rattle.write_set.specs.declared.row.Row.{Row}
 use Rattle.norec_engine.specs.declared.data.Data.{Data}
@@ -24,7 +19,7 @@ use Rattle.norec_engine.specs.declared.phase.Phase.TheVariants.{Idle}
 use Rattle.norec_engine.specs.Core.{came}
 use Rattle.norec_engine.specs.Fields.{access_refusal, core, blocks_of, in_block, IsSound}
 use Rattle.norec_engine.specs.Proceeds.{Replies, OpensBy, recoded, writes_after, arena_after, blocks_after}
-use Rattle.norec_engine.proofs.Machines.{access_refused, open_is, refuses}
+use Rattle.norec_engine.proofs.Machines.{access_refused, open_is}
 
 abbrev stands : Data → List ℕ → State
 stands d m = state_over d.writes.rows (blocks_of d.block) d.arena m

@@ -2,7 +2,7 @@ use Rattle.std.proofs.Common.{◌≡◌, ◌≤◌, ◌+◌, List, ℕ, [], ◌�
 use Rattle.itm_types.specs.Slices.{slice}
 use Rattle.itm_model.specs.Undoing.{put_back, AreWithin}
 use Rattle.itm_model.specs.declared.journal.Old.{Old}
-use Rattle.itm_model.proofs.Restoring.{write_restores, length-with_slice, length-slice, AreWithin-append}
+use Rattle.itm_model.proofs.JournalRollbacks.{write_restores, length-with_slice, length-slice, AreWithin-append}
 use Rattle.itm_model.proofs.journal.write.Goals as goal
 
 pub returns-clause-restores : goal.returns-clause-restores

@@ -3,7 +3,7 @@ use Rattle.itm_model.specs.declared.journal.Mark.{Mark}
 use Rattle.itm_model.specs.Undoable.{Undoable}
 use Rattle.itm_model.specs.Machine.{back}
 use Rattle.itm_model.specs.Undoing.{AreUnder}
-use Rattle.itm_model.proofs.Restoring.{under_last, back_is, state_of}
+use Rattle.itm_model.proofs.JournalRollbacks.{under_last, back_is, state_of}
 use Rattle.itm_model.proofs.plain.Plain.back.Goals as goal
 
 pub returns-in-Some-clause-back : goal.returns-in-Some-clause-back

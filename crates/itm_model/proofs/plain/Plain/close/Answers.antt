@@ -3,7 +3,7 @@ use Rattle.itm_model.specs.declared.journal.Mark.{Mark}
 use Rattle.itm_model.specs.Undoable.{Undoable}
 use Rattle.itm_model.specs.Machine.{closed}
 use Rattle.itm_model.specs.Undoing.{AreUnder, blocks_of}
-use Rattle.itm_model.proofs.Restoring.{under_last, AreUnder-more, closed_is, state_of}
+use Rattle.itm_model.proofs.JournalRollbacks.{under_last, AreUnder-more, closed_is, state_of}
 use Rattle.itm_model.proofs.plain.Plain.close.Goals as goal
 
 pub returns-clause-closed : goal.returns-clause-closed

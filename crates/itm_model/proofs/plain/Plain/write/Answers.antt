@@ -1,7 +1,7 @@
 use Rattle.std.proofs.Common.{◌≡◌, ◌||◌, nat_lt, length, reverse, ap, ◌∙◌, rules}
 use Rattle.itm_model.specs.Undoable.{Undoable}
 use Rattle.itm_model.specs.Machine.{written}
-use Rattle.itm_model.proofs.Restoring.{blocks_same, AreUnder-more}
+use Rattle.itm_model.proofs.JournalRollbacks.{blocks_same, AreUnder-more}
 use Rattle.itm_model.proofs.plain.Plain.write.Goals as goal
 use Rattle.itm_model.proofs.plain.Plain.write.Goals.{then-self, else-self}
 
