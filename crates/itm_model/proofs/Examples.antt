@@ -6,20 +6,20 @@ use Rattle.itm_types.specs.declared.access.ReadHint.TheVariants.{R, RaR, RaW}
 use Rattle.itm_types.specs.declared.access.WriteHint.TheVariants.{W}
 use Rattle.itm_types.specs.declared.datum.Datum.{Datum}
 use Rattle.itm_types.specs.declared.call.Props.{Props}
-use Rattle.itm_types.specs.declared.call.Refusal.TheVariants.{Outside, OutOfRange, OutOfArena, TooDeep}
+use Rattle.itm_types.specs.declared.call.Refusal.TheVariants.{Outside, OutOfRange, OutOfArena, NoAbort, TooDeep}
 use Rattle.itm_types.specs.declared.call.Call.{Call}
-use Rattle.itm_types.specs.declared.call.Call.TheVariants.{Begin, Commit, InTransaction, Read, Write, Load, Save}
+use Rattle.itm_types.specs.declared.call.Call.TheVariants.{Begin, Commit, Abort, InTransaction, Read, Write, Log, LogBytes, Load, Save}
 use Rattle.itm_types.specs.declared.call.Reply.{Reply}
 use Rattle.itm_types.specs.declared.call.Reply.TheVariants.{Done, Bytes, Code, Refused}
-use Rattle.itm_model.specs.State.{State}
+use Rattle.itm_model.specs.State.{Block, State}
 use Rattle.itm_model.specs.Machine.{after, back, opened, outside, undone}
 use Rattle.itm_model.specs.declared.journal.Old.{Old}
 use Rattle.itm_model.specs.Undoing.{blocks_of, put_back}
-use Rattle.itm_model.specs.Undoable.{Undoable, before_after}
+use Rattle.itm_model.specs.Undoable.{Undoable, before_after, takes_memory}
 use Rattle.itm_model.specs.Runs.{answers, replies, state_after}
 
 abbrev plain : Props
-plain = record {}
+plain = record { no_abort = false }
 
 -- the eight bytes of a small number
 abbrev eight : ℕ → List ℕ
@@ -152,17 +152,162 @@ rollback_all = refl
 rollback_closed : undone (after 2 inner Commit) ≡ outside (eight 0) []
 rollback_closed = refl
 
+-- ## An inner block is cancelled: what it wrote is gone, and of the arena the byte that it logged has its value at the first log
+
+abbrev byte : ℕ → Datum
+byte b = record { width = U1; bytes = record { items = b ∷ [] }; sized = refl }
+
+abbrev one_byte : ℕ → Reply
+one_byte b = Bytes (record { items = b ∷ [] })
+
+-- a block that was just begun on so many bytes and an arena of so many, all zero
+abbrev start_with : ℕ → ℕ → State
+start_with bytes arena = opened (replicate bytes 0) (replicate arena 0) plain
+
+abbrev inner_cancel : List Call
+inner_cancel =
+    Write W 0 (byte 17) ∷ Save 2 (byte 7) ∷ Begin plain 0 ∷ Write W 0 (byte 34) ∷ Write W 8 (byte 51)
+    ∷ Log U1 2 ∷ Save 2 (byte 8) ∷ Log U1 2 ∷ Save 2 (byte 9) ∷ Save 1 (byte 5) ∷ Abort false ∷ []
+
+abbrev cancelled : State
+cancelled = state_after 16 (start_with 16 4) inner_cancel
+
+inner_cancel_replies : replies 16 (start_with 16 4) (inner_cancel ++ Read R U1 0 ∷ Read R U1 8 ∷ Load U1 2 ∷ Load U1 1 ∷ Commit ∷ [])
+    ≡ Done ∷ Done ∷ Code 5 ∷ Done ∷ Done ∷ Done ∷ Done ∷ Done ∷ Done ∷ Done ∷ Code 24
+    ∷ one_byte 17 ∷ one_byte 0 ∷ one_byte 7 ∷ one_byte 5 ∷ Done ∷ []
+inner_cancel_replies = refl
+
+inner_cancel_memory : cancelled.memory ≡ 17 ∷ replicate 15 0
+inner_cancel_memory = refl
+
+inner_cancel_arena : cancelled.arena ≡ 0 ∷ 5 ∷ 7 ∷ 0 ∷ []
+inner_cancel_arena = refl
+
+-- the outer block goes on as if there had been no inner one, but for the arena
+inner_cancel_blocks : cancelled.blocks ≡ (after 16 (start_with 16 4) (Write W 0 (byte 17))).blocks
+inner_cancel_blocks = refl
+
+-- what the outer block wrote before it stays written
+inner_cancel_wrote : cancelled.wrote ≡ true
+inner_cancel_wrote = refl
+
+-- ## All blocks are cancelled: the memory and the logged bytes are as at the outermost begin
+
+abbrev outer_cancel : List Call
+outer_cancel =
+    Write W 0 (byte 17) ∷ Log U1 0 ∷ Save 0 (byte 1) ∷ Begin plain 0 ∷ Write W 0 (byte 34) ∷ Log U1 0 ∷ Save 0 (byte 2)
+    ∷ Begin plain 0 ∷ Log U2 1 ∷ Save 1 (byte 3) ∷ Save 3 (byte 4) ∷ Abort true ∷ []
+
+outer_cancel_state : state_after 16 (start_with 8 4) outer_cancel ≡ outside (eight 0) (0 ∷ 0 ∷ 0 ∷ 4 ∷ [])
+outer_cancel_state = refl
+
+outer_cancel_replies : replies 16 (start_with 8 4) (outer_cancel ++ InTransaction ∷ Abort true ∷ Begin plain 0 ∷ [])
+    ≡ Done ∷ Done ∷ Done ∷ Code 5 ∷ Done ∷ Done ∷ Done ∷ Code 5 ∷ Done ∷ Done ∷ Done ∷ Code 24 ∷ Code 0 ∷ Refused Outside ∷ Code 5 ∷ []
+outer_cancel_replies = refl
+
+-- the outermost block alone is cancelled by either abort
+sole_cancel : map (after 16 (after 16 (start 8) (Write W 0 (byte 1)))) (Abort false ∷ Abort true ∷ []) ≡ outside (eight 0) [] ∷ outside (eight 0) [] ∷ []
+sole_cancel = refl
+
+-- ## A block that closes inside another hands on what it kept, and what the other kept itself is older
+
+abbrev handing_on : List Call
+handing_on =
+    Log U1 0 ∷ Save 0 (byte 1) ∷ Begin plain 0 ∷ Log U2 0 ∷ Save 0 (byte 2) ∷ Save 1 (byte 3) ∷ Save 2 (byte 4) ∷ Commit ∷ Save 1 (byte 5) ∷ []
+
+handed_on : (state_after 16 (start_with 8 4) handing_on).blocks
+    ≡ record { props = plain; saved = record { memory = eight 0; wrote = false; kept = Some 0 ∷ Some 0 ∷ None ∷ None ∷ [] } } ∷ []
+handed_on = refl
+
+handed_on_cancel : (state_after 16 (start_with 8 4) (handing_on ++ Abort false ∷ [])).arena ≡ 0 ∷ 0 ∷ 4 ∷ 0 ∷ []
+handed_on_cancel = refl
+
+-- the parent's own value of the byte wins
+parents_win : (state_after 16 (opened (eight 0) (10 ∷ 20 ∷ []) plain) (Log U1 0 ∷ Save 0 (byte 1) ∷ Begin plain 0 ∷ Log U2 0 ∷ Commit ∷ [])).blocks
+    ≡ record { props = plain; saved = record { memory = eight 0; wrote = false; kept = Some 10 ∷ Some 20 ∷ [] } } ∷ []
+parents_win = refl
+
+-- a closed block hands on to the block around it alone
+handed_on_once : (state_after 16 (start_with 8 1) (Begin plain 0 ∷ Begin plain 0 ∷ Log U1 0 ∷ Commit ∷ [])).blocks
+    ≡ record { props = plain; saved = record { memory = eight 0; wrote = false; kept = Some 0 ∷ [] } }
+    ∷ record { props = plain; saved = record { memory = eight 0; wrote = false; kept = None ∷ [] } }
+    ∷ []
+handed_on_once = refl
+
+-- ## A cancelled block hands nothing on: what the arena has later stays
+
+nothing_handed_on : (state_after 16 (start_with 8 2) (Begin plain 0 ∷ Log U2 0 ∷ Save 0 (byte 9) ∷ Abort false ∷ Save 0 (byte 8) ∷ Abort false ∷ [])).arena ≡ 8 ∷ 0 ∷ []
+nothing_handed_on = refl
+
+-- ## Blocks that are not to be cancelled
+
+abbrev unabortable : Props
+unabortable = record { no_abort = true }
+
+-- the innermost block is such a one
+no_abort_innermost : replies 16 (start 8) (Begin unabortable 0 ∷ Abort false ∷ Abort true ∷ Commit ∷ Abort false ∷ [])
+    ≡ Code 5 ∷ Refused NoAbort ∷ Refused NoAbort ∷ Done ∷ Code 24 ∷ []
+no_abort_innermost = refl
+
+-- one around it is
+no_abort_around : replies 16 (opened (eight 0) [] unabortable) (Begin plain 0 ∷ Begin plain 0 ∷ Abort true ∷ Abort false ∷ Abort false ∷ Abort false ∷ Commit ∷ [])
+    ≡ Code 5 ∷ Code 5 ∷ Refused NoAbort ∷ Code 24 ∷ Code 24 ∷ Refused NoAbort ∷ Done ∷ []
+no_abort_around = refl
+
+no_abort_unchanged : map (after 16 (opened (eight 0) [] unabortable)) (Abort false ∷ Abort true ∷ []) ≡ opened (eight 0) [] unabortable ∷ opened (eight 0) [] unabortable ∷ []
+no_abort_unchanged = refl
+
+-- ## Sixteen blocks may be open, and no seventeenth
+
+too_deep : replies 16 (outside (eight 0) []) (replicate 17 (Begin plain 0)) ≡ replicate 16 (Code 5) ++ Refused TooDeep ∷ []
+too_deep = refl
+
+too_deep_unchanged : state_after 16 (outside (eight 0) []) (replicate 17 (Begin plain 0)) ≡ state_after 16 (outside (eight 0) []) (replicate 16 (Begin plain 0))
+too_deep_unchanged = refl
+
+-- one that closes makes room for another
+room_again : replies 16 (state_after 16 (outside (eight 0) []) (replicate 16 (Begin plain 0))) (Commit ∷ Begin plain 0 ∷ Begin plain 0 ∷ []) ≡ Done ∷ Code 5 ∷ Refused TooDeep ∷ []
+room_again = refl
+
+-- ## Logs at the arena's end: of no bytes within it, and none past it
+
+logs_at_the_end : replies 16 (start_with 8 4) (LogBytes 0 4 ∷ LogBytes 1 3 ∷ LogBytes 4 0 ∷ LogBytes 4 1 ∷ LogBytes 5 0 ∷ LogBytes 1 4 ∷ Log U1 3 ∷ Log U1 4 ∷ Log U2 3 ∷ [])
+    ≡ Done ∷ Done ∷ Done ∷ Refused OutOfArena ∷ Refused OutOfArena ∷ Refused OutOfArena ∷ Done ∷ Refused OutOfArena ∷ Refused OutOfArena ∷ []
+logs_at_the_end = refl
+
+-- a log of no bytes keeps none
+empty_log : map (after 16 (start_with 8 4)) (LogBytes 0 0 ∷ LogBytes 4 0 ∷ []) ≡ start_with 8 4 ∷ start_with 8 4 ∷ []
+empty_log = refl
+
+-- ## Of more than one fault: outside a transaction, then a block that is not to be cancelled, then a range
+
+no_log_outside : replies 16 (outside (eight 0) (eight 0)) (Log U1 0 ∷ Log U1 8 ∷ LogBytes 0 0 ∷ LogBytes 9 0 ∷ Abort false ∷ Abort true ∷ Load U1 8 ∷ [])
+    ≡ Refused Outside ∷ Refused Outside ∷ Refused Outside ∷ Refused Outside ∷ Refused Outside ∷ Refused Outside ∷ Refused OutOfArena ∷ []
+no_log_outside = refl
+
+ranges_in_any_block : replies 16 (opened (eight 0) [] unabortable) (Log U1 0 ∷ Read R U1 8 ∷ Abort false ∷ []) ≡ Refused OutOfArena ∷ Refused OutOfRange ∷ Refused NoAbort ∷ []
+ranges_in_any_block = refl
+
 -- ## What was overwritten comes back, the newest first
 
 abbrev old : ℕ → ℕ → Old
 old place b = record { place = place; bytes = value b }
 
+abbrev logged_byte : ℕ → ℕ → Old
+logged_byte place b = record { place = place; bytes = record { items = b ∷ [] } }
+
 newest_first : put_back (old 0 1 ∷ old 0 2 ∷ old 8 3 ∷ []) (eight 4 ++ eight 5) ≡ eight 1 ++ eight 3
 newest_first = refl
 
--- of two blocks the inner one began after the first write
-marked_blocks : blocks_of (old 0 1 ∷ old 0 2 ∷ []) (eight 3) (record { props = plain; at = 0; wrote = false } ∷ record { props = plain; at = 1; wrote = true } ∷ [])
-    ≡ record { props = plain; saved = record { memory = eight 2; wrote = true } } ∷ record { props = plain; saved = record { memory = eight 1; wrote = false } } ∷ []
+-- of two blocks the inner one began after the first write, and after the first log of the arena
+abbrev marked : List Block
+marked = blocks_of (old 0 1 ∷ old 0 2 ∷ []) (eight 3) (eight 9) (logged_byte 0 5 ∷ logged_byte 0 6 ∷ logged_byte 1 7 ∷ [])
+    (record { props = plain; at = 0; logs = 0; wrote = false } ∷ record { props = plain; at = 1; logs = 1; wrote = true } ∷ [])
+
+marked_blocks : marked
+    ≡ record { props = plain; saved = record { memory = eight 2; wrote = true; kept = Some 6 ∷ Some 7 ∷ replicate 6 None } }
+    ∷ record { props = plain; saved = record { memory = eight 1; wrote = false; kept = Some 5 ∷ replicate 7 None } }
+    ∷ []
 marked_blocks = refl
 
 -- an accepted outermost begin alone goes on from the memory that is there
@@ -175,8 +320,12 @@ begun = record { state = opened (eight 2) [] plain; before = eight 1 }
 befores : map (before_after 2 committed) (Begin plain 0 ∷ Write W 0 (word 3) ∷ Save 0 (word 3) ∷ []) ≡ eight 2 ∷ eight 1 ∷ eight 1 ∷ []
 befores = refl
 
-befores_open : map (before_after 2 begun) (Begin plain 0 ∷ Write W 0 (word 3) ∷ Commit ∷ []) ≡ eight 1 ∷ eight 1 ∷ eight 1 ∷ []
+befores_open : map (before_after 2 begun) (Begin plain 0 ∷ Write W 0 (word 3) ∷ Commit ∷ Abort false ∷ Abort true ∷ LogBytes 0 0 ∷ []) ≡ replicate 6 (eight 1)
 befores_open = refl
+
+-- a log takes memory where it keeps bytes
+log_takes_memory : map takes_memory (Log U1 0 ∷ LogBytes 0 1 ∷ LogBytes 0 0 ∷ Abort true ∷ Commit ∷ []) ≡ true ∷ true ∷ false ∷ false ∷ false ∷ []
+log_takes_memory = refl
 
 -- ## Outside a transaction only a begin is served, and it starts anew
 

@@ -1,13 +1,10 @@
 -- Laws of putting back.
-use Rattle.std.proofs.Common.{◌≡◌, ℕ, zero, suc, Bool, map, subst, ◌+◌, ◌≤◌, List, [], ◌∷◌, ◌++◌, length, take, drop, reverse, refl, ap, sym, ◌∙◌, arith, length-append, length-drop, append_assoc}
-use Rattle.std.proofs.lemmas.List.{take_at, drop_at, drop-append-le, length-take-le, take-append-drop, reverse-append}
+use Rattle.std.proofs.Common.{◌≡◌, ℕ, zero, suc, ◌+◌, ◌≤◌, List, [], ◌∷◌, ◌++◌, length, take, drop, refl, ap, sym, ◌∙◌, arith, length-append, length-drop, append_assoc}
+use Rattle.std.proofs.lemmas.List.{take_at, drop_at, drop-append-le, length-take-le, take-append-drop}
 use Rattle.std.proofs.Math.Seq.{drop-nil}
 use Rattle.itm_types.specs.Slices.{slice, with_slice}
 use Rattle.itm_model.specs.declared.journal.Old.{Old}
-use Rattle.itm_model.specs.declared.journal.Mark.{Mark}
-use Rattle.itm_model.specs.State.{State, Block}
-use Rattle.itm_model.specs.Machine.{back, closed}
-use Rattle.itm_model.specs.Undoing.{put_back, block_of, blocks_of, AreWithin, AreUnder, Restores}
+use Rattle.itm_model.specs.Undoing.{put_back, AreWithin, Restores}
 
 -- a slice in range keeps the length
 pub length-with_slice : (m : List ℕ) (p : ℕ) (new : List ℕ) → p + length new ≤ length m → length (with_slice m p new) ≡ length m
@@ -66,19 +63,16 @@ pub AreWithin-last : (n : ℕ) (xs : List Old) (y : Old) → AreWithin n (xs ++ 
 AreWithin-last n [] y a = a.0
 AreWithin-last n (x ∷ xs) y a = AreWithin-last n xs y a.1
 
--- the blocks are the same where what stood at their begins is
-pub blocks_same : (j : List Old) (m : List ℕ) (j' : List Old) (m' : List ℕ) (top : ℕ) (ms : List Mark) → AreUnder top ms → Restores top j m j' m'
-    → map (block_of j' m') ms ≡ map (block_of j m) ms
-blocks_same j m j' m' top [] u r = refl
-blocks_same j m j' m' top (x ∷ ms) u r =
-    let head : block_of j' m' x ≡ block_of j m x = ap (λ t. record { props = x.props; saved = record { memory = t; wrote = x.wrote } }) (r x.at u.0) in
-    let tail = blocks_same j m j' m' x.at ms u.1 (λ k h. r k (omega (arith, u.0, h))) in
-    (λ i. head i ∷ tail i)
+pub AreWithin-drop : (n k : ℕ) (os : List Old) → AreWithin n os → AreWithin n (drop k os)
+AreWithin-drop n zero os w = w
+AreWithin-drop n (suc k) [] w = tt
+AreWithin-drop n (suc k) (o ∷ os) w = AreWithin-drop n k os w.1
 
--- more entries
-pub AreUnder-more : (n n' : ℕ) (ms : List Mark) → n ≤ n' → AreUnder n ms → AreUnder n' ms
-AreUnder-more n n' [] e u = tt
-AreUnder-more n n' (x ∷ ms) e u = (omega (arith, e, u.0), u.1)
+pub length-put_back : (os : List Old) (m : List ℕ) → AreWithin (length m) os → length (put_back os m) ≡ length m
+length-put_back [] m w = refl
+length-put_back (o ∷ os) m w =
+    let e = length-put_back os m w.1 in
+    length-with_slice (put_back os m) o.place o.bytes.items (omega (arith, w.0, e)) ∙ e
 
 -- one write, with its entry at the end
 pub write_restores : (j : List Old) (m : List ℕ) (o : Old) (new : List ℕ) → o.place + length new ≤ length m → o.bytes.items ≡ slice m o.place (length new)
@@ -95,27 +89,3 @@ pop_restores j j' o m e k l =
     sym (ap (λ t. put_back (drop k t) m) e
     ∙ (ap (λ t. put_back t m) (drop-append-le k j' (o ∷ []) l)
     ∙ put_back-append (drop k j') (o ∷ []) m))
-
--- the innermost mark gone
-pub under_last : (top : ℕ) (ms : List Mark) (x : Mark) → AreUnder top (reverse (ms ++ x ∷ [])) → (x.at ≤ top) × AreUnder x.at (reverse ms)
-under_last top ms x u = subst (AreUnder top) (reverse-append ms (x ∷ [])) u
-
--- the state of a machine with these fields
-abbrev pub state_of : List Old → List ℕ → List ℕ → List Mark → Bool → State
-state_of j m a marks wrote = record { memory = m; arena = a; blocks = blocks_of j m marks; wrote = wrote }
-
--- the innermost block rolled back
-pub back_is : (j : List Old) (m : List ℕ) (j' : List Old) (m' a : List ℕ) (marks : List Mark) (x : Mark) (wrote : Bool)
-    → m' ≡ put_back (drop x.at j) m → Restores x.at j m j' m' → AreUnder x.at (reverse marks)
-    → state_of j' m' a marks x.wrote ≡ back (state_of j m a (marks ++ x ∷ []) wrote)
-back_is j m j' m' a marks x wrote e r u =
-    let blocks : blocks_of j m (marks ++ x ∷ []) ≡ block_of j m x ∷ blocks_of j m marks = ap (map (block_of j m)) (reverse-append marks (x ∷ [])) in
-    let same : blocks_of j' m' marks ≡ blocks_of j m marks = blocks_same j m j' m' x.at (reverse marks) u r in
-    let s : List Block → State = λ bs. record { memory = m; arena = a; blocks = bs; wrote = wrote } in
-    (λ i. record { memory = e i; arena = a; blocks = same i; wrote = x.wrote }) ∙ sym (ap (λ bs. back (s bs)) blocks)
-
--- the innermost block closed
-pub closed_is : (j : List Old) (m a : List ℕ) (marks : List Mark) (x : Mark) (wrote : Bool)
-    → state_of j m a marks wrote ≡ closed (state_of j m a (marks ++ x ∷ []) wrote) (blocks_of j m (marks ++ x ∷ []))
-closed_is j m a marks x wrote =
-    sym (ap (λ t. closed (record { memory = m; arena = a; blocks = map (block_of j m) t; wrote = wrote }) (map (block_of j m) t)) (reverse-append marks (x ∷ [])))

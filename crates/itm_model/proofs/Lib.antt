@@ -1,2 +1,4 @@
 mod Examples
 mod JournalRollbacks
+mod KeptLogs
+mod OpenBlocks

@@ -1,14 +1,16 @@
 -- One call on the plain machine: its refusal, its reply and the state after it.
-use Rattle.std.specs.Prelude.{ℕ, Bool, true, false, ◌||◌, nat_lt, if◌then◌else◌, List, [], ◌∷◌, length, Option, None, Some}
+use Rattle.std.specs.Prelude.{ℕ, Bool, true, false, not, ◌||◌, nat_lt, if◌then◌else◌, List, [], ◌∷◌, length, Option, None, Some}
+use Rattle.std.specs.List.{list_any}
 use Rattle.itm_types.specs.Access.{size_of}
 use Rattle.itm_types.specs.declared.call.Props.{Props}
 use Rattle.itm_types.specs.declared.call.Refusal.{Refusal}
-use Rattle.itm_types.specs.declared.call.Refusal.TheVariants.{Outside, OutOfRange, OutOfArena, TooDeep}
+use Rattle.itm_types.specs.declared.call.Refusal.TheVariants.{Outside, OutOfRange, OutOfArena, NoAbort, TooDeep}
 use Rattle.itm_types.specs.declared.call.Call.{Call}
-use Rattle.itm_types.specs.declared.call.Call.TheVariants.{Begin, Commit, InTransaction, Read, Write, Load, Save}
+use Rattle.itm_types.specs.declared.call.Call.TheVariants.{Begin, Commit, Abort, InTransaction, Read, Write, Log, LogBytes, Load, Save}
 use Rattle.itm_types.specs.declared.call.Reply.{Reply}
 use Rattle.itm_types.specs.declared.call.Reply.TheVariants.{Done, Bytes, Code, Refused}
-use Rattle.itm_types.specs.Calls.{begin_args, needs_transaction}
+use Rattle.itm_types.specs.Calls.{begin_args, abort_of, needs_transaction}
+use Rattle.itm_types.specs.Kept.{nothing, also_kept, merged, restored}
 use Rattle.itm_types.specs.Slices.{slice, with_slice}
 use Rattle.itm_model.specs.Places.{in_range}
 use Rattle.itm_model.specs.State.{Saved, Block, State}
@@ -35,14 +37,28 @@ abbrev pub place_for : State → Bool → Option Refusal
 place_for s true = needs_open s
 place_for s false = None
 
+-- whether the innermost of these blocks is not to be cancelled
+abbrev pub keeps_innermost : List Block → Bool
+keeps_innermost [] = false
+keeps_innermost (b ∷ bs) = b.props.no_abort
+
+-- whether one of them is not
+abbrev pub keeps_any : List Block → Bool
+keeps_any blocks = list_any (λ (b : Block). b.props.no_abort) blocks
+
+-- an abort of the innermost block, or of all, cancels none that is not to be cancelled
+abbrev pub abort_for : State → Bool → Option Refusal
+abort_for s outer = unless (not (if outer then keeps_any s.blocks else keeps_innermost s.blocks)) NoAbort
+
 -- a begin may be one block too many
-abbrev pub standing_for : ℕ → State → Bool → Option (Props × ℕ) → Option Refusal
-standing_for deepest s needs (Some begin) = unless (nat_lt (length s.blocks) deepest) TooDeep
-standing_for deepest s needs None = place_for s needs
+abbrev pub standing_for : ℕ → State → Bool → Option (Props × ℕ) → Option Bool → Option Refusal
+standing_for deepest s needs (Some begin) abort = unless (nat_lt (length s.blocks) deepest) TooDeep
+standing_for deepest s needs None (Some outer) = or_else (place_for s needs) (abort_for s outer)
+standing_for deepest s needs None None = place_for s needs
 
 -- why no such call is served with these blocks open, if it is not; `deepest` may be open
 abbrev pub standing : ℕ → State → Call → Option Refusal
-standing deepest s call = standing_for deepest s (needs_transaction call) (begin_args call)
+standing deepest s call = standing_for deepest s (needs_transaction call) (begin_args call) (abort_of call)
 
 abbrev pub in_shared : State → ℕ → ℕ → Option Refusal
 in_shared s place size = unless (in_range s.memory place size) OutOfRange
@@ -54,9 +70,12 @@ in_arena s place size = unless (in_range s.arena place size) OutOfArena
 abbrev pub ranges : State → Call → Option Refusal
 ranges s (Begin props room) = None
 ranges s Commit = None
+ranges s (Abort outer) = None
 ranges s InTransaction = None
 ranges s (Read hint width at) = in_shared s at (size_of width)
 ranges s (Write hint at value) = in_shared s at (size_of value.width)
+ranges s (Log width at) = in_arena s at (size_of width)
+ranges s (LogBytes at size) = in_arena s at size
 ranges s (Load width at) = in_arena s at (size_of width)
 ranges s (Save at value) = in_arena s at (size_of value.width)
 
@@ -74,14 +93,26 @@ written s place bytes = record s { memory = with_slice s.memory place bytes; wro
 abbrev pub saved_in_arena : State → ℕ → List ℕ → State
 saved_in_arena s place bytes = record s { arena = with_slice s.arena place bytes }
 
--- the innermost block closes
-abbrev pub closed : State → List Block → State
-closed s [] = s
-closed s (b ∷ bs) = record s { blocks = bs }
+-- bytes of the arena are kept by the innermost block, where it keeps none of that place yet
+abbrev pub logged_in : List Block → List ℕ → ℕ → ℕ → List Block
+logged_in [] arena place size = []
+logged_in (b ∷ bs) arena place size = record b { saved = record b.saved { kept = also_kept b.saved.kept arena place size } } ∷ bs
+
+abbrev pub logged : State → ℕ → ℕ → State
+logged s place size = record s { blocks = logged_in s.blocks s.arena place size }
+
+-- the innermost block closes: the one around it has what that one kept, where it keeps nothing itself
+abbrev pub closed_in : List Block → List Block
+closed_in [] = []
+closed_in (b ∷ []) = []
+closed_in (b ∷ p ∷ bs) = record p { saved = record p.saved { kept = merged p.saved.kept b.saved.kept } } ∷ bs
+
+abbrev pub closed : State → State
+closed s = record s { blocks = closed_in s.blocks }
 
 -- the state with the innermost block rolled back and gone
 abbrev pub rolled_back : State → List Block → Saved → State
-rolled_back s rest saved = record s { memory = saved.memory; blocks = rest; wrote = saved.wrote }
+rolled_back s rest saved = record { memory = saved.memory; arena = restored saved.kept s.arena; blocks = rest; wrote = saved.wrote }
 
 -- the innermost of these open blocks rolled back
 abbrev pub back_from : State → List Block → State
@@ -101,7 +132,7 @@ undone s = undone_from s s.blocks
 
 -- a block opens
 abbrev pub entered : State → Props → State
-entered s props = record s { blocks = record { props = props; saved = record { memory = s.memory; wrote = s.wrote } } ∷ s.blocks }
+entered s props = record s { blocks = record { props = props; saved = record { memory = s.memory; wrote = s.wrote; kept = nothing s.arena } } ∷ s.blocks }
 
 -- no block is open
 abbrev pub outside : List ℕ → List ℕ → State
@@ -113,10 +144,13 @@ opened memory arena props = entered (outside memory arena) props
 
 abbrev pub effect : State → Call → State
 effect s (Begin props room) = if is_open s then entered s props else opened s.memory s.arena props
-effect s Commit = closed s s.blocks
+effect s Commit = closed s
+effect s (Abort outer) = if outer then undone s else back s
 effect s InTransaction = s
 effect s (Read hint width at) = s
 effect s (Write hint at value) = written s at value.bytes.items
+effect s (Log width at) = logged s at (size_of width)
+effect s (LogBytes at size) = logged s at size
 effect s (Load width at) = s
 effect s (Save at value) = saved_in_arena s at value.bytes.items
 
@@ -130,9 +164,12 @@ mode_code s = if is_open s then 1 else 0
 abbrev pub answer : State → Call → Reply
 answer s (Begin props room) = Code 5
 answer s Commit = Done
+answer s (Abort outer) = Code 24
 answer s InTransaction = Code (mode_code s)
 answer s (Read hint width at) = bytes_reply (slice s.memory at (size_of width))
 answer s (Write hint at value) = Done
+answer s (Log width at) = Done
+answer s (LogBytes at size) = Done
 answer s (Load width at) = bytes_reply (slice s.arena at (size_of width))
 answer s (Save at value) = Done
 

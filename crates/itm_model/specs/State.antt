@@ -1,11 +1,12 @@
 -- A transaction as plain data: whole lists of bytes, and for each open block what stood at its begin.
-use Rattle.std.specs.Prelude.{ℕ, Bool, List}
+use Rattle.std.specs.Prelude.{ℕ, Bool, List, Option}
 use Rattle.itm_types.specs.declared.call.Props.{Props}
 
 -- what a rollback of a block goes back to
 pub record Saved : Type 0 where
   pub memory : List ℕ
   pub wrote : Bool
+  pub kept : List (Option ℕ)  -- for each place of the arena: the byte that stood there at its first log call in the block
 
 pub record Block : Type 0 where
   pub props : Props

@@ -1,8 +1,8 @@
 -- The plain machine's state, and the memory that it can go back to.
-use Rattle.std.specs.Prelude.{ℕ, Bool, true, false, if◌then◌else◌, List, Option, None, Some}
+use Rattle.std.specs.Prelude.{ℕ, Bool, true, false, nat_lt, if◌then◌else◌, List, Option, None, Some}
 use Rattle.itm_types.specs.declared.call.Refusal.{Refusal}
 use Rattle.itm_types.specs.declared.call.Call.{Call}
-use Rattle.itm_types.specs.declared.call.Call.TheVariants.{Begin, Commit, InTransaction, Read, Write, Load, Save}
+use Rattle.itm_types.specs.declared.call.Call.TheVariants.{Begin, Commit, Abort, InTransaction, Read, Write, Log, LogBytes, Load, Save}
 use Rattle.itm_model.specs.State.{State}
 use Rattle.itm_model.specs.Machine.{is_open, refusal}
 
@@ -14,9 +14,12 @@ pub record Undoable : Type 0 where
 abbrev pub before_next : Undoable → Call → List ℕ
 before_next u (Begin props room) = if is_open u.state then u.before else u.state.memory
 before_next u Commit = u.before
+before_next u (Abort outer) = u.before
 before_next u InTransaction = u.before
 before_next u (Read hint width at) = u.before
 before_next u (Write hint at value) = u.before
+before_next u (Log width at) = u.before
+before_next u (LogBytes at size) = u.before
 before_next u (Load width at) = u.before
 before_next u (Save at value) = u.before
 
@@ -27,12 +30,15 @@ before_unless (Some refusal) old new = old
 abbrev pub before_after : ℕ → Undoable → Call → List ℕ
 before_after deepest u call = before_unless (refusal deepest u.state call) u.before (before_next u call)
 
--- can memory be refused to the call
+-- can memory be refused to the call: a log of no bytes takes none
 abbrev pub takes_memory : Call → Bool
 takes_memory (Begin props room) = true
 takes_memory Commit = false
+takes_memory (Abort outer) = false
 takes_memory InTransaction = false
 takes_memory (Read hint width at) = false
 takes_memory (Write hint at value) = true
+takes_memory (Log width at) = true
+takes_memory (LogBytes at size) = nat_lt 0 size
 takes_memory (Load width at) = false
 takes_memory (Save at value) = false

@@ -1,18 +1,20 @@
 //! Slices of a list of bytes.
 
-ghost use Rattle.std.specs.Prelude.{◌≡◌, IsTrue, length};
+ghost use Rattle.std.specs.Prelude.{◌≡◌, ◌≤◌, ◌+◌, IsTrue, length};
 ghost use Rattle.itm_types.specs.Access.{size_of};
 ghost use Rattle.itm_types.specs.Slices.{slice, with_slice};
 ghost use Rattle.itm_model.specs.Places.{in_range};
 
 use itm_types::{Value, Width};
 
+/// The most bytes that a value has.
+pub(crate) const WIDEST: usize = 32;
+
 /// Whether so many bytes from a place on lie within the list. No sum wraps.
-pub(crate) fn is_in_range(bytes: &[u8], place: u64, size: u8) -> bool
+pub(crate) fn is_in_range(bytes: &[u8], place: u64, size: u64) -> bool
     ensures { result ≡ in_range bytes.now place size }
 {
     let len = bytes.len() as u64;
-    let size = u64::from(size);
     size <= len && place <= len - size
 }
 
@@ -24,6 +26,15 @@ pub(crate) fn value_at(bytes: &[u8], place: u64, width: Width) -> Value
     let start = place as usize;
     let end = start + usize::from(width.size());
     Value::try_from(&bytes[start..end]).unwrap()
+}
+
+/// Some bytes at a place, no more than a value has.
+pub(crate) fn part_at(bytes: &[u8], start: usize, size: usize) -> Value
+    requires range { start + size ≤ length bytes.now }
+    requires size { size ≤ WIDEST }
+    ensures { result.items ≡ slice bytes.now start size }
+{
+    Value::try_from(&bytes[start..start + size]).unwrap()
 }
 
 /// Puts new bytes from a place on.

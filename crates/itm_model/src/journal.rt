@@ -1,15 +1,15 @@
 //! What was overwritten, so that it can be put back.
 
-ghost use Rattle.std.specs.Prelude.{◌≡◌, ◌≤◌, IsTrue, OnOk, OnErr, length, drop, take};
+ghost use Rattle.std.specs.Prelude.{◌≡◌, ◌≤◌, ◌<◌, ◌+◌, IsTrue, IsOk, OnOk, OnErr, length, drop, take, vec_len, vec_capacity};
 ghost use Rattle.itm_types.specs.Slices.{with_slice};
 ghost use Rattle.itm_model.specs.Places.{in_range};
-ghost use Rattle.itm_model.specs.Undoing.{put_back, AreWithin, Restores};
+ghost use Rattle.itm_model.specs.Undoing.{put_back, AreWithin, Restores, Logged};
 
-use crate::bytes::{replace, value_at};
+use crate::bytes::{WIDEST, part_at, replace, value_at};
 use itm_types::{Datum, Props, Value};
 use std::alloc::AllocError;
 
-/// What stood at a place before a write.
+/// What stood at a place.
 #[derive(Debug, Drop)]
 pub(crate) struct Old {
     pub(crate) place: u64,
@@ -22,6 +22,8 @@ pub(crate) struct Mark {
     pub(crate) props: Props,
     /// How many entries the journal had at the block's begin.
     pub(crate) at: usize,
+    /// How many entries the log had by then.
+    pub(crate) logs: usize,
     /// Whether a byte had been written by then.
     pub(crate) wrote: bool,
 }
@@ -63,4 +65,49 @@ pub(crate) fn unwind(memory: &mut Vec<u8>, journal: &mut Vec<Old>, at: usize)
         let old = journal.pop().unwrap();
         replace(memory, old.place, &old.bytes);
     }
+}
+
+/// Keeps so many bytes from a place on, in entries of a value's size. To keep none takes no memory.
+pub(crate) fn log(
+    bytes: &[u8],
+    logs: &mut Vec<Old>,
+    place: u64,
+    size: u64,
+) -> Result<(), AllocError>
+    requires range { place + size ≤ length bytes.now }
+    requires within { AreWithin (length bytes.now) logs.old.items }
+    ensures ok { OnOk result (Logged bytes.now place size logs.old.items logs.new.items) }
+    ensures longer { OnOk result (length logs.old.items ≤ length logs.new.items) }
+    ensures within { OnOk result (AreWithin (length bytes.now) logs.new.items) }
+    ensures none { size ≡ 0 → IsOk result }
+    ensures err { OnErr result (logs.new.items ≡ logs.old.items) }
+{
+    let start = place as usize;
+    let size = size as usize;
+    logs.reserve(size.div_ceil(WIDEST))?;
+    let mut done = 0;
+    while done < size {
+        let part = usize::min(size - done, WIDEST);
+        log_part(bytes, logs, start + done, part);
+        done += part;
+    }
+    Ok(())
+}
+
+/// Keeps no more bytes than a value has.
+fn log_part(bytes: &[u8], logs: &mut Vec<Old>, start: usize, size: usize)
+    requires range { start + size ≤ length bytes.now }
+    requires size { size ≤ WIDEST }
+    requires room { vec_len logs.old < vec_capacity logs.old }
+    requires within { AreWithin (length bytes.now) logs.old.items }
+    ensures logged { Logged bytes.now start size logs.old.items logs.new.items }
+    ensures one { vec_len logs.new ≡ vec_len logs.old + 1 }
+    ensures capacity { vec_capacity logs.new ≡ vec_capacity logs.old }
+    ensures within { AreWithin (length bytes.now) logs.new.items }
+{
+    let kept = part_at(bytes, start, size);
+    logs.push_reserved(Old {
+        place: start as u64,
+        bytes: kept,
+    });
 }

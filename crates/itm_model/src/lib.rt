@@ -6,5 +6,5 @@ mod journal;
 mod limits;
 mod plain;
 
-pub use limits::{MAX_DEPTH, WORD};
+pub use limits::WORD;
 pub use plain::Plain;

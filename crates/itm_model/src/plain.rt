@@ -1,34 +1,30 @@
 //! The plain machine.
 
-ghost use Rattle.std.specs.Prelude.{◌≡◌, ◌≤◌, ◌%◌, nat_lt, if◌then◌else◌, IsTrue, IfOk, OnOk, OnErr, None, [], length};
-ghost use Rattle.itm_types.specs.Access.{size_of};
-ghost use Rattle.itm_model.specs.Machine.{after, answer, back, closed, effect, entered, in_arena, in_shared, is_open, mode_code, needs_open, opened, outside, ranges, refusal, reply, saved_in_arena, standing, undone, unless, written};
+ghost use Rattle.std.specs.Prelude.{◌≡◌, ◌≤◌, ◌%◌, if◌then◌else◌, IsTrue, IsOk, IfOk, OnOk, OnErr, None, [], length};
+ghost use Rattle.itm_model.specs.Machine.{after, answer, back, closed, effect, entered, is_open, logged, mode_code, opened, outside, refusal, reply, saved_in_arena, undone, written};
 ghost use Rattle.itm_model.specs.Places.{in_range};
 ghost use Rattle.itm_model.specs.Undoable.{before_after, before_next, takes_memory};
 
-use crate::bytes::{is_in_range, replace, value_at};
-use crate::journal::{Mark, Old, unwind, write};
-use crate::limits::{MAX_DEPTH, WORD};
-use itm_types::{Call, Datum, MAX_ARENA, MAX_MEMORY, Props, Refusal, Reply, Width};
+use crate::bytes::{replace, value_at};
+use crate::journal::{Mark, Old, log, unwind, write};
+use crate::limits::WORD;
+use itm_types::{
+    CANCELLED, Call, Datum, ENTERED, MAX_ARENA, MAX_MEMORY, MAX_OPEN_BLOCKS, NO_TRANSACTION, Props,
+    RETRYABLE, Refusal, Reply, Width,
+};
 use std::alloc::{AllocError, Global};
 use std::marker::Model;
 
-/// The code that an accepted begin answers: the block was entered.
-const ENTERED: u32 = 5;
-
-/// The codes that tell whether a transaction is open: none is, or one that can be tried again.
-const NO_TRANSACTION: u32 = 0;
-
-const RETRYABLE: u32 = 1;
-
-/// A transaction alone on its bytes. It keeps what its writes overwrote, so that a begin copies
-/// nothing and a rollback costs what was written.
+/// A transaction alone on its bytes. It keeps what its writes overwrote and what its logs found, so
+/// that a begin copies nothing and a rollback costs what was written and logged.
 #[derive(Debug, Drop)]
 pub struct Plain {
     memory: Vec<u8>,
     arena: Vec<u8>,
     /// What was overwritten since the last outermost begin, oldest first.
     journal: Vec<Old>,
+    /// What was logged of the arena since the last outermost begin, oldest first.
+    logs: Vec<Old>,
     /// The open blocks, innermost last.
     marks: Vec<Mark>,
     wrote: bool,
@@ -45,13 +41,13 @@ impl Model for Plain {
       state = record {
         memory = p.memory.items;
         arena = p.arena.items;
-        blocks = blocks_of p.journal.items p.memory.items p.marks.items;
+        blocks = blocks_of p.journal.items p.memory.items p.arena.items p.logs.items p.marks.items;
         wrote = p.wrote;
       };
       before = put_back p.journal.items p.memory.items;
     } };
 
-    ghost invariant = { λ p. IsSound p.memory.items p.journal.items p.marks.items };
+    ghost invariant = { λ p. IsSound p.memory.items p.journal.items p.arena.items p.logs.items p.marks.items };
 }
 
 impl Plain {
@@ -68,6 +64,7 @@ impl Plain {
             memory: bytes.to_vec(alloc)?,
             arena: arena.to_vec(alloc)?,
             journal: Vec::new(alloc),
+            logs: Vec::new(alloc),
             marks: Vec::new(alloc),
             wrote: false,
         };
@@ -78,13 +75,13 @@ impl Plain {
     /// Makes one call. A refused call changes nothing, and an outermost begin starts anew on the bytes
     /// that are there. It costs what it touches, and a begin a mark.
     pub fn one(&mut self, call: &Call) -> Result<Reply, AllocError>
-        ensures reply { IfOk result (λ r. r ≡ reply MAX_DEPTH self.old.state call.now) }
-        ensures after { OnOk result (self.new.state ≡ after MAX_DEPTH self.old.state call.now) }
-        ensures before { OnOk result (self.new.before ≡ before_after MAX_DEPTH self.old call.now) }
+        ensures reply { IfOk result (λ r. r ≡ reply MAX_OPEN_BLOCKS self.old.state call.now) }
+        ensures after { OnOk result (self.new.state ≡ after MAX_OPEN_BLOCKS self.old.state call.now) }
+        ensures before { OnOk result (self.new.before ≡ before_after MAX_OPEN_BLOCKS self.old call.now) }
 
-        // Memory is refused only to a begin or a write that would be accepted.
+        // Memory is refused only to a begin, a write or a log of some bytes that would be accepted.
         ensures only_some { OnErr result (IsTrue (takes_memory call.now)) }
-        ensures only_accepted { OnErr result (refusal MAX_DEPTH self.old.state call.now ≡ None) }
+        ensures only_accepted { OnErr result (refusal MAX_OPEN_BLOCKS self.old.state call.now ≡ None) }
         ensures err { OnErr result (self.new ≡ self.old) }
     {
         match self.refusal(call) {
@@ -100,6 +97,7 @@ impl Plain {
     {
         if let Some(mark) = self.marks.pop() {
             unwind(&mut self.memory, &mut self.journal, mark.at);
+            unwind(&mut self.arena, &mut self.logs, mark.logs);
             self.wrote = mark.wrote;
         }
     }
@@ -137,9 +135,11 @@ impl Plain {
         self.marks.push_reserved(Mark {
             props,
             at: 0,
+            logs: 0,
             wrote: false,
         });
         self.journal.clear();
+        self.logs.clear();
         self.wrote = false;
         Ok(())
     }
@@ -172,84 +172,9 @@ impl Plain {
         self.wrote
     }
 
-    /// Why the call is refused, if it is.
-    fn refusal(&self, call: &Call) -> Option<Refusal>
-        ensures { result ≡ refusal MAX_DEPTH self.now.state call.now }
-    {
-        self.standing(call).or(self.ranges(call))
-    }
-
-    /// Why no such call is served with these blocks open, if it is not.
-    fn standing(&self, call: &Call) -> Option<Refusal>
-        ensures { result ≡ standing MAX_DEPTH self.now.state call.now }
-    {
-        match call {
-            Call::Begin { .. } => self.too_deep(),
-            Call::InTransaction | Call::Load { .. } | Call::Save { .. } => None,
-            Call::Commit | Call::Read { .. } | Call::Write { .. } => self.outside(),
-        }
-    }
-
-    /// Why the call's bytes are not to be had, if they are not.
-    fn ranges(&self, call: &Call) -> Option<Refusal>
-        ensures { result ≡ ranges self.now.state call.now }
-    {
-        match call {
-            Call::Read { width, at, .. } => self.out_of_range(*at, *width),
-            Call::Write { at, value, .. } => self.out_of_range(*at, value.width),
-            Call::Load { width, at } => self.out_of_arena(*at, *width),
-            Call::Save { at, value } => self.out_of_arena(*at, value.width),
-            Call::Begin { .. } | Call::Commit | Call::InTransaction => None,
-        }
-    }
-
-    /// One more block is too many.
-    fn too_deep(&self) -> Option<Refusal>
-        ensures { result ≡ unless (nat_lt (length self.now.state.blocks) MAX_DEPTH) Refusal.TooDeep }
-    {
-        if self.depth() < MAX_DEPTH {
-            None
-        } else {
-            Some(Refusal::TooDeep)
-        }
-    }
-
-    /// No transaction is open.
-    fn outside(&self) -> Option<Refusal>
-        ensures { result ≡ needs_open self.now.state }
-    {
-        if self.depth() == 0 {
-            Some(Refusal::Outside)
-        } else {
-            None
-        }
-    }
-
-    /// An access leaves the memory.
-    fn out_of_range(&self, place: u64, width: Width) -> Option<Refusal>
-        ensures { result ≡ in_shared self.now.state place (size_of width) }
-    {
-        if is_in_range(&self.memory, place, width.size()) {
-            None
-        } else {
-            Some(Refusal::OutOfRange)
-        }
-    }
-
-    /// An access leaves the arena.
-    fn out_of_arena(&self, place: u64, width: Width) -> Option<Refusal>
-        ensures { result ≡ in_arena self.now.state place (size_of width) }
-    {
-        if is_in_range(&self.arena, place, width.size()) {
-            None
-        } else {
-            Some(Refusal::OutOfArena)
-        }
-    }
-
     /// The effect and the answer of a call that is not refused.
     fn accept(&mut self, call: &Call) -> Result<Reply, AllocError>
-        requires { refusal MAX_DEPTH self.old.state call.now ≡ None }
+        requires { refusal MAX_OPEN_BLOCKS self.old.state call.now ≡ None }
         ensures answer { IfOk result (λ r. r ≡ answer self.old.state call.now) }
         ensures effect { OnOk result (self.new.state ≡ effect self.old.state call.now) }
         ensures before { OnOk result (self.new.before ≡ before_next self.old call.now) }
@@ -265,10 +190,22 @@ impl Plain {
                 self.close();
                 Ok(Reply::Done)
             }
+            Call::Abort { outer } => {
+                self.cancel(*outer);
+                Ok(Reply::Code(CANCELLED))
+            }
             Call::InTransaction => Ok(Reply::Code(self.mode())),
             Call::Read { width, at, .. } => Ok(Reply::Bytes(value_at(&self.memory, *at, *width))),
             Call::Write { at, value, .. } => {
                 self.write(*at, value)?;
+                Ok(Reply::Done)
+            }
+            Call::Log { width, at } => {
+                self.log(*at, u64::from(width.size()))?;
+                Ok(Reply::Done)
+            }
+            Call::LogBytes { at, size } => {
+                self.log(*at, *size)?;
                 Ok(Reply::Done)
             }
             Call::Load { width, at } => Ok(Reply::Bytes(value_at(&self.arena, *at, *width))),
@@ -305,6 +242,7 @@ impl Plain {
         self.marks.push(Mark {
             props,
             at: self.journal.len(),
+            logs: self.logs.len(),
             wrote: self.wrote,
         })?;
         Ok(())
@@ -312,12 +250,24 @@ impl Plain {
 
     /// The innermost block closes.
     fn close(&mut self)
-        ensures closed { self.new.state ≡ closed self.old.state self.old.state.blocks }
+        ensures closed { self.new.state ≡ closed self.old.state }
         ensures before { self.new.before ≡ self.old.before }
     {
         let Some(_closed) = self.marks.pop() else {
             return;
         };
+    }
+
+    /// The innermost block is cancelled, or with `outer` all that are open.
+    fn cancel(&mut self, outer: bool)
+        ensures effect { self.new.state ≡ (if outer then undone self.old.state else back self.old.state) }
+        ensures before { self.new.before ≡ self.old.before }
+    {
+        if outer {
+            self.back_all();
+        } else {
+            self.back();
+        }
     }
 
     /// Shared bytes are replaced.
@@ -332,6 +282,18 @@ impl Plain {
         Ok(())
     }
 
+    /// Bytes of the arena are kept.
+    fn log(&mut self, place: u64, size: u64) -> Result<(), AllocError>
+        requires { IsTrue (in_range self.old.state.arena place size) }
+        ensures ok { OnOk result (self.new.state ≡ logged self.old.state place size) }
+        ensures before { OnOk result (self.new.before ≡ self.old.before) }
+        ensures none { size ≡ 0 → IsOk result }
+        ensures err { OnErr result (self.new ≡ self.old) }
+    {
+        log(&self.arena, &mut self.logs, place, size)?;
+        Ok(())
+    }
+
     /// Bytes of the arena are replaced.
     fn save(&mut self, place: u64, value: &Datum)
         requires { IsTrue (in_range self.old.state.arena place (length value.now.bytes.items)) }
@@ -342,5 +304,6 @@ impl Plain {
     }
 }
 
+mod refusals;
 #[cfg(test)]
 mod tests;

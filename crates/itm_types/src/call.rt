@@ -6,9 +6,12 @@ ghost use Rattle.itm_types.specs.Refusals.{number_of};
 use crate::access::{ReadHint, Value, Width, WriteHint};
 use crate::datum::Datum;
 
-/// The code properties of a block (Intel TM ABI 1.1, section 5.10.1). None of those served so far changes an answer.
+/// The code properties of a block (Intel TM ABI 1.1, section 5.10.1).
 #[derive(Clone, Copy, Debug, Default, PartialEq, Eq)]
-pub struct Props {}
+pub struct Props {
+    /// `pr_hasNoAbort`: the block is not cancelled.
+    pub no_abort: bool,
+}
 
 /// One call of the runtime. Places are bytes, counted from 0.
 #[derive(Debug, Drop, PartialEq, Eq)]
@@ -20,6 +23,10 @@ pub enum Call {
     },
     /// Ends the innermost block (section 5.12).
     Commit,
+    /// Cancels the innermost block, or with `outer` all that are open (section 5.13).
+    Abort {
+        outer: bool,
+    },
     /// Tells whether a transaction is open.
     InTransaction,
     /// Reads shared memory (section 5.15).
@@ -33,6 +40,16 @@ pub enum Call {
         hint: WriteHint,
         at: u64,
         value: Datum,
+    },
+    /// Keeps bytes of the thread's arena for a rollback (section 5.16).
+    Log {
+        width: Width,
+        at: u64,
+    },
+    /// Keeps so many bytes of it (section 5.16).
+    LogBytes {
+        at: u64,
+        size: u64,
     },
     /// Reads the thread's arena: its own access, which no entry point of the runtime serves.
     Load {
@@ -55,6 +72,8 @@ pub enum Refusal {
     OutOfRange,
     /// A range of the arena leaves it.
     OutOfArena,
+    /// A block that would be cancelled has the property that it is not.
+    NoAbort,
     /// As many blocks are open as may be.
     TooDeep,
 }
@@ -68,6 +87,7 @@ impl Refusal {
             Refusal::Outside => 1,
             Refusal::OutOfRange => 2,
             Refusal::OutOfArena => 3,
+            Refusal::NoAbort => 5,
             Refusal::TooDeep => 8,
         }
     }

@@ -4,6 +4,7 @@
 
 mod access;
 mod call;
+mod codes;
 mod copy;
 mod datum;
 mod entries;
@@ -15,6 +16,7 @@ mod step;
 
 pub use access::{ReadHint, Value, Width, WriteHint};
 pub use call::{Call, Props, Refusal, Reply};
+pub use codes::{CANCELLED, ENTERED, ENTERED_AGAIN, NO_TRANSACTION, RETRYABLE};
 pub use copy::{CopyPair, CopySide, SharedSide};
 pub use datum::Datum;
 pub use entries::all_entries;

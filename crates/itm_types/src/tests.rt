@@ -57,3 +57,20 @@ fn widest_datum(rt: HostRuntime) {
     assert_eq!(rt; datum.width, Width::M256);
     assert_eq!(rt; datum.bytes.as_slice(), bytes.as_slice());
 }
+
+#[test]
+fn numbers(rt: HostRuntime) {
+    let refusals = [
+        (Refusal::Outside, 1),
+        (Refusal::OutOfRange, 2),
+        (Refusal::OutOfArena, 3),
+        (Refusal::NoAbort, 5),
+        (Refusal::TooDeep, 8),
+    ];
+    for (refusal, number) in refusals {
+        assert_eq!(rt; refusal.number(), number);
+    }
+    assert_eq!(rt; [ENTERED, ENTERED_AGAIN, CANCELLED], [5, 9, 24]);
+    assert_eq!(rt; [NO_TRANSACTION, RETRYABLE], [0, 1]);
+    assert!(rt; !Props::default().no_abort);
+}

@@ -2,7 +2,7 @@
 use Rattle.std.proofs.Common.{◌≡◌, ℕ, ◌*◌, ◌/◌, ◌%◌, List, [], ◌∷◌, length, map, replicate, Option, None, Some, sym, ap, subst, ◌∙◌, arith}
 use Rattle.std.specs.Prelude.{slice_index_or}
 use Rattle.std.proofs.lemmas.List.{length-map}
-use Rattle.itm_model.specs.declared.limits.TheConstants.{MAX_DEPTH}
+use Rattle.itm_types.specs.declared.limits.TheConstants.{MAX_OPEN_BLOCKS}
 use Rattle.norec_world.specs.declared.attempt.Attempt.{Attempt}
 use Rattle.norec_world.specs.declared.attempt.End.{End}
 use Rattle.norec_world.specs.declared.attempt.End.TheVariants.{Finished, GaveUp, NoMemory}
@@ -46,9 +46,9 @@ began_as p w (first, begins, leads) =
 
 module _ (p : Listing) (w : World Thread) (began : BeganAs p w) (player : Thread) (player_is : player ≡ first_thread p) where
   -- what the player does alone is what the program's thread does
-  alone_is : solo thread_rules MAX_DEPTH w.max_commits 0 player w.base (replicate w.arena 0) ≡ solo_of p
+  alone_is : solo thread_rules MAX_OPEN_BLOCKS w.max_commits 0 player w.base (replicate w.arena 0) ≡ solo_of p
   unfolding solo_of
-  alone_is = λ i. solo thread_rules MAX_DEPTH (began.limit i) 0 (player_is i) (began.base i) (replicate (began.arena i) 0)
+  alone_is = λ i. solo thread_rules MAX_OPEN_BLOCKS (began.limit i) 0 (player_is i) (began.base i) (replicate (began.arena i) 0)
 
   so_far : (commits : ℕ) (memory : List ℕ) (outcome : Outcome) (rows : List Attempt)
       → IsSoFar thread_rules w.max_commits 0 player w.base (replicate w.arena 0) commits memory outcome rows

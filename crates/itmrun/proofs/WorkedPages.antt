@@ -1,5 +1,5 @@
 -- Worked programs with the texts of their histories, by computation.
-use Rattle.std.proofs.Common.{◌≡◌, List, ℕ, [], ◌∷◌, ◌++◌, refl, arith}
+use Rattle.std.proofs.Common.{◌≡◌, List, ℕ, [], ◌∷◌, ◌++◌, refl, arith, false}
 use Rattle.std.specs.Prelude.{codes}
 use Rattle.std.proofs.lemmas.Fmt.{decimal_digit}
 use Rattle.hex.specs.Hex.{encode_with}
@@ -12,7 +12,7 @@ use Rattle.script_asm.specs.declared.instruction.Instruction.{Instruction}
 use Rattle.script_asm.specs.declared.instruction.Instruction.TheVariants as code
 use Rattle.script_asm.specs.Listing.{Listing, bytes_of, codes_of}
 use Rattle.itmrun.specs.Threads.{datum}
-use Rattle.itmrun.specs.Histories.{history_text, first_lines, attempt_lines, head_line, arena_line, call_line, body_text, reply_text, last_line}
+use Rattle.itmrun.specs.Histories.{history_text, first_lines, attempt_lines, head_line, try_text, props_end, arena_line, call_line, body_text, reply_text, last_line}
 use Rattle.itmrun.specs.Pages.{solo_of, page}
 
 abbrev pub line : List ℕ → List ℕ
@@ -31,7 +31,7 @@ abbrev one_thread : ℕ → List Instruction → Listing
 one_thread memory instructions = listing memory 1 instructions
 
 abbrev pub counter_code : List Instruction
-counter_code = code.Set 1 1 ∷ code.Begin (record {}) 0 ∷ code.Read R U8 2 0 ∷ code.Add 2 2 1 ∷ code.Write W U8 0 2 ∷ code.Commit ∷ []
+counter_code = code.Set 1 1 ∷ code.Begin (record { no_abort = false }) 0 ∷ code.Read R U8 2 0 ∷ code.Add 2 2 1 ∷ code.Write W U8 0 2 ∷ code.Commit ∷ []
 
 abbrev pub counter : Listing
 counter = one_thread 8 counter_code
@@ -46,11 +46,11 @@ counter_page : history_text (page counter) ≡
     ++ line (codes "call _ITM_commitTransaction = ok")
     ++ line (codes "end")
     ++ line (codes "final 2 0100000000000000")
-unfolding page solo_of bytes_of codes_of datum history_text first_lines attempt_lines head_line arena_line call_line body_text reply_text last_line encode_with
+unfolding page solo_of bytes_of codes_of datum history_text first_lines attempt_lines head_line try_text props_end arena_line call_line body_text reply_text last_line encode_with
 counter_page = rw (decimal_digit 0 (omega arith), decimal_digit 1 (omega arith), decimal_digit 2 (omega arith)) refl
 
 abbrev pub empty_block : Listing
-empty_block = one_thread 8 (code.Begin (record {}) 0 ∷ code.Commit ∷ [])
+empty_block = one_thread 8 (code.Begin (record { no_abort = false }) 0 ∷ code.Commit ∷ [])
 
 empty_block_page : history_text (page empty_block) ≡
     line (codes "itm-history 1")
@@ -60,12 +60,12 @@ empty_block_page : history_text (page empty_block) ≡
     ++ line (codes "call _ITM_commitTransaction = ok")
     ++ line (codes "end")
     ++ line (codes "final 0 0000000000000000")
-unfolding page solo_of bytes_of codes_of datum history_text first_lines attempt_lines head_line arena_line call_line body_text reply_text last_line encode_with
+unfolding page solo_of bytes_of codes_of datum history_text first_lines attempt_lines head_line try_text props_end arena_line call_line body_text reply_text last_line encode_with
 empty_block_page = rw (decimal_digit 0 (omega arith), decimal_digit 1 (omega arith)) refl
 
 -- a read beyond the memory is refused, and its register stays
 abbrev pub beyond : Listing
-beyond = one_thread 8 (code.Set 1 5 ∷ code.Begin (record {}) 0 ∷ code.Read R U8 1 8 ∷ code.Write W U8 0 1 ∷ code.Commit ∷ [])
+beyond = one_thread 8 (code.Set 1 5 ∷ code.Begin (record { no_abort = false }) 0 ∷ code.Read R U8 1 8 ∷ code.Write W U8 0 1 ∷ code.Commit ∷ [])
 
 beyond_page : history_text (page beyond) ≡
     line (codes "itm-history 1")
@@ -77,12 +77,12 @@ beyond_page : history_text (page beyond) ≡
     ++ line (codes "call _ITM_commitTransaction = ok")
     ++ line (codes "end")
     ++ line (codes "final 2 0500000000000000")
-unfolding page solo_of bytes_of codes_of datum history_text first_lines attempt_lines head_line arena_line call_line body_text reply_text last_line encode_with
+unfolding page solo_of bytes_of codes_of datum history_text first_lines attempt_lines head_line try_text props_end arena_line call_line body_text reply_text last_line encode_with
 beyond_page = rw (decimal_digit 0 (omega arith), decimal_digit 1 (omega arith), decimal_digit 2 (omega arith), decimal_digit 8 (omega arith)) refl
 
 -- bytes that lie over one another at the start, read and written over the end of a word
 abbrev pub laid_in : Listing
-laid_in = record (one_thread 16 (code.Begin (record {}) 0 ∷ code.Read R U8 1 4 ∷ code.Write W U8 8 1 ∷ code.Commit ∷ [])) {
+laid_in = record (one_thread 16 (code.Begin (record { no_abort = false }) 0 ∷ code.Read R U8 1 4 ∷ code.Write W U8 8 1 ∷ code.Commit ∷ [])) {
   memory = record { size = 16; inits = record { at = 6; bytes = 161 ∷ 178 ∷ 195 ∷ [] } ∷ record { at = 8; bytes = 0 ∷ [] } ∷ [] };
 }
 
@@ -96,16 +96,16 @@ laid_in_page : history_text (page laid_in) ≡
     ++ line (codes "call _ITM_commitTransaction = ok")
     ++ line (codes "end")
     ++ line (codes "final 2 000000000000a1b20000a1b200000000")
-unfolding page solo_of bytes_of codes_of datum history_text first_lines attempt_lines head_line arena_line call_line body_text reply_text last_line encode_with
+unfolding page solo_of bytes_of codes_of datum history_text first_lines attempt_lines head_line try_text props_end arena_line call_line body_text reply_text last_line encode_with
 laid_in_page = rw (decimal_digit 0 (omega arith), decimal_digit 1 (omega arith), decimal_digit 2 (omega arith), decimal_digit 4 (omega arith), decimal_digit 8 (omega arith)) refl
 
 -- blocks where one writer may commit: one that writes, one that reads what it wrote, and one that is full, after which none begins
 abbrev pub one_commit : Listing
 one_commit = record (one_thread 8 (
-    code.Set 1 1 ∷ code.Begin (record {}) 0 ∷ code.Write W U8 0 1 ∷ code.Commit
-    ∷ code.Begin (record {}) 0 ∷ code.Read R U8 2 0 ∷ code.Commit
-    ∷ code.Begin (record {}) 0 ∷ code.Write W U8 0 2 ∷ code.Commit
-    ∷ code.Begin (record {}) 0 ∷ code.Commit ∷ [])) { limits = record { patience = 8; retries = 100; max_commits = 1 } }
+    code.Set 1 1 ∷ code.Begin (record { no_abort = false }) 0 ∷ code.Write W U8 0 1 ∷ code.Commit
+    ∷ code.Begin (record { no_abort = false }) 0 ∷ code.Read R U8 2 0 ∷ code.Commit
+    ∷ code.Begin (record { no_abort = false }) 0 ∷ code.Write W U8 0 2 ∷ code.Commit
+    ∷ code.Begin (record { no_abort = false }) 0 ∷ code.Commit ∷ [])) { limits = record { patience = 8; retries = 100; max_commits = 1 } }
 
 one_commit_page : history_text (page one_commit) ≡
     line (codes "itm-history 1")
@@ -125,7 +125,7 @@ one_commit_page : history_text (page one_commit) ≡
     ++ line (codes "call _ITM_WU8 0 0100000000000000 = ok")
     ++ line (codes "end")
     ++ line (codes "final 2 0100000000000000")
-unfolding page solo_of bytes_of codes_of datum history_text first_lines attempt_lines head_line arena_line call_line body_text reply_text last_line encode_with
+unfolding page solo_of bytes_of codes_of datum history_text first_lines attempt_lines head_line try_text props_end arena_line call_line body_text reply_text last_line encode_with
 one_commit_page = rw (decimal_digit 0 (omega arith), decimal_digit 1 (omega arith), decimal_digit 2 (omega arith)) refl
 
 one_commit_ending : (solo_of one_commit).ending ≡ GaveUp

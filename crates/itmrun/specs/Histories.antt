@@ -1,9 +1,10 @@
 -- The text of a history.
-use Rattle.std.specs.Prelude.{ℕ, List, ◌++◌, length, flat_map, decimal, codes, if◌then◌else◌, ◌==◌}
+use Rattle.std.specs.Prelude.{ℕ, Bool, List, ◌++◌, length, flat_map, decimal, codes, if◌then◌else◌, ◌==◌}
 use Rattle.hex.specs.Hex.{encode_lower}
 use Rattle.itm_types.specs.Access.{size_of}
 use Rattle.itm_types.specs.Names.{name_of}
 use Rattle.itm_types.specs.Refusals.{number_of}
+use Rattle.itm_types.specs.declared.call.Props.{Props}
 use Rattle.itm_types.specs.declared.call.Call.{Call}
 use Rattle.itm_types.specs.declared.call.Call.TheVariants as calls
 use Rattle.itm_types.specs.declared.call.Reply.{Reply}
@@ -24,24 +25,42 @@ pub record History : Type 0 where
 abbrev pub outcome_name : Outcome → List ℕ
 outcome_name outcomes.Committed = codes "committed"
 outcome_name outcomes.ReadOnly = codes "readonly"
+outcome_name outcomes.Cancelled = codes "cancelled"
 outcome_name outcomes.Conflict = codes "conflict"
 outcome_name outcomes.Full = codes "full"
 outcome_name outcomes.NoMemory = codes "nomemory"
 outcome_name outcomes.Unfinished = codes "unfinished"
 
--- who tried, the try, the position, and how it ended; no properties are served
+abbrev pub props_text : Props → List ℕ
+props_text props = if props.no_abort then codes "pr_hasNoAbort" else codes "-"
+
+-- which blocks an abort cancels
+abbrev pub abort_text : Bool → List ℕ
+abort_text outer = if outer then codes "userAbort+outerAbort" else codes "userAbort"
+
+-- who tried, the try, the position, and how it ended
+unfoldable pub try_text : Attempt → List ℕ
+try_text a = codes "attempt " ++ decimal a.thread ++ codes " " ++ decimal a.nth ++ codes " " ++ decimal a.at ++ codes " " ++ outcome_name a.outcome
+
+-- the properties of its block, at the end of the line
+unfoldable pub props_end : Props → List ℕ
+props_end props = codes " " ++ props_text props ++ codes "\n"
+
 unfoldable pub head_line : Attempt → List ℕ
-head_line a = codes "attempt " ++ decimal a.thread ++ codes " " ++ decimal a.nth ++ codes " " ++ decimal a.at ++ codes " " ++ outcome_name a.outcome ++ codes " -\n"
+head_line a = try_text a ++ props_end a.props
 
 unfoldable pub arena_line : List ℕ → List ℕ
 arena_line bytes = if length bytes == 0 then codes "arena -\n" else codes "arena " ++ encode_lower bytes ++ codes "\n"
 
 unfoldable pub body_text : Call → List ℕ
-body_text (calls.Begin props room) = codes "_ITM_beginTransaction -"
+body_text (calls.Begin props room) = codes "_ITM_beginTransaction " ++ props_text props
 body_text calls.Commit = codes "_ITM_commitTransaction"
+body_text (calls.Abort outer) = codes "_ITM_abortTransaction " ++ abort_text outer
 body_text calls.InTransaction = codes "_ITM_inTransaction"
 body_text (calls.Read hint width at) = name_of (entry.Read hint width) ++ codes " " ++ decimal at
 body_text (calls.Write hint at value) = name_of (entry.Write hint value.width) ++ codes " " ++ decimal at ++ codes " " ++ encode_lower value.bytes.items
+body_text (calls.Log width at) = name_of (entry.Log width) ++ codes " " ++ decimal at
+body_text (calls.LogBytes at size) = name_of entry.LogBytes ++ codes " " ++ decimal at ++ codes " " ++ decimal size
 body_text (calls.Load width at) = codes "ld" ++ decimal (size_of width) ++ codes " " ++ decimal at
 body_text (calls.Save at value) = codes "st" ++ decimal (size_of value.width) ++ codes " " ++ decimal at ++ codes " " ++ encode_lower value.bytes.items
 

@@ -1,6 +1,6 @@
 -- What is told of a run, and the page of a program: what its first thread does alone on the memory that the program begins with.
 use Rattle.std.specs.Prelude.{◌≡◌, ℕ, ◌*◌, ◌/◌, ◌%◌, List, [], length, slice_index_or, Option, None, Some}
-use Rattle.itm_model.specs.declared.limits.TheConstants.{MAX_DEPTH}
+use Rattle.itm_types.specs.declared.limits.TheConstants.{MAX_OPEN_BLOCKS}
 use Rattle.norec_world.specs.declared.attempt.End.{End}
 use Rattle.norec_world.specs.declared.attempt.End.TheVariants.{Finished, GaveUp, NoMemory}
 use Rattle.norec_world.specs.declared.attempt.Outcome.TheVariants as outcomes
@@ -19,7 +19,7 @@ first_thread p = opening (slice_index_or (threads_of p) 0 [])
 
 -- all that the first thread does alone
 unfoldable pub solo_of : Listing → Solo
-solo_of p = solo thread_rules MAX_DEPTH p.limits.max_commits 0 (first_thread p) (opening_of p) []
+solo_of p = solo thread_rules MAX_OPEN_BLOCKS p.limits.max_commits 0 (first_thread p) (opening_of p) []
 
 -- its history
 unfoldable pub page : Listing → History

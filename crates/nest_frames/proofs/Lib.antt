@@ -1,2 +1,3 @@
 pub mod OpenBlocks
+pub mod NewRows
 pub mod Examples

@@ -1,8 +1,10 @@
 -- The open blocks, as calls change what they stand for.
-use Rattle.std.proofs.Common.{◌≡◌, ℕ, suc, ◌+◌, ◌-◌, ◌<◌, ◌≤◌, List, [], ◌∷◌, ◌++◌, length, map, take, drop, reverse, refl, ap, sym, subst, ◌∙◌, arith, length-append, Option, Some}
+use Rattle.std.proofs.Common.{◌≡◌, ℕ, suc, ◌+◌, ◌-◌, ◌<◌, ◌≤◌, List, [], ◌∷◌, ◌++◌, ◌||◌, length, map, take, drop, reverse, refl, ap, sym, subst, ◌∙◌, arith, length-append, Option, Some}
 use Rattle.std.specs.Prelude.{get_or, option_map, slice_get}
+use Rattle.std.specs.List.{list_any}
 use Rattle.std.specs.Option.{option_to_list}
 use Rattle.std.proofs.lemmas.List.{drop-append-le, take-append-le, take-append-drop, take-take, length-take-le, reverse-append, length-reverse, get_or-reverse}
+use Rattle.std.proofs.lemmas.List.Sorted.{list_any-IsPermutation, IsPermutation-reverse}
 use Rattle.std.proofs.lemmas.Option.{slice_get-map, slice_get-get_or}
 use Rattle.itm_types.specs.Kept.{also_kept, merged}
 use Rattle.undo_log.specs.Rollback.{Old, found, kept_of}
@@ -27,18 +29,24 @@ IsBy-trans f g = record { rows = omega (arith, f.rows, g.rows); saves = omega (a
 pub IsBy-refl : (a : Place) → IsBy a a
 IsBy-refl a = record { rows = omega arith; saves = omega arith }
 
-pub AreUnder-more : (p q : Place) (n k : ℕ) (ms : List Moment) → IsBy p q → n ≤ k → AreUnder p n ms → AreUnder q k ms
-AreUnder-more p q n k [] f l u = tt
-AreUnder-more p q n k (m ∷ ms) f l u = (IsBy-trans u.0 f, u.1, omega (arith, l, u.2), u.3)
+-- so many logs more
+pub AreUnder-more : (p : Place) (n k : ℕ) (ms : List Moment) → n ≤ k → AreUnder p n ms → AreUnder p k ms
+AreUnder-more p n k [] l u = tt
+AreUnder-more p n k (m ∷ ms) l u = (u.0, u.1, omega (arith, l, u.2), u.3)
+
+-- at the place where such a moment is
+IsBy-here : {a b : Place} → a ≡ b → IsBy a b
+IsBy-here {a} {b} e = subst (IsBy a) e (IsBy-refl a)
 
 -- each block up to a place is the same where its rows are
 frames_kept : (w w' : Written) (os : List Old) (top : Place) (n : ℕ) (ms : List Moment) → AreUnder top n ms → IsBy top w.inner
     → ((m : Mark) → IsMark w m → IsBy m.here top → rows_at w' m ≡ rows_at w m) → frames_from w' os ms ≡ frames_from w os ms
 frames_kept w w' os top n [] u b f = refl
 frames_kept w w' os top n (m ∷ ms) u b f =
-    let is : IsMark w m.rows = record { here = IsBy-trans u.0 b; outer = u.1 } in
-    let inner : IsBy m.rows.outer top = IsBy-trans u.1 u.0 in
-    let rows = f m.rows is u.0 in
+    let here : IsBy m.rows.here top = IsBy-here u.0 in
+    let is : IsMark w m.rows = record { here = IsBy-trans here b; outer = u.1 } in
+    let inner : IsBy m.rows.outer top = IsBy-trans u.1 here in
+    let rows = f m.rows is here in
     let rest = frames_kept w w' (take m.log os) m.rows.outer m.log ms u.3 (IsBy-trans inner b) (λ k i h. f k i (IsBy-trans h inner)) in
     (λ i. record { props = m.props; rows = rows i; log = drop m.log os } ∷ rest i)
 
@@ -67,7 +75,7 @@ frames_logged w os new ms s = logged_from w os new w.inner (reverse ms) s.under
 
 pub IsSound-logged : (w : Written) (os os' : List Old) (ms : List Moment) → IsSound w os ms → length os ≤ length os' → 0 < length ms → IsSound w os' ms
 IsSound-logged w os os' [] s l h = absurd (omega (arith, h))
-IsSound-logged w os os' (m ∷ ms) s l h = record { under = AreUnder-more w.inner w.inner (length os) (length os') (reverse (m ∷ ms)) (IsBy-refl w.inner) l s.under; empty = s.empty }
+IsSound-logged w os os' (m ∷ ms) s l h = record { under = AreUnder-more w.inner (length os) (length os') (reverse (m ∷ ms)) l s.under; empty = s.empty }
 
 -- what the innermost block then keeps
 pub kept_of-logged : (arena : List ℕ) (bs : List Frame) (place size : ℕ) → 0 < length bs → place + size ≤ length arena
@@ -88,7 +96,7 @@ has_innermost : (w : Written) (os : List Old) (ms : List Moment) (m : Moment) �
 has_innermost w os ms m s =
     let u : AreUnder w.inner (length os) (m ∷ reverse ms) = subst (AreUnder w.inner (length os)) (reverse-append ms (m ∷ [])) s.under in
     record {
-      is_mark = record { here = u.0; outer = u.1 };
+      is_mark = record { here = IsBy-here u.0; outer = u.1 };
       log = u.2;
       rest = u.3;
       count = length-append ms (m ∷ []);
@@ -137,7 +145,7 @@ empty-front w w' os (m ∷ ms) ns h e = e
 
 pub IsSound-closed : (w w' : Written) (os : List Old) (all ms : List Moment) (m : Moment) → HasInnermost w os all ms m → w'.inner ≡ m.rows.outer → 0 < length ms → IsSound w' os ms
 IsSound-closed w w' os all ms m h e l = record {
-  under = subst (λ (p : Place). AreUnder p (length os) (reverse ms)) (sym e) (AreUnder-more m.rows.outer m.rows.outer m.log (length os) (reverse ms) (IsBy-refl m.rows.outer) h.log h.rest);
+  under = subst (λ (p : Place). AreUnder p (length os) (reverse ms)) (sym e) (AreUnder-more m.rows.outer m.log (length os) (reverse ms) h.log h.rest);
   empty = empty-front w w' os ms (m ∷ []) l h.empty;
 }
 
@@ -167,3 +175,11 @@ props_at w os ms place m h =
     slice_get-get_or (reverse ms) place m (omega (arith, h, length-reverse ms)) ∙ ap (λ t. Some t) (get_or-reverse ms place m h) in
     ap (λ t. slice_get t place) (props_from w os (reverse ms))
     ∙ (slice_get-map (λ (k : Moment). k.props) (reverse ms) place ∙ ap (option_map (λ (k : Moment). k.props)) there)
+
+any_from : (w : Written) (os : List Old) (ms : List Moment) → list_any (λ (m : Moment). m.props.no_abort) ms ≡ list_any (λ (f : Frame). f.props.no_abort) (frames_from w os ms)
+any_from w os [] = refl
+any_from w os (m ∷ ms) = ap (λ t. m.props.no_abort || t) (any_from w (take m.log os) ms)
+
+-- whether one of the blocks is not to be cancelled
+pub any_of : (w : Written) (os : List Old) (ms : List Moment) → list_any (λ (m : Moment). m.props.no_abort) ms ≡ list_any (λ (f : Frame). f.props.no_abort) (frames_of w os ms)
+any_of w os ms = list_any-IsPermutation (λ (m : Moment). m.props.no_abort) ms (reverse ms) (IsPermutation-reverse ms) ∙ any_from w os (reverse ms)

@@ -15,10 +15,11 @@ frames_from writes olds (m ∷ ms) = record { props = m.props; rows = rows_at wr
 abbrev pub frames_of : Written → List Old → List Moment → List Frame
 frames_of writes olds moments = frames_from writes olds (reverse moments)
 
--- each moment, the innermost first, is no later than the one within it, and than this place and so many logs
+-- the first of these moments, the innermost first, is at this place of the write set, each other at the one from which
+-- the one within it began, and none is later than the one within it, or than so many logs
 abbrev pub AreUnder : Place → ℕ → List Moment → Type 0
 AreUnder place logs [] = Unit {0}
-AreUnder place logs (m ∷ ms) = IsBy m.rows.here place × IsBy m.rows.outer m.rows.here × (m.log ≤ logs) × AreUnder m.rows.outer m.log ms
+AreUnder place logs (m ∷ ms) = (m.rows.here ≡ place) × IsBy m.rows.outer m.rows.here × (m.log ≤ logs) × AreUnder m.rows.outer m.log ms
 
 -- the outermost block began with nothing written and nothing logged, and so it is where no block is open
 abbrev pub BeginEmpty : Written → List Old → List Moment → Type 0

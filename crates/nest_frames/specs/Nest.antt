@@ -1,5 +1,6 @@
 -- The open blocks of a transaction, as contracts see them.
-use Rattle.std.specs.Prelude.{ℕ, List, [], ◌∷◌, ◌++◌}
+use Rattle.std.specs.Prelude.{ℕ, Bool, false, if◌then◌else◌, List, [], ◌∷◌, ◌++◌}
+use Rattle.std.specs.List.{list_any}
 use Rattle.itm_types.specs.declared.call.Props.{Props}
 use Rattle.itm_types.specs.Kept.{restored}
 use Rattle.undo_log.specs.Rollback.{Old, put_back, kept_of}
@@ -30,6 +31,15 @@ log_of (b ∷ bs) = b.log
 abbrev pub rows_of : List Frame → List Row
 rows_of [] = []
 rows_of (b ∷ bs) = b.rows
+
+-- whether the innermost of these blocks has the property that it is not cancelled
+abbrev pub keeps_innermost : List Frame → Bool
+keeps_innermost [] = false
+keeps_innermost (b ∷ bs) = b.props.no_abort
+
+-- whether a cancel of the innermost block, or of all of them, is one of a block that is not to be cancelled
+abbrev pub is_kept : List Frame → Bool → Bool
+is_kept blocks outer = if outer then list_any (λ (b : Frame). b.props.no_abort) blocks else keeps_innermost blocks
 
 -- the blocks once these were logged in the innermost one
 abbrev pub logged : List Frame → List Old → List Frame

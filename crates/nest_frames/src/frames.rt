@@ -1,20 +1,20 @@
 //! The open blocks.
 
-ghost use Rattle.std.specs.Prelude.{◌≡◌, ◌+◌, ◌<◌, ◌≤◌, ℕ, List, [], ◌∷◌, IsOk, IsSome, OnOk, OnErr, Some, length, map, take, drop, option_map, slice_get};
+ghost use Rattle.std.specs.Prelude.{◌≡◌, ◌+◌, ◌<◌, ◌≤◌, ℕ, List, [], ◌∷◌, IsOk, IsSome, OnOk, OnErr, None, Some, length, map, take, drop, option_map, slice_get};
 ghost use Rattle.itm_types.specs.Kept.{also_kept, merged, restored};
 ghost use Rattle.itm_types.specs.Memory.{AllFit};
 ghost use Rattle.word_pieces.specs.Masks.{merged_at};
-ghost use Rattle.write_set.specs.Rows.{lookup, put, reserved, overlay, AreEmpty};
-ghost use Rattle.write_set.specs.Marks.{unwritten, place_of, reserve, IsNew, KeepsRoom, MayPut};
+ghost use Rattle.write_set.specs.Rows.{lookup, laid, put, reserved, overlay, AreEmpty, AreRows};
+ghost use Rattle.write_set.specs.Marks.{unwritten, place_of, reserve, AreMarks, KeepsRoom, MayPut};
 ghost use Rattle.undo_log.specs.Rollback.{found, put_back, kept_of};
-ghost use Rattle.nest_frames.specs.Nest.{Frame, begun, log_of, rows_of, logged, closed, arena_back, arena_restored};
+ghost use Rattle.nest_frames.specs.Nest.{Frame, begun, log_of, rows_of, logged, closed, is_kept, arena_back, arena_restored};
 
 use arrayvec::ArrayVec;
 use itm_types::{MAX_OPEN_BLOCKS, Props};
 use std::alloc::{AllocError, Global};
 use std::marker::Model;
 use undo_log::{Arena, UndoLog};
-use write_set::WriteSet;
+use write_set::{Row, WriteSet};
 
 /// Where an open block began.
 #[derive(Debug, Default, Drop)]
@@ -81,11 +81,35 @@ impl Frames {
         self.undo.size()
     }
 
-    /// What is written.
-    pub fn writes(&self) -> &WriteSet
-        ensures { result.now ≡ self.now.writes }
+    /// How many words are written.
+    pub fn len(&self) -> usize
+        ensures len { result ≡ length self.now.writes.rows }
+        ensures rows { AreRows self.now.writes.rows }
+        ensures marks { AreMarks self.now.writes }
+
+        // The innermost mark of what is written is the begin of the innermost block.
+        ensures begun { self.now.writes.inner.rows ≡ length (rows_of self.now.blocks) }
     {
-        &self.writes
+        self.writes.len()
+    }
+
+    /// What is written of a word, at this place in the order of first writing.
+    pub fn row(&self, place: usize) -> Row
+        requires { place < length self.now.writes.rows }
+        ensures row { slice_get self.now.writes.rows place ≡ Some result }
+    {
+        self.writes.row(place)
+    }
+
+    /// What is written of the word.
+    pub fn get(&self, word: u32) -> Option<Row>
+        ensures row { result ≡ lookup word self.now.writes.rows }
+
+        // Under what is written, a word of a memory has the row's bytes.
+        ensures word { (m : List ℕ) (value : ℕ) → slice_get m word ≡ Some value →
+            slice_get (overlay m self.now.writes.rows) word ≡ Some (laid result value) }
+    {
+        self.writes.get(word)
     }
 
     /// The properties of the innermost block, if one is open.
@@ -103,6 +127,18 @@ impl Frames {
     {
         let moments = self.moments.as_slice();
         moments[moments.len() - 1 - place].props
+    }
+
+    /// Whether the innermost block, or with `outer` one of all open ones, has the property that it is not cancelled.
+    /// Takes no memory.
+    pub fn is_kept(&self, outer: bool) -> bool
+        ensures { result ≡ is_kept self.now.blocks outer }
+    {
+        if outer {
+            self.moments.iter().any(|moment| moment.props.no_abort)
+        } else {
+            self.innermost().is_some_and(|props| props.no_abort)
+        }
     }
 
     /// A block begins within those that are open. Takes no memory.
@@ -124,6 +160,8 @@ impl Frames {
         ensures blocks { self.new.blocks ≡ closed self.old.blocks }
         ensures size { self.new.size ≡ self.old.size }
         ensures rows { 1 < length self.old.blocks → self.new.writes.rows ≡ self.old.writes.rows }
+        ensures writes { 1 < length self.old.blocks →
+            self.new.writes ≡ record self.old.writes { inner = self.new.writes.inner } }
         ensures outermost { length self.old.blocks ≡ 1 → self.new.writes ≡ unwritten }
 
         // What the one around it keeps of the arena wins.
@@ -150,6 +188,7 @@ impl Frames {
         ensures blocks { self.new.blocks ≡ drop 1 self.old.blocks }
         ensures size { self.new.size ≡ self.old.size }
         ensures rows { self.new.writes.rows ≡ rows_of self.old.blocks }
+        ensures saves { self.new.writes.saves ≡ take self.old.writes.inner.saves self.old.writes.saves }
         ensures arena_size { length arena.new ≡ length arena.old }
         ensures arena { arena.new ≡ put_back (log_of self.old.blocks) arena.old }
         ensures restored { arena.new ≡ restored (kept_of arena.old (log_of self.old.blocks)) arena.old }
@@ -202,8 +241,9 @@ impl Frames {
         ensures may_put { OnOk result (MayPut self.new.writes word) }
         ensures others { KeepsRoom self.old.writes self.new.writes }
 
-        // A row that no block around the innermost one has takes no memory.
-        ensures has_row { IsSome (lookup word self.old.writes.rows) → IsNew self.old.writes word → IsOk result }
+        // A row that was not there as the innermost block began takes no memory.
+        ensures has_row { IsSome (lookup word self.old.writes.rows) → lookup word (rows_of self.old.blocks) ≡ None →
+            IsOk result }
 
         // Nothing is written, and a cut at an earlier length takes the row back.
         ensures memory { (m : List ℕ) → AllFit m →

@@ -8,7 +8,9 @@ use std::test::Fail;
 use undo_log::Arena;
 use word_pieces::merge;
 
-const BLOCK: Props = Props {};
+const BLOCK: Props = Props { no_abort: false };
+
+const NOT_CANCELLED: Props = Props { no_abort: true };
 
 /// The words and the arena as plain lists, each copied at the begin of a block.
 #[derive(Debug, Drop)]
@@ -113,7 +115,7 @@ fn cancel(rt: &impl Abort, frames: &mut Frames, arena: &mut Arena) {
 
 /// A word under the rows.
 fn word_of(frames: &Frames, word: u32) -> u64 {
-    match frames.writes().get(word) {
+    match frames.get(word) {
         Some(row) => merge(0, row.mask, row.value),
         None => 0,
     }
@@ -156,7 +158,7 @@ fn compare(rt: &impl Abort, frames: &Frames, arena: &Arena, plain: &Plain) {
             assert_eq!(rt; word_of(frames, word as u32), *value, "word {word}");
         }
     } else {
-        assert_eq!(rt; frames.writes().len(), 0);
+        assert_eq!(rt; frames.len(), 0);
     }
 }
 
@@ -228,7 +230,7 @@ fn every_block_is_cancelled(rt: HostRuntime) -> Result<(), Fail> {
     frames.cancel_all(&mut arena);
     assert_eq!(rt; arena.bytes(), [0, 0, 6].as_slice());
     assert_eq!(rt; frames.depth(), 0);
-    assert_eq!(rt; frames.writes().len(), 0);
+    assert_eq!(rt; frames.len(), 0);
     Ok(())
 }
 
@@ -248,22 +250,39 @@ fn properties(rt: HostRuntime) -> Result<(), Fail> {
     Ok(())
 }
 
+/// Of the innermost block only its own property counts, and of all open blocks that of each.
+#[test]
+fn blocks_that_are_kept(rt: HostRuntime) -> Result<(), Fail> {
+    let mut frames = Frames::new(rt.alloc(), 0);
+    assert!(rt; !frames.is_kept(false) && !frames.is_kept(true));
+    frames.enter(BLOCK);
+    assert!(rt; !frames.is_kept(false) && !frames.is_kept(true));
+    frames.enter(NOT_CANCELLED);
+    assert!(rt; frames.is_kept(false) && frames.is_kept(true));
+    frames.enter(BLOCK);
+    assert!(rt; !frames.is_kept(false) && frames.is_kept(true));
+    leave(&rt, &mut frames);
+    leave(&rt, &mut frames);
+    assert!(rt; !frames.is_kept(false) && !frames.is_kept(true));
+    Ok(())
+}
+
 /// What the outermost block wrote is there until it closes, and rows that were made ready in vain are cut.
 #[test]
 fn rows_of_a_block(rt: HostRuntime) -> Result<(), Fail> {
     let mut frames = Frames::new(rt.alloc(), 0);
     frames.enter(BLOCK);
     frames.reserve(4)?;
-    assert_eq!(rt; frames.writes().len(), 1);
+    assert_eq!(rt; frames.len(), 1);
     frames.cut(0);
-    assert_eq!(rt; frames.writes().len(), 0);
+    assert_eq!(rt; frames.len(), 0);
     write(&rt, &mut frames, 3, u64::MAX, 0x0102)?;
     enter(&rt, &mut frames);
     write(&rt, &mut frames, 3, 0xff, 5)?;
     leave(&rt, &mut frames);
     assert_eq!(rt; word_of(&frames, 3), 0x0105);
     leave(&rt, &mut frames);
-    assert_eq!(rt; frames.writes().len(), 0);
+    assert_eq!(rt; frames.len(), 0);
     Ok(())
 }
 

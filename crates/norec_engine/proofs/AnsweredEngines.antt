@@ -1,10 +1,11 @@
 -- An engine that has answered.
-use Rattle.std.proofs.Common.{◌≡◌, ℕ, false, Option, None, Some, ap, ◌∙◌}
+use Rattle.std.proofs.Common.{◌≡◌, ℕ, false, List, Option, None, Some, ap, ◌∙◌}
 use Rattle.itm_types.specs.declared.call.Call.{Call}
 use Rattle.itm_types.specs.declared.call.Reply.{Reply as Replied}
 use Rattle.norec_engine.specs.declared.answer.Answer.{Answer}
 use Rattle.norec_engine.specs.declared.answer.Answer.TheVariants.{Reply, Committed, Conflict, Busy, Full}
 use Rattle.norec_engine.specs.declared.phase.Phase.{Phase}
+use Rattle.nest_frames.specs.Nest.{arena_back}
 use Rattle.norec_engine.specs.Core.{Core, ended}
 use Rattle.norec_engine.specs.Proceeds.{Ends, RepliesTo}
 
@@ -20,7 +21,7 @@ pub record IsRest (mid new : Core) : Type 0 where
   pub free : mid.holds ≡ false
 
 module _ (mid new : Core) where
-  module _ (stage : Phase) (tries snapshot : ℕ) (stays : new ≡ record (ended mid) { stage = stage; tries = tries; snapshot = snapshot }) (free : mid.holds ≡ false) where
+  module _ (stage : Phase) (tries snapshot : ℕ) (arena : List ℕ) (stays : new ≡ record (ended mid) { stage = stage; tries = tries; snapshot = snapshot; arena = arena }) (free : mid.holds ≡ false) where
     -- the transaction is over
     over : IsRest mid new
     over = record {
@@ -49,7 +50,7 @@ module _ (mid new : Core) where
 
   pub rests : (a : Answer) → Ends mid a new → IsRest mid new
   rests (Reply r) g = replied r mid.doing g
-  rests (Committed at wrote) g = over new.stage new.tries mid.snapshot g.stays g.free
-  rests (Conflict clock word) g = over new.stage new.tries mid.snapshot g.stays g.free
-  rests (Busy clock) g = over new.stage new.tries mid.snapshot g.stays g.free
-  rests (Full at) g = over new.stage new.tries new.snapshot g.stays g.free
+  rests (Committed at wrote) g = over new.stage new.tries mid.snapshot mid.arena g.stays g.free
+  rests (Conflict clock word) g = over new.stage new.tries mid.snapshot (arena_back mid.blocks mid.arena) g.stays g.free
+  rests (Busy clock) g = over new.stage new.tries mid.snapshot mid.arena g.stays g.free
+  rests (Full at) g = over new.stage new.tries new.snapshot (arena_back mid.blocks mid.arena) g.stays g.free

@@ -79,11 +79,11 @@ few p k w s a b c h = omega (arith, h, mul-le p k MAX_PATIENCE (2 ^ 64 + 9) a b)
 read_few : (d : Data) (r : Reading) → d.limits.patience ≤ MAX_PATIENCE → d.entry < 2 ^ 64 → d.spent ≤ 2 * count r + d.limits.patience * (d.entry + count r + 4) → d.spent < 2 ^ 128
 read_few d r p e h = few d.limits.patience (d.entry + count r + 4) 5 d.spent p (omega (arith, some_words r)) (omega arith) (omega (arith, some_words r, h))
 
-commit_few : (d : Data) → d.limits.patience ≤ MAX_PATIENCE → d.entry < 2 ^ 64 → length d.writes.rows < 2 ^ 64 → d.spent ≤ d.limits.patience * (d.entry + 3) + 2 * length d.writes.rows + 2 → d.spent < 2 ^ 128
-commit_few d p l w h = few d.limits.patience (d.entry + 3) (length d.writes.rows) d.spent p (omega arith) w (omega (arith, h))
+commit_few : (d : Data) → d.limits.patience ≤ MAX_PATIENCE → d.entry < 2 ^ 64 → length d.frames.writes.rows < 2 ^ 64 → d.spent ≤ d.limits.patience * (d.entry + 3) + 2 * length d.frames.writes.rows + 2 → d.spent < 2 ^ 128
+commit_few d p l w h = few d.limits.patience (d.entry + 3) (length d.frames.writes.rows) d.spent p (omega arith) w (omega (arith, h))
 
 -- so the count fits
-fits_most : (d : Data) (phase : Phase) → IsWaiting phase → d.limits.patience ≤ MAX_PATIENCE → length d.writes.rows < 2 ^ 64 → d.entry < 2 ^ 64 → d.spent ≤ most (core d phase) (doing_of phase) → d.spent < 2 ^ 128
+fits_most : (d : Data) (phase : Phase) → IsWaiting phase → d.limits.patience ≤ MAX_PATIENCE → length d.frames.writes.rows < 2 ^ 64 → d.entry < 2 ^ 64 → d.spent ≤ most (core d phase) (doing_of phase) → d.spent < 2 ^ 128
 fits_most d at.Idle w p m e h = absurd w
 fits_most d (at.Begin b) w p m e h = omega (arith, h)
 fits_most d (at.Load r) w p m e h = read_few d r p e h
@@ -93,7 +93,7 @@ fits_most d (at.RoundRow (aims.Read r) row) w p m e h = read_few d r p e h
 fits_most d (at.RoundEnd (aims.Read r)) w p m e h = read_few d r p e h
 fits_most d phase w p m e h = commit_few d p e m h
 
-pub fits : (d : Data) (phase : Phase) → IsSound d phase → IsWaiting phase → length d.writes.rows < 2 ^ 64 → d.entry < 2 ^ 64 → d.spent < 2 ^ 128
+pub fits : (d : Data) (phase : Phase) → IsSound d phase → IsWaiting phase → length d.frames.writes.rows < 2 ^ 64 → d.entry < 2 ^ 64 → d.spent < 2 ^ 128
 fits d phase s w m e = fits_most d phase w s.bounds.patient.1 m e (within d phase s w)
 
 -- so it is after a turn

@@ -1,18 +1,27 @@
 -- The engine's fields as what its callers see, once a transaction is over.
-use Rattle.std.proofs.Common.{◌≡◌, ℕ, true, false, List, [], ◌∷◌, None, refl, sym, ap, ◌∙◌}
-use Rattle.write_set.specs.declared.row.Row.{Row}
-use Rattle.itm_types.specs.declared.call.Props.{Props}
-use Rattle.itm_model.specs.Machine.{undone}
+use Rattle.std.proofs.Common.{◌≡◌, ℕ, Bool, true, false, List, [], ◌∷◌, length, Option, None, Some, refl, sym, ap, ◌∙◌, if◌then◌else◌}
+use Rattle.itm_types.specs.Kept.{restored}
+use Rattle.itm_types.specs.Memory.{bytes_of}
+use Rattle.undo_log.specs.Rollback.{kept_of}
+use Rattle.itm_types.proofs.KeptBytes.{length-restored}
+use Rattle.undo_log.proofs.KeptBytes.{kept_of-same}
+use Rattle.write_set.specs.Marks.{unwritten}
+use Rattle.write_set.specs.Rows.{overlay}
+use Rattle.nest_frames.specs.Nest.{Frame, arena_back, arena_restored}
+use Rattle.itm_model.specs.Machine.{undone, undone_from}
 use Rattle.norec_engine.specs.declared.phase.Phase.{Phase}
 use Rattle.norec_engine.specs.declared.phase.Phase.TheVariants as at
 use Rattle.norec_engine.specs.declared.data.Data.{Data}
-use Rattle.norec_engine.specs.Core.{Core, is_inside, in_transaction, ended}
-use Rattle.norec_engine.specs.Fields.{core, blocks_of, IsEnded}
+use Rattle.norec_engine.specs.Core.{Core, is_inside, in_transaction, ended, rolled_back}
+use Rattle.norec_engine.specs.Fields.{core, in_block, holds_of, AreFrames, InPhase, IsEnded}
 use Rattle.norec_engine.specs.Proceeds.{IsUndone}
-use Rattle.norec_engine.specs.Stands.{state_over, stands_for}
+use Rattle.norec_engine.specs.declared.answer.Undone.TheVariants.{Nothing, Done, Held}
+use Rattle.norec_engine.specs.Undoing.{undone_of, after_undoing}
+use Rattle.norec_engine.proofs.Blocks.{none_inside}
+use Rattle.norec_engine.specs.Stands.{is_some_row, blocks_over, state_over, stands_for}
 
-pub core_ended : (old new : Data) → IsEnded old new → core new at.Idle ≡ record (ended (core old at.Idle)) { tries = 0 }
-core_ended old new e = λ i. record {
+pub core_ended : (old new : Data) (arena : List ℕ) → IsEnded old arena new → core new at.Idle ≡ record (ended (core old at.Idle)) { tries = 0; arena = arena }
+core_ended old new arena e = λ i. record {
   words = e.words i;
   patience = (e.limits i).patience;
   max_commits = (e.limits i).max_commits;
@@ -21,8 +30,8 @@ core_ended old new e = λ i. record {
   clock = e.clock i;
   fresh = [];
   log = e.log i;
-  writes = (e.writes i).rows;
-  blocks = blocks_of (e.block i);
+  writes = (e.frames i).writes.rows;
+  blocks = (e.frames i).blocks;
   holds = false;
   done = 0;
   freed = false;
@@ -36,15 +45,104 @@ core_ended old new e = λ i. record {
   entry = e.entry i;
 }
 
--- a rollback of the open blocks leaves the memory without the write set
-undone_over : (blocks : List Props) (arena m : List ℕ) → undone (state_over [] blocks arena m) ≡ state_over [] [] arena m
-undone_over [] arena m = refl
-undone_over (props ∷ outer) arena m = undone_over outer arena m
+-- a rollback of all these blocks: the memory without the write set, and the arena with what they logged
+pub undone_over : (words : ℕ) (blocks : List Frame) (arena now m memory : List ℕ) (wrote : Bool) → AreFrames words blocks → is_inside blocks ≡ true → length now ≡ length arena
+    → undone_from (record { memory = memory; arena = now; blocks = blocks_over blocks arena m; wrote = wrote }) (blocks_over blocks arena m) ≡ state_over [] [] (arena_restored blocks now) m
+undone_over words [] arena now m memory wrote f o same = absurd (cc)
+undone_over words (b ∷ []) arena now m memory wrote f o same =
+    λ i. record { memory = bytes_of (overlay m (f i)); arena = restored (kept_of-same arena now b.log (sym same) i) now; blocks = []; wrote = is_some_row (f i) }
+undone_over words (b ∷ p ∷ bs) arena now m memory wrote f o same =
+    let next = restored (kept_of arena b.log) now in
+    undone_over words (p ∷ bs) arena next m (bytes_of (overlay m b.rows)) (is_some_row b.rows) f.2 refl (length-restored (kept_of arena b.log) now ∙ same)
+    ∙ ap (λ (ks : _). state_over [] [] (arena_restored (p ∷ bs) (restored ks now)) m) (kept_of-same arena now b.log (sym same))
 
-undone_inside : (writes : List Row) (blocks : List Props) (arena m : List ℕ) → is_inside blocks ≡ true → undone (state_over writes blocks arena m) ≡ state_over [] [] arena m
-undone_inside writes [] arena m o = absurd (cc)
-undone_inside writes (props ∷ outer) arena m o = undone_over outer arena m
+pub ended_undone : (mid new : Core) (stage : Phase) (tries snapshot : ℕ) → AreFrames mid.words mid.blocks → arena_back mid.blocks mid.arena ≡ arena_restored mid.blocks mid.arena
+    → in_transaction mid ≡ true → new ≡ record (rolled_back mid) { stage = stage; tries = tries; snapshot = snapshot } → IsUndone mid new
+ended_undone mid new stage tries snapshot f same o stays m mem =
+    ap (λ (c : Core). stands_for c m) stays ∙ (ap (λ (arena : List ℕ). state_over [] [] arena m) same
+    ∙ sym (undone_over mid.words mid.blocks mid.arena mid.arena m (bytes_of (overlay m mid.writes)) (is_some_row mid.writes) f o refl))
 
-pub ended_undone : (mid new : Core) (stage : Phase) (tries snapshot : ℕ) → in_transaction mid ≡ true → new ≡ record (ended mid) { stage = stage; tries = tries; snapshot = snapshot } → IsUndone mid new
-ended_undone mid new stage tries snapshot o stays m mem =
-    ap (λ (c : Core). stands_for c m) stays ∙ sym (undone_inside mid.writes mid.blocks mid.arena m o)
+-- ## Given up
+
+-- the clock is not held
+abbrev pub IsFree : Phase → Type 0
+IsFree (at.BackLoad row) = ⊥
+IsFree (at.Store row got) = ⊥
+IsFree at.Free = ⊥
+IsFree _ = Unit {0}
+
+pub free_holds : (phase : Phase) → IsFree phase → holds_of phase ≡ false
+free_holds (at.BackLoad row) f = absurd f
+free_holds (at.Store row got) f = absurd f
+free_holds at.Free f = absurd f
+free_holds phase f = refl
+
+-- such a phase, by what it is not
+pub is_free : (phase : Phase) → ((row : ℕ) → phase ≡ at.BackLoad row → ⊥) → ((row : ℕ) (got : Option ℕ) → phase ≡ at.Store row got → ⊥) → (phase ≡ at.Free → ⊥) → IsFree phase
+is_free (at.BackLoad row) f g h = f row refl
+is_free (at.Store row got) f g h = g row got refl
+is_free at.Free f g h = h refl
+is_free phase f g h = tt
+
+-- the outermost block and those in it, of a transaction that is open; or there is none, and nothing is written
+open_frames : (d : Data) (phase : Phase) → InPhase d phase → in_block d ≡ true → AreFrames d.words d.frames.blocks
+open_frames d at.Idle p o = (p.0 o).0.frames
+open_frames d (at.Begin b) p o = (let outside = p.0.is_open in absurd (cc))
+open_frames d (at.Load r) p o = p.0.frames
+open_frames d (at.Confirm r value) p o = p.0.frames
+open_frames d (at.RoundStart aim) p o = p.is_open.frames
+open_frames d (at.RoundRow aim row) p o = p.0.is_open.frames
+open_frames d (at.RoundEnd aim) p o = p.0.is_open.frames
+open_frames d at.Exchange p o = p.0.frames
+open_frames d (at.BackLoad row) p o = p.0.is_open.frames
+open_frames d (at.Store row None) p o = p.0.is_open.frames
+open_frames d (at.Store row (Some word)) p o = p.0.is_open.frames
+open_frames d at.Free p o = p.is_open.frames
+
+none_written : (d : Data) (phase : Phase) → InPhase d phase → in_block d ≡ false → d.frames.writes ≡ unwritten
+none_written d at.Idle p o = (p.1 o).writes
+none_written d (at.Begin b) p o = p.0.writes
+none_written d (at.Load r) p o = (let inside = p.0.is_open in absurd (cc))
+none_written d (at.Confirm r value) p o = (let inside = p.0.is_open in absurd (cc))
+none_written d (at.RoundStart aim) p o = (let inside = p.is_open.is_open in absurd (cc))
+none_written d (at.RoundRow aim row) p o = (let inside = p.0.is_open.is_open in absurd (cc))
+none_written d (at.RoundEnd aim) p o = (let inside = p.0.is_open.is_open in absurd (cc))
+none_written d at.Exchange p o = (let inside = p.0.is_open in absurd (cc))
+none_written d (at.BackLoad row) p o = (let inside = p.0.is_open.is_open in absurd (cc))
+none_written d (at.Store row None) p o = (let inside = p.0.is_open.is_open in absurd (cc))
+none_written d (at.Store row (Some word)) p o = (let inside = p.0.is_open.is_open in absurd (cc))
+none_written d at.Free p o = (let inside = p.is_open.is_open in absurd (cc))
+
+-- the phases that do not hold the clock are left alike
+left_alike : (d : Data) (phase : Phase) → IsFree phase
+    → record (rolled_back (core d phase)) { stage = at.Idle; tries = 0 } ≡ record (ended (core d at.Idle)) { tries = 0; arena = arena_back d.frames.blocks d.arena }
+left_alike d (at.BackLoad row) f = absurd f
+left_alike d (at.Store row got) f = absurd f
+left_alike d at.Free f = absurd f
+left_alike d phase f = refl
+
+pub core_left : (d new : Data) (phase : Phase) → IsFree phase → IsEnded d (arena_back d.frames.blocks d.arena) new
+    → core new at.Idle ≡ record (rolled_back (core d phase)) { stage = at.Idle; tries = 0 }
+core_left d new phase f e = core_ended d new (arena_back d.frames.blocks d.arena) e ∙ sym (left_alike d phase f)
+
+pub after_left : (d new : Data) (phase : Phase) → IsFree phase → IsEnded d (arena_back d.frames.blocks d.arena) new → core new at.Idle ≡ after_undoing (core d phase)
+after_left d new phase f e =
+    core_left d new phase f e
+    ∙ sym (ap (λ (holds : Bool). if holds then core d phase else record (rolled_back (core d phase)) { stage = at.Idle; tries = 0 }) (free_holds phase f))
+
+undone_left : (d new : Data) (phase : Phase) (inside : Bool) → in_block d ≡ inside → InPhase d phase → IsFree phase → IsEnded d (arena_back d.frames.blocks d.arena) new
+    → arena_back d.frames.blocks d.arena ≡ arena_restored d.frames.blocks d.arena → IsUndone (core d phase) (core new at.Idle)
+undone_left d new phase true o p f e same = ended_undone (core d phase) (core new at.Idle) at.Idle 0 d.snapshot (open_frames d phase p o) same o (core_left d new phase f e)
+undone_left d new phase false o p f e same = λ m mem.
+    (let none = none_inside d.frames.blocks o in
+    let nothing = none_written d phase p o in
+    ap (λ (c : Core). stands_for c m) (core_left d new phase f e)
+    ∙ ((λ i. state_over [] [] (arena_back (none i) d.arena) m) ∙ sym (λ i. undone (state_over (nothing i).rows (none i) d.arena m))))
+
+pub undone_of_left : (d new : Data) (phase : Phase) → InPhase d phase → IsFree phase → IsEnded d (arena_back d.frames.blocks d.arena) new
+    → arena_back d.frames.blocks d.arena ≡ arena_restored d.frames.blocks d.arena → IsUndone (core d phase) (core new at.Idle)
+undone_of_left d new phase p f e same = undone_left d new phase (in_block d) refl p f e same
+
+-- what is told of it
+pub told_left : (d : Data) (phase : Phase) → IsFree phase → undone_of (core d phase) ≡ (if in_block d then Done else Nothing)
+told_left d phase f = ap (λ (holds : Bool). if holds then Held else (if in_block d then Done else Nothing)) (free_holds phase f)

@@ -8,6 +8,7 @@ use Rattle.itm_types.specs.declared.step.Step.TheVariants as steps
 use Rattle.itm_types.specs.declared.call.Props.{Props}
 use Rattle.itm_types.specs.declared.call.Call.{Call}
 use Rattle.itm_types.specs.declared.call.Call.TheVariants as calls
+use Rattle.nest_frames.specs.Nest.{begun}
 use Rattle.write_set.specs.declared.row.Row.{Row}
 use Rattle.norec_engine.specs.declared.answer.Answer.{Answer}
 use Rattle.norec_engine.specs.declared.answer.Answer.TheVariants.{Committed, Conflict, Busy, Full}
@@ -22,7 +23,7 @@ use Rattle.norec_engine.specs.Endings.{ending_at, ending_after}
 -- ## What is played
 
 -- a stage with the step that it asks for, or the end: this one, or a reply
-data Line : Type 0 where
+pub data Line : Type 0 where
   Asks : Phase → Option Step → Line
   Ends : Option Answer → Line
 
@@ -48,7 +49,7 @@ lines_after c [] = []
 lines_after c (seen ∷ seens) = line (resumed c seen) (stage_after c seen) (ending_after c seen) ∷ lines_after (resumed c seen) seens
 
 -- the lines of a call whose steps find these values
-abbrev lines : Core → Call → List ℕ → List Line
+abbrev pub lines : Core → Call → List ℕ → List Line
 lines c call seens = line (called c call) (stage_at c call false) (ending_at c call) ∷ lines_after (called c call) seens
 
 -- and the engine after them
@@ -61,24 +62,24 @@ engine_after c call seens = resumed_by (called c call) seens
 
 -- ## Calls, and where they come
 
-abbrev no_props : Props
-no_props = record {}
+abbrev pub no_props : Props
+no_props = record { no_abort = false }
 
 -- over four words, with room for four commits: a transaction is open at this snapshot, with these rows logged and these written
-abbrev inside : ℕ → ℕ → List LogRow → List Row → Core
-inside patience snapshot log writes = record (opening 4 [] patience 4) { blocks = no_props ∷ []; snapshot = snapshot; clock = snapshot; log = log; writes = writes }
+abbrev pub inside : ℕ → ℕ → List LogRow → List Row → Core
+inside patience snapshot log writes = record (opening 4 [] patience 4) { blocks = begun no_props [] ∷ []; snapshot = snapshot; clock = snapshot; log = log; writes = writes }
 
-abbrev outside : ℕ → Core
+abbrev pub outside : ℕ → Core
 outside patience = opening 4 [] patience 4
 
-abbrev logged : ℕ → ℕ → LogRow
+abbrev pub logged : ℕ → ℕ → LogRow
 logged word value = record { word = word; value = value }
 
 -- a whole word, and the second byte of one
-abbrev all_of : ℕ → ℕ → Row
+abbrev pub all_of : ℕ → ℕ → Row
 all_of word value = record { word = word; mask = 0xffffffffffffffff; value = value }
 
-abbrev byte_of : ℕ → ℕ → Row
+abbrev pub byte_of : ℕ → ℕ → Row
 byte_of word byte = record { word = word; mask = 0xff00; value = 256 * byte }
 
 -- eight bytes from a place on, at the first piece and at the second
@@ -91,7 +92,7 @@ second at = record { hint = R; width = U8; at = at; number = 1 }
 abbrev read : ℕ → Call
 read at = calls.Read R U8 at
 
-abbrev begin : Call
+abbrev pub begin : Call
 begin = calls.Begin no_props 3
 
 abbrev begins : Phase
@@ -100,10 +101,10 @@ begins = Begin (record { props = no_props; room = 3; again = false })
 abbrev loads : ℕ → Option Step
 loads cell = Some (steps.Load cell)
 
-abbrev exchanges : ℕ → ℕ → Option Step
+abbrev pub exchanges : ℕ → ℕ → Option Step
 exchanges from to = Some (steps.Cas 0 from to)
 
-abbrev stores : ℕ → ℕ → Option Step
+abbrev pub stores : ℕ → ℕ → Option Step
 stores cell value = Some (steps.Store cell value)
 
 -- ## Inquiries

@@ -3,6 +3,7 @@ pub mod Blocks
 pub mod Machines
 pub mod Refusals
 pub mod Ended
+pub mod Cancels
 pub mod Counts
 pub mod Phases
 pub mod Readings
@@ -11,4 +12,5 @@ pub mod KeptFields
 pub mod AnsweredEngines
 pub mod Logs
 pub mod Examples
+pub mod BlockExamples
 pub mod OneOutcome

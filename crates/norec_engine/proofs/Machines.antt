@@ -7,7 +7,8 @@ use Rattle.itm_types.specs.declared.access.WriteHint.{WriteHint}
 use Rattle.itm_types.specs.declared.access.Width.{Width}
 use Rattle.itm_types.specs.declared.access.Width.TheVariants.{U1, U2, U4, U8, F, D, M64, M128, M256, CF, CD}
 use Rattle.itm_types.specs.declared.datum.Datum.{Datum}
-use Rattle.itm_types.specs.declared.call.Props.{Props}
+use Rattle.itm_types.specs.declared.limits.TheConstants.{MAX_OPEN_BLOCKS}
+use Rattle.nest_frames.specs.Nest.{Frame}
 use Rattle.itm_types.specs.declared.call.Call.{Call}
 use Rattle.itm_types.specs.declared.call.Call.TheVariants.{Commit, Read, Write}
 use Rattle.itm_types.specs.declared.call.Refusal.{Refusal}
@@ -49,21 +50,21 @@ some_open b outer later = ap (λ (x : Bool). or_else (unless x Outside) later) (
 -- ## Reads
 
 reads_slice : (now arena : List ℕ) (b : Block) (outer : List Block) (wrote : Bool) (hint : ReadHint) (width : Width) (at : ℕ) → at + size_of width ≤ 8 * length now
-    → (after 1 (over (bytes_of now) (b ∷ outer) arena wrote) (Read hint width at) ≡ over (bytes_of now) (b ∷ outer) arena wrote)
-    × (reply 1 (over (bytes_of now) (b ∷ outer) arena wrote) (Read hint width at) ≡ Bytes (record { items = slice (bytes_of now) at (size_of width) }))
+    → (after MAX_OPEN_BLOCKS (over (bytes_of now) (b ∷ outer) arena wrote) (Read hint width at) ≡ over (bytes_of now) (b ∷ outer) arena wrote)
+    × (reply MAX_OPEN_BLOCKS (over (bytes_of now) (b ∷ outer) arena wrote) (Read hint width at) ≡ Bytes (record { items = slice (bytes_of now) at (size_of width) }))
 reads_slice now arena b outer wrote hint width at l =
     let s : State = over (bytes_of now) (b ∷ outer) arena wrote in
     let none = some_open b outer (in_shared s at (size_of width)) ∙ ap (λ x. unless x OutOfRange) (in_memory now at (size_of width) l) in
     (ap (λ r. after_unless r s s) none, ap (λ r. reply_unless r (answer s (Read hint width at))) none)
 
 -- a read of these bytes by an open engine
-pub reads : (rows : List Row) (blocks : List Props) (arena m : List ℕ) (words : ℕ) (hint : ReadHint) (width : Width) (at : ℕ) → is_inside blocks ≡ true → IsMemory words m
+pub reads : (rows : List Row) (blocks : List Frame) (arena m : List ℕ) (words : ℕ) (hint : ReadHint) (width : Width) (at : ℕ) → is_inside blocks ≡ true → IsMemory words m
     → (bytes : List ℕ) → at + size_of width ≤ 8 * words → bytes ≡ slice (bytes_of (overlay m rows)) at (size_of width)
-    → (state_over rows blocks arena m ≡ after 1 (state_over rows blocks arena m) (Read hint width at)) × (Bytes (record { items = bytes }) ≡ reply 1 (state_over rows blocks arena m) (Read hint width at))
+    → (state_over rows blocks arena m ≡ after MAX_OPEN_BLOCKS (state_over rows blocks arena m) (Read hint width at)) × (Bytes (record { items = bytes }) ≡ reply MAX_OPEN_BLOCKS (state_over rows blocks arena m) (Read hint width at))
 reads rows [] arena m words hint width at o mem bytes l got = absurd (cc)
-reads rows (props ∷ outer) arena m words hint width at o mem bytes l got =
+reads rows (f ∷ fs) arena m words hint width at o mem bytes l got =
     let size : length (overlay m rows) ≡ words = length-overlay m rows ∙ mem.0 in
-    let r = reads_slice (overlay m rows) arena (block_over props m) (blocks_over outer m) (is_some_row rows) hint width at (omega arith) in
+    let r = reads_slice (overlay m rows) arena (block_over f arena m) (blocks_over fs arena m) (is_some_row rows) hint width at (omega arith) in
     (sym r.0, ap (λ (bs : List ℕ). Bytes (record { items = bs })) got ∙ sym r.1)
 
 -- ## Writes
@@ -101,8 +102,8 @@ some_bytes CF = omega arith
 some_bytes CD = omega arith
 
 writes_bytes : (now arena : List ℕ) (b : Block) (outer : List Block) (wrote : Bool) (hint : WriteHint) (value : Datum) (at : ℕ) → at + size_of value.width ≤ 8 * length now
-    → (after 1 (over (bytes_of now) (b ∷ outer) arena wrote) (Write hint at value) ≡ over (with_slice (bytes_of now) at value.bytes.items) (b ∷ outer) arena true)
-    × (reply 1 (over (bytes_of now) (b ∷ outer) arena wrote) (Write hint at value) ≡ Done)
+    → (after MAX_OPEN_BLOCKS (over (bytes_of now) (b ∷ outer) arena wrote) (Write hint at value) ≡ over (with_slice (bytes_of now) at value.bytes.items) (b ∷ outer) arena true)
+    × (reply MAX_OPEN_BLOCKS (over (bytes_of now) (b ∷ outer) arena wrote) (Write hint at value) ≡ Done)
 writes_bytes now arena b outer wrote hint value at l =
     let s : State = over (bytes_of now) (b ∷ outer) arena wrote in
     let none = some_open b outer (in_shared s at (size_of value.width)) ∙ ap (λ x. unless x OutOfRange) (in_memory now at (size_of value.width) l) in
@@ -112,22 +113,22 @@ writes_bytes now arena b outer wrote hint value at l =
     )
 
 -- a write by an open engine, whose write set then has its pieces
-pub writes : (rows : List Row) (blocks : List Props) (arena m : List ℕ) (words : ℕ) (hint : WriteHint) (value : Datum) (at : ℕ) → is_inside blocks ≡ true → IsMemory words m
+pub writes : (rows : List Row) (blocks : List Frame) (arena m : List ℕ) (words : ℕ) (hint : WriteHint) (value : Datum) (at : ℕ) → is_inside blocks ≡ true → IsMemory words m
     → (rows' : List Row) → at + size_of value.width ≤ 8 * words → is_some_row rows' ≡ true → bytes_of (overlay m rows') ≡ with_slice (bytes_of (overlay m rows)) at value.bytes.items
-    → (state_over rows' blocks arena m ≡ after 1 (state_over rows blocks arena m) (Write hint at value)) × (Done ≡ reply 1 (state_over rows blocks arena m) (Write hint at value))
+    → (state_over rows' blocks arena m ≡ after MAX_OPEN_BLOCKS (state_over rows blocks arena m) (Write hint at value)) × (Done ≡ reply MAX_OPEN_BLOCKS (state_over rows blocks arena m) (Write hint at value))
 writes rows [] arena m words hint value at o mem rows' l some is = absurd (cc)
-writes rows (props ∷ outer) arena m words hint value at o mem rows' l some is =
+writes rows (f ∷ fs) arena m words hint value at o mem rows' l some is =
     let size : length (overlay m rows) ≡ words = length-overlay m rows ∙ mem.0 in
-    let r = writes_bytes (overlay m rows) arena (block_over props m) (blocks_over outer m) (is_some_row rows) hint value at (omega arith) in
-    ((λ i. over (is i) (blocks_over (props ∷ outer) m) arena (some i)) ∙ sym r.0, sym r.1)
+    let r = writes_bytes (overlay m rows) arena (block_over f arena m) (blocks_over fs arena m) (is_some_row rows) hint value at (omega arith) in
+    ((λ i. over (is i) (blocks_over (f ∷ fs) arena m) arena (some i)) ∙ sym r.0, sym r.1)
 
 -- ## Refusals
 
-refuses : (s : State) (call : Call) (why : Refusal) → refusal 1 s call ≡ Some why → (s ≡ after 1 s call) × (Refused why ≡ reply 1 s call)
+pub refuses : (s : State) (call : Call) (why : Refusal) → refusal MAX_OPEN_BLOCKS s call ≡ Some why → (s ≡ after MAX_OPEN_BLOCKS s call) × (Refused why ≡ reply MAX_OPEN_BLOCKS s call)
 refuses s call why e = (sym (ap (λ r. after_unless r s (effect s call)) e), sym (ap (λ r. reply_unless r (answer s call)) e))
 
 -- a read or a write of these bytes
-refusal_of : (s : State) (call : Call) (at size : ℕ) → access_of call ≡ Some (at, size) → refusal 1 s call ≡ or_else (needs_open s) (in_shared s at size)
+refusal_of : (s : State) (call : Call) (at size : ℕ) → access_of call ≡ Some (at, size) → refusal MAX_OPEN_BLOCKS s call ≡ or_else (needs_open s) (in_shared s at size)
 refusal_of s (Read hint width at') at size e =
     let same : (at', size_of width) ≡ (at, size) = cc in
     ap (λ (x : ℕ × ℕ). or_else (needs_open s) (in_shared s x.0 x.1)) same
@@ -136,14 +137,14 @@ refusal_of s (Write hint at' value) at size e =
     ap (λ (x : ℕ × ℕ). or_else (needs_open s) (in_shared s x.0 x.1)) same
 refusal_of s call at size e = absurd (cc)
 
-pub open_is : (rows : List Row) (blocks : List Props) (arena m : List ℕ) → is_open (state_over rows blocks arena m) ≡ is_inside blocks
+pub open_is : (rows : List Row) (blocks : List Frame) (arena m : List ℕ) → is_open (state_over rows blocks arena m) ≡ is_inside blocks
 open_is rows [] arena m = refl
-open_is rows (props ∷ outer) arena m = lt-ltb 0 (length (blocks_over (props ∷ outer) m)) (omega arith)
+open_is rows (f ∷ fs) arena m = lt-ltb 0 (length (blocks_over (f ∷ fs) arena m)) (omega arith)
 
 -- is refused by an engine as by the state that it stands for
-pub access_refused : (rows : List Row) (blocks : List Props) (arena m : List ℕ) (words : ℕ) (call : Call) (at size : ℕ) (why : Refusal) → IsMemory words m
+pub access_refused : (rows : List Row) (blocks : List Frame) (arena m : List ℕ) (words : ℕ) (call : Call) (at size : ℕ) (why : Refusal) → IsMemory words m
     → access_of call ≡ Some (at, size) → access_refusal (is_inside blocks) words at size ≡ Some why
-    → (state_over rows blocks arena m ≡ after 1 (state_over rows blocks arena m) call) × (Refused why ≡ reply 1 (state_over rows blocks arena m) call)
+    → (state_over rows blocks arena m ≡ after MAX_OPEN_BLOCKS (state_over rows blocks arena m) call) × (Refused why ≡ reply MAX_OPEN_BLOCKS (state_over rows blocks arena m) call)
 access_refused rows blocks arena m words call at size why mem is e =
     let len = length-bytes_of (overlay m rows) in
     let size_is : length (overlay m rows) ≡ words = length-overlay m rows ∙ mem.0 in
@@ -154,8 +155,8 @@ access_refused rows blocks arena m words call at size why mem is e =
 -- ## Commits
 
 -- of the outermost block
-pub commits : (rows : List Row) (blocks : List Props) (arena m : List ℕ) → length blocks ≡ 1
-    → after 1 (state_over rows blocks arena m) Commit ≡ record { memory = bytes_of (overlay m rows); arena = arena; blocks = []; wrote = is_some_row rows }
+pub commits : (rows : List Row) (blocks : List Frame) (arena m : List ℕ) → length blocks ≡ 1
+    → after MAX_OPEN_BLOCKS (state_over rows blocks arena m) Commit ≡ record { memory = bytes_of (overlay m rows); arena = arena; blocks = []; wrote = is_some_row rows }
 commits rows [] arena m o = absurd (cc)
-commits rows (props ∷ []) arena m o = refl
-commits rows (props ∷ next ∷ outer) arena m o = absurd (omega (arith, o))
+commits rows (f ∷ []) arena m o = refl
+commits rows (f ∷ g ∷ fs) arena m o = absurd (omega (arith, o))

@@ -12,7 +12,7 @@ use Rattle.norec_engine.specs.declared.answer.Next.{Next}
 use Rattle.norec_engine.specs.declared.answer.Next.TheVariants.{Step as Asks, Answer as Answers}
 use Rattle.norec_engine.specs.declared.phase.Phase.{Phase}
 use Rattle.norec_engine.specs.declared.phase.Phase.TheVariants as at
-use Rattle.norec_engine.specs.Core.{Core, came, handed, ended, is_inside, in_transaction}
+use Rattle.norec_engine.specs.Core.{Core, came, handed, ended, rolled_back, is_inside, in_transaction}
 use Rattle.norec_engine.specs.Stands.{SeesOne}
 use Rattle.norec_engine.specs.Order.{asked, asked_in, asked_from, tries_at, tries_after}
 use Rattle.norec_engine.specs.Endings.{EndsSo, IsEnding, ending_at, ending_after}
@@ -86,9 +86,9 @@ module _ (mid new new' : Core) (end : Option Answer)
       let e' = g'.stays in
       let m = one_memory (ap (λ (c : Core). c.words) e) (ap (λ (c : Core). c.words) e') in
       let one : r ≡ r' = g.reply_is m.0 m.1 (Agrees-drop m.0 mid.entry new.log m.2) ∙ sym (g'.reply_is m.0 m.1 (Agrees-drop m.0 mid.entry new'.log m.3)) in
-      let writes : new.writes ≡ new'.writes = g.writes ∙ (ap (writes_after mid.writes call) one ∙ sym g'.writes) in
-      let blocks : new.blocks ≡ new'.blocks = g.blocks ∙ (ap (blocks_after mid.blocks call) one ∙ sym g'.blocks) in
-      let arena : new.arena ≡ new'.arena = g.arena ∙ (ap (arena_after mid.arena call) one ∙ sym g'.arena) in
+      let writes : new.writes ≡ new'.writes = g.writes ∙ (ap (writes_after mid call) one ∙ sym g'.writes) in
+      let blocks : new.blocks ≡ new'.blocks = g.blocks ∙ (ap (blocks_after mid call) one ∙ sym g'.blocks) in
+      let arena : new.arena ≡ new'.arena = g.arena ∙ (ap (arena_after mid call) one ∙ sym g'.arena) in
       let log = same_log (ap is_inside blocks) in (
         one,
         e ∙ ((λ i. record mid {
@@ -110,9 +110,9 @@ module _ (mid new new' : Core) (end : Option Answer)
   ends_both : (a : Answer) → Ends mid a new → Ends mid a new' → new ≡ new'
   ends_both (Reply r) g g' = (replies_both mid.doing r r g g').1
   ends_both (Committed at wrote) g g' = g.stays ∙ ((λ i. record (ended mid) { stage = stage i; tries = tries i }) ∙ sym g'.stays)
-  ends_both (Conflict clock word) g g' = g.stays ∙ ((λ i. record (ended mid) { stage = stage i; tries = tries i }) ∙ sym g'.stays)
+  ends_both (Conflict clock word) g g' = g.stays ∙ ((λ i. record (rolled_back mid) { stage = stage i; tries = tries i }) ∙ sym g'.stays)
   ends_both (Busy clock) g g' = g.stays ∙ ((λ i. record (ended mid) { stage = stage i; tries = tries i }) ∙ sym g'.stays)
-  ends_both (Full at) g g' = g.stays ∙ ((λ i. record (ended mid) { stage = stage i; tries = tries i; snapshot = snapshot i }) ∙ sym g'.stays)
+  ends_both (Full at) g g' = g.stays ∙ ((λ i. record (rolled_back mid) { stage = stage i; tries = tries i; snapshot = snapshot i }) ∙ sym g'.stays)
 
   -- neither ends, so both reply
   none_both : (a a' : Answer) → IsEnding None a → IsEnding None a' → Ends mid a new → Ends mid a' new' → (Answers a ≡ Answers a') × (new ≡ new')

@@ -8,7 +8,7 @@ use Rattle.norec_engine.specs.declared.data.Data.{Data}
 use Rattle.norec_engine.specs.Fields.{IsOpen, InPhase}
 
 -- a row that is stored is one of the write set
-pub store_row : (d : Data) (row : ℕ) (got : Option ℕ) → InPhase d (at.Store row got) → IsOpen d × (row < length d.writes.rows)
+pub store_row : (d : Data) (row : ℕ) (got : Option ℕ) → InPhase d (at.Store row got) → IsOpen d × (row < length d.frames.writes.rows)
 store_row d row None s = (s.0.is_open, s.1)
 store_row d row (Some word) s = (s.0.is_open, s.1)
 

@@ -77,6 +77,11 @@ pub on_ok : {A E : Type 0} {P : Type 0} (r : Result A E) → OnOk r P → is_err
 on_ok (Ok x) h e = h
 on_ok (Err x) h e = absurd (cc)
 
+-- what holds at any result holds where it is an error
+pub either_way : {A E : Type 0} {P : Type 0} (r : Result A E) → P → OnErr r P
+either_way (Ok x) h = tt
+either_way (Err x) h = h
+
 -- ## Rows within the memory
 
 AllWritesWithin-put : (words : ℕ) (rows : List Row) (word mask value : ℕ) → AllWritesWithin words rows → word < words → AllWritesWithin words (put rows word mask value)

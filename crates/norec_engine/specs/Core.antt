@@ -3,7 +3,7 @@ use Rattle.std.specs.Prelude.{ℕ, ◌+◌, ◌==◌, ◌&&◌, not, zero, suc, 
 use Rattle.itm_types.specs.declared.row.LogRow.{LogRow}
 use Rattle.write_set.specs.declared.row.Row.{Row}
 use Rattle.itm_types.specs.declared.call.Call.{Call}
-use Rattle.itm_types.specs.declared.call.Props.{Props}
+use Rattle.nest_frames.specs.Nest.{Frame, arena_back}
 use Rattle.itm_types.specs.declared.step.Step.{Step}
 use Rattle.itm_types.specs.declared.step.Step.TheVariants.{Load, Store, Cas}
 use Rattle.norec_engine.specs.declared.phase.Phase.{Phase}
@@ -19,7 +19,7 @@ pub record Core : Type 0 where
   pub fresh : List LogRow  -- the words loaded since then
   pub log : List LogRow  -- the value log
   pub writes : List Row  -- the write set
-  pub blocks : List Props  -- the open blocks, innermost first
+  pub blocks : List Frame  -- the open blocks, innermost first: what each goes back to
   pub holds : Bool  -- it holds the clock
   pub done : ℕ  -- how many rows of the write set were stored since it took the clock
   pub freed : Bool  -- the last step freed the clock
@@ -58,9 +58,15 @@ opening words arena patience max_commits = record {
 }
 
 -- some block is open
-abbrev pub is_inside : List Props → Bool
+abbrev pub is_inside : List Frame → Bool
 is_inside [] = false
-is_inside (props ∷ outer) = true
+is_inside (b ∷ bs) = true
+
+-- one block is open
+abbrev pub is_outermost : List Frame → Bool
+is_outermost [] = false
+is_outermost (b ∷ []) = true
+is_outermost (b ∷ p ∷ bs) = false
 
 abbrev pub in_transaction : Core → Bool
 in_transaction c = is_inside c.blocks
@@ -101,3 +107,7 @@ handed c seen = handed_to c c.waits seen
 -- the engine outside, with nothing kept
 abbrev pub ended : Core → Core
 ended c = record c { waits = None; doing = None; again = false; freed = false; fresh = []; done = 0; log = []; writes = []; blocks = [] }
+
+-- the same, with every open block rolled back: what they logged of the arena stands there again
+abbrev pub rolled_back : Core → Core
+rolled_back c = record (ended c) { arena = arena_back c.blocks c.arena }

@@ -11,7 +11,7 @@ use Rattle.norec_engine.specs.declared.phase.Aim.TheVariants as aims
 use Rattle.norec_engine.specs.declared.phase.Phase.{Phase}
 use Rattle.norec_engine.specs.declared.phase.Phase.TheVariants.{Begin, Confirm, RoundStart, RoundRow, RoundEnd, Exchange, Free}
 use Rattle.norec_engine.specs.Rows.{row_at}
-use Rattle.norec_engine.specs.Core.{Core, in_transaction}
+use Rattle.norec_engine.specs.Core.{Core, is_outermost}
 
 -- once a round has succeeded: a commit finds as many done as may be
 abbrev pub aimed_ending : Aim → ℕ → Option Answer
@@ -39,10 +39,13 @@ commit_ending c = if length c.writes == 0 then Some (Committed (c.snapshot / 2) 
 -- and of any call
 abbrev pub ending_at : Core → Call → Option Answer
 ending_at c (calls.Begin props room) = None
-ending_at c calls.Commit = if in_transaction c then commit_ending c else None
+ending_at c calls.Commit = if is_outermost c.blocks then commit_ending c else None
+ending_at c (calls.Abort outer) = None
 ending_at c calls.InTransaction = None
 ending_at c (calls.Read hint width at) = None
 ending_at c (calls.Write hint at value) = None
+ending_at c (calls.Log width at) = None
+ending_at c (calls.LogBytes at size) = None
 ending_at c (calls.Load width at) = None
 ending_at c (calls.Save at value) = None
 

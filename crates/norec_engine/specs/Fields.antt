@@ -5,7 +5,7 @@ use Rattle.itm_types.specs.declared.row.LogRow.{LogRow}
 use Rattle.write_set.specs.declared.row.Row.{Row}
 use Rattle.itm_types.specs.declared.call.Call.{Call}
 use Rattle.itm_types.specs.declared.call.Call.TheVariants.{Begin, Commit, Read}
-use Rattle.itm_types.specs.declared.call.Props.{Props}
+use Rattle.nest_frames.specs.Nest.{Frame}
 use Rattle.itm_types.specs.declared.call.Refusal.{Refusal}
 use Rattle.itm_types.specs.declared.call.Refusal.TheVariants.{Outside, OutOfRange}
 use Rattle.itm_types.specs.declared.step.Step.{Step}
@@ -28,9 +28,9 @@ use Rattle.norec_engine.specs.declared.answer.Answer.{Answer}
 use Rattle.norec_engine.specs.declared.answer.Next.{Next}
 use Rattle.norec_engine.specs.declared.answer.Next.TheVariants.{Step as Asks, Answer as Answers}
 use Rattle.norec_engine.specs.Rows.{write_at, is_covered, AllWithin, AllWritesWithin}
-use Rattle.write_set.specs.Marks.{start, unwritten}
+use Rattle.write_set.specs.Marks.{unwritten}
 use Rattle.write_set.specs.Rows.{overlay, AreRows}
-use Rattle.norec_engine.specs.Core.{Core, is_inside}
+use Rattle.norec_engine.specs.Core.{Core, is_inside, is_outermost}
 use Rattle.norec_engine.specs.Order.{word_of, step_in, asked_in}
 use Rattle.norec_engine.specs.Proceeds.{Proceeds, own_rows}
 use Rattle.norec_engine.specs.Endings.{IsEnding}
@@ -67,10 +67,10 @@ again_of _ = false
 
 -- the step that the phase waits for
 abbrev pub step_of : Data → Phase → Step
-step_of d phase = step_in d.log.rows d.snapshot d.writes.rows phase
+step_of d phase = step_in d.log.rows d.snapshot d.frames.writes.rows phase
 
 abbrev pub waits_of : Data → Phase → Option Step
-waits_of d phase = asked_in d.log.rows d.snapshot d.writes.rows phase
+waits_of d phase = asked_in d.log.rows d.snapshot d.frames.writes.rows phase
 
 abbrev pub fresh_of : List LogRow → Phase → List LogRow
 fresh_of log (at.Confirm r value) = record { word = word_of r; value = value } ∷ []
@@ -99,13 +99,8 @@ abbrev pub tries_of : Phase → ℕ → ℕ
 tries_of at.Idle tries = 0
 tries_of _ tries = tries
 
--- the open blocks
-abbrev pub blocks_of : Option Props → List Props
-blocks_of None = []
-blocks_of (Some props) = props ∷ []
-
 abbrev pub in_block : Data → Bool
-in_block d = is_inside (blocks_of d.block)
+in_block d = is_inside d.frames.blocks
 
 -- the engine with these fields, in this phase
 abbrev pub core : Data → Phase → Core
@@ -118,10 +113,10 @@ core d phase = record {
   clock = d.clock;
   fresh = fresh_of d.log.rows phase;
   log = d.log.rows;
-  writes = d.writes.rows;
-  blocks = blocks_of d.block;
+  writes = d.frames.writes.rows;
+  blocks = d.frames.blocks;
   holds = holds_of phase;
-  done = done_of d.writes.rows phase;
+  done = done_of d.frames.writes.rows phase;
   freed = false;
   got = got_of phase;
   doing = doing_of phase;
@@ -148,26 +143,33 @@ abbrev pub first_of : Aim → ℕ
 first_of (aims.Read r) = 2 * r.number + 2
 first_of aims.Commit = 1
 
+-- the rows of the open blocks lie within the memory, and the outermost one began with none
+abbrev pub AreFrames : ℕ → List Frame → Type 0
+AreFrames words [] = Unit {0}
+AreFrames words (b ∷ []) = b.rows ≡ []
+AreFrames words (b ∷ p ∷ bs) = AllWritesWithin words b.rows × AreRows b.rows × AreFrames words (p ∷ bs)
+
 -- in every phase
-pub record IsBounded (words : ℕ) (limits : Limits) (snapshot : ℕ) : Type 0 where
+pub record IsBounded (words : ℕ) (limits : Limits) (snapshot size : ℕ) (arena : List ℕ) : Type 0 where
   pub patient : (0 < limits.patience) × (limits.patience ≤ MAX_PATIENCE)
   pub commits : limits.max_commits ≤ MAX_COMMITS
   pub small : words ≤ MAX_WORDS
+  pub sized : size ≡ length arena
   pub even : snapshot % 2 ≡ 0
 
--- a transaction is open, and its words lie within the memory; no mark of the write set is open
+-- a transaction is open, and its words lie within the memory
 pub record IsOpen (d : Data) : Type 0 where
   pub is_open : in_block d ≡ true
   pub log : AllWithin d.words d.log.rows
-  pub writes : AllWritesWithin d.words d.writes.rows
-  pub rows : AreRows d.writes.rows
-  pub unmarked : d.writes.inner ≡ start
+  pub writes : AllWritesWithin d.words d.frames.writes.rows
+  pub rows : AreRows d.frames.writes.rows
+  pub frames : AreFrames d.words d.frames.blocks
   pub tries : d.tries ≤ d.limits.patience
 
 pub record IsOutside (d : Data) : Type 0 where
   pub is_open : in_block d ≡ false
   pub log : d.log.rows ≡ []
-  pub writes : d.writes ≡ unwritten
+  pub writes : d.frames.writes ≡ unwritten
   pub tries : d.tries ≤ d.limits.patience
 
 -- the pieces before this one are gathered, and there is room in the log for the others
@@ -177,18 +179,19 @@ pub record IsReading (d : Data) (r : Reading) : Type 0 where
   pub room : count r - r.number ≤ d.log.room
   pub since : d.entry ≤ length d.log.rows
   pub grown : length d.log.rows ≤ d.entry + r.number
-  pub has : (m : List ℕ) → IsMemory d.words m → Agrees m (own_rows d.entry d.log.rows) → d.gathered.items ≡ gathered (overlay m d.writes.rows) (take r.number (parts r))
+  pub has : (m : List ℕ) → IsMemory d.words m → Agrees m (own_rows d.entry d.log.rows) → d.gathered.items ≡ gathered (overlay m d.frames.writes.rows) (take r.number (parts r))
   pub sized : length d.gathered.items ≡ length (gathered [] (take r.number (parts r)))
 
 -- the write set does not have all of this piece
 pub record MayRead (d : Data) (r : Reading) : Type 0 where
   pub reading : IsReading d r
   pub some : r.number < count r
-  pub uncovered : is_covered d.writes.rows (part r) ≡ false
+  pub uncovered : is_covered d.frames.writes.rows (part r) ≡ false
 
 -- there is something to write
 pub record MayCommit (d : Data) : Type 0 where
-  pub some : d.writes.rows ≢ []
+  pub outermost : is_outermost d.frames.blocks ≡ true
+  pub some : d.frames.writes.rows ≢ []
   pub grown : length d.log.rows ≤ d.entry
 
 abbrev pub Aims : Data → Aim → Type 0
@@ -205,7 +208,8 @@ pub record InRound (d : Data) (aim : Aim) (steps : ℕ) : Type 0 where
 -- the clock is held: so many steps may have been asked for
 pub record IsHolding (d : Data) (steps : ℕ) : Type 0 where
   pub is_open : IsOpen d
-  pub some : 0 < length d.writes.rows
+  pub outermost : is_outermost d.frames.blocks ≡ true
+  pub some : 0 < length d.frames.writes.rows
   pub settled : d.clock ≡ d.snapshot
   pub free : d.snapshot / 2 < d.limits.max_commits
   pub spent : d.spent ≤ 1 + d.tries * round_of aims.Commit d + steps
@@ -219,13 +223,13 @@ InPhase d (at.RoundStart aim) = InRound d aim 1
 InPhase d (at.RoundRow aim row) = InRound d aim (row + 2) × (d.clock % 2 ≡ 0) × (row < length d.log.rows)
 InPhase d (at.RoundEnd aim) = InRound d aim (length d.log.rows + 2) × (d.clock % 2 ≡ 0)
 InPhase d at.Exchange = IsOpen d × MayCommit d × (d.clock ≡ d.snapshot) × (d.snapshot / 2 < d.limits.max_commits) × (d.spent ≤ 1 + d.tries * round_of aims.Commit d)
-InPhase d (at.BackLoad row) = IsHolding d (2 * row + 1) × (row < length d.writes.rows) × ((write_at d.writes.rows row).mask ≢ whole)
-InPhase d (at.Store row None) = IsHolding d (2 * row + 1) × (row < length d.writes.rows) × ((write_at d.writes.rows row).mask ≡ whole)
-InPhase d (at.Store row (Some word)) = IsHolding d (2 * row + 2) × (row < length d.writes.rows)
-InPhase d at.Free = IsHolding d (2 * length d.writes.rows + 1)
+InPhase d (at.BackLoad row) = IsHolding d (2 * row + 1) × (row < length d.frames.writes.rows) × ((write_at d.frames.writes.rows row).mask ≢ whole)
+InPhase d (at.Store row None) = IsHolding d (2 * row + 1) × (row < length d.frames.writes.rows) × ((write_at d.frames.writes.rows row).mask ≡ whole)
+InPhase d (at.Store row (Some word)) = IsHolding d (2 * row + 2) × (row < length d.frames.writes.rows)
+InPhase d at.Free = IsHolding d (2 * length d.frames.writes.rows + 1)
 
 pub record IsSound (d : Data) (phase : Phase) : Type 0 where
-  pub bounds : IsBounded d.words d.limits d.snapshot
+  pub bounds : IsBounded d.words d.limits d.snapshot d.frames.size d.arena
   pub reached : d.snapshot ≤ d.clock
   pub in_phase : InPhase d phase
 
@@ -297,14 +301,13 @@ pub record Stays (old new : Data) : Type 0 where
   pub log : in_block new ≡ true → new.log.rows ≡ old.log.rows
   pub snapshot : new.snapshot ≡ old.snapshot
 
--- the transaction is over, and all else as before
-pub record IsEnded (old new : Data) : Type 0 where
-  pub block : new.block ≡ None
+-- the transaction is over, with this arena, and all else as before
+pub record IsEnded (old : Data) (left : List ℕ) (new : Data) : Type 0 where
+  pub frames : new.frames ≡ record { writes = unwritten; size = old.frames.size; blocks = [] }
   pub log : new.log.rows ≡ []
-  pub writes : new.writes ≡ unwritten
   pub words : new.words ≡ old.words
   pub limits : new.limits ≡ old.limits
-  pub arena : new.arena ≡ old.arena
+  pub arena : new.arena ≡ left
   pub snapshot : new.snapshot ≡ old.snapshot
   pub clock : new.clock ≡ old.clock
   pub tries : new.tries ≡ old.tries
@@ -313,7 +316,7 @@ pub record IsEnded (old new : Data) : Type 0 where
 
 -- a round may be tried
 pub record MayTry (d : Data) (aim : Aim) : Type 0 where
-  pub bounds : IsBounded d.words d.limits d.snapshot
+  pub bounds : IsBounded d.words d.limits d.snapshot d.frames.size d.arena
   pub is_open : IsOpen d
   pub may : Aims d aim
   pub later : d.snapshot < d.clock
@@ -321,7 +324,7 @@ pub record MayTry (d : Data) (aim : Aim) : Type 0 where
 
 -- the next piece of a read may be taken
 pub record MayGather (d : Data) (r : Reading) : Type 0 where
-  pub bounds : IsBounded d.words d.limits d.snapshot
+  pub bounds : IsBounded d.words d.limits d.snapshot d.frames.size d.arena
   pub is_open : IsOpen d
   pub reading : IsReading d r
   pub settled : d.clock ≡ d.snapshot
@@ -329,14 +332,14 @@ pub record MayGather (d : Data) (r : Reading) : Type 0 where
 
 -- a round goes on: its rows before this one are as logged
 pub record InRows (d : Data) (aim : Aim) (row : ℕ) : Type 0 where
-  pub bounds : IsBounded d.words d.limits d.snapshot
+  pub bounds : IsBounded d.words d.limits d.snapshot d.frames.size d.arena
   pub round : InRound d aim (row + 1)
   pub steady : d.clock % 2 ≡ 0
   pub far : row ≤ length d.log.rows
 
 -- the clock may be taken
 pub record MayExchange (d : Data) : Type 0 where
-  pub bounds : IsBounded d.words d.limits d.snapshot
+  pub bounds : IsBounded d.words d.limits d.snapshot d.frames.size d.arena
   pub is_open : IsOpen d
   pub may : MayCommit d
   pub settled : d.clock ≡ d.snapshot
@@ -344,6 +347,6 @@ pub record MayExchange (d : Data) : Type 0 where
 
 -- the clock is held, and this many rows are stored
 pub record InStores (d : Data) (row : ℕ) : Type 0 where
-  pub bounds : IsBounded d.words d.limits d.snapshot
+  pub bounds : IsBounded d.words d.limits d.snapshot d.frames.size d.arena
   pub holding : IsHolding d (2 * row)
-  pub far : row ≤ length d.writes.rows
+  pub far : row ≤ length d.frames.writes.rows

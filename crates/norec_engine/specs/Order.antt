@@ -16,7 +16,7 @@ use Rattle.word_pieces.specs.Pieces.{pieces_of}
 use Rattle.norec_engine.specs.Rows.{row_at, write_at, value_into, is_covered}
 use Rattle.itm_types.specs.declared.step.Step.{Step}
 use Rattle.itm_types.specs.declared.step.Step.TheVariants as steps
-use Rattle.norec_engine.specs.Core.{Core, in_transaction}
+use Rattle.norec_engine.specs.Core.{Core, in_transaction, is_outermost}
 
 -- one more round, or the end
 abbrev pub try_stage : ℕ → ℕ → Aim → Phase
@@ -74,11 +74,14 @@ commit_stage c = if length c.writes == 0 then Idle else exchange_stage c.max_com
 -- where a call stands as it comes
 abbrev pub stage_at : Core → Call → Bool → Phase
 stage_at c (calls.Begin props room) again = if in_transaction c then Idle else Begin (record { props = props; room = room; again = again })
-stage_at c calls.Commit again = if in_transaction c then commit_stage c else Idle
+stage_at c calls.Commit again = if is_outermost c.blocks then commit_stage c else Idle
+stage_at c (calls.Abort outer) again = Idle
 stage_at c calls.InTransaction again = Idle
 stage_at c (calls.Read hint width at) again =
     if in_transaction c && nat_le (at + size_of width) (8 * c.words) then load_stage c.writes (record { hint = hint; width = width; at = at; number = 0 }) else Idle
 stage_at c (calls.Write hint at value) again = Idle
+stage_at c (calls.Log width at) again = Idle
+stage_at c (calls.LogBytes at size) again = Idle
 stage_at c (calls.Load width at) again = Idle
 stage_at c (calls.Save at value) again = Idle
 

@@ -1,18 +1,19 @@
 -- What an engine may do next. `mid` is the engine with a call that came, or with the value of the step that it waited for.
-use Rattle.std.specs.Prelude.{◌≡◌, ◌≢◌, ◌⊎◌, ℕ, zero, suc, ◌+◌, ◌*◌, ◌/◌, ◌%◌, ◌<◌, ◌≤◌, Bool, true, false, List, [], ◌∷◌, ◌++◌, Option, None, Some, slice_get, slice_set, take, drop, length}
-use Rattle.itm_types.specs.declared.limits.TheConstants.{MAX_COMMITS}
+use Rattle.std.specs.Prelude.{◌≡◌, ◌≢◌, ◌⊎◌, ℕ, zero, suc, ◌+◌, ◌*◌, ◌/◌, ◌%◌, ◌<◌, ◌≤◌, Bool, true, false, if◌then◌else◌, List, [], ◌∷◌, ◌++◌, Option, None, Some, slice_get, slice_set, take, drop, length}
+use Rattle.itm_types.specs.declared.limits.TheConstants.{MAX_OPEN_BLOCKS, MAX_COMMITS}
 use Rattle.itm_types.specs.declared.row.LogRow.{LogRow}
 use Rattle.write_set.specs.declared.row.Row.{Row}
 use Rattle.itm_types.specs.declared.call.Call.{Call}
-use Rattle.itm_types.specs.declared.call.Props.{Props}
-use Rattle.itm_types.specs.declared.call.Call.TheVariants.{Begin, Commit, Read, Write, Save}
+use Rattle.nest_frames.specs.Nest.{Frame, begun, closed, logged, log_of, rows_of, arena_back}
+use Rattle.undo_log.specs.Rollback.{found, put_back}
+use Rattle.itm_types.specs.Calls.{is_abort}
+use Rattle.itm_types.specs.declared.call.Call.TheVariants.{Begin, Commit, Abort, Read, Write, Log, LogBytes, Save}
 use Rattle.itm_types.specs.declared.call.Reply.{Reply as Replied}
-use Rattle.itm_types.specs.declared.call.Reply.TheVariants.{Done, Code, Refused}
+use Rattle.itm_types.specs.declared.call.Reply.TheVariants.{Done, Code}
 use Rattle.itm_types.specs.declared.step.Step.{Step}
 use Rattle.itm_types.specs.declared.step.Step.TheVariants.{Load, Store, Cas}
 use Rattle.itm_types.specs.Access.{size_of}
 use Rattle.word_pieces.specs.Pieces.{pieces_of, count_of}
-use Rattle.itm_model.specs.declared.limits.TheConstants.{MAX_DEPTH}
 use Rattle.itm_types.specs.Memory.{bytes_of, IsMemory, Agrees}
 use Rattle.itm_types.specs.Slices.{with_slice}
 use Rattle.itm_model.specs.Machine.{after, reply, undone}
@@ -21,8 +22,8 @@ use Rattle.norec_engine.specs.declared.answer.Answer.TheVariants.{Reply, Committ
 use Rattle.norec_engine.specs.declared.answer.Next.{Next}
 use Rattle.norec_engine.specs.declared.answer.Next.TheVariants.{Step as Asks, Answer as Answers}
 use Rattle.write_set.specs.Rows.{overlay}
-use Rattle.norec_engine.specs.Rows.{HaveRows, write_at, reserved_all, put_all}
-use Rattle.norec_engine.specs.Core.{Core, in_transaction, ended}
+use Rattle.norec_engine.specs.Rows.{AreRoomy, write_at, reserved_all, put_all}
+use Rattle.norec_engine.specs.Core.{Core, in_transaction, ended, rolled_back}
 use Rattle.norec_engine.specs.Stands.{stands_for}
 
 -- ## Lawful steps
@@ -72,29 +73,26 @@ abbrev pub recoded : Call → Bool → Replied → Replied
 recoded (Begin props room) true (Code n) = Code 9
 recoded _ again r = r
 
--- an accepted write puts its pieces in the write set, which keeps the order of first writing
-abbrev pub writes_after : List Row → Call → Replied → List Row
-writes_after writes (Write hint at value) Done = (let ps = pieces_of at (size_of value.width) in put_all (reserved_all writes ps) ps value.bytes.items)
-writes_after writes _ r = writes
+-- an accepted write puts its pieces in the write set, which keeps the order of first writing; a cancel goes back to the rows as at the block's begin
+abbrev pub writes_after : Core → Call → Replied → List Row
+writes_after c (Write hint at value) Done = (let ps = pieces_of at (size_of value.width) in put_all (reserved_all c.writes ps) ps value.bytes.items)
+writes_after c (Abort outer) (Code n) = if outer then [] else rows_of c.blocks
+writes_after c _ r = c.writes
 
--- an accepted save puts its bytes in the arena
-abbrev pub arena_after : List ℕ → Call → Replied → List ℕ
-arena_after arena (Save at value) Done = with_slice arena at value.bytes.items
-arena_after arena _ r = arena
+-- an accepted save puts its bytes in the arena; a cancel puts back what was logged
+abbrev pub arena_after : Core → Call → Replied → List ℕ
+arena_after c (Save at value) Done = with_slice c.arena at value.bytes.items
+arena_after c (Abort outer) (Code n) = if outer then arena_back c.blocks c.arena else put_back (log_of c.blocks) c.arena
+arena_after c _ r = c.arena
 
--- whether a transaction is open before a call's reply and after it: an accepted begin opens one, and no other reply opens or closes one
-abbrev pub OpensBy : Bool → Call → Replied → Bool → Type 0
-OpensBy was (Begin props room) (Code n) now = (was ≡ false) × (now ≡ true)
-OpensBy was (Begin props room) (Refused refusal) now = now ≡ was
-OpensBy was (Begin props room) _ now = ⊥
-OpensBy was Commit (Refused refusal) now = now ≡ was
-OpensBy was Commit _ now = ⊥
-OpensBy was _ r now = now ≡ was
-
--- an accepted begin opens a block with its properties
-abbrev pub blocks_after : List Props → Call → Replied → List Props
-blocks_after was (Begin props room) (Code n) = props ∷ was
-blocks_after was _ r = was
+-- an accepted begin opens a block, a commit closes one, a cancel takes one or all away, and a log adds to the innermost one
+abbrev pub blocks_after : Core → Call → Replied → List Frame
+blocks_after c (Begin props room) (Code n) = begun props c.writes ∷ c.blocks
+blocks_after c Commit Done = closed c.blocks
+blocks_after c (Abort outer) (Code n) = if outer then [] else drop 1 c.blocks
+blocks_after c (Log width at) Done = logged c.blocks (found c.arena at (size_of width))
+blocks_after c (LogBytes at size) Done = logged c.blocks (found c.arena at size)
+blocks_after c _ r = c.blocks
 
 -- the rows that the call in progress has logged itself
 abbrev pub own_rows : ℕ → List LogRow → List LogRow
@@ -102,8 +100,8 @@ own_rows entry log = drop entry log
 
 -- at a reply the engine is the plain machine's, over every memory that agrees with the log; the reply too, even over each that agrees with what the call itself has logged
 pub record Replies (mid : Core) (call : Call) (r : Replied) (new : Core) : Type 0 where
-  pub meets : (m : List ℕ) → IsMemory mid.words m → Agrees m new.log → stands_for new m ≡ after MAX_DEPTH (stands_for mid m) call
-  pub reply_is : (m : List ℕ) → IsMemory mid.words m → Agrees m (own_rows mid.entry new.log) → r ≡ recoded call mid.again (reply MAX_DEPTH (stands_for mid m) call)
+  pub meets : (m : List ℕ) → IsMemory mid.words m → Agrees m new.log → stands_for new m ≡ after MAX_OPEN_BLOCKS (stands_for mid m) call
+  pub reply_is : (m : List ℕ) → IsMemory mid.words m → Agrees m (own_rows mid.entry new.log) → r ≡ recoded call mid.again (reply MAX_OPEN_BLOCKS (stands_for mid m) call)
   pub stays : new ≡ record mid {
     stage = new.stage;
     tries = new.tries;
@@ -118,13 +116,12 @@ pub record Replies (mid : Core) (call : Call) (r : Replied) (new : Core) : Type 
     blocks = new.blocks;
     arena = new.arena;
   }
-  pub writes : new.writes ≡ writes_after mid.writes call r
-  pub arena : new.arena ≡ arena_after mid.arena call r
+  pub writes : new.writes ≡ writes_after mid call r
+  pub arena : new.arena ≡ arena_after mid call r
   pub free : mid.holds ≡ false
   pub unfreed : mid.freed ≡ false
-  pub still : in_transaction mid ≡ true → in_transaction new ≡ true
-  pub opens : OpensBy (in_transaction mid) call r (in_transaction new)
-  pub blocks : new.blocks ≡ blocks_after mid.blocks call r
+  pub blocks : new.blocks ≡ blocks_after mid call r
+  pub still : is_abort call ≡ false → in_transaction mid ≡ true → in_transaction new ≡ true  -- an abort alone ends a transaction by its reply
   pub settled : in_transaction new ≡ true → (new.clock ≡ new.snapshot) × (new.snapshot % 2 ≡ 0)
 
 -- the call is a commit: over every memory that agrees with the log, the stores leave the plain machine's memory
@@ -133,9 +130,9 @@ pub record Commits (mid : Core) (at : ℕ) (wrote : Bool) (new : Core) : Type 0 
   pub is_open : in_transaction mid ≡ true
   pub outermost : length mid.blocks ≡ 1
   pub at_is : at ≡ mid.snapshot / 2
-  pub wrote_is : (m : List ℕ) → IsMemory mid.words m → Agrees m mid.log → wrote ≡ (after MAX_DEPTH (stands_for mid m) Commit).wrote
-  pub memory_is : (m : List ℕ) → IsMemory mid.words m → Agrees m mid.log → bytes_of (backed mid m) ≡ (after MAX_DEPTH (stands_for mid m) Commit).memory
-  pub arena_is : (m : List ℕ) → new.arena ≡ (after MAX_DEPTH (stands_for mid m) Commit).arena
+  pub wrote_is : (m : List ℕ) → IsMemory mid.words m → Agrees m mid.log → wrote ≡ (after MAX_OPEN_BLOCKS (stands_for mid m) Commit).wrote
+  pub memory_is : (m : List ℕ) → IsMemory mid.words m → Agrees m mid.log → bytes_of (backed mid m) ≡ (after MAX_OPEN_BLOCKS (stands_for mid m) Commit).memory
+  pub arena_is : (m : List ℕ) → new.arena ≡ (after MAX_OPEN_BLOCKS (stands_for mid m) Commit).arena
   pub free : mid.holds ≡ false
   pub freed : mid.freed ≡ wrote
   pub stays : new ≡ record (ended mid) { stage = new.stage; tries = new.tries }
@@ -159,7 +156,7 @@ pub record Conflicts (mid : Core) (clock : ℕ) (word : Option ℕ) (new : Core)
   pub word_is : Differs mid.fresh mid.log word
   pub free : mid.holds ≡ false
   pub unfreed : mid.freed ≡ false
-  pub stays : new ≡ record (ended mid) { stage = new.stage; tries = new.tries }
+  pub stays : new ≡ record (rolled_back mid) { stage = new.stage; tries = new.tries }
   pub undone : IsUndone mid new
 
 abbrev pub IsBegin : Option Call → Type 0
@@ -186,7 +183,7 @@ pub record IsFull (mid : Core) (at : ℕ) (new : Core) : Type 0 where
   pub some : mid.writes ≢ []
   pub free : mid.holds ≡ false
   pub unfreed : mid.freed ≡ false
-  pub stays : new ≡ record (ended mid) { stage = new.stage; tries = new.tries; snapshot = new.snapshot }
+  pub stays : new ≡ record (rolled_back mid) { stage = new.stage; tries = new.tries; snapshot = new.snapshot }
   pub undone : IsUndone mid new
 
 abbrev pub RepliesTo : Core → Option Call → Replied → Core → Type 0
@@ -230,10 +227,12 @@ IsAtOnce (Answers (Conflict clock word)) = ⊥
 IsAtOnce (Answers (Busy clock)) = ⊥
 IsAtOnce _ = Unit {0}
 
--- memory is asked for by a read or a write alone, by no refused one, and by no write to words that have rows
+-- memory is asked for by a read, a write or a log alone, by no refused one, by no write to words that the innermost block has given rows, and by no log of no bytes
 abbrev pub MayStarve : Core → Call → Type 0
 MayStarve c (Read hint width at) = (in_transaction c ≡ true) × (at + size_of width ≤ 8 * c.words)
-MayStarve c (Write hint at value) = (in_transaction c ≡ true) × (at + size_of value.width ≤ 8 * c.words) × (HaveRows c.writes (pieces_of at (size_of value.width)) → ⊥)
+MayStarve c (Write hint at value) = (in_transaction c ≡ true) × (at + size_of value.width ≤ 8 * c.words) × (AreRoomy c.writes (rows_of c.blocks) (pieces_of at (size_of value.width)) → ⊥)
+MayStarve c (Log width at) = (in_transaction c ≡ true) × (at + size_of width ≤ length c.arena)
+MayStarve c (LogBytes at size) = (in_transaction c ≡ true) × (at + size ≤ length c.arena) × (0 < size)
 MayStarve c _ = ⊥
 
 -- ## Values and counts

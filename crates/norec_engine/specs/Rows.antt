@@ -1,5 +1,5 @@
 -- Rows of the value log, and of the write set as the engine uses it.
-use Rattle.std.specs.Prelude.{ℕ, ◌<◌, ◌==◌, Bool, false, List, [], ◌∷◌, Option, Some, None, slice_index_or, All, IsSome}
+use Rattle.std.specs.Prelude.{ℕ, ◌≡◌, ◌<◌, ◌==◌, Bool, false, List, [], ◌∷◌, Option, Some, None, slice_index_or, All, IsSome}
 use Rattle.std.specs.Int.Bits.{bit_and}
 use Rattle.itm_types.specs.declared.row.LogRow.{LogRow}
 use Rattle.word_pieces.specs.declared.piece.Piece.{Piece}
@@ -21,6 +21,10 @@ put_all rows (p ∷ ps) bytes = put_all (put rows p.word (mask_of p.first p.coun
 -- each piece's word has a row
 abbrev pub HaveRows : List Row → List Piece → Type 0
 HaveRows rows pieces = All (λ p. IsSome (lookup p.word rows)) pieces
+
+-- and none had one among these rows, of before the innermost block
+abbrev pub AreRoomy : List Row → List Row → List Piece → Type 0
+AreRoomy rows before pieces = HaveRows rows pieces × All (λ p. lookup p.word before ≡ None) pieces
 
 -- whether a row has all bytes of the mask
 abbrev pub has_mask : Option Row → ℕ → Bool

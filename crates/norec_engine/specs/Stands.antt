@@ -1,9 +1,10 @@
 -- What an engine means over a memory: a state of the plain machine.
 use Rattle.std.specs.Prelude.{◌≡◌, ℕ, Bool, true, false, List, [], ◌∷◌}
 use Rattle.write_set.specs.declared.row.Row.{Row}
-use Rattle.itm_types.specs.declared.call.Props.{Props}
 use Rattle.itm_types.specs.Memory.{bytes_of, IsMemory, Agrees}
+use Rattle.undo_log.specs.Rollback.{kept_of}
 use Rattle.write_set.specs.Rows.{overlay}
+use Rattle.nest_frames.specs.Nest.{Frame}
 use Rattle.itm_model.specs.State.{Block, State}
 use Rattle.norec_engine.specs.Core.{Core, in_transaction}
 
@@ -11,19 +12,19 @@ abbrev pub is_some_row : List Row → Bool
 is_some_row [] = false
 is_some_row (r ∷ rs) = true
 
--- the open blocks: each goes back to the memory without the write set
-abbrev pub block_over : Props → List ℕ → Block
-block_over props m = record { props = props; saved = record { memory = bytes_of m; wrote = false } }
+-- an open block goes back to the memory with the write set as at its begin laid over it, and to the bytes of the arena that were logged in it
+abbrev pub block_over : Frame → List ℕ → List ℕ → Block
+block_over b arena m = record { props = b.props; saved = record { memory = bytes_of (overlay m b.rows); wrote = is_some_row b.rows; kept = kept_of arena b.log } }
 
-abbrev pub blocks_over : List Props → List ℕ → List Block
-blocks_over [] m = []
-blocks_over (props ∷ outer) m = block_over props m ∷ blocks_over outer m
+abbrev pub blocks_over : List Frame → List ℕ → List ℕ → List Block
+blocks_over [] arena m = []
+blocks_over (b ∷ bs) arena m = block_over b arena m ∷ blocks_over bs arena m
 
-abbrev pub state_over : List Row → List Props → List ℕ → List ℕ → State
+abbrev pub state_over : List Row → List Frame → List ℕ → List ℕ → State
 state_over writes blocks arena m = record {
   memory = bytes_of (overlay m writes);
   arena = arena;
-  blocks = blocks_over blocks m;
+  blocks = blocks_over blocks arena m;
   wrote = is_some_row writes;
 }
 

@@ -5,7 +5,8 @@ use itm_types::{Reply, Step};
 /// How a call ended.
 #[derive(Debug, Drop, PartialEq, Eq)]
 pub enum Answer {
-    /// The call is answered, and the transaction stays as it is, open or not.
+    /// The call is answered. An accepted begin opens the transaction so, and an abort may end it; else it stays as it
+    /// is, open or not.
     Reply(Reply),
     /// The transaction committed: at this position in the order of writers, or, where it wrote nothing, after so many.
     Committed { at: u64, wrote: bool },

@@ -1,4 +1,4 @@
-//! Begins of outermost blocks.
+//! Begins of blocks.
 
 ghost use Rattle.std.specs.Prelude.{◌≡◌, ◌≤◌, true};
 ghost use Rattle.norec_engine.specs.Fields.{in_block, core, core_after, phase_after, IsSound, IsSoundTurn, Turns, TurnEndsSo, Stays};
@@ -10,12 +10,7 @@ ghost use Rattle.norec_engine.specs.Proceeds.{Joins};
 use crate::answer::Answer;
 use crate::data::Data;
 use crate::phase::{Opening, Phase, Turn};
-use itm_types::{Call, Props, Refusal, Reply};
-
-/// The code of a begin that was not tried before, and of one that was.
-const ENTERED: u32 = 5;
-
-const ENTERED_AGAIN: u32 = 9;
+use itm_types::{Call, ENTERED, ENTERED_AGAIN, MAX_OPEN_BLOCKS, Props, Refusal, Reply};
 
 /// A begin comes.
 pub(crate) fn begin(state: &mut Data, props: Props, room: u32, again: bool) -> Turn
@@ -28,8 +23,11 @@ pub(crate) fn begin(state: &mut Data, props: Props, room: u32, again: bool) -> T
     ensures tries { (core_after result state.new).tries ≡ tries_at (phase_after result) }
 {
     state.come();
-    if state.is_open() {
+    if state.frames.depth() == MAX_OPEN_BLOCKS {
         Turn::End(Answer::Reply(Reply::Refused(Refusal::TooDeep)))
+    } else if state.is_open() {
+        state.frames.enter(props);
+        Turn::End(Answer::Reply(Reply::Code(ENTERED)))
     } else {
         state.tries = 1;
         Turn::Wait(Phase::Begin(Opening { props, room, again }))
@@ -53,7 +51,7 @@ pub(crate) fn begin_seen(state: &mut Data, opening: Opening, seen: u64) -> Turn
     state.clock = seen;
     if seen % 2 == 0 {
         state.snapshot = seen;
-        state.block = Some(opening.props);
+        state.frames.enter(opening.props);
         let code = if opening.again {
             ENTERED_AGAIN
         } else {

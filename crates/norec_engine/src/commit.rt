@@ -7,7 +7,7 @@ ghost use Rattle.norec_engine.specs.Endings.{ending_at, ending_after};
 ghost use Rattle.norec_engine.specs.Order.{exchange_stage, stage_after, stage_at, store_stage, tries_after, tries_at};
 
 use crate::answer::Answer;
-use crate::data::{Data, end};
+use crate::data::{Data, finish, roll_back};
 use crate::phase::{Aim, Phase, Turn};
 use crate::rounds::try_round;
 use itm_types::{Call, Refusal, Reply};
@@ -27,9 +27,13 @@ pub(crate) fn commit(state: &mut Data) -> Turn
     if !state.is_open() {
         return Turn::End(Answer::Reply(Reply::Refused(Refusal::Outside)));
     }
-    if state.writes.len() == 0 {
+    if !state.is_outermost() {
+        state.frames.leave();
+        return Turn::End(Answer::Reply(Reply::Done));
+    }
+    if state.frames.len() == 0 {
         let at = state.snapshot / 2;
-        end(state);
+        finish(state);
         Turn::End(Answer::Committed { at, wrote: false })
     } else {
         exchange(state)
@@ -51,7 +55,7 @@ pub(crate) fn exchange(state: &mut Data) -> Turn
     if at < state.limits.max_commits {
         Turn::Wait(Phase::Exchange)
     } else {
-        end(state);
+        roll_back(state);
         Turn::End(Answer::Full { at })
     }
 }
@@ -81,12 +85,12 @@ fn next_store(state: &mut Data, row: usize) -> Turn
     ensures sound { IsSoundTurn result state.new }
     ensures proceeds { Turns (in_stores state.old row) result state.new }
     ensures stays { Stays state.old state.new }
-    ensures order { phase_after result ≡ store_stage state.old.writes.rows row }
+    ensures order { phase_after result ≡ store_stage state.old.frames.writes.rows row }
     ensures ends { (end : Option Answer) → TurnEndsSo end result }
     ensures tries { (core_after result state.new).tries ≡ tries_after (phase_after result) state.old.tries }
 {
-    if row < state.writes.len() {
-        let written = state.writes.row(row);
+    if row < state.frames.len() {
+        let written = state.frames.row(row);
         if written.mask == u64::MAX {
             Turn::Wait(Phase::Store(row, None))
         } else {
@@ -120,7 +124,7 @@ pub(crate) fn stored(state: &mut Data, row: usize, got: Option<u64>) -> Turn
     ensures ends { TurnEndsSo (ending_after (core state.old (Phase.Store row got)) 0) result }
     ensures tries { (core_after result state.new).tries ≡ tries_after (phase_after result) state.old.tries }
 {
-    let _rows = state.writes.len();
+    let _rows = state.frames.len();
     next_store(state, row + 1)
 }
 
@@ -136,6 +140,6 @@ pub(crate) fn freed(state: &mut Data) -> Turn
 {
     let at = state.snapshot / 2;
     state.clock = state.snapshot + 2;
-    end(state);
+    finish(state);
     Turn::End(Answer::Committed { at, wrote: true })
 }

@@ -1,12 +1,14 @@
 //! What an engine keeps beside the phase.
 
-ghost use Rattle.std.specs.Prelude.{◌≡◌, length};
+ghost use Rattle.std.specs.Prelude.{◌≡◌, true, length};
+ghost use Rattle.nest_frames.specs.Nest.{arena_back, arena_restored};
+ghost use Rattle.norec_engine.specs.Core.{is_outermost};
 ghost use Rattle.norec_engine.specs.Fields.{in_block, IsEnded};
 
-use itm_types::{Limits, Props, Value};
+use itm_types::{Limits, Value};
+use nest_frames::Frames;
 use undo_log::Arena;
 use value_log::ValueLog;
-use write_set::WriteSet;
 
 /// The fields that the phases share.
 #[derive(Drop)]
@@ -18,10 +20,9 @@ pub struct Data {
     pub snapshot: u64,
     /// The last clock value handed in.
     pub clock: u64,
-    /// The open block, and with it a transaction.
-    pub block: Option<Props>,
+    /// The open blocks, with what they wrote and logged. Where one is open, a transaction is.
+    pub frames: Frames,
     pub log: ValueLog,
-    pub writes: WriteSet,
     /// The bytes that the read in progress has so far.
     pub gathered: Value,
     /// How many rows were logged as the call came.
@@ -37,7 +38,14 @@ impl Data {
     pub(crate) fn is_open(&self) -> bool
         ensures { result ≡ in_block self.now }
     {
-        self.block.is_some()
+        self.frames.depth() > 0
+    }
+
+    /// One block is open.
+    pub(crate) fn is_outermost(&self) -> bool
+        ensures { result ≡ is_outermost self.now.frames.blocks }
+    {
+        self.frames.depth() == 1
     }
 
     /// A call comes: its steps are counted from here, and the rows that it logs.
@@ -49,11 +57,23 @@ impl Data {
     }
 }
 
-/// The transaction is over: nothing of it is kept.
-pub(crate) fn end(state: &mut Data)
-    ensures { IsEnded state.old state.new }
+/// The transaction has committed, and nothing of it is kept.
+pub(crate) fn finish(state: &mut Data)
+    requires { is_outermost state.old.frames.blocks ≡ true }
+    ensures { IsEnded state.old state.old.arena state.new }
 {
     state.log.clear();
-    state.writes.clear();
-    state.block = None;
+    state.frames.leave();
+}
+
+/// The transaction is rolled back, and nothing of it is kept.
+pub(crate) fn roll_back(state: &mut Data)
+    requires { state.old.frames.size ≡ length state.old.arena }
+    ensures ended { IsEnded state.old (arena_back state.old.frames.blocks state.old.arena) state.new }
+    ensures restored { arena_back state.old.frames.blocks state.old.arena
+        ≡ arena_restored state.old.frames.blocks state.old.arena }
+    ensures sized { state.new.frames.size ≡ length state.new.arena }
+{
+    state.log.clear();
+    state.frames.cancel_all(&mut state.arena);
 }

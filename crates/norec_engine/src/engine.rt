@@ -8,22 +8,23 @@ ghost use Rattle.norec_engine.specs.Proceeds.{Proceeds, Joins, StaysOn, IsAtOnce
 ghost use Rattle.norec_engine.specs.Fields.{in_block, core, core_after, phase_after, data_after, next_of, waits_of, IsSound, IsSoundTurn, Turns, TurnEndsSo, Stays};
 ghost use Rattle.norec_engine.specs.Undoing.{undone_of, after_undoing};
 
+use crate::abort::abort;
 use crate::answer::{Answer, Next, Undone};
 use crate::begin::{begin, begin_seen};
 use crate::commit::{back_loaded, commit, exchanged, freed, stored};
-use crate::data::{Data, end};
-use crate::local::{in_transaction, load, save};
+use crate::data::{Data, roll_back};
+use crate::local::{in_transaction, load, log, save};
 use crate::phase::{Phase, Turn};
 use crate::read::{confirmed, loaded, read};
 use crate::rounds::{round_ended, round_started, row_seen};
 use crate::steps::step_of;
 use crate::write::write;
 use itm_types::{Call, Limits, MAX_COMMITS, MAX_PATIENCE, MAX_WORDS, Props, Value};
+use nest_frames::Frames;
 use std::alloc::{AllocError, Global};
 use std::marker::Model;
 use undo_log::Arena;
 use value_log::ValueLog;
-use write_set::WriteSet;
 
 /// The transactions of one thread, one after the other.
 ///
@@ -59,12 +60,11 @@ impl Engine {
             state: Data {
                 words,
                 limits,
+                frames: Frames::new(alloc, arena.size()),
                 arena,
                 snapshot: 0,
                 clock: 0,
-                block: None,
                 log: ValueLog::new(alloc),
-                writes: WriteSet::new(alloc),
                 gathered: Value::new(),
                 entry: 0,
                 tries: 0,
@@ -141,7 +141,7 @@ impl Engine {
             Phase::BackLoad(_) | Phase::Store(_, _) | Phase::Free => Undone::Held,
             _ => {
                 let was_open = self.state.is_open();
-                end(&mut self.state);
+                roll_back(&mut self.state);
                 self.phase = Phase::Idle;
                 if was_open {
                     Undone::Done
@@ -223,7 +223,7 @@ fn take(state: &mut Data, phase: &mut Phase, turn: Turn) -> Next
 {
     match turn {
         Turn::Wait(next) => {
-            let _writes = state.writes.len();
+            let _writes = state.frames.len();
             let _entry = state.entry;
             let step = step_of(state, next);
             state.spent += 1;
@@ -283,9 +283,12 @@ fn called(state: &mut Data, call: &Call) -> Result<Turn, AllocError>
     match call {
         Call::Begin { props, room } => Ok(begin(state, *props, *room, false)),
         Call::Commit => Ok(commit(state)),
+        Call::Abort { outer } => Ok(abort(state, *outer)),
         Call::InTransaction => Ok(in_transaction(state)),
         Call::Read { hint, width, at } => read(state, *hint, *width, *at),
         Call::Write { hint, at, value } => write(state, *hint, *at, value),
+        Call::Log { width, at } => log(state, *at, u64::from(width.size())),
+        Call::LogBytes { at, size } => log(state, *at, *size),
         Call::Load { width, at } => Ok(load(state, *width, *at)),
         Call::Save { at, value } => Ok(save(state, *at, value)),
     }

@@ -2,6 +2,7 @@
 //! "NOrec: Streamlining STM by Abolishing Ownership Records" (Dalessandro, Spear, Scott, PPoPP 2010).
 #![tactic(auto)]
 
+mod abort;
 mod access;
 mod answer;
 mod begin;

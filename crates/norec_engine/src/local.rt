@@ -1,18 +1,16 @@
 //! Calls that the thread's own state answers, with no step.
 
-ghost use Rattle.std.specs.Prelude.{◌≡◌, None, false, if◌then◌else◌};
+ghost use Rattle.std.specs.Prelude.{◌≡◌, ◌+◌, ◌<◌, ◌≤◌, None, Some, true, false, if◌then◌else◌, length, IfOk, OnOk, OnErr};
+ghost use Rattle.itm_types.specs.declared.call.Call.{Call};
+ghost use Rattle.itm_types.specs.Calls.{logged_of};
 ghost use Rattle.norec_engine.specs.Fields.{in_block, core, core_after, phase_after, IsSound, IsSoundTurn, Turns, TurnEndsSo, Stays};
 ghost use Rattle.norec_engine.specs.Core.{came};
 
 use crate::answer::Answer;
 use crate::data::Data;
 use crate::phase::{Phase, Turn};
-use itm_types::{Call, Datum, Refusal, Reply, Width};
-
-/// The codes that tell whether a transaction is open: none is, or one that can be tried again.
-const NO_TRANSACTION: u32 = 0;
-
-const RETRYABLE: u32 = 1;
+use itm_types::{Call, Datum, NO_TRANSACTION, RETRYABLE, Refusal, Reply, Width};
+use std::alloc::AllocError;
 
 /// It is asked whether a transaction is open.
 pub(crate) fn in_transaction(state: &mut Data) -> Turn
@@ -27,6 +25,32 @@ pub(crate) fn in_transaction(state: &mut Data) -> Turn
     let code = mode(state);
     state.come();
     Turn::End(Answer::Reply(Reply::Code(code)))
+}
+
+/// So many bytes of the arena are kept for a rollback, as they are now.
+pub(crate) fn log(state: &mut Data, at: u64, size: u64) -> Result<Turn, AllocError>
+    requires sound { IsSound state.old Phase.Idle }
+    ensures sound { IfOk result (λ turn. IsSoundTurn turn state.new) }
+    ensures proceeds { IfOk result (λ turn. (call : Call) → logged_of call ≡ Some (at, size)
+        → Turns (came (core state.old Phase.Idle) call false) turn state.new) }
+    ensures stays { OnOk result (Stays state.old state.new) }
+    ensures err { OnErr result (state.new ≡ state.old) }
+    ensures starves { OnErr result
+        ((in_block state.old ≡ true) × (at + size ≤ length state.old.arena) × (0 < size)) }
+    ensures order { IfOk result (λ turn. phase_after turn ≡ Phase.Idle) }
+    ensures ends { IfOk result (TurnEndsSo None) }
+    ensures tries { IfOk result (λ turn. (core_after turn state.new).tries ≡ 0) }
+{
+    let reply = if !state.is_open() {
+        Reply::Refused(Refusal::Outside)
+    } else if !state.arena.contains(at, size) {
+        Reply::Refused(Refusal::OutOfArena)
+    } else {
+        state.frames.log(&state.arena, at, size)?;
+        Reply::Done
+    };
+    state.come();
+    Ok(Turn::End(Answer::Reply(reply)))
 }
 
 /// Bytes of the arena are read.

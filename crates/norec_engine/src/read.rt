@@ -72,7 +72,7 @@ fn next_piece(state: &mut Data, reading: Reading) -> Turn
     ensures proceeds { (log : List LogRow)
         → Turns (logged (between state.old (Aim.Read reading)) log) result state.new }
     ensures stays { Stays state.old state.new }
-    ensures order { phase_after result ≡ load_stage state.old.writes.rows reading }
+    ensures order { phase_after result ≡ load_stage state.old.frames.writes.rows reading }
     ensures ends { TurnEndsSo None result }
     ensures tries { (core_after result state.new).tries ≡ tries_after (phase_after result) state.old.tries }
 {
@@ -92,12 +92,12 @@ fn next_piece(state: &mut Data, reading: Reading) -> Turn
 /// The word that the write set has of a piece, where it has all of the piece.
 fn covered(state: &Data, piece: Piece) -> Option<u64>
     requires piece { IsPiece piece }
-    requires rows { AreRows state.now.writes.rows }
-    ensures covered { is_some result ≡ is_covered state.now.writes.rows piece }
+    requires rows { AreRows state.now.frames.writes.rows }
+    ensures covered { is_some result ≡ is_covered state.now.frames.writes.rows piece }
     ensures part { IfSome result (λ value. (m : List ℕ) → AllFit m → piece.word < length m
-        → part_of piece (slice_index (overlay m state.now.writes.rows) piece.word) ≡ part_of piece value) }
+        → part_of piece (slice_index (overlay m state.now.frames.writes.rows) piece.word) ≡ part_of piece value) }
 {
-    match state.writes.get(piece.word) {
+    match state.frames.get(piece.word) {
         Some(row) if piece.is_within(row.mask) => Some(row.value),
         _ => None,
     }
@@ -105,9 +105,9 @@ fn covered(state: &Data, piece: Piece) -> Option<u64>
 
 /// The loaded word with what the write set has of it.
 fn overlaid(state: &Data, word: u32, value: u64) -> u64
-    ensures { (m : List ℕ) → slice_get m word ≡ Some value → slice_get (overlay m state.now.writes.rows) word ≡ Some result }
+    ensures { (m : List ℕ) → slice_get m word ≡ Some value → slice_get (overlay m state.now.frames.writes.rows) word ≡ Some result }
 {
-    match state.writes.get(word) {
+    match state.frames.get(word) {
         Some(row) => merge(value, row.mask, row.value),
         None => value,
     }

@@ -9,7 +9,7 @@ ghost use Rattle.norec_engine.specs.Proceeds.{Joins};
 
 use crate::answer::Answer;
 use crate::commit::exchange;
-use crate::data::{Data, end};
+use crate::data::{Data, roll_back};
 use crate::phase::{Aim, Phase, Turn};
 
 /// A new round, if one is left.
@@ -26,7 +26,7 @@ pub(crate) fn try_round(state: &mut Data, aim: Aim) -> Turn
         state.tries += 1;
         Turn::Wait(Phase::RoundStart(aim))
     } else {
-        end(state);
+        roll_back(state);
         Turn::End(Answer::Conflict {
             clock: state.clock,
             word: None,
@@ -85,7 +85,7 @@ pub(crate) fn row_seen(state: &mut Data, aim: Aim, row: usize, seen: u64) -> Tur
     if logged.value == seen {
         next_row(state, aim, row + 1)
     } else {
-        end(state);
+        roll_back(state);
         Turn::End(Answer::Conflict {
             clock: state.clock,
             word: Some(logged.word),

@@ -27,11 +27,11 @@ pub(crate) fn step_of(state: &Data, phase: Phase) -> Step
         }
         Phase::Exchange => Step::Cas(0, state.snapshot, state.snapshot + 1),
         Phase::BackLoad(row) => {
-            let written = state.writes.row(row);
+            let written = state.frames.row(row);
             Step::Load(written.word + 1)
         }
         Phase::Store(row, got) => {
-            let written = state.writes.row(row);
+            let written = state.frames.row(row);
             let value = match got {
                 Some(word) => merge(word, written.mask, written.value),
                 None => written.value,

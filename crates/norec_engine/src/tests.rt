@@ -11,7 +11,9 @@ use std::alloc::{AllocError, Global};
 use std::process::Abort;
 use undo_log::Arena;
 
+mod blocks;
 mod calls;
+mod nests;
 mod reads;
 mod rounds;
 mod writes;
@@ -28,14 +30,21 @@ const WIDEST: [u8; 32] = [
     27, 28, 29, 30, 31, 32,
 ];
 
-/// A call that is no begin.
+/// A call.
 #[derive(Clone, Copy)]
 enum Ask {
+    /// A block begins, which is not cancelled or may be.
+    Begin(bool),
     Commit,
+    /// The innermost block is cancelled, or all of them.
+    Abort(bool),
     InTransaction,
     Read(ReadHint, Width, u64),
     /// These bytes are written, as many as the type has.
     Write(WriteHint, Width, u64, &'static [u8]),
+    Log(Width, u64),
+    /// So many bytes of the arena are logged.
+    LogBytes(u64, u64),
     Load(Width, u64),
     /// These bytes go to the arena, as many as the type has.
     Save(Width, u64, &'static [u8]),
@@ -60,7 +69,7 @@ enum Gives {
 /// A line of a play: what is done to the engine, and what it is to give.
 #[derive(Clone, Copy)]
 enum Line {
-    /// An outermost block begins, after an earlier try of it or not.
+    /// A block that may be cancelled begins, after an earlier try of it or not.
     Begin(bool, Gives),
     /// A call comes.
     Call(Ask, Gives),
@@ -79,7 +88,12 @@ enum Line {
 /// The call.
 fn call_of(rt: &impl Abort, ask: Ask) -> Call {
     match ask {
+        Ask::Begin(no_abort) => Call::Begin {
+            props: Props { no_abort },
+            room: 3,
+        },
         Ask::Commit => Call::Commit,
+        Ask::Abort(outer) => Call::Abort { outer },
         Ask::InTransaction => Call::InTransaction,
         Ask::Read(hint, width, at) => Call::Read { hint, width, at },
         Ask::Write(hint, width, at, bytes) => {
@@ -90,6 +104,8 @@ fn call_of(rt: &impl Abort, ask: Ask) -> Call {
                 value: Datum::new(width, bytes),
             }
         }
+        Ask::Log(width, at) => Call::Log { width, at },
+        Ask::LogBytes(at, size) => Call::LogBytes { at, size },
         Ask::Load(width, at) => Call::Load { width, at },
         Ask::Save(width, at, bytes) => {
             assert_eq!(rt; bytes.len(), usize::from(width.size()));
@@ -149,7 +165,7 @@ fn play_event(
     match line {
         Line::Begin(again, _) => {
             assert!(rt; !engine.waits());
-            Ok(Some(engine.begin(Props {}, 3, again)?))
+            Ok(Some(engine.begin(BLOCK, 3, again)?))
         }
         Line::Call(ask, _) => {
             assert!(rt; !engine.waits());
@@ -206,6 +222,9 @@ fn play_over(
     let mut engine = engine(alloc, words, patience, 4)?;
     play(rt, &mut engine, lines)
 }
+
+/// A block that may be cancelled.
+const BLOCK: Props = Props { no_abort: false };
 
 /// A block comes for the first time.
 const BEGIN: Line = Line::Begin(false, Gives::Load(0));

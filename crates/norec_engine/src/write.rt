@@ -1,11 +1,11 @@
 //! Writes: a value goes into the write set, piece by piece upwards, and no step is taken.
 
-ghost use Rattle.std.specs.Prelude.{◌≡◌, ◌≤◌, ◌+◌, false, true, IfOk, OnOk, OnErr, IsSome, All, length};
+ghost use Rattle.std.specs.Prelude.{◌≡◌, ◌<◌, ◌≤◌, ◌+◌, false, IfOk, OnOk, OnErr, All, length};
 ghost use Rattle.word_pieces.specs.Pieces.{IsPiece};
 ghost use Rattle.itm_types.specs.Slices.{AreBytes};
-ghost use Rattle.write_set.specs.Marks.{start};
-ghost use Rattle.write_set.specs.Rows.{lookup};
-ghost use Rattle.norec_engine.specs.Rows.{HaveRows, reserved_all, put_all};
+ghost use Rattle.write_set.specs.Marks.{MayPut};
+ghost use Rattle.nest_frames.specs.Nest.{rows_of};
+ghost use Rattle.norec_engine.specs.Rows.{AreRoomy, HaveRows, reserved_all, put_all};
 ghost use Rattle.norec_engine.specs.Fields.{core, core_after, phase_after, IsSound, IsSoundTurn, Turns, TurnEndsSo, Stays};
 ghost use Rattle.norec_engine.specs.Core.{came};
 ghost use Rattle.norec_engine.specs.Order.{stage_at, tries_at};
@@ -17,9 +17,9 @@ use crate::answer::Answer;
 use crate::data::Data;
 use crate::phase::{Phase, Turn};
 use itm_types::{Call, Datum, Reply, WriteHint};
+use nest_frames::Frames;
 use std::alloc::AllocError;
 use word_pieces::{Piece, pieces};
-use write_set::WriteSet;
 
 /// A write comes.
 pub(crate) fn write(
@@ -45,41 +45,44 @@ pub(crate) fn write(
         return Ok(refuse(state, why));
     }
     let pieces = pieces(at, value.width.size());
-    reserve_all(&mut state.writes, &pieces)?;
-    put_all(&mut state.writes, &pieces, value.bytes.as_slice());
+    reserve_all(&mut state.frames, &pieces)?;
+    put_all(&mut state.frames, &pieces, value.bytes.as_slice());
     state.come();
     Ok(Turn::End(Answer::Reply(Reply::Done)))
 }
 
-/// Gives each piece's word a row. Where memory is refused, none is given.
-fn reserve_all(writes: &mut WriteSet, pieces: &[Piece]) -> Result<(), AllocError>
-    requires unmarked { writes.old.inner ≡ start }
-    ensures ok { OnOk result (writes.new.rows ≡ reserved_all writes.old.rows pieces.now) }
-    ensures err { OnErr result (writes.new.rows ≡ writes.old.rows) }
-    ensures unmarked { writes.new.inner ≡ start }
-    ensures grows { OnErr result (HaveRows writes.old.rows pieces.now → ⊥) }
+/// Makes each piece's word ready to be written. Where memory is refused, none is given a row.
+fn reserve_all(frames: &mut Frames, pieces: &[Piece]) -> Result<(), AllocError>
+    requires open { 0 < length frames.old.blocks }
+    ensures rows { OnOk result (frames.new.writes.rows ≡ reserved_all frames.old.writes.rows pieces.now) }
+    ensures may_put { OnOk result (All (λ p. MayPut frames.new.writes p.word) pieces.now) }
+    ensures err { OnErr result (frames.new.writes.rows ≡ frames.old.writes.rows) }
+    ensures blocks { frames.new.blocks ≡ frames.old.blocks }
+    ensures size { frames.new.size ≡ frames.old.size }
+    ensures grows { OnErr result (AreRoomy frames.old.writes.rows (rows_of frames.old.blocks) pieces.now → ⊥) }
 {
-    let len = writes.len();
+    let len = frames.len();
     for piece in pieces {
-        if writes.reserve(piece.word).is_err() {
-            writes.cut(len);
+        if frames.reserve(piece.word).is_err() {
+            frames.cut(len);
             return Err(AllocError);
         }
     }
     Ok(())
 }
 
-/// Puts the pieces of a value in the write set, where each has a row.
-fn put_all(writes: &mut WriteSet, pieces: &[Piece], bytes: &[u8])
-    requires room { HaveRows writes.old.rows pieces.now }
-    requires unmarked { writes.old.inner ≡ start }
+/// Puts the pieces of a value in the write set, where each word was made ready.
+fn put_all(frames: &mut Frames, pieces: &[Piece], bytes: &[u8])
+    requires room { HaveRows frames.old.writes.rows pieces.now }
+    requires may_put { All (λ p. MayPut frames.old.writes p.word) pieces.now }
     requires pieces { All IsPiece pieces.now }
     requires bytes { All (λ p. p.at + p.count ≤ length bytes.now) pieces.now }
-    ensures rows { writes.new.rows ≡ put_all writes.old.rows pieces.now bytes.now }
-    ensures unmarked { writes.new.inner ≡ start }
+    ensures rows { frames.new.writes.rows ≡ put_all frames.old.writes.rows pieces.now bytes.now }
+    ensures blocks { frames.new.blocks ≡ frames.old.blocks }
+    ensures size { frames.new.size ≡ frames.old.size }
     ensures bytes { AreBytes bytes.now }
 {
     for piece in pieces {
-        writes.put(piece.word, piece.mask(), piece.scatter(bytes));
+        frames.put(piece.word, piece.mask(), piece.scatter(bytes));
     }
 }

@@ -1,5 +1,5 @@
 -- The open attempts: one changed, one taken out, and one more.
-use Rattle.std.proofs.Common.{◌≡◌, ℕ, zero, suc, ◌+◌, ◌-◌, ◌<◌, ◌≤◌, ◌==◌, Bool, true, false, not, cond, nat_lt, List, [], ◌∷◌, ◌++◌, length, take, drop, slice_set, slice_index_or, find, position, Option, None, Some, inl, inr, refl, sym, ap, subst, ◌∙◌, arith, eq-eqb, append_assoc, length-take-le, take_at, drop_at}
+use Rattle.std.proofs.Common.{◌≡◌, ℕ, zero, suc, ◌+◌, ◌-◌, ◌<◌, ◌≤◌, ◌==◌, Bool, true, false, not, cond, nat_lt, List, [], ◌∷◌, ◌++◌, length, take, drop, slice_set, slice_index_or, find, position, is_some, Option, None, Some, inl, inr, refl, sym, ap, subst, ◌∙◌, arith, eq-eqb, append_assoc, length-take-le, take_at, drop_at}
 use Rattle.std.specs.List.{position_or_len}
 use Rattle.std.specs.Option.{unwrap_or}
 use Rattle.std.proofs.lemmas.Bool.{ltb-true, ltb-false, eqb-true, cond_below}
@@ -37,6 +37,11 @@ module _ {A : Type 0} (p : A → Bool) where
   found_first [] i x first read = absurd first
   found_first (y ∷ ys) zero x first read = simp first (ap Some (sym read))
   found_first (y ∷ ys) (suc i) x first read = let e = first.0 in simp e (found_first ys i x first.1 read)
+
+  found_some : (xs : List A) (i : ℕ) → IsFirstAt p xs i → is_some (find p xs) ≡ true
+  found_some [] i h = absurd h
+  found_some (x ∷ xs) zero h = simp h
+  found_some (x ∷ xs) (suc i) h = simp h.0 (found_some xs i h.1)
 
   pub set_first : (f : A → A) (xs : List A) (i : ℕ) (x : A) → IsFirstAt p xs i → x ≡ slice_index_or xs i x → slice_set xs i (f x) ≡ changed p f xs
   set_first f [] i x first read = absurd first
@@ -208,6 +213,12 @@ module _ (items : List Attempt) (ended : ℕ) where
       → active_of thread (drop ended items) ≡ None
   place_none seen thread same none =
       not_found (is_of thread) (drop ended items) (sym (none ∙ ap (λ (xs : List Attempt). position (is_of thread) xs) (open_part seen same)))
+
+  -- whether the actor has an open row
+  pub has_row : (seen : List Attempt) (thread : ℕ) (o : Option ℕ) (room : ℕ) (r : Rows) → parted items ended room ≡ r → seen ≡ items → o ≡ position (is_of thread) (take (length seen - ended) (drop ended seen))
+      → is_some o ≡ is_some (active_of thread r.active)
+  has_row seen thread None room r are same found = sym (ap is_some (ap (λ (s : Rows). active_of thread s.active) (sym are) ∙ place_none seen thread same found))
+  has_row seen thread (Some place) room r are same found = sym (ap (λ (s : Rows). is_some (active_of thread s.active)) (sym are) ∙ found_some (is_of thread) (drop ended items) place (place_first seen thread place same found))
 
   -- the actor has no open row
   module _ (thread : ℕ) (none : active_of thread (drop ended items) ≡ None) (room : ℕ) (r : Rows) (are : parted items ended room ≡ r) where

@@ -2,7 +2,6 @@
 pub use Rattle.itm_model.specs.Machine.{after, after_unless, is_open, opened, outside, refusal, reply}
 pub use Rattle.itm_model.specs.Runs.{answers, answers_within, turn}
 pub use Rattle.itm_model.specs.State.{Block, State}
-pub use Rattle.itm_model.specs.declared.limits.TheConstants.{MAX_DEPTH}
 pub use Rattle.itm_types.proofs.Words.{slice_get-set_same}
 pub use Rattle.itm_types.specs.Calls.{is_begin}
 pub use Rattle.itm_types.specs.Memory.{Agrees, AllFit, IsMemory, bytes_of}
@@ -13,7 +12,7 @@ pub use Rattle.itm_types.specs.declared.call.Refusal.TheVariants.{Outside}
 pub use Rattle.itm_types.specs.declared.call.Refusal.{Refusal}
 pub use Rattle.itm_types.specs.declared.call.Reply.TheVariants.{Code, Done, Refused}
 pub use Rattle.itm_types.specs.declared.call.Reply.{Reply as Replied}
-pub use Rattle.itm_types.specs.declared.limits.TheConstants.{MAX_ACTORS}
+pub use Rattle.itm_types.specs.declared.limits.TheConstants.{MAX_OPEN_BLOCKS, MAX_ACTORS}
 pub use Rattle.itm_types.specs.declared.step.Step.TheVariants.{Cas, Load, Store}
 pub use Rattle.itm_types.specs.declared.step.Step.{Step}
 pub use Rattle.norec_engine.proofs.AnsweredEngines.{rests}
@@ -32,7 +31,7 @@ pub use Rattle.norec_engine.specs.declared.answer.Next.TheVariants.{Answer as An
 pub use Rattle.norec_engine.specs.declared.answer.Next.{Next}
 pub use Rattle.norec_world.specs.Actors.{AreActors}
 pub use Rattle.norec_world.specs.Alone.{IsAlone, player_then, state_then}
-pub use Rattle.norec_world.specs.Attempts.{alone, committed_at, is_at, is_committed, memory_left, of_thread, pair_of}
+pub use Rattle.norec_world.specs.Attempts.{ClosedBy, alone, committed_at, is_at, is_committed, memory_left, of_thread, pair_of}
 pub use Rattle.norec_world.specs.Cells.{AreWords, Cells, cells_after, found, words_of}
 pub use Rattle.norec_world.specs.ClockHolder.{ClocksOn, HoldsOn}
 pub use Rattle.norec_world.specs.Commits.{AreCounted, CommitsInOrder, count_at, count_committed, one_where}
@@ -45,12 +44,12 @@ pub use Rattle.norec_world.specs.Moments.{HasWorked}
 pub use Rattle.norec_world.specs.Opacity.{Beginning, Between, EndsAs, IsOpaque, IsRunOf, IsTryAt, LacksCommit, after_try, answered_all, begin_code, begin_of, begin_within, follows}
 pub use Rattle.norec_world.specs.Opaque.{AreOpaque, first_of}
 pub use Rattle.norec_world.specs.OthersAttempts.{AllOf, ChangesOwn, KeepsOthers, count_pending}
-pub use Rattle.norec_world.specs.Records.{CountsTry, IsTold, Opens, Records, StopsAt, Tells, asked_pending, begins_again}
+pub use Rattle.norec_world.specs.Records.{CountsTry, IsTold, Opens, Records, RecordsReply, StopsAt, Tells, asked_pending, begins_again}
 pub use Rattle.norec_world.specs.Rows.{AreFrom, AreOfActors, AreOpen, AreUnfinished, Rows, active_of, changed, is_of, with_changed, with_ended, with_opened, without}
 pub use Rattle.norec_world.specs.Runs.{IsBeforeTry, IsInTry, IsRun, LeadsTo, RunsFrom, begins_at, run_after}
 pub use Rattle.norec_world.specs.Sole.{AreSole, EndsWith, IsFirstTry, IsOnWay, IsSole, StandsSole}
 pub use Rattle.norec_world.specs.Solo.{Progress, Solo, ended_as, one_if, row_of, solo_within, stopped, with_all, with_first}
-pub use Rattle.norec_world.specs.Sound.{AnswerFits, Falls, GoesOn, HasLess, HasRow, IsAnswered, IsDone, IsKept, IsNested, IsNoMore, IsReady, IsSettledBy, IsSound, IsTied, RestsAs, StatusIs, depth_if, rank, retried, run_left, steps_left, whole}
+pub use Rattle.norec_world.specs.Sound.{AnswerFits, Falls, GoesOn, HasLess, HasRow, IsAnswered, IsDone, IsKept, IsNested, IsNoMore, IsReady, IsSettledBy, IsSound, IsTied, RestsAs, StatusIs, rank, retried, run_left, steps_left, whole}
 pub use Rattle.norec_world.specs.Starts.{HasStarted, IsFirst}
 pub use Rattle.norec_world.specs.Status.{ending_of, is_ready, is_waiting, waiting_step}
 pub use Rattle.norec_world.specs.Tries.{Continues, EndsAt, GoesOnAfter, IsBetween, Prior, Tries, TriesAgain, begins, between, current_of, is_done, over, prior_of, runs, turned_away}

@@ -1,21 +1,24 @@
--- Worked cases, computed: the attempts of one counter, and of two whose first try is lost; the counts of a schedule.
-use Rattle.std.proofs.Common.{◌≡◌, ℕ, zero, suc, List, [], ◌∷◌, refl, false, replicate, Option, None, Some, Ok, Err, arith}
-use Rattle.itm_types.specs.declared.access.Width.TheVariants.{U8}
+-- Worked cases, computed: the attempts of one counter, and of two whose first try is lost; a block that is cancelled and the next one; the counts of a schedule.
+use Rattle.std.proofs.Common.{◌≡◌, ℕ, zero, suc, ◌-◌, List, [], ◌∷◌, ◌++◌, map, refl, ap, false, true, replicate, Option, None, Some, Ok, Err, arith}
+use Rattle.itm_types.specs.declared.access.Width.TheVariants.{U1, U2, U8}
 use Rattle.itm_types.specs.declared.access.ReadHint.TheVariants.{R}
 use Rattle.itm_types.specs.declared.access.WriteHint.TheVariants.{W}
 use Rattle.itm_types.specs.declared.datum.Datum.{Datum}
 use Rattle.norec_world.proofs.Common.{Attempt, Begin, Between, Call, Commit, Done, Entry, Finished, GaveUp, IsOpaque, IsRunOf, Props, Read, Rules, Write, passes_of}
 use Rattle.itm_types.specs.declared.call.Reply.{Reply}
-use Rattle.itm_types.specs.declared.call.Reply.TheVariants.{Bytes}
-use Rattle.norec_world.specs.declared.attempt.Outcome.TheVariants.{Committed, Conflict, Full}
+use Rattle.itm_types.specs.declared.call.Call.TheVariants.{Abort, Load, Log, Save}
+use Rattle.itm_types.specs.declared.call.Reply.TheVariants.{Bytes, Code}
+use Rattle.norec_world.specs.declared.attempt.Outcome.TheVariants.{Cancelled, Committed, Conflict, Full, ReadOnly}
 use Rattle.norec_world.specs.declared.fault.WorldFault.TheVariants as faults
-use Rattle.norec_world.specs.Attempts.{memory_after}
+use Rattle.norec_world.specs.Attempts.{ByAbort, memory_after}
+use Rattle.norec_world.specs.Plan.{Plan, next_call, restarted, calls_left, depth}
+use Rattle.norec_world.specs.Plan as plans
 use Rattle.norec_world.specs.Solo.{solo}
 
 -- ## A player that adds one to the counter at place 0
 
 abbrev plain : Props
-plain = record {}
+plain = record { no_abort = false }
 
 -- a byte as a U8
 abbrev eight : ℕ → List ℕ
@@ -80,7 +83,7 @@ counter_memory : memory_after 1 (replicate 8 0) (counter ∷ []) 1 ≡ 1 ∷ rep
 counter_memory = refl
 
 counter_is_opaque : IsOpaque counter_rules 1 (record { step = 1; got = 0 }) counter 1 (replicate 8 0)
-counter_is_opaque = record { no_older = omega arith; no_newer = omega arith; beginning = ([], refl); whole = λ e. refl; ends = (refl, refl); full = λ f. absurd (cc) }
+counter_is_opaque = record { no_older = omega arith; no_newer = omega arith; beginning = ([], refl); whole = λ e. refl; ends = (refl, refl); closed = (read 0 ∷ write 1 ∷ [], refl); full = λ f. absurd (cc) }
 
 counter_run : IsRunOf counter_rules 1 1 (memory_after 1 (replicate 8 0) (counter ∷ [])) (Some fresh) (counter ∷ [])
 counter_run = ((refl, refl, omega arith, counter_is_opaque), tt)
@@ -109,10 +112,10 @@ abbrev commit_pair : List (Call × Reply)
 commit_pair = (Commit, Done) ∷ []
 
 lost_is_opaque : IsOpaque counter_rules 1 (record { step = 1; got = 0 }) lost 2 (memory 0)
-lost_is_opaque = record { no_older = omega arith; no_newer = omega arith; beginning = (commit_pair, refl); whole = λ e. absurd (cc); ends = refl; full = λ f. absurd (cc) }
+lost_is_opaque = record { no_older = omega arith; no_newer = omega arith; beginning = (commit_pair, refl); whole = λ e. absurd (cc); ends = refl; closed = tt; full = λ f. absurd (cc) }
 
 retried_is_opaque : IsOpaque counter_rules 1 (record { step = 1; got = 0 }) retried 2 (memory 1)
-retried_is_opaque = record { no_older = omega arith; no_newer = omega arith; beginning = ([], refl); whole = λ e. refl; ends = (refl, refl); full = λ f. absurd (cc) }
+retried_is_opaque = record { no_older = omega arith; no_newer = omega arith; beginning = ([], refl); whole = λ e. refl; ends = (refl, refl); closed = (read 1 ∷ write 2 ∷ [], refl); full = λ f. absurd (cc) }
 
 lost_update_run : IsRunOf counter_rules 1 2 memory (Some fresh) (lost ∷ retried ∷ [])
 lost_update_run = ((refl, refl, omega arith, lost_is_opaque), ((refl, refl, omega arith, retried_is_opaque), tt))
@@ -123,7 +126,7 @@ abbrev refused : Attempt
 refused = record { thread = 0; nth = 1; began = 0; at = 0; props = plain; arena = []; calls = read 0 ∷ write 1 ∷ []; outcome = Full }
 
 refused_is_opaque : IsOpaque counter_rules 1 (record { step = 1; got = 0 }) refused 0 (replicate 8 0)
-refused_is_opaque = record { no_older = omega arith; no_newer = omega arith; beginning = (commit_pair, refl); whole = λ e. absurd (cc); ends = refl; full = λ f. (refl, (refl, refl)) }
+refused_is_opaque = record { no_older = omega arith; no_newer = omega arith; beginning = (commit_pair, refl); whole = λ e. absurd (cc); ends = refl; closed = tt; full = λ f. (refl, (refl, refl)) }
 
 -- the player alone does the same where no writer may commit
 refused_alone : solo counter_rules 1 0 0 fresh.player (replicate 8 0) [] ≡ record { attempts = refused ∷ []; memory = replicate 8 0; commits = 0; ending = GaveUp }
@@ -132,6 +135,61 @@ refused_alone = refl
 -- one that would still write is not full
 too_early : IsOpaque counter_rules 1 (record { step = 1; got = 0 }) (record refused { calls = read 0 ∷ [] }) 0 (replicate 8 0) → ⊥
 too_early o = (let lacks = (o.full refl).0 in cc)
+
+-- ## A block that logs a byte of its arena, saves that byte and the next one, writes, and is cancelled with the block in it. The next block begins with the logged byte as it was, and the other one as it was saved.
+
+abbrev plan_rules : Rules Plan
+plan_rules = record { next_call = next_call; answered = plans.answered; restarted = restarted; calls_left = calls_left; depth = depth }
+
+abbrev begin : Call
+begin = Begin plain 3
+
+abbrev two : ℕ → ℕ → List ℕ
+two a b = a ∷ b ∷ []
+
+abbrev save : Call
+save = Save 0 (record { width = U2; bytes = record { items = two 1 2 }; sized = refl })
+
+abbrev planned : Plan
+planned = record { calls = begin ∷ Log U1 0 ∷ begin ∷ save ∷ Write W 0 (word 7) ∷ Abort true ∷ begin ∷ Load U2 0 ∷ Commit ∷ []; at = 0; blocks = None }
+
+-- once the begin before this place is accepted
+abbrev planned_to : ℕ → Plan
+planned_to at = record { calls = planned.calls; at = at; blocks = Some (record { begun = at - 1; within = 0 }) }
+
+abbrev in_block : List Entry
+in_block = record { call = Log U1 0; reply = Done } ∷ record { call = begin; reply = Code 5 } ∷ record { call = save; reply = Done } ∷ write 7 ∷ []
+
+abbrev cancelled : Attempt
+cancelled = record { thread = 0; nth = 1; began = 0; at = 0; props = plain; arena = two 0 0; calls = in_block ++ record { call = Abort true; reply = Code 24 } ∷ []; outcome = Cancelled }
+
+abbrev load : Entry
+load = record { call = Load U2 0; reply = Bytes (record { items = two 0 2 }) }
+
+abbrev next : Attempt
+next = record { thread = 0; nth = 1; began = 0; at = 0; props = plain; arena = two 0 2; calls = load ∷ commit ∷ []; outcome = ReadOnly }
+
+cancelled_is_opaque : IsOpaque plan_rules 2 (planned_to 1) cancelled 0 (replicate 8 0)
+cancelled_is_opaque = record { no_older = omega arith; no_newer = omega arith; beginning = ([], refl); whole = λ e. refl; ends = (refl, refl); closed = (in_block, true, refl); full = λ f. absurd (cc) }
+
+next_is_opaque : IsOpaque plan_rules 2 (planned_to 7) next 0 (replicate 8 0)
+next_is_opaque = record { no_older = omega arith; no_newer = omega arith; beginning = ([], refl); whole = λ e. refl; ends = (refl, refl); closed = (load ∷ [], refl); full = λ f. absurd (cc) }
+
+abbrev before_it : Between Plan
+before_it = record { player = planned; arena = two 0 0; again = false; tries = 0 }
+
+cancelled_run : IsRunOf plan_rules 2 0 (memory_after 2 (replicate 8 0) (cancelled ∷ next ∷ [])) (Some before_it) (cancelled ∷ next ∷ [])
+cancelled_run = ((refl, refl, omega arith, cancelled_is_opaque), ((refl, refl, omega arith, next_is_opaque), tt))
+
+-- the player alone does the same
+cancelled_alone : solo plan_rules 2 1 0 planned (replicate 8 0) (two 0 0) ≡ record { attempts = cancelled ∷ next ∷ []; memory = replicate 8 0; commits = 0; ending = Finished }
+cancelled_alone = refl
+
+-- what ended by a commit was not cancelled
+not_cancelled : ByAbort (commit ∷ []) → ⊥
+not_cancelled ([], outer, e) = absurd (let calls = ap (map (λ (x : Entry). x.call)) e in cc)
+not_cancelled (x ∷ [], outer, e) = absurd (cc)
+not_cancelled (x ∷ y ∷ rest, outer, e) = absurd (cc)
 
 -- ## A schedule of four entries: an event, an actor that is not there, an event that found no memory, and the same actor again
 

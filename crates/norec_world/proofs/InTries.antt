@@ -1,6 +1,8 @@
 -- The open attempt, as its calls go on.
 use Rattle.std.proofs.Common.{◌≡◌, ◌≢◌, ℕ, ◌/◌, ◌<◌, ◌≤◌, Bool, true, false, if◌then◌else◌, List, [], ◌∷◌, ◌++◌, map, None, Some, refl, sym, ap, subst, ◌∙◌, arith, length, append-nil}
-use Rattle.norec_world.proofs.Common.{Agrees, Agrees-drop, AsksFor, Attempt, Begin, Beginning, Between, Call, Code, Commit, Core, Done, EndsAs, Entry, IsAlone, IsInTry, IsMemory, IsTryAt, LacksCommit, MAX_DEPTH, Obeys, Outcome, Outside, Props, Replied, Replies, Row, Rules, State, Step, after, alone, answers, answers_within, begin_code, begins_at, bytes_at, bytes_of, handed_is, handed_to, in_transaction, is_open, map-append, none_inside, opened, pair_of, player_then, recoded, reply, stands_for, state_over, state_then, turn, words_at}
+use Rattle.nest_frames.specs.Nest.{Frame}
+use Rattle.norec_world.proofs.TryEnds.{not_closed}
+use Rattle.norec_world.proofs.Common.{Agrees, Agrees-drop, AsksFor, Attempt, Begin, Beginning, Between, Call, Code, Commit, Core, Done, ClosedBy, EndsAs, Entry, IsAlone, IsInTry, IsMemory, IsTryAt, LacksCommit, MAX_OPEN_BLOCKS, Obeys, Outcome, Outside, Props, Replied, Replies, Row, Rules, State, Step, after, alone, answers, answers_within, begin_code, begins_at, bytes_at, bytes_of, handed_is, handed_to, in_transaction, is_done, is_open, map-append, none_inside, opened, pair_of, player_then, recoded, reply, stands_for, state_over, state_then, turn, words_at}
 use Rattle.write_set.specs.Rows.{overlay}
 use Rattle.itm_model.specs.Machine.{reply_unless, or_else, unless}
 use Rattle.norec_engine.specs.Stands.{is_some_row}
@@ -49,10 +51,10 @@ module _ {P : Type 0} {rules : Rules P} (laws : Obeys rules) where
   -- ## A reply
 
   -- a call that the player makes in its open block
-  alone_more : (p q : P) (s : State) (xs : List Entry) (x : Entry) → IsAlone rules MAX_DEPTH p s xs → is_open (state_then MAX_DEPTH s xs) ≡ true → q ≡ player_then rules.answered p xs → rules.next_call q ≡ Some x.call
-      → x.reply ≡ reply MAX_DEPTH (state_then MAX_DEPTH s xs) x.call → IsAlone rules MAX_DEPTH p s (xs ++ x ∷ [])
+  alone_more : (p q : P) (s : State) (xs : List Entry) (x : Entry) → IsAlone rules MAX_OPEN_BLOCKS p s xs → is_open (state_then MAX_OPEN_BLOCKS s xs) ≡ true → q ≡ player_then rules.answered p xs → rules.next_call q ≡ Some x.call
+      → x.reply ≡ reply MAX_OPEN_BLOCKS (state_then MAX_OPEN_BLOCKS s xs) x.call → IsAlone rules MAX_OPEN_BLOCKS p s (xs ++ x ∷ [])
   alone_more p q s xs x h opened is asks =
-      alone_snoc rules laws MAX_DEPTH p s xs x h (ap (λ (o : Bool). if o then rules.next_call (player_then rules.answered p xs) else None) opened ∙ (ap rules.next_call (sym is) ∙ asks))
+      alone_snoc rules laws MAX_OPEN_BLOCKS p s xs x h (ap (λ (o : Bool). if o then rules.next_call (player_then rules.answered p xs) else None) opened ∙ (ap rules.next_call (sym is) ∙ asks))
 
   module _ {b : Between P} {row : Attempt} {p : P} {mid new : Core} {call : Call} {r : Replied} (t : IsInTry rules b row p mid) (inside : in_transaction mid ≡ true) (asks : rules.next_call p ≡ Some call)
       (g : Replies mid call r new) (began : row.began ≤ new.snapshot / 2) (less : (m : List ℕ) → Agrees m new.log → Agrees m mid.log) where
@@ -79,100 +81,124 @@ module _ {P : Type 0} {rules : Rules P} (laws : Obeys rules) where
               (let memory : IsMemory mid.words m = subst (λ (n : ℕ). IsMemory n m) words mem in
               let old = less m agrees in
               let stands = t.stands m memory old in
-              let replied : r ≡ reply MAX_DEPTH (state_then MAX_DEPTH (state m) row.calls) call =
-              g.reply_is m memory (Agrees-drop m mid.entry new.log agrees) ∙ (ap (λ (a : Bool). recoded call a (reply MAX_DEPTH (stands_for mid m) call)) t.anew
-              ∙ (told_plainly call (reply MAX_DEPTH (stands_for mid m) call) ∙ ap (λ (s : State). reply MAX_DEPTH s call) stands)) in
+              let replied : r ≡ reply MAX_OPEN_BLOCKS (state_then MAX_OPEN_BLOCKS (state m) row.calls) call =
+              g.reply_is m memory (Agrees-drop m mid.entry new.log agrees) ∙ (ap (λ (a : Bool). recoded call a (reply MAX_OPEN_BLOCKS (stands_for mid m) call)) t.anew
+              ∙ (told_plainly call (reply MAX_OPEN_BLOCKS (stands_for mid m) call) ∙ ap (λ (s : State). reply MAX_OPEN_BLOCKS s call) stands)) in
               alone_more begun p (state m) row.calls (record { call = call; reply = r }) (t.alone m memory old) (ap is_open (sym stands) ∙ stands_open rules laws mid m inside) t.player asks replied);
           stands = λ m mem agrees.
               (let memory : IsMemory mid.words m = subst (λ (n : ℕ). IsMemory n m) words mem in
-              g.meets m memory agrees ∙ (ap (λ (s : State). after MAX_DEPTH s call) (t.stands m memory (less m agrees)) ∙ sym (state_snoc MAX_DEPTH (state m) row.calls (record { call = call; reply = r }))));
+              g.meets m memory agrees ∙ (ap (λ (s : State). after MAX_OPEN_BLOCKS s call) (t.stands m memory (less m agrees)) ∙ sym (state_snoc MAX_OPEN_BLOCKS (state m) row.calls (record { call = call; reply = r }))));
         }
 
   -- ## The attempt is over
 
   -- calls made alone that end their block are all that the player makes
-  all_alone : (p : P) (memory : List ℕ) (arena : List ℕ) (props : Props) (xs : List Entry) → IsAlone rules MAX_DEPTH p (opened memory arena props) xs → is_open (state_then MAX_DEPTH (opened memory arena props) xs) ≡ false
-      → answers rules.next_call rules.answered rules.calls_left MAX_DEPTH p memory arena props ≡ map pair_of xs
+  all_alone : (p : P) (memory : List ℕ) (arena : List ℕ) (props : Props) (xs : List Entry) → IsAlone rules MAX_OPEN_BLOCKS p (opened memory arena props) xs → is_open (state_then MAX_OPEN_BLOCKS (opened memory arena props) xs) ≡ false
+      → answers rules.next_call rules.answered rules.calls_left MAX_OPEN_BLOCKS p memory arena props ≡ map pair_of xs
   all_alone p memory arena props xs h shut =
       let s : State = opened memory arena props in
-      begins_alone rules laws MAX_DEPTH (rules.calls_left p) p s xs (omega arith) h
-      ∙ (ap (λ (rest : List (Call × Replied)). map pair_of xs ++ rest) (no_more (rules.calls_left p) (player_then rules.answered p xs) (state_then MAX_DEPTH s xs) shut) ∙ append-nil (map pair_of xs))
+      begins_alone rules laws MAX_OPEN_BLOCKS (rules.calls_left p) p s xs (omega arith) h
+      ∙ (ap (λ (rest : List (Call × Replied)). map pair_of xs ++ rest) (no_more (rules.calls_left p) (player_then rules.answered p xs) (state_then MAX_OPEN_BLOCKS s xs) shut) ∙ append-nil (map pair_of xs))
     where
-      no_more : (k : ℕ) (q : P) (s : State) → is_open s ≡ false → answers_within rules.next_call rules.answered rules.calls_left MAX_DEPTH k q s (turn rules.next_call rules.answered rules.calls_left q s) ≡ []
-      no_more k q s shut = ap (λ (o : Bool). answers_within rules.next_call rules.answered rules.calls_left MAX_DEPTH k q s (if o then rules.next_call q else None)) shut ∙ gets_none rules laws MAX_DEPTH 0 0 k q s
+      no_more : (k : ℕ) (q : P) (s : State) → is_open s ≡ false → answers_within rules.next_call rules.answered rules.calls_left MAX_OPEN_BLOCKS k q s (turn rules.next_call rules.answered rules.calls_left q s) ≡ []
+      no_more k q s shut = ap (λ (o : Bool). answers_within rules.next_call rules.answered rules.calls_left MAX_OPEN_BLOCKS k q s (if o then rules.next_call q else None)) shut ∙ gets_none rules laws MAX_OPEN_BLOCKS 0 0 k q s
 
   -- its calls are the first of those that its player makes alone on the memory of its position, and all of them where its block has ended
   pub is_try : (n : ℕ) (memory : ℕ → List ℕ) (b : Between P) (start : Beginning P) (row : Attempt) → row.arena ≡ start.arena → row.props ≡ start.props → b.tries < row.nth → row.began ≤ row.at → row.at ≤ n
-      → IsAlone rules MAX_DEPTH (rules.answered start.player (begin_code b.again)) (opened (memory row.at) start.arena start.props) row.calls
-      → EndsAs row.outcome (state_then MAX_DEPTH (opened (memory row.at) start.arena start.props) row.calls)
-      → (row.outcome ≡ outcomes.Full → LacksCommit rules MAX_DEPTH (rules.answered start.player (begin_code b.again)) row (memory row.at))
-      → IsTryAt rules MAX_DEPTH n memory b (Some start) row
-  is_try n memory b start row arena props tries older newer h ends full =
+      → IsAlone rules MAX_OPEN_BLOCKS (rules.answered start.player (begin_code b.again)) (opened (memory row.at) start.arena start.props) row.calls
+      → EndsAs row.outcome (state_then MAX_OPEN_BLOCKS (opened (memory row.at) start.arena start.props) row.calls)
+      → ClosedBy row.outcome row.calls
+      → (row.outcome ≡ outcomes.Full → LacksCommit rules MAX_OPEN_BLOCKS (rules.answered start.player (begin_code b.again)) row (memory row.at))
+      → IsTryAt rules MAX_OPEN_BLOCKS n memory b (Some start) row
+  is_try n memory b start row arena props tries older newer h ends closed full =
       let p : P = rules.answered start.player (begin_code b.again) in
       let same : opened (memory row.at) row.arena row.props ≡ opened (memory row.at) start.arena start.props = λ i. opened (memory row.at) (arena i) (props i) in
-      let alone_so : IsAlone rules MAX_DEPTH p (opened (memory row.at) row.arena row.props) row.calls = subst (λ (s : State). IsAlone rules MAX_DEPTH p s row.calls) (sym same) h in (
+      let alone_so : IsAlone rules MAX_OPEN_BLOCKS p (opened (memory row.at) row.arena row.props) row.calls = subst (λ (s : State). IsAlone rules MAX_OPEN_BLOCKS p s row.calls) (sym same) h in (
         arena,
         props,
         tries,
         record {
           no_older = older;
           no_newer = newer;
-          beginning = (_, sym (begins_alone rules laws MAX_DEPTH (rules.calls_left p) p (opened (memory row.at) row.arena row.props) row.calls (omega arith) alone_so));
+          beginning = (_, sym (begins_alone rules laws MAX_OPEN_BLOCKS (rules.calls_left p) p (opened (memory row.at) row.arena row.props) row.calls (omega arith) alone_so));
           whole = λ closed. sym (all_alone p (memory row.at) row.arena row.props row.calls alone_so closed);
-          ends = subst (λ (x : State). EndsAs row.outcome (state_then MAX_DEPTH x row.calls)) (sym same) ends;
+          ends = subst (λ (x : State). EndsAs row.outcome (state_then MAX_OPEN_BLOCKS x row.calls)) (sym same) ends;
+          closed = closed;
           full = full;
         },
       )
 
   -- without a commit: in conflict, full, for want of memory, or not ended yet
-  pub try_stops : (n : ℕ) (base : List ℕ) (attempts : List Attempt) {b : Between P} {row : Attempt} {p : P} {e : Core} (t : IsInTry rules b row p e) (k : ℕ) (outcome : Outcome)
+  pub try_stops : (n : ℕ) (base : List ℕ) (attempts : List Attempt) {b : Between P} {row : Attempt} {p : P} {e : Core} (t : IsInTry rules b row p e) (k : ℕ) (outcome : Outcome) → is_done outcome ≡ false
       → (is_open_still : EndsAs outcome (stands_for e (words_at base attempts k))) → row.began ≤ k → k ≤ n → IsMemory e.words (words_at base attempts k) → bytes_of (words_at base attempts k) ≡ bytes_at base attempts k
-      → Agrees (words_at base attempts k) e.log → (outcome ≡ outcomes.Full → LacksCommit rules MAX_DEPTH (rules.answered t.start.player (begin_code b.again)) row (bytes_at base attempts k))
-      → IsTryAt rules MAX_DEPTH n (bytes_at base attempts) b (Some t.start) (record row { at = k; outcome = outcome })
-  try_stops n base attempts {b} {row} t k outcome ends older newer memory same agrees full =
+      → Agrees (words_at base attempts k) e.log → (outcome ≡ outcomes.Full → LacksCommit rules MAX_OPEN_BLOCKS (rules.answered t.start.player (begin_code b.again)) row (bytes_at base attempts k))
+      → IsTryAt rules MAX_OPEN_BLOCKS n (bytes_at base attempts) b (Some t.start) (record row { at = k; outcome = outcome })
+  try_stops n base attempts {b} {row} t k outcome undone ends older newer memory same agrees full =
       let bytes : opened (bytes_of (words_at base attempts k)) t.start.arena t.start.props ≡ opened (bytes_at base attempts k) t.start.arena t.start.props = ap (λ (m : List ℕ). opened m t.start.arena t.start.props) same in
       is_try n (bytes_at base attempts) b t.start (record row { at = k; outcome = outcome }) t.arena t.props t.tries older newer
-      (subst (λ (s : State). IsAlone rules MAX_DEPTH (rules.answered t.start.player (begin_code b.again)) s row.calls) bytes (t.alone (words_at base attempts k) memory agrees))
-      (subst (λ (s : State). EndsAs outcome (state_then MAX_DEPTH s row.calls)) bytes (subst (EndsAs outcome) (t.stands (words_at base attempts k) memory agrees) ends)) full
+      (subst (λ (s : State). IsAlone rules MAX_OPEN_BLOCKS (rules.answered t.start.player (begin_code b.again)) s row.calls) bytes (t.alone (words_at base attempts k) memory agrees))
+      (subst (λ (s : State). EndsAs outcome (state_then MAX_OPEN_BLOCKS s row.calls)) bytes (subst (EndsAs outcome) (t.stands (words_at base attempts k) memory agrees) ends)) (not_closed outcome undone row.calls) full
 
-  -- its commit: the state that it leaves is that of the commit over its memory
-  module _ (memory : List ℕ) {b : Between P} {row : Attempt} {p : P} {mid : Core} (call : Call) (m : List ℕ) (t : IsInTry rules b row p mid) (inside : in_transaction mid ≡ true) (outermost : length mid.blocks ≡ 1)
-      (asks : rules.next_call p ≡ Some call) (is : call ≡ Commit) (mem : IsMemory mid.words m) (same : bytes_of m ≡ memory) (agrees : Agrees m mid.log) where
-    abbrev last : Entry
-    last = record { call = call; reply = Done }
+  -- its last call ends its block: the state that it leaves is that of the call over its memory
+  module _ (memory : List ℕ) {b : Between P} {row : Attempt} {p : P} {mid : Core} (call : Call) (r : Replied) (m : List ℕ) (t : IsInTry rules b row p mid) (inside : in_transaction mid ≡ true)
+      (asks : rules.next_call p ≡ Some call) (mem : IsMemory mid.words m) (same : bytes_of m ≡ memory) (agrees : Agrees m mid.log) (replied : r ≡ reply MAX_OPEN_BLOCKS (stands_for mid m) call) where
+    abbrev pub last : Entry
+    last = record { call = call; reply = r }
 
-    abbrev by : P
+    abbrev pub by : P
     by = rules.answered t.start.player (begin_code b.again)
 
-    abbrev from : List ℕ → State
+    abbrev pub from : List ℕ → State
     from bytes = opened bytes t.start.arena t.start.props
 
-    stands : stands_for mid m ≡ state_then MAX_DEPTH (from memory) row.calls
-    stands = t.stands m mem agrees ∙ ap (λ (bytes : List ℕ). state_then MAX_DEPTH (from bytes) row.calls) same
+    pub closing_stands : stands_for mid m ≡ state_then MAX_OPEN_BLOCKS (opened memory t.start.arena t.start.props) row.calls
+    closing_stands = t.stands m mem agrees ∙ ap (λ (bytes : List ℕ). state_then MAX_OPEN_BLOCKS (from bytes) row.calls) same
 
-    commit_state : state_then MAX_DEPTH (from memory) (row.calls ++ last ∷ []) ≡ after MAX_DEPTH (stands_for mid m) Commit
-    commit_state = state_snoc MAX_DEPTH (from memory) row.calls last ∙ (λ i. after MAX_DEPTH (sym stands i) (is i))
+    pub closing_state : state_then MAX_OPEN_BLOCKS (opened memory t.start.arena t.start.props) (row.calls ++ record { call = call; reply = r } ∷ []) ≡ after MAX_OPEN_BLOCKS (stands_for mid m) call
+    closing_state = state_snoc MAX_OPEN_BLOCKS (from memory) row.calls last ∙ ap (λ (s : State). after MAX_OPEN_BLOCKS s call) (sym closing_stands)
 
-    closes : is_open (after MAX_DEPTH (stands_for mid m) Commit) ≡ false
-    closes = ap is_open (commits mid.writes mid.blocks mid.arena m outermost)
+    pub closing_alone : IsAlone rules MAX_OPEN_BLOCKS (rules.answered t.start.player (begin_code b.again)) (opened memory t.start.arena t.start.props) (row.calls ++ record { call = call; reply = r } ∷ [])
+    closing_alone =
+        alone_more by p (from memory) row.calls last (subst (λ (bytes : List ℕ). IsAlone rules MAX_OPEN_BLOCKS by (from bytes) row.calls) same (t.alone m mem agrees))
+        (ap is_open (sym closing_stands) ∙ stands_open rules laws mid m inside) t.player asks (replied ∙ ap (λ (s : State). reply MAX_OPEN_BLOCKS s call) closing_stands)
 
-    commit_alone : IsAlone rules MAX_DEPTH by (from memory) (row.calls ++ last ∷ [])
-    commit_alone =
-        let replied : Done ≡ reply MAX_DEPTH (state_then MAX_DEPTH (from memory) row.calls) call =
-        sym (ap (λ (o : Bool). reply_unless (or_else (unless o Outside) None) Done) (stands_open rules laws mid m inside)) ∙ (λ i. reply MAX_DEPTH (stands i) (sym is i)) in
-        alone_more by p (from memory) row.calls last (subst (λ (bytes : List ℕ). IsAlone rules MAX_DEPTH by (from bytes) row.calls) same (t.alone m mem agrees))
-        (ap is_open (sym stands) ∙ stands_open rules laws mid m inside) t.player asks replied
+    pub try_closes : (n : ℕ) (memories : ℕ → List ℕ) (at : ℕ) (outcome : Outcome) → memories at ≡ memory → row.began ≤ at → at ≤ n → EndsAs outcome (after MAX_OPEN_BLOCKS (stands_for mid m) call)
+        → ClosedBy outcome (row.calls ++ record { call = call; reply = r } ∷ []) → (outcome ≡ outcomes.Full → ⊥)
+        → IsTryAt rules MAX_OPEN_BLOCKS n memories b (Some t.start) (record row { calls = row.calls ++ record { call = call; reply = r } ∷ []; at = at; outcome = outcome })
+    try_closes n memories at outcome here older newer ends closed never =
+        is_try n memories b t.start (record row { calls = row.calls ++ last ∷ []; at = at; outcome = outcome }) t.arena t.props t.tries older newer
+        (subst (λ (bytes : List ℕ). IsAlone rules MAX_OPEN_BLOCKS by (from bytes) (row.calls ++ last ∷ [])) (sym here) closing_alone)
+        (subst (EndsAs outcome) (sym (ap (λ (bytes : List ℕ). state_then MAX_OPEN_BLOCKS (from bytes) (row.calls ++ last ∷ [])) here ∙ closing_state)) ends) closed (λ f. absurd (never f))
+
+    pub closing_left : (at : ℕ) (outcome : Outcome)
+        → alone MAX_OPEN_BLOCKS memory (record row { calls = row.calls ++ record { call = call; reply = r } ∷ []; at = at; outcome = outcome }) ≡ after MAX_OPEN_BLOCKS (stands_for mid m) call
+    closing_left at outcome = (λ i. state_then MAX_OPEN_BLOCKS (opened memory (t.arena i) (t.props i)) (row.calls ++ last ∷ [])) ∙ closing_state
+
+  -- a commit of the outermost block
+  module _ (memory : List ℕ) {b : Between P} {row : Attempt} {p : P} {mid : Core} (call : Call) (m : List ℕ) (t : IsInTry rules b row p mid) (inside : in_transaction mid ≡ true) (outermost : length mid.blocks ≡ 1)
+      (asks : rules.next_call p ≡ Some call) (is : call ≡ Commit) (mem : IsMemory mid.words m) (same : bytes_of m ≡ memory) (agrees : Agrees m mid.log) where
+    done : Done ≡ reply MAX_OPEN_BLOCKS (stands_for mid m) call
+    done = sym (ap (λ (o : Bool). reply_unless (or_else (unless o Outside) None) Done) (stands_open rules laws mid m inside)) ∙ ap (reply MAX_OPEN_BLOCKS (stands_for mid m)) (sym is)
+
+    committed : after MAX_OPEN_BLOCKS (stands_for mid m) call ≡ after MAX_OPEN_BLOCKS (stands_for mid m) Commit
+    committed = ap (after MAX_OPEN_BLOCKS (stands_for mid m)) is
+
+    closes : is_open (after MAX_OPEN_BLOCKS (stands_for mid m) call) ≡ false
+    closes = ap is_open (committed ∙ commits mid.writes mid.blocks mid.arena m outermost)
 
     -- refused as full, it is all that the player would have gone on to
-    pub lacks_commit : mid.writes ≢ [] → LacksCommit rules MAX_DEPTH by row memory
+    pub lacks_commit : mid.writes ≢ [] → LacksCommit rules MAX_OPEN_BLOCKS (rules.answered t.start.player (begin_code b.again)) row memory
     lacks_commit some =
-        let start : from memory ≡ opened memory row.arena row.props = λ i. opened memory (sym t.arena i) (sym t.props i) in
-        let state : after MAX_DEPTH (stands_for mid m) Commit ≡ after MAX_DEPTH (alone MAX_DEPTH memory row) Commit = ap (λ (s : State). after MAX_DEPTH s Commit) (stands ∙ ap (λ (s : State). state_then MAX_DEPTH s row.calls) start) in (
-          (λ i. answers rules.next_call rules.answered rules.calls_left MAX_DEPTH by memory (t.arena i) (t.props i))
-              ∙ (all_alone by memory t.start.arena t.start.props (row.calls ++ last ∷ []) commit_alone (ap is_open commit_state ∙ closes)
-              ∙ (map-append pair_of row.calls (last ∷ []) ∙ ap (λ (c : Call). map pair_of row.calls ++ (c, Done) ∷ []) is)),
+        let by : P = rules.answered t.start.player (begin_code b.again) in
+        let start : opened memory t.start.arena t.start.props ≡ opened memory row.arena row.props = λ i. opened memory (sym t.arena i) (sym t.props i) in
+        let stands = closing_stands memory call Done m t inside asks mem same agrees done in
+        let state : after MAX_OPEN_BLOCKS (stands_for mid m) Commit ≡ after MAX_OPEN_BLOCKS (alone MAX_OPEN_BLOCKS memory row) Commit = ap (λ (s : State). after MAX_OPEN_BLOCKS s Commit) (stands ∙ ap (λ (s : State). state_then MAX_OPEN_BLOCKS s row.calls) start) in (
+          (λ i. answers rules.next_call rules.answered rules.calls_left MAX_OPEN_BLOCKS by memory (t.arena i) (t.props i))
+              ∙ (all_alone by memory t.start.arena t.start.props (row.calls ++ record { call = call; reply = Done } ∷ []) (closing_alone memory call Done m t inside asks mem same agrees done)
+              (ap is_open (closing_state memory call Done m t inside asks mem same agrees done) ∙ closes)
+              ∙ (map-append pair_of row.calls (record { call = call; reply = Done } ∷ []) ∙ ap (λ (c : Call). map pair_of row.calls ++ (c, Done) ∷ []) is)),
           (
-            ap is_open (sym state) ∙ closes,
+            ap is_open (sym state ∙ sym committed) ∙ closes,
             ap (λ (s : State). s.wrote) (sym state) ∙ (ap (λ (s : State). s.wrote) (commits mid.writes mid.blocks mid.arena m outermost) ∙ written mid.writes some),
           ),
         )
@@ -183,24 +209,25 @@ module _ {P : Type 0} {rules : Rules P} (laws : Obeys rules) where
 
     -- accepted
     module _ {at : ℕ} {wrote : Bool} {new : Core} (g : Commits mid at wrote new) where
-      ends_so : (w : Bool) → wrote ≡ w → EndsAs (if w then outcomes.Committed else outcomes.ReadOnly) (after MAX_DEPTH (stands_for mid m) Commit)
-      ends_so true e = (closes, sym (g.wrote_is m mem agrees) ∙ e)
-      ends_so false e = (closes, sym (g.wrote_is m mem agrees) ∙ e)
+      ends_so : (w : Bool) → wrote ≡ w → EndsAs (if w then outcomes.Committed else outcomes.ReadOnly) (after MAX_OPEN_BLOCKS (stands_for mid m) call)
+      ends_so true e = (closes, ap (λ (s : State). s.wrote) committed ∙ (sym (g.wrote_is m mem agrees) ∙ e))
+      ends_so false e = (closes, ap (λ (s : State). s.wrote) committed ∙ (sym (g.wrote_is m mem agrees) ∙ e))
 
       never_full : (w : Bool) → (if w then outcomes.Committed else outcomes.ReadOnly) ≡ outcomes.Full → ⊥
       never_full true e = cc
       never_full false e = cc
 
-      pub try_commits : (n : ℕ) (memories : ℕ → List ℕ) → memories at ≡ memory → row.began ≤ at → at ≤ n
-          → IsTryAt rules MAX_DEPTH n memories b (Some t.start) (record row { calls = row.calls ++ record { call = call; reply = Done } ∷ []; at = at; outcome = if wrote then outcomes.Committed else outcomes.ReadOnly })
-      try_commits n memories here older newer =
-          is_try n memories b t.start (record row { calls = row.calls ++ last ∷ []; at = at; outcome = if wrote then outcomes.Committed else outcomes.ReadOnly }) t.arena t.props t.tries older newer
-          (subst (λ (bytes : List ℕ). IsAlone rules MAX_DEPTH by (from bytes) (row.calls ++ last ∷ [])) (sym here) commit_alone)
-          (subst (EndsAs (if wrote then outcomes.Committed else outcomes.ReadOnly)) (sym (ap (λ (bytes : List ℕ). state_then MAX_DEPTH (from bytes) (row.calls ++ last ∷ [])) here ∙ commit_state)) (ends_so wrote refl))
-          (λ f. absurd (never_full wrote f))
+      by_commit : (w : Bool) → ClosedBy (if w then outcomes.Committed else outcomes.ReadOnly) (row.calls ++ record { call = call; reply = Done } ∷ [])
+      by_commit true = (row.calls, (λ i. row.calls ++ record { call = is i; reply = Done } ∷ []))
+      by_commit false = (row.calls, (λ i. row.calls ++ record { call = is i; reply = Done } ∷ []))
 
-      pub left_state : alone MAX_DEPTH memory (record row { calls = row.calls ++ record { call = call; reply = Done } ∷ []; at = at; outcome = if wrote then outcomes.Committed else outcomes.ReadOnly }) ≡ after MAX_DEPTH (stands_for mid m) Commit
-      left_state = (λ i. state_then MAX_DEPTH (opened memory (t.arena i) (t.props i)) (row.calls ++ last ∷ [])) ∙ commit_state
+      pub try_commits : (n : ℕ) (memories : ℕ → List ℕ) → memories at ≡ memory → row.began ≤ at → at ≤ n
+          → IsTryAt rules MAX_OPEN_BLOCKS n memories b (Some t.start) (record row { calls = row.calls ++ record { call = call; reply = Done } ∷ []; at = at; outcome = if wrote then outcomes.Committed else outcomes.ReadOnly })
+      try_commits n memories here older newer =
+          try_closes memory call Done m t inside asks mem same agrees done n memories at (if wrote then outcomes.Committed else outcomes.ReadOnly) here older newer (ends_so wrote refl) (by_commit wrote) (never_full wrote)
+
+      pub left_state : alone MAX_OPEN_BLOCKS memory (record row { calls = row.calls ++ record { call = call; reply = Done } ∷ []; at = at; outcome = if wrote then outcomes.Committed else outcomes.ReadOnly }) ≡ after MAX_OPEN_BLOCKS (stands_for mid m) Commit
+      left_state = closing_left memory call Done m t inside asks mem same agrees done at (if wrote then outcomes.Committed else outcomes.ReadOnly) ∙ committed
 
   -- ## A begin is accepted
 
@@ -209,7 +236,7 @@ module _ {P : Type 0} {rules : Rules P} (laws : Obeys rules) where
       (g : Replies mid (Begin props room) r new) (began : row.began ≤ new.snapshot / 2) (words : List ℕ) (mem : IsMemory mid.words words) (agrees : Agrees words new.log) where
     entered : (w : Bool) → mid.again ≡ w → r ≡ begin_code w
     entered w e =
-        g.reply_is words mem (Agrees-drop words mid.entry new.log agrees) ∙ (ap (λ (o : List Props). recoded (Begin props room) mid.again (reply MAX_DEPTH (state_over mid.writes o mid.arena words) (Begin props room))) (none_inside mid.blocks outside) ∙ (ap (λ (a : Bool). recoded (Begin props room) a (Code 5)) e ∙ coded w))
+        g.reply_is words mem (Agrees-drop words mid.entry new.log agrees) ∙ (ap (λ (o : List Frame). recoded (Begin props room) mid.again (reply MAX_OPEN_BLOCKS (state_over mid.writes o mid.arena words) (Begin props room))) (none_inside mid.blocks outside) ∙ (ap (λ (a : Bool). recoded (Begin props room) a (Code 5)) e ∙ coded w))
       where
         coded : (w : Bool) → recoded (Begin props room) w (Code 5) ≡ begin_code w
         coded true = refl
@@ -226,9 +253,9 @@ module _ {P : Type 0} {rules : Rules P} (laws : Obeys rules) where
           began = began;
           anew = ap (λ (c : Core). c.again) g.stays;
           player = ap (rules.answered p) (entered b.again again) ∙ ap (λ (xs : List Entry). player_then rules.answered (rules.answered p (begin_code b.again)) xs) (sym row_calls);
-          alone = λ m memory a. subst (λ (xs : List Entry). IsAlone rules MAX_DEPTH (rules.answered p (begin_code b.again)) (opened (bytes_of m) mid.arena row.props) xs) (sym row_calls) tt;
+          alone = λ m memory a. subst (λ (xs : List Entry). IsAlone rules MAX_OPEN_BLOCKS (rules.answered p (begin_code b.again)) (opened (bytes_of m) mid.arena row.props) xs) (sym row_calls) tt;
           stands = λ m memory a.
               g.meets m (subst (λ (n : ℕ). IsMemory n m) (ap (λ (c : Core). c.words) g.stays) memory) a
-              ∙ (ap (λ (o : List Props). after MAX_DEPTH (state_over mid.writes o mid.arena m) (Begin props room)) (none_inside mid.blocks outside)
-              ∙ ((λ i. opened (bytes_of (overlay m (empty i))) mid.arena (sym row_props i)) ∙ ap (λ (xs : List Entry). state_then MAX_DEPTH (opened (bytes_of m) mid.arena row.props) xs) (sym row_calls)));
+              ∙ (ap (λ (o : List Frame). after MAX_OPEN_BLOCKS (state_over mid.writes o mid.arena m) (Begin props room)) (none_inside mid.blocks outside)
+              ∙ ((λ i. opened (bytes_of (overlay m (empty i))) mid.arena (sym row_props i)) ∙ ap (λ (xs : List Entry). state_then MAX_OPEN_BLOCKS (opened (bytes_of m) mid.arena row.props) xs) (sym row_calls)));
         }

@@ -21,6 +21,7 @@ pub mod RunCalls
 pub mod RunOthers
 pub mod PlayerLaws
 pub mod RecordedRows
+pub mod Cancels
 pub mod TryCalls
 pub mod TryChains
 pub mod LocalWork

@@ -1,6 +1,6 @@
 -- The memories that the commits left stay when more attempts end.
 use Rattle.std.proofs.Common.{inl, inr, ◌≡◌, ℕ, zero, suc, ◌/◌, ◌<◌, ◌≤◌, List, [], ◌∷◌, ◌++◌, None, Some, refl, sym, ap, ◌∙◌, arith, lt-ltb}
-use Rattle.norec_world.proofs.Common.{AreCounted, Attempt, MAX_DEPTH, bytes_at, cases_Bool, committed_at, count_at, is_at, le-ltb, memory_left, one_where, AreLaid, Cells, Rows}
+use Rattle.norec_world.proofs.Common.{AreCounted, Attempt, MAX_OPEN_BLOCKS, bytes_at, cases_Bool, committed_at, count_at, is_at, le-ltb, memory_left, one_where, AreLaid, Cells, Rows}
 
 -- ## Which attempt committed at a position
 
@@ -49,8 +49,8 @@ module _ (base : List ℕ) (clock : ℕ) (xs : List Attempt) (counted : AreCount
   bytes_still ys zero l = refl
   bytes_still ys (suc k) l =
       let one = one_at k (omega arith) in
-      (λ i. memory_left MAX_DEPTH (bytes_still ys k (omega arith) i) (committed_at (xs ++ ys) k))
-      ∙ ap (memory_left MAX_DEPTH (bytes_at base xs k)) (found_still xs ys k one.0 one.1 ∙ sym one.1)
+      (λ i. memory_left MAX_OPEN_BLOCKS (bytes_still ys k (omega arith) i) (committed_at (xs ++ ys) k))
+      ∙ ap (memory_left MAX_OPEN_BLOCKS (bytes_at base xs k)) (found_still xs ys k one.0 one.1 ∙ sym one.1)
 
 -- and so they are where more of the attempts have ended
 pub bytes_stay : {base : List ℕ} {cells : Cells} {r : Rows} {ended : List Attempt} → AreLaid base cells r → (more : List Attempt) → ended ≡ r.ended ++ more → (k : ℕ) → k ≤ cells.clock / 2 → bytes_at base ended k ≡ bytes_at base r.ended k

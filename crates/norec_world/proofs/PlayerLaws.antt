@@ -1,18 +1,41 @@
 -- The player's laws, over one answer: its depth, where it goes back to, and how much is left to do; and what comes of the answer once it is recorded.
-use Rattle.std.proofs.Common.{◌≡◌, ℕ, ◌+◌, ◌*◌, ◌<◌, ◌≤◌, Bool, true, false, Some, refl, ap, subst, ◌∙◌, arith, if◌then◌else◌, ◌-◌, nat_lt, [], Option, None, sym, Vec, Global, ltb-false}
+use Rattle.std.proofs.Common.{◌&&◌, ◌≡◌, ℕ, ◌+◌, ◌*◌, ◌<◌, ◌≤◌, Bool, true, false, Some, refl, ap, subst, ◌∙◌, arith, if◌then◌else◌, ◌-◌, nat_lt, [], Option, None, sym, Vec, Global, ltb-false, List, length, ◌∷◌, drop, length-drop}
 use Rattle.std.proofs.Math.Nat.{mul-le-mul_right}
-use Rattle.norec_world.proofs.Common.{Actor, Attempt, Begin, Call, Code, Commit, Committed, Done, End, Ended, Entry, Falls, GaveUp, HasRow, IsAnswered, IsKept, IsNested, IsSettledBy, Obeys, Refused, Replied, Reply, RestsAs, Rows, Rules, Status, active_of, depth_after, depth_if, in_transaction, opens, retried, whole, Answer}
-use Rattle.norec_world.specs.Sound.{tries_left}
-use Rattle.norec_engine.specs.Proceeds.{OpensBy}
+use Rattle.norec_world.proofs.Common.{Actor, Attempt, Begin, Call, Code, Commit, Done, End, Ended, Entry, Falls, GaveUp, HasRow, IsAnswered, IsKept, IsNested, IsSettledBy, Obeys, Replied, Reply, RestsAs, Rows, Rules, Status, active_of, depth_after, in_transaction, is_begin, is_inside, ne_eqb, cond_both, Core, opens, retried, whole, Answer}
+use Rattle.norec_world.specs.Sound.{IsDeep, tries_left}
+use Rattle.script_vm.specs.Depth.{is_code}
+use Rattle.nest_frames.specs.Nest.{Frame, closed, logged}
+use Rattle.itm_types.specs.declared.call.Call.TheVariants.{Abort, Log, LogBytes}
+use Rattle.undo_log.specs.Rollback.{Old}
+use Rattle.norec_engine.specs.Proceeds.{blocks_after}
+
+length-closed : (bs : List Frame) → length (closed bs) ≡ length bs - 1
+length-closed [] = refl
+length-closed (b ∷ []) = omega arith
+length-closed (b ∷ p ∷ bs) = omega arith
+
+length-logged : (bs : List Frame) (olds : List Old) → length (logged bs olds) ≡ length bs
+length-logged [] olds = refl
+length-logged (b ∷ bs) olds = omega arith
 
 -- the player is as deep as the engine says
-pub reply_fits : (was now : Bool) (call : Call) (r : Replied) → OpensBy was call r now → depth_after (depth_if was) call r ≡ depth_if now
-reply_fits was now (Begin props room) (Code n) o = (λ i. depth_after (depth_if (o.0 i)) (Begin props room) (Code n)) ∙ ap depth_if (sym o.1)
-reply_fits was now (Begin props room) (Refused refusal) o = ap depth_if (sym o)
-reply_fits was now (Begin props room) r o = absurd o
-reply_fits was now Commit (Refused refusal) o = ap depth_if (sym o)
-reply_fits was now Commit r o = absurd o
-reply_fits was now c r o = ap depth_if (sym o)
+pub reply_fits : (c : Core) (call : Call) (r : Replied) → length (blocks_after c call r) ≡ depth_after (length c.blocks) call r
+reply_fits c (Begin props room) (Code n) = omega arith
+reply_fits c (Begin props room) r = refl
+reply_fits c Commit Done = length-closed c.blocks
+reply_fits c Commit r = refl
+reply_fits c (Abort outer) (Code n) = cond_both outer [] (drop 1 c.blocks) (λ (bs : List Frame). length bs ≡ (if outer then 0 else length c.blocks - 1)) (λ e. ap (λ (o : Bool). if o then 0 else length c.blocks - 1) (sym e)) (λ e. length-drop 1 c.blocks ∙ ap (λ (o : Bool). if o then 0 else length c.blocks - 1) (sym e))
+reply_fits c (Abort outer) r = refl
+reply_fits c (Log width at) Done = length-logged c.blocks _
+reply_fits c (Log width at) r = refl
+reply_fits c (LogBytes at size) Done = length-logged c.blocks _
+reply_fits c (LogBytes at size) r = refl
+reply_fits c call r = refl
+
+-- blocks are open where some are
+pub deep_of : (blocks : List Frame) → IsDeep (is_inside blocks) (length blocks)
+deep_of [] = refl
+deep_of (b ∷ bs) = omega arith
 
 -- ## Numbers
 
@@ -28,63 +51,79 @@ block_same w w' r t below = let m : w' * (r + 1) ≤ w * (r + 1) = mul-le-mul_ri
 -- ## The depth
 
 -- the accepted begin of an outermost block
-pub opens_at_begin : (c : Call) (r : Replied) → depth_after 0 c r ≡ 1 → opens 0 c r ≡ true
-opens_at_begin (Begin props room) (Code n) e = refl
-opens_at_begin Commit (Code n) e = absurd (omega arith)
-opens_at_begin c r e = absurd (omega arith)
+pub opens_at_begin : (c : Call) (r : Replied) → 0 < depth_after 0 c r → opens 0 c r ≡ true
+opens_at_begin (Begin props room) (Code n) l = refl
+opens_at_begin Commit (Code n) l = absurd (omega arith)
+opens_at_begin (Abort true) (Code n) l = absurd (omega arith)
+opens_at_begin (Abort false) (Code n) l = absurd (omega arith)
+opens_at_begin c r l = absurd (omega arith)
+
+-- within a block there is none
+within_block : (d : ℕ) (c : Call) (r : Replied) → 0 < d → opens d c r ≡ false
+within_block d c r l = ap (λ (b : Bool). b && (is_begin c && is_code r)) (ne_eqb d 0 (λ e. absurd (omega arith)))
+
+-- blocks are open or not, by how many are
+same_deep : (a b : Bool) (d : ℕ) → IsDeep a d → IsDeep b d → a ≡ b
+same_deep true true d x y = refl
+same_deep true false d x y = absurd (omega (arith, x, y))
+same_deep false true d x y = absurd (omega (arith, x, y))
+same_deep false false d x y = refl
 
 module _ {P : Type 0} (rules : Rules P) (laws : Obeys rules) where
-  -- what a player is after a reply, by the blocks that were open and that are now
+  -- what a player is after a reply, by whether blocks were open and whether some are now
   pub record Played (was now : Bool) (p q : P) : Type 0 where
     pub nested : IsNested rules now q
     pub whole_falls : whole rules now q ≤ whole rules was p
     pub less : rules.calls_left q < rules.calls_left p
 
   module _ (p : P) (c : Call) (r : Replied) (asks : rules.next_call p ≡ Some c) where
-    goes_back : (d : ℕ) → rules.depth p ≡ d → 0 < depth_after d c r → rules.restarted (rules.answered p r) ≡ (if opens d c r then p else rules.restarted p)
-    goes_back d e l =
-        let Back : ℕ → Type 0 = λ x. 0 < depth_after x c r → rules.restarted (rules.answered p r) ≡ (if opens x c r then p else rules.restarted p) in
-        subst Back e (laws.restarts p c r asks) l
+    -- it goes back to the same begin
+    goes_back : 0 < rules.depth p → 0 < depth_after (rules.depth p) c r → rules.restarted (rules.answered p r) ≡ rules.restarted p
+    goes_back d l = laws.restarts p c r asks l ∙ ap (λ (b : Bool). if b then p else rules.restarted p) (within_block (rules.depth p) c r d)
 
-    deep : (d : ℕ) → rules.depth p ≡ d → rules.depth (rules.answered p r) ≡ depth_after d c r
-    deep d e = laws.nests p c r asks ∙ ap (λ x. depth_after x c r) e
+    -- or to this one
+    begins_here : rules.depth p ≡ 0 → 0 < depth_after (rules.depth p) c r → rules.restarted (rules.answered p r) ≡ p
+    begins_here d l =
+        laws.restarts p c r asks l
+        ∙ ap (λ (b : Bool). if b then p else rules.restarted p) (ap (λ (n : ℕ). opens n c r) d ∙ opens_at_begin c r (subst (λ (n : ℕ). 0 < depth_after n c r) d l))
 
-    pub plays : (was now : Bool) → IsNested rules was p → depth_after (depth_if was) c r ≡ depth_if now → (was ≡ true → now ≡ true) → Played was now p (rules.answered p r)
+    pub plays : (was now : Bool) → IsNested rules was p → IsDeep now (depth_after (rules.depth p) c r) → Played was now p (rules.answered p r)
     -- it stays open
-    plays true true n fits still =
-        let back : rules.restarted (rules.answered p r) ≡ rules.restarted p = goes_back 1 n.depth_is (omega arith) in
+    plays true true n deep =
+        let back : rules.restarted (rules.answered p r) ≡ rules.restarted p = goes_back n.deep deep in
         let fewer = laws.nearer p c r asks in
         let room = n.less refl in
         let same : rules.calls_left (rules.restarted (rules.answered p r)) ≡ rules.calls_left (rules.restarted p) = ap rules.calls_left back in
         record {
-          nested = record { depth_is = deep 1 n.depth_is ∙ fits; begun = λ o. ap rules.depth back ∙ n.begun refl; less = λ o. omega arith };
+          nested = record { deep = subst (IsDeep true) (sym (laws.nests p c r asks)) deep; begun = λ o. ap rules.depth back ∙ n.begun refl; less = λ o. omega arith };
           whole_falls = omega arith;
           less = fewer;
         }
-    plays true false n fits still = absurd (let f : false ≡ true = still refl in cc)
+    -- it is over
+    plays true false n deep =
+        let fewer = laws.nearer p c r asks in
+        let room = n.less refl in
+        record {
+          nested = record { deep = laws.nests p c r asks ∙ deep; begun = λ o. absurd (cc); less = λ o. absurd (cc) };
+          whole_falls = omega arith;
+          less = fewer;
+        }
     -- a block opened
-    plays false true n fits still =
-        let back : rules.restarted (rules.answered p r) ≡ p = goes_back 0 n.depth_is (omega arith) ∙ ap (λ (b : Bool). if b then p else rules.restarted p) (opens_at_begin c r fits) in
+    plays false true n deep =
+        let back : rules.restarted (rules.answered p r) ≡ p = begins_here n.deep deep in
         let fewer = laws.nearer p c r asks in
         let same : rules.calls_left (rules.restarted (rules.answered p r)) ≡ rules.calls_left p = ap rules.calls_left back in
         record {
-          nested = record { depth_is = deep 0 n.depth_is ∙ fits; begun = λ o. ap rules.depth back ∙ n.depth_is; less = λ o. omega arith };
+          nested = record { deep = subst (IsDeep true) (sym (laws.nests p c r asks)) deep; begun = λ o. ap rules.depth back ∙ n.deep; less = λ o. omega arith };
           whole_falls = omega arith;
           less = fewer;
         }
     -- none is open
-    plays false false n fits still = record {
-      nested = record { depth_is = deep 0 n.depth_is ∙ fits; begun = λ o. absurd (cc); less = λ o. absurd (cc) };
+    plays false false n deep = record {
+      nested = record { deep = laws.nests p c r asks ∙ deep; begun = λ o. absurd (cc); less = λ o. absurd (cc) };
       whole_falls = omega (arith, laws.nearer p c r asks);
       less = laws.nearer p c r asks;
     }
-
-    -- the block is done
-    pub closes : IsNested rules true p → c ≡ Commit → r ≡ Done → IsNested rules false (rules.answered p r) × (rules.calls_left (rules.answered p r) < rules.calls_left (rules.restarted p))
-    closes n is done =
-        let fewer = laws.nearer p c r asks in
-        let room = n.less refl in
-        (record { depth_is = deep 1 n.depth_is ∙ ((λ i. depth_after 1 (is i) (done i))); begun = λ o. absurd (cc); less = λ o. absurd (cc) }, omega arith)
 
 -- ## The answer is recorded: the actor is between calls again, or has ended
 
@@ -92,19 +131,28 @@ module _ {P : Type 0} (rules : Rules P) (laws : Obeys rules)
     (r r' : Rows) (a : Actor P) (call : Call) where
   -- it is ready for its next call, with its block open or not
   ready_again : (was now : Bool) → in_transaction a.engine ≡ now → {answer : Answer} → IsAnswered rules was r a call answer → (player : P) (spare : Vec Entry Global) (pending : Option Attempt) (nth : ℕ) (again : Bool)
-      → HasRow now r' a.thread → spare.items ≡ [] → (0 < nth) × (nth ≤ a.retries + 1) → IsNested rules now player → pending ≡ None
+      → HasRow now r' a.thread → spare.items ≡ [] → (0 < nth) × (nth ≤ a.retries + 1) → IsNested rules now player → rules.depth player ≡ length a.engine.blocks → pending ≡ None
       → Falls rules was now a (record a { player = player; spare = spare; pending = pending; nth = nth; again = again })
       → IsSettledBy rules was r' a (record a { player = player; spare = spare; pending = pending; nth = nth; again = again })
-  ready_again was now is d player spare pending nth again row empty tries nested nothing falls =
+  ready_again was now is d player spare pending nth again row empty tries nested deep nothing falls =
       let new : Actor P = record a { player = player; spare = spare; pending = pending; nth = nth; again = again } in
       record {
         engine = refl;
         thread = refl;
         retries = refl;
         kept = record { row = subst (λ (b : Bool). HasRow b r' a.thread) (sym is) row; empty = empty; tried = tries.0; tries = tries.1; retries = d.kept.retries };
-        rests = subst (λ (s : Status). RestsAs rules s new) (sym d.status) (record { nested = subst (λ (b : Bool). IsNested rules b player) (sym is) nested; idle = d.idle; free = d.free; nothing = nothing });
+        rests = subst (λ (s : Status). RestsAs rules s new) (sym d.status) (record { nested = subst (λ (b : Bool). IsNested rules b player) (sym is) nested; depth = deep; idle = d.idle; free = d.free; nothing = nothing });
         falls = λ e. subst (λ (b : Bool). Falls rules was b a new) (sym is) falls;
       }
+
+  -- the player after a reply
+  answered_deep : (reply : Replied) → rules.next_call a.player ≡ Some call → depth_after (rules.depth a.player) call reply ≡ length a.engine.blocks → rules.depth (rules.answered a.player reply) ≡ length a.engine.blocks
+  answered_deep reply asks fits = laws.nests a.player call reply asks ∙ fits
+
+  played : (was : Bool) {answer : Answer} → IsAnswered rules was r a call answer → (reply : Replied) → depth_after (rules.depth a.player) call reply ≡ length a.engine.blocks
+      → Played rules laws was (in_transaction a.engine) a.player (rules.answered a.player reply)
+  played was d reply fits =
+      plays rules laws a.player call reply d.in_call.asks was (in_transaction a.engine) d.nested (subst (IsDeep (in_transaction a.engine)) (sym fits) (deep_of a.engine.blocks))
 
   -- a reply
   pub after_reply : (was : Bool) (reply : Replied) → IsAnswered rules was r a call (Reply reply)
@@ -113,25 +161,24 @@ module _ {P : Type 0} (rules : Rules P) (laws : Obeys rules)
       → IsSettledBy rules was r' a (record a { player = player; spare = spare; pending = pending; again = again })
   after_reply was reply d player is spare empty pending nothing again row =
       let now = in_transaction a.engine in
-      let played : Played rules laws was now a.player player =
-      subst (Played rules laws was now a.player) (sym is)
-      (plays rules laws a.player call reply d.in_call.asks was now d.nested d.fits.0 d.fits.1) in
-      ready_again was now refl d player spare pending a.nth again row empty (d.kept.tried, d.kept.tries) played.nested nothing (record {
+      let played : Played rules laws was now a.player player = subst (Played rules laws was now a.player) (sym is) (played was d reply d.fits.0) in
+      ready_again was now refl d player spare pending a.nth again row empty (d.kept.tried, d.kept.tries) played.nested (ap rules.depth is ∙ answered_deep reply d.in_call.asks d.fits.0) nothing (record {
         whole_falls = played.whole_falls;
         rank_falls = λ n b. rank_same _ _ n _ _ (block_same _ _ a.retries (tries_left a) played.whole_falls) played.less;
       })
 
   -- the block is done
-  pub after_commit : (was : Bool) (at : ℕ) (wrote : Bool) → IsAnswered rules was r a call (Committed at wrote)
-      → (player : P) → player ≡ rules.answered a.player Done → (spare : Vec Entry Global) → spare.items ≡ [] → active_of a.thread r'.active ≡ None
-      → IsSettledBy rules was r' a (record a { player = player; spare = spare; nth = 1; again = false })
-  after_commit false at wrote d player is spare empty row = absurd (let f : false ≡ true = d.fits.0 in cc)
-  after_commit true at wrote d player is spare empty row =
-      let done = closes rules laws a.player call Done d.in_call.asks d.nested d.fits.2 refl in
-      let nested : IsNested rules false player = subst (IsNested rules false) (sym is) done.0 in
-      let fewer : rules.calls_left player < rules.calls_left (rules.restarted a.player) = subst (λ (p : P). rules.calls_left p < rules.calls_left (rules.restarted a.player)) (sym is) done.1 in
+  pub after_close : {answer : Answer} → IsAnswered rules true r a call answer → (reply : Replied) → in_transaction a.engine ≡ false → depth_after (rules.depth a.player) call reply ≡ length a.engine.blocks
+      → (player : P) → player ≡ rules.answered a.player reply → (spare : Vec Entry Global) → spare.items ≡ [] → (pending : Option Attempt) → pending ≡ None → active_of a.thread r'.active ≡ None
+      → IsSettledBy rules true r' a (record a { player = player; spare = spare; pending = pending; nth = 1; again = false })
+  after_close d reply closed fits player is spare empty pending nothing row =
+      let x : Played rules laws true false a.player (rules.answered a.player reply) = subst (λ (b : Bool). Played rules laws true b a.player (rules.answered a.player reply)) closed (played true d reply fits) in
+      let nested : IsNested rules false player = subst (IsNested rules false) (sym is) x.nested in
+      let nearer = x.less in
+      let room = d.nested.less refl in
+      let fewer : rules.calls_left player < rules.calls_left (rules.restarted a.player) = subst (λ (p : P). rules.calls_left p < rules.calls_left (rules.restarted a.player)) (sym is) (omega arith) in
       let tried = d.kept.tries in
-      ready_again true false d.fits.1 d player spare a.pending 1 false row empty (omega arith, omega arith) nested (d.in_call.inside refl) (record {
+      ready_again true false closed d player spare pending 1 false row empty (omega arith, omega arith) nested (ap rules.depth is ∙ answered_deep reply d.in_call.asks fits) nothing (record {
         whole_falls = (let f = fewer in omega arith);
         rank_falls = λ n b. rank_less _ _ n _ _ (rank_less _ _ a.retries (tries_left a) (a.retries + 1 - 1) fewer (omega arith)) (let f = fewer in omega arith);
       })
@@ -161,8 +208,9 @@ module _ {P : Type 0} (rules : Rules P) (laws : Obeys rules)
       tries true e = after_end was GaveUp player pending d.kept closed row
       tries false e =
           let low : a.nth ≤ a.retries = ltb-false a.retries a.nth e in
-          let nested : IsNested rules false player = record { depth_is = outside; begun = λ o. absurd (cc); less = λ o. absurd (cc) } in
-          ready_again was false closed d player a.spare pending (a.nth + 1) a.again row d.kept.empty (omega arith, omega arith) nested nothing (record {
+          let nested : IsNested rules false player = record { deep = outside; begun = λ o. absurd (cc); less = λ o. absurd (cc) } in
+          let none : length a.engine.blocks ≡ 0 = subst (λ (b : Bool). IsDeep b (length a.engine.blocks)) closed (deep_of a.engine.blocks) in
+          ready_again was false closed d player a.spare pending (a.nth + 1) a.again row d.kept.empty (omega arith, omega arith) nested (outside ∙ sym none) nothing (record {
             whole_falls = (let x = same in omega arith);
             rank_falls = λ n b. rank_less _ _ n _ _
                 (let w : rules.calls_left player * (a.retries + 1) ≡ whole rules was a.player * (a.retries + 1) = ap (λ (x : ℕ). x * (a.retries + 1)) same in omega arith)

@@ -1,22 +1,23 @@
 -- What stands in the rows of attempts, after an answer.
-use Rattle.std.proofs.Common.{inl, inr, None, Some, sym, subst, ◌≡◌, ℕ, ◌&&◌, Bool, true, false, List, [], ◌∷◌, length, refl, ap, ◌∙◌, arith}
+use Rattle.std.proofs.Common.{is_some, Option, inl, inr, None, Some, sym, subst, ◌≡◌, ℕ, ◌&&◌, Bool, true, false, List, [], ◌∷◌, length, refl, ap, ◌∙◌, arith, ◌<◌}
 use Rattle.script_vm.specs.Depth.{is_code}
 use Rattle.norec_world.proofs.ActiveRows.{opened_here, changed_here}
-use Rattle.norec_world.proofs.Common.{Actor, Attempt, Call, HasRow, IsKept, Replied, Rows, Rules, Status, StatusIs, Unfinished, active_of, cases_Bool, changed, depth_after, depth_if, in_transaction, is_begin, is_of, opens, with_changed, with_ended, with_opened, without}
+use Rattle.norec_world.proofs.Common.{Actor, Attempt, Call, HasRow, IsKept, Replied, Rows, Rules, Status, StatusIs, Unfinished, active_of, cases_Bool, changed, depth_after, in_transaction, is_begin, is_of, opens, with_changed, with_ended, with_opened, without}
+use Rattle.norec_world.specs.Sound.{IsDeep}
 use Rattle.norec_world.proofs.PlayerLaws.{opens_at_begin}
 use Rattle.norec_world.proofs.SoundOthers.{status_as}
 
--- nothing is open, and was not
-pub row_stays : (r : Rows) (thread : ℕ) (was now : Bool) → (was ≡ true → now ≡ true) → now ≡ false → HasRow was r thread → HasRow now r thread
-row_stays r thread false false still e h = h
-row_stays r thread true now still e h = absurd (let f = still refl in cc)
-row_stays r thread was now still e h = absurd (cc)
+-- none is open where none was, and none is now
+pub row_stays : (r : Rows) (thread : ℕ) (now : Bool) → now ≡ false → active_of thread r.active ≡ None → HasRow now r thread
+row_stays r thread false e none = none
+row_stays r thread true e none = absurd (cc)
 
 -- a block that opens was begun by this call
-pub was_open : (was now : Bool) (call : Call) (reply : Replied) → (was ≡ false → is_begin call ≡ false) → depth_after (depth_if was) call reply ≡ depth_if now → now ≡ true → was ≡ true
-was_open true now call reply begins fits e = refl
-was_open false now call reply begins fits e =
-    let opened : opens 0 call reply ≡ true = opens_at_begin call reply (fits ∙ ap depth_if e) in
+pub was_open : (was now : Bool) (before deep : ℕ) (call : Call) (reply : Replied) → IsDeep was before → IsDeep now deep → (was ≡ false → is_begin call ≡ false) → depth_after before call reply ≡ deep → now ≡ true → was ≡ true
+was_open true now before deep call reply b d begins fits e = refl
+was_open false now before deep call reply b d begins fits e =
+    let some : 0 < deep = subst (λ (o : Bool). IsDeep o deep) e d in
+    let opened : opens 0 call reply ≡ true = opens_at_begin call reply (subst (λ (n : ℕ). 0 < depth_after n call reply) b (subst (λ (n : ℕ). 0 < n) (sym fits) some)) in
     let no : opens 0 call reply ≡ false = ap (λ (b : Bool). b && is_code reply) (begins refl) in
     absurd (cc)
 
@@ -44,6 +45,16 @@ row_changed r r' thread true f same keeps is h e = (
 pub row_none : (r : Rows) (thread : ℕ) (was : Bool) → (was ≡ true → ⊥) → HasRow was r thread → active_of thread r.active ≡ None
 row_none r thread true shut h = absurd (shut refl)
 row_none r thread false shut h = h
+
+-- none is active
+pub no_active : (o : Option Attempt) → is_some o ≡ false → o ≡ None
+no_active None e = refl
+no_active (Some row) e = absurd (cc)
+
+-- one is active where a transaction was open
+pub has_active : (was : Bool) (r : Rows) (thread : ℕ) → HasRow was r thread → is_some (active_of thread r.active) ≡ true → was ≡ true
+has_active true r thread h e = refl
+has_active false r thread h e = absurd (let f : false ≡ true = sym (ap is_some h) ∙ e in cc)
 
 without_changed : (thread : ℕ) (f : Attempt → Attempt) (xs : List Attempt) → ((b : Attempt) → (f b).thread ≡ b.thread) → without (is_of thread) (changed (is_of thread) f xs) ≡ without (is_of thread) xs
 without_changed thread f [] same = refl

@@ -1,6 +1,7 @@
 -- An actor's run between two tries: calls outside a transaction, and begins.
 use Rattle.std.proofs.Common.{◌≡◌, ℕ, zero, suc, ◌/◌, ◌≤◌, Bool, true, false, List, [], Option, None, Some, refl, sym, true≢false, ap, subst, ◌∙◌, arith, is_some, inl, inr}
-use Rattle.norec_world.proofs.Common.{Actor, Agrees, Agrees-drop, Answer, Attempt, Begin, Beginning, Between, Busy, Call, Cells, Core, Done, IsBeforeTry, IsInTry, IsMemory, IsRun, LeadsTo, MAX_DEPTH, Obeys, Props, Ready, Refusal, Replied, Replies, RepliesTo, Reply, Row, Rows, Rules, State, active_of, after, after_unless, begin_of, begin_within, begins_at, in_transaction, is_begin, none_inside, outside, recoded, reply, same_Some, state_over, with_opened, words_at}
+use Rattle.nest_frames.specs.Nest.{Frame}
+use Rattle.norec_world.proofs.Common.{Actor, Agrees, Agrees-drop, Answer, Attempt, Begin, Beginning, Between, Busy, Call, Cells, Core, Done, IsBeforeTry, IsInTry, IsMemory, IsRun, LeadsTo, MAX_OPEN_BLOCKS, Obeys, Props, Ready, Refusal, Replied, Replies, RepliesTo, Reply, Row, Rows, Rules, State, active_of, after, after_unless, begin_of, begin_within, begins_at, in_transaction, is_begin, none_inside, outside, recoded, reply, same_Some, state_over, with_opened, words_at}
 use Rattle.itm_model.specs.Machine.{in_arena}
 use Rattle.itm_types.specs.Access.{size_of}
 use Rattle.itm_types.specs.declared.call.Call.TheVariants.{Load, Save}
@@ -15,24 +16,24 @@ use Rattle.norec_world.proofs.InTries.{try_begins}
 
 module _ {P : Type 0} (rules : Rules P) (laws : Obeys rules) where
   abbrev comes_to : P → List ℕ → Option (Beginning P)
-  comes_to p arena = begin_of rules MAX_DEPTH p arena
+  comes_to p arena = begin_of rules MAX_OPEN_BLOCKS p arena
 
   -- the player after a call outside a transaction
   abbrev told_outside : P → List ℕ → Call → P
-  told_outside p arena c = rules.answered p (reply MAX_DEPTH (outside [] arena) c)
+  told_outside p arena c = rules.answered p (reply MAX_OPEN_BLOCKS (outside [] arena) c)
 
   -- such a call, where it begins no block, leads on
   past_outside : (p : P) (arena : List ℕ) (c : Call) → rules.next_call p ≡ Some c → is_begin c ≡ false
-      → comes_to p arena ≡ comes_to (told_outside p arena c) (after MAX_DEPTH (outside [] arena) c).arena
-  past_outside p arena c e nb = comes_past rules laws MAX_DEPTH 0 0 (rules.calls_left p) (record { player = p; arena = arena; memory = []; commits = 0 }) c e nb (omega arith)
+      → comes_to p arena ≡ comes_to (told_outside p arena c) (after MAX_OPEN_BLOCKS (outside [] arena) c).arena
+  past_outside p arena c e nb = comes_past rules laws MAX_OPEN_BLOCKS 0 0 (rules.calls_left p) (record { player = p; arena = arena; memory = []; commits = 0 }) c e nb (omega arith)
 
   -- a begin that the player calls is where it comes to
   pub begin_here : (p : P) (arena : List ℕ) (props : Props) (room : ℕ) → rules.next_call p ≡ Some (Begin props room) → comes_to p arena ≡ Some (record { player = p; arena = arena; props = props })
   begin_here p arena props room e = by_left (rules.calls_left p) refl
     where
-      by_left : (n : ℕ) → rules.calls_left p ≡ n → begin_within rules MAX_DEPTH n p arena (rules.next_call p) ≡ Some (record { player = p; arena = arena; props = props })
+      by_left : (n : ℕ) → rules.calls_left p ≡ n → begin_within rules MAX_OPEN_BLOCKS n p arena (rules.next_call p) ≡ Some (record { player = p; arena = arena; props = props })
       by_left zero l = absurd (let k = laws.nearer p (Begin props room) Done e in omega arith)
-      by_left (suc n) l = ap (begin_within rules MAX_DEPTH (suc n) p arena) e
+      by_left (suc n) l = ap (begin_within rules MAX_OPEN_BLOCKS (suc n) p arena) e
 
   -- where its calls have led, it comes to the same begin
   pub led : (n : ℕ) (p : P) (arena : List ℕ) (q : P) (bytes : List ℕ) → LeadsTo rules n p arena q bytes → comes_to p arena ≡ comes_to q bytes
@@ -48,8 +49,8 @@ same_arena (Some refusal) s t s' t' old new = old
 
 -- such a call is served with no memory
 same_outside : (writes : List Row) (arena m : List ℕ) (c : Call) → is_begin c ≡ false
-    → (reply MAX_DEPTH (state_over writes [] arena m) c ≡ reply MAX_DEPTH (outside [] arena) c)
-    × ((after MAX_DEPTH (state_over writes [] arena m) c).arena ≡ (after MAX_DEPTH (outside [] arena) c).arena)
+    → (reply MAX_OPEN_BLOCKS (state_over writes [] arena m) c ≡ reply MAX_OPEN_BLOCKS (outside [] arena) c)
+    × ((after MAX_OPEN_BLOCKS (state_over writes [] arena m) c).arena ≡ (after MAX_OPEN_BLOCKS (outside [] arena) c).arena)
 same_outside writes arena m (Begin props room) nb = absurd (cc)
 same_outside writes arena m (Load width at) nb = (refl, same_arena (in_arena (outside [] arena) at (size_of width)) _ _ _ _ refl refl)
 same_outside writes arena m (Save at value) nb = (refl, same_arena (in_arena (outside [] arena) at (size_of value.width)) _ _ _ _ refl refl)
@@ -57,14 +58,14 @@ same_outside writes arena m c nb = (refl, refl)
 
 -- the engine's reply to it, and its arena then
 served_outside : (mid new : Core) (c : Call) (r : Replied) (m : List ℕ) → Replies mid c r new → is_begin c ≡ false → in_transaction mid ≡ false → IsMemory mid.words m → Agrees m new.log
-    → (r ≡ reply MAX_DEPTH (outside [] mid.arena) c) × (new.arena ≡ (after MAX_DEPTH (outside [] mid.arena) c).arena)
+    → (r ≡ reply MAX_OPEN_BLOCKS (outside [] mid.arena) c) × (new.arena ≡ (after MAX_OPEN_BLOCKS (outside [] mid.arena) c).arena)
 served_outside mid new c r m g nb shut mem agrees =
-    let over = λ (o : List Props). state_over mid.writes o mid.arena m in
+    let over = λ (o : List Frame). state_over mid.writes o mid.arena m in
     let same = same_outside mid.writes mid.arena m c nb in
     let none = none_inside mid.blocks shut in (
       g.reply_is m mem (Agrees-drop m mid.entry new.log agrees)
-          ∙ (ap (λ (o : List Props). recoded c mid.again (reply MAX_DEPTH (over o) c)) none ∙ (plainly c mid.again (reply MAX_DEPTH (over []) c) nb ∙ same.0)),
-      ap (λ (s : State). s.arena) (g.meets m mem agrees) ∙ (ap (λ (o : List Props). (after MAX_DEPTH (over o) c).arena) none ∙ same.1),
+          ∙ (ap (λ (o : List Frame). recoded c mid.again (reply MAX_OPEN_BLOCKS (over o) c)) none ∙ (plainly c mid.again (reply MAX_OPEN_BLOCKS (over []) c) nb ∙ same.0)),
+      ap (λ (s : State). s.arena) (g.meets m mem agrees) ∙ (ap (λ (o : List Frame). (after MAX_OPEN_BLOCKS (over o) c).arena) none ∙ same.1),
     )
   where
     plainly : (c : Call) (again : Bool) (r : Replied) → is_begin c ≡ false → recoded c again r ≡ r

@@ -1,7 +1,7 @@
 -- An actor's run over a call, up to its first step, and over a step.
 use Rattle.std.proofs.Common.{◌≡◌, ℕ, ◌/◌, ◌≤◌, ◌&&◌, Bool, true, false, not, List, [], ◌∷◌, ◌++◌, Some, refl, sym, true≢false, ap, subst, ◌∙◌, arith, None, inl, inr}
 use Rattle.std.proofs.lemmas.Bool.{and_right, not_from_true}
-use Rattle.norec_world.proofs.Common.{Actor, Answer, AreCounted, AreLaid, Attempt, Begin, Between, Call, Cells, Commit, Core, Ended, HasRow, IsBeforeTry, IsDone, IsInTry, IsRun, IsRunOf, IsSound, IsTold, LeadsTo, MAX_DEPTH, Next, Obeys, Ready, Reply, Rows, Rules, RunsFrom, Sees, Starves, Status, Step, Tells, active_of, asked_pending, begins_again, begins_at, bytes_at, cases_Bool, ending_of, found, handed_is, handed_to, in_transaction, is_inside, of_thread, run_after, words_at}
+use Rattle.norec_world.proofs.Common.{Actor, Answer, AreCounted, AreLaid, Attempt, Begin, Between, Call, Cells, Commit, Core, Ended, HasRow, IsBeforeTry, IsDone, IsInTry, IsRun, IsRunOf, IsSound, IsTold, LeadsTo, MAX_OPEN_BLOCKS, Next, Obeys, Ready, Reply, Rows, Rules, RunsFrom, Sees, Starves, Status, Step, Tells, active_of, asked_pending, begins_again, begins_at, bytes_at, cases_Bool, ending_of, found, handed_is, handed_to, in_transaction, is_inside, of_thread, run_after, words_at, RecordsReply}
 use Rattle.norec_world.specs.declared.attempt.Outcome.TheVariants as outcomes
 use Rattle.norec_world.specs.declared.attempt.End.TheVariants as ends
 use Rattle.norec_world.proofs.ActiveRows.{changed_here}
@@ -98,9 +98,10 @@ module _ {P : Type 0} {rules : Rules P} (laws : Obeys rules) {cells : Cells} {r0
           → (row : Attempt) → active_of last.thread r1.active ≡ Some row → row.at ≡ last.engine.snapshot / 2
       by_answer true (Reply reply) was t now row f =
           let x = run_came.inside was in
+          let told = subst (λ (o : Bool). RecordsReply rules true o r r1 a last call reply) (ap in_transaction t.settled.engine ∙ now) t.told in
           let with_call : Attempt → Attempt = λ x. record x { calls = x.calls ++ record { call = call; reply = reply } ∷ [] } in
           let here : active_of last.thread r1.active ≡ Some (with_call x.1) =
-          ap (λ (k : ℕ). active_of k r1.active) t.settled.thread ∙ (ap (λ (x : Rows). active_of a.thread x.active) t.told.0 ∙ changed_here a.thread with_call r.active x.1 (λ x. refl) x.3) in
+          ap (λ (k : ℕ). active_of k r1.active) t.settled.thread ∙ (ap (λ (x : Rows). active_of a.thread x.active) told.0 ∙ changed_here a.thread with_call r.active x.1 (λ x. refl) x.3) in
           let same : with_call x.1 ≡ row = (let z : Some (with_call x.1) ≡ Some row = sym here ∙ f in cc) in
           ap (λ (x : Attempt). x.at) (sym same) ∙ (runs.reads was x.1 (sym (active_same m) ∙ x.3) ∙ ap (λ (k : ℕ). k / 2) (sym (ap (λ (c : Core). c.snapshot) t.settled.engine ∙ m.asked.stays.snapshot)))
       by_answer false (Reply reply) was t now row f = absurd (true≢false (sym (m.asked.stays.opens now) ∙ was))
@@ -152,7 +153,7 @@ module _ {P : Type 0} {rules : Rules P} (laws : Obeys rules) {cells : Cells} {r0
   starve_run true o =
       let here : IsRun rules first base (cells.clock / 2) roomy old = record { run = runs.runs.run; inside = runs.runs.inside; between = λ x. absurd (true≢false (sym o ∙ x)) } in
       (stop_run laws r1 old last Commit still_seen here (cells.clock / 2) (let l : cells.clock / 2 ≤ cells.clock / 2 = omega arith in l)
-      (bytes_stay laid more ended) o (old.engine.snapshot / 2) outcomes.NoMemory (λ x y. y) s.same.thread (s.stops o)
+      (bytes_stay laid more ended) o (old.engine.snapshot / 2) outcomes.NoMemory refl (λ x y. y) s.same.thread (s.stops o)
       (runs.runs.inside o).4.began still_seen.late ((runs.sees fed).logged o) (λ f. absurd (cc))).0
 
   pub starve_runs : RunsFrom rules first base cells r1 last
@@ -201,7 +202,7 @@ module _ {P : Type 0} (rules : Rules P) (laws : Obeys rules) (first : Between P)
           let t = x.inside o in
           let now : active_of a.thread r'.active ≡ Some (reading (a.engine.snapshot / 2) t.1) = ap (λ (rows : Rows). active_of a.thread rows.active) moved ∙ changed_here a.thread (reading (a.engine.snapshot / 2)) r.active t.1 (λ y. refl) t.3 in (
             record {
-              run = subst (λ (rows : Rows). IsRunOf rules MAX_DEPTH n (bytes_at base rows.ended) (Some first) (of_thread a.thread rows.ended)) (sym moved) x.run;
+              run = subst (λ (rows : Rows). IsRunOf rules MAX_OPEN_BLOCKS n (bytes_at base rows.ended) (Some first) (of_thread a.thread rows.ended)) (sym moved) x.run;
               inside = λ y. (
                 t.0,
                 reading (a.engine.snapshot / 2) t.1,

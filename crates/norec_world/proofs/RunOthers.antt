@@ -1,6 +1,6 @@
 -- The actors' runs: one's event leaves the others', and together they are the headline.
 use Rattle.std.proofs.Common.{◌≡◌, ◌≢◌, inl, inr, ℕ, ◌+◌, ◌/◌, ◌%◌, ◌<◌, ◌≤◌, ◌==◌, Bool, true, false, List, [], ◌∷◌, ◌++◌, length, length-set, replicate, None, Some, slice_get, slice_set, refl, sym, ap, subst, ◌∙◌, arith, eqb-true, nat_lt}
-use Rattle.norec_world.proofs.Common.{Actor, Agrees, AllFit, AllOf, AreActors, AreFrom, AreLaid, AreOfActors, AreOpaque, AreOpen, AreRunning, Attempt, Between, Cells, ChangesOwn, ClocksOn, Core, Got, HasRead, HasRow, IsMemory, IsRunOf, IsTied, IsTryAt, IsWorld, KeepsOthers, MAX_DEPTH, NoMemory, Obeys, Ready, Rows, Rules, RunsFrom, World, active_of, append-nil, attempts_of, backed, begins_at, bytes_at, bytes_of, cases_Bool, count_at, count_committed, ending_of, first_of, in_transaction, le-ltb, ne_eqb, of_thread, one_where, opening, run_after, words_at, words_of, write_at, slice_get_within}
+use Rattle.norec_world.proofs.Common.{Actor, Agrees, AllFit, AllOf, AreActors, AreFrom, AreLaid, AreOfActors, AreOpaque, AreOpen, AreRunning, Attempt, Between, Cells, ChangesOwn, ClocksOn, Core, Got, HasRead, HasRow, IsMemory, IsRunOf, IsTied, IsTryAt, IsWorld, KeepsOthers, MAX_OPEN_BLOCKS, NoMemory, Obeys, Ready, Rows, Rules, RunsFrom, World, active_of, append-nil, attempts_of, backed, begins_at, bytes_at, bytes_of, cases_Bool, count_at, count_committed, ending_of, first_of, in_transaction, le-ltb, ne_eqb, of_thread, one_where, opening, run_after, words_at, words_of, write_at, slice_get_within}
 use Rattle.norec_world.specs.declared.attempt.Outcome.TheVariants as outcomes
 use Rattle.norec_world.proofs.WordLists.{words_of-bytes_of}
 use Rattle.norec_world.specs.Runs.{StillRuns}
@@ -65,7 +65,7 @@ module _ {P : Type 0} (rules : Rules P) (laws : Obeys rules) where
   other_runs first base cells cells' r r' thread b laid tied own apart later held x =
       record {
         runs = record {
-          run = subst (IsRunOf rules MAX_DEPTH (cells'.clock / 2) (bytes_at base r'.ended) (Some first)) (sym rows) on.0;
+          run = subst (IsRunOf rules MAX_OPEN_BLOCKS (cells'.clock / 2) (bytes_at base r'.ended) (Some first)) (sym rows) on.0;
           inside = λ o. (let t = x.runs.inside o in (t.0, t.1, now ∙ t.2, own.others b.thread apart ∙ t.3, t.4, t.5, t.6));
           between = λ o gave_up starved.
               (let t = x.runs.between o gave_up starved in let k = t.2 in (
@@ -97,7 +97,7 @@ module _ {P : Type 0} (rules : Rules P) (laws : Obeys rules) where
           ap (of_thread b.thread) own.ended ∙ (of_thread_more b.thread r.ended own.more
           ∙ (ap (λ (l : List Attempt). of_thread b.thread r.ended ++ l) (of_thread_none b.thread thread own.more own.mine (λ e. apart (sym e))) ∙ append-nil (of_thread b.thread r.ended)))
 
-      on : IsRunOf rules MAX_DEPTH (cells'.clock / 2) (bytes_at base r'.ended) (Some first) (of_thread b.thread r.ended)
+      on : IsRunOf rules MAX_OPEN_BLOCKS (cells'.clock / 2) (bytes_at base r'.ended) (Some first) (of_thread b.thread r.ended)
           × (run_after rules (bytes_at base r'.ended) (Some first) (of_thread b.thread r.ended) ≡ run_after rules (bytes_at base r.ended) (Some first) (of_thread b.thread r.ended))
       on = run_still rules (cells.clock / 2) (cells'.clock / 2) (bytes_at base r.ended) (bytes_at base r'.ended) (omega (arith, later)) (bytes_stay laid own.more own.ended) (Some first) (of_thread b.thread r.ended) x.runs.run
 
@@ -112,13 +112,13 @@ module _ {P : Type 0} (rules : Rules P) (laws : Obeys rules) where
     shown_still k l = bytes_still w.base w.cells.clock w.attempts.ended running.laid.counted w.attempts.active k l
 
     of_actor : (place : ℕ) (p : P) (a : Actor P) → slice_get w.opening place ≡ Some p → slice_get w.actors place ≡ Some a
-        → IsRunOf rules MAX_DEPTH (w.cells.clock / 2) (bytes_at w.base (attempts_of w)) (Some (first_of p w.arena)) (of_thread place (attempts_of w))
+        → IsRunOf rules MAX_OPEN_BLOCKS (w.cells.clock / 2) (bytes_at w.base (attempts_of w)) (Some (first_of p w.arena)) (of_thread place (attempts_of w))
     of_actor place p a e f =
         let x = running.each place p a e f in
         let s = sound.each place a f in
         let on = run_still rules (w.cells.clock / 2) (w.cells.clock / 2) (bytes_at w.base w.attempts.ended) (bytes_at w.base (attempts_of w)) (let l : w.cells.clock / 2 ≤ w.cells.clock / 2 = omega arith in l) shown_still
         (Some (first_of p w.arena)) (of_thread a.thread w.attempts.ended) x.runs.run in
-        subst (λ (t : ℕ). IsRunOf rules MAX_DEPTH (w.cells.clock / 2) (bytes_at w.base (attempts_of w)) (Some (first_of p w.arena)) (of_thread t (attempts_of w))) s.thread
+        subst (λ (t : ℕ). IsRunOf rules MAX_OPEN_BLOCKS (w.cells.clock / 2) (bytes_at w.base (attempts_of w)) (Some (first_of p w.arena)) (of_thread t (attempts_of w))) s.thread
         (elim (cases_Bool (in_transaction a.engine)) [
           | inl o ↦
               (let tied = s.sound.tied in
@@ -133,22 +133,22 @@ module _ {P : Type 0} (rules : Rules P) (laws : Obeys rules) where
               let unfinished : row.outcome ≡ outcomes.Unfinished = row_unfinished (in_transaction a.engine) w.attempts a.thread row s.sound.kept.row t.3 in
               let at : row.at ≡ k = x.reads o row t.3 in
               let early = t.4.began in
-              let try = try_stops laws (w.cells.clock / 2) w.base (attempts_of w) t.4 k outcomes.Unfinished (stands_open rules laws a.engine (words_at w.base (attempts_of w) k) o) early k_late
+              let try = try_stops laws (w.cells.clock / 2) w.base (attempts_of w) t.4 k outcomes.Unfinished refl (stands_open rules laws a.engine (words_at w.base (attempts_of w) k) o) early k_late
               (subst (IsMemory a.engine.words) (sym words) (fits.0 ∙ sym tied.words, fits.1)) (ap bytes_of words ∙ (running.laid.memories.same k k_late ∙ sym (shown_still k k_late)))
               (subst (λ (m : List ℕ). Agrees m a.engine.log) (sym words) (sees.logged o)) (λ f. absurd (cc)) in
               let as_it_is : record row { at = k; outcome = outcomes.Unfinished } ≡ row = λ i. record row { at = (sym at) i; outcome = (sym unfinished) i } in
-              let here : IsTryAt rules MAX_DEPTH (w.cells.clock / 2) (bytes_at w.base (attempts_of w)) t.0 (begins_at rules t.0) row =
-              subst (λ (y : _). IsTryAt rules MAX_DEPTH (w.cells.clock / 2) (bytes_at w.base (attempts_of w)) t.0 y row) (sym t.4.begins)
-              (subst (IsTryAt rules MAX_DEPTH (w.cells.clock / 2) (bytes_at w.base (attempts_of w)) t.0 (Some t.4.start)) as_it_is try) in
+              let here : IsTryAt rules MAX_OPEN_BLOCKS (w.cells.clock / 2) (bytes_at w.base (attempts_of w)) t.0 (begins_at rules t.0) row =
+              subst (λ (y : _). IsTryAt rules MAX_OPEN_BLOCKS (w.cells.clock / 2) (bytes_at w.base (attempts_of w)) t.0 y row) (sym t.4.begins)
+              (subst (IsTryAt rules MAX_OPEN_BLOCKS (w.cells.clock / 2) (bytes_at w.base (attempts_of w)) t.0 (Some t.4.start)) as_it_is try) in
               let more = run_more rules (w.cells.clock / 2) (bytes_at w.base (attempts_of w)) (Some (first_of p w.arena)) (of_thread a.thread w.attempts.ended) t.0 row on.0 (on.1 ∙ t.2) here in
               let rows : of_thread a.thread (attempts_of w) ≡ of_thread a.thread w.attempts.ended ++ row ∷ [] =
               of_thread_more a.thread w.attempts.ended w.attempts.active ∙ ap (λ (l : List Attempt). of_thread a.thread w.attempts.ended ++ l) (open_one 0 a.thread w.attempts.active row open_rows.by_actor t.3) in
-              subst (IsRunOf rules MAX_DEPTH (w.cells.clock / 2) (bytes_at w.base (attempts_of w)) (Some (first_of p w.arena))) (sym rows) more.0)
+              subst (IsRunOf rules MAX_OPEN_BLOCKS (w.cells.clock / 2) (bytes_at w.base (attempts_of w)) (Some (first_of p w.arena))) (sym rows) more.0)
           | inr shut ↦
               (let none : HasRow false w.attempts a.thread = subst (λ (b : Bool). HasRow b w.attempts a.thread) shut s.sound.kept.row in
               let rows : of_thread a.thread (attempts_of w) ≡ of_thread a.thread w.attempts.ended =
               of_thread_more a.thread w.attempts.ended w.attempts.active ∙ (ap (λ (l : List Attempt). of_thread a.thread w.attempts.ended ++ l) (open_none 0 a.thread w.attempts.active open_rows.by_actor none) ∙ append-nil (of_thread a.thread w.attempts.ended)) in
-              subst (IsRunOf rules MAX_DEPTH (w.cells.clock / 2) (bytes_at w.base (attempts_of w)) (Some (first_of p w.arena))) (sym rows) on.0)
+              subst (IsRunOf rules MAX_OPEN_BLOCKS (w.cells.clock / 2) (bytes_at w.base (attempts_of w)) (Some (first_of p w.arena))) (sym rows) on.0)
         ])
 
     pub are_opaque : AreOpaque rules w
@@ -234,7 +234,7 @@ module _ {P : Type 0} (rules : Rules P) (laws : Obeys rules) where
       let rows : of_thread a.thread r.ended ≡ [] = ap (of_thread a.thread) none in
       record {
         runs = record {
-          run = subst (IsRunOf rules MAX_DEPTH (cells.clock / 2) (bytes_at base r.ended) (Some (first_of a.player size))) (sym rows) tt;
+          run = subst (IsRunOf rules MAX_OPEN_BLOCKS (cells.clock / 2) (bytes_at base r.ended) (Some (first_of a.player size))) (sym rows) tt;
           inside = λ o. absurd (let z = sym o ∙ shut in cc);
           between = λ o gave_up starved. (
             first_of a.player size,

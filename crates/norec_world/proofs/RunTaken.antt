@@ -1,11 +1,11 @@
 -- A value or a call was taken in, and what the engine gave is recorded: the actor's run goes on, and the words are still those that the commits left.
 use Rattle.std.proofs.Common.{◌≡◌, ℕ, suc, ◌+◌, ◌/◌, ◌≤◌, ◌==◌, Bool, true, false, List, [], ◌∷◌, ◌++◌, Option, None, Some, refl, sym, true≢false, ap, subst, ◌∙◌, arith, eq-eqb, append-nil, inl, inr}
-use Rattle.norec_world.proofs.Common.{Actor, Agrees, Answer, AreCounted, AreLaid, Asks, Attempt, Between, Busy, Call, Cells, Committed, Conflict, Core, Done, Ends, Full, IsDone, IsRun, Loaded, MAX_DEPTH, Next, NoMemory, Obeys, RepliesTo, Reply, Rows, Rules, Sees, State, Step, Tells, Waits, alone, backed, bytes_at, bytes_of, committed_at, cond-true, ending_of, in_transaction, memory_left, rests, words_at}
+use Rattle.norec_world.proofs.Common.{Actor, Agrees, Answer, AreCounted, AreLaid, Asks, Attempt, Between, Busy, Call, Cells, Committed, Conflict, Core, Done, Ends, Full, IsDone, IsRun, Loaded, MAX_OPEN_BLOCKS, Next, NoMemory, Obeys, RecordsReply, RepliesTo, Reply, Rows, Rules, Sees, State, Step, Tells, Waits, alone, backed, bytes_at, bytes_of, committed_at, cond-true, ending_of, in_transaction, memory_left, rests, words_at}
 use Rattle.norec_world.specs.declared.attempt.Outcome.TheVariants as outcomes
 use Rattle.norec_world.proofs.InTries.{try_asks}
 use Rattle.norec_world.proofs.Laid.{laid_more, laid_on}
 use Rattle.norec_world.proofs.Memories.{bytes_stay, found_later, none_next}
-use Rattle.norec_world.proofs.RunAnswers.{before_on, commit_agrees, commit_ended, commit_left, commit_runs, conflict_runs, full_runs, reply_runs}
+use Rattle.norec_world.proofs.RunAnswers.{before_on, commit_agrees, commit_ended, commit_left, commit_runs, cancel_runs, conflict_runs, full_runs, reply_runs}
 use Rattle.norec_world.proofs.RunBegins.{shut_runs}
 use Rattle.norec_world.proofs.Seen.{HasSeen, memory_at}
 use Rattle.norec_world.proofs.Taken.{HasAnswered, HasTaken, recorded, still_going, clock_grows}
@@ -69,7 +69,15 @@ module _ {P : Type 0} {rules : Rules P} (laws : Obeys rules) {first : Between P}
     to_now half x = subst (λ (k : ℕ). IsRun rules first base k r1 last) (sym half) x
 
     open_runs : (answer : Answer) → HasAnswered rules true cells cells' r r1 mid a last call answer → IsRun rules first base (cells'.clock / 2) r1 last
-    open_runs (Reply reply) m = to_now (m.taken.moves.keeps (unfreed_to mid a.engine mid.doing reply m.ends)) (reply_runs laws r1 a last call seen run reply m)
+    open_runs (Reply reply) m = by_open (in_transaction last.engine) refl m.told
+      where
+        half : cells'.clock / 2 ≡ cells.clock / 2
+        half = m.taken.moves.keeps (unfreed_to mid a.engine mid.doing reply m.ends)
+
+        by_open : (now : Bool) → in_transaction last.engine ≡ now → RecordsReply rules true now r r1 a last call reply → IsRun rules first base (cells'.clock / 2) r1 last
+        by_open true o told = to_now half (reply_runs laws r1 a last call seen run reply m o told)
+        by_open false o told = cancel_runs laws r1 a last call seen run (cells'.clock / 2) (clock_grows m.taken.moves) (bytes_stay seen.laid more ended) m.taken.was_is reply m o told
+            (omega (arith, half, m.taken.tied.settled.reached, m.taken.tied.late))
     open_runs (Committed at wrote) m = commit_runs laws r1 a last call seen run (cells'.clock / 2) (clock_grows m.taken.moves) (bytes_stay seen.laid more ended) m.taken.was_is at wrote m
     open_runs (Conflict clock word) m = conflict_runs laws r1 a last call seen run (cells'.clock / 2) (clock_grows m.taken.moves) (bytes_stay seen.laid more ended) m.taken.was_is clock word m
     open_runs (Busy clock) m = absurd (let f : true ≡ false = m.answered.fits.0 in cc)
@@ -84,7 +92,7 @@ module _ {P : Type 0} {rules : Rules P} (laws : Obeys rules) {first : Between P}
 
     -- an answer that leaves the transaction open ends no attempt
     pub open_ended : (b : Bool) (answer : Answer) → HasAnswered rules b cells cells' r r1 mid a last call answer → in_transaction a.engine ≡ true → r1.ended ≡ r.ended
-    open_ended true (Reply reply) m o = ap (λ (x : Rows). x.ended) m.told.0
+    open_ended true (Reply reply) m o = ap (λ (x : Rows). x.ended) (subst (λ (now : Bool). RecordsReply rules true now r r1 a last call reply) (ap in_transaction m.settled.engine ∙ o) m.told).0
     open_ended false (Reply reply) m o = elim (begun_or_not reply m) [ inl b ↦ ap (λ (x : Rows). x.ended) b.3 | inr n ↦ ap (λ (x : Rows). x.ended) n.2 ]
     open_ended b answer m o = absurd (true≢false (sym o ∙ m.answered.fits.1))
 
@@ -124,8 +132,8 @@ module _ {P : Type 0} {rules : Rules P} (laws : Obeys rules) {first : Between P}
         let next_is : cells.clock / 2 + 1 ≡ suc (cells.clock / 2) = omega arith in
         laid_more base cells cells' r r1 seen.laid counted (omega arith) seen.long m.taken.tied.fit (bytes_stay seen.laid more ended)
         (ap (bytes_at base r1.ended) next_is
-        ∙ (ap (memory_left MAX_DEPTH (bytes_at base r1.ended (cells.clock / 2))) found_row
-        ∙ (ap (λ (k : ℕ). (alone MAX_DEPTH (bytes_at base r1.ended k) row).memory) (sym position)
+        ∙ (ap (memory_left MAX_OPEN_BLOCKS (bytes_at base r1.ended (cells.clock / 2))) found_row
+        ∙ (ap (λ (k : ℕ). (alone MAX_OPEN_BLOCKS (bytes_at base r1.ended k) row).memory) (sym position)
         ∙ (ap (λ (x : State). x.memory) left_so ∙ (sym (m.ends.memory_is (words_at base r.ended at) (memory_at seen at here) agrees) ∙ ap bytes_of (sym backed_words))))))
 
     laid_answered : (b : Bool) (answer : Answer) → HasAnswered rules b cells cells' r r1 mid a last call answer → AreCounted cells'.clock r1.ended → AreLaid base cells' r1

@@ -1,7 +1,7 @@
 -- What a world with one actor shows is what its player does alone.
 use Rattle.std.proofs.Common.{◌≡◌, ◌⊎◌, inl, inr, ℕ, zero, suc, ◌/◌, ◌%◌, ◌≤◌, Bool, true, false, nat_le, if◌then◌else◌, List, [], ◌∷◌, ◌++◌, length, map, replicate, Option, None, Some, slice_get, refl, sym, ap, subst, ◌∙◌, arith, append-nil, le-leb}
 use Rattle.std.proofs.lemmas.Bool.{and_from}
-use Rattle.norec_world.proofs.Common.{Actor, AreOfActors, AreOpaque, AreUnfinished, Attempt, Between, Call, Commit, Done, End, EndsAs, EndsWith, Entry, Finished, GaveUp, IsAlone, IsBeforeTry, IsFirstTry, IsOnWay, IsRunOf, IsSole, IsWorld, MAX_DEPTH, NoMemory, Obeys, Outcome, Rules, ShowsAlone, StandsSole, State, World, active_of, after, alone, answers, answers_within, attempts_of, begin_code, begin_of, begin_within, bytes_at, committed_at, current_of, ending_at, ending_of, first_of, in_transaction, is_open, map-append, of_thread, opened, option_and_then, pair_of, player_then, row_of, run_after, same_Some, solo_within, state_then, stopped, with_all, with_first}
+use Rattle.norec_world.proofs.Common.{Actor, AreOfActors, AreOpaque, AreUnfinished, Attempt, Between, Call, Commit, Done, End, EndsAs, EndsWith, Entry, Finished, GaveUp, IsAlone, IsBeforeTry, IsFirstTry, IsOnWay, IsRunOf, IsSole, IsWorld, MAX_OPEN_BLOCKS, NoMemory, Obeys, Outcome, Rules, ShowsAlone, StandsSole, State, World, active_of, after, alone, answers, answers_within, attempts_of, begin_code, begin_of, begin_within, bytes_at, committed_at, current_of, ending_at, ending_of, first_of, in_transaction, is_open, map-append, of_thread, opened, option_and_then, pair_of, player_then, row_of, run_after, same_Some, solo_within, state_then, stopped, with_all, with_first}
 use Rattle.norec_world.proofs.RunBegins.{led_before}
 use Rattle.itm_types.specs.declared.call.Reply.{Reply}
 use Rattle.norec_world.specs.declared.attempt.Outcome.TheVariants as outcomes
@@ -75,7 +75,7 @@ module _ {P : Type 0} (rules : Rules P) (laws : Obeys rules) (w : World P) (kept
   arrived tail is =
       arrives rules laws w.max_commits w.base (attempts_of w) (w.cells.clock / 2) (record { player = p; arena = replicate w.arena 0; memory = w.base; commits = 0 }) sole.past tail (w.cells.clock / 2) refl
       (λ j l. ap (λ (xs : List Attempt). committed_at xs j) is)
-      (subst (IsRunOf rules MAX_DEPTH (w.cells.clock / 2) (bytes_at w.base (attempts_of w)) (Some (first_of p w.arena))) (of_thread_all (attempts_of w) all_mine ∙ is) (opaque.runs 0 p player_here))
+      (subst (IsRunOf rules MAX_OPEN_BLOCKS (w.cells.clock / 2) (bytes_at w.base (attempts_of w)) (Some (first_of p w.arena))) (of_thread_all (attempts_of w) all_mine ∙ is) (opaque.runs 0 p player_here))
       sole.commit (let few = kept.commits.few in omega arith)
 
   so_far : (tail : List Attempt) (x : Arrived tail) (outcome : Outcome) → (attempts_of w ≡ sole.past) ⊎ IsBegun rules w.max_commits 0 x.before sole.past outcome (attempts_of w) → So (w.cells.clock / 2) x.before.memory outcome
@@ -85,7 +85,7 @@ module _ {P : Type 0} (rules : Rules P) (laws : Obeys rules) (w : World P) (kept
   left_by tail x z = opaque.free z ∙ (ap (bytes_at w.base (attempts_of w)) (sym x.commits) ∙ sym x.memory)
 
   -- the player goes no further
-  stops : (tail : List Attempt) (x : Arrived tail) (end : End) → solo_within rules MAX_DEPTH w.max_commits 0 (rules.calls_left x.before.player) x.before ≡ record { attempts = tail; memory = x.before.memory; commits = x.before.commits; ending = end }
+  stops : (tail : List Attempt) (x : Arrived tail) (end : End) → solo_within rules MAX_OPEN_BLOCKS w.max_commits 0 (rules.calls_left x.before.player) x.before ≡ record { attempts = tail; memory = x.before.memory; commits = x.before.commits; ending = end }
       → attempts_of w ≡ sole.past ++ tail → w.cells.clock % 2 ≡ 0 → All end
   stops tail x end last is z = record {
     all = x.whole ∙ (ap (with_all sole.past) last ∙ (λ i. record { attempts = sym is i; memory = sym (left_by tail x z) i; commits = x.commits i; ending = end }));
@@ -124,10 +124,10 @@ module _ {P : Type 0} (rules : Rules P) (laws : Obeys rules) (w : World P) (kept
     abbrev from : State
     from = opened x.before.memory y.start.arena y.start.props
 
-    alone_here : IsAlone rules MAX_DEPTH begun from row.calls
+    alone_here : IsAlone rules MAX_OPEN_BLOCKS begun from row.calls
     alone_here = made_alone rules laws w.max_commits w.base (attempts_of w) (w.cells.clock / 2) x.before row y x.memory first_here at_here
 
-    state_here : alone MAX_DEPTH (bytes_at w.base (attempts_of w) row.at) row ≡ state_then MAX_DEPTH from row.calls
+    state_here : alone MAX_OPEN_BLOCKS (bytes_at w.base (attempts_of w) row.at) row ≡ state_then MAX_OPEN_BLOCKS from row.calls
     state_here = same_state rules laws w.max_commits w.base (attempts_of w) (w.cells.clock / 2) x.before row y x.memory first_here at_here
 
     row_here : (outcome : Outcome) → outcome ≡ row.outcome → row_of 0 x.before y.start row.calls outcome ≡ row
@@ -139,16 +139,16 @@ module _ {P : Type 0} (rules : Rules P) (laws : Obeys rules) (w : World P) (kept
     -- its player makes no more calls
     rests_open : row.outcome ≡ outcomes.Unfinished → rules.next_call (player_then rules.answered begun row.calls) ≡ None → w.cells.clock % 2 ≡ 0 → All Finished
     rests_open o none z =
-        let t : State = state_then MAX_DEPTH from row.calls in
+        let t : State = state_then MAX_OPEN_BLOCKS from row.calls in
         let q : P = player_then rules.answered begun row.calls in
-        let gets : answers rules.next_call rules.answered rules.calls_left MAX_DEPTH begun x.before.memory y.start.arena y.start.props ≡ map pair_of row.calls =
-        begins_alone rules laws MAX_DEPTH (rules.calls_left begun) begun from row.calls (let l : rules.calls_left begun ≤ rules.calls_left begun = omega arith in l) alone_here
-        ∙ (ap (λ (k : Option Call). map pair_of row.calls ++ answers_within rules.next_call rules.answered rules.calls_left MAX_DEPTH (rules.calls_left begun) q t k) (no_turn (is_open t) (rules.next_call q) none)
-        ∙ (ap (λ (l : List (Call × Reply)). map pair_of row.calls ++ l) (gets_none rules laws MAX_DEPTH 0 0 (rules.calls_left begun) q t) ∙ append-nil (map pair_of row.calls))) in
-        let open_then : is_open t ≡ true = ap is_open (sym state_here) ∙ subst (λ (k : Outcome). EndsAs k (alone MAX_DEPTH (bytes_at w.base (attempts_of w) row.at) row)) o y.opaque.ends in
+        let gets : answers rules.next_call rules.answered rules.calls_left MAX_OPEN_BLOCKS begun x.before.memory y.start.arena y.start.props ≡ map pair_of row.calls =
+        begins_alone rules laws MAX_OPEN_BLOCKS (rules.calls_left begun) begun from row.calls (let l : rules.calls_left begun ≤ rules.calls_left begun = omega arith in l) alone_here
+        ∙ (ap (λ (k : Option Call). map pair_of row.calls ++ answers_within rules.next_call rules.answered rules.calls_left MAX_OPEN_BLOCKS (rules.calls_left begun) q t k) (no_turn (is_open t) (rules.next_call q) none)
+        ∙ (ap (λ (l : List (Call × Reply)). map pair_of row.calls ++ l) (gets_none rules laws MAX_OPEN_BLOCKS 0 0 (rules.calls_left begun) q t) ∙ append-nil (map pair_of row.calls))) in
+        let open_then : is_open t ≡ true = ap is_open (sym state_here) ∙ subst (λ (k : Outcome). EndsAs k (alone MAX_OPEN_BLOCKS (bytes_at w.base (attempts_of w) row.at) row)) o y.opaque.ends in
         stops (row ∷ []) x Finished
-        (open_block rules laws MAX_DEPTH w.max_commits 0 x.before y.start row.calls y.comes gets open_then
-        ∙ ap (λ (r : Attempt). with_first r (stopped rules MAX_DEPTH w.max_commits 0 x.before Finished)) (row_here outcomes.Unfinished (sym o))) is z
+        (open_block rules laws MAX_OPEN_BLOCKS w.max_commits 0 x.before y.start row.calls y.comes gets open_then
+        ∙ ap (λ (r : Attempt). with_first r (stopped rules MAX_OPEN_BLOCKS w.max_commits 0 x.before Finished)) (row_here outcomes.Unfinished (sym o))) is z
       where
         no_turn : (b : Bool) (k : Option Call) → k ≡ None → (if b then k else None) ≡ None
         no_turn true k e = e
@@ -159,33 +159,33 @@ module _ {P : Type 0} (rules : Rules P) (laws : Obeys rules) (w : World P) (kept
     refused o full z =
         let last : Entry = record { call = Commit; reply = Done } in
         let lacks = y.opaque.full o in
-        let state : after MAX_DEPTH (alone MAX_DEPTH (bytes_at w.base (attempts_of w) row.at) row) Commit ≡ state_then MAX_DEPTH from (row.calls ++ last ∷ []) =
-        ap (λ (s : State). after MAX_DEPTH s Commit) state_here ∙ sym (state_snoc MAX_DEPTH from row.calls last) in
-        let gets : answers rules.next_call rules.answered rules.calls_left MAX_DEPTH begun x.before.memory y.start.arena y.start.props ≡ map pair_of (row.calls ++ last ∷ []) =
+        let state : after MAX_OPEN_BLOCKS (alone MAX_OPEN_BLOCKS (bytes_at w.base (attempts_of w) row.at) row) Commit ≡ state_then MAX_OPEN_BLOCKS from (row.calls ++ last ∷ []) =
+        ap (λ (s : State). after MAX_OPEN_BLOCKS s Commit) state_here ∙ sym (state_snoc MAX_OPEN_BLOCKS from row.calls last) in
+        let gets : answers rules.next_call rules.answered rules.calls_left MAX_OPEN_BLOCKS begun x.before.memory y.start.arena y.start.props ≡ map pair_of (row.calls ++ last ∷ []) =
         sym (same_answers rules laws w.max_commits w.base (attempts_of w) (w.cells.clock / 2) x.before row y x.memory first_here at_here) ∙ (lacks.0 ∙ sym (map-append pair_of row.calls (last ∷ []))) in
         let n = x.commits in
         stops (row ∷ []) x GaveUp
-        (full_block rules laws MAX_DEPTH w.max_commits 0 x.before y.start (row.calls ++ last ∷ []) y.comes gets row.calls last refl (ap is_open (sym state) ∙ lacks.1.0)
-        (and_from (state_then MAX_DEPTH from (row.calls ++ last ∷ [])).wrote (nat_le w.max_commits x.before.commits) (ap (λ (s : State). s.wrote) (sym state) ∙ lacks.1.1) (le-leb w.max_commits x.before.commits (omega arith)))
-        ∙ ap (λ (r : Attempt). with_first r (stopped rules MAX_DEPTH w.max_commits 0 x.before GaveUp)) (row_here outcomes.Full (sym o))) is z
+        (full_block rules laws MAX_OPEN_BLOCKS w.max_commits 0 x.before y.start (row.calls ++ last ∷ []) y.comes gets row.calls last refl (ap is_open (sym state) ∙ lacks.1.0)
+        (and_from (state_then MAX_OPEN_BLOCKS from (row.calls ++ last ∷ [])).wrote (nat_le w.max_commits x.before.commits) (ap (λ (s : State). s.wrote) (sym state) ∙ lacks.1.1) (le-leb w.max_commits x.before.commits (omega arith)))
+        ∙ ap (λ (r : Attempt). with_first r (stopped rules MAX_OPEN_BLOCKS w.max_commits 0 x.before GaveUp)) (row_here outcomes.Full (sym o))) is z
 
     -- its player stands where its calls have led it
     stands_so : w.attempts.ended ≡ sole.past → active_of a.thread w.attempts.active ≡ Some row → a.player ≡ player_then rules.answered begun row.calls
     stands_so ended some =
         let t = (opaque.players 0 p a player_here here).inside (row_open (in_transaction a.engine) w.attempts a.thread row (kept.actors.each 0 a here).sound.kept.row some) in
         let place : t.0 ≡ between x.before = same_Some _ _ (sym t.2 ∙ led (row ∷ []) x ended) in
-        let start : t.4.start ≡ y.start = same_Some _ _ (sym t.4.begins ∙ (ap (λ (b : Between P). begin_of rules MAX_DEPTH b.player b.arena) place ∙ y.comes)) in
+        let start : t.4.start ≡ y.start = same_Some _ _ (sym t.4.begins ∙ (ap (λ (b : Between P). begin_of rules MAX_OPEN_BLOCKS b.player b.arena) place ∙ y.comes)) in
         let same : t.1 ≡ row = same_Some _ _ (sym t.3 ∙ some) in
         t.4.player ∙ (λ i. player_then rules.answered (rules.answered (start i).player (begin_code (place i).again)) (same i).calls)
 
   -- ## By how it stands
 
-  none_comes : (b : Between P) (x : Arrived []) → IsBeforeTry rules (w.cells.clock / 2) b a → place_now ≡ Some b → w.attempts.ended ≡ sole.past → rules.next_call a.player ≡ None → begin_of rules MAX_DEPTH x.before.player x.before.arena ≡ None
+  none_comes : (b : Between P) (x : Arrived []) → IsBeforeTry rules (w.cells.clock / 2) b a → place_now ≡ Some b → w.attempts.ended ≡ sole.past → rules.next_call a.player ≡ None → begin_of rules MAX_OPEN_BLOCKS x.before.player x.before.arena ≡ None
   none_comes b x t led_to ended none =
-      ap (λ (b : Between P). begin_of rules MAX_DEPTH b.player b.arena) (sym (same_Some _ _ (sym led_to ∙ led [] x ended)))
-      ∙ (led_before rules laws t ∙ (ap (begin_within rules MAX_DEPTH (rules.calls_left a.player) a.player a.engine.arena) none ∙ no_call (rules.calls_left a.player) a.engine.arena))
+      ap (λ (b : Between P). begin_of rules MAX_OPEN_BLOCKS b.player b.arena) (sym (same_Some _ _ (sym led_to ∙ led [] x ended)))
+      ∙ (led_before rules laws t ∙ (ap (begin_within rules MAX_OPEN_BLOCKS (rules.calls_left a.player) a.player a.engine.arena) none ∙ no_call (rules.calls_left a.player) a.engine.arena))
     where
-      no_call : (k : ℕ) (arena : List ℕ) → begin_within rules MAX_DEPTH k a.player arena None ≡ None
+      no_call : (k : ℕ) (arena : List ℕ) → begin_within rules MAX_OPEN_BLOCKS k a.player arena None ≡ None
       no_call zero arena = refl
       no_call (suc k) arena = refl
 
@@ -193,7 +193,7 @@ module _ {P : Type 0} (rules : Rules P) (laws : Obeys rules) (w : World P) (kept
   rests : (x : Arrived []) → attempts_of w ≡ sole.past ++ [] → w.attempts.ended ≡ sole.past → ending_of a.status ≡ Some Finished → active_of a.thread w.attempts.active ≡ None → rules.next_call a.player ≡ None → w.cells.clock % 2 ≡ 0 → All Finished
   rests x is ended finished shut none z =
       let t = (opaque.players 0 p a player_here here).between (row_shut (in_transaction a.engine) w.attempts a.thread (kept.actors.each 0 a here).sound.kept.row shut) (λ e. absurd (let both = sym finished ∙ e in cc)) (λ e. absurd (let both = sym finished ∙ e in cc)) in
-      stops [] x Finished (no_block rules laws MAX_DEPTH w.max_commits 0 x.before (none_comes t.0 x t.2 t.1 ended none)) is z
+      stops [] x Finished (no_block rules laws MAX_OPEN_BLOCKS w.max_commits 0 x.before (none_comes t.0 x t.2 t.1 ended none)) is z
 
   module _ (ended : w.attempts.ended ≡ sole.past) where
     is_none : active_of a.thread w.attempts.active ≡ None → attempts_of w ≡ sole.past ++ []

@@ -1,6 +1,6 @@
 -- An actor that has its world to itself goes on so over an event.
 use Rattle.std.proofs.Common.{◌≡◌, inl, inr, ℕ, ◌+◌, ◌/◌, ◌%◌, ◌≤◌, true, false, nat_lt, if◌then◌else◌, List, [], ◌∷◌, ◌++◌, Option, None, Some, slice_get, slice_set, length, length-set, refl, sym, ap, subst, ◌∙◌, arith, eq-eqb}
-use Rattle.norec_world.proofs.Common.{Actor, AreActors, AreOfActors, AreRunning, AreSole, Attempt, Between, Cells, CommitsInOrder, Continues, End, EndsAt, EndsWith, Finished, GaveUp, GoesOnAfter, IsBetween, IsEvent, IsFirstTry, IsOnWay, IsRunOf, IsSole, IsSound, IsWorld, MAX_DEPTH, NoMemory, Outcome, Ready, Rows, Rules, StandsSole, Status, StatusIs, Tries, World, active_of, after_try, begin_of, begins, between, bytes_at, current_of, ending_of, false_from_ne_true, first_of, is_committed, is_done, is_ready, of_thread, one_if, over, prior_of, runs, slice_get-set_same, turned_away, slice_get_within, same_Some, both_ways, in_transaction}
+use Rattle.norec_world.proofs.Common.{Actor, AreActors, AreOfActors, AreRunning, AreSole, Attempt, Between, Cells, CommitsInOrder, Continues, End, EndsAt, EndsWith, Finished, GaveUp, GoesOnAfter, IsBetween, IsEvent, IsFirstTry, IsOnWay, IsRunOf, IsSole, IsSound, IsWorld, MAX_OPEN_BLOCKS, NoMemory, Outcome, Ready, Rows, Rules, StandsSole, Status, StatusIs, Tries, World, active_of, after_try, begin_of, begins, between, bytes_at, current_of, ending_of, false_from_ne_true, first_of, is_committed, is_done, is_ready, of_thread, one_if, over, prior_of, runs, slice_get-set_same, turned_away, slice_get_within, same_Some, both_ways, in_transaction}
 use Rattle.norec_world.specs.declared.attempt.Outcome.TheVariants as outcomes
 use Rattle.norec_world.proofs.SoundOthers.{there_is, odd_or_even, row_shut}
 use Rattle.norec_world.proofs.TryEnds.{none_again}
@@ -21,11 +21,11 @@ sole_more n k (x ∷ xs) a s f at d = (s.0, s.1, s.2, sole_more (n + one_if (is_
 
 -- the last attempt of a run did not begin after it read last
 module _ {P : Type 0} (rules : Rules P) (n : ℕ) (memory : ℕ → List ℕ) where
-  pub last_early : (b : Option (Between P)) (xs : List Attempt) (a : Attempt) → IsRunOf rules MAX_DEPTH n memory b (xs ++ a ∷ []) → a.began ≤ a.at
+  pub last_early : (b : Option (Between P)) (xs : List Attempt) (a : Attempt) → IsRunOf rules MAX_OPEN_BLOCKS n memory b (xs ++ a ∷ []) → a.began ≤ a.at
   last_early None [] a r = absurd r
-  last_early (Some b) [] a r = (try_begun rules n memory b a (begin_of rules MAX_DEPTH b.player b.arena) r.0).2.3.no_older
+  last_early (Some b) [] a r = (try_begun rules n memory b a (begin_of rules MAX_OPEN_BLOCKS b.player b.arena) r.0).2.3.no_older
   last_early None (x ∷ xs) a r = absurd r
-  last_early (Some b) (x ∷ xs) a r = last_early (after_try rules MAX_DEPTH memory b (begin_of rules MAX_DEPTH b.player b.arena) x) xs a r.1
+  last_early (Some b) (x ∷ xs) a r = last_early (after_try rules MAX_OPEN_BLOCKS memory b (begin_of rules MAX_OPEN_BLOCKS b.player b.arena) x) xs a r.1
 
 -- ## The clock
 
@@ -113,6 +113,8 @@ module _ {P : Type 0} (rules : Rules P) (max_commits : ℕ) where
           by_commit (ap is_done o) (omega (arith, at.0, at.1)) (omega (arith, at.0, at.1, ap (λ (x : Outcome). one_if (is_committed x)) o)) g
       by_outcome outcomes.ReadOnly o at g =
           by_commit (ap is_done o) (omega (arith, at.0, at.1, later)) (omega (arith, at.0, at.1, ap (λ (x : Outcome). one_if (is_committed x)) o)) g
+      by_outcome outcomes.Cancelled o at g =
+          by_commit (ap is_done o) (omega (arith, at.0, at.1, later)) (omega (arith, at.0, at.1, ap (λ (x : Outcome). one_if (is_committed x)) o)) g
       by_outcome outcomes.Conflict o at g = absurd (omega (arith, at.0, at.1, later, shut (none_again clock' a.nth r' a' (nat_lt a.retries a.nth) g)))
       by_outcome outcomes.Full o at g =
           goes_on at.0 (subst (λ (x : Option End). StandsSole rules max_commits x old.past (clock' / 2) r' a') (sym (ap ending_of g.status))
@@ -175,7 +177,7 @@ module _ {P : Type 0} (rules : Rules P) where
       (let run = (running.each 0 player.0 new player.1 placed).runs.run in
       let rows : of_thread new.thread r'.ended ≡ w.attempts.ended ++ row ∷ [] = ap (λ (t : ℕ). of_thread t r'.ended) mine ∙ (of_thread_all r'.ended (subst (λ (n : ℕ). AreOfActors n r'.ended) still_one running.threads) ∙ ended) in
       last_early rules (cells'.clock / 2) (bytes_at w.base r'.ended) (Some (first_of player.0 w.arena)) w.attempts.ended row
-      (subst (IsRunOf rules MAX_DEPTH (cells'.clock / 2) (bytes_at w.base r'.ended) (Some (first_of player.0 w.arena))) rows run)))
+      (subst (IsRunOf rules MAX_OPEN_BLOCKS (cells'.clock / 2) (bytes_at w.base r'.ended) (Some (first_of player.0 w.arena))) rows run)))
       (λ e. (event.finishes e, free e)) event.tries)
 
   -- an actor that finishes does not hold the clock

@@ -1,13 +1,17 @@
 -- The run of an actor that has its world to itself is what its player does alone.
 use Rattle.std.proofs.Common.{◌≡◌, ℕ, suc, ◌+◌, ◌<◌, ◌≤◌, ◌==◌, ◌&&◌, Bool, true, false, nat_le, nat_lt, if◌then◌else◌, List, [], ◌∷◌, ◌++◌, length, map, Option, None, Some, refl, sym, ap, subst, ◌∙◌, arith, eqb-true, eq-eqb, lt-ltb, leb-true}
 use Rattle.std.proofs.lemmas.Bool.{or_parts}
-use Rattle.norec_world.proofs.Common.{AreSole, Attempt, Begin, Beginning, Between, Block, Call, Commit, EndsAs, Entry, IsAlone, IsFirstTry, IsOpaque, IsRunOf, MAX_DEPTH, Obeys, Outcome, Progress, Refusal, Rules, Solo, State, Write, after, after_try, after_unless, alone, answered_all, answers, answers_within, begin_code, begin_of, bytes_at, committed_at, ended_as, false_from_ne_true, follows, is_at, is_committed, is_done, is_open, memory_left, one_if, opened, pair_of, player_then, refusal, reply, row_of, run_after, solo_within, state_then, turn, with_all, with_first}
+use Rattle.norec_world.proofs.Common.{AreSole, Attempt, Begin, Beginning, Between, Block, Call, ClosedBy, Commit, EndsAs, Entry, IsAlone, IsFirstTry, IsOpaque, IsRunOf, MAX_OPEN_BLOCKS, Obeys, Outcome, Progress, Refusal, Rules, Solo, State, Write, after, after_try, after_unless, alone, answered_all, answers, answers_within, begin_code, begin_of, bytes_at, committed_at, ended_as, false_from_ne_true, follows, is_at, is_committed, is_done, is_open, memory_left, one_if, opened, pair_of, player_then, refusal, reply, row_of, run_after, solo_within, state_then, turn, with_all, with_first}
 use Rattle.itm_types.specs.declared.call.Reply.{Reply}
-use Rattle.itm_model.specs.Machine.{effect, closed, entered}
+use Rattle.itm_model.specs.Machine.{effect, back_from, closed_in, entered, logged_in, rolled_back, undone_from}
+use Rattle.itm_types.specs.Access.{size_of}
+use Rattle.itm_types.specs.Calls.{is_abort}
+use Rattle.itm_types.specs.declared.call.Call.TheVariants.{Abort, Log, LogBytes}
+use Rattle.norec_world.specs.Solo.{aborts}
 use Rattle.norec_engine.proofs.Machines.{some_bytes}
 use Rattle.norec_world.specs.declared.attempt.Outcome.TheVariants as outcomes
 use Rattle.norec_world.specs.Attempts.{replies_of}
-use Rattle.norec_world.proofs.Solos.{ended_block}
+use Rattle.norec_world.proofs.Solos.{aborts_snoc, ended_block}
 use Rattle.norec_world.proofs.RunLists.{try_begun}
 
 -- ## The calls of an attempt
@@ -38,28 +42,54 @@ module _ {P : Type 0} (rules : Rules P) (deepest : ℕ) where
 
   -- calls that wrote nothing leave the memory
   module _ (m : List ℕ) where
-    unwritten_closed : (s : State) (bs : List Block) → (s.wrote ≡ false → s.memory ≡ m) → (closed s bs).wrote ≡ false → (closed s bs).memory ≡ m
-    unwritten_closed s [] h = h
-    unwritten_closed s (b ∷ bs) h = h
+    -- so it is of each open block, as at its begin
+    abbrev pub AreUnwritten : List Block → Type 0
+    AreUnwritten [] = Unit {0}
+    AreUnwritten (b ∷ bs) = (b.saved.wrote ≡ false → b.saved.memory ≡ m) × AreUnwritten bs
 
-    unwritten_begun : (s t : State) (b : Bool) → b ≡ true → (s.wrote ≡ false → s.memory ≡ m) → (if b then s else t).wrote ≡ false → (if b then s else t).memory ≡ m
-    unwritten_begun s t true o h = h
-    unwritten_begun s t false o h = absurd (cc)
+    pub record IsUnwritten (s : State) : Type 0 where
+      pub now : s.wrote ≡ false → s.memory ≡ m
+      pub blocks : AreUnwritten s.blocks
 
-    unwritten_effect : (s : State) (c : Call) → is_open s ≡ true → (s.wrote ≡ false → s.memory ≡ m) → (effect s c).wrote ≡ false → (effect s c).memory ≡ m
-    unwritten_effect s (Begin props room) o h = unwritten_begun (entered s props) (opened s.memory s.arena props) (is_open s) o h
-    unwritten_effect s Commit o h = unwritten_closed s s.blocks h
-    unwritten_effect s (Write hint at value) o h = λ w.
-        (let none : nat_lt 0 (length value.bytes.items) ≡ false = (or_parts s.wrote (nat_lt 0 (length value.bytes.items)) w).1 in
-        let some : nat_lt 0 (length value.bytes.items) ≡ true = lt-ltb 0 (length value.bytes.items) (let k = some_bytes value.width in let l = value.sized in omega arith) in
-        absurd (let z = sym some ∙ none in cc))
-    unwritten_effect s c o h = h
+    unwritten_closed : (bs : List Block) → AreUnwritten bs → AreUnwritten (closed_in bs)
+    unwritten_closed [] h = tt
+    unwritten_closed (b ∷ []) h = tt
+    unwritten_closed (b ∷ p ∷ bs) h = h.1
 
-    unwritten_call : (s : State) (c : Call) (o : Option Refusal) → is_open s ≡ true → (s.wrote ≡ false → s.memory ≡ m) → (after_unless o s (effect s c)).wrote ≡ false → (after_unless o s (effect s c)).memory ≡ m
+    unwritten_logged : (bs : List Block) (arena : List ℕ) (place size : ℕ) → AreUnwritten bs → AreUnwritten (logged_in bs arena place size)
+    unwritten_logged [] arena place size h = tt
+    unwritten_logged (b ∷ bs) arena place size h = h
+
+    unwritten_back : (s : State) (bs : List Block) → (s.wrote ≡ false → s.memory ≡ m) → AreUnwritten s.blocks → AreUnwritten bs → IsUnwritten (back_from s bs)
+    unwritten_back s [] n h k = record { now = n; blocks = h }
+    unwritten_back s (b ∷ bs) n h k = record { now = k.0; blocks = k.1 }
+
+    unwritten_undone : (s : State) (bs : List Block) → (s.wrote ≡ false → s.memory ≡ m) → AreUnwritten s.blocks → AreUnwritten bs → IsUnwritten (undone_from s bs)
+    unwritten_undone s [] n h k = record { now = n; blocks = h }
+    unwritten_undone s (b ∷ bs) n h k = unwritten_undone (rolled_back s bs b.saved) bs k.0 k.1 k.1
+
+    unwritten_effect : (s : State) (c : Call) → is_open s ≡ true → IsUnwritten s → IsUnwritten (effect s c)
+    unwritten_effect s (Begin props room) o h =
+        subst (λ (b : Bool). IsUnwritten (if b then entered s props else opened s.memory s.arena props)) (sym o) (record { now = h.now; blocks = (h.now, h.blocks) })
+    unwritten_effect s Commit o h = record { now = h.now; blocks = unwritten_closed s.blocks h.blocks }
+    unwritten_effect s (Abort true) o h = unwritten_undone s s.blocks h.now h.blocks h.blocks
+    unwritten_effect s (Abort false) o h = unwritten_back s s.blocks h.now h.blocks h.blocks
+    unwritten_effect s (Write hint at value) o h = record {
+      now = λ w.
+          (let none : nat_lt 0 (length value.bytes.items) ≡ false = (or_parts s.wrote (nat_lt 0 (length value.bytes.items)) w).1 in
+          let some : nat_lt 0 (length value.bytes.items) ≡ true = lt-ltb 0 (length value.bytes.items) (let k = some_bytes value.width in let l = value.sized in omega arith) in
+          absurd (let z = sym some ∙ none in cc));
+      blocks = h.blocks;
+    }
+    unwritten_effect s (Log width at) o h = record { now = h.now; blocks = unwritten_logged s.blocks s.arena at (size_of width) h.blocks }
+    unwritten_effect s (LogBytes at size) o h = record { now = h.now; blocks = unwritten_logged s.blocks s.arena at size h.blocks }
+    unwritten_effect s c o h = record { now = h.now; blocks = h.blocks }
+
+    unwritten_call : (s : State) (c : Call) (o : Option Refusal) → is_open s ≡ true → IsUnwritten s → IsUnwritten (after_unless o s (effect s c))
     unwritten_call s c None o h = unwritten_effect s c o h
     unwritten_call s c (Some r) o h = h
 
-    pub unwritten : (p : P) (s : State) (xs : List Entry) → IsAlone rules deepest p s xs → (s.wrote ≡ false → s.memory ≡ m) → (state_then deepest s xs).wrote ≡ false → (state_then deepest s xs).memory ≡ m
+    pub unwritten : (p : P) (s : State) (xs : List Entry) → IsAlone rules deepest p s xs → IsUnwritten s → IsUnwritten (state_then deepest s xs)
     unwritten p s [] a h = h
     unwritten p s (x ∷ xs) a h = unwritten (rules.answered p x.reply) (after deepest s x.call) xs a.2 (unwritten_call s x.call (refusal deepest s x.call) (in_open (is_open s) (rules.next_call p) x.call a.0) h)
 
@@ -80,22 +110,22 @@ between b = record { player = b.player; arena = b.arena; again = false; tries = 
 
 module _ {P : Type 0} (rules : Rules P) (laws : Obeys rules) (max_commits : ℕ) (base : List ℕ) (all : List Attempt) (total : ℕ) where
   abbrev goes : ℕ → Progress P → Solo
-  goes n b = solo_within rules MAX_DEPTH max_commits 0 n b
+  goes n b = solo_within rules MAX_OPEN_BLOCKS max_commits 0 n b
 
   -- the attempt is of the block that the player comes to
   pub record IsNext (b : Progress P) (a : Attempt) : Type 0 where
     pub start : Beginning P
-    pub comes : begin_of rules MAX_DEPTH b.player b.arena ≡ Some start
+    pub comes : begin_of rules MAX_OPEN_BLOCKS b.player b.arena ≡ Some start
     pub arena : a.arena ≡ start.arena
     pub props : a.props ≡ start.props
-    pub opaque : IsOpaque rules MAX_DEPTH (rules.answered start.player (begin_code false)) a total (bytes_at base all a.at)
-    pub leads : after_try rules MAX_DEPTH (bytes_at base all) (between b) (begin_of rules MAX_DEPTH b.player b.arena) a
-        ≡ follows rules MAX_DEPTH a.outcome (rules.answered start.player (begin_code false)) a (alone MAX_DEPTH (bytes_at base all a.at) a)
+    pub opaque : IsOpaque rules MAX_OPEN_BLOCKS (rules.answered start.player (begin_code false)) a total (bytes_at base all a.at)
+    pub leads : after_try rules MAX_OPEN_BLOCKS (bytes_at base all) (between b) (begin_of rules MAX_OPEN_BLOCKS b.player b.arena) a
+        ≡ follows rules MAX_OPEN_BLOCKS a.outcome (rules.answered start.player (begin_code false)) a (alone MAX_OPEN_BLOCKS (bytes_at base all a.at) a)
 
-  pub is_next : (b : Progress P) (a : Attempt) (rest : List Attempt) → IsRunOf rules MAX_DEPTH total (bytes_at base all) (Some (between b)) (a ∷ rest) → IsNext b a
+  pub is_next : (b : Progress P) (a : Attempt) (rest : List Attempt) → IsRunOf rules MAX_OPEN_BLOCKS total (bytes_at base all) (Some (between b)) (a ∷ rest) → IsNext b a
   is_next b a rest r =
-      let t = try_begun rules total (bytes_at base all) (between b) a (begin_of rules MAX_DEPTH b.player b.arena) r.0 in
-      record { start = t.0; comes = t.1; arena = t.2.0; props = t.2.1; opaque = t.2.3; leads = ap (λ (o : Option (Beginning P)). after_try rules MAX_DEPTH (bytes_at base all) (between b) o a) t.1 }
+      let t = try_begun rules total (bytes_at base all) (between b) a (begin_of rules MAX_OPEN_BLOCKS b.player b.arena) r.0 in
+      record { start = t.0; comes = t.1; arena = t.2.0; props = t.2.1; opaque = t.2.3; leads = ap (λ (o : Option (Beginning P)). after_try rules MAX_OPEN_BLOCKS (bytes_at base all) (between b) o a) t.1 }
 
   -- such an attempt, which reads where all before it had committed
   module _ (b : Progress P) (a : Attempt) (x : IsNext b a) (now : b.memory ≡ bytes_at base all b.commits) (first : IsFirstTry b.commits a) (at : a.at ≡ b.commits) where
@@ -105,11 +135,11 @@ module _ {P : Type 0} (rules : Rules P) (laws : Obeys rules) (max_commits : ℕ)
     bytes : bytes_at base all a.at ≡ b.memory
     bytes = ap (bytes_at base all) at ∙ sym now
 
-    pub same_state : alone MAX_DEPTH (bytes_at base all a.at) a ≡ state_then MAX_DEPTH (opened b.memory x.start.arena x.start.props) a.calls
-    same_state = λ i. state_then MAX_DEPTH (opened (bytes i) (x.arena i) (x.props i)) a.calls
+    pub same_state : alone MAX_OPEN_BLOCKS (bytes_at base all a.at) a ≡ state_then MAX_OPEN_BLOCKS (opened b.memory x.start.arena x.start.props) a.calls
+    same_state = λ i. state_then MAX_OPEN_BLOCKS (opened (bytes i) (x.arena i) (x.props i)) a.calls
 
-    pub same_answers : answers rules.next_call rules.answered rules.calls_left MAX_DEPTH (rules.answered x.start.player (begin_code false)) (bytes_at base all a.at) a.arena a.props ≡ answers rules.next_call rules.answered rules.calls_left MAX_DEPTH (rules.answered x.start.player (begin_code false)) b.memory x.start.arena x.start.props
-    same_answers = λ i. answers rules.next_call rules.answered rules.calls_left MAX_DEPTH begun (bytes i) (x.arena i) (x.props i)
+    pub same_answers : answers rules.next_call rules.answered rules.calls_left MAX_OPEN_BLOCKS (rules.answered x.start.player (begin_code false)) (bytes_at base all a.at) a.arena a.props ≡ answers rules.next_call rules.answered rules.calls_left MAX_OPEN_BLOCKS (rules.answered x.start.player (begin_code false)) b.memory x.start.arena x.start.props
+    same_answers = λ i. answers rules.next_call rules.answered rules.calls_left MAX_OPEN_BLOCKS begun (bytes i) (x.arena i) (x.props i)
 
     pub same_row : (outcome : Outcome) → outcome ≡ a.outcome → row_of 0 b x.start a.calls outcome ≡ a
     same_row outcome o = λ i. record {
@@ -123,44 +153,48 @@ module _ {P : Type 0} (rules : Rules P) (laws : Obeys rules) (max_commits : ℕ)
       outcome = o i;
     }
 
-    pub made_alone : IsAlone rules MAX_DEPTH (rules.answered x.start.player (begin_code false)) (opened b.memory x.start.arena x.start.props) a.calls
+    pub made_alone : IsAlone rules MAX_OPEN_BLOCKS (rules.answered x.start.player (begin_code false)) (opened b.memory x.start.arena x.start.props) a.calls
     made_alone =
         let s : State = opened b.memory x.start.arena x.start.props in
-        alone_of rules MAX_DEPTH (rules.calls_left begun) begun s (turn rules.next_call rules.answered rules.calls_left begun s) a.calls x.opaque.beginning.0 refl (x.opaque.beginning.1 ∙ same_answers)
+        alone_of rules MAX_OPEN_BLOCKS (rules.calls_left begun) begun s (turn rules.next_call rules.answered rules.calls_left begun s) a.calls x.opaque.beginning.0 refl (x.opaque.beginning.1 ∙ same_answers)
 
     -- and that ended by its commit
     module _ (done : is_done a.outcome ≡ true) where
       abbrev ended : State
-      ended = alone MAX_DEPTH (bytes_at base all a.at) a
+      ended = alone MAX_OPEN_BLOCKS (bytes_at base all a.at) a
 
       abbrev pub after_it : Progress P
-      after_it = record { player = player_then rules.answered (rules.answered x.start.player (begin_code false)) a.calls; arena = (alone MAX_DEPTH (bytes_at base all a.at) a).arena; memory = (alone MAX_DEPTH (bytes_at base all a.at) a).memory; commits = b.commits + one_if (is_committed a.outcome) }
+      after_it = record { player = player_then rules.answered (rules.answered x.start.player (begin_code false)) a.calls; arena = (alone MAX_OPEN_BLOCKS (bytes_at base all a.at) a).arena; memory = (alone MAX_OPEN_BLOCKS (bytes_at base all a.at) a).memory; commits = b.commits + one_if (is_committed a.outcome) }
 
       record IsOver (o : Outcome) : Type 0 where
         shut : is_open ended ≡ false
         wrote : ended.wrote ≡ is_committed o
-        named : ended_as (is_committed o) ≡ o
-        led : follows rules MAX_DEPTH o begun a ended ≡ Some (record { player = answered_all rules.answered begun (replies_of a); arena = ended.arena; again = false; tries = 0 })
+        named : ended_as (aborts (map pair_of a.calls)) (is_committed o) ≡ o
+        led : follows rules MAX_OPEN_BLOCKS o begun a ended ≡ Some (record { player = answered_all rules.answered begun (replies_of a); arena = ended.arena; again = false; tries = 0 })
 
-      over_as : (o : Outcome) → is_done o ≡ true → EndsAs o ended → IsOver o
-      over_as outcomes.Committed d e = record { shut = e.0; wrote = e.1; named = refl; led = refl }
-      over_as outcomes.ReadOnly d e = record { shut = e.0; wrote = e.1; named = refl; led = refl }
-      over_as o d e = absurd (cc)
+      last_is : (before : List Entry) (last : Entry) → a.calls ≡ before ++ last ∷ [] → aborts (map pair_of a.calls) ≡ is_abort last.call
+      last_is before last e = ap (λ (l : List Entry). aborts (map pair_of l)) e ∙ aborts_snoc rules laws MAX_OPEN_BLOCKS max_commits 0 before last
+
+      over_as : (o : Outcome) → is_done o ≡ true → EndsAs o ended → ClosedBy o a.calls → IsOver o
+      over_as outcomes.Committed d e c = record { shut = e.0; wrote = e.1; named = ap (λ (b : Bool). ended_as b true) (last_is c.0 _ c.1); led = refl }
+      over_as outcomes.ReadOnly d e c = record { shut = e.0; wrote = e.1; named = ap (λ (b : Bool). ended_as b false) (last_is c.0 _ c.1); led = refl }
+      over_as outcomes.Cancelled d e c = record { shut = e.0; wrote = e.1; named = ap (λ (b : Bool). ended_as b false) (last_is c.0 _ c.2); led = refl }
+      over_as o d e c = absurd (cc)
 
       over : IsOver a.outcome
-      over = over_as a.outcome done x.opaque.ends
+      over = over_as a.outcome done x.opaque.ends x.opaque.closed
 
-      wrote_then : (state_then MAX_DEPTH (opened b.memory x.start.arena x.start.props) a.calls).wrote ≡ is_committed a.outcome
+      wrote_then : (state_then MAX_OPEN_BLOCKS (opened b.memory x.start.arena x.start.props) a.calls).wrote ≡ is_committed a.outcome
       wrote_then = ap (λ (s : State). s.wrote) (sym same_state) ∙ over.wrote
 
       pub goes_past : (is_committed a.outcome ≡ true → b.commits < max_commits) → goes (rules.calls_left b.player) b ≡ with_first a (goes (rules.calls_left after_it.player) after_it)
       goes_past few =
-          ended_block rules laws MAX_DEPTH max_commits 0 b x.start a.calls x.comes (sym same_answers ∙ sym (x.opaque.whole over.shut))
+          ended_block rules laws MAX_OPEN_BLOCKS max_commits 0 b x.start a.calls x.comes (sym same_answers ∙ sym (x.opaque.whole over.shut))
           (ap is_open (sym same_state) ∙ over.shut) (not_full _ b.commits max_commits (λ w. few (sym wrote_then ∙ w)))
-          ∙ (λ i. with_first (same_row (ended_as ((state_then MAX_DEPTH (opened b.memory x.start.arena x.start.props) a.calls).wrote)) (ap ended_as wrote_then ∙ over.named) i)
+          ∙ (λ i. with_first (same_row (ended_as (aborts (map pair_of a.calls)) ((state_then MAX_OPEN_BLOCKS (opened b.memory x.start.arena x.start.props) a.calls).wrote)) (ap (ended_as (aborts (map pair_of a.calls))) wrote_then ∙ over.named) i)
           (goes (rules.calls_left after_it.player) (record { player = after_it.player; arena = (sym same_state i).arena; memory = (sym same_state i).memory; commits = b.commits + one_if (wrote_then i) })))
 
-      pub leads_past : after_try rules MAX_DEPTH (bytes_at base all) (between b) (begin_of rules MAX_DEPTH b.player b.arena) a ≡ Some (between after_it)
+      pub leads_past : after_try rules MAX_OPEN_BLOCKS (bytes_at base all) (between b) (begin_of rules MAX_OPEN_BLOCKS b.player b.arena) a ≡ Some (between after_it)
       leads_past = x.leads ∙ over.led
 
       -- the memory that it leaves is that of its commit, if it made one
@@ -171,10 +205,10 @@ module _ {P : Type 0} (rules : Rules P) (laws : Obeys rules) (max_commits : ℕ)
           by_commit true e =
               let hit : is_at b.commits a ≡ true = (λ i. e i && (a.at == b.commits)) ∙ eq-eqb a.at b.commits at in
               let it : committed_at all b.commits ≡ Some a = found b.commits (omega arith) ∙ ap (λ (w : Bool). if w then Some a else committed_at rest b.commits) hit in
-              ap (λ (k : ℕ). (alone MAX_DEPTH (bytes_at base all k) a).memory) at
-              ∙ (ap (memory_left MAX_DEPTH (bytes_at base all b.commits)) (sym it) ∙ ap (bytes_at base all) (let n : suc b.commits ≡ b.commits + 1 = omega arith in n))
+              ap (λ (k : ℕ). (alone MAX_OPEN_BLOCKS (bytes_at base all k) a).memory) at
+              ∙ (ap (memory_left MAX_OPEN_BLOCKS (bytes_at base all b.commits)) (sym it) ∙ ap (bytes_at base all) (let n : suc b.commits ≡ b.commits + 1 = omega arith in n))
           by_commit false e =
-              let left_as = unwritten rules MAX_DEPTH b.memory begun (opened b.memory x.start.arena x.start.props) a.calls made_alone (λ w. refl) (wrote_then ∙ e) in
+              let left_as = (unwritten rules MAX_OPEN_BLOCKS b.memory begun (opened b.memory x.start.arena x.start.props) a.calls made_alone (record { now = λ w. refl; blocks = (λ w. refl, tt) })).now (wrote_then ∙ e) in
               ap (λ (s : State). s.memory) same_state ∙ (left_as ∙ (now ∙ ap (bytes_at base all) (let n : b.commits ≡ b.commits + 0 = omega arith in n)))
 
       pub found_past : (rest : List Attempt) → ((j : ℕ) → b.commits ≤ j → committed_at all j ≡ committed_at (a ∷ rest) j) → (j : ℕ) → after_it.commits ≤ j → committed_at all j ≡ committed_at rest j
@@ -190,11 +224,11 @@ module _ {P : Type 0} (rules : Rules P) (laws : Obeys rules) (max_commits : ℕ)
     pub whole : goes (rules.calls_left b.player) b ≡ with_all past (goes (rules.calls_left before.player) before)
     pub commits : before.commits ≡ k
     pub memory : before.memory ≡ bytes_at base all before.commits
-    pub run : IsRunOf rules MAX_DEPTH total (bytes_at base all) (Some (between before)) tail
+    pub run : IsRunOf rules MAX_OPEN_BLOCKS total (bytes_at base all) (Some (between before)) tail
     pub led : run_after rules (bytes_at base all) (Some (between b)) past ≡ Some (between before)
 
   pub arrives : (b : Progress P) (past tail : List Attempt) (k : ℕ) → b.memory ≡ bytes_at base all b.commits → ((j : ℕ) → b.commits ≤ j → committed_at all j ≡ committed_at (past ++ tail) j)
-      → IsRunOf rules MAX_DEPTH total (bytes_at base all) (Some (between b)) (past ++ tail) → AreSole b.commits past k → k ≤ max_commits → Arrives b past tail k
+      → IsRunOf rules MAX_OPEN_BLOCKS total (bytes_at base all) (Some (between b)) (past ++ tail) → AreSole b.commits past k → k ≤ max_commits → Arrives b past tail k
   arrives b [] tail k now found r sole few = record { before = b; whole = refl; commits = sole; memory = now; run = r; led = refl }
   arrives b (a ∷ past) tail k now found r sole few =
       let x = is_next b a (past ++ tail) r in
@@ -202,7 +236,7 @@ module _ {P : Type 0} (rules : Rules P) (laws : Obeys rules) (max_commits : ℕ)
       let led = leads_past b a x now sole.0 sole.1 sole.2 in
       let up = sole_up q.commits past k sole.3 in
       let rest = arrives q past tail k (memory_past b a x now sole.0 sole.1 sole.2 (past ++ tail) found) (found_past b a x now sole.0 sole.1 sole.2 (past ++ tail) found)
-      (subst (λ (o : Option (Between P)). IsRunOf rules MAX_DEPTH total (bytes_at base all) o (past ++ tail)) led r.1) sole.3 few in
+      (subst (λ (o : Option (Between P)). IsRunOf rules MAX_OPEN_BLOCKS total (bytes_at base all) o (past ++ tail)) led r.1) sole.3 few in
       record {
         before = rest.before;
         whole = goes_past b a x now sole.0 sole.1 sole.2 (λ w. (let one = ap one_if w in omega arith)) ∙ ap (with_first a) rest.whole;

@@ -5,7 +5,8 @@ use Rattle.norec_world.proofs.Common.{Begin, Beginning, Call, Core, Entry, Finis
 use Rattle.itm_types.specs.declared.call.Reply.{Reply}
 use Rattle.itm_model.specs.Runs.{state_after}
 use Rattle.norec_world.specs.declared.attempt.Outcome.TheVariants.{Full}
-use Rattle.norec_world.specs.Solo.{entry_of, front, player_after, passed, block_then, begun_then}
+use Rattle.itm_types.specs.Calls.{is_abort}
+use Rattle.norec_world.specs.Solo.{entry_of, front, player_after, passed, block_then, begun_then, aborts}
 use Rattle.norec_engine.proofs.Machines.{open_is}
 
 -- a call that is made in an open block is the player's next
@@ -200,6 +201,12 @@ module _ {P : Type 0} (rules : Rules P) (laws : Obeys rules) (deepest : ℕ) whe
     front_snoc (y ∷ []) x = refl
     front_snoc (y ∷ z ∷ zs) x = ap (λ (ps : List (Call × Reply)). pair_of y ∷ ps) (front_snoc (z ∷ zs) x)
 
+    -- the last of the calls
+    pub aborts_snoc : (xs : List Entry) (x : Entry) → aborts (map pair_of (xs ++ x ∷ [])) ≡ is_abort x.call
+    aborts_snoc [] x = refl
+    aborts_snoc (y ∷ []) x = refl
+    aborts_snoc (y ∷ z ∷ zs) x = aborts_snoc (z ∷ zs) x
+
     abbrev pub begun : Beginning P → P
     begun start = rules.answered start.player (begin_code false)
 
@@ -222,9 +229,9 @@ module _ {P : Type 0} (rules : Rules P) (laws : Obeys rules) (deepest : ℕ) whe
       less =
           omega (arith, passed_less b start comes_to, ap (λ (pairs : List (Call × Reply)). rules.calls_left (player_after rules deepest max_commits thread (begun start) pairs)) all, ap rules.calls_left (player_pairs (begun start) xs))
 
-      -- it ends by a commit
+      -- it has ended
       pub ended_block : is_open (state_of b start xs) ≡ false → ((state_of b start xs).wrote && nat_le max_commits b.commits) ≡ false
-          → goes (rules.calls_left b.player) b ≡ with_first (row_of thread b start xs (ended_as (state_of b start xs).wrote))
+          → goes (rules.calls_left b.player) b ≡ with_first (row_of thread b start xs (ended_as (aborts (map pair_of xs)) (state_of b start xs).wrote))
           (goes (rules.calls_left (player_then rules.answered (begun start) xs)) (next_of b (player_then rules.answered (begun start) xs) (state_of b start xs)))
       ended_block closed free =
           let n : ℕ = rules.calls_left b.player in
@@ -233,8 +240,8 @@ module _ {P : Type 0} (rules : Rules P) (laws : Obeys rules) (deepest : ℕ) whe
           whole_block
           ∙ (cond-false (is_open t) _ _ closed
           ∙ (cond-false (t.wrote && nat_le max_commits b.commits) _ _ free
-          ∙ ((λ i. with_first (row_of thread b start (entries_pairs xs i) (ended_as t.wrote)) (goes n (next_of b (player_pairs (begun start) xs i) t)))
-          ∙ ap (with_first (row_of thread b start xs (ended_as t.wrote))) (solo_enough n (rules.calls_left q) (next_of b q t) less (omega arith)))))
+          ∙ ((λ i. with_first (row_of thread b start (entries_pairs xs i) (ended_as (aborts (map pair_of xs)) t.wrote)) (goes n (next_of b (player_pairs (begun start) xs i) t)))
+          ∙ ap (with_first (row_of thread b start xs (ended_as (aborts (map pair_of xs)) t.wrote))) (solo_enough n (rules.calls_left q) (next_of b q t) less (omega arith)))))
 
       -- its commit is not made, as many writers having committed as may
       pub full_block : (ys : List Entry) (last : Entry) → xs ≡ ys ++ last ∷ [] → is_open (state_of b start xs) ≡ false → ((state_of b start xs).wrote && nat_le max_commits b.commits) ≡ true

@@ -34,6 +34,7 @@ module _ {P : Type 0} (rules : Rules P) where
       let i = s.in_call in
       record {
         nested = s.nested;
+        depth = s.depth;
         in_call = record {
           asks = i.asks;
           begins = i.begins;

@@ -1,5 +1,5 @@
 -- A step was done, or a call of the player came: its value or the call went to the engine, and what the engine gave may be recorded.
-use Rattle.std.proofs.Common.{◌≡◌, inl, ℕ, zero, suc, ◌+◌, ◌*◌, ◌/◌, ◌%◌, ◌<◌, ◌≤◌, ◌==◌, Bool, true, false, if◌then◌else◌, Option, None, Some, refl, sym, true≢false, ap, subst, ◌∙◌, arith, eqb-true, inr, ◌-◌}
+use Rattle.std.proofs.Common.{◌≡◌, inl, ℕ, zero, suc, ◌+◌, ◌*◌, ◌/◌, ◌%◌, ◌<◌, ◌≤◌, ◌==◌, Bool, true, false, if◌then◌else◌, Option, None, Some, refl, sym, true≢false, ap, subst, ◌∙◌, arith, eqb-true, inr, ◌-◌, length}
 use Rattle.norec_world.proofs.Common.{Actor, AllFit, Answers, Asks, AsksFor, Call, Cas, Cells, ClocksOn, Core, Ended, Falls, GoesOn, HoldsOn, IsDone, IsLawful, IsNested, IsNoMore, IsReady, IsResumed, IsSettledBy, IsSound, IsTied, IsWithin, Load, Next, Proceeds, Ready, RestsAs, Rows, Rules, Status, StatusIs, Step, Store, Waits, active_of, begins_again, came, cells_after, ending_of, found, handed_is, handed_to, in_transaction, is_inside, is_ready, is_waiting, rank, steps_left, whole, IsTold, Tells}
 use Rattle.norec_engine.specs.Keeps.{Keeps}
 use Rattle.norec_engine.specs.Proceeds.{most}
@@ -86,6 +86,7 @@ module _ {P : Type 0} {rules : Rules P} {cells : Cells} {r : Rows} {old : Actor 
         within = m.within;
         kept = record { row = k.row; empty = k.empty; tried = k.tried; tries = k.tries; retries = k.retries };
         nested = waits.nested;
+        depth = waits.depth ∙ ap length (sym same.blocks);
         in_call = in_call_of new status waits.in_call;
         ready = ready;
         moves = moves;
@@ -204,6 +205,7 @@ module _ {P : Type 0} {rules : Rules P} {cells : Cells} {r0 r : Rows} {old a : A
         within = m.asked.within;
         kept = m.asked.kept;
         nested = subst (IsNested rules (in_transaction old.engine)) (sym m.asked.same.player) ready.nested;
+        depth = ap rules.depth m.asked.same.player ∙ ready.depth;
         in_call = m.asked.in_call;
         ready = m.asked.same.status ∙ m.ready;
         moves = record { frees = λ f. absurd (cc); keeps = λ f. refl };

@@ -1,5 +1,5 @@
 -- The moment that a step and a call of the player share: the engine has taken in a value or a call, and what it gave is recorded next.
-use Rattle.std.proofs.Common.{◌≡◌, ◌⊎◌, ◌+◌, ◌*◌, ◌/◌, Bool, true, false, [], refl, ap, subst, ◌∙◌, sym, length, Some, ◌≤◌, inl, inr, arith}
+use Rattle.std.proofs.Common.{◌≡◌, ◌⊎◌, ◌+◌, ◌*◌, ◌/◌, Bool, true, false, [], refl, ap, subst, ◌∙◌, sym, length, Some, ◌≤◌, inl, inr, arith, ℕ}
 use Rattle.norec_world.proofs.Common.{Actor, Answer, AnswerFits, Answers, Asks, Call, Cells, Core, Ended, Ends, HasRow, IsAnswered, IsAtOnce, IsDone, IsKept, IsNested, IsSettledBy, IsSound, IsTied, IsWithin, Next, Proceeds, Ready, Records, RestsAs, Rows, Rules, Status, StatusIs, Step, Tells, Waits, in_transaction, is_ready, rests, End, ending_of, cases_Bool}
 use Rattle.norec_world.specs.Sound.{IsDue, IsInCall}
 use Rattle.norec_world.proofs.TiedEngines.{answer_fits}
@@ -31,6 +31,7 @@ module _ {P : Type 0} (rules : Rules P) where
     pub within : IsWithin a.engine
     pub kept : IsKept was r a
     pub nested : IsNested rules was a.player
+    pub depth : rules.depth a.player ≡ length mid.blocks
     pub in_call : IsInCall rules was r a call
     pub ready : a.status ≡ Ready
     pub moves : ClockMoves cells cells' mid
@@ -71,7 +72,9 @@ module _ {P : Type 0} {rules : Rules P} {was : Bool} {cells cells' : Cells} {r :
         kept = m.kept;
         nested = m.nested;
         in_call = m.in_call;
-        fits = subst (λ (b : Bool). AnswerFits b (in_transaction a.engine) call answer) m.was_is (answer_fits mid a.engine call answer m.doing m.proceeds);
+        fits =
+            subst (λ (n : ℕ). AnswerFits was n (in_transaction a.engine) (length a.engine.blocks) call answer) (sym m.depth)
+            (subst (λ (b : Bool). AnswerFits b (length mid.blocks) (in_transaction a.engine) (length a.engine.blocks) call answer) m.was_is (answer_fits mid a.engine call answer m.doing m.proceeds));
         idle = rest.idle;
         free = rest.holds;
         status = m.ready;
@@ -96,6 +99,7 @@ module _ {P : Type 0} {rules : Rules P} {was : Bool} {cells cells' : Cells} {r :
           kept = record { row = subst (λ (b : Bool). HasRow b r a.thread) opens k.row; empty = k.empty; tried = k.tried; tries = k.tries; retries = k.retries };
           status = record {
             nested = subst (λ (b : Bool). IsNested rules b a.player) opens m.nested;
+            depth = m.depth ∙ ap (λ (c : Core). length c.blocks) (sym g.stays);
             in_call = subst (λ (b : Bool). IsInCall rules b r (record a { status = Waits call step }) call) opens (in_call_of a.engine (Waits call step) m.in_call);
             doing = ap (λ (c : Core). c.doing) g.stays ∙ m.doing;
             waits = ap (λ (c : Core). c.waits) g.stays;

@@ -163,15 +163,15 @@ holds_handed cells e (Cas cell from to) t l = record {
 -- ## What the answer says
 
 module _ (mid new : Core) where
-  pub answer_fits : (call : Call) (a : Answer) → mid.doing ≡ Some call → Ends mid a new → AnswerFits (in_transaction mid) (in_transaction new) call a
+  pub answer_fits : (call : Call) (a : Answer) → mid.doing ≡ Some call → Ends mid a new → AnswerFits (in_transaction mid) (length mid.blocks) (in_transaction new) (length new.blocks) call a
   answer_fits call (Reply r) doing g =
       let Told : Option Call → Type 0 = λ o. RepliesTo mid o r new in
       let told : Replies mid call r new = subst Told doing g in
-      (reply_fits (in_transaction mid) (in_transaction new) call r told.opens, told.still)
+      (sym (reply_fits mid call r) ∙ sym (ap length told.blocks), told.still)
   answer_fits call (Committed at wrote) doing g =
       let same : Some call ≡ Some Commit = sym doing ∙ g.doing in
       let is : call ≡ Commit = cc in
-      (g.is_open, ap in_transaction g.stays, is)
+      (g.is_open, ap in_transaction g.stays, is, g.outermost)
   answer_fits call (Conflict clock word) doing g = (g.is_open, ap in_transaction g.stays)
   answer_fits call (Busy clock) doing g = (g.closed, ap in_transaction g.stays)
   answer_fits call (Full at) doing g = (g.is_open, ap in_transaction g.stays)

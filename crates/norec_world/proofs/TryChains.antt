@@ -3,7 +3,6 @@
 use Rattle.std.proofs.Common.{◌≡◌, ℕ, ◌+◌, ◌/◌, Bool, true, false, nat_lt, List, [], ◌∷◌, ◌++◌, append_assoc, Option, None, Some, refl, sym, ap, subst, ◌∙◌, arith, zero, suc}
 use Rattle.norec_world.proofs.Common.{Actor, Attempt, Cells, Continues, EndsAt, Entry, GoesOnAfter, IsBetween, IsFirst, IsSound, NoMemory, Outcome, Prior, Ready, Rows, Rules, Tries, TriesAgain, active_of, begins, between, current_of, ending_in, ending_of, in_transaction, over, prior_of, runs, turned_away, none-some}
 use Rattle.norec_world.specs.declared.attempt.Outcome.TheVariants as outcomes
-use Rattle.norec_world.specs.declared.attempt.End.TheVariants as ends
 use Rattle.norec_world.proofs.SoundSteps.{rests}
 use Rattle.norec_world.proofs.TryEnds.{stays}
 use Rattle.norec_world.proofs.Taken.{still_going}
@@ -75,6 +74,7 @@ module _ {P : Type 0} (clock clock1 : ℕ) (p : Prior) (r1 r2 : Rows) (a1 a2 : A
   after : (o : Outcome) → GoesOnAfter o clock1 p r1 a1 → GoesOnAfter o clock1 p r2 a2 × (r2.ended ≡ r1.ended)
   after outcomes.Committed t = from_between 1 t
   after outcomes.ReadOnly t = from_between 1 t
+  after outcomes.Cancelled t = from_between 1 t
   after outcomes.Conflict t = again (nat_lt p.retries p.nth) t
   after outcomes.Unfinished t = absurd t
   after o t = still_going ready (ap ending_of t.status)

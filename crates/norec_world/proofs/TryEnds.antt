@@ -1,6 +1,9 @@
 -- What an answer does to the try that its call belongs to.
-use Rattle.std.proofs.Common.{true≢false, inl, inr, ◌≡◌, ℕ, ◌+◌, ◌*◌, ◌/◌, ◌%◌, ◌≤◌, Bool, true, false, nat_lt, if◌then◌else◌, is_some, List, [], ◌∷◌, ◌++◌, Option, None, Some, refl, sym, ap, subst, ◌∙◌, arith, append-nil, ◌⊎◌}
-use Rattle.norec_world.proofs.Common.{Actor, Agrees, Answer, Attempt, Begin, Busy, Call, Cells, Committed, Conflict, Core, CountsTry, End, Ended, EndsAt, Full, GoesOnAfter, HasRow, IsBetween, IsMemory, IsReady, IsSettledBy, IsTied, IsTold, MAX_DEPTH, Opens, Outcome, Prior, Props, Ready, Records, Replied, Replies, RepliesTo, Reply, RestsAs, Rows, Rules, State, Status, Tries, TriesAgain, active_of, after, begins, between, cases_Bool, cond-false, cond-true, current_of, ending_of, in_transaction, is_begin, is_done, none_inside, over, prior_of, runs, state_over, turned_away, with_opened}
+use Rattle.std.proofs.Common.{true≢false, inl, inr, ◌≡◌, ℕ, ◌+◌, ◌*◌, ◌/◌, ◌%◌, ◌≤◌, Bool, true, false, nat_lt, if◌then◌else◌, is_some, List, [], ◌∷◌, ◌++◌, length, Option, None, Some, refl, sym, ap, subst, ◌∙◌, arith, append-nil, ◌⊎◌}
+use Rattle.nest_frames.specs.Nest.{Frame}
+use Rattle.norec_world.proofs.PlayerLaws.{deep_of}
+use Rattle.norec_world.proofs.Cancels.{cancels}
+use Rattle.norec_world.proofs.Common.{Actor, Agrees, Answer, Attempt, Begin, ClosedBy, Entry, RecordsReply, Busy, Call, Cells, Committed, Conflict, Core, CountsTry, End, Ended, EndsAt, Full, GoesOnAfter, HasRow, IsBetween, IsMemory, IsReady, IsSettledBy, IsTied, IsTold, MAX_OPEN_BLOCKS, Opens, Outcome, Prior, Props, Ready, Records, Replied, Replies, RepliesTo, Reply, RestsAs, Rows, Rules, State, Status, Tries, TriesAgain, active_of, after, begins, between, cases_Bool, cond-false, cond-true, current_of, ending_of, in_transaction, is_begin, is_done, none_inside, over, prior_of, runs, state_over, turned_away, with_opened}
 use Rattle.itm_types.specs.declared.call.Reply.TheVariants as replies
 use Rattle.norec_engine.specs.Proceeds.{IsBegin}
 use Rattle.norec_world.specs.declared.attempt.Outcome.TheVariants as outcomes
@@ -44,7 +47,17 @@ module _ {P : Type 0} (clock clock' : ℕ) (r r' : Rows) (a a' : Actor P) (ended
   stays true h nothing same nth opens goes_on fed = stays_open h.0 h.1 (same ∙ h.1) nth goes_on fed
   stays false h nothing same nth opens goes_on fed = stays_between h nothing (record { none = same ∙ h; tries = nth; opens = opens refl; goes_on = goes_on })
 
--- the open attempt ends, and not by its commit
+-- one whose block has not ended
+pub not_closed : (outcome : Outcome) → is_done outcome ≡ false → (calls : List Entry) → ClosedBy outcome calls
+not_closed outcomes.Committed e calls = absurd (cc)
+not_closed outcomes.ReadOnly e calls = absurd (cc)
+not_closed outcomes.Cancelled e calls = absurd (cc)
+not_closed outcomes.Conflict e calls = tt
+not_closed outcomes.Full e calls = tt
+not_closed outcomes.NoMemory e calls = tt
+not_closed outcomes.Unfinished e calls = tt
+
+-- the open attempt ends, and its block has not
 pub stops_try : {P : Type 0} (clock clock' : ℕ) (r r' : Rows) (a a' : Actor P) (row : Attempt) (at : ℕ) (outcome : Outcome)
     → active_of a.thread r.active ≡ Some row → r'.ended ≡ r.ended ++ record row { at = at; outcome = outcome } ∷ []
     → at ≡ a'.engine.snapshot / 2 → EndsAt a.engine.max_commits clock clock' at outcome → is_done outcome ≡ false
@@ -57,7 +70,7 @@ stops_try clock clock' r r' a a' row at outcome was ended reads ends undone goes
   continues = record { thread = refl; nth = refl; began = refl; props = refl; arena = refl; more = []; calls = sym (append-nil row.calls) };
   reads = reads;
   at = ends;
-  closed = λ e. absurd (cc);
+  closed = not_closed outcome undone row.calls;
   after = goes;
 })
 
@@ -108,21 +121,43 @@ seen cells e tied = (let reached = tied.settled.reached in let late = tied.late 
 
 module _ {P : Type 0} {rules : Rules P} {cells cells' : Cells} {r r1 : Rows} {mid : Core} {a last : Actor P} {call : Call} where
   pub open_tries : (ans : Answer) → HasAnswered rules true cells cells' r r1 mid a last call ans → Tries cells.clock (prior_of r a) cells'.clock r1 last
-  open_tries (Reply reply) m =
-      let row = m.answered.kept.row in
-      let with_call : Attempt → Attempt = λ x. record x { calls = x.calls ++ record { call = call; reply = reply } ∷ [] } in
-      runs (record {
-        row = row.0;
-        row' = with_call row.0;
-        was = ap (λ (o : Option Attempt). current_of o a.pending) row.1;
-        now = ap (λ (t : ℕ). active_of t r1.active) m.settled.thread ∙ (ap (λ (x : Rows). active_of a.thread x.active) m.told.0 ∙ changed_here a.thread with_call r.active row.0 (λ x. refl) row.1);
-        continues = record { thread = refl; nth = refl; began = refl; props = refl; arena = refl; more = record { call = call; reply = reply } ∷ []; calls = refl };
-        ended = ap (λ (x : Rows). x.ended) m.told.0;
-        half = m.taken.moves.keeps (unfreed_to mid a.engine mid.doing reply m.ends);
-        tries = m.told.3;
-        goes_on = still_going (m.told.4 ∙ m.answered.status);
-        fed = still_going (m.told.4 ∙ m.answered.status);
-      })
+  open_tries (Reply reply) m = by_open (in_transaction last.engine) refl m.told
+    where
+      half : cells'.clock / 2 ≡ cells.clock / 2
+      half = m.taken.moves.keeps (unfreed_to mid a.engine mid.doing reply m.ends)
+
+      by_open : (now : Bool) → in_transaction last.engine ≡ now → RecordsReply rules true now r r1 a last call reply → Tries cells.clock (prior_of r a) cells'.clock r1 last
+      by_open true o told =
+          let row = m.answered.kept.row in
+          let with_call : Attempt → Attempt = λ x. record x { calls = x.calls ++ record { call = call; reply = reply } ∷ [] } in
+          runs (record {
+            row = row.0;
+            row' = with_call row.0;
+            was = ap (λ (o : Option Attempt). current_of o a.pending) row.1;
+            now = ap (λ (t : ℕ). active_of t r1.active) m.settled.thread ∙ (ap (λ (x : Rows). active_of a.thread x.active) told.0 ∙ changed_here a.thread with_call r.active row.0 (λ x. refl) row.1);
+            continues = record { thread = refl; nth = refl; began = refl; props = refl; arena = refl; more = record { call = call; reply = reply } ∷ []; calls = refl };
+            ended = ap (λ (x : Rows). x.ended) told.0;
+            half = half;
+            tries = told.3;
+            goes_on = still_going (told.4 ∙ m.answered.status);
+            fed = still_going (told.4 ∙ m.answered.status);
+          })
+      by_open false o told =
+          let row = m.answered.kept.row in
+          let closed : in_transaction a.engine ≡ false = ap in_transaction (sym m.settled.engine) ∙ o in
+          let ends : Replies mid call reply a.engine = subst (λ (o : Option Call). RepliesTo mid o reply a.engine) m.taken.doing m.ends in
+          let abort = cancels mid a.engine call reply cells'.words ends m.taken.was_is closed (sym m.taken.words, m.taken.tied.fit) (subst (Agrees cells'.words) (sym (m.taken.tied.settled.closed closed).0) tt) in
+          over (record {
+            row = row.0;
+            row' = record row.0 { calls = row.0.calls ++ record { call = call; reply = reply } ∷ []; at = last.engine.snapshot / 2; outcome = outcomes.Cancelled };
+            was = ap (λ (o : Option Attempt). current_of o a.pending) row.1;
+            ended = ap (λ (x : Rows). x.ended) (told.0 row.0 row.1);
+            continues = record { thread = refl; nth = refl; began = refl; props = refl; arena = refl; more = record { call = call; reply = reply } ∷ []; calls = refl };
+            reads = refl;
+            at = (half, omega (arith, ap (λ (c : Core). c.snapshot) m.settled.engine, seen cells' a.engine m.taken.tied));
+            closed = (row.0.calls, abort.0, (λ i. row.0.calls ++ record { call = abort.1 i; reply = abort.2 i } ∷ []));
+            after = is_between rules r r1 a last true m.settled cells'.clock 1 closed (told.4 ∙ m.answered.status) told.3;
+          })
   open_tries (Committed at wrote) m =
       let row = m.answered.kept.row in
       let closed : in_transaction a.engine ≡ false = m.answered.fits.1 in
@@ -135,7 +170,7 @@ module _ {P : Type 0} {rules : Rules P} {cells cells' : Cells} {r r1 : Rows} {mi
         continues = record { thread = refl; nth = refl; began = refl; props = refl; arena = refl; more = record { call = call; reply = replies.Done } ∷ []; calls = refl };
         reads = m.ends.at_is ∙ ap (λ (n : ℕ). n / 2) (sym (ap (λ (c : Core). c.snapshot) (m.settled.engine ∙ m.ends.stays)));
         at = at_end wrote refl;
-        closed = λ e. (row.0.calls, (λ i. row.0.calls ++ record { call = m.answered.fits.2 i; reply = replies.Done } ∷ []));
+        closed = closed_end wrote;
         after = after_end wrote (is_between rules r r1 a last true m.settled cells'.clock 1 closed (m.told.4 ∙ m.answered.status) m.told.3);
       })
     where
@@ -143,6 +178,10 @@ module _ {P : Type 0} {rules : Rules P} {cells cells' : Cells} {r r1 : Rows} {mi
       at_end true e = subst (λ (n : ℕ). (cells.clock ≡ 2 * n + 1) × (cells'.clock ≡ 2 * n + 2)) (sym m.ends.at_is) (m.taken.moves.frees (m.ends.freed ∙ e))
       at_end false e =
           (m.taken.moves.keeps (m.ends.freed ∙ e), omega (arith, ap (λ (c : Core). c.snapshot) m.ends.stays, m.ends.at_is, seen cells' a.engine m.taken.tied))
+
+      closed_end : (b : Bool) → ClosedBy (if b then outcomes.Committed else outcomes.ReadOnly) (m.answered.kept.row.0.calls ++ record { call = call; reply = replies.Done } ∷ [])
+      closed_end true = (m.answered.kept.row.0.calls, (λ i. m.answered.kept.row.0.calls ++ record { call = m.answered.fits.2 i; reply = replies.Done } ∷ []))
+      closed_end false = (m.answered.kept.row.0.calls, (λ i. m.answered.kept.row.0.calls ++ record { call = m.answered.fits.2 i; reply = replies.Done } ∷ []))
 
       after_end : (b : Bool) → IsBetween cells'.clock 1 r1 last → GoesOnAfter (if b then outcomes.Committed else outcomes.ReadOnly) cells'.clock (prior_of r a) r1 last
       after_end true x = x
@@ -170,9 +209,9 @@ module _ {P : Type 0} {rules : Rules P} {cells cells' : Cells} {r r1 : Rows} {mi
 -- the plain machine refuses no outermost begin, so the engine's reply to one opens
 pub begin_opens : (mid new : Core) (m : List ℕ) (props : Props) (room : ℕ) (reply : Replied) → Replies mid (Begin props room) reply new → in_transaction mid ≡ false → IsMemory mid.words m → Agrees m new.log → in_transaction new ≡ false → ⊥
 begin_opens mid new m props room reply g outside memory agrees closed =
-    let opened_blocks = ap (λ (b : List Props). (after MAX_DEPTH (state_over mid.writes b mid.arena m) (Begin props room)).blocks) (none_inside mid.blocks outside) in
+    let opened_blocks = ap (λ (b : List Frame). (after MAX_OPEN_BLOCKS (state_over mid.writes b mid.arena m) (Begin props room)).blocks) (none_inside mid.blocks outside) in
     let blocks = ap (λ (s : State). s.blocks) (g.meets m memory agrees) in
-    let some = sym (ap (λ (b : List Props). (state_over new.writes b new.arena m).blocks) (none_inside new.blocks closed)) ∙ (blocks ∙ opened_blocks) in
+    let some = sym (ap (λ (b : List Frame). (state_over new.writes b new.arena m).blocks) (none_inside new.blocks closed)) ∙ (blocks ∙ opened_blocks) in
     absurd (cc)
 
 pub begin_call : (call : Call) → is_begin call ≡ true → (props : Props) × (room : ℕ) × (call ≡ Begin props room)
@@ -197,7 +236,7 @@ module _ {P : Type 0} {rules : Rules P} {cells cells' : Cells} {r r1 : Rows} {mi
       by_open false e None p told = inr (p, e, told)
       by_open true e None p told =
           let now = ap in_transaction (sym m.settled.engine) ∙ e in
-          absurd (let f : false ≡ true = was_open false (in_transaction a.engine) call reply (λ x. sym (m.answered.in_call.begins x) ∙ ap is_some p) m.answered.fits.0 now in cc)
+          absurd (let f : false ≡ true = was_open false (in_transaction a.engine) (rules.depth a.player) (length a.engine.blocks) call reply m.answered.nested.deep (deep_of a.engine.blocks) (λ x. sym (m.answered.in_call.begins x) ∙ ap is_some p) m.answered.fits.0 now in cc)
       by_open false e (Some row) p told =
           let b = begin_call call (sym (m.answered.in_call.begins refl) ∙ ap is_some p) in
           let g : Replies mid (Begin b.0 b.1) reply a.engine = subst (λ (o : Option Call). RepliesTo mid o reply a.engine) (m.taken.doing ∙ ap (λ (x : Call). Some x) b.2) m.ends in
@@ -259,8 +298,12 @@ module _ {P : Type 0} (rules : Rules P) (r r1 : Rows) (a last : Actor P) (call :
     tried_on counts e = elim (one_try_more counts ready) [ inl last_one ↦ gave_up_not last_one.1 e | inr more ↦ still_going more.1 e ]
 
     not_ended : (b : Bool) (ans : Answer) → Records rules b r r1 a last call ans → ending_of last.status ≡ Some end → ⊥
-    not_ended true (Reply reply) told e = still_going (told.4 ∙ ready) e
-    not_ended false (Reply reply) told e = still_going (told.4 ∙ ready) e
+    not_ended b (Reply reply) told e = still_going (status_of b (in_transaction last.engine) told ∙ ready) e
+      where
+        status_of : (b now : Bool) → RecordsReply rules b now r r1 a last call reply → last.status ≡ a.status
+        status_of true true told = told.4
+        status_of true false told = told.4
+        status_of false now told = told.4
     not_ended b (Committed at wrote) told e = still_going (told.4 ∙ ready) e
     not_ended b (Full at) told e = gave_up_not told.1 e
     not_ended b answer told e = tried_on told.2 e

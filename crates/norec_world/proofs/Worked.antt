@@ -1,5 +1,5 @@
 -- Local work of an actor, one call of its player after the other: all that it leaves.
-use Rattle.std.proofs.Common.{◌≡◌, ◌+◌, ◌≤◌, Bool, true, false, List, ◌++◌, None, Some, refl, sym, ap, subst, ◌∙◌, arith}
+use Rattle.std.proofs.Common.{◌≡◌, ◌≤◌, Bool, true, false, List, ◌++◌, None, Some, refl, sym, ap, subst, ◌∙◌, arith}
 use Rattle.norec_world.proofs.Common.{Actor, Acts, Attempt, Call, Cells, Core, Ended, Finished, HasRow, HasWorked, IsDone, IsNoMore, IsSound, KeepsOthers, Next, Obeys, Ready, Rows, Rules, Starves, Tells, Works, ending_of, in_transaction, is_ready, prior_of, rank, whole}
 use Rattle.norec_world.specs.LocalWork.{calls, finishes, starves}
 use Rattle.norec_world.proofs.CommitCounts.{counted_after}

@@ -1,23 +1,44 @@
 -- What attempts did, and the memory that committed ones leave.
-use Rattle.std.specs.Prelude.{ℕ, zero, suc, Bool, true, false, ◌&&◌, ◌==◌, if◌then◌else◌, List, [], ◌∷◌, map, Option, None, Some}
+use Rattle.std.specs.Prelude.{◌≡◌, ℕ, zero, suc, Bool, true, false, ◌&&◌, ◌==◌, if◌then◌else◌, List, [], ◌∷◌, ◌++◌, map, Option, None, Some}
 use Rattle.itm_types.specs.declared.call.Call.{Call}
+use Rattle.itm_types.specs.declared.call.Call.TheVariants.{Commit, Abort}
+use Rattle.itm_types.specs.declared.call.Reply.TheVariants.{Done, Code}
 use Rattle.itm_types.specs.declared.call.Reply.{Reply}
 use Rattle.itm_model.specs.State.{State}
 use Rattle.itm_model.specs.Machine.{opened}
 use Rattle.itm_model.specs.Runs.{state_after}
 use Rattle.norec_world.specs.declared.attempt.Entry.{Entry}
 use Rattle.norec_world.specs.declared.attempt.Outcome.{Outcome}
-use Rattle.norec_world.specs.declared.attempt.Outcome.TheVariants.{Committed, ReadOnly, Conflict, Full, NoMemory, Unfinished}
+use Rattle.norec_world.specs.declared.attempt.Outcome.TheVariants.{Committed, ReadOnly, Cancelled, Conflict, Full, NoMemory, Unfinished}
 use Rattle.norec_world.specs.declared.attempt.Attempt.{Attempt}
 
 -- it wrote, and holds a position
 abbrev pub is_committed : Outcome → Bool
 is_committed Committed = true
 is_committed ReadOnly = false
+is_committed Cancelled = false
 is_committed Conflict = false
 is_committed Full = false
 is_committed NoMemory = false
 is_committed Unfinished = false
+
+-- the last of these calls is a commit that was accepted
+abbrev pub ByCommit : List Entry → Type 0
+ByCommit calls = (before : List Entry) × (calls ≡ before ++ record { call = Commit; reply = Done } ∷ [])
+
+-- or an abort
+abbrev pub ByAbort : List Entry → Type 0
+ByAbort calls = (before : List Entry) × (outer : Bool) × (calls ≡ before ++ record { call = Abort outer; reply = Code 24 } ∷ [])
+
+-- where the block of an attempt has ended, its last call says how
+abbrev pub ClosedBy : Outcome → List Entry → Type 0
+ClosedBy Committed calls = ByCommit calls
+ClosedBy ReadOnly calls = ByCommit calls
+ClosedBy Cancelled calls = ByAbort calls
+ClosedBy Conflict calls = Unit {0}
+ClosedBy Full calls = Unit {0}
+ClosedBy NoMemory calls = Unit {0}
+ClosedBy Unfinished calls = Unit {0}
 
 abbrev pub pair_of : Entry → Call × Reply
 pair_of e = (e.call, e.reply)

@@ -24,7 +24,7 @@ pub record SameActor {P : Type 0} (a a' : Actor P) : Type 0 where
   pub retries : a'.retries ≡ a.retries
   pub nothing : a'.status ≡ Ready → a'.pending ≡ None
 
--- within a block memory is wanted for the call with its reply where there is no room left for them, or by a read or a write for itself
+-- within a block memory is wanted for the call with its reply where there is no room left for them, or by a read, a write or a log for itself
 abbrev pub IsShort : {P : Type 0} → Rows → Actor P → Call → Type 0
 IsShort r a call = (row : Attempt) → active_of a.thread r.active ≡ Some row → (vec_capacity a.spare ≤ length row.calls) ⊎ MayStarve a.engine call
 

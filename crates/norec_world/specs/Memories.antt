@@ -1,6 +1,6 @@
 -- The memories that the commits left, as words.
 use Rattle.std.specs.Prelude.{◌≡◌, ℕ, ◌≤◌, List}
-use Rattle.itm_model.specs.declared.limits.TheConstants.{MAX_DEPTH}
+use Rattle.itm_types.specs.declared.limits.TheConstants.{MAX_OPEN_BLOCKS}
 use Rattle.itm_types.specs.Memory.{bytes_of, IsMemory}
 use Rattle.norec_world.specs.declared.attempt.Attempt.{Attempt}
 use Rattle.norec_world.specs.Attempts.{memory_after}
@@ -8,7 +8,7 @@ use Rattle.norec_world.specs.Cells.{words_of}
 
 -- the bytes that the first commits left
 abbrev pub bytes_at : List ℕ → List Attempt → ℕ → List ℕ
-bytes_at base attempts k = memory_after MAX_DEPTH base attempts k
+bytes_at base attempts k = memory_after MAX_OPEN_BLOCKS base attempts k
 
 -- and their words
 abbrev pub words_at : List ℕ → List Attempt → ℕ → List ℕ

@@ -9,15 +9,16 @@ use Rattle.itm_model.specs.State.{State}
 use Rattle.itm_model.specs.Machine.{outside, undone, is_open, refusal, reply, after}
 use Rattle.itm_model.specs.Runs.{answers}
 use Rattle.norec_world.specs.declared.attempt.Outcome.{Outcome}
-use Rattle.norec_world.specs.declared.attempt.Outcome.TheVariants.{Committed, ReadOnly, Conflict, Full, NoMemory, Unfinished}
+use Rattle.norec_world.specs.declared.attempt.Outcome.TheVariants.{Committed, ReadOnly, Cancelled, Conflict, Full, NoMemory, Unfinished}
 use Rattle.norec_world.specs.declared.attempt.Attempt.{Attempt}
-use Rattle.norec_world.specs.Attempts.{alone, pairs_of, replies_of}
+use Rattle.norec_world.specs.Attempts.{ClosedBy, alone, pairs_of, replies_of}
 use Rattle.script_vm.specs.Rules.{Rules}
 
 -- how an attempt ended, by the plain state after its calls: whether its block has ended, and whether it wrote
 abbrev pub EndsAs : Outcome → State → Type 0
 EndsAs Committed s = (is_open s ≡ false) × (s.wrote ≡ true)
 EndsAs ReadOnly s = (is_open s ≡ false) × (s.wrote ≡ false)
+EndsAs Cancelled s = (is_open s ≡ false) × (s.wrote ≡ false)
 EndsAs Conflict s = is_open s ≡ true
 EndsAs Full s = is_open s ≡ true
 EndsAs NoMemory s = is_open s ≡ true
@@ -75,12 +76,14 @@ module _ {P : Type 0} (rules : Rules P) (deepest : ℕ) where
     pub beginning : IsBeginningOf (pairs_of a) (answers rules.next_call rules.answered rules.calls_left deepest p memory a.arena a.props)
     pub whole : is_open (alone deepest memory a) ≡ false → pairs_of a ≡ answers rules.next_call rules.answered rules.calls_left deepest p memory a.arena a.props
     pub ends : EndsAs a.outcome (alone deepest memory a)
+    pub closed : ClosedBy a.outcome a.calls
     pub full : a.outcome ≡ Full → LacksCommit p a memory  -- full is told of a writer's commit alone
 
   -- what follows an attempt whose player after the begin was p and that left the plain state s, if anything does
   abbrev pub follows : Outcome → P → Attempt → State → Option (Between P)
   follows Committed p a s = Some (record { player = answered_all rules.answered p (replies_of a); arena = s.arena; again = false; tries = 0 })
   follows ReadOnly p a s = Some (record { player = answered_all rules.answered p (replies_of a); arena = s.arena; again = false; tries = 0 })
+  follows Cancelled p a s = Some (record { player = answered_all rules.answered p (replies_of a); arena = s.arena; again = false; tries = 0 })
   follows Conflict p a s = Some (record { player = rules.restarted (answered_all rules.answered p (replies_of a)); arena = (undone s).arena; again = true; tries = a.nth })
   follows Full p a s = None
   follows NoMemory p a s = None

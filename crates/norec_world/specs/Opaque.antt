@@ -1,6 +1,6 @@
 -- The headline, of a world: what every attempt was answered, and what the commits left.
 use Rattle.std.specs.Prelude.{◌≡◌, ℕ, ◌/◌, ◌%◌, true, false, length, replicate, Some, slice_get}
-use Rattle.itm_model.specs.declared.limits.TheConstants.{MAX_DEPTH}
+use Rattle.itm_types.specs.declared.limits.TheConstants.{MAX_OPEN_BLOCKS}
 use Rattle.norec_engine.specs.Proceeds.{backed}
 use Rattle.norec_world.specs.declared.actor.Actor.{Actor}
 use Rattle.norec_world.specs.Attempts.{of_thread}
@@ -20,7 +20,7 @@ module _ {P : Type 0} (rules : Rules P) where
   -- each actor's attempts are its player's run, in order, and each of them is opaque; the bytes are those that the commits left, with a holder's finished stores over them
   pub record AreOpaque (w : World P) : Type 0 where
     pub runs : (place : ℕ) (p : P) → slice_get w.opening place ≡ Some p
-        → IsRunOf rules MAX_DEPTH (w.cells.clock / 2) (bytes_at w.base (attempts_of w)) (Some (first_of p w.arena)) (of_thread place (attempts_of w))
+        → IsRunOf rules MAX_OPEN_BLOCKS (w.cells.clock / 2) (bytes_at w.base (attempts_of w)) (Some (first_of p w.arena)) (of_thread place (attempts_of w))
     pub players : (place : ℕ) (p : P) (a : Actor P) → slice_get w.opening place ≡ Some p → slice_get w.actors place ≡ Some a → IsRun rules (first_of p w.arena) w.base (w.cells.clock / 2) w.attempts a  -- and its player stands where they have led it
     pub threads : AreOfActors (length w.actors) (attempts_of w)  -- there are no others
     pub reads : (place : ℕ) (a : Actor P) (row : Attempt) → slice_get w.actors place ≡ Some a → active_of place w.attempts.active ≡ Some row → row.at ≡ a.engine.snapshot / 2  -- an open one is at half its engine's snapshot

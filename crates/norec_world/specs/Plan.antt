@@ -1,55 +1,48 @@
 -- A list of calls that are made one after the other, whatever the replies are.
-use Rattle.std.specs.Prelude.{ℕ, ◌+◌, ◌-◌, min, List, length, Option, None, Some, slice_get}
+use Rattle.std.specs.Prelude.{ℕ, zero, suc, ◌+◌, ◌-◌, min, List, length, Option, None, Some, slice_get}
 use Rattle.itm_types.specs.declared.call.Call.{Call}
-use Rattle.itm_types.specs.declared.call.Call.TheVariants.{Begin, Commit}
 use Rattle.itm_types.specs.declared.call.Reply.{Reply}
-use Rattle.itm_types.specs.declared.call.Reply.TheVariants.{Done, Code}
+use Rattle.script_vm.specs.Depth.{depth_after}
+
+-- the blocks that are open
+pub record Blocks : Type 0 where
+  pub begun : ℕ  -- where the outermost one began
+  pub within : ℕ  -- how many are open in it
 
 pub record Plan : Type 0 where
   pub calls : List Call
   pub at : ℕ  -- the next one
-  pub begun : Option ℕ  -- where the open block began
+  pub blocks : Option Blocks
 
--- no block within a block
-abbrev pub offered : Option ℕ → Option Call → Option Call
-offered begun None = None
-offered None (Some call) = Some call
-offered (Some start) (Some (Begin props room)) = None
-offered (Some start) (Some call) = Some call
+abbrev pub depth_in : Option Blocks → ℕ
+depth_in None = 0
+depth_in (Some b) = suc b.within
+
+abbrev pub depth : Plan → ℕ
+depth p = depth_in p.blocks
 
 abbrev pub next_call : Plan → Option Call
-next_call p = offered p.begun (slice_get p.calls p.at)
+next_call p = slice_get p.calls p.at
 
--- after an accepted begin
-abbrev pub entered : Option ℕ → ℕ → Reply → Option ℕ
-entered begun at (Code n) = Some at
-entered begun at _ = begun
+-- after the call at this place, with so many blocks open then
+abbrev pub blocks_after : Option Blocks → ℕ → ℕ → Option Blocks
+blocks_after blocks at zero = None
+blocks_after None at (suc within) = Some (record { begun = at; within = within })
+blocks_after (Some b) at (suc within) = Some (record { begun = b.begun; within = within })
 
-abbrev pub left_by : Option ℕ → Reply → Option ℕ
-left_by begun Done = None
-left_by begun _ = begun
-
-abbrev pub begun_after : Option ℕ → ℕ → Option Call → Reply → Option ℕ
-begun_after begun at (Some (Begin props room)) reply = entered begun at reply
-begun_after begun at (Some Commit) reply = left_by begun reply
-begun_after begun at _ reply = begun
+abbrev pub blocks_by : Option Blocks → ℕ → Option Call → Reply → Option Blocks
+blocks_by blocks at None reply = blocks
+blocks_by blocks at (Some call) reply = blocks_after blocks at (depth_after (depth_in blocks) call reply)
 
 abbrev pub answered : Plan → Reply → Plan
-answered p reply = record { calls = p.calls; at = min (p.at + 1) (length p.calls); begun = begun_after p.begun p.at (next_call p) reply }
+answered p reply = record { calls = p.calls; at = min (p.at + 1) (length p.calls); blocks = blocks_by p.blocks p.at (next_call p) reply }
 
-abbrev pub restarted_at : Plan → Option ℕ → Plan
+abbrev pub restarted_at : Plan → Option Blocks → Plan
 restarted_at p None = p
-restarted_at p (Some start) = record { calls = p.calls; at = start; begun = None }
+restarted_at p (Some b) = record { calls = p.calls; at = b.begun; blocks = None }
 
 abbrev pub restarted : Plan → Plan
-restarted p = restarted_at p p.begun
+restarted p = restarted_at p p.blocks
 
 abbrev pub calls_left : Plan → ℕ
 calls_left p = length p.calls - p.at
-
-abbrev pub depth_in : Option ℕ → ℕ
-depth_in None = 0
-depth_in (Some start) = 1
-
-abbrev pub depth : Plan → ℕ
-depth p = depth_in p.begun

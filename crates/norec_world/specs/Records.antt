@@ -23,12 +23,12 @@ use Rattle.script_vm.specs.Rules.{Rules}
 abbrev pub AddsCall : ℕ → Rows → Call → Replied → Rows → Type 0
 AddsCall thread r call reply r' = r' ≡ with_changed thread (λ row. record row { calls = row.calls ++ record { call = call; reply = reply } ∷ [] }) r
 
--- it has its commit, and is over
-abbrev pub EndsBy : ℕ → Rows → ℕ → Bool → Call → Rows → Type 0
-EndsBy thread r at wrote call r' = (row : Attempt) → active_of thread r.active ≡ Some row
-    → r' ≡ with_ended thread (record row { calls = row.calls ++ record { call = call; reply = Done } ∷ []; at = at; outcome = if wrote then outcomes.Committed else outcomes.ReadOnly }) r
+-- it has the call that ends its block, and is over
+abbrev pub EndsBy : ℕ → Rows → ℕ → Outcome → Call → Replied → Rows → Type 0
+EndsBy thread r at outcome call reply r' = (row : Attempt) → active_of thread r.active ≡ Some row
+    → r' ≡ with_ended thread (record row { calls = row.calls ++ record { call = call; reply = reply } ∷ []; at = at; outcome = outcome }) r
 
--- it is over without its commit
+-- it is over, and its block has not ended
 abbrev pub StopsAt : ℕ → Rows → ℕ → Outcome → Rows → Type 0
 StopsAt thread r at outcome r' = (row : Attempt) → active_of thread r.active ≡ Some row → r' ≡ with_ended thread (record row { at = at; outcome = outcome }) r
 
@@ -56,15 +56,20 @@ again_after true None again = again
 again_after false pending again = again
 
 module _ {P : Type 0} (rules : Rules P) where
-  -- of an answer to a call that came where the block was open, or not
-  abbrev pub Records : Bool → Rows → Rows → Actor P → Actor P → Call → Answer → Type 0
-  Records true r r' old new call (Reply reply) =
+  -- of a reply to a call that came where a transaction was open, or not, and where one is then, or none: a cancel ends the attempt
+  abbrev pub RecordsReply : Bool → Bool → Rows → Rows → Actor P → Actor P → Call → Replied → Type 0
+  RecordsReply true true r r' old new call reply =
       AddsCall old.thread r call reply r' × (new.player ≡ rules.answered old.player reply) × (new.again ≡ old.again) × (new.nth ≡ old.nth) × (new.status ≡ old.status)
-  Records false r r' old new call (Reply reply) =
-      Opens (in_transaction new.engine) r old.pending (new.engine.snapshot / 2) r' × (new.player ≡ rules.answered old.player reply)
-      × (new.again ≡ again_after (in_transaction new.engine) old.pending old.again) × (new.nth ≡ old.nth) × (new.status ≡ old.status)
+  RecordsReply true false r r' old new call reply =
+      EndsBy old.thread r (new.engine.snapshot / 2) outcomes.Cancelled call reply r' × (new.player ≡ rules.answered old.player reply) × (new.again ≡ false) × (new.nth ≡ 1) × (new.status ≡ old.status)
+  RecordsReply false now r r' old new call reply =
+      Opens now r old.pending (new.engine.snapshot / 2) r' × (new.player ≡ rules.answered old.player reply) × (new.again ≡ again_after now old.pending old.again) × (new.nth ≡ old.nth) × (new.status ≡ old.status)
+
+  -- of an answer
+  abbrev pub Records : Bool → Rows → Rows → Actor P → Actor P → Call → Answer → Type 0
+  Records was r r' old new call (Reply reply) = RecordsReply was (in_transaction new.engine) r r' old new call reply
   Records was r r' old new call (Committed at wrote) =
-      EndsBy old.thread r at wrote call r' × (new.player ≡ rules.answered old.player Done) × (new.again ≡ false) × (new.nth ≡ 1) × (new.status ≡ old.status)
+      EndsBy old.thread r at (if wrote then outcomes.Committed else outcomes.ReadOnly) call Done r' × (new.player ≡ rules.answered old.player Done) × (new.again ≡ false) × (new.nth ≡ 1) × (new.status ≡ old.status)
   Records was r r' old new call (Conflict clock word) = StopsAt old.thread r (new.engine.snapshot / 2) outcomes.Conflict r' × (new.player ≡ rules.restarted old.player) × CountsTry old new × (new.pending ≡ old.pending)
   Records was r r' old new call (Busy clock) = (r' ≡ r) × (new.player ≡ old.player) × CountsTry old new × (new.pending ≡ None)
   Records was r r' old new call (Full at) =

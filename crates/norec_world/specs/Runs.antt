@@ -1,7 +1,7 @@
 -- The run of an actor's player, as far as it has come.
 use Rattle.std.specs.Prelude.{◌≡◌, ℕ, zero, suc, ◌<◌, ◌≤◌, ◌/◌, true, false, List, [], ◌∷◌, Option, None, Some}
 use Rattle.itm_types.specs.Memory.{bytes_of, IsMemory, Agrees}
-use Rattle.itm_model.specs.declared.limits.TheConstants.{MAX_DEPTH}
+use Rattle.itm_types.specs.declared.limits.TheConstants.{MAX_OPEN_BLOCKS}
 use Rattle.itm_types.specs.declared.call.Call.{Call}
 use Rattle.itm_types.specs.Calls.{is_begin}
 use Rattle.itm_model.specs.Machine.{opened, outside, reply, after}
@@ -23,13 +23,13 @@ use Rattle.script_vm.specs.Rules.{Rules}
 module _ {P : Type 0} (rules : Rules P) where
   -- where the player's blocks lead from here
   abbrev pub begins_at : Between P → Option (Beginning P)
-  begins_at b = begin_of rules MAX_DEPTH b.player b.arena
+  begins_at b = begin_of rules MAX_OPEN_BLOCKS b.player b.arena
 
   -- between tries, once these attempts are over
   abbrev pub run_after : (ℕ → List ℕ) → Option (Between P) → List Attempt → Option (Between P)
   run_after memory b [] = b
   run_after memory None (a ∷ rest) = None
-  run_after memory (Some b) (a ∷ rest) = run_after memory (after_try rules MAX_DEPTH memory b (begins_at b) a) rest
+  run_after memory (Some b) (a ∷ rest) = run_after memory (after_try rules MAX_OPEN_BLOCKS memory b (begins_at b) a) rest
 
   -- the open attempt: its calls are those of its player alone, over every memory that agrees with the log
   pub record IsInTry (b : Between P) (row : Attempt) (p : P) (e : Core) : Type 0 where
@@ -42,15 +42,15 @@ module _ {P : Type 0} (rules : Rules P) where
     pub anew : e.again ≡ false
     pub player : p ≡ player_then rules.answered (rules.answered start.player (begin_code b.again)) row.calls
     pub alone : (m : List ℕ) → IsMemory e.words m → Agrees m e.log
-        → IsAlone rules MAX_DEPTH (rules.answered start.player (begin_code b.again)) (opened (bytes_of m) start.arena start.props) row.calls
-    pub stands : (m : List ℕ) → IsMemory e.words m → Agrees m e.log → stands_for e m ≡ state_then MAX_DEPTH (opened (bytes_of m) start.arena start.props) row.calls
+        → IsAlone rules MAX_OPEN_BLOCKS (rules.answered start.player (begin_code b.again)) (opened (bytes_of m) start.arena start.props) row.calls
+    pub stands : (m : List ℕ) → IsMemory e.words m → Agrees m e.log → stands_for e m ≡ state_then MAX_OPEN_BLOCKS (opened (bytes_of m) start.arena start.props) row.calls
 
   -- so many calls outside a transaction, none of which begins a block, lead a player with its arena from here to there
   abbrev pub LeadsTo : ℕ → P → List ℕ → P → List ℕ → Type 0
   LeadsTo zero p arena q bytes = (q ≡ p) × (bytes ≡ arena)
   LeadsTo (suc n) p arena q bytes =
       (last : P) × (held : List ℕ) × (c : Call) × LeadsTo n p arena last held × (rules.next_call last ≡ Some c) × (is_begin c ≡ false)
-      × (q ≡ rules.answered last (reply MAX_DEPTH (outside [] held) c)) × (bytes ≡ (after MAX_DEPTH (outside [] held) c).arena)
+      × (q ≡ rules.answered last (reply MAX_OPEN_BLOCKS (outside [] held) c)) × (bytes ≡ (after MAX_OPEN_BLOCKS (outside [] held) c).arena)
 
   -- before the next one, with so many commits done: the player has come as far as its calls outside a transaction led, and perhaps called its begin
   pub record IsBeforeTry (n : ℕ) (b : Between P) (a : Actor P) : Type 0 where
@@ -64,7 +64,7 @@ module _ {P : Type 0} (rules : Rules P) where
 
   -- the actor's attempts are its player's run from here, over the memories of so many commits, and each saw what its player gets alone
   pub record IsRun (first : Between P) (base : List ℕ) (n : ℕ) (r : Rows) (a : Actor P) : Type 0 where
-    pub run : IsRunOf rules MAX_DEPTH n (bytes_at base r.ended) (Some first) (of_thread a.thread r.ended)
+    pub run : IsRunOf rules MAX_OPEN_BLOCKS n (bytes_at base r.ended) (Some first) (of_thread a.thread r.ended)
     pub inside : in_transaction a.engine ≡ true → (b : Between P) × (row : Attempt) × (run_after (bytes_at base r.ended) (Some first) (of_thread a.thread r.ended) ≡ Some b) × (active_of a.thread r.active ≡ Some row)
         × IsInTry b row a.player a.engine × (a.again ≡ true) × (row.nth ≡ a.nth)
     pub between : in_transaction a.engine ≡ false → (ending_of a.status ≡ Some GaveUp → ⊥) → (ending_of a.status ≡ Some NoMemory → ⊥)

@@ -1,7 +1,7 @@
 -- What a player that runs alone has done at some moment: its first blocks, and perhaps some calls of the next one. This is opacity where each attempt reads what all before it left.
 use Rattle.std.specs.Prelude.{◌≡◌, ◌⊎◌, ℕ, ◌/◌, ◌%◌, false, List, [], ◌∷◌, ◌++◌, Some}
 use Rattle.itm_types.specs.Memory.{bytes_of}
-use Rattle.itm_model.specs.declared.limits.TheConstants.{MAX_DEPTH}
+use Rattle.itm_types.specs.declared.limits.TheConstants.{MAX_OPEN_BLOCKS}
 use Rattle.itm_model.specs.Machine.{opened}
 use Rattle.norec_world.specs.declared.attempt.Attempt.{Attempt}
 use Rattle.norec_world.specs.declared.attempt.Entry.{Entry}
@@ -21,21 +21,21 @@ module _ {P : Type 0} (rules : Rules P) (max_commits thread : ℕ) where
     pub start : Beginning P
     pub calls : List Entry
     pub rows_are : rows ≡ past ++ row_of thread b start calls outcome ∷ []
-    pub begins : begin_of rules MAX_DEPTH b.player b.arena ≡ Some start
-    pub alone : IsAlone rules MAX_DEPTH (rules.answered start.player (begin_code false)) (opened b.memory start.arena start.props) calls
+    pub begins : begin_of rules MAX_OPEN_BLOCKS b.player b.arena ≡ Some start
+    pub alone : IsAlone rules MAX_OPEN_BLOCKS (rules.answered start.player (begin_code false)) (opened b.memory start.arena start.props) calls
 
   -- the rows are those of its first blocks, which left this memory after so many commits, and of a block that ends so without its commit
   pub record IsSoFar (p0 : P) (base arena : List ℕ) (commits : ℕ) (memory : List ℕ) (outcome : Outcome) (rows : List Attempt) : Type 0 where
     pub before : Progress P  -- the player after its first blocks
     pub past : List Attempt
-    pub whole : solo rules MAX_DEPTH max_commits thread p0 base arena ≡ with_all past (solo_within rules MAX_DEPTH max_commits thread (rules.calls_left before.player) before)
+    pub whole : solo rules MAX_OPEN_BLOCKS max_commits thread p0 base arena ≡ with_all past (solo_within rules MAX_OPEN_BLOCKS max_commits thread (rules.calls_left before.player) before)
     pub commits_are : commits ≡ before.commits
     pub memory_is : memory ≡ before.memory
     pub rows_are : (rows ≡ past) ⊎ IsBegun before past outcome rows
 
   -- all that it does
   pub record IsAll (p0 : P) (base arena : List ℕ) (cells : Cells) (rows : List Attempt) (ending : End) : Type 0 where
-    pub all : solo rules MAX_DEPTH max_commits thread p0 base arena ≡ record { attempts = rows; memory = bytes_of cells.words; commits = cells.clock / 2; ending = ending }
+    pub all : solo rules MAX_OPEN_BLOCKS max_commits thread p0 base arena ≡ record { attempts = rows; memory = bytes_of cells.words; commits = cells.clock / 2; ending = ending }
     pub even : cells.clock % 2 ≡ 0
 
   -- It has ended: all that it does is done, or, where memory was refused, a beginning of that.

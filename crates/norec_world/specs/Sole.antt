@@ -19,7 +19,7 @@ pub record IsFirstTry (n : ℕ) (a : Attempt) : Type 0 where
   pub nth : a.nth ≡ 1
   pub began : a.began ≡ n
 
--- from so many commits to so many: each is such a try, reads where all before it had committed, and ended by its commit
+-- from so many commits to so many: each is such a try, reads where all before it had ended, and its block has ended: it committed, or was cancelled
 abbrev pub AreSole : ℕ → List Attempt → ℕ → Type 0
 AreSole n [] last = n ≡ last
 AreSole n (a ∷ rest) last = IsFirstTry n a × (a.at ≡ n) × (is_done a.outcome ≡ true) × AreSole (n + one_if (is_committed a.outcome)) rest last

@@ -1,6 +1,7 @@
 -- A player with no other beside it: block after block, each on the bytes that those before left. Of a world with one player the headline implies it; it is stated by itself since it computes the whole, from the first begin to the end.
 use Rattle.std.specs.Prelude.{ℕ, zero, suc, ◌+◌, ◌&&◌, Bool, true, false, nat_le, if◌then◌else◌, List, [], ◌∷◌, ◌++◌, map, Option, None, Some}
 use Rattle.itm_types.specs.declared.call.Call.{Call}
+use Rattle.itm_types.specs.Calls.{is_abort}
 use Rattle.itm_types.specs.declared.call.Reply.{Reply}
 use Rattle.itm_model.specs.State.{State}
 use Rattle.itm_model.specs.Machine.{opened, is_open}
@@ -8,7 +9,7 @@ use Rattle.itm_model.specs.Runs.{answers, state_after}
 use Rattle.norec_world.specs.declared.attempt.Entry.{Entry}
 use Rattle.norec_world.specs.declared.attempt.Attempt.{Attempt}
 use Rattle.norec_world.specs.declared.attempt.Outcome.{Outcome}
-use Rattle.norec_world.specs.declared.attempt.Outcome.TheVariants.{Committed, ReadOnly, Full, Unfinished}
+use Rattle.norec_world.specs.declared.attempt.Outcome.TheVariants.{Committed, ReadOnly, Cancelled, Full, Unfinished}
 use Rattle.norec_world.specs.declared.attempt.End.{End}
 use Rattle.norec_world.specs.declared.attempt.End.TheVariants.{Finished, GaveUp}
 use Rattle.norec_world.specs.Opacity.{Beginning, answered_all, begin_code, begin_of}
@@ -63,10 +64,17 @@ abbrev pub one_if : Bool → ℕ
 one_if true = 1
 one_if false = 0
 
--- it wrote and committed, or only read
-abbrev pub ended_as : Bool → Outcome
-ended_as true = Committed
-ended_as false = ReadOnly
+-- the last of these calls is an abort
+abbrev pub aborts : List (Call × Reply) → Bool
+aborts [] = false
+aborts (c ∷ []) = is_abort c.0
+aborts (c ∷ d ∷ rest) = aborts (d ∷ rest)
+
+-- it was cancelled, or committed, and then wrote or only read
+abbrev pub ended_as : Bool → Bool → Outcome
+ended_as true wrote = Cancelled
+ended_as false true = Committed
+ended_as false false = ReadOnly
 
 module _ {P : Type 0} (rules : Rules P) (deepest max_commits thread : ℕ) where
   -- the row of the block, with these calls
@@ -90,7 +98,7 @@ module _ {P : Type 0} (rules : Rules P) (deepest max_commits thread : ℕ) where
   block_then rest b start p pairs s =
       if is_open s then with_first (the_attempt b start pairs Unfinished) (stopped b Finished)
       else (if s.wrote && nat_le max_commits b.commits then with_first (the_attempt b start (front pairs) Full) (stopped b GaveUp)
-      else with_first (the_attempt b start pairs (ended_as s.wrote)) (rest (passed b p pairs s)))
+      else with_first (the_attempt b start pairs (ended_as (aborts pairs) s.wrote)) (rest (passed b p pairs s)))
 
   -- the block that begins here, and then the rest
   abbrev pub begun_then : (Progress P → Solo) → Progress P → Option (Beginning P) → Solo

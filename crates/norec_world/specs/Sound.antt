@@ -5,7 +5,7 @@ use Rattle.itm_types.specs.declared.call.Call.TheVariants.{Commit}
 use Rattle.itm_types.specs.declared.step.Step.{Step}
 use Rattle.itm_types.specs.Memory.{AllFit}
 use Rattle.itm_types.specs.declared.limits.TheConstants.{MAX_RETRIES}
-use Rattle.itm_types.specs.Calls.{is_begin}
+use Rattle.itm_types.specs.Calls.{is_begin, is_abort}
 use Rattle.script_vm.specs.Depth.{depth_after}
 use Rattle.norec_engine.specs.Core.{Core, came, in_transaction}
 use Rattle.norec_engine.specs.Proceeds.{IsAtOnce, IsLawful, IsSettled, IsWithin, Proceeds, StaysOn, most}
@@ -70,24 +70,25 @@ module _ {P : Type 0} where
 
 -- ## The player
 
-abbrev pub depth_if : Bool → ℕ
-depth_if true = 1
-depth_if false = 0
+-- some blocks are open, or none
+abbrev pub IsDeep : Bool → ℕ → Type 0
+IsDeep true deep = 0 < deep
+IsDeep false deep = deep ≡ 0
 
 -- ## Answers
 
--- what an answer leaves: the engine was open or not as the call came, and now is as this says
-abbrev pub AnswerFits : Bool → Bool → Call → Answer → Type 0
-AnswerFits was now call (Reply r) = (depth_after (depth_if was) call r ≡ depth_if now) × (was ≡ true → now ≡ true)
-AnswerFits was now call (Committed at wrote) = (was ≡ true) × (now ≡ false) × (call ≡ Commit)
-AnswerFits was now call (Conflict clock word) = (was ≡ true) × (now ≡ false)
-AnswerFits was now call (Busy clock) = (was ≡ false) × (now ≡ false)
-AnswerFits was now call (Full at) = (was ≡ true) × (now ≡ false)
+-- what an answer leaves: the engine was open or not as the call came, with so many blocks, and now is as this says
+abbrev pub AnswerFits : Bool → ℕ → Bool → ℕ → Call → Answer → Type 0
+AnswerFits was before now deep call (Reply r) = (depth_after before call r ≡ deep) × (is_abort call ≡ false → was ≡ true → now ≡ true)
+AnswerFits was before now deep call (Committed at wrote) = (was ≡ true) × (now ≡ false) × (call ≡ Commit) × (before ≡ 1)
+AnswerFits was before now deep call (Conflict clock word) = (was ≡ true) × (now ≡ false)
+AnswerFits was before now deep call (Busy clock) = (was ≡ false) × (now ≡ false)
+AnswerFits was before now deep call (Full at) = (was ≡ true) × (now ≡ false)
 
 module _ {P : Type 0} (rules : Rules P) where
-  -- the player has as many blocks open as the engine, and can go back to where it began them
+  -- the player has blocks open where the engine has, and can go back to where it began the outermost one
   pub record IsNested (is_open : Bool) (p : P) : Type 0 where
-    pub depth_is : rules.depth p ≡ depth_if is_open
+    pub deep : IsDeep is_open (rules.depth p)
     pub begun : is_open ≡ true → rules.depth (rules.restarted p) ≡ 0
     pub less : is_open ≡ true → rules.calls_left p < rules.calls_left (rules.restarted p)
 
@@ -101,6 +102,7 @@ module _ {P : Type 0} (rules : Rules P) where
 
   pub record IsWaiting (r : Rows) (a : Actor P) (call : Call) (step : Step) : Type 0 where
     pub nested : IsNested (in_transaction a.engine) a.player
+    pub depth : rules.depth a.player ≡ length a.engine.blocks
     pub in_call : IsInCall (in_transaction a.engine) r a call
     pub doing : a.engine.doing ≡ Some call
     pub waits : a.engine.waits ≡ Some step
@@ -109,6 +111,7 @@ module _ {P : Type 0} (rules : Rules P) where
 
   pub record IsReady (a : Actor P) : Type 0 where
     pub nested : IsNested (in_transaction a.engine) a.player
+    pub depth : rules.depth a.player ≡ length a.engine.blocks  -- it has as many open as the engine
     pub idle : a.engine.waits ≡ None
     pub free : a.engine.holds ≡ false
     pub nothing : a.pending ≡ None
@@ -147,7 +150,7 @@ module _ {P : Type 0} (rules : Rules P) where
     pub kept : IsKept was r a
     pub nested : IsNested was a.player
     pub in_call : IsInCall was r a call
-    pub fits : AnswerFits was (in_transaction a.engine) call answer
+    pub fits : AnswerFits was (rules.depth a.player) (in_transaction a.engine) (length a.engine.blocks) call answer
     pub idle : a.engine.waits ≡ None
     pub free : a.engine.holds ≡ false
     pub status : a.status ≡ Ready

@@ -1,15 +1,14 @@
 -- What an event, or the local work of an actor, does to the try that the actor makes of its block.
 use Rattle.std.specs.Prelude.{◌≡◌, ℕ, ◌+◌, ◌*◌, ◌/◌, ◌%◌, ◌<◌, ◌≤◌, Bool, true, false, nat_lt, List, [], ◌∷◌, ◌++◌, Option, None, Some}
-use Rattle.itm_types.specs.declared.call.Call.TheVariants.{Commit}
-use Rattle.itm_types.specs.declared.call.Reply.TheVariants.{Done}
 use Rattle.norec_world.specs.declared.attempt.Attempt.{Attempt}
 use Rattle.norec_world.specs.declared.attempt.Entry.{Entry}
 use Rattle.norec_world.specs.declared.attempt.Outcome.{Outcome}
-use Rattle.norec_world.specs.declared.attempt.Outcome.TheVariants.{Committed, ReadOnly, Conflict, Full, NoMemory, Unfinished}
+use Rattle.norec_world.specs.declared.attempt.Outcome.TheVariants.{Committed, ReadOnly, Cancelled, Conflict, Full, NoMemory, Unfinished}
 use Rattle.norec_world.specs.declared.attempt.End.{End}
 use Rattle.norec_world.specs.declared.attempt.End.TheVariants as ends
 use Rattle.norec_world.specs.declared.actor.Actor.{Actor}
 use Rattle.norec_world.specs.declared.actor.Status.TheVariants.{Ended}
+use Rattle.norec_world.specs.Attempts.{ClosedBy}
 use Rattle.norec_world.specs.Rows.{Rows, active_of}
 use Rattle.norec_world.specs.Status.{ending_of}
 
@@ -27,23 +26,21 @@ pub record Continues (row row' : Attempt) : Type 0 where
 abbrev pub EndsAt : ℕ → ℕ → ℕ → ℕ → Outcome → Type 0
 EndsAt max_commits clock clock' at Committed = (clock ≡ 2 * at + 1) × (clock' ≡ 2 * at + 2)
 EndsAt max_commits clock clock' at ReadOnly = (clock' / 2 ≡ clock / 2) × (2 * at ≤ clock')
+EndsAt max_commits clock clock' at Cancelled = (clock' / 2 ≡ clock / 2) × (2 * at ≤ clock')
 EndsAt max_commits clock clock' at Conflict = (clock' / 2 ≡ clock / 2) × (2 * at < clock')
 EndsAt max_commits clock clock' at Full = (clock' / 2 ≡ clock / 2) × (2 * at ≤ clock') × (max_commits ≤ at)
 EndsAt max_commits clock clock' at NoMemory = (clock' / 2 ≡ clock / 2) × (2 * at ≤ clock')
 EndsAt max_commits clock clock' at Unfinished = ⊥
 
--- it ended by its commit
+-- its block has ended: it committed, or was cancelled
 abbrev pub is_done : Outcome → Bool
 is_done Committed = true
 is_done ReadOnly = true
+is_done Cancelled = true
 is_done Conflict = false
 is_done Full = false
 is_done NoMemory = false
 is_done Unfinished = false
-
--- the last of these calls is a commit that was accepted
-abbrev pub ByCommit : List Entry → Type 0
-ByCommit calls = (before : List Entry) × (calls ≡ before ++ record { call = Commit; reply = Done } ∷ [])
 
 -- the attempts and the tries of an actor before an event
 pub record Prior : Type 0 where
@@ -92,6 +89,7 @@ module _ {P : Type 0} where
   abbrev pub GoesOnAfter : Outcome → ℕ → Prior → Rows → Actor P → Type 0
   GoesOnAfter Committed clock p r a = IsBetween clock 1 r a
   GoesOnAfter ReadOnly clock p r a = IsBetween clock 1 r a
+  GoesOnAfter Cancelled clock p r a = IsBetween clock 1 r a
   GoesOnAfter Conflict clock p r a = TriesAgain (nat_lt p.retries p.nth) clock p.nth r a
   GoesOnAfter Full clock p r a = HasStopped ends.GaveUp r a
   GoesOnAfter NoMemory clock p r a = HasStopped ends.NoMemory r a
@@ -138,7 +136,7 @@ module _ {P : Type 0} where
     pub continues : Continues row row'
     pub reads : row'.at ≡ a.engine.snapshot / 2  -- where the engine read last
     pub at : EndsAt p.max_commits clock clock' row'.at row'.outcome
-    pub closed : is_done row'.outcome ≡ true → ByCommit row'.calls
+    pub closed : ClosedBy row'.outcome row'.calls
     pub after : GoesOnAfter row'.outcome clock' p r a
 
   -- its begin found the clock odd once too often

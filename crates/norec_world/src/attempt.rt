@@ -10,6 +10,8 @@ pub enum Outcome {
     Committed,
     /// It committed and wrote nothing.
     ReadOnly,
+    /// Its block was cancelled.
+    Cancelled,
     /// A logged word had changed, or no validation round was left.
     Conflict,
     /// As many writers as may be had committed.

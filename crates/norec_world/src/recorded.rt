@@ -1,6 +1,6 @@
 //! The attempts so far.
 
-ghost use Rattle.std.specs.Prelude.{◌≡◌, ◌==◌, ◌+◌, ◌-◌, ◌<◌, ◌≤◌, ◌++◌, ◌∷◌, [], List, length, position, insert, nat_lt, Some, None, IfSome, IfOk, OnErr, vec_len, vec_capacity};
+ghost use Rattle.std.specs.Prelude.{◌≡◌, ◌==◌, ◌+◌, ◌-◌, ◌<◌, ◌≤◌, ◌++◌, ◌∷◌, [], List, length, position, insert, nat_lt, Some, None, is_some, IfSome, IfOk, OnErr, vec_len, vec_capacity};
 ghost use Rattle.norec_world.specs.declared.attempt.Attempt.{Attempt};
 ghost use Rattle.norec_world.specs.Rows.{Rows, AreFrom, all_of, active_of, is_of, with_changed, with_opened, with_ended};
 
@@ -66,6 +66,13 @@ impl Recorded {
         let open = &self.rows[self.ended..];
         let place = first_after(open, attempt.thread).unwrap_or(open.len());
         insert_within(&mut self.rows, self.ended + place, attempt);
+    }
+
+    /// The actor has an open attempt.
+    pub(crate) fn has_open(&self, thread: u8) -> bool
+        ensures { result ≡ is_some (active_of thread self.now.active) }
+    {
+        position_of(&self.rows[self.ended..], thread).is_some()
     }
 
     /// How many calls with replies the actor's open attempt has.

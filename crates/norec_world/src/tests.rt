@@ -5,6 +5,7 @@ ghost use Rattle.std.specs.Prelude.{◌≡◌, ◌%◌, ◌<◌, ◌≤◌, leng
 mod barriers;
 mod local;
 mod many;
+mod nests;
 mod planned;
 
 use crate::{Attempt, Bytes, End, Outcome, Passes, Setup, World, WorldFault};
@@ -43,7 +44,7 @@ fn world(
 
 fn begin() -> Call {
     Call::Begin {
-        props: Props {},
+        props: Props { no_abort: false },
         room: 8,
     }
 }

@@ -1,6 +1,7 @@
 //! The local work of an actor: what it does between two operations.
 
-ghost use Rattle.std.specs.Prelude.{◌≡◌, ◌+◌, ◌/◌, ◌≤◌, ℕ, Bool, true, false, [], if◌then◌else◌, Some, None, IfOk, OnErr};
+ghost use Rattle.std.specs.Prelude.{◌≡◌, ◌+◌, ◌/◌, ◌<◌, ◌≤◌, ◌++◌, ◌∷◌, ℕ, Bool, true, false, [], if◌then◌else◌, Some, None, IfOk, OnErr, length, vec_capacity};
+ghost use Rattle.norec_world.specs.declared.attempt.Attempt.{Attempt};
 ghost use Rattle.norec_engine.specs.Core.{in_transaction};
 
 use crate::actor::{Actor, Status};
@@ -17,6 +18,7 @@ impl<P: Player> Actor<P> {
     ghost use Rattle.norec_world.specs.Cells.{Cells};
     ghost use Rattle.norec_world.specs.Status.{is_ready, ending_of};
     ghost use Rattle.norec_world.specs.Records.{Asks, Records, StopsAt};
+    ghost use Rattle.norec_world.specs.Rows.{active_of, with_ended};
     ghost use Rattle.norec_engine.specs.Undoing.{after_undoing};
     ghost use Rattle.itm_types.specs.Calls.{is_begin};
     ghost use Rattle.norec_world.specs.LocalWork.{IsShort};
@@ -146,7 +148,7 @@ impl<P: Player> Actor<P> {
         }
     }
 
-    /// The transaction is open as it was, or its begin is over.
+    /// The transaction is open as it was, or was cancelled, or its begin is over.
     fn replied(&mut self, recorded: &mut Recorded, call: Call, reply: Reply)
         requires { (was : Bool) × IsAnswered P.Player was recorded.old self.old call (Answer.Reply reply) }
         ensures settled { (was : Bool) → IsAnswered P.Player was recorded.old self.old call (Answer.Reply reply)
@@ -169,6 +171,9 @@ impl<P: Player> Actor<P> {
             None => {
                 if is_open {
                     recorded.add(self.thread, &mut self.spare, Entry { call, reply });
+                } else if recorded.has_open(self.thread) {
+                    let at = self.engine.snapshot() / 2;
+                    self.close(recorded, Entry { call, reply }, at, Outcome::Cancelled);
                 }
             }
         }
@@ -189,8 +194,27 @@ impl<P: Player> Actor<P> {
             call,
             reply: Reply::Done,
         };
+        self.close(recorded, entry, at, outcome_of(wrote));
+    }
+
+    /// The open attempt ends, with the call that has ended its block; the next one is of another block.
+    fn close(&mut self, recorded: &mut Recorded, entry: Entry, at: u64, outcome: Outcome)
+        requires empty { self.old.spare.items ≡ [] }
+        requires room { (row : Attempt) → active_of self.old.thread recorded.old.active ≡ Some row
+            → length row.calls < vec_capacity self.old.spare }
+        ensures actor { self.new ≡ record self.old { spare = self.new.spare; nth = 1; again = false } }
+        ensures empty { self.new.spare.items ≡ [] }
+        ensures gone { active_of self.old.thread recorded.new.active ≡ None }
+        ensures ended { (row : Attempt) → active_of self.old.thread recorded.old.active ≡ Some row
+            → recorded.new
+            ≡ with_ended self.old.thread (record row {
+              calls = row.calls ++ entry ∷ [];
+              at = at;
+              outcome = outcome;
+            }) recorded.old }
+    {
         recorded.add(self.thread, &mut self.spare, entry);
-        recorded.end(self.thread, at, outcome_of(wrote));
+        recorded.end(self.thread, at, outcome);
         self.nth = 1;
         self.again = false;
     }

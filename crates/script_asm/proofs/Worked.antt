@@ -1,5 +1,5 @@
 -- Worked scripts, by computation.
-use Rattle.std.proofs.Common.{◌≡◌, List, ℕ, [], ◌∷◌, ◌++◌, Ok, refl}
+use Rattle.std.proofs.Common.{◌≡◌, List, ℕ, [], ◌∷◌, ◌++◌, Ok, refl, false}
 use Rattle.std.specs.Prelude.{codes}
 use Rattle.itm_types.specs.declared.access.ReadHint.TheVariants.{R}
 use Rattle.itm_types.specs.declared.limits.TheConstants.{MAX_COMMITS}
@@ -39,7 +39,7 @@ placed at bytes = record { at = at; bytes = bytes }
 -- ## Programs
 
 abbrev counter_code : List Instruction
-counter_code = Set 1 1 ∷ Begin (record {}) 0 ∷ Read R U8 2 0 ∷ Add 2 2 1 ∷ Write W U8 0 2 ∷ Commit ∷ []
+counter_code = Set 1 1 ∷ Begin (record { no_abort = false }) 0 ∷ Read R U8 2 0 ∷ Add 2 2 1 ∷ Write W U8 0 2 ∷ Commit ∷ []
 
 abbrev counter_text : List ℕ
 counter_text = line (codes "set r1 1 ; one") ++ line (codes "_ITM_beginTransaction r0 -") ++ line (codes "  _ITM_RU8 r2 0") ++ line (codes "add\tr2 r2 r1\r") ++ line (codes "_ITM_WU8 0 r2") ++ codes "_ITM_commitTransaction"

@@ -1,5 +1,5 @@
 -- Fields as operands. Of several operands a wrong form decides before a number beyond its limit.
-use Rattle.std.specs.Prelude.{◌≡◌, ℕ, ◌+◌, ◌-◌, ◌*◌, ◌^◌, ◌%◌, ◌==◌, ◌&&◌, not, Bool, nat_lt, nat_le, List, [], ◌∷◌, length, Option, Some, None, Result, Ok, Err, if◌then◌else◌, codes, bytes_eq, slice_index}
+use Rattle.std.specs.Prelude.{◌≡◌, ℕ, ◌+◌, ◌-◌, ◌*◌, ◌^◌, ◌%◌, ◌==◌, ◌&&◌, not, Bool, nat_lt, nat_le, List, [], ◌∷◌, length, Option, Some, None, Result, Ok, Err, if◌then◌else◌, codes, bytes_eq, slice_index, false}
 use Rattle.std.specs.List.{list_all}
 use Rattle.std.specs.Result.{result_unwrap_or}
 use Rattle.hex.specs.Hex.{decode_of, is_hex_digit}
@@ -43,7 +43,7 @@ register f = Err kinds.Operand
 
 -- the properties of a block: none
 abbrev pub props : List ℕ → Result Props AsmKind
-props f = if bytes_eq f (codes "-") then Ok (record {}) else Err kinds.Operand
+props f = if bytes_eq f (codes "-") then Ok (record { no_abort = false }) else Err kinds.Operand
 
 -- of two, a wrong form decides first
 abbrev pub both : {A B : Type 0} → Result A AsmKind → Result B AsmKind → Result (A × B) AsmKind

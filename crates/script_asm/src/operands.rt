@@ -64,7 +64,7 @@ fn props(field: &[u8]) -> Result<Props, AsmKind>
     ensures { result ≡ props field.now }
 {
     if field == b"-".as_slice() {
-        Ok(Props {})
+        Ok(Props { no_abort: false })
     } else {
         Err(AsmKind::Operand)
     }

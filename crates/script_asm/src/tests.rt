@@ -89,7 +89,7 @@ fn whole_code(rt: HostRuntime) -> Result<(), Fail> {
     let counter = [
         set(1, 1),
         Instruction::Begin {
-            props: Props {},
+            props: Props { no_abort: false },
             code: Register::new(0),
         },
         Instruction::Read {

@@ -1,5 +1,6 @@
 -- What comes of a call is recorded alike of two actors that are alike.
 use Rattle.std.proofs.Common.{◌≡◌, ℕ, ◌+◌, ◌/◌, nat_lt, if◌then◌else◌, Bool, true, false, [], ◌∷◌, ◌++◌, Option, None, Some, refl, sym, ap, subst, ◌∙◌}
+use Rattle.itm_types.specs.declared.call.Reply.{Reply as Replied}
 use Rattle.itm_types.specs.declared.call.Call.{Call}
 use Rattle.itm_types.specs.declared.call.Reply.TheVariants.{Done}
 use Rattle.norec_engine.specs.Core.{Core, in_transaction}
@@ -16,7 +17,7 @@ use Rattle.norec_world.specs.declared.actor.Status.{Status}
 use Rattle.norec_world.specs.declared.actor.Status.TheVariants.{Ready, Ended}
 use Rattle.norec_world.specs.Rows.{Rows, active_of, changed, without, with_one, is_of, with_changed, with_opened, with_ended}
 use Rattle.norec_world.specs.Status.{ending_of}
-use Rattle.norec_world.specs.Records.{Records, Tells, EndsBy, StopsAt, IsTold, Opens, CountsTry, again_after}
+use Rattle.norec_world.specs.Records.{Records, Tells, EndsBy, StopsAt, IsTold, Opens, CountsTry, again_after, RecordsReply}
 use Rattle.world_laws.specs.Alike.{SameRows, AreAlike}
 use Rattle.script_vm.specs.Rules.{Rules}
 
@@ -62,8 +63,9 @@ module _ (r s : Rows) (same : SameRows r s) where
     stopped_same : (m n : ℕ) (o : Outcome) (r' s' : Rows) → m ≡ n → StopsAt t r m o r' → StopsAt u s n o s' → SameRows r' s'
     stopped_same m n o r' s' f x y = ended_same t u _ _ r' s' e (λ i. record row { at = f i; outcome = o }) (x row found) (y row found_too)
 
-    ended_by_same : (at : ℕ) (wrote : Bool) (call : Call) (r' s' : Rows) → EndsBy t r at wrote call r' → EndsBy u s at wrote call s' → SameRows r' s'
-    ended_by_same at wrote call r' s' x y = ended_same t u _ _ r' s' e refl (x row found) (y row found_too)
+    ended_by_same : (m n : ℕ) (o : Outcome) (call : Call) (reply : Replied) (r' s' : Rows) → m ≡ n → EndsBy t r m o call reply r' → EndsBy u s n o call reply s' → SameRows r' s'
+    ended_by_same m n o call reply r' s' f x y =
+        ended_same t u _ _ r' s' e (λ i. record row { calls = row.calls ++ record { call = call; reply = reply } ∷ []; at = f i; outcome = o }) (x row found) (y row found_too)
 
 -- ## Answers
 
@@ -122,14 +124,23 @@ module _ {P : Type 0} (rules : Rules P) (r s : Rows) (same : SameRows r s) (a b 
     pub record IsGrounded (was : Bool) (answer : Answer) : Type 0 where
       pub retries : Counts answer → a.retries ≡ b.retries
       pub inside : Closes answer → (row : Attempt) × (active_of a.thread r.active ≡ Some row)
+      pub opened : was ≡ true → (row : Attempt) × (active_of a.thread r.active ≡ Some row)
       pub begins : was ≡ false → in_transaction a'.engine ≡ true → (row : Attempt) × (a.pending ≡ Some row)
 
     recorded_same : (was : Bool) (answer : Answer) → IsGrounded was answer → Records rules was r r' a a' call answer → Records rules was s s' b b' call answer
         → SameRows r' s' × AreAlike a' b'
-    recorded_same true (Reply reply) k x y = (
-      changed_same r s same a.thread b.thread _ _ r' s' thread refl x.0 y.0,
-      asked_again (x.4 ∙ ready) (y.4 ∙ ready') (x.1 ∙ ((λ i. rules.answered (player i) reply) ∙ sym y.1)) (x.3 ∙ (nth ∙ sym y.3)) (x.2 ∙ (again ∙ sym y.2)),
-    )
+    recorded_same true (Reply reply) k x y =
+        by_open (in_transaction a'.engine) x (subst (λ (c : Core). RecordsReply rules true (in_transaction c) s s' b b' call reply) (sym engine) y)
+      where
+        by_open : (now : Bool) → RecordsReply rules true now r r' a a' call reply → RecordsReply rules true now s s' b b' call reply → SameRows r' s' × AreAlike a' b'
+        by_open true x y = (
+          changed_same r s same a.thread b.thread _ _ r' s' thread refl x.0 y.0,
+          asked_again (x.4 ∙ ready) (y.4 ∙ ready') (x.1 ∙ ((λ i. rules.answered (player i) reply) ∙ sym y.1)) (x.3 ∙ (nth ∙ sym y.3)) (x.2 ∙ (again ∙ sym y.2)),
+        )
+        by_open false x y = (
+          ended_by_same r s same a.thread b.thread thread (k.opened refl).0 (k.opened refl).1 (a'.engine.snapshot / 2) (b'.engine.snapshot / 2) outcomes.Cancelled call reply r' s' (ap (λ (c : Core). c.snapshot / 2) engine) x.0 y.0,
+          asked_again (x.4 ∙ ready) (y.4 ∙ ready') (x.1 ∙ ((λ i. rules.answered (player i) reply) ∙ sym y.1)) (x.3 ∙ sym y.3) (x.2 ∙ sym y.2),
+        )
     recorded_same false (Reply reply) k x y = (
       opens_same (in_transaction a'.engine) a.pending (a'.engine.snapshot / 2) (b'.engine.snapshot / 2) r' s' (k.begins refl) (ap (λ (c : Core). c.snapshot / 2) engine) x.0
           (subst (λ (q : Option Attempt). Opens (in_transaction a'.engine) s q (b'.engine.snapshot / 2) s') (sym pending)
@@ -138,7 +149,7 @@ module _ {P : Type 0} (rules : Rules P) (r s : Rows) (same : SameRows r s) (a b 
           (x.2 ∙ ((λ i. again_after (in_transaction (engine i)) (pending i) (again i)) ∙ sym y.2)),
     )
     recorded_same was (Committed at wrote) k x y = (
-      ended_by_same r s same a.thread b.thread thread (k.inside tt).0 (k.inside tt).1 at wrote call r' s' x.0 y.0,
+      ended_by_same r s same a.thread b.thread thread (k.inside tt).0 (k.inside tt).1 at at (if wrote then outcomes.Committed else outcomes.ReadOnly) call Done r' s' refl x.0 y.0,
       asked_again (x.4 ∙ ready) (y.4 ∙ ready') (x.1 ∙ ((λ i. rules.answered (player i) Done) ∙ sym y.1)) (x.3 ∙ sym y.3) (x.2 ∙ sym y.2),
     )
     recorded_same was (Conflict clock word) k x y = (

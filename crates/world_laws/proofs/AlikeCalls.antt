@@ -50,6 +50,7 @@ module _ {P : Type 0} (rules : Rules P) (cells : Cells) (r s r' s' : Rows) (a b 
   grounded (Steps step) g = tt
   grounded (Answers answer) g = record {
     retries = λ k. parts.retries;
+    opened = λ o. held.inside o;
     inside = λ k. held.inside (sym (handed_open a.engine a.engine.waits (found cells t.step)) ∙ ends_inside (handed a.engine (found cells t.step)) a'.engine answer k g);
     begins = λ shut o. (let h = held.begins t.call t.step t.waits shut in (h.0, h.1));
   }
@@ -138,6 +139,7 @@ module _ {P : Type 0} (rules : Rules P) (clock : ℕ) where
     grounded_now (Steps step) x p = tt
     grounded_now (Answers answer) x p = record {
       retries = λ k. absurd (counts_none answer x k);
+      opened = λ o. roomed rules clock r r' a a' held f o;
       inside = λ k. roomed rules clock r r' a a' held f (ends_inside (came a.engine f.call (begins_again (in_transaction a.engine) a.again f.call)) f.asked.engine answer k p);
       begins = λ shut o. absurd (opens_none rules clock r r' a a' held f shut o);
     }

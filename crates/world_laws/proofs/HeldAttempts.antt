@@ -1,15 +1,16 @@
 -- Within a transaction the actor has an open attempt, over a step and over a call.
 use Rattle.std.proofs.Common.{◌≡◌, ℕ, ◌+◌, ◌/◌, nat_lt, ◌==◌, ◌&&◌, ◌*◌, ◌⊎◌, nat_le, if◌then◌else◌, Bool, true, false, List, [], ◌∷◌, Option, None, Some, inl, inr, refl, sym, ap, subst, ◌∙◌, eq-eqb}
 use Rattle.std.proofs.lemmas.Bool.{cases_Bool}
-use Rattle.norec_world.proofs.Common.{Answer, Answers, Busy, Call, Cells, Committed, Conflict, Core, Ends, Full, IsTold, Next, Opens, Proceeds, Records, Reply, Rows, Rules, Step, Tells, active_of, asked_pending, begins_again, came, found, handed_is, handed_to, in_transaction, is_inside, with_changed}
+use Rattle.norec_world.proofs.Common.{Answer, Answers, Busy, Call, Cells, Committed, Conflict, Core, Ends, Full, IsTold, Next, Opens, Proceeds, Records, Reply, Rows, Rules, Step, Tells, active_of, asked_pending, begins_again, came, found, handed_is, handed_to, in_transaction, is_inside, with_changed, RecordsReply, none_inside}
 use Rattle.norec_world.specs.declared.actor.Actor.{Actor}
 use Rattle.norec_world.specs.declared.actor.Status.TheVariants.{Ended, Ready, Waits}
 use Rattle.norec_world.specs.declared.attempt.Attempt.{Attempt}
 use Rattle.norec_world.specs.declared.attempt.End.TheVariants.{GaveUp}
 use Rattle.world_laws.specs.Alike.{HasAttempt}
+use Rattle.nest_frames.specs.Nest.{Frame}
 use Rattle.itm_types.specs.declared.call.Call.TheVariants as calls
 use Rattle.itm_types.specs.Access.{size_of}
-use Rattle.norec_engine.specs.Core.{handed}
+use Rattle.norec_engine.specs.Core.{handed, is_outermost}
 use Rattle.norec_engine.specs.Order.{asked, asked_from, stage_at, commit_stage, load_stage}
 use Rattle.norec_engine.specs.Proceeds.{IsBegin}
 use Rattle.norec_engine.specs.declared.answer.Next.TheVariants.{Step as Steps}
@@ -39,7 +40,7 @@ ends_inside mid new (Full at) k g = g.is_open
 -- outside a transaction only a begin asks for a step
 idle_outside : (c : Core) (call : Call) (again : Bool) → in_transaction c ≡ false → (stage_at c call again ≡ at.Idle) ⊎ IsBegin (Some call)
 idle_outside c (calls.Begin props room) again shut = inr tt
-idle_outside c calls.Commit again shut = inl (ap (λ (b : Bool). if b then commit_stage c else at.Idle) shut)
+idle_outside c calls.Commit again shut = inl (ap (λ (bs : List Frame). if is_outermost bs then commit_stage c else at.Idle) (none_inside c.blocks shut))
 idle_outside c (calls.Read hint width place) again shut =
     inl (ap (λ (b : Bool). if b && nat_le (place + size_of width) (8 * c.words) then load_stage c.writes (record { hint = hint; width = width; at = place; number = 0 }) else at.Idle) shut)
 idle_outside c call again shut = inl refl
@@ -87,7 +88,7 @@ module _ {P : Type 0} (rules : Rules P) (r r' : Rows) (a a' : Actor P) (call : C
   recorded_in : (mid : Core) (was : Bool) (answer : Answer) → Records rules was r r' a a' call answer → Ends mid answer a'.engine
       → (was ≡ true → HasRowIn r a.thread) → (was ≡ false → in_transaction a'.engine ≡ true → (row : Attempt) × (a.pending ≡ Some row) × (row.thread ≡ a.thread))
       → in_transaction a'.engine ≡ true → HasRowIn r' a.thread
-  recorded_in mid true (Reply reply) x g inside begins o = changed_in a.thread _ r r' (λ y. refl) x.0 (inside refl)
+  recorded_in mid true (Reply reply) x g inside begins o = changed_in a.thread _ r r' (λ y. refl) (subst (λ (now : Bool). RecordsReply rules true now r r' a a' call reply) o x).0 (inside refl)
   recorded_in mid false (Reply reply) x g inside begins o =
       let k = begins refl o in
       opened_in a.thread r r' a.pending (a'.engine.snapshot / 2) k.0 k.1 k.2 (subst (λ (b : Bool). Opens b r a.pending (a'.engine.snapshot / 2) r') o x.0)
@@ -105,8 +106,12 @@ module _ {P : Type 0} (rules : Rules P) (r r' : Rows) (a a' : Actor P) (call : C
 
   -- who was answered does not wait
   recorded_waits : (was : Bool) (answer : Answer) (c : Call) (s : Step) → a.status ≡ Ready → Records rules was r r' a a' call answer → a'.status ≡ Waits c s → ⊥
-  recorded_waits true (Reply reply) c s ready x w = absurd (let z = sym w ∙ (x.4 ∙ ready) in cc)
-  recorded_waits false (Reply reply) c s ready x w = absurd (let z = sym w ∙ (x.4 ∙ ready) in cc)
+  recorded_waits was (Reply reply) c s ready x w = absurd (let z = sym w ∙ (status_of was (in_transaction a'.engine) x ∙ ready) in cc)
+    where
+      status_of : (was now : Bool) → RecordsReply rules was now r r' a a' call reply → a'.status ≡ a.status
+      status_of true true x = x.4
+      status_of true false x = x.4
+      status_of false now x = x.4
   recorded_waits was (Committed at wrote) c s ready x w = absurd (let z = sym w ∙ (x.4 ∙ ready) in cc)
   recorded_waits was (Conflict clock word) c s ready x w = counted_waits c s ready x.2 w
   recorded_waits was (Busy clock) c s ready x w = counted_waits c s ready x.2 w

@@ -1,7 +1,8 @@
 //! Laws of the definitions that the contracts speak with.
+#![tactic(auto)]
 
 ghost use Rattle.std.specs.Prelude.{◌≡◌, ◌⊎◌, ℕ, List};
-ghost use Rattle.itm_model.specs.declared.limits.TheConstants.{MAX_DEPTH};
+ghost use Rattle.itm_types.specs.declared.limits.TheConstants.{MAX_OPEN_BLOCKS};
 ghost use Rattle.norec_world.specs.declared.attempt.Attempt.{Attempt};
 ghost use Rattle.norec_world.specs.Attempts.{pairs_of};
 ghost use Rattle.norec_world.specs.Opacity.{IsBeginningOf, IsOpaque};
@@ -14,7 +15,7 @@ use script_vm::Player;
 /// nothing.
 pub fn isolation<P: Player>()
     ensures { (p : P) (a b : Attempt) (n m : ℕ) (memory : List ℕ)
-        → IsOpaque P.Player MAX_DEPTH p a n memory → IsOpaque P.Player MAX_DEPTH p b m memory
+        → IsOpaque P.Player MAX_OPEN_BLOCKS p a n memory → IsOpaque P.Player MAX_OPEN_BLOCKS p b m memory
         → a.arena ≡ b.arena → a.props ≡ b.props
         → IsBeginningOf (pairs_of a) (pairs_of b) ⊎ IsBeginningOf (pairs_of b) (pairs_of a) }
 {}

@@ -43,16 +43,16 @@ put_back (s ∷ saves) rows = replaced (put_back saves rows) s
 abbrev pub rows_at : Written → Mark → List Row
 rows_at w m = take m.here.rows (put_back (drop m.here.saves w.saves) w.rows)
 
--- the mark is open: it was made no later than the innermost one, and the mark around it no later than it
+-- one can go back to the mark, as to each that is open: it was made no later than the innermost one, and the mark around it no later than it
 pub record IsMark (w : Written) (m : Mark) : Type 0 where
   pub here : IsBy m.here w.inner
   pub outer : IsBy m.outer m.here
 
--- each open mark stays open, with the rows that it had
+-- what one could go back to one still can, to the same rows
 abbrev pub KeepsMarks : Written → Written → Type 0
 KeepsMarks old new = (m : Mark) → IsMark old m → IsMark new m × (rows_at new m ≡ rows_at old m)
 
--- each mark that was open when this one was made stays open, with the rows that it had
+-- so it is of each mark around this one
 abbrev pub KeepsOuter : Mark → Written → Written → Type 0
 KeepsOuter mark old new = (m : Mark) → IsMark old m → IsBy m.here mark.outer → IsMark new m × (rows_at new m ≡ rows_at old m)
 

@@ -132,13 +132,13 @@ fn cancelled_block(rt: HostRuntime) -> Result<(), Fail> {
     write(&rt, &mut set, 8, [0x33].as_slice())?;
     assert_eq!(rt; byte_at(&overlay(&rt, &set), 0), Some(0x22));
     assert_eq!(rt; byte_at(&overlay(&rt, &set), 8), Some(0x33));
-    assert!(rt; set.is_open(&mark));
+    assert!(rt; set.can_go_back(&mark));
     set.back_to(mark);
     assert_eq!(rt; overlay(&rt, &set), outer);
     assert_eq!(rt; set.len(), 1);
     let mark = set.mark();
     write(&rt, &mut set, 8, [0x44].as_slice())?;
-    assert!(rt; set.is_open(&mark));
+    assert!(rt; set.can_go_back(&mark));
     set.forget_mark(mark);
     assert_eq!(rt; set.len(), 2);
     assert_eq!(rt; byte_at(&overlay(&rt, &set), 8), Some(0x44));
@@ -190,7 +190,7 @@ fn nest(rt: &impl Abort, alloc: Global, forgotten: u32) -> Result<(), Fail> {
         let Some(mark) = marks.pop() else {
             break;
         };
-        assert!(rt; set.is_open(&mark));
+        assert!(rt; set.can_go_back(&mark));
         if forgotten >> level & 1 == 1 {
             set.forget_mark(mark);
         } else {
@@ -226,10 +226,10 @@ fn marks_inside_are_closed(rt: HostRuntime) -> Result<(), Fail> {
     write(&rt, &mut set, 8, [0x22].as_slice())?;
     let inner = set.mark();
     write(&rt, &mut set, 16, [0x33].as_slice())?;
-    assert!(rt; set.is_open(&inner));
-    assert!(rt; set.is_open(&outer));
+    assert!(rt; set.can_go_back(&inner));
+    assert!(rt; set.can_go_back(&outer));
     set.back_to(outer);
-    assert!(rt; !set.is_open(&inner));
+    assert!(rt; !set.can_go_back(&inner));
     assert_eq!(rt; set.len(), 1);
     Ok(())
 }
@@ -246,7 +246,7 @@ fn as_many_words_as_a_memory_has(rt: HostRuntime) -> Result<(), Fail> {
         set.reserve(word)?;
         set.put(word, 0xff, 0x77);
     }
-    assert!(rt; set.is_open(&mark));
+    assert!(rt; set.can_go_back(&mark));
     set.back_to(mark);
     assert_eq!(rt; set.len(), 8192);
     for word in 0..8192u32 {
@@ -283,7 +283,7 @@ fn no_memory(rt: HostRuntime) -> Result<(), Fail> {
         set.reserve(1)?;
     }
     set.put(1, 0xff, 6);
-    assert!(rt; set.is_open(&mark));
+    assert!(rt; set.can_go_back(&mark));
     set.back_to(mark);
     assert_eq!(rt; set.get(1), row);
     Ok(())

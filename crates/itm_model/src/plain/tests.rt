@@ -5,10 +5,18 @@ use itm_types::{Call, Datum, Props, ReadHint, Refusal, Reply, Value, Width, Writ
 use std::alloc::{AllocError, Global};
 use std::test::Fail;
 
+mod nested;
+
+const PLAIN: Props = Props { no_abort: false };
+
 const BEGIN: Call = Call::Begin {
-    props: Props {},
+    props: PLAIN,
     room: 0,
 };
+
+const CANCEL: Call = Call::Abort { outer: false };
+
+const CANCEL_ALL: Call = Call::Abort { outer: true };
 
 const THREE: [u8; 8] = [3, 0, 0, 0, 0, 0, 0, 0];
 
@@ -40,9 +48,24 @@ fn value(word: [u8; 8]) -> Value
     Value::try_from(word.as_slice()).unwrap()
 }
 
+fn write_byte(at: u64, byte: u8) -> Call {
+    Call::Write {
+        hint: WriteHint::W,
+        at,
+        value: Datum::new(Width::U1, &[byte]),
+    }
+}
+
+fn save_byte(at: u64, byte: u8) -> Call {
+    Call::Save {
+        at,
+        value: Datum::new(Width::U1, &[byte]),
+    }
+}
+
 /// A block just begun on one word, 3, with an arena of two bytes.
 fn begun(alloc: Global) -> Result<Plain, AllocError> {
-    Plain::new(alloc, THREE.as_slice(), [1, 2].as_slice(), Props {})
+    Plain::new(alloc, THREE.as_slice(), [1, 2].as_slice(), PLAIN)
 }
 
 #[test]
@@ -80,11 +103,28 @@ fn boundary(rt: HostRuntime) -> Result<(), Fail> {
 #[test]
 fn blocks(rt: HostRuntime) -> Result<(), Fail> {
     let mut plain = begun(rt.alloc())?;
+    for _ in 1..16 {
+        assert_eq!(rt; plain.one(&BEGIN)?, Reply::Code(5));
+    }
     assert_eq!(rt; plain.one(&BEGIN)?, Reply::Refused(Refusal::TooDeep));
+    assert_eq!(rt; plain.depth(), 16);
     assert_eq!(rt; plain.one(&Call::InTransaction)?, Reply::Code(1));
-    assert_eq!(rt; plain.one(&Call::Commit)?, Reply::Done);
+    for _ in 0..16 {
+        assert_eq!(rt; plain.one(&Call::Commit)?, Reply::Done);
+    }
     assert_eq!(rt; plain.one(&Call::InTransaction)?, Reply::Code(0));
-    for call in [Call::Commit, read(0), write(0, FOUR)] {
+    let log = Call::Log {
+        width: Width::U1,
+        at: 0,
+    };
+    for call in [
+        Call::Commit,
+        CANCEL,
+        CANCEL_ALL,
+        read(0),
+        write(0, FOUR),
+        log,
+    ] {
         assert_eq!(rt;
             plain.one(&call)?,
             Reply::Refused(Refusal::Outside),
@@ -151,10 +191,10 @@ fn attempts(rt: HostRuntime) -> Result<(), Fail> {
     assert_eq!(rt; plain.depth(), 0);
     assert!(rt; !plain.wrote());
     assert_eq!(rt; plain.memory(), THREE.as_slice());
-    plain.again(Props {})?;
+    plain.again(PLAIN)?;
     assert_eq!(rt; plain.depth(), 1);
     plain.one(&write(0, FOUR))?;
-    plain.again(Props {})?;
+    plain.again(PLAIN)?;
     assert!(rt; !plain.wrote());
     plain.take_back();
     assert_eq!(rt; plain.memory(), FOUR.as_slice());
@@ -167,10 +207,10 @@ fn attempts(rt: HostRuntime) -> Result<(), Fail> {
 fn room(rt: HostRuntime) -> Result<(), Fail> {
     let alloc = rt.alloc();
     let bytes = vec![in alloc; 0; 65_536]?;
-    let mut plain = Plain::new(alloc, &bytes, &[], Props {})?;
+    let mut plain = Plain::new(alloc, &bytes, &[], PLAIN)?;
     assert_eq!(rt; plain.journal.capacity(), 0);
     for _ in 0..1_000 {
-        plain.again(Props {})?;
+        plain.again(PLAIN)?;
         plain.one(&write(8, FOUR))?;
         plain.one(&Call::Commit)?;
         plain.take_back();
@@ -187,7 +227,7 @@ fn room(rt: HostRuntime) -> Result<(), Fail> {
 #[test]
 fn arena(rt: HostRuntime) -> Result<(), Fail> {
     let alloc = rt.alloc();
-    let mut plain = Plain::new(alloc, &THREE, &[1, 2, 3, 4], Props {})?;
+    let mut plain = Plain::new(alloc, &THREE, &[1, 2, 3, 4], PLAIN)?;
     let save = Call::Save {
         at: 1,
         value: Datum::new(Width::U2, &[8, 9]),

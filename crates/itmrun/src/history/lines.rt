@@ -2,11 +2,11 @@
 
 ghost use Rattle.std.specs.Prelude.{◌≡◌, flat_map};
 ghost use Rattle.itmrun.specs.Spelling.{Grows};
-ghost use Rattle.itmrun.specs.Histories.{outcome_name, head_line, arena_line, body_text, reply_text, call_line, attempt_lines, first_lines, last_line, history_text};
+ghost use Rattle.itmrun.specs.Histories.{outcome_name, props_text, abort_text, try_text, props_end, head_line, arena_line, body_text, reply_text, call_line, attempt_lines, first_lines, last_line, history_text};
 
 use crate::history::pieces::Piece;
 use crate::history::stream::Stream;
-use itm_types::{Call, Entry as Function, Reply, name_of};
+use itm_types::{Call, Entry as Function, Props, Reply, name_of};
 use norec_world::{Attempt, Entry, Outcome};
 use std::io::Write;
 
@@ -16,6 +16,7 @@ fn outcome_name(outcome: Outcome) -> &'static [u8]
     match outcome {
         Outcome::Committed => b"committed",
         Outcome::ReadOnly => b"readonly",
+        Outcome::Cancelled => b"cancelled",
         Outcome::Conflict => b"conflict",
         Outcome::Full => b"full",
         Outcome::NoMemory => b"nomemory",
@@ -23,11 +24,32 @@ fn outcome_name(outcome: Outcome) -> &'static [u8]
     }
 }
 
-#[tactic(auto, unfolding(crate::specs::Histories::head_line), using(crate::proofs::AppendedTexts::grows_as))]
-fn put_head<W: Write>(stream: &mut Stream<'_, W>, attempt: &Attempt)
+fn props_text(props: Props) -> &'static [u8]
+    ensures { result.now ≡ props_text props }
+{
+    if props.no_abort {
+        b"pr_hasNoAbort"
+    } else {
+        b"-"
+    }
+}
+
+/// Which blocks an abort cancels.
+fn abort_text(outer: bool) -> &'static [u8]
+    ensures { result.now ≡ abort_text outer }
+{
+    if outer {
+        b"userAbort+outerAbort"
+    } else {
+        b"userAbort"
+    }
+}
+
+#[tactic(auto, unfolding(crate::specs::Histories::try_text), using(crate::proofs::AppendedTexts::grows_as))]
+fn put_try<W: Write>(stream: &mut Stream<'_, W>, attempt: &Attempt)
     ensures same { stream.new.writer.ghost_name ≡ stream.old.writer.ghost_name }
     ensures grows { Grows stream.old.failed (W.contents stream.old.writer.now) stream.new.failed
-        (W.contents stream.new.writer.now) (head_line attempt.now) }
+        (W.contents stream.new.writer.now) (try_text attempt.now) }
 {
     stream.put(&[
         Piece::Text(b"attempt "),
@@ -38,8 +60,29 @@ fn put_head<W: Write>(stream: &mut Stream<'_, W>, attempt: &Attempt)
         Piece::Number(attempt.at),
         Piece::Text(b" "),
         Piece::Text(outcome_name(attempt.outcome)),
-        Piece::Text(b" -\n"),
     ]);
+}
+
+#[tactic(auto, unfolding(crate::specs::Histories::props_end), using(crate::proofs::AppendedTexts::grows_as))]
+fn put_props<W: Write>(stream: &mut Stream<'_, W>, props: Props)
+    ensures same { stream.new.writer.ghost_name ≡ stream.old.writer.ghost_name }
+    ensures grows { Grows stream.old.failed (W.contents stream.old.writer.now) stream.new.failed
+        (W.contents stream.new.writer.now) (props_end props) }
+{
+    stream.put(&[
+        Piece::Text(b" "),
+        Piece::Text(props_text(props)),
+        Piece::Text(b"\n"),
+    ]);
+}
+
+fn put_head<W: Write>(stream: &mut Stream<'_, W>, attempt: &Attempt)
+    ensures same { stream.new.writer.ghost_name ≡ stream.old.writer.ghost_name }
+    ensures grows { Grows stream.old.failed (W.contents stream.old.writer.now) stream.new.failed
+        (W.contents stream.new.writer.now) (head_line attempt.now) }
+{
+    put_try(stream, attempt);
+    put_props(stream, attempt.props);
 }
 
 #[tactic(auto, unfolding(crate::specs::Histories::arena_line), using(crate::proofs::AppendedTexts::grows_as))]
@@ -66,8 +109,15 @@ fn put_body<W: Write>(stream: &mut Stream<'_, W>, call: &Call)
         (W.contents stream.new.writer.now) (body_text call.now) }
 {
     match call {
-        Call::Begin { .. } => stream.put(&[Piece::Text(b"_ITM_beginTransaction -")]),
+        Call::Begin { props, .. } => stream.put(&[
+            Piece::Text(b"_ITM_beginTransaction "),
+            Piece::Text(props_text(*props)),
+        ]),
         Call::Commit => stream.put(&[Piece::Text(b"_ITM_commitTransaction")]),
+        Call::Abort { outer } => stream.put(&[
+            Piece::Text(b"_ITM_abortTransaction "),
+            Piece::Text(abort_text(*outer)),
+        ]),
         Call::InTransaction => stream.put(&[Piece::Text(b"_ITM_inTransaction")]),
         Call::Read { hint, width, at } => stream.put(&[
             Piece::Text(name_of(Function::Read(*hint, *width)).as_bytes()),
@@ -80,6 +130,18 @@ fn put_body<W: Write>(stream: &mut Stream<'_, W>, call: &Call)
             Piece::Number(*at),
             Piece::Text(b" "),
             Piece::Hex(value.bytes.as_slice()),
+        ]),
+        Call::Log { width, at } => stream.put(&[
+            Piece::Text(name_of(Function::Log(*width)).as_bytes()),
+            Piece::Text(b" "),
+            Piece::Number(*at),
+        ]),
+        Call::LogBytes { at, size } => stream.put(&[
+            Piece::Text(name_of(Function::LogBytes).as_bytes()),
+            Piece::Text(b" "),
+            Piece::Number(*at),
+            Piece::Text(b" "),
+            Piece::Number(*size),
         ]),
         Call::Load { width, at } => stream.put(&[
             Piece::Text(b"ld"),

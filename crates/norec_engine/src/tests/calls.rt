@@ -48,7 +48,6 @@ const REFUSALS: &[Line] = &[
         Ask::Write(WriteHint::W, Width::U8, 9, &[1, 0, 0, 0, 0, 0, 0, 0]),
         OUT_OF_RANGE,
     ),
-    Line::Begin(true, Gives::Refused(Refusal::TooDeep)),
     Line::Call(Ask::Commit, Gives::Committed(3, false)),
     Line::Abort(Undone::Nothing),
 ];

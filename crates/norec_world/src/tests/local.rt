@@ -38,8 +38,21 @@ fn marks(alloc: Global, value: u64) -> Result<Vec<Call>, AllocError> {
     Ok(vec![in alloc; begin(), save, read(0), write(0, value), Call::Commit]?)
 }
 
+/// A block that keeps the arena's first byte, marks it, then reads a word and writes it.
+fn marks_logged(alloc: Global, value: u64) -> Result<Vec<Call>, AllocError> {
+    let log = Call::Log {
+        width: Width::U1,
+        at: 0,
+    };
+    let save = Call::Save {
+        at: 0,
+        value: Datum::new(Width::U1, &[1]),
+    };
+    Ok(vec![in alloc; begin(), log, save, read(0), write(0, value), Call::Commit]?)
+}
+
 /// The attempt, of this actor, ended so after a begin with this arena.
-fn ended_from(
+pub(super) fn ended_from(
     rt: &impl Abort,
     attempt: Option<&Attempt>,
     thread: u8,
@@ -64,6 +77,25 @@ fn arena_outlives_a_conflict(rt: HostRuntime) -> Result<(), Fail> {
     ended_from(&rt, attempts.first(), 1, Outcome::Committed, &[0]);
     ended_from(&rt, attempts.get(1), 0, Outcome::Conflict, &[0]);
     ended_from(&rt, attempts.get(2), 0, Outcome::Committed, &[1]);
+    assert_eq!(rt; world.clock(), 4);
+    Ok(())
+}
+
+/// What it logged is as it was.
+#[test]
+fn logged_arena_is_put_back(rt: HostRuntime) -> Result<(), Fail> {
+    let alloc = rt.alloc();
+    let first = marks_logged(alloc, 1)?;
+    let mut world = two_over(&rt, alloc, &[0; 8], 1, first, marks_logged(alloc, 2)?)?;
+    take(&rt, alloc, &mut world, 0, 3);
+    take(&rt, alloc, &mut world, 1, 6);
+    assert_eq!(rt; world.run_out(alloc, 0), 9);
+    let attempts = world.attempts();
+    ended_from(&rt, attempts.first(), 1, Outcome::Committed, &[0]);
+    ended_from(&rt, attempts.get(1), 0, Outcome::Conflict, &[0]);
+    ended_from(&rt, attempts.get(2), 0, Outcome::Committed, &[0]);
+    let again = attempts.get(2).map(|attempt| (attempt.nth, attempt.at));
+    assert_eq!(rt; again, Some((2, 1)));
     assert_eq!(rt; world.clock(), 4);
     Ok(())
 }

@@ -17,14 +17,28 @@ pub(super) fn two_over(
     first: Vec<Call>,
     second: Vec<Call>,
 ) -> Result<World<Planned>, AllocError> {
+    two_tried(rt, alloc, bytes, arena, 100, first, second)
+}
+
+/// Such a world, in which a block is tried again so often.
+pub(super) fn two_tried(
+    rt: &impl Abort,
+    alloc: Global,
+    bytes: &[u8],
+    arena: u32,
+    retries: u32,
+    first: Vec<Call>,
+    second: Vec<Call>,
+) -> Result<World<Planned>, AllocError> {
     assert!(rt; 8 <= bytes.len() && bytes.len() <= 64 && bytes.len() % 8 == 0);
     assert!(rt; arena <= 8);
+    assert!(rt; retries <= 100);
     let setup = Setup {
         bytes: Bytes::new(bytes.to_vec(alloc)?),
         arena,
         limits: Limits {
             patience: 8,
-            retries: 100,
+            retries,
             max_commits: 9,
         },
     };

@@ -1,5 +1,5 @@
 use Rattle.std.proofs.Common.{◌≡◌, ◌⊎◌, inl, inr, List, [], ◌∷◌, ◌++◌, refl, sym, ◌∙◌}
-use Rattle.itm_model.specs.declared.limits.TheConstants.{MAX_DEPTH}
+use Rattle.itm_types.specs.declared.limits.TheConstants.{MAX_OPEN_BLOCKS}
 use Rattle.itm_model.specs.Runs.{answers}
 use Rattle.norec_world.specs.Opacity.{IsBeginningOf}
 use Rattle.world_laws.proofs.isolation.Goals as goal
@@ -20,5 +20,5 @@ beginnings (x ∷ xs) (y ∷ ys) (z ∷ all) p q =
 
 pub returns : goal.returns
 returns g c p a b n m memory x y arena props =
-    beginnings _ _ (answers g.P.Player.next_call g.P.Player.answered g.P.Player.calls_left MAX_DEPTH p memory a.arena a.props) x.beginning
-    (y.beginning.0, y.beginning.1 ∙ (λ i. answers g.P.Player.next_call g.P.Player.answered g.P.Player.calls_left MAX_DEPTH p memory (sym arena i) (sym props i)))
+    beginnings _ _ (answers g.P.Player.next_call g.P.Player.answered g.P.Player.calls_left MAX_OPEN_BLOCKS p memory a.arena a.props) x.beginning
+    (y.beginning.0, y.beginning.1 ∙ (λ i. answers g.P.Player.next_call g.P.Player.answered g.P.Player.calls_left MAX_OPEN_BLOCKS p memory (sym arena i) (sym props i)))

@@ -4,7 +4,7 @@ use Rattle.norec_engine.proofs.commit.back_loaded.Goals as goal
 
 pub returns-clause-proceeds : goal.returns-clause-proceeds
 returns-clause-proceeds c =
-    let rows = c.args.state.now.writes.rows in
+    let rows = c.args.state.now.frames.writes.rows in
     let phase = c.requires.sound.in_phase in
     record {
       unfreed = refl;

@@ -10,7 +10,7 @@ use Rattle.norec_engine.proofs.commit.next_store.Goals as goal
 
 pub returns-then-written-clause-proceeds : goal.returns-then-written-clause-proceeds
 returns-then-written-clause-proceeds c =
-    let rows = c.args.state.now.writes.rows in
+    let rows = c.args.state.now.frames.writes.rows in
     let within : c.args.row < length rows = omega (arith, c.if-row-len.true, c.len.ensures.len) in
     let mask : (write_at rows c.args.row).mask ≡ whole = ap (λ (r : Row). r.mask) (write_at_of rows c.args.row c.row-written.result c.row-written.ensures.row) ∙ c.if-written.true in
     record {
@@ -25,7 +25,7 @@ returns-then-written-clause-proceeds c =
 
 pub returns-then-written-clause-order : goal.returns-then-written-clause-order
 returns-then-written-clause-order c =
-    let rows = c.args.state.now.writes.rows in
+    let rows = c.args.state.now.frames.writes.rows in
     let within : c.args.row < length rows = omega (arith, c.if-row-len.true, c.len.ensures.len) in
     let mask : (write_at rows c.args.row).mask ≡ whole = ap (λ (r : Row). r.mask) (write_at_of rows c.args.row c.row-written.result c.row-written.ensures.row) ∙ c.if-written.true in
     sym (cond-true (nat_lt c.args.row (length rows)) (row_store (write_at rows c.args.row) c.args.row) Free (lt-ltb c.args.row (length rows) within)
@@ -33,7 +33,7 @@ returns-then-written-clause-order c =
 
 pub returns-else-written-clause-sound : goal.returns-else-written-clause-sound
 returns-else-written-clause-sound c =
-    let rows = c.args.state.now.writes.rows in
+    let rows = c.args.state.now.frames.writes.rows in
     let may = c.requires.may in
     let hold = may.holding in
     let within : c.args.row < length rows = omega (arith, c.if-row-len.true, c.len.ensures.len) in
@@ -43,7 +43,7 @@ returns-else-written-clause-sound c =
         bounds = may.bounds;
         reached = omega (arith, hold.settled);
         in_phase = (
-          record { is_open = record { is_open = hold.is_open.is_open; log = hold.is_open.log; writes = hold.is_open.writes; rows = hold.is_open.rows; unmarked = hold.is_open.unmarked; tries = hold.is_open.tries }; some = hold.some; settled = hold.settled; free = hold.free; spent = omega (arith, hold.spent) },
+          record { is_open = record { is_open = hold.is_open.is_open; log = hold.is_open.log; writes = hold.is_open.writes; rows = hold.is_open.rows; frames = hold.is_open.frames; tries = hold.is_open.tries }; outermost = hold.outermost; some = hold.some; settled = hold.settled; free = hold.free; spent = omega (arith, hold.spent) },
           within,
           λ e. c.if-written.false (ap (λ (r : Row). r.mask) (sym (write_at_of rows c.args.row c.row-written.result c.row-written.ensures.row)) ∙ e),
         );
@@ -52,7 +52,7 @@ returns-else-written-clause-sound c =
 
 pub returns-else-written-clause-proceeds : goal.returns-else-written-clause-proceeds
 returns-else-written-clause-proceeds c =
-    let rows = c.args.state.now.writes.rows in
+    let rows = c.args.state.now.frames.writes.rows in
     let within : c.args.row < length rows = omega (arith, c.if-row-len.true, c.len.ensures.len) in
     record {
       unfreed = refl;
@@ -62,7 +62,7 @@ returns-else-written-clause-proceeds c =
 
 pub returns-else-written-clause-order : goal.returns-else-written-clause-order
 returns-else-written-clause-order c =
-    let rows = c.args.state.now.writes.rows in
+    let rows = c.args.state.now.frames.writes.rows in
     let within : c.args.row < length rows = omega (arith, c.if-row-len.true, c.len.ensures.len) in
     let mask : (write_at rows c.args.row).mask ≢ whole = λ e. c.if-written.false (ap (λ (r : Row). r.mask) (sym (write_at_of rows c.args.row c.row-written.result c.row-written.ensures.row)) ∙ e) in
     sym (cond-true (nat_lt c.args.row (length rows)) (row_store (write_at rows c.args.row) c.args.row) Free (lt-ltb c.args.row (length rows) within)

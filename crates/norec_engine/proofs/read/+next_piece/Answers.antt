@@ -7,7 +7,7 @@ use Rattle.std.proofs.lemmas.List.{length-append}
 use Rattle.word_pieces.proofs.Covers.{gathered-pieces_of}
 use Rattle.write_set.specs.Rows.{overlay}
 use Rattle.write_set.proofs.Overlays.{length-overlay}
-use Rattle.norec_engine.specs.Fields.{blocks_of, parts}
+use Rattle.norec_engine.specs.Fields.{parts}
 use Rattle.norec_engine.specs.Order.{load_stage}
 use Rattle.norec_engine.specs.Rows.{is_covered}
 use Rattle.word_pieces.specs.declared.piece.Piece.{Piece}
@@ -23,10 +23,10 @@ returns-in_default-clause-proceeds t c log =
     let may = c.requires.may in
     let none = sym c.piece.ensures.value ∙ c.in_default.is in
     let bytes = λ (m : List ℕ) (mem : IsMemory s.words m) (agrees : Agrees m (drop s.entry s.log.rows)).
-    (let size : length (overlay m s.writes.rows) ≡ s.words = length-overlay m s.writes.rows ∙ mem.0 in
-    may.reading.has m mem agrees ∙ (ap (gathered (overlay m s.writes.rows)) (none_take (parts r) r.number none) ∙ gathered-pieces_of (overlay m s.writes.rows) r.at (size_of r.width) (omega (arith, size, may.reading.within)))) in
+    (let size : length (overlay m s.frames.writes.rows) ≡ s.words = length-overlay m s.frames.writes.rows ∙ mem.0 in
+    may.reading.has m mem agrees ∙ (ap (gathered (overlay m s.frames.writes.rows)) (none_take (parts r) r.number none) ∙ gathered-pieces_of (overlay m s.frames.writes.rows) r.at (size_of r.width) (omega (arith, size, may.reading.within)))) in
     let all = λ (m : List ℕ) (mem : IsMemory s.words m) (agrees : Agrees m (drop s.entry s.log.rows)).
-    reads s.writes.rows (blocks_of s.block) s.arena m s.words r.hint r.width r.at may.is_open.is_open mem c.replace-bytes.result.items may.reading.within (ap (λ v. v.items) c.replace-bytes.ensures.value ∙ bytes m mem agrees) in
+    reads s.frames.writes.rows s.frames.blocks s.arena m s.words r.hint r.width r.at may.is_open.is_open mem c.replace-bytes.result.items may.reading.within (ap (λ v. v.items) c.replace-bytes.ensures.value ∙ bytes m mem agrees) in
     record {
       meets = λ m mem agrees. (all m mem (Agrees-drop m s.entry s.log.rows agrees)).0;
       reply_is = λ m mem agrees. (all m mem agrees).1;
@@ -35,14 +35,13 @@ returns-in_default-clause-proceeds t c log =
       arena = refl;
       free = refl;
       unfreed = refl;
-      still = λ o. o;
-      opens = refl;
       blocks = refl;
+      still = λ other o. o;
       settled = λ o. (may.settled, may.bounds.even);
     }
 
 pub returns-in_default-clause-order : goal.returns-in_default-clause-order
-returns-in_default-clause-order t c = sym (load_ends c.args.state.now.writes.rows c.args.reading (sym c.piece.ensures.value ∙ c.in_default.is))
+returns-in_default-clause-order t c = sym (load_ends c.args.state.now.frames.writes.rows c.args.reading (sym c.piece.ensures.value ∙ c.in_default.is))
 
 pub gather-requires-clause-room : goal.gather-requires-clause-room
 gather-requires-clause-room t c =
@@ -64,7 +63,7 @@ next_piece-requires t c =
       rw c.next.ensures (omega (arith, left, c.decreases)),
       rw c.next.ensures (record {
         bounds = may.bounds;
-        is_open = record { is_open = may.is_open.is_open; log = may.is_open.log; writes = may.is_open.writes; rows = may.is_open.rows; unmarked = may.is_open.unmarked; tries = may.is_open.tries };
+        is_open = record { is_open = may.is_open.is_open; log = may.is_open.log; writes = may.is_open.writes; rows = may.is_open.rows; frames = may.is_open.frames; tries = may.is_open.tries };
         reading = record {
           within = may.reading.within;
           far = omega (arith, left);
@@ -74,7 +73,7 @@ next_piece-requires t c =
           has = λ m mem agrees.
               (let word = c.in-Some.ensures.in_memory s.words may.reading.within in
               let same = covered m mem.1 (omega (arith, word, mem.0)) in
-              gone ∙ ((λ i. may.reading.has m mem agrees i ++ sym same i) ∙ sym (more (overlay m s.writes.rows))));
+              gone ∙ ((λ i. may.reading.has m mem agrees i ++ sym same i) ∙ sym (more (overlay m s.frames.writes.rows))));
           sized =
               (let parts_are = more [] in
               let in_word = c.in-Some.ensures.piece.in_word in
@@ -96,8 +95,8 @@ next_piece-requires t c =
 
 pub returns-in-Some-covered-clause-order : goal.returns-in-Some-covered-clause-order
 returns-in-Some-covered-clause-order t c =
-    c.next_piece.ensures.order ∙ (ap (load_stage c.args.state.now.writes.rows) c.next.ensures
-    ∙ sym (load_next c.args.state.now.writes.rows c.args.reading c.in-Some.piece (sym c.piece.ensures.value ∙ c.in-Some.is) (sym c.in-Some-covered.ensures.covered)))
+    c.next_piece.ensures.order ∙ (ap (load_stage c.args.state.now.frames.writes.rows) c.next.ensures
+    ∙ sym (load_next c.args.state.now.frames.writes.rows c.args.reading c.in-Some.piece (sym c.piece.ensures.value ∙ c.in-Some.is) (sym c.in-Some-covered.ensures.covered)))
 
 pub returns-in-None-clause-sound : goal.returns-in-None-clause-sound
 returns-in-None-clause-sound t c =
@@ -108,11 +107,11 @@ returns-in-None-clause-sound t c =
         bounds = may.bounds;
         reached = omega (arith, may.settled);
         in_phase = (
-          record { is_open = may.is_open.is_open; log = may.is_open.log; writes = may.is_open.writes; rows = may.is_open.rows; unmarked = may.is_open.unmarked; tries = may.is_open.tries },
+          record { is_open = may.is_open.is_open; log = may.is_open.log; writes = may.is_open.writes; rows = may.is_open.rows; frames = may.is_open.frames; tries = may.is_open.tries },
           record {
             reading = record { within = may.reading.within; far = may.reading.far; room = may.reading.room; since = may.reading.since; grown = may.reading.grown; has = may.reading.has; sized = may.reading.sized };
             some = some_left c.args.reading c.in-Some.piece (sym c.piece.ensures.value ∙ c.in-Some.is);
-            uncovered = ap (is_covered c.args.state.now.writes.rows) (sym (part_is c.args.reading c.in-Some.piece (sym c.piece.ensures.value ∙ c.in-Some.is))) ∙ sym c.in-None.ensures.covered;
+            uncovered = ap (is_covered c.args.state.now.frames.writes.rows) (sym (part_is c.args.reading c.in-Some.piece (sym c.piece.ensures.value ∙ c.in-Some.is))) ∙ sym c.in-None.ensures.covered;
           },
           may.settled,
           omega (arith, may.spent),
@@ -132,4 +131,4 @@ returns-in-None-clause-proceeds t c log = record {
 }
 
 pub returns-in-None-clause-order : goal.returns-in-None-clause-order
-returns-in-None-clause-order t c = sym (load_here c.args.state.now.writes.rows c.args.reading c.in-Some.piece (sym c.piece.ensures.value ∙ c.in-Some.is) (sym c.in-None.ensures.covered))
+returns-in-None-clause-order t c = sym (load_here c.args.state.now.frames.writes.rows c.args.reading c.in-Some.piece (sym c.piece.ensures.value ∙ c.in-Some.is) (sym c.in-None.ensures.covered))

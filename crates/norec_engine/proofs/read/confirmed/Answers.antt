@@ -40,7 +40,7 @@ next_piece-requires c =
           log = subst (AllWithin s.words) (sym added) (AllWithin-push s.words s.log.rows row phase.0.log word);
           writes = phase.0.writes;
           rows = phase.0.rows;
-          unmarked = phase.0.unmarked;
+          frames = phase.0.frames;
           tries = phase.0.tries;
         };
         reading = record {
@@ -52,8 +52,8 @@ next_piece-requires c =
           has = λ m mem agrees.
               (let all = subst (Agrees m) (ap (drop s.entry) added ∙ drop-append-le s.entry s.log.rows (row ∷ []) reading.since) agrees in
               let here = Agrees-last m (drop s.entry s.log.rows) row all in
-              let now = index_of (overlay m s.writes.rows) p.word c.overlaid-word.result (c.overlaid-word.ensures m here) in
-              gone ∙ ((λ i. reading.has m mem (Agrees-front m (drop s.entry s.log.rows) row all) i ++ part_of p (sym now i)) ∙ sym (more (overlay m s.writes.rows))));
+              let now = index_of (overlay m s.frames.writes.rows) p.word c.overlaid-word.result (c.overlaid-word.ensures m here) in
+              gone ∙ ((λ i. reading.has m mem (Agrees-front m (drop s.entry s.log.rows) row all) i ++ part_of p (sym now i)) ∙ sym (more (overlay m s.frames.writes.rows))));
           sized =
               (let parts_are = more [] in
               let in_word = c.in-Some.ensures.piece.in_word in
@@ -97,7 +97,7 @@ returns-in-Some-clause-joins c =
 
 pub returns-in-Some-clause-order : goal.returns-in-Some-clause-order
 returns-in-Some-clause-order c =
-    c.next_piece.ensures.order ∙ (ap (load_stage c.args.state.now.writes.rows) c.next.ensures ∙ (ap (λ (n : ℕ). load_stage c.args.state.now.writes.rows (record c.args.reading { number = n })) (add-one c.args.reading.number)
+    c.next_piece.ensures.order ∙ (ap (load_stage c.args.state.now.frames.writes.rows) c.next.ensures ∙ (ap (λ (n : ℕ). load_stage c.args.state.now.frames.writes.rows (record c.args.reading { number = n })) (add-one c.args.reading.number)
     ∙ sym (cond-true (c.args.seen == c.args.state.now.snapshot) _ _ (eq-eqb c.args.seen c.args.state.now.snapshot c.if-seen-state.true))))
 
 pub returns-in-Some-clause-log : goal.returns-in-Some-clause-log

@@ -33,8 +33,8 @@ returns-else-logged-seen-clause-proceeds c =
     let here : row_at log c.args.row ≡ logged = get_or_from_slice_get log c.args.row logged _ c.row-logged.ensures in
     record {
       is_open = c.requires.sound.in_phase.0.is_open.is_open;
-      clock_is = c.end.ensures.clock;
-      later = omega (arith, c.requires.sound.in_phase.0.later, c.end.ensures.clock);
+      clock_is = c.roll_back.ensures.ended.clock;
+      later = omega (arith, c.requires.sound.in_phase.0.later, c.roll_back.ensures.ended.clock);
       word_is = (
         take c.args.row log,
         c.args.seen,
@@ -47,8 +47,10 @@ returns-else-logged-seen-clause-proceeds c =
       );
       free = refl;
       unfreed = refl;
-      stays = core_ended _ _ c.end.ensures;
-      undone = ended_undone (handed (core c.args.state.now (RoundRow c.args.aim c.args.row)) c.args.seen) (core c.end.new.state Idle) Idle 0 c.args.state.now.snapshot c.requires.sound.in_phase.0.is_open.is_open (core_ended _ _ c.end.ensures);
+      stays = core_ended _ _ _ c.roll_back.ensures.ended;
+      undone =
+          ended_undone (handed (core c.args.state.now (RoundRow c.args.aim c.args.row)) c.args.seen) (core c.roll_back.new.state Idle) Idle 0 c.args.state.now.snapshot
+          c.requires.sound.in_phase.0.is_open.frames c.roll_back.ensures.restored c.requires.sound.in_phase.0.is_open.is_open (core_ended _ _ _ c.roll_back.ensures.ended);
     }
 
 pub returns-else-logged-seen-clause-order : goal.returns-else-logged-seen-clause-order

@@ -2,9 +2,11 @@ use Rattle.std.proofs.Common.{◌≡◌, ℕ, ◌+◌, ◌*◌, ◌<◌, ◌≤�
 use Rattle.word_pieces.specs.declared.piece.Piece.{Piece}
 use Rattle.write_set.specs.declared.row.Row.{Row}
 use Rattle.write_set.specs.Rows.{lookup, overlay, AreRows}
-use Rattle.norec_engine.specs.Fields.{blocks_of, in_block}
-use Rattle.norec_engine.specs.Stands.{is_some_row}
-use Rattle.norec_engine.specs.Rows.{reserved_all, put_all, AllWritesWithin}
+use Rattle.norec_engine.specs.Fields.{in_block, AreFrames, IsBounded}
+use Rattle.norec_engine.specs.Stands.{is_some_row, state_over}
+use Rattle.norec_engine.specs.Core.{is_inside}
+use Rattle.nest_frames.specs.Nest.{Frame, rows_of}
+use Rattle.norec_engine.specs.Rows.{reserved_all, put_all, AllWritesWithin, AreRoomy}
 use Rattle.itm_types.specs.Access.{size_of}
 use Rattle.itm_types.specs.Memory.{bytes_of, IsMemory}
 use Rattle.norec_engine.proofs.Refusals.{served}
@@ -12,16 +14,28 @@ use Rattle.norec_engine.proofs.Machines.{writes, some_put, some_bytes}
 use Rattle.std.proofs.lemmas.List.Elements.{All-from_recursion}
 use Rattle.word_pieces.specs.Pieces.{pieces_of}
 use Rattle.itm_types.specs.Slices.{AreBytes}
-use Rattle.norec_engine.proofs.Writings.{AllFitIn, all_reserved, some_pieces, bytes_of-put_all, fit_pieces, AllWritesWithin-put_all, AllWritesWithin-reserved_all, AreRows-put_all, AreRows-reserved_all}
+use Rattle.norec_engine.proofs.Writings.{AllFitIn, either_way, all_reserved, some_pieces, bytes_of-put_all, fit_pieces, AllWritesWithin-put_all, AllWritesWithin-reserved_all, AreRows-put_all, AreRows-reserved_all}
 use Rattle.norec_engine.proofs.write.write.Goals as goal
+
+pub returns-in_err-reserve_all-clause-starves : goal.returns-in_err-reserve_all-clause-starves
+returns-in_err-reserve_all-clause-starves c =
+    let s = c.args.state.now in
+    let may = served (in_block s) s.words c.args.at c.size.result (sym c.in_default.ensures.value) in
+    let size = size_of c.args.value.now.width in
+    let pieces_are : c.deref.result.now ≡ pieces_of c.args.at size = c.deref.ensures.0 ∙ (c.pieces-pieces.ensures.value ∙ ap (pieces_of c.args.at) c.size-2.ensures.value) in
+    either_way c.from_residual.result (
+      may.0,
+      subst (λ (n : ℕ). c.args.at + n ≤ 8 * s.words) c.size.ensures.value may.1,
+      λ roomy. c.in_err-reserve_all.ensures.grows (subst (AreRoomy s.frames.writes.rows (rows_of s.frames.blocks)) (sym pieces_are) roomy),
+    )
 
 pub put_all-requires-clause-room : goal.put_all-requires-clause-room
 put_all-requires-clause-room c =
     let s = c.args.state.now in
     let ps = c.deref-2.result.now in
-    let same : c.reserve_all.new.writes.rows ≡ reserved_all s.writes.rows ps = c.in_ok-reserve_all.ensures.ok ∙ ap (reserved_all s.writes.rows) (c.deref.ensures.0 ∙ sym c.deref-2.ensures.0) in
+    let same : c.reserve_all.new.frames.writes.rows ≡ reserved_all s.frames.writes.rows ps = c.in_ok-reserve_all.ensures.rows ∙ ap (reserved_all s.frames.writes.rows) (c.deref.ensures.0 ∙ sym c.deref-2.ensures.0) in
     subst (λ (rows : List Row). All (λ (p : Piece). IsSome (lookup p.word rows)) ps) (sym same)
-    (All-from_recursion (λ (p : Piece). IsSome (lookup p.word (reserved_all s.writes.rows ps))) ps (all_reserved s.writes.rows ps))
+    (All-from_recursion (λ (p : Piece). IsSome (lookup p.word (reserved_all s.frames.writes.rows ps))) ps (all_reserved s.frames.writes.rows ps))
 
 pub returns-clause-sound : goal.returns-clause-sound
 returns-clause-sound c =
@@ -33,29 +47,30 @@ returns-clause-sound c =
     let sound = c.requires.sound in
     let idle = sound.in_phase.0 may.0 in
     let pieces_are : c.pieces-pieces.result.items ≡ ps = c.pieces-pieces.ensures.value ∙ ap (pieces_of c.args.at) c.size-2.ensures.value in
-    let rows : c.put_all.new.writes.rows ≡ put_all (reserved_all s.writes.rows ps) ps bytes =
-    c.put_all.ensures.rows ∙ (λ i. put_all ((c.in_ok-reserve_all.ensures.ok ∙ ap (reserved_all s.writes.rows) (c.deref.ensures.0 ∙ pieces_are)) i) ((c.deref-2.ensures.0 ∙ pieces_are) i) (c.as_slice.ensures.value i)) in
+    let rows : c.put_all.new.frames.writes.rows ≡ put_all (reserved_all s.frames.writes.rows ps) ps bytes =
+    c.put_all.ensures.rows ∙ (λ i. put_all ((c.in_ok-reserve_all.ensures.rows ∙ ap (reserved_all s.frames.writes.rows) (c.deref.ensures.0 ∙ pieces_are)) i) ((c.deref-2.ensures.0 ∙ pieces_are) i) (c.as_slice.ensures.value i)) in
+    let blocks = c.put_all.ensures.blocks ∙ c.in_ok-reserve_all.ensures.blocks in
     let fit : AllFitIn s.words ps bytes = fit_pieces s.words c.args.at (size_of w) bytes
     (subst (λ (n : ℕ). c.args.at + n ≤ 8 * s.words) c.size.ensures.value may.1)
     (omega (arith, c.size.ensures.value, c.size.ensures.most)) (subst AreBytes c.as_slice.ensures.value c.put_all.ensures.bytes) in
     rw c.come.ensures (record {
       asked = tt;
       sound = record {
-        bounds = sound.bounds;
+        bounds = subst (λ (n : ℕ). IsBounded s.words s.limits s.snapshot n s.arena) (sym (c.put_all.ensures.size ∙ c.in_ok-reserve_all.ensures.size)) sound.bounds;
         reached = sound.reached;
         in_phase = (
           λ o. (
             record {
               is_open = o;
               log = idle.0.log;
-              writes = subst (AllWritesWithin s.words) (sym rows) (AllWritesWithin-put_all s.words (reserved_all s.writes.rows ps) ps bytes (AllWritesWithin-reserved_all s.words s.writes.rows ps bytes idle.0.writes fit) fit);
-              rows = subst AreRows (sym rows) (AreRows-put_all s.words (reserved_all s.writes.rows ps) ps bytes (AreRows-reserved_all s.writes.rows ps idle.0.rows) fit);
-              unmarked = c.put_all.ensures.unmarked;
+              writes = subst (AllWritesWithin s.words) (sym rows) (AllWritesWithin-put_all s.words (reserved_all s.frames.writes.rows ps) ps bytes (AllWritesWithin-reserved_all s.words s.frames.writes.rows ps bytes idle.0.writes fit) fit);
+              rows = subst AreRows (sym rows) (AreRows-put_all s.words (reserved_all s.frames.writes.rows ps) ps bytes (AreRows-reserved_all s.frames.writes.rows ps idle.0.rows) fit);
+              frames = subst (AreFrames s.words) (sym blocks) idle.0.frames;
               tries = idle.0.tries;
             },
             idle.1,
           ),
-          λ o. (let yes = may.0 in absurd (cc)),
+          λ o. (let yes = ap is_inside blocks ∙ may.0 in absurd (cc)),
         );
       };
     })
@@ -70,25 +85,25 @@ returns-clause-proceeds c =
     let ps = pieces_of c.args.at size in
     let idle = c.requires.sound.in_phase.0 may.0 in
     let pieces_are : c.pieces-pieces.result.items ≡ ps = c.pieces-pieces.ensures.value ∙ ap (pieces_of c.args.at) c.size-2.ensures.value in
-    let rows : c.put_all.new.writes.rows ≡ put_all (reserved_all s.writes.rows ps) ps bytes =
-    c.put_all.ensures.rows ∙ (λ i. put_all ((c.in_ok-reserve_all.ensures.ok ∙ ap (reserved_all s.writes.rows) (c.deref.ensures.0 ∙ pieces_are)) i) ((c.deref-2.ensures.0 ∙ pieces_are) i) (c.as_slice.ensures.value i)) in
+    let rows : c.put_all.new.frames.writes.rows ≡ put_all (reserved_all s.frames.writes.rows ps) ps bytes =
+    c.put_all.ensures.rows ∙ (λ i. put_all ((c.in_ok-reserve_all.ensures.rows ∙ ap (reserved_all s.frames.writes.rows) (c.deref.ensures.0 ∙ pieces_are)) i) ((c.deref-2.ensures.0 ∙ pieces_are) i) (c.as_slice.ensures.value i)) in
+    let blocks = c.put_all.ensures.blocks ∙ c.in_ok-reserve_all.ensures.blocks in
     let within : c.args.at + size ≤ 8 * s.words = subst (λ (n : ℕ). c.args.at + n ≤ 8 * s.words) c.size.ensures.value may.1 in
     let some : 0 < length ps = some_pieces c.args.at size (some_bytes value.width) in
     let all = λ (m : List ℕ) (mem : IsMemory s.words m).
-    writes s.writes.rows (blocks_of s.block) s.arena m s.words c.args.hint value c.args.at may.0 mem c.put_all.new.writes.rows within
-    (ap is_some_row rows ∙ some_put (reserved_all s.writes.rows ps) ps bytes some)
+    writes s.frames.writes.rows s.frames.blocks s.arena m s.words c.args.hint value c.args.at may.0 mem c.put_all.new.frames.writes.rows within
+    (ap is_some_row rows ∙ some_put (reserved_all s.frames.writes.rows ps) ps bytes some)
     (ap (λ (xs : List Row). bytes_of (overlay m xs)) rows
-    ∙ bytes_of-put_all m s.writes.rows c.args.at size bytes mem.1 idle.0.rows (omega (arith, within, mem.0)) (omega (arith, c.size.ensures.value, c.size.ensures.most)) (subst AreBytes c.as_slice.ensures.value c.put_all.ensures.bytes) value.sized) in
+    ∙ bytes_of-put_all m s.frames.writes.rows c.args.at size bytes mem.1 idle.0.rows (omega (arith, within, mem.0)) (omega (arith, c.size.ensures.value, c.size.ensures.most)) (subst AreBytes c.as_slice.ensures.value c.put_all.ensures.bytes) value.sized) in
     rw c.come.ensures (record {
-      meets = λ m mem agrees. (all m mem).0;
+      meets = λ m mem agrees. ap (λ (bs : List Frame). state_over c.put_all.new.frames.writes.rows bs s.arena m) blocks ∙ (all m mem).0;
       reply_is = λ m mem agrees. (all m mem).1;
       stays = search rules;
       writes = rows;
       arena = refl;
       free = refl;
       unfreed = refl;
-      still = λ o. o;
-      opens = refl;
-      blocks = refl;
+      still = λ other o. ap is_inside blocks ∙ o;
+      blocks = blocks;
       settled = λ o. (idle.1, c.requires.sound.bounds.even);
     })

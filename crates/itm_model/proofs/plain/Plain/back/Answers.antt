@@ -3,7 +3,9 @@ use Rattle.itm_model.specs.declared.journal.Mark.{Mark}
 use Rattle.itm_model.specs.Undoable.{Undoable}
 use Rattle.itm_model.specs.Machine.{back}
 use Rattle.itm_model.specs.Undoing.{AreUnder}
-use Rattle.itm_model.proofs.JournalRollbacks.{under_last, back_is, state_of}
+use Rattle.itm_model.proofs.OpenBlocks.{under_last}
+use Rattle.itm_model.proofs.OpenBlocks.{back_is, state_of}
+use Rattle.itm_model.proofs.JournalRollbacks.{AreWithin-drop}
 use Rattle.itm_model.proofs.plain.Plain.back.Goals as goal
 
 pub returns-in-Some-clause-back : goal.returns-in-Some-clause-back
@@ -12,7 +14,8 @@ returns-in-Some-clause-back c =
     let mark = c.in-Some.mark in
     let rest = c.pop.new.self.items in
     let e : p.marks.items ≡ rest ++ mark ∷ [] = c.in-Some.ensures.items in
-    let under = under_last (length p.journal.items) rest mark (subst (λ (t : List Mark). AreUnder (length p.journal.items) (reverse t)) e c.self.invariant.under) in
-    back_is p.journal.items p.memory.items c.unwind.new.journal.items c.unwind.new.memory.items p.arena.items rest mark p.wrote c.unwind.ensures.memory c.unwind.ensures.restores under.1
-    ∙ (ap (λ (t : List Mark). back (state_of p.journal.items p.memory.items p.arena.items t p.wrote)) (sym e)
+    let under = under_last (length p.journal.items) (length p.logs.items) rest mark (subst (λ (t : List Mark). AreUnder (length p.journal.items) (length p.logs.items) (reverse t)) e c.self.invariant.under) in
+    back_is p.journal.items p.memory.items c.unwind.new.journal.items c.unwind.new.memory.items p.arena.items c.unwind-in-Some.new.memory.items p.logs.items c.unwind-in-Some.new.journal.items rest mark p.wrote
+    c.unwind.ensures.memory c.unwind.ensures.restores under.2 c.unwind-in-Some.ensures.memory c.unwind-in-Some.ensures.rest (AreWithin-drop (length p.arena.items) mark.logs p.logs.items c.self.invariant.logged)
+    ∙ (ap (λ (t : List Mark). back (state_of p.journal.items p.memory.items p.arena.items p.logs.items t p.wrote)) (sym e)
     ∙ ap (λ (u : Undoable). back u.state) c.self.view_is)

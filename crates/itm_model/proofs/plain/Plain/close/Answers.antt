@@ -2,8 +2,9 @@ use Rattle.std.proofs.Common.{◌≡◌, List, [], ◌∷◌, ◌++◌, length, 
 use Rattle.itm_model.specs.declared.journal.Mark.{Mark}
 use Rattle.itm_model.specs.Undoable.{Undoable}
 use Rattle.itm_model.specs.Machine.{closed}
-use Rattle.itm_model.specs.Undoing.{AreUnder, blocks_of}
-use Rattle.itm_model.proofs.JournalRollbacks.{under_last, AreUnder-more, closed_is, state_of}
+use Rattle.itm_model.specs.Undoing.{AreUnder}
+use Rattle.itm_model.proofs.OpenBlocks.{under_last, AreUnder-more}
+use Rattle.itm_model.proofs.OpenBlocks.{closed_is, state_of}
 use Rattle.itm_model.proofs.plain.Plain.close.Goals as goal
 
 pub returns-clause-closed : goal.returns-clause-closed
@@ -12,16 +13,18 @@ returns-clause-closed c =
     let mark = c.in-Some._closed in
     let rest = c.pop.new.self.items in
     let e : p.marks.items ≡ rest ++ mark ∷ [] = c.in-Some.ensures.items in
-    closed_is p.journal.items p.memory.items p.arena.items rest mark p.wrote
-    ∙ (ap (λ (t : List Mark). closed (state_of p.journal.items p.memory.items p.arena.items t p.wrote) (blocks_of p.journal.items p.memory.items t)) (sym e)
-    ∙ ap (λ (u : Undoable). closed u.state u.state.blocks) c.self.view_is)
+    let under = under_last (length p.journal.items) (length p.logs.items) rest mark (subst (λ (t : List Mark). AreUnder (length p.journal.items) (length p.logs.items) (reverse t)) e c.self.invariant.under) in
+    closed_is p.journal.items p.memory.items p.arena.items p.logs.items rest mark p.wrote under.1 under.2
+    ∙ (ap (λ (t : List Mark). closed (state_of p.journal.items p.memory.items p.arena.items p.logs.items t p.wrote)) (sym e)
+    ∙ ap (λ (u : Undoable). closed u.state) c.self.view_is)
 
 pub invariant_of-self-2 : goal.invariant_of-self-2
 invariant_of-self-2 c =
     let p = c.self.inside in
     let rest = c.pop.new.self.items in
-    let under = under_last (length p.journal.items) rest c.in-Some._closed (subst (λ (t : List Mark). AreUnder (length p.journal.items) (reverse t)) c.in-Some.ensures.items c.self.invariant.under) in
+    let under = under_last (length p.journal.items) (length p.logs.items) rest c.in-Some._closed (subst (λ (t : List Mark). AreUnder (length p.journal.items) (length p.logs.items) (reverse t)) c.in-Some.ensures.items c.self.invariant.under) in
     record {
       within = c.self.invariant.within;
-      under = AreUnder-more c.in-Some._closed.at (length p.journal.items) (reverse rest) under.0 under.1;
+      logged = c.self.invariant.logged;
+      under = AreUnder-more c.in-Some._closed.at (length p.journal.items) c.in-Some._closed.logs (length p.logs.items) (reverse rest) under.0 under.1 under.2;
     }

@@ -1,6 +1,9 @@
-use Rattle.std.proofs.Common.{ap, ◌∙◌}
-use Rattle.write_set.specs.Marks.{reserve}
-use Rattle.nest_frames.specs.Nest.{Nest}
+use Rattle.std.proofs.Common.{◌≡◌, ◌<◌, length, None, IsSome, ap, sym, subst, ◌∙◌}
+use Rattle.std.proofs.lemmas.Bool.{false≢true}
+use Rattle.write_set.specs.Marks.{reserve, IsNew}
+use Rattle.write_set.specs.Rows.{lookup}
+use Rattle.nest_frames.specs.Nest.{Nest, rows_of}
+use Rattle.nest_frames.proofs.NewRows.{IsNew-at_begin}
 use Rattle.nest_frames.proofs.OpenBlocks.{nest_written}
 use Rattle.nest_frames.proofs.frames.Frames.reserve.Goals as goal
 
@@ -9,3 +12,13 @@ returns-clause-ok c =
     let f = c.self.inside in
     nest_written f.writes c.reserve.new.self _ f.undo.olds f.undo.size f.moments.items c.self.invariant c.reserve.ensures.marks c.in_ok-reserve.ensures.ok
     ∙ ap (λ (v : Nest). record v { writes = reserve v.writes c.args.word }) c.self.view_is
+
+pub returns-in_err-reserve-clause-has_row : goal.returns-in_err-reserve-clause-has_row
+returns-in_err-reserve-clause-has_row c row none =
+    let f = c.self.inside in
+    let word = c.args.word in
+    let some = subst (λ (v : Nest). 0 < length v.blocks) (sym c.self.view_is) c.requires in
+    let here = subst (λ (v : Nest). IsSome (lookup word v.writes.rows)) (sym c.self.view_is) row in
+    let without = subst (λ (v : Nest). lookup word (rows_of v.blocks) ≡ None) (sym c.self.view_is) none in
+    let new : IsNew f.writes word = IsNew-at_begin f.writes f.undo.olds f.moments.items word c.self.invariant some without in
+    absurd (false≢true (c.in_err-reserve.ensures.has_row here new))

@@ -1,34 +1,33 @@
-use Rattle.norec_world.proofs.Common.{Attempt, Done, HasRow, Rows, active_of, with_ended}
+use Rattle.std.proofs.Common.{◌≡◌, Bool, true, length, refl, sym, ap, subst, ◌∙◌, ◌++◌, ◌∷◌, []}
+use Rattle.norec_world.proofs.Common.{Actor, Committed, Done, HasRow, IsAnswered, IsSettledBy, Outcome, depth_after, with_ended}
 use Rattle.norec_world.proofs.OthersAttempts.{others_ended}
-use Rattle.std.proofs.Common.{Bool, true, subst, ◌≡◌, ◌++◌, ◌∷◌, [], Some, refl, ap, ◌∙◌, if◌then◌else◌}
-use Rattle.norec_world.specs.declared.attempt.Outcome.TheVariants.{Committed, ReadOnly}
-use Rattle.norec_world.proofs.ActiveRows.{changed_here}
-use Rattle.norec_world.proofs.RecordedRows.{ended_changed}
-use Rattle.norec_world.proofs.PlayerLaws.{after_commit}
+use Rattle.norec_world.proofs.PlayerLaws.{after_close, deep_of}
+use Rattle.norec_world.specs.Sound.{IsDeep}
 use Rattle.norec_world.proofs.actor.Actor.committed.Goals as goal
 
 pub returns-clause-settled : goal.returns-clause-settled
 returns-clause-settled g c was d =
-    after_commit g.P.Player g.met.P.Player.laws c.args.recorded.now c.end.new.self c.args.self.now c.args.call
-    was c.args.at c.args.wrote d c.answer.new.self c.answer.ensures c.add.new.spare c.add.ensures.empty c.end.ensures.gone
+    let a = c.args.self.now in
+    let d' : IsAnswered g.P.Player true c.args.recorded.now a c.args.call (Committed c.args.at c.args.wrote) = subst (λ (b : Bool). IsAnswered g.P.Player b c.args.recorded.now a c.args.call (Committed c.args.at c.args.wrote)) d.fits.0 d in
+    let none : length a.engine.blocks ≡ 0 = subst (λ (b : Bool). IsDeep b (length a.engine.blocks)) d.fits.1 (deep_of a.engine.blocks) in
+    let fits : depth_after (g.P.Player.depth a.player) c.args.call Done ≡ length a.engine.blocks = (λ i. depth_after (d.fits.3 i) (d.fits.2 i) Done) ∙ sym none in
+    subst (λ (b : Bool). IsSettledBy g.P.Player b c.close.new.recorded a c.close.new.self) (sym d.fits.0)
+    (subst (IsSettledBy g.P.Player true c.close.new.recorded a) (sym c.close.ensures.actor)
+    (after_close g.P.Player g.met.P.Player.laws c.args.recorded.now c.close.new.recorded a c.args.call
+    d' Done d.fits.1 fits c.answer.new.self c.answer.ensures c.close.new.self.spare c.close.ensures.empty a.pending (d.in_call.inside d.fits.0) c.close.ensures.gone))
 
 pub returns-clause-records : goal.returns-clause-records
 returns-clause-records g c was d = (
-  λ row e.
-      (let a = c.args.self.now in
-      let f : Attempt → Attempt = λ x. record x { calls = x.calls ++ record { call = c.args.call; reply = Done } ∷ [] } in
-      let there : active_of a.thread c.add.new.self.active ≡ Some (f row) = ap (λ (x : Rows). active_of a.thread x.active) c.add.ensures.added ∙ changed_here a.thread f c.args.recorded.now.active row (λ x. refl) e in
-      c.end.ensures.ended (f row) there
-      ∙ ((λ i. with_ended a.thread (record (f row) { at = c.args.at; outcome = c.outcome_of.ensures i }) (c.add.ensures.added i))
-      ∙ ended_changed c.args.recorded.now a.thread f (record (f row) { at = c.args.at; outcome = if c.args.wrote then Committed else ReadOnly }) (λ x. refl))),
-  c.answer.ensures,
-  refl,
-  refl,
-  refl,
+  λ row e. c.close.ensures.ended row e
+      ∙ ap (λ (o : Outcome). with_ended c.args.self.now.thread (record row { calls = row.calls ++ record { call = c.args.call; reply = Done } ∷ []; at = c.args.at; outcome = o }) c.args.recorded.now) c.outcome_of.ensures,
+  ap (λ (x : Actor g.row.P.Denot). x.player) c.close.ensures.actor ∙ c.answer.ensures,
+  ap (λ (x : Actor g.row.P.Denot). x.again) c.close.ensures.actor,
+  ap (λ (x : Actor g.row.P.Denot). x.nth) c.close.ensures.actor,
+  ap (λ (x : Actor g.row.P.Denot). x.status) c.close.ensures.actor,
 )
 
 pub returns-clause-others : goal.returns-clause-others
 returns-clause-others g c was d =
     let a = c.args.self.now in
     let h : HasRow true c.args.recorded.now a.thread = subst (λ (b : Bool). HasRow b c.args.recorded.now a.thread) d.fits.0 d.kept.row in
-    others_ended a _ c.args.recorded.now c.end.new.self h.0 _ h.1 refl refl refl ((returns-clause-records g c was d).0 h.0 h.1)
+    others_ended a c.close.new.self c.args.recorded.now c.close.new.recorded h.0 _ h.1 refl (ap (λ (x : Actor g.row.P.Denot). x.thread) c.close.ensures.actor) (ap (λ (x : Actor g.row.P.Denot). x.pending) c.close.ensures.actor) (c.close.ensures.ended h.0 h.1)

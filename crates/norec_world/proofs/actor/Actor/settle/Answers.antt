@@ -1,6 +1,7 @@
 use Rattle.norec_world.proofs.OthersAttempts.{others_ended, retried_counts, retried_is}
-use Rattle.std.proofs.Common.{◌≡◌, ◌/◌, ap, ◌∙◌, refl, sym, subst, Bool, true, None}
-use Rattle.norec_world.proofs.Common.{Actor, AnswerFits, Busy, Conflict, Full, GaveUp, HasRow, IsSettledBy, Records, depth_if, in_transaction, whole, with_ended}
+use Rattle.norec_world.specs.Sound.{IsDeep}
+use Rattle.std.proofs.Common.{◌≡◌, ◌/◌, length, ap, ◌∙◌, refl, sym, subst, Bool, true, None}
+use Rattle.norec_world.proofs.Common.{Actor, AnswerFits, Busy, Conflict, Full, GaveUp, HasRow, IsSettledBy, Records, in_transaction, whole, with_ended}
 use Rattle.norec_world.specs.declared.attempt.Outcome.TheVariants as outcomes
 use Rattle.norec_world.proofs.PlayerLaws.{after_try, after_end}
 use Rattle.norec_world.proofs.actor.Actor.settle.Goals as goal
@@ -8,7 +9,7 @@ use Rattle.norec_world.proofs.actor.Actor.settle.Goals as goal
 pub returns-in-Conflict-clause-settled : goal.returns-in-Conflict-clause-settled
 returns-in-Conflict-clause-settled g c was d =
     let a = c.args.self.now in
-    let fits : AnswerFits was (in_transaction a.engine) c.args.call (Conflict c.in-Conflict.clock c.in-Conflict.word) = subst (AnswerFits was (in_transaction a.engine) c.args.call) c.in-Conflict.is d.fits in
+    let fits : AnswerFits was (g.P.Player.depth a.player) (in_transaction a.engine) (length a.engine.blocks) c.args.call (Conflict c.in-Conflict.clock c.in-Conflict.word) = subst (AnswerFits was (g.P.Player.depth a.player) (in_transaction a.engine) (length a.engine.blocks) c.args.call) c.in-Conflict.is d.fits in
     subst (IsSettledBy g.P.Player was c.end.new.self a) (sym c.retry.ensures)
     (after_try g.P.Player g.met.P.Player.laws c.args.recorded.now c.end.new.self a c.args.call
     was d a.pending (d.in_call.inside fits.0) c.restart.new.self
@@ -20,11 +21,11 @@ pub returns-in-Busy-clause-settled : goal.returns-in-Busy-clause-settled
 returns-in-Busy-clause-settled g c was d =
     let a = c.args.self.now in
     let r = c.args.recorded.now in
-    let fits : AnswerFits was (in_transaction a.engine) c.args.call (Busy c.in-Busy.clock) = subst (AnswerFits was (in_transaction a.engine) c.args.call) c.in-Busy.is d.fits in
+    let fits : AnswerFits was (g.P.Player.depth a.player) (in_transaction a.engine) (length a.engine.blocks) c.args.call (Busy c.in-Busy.clock) = subst (AnswerFits was (g.P.Player.depth a.player) (in_transaction a.engine) (length a.engine.blocks) c.args.call) c.in-Busy.is d.fits in
     subst (IsSettledBy g.P.Player was r a) (sym c.retry-in-Busy.ensures)
     (after_try g.P.Player g.met.P.Player.laws r r a c.args.call
     was d None refl a.player
-    (d.nested.depth_is ∙ ap depth_if fits.0)
+    (subst (λ (b : Bool). IsDeep b (g.P.Player.depth a.player)) fits.0 d.nested.deep)
     (sym (ap (λ (b : Bool). whole g.P.Player b a.player) fits.0))
     fits.1 (subst (λ (b : Bool). HasRow b r a.thread) fits.0 d.kept.row))
 
@@ -32,13 +33,13 @@ pub returns-in-Full-clause-settled : goal.returns-in-Full-clause-settled
 returns-in-Full-clause-settled g c was d =
     let a = c.args.self.now in
     after_end g.P.Player g.met.P.Player.laws c.args.recorded.now c.end-in-Full.new.self a c.args.call
-    was GaveUp a.player a.pending d.kept (subst (AnswerFits was (in_transaction a.engine) c.args.call) c.in-Full.is d.fits).1 c.end-in-Full.ensures.gone
+    was GaveUp a.player a.pending d.kept (subst (AnswerFits was (g.P.Player.depth a.player) (in_transaction a.engine) (length a.engine.blocks) c.args.call) c.in-Full.is d.fits).1 c.end-in-Full.ensures.gone
 
 pub returns-in-Conflict-clause-others : goal.returns-in-Conflict-clause-others
 returns-in-Conflict-clause-others g c was d =
     let a = c.args.self.now in
     let r = c.args.recorded.now in
-    let fits : AnswerFits was (in_transaction a.engine) c.args.call (Conflict c.in-Conflict.clock c.in-Conflict.word) = subst (AnswerFits was (in_transaction a.engine) c.args.call) c.in-Conflict.is d.fits in
+    let fits : AnswerFits was (g.P.Player.depth a.player) (in_transaction a.engine) (length a.engine.blocks) c.args.call (Conflict c.in-Conflict.clock c.in-Conflict.word) = subst (AnswerFits was (g.P.Player.depth a.player) (in_transaction a.engine) (length a.engine.blocks) c.args.call) c.in-Conflict.is d.fits in
     let h : HasRow true r a.thread = subst (λ (b : Bool). HasRow b r a.thread) fits.0 d.kept.row in
     others_ended a c.retry.new.self r c.end.new.self h.0 _ h.1 refl (retried_is (λ (x : _). x.thread) c.retry.ensures refl refl) (retried_is (λ (x : _). x.pending) c.retry.ensures refl refl) (c.end.ensures.ended h.0 h.1)
 
@@ -46,7 +47,7 @@ pub returns-in-Full-clause-others : goal.returns-in-Full-clause-others
 returns-in-Full-clause-others g c was d =
     let a = c.args.self.now in
     let r = c.args.recorded.now in
-    let fits : AnswerFits was (in_transaction a.engine) c.args.call (Full c.in-Full.at) = subst (AnswerFits was (in_transaction a.engine) c.args.call) c.in-Full.is d.fits in
+    let fits : AnswerFits was (g.P.Player.depth a.player) (in_transaction a.engine) (length a.engine.blocks) c.args.call (Full c.in-Full.at) = subst (AnswerFits was (g.P.Player.depth a.player) (in_transaction a.engine) (length a.engine.blocks) c.args.call) c.in-Full.is d.fits in
     let h : HasRow true r a.thread = subst (λ (b : Bool). HasRow b r a.thread) fits.0 d.kept.row in
     others_ended a _ r c.end-in-Full.new.self h.0 _ h.1 refl refl refl (c.end-in-Full.ensures.ended h.0 h.1)
 

@@ -1,0 +1,18 @@
+use Rattle.std.proofs.Common.{◌≡◌, ◌+◌, ◌≤◌, ℕ, length, reverse, ap, ◌∙◌, rules}
+use Rattle.itm_model.specs.Undoable.{Undoable}
+use Rattle.itm_model.specs.Machine.{saved_in_arena}
+use Rattle.itm_model.proofs.JournalRollbacks.{length-with_slice}
+use Rattle.itm_model.proofs.OpenBlocks.{blocks_long}
+use Rattle.itm_model.proofs.plain.Plain.save.Goals as goal
+
+pub returns-clause-ok : goal.returns-clause-ok
+returns-clause-ok c =
+    let p = c.self.inside in
+    let new = c.args.value.now.bytes.items in
+    let a = p.arena.items in
+    let view = c.self.view_is in
+    let fits : c.args.place + length new ≤ length a = search rules in
+    let long : length c.replace.new.bytes.items ≡ length a = ap (length {A = ℕ}) c.replace.ensures ∙ length-with_slice a c.args.place new fits in
+    let blocks = blocks_long p.journal.items p.memory.items a c.replace.new.bytes.items p.logs.items (reverse p.marks.items) long in
+    (λ i. record { memory = p.memory.items; arena = c.replace.ensures i; blocks = blocks i; wrote = p.wrote })
+    ∙ ap (λ (u : Undoable). saved_in_arena u.state c.args.place new) c.self.view_is

@@ -1,0 +1,119 @@
+//! Why a call is refused.
+
+ghost use Rattle.std.specs.Prelude.{◌≡◌, nat_lt, length};
+ghost use Rattle.itm_types.specs.Access.{size_of};
+ghost use Rattle.itm_model.specs.Machine.{abort_for, in_arena, in_shared, keeps_any, keeps_innermost, needs_open, ranges, refusal, standing, unless};
+
+use super::Plain;
+use crate::bytes::is_in_range;
+use itm_types::{Call, MAX_OPEN_BLOCKS, Refusal, Width};
+
+impl Plain {
+    /// Why the call is refused, if it is.
+    pub(super) fn refusal(&self, call: &Call) -> Option<Refusal>
+        ensures { result ≡ refusal MAX_OPEN_BLOCKS self.now.state call.now }
+    {
+        self.standing(call).or(self.ranges(call))
+    }
+
+    /// Why no such call is served with these blocks open, if it is not.
+    fn standing(&self, call: &Call) -> Option<Refusal>
+        ensures { result ≡ standing MAX_OPEN_BLOCKS self.now.state call.now }
+    {
+        match call {
+            Call::Begin { .. } => self.too_deep(),
+            Call::InTransaction | Call::Load { .. } | Call::Save { .. } => None,
+            Call::Abort { outer } => self.outside().or(self.no_abort(*outer)),
+            Call::Commit
+            | Call::Read { .. }
+            | Call::Write { .. }
+            | Call::Log { .. }
+            | Call::LogBytes { .. } => self.outside(),
+        }
+    }
+
+    /// Why the call's bytes are not to be had, if they are not.
+    fn ranges(&self, call: &Call) -> Option<Refusal>
+        ensures { result ≡ ranges self.now.state call.now }
+    {
+        match call {
+            Call::Read { width, at, .. } => self.out_of_range(*at, *width),
+            Call::Write { at, value, .. } => self.out_of_range(*at, value.width),
+            Call::Log { width, at } => self.out_of_arena(*at, u64::from(width.size())),
+            Call::LogBytes { at, size } => self.out_of_arena(*at, *size),
+            Call::Load { width, at } => self.out_of_arena(*at, u64::from(width.size())),
+            Call::Save { at, value } => self.out_of_arena(*at, u64::from(value.width.size())),
+            Call::Begin { .. } | Call::Commit | Call::Abort { .. } | Call::InTransaction => None,
+        }
+    }
+
+    /// One more block is too many.
+    fn too_deep(&self) -> Option<Refusal>
+        ensures { result ≡ unless (nat_lt (length self.now.state.blocks) MAX_OPEN_BLOCKS) Refusal.TooDeep }
+    {
+        if self.depth() < MAX_OPEN_BLOCKS {
+            None
+        } else {
+            Some(Refusal::TooDeep)
+        }
+    }
+
+    /// No transaction is open.
+    fn outside(&self) -> Option<Refusal>
+        ensures { result ≡ needs_open self.now.state }
+    {
+        if self.depth() == 0 {
+            Some(Refusal::Outside)
+        } else {
+            None
+        }
+    }
+
+    /// An abort would cancel a block that is not to be cancelled.
+    fn no_abort(&self, outer: bool) -> Option<Refusal>
+        ensures { result ≡ abort_for self.now.state outer }
+    {
+        let keeps = if outer {
+            self.keeps_any()
+        } else {
+            self.keeps_innermost()
+        };
+        if keeps { Some(Refusal::NoAbort) } else { None }
+    }
+
+    /// Whether an open block is not to be cancelled.
+    fn keeps_any(&self) -> bool
+        ensures { result ≡ keeps_any self.now.state.blocks }
+    {
+        self.marks.iter().any(|mark| mark.props.no_abort)
+    }
+
+    /// Whether the innermost block is not to be cancelled.
+    fn keeps_innermost(&self) -> bool
+        ensures { result ≡ keeps_innermost self.now.state.blocks }
+    {
+        self.marks.last().is_some_and(|mark| mark.props.no_abort)
+    }
+
+    /// An access leaves the memory.
+    fn out_of_range(&self, place: u64, width: Width) -> Option<Refusal>
+        ensures { result ≡ in_shared self.now.state place (size_of width) }
+    {
+        if is_in_range(&self.memory, place, u64::from(width.size())) {
+            None
+        } else {
+            Some(Refusal::OutOfRange)
+        }
+    }
+
+    /// So many bytes leave the arena.
+    fn out_of_arena(&self, place: u64, size: u64) -> Option<Refusal>
+        ensures { result ≡ in_arena self.now.state place size }
+    {
+        if is_in_range(&self.arena, place, size) {
+            None
+        } else {
+            Some(Refusal::OutOfArena)
+        }
+    }
+}

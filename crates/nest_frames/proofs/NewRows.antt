@@ -1,0 +1,63 @@
+-- Words of which the innermost block's begin had no row.
+use Rattle.std.proofs.Common.{◌≡◌, ◌<◌, ◌≤◌, ℕ, ◌==◌, List, [], ◌∷◌, length, take, drop, reverse, None, refl, sym, ap, subst, ◌∙◌, inl, inr, arith}
+use Rattle.std.proofs.lemmas.Bool.{eqb-true, cases_Bool, cond-true, cond-false}
+use Rattle.std.proofs.lemmas.List.{length-reverse, length-take-le}
+use Rattle.undo_log.specs.Rollback.{Old}
+use Rattle.write_set.specs.declared.mark.Place.{Place}
+use Rattle.write_set.specs.declared.row.Row.{Row}
+use Rattle.write_set.specs.Rows.{lookup, replaced}
+use Rattle.write_set.specs.Marks.{Written, AreMarks, IsNew, put_back}
+use Rattle.write_set.proofs.Overlays.{lookup_here, lookup_there}
+use Rattle.write_set.proofs.PutBack.{length-put_back, take-put_back}
+use Rattle.nest_frames.specs.declared.frames.Moment.{Moment}
+use Rattle.nest_frames.specs.Nest.{rows_of}
+use Rattle.nest_frames.specs.Moments.{frames_from, frames_of, AreUnder, IsSound}
+
+-- a row in the place of its word's leaves no word without one
+lookup-replaced_none : (rows : List Row) (s : Row) (word : ℕ) → lookup word (replaced rows s) ≡ None → lookup word rows ≡ None
+lookup-replaced_none [] s word n = refl
+lookup-replaced_none (r ∷ rs) s word n = elim (cases_Bool (r.word == s.word)) [
+  | inl e ↦ (
+      let as_put : lookup word (s ∷ rs) ≡ None = ap (lookup word) (sym (cond-true (r.word == s.word) (s ∷ rs) (r ∷ replaced rs s) e)) ∙ n in
+      elim (cases_Bool (s.word == word)) [
+        | inl h ↦ (let found = lookup_here s rs word h in absurd (cc))
+        | inr h ↦ lookup_there r rs word (ap (λ w. w == word) (eqb-true r.word s.word e) ∙ h) ∙ (sym (lookup_there s rs word h) ∙ as_put)
+      ])
+  | inr e ↦ (
+      let as_put : lookup word (r ∷ replaced rs s) ≡ None = ap (lookup word) (sym (cond-false (r.word == s.word) (s ∷ rs) (r ∷ replaced rs s) e)) ∙ n in
+      elim (cases_Bool (r.word == word)) [
+        | inl h ↦ (let found = lookup_here r (replaced rs s) word h in absurd (cc))
+        | inr h ↦ lookup_there r rs word h ∙ lookup-replaced_none rs s word (sym (lookup_there r (replaced rs s) word h) ∙ as_put)
+      ])
+]
+
+lookup-put_back_none : (saves rows : List Row) (word : ℕ) → lookup word (put_back saves rows) ≡ None → lookup word rows ≡ None
+lookup-put_back_none [] rows word n = n
+lookup-put_back_none (s ∷ saves) rows word n = lookup-put_back_none saves rows word (lookup-replaced_none (put_back saves rows) s word n)
+
+IsNew-from : (w : Written) (os : List Old) (logs : ℕ) (ms : List Moment) (word : ℕ) → AreUnder w.inner logs ms → 0 < length (frames_from w os ms)
+    → lookup word (rows_of (frames_from w os ms)) ≡ None → IsNew w word
+IsNew-from w os logs [] word u some none = absurd (omega (arith, some))
+IsNew-from w os logs (m ∷ ms) word u some none =
+    let saves = drop m.rows.here.saves w.saves in
+    let before = lookup-put_back_none saves (take m.rows.here.rows w.rows) word (ap (lookup word) (sym (take-put_back m.rows.here.rows saves w.rows)) ∙ none) in
+    subst (λ (p : Place). lookup word (take p.rows w.rows) ≡ None) u.0 before
+
+-- such a word is new
+pub IsNew-at_begin : (w : Written) (os : List Old) (ms : List Moment) (word : ℕ) → IsSound w os ms → 0 < length (frames_of w os ms)
+    → lookup word (rows_of (frames_of w os ms)) ≡ None → IsNew w word
+IsNew-at_begin w os ms word s some none = IsNew-from w os (length os) (reverse ms) word s.under some none
+
+begun_from : (w : Written) (os : List Old) (logs : ℕ) (ms : List Moment) → AreUnder w.inner logs ms → AreMarks w → 0 < length ms
+    → w.inner.rows ≡ length (rows_of (frames_from w os ms))
+begun_from w os logs [] u a some = absurd (omega (arith, some))
+begun_from w os logs (m ∷ ms) u a some =
+    let saved = put_back (drop m.rows.here.saves w.saves) w.rows in
+    let here : m.rows.here.rows ≡ w.inner.rows = ap (λ (p : Place). p.rows) u.0 in
+    let within : m.rows.here.rows ≤ length saved = omega (arith, here, a.inner.rows, length-put_back (drop m.rows.here.saves w.saves) w.rows) in
+    sym here ∙ sym (length-take-le m.rows.here.rows saved within)
+
+-- the innermost mark is where the innermost block began
+pub inner-at_begin : (w : Written) (os : List Old) (ms : List Moment) → IsSound w os ms → AreMarks w → w.inner.rows ≡ length (rows_of (frames_of w os ms))
+inner-at_begin w os [] s a = ap (λ (v : Written). v.inner.rows) s.empty.0
+inner-at_begin w os (m ∷ ms) s a = begun_from w os (length os) (reverse (m ∷ ms)) s.under a (omega (arith, length-reverse (m ∷ ms)))

@@ -1,0 +1,161 @@
+-- Cancels of open blocks, as replies.
+use Rattle.std.proofs.Common.{◌≡◌, ℕ, Bool, true, false, not, List, [], ◌∷◌, length, drop, None, refl, sym, ap, subst, ◌∙◌, if◌then◌else◌}
+use Rattle.itm_types.specs.declared.call.Call.TheVariants.{Abort}
+use Rattle.itm_types.specs.declared.call.Refusal.TheVariants.{Outside, NoAbort}
+use Rattle.itm_types.specs.declared.call.Reply.TheVariants.{Code, Refused}
+use Rattle.itm_types.specs.declared.limits.TheConstants.{MAX_OPEN_BLOCKS}
+use Rattle.itm_types.specs.Kept.{restored}
+use Rattle.itm_types.specs.Memory.{bytes_of}
+use Rattle.undo_log.specs.Rollback.{put_back, kept_of}
+use Rattle.write_set.specs.declared.row.Row.{Row}
+use Rattle.write_set.specs.Rows.{overlay}
+use Rattle.nest_frames.specs.Nest.{Frame, Nest, log_of, rows_of, is_kept, arena_back, arena_restored}
+use Rattle.itm_model.specs.State.{State}
+use Rattle.itm_model.specs.Machine.{unless, or_else, refusal, effect, answer, after, after_unless, reply, reply_unless, back}
+use Rattle.norec_engine.specs.declared.data.Data.{Data}
+use Rattle.norec_engine.specs.declared.phase.Phase.TheVariants.{Idle}
+use Rattle.norec_engine.specs.Core.{Core, came, ended, is_inside, is_outermost}
+use Rattle.norec_engine.specs.Fields.{core, in_block, AreFrames, IsEnded, IsSound}
+use Rattle.norec_engine.specs.Proceeds.{Replies}
+use Rattle.norec_engine.specs.Stands.{is_some_row, blocks_over, state_over}
+use Rattle.norec_engine.proofs.Blocks.{blocks_over-same, kept_over}
+use Rattle.norec_engine.proofs.Ended.{core_ended, undone_over}
+use Rattle.norec_engine.proofs.Machines.{open_is, refuses}
+use Rattle.norec_engine.proofs.Refusals.{stands, denied}
+
+-- the engine as a call comes
+abbrev pub come : Data → Data
+come d = record d { spent = 0; entry = length d.log.rows }
+
+-- why a cancel is refused where a block is open
+refusal_is : (d : Data) (outer keeps : Bool) (m : List ℕ) → in_block d ≡ true → is_kept d.frames.blocks outer ≡ keeps
+    → refusal MAX_OPEN_BLOCKS (stands d m) (Abort outer) ≡ or_else (unless (not keeps) NoAbort) None
+refusal_is d outer keeps m o k =
+    let is_open = open_is d.frames.writes.rows d.frames.blocks d.arena m ∙ o in
+    let kept = sym (kept_over d.frames.blocks d.arena m outer) ∙ k in
+    (λ i. or_else (or_else (unless (is_open i) Outside) (unless (not (kept i)) NoAbort)) None)
+
+refused_as_kept : (d : Data) (outer : Bool) → IsSound d Idle → in_block d ≡ true → is_kept d.frames.blocks outer ≡ true
+    → Replies (came (core d Idle) (Abort outer) false) (Abort outer) (Refused NoAbort) (core (come d) Idle)
+refused_as_kept d outer s o k = denied d (Abort outer) NoAbort s (λ m mem. refuses (stands d m) (Abort outer) NoAbort (refusal_is d outer true m o k))
+
+pub kept_replies : (d new : Data) (outer : Bool) → new ≡ come d → IsSound d Idle → in_block new ≡ true → is_kept new.frames.blocks outer ≡ true
+    → Replies (came (core d Idle) (Abort outer) false) (Abort outer) (Refused NoAbort) (core new Idle)
+kept_replies d new outer is s o k =
+    subst (λ (x : Data). in_block x ≡ true → is_kept x.frames.blocks outer ≡ true → Replies (came (core d Idle) (Abort outer) false) (Abort outer) (Refused NoAbort) (core x Idle)) (sym is)
+    (refused_as_kept d outer s) o k
+
+-- of one that is accepted
+cancels : (d : Data) (outer : Bool) (m : List ℕ) (new : State) → in_block d ≡ true → is_kept d.frames.blocks outer ≡ false
+    → new ≡ effect (stands d m) (Abort outer) → new ≡ after MAX_OPEN_BLOCKS (stands d m) (Abort outer)
+cancels d outer m new o k e = e ∙ sym (ap (λ r. after_unless r (stands d m) (effect (stands d m) (Abort outer))) (refusal_is d outer false m o k))
+
+told : (d : Data) (outer : Bool) (m : List ℕ) → in_block d ≡ true → is_kept d.frames.blocks outer ≡ false → Code 24 ≡ reply MAX_OPEN_BLOCKS (stands d m) (Abort outer)
+told d outer m o k = sym (ap (λ r. reply_unless r (answer (stands d m) (Abort outer))) (refusal_is d outer false m o k))
+
+-- ## The innermost block, within others
+
+pub record IsCancelled (old : Data) (frames : Nest) (arena : List ℕ) : Type 0 where
+  pub is_open : in_block old ≡ true
+  pub inner : is_outermost old.frames.blocks ≡ false
+  pub may : is_kept old.frames.blocks false ≡ false
+  pub blocks : frames.blocks ≡ drop 1 old.frames.blocks
+  pub rows : frames.writes.rows ≡ rows_of old.frames.blocks
+  pub size : length arena ≡ length old.arena
+  pub left : arena ≡ put_back (log_of old.frames.blocks) old.arena
+  pub restored : arena ≡ restored (kept_of old.arena (log_of old.frames.blocks)) old.arena
+
+back_is : (rows : List Row) (blocks : List Frame) (arena m : List ℕ) (rows' : List Row) (blocks' : List Frame) (arena' : List ℕ) → is_inside blocks ≡ true
+    → rows' ≡ rows_of blocks → blocks' ≡ drop 1 blocks → length arena' ≡ length arena → arena' ≡ restored (kept_of arena (log_of blocks)) arena
+    → state_over rows' blocks' arena' m ≡ back (state_over rows blocks arena m)
+back_is rows [] arena m rows' blocks' arena' o r b l a = absurd (cc)
+back_is rows (f ∷ fs) arena m rows' blocks' arena' o r b l a =
+    let rest = ap (λ (x : List Frame). blocks_over x arena' m) b ∙ blocks_over-same fs arena' arena m l in
+    (λ i. record { memory = bytes_of (overlay m (r i)); arena = a i; blocks = rest i; wrote = is_some_row (r i) })
+
+cancel_replies : (d : Data) (frames : Nest) (arena : List ℕ) → IsSound d Idle → IsCancelled (come d) frames arena
+    → Replies (came (core d Idle) (Abort false) false) (Abort false) (Code 24) (core (record (come d) { frames = frames; arena = arena }) Idle)
+cancel_replies d frames arena s e = record {
+  meets = λ m mem agrees. cancels d false m (state_over frames.writes.rows frames.blocks arena m) e.is_open e.may
+      (back_is d.frames.writes.rows d.frames.blocks d.arena m frames.writes.rows frames.blocks arena e.is_open e.rows e.blocks e.size e.restored);
+  reply_is = λ m mem agrees. told d false m e.is_open e.may;
+  stays = refl;
+  writes = e.rows;
+  arena = e.left;
+  free = refl;
+  unfreed = refl;
+  blocks = e.blocks;
+  still = λ other o. absurd (cc);
+  settled = λ o. ((s.in_phase.0 e.is_open).1, s.bounds.even);
+}
+
+pub cancelled_replies : (d new : Data) (frames : Nest) (arena : List ℕ) (outer : Bool) → new ≡ come d → outer ≡ false → IsSound d Idle → IsCancelled new frames arena
+    → Replies (came (core d Idle) (Abort outer) false) (Abort outer) (Code 24) (core (record new { frames = frames; arena = arena }) Idle)
+cancelled_replies d new frames arena outer is inner s e =
+    subst (λ (o : Bool). Replies (came (core d Idle) (Abort o) false) (Abort o) (Code 24) (core (record new { frames = frames; arena = arena }) Idle)) (sym inner)
+    (subst (λ (x : Data). IsCancelled x frames arena → Replies (came (core d Idle) (Abort false) false) (Abort false) (Code 24) (core (record x { frames = frames; arena = arena }) Idle))
+    (sym is) (cancel_replies d frames arena s) e)
+
+-- ## Every block
+
+pub record IsUndoneBy (old : Data) (outer : Bool) (new : Data) : Type 0 where
+  pub is_open : in_block old ≡ true
+  pub all : outer ≡ false → is_outermost old.frames.blocks ≡ true
+  pub may : is_kept old.frames.blocks outer ≡ false
+  pub ended : IsEnded old (arena_back old.frames.blocks old.arena) new
+  pub restored : arena_back old.frames.blocks old.arena ≡ arena_restored old.frames.blocks old.arena
+
+-- one block is all of them
+undone_is : (outer : Bool) (words : ℕ) (rows : List Row) (blocks : List Frame) (arena m : List ℕ) → AreFrames words blocks → is_inside blocks ≡ true → (outer ≡ false → is_outermost blocks ≡ true)
+    → arena_back blocks arena ≡ arena_restored blocks arena
+    → state_over [] [] (arena_back blocks arena) m ≡ effect (state_over rows blocks arena m) (Abort outer)
+undone_is true words rows blocks arena m f o all same =
+    ap (λ (a : List ℕ). state_over [] [] a m) same ∙ sym (undone_over words blocks arena arena m (bytes_of (overlay m rows)) (is_some_row rows) f o refl)
+undone_is false words rows [] arena m f o all same = absurd (cc)
+undone_is false words rows (b ∷ []) arena m f o all same =
+    ap (λ (a : List ℕ). state_over [] [] a m) same ∙ sym (undone_over words (b ∷ []) arena arena m (bytes_of (overlay m rows)) (is_some_row rows) f o refl)
+undone_is false words rows (b ∷ p ∷ bs) arena m f o all same = (let one = all refl in absurd (cc))
+
+rows_gone : (outer : Bool) (words : ℕ) (blocks : List Frame) → AreFrames words blocks → (outer ≡ false → is_outermost blocks ≡ true) → [] ≡ (if outer then [] else rows_of blocks)
+rows_gone true words blocks f all = refl
+rows_gone false words [] f all = refl
+rows_gone false words (b ∷ []) f all = sym f
+rows_gone false words (b ∷ p ∷ bs) f all = (let one = all refl in absurd (cc))
+
+arena_gone : (outer : Bool) (blocks : List Frame) (arena : List ℕ) → (outer ≡ false → is_outermost blocks ≡ true)
+    → arena_back blocks arena ≡ (if outer then arena_back blocks arena else put_back (log_of blocks) arena)
+arena_gone true blocks arena all = refl
+arena_gone false [] arena all = refl
+arena_gone false (b ∷ []) arena all = refl
+arena_gone false (b ∷ p ∷ bs) arena all = (let one = all refl in absurd (cc))
+
+blocks_gone : (outer : Bool) (blocks : List Frame) → (outer ≡ false → is_outermost blocks ≡ true) → [] ≡ (if outer then [] else drop 1 blocks)
+blocks_gone true blocks all = refl
+blocks_gone false [] all = refl
+blocks_gone false (b ∷ []) all = refl
+blocks_gone false (b ∷ p ∷ bs) all = (let one = all refl in absurd (cc))
+
+undone_replies : (d : Data) (outer : Bool) (new : Data) → IsSound d Idle → IsUndoneBy (come d) outer new
+    → Replies (came (core d Idle) (Abort outer) false) (Abort outer) (Code 24) (core new Idle)
+undone_replies d outer new s e =
+    let blocks = d.frames.blocks in
+    let is_open = (s.in_phase.0 e.is_open).0 in
+    let over : Core = record (ended (core (come d) Idle)) { tries = 0; arena = arena_back blocks d.arena } in
+    subst (λ (c : Core). Replies (came (core d Idle) (Abort outer) false) (Abort outer) (Code 24) c) (sym (core_ended (come d) new (arena_back blocks d.arena) e.ended)) (record {
+      meets = λ m mem agrees. cancels d outer m (state_over [] [] (arena_back blocks d.arena) m) e.is_open e.may
+          (undone_is outer d.words d.frames.writes.rows blocks d.arena m is_open.frames e.is_open e.all e.restored);
+      reply_is = λ m mem agrees. told d outer m e.is_open e.may;
+      stays = refl;
+      writes = rows_gone outer d.words blocks is_open.frames e.all;
+      arena = arena_gone outer blocks d.arena e.all;
+      free = refl;
+      unfreed = refl;
+      blocks = blocks_gone outer blocks e.all;
+      still = λ other o. absurd (cc);
+      settled = λ o. absurd (cc);
+    })
+
+pub all_replies : (d old : Data) (outer : Bool) (new : Data) → old ≡ come d → IsSound d Idle → IsUndoneBy old outer new
+    → Replies (came (core d Idle) (Abort outer) false) (Abort outer) (Code 24) (core new Idle)
+all_replies d old outer new is s e =
+    subst (λ (x : Data). IsUndoneBy x outer new → Replies (came (core d Idle) (Abort outer) false) (Abort outer) (Code 24) (core new Idle)) (sym is) (undone_replies d outer new s) e

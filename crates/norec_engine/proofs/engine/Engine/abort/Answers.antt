@@ -1,0 +1,21 @@
+use Rattle.std.proofs.Common.{Bool, sym, ap, ◌∙◌, if◌then◌else◌}
+use Rattle.norec_engine.specs.declared.answer.Undone.TheVariants.{Nothing, Done}
+use Rattle.norec_engine.proofs.Ended.{is_free, after_left, undone_of_left, told_left}
+use Rattle.norec_engine.proofs.engine.Engine.abort.Goals.{then-was_open, else-was_open}
+use Rattle.norec_engine.proofs.engine.Engine.abort.Goals as goal
+
+pub returns-after-was_open : goal.returns-after-was_open
+returns-after-was_open c =
+    let s = c.self.inside.state in
+    let phase = c.self.inside.phase in
+    let new = c.roll_back.new.state in
+    let free = is_free phase c.in_default.not-BackLoad c.in_default.not-Store c.in_default.not-Free in
+    rw (← c.self.view_is) (record {
+      undone =
+          (elim c.if-was_open.branch [
+            | then-was_open w ↦ w.result-is ∙ ap (λ (b : Bool). if b then Done else Nothing) (sym w.if-was_open.true ∙ c.is_open-was_open.ensures)
+            | else-was_open w ↦ w.result-is ∙ ap (λ (b : Bool). if b then Done else Nothing) (sym w.if-was_open.false ∙ c.is_open-was_open.ensures)
+          ]) ∙ sym (told_left s phase free);
+      after = after_left s new phase free c.roll_back.ensures.ended;
+      rolled_back = λ holds. undone_of_left s new phase c.self.invariant.in_phase free c.roll_back.ensures.ended c.roll_back.ensures.restored;
+    })

@@ -1,0 +1,21 @@
+use Rattle.std.proofs.Common.{arith, refl}
+use Rattle.norec_engine.specs.declared.phase.Phase.TheVariants.{Idle}
+use Rattle.norec_engine.specs.Fields.{core, between}
+use Rattle.norec_engine.proofs.Ended.{core_ended, ended_undone}
+use Rattle.norec_engine.proofs.rounds.try_round.Goals as goal
+
+pub returns-else-state-clause-proceeds : goal.returns-else-state-clause-proceeds
+returns-else-state-clause-proceeds c =
+    let s = c.args.state.now in
+    let may = c.requires.may in
+    let ended = core_ended _ _ _ c.roll_back.ensures.ended in
+    record {
+      is_open = may.is_open.is_open;
+      clock_is = c.roll_back.ensures.ended.clock;
+      later = omega (arith, may.later, c.roll_back.ensures.ended.clock);
+      word_is = refl;
+      free = refl;
+      unfreed = refl;
+      stays = ended;
+      undone = ended_undone (between s c.args.aim) (core c.roll_back.new.state Idle) Idle 0 s.snapshot may.is_open.frames c.roll_back.ensures.restored may.is_open.is_open ended;
+    }

@@ -1,0 +1,35 @@
+//! Blocks that are cancelled.
+
+ghost use Rattle.std.specs.Prelude.{◌≡◌, None, false};
+ghost use Rattle.norec_engine.specs.Fields.{core, core_after, phase_after, IsSound, IsSoundTurn, Turns, TurnEndsSo, Stays};
+ghost use Rattle.norec_engine.specs.Core.{came};
+
+use crate::answer::Answer;
+use crate::data::{Data, roll_back};
+use crate::phase::{Phase, Turn};
+use itm_types::{CANCELLED, Call, Refusal, Reply};
+
+/// The innermost block, or with `outer` all of them, are to be cancelled.
+pub(crate) fn abort(state: &mut Data, outer: bool) -> Turn
+    requires sound { IsSound state.old Phase.Idle }
+    ensures sound { IsSoundTurn result state.new }
+    ensures proceeds { Turns (came (core state.old Phase.Idle) (Call.Abort outer) false) result state.new }
+    ensures stays { Stays state.old state.new }
+    ensures order { phase_after result ≡ Phase.Idle }
+    ensures ends { TurnEndsSo None result }
+    ensures tries { (core_after result state.new).tries ≡ 0 }
+{
+    state.come();
+    if !state.is_open() {
+        return Turn::End(Answer::Reply(Reply::Refused(Refusal::Outside)));
+    }
+    if state.frames.is_kept(outer) {
+        return Turn::End(Answer::Reply(Reply::Refused(Refusal::NoAbort)));
+    }
+    if outer || state.is_outermost() {
+        roll_back(state);
+    } else {
+        state.frames.cancel(&mut state.arena);
+    }
+    Turn::End(Answer::Reply(Reply::Code(CANCELLED)))
+}
