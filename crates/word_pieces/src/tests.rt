@@ -1,4 +1,4 @@
-use crate::{merge, piece_at, pieces};
+use crate::{Chunk, Chunks, Direction, merge, piece_at, pieces};
 use itm_types::Value;
 use std::process::Abort;
 use std::test::Fail;
@@ -142,4 +142,65 @@ fn masks_that_have_a_piece(rt: HostRuntime) -> Result<(), Fail> {
     assert!(rt; !piece.is_within(0));
     assert_eq!(rt; piece_at(3, 2, 1), None);
     Ok(())
+}
+
+/// The chunks of a range, from both its ends, beside those of a plain loop.
+fn chunks_of(rt: &impl Abort, size: u32) {
+    let up = Chunks::new(size, Direction::Up);
+    let down = Chunks::new(size, Direction::Down);
+    let mut taken = 0_u64;
+    let mut count = 0_u32;
+    for number in 0..6 {
+        let left = u64::from(size).saturating_sub(taken);
+        if left == 0 {
+            assert_eq!(rt; up.get(number), None, "{size} bytes");
+            assert_eq!(rt; down.get(number), None, "{size} bytes");
+        } else {
+            let width = left.min(32);
+            let size_of = width as u8;
+            assert_eq!(rt;
+                up.get(number),
+                Some(Chunk {
+                    at: taken,
+                    size: size_of
+                }),
+                "{size} bytes"
+            );
+            assert_eq!(rt;
+                down.get(number),
+                Some(Chunk {
+                    at: left - width,
+                    size: size_of
+                }),
+                "{size} bytes"
+            );
+            taken = taken.saturating_add(width);
+            count = count.saturating_add(1);
+        }
+    }
+    assert_eq!(rt; taken, u64::from(size));
+    assert_eq!(rt; up.len(), count);
+    assert_eq!(rt; down.len(), count);
+}
+
+#[test]
+fn chunks_of_every_size(rt: HostRuntime) {
+    for size in 0..101 {
+        chunks_of(&rt, size);
+    }
+}
+
+#[test]
+fn chunks_of_a_whole_memory(rt: HostRuntime) {
+    let down = Chunks::new(65_536, Direction::Down);
+    assert_eq!(rt; down.len(), 2_048);
+    assert_eq!(rt;
+        down.get(0),
+        Some(Chunk {
+            at: 65_504,
+            size: 32
+        })
+    );
+    assert_eq!(rt; down.get(2_047), Some(Chunk { at: 0, size: 32 }));
+    assert_eq!(rt; down.get(2_048), None);
 }
