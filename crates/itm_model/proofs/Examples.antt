@@ -18,11 +18,11 @@ use Rattle.itm_model.specs.Undoing.{blocks_of, put_back}
 use Rattle.itm_model.specs.Undoable.{Undoable, before_after, takes_memory}
 use Rattle.itm_model.specs.Runs.{answers, replies, state_after}
 
-abbrev plain : Props
+abbrev pub plain : Props
 plain = record { no_abort = false }
 
 -- the eight bytes of a small number
-abbrev eight : ℕ → List ℕ
+abbrev pub eight : ℕ → List ℕ
 eight b = b ∷ 0 ∷ 0 ∷ 0 ∷ 0 ∷ 0 ∷ 0 ∷ 0 ∷ []
 
 abbrev value : ℕ → ArrayVec ℕ
@@ -154,14 +154,14 @@ rollback_closed = refl
 
 -- ## An inner block is cancelled: what it wrote is gone, and of the arena the byte that it logged has its value at the first log
 
-abbrev byte : ℕ → Datum
+abbrev pub byte : ℕ → Datum
 byte b = record { width = U1; bytes = record { items = b ∷ [] }; sized = refl }
 
 abbrev one_byte : ℕ → Reply
 one_byte b = Bytes (record { items = b ∷ [] })
 
 -- a block that was just begun on so many bytes and an arena of so many, all zero
-abbrev start_with : ℕ → ℕ → State
+abbrev pub start_with : ℕ → ℕ → State
 start_with bytes arena = opened (replicate bytes 0) (replicate arena 0) plain
 
 abbrev inner_cancel : List Call

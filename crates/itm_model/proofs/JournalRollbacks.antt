@@ -1,7 +1,6 @@
 -- Laws of putting back.
-use Rattle.std.proofs.Common.{◌≡◌, ℕ, zero, suc, ◌+◌, ◌≤◌, List, [], ◌∷◌, ◌++◌, length, take, drop, refl, ap, sym, ◌∙◌, arith, length-append, length-drop, append_assoc}
-use Rattle.std.proofs.lemmas.List.{take_at, drop_at, drop-append-le, length-take-le, take-append-drop}
-use Rattle.std.proofs.Math.Seq.{drop-nil}
+use Rattle.std.proofs.Common.{◌≡◌, ℕ, zero, suc, ◌+◌, ◌≤◌, List, [], ◌∷◌, ◌++◌, length, take, drop, refl, ap, sym, ◌∙◌, arith, length-append, length-drop}
+use Rattle.std.proofs.lemmas.List.{drop-append-le, length-take-le}
 use Rattle.itm_types.specs.Slices.{slice, with_slice}
 use Rattle.itm_model.specs.declared.journal.Old.{Old}
 use Rattle.itm_model.specs.Undoing.{put_back, AreWithin, Restores}
@@ -16,36 +15,11 @@ length-with_slice m p new h =
 pub length-slice : (m : List ℕ) (p n : ℕ) → p + n ≤ length m → length (slice m p n) ≡ n
 length-slice m p n h = length-take-le n (drop p m) (omega (arith, length-drop p m))
 
-drop-drop : {X : Type 0} (p n : ℕ) (m : List X) → drop n (drop p m) ≡ drop (p + n) m
-drop-drop p n [] = ap (drop n) (drop-nil p) ∙ (drop-nil n ∙ sym (drop-nil (p + n)))
-drop-drop zero n (x ∷ m) =
-    let e : 0 + n ≡ n = omega arith in
-    sym (ap (λ k. drop k (x ∷ m)) e)
-drop-drop (suc p) n (x ∷ m) =
-    let e : suc p + n ≡ suc (p + n) = omega arith in
-    drop-drop p n m ∙ sym (ap (λ k. drop k (x ∷ m)) e)
-
 pub take-take : {X : Type 0} (k n : ℕ) (xs : List X) → k ≤ n → take k (take n xs) ≡ take k xs
 take-take zero n xs h = refl
 take-take (suc k) zero xs h = absurd (omega (arith, h))
 take-take (suc k) (suc n) [] h = refl
 take-take (suc k) (suc n) (x ∷ xs) h = ap (λ t. x ∷ t) (take-take k n xs (omega (arith, h)))
-
--- what stood there, put back over what was written
-pub there_and_back : (m : List ℕ) (p : ℕ) (new : List ℕ) → p + length new ≤ length m → with_slice (with_slice m p new) p (slice m p (length new)) ≡ m
-there_and_back m p new h =
-    let n = length new in
-    let b = drop (p + n) m in
-    let old = slice m p n in
-    let len : length (take p m) ≡ p = length-take-le p m (omega arith) in
-    let front : take p (with_slice m p new) ≡ take p m = ap (take p) (append_assoc (take p m) new b) ∙ take_at (take p m) (new ++ b) p len in
-    let rest : drop (p + length old) (with_slice m p new) ≡ b =
-    ap (λ k. drop (p + k) (with_slice m p new)) (length-slice m p n h)
-    ∙ drop_at (take p m ++ new) b (p + n) (length-append (take p m) new ∙ ap (λ k. k + n) len) in
-    (λ i. front i ++ old ++ rest i)
-    ∙ (append_assoc (take p m) old b
-    ∙ (ap (λ t. take p m ++ (old ++ t)) (sym (drop-drop p n m))
-    ∙ (ap (λ t. take p m ++ t) (take-append-drop n (drop p m)) ∙ take-append-drop p m)))
 
 pub put_back-append : (xs ys : List Old) (m : List ℕ) → put_back (xs ++ ys) m ≡ put_back xs (put_back ys m)
 put_back-append [] ys m = refl
@@ -73,15 +47,6 @@ length-put_back [] m w = refl
 length-put_back (o ∷ os) m w =
     let e = length-put_back os m w.1 in
     length-with_slice (put_back os m) o.place o.bytes.items (omega (arith, w.0, e)) ∙ e
-
--- one write, with its entry at the end
-pub write_restores : (j : List Old) (m : List ℕ) (o : Old) (new : List ℕ) → o.place + length new ≤ length m → o.bytes.items ≡ slice m o.place (length new)
-    → Restores (length j) j m (j ++ o ∷ []) (with_slice m o.place new)
-write_restores j m o new h e k l =
-    let m' = with_slice m o.place new in
-    ap (λ t. put_back t m') (drop-append-le k j (o ∷ []) l)
-    ∙ (put_back-append (drop k j) (o ∷ []) m'
-    ∙ ap (put_back (drop k j)) (ap (λ t. with_slice m' o.place t) e ∙ there_and_back m o.place new h))
 
 -- the newest entry put back
 pub pop_restores : (j j' : List Old) (o : Old) (m : List ℕ) → j ≡ j' ++ o ∷ [] → Restores (length j') j m j' (with_slice m o.place o.bytes.items)

@@ -18,6 +18,9 @@ length-kept_from : (ks : List (Option ℕ)) (os : List Old) → length (kept_fro
 length-kept_from ks [] = refl
 length-kept_from ks (o ∷ os) = length-kept_from (laid ks o.place o.bytes.items) os ∙ length-laid ks o.place o.bytes.items
 
+pub length-kept_of : (a : List ℕ) (os : List Old) → length (kept_of a os) ≡ length a
+length-kept_of a os = length-kept_from (nothing a) os ∙ length-nothing a
+
 -- what is kept does not depend on the arena's bytes
 pub kept_of-same : (a b : List ℕ) (os : List Old) → length a ≡ length b → kept_of a os ≡ kept_of b os
 kept_of-same a b os h = ap (λ t. kept_from t os) (nothing_same a b h)
@@ -53,7 +56,7 @@ merged_kept ks a (o ∷ os) e =
 
 -- what an inner block logs is merged into what the one around it keeps
 pub kept_of-append : (a : List ℕ) (xs ys : List Old) → kept_of a (xs ++ ys) ≡ merged (kept_of a xs) (kept_of a ys)
-kept_of-append a xs ys = kept_from-append (nothing a) xs ys ∙ merged_kept (kept_of a xs) a ys (length-kept_from (nothing a) xs ∙ length-nothing a)
+kept_of-append a xs ys = kept_from-append (nothing a) xs ys ∙ merged_kept (kept_of a xs) a ys (length-kept_of a xs)
 
 -- ## What is kept, laid over the arena, is the log put back
 
@@ -97,5 +100,5 @@ logged_one a p n os o w e f k h =
       take-append-le k os (o ∷ []) h,
       ap (kept_of a) (drop-append-le k os (o ∷ []) h)
           ∙ (kept_from-append (nothing a) part (o ∷ [])
-          ∙ ((λ i. laid (kept_of a part) (e i) (f i)) ∙ laid_is (kept_of a part) a p n (length-kept_from (nothing a) part ∙ length-nothing a) w)),
+          ∙ ((λ i. laid (kept_of a part) (e i) (f i)) ∙ laid_is (kept_of a part) a p n (length-kept_of a part) w)),
     )

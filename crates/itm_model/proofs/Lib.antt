@@ -1,4 +1,6 @@
+mod CopyExamples
 mod Examples
 mod JournalRollbacks
 mod KeptLogs
 mod OpenBlocks
+mod Overwrites

@@ -1,14 +1,18 @@
 -- One call on the plain machine: its refusal, its reply and the state after it.
-use Rattle.std.specs.Prelude.{ℕ, Bool, true, false, not, ◌||◌, nat_lt, if◌then◌else◌, List, [], ◌∷◌, length, Option, None, Some}
+use Rattle.std.specs.Prelude.{ℕ, Bool, true, false, not, ◌||◌, ◌&&◌, ◌%◌, nat_lt, replicate, if◌then◌else◌, List, [], ◌∷◌, length, Option, None, Some}
 use Rattle.std.specs.List.{list_any}
 use Rattle.itm_types.specs.Access.{size_of}
 use Rattle.itm_types.specs.declared.call.Props.{Props}
 use Rattle.itm_types.specs.declared.call.Refusal.{Refusal}
-use Rattle.itm_types.specs.declared.call.Refusal.TheVariants.{Outside, OutOfRange, OutOfArena, NoAbort, TooDeep}
+use Rattle.itm_types.specs.declared.call.Refusal.TheVariants.{Outside, OutOfRange, OutOfArena, Overlap, NoAbort, TooDeep}
 use Rattle.itm_types.specs.declared.call.Call.{Call}
-use Rattle.itm_types.specs.declared.call.Call.TheVariants.{Begin, Commit, Abort, InTransaction, Read, Write, Log, LogBytes, Load, Save}
+use Rattle.itm_types.specs.declared.call.Call.TheVariants.{Begin, Commit, Abort, InTransaction, Read, Write, Log, LogBytes, Copy, Fill, Load, Save}
 use Rattle.itm_types.specs.declared.call.Reply.{Reply}
 use Rattle.itm_types.specs.declared.call.Reply.TheVariants.{Done, Bytes, Code, Refused}
+use Rattle.itm_types.specs.declared.call.Copying.{Copying}
+use Rattle.itm_types.specs.declared.copy.CopyPair.{CopyPair}
+use Rattle.itm_types.specs.declared.copy.CopyPair.TheVariants.{Out, In, Within}
+use Rattle.itm_types.specs.Copies.{both_shared, overlap}
 use Rattle.itm_types.specs.Calls.{begin_args, abort_of, needs_transaction}
 use Rattle.itm_types.specs.Kept.{nothing, also_kept, merged, restored}
 use Rattle.itm_types.specs.Slices.{slice, with_slice}
@@ -66,6 +70,26 @@ in_shared s place size = unless (in_range s.memory place size) OutOfRange
 abbrev pub in_arena : State → ℕ → ℕ → Option Refusal
 in_arena s place size = unless (in_range s.arena place size) OutOfArena
 
+-- why the bytes that a copy writes are not to be had, if they are not
+abbrev pub target_range : State → CopyPair → ℕ → ℕ → Option Refusal
+target_range s (Out to) place size = in_shared s place size
+target_range s (In from) place size = in_arena s place size
+target_range s (Within from to) place size = in_shared s place size
+
+-- and those that it reads
+abbrev pub source_range : State → CopyPair → ℕ → ℕ → Option Refusal
+source_range s (Out to) place size = in_arena s place size
+source_range s (In from) place size = in_shared s place size
+source_range s (Within from to) place size = in_shared s place size
+
+-- a copy that does not move takes no two shared ranges with a byte in common
+abbrev pub is_clear : Copying → Bool
+is_clear c = c.moves || not (both_shared c.pair && overlap c.to c.from c.size)
+
+-- why a copy's bytes are not to be had: first what it writes, then what it reads, then what they have in common
+abbrev pub copy_ranges : State → Copying → Option Refusal
+copy_ranges s c = or_else (target_range s c.pair c.to c.size) (or_else (source_range s c.pair c.from c.size) (unless (is_clear c) Overlap))
+
 -- why the call's bytes are not to be had, if they are not
 abbrev pub ranges : State → Call → Option Refusal
 ranges s (Begin props room) = None
@@ -76,6 +100,8 @@ ranges s (Read hint width at) = in_shared s at (size_of width)
 ranges s (Write hint at value) = in_shared s at (size_of value.width)
 ranges s (Log width at) = in_arena s at (size_of width)
 ranges s (LogBytes at size) = in_arena s at size
+ranges s (Copy c) = copy_ranges s c
+ranges s (Fill hint to byte size) = in_shared s to size
 ranges s (Load width at) = in_arena s at (size_of width)
 ranges s (Save at value) = in_arena s at (size_of value.width)
 
@@ -92,6 +118,21 @@ written s place bytes = record s { memory = with_slice s.memory place bytes; wro
 -- a slice of the arena is replaced
 abbrev pub saved_in_arena : State → ℕ → List ℕ → State
 saved_in_arena s place bytes = record s { arena = with_slice s.arena place bytes }
+
+-- the bytes that a copy reads
+abbrev pub source_bytes : State → CopyPair → ℕ → ℕ → List ℕ
+source_bytes s (Out to) place size = slice s.arena place size
+source_bytes s (In from) place size = slice s.memory place size
+source_bytes s (Within from to) place size = slice s.memory place size
+
+-- bytes go where a copy writes
+abbrev pub target_written : State → CopyPair → ℕ → List ℕ → State
+target_written s (Out to) place bytes = written s place bytes
+target_written s (In from) place bytes = saved_in_arena s place bytes
+target_written s (Within from to) place bytes = written s place bytes
+
+abbrev pub copied : State → Copying → State
+copied s c = target_written s c.pair c.to (source_bytes s c.pair c.from c.size)
 
 -- bytes of the arena are kept by the innermost block, where it keeps none of that place yet
 abbrev pub logged_in : List Block → List ℕ → ℕ → ℕ → List Block
@@ -151,6 +192,8 @@ effect s (Read hint width at) = s
 effect s (Write hint at value) = written s at value.bytes.items
 effect s (Log width at) = logged s at (size_of width)
 effect s (LogBytes at size) = logged s at size
+effect s (Copy c) = copied s c
+effect s (Fill hint to byte size) = written s to (replicate size (byte % 256))
 effect s (Load width at) = s
 effect s (Save at value) = saved_in_arena s at value.bytes.items
 
@@ -170,6 +213,8 @@ answer s (Read hint width at) = bytes_reply (slice s.memory at (size_of width))
 answer s (Write hint at value) = Done
 answer s (Log width at) = Done
 answer s (LogBytes at size) = Done
+answer s (Copy c) = Done
+answer s (Fill hint to byte size) = Done
 answer s (Load width at) = bytes_reply (slice s.arena at (size_of width))
 answer s (Save at value) = Done
 

@@ -2,7 +2,7 @@
 use Rattle.std.specs.Prelude.{ℕ, Bool, true, false, nat_lt, if◌then◌else◌, List, Option, None, Some}
 use Rattle.itm_types.specs.declared.call.Refusal.{Refusal}
 use Rattle.itm_types.specs.declared.call.Call.{Call}
-use Rattle.itm_types.specs.declared.call.Call.TheVariants.{Begin, Commit, Abort, InTransaction, Read, Write, Log, LogBytes, Load, Save}
+use Rattle.itm_types.specs.declared.call.Call.TheVariants.{Begin, Commit, Abort, InTransaction, Read, Write, Log, LogBytes, Copy, Fill, Load, Save}
 use Rattle.itm_model.specs.State.{State}
 use Rattle.itm_model.specs.Machine.{is_open, refusal}
 
@@ -20,6 +20,8 @@ before_next u (Read hint width at) = u.before
 before_next u (Write hint at value) = u.before
 before_next u (Log width at) = u.before
 before_next u (LogBytes at size) = u.before
+before_next u (Copy c) = u.before
+before_next u (Fill hint to byte size) = u.before
 before_next u (Load width at) = u.before
 before_next u (Save at value) = u.before
 
@@ -30,7 +32,7 @@ before_unless (Some refusal) old new = old
 abbrev pub before_after : ℕ → Undoable → Call → List ℕ
 before_after deepest u call = before_unless (refusal deepest u.state call) u.before (before_next u call)
 
--- can memory be refused to the call: a log of no bytes takes none
+-- can memory be refused to the call: a log, a copy or a fill of no bytes takes none
 abbrev pub takes_memory : Call → Bool
 takes_memory (Begin props room) = true
 takes_memory Commit = false
@@ -40,5 +42,7 @@ takes_memory (Read hint width at) = false
 takes_memory (Write hint at value) = true
 takes_memory (Log width at) = true
 takes_memory (LogBytes at size) = nat_lt 0 size
+takes_memory (Copy c) = nat_lt 0 c.size
+takes_memory (Fill hint to byte size) = nat_lt 0 size
 takes_memory (Load width at) = false
 takes_memory (Save at value) = false

@@ -1,12 +1,10 @@
 //! What was overwritten, so that it can be put back.
 
-ghost use Rattle.std.specs.Prelude.{◌≡◌, ◌≤◌, ◌<◌, ◌+◌, IsTrue, IsOk, OnOk, OnErr, length, drop, take, vec_len, vec_capacity};
-ghost use Rattle.itm_types.specs.Slices.{with_slice};
-ghost use Rattle.itm_model.specs.Places.{in_range};
+ghost use Rattle.std.specs.Prelude.{◌≡◌, ◌≤◌, ◌<◌, ◌+◌, IsOk, OnOk, OnErr, length, drop, take, vec_len, vec_capacity};
 ghost use Rattle.itm_model.specs.Undoing.{put_back, AreWithin, Restores, Logged};
 
-use crate::bytes::{WIDEST, part_at, replace, value_at};
-use itm_types::{Datum, Props, Value};
+use crate::bytes::{WIDEST, part_at, replace};
+use itm_types::{Props, Value};
 use std::alloc::AllocError;
 
 /// What stood at a place.
@@ -28,30 +26,6 @@ pub(crate) struct Mark {
     pub(crate) wrote: bool,
 }
 
-/// Puts a value at a place, and keeps what stood there.
-pub(crate) fn write(
-    memory: &mut Vec<u8>,
-    journal: &mut Vec<Old>,
-    place: u64,
-    value: &Datum,
-) -> Result<(), AllocError>
-    requires range { IsTrue (in_range memory.old.items place (length value.now.bytes.items)) }
-    requires within { AreWithin (length memory.old.items) journal.old.items }
-    ensures memory { OnOk result (memory.new.items ≡ with_slice memory.old.items place value.now.bytes.items) }
-    ensures restores { OnOk result
-        (Restores (length journal.old.items) journal.old.items memory.old.items journal.new.items memory.new.items) }
-    ensures longer { OnOk result (length journal.old.items ≤ length journal.new.items) }
-    ensures within { OnOk result (AreWithin (length memory.new.items) journal.new.items) }
-    ensures err_memory { OnErr result (memory.new.items ≡ memory.old.items) }
-    ensures err_journal { OnErr result (journal.new.items ≡ journal.old.items) }
-{
-    journal.reserve(1)?;
-    let bytes = value_at(memory, place, value.width);
-    journal.push_reserved(Old { place, bytes });
-    replace(memory, place, &value.bytes);
-    Ok(())
-}
-
 /// Puts back what was overwritten since the journal had so many entries.
 pub(crate) fn unwind(memory: &mut Vec<u8>, journal: &mut Vec<Old>, at: usize)
     requires at { at ≤ length journal.old.items }
@@ -68,7 +42,7 @@ pub(crate) fn unwind(memory: &mut Vec<u8>, journal: &mut Vec<Old>, at: usize)
 }
 
 /// Keeps so many bytes from a place on, in entries of a value's size. To keep none takes no memory.
-pub(crate) fn log(
+pub(crate) fn keep(
     bytes: &[u8],
     logs: &mut Vec<Old>,
     place: u64,
@@ -88,14 +62,14 @@ pub(crate) fn log(
     let mut done = 0;
     while done < size {
         let part = usize::min(size - done, WIDEST);
-        log_part(bytes, logs, start + done, part);
+        keep_part(bytes, logs, start + done, part);
         done += part;
     }
     Ok(())
 }
 
 /// Keeps no more bytes than a value has.
-fn log_part(bytes: &[u8], logs: &mut Vec<Old>, start: usize, size: usize)
+fn keep_part(bytes: &[u8], logs: &mut Vec<Old>, start: usize, size: usize)
     requires range { start + size ≤ length bytes.now }
     requires size { size ≤ WIDEST }
     requires room { vec_len logs.old < vec_capacity logs.old }

@@ -6,7 +6,7 @@ ghost use Rattle.itm_model.specs.Places.{in_range};
 ghost use Rattle.itm_model.specs.Undoable.{before_after, before_next, takes_memory};
 
 use crate::bytes::{replace, value_at};
-use crate::journal::{Mark, Old, log, unwind, write};
+use crate::journal::{Mark, Old, keep, unwind};
 use crate::limits::WORD;
 use itm_types::{
     CANCELLED, Call, Datum, ENTERED, MAX_ARENA, MAX_MEMORY, MAX_OPEN_BLOCKS, NO_TRANSACTION, Props,
@@ -15,7 +15,7 @@ use itm_types::{
 use std::alloc::{AllocError, Global};
 use std::marker::Model;
 
-/// A transaction alone on its bytes. It keeps what its writes overwrote and what its logs found, so
+/// A transaction alone on its bytes. It keeps what it overwrote of the memory and what its logs found, so
 /// that a begin copies nothing and a rollback costs what was written and logged.
 #[derive(Debug, Drop)]
 pub struct Plain {
@@ -79,7 +79,7 @@ impl Plain {
         ensures after { OnOk result (self.new.state ≡ after MAX_OPEN_BLOCKS self.old.state call.now) }
         ensures before { OnOk result (self.new.before ≡ before_after MAX_OPEN_BLOCKS self.old call.now) }
 
-        // Memory is refused only to a begin, a write or a log of some bytes that would be accepted.
+        // Memory is refused only to a call that would be accepted: a begin, a write, or a log, a copy or a fill of some bytes.
         ensures only_some { OnErr result (IsTrue (takes_memory call.now)) }
         ensures only_accepted { OnErr result (refusal MAX_OPEN_BLOCKS self.old.state call.now ≡ None) }
         ensures err { OnErr result (self.new ≡ self.old) }
@@ -208,6 +208,14 @@ impl Plain {
                 self.log(*at, *size)?;
                 Ok(Reply::Done)
             }
+            Call::Copy(copying) => {
+                self.copy(copying)?;
+                Ok(Reply::Done)
+            }
+            Call::Fill { to, byte, size, .. } => {
+                self.fill(*to, (*byte % 256) as u8, *size)?;
+                Ok(Reply::Done)
+            }
             Call::Load { width, at } => Ok(Reply::Bytes(value_at(&self.arena, *at, *width))),
             Call::Save { at, value } => {
                 self.save(*at, value);
@@ -277,8 +285,10 @@ impl Plain {
         ensures before { OnOk result (self.new.before ≡ self.old.before) }
         ensures err { OnErr result (self.new ≡ self.old) }
     {
-        write(&mut self.memory, &mut self.journal, place, value)?;
-        self.wrote = self.wrote || !value.bytes.is_empty();
+        let size = value.bytes.len() as u64;
+        keep(&self.memory, &mut self.journal, place, size)?;
+        replace(&mut self.memory, place, &value.bytes);
+        self.wrote = self.wrote || size > 0;
         Ok(())
     }
 
@@ -290,7 +300,7 @@ impl Plain {
         ensures none { size ≡ 0 → IsOk result }
         ensures err { OnErr result (self.new ≡ self.old) }
     {
-        log(&self.arena, &mut self.logs, place, size)?;
+        keep(&self.arena, &mut self.logs, place, size)?;
         Ok(())
     }
 
@@ -304,6 +314,7 @@ impl Plain {
     }
 }
 
+mod copies;
 mod refusals;
 #[cfg(test)]
 mod tests;

@@ -2,7 +2,7 @@
 use Rattle.std.specs.Prelude.{ℕ, Bool, true, false, is_some, Option, None, Some}
 use Rattle.itm_types.specs.declared.call.Props.{Props}
 use Rattle.itm_types.specs.declared.call.Call.{Call}
-use Rattle.itm_types.specs.declared.call.Call.TheVariants.{Begin, Commit, Abort, InTransaction, Read, Write, Log, LogBytes, Load, Save}
+use Rattle.itm_types.specs.declared.call.Call.TheVariants.{Begin, Commit, Abort, InTransaction, Read, Write, Log, LogBytes, Copy, Fill, Load, Save}
 use Rattle.itm_types.specs.Access.{size_of}
 
 -- a begin's properties, and its room
@@ -35,13 +35,16 @@ needs_transaction (Read hint width at) = true
 needs_transaction (Write hint at value) = true
 needs_transaction (Log width at) = true
 needs_transaction (LogBytes at size) = true
+needs_transaction (Copy c) = true
+needs_transaction (Fill hint to byte size) = true
 needs_transaction (Load width at) = false
 needs_transaction (Save at value) = false
 
--- the shared bytes of a read or a write: the first one's place, and how many they are
+-- the shared bytes of a read, a write or a fill: the first one's place, and how many they are
 abbrev pub access_of : Call → Option (ℕ × ℕ)
 access_of (Read hint width at) = Some (at, size_of width)
 access_of (Write hint at value) = Some (at, size_of value.width)
+access_of (Fill hint to byte size) = Some (to, size)
 access_of _ = None
 
 -- the bytes of the arena that a log keeps: the first one's place, and how many they are

@@ -4,6 +4,7 @@ ghost use Rattle.std.specs.Prelude.{◌≡◌};
 ghost use Rattle.itm_types.specs.Refusals.{number_of};
 
 use crate::access::{ReadHint, Value, Width, WriteHint};
+use crate::copy::CopyPair;
 use crate::datum::Datum;
 
 /// The code properties of a block (Intel TM ABI 1.1, section 5.10.1).
@@ -11,6 +12,20 @@ use crate::datum::Datum;
 pub struct Props {
     /// `pr_hasNoAbort`: the block is not cancelled.
     pub no_abort: bool,
+}
+
+/// What a copy is asked to do.
+#[derive(Clone, Copy, Debug, PartialEq, Eq)]
+pub struct Copying {
+    /// The two shared ranges may overlap (`_ITM_memmove`), or may not (`_ITM_memcpy`).
+    pub moves: bool,
+    pub pair: CopyPair,
+    /// The first byte that is written.
+    pub to: u64,
+    /// The first byte that is read.
+    pub from: u64,
+    /// How many bytes are copied.
+    pub size: u64,
 }
 
 /// One call of the runtime. Places are bytes, counted from 0.
@@ -51,6 +66,15 @@ pub enum Call {
         at: u64,
         size: u64,
     },
+    /// Copies bytes, all of them as before the call (section 5, `_ITM_memcpy` and `_ITM_memmove`).
+    Copy(Copying),
+    /// Sets so many bytes of shared memory to the low 8 bits of `byte` (section 5, `_ITM_memset`).
+    Fill {
+        hint: WriteHint,
+        to: u64,
+        byte: u64,
+        size: u64,
+    },
     /// Reads the thread's arena: its own access, which no entry point of the runtime serves.
     Load {
         width: Width,
@@ -72,6 +96,8 @@ pub enum Refusal {
     OutOfRange,
     /// A range of the arena leaves it.
     OutOfArena,
+    /// The two shared ranges of a copy that does not move have a byte in common.
+    Overlap,
     /// A block that would be cancelled has the property that it is not.
     NoAbort,
     /// As many blocks are open as may be.
@@ -87,6 +113,7 @@ impl Refusal {
             Refusal::Outside => 1,
             Refusal::OutOfRange => 2,
             Refusal::OutOfArena => 3,
+            Refusal::Overlap => 4,
             Refusal::NoAbort => 5,
             Refusal::TooDeep => 8,
         }

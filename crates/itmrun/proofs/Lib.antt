@@ -1,5 +1,6 @@
 pub mod Worked
 pub mod WorkedPages
+pub mod WorkedLines
 pub mod WorkedRuns
 pub mod Padding
 pub mod LowBytes

@@ -1,9 +1,11 @@
 -- The text of a history.
-use Rattle.std.specs.Prelude.{ℕ, Bool, List, ◌++◌, length, flat_map, decimal, codes, if◌then◌else◌, ◌==◌}
+use Rattle.std.specs.Prelude.{ℕ, Bool, List, ◌++◌, length, flat_map, decimal, codes, if◌then◌else◌, ◌==◌, ◌%◌}
 use Rattle.hex.specs.Hex.{encode_lower}
 use Rattle.itm_types.specs.Access.{size_of}
 use Rattle.itm_types.specs.Names.{name_of}
 use Rattle.itm_types.specs.Refusals.{number_of}
+use Rattle.itm_types.specs.declared.access.WriteHint.{WriteHint}
+use Rattle.itm_types.specs.declared.call.Copying.{Copying}
 use Rattle.itm_types.specs.declared.call.Props.{Props}
 use Rattle.itm_types.specs.declared.call.Call.{Call}
 use Rattle.itm_types.specs.declared.call.Call.TheVariants as calls
@@ -52,6 +54,14 @@ head_line a = try_text a ++ props_end a.props
 unfoldable pub arena_line : List ℕ → List ℕ
 arena_line bytes = if length bytes == 0 then codes "arena -\n" else codes "arena " ++ encode_lower bytes ++ codes "\n"
 
+-- the entry point, and the first byte that is written, the first one that is read, and how many they are
+unfoldable pub copy_text : Copying → List ℕ
+copy_text c = name_of (entry.Copy c.moves c.pair) ++ codes " " ++ decimal c.to ++ codes " " ++ decimal c.from ++ codes " " ++ decimal c.size
+
+-- the entry point, the first byte that is written, what each byte is then, and how many they are
+unfoldable pub fill_text : WriteHint → ℕ → ℕ → ℕ → List ℕ
+fill_text hint to byte size = name_of (entry.Fill hint) ++ codes " " ++ decimal to ++ codes " " ++ decimal (byte % 256) ++ codes " " ++ decimal size
+
 unfoldable pub body_text : Call → List ℕ
 body_text (calls.Begin props room) = codes "_ITM_beginTransaction " ++ props_text props
 body_text calls.Commit = codes "_ITM_commitTransaction"
@@ -61,6 +71,8 @@ body_text (calls.Read hint width at) = name_of (entry.Read hint width) ++ codes 
 body_text (calls.Write hint at value) = name_of (entry.Write hint value.width) ++ codes " " ++ decimal at ++ codes " " ++ encode_lower value.bytes.items
 body_text (calls.Log width at) = name_of (entry.Log width) ++ codes " " ++ decimal at
 body_text (calls.LogBytes at size) = name_of entry.LogBytes ++ codes " " ++ decimal at ++ codes " " ++ decimal size
+body_text (calls.Copy c) = copy_text c
+body_text (calls.Fill hint to byte size) = fill_text hint to byte size
 body_text (calls.Load width at) = codes "ld" ++ decimal (size_of width) ++ codes " " ++ decimal at
 body_text (calls.Save at value) = codes "st" ++ decimal (size_of value.width) ++ codes " " ++ decimal at ++ codes " " ++ encode_lower value.bytes.items
 

@@ -89,32 +89,32 @@ refused_begin_opens_none = refl
 inner_commit_closes : blocks_after nested calls.Commit Done ≡ block [] (old 0 5 ∷ old 0 6 ∷ old 1 8 ∷ []) ∷ []
 inner_commit_closes = refl
 
-inner_commit_keeps_rows : writes_after nested calls.Commit Done ≡ all_of 1 9 ∷ byte_of 2 0xcd ∷ []
+inner_commit_keeps_rows : writes_after nested [] calls.Commit Done ≡ all_of 1 9 ∷ byte_of 2 0xcd ∷ []
 inner_commit_keeps_rows = refl
 
-inner_commit_keeps_arena : arena_after nested calls.Commit Done ≡ 1 ∷ 2 ∷ 3 ∷ []
+inner_commit_keeps_arena : arena_after nested [] calls.Commit Done ≡ 1 ∷ 2 ∷ 3 ∷ []
 inner_commit_keeps_arena = refl
 
 -- the outer block is as it was
 inner_cancel_closes : blocks_after nested (calls.Abort false) (Code 24) ≡ outer ∷ []
 inner_cancel_closes = refl
 
-inner_cancel_takes_rows : writes_after nested (calls.Abort false) (Code 24) ≡ byte_of 1 0xab ∷ []
+inner_cancel_takes_rows : writes_after nested [] (calls.Abort false) (Code 24) ≡ byte_of 1 0xab ∷ []
 inner_cancel_takes_rows = refl
 
-inner_cancel_puts_back : arena_after nested (calls.Abort false) (Code 24) ≡ 6 ∷ 8 ∷ 3 ∷ []
+inner_cancel_puts_back : arena_after nested [] (calls.Abort false) (Code 24) ≡ 6 ∷ 8 ∷ 3 ∷ []
 inner_cancel_puts_back = refl
 
 outer_cancel_closes : blocks_after nested (calls.Abort true) (Code 24) ≡ []
 outer_cancel_closes = refl
 
-outer_cancel_takes_rows : writes_after nested (calls.Abort true) (Code 24) ≡ []
+outer_cancel_takes_rows : writes_after nested [] (calls.Abort true) (Code 24) ≡ []
 outer_cancel_takes_rows = refl
 
-outer_cancel_puts_back : arena_after nested (calls.Abort true) (Code 24) ≡ 5 ∷ 8 ∷ 3 ∷ []
+outer_cancel_puts_back : arena_after nested [] (calls.Abort true) (Code 24) ≡ 5 ∷ 8 ∷ 3 ∷ []
 outer_cancel_puts_back = refl
 
-refused_cancel_leaves_arena : arena_after nested (calls.Abort true) (Refused NoAbort) ≡ 1 ∷ 2 ∷ 3 ∷ []
+refused_cancel_leaves_arena : arena_after nested [] (calls.Abort true) (Refused NoAbort) ≡ 1 ∷ 2 ∷ 3 ∷ []
 refused_cancel_leaves_arena = refl
 
 -- the innermost block has one log more; of no bytes none, also at the arena's end

@@ -80,8 +80,8 @@ cancel_replies d frames arena s e = record {
       (back_is d.frames.writes.rows d.frames.blocks d.arena m frames.writes.rows frames.blocks arena e.is_open e.rows e.blocks e.size e.restored);
   reply_is = λ m mem agrees. told d false m e.is_open e.may;
   stays = refl;
-  writes = e.rows;
-  arena = e.left;
+  writes = λ m mem agrees. e.rows;
+  arena = λ m mem agrees. e.left;
   free = refl;
   unfreed = refl;
   blocks = e.blocks;
@@ -146,8 +146,8 @@ undone_replies d outer new s e =
           (undone_is outer d.words d.frames.writes.rows blocks d.arena m is_open.frames e.is_open e.all e.restored);
       reply_is = λ m mem agrees. told d outer m e.is_open e.may;
       stays = refl;
-      writes = rows_gone outer d.words blocks is_open.frames e.all;
-      arena = arena_gone outer blocks d.arena e.all;
+      writes = λ m mem agrees. rows_gone outer d.words blocks is_open.frames e.all;
+      arena = λ m mem agrees. arena_gone outer blocks d.arena e.all;
       free = refl;
       unfreed = refl;
       blocks = blocks_gone outer blocks e.all;

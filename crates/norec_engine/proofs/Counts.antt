@@ -1,13 +1,17 @@
 -- The steps of a call are within its most.
-use Rattle.std.proofs.Common.{◌≡◌, ◌≢◌, ℕ, ◌+◌, ◌-◌, ◌*◌, ◌/◌, ◌%◌, ◌^◌, ◌<◌, ◌≤◌, ◌==◌, length, refl, arith, None, sym, subst}
+use Rattle.std.proofs.Common.{◌≡◌, ◌≢◌, ℕ, ◌+◌, ◌-◌, ◌*◌, ◌^◌, ◌<◌, ◌≤◌, List, length, drop, refl, ap, arith, Some, None, sym, subst}
 use Rattle.std.proofs.Math.Nat.{mul-le-mul_right}
 use Rattle.std.proofs.lemmas.Nat.{mul-le}
-use Rattle.std.proofs.lemmas.Bool.{cond-false, ne_eqb}
-use Rattle.itm_types.specs.Access.{size_of}
-use Rattle.itm_types.specs.declared.limits.TheConstants.{MAX_PATIENCE}
+use Rattle.itm_types.specs.declared.limits.TheConstants.{MAX_PATIENCE, MAX_WORDS}
 use Rattle.word_pieces.specs.Pieces.{count_of}
-use Rattle.itm_types.specs.declared.access.Width.{Width}
-use Rattle.itm_types.specs.declared.access.Width.TheVariants.{U1, U2, U4, U8, F, D, M64, M128, M256, CF, CD}
+use Rattle.itm_types.specs.declared.row.LogRow.{LogRow}
+use Rattle.write_set.specs.Marks.{Written}
+use Rattle.norec_engine.specs.declared.phase.Purpose.{Purpose}
+use Rattle.norec_engine.specs.declared.phase.Purpose.TheVariants as for
+use Rattle.norec_engine.specs.Core.{Core}
+use Rattle.norec_engine.proofs.AcceptedCopies.{source_within}
+use Rattle.norec_engine.proofs.CopyChunks.{few_words, source_few, length-chunks_in}
+use Rattle.norec_engine.proofs.Readings.{among, total_left}
 use Rattle.norec_engine.specs.declared.phase.Aim.{Aim}
 use Rattle.norec_engine.specs.declared.phase.Aim.TheVariants as aims
 use Rattle.norec_engine.specs.declared.phase.Phase.{Phase}
@@ -16,38 +20,46 @@ use Rattle.norec_engine.specs.declared.phase.Reading.{Reading}
 use Rattle.norec_engine.specs.declared.phase.Turn.{Turn}
 use Rattle.norec_engine.specs.declared.data.Data.{Data}
 use Rattle.norec_engine.specs.Proceeds.{most, IsWithin}
-use Rattle.norec_engine.specs.Fields.{core, count, IsSound, InRound, IsSoundTurn, data_after, phase_after, IsWaiting, doing_of, waits_of}
+use Rattle.norec_engine.specs.Fields.{core, count, total, total_for, passed, call_for, FitsPurpose, MayRead, first_of, round_of, IsSound, InRound, IsSoundTurn, data_after, phase_after, IsWaiting, doing_of, waits_of}
 
-size_most : (w : Width) → (0 < size_of w) × (size_of w ≤ 32)
-size_most U1 = (omega arith, omega arith)
-size_most U2 = (omega arith, omega arith)
-size_most U4 = (omega arith, omega arith)
-size_most U8 = (omega arith, omega arith)
-size_most F = (omega arith, omega arith)
-size_most D = (omega arith, omega arith)
-size_most M64 = (omega arith, omega arith)
-size_most M128 = (omega arith, omega arith)
-size_most M256 = (omega arith, omega arith)
-size_most CF = (omega arith, omega arith)
-size_most CD = (omega arith, omega arith)
+-- the most steps of the call that an access is made for
+most_for : (words bytes written : ℕ) (writes : Written) (own : List LogRow) (buffer : List ℕ) (what : Purpose) (at size : ℕ) → FitsPurpose words bytes written writes own buffer what at size → (c : Core)
+    → most c (Some (call_for what at)) ≡ 2 * total_for what (count_of at size) + c.patience * (c.entry + total_for what (count_of at size) + 4)
+most_for words bytes written writes own buffer (for.Value hint width) at size f c = ap (λ (n : ℕ). 2 * count_of at n + c.patience * (c.entry + count_of at n + 4)) (sym f.0)
+most_for words bytes written writes own buffer (for.Chunk k n) at size f c = refl
 
-some_count : (at size : ℕ) → 0 < size → size ≤ 32 → count_of at size ≤ 5
-some_count at size some most =
-    let e : count_of at size ≡ (at % 8 + size + 7) / 8 = cond-false (size == 0) 0 ((at % 8 + size + 7) / 8) (ne_eqb size 0 (λ z. omega (arith, z, some))) in
-    omega (arith, e, most)
+-- no call reads more words
+few_for : (words bytes written : ℕ) (writes : Written) (own : List LogRow) (buffer : List ℕ) (what : Purpose) (at size : ℕ) → FitsPurpose words bytes written writes own buffer what at size → words ≤ MAX_WORDS → size ≤ 32
+    → total_for what (count_of at size) ≤ 10240
+few_for words bytes written writes own buffer (for.Value hint width) at size f w small = omega (arith, few_words at size small)
+few_for words bytes written writes own buffer (for.Chunk k n) at size f w small =
+    omega (arith, source_few k, length-chunks_in k, w, source_within words bytes k f.copied.shared f.copied.served.accepted)
 
-some_words : (r : Reading) → count r ≤ 5
-some_words r = (let s = size_most r.width in some_count r.at (size_of r.width) s.0 s.1)
+module _ (d : Data) (r : Reading) (may : MayRead d r) where
+  most_read : (c : Core) → most c (Some (call_for r.purpose r.at)) ≡ 2 * total r + c.patience * (c.entry + total r + 4)
+  most_read c = most_for d.words (length d.arena) d.written d.frames.writes (drop d.entry d.log.rows) d.buffer.items r.purpose r.at r.size may.reading.purpose c
+
+  few_read : d.words ≤ MAX_WORDS → total r ≤ 10240
+  few_read w = few_for d.words (length d.arena) d.written d.frames.writes (drop d.entry d.log.rows) d.buffer.items r.purpose r.at r.size may.reading.purpose w may.reading.small
+
+  left : passed r < total r
+  left = total_left r.purpose r.number (count r) (among d r.purpose r.at r.size may.reading.purpose) may.some
 
 -- one try more, all of them within the patience
-more : (t p k : ℕ) → 0 < t → t ≤ p → (t - 1) * k + k ≤ p * k
+pub more : (t p k : ℕ) → 0 < t → t ≤ p → (t - 1) * k + k ≤ p * k
 more t p k l h =
     let e : (t - 1 + 1) * k ≤ p * k = mul-le-mul_right {m = t - 1 + 1} {n = p} k (omega arith) in
     omega (arith, e)
 
+-- a round is over: its steps are counted in full, whatever the clock is
+pub round_over : (d : Data) (aim : Aim) (clock : ℕ) → InRound d aim (length d.log.rows + 2) → d.spent ≤ first_of aim + d.tries * round_of aim (record d { clock = clock })
+round_over d (aims.Read r) clock round =
+    omega (arith, more d.tries d.tries (d.entry + total r + 4) round.tried (omega arith), round.spent, round.may.reading.grown, left d r round.may)
+round_over d aims.Commit clock round = omega (arith, more d.tries d.tries (d.entry + 3) round.tried (omega arith), round.spent, round.may.grown)
+
 rounds : (d : Data) (aim : Aim) (steps : ℕ) → InRound d aim steps → steps ≤ length d.log.rows + 3 → d.spent ≤ most (core d (at.RoundStart aim)) (doing_of (at.RoundStart aim))
 rounds d (aims.Read r) steps round l =
-    omega (arith, more d.tries d.limits.patience (d.entry + count r + 4) round.tried round.is_open.tries, round.spent, round.may.reading.grown, round.may.some)
+    omega (arith, most_read d r round.may (core d (at.RoundStart (aims.Read r))), more d.tries d.limits.patience (d.entry + total r + 4) round.tried round.is_open.tries, round.spent, round.may.reading.grown, left d r round.may)
 rounds d aims.Commit steps round l =
     omega (arith, more d.tries d.limits.patience (d.entry + 3) round.tried round.is_open.tries, round.spent, round.may.grown)
 
@@ -55,8 +67,8 @@ rounds d aims.Commit steps round l =
 within : (d : Data) (phase : Phase) → IsSound d phase → IsWaiting phase → d.spent ≤ most (core d phase) (doing_of phase)
 within d at.Idle s w = absurd w
 within d (at.Begin b) s w = omega (arith, s.in_phase.1, s.in_phase.0.tries)
-within d (at.Load r) s w = omega (arith, s.in_phase.3, s.in_phase.1.some, mul-le-mul_right {m = d.tries} {n = d.limits.patience} (d.entry + count r + 4) s.in_phase.0.tries)
-within d (at.Confirm r value) s w = omega (arith, s.in_phase.3, s.in_phase.1.some, mul-le-mul_right {m = d.tries} {n = d.limits.patience} (d.entry + count r + 4) s.in_phase.0.tries)
+within d (at.Load r) s w = omega (arith, most_read d r s.in_phase.1 (core d (at.Load r)), s.in_phase.3, left d r s.in_phase.1, mul-le-mul_right {m = d.tries} {n = d.limits.patience} (d.entry + total r + 4) s.in_phase.0.tries)
+within d (at.Confirm r value) s w = omega (arith, most_read d r s.in_phase.1 (core d (at.Confirm r value)), s.in_phase.3, left d r s.in_phase.1, mul-le-mul_right {m = d.tries} {n = d.limits.patience} (d.entry + total r + 4) s.in_phase.0.tries)
 within d (at.RoundStart aim) s w = rounds d aim 1 s.in_phase (omega arith)
 within d (at.RoundRow aim row) s w = rounds d aim (row + 2) s.in_phase.0 (omega (arith, s.in_phase.2))
 within d (at.RoundEnd aim) s w = rounds d aim (length d.log.rows + 2) s.in_phase.0 (omega arith)
@@ -73,28 +85,28 @@ counts : (d : Data) (phase : Phase) → IsSound d phase → IsWithin (core d pha
 counts d phase s = λ n. within d phase s (waiting d phase n)
 
 -- a bound that every call's most steps keep
-few : (p k w s : ℕ) → p ≤ MAX_PATIENCE → k ≤ 2 ^ 64 + 9 → w < 2 ^ 64 → s ≤ p * k + 2 * w + 8 → s < 2 ^ 128
-few p k w s a b c h = omega (arith, h, mul-le p k MAX_PATIENCE (2 ^ 64 + 9) a b)
+few : (p k w s : ℕ) → p ≤ MAX_PATIENCE → k ≤ 2 ^ 64 + 10244 → w < 2 ^ 64 → s ≤ p * k + 2 * w + 2 → s < 2 ^ 128
+few p k w s a b c h = omega (arith, h, mul-le p k MAX_PATIENCE (2 ^ 64 + 10244) a b)
 
-read_few : (d : Data) (r : Reading) → d.limits.patience ≤ MAX_PATIENCE → d.entry < 2 ^ 64 → d.spent ≤ 2 * count r + d.limits.patience * (d.entry + count r + 4) → d.spent < 2 ^ 128
-read_few d r p e h = few d.limits.patience (d.entry + count r + 4) 5 d.spent p (omega (arith, some_words r)) (omega arith) (omega (arith, some_words r, h))
+read_few : (d : Data) (r : Reading) (c : Core) → MayRead d r → d.words ≤ MAX_WORDS → c.patience ≤ MAX_PATIENCE → c.entry < 2 ^ 64 → d.spent ≤ most c (Some (call_for r.purpose r.at)) → d.spent < 2 ^ 128
+read_few d r c may w p e h = few c.patience (c.entry + total r + 4) (total r) d.spent p (omega (arith, e, few_read d r may w)) (omega (arith, few_read d r may w)) (omega (arith, most_read d r may c, h))
 
-commit_few : (d : Data) → d.limits.patience ≤ MAX_PATIENCE → d.entry < 2 ^ 64 → length d.frames.writes.rows < 2 ^ 64 → d.spent ≤ d.limits.patience * (d.entry + 3) + 2 * length d.frames.writes.rows + 2 → d.spent < 2 ^ 128
-commit_few d p l w h = few d.limits.patience (d.entry + 3) (length d.frames.writes.rows) d.spent p (omega arith) w (omega (arith, h))
+commit_few : (d : Data) → d.entry < 2 ^ 64 → d.limits.patience ≤ MAX_PATIENCE → length d.frames.writes.rows < 2 ^ 64 → d.spent ≤ d.limits.patience * (d.entry + 3) + 2 * length d.frames.writes.rows + 2 → d.spent < 2 ^ 128
+commit_few d l p w h = few d.limits.patience (d.entry + 3) (length d.frames.writes.rows) d.spent p (omega arith) w (omega (arith, h))
 
 -- so the count fits
-fits_most : (d : Data) (phase : Phase) → IsWaiting phase → d.limits.patience ≤ MAX_PATIENCE → length d.frames.writes.rows < 2 ^ 64 → d.entry < 2 ^ 64 → d.spent ≤ most (core d phase) (doing_of phase) → d.spent < 2 ^ 128
-fits_most d at.Idle w p m e h = absurd w
-fits_most d (at.Begin b) w p m e h = omega (arith, h)
-fits_most d (at.Load r) w p m e h = read_few d r p e h
-fits_most d (at.Confirm r value) w p m e h = read_few d r p e h
-fits_most d (at.RoundStart (aims.Read r)) w p m e h = read_few d r p e h
-fits_most d (at.RoundRow (aims.Read r) row) w p m e h = read_few d r p e h
-fits_most d (at.RoundEnd (aims.Read r)) w p m e h = read_few d r p e h
-fits_most d phase w p m e h = commit_few d p e m h
+fits_most : (d : Data) (phase : Phase) → IsSound d phase → IsWaiting phase → length d.frames.writes.rows < 2 ^ 64 → d.entry < 2 ^ 64 → d.spent ≤ most (core d phase) (doing_of phase) → d.spent < 2 ^ 128
+fits_most d at.Idle s w m e h = absurd w
+fits_most d (at.Begin b) s w m e h = (let p = s.bounds.patient.1 in omega (arith, h, p))
+fits_most d (at.Load r) s w m e h = read_few d r (core d (at.Load r)) s.in_phase.1 s.bounds.small s.bounds.patient.1 e h
+fits_most d (at.Confirm r value) s w m e h = read_few d r (core d (at.Confirm r value)) s.in_phase.1 s.bounds.small s.bounds.patient.1 e h
+fits_most d (at.RoundStart (aims.Read r)) s w m e h = read_few d r (core d (at.RoundStart (aims.Read r))) s.in_phase.may s.bounds.small s.bounds.patient.1 e h
+fits_most d (at.RoundRow (aims.Read r) row) s w m e h = read_few d r (core d (at.RoundRow (aims.Read r) row)) s.in_phase.0.may s.bounds.small s.bounds.patient.1 e h
+fits_most d (at.RoundEnd (aims.Read r)) s w m e h = read_few d r (core d (at.RoundEnd (aims.Read r))) s.in_phase.0.may s.bounds.small s.bounds.patient.1 e h
+fits_most d phase s w m e h = commit_few d e s.bounds.patient.1 m h
 
 pub fits : (d : Data) (phase : Phase) → IsSound d phase → IsWaiting phase → length d.frames.writes.rows < 2 ^ 64 → d.entry < 2 ^ 64 → d.spent < 2 ^ 128
-fits d phase s w m e = fits_most d phase w s.bounds.patient.1 m e (within d phase s w)
+fits d phase s w m e = fits_most d phase s w m e (within d phase s w)
 
 -- so it is after a turn
 pub counts_after : (turn : Turn) (d new : Data) (phase : Phase) → IsSoundTurn turn d → new ≡ data_after turn d → phase ≡ phase_after turn → IsWithin (core new phase)

@@ -5,7 +5,7 @@ use Rattle.itm_types.specs.Memory.{bytes_of}
 use Rattle.undo_log.specs.Rollback.{kept_of}
 use Rattle.itm_types.proofs.KeptBytes.{length-restored}
 use Rattle.undo_log.proofs.KeptBytes.{kept_of-same}
-use Rattle.write_set.specs.Marks.{unwritten}
+use Rattle.write_set.specs.Marks.{Written}
 use Rattle.write_set.specs.Rows.{overlay}
 use Rattle.nest_frames.specs.Nest.{Frame, arena_back, arena_restored}
 use Rattle.itm_model.specs.Machine.{undone, undone_from}
@@ -13,7 +13,7 @@ use Rattle.norec_engine.specs.declared.phase.Phase.{Phase}
 use Rattle.norec_engine.specs.declared.phase.Phase.TheVariants as at
 use Rattle.norec_engine.specs.declared.data.Data.{Data}
 use Rattle.norec_engine.specs.Core.{Core, is_inside, in_transaction, ended, rolled_back}
-use Rattle.norec_engine.specs.Fields.{core, in_block, holds_of, AreFrames, InPhase, IsEnded}
+use Rattle.norec_engine.specs.Fields.{core, in_block, holds_of, writes_of, AreFrames, InPhase, IsEnded}
 use Rattle.norec_engine.specs.Proceeds.{IsUndone}
 use Rattle.norec_engine.specs.declared.answer.Undone.TheVariants.{Nothing, Done, Held}
 use Rattle.norec_engine.specs.Undoing.{undone_of, after_undoing}
@@ -99,9 +99,9 @@ open_frames d (at.Store row None) p o = p.0.is_open.frames
 open_frames d (at.Store row (Some word)) p o = p.0.is_open.frames
 open_frames d at.Free p o = p.is_open.frames
 
-none_written : (d : Data) (phase : Phase) → InPhase d phase → in_block d ≡ false → d.frames.writes ≡ unwritten
-none_written d at.Idle p o = (p.1 o).writes
-none_written d (at.Begin b) p o = p.0.writes
+none_written : (d : Data) (phase : Phase) → InPhase d phase → in_block d ≡ false → writes_of d phase ≡ []
+none_written d at.Idle p o = ap (λ (w : Written). w.rows) (p.1 o).writes
+none_written d (at.Begin b) p o = ap (λ (w : Written). w.rows) p.0.writes
 none_written d (at.Load r) p o = (let inside = p.0.is_open in absurd (cc))
 none_written d (at.Confirm r value) p o = (let inside = p.0.is_open in absurd (cc))
 none_written d (at.RoundStart aim) p o = (let inside = p.is_open.is_open in absurd (cc))
@@ -137,7 +137,7 @@ undone_left d new phase false o p f e same = λ m mem.
     (let none = none_inside d.frames.blocks o in
     let nothing = none_written d phase p o in
     ap (λ (c : Core). stands_for c m) (core_left d new phase f e)
-    ∙ ((λ i. state_over [] [] (arena_back (none i) d.arena) m) ∙ sym (λ i. undone (state_over (nothing i).rows (none i) d.arena m))))
+    ∙ ((λ i. state_over [] [] (arena_back (none i) d.arena) m) ∙ sym (λ i. undone (state_over (nothing i) (none i) d.arena m))))
 
 pub undone_of_left : (d new : Data) (phase : Phase) → InPhase d phase → IsFree phase → IsEnded d (arena_back d.frames.blocks d.arena) new
     → arena_back d.frames.blocks d.arena ≡ arena_restored d.frames.blocks d.arena → IsUndone (core d phase) (core new at.Idle)

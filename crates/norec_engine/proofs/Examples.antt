@@ -13,6 +13,7 @@ use Rattle.write_set.specs.declared.row.Row.{Row}
 use Rattle.norec_engine.specs.declared.answer.Answer.{Answer}
 use Rattle.norec_engine.specs.declared.answer.Answer.TheVariants.{Committed, Conflict, Busy, Full}
 use Rattle.norec_engine.specs.declared.phase.Reading.{Reading}
+use Rattle.norec_engine.specs.declared.phase.Purpose.TheVariants as for
 use Rattle.norec_engine.specs.declared.phase.Aim.TheVariants as aims
 use Rattle.norec_engine.specs.declared.phase.Phase.{Phase}
 use Rattle.norec_engine.specs.declared.phase.Phase.TheVariants.{Idle, Begin, Load, Confirm, RoundStart, RoundRow, RoundEnd, Exchange, BackLoad, Store, Free}
@@ -84,10 +85,10 @@ byte_of word byte = record { word = word; mask = 0xff00; value = 256 * byte }
 
 -- eight bytes from a place on, at the first piece and at the second
 abbrev first : ℕ → Reading
-first at = record { hint = R; width = U8; at = at; number = 0 }
+first at = record { purpose = for.Value R U8; at = at; size = 8; number = 0 }
 
 abbrev second : ℕ → Reading
-second at = record { hint = R; width = U8; at = at; number = 1 }
+second at = record { purpose = for.Value R U8; at = at; size = 8; number = 1 }
 
 abbrev read : ℕ → Call
 read at = calls.Read R U8 at

@@ -11,6 +11,7 @@ use Rattle.norec_engine.specs.declared.phase.Phase.{Phase}
 use Rattle.norec_engine.specs.declared.phase.Phase.TheVariants as at
 use Rattle.norec_engine.specs.Core.{Core, handed_to, word_loaded}
 use Rattle.norec_engine.specs.Proceeds.{AsksFor, most}
+use Rattle.norec_engine.specs.Copies.{source_words}
 use Rattle.norec_engine.specs.Stands.{stands_for}
 use Rattle.norec_engine.specs.Keeps.{Keeps}
 
@@ -82,4 +83,5 @@ pub most_same : (a b : Core) → Keeps a b → (o : Option Call) → most b o �
 most_same a b k (Some (calls.Begin props room)) = λ i. 2 * k.patience i
 most_same a b k (Some calls.Commit) = λ i. k.patience i * (k.entry i + 3) + 2 * length (k.writes i) + 2
 most_same a b k (Some (calls.Read hint width at)) = λ i. 2 * count_of at (size_of width) + k.patience i * (k.entry i + count_of at (size_of width) + 4)
+most_same a b k (Some (calls.Copy c)) = λ i. 2 * source_words c + k.patience i * (k.entry i + source_words c + 4)
 most_same a b k _ = refl

@@ -10,7 +10,7 @@ use Rattle.itm_types.specs.declared.datum.Datum.{Datum}
 use Rattle.itm_types.specs.declared.limits.TheConstants.{MAX_OPEN_BLOCKS}
 use Rattle.nest_frames.specs.Nest.{Frame}
 use Rattle.itm_types.specs.declared.call.Call.{Call}
-use Rattle.itm_types.specs.declared.call.Call.TheVariants.{Commit, Read, Write}
+use Rattle.itm_types.specs.declared.call.Call.TheVariants.{Commit, Read, Write, Fill}
 use Rattle.itm_types.specs.declared.call.Refusal.{Refusal}
 use Rattle.itm_types.specs.declared.call.Reply.TheVariants.{Done, Bytes, Refused}
 use Rattle.itm_types.specs.declared.call.Refusal.TheVariants.{Outside, OutOfRange}
@@ -74,7 +74,7 @@ is_some_row-put [] word mask value = refl
 is_some_row-put (r ∷ rs) word mask value = cond_both (r.word == word) (row_with r mask value ∷ rs) (r ∷ put rs word mask value) (λ x. is_some_row x ≡ true) (λ e. refl) (λ e. refl)
 
 -- what has a row has one with more pieces
-is_some_row-put_all : (rows : List Row) (ps : List Piece) (bytes : List ℕ) → is_some_row rows ≡ true → is_some_row (put_all rows ps bytes) ≡ true
+pub is_some_row-put_all : (rows : List Row) (ps : List Piece) (bytes : List ℕ) → is_some_row rows ≡ true → is_some_row (put_all rows ps bytes) ≡ true
 is_some_row-put_all rows [] bytes h = h
 is_some_row-put_all rows (p ∷ ps) bytes h =
     is_some_row-put_all (put rows p.word (mask_of p.first p.count) (scattered p bytes)) ps bytes (is_some_row-put rows p.word (mask_of p.first p.count) (scattered p bytes))
@@ -84,7 +84,7 @@ some_put rows [] bytes l = absurd (omega arith)
 some_put rows (p ∷ ps) bytes l =
     is_some_row-put_all (put rows p.word (mask_of p.first p.count) (scattered p bytes)) ps bytes (is_some_row-put rows p.word (mask_of p.first p.count) (scattered p bytes))
 
-or_true : (b : Bool) → (b || true) ≡ true
+pub or_true : (b : Bool) → (b || true) ≡ true
 or_true true = refl
 or_true false = refl
 
@@ -127,13 +127,16 @@ writes rows (f ∷ fs) arena m words hint value at o mem rows' l some is =
 pub refuses : (s : State) (call : Call) (why : Refusal) → refusal MAX_OPEN_BLOCKS s call ≡ Some why → (s ≡ after MAX_OPEN_BLOCKS s call) × (Refused why ≡ reply MAX_OPEN_BLOCKS s call)
 refuses s call why e = (sym (ap (λ r. after_unless r s (effect s call)) e), sym (ap (λ r. reply_unless r (answer s call)) e))
 
--- a read or a write of these bytes
+-- a read, a write or a fill of these bytes
 refusal_of : (s : State) (call : Call) (at size : ℕ) → access_of call ≡ Some (at, size) → refusal MAX_OPEN_BLOCKS s call ≡ or_else (needs_open s) (in_shared s at size)
 refusal_of s (Read hint width at') at size e =
     let same : (at', size_of width) ≡ (at, size) = cc in
     ap (λ (x : ℕ × ℕ). or_else (needs_open s) (in_shared s x.0 x.1)) same
 refusal_of s (Write hint at' value) at size e =
     let same : (at', size_of value.width) ≡ (at, size) = cc in
+    ap (λ (x : ℕ × ℕ). or_else (needs_open s) (in_shared s x.0 x.1)) same
+refusal_of s (Fill hint to byte size') at size e =
+    let same : (to, size') ≡ (at, size) = cc in
     ap (λ (x : ℕ × ℕ). or_else (needs_open s) (in_shared s x.0 x.1)) same
 refusal_of s call at size e = absurd (cc)
 
@@ -142,15 +145,20 @@ open_is rows [] arena m = refl
 open_is rows (f ∷ fs) arena m = lt-ltb 0 (length (blocks_over (f ∷ fs) arena m)) (omega arith)
 
 -- is refused by an engine as by the state that it stands for
+pub access_same : (rows : List Row) (blocks : List Frame) (arena m : List ℕ) (words : ℕ) (call : Call) (at size : ℕ) → IsMemory words m → access_of call ≡ Some (at, size)
+    → refusal MAX_OPEN_BLOCKS (state_over rows blocks arena m) call ≡ access_refusal (is_inside blocks) words at size
+access_same rows blocks arena m words call at size mem is =
+    let len = length-bytes_of (overlay m rows) in
+    let size_is : length (overlay m rows) ≡ words = length-overlay m rows ∙ mem.0 in
+    let n : length (bytes_of (overlay m rows)) ≡ 8 * words = omega arith in
+    refusal_of (state_over rows blocks arena m) call at size is
+    ∙ (λ i. or_else (unless (open_is rows blocks arena m i) Outside) (unless (nat_le (at + size) (n i)) OutOfRange))
+
 pub access_refused : (rows : List Row) (blocks : List Frame) (arena m : List ℕ) (words : ℕ) (call : Call) (at size : ℕ) (why : Refusal) → IsMemory words m
     → access_of call ≡ Some (at, size) → access_refusal (is_inside blocks) words at size ≡ Some why
     → (state_over rows blocks arena m ≡ after MAX_OPEN_BLOCKS (state_over rows blocks arena m) call) × (Refused why ≡ reply MAX_OPEN_BLOCKS (state_over rows blocks arena m) call)
 access_refused rows blocks arena m words call at size why mem is e =
-    let len = length-bytes_of (overlay m rows) in
-    let size_is : length (overlay m rows) ≡ words = length-overlay m rows ∙ mem.0 in
-    let n : length (bytes_of (overlay m rows)) ≡ 8 * words = omega arith in
-    refuses (state_over rows blocks arena m) call why
-    (refusal_of (state_over rows blocks arena m) call at size is ∙ ((λ i. or_else (unless (open_is rows blocks arena m i) Outside) (unless (nat_le (at + size) (n i)) OutOfRange)) ∙ e))
+    refuses (state_over rows blocks arena m) call why (access_same rows blocks arena m words call at size mem is ∙ e)
 
 -- ## Commits
 

@@ -85,10 +85,12 @@ module _ (mid new new' : Core) (end : Option Answer)
       let e = g.stays in
       let e' = g'.stays in
       let m = one_memory (ap (λ (c : Core). c.words) e) (ap (λ (c : Core). c.words) e') in
-      let one : r ≡ r' = g.reply_is m.0 m.1 (Agrees-drop m.0 mid.entry new.log m.2) ∙ sym (g'.reply_is m.0 m.1 (Agrees-drop m.0 mid.entry new'.log m.3)) in
-      let writes : new.writes ≡ new'.writes = g.writes ∙ (ap (writes_after mid call) one ∙ sym g'.writes) in
+      let own = Agrees-drop m.0 mid.entry new.log m.2 in
+      let own' = Agrees-drop m.0 mid.entry new'.log m.3 in
+      let one : r ≡ r' = g.reply_is m.0 m.1 own ∙ sym (g'.reply_is m.0 m.1 own') in
+      let writes : new.writes ≡ new'.writes = g.writes m.0 m.1 own ∙ (ap (writes_after mid m.0 call) one ∙ sym (g'.writes m.0 m.1 own')) in
       let blocks : new.blocks ≡ new'.blocks = g.blocks ∙ (ap (blocks_after mid call) one ∙ sym g'.blocks) in
-      let arena : new.arena ≡ new'.arena = g.arena ∙ (ap (arena_after mid call) one ∙ sym g'.arena) in
+      let arena : new.arena ≡ new'.arena = g.arena m.0 m.1 own ∙ (ap (arena_after mid m.0 call) one ∙ sym (g'.arena m.0 m.1 own')) in
       let log = same_log (ap is_inside blocks) in (
         one,
         e ∙ ((λ i. record mid {

@@ -2,7 +2,7 @@
 use Rattle.std.proofs.Common.{◌≡◌, ℕ, ◌+◌, ◌*◌, ◌≤◌, nat_le, Bool, true, false, List, length, Option, None, Some, refl, sym, ap, subst, ◌∙◌, inl, inr, if◌then◌else◌}
 use Rattle.std.proofs.lemmas.Bool.{cases_Bool, leb-true, le-leb}
 use Rattle.itm_types.specs.declared.call.Call.{Call}
-use Rattle.itm_types.specs.declared.call.Call.TheVariants.{Begin, Commit, Abort, InTransaction, Write, Log, LogBytes, Save}
+use Rattle.itm_types.specs.declared.call.Call.TheVariants.{Begin, Commit, Abort, InTransaction, Write, Log, LogBytes, Copy, Fill, Save}
 use Rattle.itm_types.specs.declared.call.Refusal.{Refusal}
 use Rattle.itm_types.specs.declared.call.Refusal.TheVariants.{OutOfRange, OutOfArena}
 use Rattle.itm_types.specs.declared.call.Reply.TheVariants.{Done, Code, Refused}
@@ -35,10 +35,12 @@ served true words place size e = elim (cases_Bool (nat_le (place + size) (8 * wo
   | inr far ↦ (let some : Some OutOfRange ≡ None = ap (λ (b : Bool). unless b OutOfRange) (sym far) ∙ e in absurd (cc))
 ]
 
-writes_kept : (c : Core) (call : Call) (why : Refusal) → writes_after c call (Refused why) ≡ c.writes
-writes_kept c (Write hint at value) why = refl
-writes_kept c (Abort outer) why = refl
-writes_kept c call why = refl
+writes_kept : (c : Core) (m : List ℕ) (call : Call) (why : Refusal) → writes_after c m call (Refused why) ≡ c.writes
+writes_kept c m (Write hint at value) why = refl
+writes_kept c m (Copy k) why = refl
+writes_kept c m (Fill hint to byte size) why = refl
+writes_kept c m (Abort outer) why = refl
+writes_kept c m call why = refl
 
 blocks_kept : (c : Core) (call : Call) (why : Refusal) → blocks_after c call (Refused why) ≡ c.blocks
 blocks_kept c (Begin props room) why = refl
@@ -48,10 +50,11 @@ blocks_kept c (Log width at) why = refl
 blocks_kept c (LogBytes at size) why = refl
 blocks_kept c call why = refl
 
-arena_kept : (c : Core) (call : Call) (why : Refusal) → arena_after c call (Refused why) ≡ c.arena
-arena_kept c (Save at value) why = refl
-arena_kept c (Abort outer) why = refl
-arena_kept c call why = refl
+arena_kept : (c : Core) (m : List ℕ) (call : Call) (why : Refusal) → arena_after c m call (Refused why) ≡ c.arena
+arena_kept c m (Save at value) why = refl
+arena_kept c m (Copy k) why = refl
+arena_kept c m (Abort outer) why = refl
+arena_kept c m call why = refl
 
 -- a call that begins no block anew is told what it is answered
 pub told_plainly : (call : Call) (r : Replied) → recoded call false r ≡ r
@@ -61,14 +64,15 @@ told_plainly call r = refl
 -- a reply that leaves the engine as it was, but for the counts and perhaps the arena
 local_replies : (d : Data) (call : Call) (r : Replied) (arena : List ℕ) → IsSound d Idle
     → ((m : List ℕ) → IsMemory d.words m → (state_over d.frames.writes.rows d.frames.blocks arena m ≡ after MAX_OPEN_BLOCKS (stands d m) call) × (r ≡ reply MAX_OPEN_BLOCKS (stands d m) call))
-    → d.frames.writes.rows ≡ writes_after (came (core d Idle) call false) call r → arena ≡ arena_after (came (core d Idle) call false) call r → d.frames.blocks ≡ blocks_after (came (core d Idle) call false) call r
+    → ((m : List ℕ) → d.frames.writes.rows ≡ writes_after (came (core d Idle) call false) m call r) → ((m : List ℕ) → arena ≡ arena_after (came (core d Idle) call false) m call r)
+    → d.frames.blocks ≡ blocks_after (came (core d Idle) call false) call r
     → Replies (came (core d Idle) call false) call r (core (record d { arena = arena; spent = 0; entry = length d.log.rows }) Idle)
 local_replies d call r arena s all writes left blocks = record {
   meets = λ m mem agrees. (all m mem).0;
   reply_is = λ m mem agrees. (all m mem).1 ∙ sym (told_plainly call (reply MAX_OPEN_BLOCKS (stands d m) call));
   stays = refl;
-  writes = writes;
-  arena = left;
+  writes = λ m mem agrees. writes m;
+  arena = λ m mem agrees. left m;
   free = refl;
   unfreed = refl;
   blocks = blocks;
@@ -82,7 +86,7 @@ pub denied : (d : Data) (call : Call) (why : Refusal) → IsSound d Idle
     → Replies (came (core d Idle) call false) call (Refused why) (core (record d { spent = 0; entry = length d.log.rows }) Idle)
 denied d call why s all =
     let c = came (core d Idle) call false in
-    local_replies d call (Refused why) d.arena s all (sym (writes_kept c call why)) (sym (arena_kept c call why)) (sym (blocks_kept c call why))
+    local_replies d call (Refused why) d.arena s all (λ m. sym (writes_kept c m call why)) (λ m. sym (arena_kept c m call why)) (sym (blocks_kept c call why))
 
 pub refused_replies : (d : Data) (call : Call) (at size : ℕ) (why : Refusal) → IsSound d Idle → access_of call ≡ Some (at, size)
     → access_refusal (in_block d) d.words at size ≡ Some why
@@ -95,7 +99,7 @@ pub asked_replies : (d : Data) → IsSound d Idle
     → Replies (came (core d Idle) InTransaction false) InTransaction (Code (if in_block d then 1 else 0)) (core (record d { spent = 0; entry = length d.log.rows }) Idle)
 asked_replies d s =
     local_replies d InTransaction (Code (if in_block d then 1 else 0)) d.arena s
-    (λ m mem. (refl, ap (λ (o : Bool). Code (if o then 1 else 0)) (sym (open_is d.frames.writes.rows d.frames.blocks d.arena m)))) refl refl refl
+    (λ m mem. (refl, ap (λ (o : Bool). Code (if o then 1 else 0)) (sym (open_is d.frames.writes.rows d.frames.blocks d.arena m)))) (λ m. refl) (λ m. refl) refl
 
 -- a save that is accepted
 saved_replies : (d : Data) (value : Datum) (place : ℕ) (arena : List ℕ) → IsSound d Idle → place + size_of value.width ≤ length d.arena
@@ -109,7 +113,7 @@ saved_replies d value place arena s within left size =
       (λ i. record { memory = now.memory; arena = left i; blocks = same i; wrote = now.wrote })
           ∙ sym (ap (λ (r : Option Refusal). after_unless r now (effect now (Save place value))) none),
       sym (ap (λ (r : Option Refusal). reply_unless r Done) none),
-    ))) refl left refl
+    ))) (λ m. refl) (λ m. left) refl
 
 pub save_replies : (d new : Data) (value : Datum) (place : ℕ) (arena : List ℕ) → new ≡ record d { spent = 0; entry = length d.log.rows } → IsSound d Idle
     → place + size_of value.width ≤ length new.arena → arena ≡ with_slice new.arena place value.bytes.items → length arena ≡ length new.arena

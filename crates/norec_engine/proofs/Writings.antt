@@ -1,11 +1,12 @@
 -- The pieces of a value go into the write set.
-use Rattle.std.proofs.Common.{◌≡◌, ℕ, ◌+◌, ◌^◌, ◌<◌, ◌≤◌, ◌*◌, ◌/◌, ◌%◌, ◌==◌, replicate, List, [], ◌∷◌, ◌++◌, length, map, true, false, is_some, is_err, IsSome, Result, Ok, Err, IsOk, OnOk, OnErr, refl, sym, ap, ◌∙◌, inl, inr, arith}
+use Rattle.std.proofs.Common.{◌≡◌, ℕ, ◌+◌, ◌^◌, ◌<◌, ◌≤◌, ◌*◌, ◌/◌, ◌%◌, ◌==◌, replicate, List, [], ◌∷◌, ◌++◌, drop, length, length-append, map, take, true, false, is_some, is_err, IsSome, Result, Ok, Err, IsOk, OnOk, OnErr, refl, sym, ap, subst, ◌∙◌, inl, inr, arith}
 use Rattle.std.specs.Int.{w64, from_le_bytes}
 use Rattle.itm_types.specs.Slices.{slice, with_slice, AreBytes}
 use Rattle.word_pieces.proofs.MaskBytes.{mask_of-lt}
 use Rattle.word_pieces.proofs.Parts.{AreBytes-with_slice, AreBytes-zeros, AreBytes-slice}
 use Rattle.word_pieces.proofs.Covers.{AllByRecursion-pieces_of, words_of-pieces_of, bytes_of-written}
 use Rattle.std.proofs.lemmas.Bool.{cases_Bool, cond_both, cond-false, ne_eqb}
+use Rattle.std.proofs.lemmas.List.{drop_all, take_all}
 use Rattle.std.proofs.lemmas.List.FromFn.{length-map-range_with_len}
 use Rattle.std.specs.List.{AllByRecursion}
 use Rattle.itm_types.specs.Memory.{bytes_of, AllFit}
@@ -13,8 +14,8 @@ use Rattle.word_pieces.specs.declared.piece.Piece.{Piece}
 use Rattle.word_pieces.specs.Masks.{mask_of}
 use Rattle.word_pieces.specs.Pieces.{piece_of, pieces_of, count_of, scattered, written, IsPiece}
 use Rattle.write_set.specs.declared.row.Row.{Row}
-use Rattle.write_set.specs.Rows.{overlay, lookup, put, reserved, row_with, AreRows}
-use Rattle.write_set.proofs.Overlays.{lookup_here, lookup_there, lookup-reserved, length-overlay, overlay-put, overlay-reserved, AreRows-put, AreRows-reserved}
+use Rattle.write_set.specs.Rows.{overlay, lookup, put, reserved, row, row_with, AreEmpty, AreRows}
+use Rattle.write_set.proofs.Overlays.{cut-reserved, found_or_none, lookup_here, lookup_there, lookup-reserved, reserved_new, reserved_old, length-overlay, overlay-put, overlay-reserved, AreRows-put, AreRows-reserved}
 use Rattle.norec_engine.specs.Rows.{reserved_all, put_all, AllWritesWithin}
 
 -- one piece more
@@ -25,6 +26,27 @@ put_all_more rows (q ∷ qs) p bytes = put_all_more (put rows q.word (mask_of q.
 pub reserved_all_more : (rows : List Row) (ps : List Piece) (p : Piece) → reserved_all rows (ps ++ p ∷ []) ≡ reserved (reserved_all rows ps) p.word
 reserved_all_more rows [] p = refl
 reserved_all_more rows (q ∷ qs) p = reserved_all_more (reserved rows q.word) qs p
+
+longer-reserved : (rows : List Row) (word : ℕ) → length rows ≤ length (reserved rows word)
+longer-reserved rows word = elim (found_or_none rows word) [
+  | inl found ↦ (let e = ap (length {A = Row}) (reserved_old rows word found.0 found.1) in omega arith)
+  | inr none ↦ (let e = ap (length {A = Row}) (reserved_new rows word none) in let len = length-append rows (row word 0 0 ∷ []) in omega arith)
+]
+
+cut-from : (rows : List Row) (ps : List Piece) (n : ℕ) → n ≤ length rows → AreEmpty (drop n rows) → AreEmpty (drop n (reserved_all rows ps)) × (take n (reserved_all rows ps) ≡ take n rows)
+cut-from rows [] n l e = (e, refl)
+cut-from rows (p ∷ ps) n l e =
+    let longer = longer-reserved rows p.word in
+    let one = cut-reserved rows p.word n l e in
+    let rest = cut-from (reserved rows p.word) ps n (omega arith) one.0 in
+    (rest.0, rest.1 ∙ one.1)
+
+-- a cut takes the rows back
+pub cut-reserved_all : (rows : List Row) (ps : List Piece) → AreEmpty (drop (length rows) (reserved_all rows ps)) × (take (length rows) (reserved_all rows ps) ≡ rows)
+cut-reserved_all rows ps =
+    let none = drop_all (length rows) rows (omega arith) in
+    let cut = cut-from rows ps (length rows) (omega arith) (subst AreEmpty (sym none) tt) in
+    (cut.0, cut.1 ∙ take_all (length rows) rows (omega arith))
 
 -- the pieces fit words of the memory
 abbrev pub AllFitIn : ℕ → List Piece → List ℕ → Type 0
@@ -77,6 +99,10 @@ pub on_ok : {A E : Type 0} {P : Type 0} (r : Result A E) → OnOk r P → is_err
 on_ok (Ok x) h e = h
 on_ok (Err x) h e = absurd (cc)
 
+pub map_ok : {A E : Type 0} {P Q : Type 0} (r : Result A E) → (P → Q) → OnOk r P → OnOk r Q
+map_ok (Ok x) f h = f h
+map_ok (Err x) f h = h
+
 -- what holds at any result holds where it is an error
 pub either_way : {A E : Type 0} {P : Type 0} (r : Result A E) → P → OnErr r P
 either_way (Ok x) h = tt
@@ -99,9 +125,9 @@ AllWritesWithin-put_all words rows [] bytes h f = h
 AllWritesWithin-put_all words rows (p ∷ ps) bytes h f =
     AllWritesWithin-put_all words (put rows p.word (mask_of p.first p.count) (scattered p bytes)) ps bytes (AllWritesWithin-put words rows p.word (mask_of p.first p.count) (scattered p bytes) h f.0) f.3
 
-pub AllWritesWithin-reserved_all : (words : ℕ) (rows : List Row) (ps : List Piece) (bytes : List ℕ) → AllWritesWithin words rows → AllFitIn words ps bytes → AllWritesWithin words (reserved_all rows ps)
-AllWritesWithin-reserved_all words rows [] bytes h f = h
-AllWritesWithin-reserved_all words rows (p ∷ ps) bytes h f = AllWritesWithin-reserved_all words (reserved rows p.word) ps bytes (AllWritesWithin-reserved words rows p.word h f.0) f.3
+pub AllWritesWithin-reserved_all : (words : ℕ) (rows : List Row) (ps : List Piece) → AllWritesWithin words rows → AllByRecursion (λ (p : Piece). p.word < words) ps → AllWritesWithin words (reserved_all rows ps)
+AllWritesWithin-reserved_all words rows [] h f = h
+AllWritesWithin-reserved_all words rows (p ∷ ps) h f = AllWritesWithin-reserved_all words (reserved rows p.word) ps (AllWritesWithin-reserved words rows p.word h f.0) f.1
 
 pub AreRows-put_all : (words : ℕ) (rows : List Row) (ps : List Piece) (bytes : List ℕ) → AreRows rows → AllFitIn words ps bytes → AreRows (put_all rows ps bytes)
 AreRows-put_all words rows [] bytes are f = are

@@ -46,6 +46,8 @@ ending_at c (calls.Read hint width at) = None
 ending_at c (calls.Write hint at value) = None
 ending_at c (calls.Log width at) = None
 ending_at c (calls.LogBytes at size) = None
+ending_at c (calls.Copy k) = None
+ending_at c (calls.Fill hint to byte size) = None
 ending_at c (calls.Load width at) = None
 ending_at c (calls.Save at value) = None
 

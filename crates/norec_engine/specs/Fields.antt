@@ -1,17 +1,17 @@
 -- The engine's fields as what its callers see, and what is true of them.
-use Rattle.std.specs.Prelude.{◌≡◌, ◌≢◌, ℕ, ◌+◌, ◌-◌, ◌*◌, ◌/◌, ◌%◌, ◌<◌, ◌≤◌, nat_le, Bool, true, false, List, [], ◌∷◌, length, take, Option, None, Some}
+use Rattle.std.specs.Prelude.{◌≡◌, ◌≢◌, ℕ, ◌+◌, ◌-◌, ◌*◌, ◌/◌, ◌%◌, ◌<◌, ◌≤◌, nat_le, Bool, true, false, List, [], ◌∷◌, length, take, replicate, slice_get, All, Option, None, Some}
 use Rattle.itm_types.specs.declared.limits.TheConstants.{MAX_COMMITS, MAX_PATIENCE, MAX_WORDS}
 use Rattle.itm_types.specs.declared.row.LogRow.{LogRow}
 use Rattle.write_set.specs.declared.row.Row.{Row}
 use Rattle.itm_types.specs.declared.call.Call.{Call}
-use Rattle.itm_types.specs.declared.call.Call.TheVariants.{Begin, Commit, Read}
+use Rattle.itm_types.specs.declared.call.Call.TheVariants.{Begin, Commit, Read, Copy}
 use Rattle.nest_frames.specs.Nest.{Frame}
 use Rattle.itm_types.specs.declared.call.Refusal.{Refusal}
 use Rattle.itm_types.specs.declared.call.Refusal.TheVariants.{Outside, OutOfRange}
 use Rattle.itm_types.specs.declared.step.Step.{Step}
 use Rattle.itm_model.specs.Machine.{unless, or_else}
 use Rattle.itm_types.specs.Access.{size_of}
-use Rattle.itm_types.specs.Memory.{IsMemory, Agrees}
+use Rattle.itm_types.specs.Memory.{bytes_of, IsMemory, Agrees}
 use Rattle.word_pieces.specs.declared.piece.Piece.{Piece}
 use Rattle.word_pieces.specs.Masks.{whole}
 use Rattle.word_pieces.specs.Pieces.{piece_of, pieces_of, count_of, gathered}
@@ -20,6 +20,15 @@ use Rattle.norec_engine.specs.declared.phase.Aim.TheVariants as aims
 use Rattle.norec_engine.specs.declared.phase.Phase.{Phase}
 use Rattle.norec_engine.specs.declared.phase.Phase.TheVariants as at
 use Rattle.norec_engine.specs.declared.phase.Reading.{Reading}
+use Rattle.norec_engine.specs.declared.phase.Purpose.{Purpose}
+use Rattle.norec_engine.specs.declared.phase.Purpose.TheVariants as for
+use Rattle.itm_types.specs.declared.call.Copying.{Copying}
+use Rattle.itm_types.specs.declared.copy.CopyPair.{CopyPair}
+use Rattle.itm_types.specs.declared.copy.CopyPair.TheVariants.{Out, In, Within}
+use Rattle.itm_types.specs.Slices.{slice}
+use Rattle.word_pieces.specs.declared.chunk.Chunk.{Chunk}
+use Rattle.word_pieces.specs.Chunks.{chunks_written}
+use Rattle.norec_engine.specs.Copies.{copy_refusal, chunks_in, words_in, source_words, source_in, is_out}
 use Rattle.norec_engine.specs.declared.phase.Turn.{Turn}
 use Rattle.norec_engine.specs.declared.phase.Turn.TheVariants.{Wait, End}
 use Rattle.norec_engine.specs.declared.data.Data.{Data}
@@ -27,8 +36,8 @@ use Rattle.itm_types.specs.declared.limits.Limits.{Limits}
 use Rattle.norec_engine.specs.declared.answer.Answer.{Answer}
 use Rattle.norec_engine.specs.declared.answer.Next.{Next}
 use Rattle.norec_engine.specs.declared.answer.Next.TheVariants.{Step as Asks, Answer as Answers}
-use Rattle.norec_engine.specs.Rows.{write_at, is_covered, AllWithin, AllWritesWithin}
-use Rattle.write_set.specs.Marks.{unwritten}
+use Rattle.norec_engine.specs.Rows.{write_at, is_covered, reserved_all, range_pieces, AllWithin, AllWritesWithin}
+use Rattle.write_set.specs.Marks.{unwritten, Written, MayPut}
 use Rattle.write_set.specs.Rows.{overlay, AreRows}
 use Rattle.norec_engine.specs.Core.{Core, is_inside, is_outermost}
 use Rattle.norec_engine.specs.Order.{word_of, step_in, asked_in}
@@ -39,16 +48,36 @@ use Rattle.norec_engine.specs.Endings.{IsEnding}
 
 -- the piece
 abbrev pub part : Reading → Piece
-part r = piece_of r.at (size_of r.width) (word_of r)
+part r = piece_of r.at r.size (word_of r)
 
 abbrev pub parts : Reading → List Piece
-parts r = pieces_of r.at (size_of r.width)
+parts r = pieces_of r.at r.size
 
 abbrev pub count : Reading → ℕ
-count r = count_of r.at (size_of r.width)
+count r = count_of r.at r.size
+
+-- how many words the call reads in all, and how many pieces come before this one
+abbrev pub total_for : Purpose → ℕ → ℕ
+total_for (for.Value hint width) words = words
+total_for (for.Chunk k number) words = source_words k
+
+abbrev pub total : Reading → ℕ
+total r = total_for r.purpose (count r)
+
+abbrev pub passed_for : Purpose → ℕ → ℕ
+passed_for (for.Value hint width) number = number
+passed_for (for.Chunk k at) number = words_in k.from (take at (chunks_in k)) + number
+
+abbrev pub passed : Reading → ℕ
+passed r = passed_for r.purpose r.number
+
+-- the call that an access is made for
+abbrev pub call_for : Purpose → ℕ → Call
+call_for (for.Value hint width) at = Read hint width at
+call_for (for.Chunk k number) at = Copy k
 
 abbrev pub call_of : Aim → Call
-call_of (aims.Read r) = Read r.hint r.width r.at
+call_of (aims.Read r) = call_for r.purpose r.at
 call_of aims.Commit = Commit
 
 abbrev pub doing_of : Phase → Option Call
@@ -65,12 +94,29 @@ abbrev pub again_of : Phase → Bool
 again_of (at.Begin b) = b.again
 again_of _ = false
 
+-- the rows that were there as the call came: a copy's destination is given rows before its source is read
+abbrev pub rows_before : Data → List Row
+rows_before d = take d.written d.frames.writes.rows
+
+abbrev pub writes_for : Data → Aim → List Row
+writes_for d (aims.Read r) = rows_before d
+writes_for d aims.Commit = d.frames.writes.rows
+
+-- the write set in this phase
+abbrev pub writes_of : Data → Phase → List Row
+writes_of d (at.Load r) = rows_before d
+writes_of d (at.Confirm r value) = rows_before d
+writes_of d (at.RoundStart aim) = writes_for d aim
+writes_of d (at.RoundRow aim row) = writes_for d aim
+writes_of d (at.RoundEnd aim) = writes_for d aim
+writes_of d _ = d.frames.writes.rows
+
 -- the step that the phase waits for
 abbrev pub step_of : Data → Phase → Step
-step_of d phase = step_in d.log.rows d.snapshot d.frames.writes.rows phase
+step_of d phase = step_in d.log.rows d.snapshot (writes_of d phase) phase
 
 abbrev pub waits_of : Data → Phase → Option Step
-waits_of d phase = asked_in d.log.rows d.snapshot d.frames.writes.rows phase
+waits_of d phase = asked_in d.log.rows d.snapshot (writes_of d phase) phase
 
 abbrev pub fresh_of : List LogRow → Phase → List LogRow
 fresh_of log (at.Confirm r value) = record { word = word_of r; value = value } ∷ []
@@ -113,7 +159,7 @@ core d phase = record {
   clock = d.clock;
   fresh = fresh_of d.log.rows phase;
   log = d.log.rows;
-  writes = d.frames.writes.rows;
+  writes = writes_of d phase;
   blocks = d.frames.blocks;
   holds = holds_of phase;
   done = done_of d.frames.writes.rows phase;
@@ -136,11 +182,11 @@ access_refusal is_open words place size = or_else (unless is_open Outside) (unle
 
 -- the steps of one round for this aim, and those before the first round
 abbrev pub round_of : Aim → Data → ℕ
-round_of (aims.Read r) d = d.entry + count r + 4
+round_of (aims.Read r) d = d.entry + total r + 4
 round_of aims.Commit d = d.entry + 3
 
 abbrev pub first_of : Aim → ℕ
-first_of (aims.Read r) = 2 * r.number + 2
+first_of (aims.Read r) = 2 * passed r + 2
 first_of aims.Commit = 1
 
 -- the rows of the open blocks lie within the memory, and the outermost one began with none
@@ -172,13 +218,65 @@ pub record IsOutside (d : Data) : Type 0 where
   pub writes : d.frames.writes ≡ unwritten
   pub tries : d.tries ≤ d.limits.patience
 
+-- the rows that a copy's destination was given
+abbrev pub reserved_for : Copying → CopyPair → List Row → List Row
+reserved_for k (Out to) rows = reserved_all rows (range_pieces k.to (chunks_in k))
+reserved_for k (In from) rows = rows
+reserved_for k (Within from to) rows = reserved_all rows (range_pieces k.to (chunks_in k))
+
+-- bytes may be put in them
+abbrev pub MayPutFor : Copying → CopyPair → Written → Type 0
+MayPutFor k (Out to) writes = All (λ p. MayPut writes p.word) (range_pieces k.to (chunks_in k))
+MayPutFor k (In from) writes = Unit {0}
+MayPutFor k (Within from to) writes = All (λ p. MayPut writes p.word) (range_pieces k.to (chunks_in k))
+
+-- a copy is served, over so many words and bytes of arena: its destination is ready, with these rows before it
+pub record IsServed (words bytes : ℕ) (before : List Row) (writes : Written) (buffer : List ℕ) (k : Copying) : Type 0 where
+  pub accepted : copy_refusal true words bytes k ≡ None
+  pub reserved : writes.rows ≡ reserved_for k k.pair before
+  pub may_put : MayPutFor k k.pair writes
+  pub sized : length buffer ≡ k.size
+
+-- of a copy's source, so many chunks are in the buffer
+pub record HasCopied (words bytes : ℕ) (before : List Row) (writes : Written) (own : List LogRow) (buffer : List ℕ) (k : Copying) (chunks : ℕ) : Type 0 where
+  pub served : IsServed words bytes before writes buffer k
+  pub shared : is_out k.pair ≡ false
+  pub has : (m : List ℕ) → IsMemory words m → Agrees m own
+      → buffer ≡ chunks_written (replicate k.size 0) 0 (take chunks (chunks_in k)) (slice (bytes_of (overlay m writes.rows)) k.from k.size)
+
+-- the access is the chunk of this number of a copy's source
+pub record IsChunk (words bytes : ℕ) (before : List Row) (writes : Written) (own : List LogRow) (buffer : List ℕ) (k : Copying) (number at size : ℕ) : Type 0 where
+  pub copied : HasCopied words bytes before writes own buffer k number
+  pub chunk : Chunk
+  pub is : slice_get (chunks_in k) number ≡ Some chunk
+  pub at_is : at ≡ k.from + chunk.at
+  pub size_is : size ≡ chunk.size
+
+-- the access is what it is made for
+abbrev pub FitsPurpose : ℕ → ℕ → ℕ → Written → List LogRow → List ℕ → Purpose → ℕ → ℕ → Type 0
+FitsPurpose words bytes written writes own buffer (for.Value hint width) at size = (size ≡ size_of width) × (written ≡ length writes.rows)
+FitsPurpose words bytes written writes own buffer (for.Chunk k number) at size = IsChunk words bytes (take written writes.rows) writes own buffer k number at size
+
+abbrev pub IsFor : Data → Purpose → ℕ → ℕ → Type 0
+IsFor d purpose at size = FitsPurpose d.words (length d.arena) d.written d.frames.writes (own_rows d.entry d.log.rows) d.buffer.items purpose at size
+
+abbrev pub Copied : Data → Copying → ℕ → Type 0
+Copied d k chunks = HasCopied d.words (length d.arena) (rows_before d) d.frames.writes (own_rows d.entry d.log.rows) d.buffer.items k chunks
+
+-- the buffer has a copy's whole source
+pub record HasSource (d : Data) (k : Copying) : Type 0 where
+  pub served : IsServed d.words (length d.arena) (rows_before d) d.frames.writes d.buffer.items k
+  pub has : (m : List ℕ) → IsMemory d.words m → Agrees m (own_rows d.entry d.log.rows) → d.buffer.items ≡ source_in k.pair d.arena (bytes_of (overlay m d.frames.writes.rows)) k.from k.size
+
 -- the pieces before this one are gathered, and there is room in the log for the others
 pub record IsReading (d : Data) (r : Reading) : Type 0 where
-  pub within : r.at + size_of r.width ≤ 8 * d.words
+  pub within : r.at + r.size ≤ 8 * d.words
+  pub small : r.size ≤ 32
+  pub purpose : IsFor d r.purpose r.at r.size
   pub far : r.number ≤ count r
-  pub room : count r - r.number ≤ d.log.room
+  pub room : total r - passed r ≤ d.log.room
   pub since : d.entry ≤ length d.log.rows
-  pub grown : length d.log.rows ≤ d.entry + r.number
+  pub grown : length d.log.rows ≤ d.entry + passed r
   pub has : (m : List ℕ) → IsMemory d.words m → Agrees m (own_rows d.entry d.log.rows) → d.gathered.items ≡ gathered (overlay m d.frames.writes.rows) (take r.number (parts r))
   pub sized : length d.gathered.items ≡ length (gathered [] (take r.number (parts r)))
 
@@ -217,8 +315,8 @@ pub record IsHolding (d : Data) (steps : ℕ) : Type 0 where
 abbrev pub InPhase : Data → Phase → Type 0
 InPhase d at.Idle = (in_block d ≡ true → IsOpen d × (d.clock ≡ d.snapshot)) × (in_block d ≡ false → IsOutside d)
 InPhase d (at.Begin b) = IsOutside d × (d.spent ≤ d.tries)
-InPhase d (at.Load r) = IsOpen d × MayRead d r × (d.clock ≡ d.snapshot) × (d.spent ≤ 2 * r.number + 1 + d.tries * round_of (aims.Read r) d)
-InPhase d (at.Confirm r value) = IsOpen d × MayRead d r × (d.clock ≡ d.snapshot) × (d.spent ≤ 2 * r.number + 2 + d.tries * round_of (aims.Read r) d)
+InPhase d (at.Load r) = IsOpen d × MayRead d r × (d.clock ≡ d.snapshot) × (d.spent ≤ 2 * passed r + 1 + d.tries * round_of (aims.Read r) d)
+InPhase d (at.Confirm r value) = IsOpen d × MayRead d r × (d.clock ≡ d.snapshot) × (d.spent ≤ 2 * passed r + 2 + d.tries * round_of (aims.Read r) d)
 InPhase d (at.RoundStart aim) = InRound d aim 1
 InPhase d (at.RoundRow aim row) = InRound d aim (row + 2) × (d.clock % 2 ≡ 0) × (row < length d.log.rows)
 InPhase d (at.RoundEnd aim) = InRound d aim (length d.log.rows + 2) × (d.clock % 2 ≡ 0)
@@ -232,6 +330,11 @@ pub record IsSound (d : Data) (phase : Phase) : Type 0 where
   pub bounds : IsBounded d.words d.limits d.snapshot d.frames.size d.arena
   pub reached : d.snapshot ≤ d.clock
   pub in_phase : InPhase d phase
+
+-- the piece that is loaded next, or what comes past the access
+abbrev pub next_load : Option Reading → Phase → Phase
+next_load None past = past
+next_load (Some r) past = at.Load r
 
 -- ## A turn: what comes of an event, before it is counted
 
@@ -278,6 +381,10 @@ TurnEndsSo end (End a) = IsEnding end a
 -- in a call with rounds; the last step was on the clock
 abbrev pub between : Data → Aim → Core
 between d aim = record (core d (at.RoundStart aim)) { waits = None; stage = at.Idle; tries = 0 }
+
+-- in a copy whose source is read
+abbrev pub in_copy : Data → Copying → Core
+in_copy d k = between d (aims.Read (record { purpose = for.Chunk k 0; at = 0; size = 0; number = 0 }))
 
 -- with another log
 abbrev pub logged : Core → List LogRow → Core
@@ -328,7 +435,26 @@ pub record MayGather (d : Data) (r : Reading) : Type 0 where
   pub is_open : IsOpen d
   pub reading : IsReading d r
   pub settled : d.clock ≡ d.snapshot
-  pub spent : d.spent ≤ 2 * r.number + d.tries * round_of (aims.Read r) d
+  pub spent : d.spent ≤ 2 * passed r + d.tries * round_of (aims.Read r) d
+
+-- the next chunk of a copy's source may be taken
+pub record MayCopy (d : Data) (k : Copying) (chunks : ℕ) : Type 0 where
+  pub bounds : IsBounded d.words d.limits d.snapshot d.frames.size d.arena
+  pub is_open : IsOpen d
+  pub copied : Copied d k chunks
+  pub settled : d.clock ≡ d.snapshot
+  pub far : chunks ≤ length (chunks_in k)
+  pub room : source_words k - words_in k.from (take chunks (chunks_in k)) ≤ d.log.room
+  pub since : d.entry ≤ length d.log.rows
+  pub grown : length d.log.rows ≤ d.entry + words_in k.from (take chunks (chunks_in k))
+  pub spent : d.spent ≤ 2 * words_in k.from (take chunks (chunks_in k)) + d.tries * (d.entry + source_words k + 4)
+
+-- a copy's destination may be written
+pub record MayFinish (d : Data) (k : Copying) : Type 0 where
+  pub bounds : IsBounded d.words d.limits d.snapshot d.frames.size d.arena
+  pub is_open : IsOpen d
+  pub source : HasSource d k
+  pub settled : d.clock ≡ d.snapshot
 
 -- a round goes on: its rows before this one are as logged
 pub record InRows (d : Data) (aim : Aim) (row : ℕ) : Type 0 where

@@ -1,6 +1,7 @@
 pub mod Rows
 pub mod Core
 pub mod Stands
+pub mod Copies
 pub mod Order
 pub mod Endings
 pub mod Proceeds

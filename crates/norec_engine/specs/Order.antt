@@ -1,14 +1,23 @@
 -- The order of the steps: where a call stands once it has come, and after each value that is handed in.
-use Rattle.std.specs.Prelude.{ℕ, suc, ◌+◌, ◌*◌, ◌/◌, ◌%◌, ◌==◌, ◌&&◌, nat_le, nat_lt, Bool, if◌then◌else◌, List, [], ◌∷◌, ◌++◌, drop, length, Option, None, Some}
+use Rattle.std.specs.Prelude.{ℕ, suc, ◌+◌, ◌*◌, ◌/◌, ◌%◌, ◌==◌, ◌&&◌, nat_le, nat_lt, Bool, if◌then◌else◌, List, [], ◌∷◌, ◌++◌, drop, length, is_none, Option, None, Some}
 use Rattle.itm_types.specs.declared.row.LogRow.{LogRow}
 use Rattle.itm_types.specs.declared.call.Call.{Call}
 use Rattle.itm_types.specs.declared.call.Call.TheVariants as calls
 use Rattle.norec_engine.specs.declared.phase.Aim.{Aim}
 use Rattle.norec_engine.specs.declared.phase.Aim.TheVariants as aims
 use Rattle.norec_engine.specs.declared.phase.Reading.{Reading}
+use Rattle.norec_engine.specs.declared.phase.Purpose.{Purpose}
+use Rattle.norec_engine.specs.declared.phase.Purpose.TheVariants as for
 use Rattle.norec_engine.specs.declared.phase.Phase.{Phase}
 use Rattle.norec_engine.specs.declared.phase.Phase.TheVariants.{Idle, Begin, Load, Confirm, RoundStart, RoundRow, RoundEnd, Exchange, BackLoad, Store, Free}
 use Rattle.itm_types.specs.Access.{size_of}
+use Rattle.itm_types.specs.declared.access.ReadHint.{ReadHint}
+use Rattle.itm_types.specs.declared.access.Width.{Width}
+use Rattle.itm_types.specs.declared.call.Copying.{Copying}
+use Rattle.itm_types.specs.declared.copy.CopyPair.{CopyPair}
+use Rattle.itm_types.specs.declared.copy.CopyPair.TheVariants.{Out, In, Within}
+use Rattle.word_pieces.specs.declared.chunk.Chunk.{Chunk}
+use Rattle.norec_engine.specs.Copies.{copy_refusal, chunks_in}
 use Rattle.write_set.specs.declared.row.Row.{Row}
 use Rattle.word_pieces.specs.declared.piece.Piece.{Piece}
 use Rattle.word_pieces.specs.Masks.{whole}
@@ -38,14 +47,38 @@ row_store r row = if r.mask == whole then Store row None else BackLoad row
 abbrev pub store_stage : List Row → ℕ → Phase
 store_stage rows row = if nat_lt row (length rows) then row_store (write_at rows row) row else Free
 
--- the first of these pieces, of which the next one is the read's, that the write set does not have, or the end
-abbrev pub load_among : List Row → Reading → List Piece → Phase
-load_among writes r [] = Idle
-load_among writes r (p ∷ ps) = if is_covered writes p then load_among writes (record r { number = suc r.number }) ps else Load r
+-- the first of these pieces, of which the next one is the access's, that the write set does not have, or what comes past them
+abbrev pub load_among : List Row → Phase → Reading → List Piece → Phase
+load_among writes past r [] = past
+load_among writes past r (p ∷ ps) = if is_covered writes p then load_among writes past (record r { number = suc r.number }) ps else Load r
+
+-- a chunk of a copy's source, at its first piece
+abbrev pub chunk_reading : Copying → ℕ → Chunk → Reading
+chunk_reading k number c = record { purpose = for.Chunk k number; at = k.from + c.at; size = c.size; number = 0 }
+
+-- the same among these chunks of a copy's source, the first of which has this number
+abbrev pub load_chunks : List Row → Copying → ℕ → List Chunk → Phase
+load_chunks writes k number [] = Idle
+load_chunks writes k number (c ∷ cs) = load_among writes (load_chunks writes k (suc number) cs) (chunk_reading k number c) (pieces_of (k.from + c.at) c.size)
+
+-- and past the access that is made for this
+abbrev pub load_past : List Row → Purpose → Phase
+load_past writes (for.Value hint width) = Idle
+load_past writes (for.Chunk k number) = load_chunks writes k (suc number) (drop (suc number) (chunks_in k))
 
 -- the next piece that is loaded, from this one on
 abbrev pub load_stage : List Row → Reading → Phase
-load_stage writes r = load_among writes r (drop r.number (pieces_of r.at (size_of r.width)))
+load_stage writes r = load_among writes (load_past writes r.purpose) r (drop r.number (pieces_of r.at r.size))
+
+-- a read, at its first piece
+abbrev pub value_reading : ReadHint → Width → ℕ → Reading
+value_reading hint width at = record { purpose = for.Value hint width; at = at; size = size_of width; number = 0 }
+
+-- where a copy stands as it comes: one out of the arena loads nothing
+abbrev pub copy_stage : List Row → Copying → CopyPair → Phase
+copy_stage writes k (Out to) = Idle
+copy_stage writes k (In from) = load_chunks writes k 0 (chunks_in k)
+copy_stage writes k (Within from to) = load_chunks writes k 0 (chunks_in k)
 
 -- what a round was made for
 abbrev pub aimed_stage : Core → Aim → ℕ → Phase
@@ -78,10 +111,12 @@ stage_at c calls.Commit again = if is_outermost c.blocks then commit_stage c els
 stage_at c (calls.Abort outer) again = Idle
 stage_at c calls.InTransaction again = Idle
 stage_at c (calls.Read hint width at) again =
-    if in_transaction c && nat_le (at + size_of width) (8 * c.words) then load_stage c.writes (record { hint = hint; width = width; at = at; number = 0 }) else Idle
+    if in_transaction c && nat_le (at + size_of width) (8 * c.words) then load_stage c.writes (value_reading hint width at) else Idle
 stage_at c (calls.Write hint at value) again = Idle
 stage_at c (calls.Log width at) again = Idle
 stage_at c (calls.LogBytes at size) again = Idle
+stage_at c (calls.Copy k) again = if is_none (copy_refusal (in_transaction c) c.words (length c.arena) k) then copy_stage c.writes k k.pair else Idle
+stage_at c (calls.Fill hint to byte size) again = Idle
 stage_at c (calls.Load width at) again = Idle
 stage_at c (calls.Save at value) again = Idle
 
@@ -122,7 +157,7 @@ log_after c seen = log_from c c.stage seen
 
 -- ## The steps
 
--- the word of the read's piece
+-- the word of the access's piece
 abbrev pub word_of : Reading → ℕ
 word_of r = r.at / 8 + r.number
 

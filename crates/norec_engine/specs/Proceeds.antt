@@ -1,5 +1,5 @@
 -- What an engine may do next. `mid` is the engine with a call that came, or with the value of the step that it waited for.
-use Rattle.std.specs.Prelude.{◌≡◌, ◌≢◌, ◌⊎◌, ℕ, zero, suc, ◌+◌, ◌*◌, ◌/◌, ◌%◌, ◌<◌, ◌≤◌, Bool, true, false, if◌then◌else◌, List, [], ◌∷◌, ◌++◌, Option, None, Some, slice_get, slice_set, take, drop, length}
+use Rattle.std.specs.Prelude.{◌≡◌, ◌≢◌, ◌⊎◌, ℕ, zero, suc, ◌+◌, ◌*◌, ◌/◌, ◌%◌, ◌<◌, ◌≤◌, Bool, true, false, if◌then◌else◌, List, [], ◌∷◌, ◌++◌, Option, None, Some, slice_get, slice_set, take, drop, replicate, length}
 use Rattle.itm_types.specs.declared.limits.TheConstants.{MAX_OPEN_BLOCKS, MAX_COMMITS}
 use Rattle.itm_types.specs.declared.row.LogRow.{LogRow}
 use Rattle.write_set.specs.declared.row.Row.{Row}
@@ -7,7 +7,11 @@ use Rattle.itm_types.specs.declared.call.Call.{Call}
 use Rattle.nest_frames.specs.Nest.{Frame, begun, closed, logged, log_of, rows_of, arena_back}
 use Rattle.undo_log.specs.Rollback.{found, put_back}
 use Rattle.itm_types.specs.Calls.{is_abort}
-use Rattle.itm_types.specs.declared.call.Call.TheVariants.{Begin, Commit, Abort, Read, Write, Log, LogBytes, Save}
+use Rattle.itm_types.specs.declared.call.Call.TheVariants.{Begin, Commit, Abort, Read, Write, Log, LogBytes, Copy, Fill, Save}
+use Rattle.itm_types.specs.declared.call.Copying.{Copying}
+use Rattle.itm_types.specs.declared.copy.CopyPair.{CopyPair}
+use Rattle.itm_types.specs.declared.copy.CopyPair.TheVariants.{Out, In, Within}
+use Rattle.word_pieces.specs.declared.chunk.Direction.TheVariants.{Up}
 use Rattle.itm_types.specs.declared.call.Reply.{Reply as Replied}
 use Rattle.itm_types.specs.declared.call.Reply.TheVariants.{Done, Code}
 use Rattle.itm_types.specs.declared.step.Step.{Step}
@@ -22,7 +26,8 @@ use Rattle.norec_engine.specs.declared.answer.Answer.TheVariants.{Reply, Committ
 use Rattle.norec_engine.specs.declared.answer.Next.{Next}
 use Rattle.norec_engine.specs.declared.answer.Next.TheVariants.{Step as Asks, Answer as Answers}
 use Rattle.write_set.specs.Rows.{overlay}
-use Rattle.norec_engine.specs.Rows.{AreRoomy, write_at, reserved_all, put_all}
+use Rattle.norec_engine.specs.Rows.{AreRoomy, write_at, reserved_all, put_all, put_range}
+use Rattle.norec_engine.specs.Copies.{copy_refusal, direction_of, source_in, source_words}
 use Rattle.norec_engine.specs.Core.{Core, in_transaction, ended, rolled_back}
 use Rattle.norec_engine.specs.Stands.{stands_for}
 
@@ -73,17 +78,36 @@ abbrev pub recoded : Call → Bool → Replied → Replied
 recoded (Begin props room) true (Code n) = Code 9
 recoded _ again r = r
 
--- an accepted write puts its pieces in the write set, which keeps the order of first writing; a cancel goes back to the rows as at the block's begin
-abbrev pub writes_after : Core → Call → Replied → List Row
-writes_after c (Write hint at value) Done = (let ps = pieces_of at (size_of value.width) in put_all (reserved_all c.writes ps) ps value.bytes.items)
-writes_after c (Abort outer) (Code n) = if outer then [] else rows_of c.blocks
-writes_after c _ r = c.writes
+-- the bytes that a copy reads, where this is the memory under the write set
+abbrev pub source_over : Core → List ℕ → Copying → List ℕ
+source_over c m k = source_in k.pair c.arena (bytes_of (overlay m c.writes)) k.from k.size
 
--- an accepted save puts its bytes in the arena; a cancel puts back what was logged
-abbrev pub arena_after : Core → Call → Replied → List ℕ
-arena_after c (Save at value) Done = with_slice c.arena at value.bytes.items
-arena_after c (Abort outer) (Code n) = if outer then arena_back c.blocks c.arena else put_back (log_of c.blocks) c.arena
-arena_after c _ r = c.arena
+-- bytes that a copy writes: in the write set, from the end that the copy is taken from
+abbrev pub writes_copied : List Row → Copying → CopyPair → List ℕ → List Row
+writes_copied rows k (Out to) bytes = put_range rows k.to (direction_of k) bytes
+writes_copied rows k (In from) bytes = rows
+writes_copied rows k (Within from to) bytes = put_range rows k.to (direction_of k) bytes
+
+-- or in the arena
+abbrev pub arena_copied : List ℕ → Copying → CopyPair → List ℕ → List ℕ
+arena_copied arena k (Out to) bytes = arena
+arena_copied arena k (In from) bytes = with_slice arena k.to bytes
+arena_copied arena k (Within from to) bytes = arena
+
+-- an accepted write, copy or fill puts its pieces in the write set, which keeps the order of first writing; a cancel goes back to the rows as at the block's begin
+abbrev pub writes_after : Core → List ℕ → Call → Replied → List Row
+writes_after c m (Write hint at value) Done = (let ps = pieces_of at (size_of value.width) in put_all (reserved_all c.writes ps) ps value.bytes.items)
+writes_after c m (Copy k) Done = writes_copied c.writes k k.pair (source_over c m k)
+writes_after c m (Fill hint to byte size) Done = put_range c.writes to Up (replicate size (byte % 256))
+writes_after c m (Abort outer) (Code n) = if outer then [] else rows_of c.blocks
+writes_after c m _ r = c.writes
+
+-- an accepted save puts its bytes in the arena, and so does a copy to it; a cancel puts back what was logged
+abbrev pub arena_after : Core → List ℕ → Call → Replied → List ℕ
+arena_after c m (Save at value) Done = with_slice c.arena at value.bytes.items
+arena_after c m (Copy k) Done = arena_copied c.arena k k.pair (source_over c m k)
+arena_after c m (Abort outer) (Code n) = if outer then arena_back c.blocks c.arena else put_back (log_of c.blocks) c.arena
+arena_after c m _ r = c.arena
 
 -- an accepted begin opens a block, a commit closes one, a cancel takes one or all away, and a log adds to the innermost one
 abbrev pub blocks_after : Core → Call → Replied → List Frame
@@ -116,8 +140,8 @@ pub record Replies (mid : Core) (call : Call) (r : Replied) (new : Core) : Type 
     blocks = new.blocks;
     arena = new.arena;
   }
-  pub writes : new.writes ≡ writes_after mid call r
-  pub arena : new.arena ≡ arena_after mid call r
+  pub writes : (m : List ℕ) → IsMemory mid.words m → Agrees m (own_rows mid.entry new.log) → new.writes ≡ writes_after mid m call r
+  pub arena : (m : List ℕ) → IsMemory mid.words m → Agrees m (own_rows mid.entry new.log) → new.arena ≡ arena_after mid m call r
   pub free : mid.holds ≡ false
   pub unfreed : mid.freed ≡ false
   pub blocks : new.blocks ≡ blocks_after mid call r
@@ -227,12 +251,14 @@ IsAtOnce (Answers (Conflict clock word)) = ⊥
 IsAtOnce (Answers (Busy clock)) = ⊥
 IsAtOnce _ = Unit {0}
 
--- memory is asked for by a read, a write or a log alone, by no refused one, by no write to words that the innermost block has given rows, and by no log of no bytes
+-- memory is asked for by a read, a write, a log, a copy or a fill alone, by no refused one, by no write to words that the innermost block has given rows, and by no log, copy or fill of no bytes
 abbrev pub MayStarve : Core → Call → Type 0
 MayStarve c (Read hint width at) = (in_transaction c ≡ true) × (at + size_of width ≤ 8 * c.words)
 MayStarve c (Write hint at value) = (in_transaction c ≡ true) × (at + size_of value.width ≤ 8 * c.words) × (AreRoomy c.writes (rows_of c.blocks) (pieces_of at (size_of value.width)) → ⊥)
 MayStarve c (Log width at) = (in_transaction c ≡ true) × (at + size_of width ≤ length c.arena)
 MayStarve c (LogBytes at size) = (in_transaction c ≡ true) × (at + size ≤ length c.arena) × (0 < size)
+MayStarve c (Copy k) = (copy_refusal (in_transaction c) c.words (length c.arena) k ≡ None) × (0 < k.size)
+MayStarve c (Fill hint to byte size) = (in_transaction c ≡ true) × (to + size ≤ 8 * c.words) × (0 < size)
 MayStarve c _ = ⊥
 
 -- ## Values and counts
@@ -251,6 +277,7 @@ abbrev pub most : Core → Option Call → ℕ
 most c (Some (Begin props room)) = 2 * c.patience
 most c (Some Commit) = c.patience * (c.entry + 3) + 2 * length c.writes + 2
 most c (Some (Read hint width at)) = 2 * count_of at (size_of width) + c.patience * (c.entry + count_of at (size_of width) + 4)
+most c (Some (Copy k)) = 2 * source_words k + c.patience * (c.entry + source_words k + 4)
 most c _ = 0
 
 -- while it waits, it has asked for no more than the call's most steps

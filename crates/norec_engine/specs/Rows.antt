@@ -1,10 +1,14 @@
 -- Rows of the value log, and of the write set as the engine uses it.
-use Rattle.std.specs.Prelude.{ℕ, ◌≡◌, ◌<◌, ◌==◌, Bool, false, List, [], ◌∷◌, Option, Some, None, slice_index_or, All, IsSome}
+use Rattle.std.specs.Prelude.{ℕ, ◌≡◌, ◌<◌, ◌==◌, Bool, false, ◌+◌, List, [], ◌∷◌, ◌++◌, length, Option, Some, None, slice_index_or, All, IsSome}
 use Rattle.std.specs.Int.Bits.{bit_and}
 use Rattle.itm_types.specs.declared.row.LogRow.{LogRow}
 use Rattle.word_pieces.specs.declared.piece.Piece.{Piece}
 use Rattle.word_pieces.specs.Masks.{merge, mask_of}
-use Rattle.word_pieces.specs.Pieces.{scattered}
+use Rattle.word_pieces.specs.Pieces.{pieces_of, scattered}
+use Rattle.word_pieces.specs.declared.chunk.Chunk.{Chunk}
+use Rattle.word_pieces.specs.declared.chunk.Direction.{Direction}
+use Rattle.word_pieces.specs.Chunks.{chunks_of}
+use Rattle.itm_types.specs.Slices.{slice}
 use Rattle.write_set.specs.declared.row.Row.{Row}
 use Rattle.write_set.specs.Rows.{lookup, put, reserved}
 
@@ -17,6 +21,20 @@ reserved_all rows (p ∷ ps) = reserved_all (reserved rows p.word) ps
 abbrev pub put_all : List Row → List Piece → List ℕ → List Row
 put_all rows [] bytes = rows
 put_all rows (p ∷ ps) bytes = put_all (put rows p.word (mask_of p.first p.count) (scattered p bytes)) ps bytes
+
+-- the pieces of the chunks of a range from a place on
+abbrev pub range_pieces : ℕ → List Chunk → List Piece
+range_pieces place [] = []
+range_pieces place (c ∷ cs) = pieces_of (place + c.at) c.size ++ range_pieces place cs
+
+-- the rows with the bytes of the range, chunk by chunk
+abbrev pub put_chunks : List Row → ℕ → List Chunk → List ℕ → List Row
+put_chunks rows place [] bytes = rows
+put_chunks rows place (c ∷ cs) bytes = put_chunks (put_all rows (pieces_of (place + c.at) c.size) (slice bytes c.at c.size)) place cs bytes
+
+-- the rows with these bytes from a place on, taken from this end
+abbrev pub put_range : List Row → ℕ → Direction → List ℕ → List Row
+put_range rows place direction bytes = (let cs = chunks_of direction (length bytes) in put_chunks (reserved_all rows (range_pieces place cs)) place cs bytes)
 
 -- each piece's word has a row
 abbrev pub HaveRows : List Row → List Piece → Type 0

@@ -1,4 +1,4 @@
-//! What reads and writes have in common: where they are refused.
+//! What reads, writes and fills have in common: where they are refused.
 
 ghost use Rattle.std.specs.Prelude.{◌≡◌, ℕ, ◌≤◌, ◌+◌, ◌*◌, ◌&&◌, nat_le, false, None, Some, is_none};
 ghost use Rattle.itm_types.specs.declared.call.Call.{Call};
@@ -11,8 +11,8 @@ use crate::data::Data;
 use crate::phase::{Phase, Turn};
 use itm_types::{MAX_WORDS, Refusal, Reply};
 
-/// Why a read or a write of so many bytes from a place on is refused, if it is.
-pub(crate) fn refusal(state: &Data, at: u64, size: u8) -> Option<Refusal>
+/// Why a read, a write or a fill of so many bytes from a place on is refused, if it is.
+pub(crate) fn refusal(state: &Data, at: u64, size: u64) -> Option<Refusal>
     requires { state.now.words ≤ MAX_WORDS }
     ensures value { result ≡ access_refusal (in_block state.now) state.now.words at size }
     ensures served { is_none result ≡ (in_block state.now && nat_le (at + size) (8 * state.now.words)) }
@@ -26,7 +26,7 @@ pub(crate) fn refusal(state: &Data, at: u64, size: u8) -> Option<Refusal>
     }
 }
 
-/// A read or a write is refused.
+/// A read, a write or a fill is refused.
 pub(crate) fn refuse(state: &mut Data, why: Refusal) -> Turn
     requires sound { IsSound state.old Phase.Idle }
     ensures sound { IsSoundTurn result state.new }
@@ -43,11 +43,10 @@ pub(crate) fn refuse(state: &mut Data, why: Refusal) -> Turn
 }
 
 /// Whether so many bytes from a place on lie within the memory.
-fn is_within(words: u32, at: u64, size: u8) -> bool
+pub(crate) fn is_within(words: u32, at: u64, size: u64) -> bool
     requires { words ≤ MAX_WORDS }
     ensures { result ≡ nat_le (at + size) (8 * words) }
 {
     let bytes = 8 * u64::from(words);
-    let size = u64::from(size);
     size <= bytes && at <= bytes - size
 }

@@ -23,8 +23,12 @@ pub struct Data {
     /// The open blocks, with what they wrote and logged. Where one is open, a transaction is.
     pub frames: Frames,
     pub log: ValueLog,
-    /// The bytes that the read in progress has so far.
+    /// The bytes that the access in progress has so far.
     pub gathered: Value,
+    /// As many bytes as the copy or the fill in progress has: those of its source that it has read, or those that it sets.
+    pub buffer: Vec<u8>,
+    /// How many rows the write set had as the copy or the read in progress came.
+    pub written: usize,
     /// How many rows were logged as the call came.
     pub entry: usize,
     /// Validation rounds that the call started, or clock loads of a begin.

@@ -12,7 +12,9 @@ use crate::abort::abort;
 use crate::answer::{Answer, Next, Undone};
 use crate::begin::{begin, begin_seen};
 use crate::commit::{back_loaded, commit, exchanged, freed, stored};
+use crate::copy::copy;
 use crate::data::{Data, roll_back};
+use crate::fill::fill;
 use crate::local::{in_transaction, load, log, save};
 use crate::phase::{Phase, Turn};
 use crate::read::{confirmed, loaded, read};
@@ -66,6 +68,8 @@ impl Engine {
                 clock: 0,
                 log: ValueLog::new(alloc),
                 gathered: Value::new(),
+                buffer: Vec::new(alloc),
+                written: 0,
                 entry: 0,
                 tries: 0,
                 spent: 0,
@@ -289,6 +293,8 @@ fn called(state: &mut Data, call: &Call) -> Result<Turn, AllocError>
         Call::Write { hint, at, value } => write(state, *hint, *at, value),
         Call::Log { width, at } => log(state, *at, u64::from(width.size())),
         Call::LogBytes { at, size } => log(state, *at, *size),
+        Call::Copy(copying) => copy(state, *copying),
+        Call::Fill { to, byte, size, .. } => fill(state, *to, *byte, *size),
         Call::Load { width, at } => Ok(load(state, *width, *at)),
         Call::Save { at, value } => Ok(save(state, *at, value)),
     }

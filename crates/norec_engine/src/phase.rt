@@ -1,13 +1,12 @@
 //! Where a call in progress stands.
 
 ghost use Rattle.std.specs.Prelude.{◌≡◌, ℕ, ◌+◌, ◌*◌, ◌<◌, ◌≤◌, List, ◌++◌, take, length, IfSome, slice_get, slice_index};
-ghost use Rattle.itm_types.specs.Access.{size_of};
 ghost use Rattle.word_pieces.specs.Pieces.{IsPiece, gathered, part_of};
 ghost use Rattle.norec_engine.specs.Fields.{parts};
 ghost use Rattle.norec_engine.specs.Order.{word_of};
 
 use crate::answer::Answer;
-use itm_types::{MAX_MEMORY, Props, ReadHint, Width};
+use itm_types::{Copying, MAX_MEMORY, Props, ReadHint, Width};
 use word_pieces::{Piece, piece_at};
 
 /// A begin of an outermost block.
@@ -19,12 +18,22 @@ pub struct Opening {
     pub again: bool,
 }
 
-/// A read, at one of the pieces in which its bytes lie.
+/// What shared bytes are read for.
+#[derive(Clone, Copy, Debug, PartialEq, Eq)]
+pub enum Purpose {
+    /// The value that a read answers.
+    Value { hint: ReadHint, width: Width },
+    /// A chunk of a copy's source, by its number in the order in which they are taken.
+    Chunk { copying: Copying, number: u32 },
+}
+
+/// An access that reads, at one of the pieces in which its bytes lie.
 #[derive(Clone, Copy, Debug, PartialEq, Eq)]
 pub struct Reading {
-    pub hint: ReadHint,
-    pub width: Width,
+    pub purpose: Purpose,
     pub at: u64,
+    /// How many bytes are read, at most as many as the widest access has.
+    pub size: u8,
     /// The number of the piece, counted upwards from 0.
     pub number: u8,
 }
@@ -32,22 +41,23 @@ pub struct Reading {
 impl Reading {
     /// The piece, if there are as many.
     pub(crate) fn piece(self) -> Option<Piece>
-        requires { self.at ≤ MAX_MEMORY }
+        requires place { self.at ≤ MAX_MEMORY }
+        requires small { self.size ≤ 32 }
         ensures value { result ≡ slice_get (parts self) self.number }
         ensures piece { IfSome result IsPiece }
         ensures few { IfSome result (λ _. self.number < 5) }
         ensures in_value { IfSome result (λ p. p.at + p.count ≤ 32) }
-        ensures in_memory { IfSome result (λ p. (words : ℕ) → self.at + size_of self.width ≤ 8 * words
+        ensures in_memory { IfSome result (λ p. (words : ℕ) → self.at + self.size ≤ 8 * words
             → p.word < words) }
         ensures before { IfSome result (λ p. (m : List ℕ)
             → length (gathered m (take self.number (parts self))) ≡ p.at) }
         ensures reads_on { IfSome result (λ p. (m : List ℕ) →
             gathered m (take (self.number + 1) (parts self)) ≡ gathered m (take self.number (parts self)) ++ part_of p (slice_index m p.word)) }
     {
-        piece_at(self.at, self.width.size(), self.number)
+        piece_at(self.at, self.size, self.number)
     }
 
-    /// The read at its next piece.
+    /// The access at its next piece.
     pub(crate) fn next(self) -> Reading
         requires { self.number ≤ 5 }
         ensures { result ≡ record self { number = self.number + 1 } }

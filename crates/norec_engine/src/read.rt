@@ -1,24 +1,25 @@
-//! Reads: piece by piece upwards a word is loaded, and logged once the clock confirms that its value stood at the
+//! Reads, and copies of shared bytes: piece by piece upwards a word is loaded, and logged once the clock confirms that its value stood at the
 //! snapshot. A piece that the write set has takes no step.
 
-ghost use Rattle.std.specs.Prelude.{◌≡◌, ◌<◌, ◌≤◌, ◌+◌, ◌*◌, nat_le, ℕ, false, true, IfOk, IfSome, OnOk, OnErr, List, None, Some, is_some, length, slice_get, slice_index};
+ghost use Rattle.std.specs.Prelude.{◌≡◌, ◌<◌, ◌≤◌, ◌+◌, ◌*◌, nat_le, ℕ, false, true, IfOk, IfSome, OnOk, OnErr, List, IfNone, None, Some, drop, is_some, length, slice_get, slice_index};
 ghost use Rattle.itm_types.specs.Memory.{AllFit};
 ghost use Rattle.word_pieces.specs.Pieces.{IsPiece, part_of};
 ghost use Rattle.write_set.specs.Rows.{overlay, AreRows};
 ghost use Rattle.norec_engine.specs.Rows.{is_covered};
 ghost use Rattle.itm_types.specs.Access.{size_of};
-ghost use Rattle.norec_engine.specs.Fields.{in_block, core, core_after, phase_after, between, logged, IsSound, IsSoundTurn, Turns, TurnEndsSo, Stays, MayGather};
+ghost use Rattle.norec_engine.specs.Fields.{in_block, core, core_after, phase_after, between, logged, IsSound, IsSoundTurn, Turns, TurnEndsSo, Stays, MayGather, MayRead, IsOpen, IsReading, rows_before, parts, count, passed, next_load};
 ghost use Rattle.norec_engine.specs.Core.{came, handed};
-ghost use Rattle.norec_engine.specs.Order.{load_stage, log_after, snapshot_after, stage_after, stage_at, tries_after, tries_at};
+ghost use Rattle.norec_engine.specs.Order.{load_among, load_stage, log_after, snapshot_after, stage_after, stage_at, tries_after, tries_at};
 ghost use Rattle.norec_engine.specs.Endings.{ending_at, ending_after};
 ghost use Rattle.norec_engine.specs.Proceeds.{Joins, MayStarve};
 
 use crate::access::{refusal, refuse};
 use crate::answer::Answer;
+use crate::copy::{keep_chunk, next_chunk};
 use crate::data::Data;
-use crate::phase::{Aim, Phase, Reading, Turn};
+use crate::phase::{Aim, Phase, Purpose, Reading, Turn};
 use crate::rounds::try_round;
-use itm_types::{Call, LogRow, ReadHint, Reply, Value, Width};
+use itm_types::{Call, LogRow, MAX_WORDS, ReadHint, Reply, Value, Width};
 use std::alloc::AllocError;
 use std::mem;
 use word_pieces::{Piece, merge};
@@ -46,46 +47,70 @@ pub(crate) fn read(
     ensures ends { IfOk result (TurnEndsSo (ending_at (core state.old Phase.Idle) (Call.Read hint width at))) }
     ensures tries { IfOk result (λ turn. (core_after turn state.new).tries ≡ tries_at (phase_after turn)) }
 {
-    if let Some(why) = refusal(state, at, width.size()) {
+    if let Some(why) = refusal(state, at, u64::from(width.size())) {
         return Ok(refuse(state, why));
     }
     state.log.reserve(MOST_PIECES)?;
     state.come();
     state.tries = 0;
+    state.written = state.frames.len();
     state.gathered = Value::new();
-    Ok(next_piece(
+    Ok(go_on(
         state,
         Reading {
-            hint,
-            width,
+            purpose: Purpose::Value { hint, width },
             at,
+            size: width.size(),
             number: 0,
         },
     ))
 }
 
-/// The pieces from this one on are taken from the write set, up to one that it does not have.
-fn next_piece(state: &mut Data, reading: Reading) -> Turn
+/// The access goes on from this piece: with the next one that is loaded, or with what it was made for.
+pub(crate) fn go_on(state: &mut Data, reading: Reading) -> Turn
     requires may { MayGather state.old reading }
     ensures sound { IsSoundTurn result state.new }
     // whatever the log was before a row joined it
     ensures proceeds { (log : List LogRow)
         → Turns (logged (between state.old (Aim.Read reading)) log) result state.new }
     ensures stays { Stays state.old state.new }
-    ensures order { phase_after result ≡ load_stage state.old.frames.writes.rows reading }
+    ensures order { phase_after result ≡ load_stage (rows_before state.old) reading }
     ensures ends { TurnEndsSo None result }
     ensures tries { (core_after result state.new).tries ≡ tries_after (phase_after result) state.old.tries }
 {
+    if let Some(next) = take_covered(state, reading) {
+        return Turn::Wait(Phase::Load(next));
+    }
+    match reading.purpose {
+        Purpose::Value { .. } => {
+            let bytes = mem::replace(&mut state.gathered, Value::new());
+            Turn::End(Answer::Reply(Reply::Bytes(bytes)))
+        }
+        Purpose::Chunk { copying, number } => {
+            keep_chunk(state, copying, number, reading);
+            next_chunk(state, copying, number + 1)
+        }
+    }
+}
+
+/// The pieces from this one on are taken from the write set, up to one that it does not have, which is given.
+pub(crate) fn take_covered(state: &mut Data, reading: Reading) -> Option<Reading>
+    requires may { (state.old.words ≤ MAX_WORDS) × IsOpen state.old × IsReading state.old reading }
+    ensures frame { state.new ≡ record state.old { gathered = state.new.gathered } }
+    ensures next { IfSome result (λ next. (next ≡ record reading { number = next.number }) × (reading.number ≤ next.number) × MayRead state.new next) }
+    ensures whole { IfNone result (IsReading state.new (record reading { number = count reading })) }
+    ensures order { (past : Phase) → next_load result past
+        ≡ load_among (rows_before state.old) past reading (drop reading.number (parts reading)) }
+{
     let Some(piece) = reading.piece() else {
-        let bytes = mem::replace(&mut state.gathered, Value::new());
-        return Turn::End(Answer::Reply(Reply::Bytes(bytes)));
+        return None;
     };
     match covered(state, piece) {
         Some(value) => {
             piece.gather(value, &mut state.gathered);
-            next_piece(state, reading.next())
+            take_covered(state, reading.next())
         }
-        None => Turn::Wait(Phase::Load(reading)),
+        None => Some(reading),
     }
 }
 
@@ -152,7 +177,7 @@ pub(crate) fn confirmed(state: &mut Data, reading: Reading, value: u64, seen: u6
         state.log.add(row);
         let word = overlaid(state, piece.word, value);
         piece.gather(word, &mut state.gathered);
-        next_piece(state, reading.next())
+        go_on(state, reading.next())
     } else {
         try_round(state, Aim::Read(reading))
     }

@@ -1,9 +1,9 @@
 //! Writes: a value goes into the write set, piece by piece upwards, and no step is taken.
 
-ghost use Rattle.std.specs.Prelude.{◌≡◌, ◌<◌, ◌≤◌, ◌+◌, false, IfOk, OnOk, OnErr, All, length};
+ghost use Rattle.std.specs.Prelude.{◌≡◌, ◌<◌, ◌≤◌, ◌+◌, false, IfOk, OnOk, OnErr, All, length, map};
 ghost use Rattle.word_pieces.specs.Pieces.{IsPiece};
 ghost use Rattle.itm_types.specs.Slices.{AreBytes};
-ghost use Rattle.write_set.specs.Marks.{MayPut};
+ghost use Rattle.write_set.specs.Marks.{KeepsRoom, MayPut};
 ghost use Rattle.nest_frames.specs.Nest.{rows_of};
 ghost use Rattle.norec_engine.specs.Rows.{AreRoomy, HaveRows, reserved_all, put_all};
 ghost use Rattle.norec_engine.specs.Fields.{core, core_after, phase_after, IsSound, IsSoundTurn, Turns, TurnEndsSo, Stays};
@@ -41,7 +41,7 @@ pub(crate) fn write(
     ensures ends { IfOk result (TurnEndsSo (ending_at (core state.old Phase.Idle) (Call.Write hint at value.now))) }
     ensures tries { IfOk result (λ turn. (core_after turn state.new).tries ≡ tries_at (phase_after turn)) }
 {
-    if let Some(why) = refusal(state, at, value.width.size()) {
+    if let Some(why) = refusal(state, at, u64::from(value.width.size())) {
         return Ok(refuse(state, why));
     }
     let pieces = pieces(at, value.width.size());
@@ -52,13 +52,15 @@ pub(crate) fn write(
 }
 
 /// Makes each piece's word ready to be written. Where memory is refused, none is given a row.
-fn reserve_all(frames: &mut Frames, pieces: &[Piece]) -> Result<(), AllocError>
+pub(crate) fn reserve_all(frames: &mut Frames, pieces: &[Piece]) -> Result<(), AllocError>
     requires open { 0 < length frames.old.blocks }
     ensures rows { OnOk result (frames.new.writes.rows ≡ reserved_all frames.old.writes.rows pieces.now) }
     ensures may_put { OnOk result (All (λ p. MayPut frames.new.writes p.word) pieces.now) }
     ensures err { OnErr result (frames.new.writes.rows ≡ frames.old.writes.rows) }
     ensures blocks { frames.new.blocks ≡ frames.old.blocks }
     ensures size { frames.new.size ≡ frames.old.size }
+    ensures inner { frames.new.writes.inner ≡ frames.old.writes.inner }
+    ensures others { OnOk result (KeepsRoom frames.old.writes frames.new.writes) }
     ensures grows { OnErr result (AreRoomy frames.old.writes.rows (rows_of frames.old.blocks) pieces.now → ⊥) }
 {
     let len = frames.len();
@@ -72,7 +74,7 @@ fn reserve_all(frames: &mut Frames, pieces: &[Piece]) -> Result<(), AllocError>
 }
 
 /// Puts the pieces of a value in the write set, where each word was made ready.
-fn put_all(frames: &mut Frames, pieces: &[Piece], bytes: &[u8])
+pub(crate) fn put_all(frames: &mut Frames, pieces: &[Piece], bytes: &[u8])
     requires room { HaveRows frames.old.writes.rows pieces.now }
     requires may_put { All (λ p. MayPut frames.old.writes p.word) pieces.now }
     requires pieces { All IsPiece pieces.now }
@@ -80,6 +82,8 @@ fn put_all(frames: &mut Frames, pieces: &[Piece], bytes: &[u8])
     ensures rows { frames.new.writes.rows ≡ put_all frames.old.writes.rows pieces.now bytes.now }
     ensures blocks { frames.new.blocks ≡ frames.old.blocks }
     ensures size { frames.new.size ≡ frames.old.size }
+    ensures words { map (λ r. r.word) frames.new.writes.rows ≡ map (λ r. r.word) frames.old.writes.rows }
+    ensures others { KeepsRoom frames.old.writes frames.new.writes }
     ensures bytes { AreBytes bytes.now }
 {
     for piece in pieces {

@@ -1,14 +1,18 @@
 -- The run of an actor that has its world to itself is what its player does alone.
-use Rattle.std.proofs.Common.{◌≡◌, ℕ, suc, ◌+◌, ◌<◌, ◌≤◌, ◌==◌, ◌&&◌, Bool, true, false, nat_le, nat_lt, if◌then◌else◌, List, [], ◌∷◌, ◌++◌, length, map, Option, None, Some, refl, sym, ap, subst, ◌∙◌, arith, eqb-true, eq-eqb, lt-ltb, leb-true}
+use Rattle.std.proofs.Common.{◌≡◌, ℕ, suc, ◌+◌, ◌<◌, ◌≤◌, ◌==◌, ◌&&◌, Bool, true, false, ◌%◌, drop, nat_le, nat_lt, if◌then◌else◌, List, [], ◌∷◌, ◌++◌, length, map, replicate, take, Option, None, Some, refl, sym, ap, subst, ◌∙◌, arith, eqb-true, eq-eqb, lt-ltb, leb-true}
+use Rattle.std.proofs.Math.Nat.{add-zero}
 use Rattle.std.proofs.lemmas.Bool.{or_parts}
+use Rattle.std.proofs.lemmas.List.{append-nil, take-append-drop}
 use Rattle.norec_world.proofs.Common.{AreSole, Attempt, Begin, Beginning, Between, Block, Call, ClosedBy, Commit, EndsAs, Entry, IsAlone, IsFirstTry, IsOpaque, IsRunOf, MAX_OPEN_BLOCKS, Obeys, Outcome, Progress, Refusal, Rules, Solo, State, Write, after, after_try, after_unless, alone, answered_all, answers, answers_within, begin_code, begin_of, bytes_at, committed_at, ended_as, false_from_ne_true, follows, is_at, is_committed, is_done, is_open, memory_left, one_if, opened, pair_of, player_then, refusal, reply, row_of, run_after, solo_within, state_then, turn, with_all, with_first}
 use Rattle.itm_types.specs.declared.call.Reply.{Reply}
-use Rattle.itm_model.specs.Machine.{effect, back_from, closed_in, entered, logged_in, rolled_back, undone_from}
+use Rattle.itm_model.specs.Machine.{effect, back_from, closed_in, entered, logged_in, rolled_back, source_bytes, target_written, undone_from, written}
 use Rattle.itm_types.specs.Access.{size_of}
 use Rattle.itm_types.specs.Calls.{is_abort}
-use Rattle.itm_types.specs.declared.call.Call.TheVariants.{Abort, Log, LogBytes}
+use Rattle.itm_types.specs.declared.call.Call.TheVariants.{Abort, Log, LogBytes, Copy, Fill}
+use Rattle.itm_types.specs.declared.copy.CopyPair.{CopyPair}
+use Rattle.itm_types.specs.declared.copy.CopyPair.TheVariants.{Out, In, Within}
+use Rattle.itm_types.specs.Slices.{with_slice}
 use Rattle.norec_world.specs.Solo.{aborts}
-use Rattle.norec_engine.proofs.Machines.{some_bytes}
 use Rattle.norec_world.specs.declared.attempt.Outcome.TheVariants as outcomes
 use Rattle.norec_world.specs.Attempts.{replies_of}
 use Rattle.norec_world.proofs.Solos.{aborts_snoc, ended_block}
@@ -18,6 +22,9 @@ use Rattle.norec_world.proofs.RunLists.{try_begun}
 
 parts_of : {A : Type 0} (x y : A) (xs ys : List A) → x ∷ xs ≡ y ∷ ys → (x ≡ y) × (xs ≡ ys)
 parts_of x y xs ys e = (cc, cc)
+
+with_slice-nil : (m : List ℕ) (place : ℕ) → with_slice m place [] ≡ m
+with_slice-nil m place = (λ i. append-nil (take place m) i ++ drop (add-zero place i) m) ∙ take-append-drop place m
 
 module _ {P : Type 0} (rules : Rules P) (deepest : ℕ) where
   -- a beginning of what a player gets was made alone
@@ -68,21 +75,33 @@ module _ {P : Type 0} (rules : Rules P) (deepest : ℕ) where
     unwritten_undone s [] n h k = record { now = n; blocks = h }
     unwritten_undone s (b ∷ bs) n h k = unwritten_undone (rolled_back s bs b.saved) bs k.0 k.1 k.1
 
+    -- bytes are written: where they are none the memory is as it was
+    unwritten_written : (s : State) (place : ℕ) (bytes : List ℕ) → IsUnwritten s → IsUnwritten (written s place bytes)
+    unwritten_written s place [] h = record { now = λ w. with_slice-nil s.memory place ∙ h.now (or_parts s.wrote false w).0; blocks = h.blocks }
+    unwritten_written s place (b ∷ bs) h = record {
+      now = λ w.
+          (let none : nat_lt 0 (length (b ∷ bs)) ≡ false = (or_parts s.wrote (nat_lt 0 (length (b ∷ bs))) w).1 in
+          let some : nat_lt 0 (length (b ∷ bs)) ≡ true = lt-ltb 0 (length (b ∷ bs)) (omega arith) in
+          absurd (let z = sym some ∙ none in cc));
+      blocks = h.blocks;
+    }
+
+    unwritten_copied : (s : State) (pair : CopyPair) (place : ℕ) (bytes : List ℕ) → IsUnwritten s → IsUnwritten (target_written s pair place bytes)
+    unwritten_copied s (Out to) place bytes h = unwritten_written s place bytes h
+    unwritten_copied s (In from) place bytes h = record { now = h.now; blocks = h.blocks }
+    unwritten_copied s (Within from to) place bytes h = unwritten_written s place bytes h
+
     unwritten_effect : (s : State) (c : Call) → is_open s ≡ true → IsUnwritten s → IsUnwritten (effect s c)
     unwritten_effect s (Begin props room) o h =
         subst (λ (b : Bool). IsUnwritten (if b then entered s props else opened s.memory s.arena props)) (sym o) (record { now = h.now; blocks = (h.now, h.blocks) })
     unwritten_effect s Commit o h = record { now = h.now; blocks = unwritten_closed s.blocks h.blocks }
     unwritten_effect s (Abort true) o h = unwritten_undone s s.blocks h.now h.blocks h.blocks
     unwritten_effect s (Abort false) o h = unwritten_back s s.blocks h.now h.blocks h.blocks
-    unwritten_effect s (Write hint at value) o h = record {
-      now = λ w.
-          (let none : nat_lt 0 (length value.bytes.items) ≡ false = (or_parts s.wrote (nat_lt 0 (length value.bytes.items)) w).1 in
-          let some : nat_lt 0 (length value.bytes.items) ≡ true = lt-ltb 0 (length value.bytes.items) (let k = some_bytes value.width in let l = value.sized in omega arith) in
-          absurd (let z = sym some ∙ none in cc));
-      blocks = h.blocks;
-    }
+    unwritten_effect s (Write hint at value) o h = unwritten_written s at value.bytes.items h
     unwritten_effect s (Log width at) o h = record { now = h.now; blocks = unwritten_logged s.blocks s.arena at (size_of width) h.blocks }
     unwritten_effect s (LogBytes at size) o h = record { now = h.now; blocks = unwritten_logged s.blocks s.arena at size h.blocks }
+    unwritten_effect s (Copy c) o h = unwritten_copied s c.pair c.to (source_bytes s c.pair c.from c.size) h
+    unwritten_effect s (Fill hint to byte size) o h = unwritten_written s to (replicate size (byte % 256)) h
     unwritten_effect s c o h = record { now = h.now; blocks = h.blocks }
 
     unwritten_call : (s : State) (c : Call) (o : Option Refusal) → is_open s ≡ true → IsUnwritten s → IsUnwritten (after_unless o s (effect s c))

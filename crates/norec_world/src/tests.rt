@@ -3,6 +3,7 @@
 ghost use Rattle.std.specs.Prelude.{◌≡◌, ◌%◌, ◌<◌, ◌≤◌, length, IfOk};
 
 mod barriers;
+mod copies;
 mod local;
 mod many;
 mod nests;

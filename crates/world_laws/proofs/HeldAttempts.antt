@@ -1,5 +1,5 @@
 -- Within a transaction the actor has an open attempt, over a step and over a call.
-use Rattle.std.proofs.Common.{◌≡◌, ℕ, ◌+◌, ◌/◌, nat_lt, ◌==◌, ◌&&◌, ◌*◌, ◌⊎◌, nat_le, if◌then◌else◌, Bool, true, false, List, [], ◌∷◌, Option, None, Some, inl, inr, refl, sym, ap, subst, ◌∙◌, eq-eqb}
+use Rattle.std.proofs.Common.{◌≡◌, ℕ, ◌+◌, ◌/◌, nat_lt, is_none, length, ◌==◌, ◌&&◌, ◌*◌, ◌⊎◌, nat_le, if◌then◌else◌, Bool, true, false, List, [], ◌∷◌, Option, None, Some, inl, inr, refl, sym, ap, subst, ◌∙◌, eq-eqb}
 use Rattle.std.proofs.lemmas.Bool.{cases_Bool}
 use Rattle.norec_world.proofs.Common.{Answer, Answers, Busy, Call, Cells, Committed, Conflict, Core, Ends, Full, IsTold, Next, Opens, Proceeds, Records, Reply, Rows, Rules, Step, Tells, active_of, asked_pending, begins_again, came, found, handed_is, handed_to, in_transaction, is_inside, with_changed, RecordsReply, none_inside}
 use Rattle.norec_world.specs.declared.actor.Actor.{Actor}
@@ -11,7 +11,8 @@ use Rattle.nest_frames.specs.Nest.{Frame}
 use Rattle.itm_types.specs.declared.call.Call.TheVariants as calls
 use Rattle.itm_types.specs.Access.{size_of}
 use Rattle.norec_engine.specs.Core.{handed, is_outermost}
-use Rattle.norec_engine.specs.Order.{asked, asked_from, stage_at, commit_stage, load_stage}
+use Rattle.norec_engine.specs.Copies.{copy_refusal}
+use Rattle.norec_engine.specs.Order.{asked, asked_from, stage_at, commit_stage, copy_stage, load_stage, value_reading}
 use Rattle.norec_engine.specs.Proceeds.{IsBegin}
 use Rattle.norec_engine.specs.declared.answer.Next.TheVariants.{Step as Steps}
 use Rattle.norec_engine.specs.declared.phase.Phase.TheVariants as at
@@ -42,7 +43,8 @@ idle_outside : (c : Core) (call : Call) (again : Bool) → in_transaction c ≡ 
 idle_outside c (calls.Begin props room) again shut = inr tt
 idle_outside c calls.Commit again shut = inl (ap (λ (bs : List Frame). if is_outermost bs then commit_stage c else at.Idle) (none_inside c.blocks shut))
 idle_outside c (calls.Read hint width place) again shut =
-    inl (ap (λ (b : Bool). if b && nat_le (place + size_of width) (8 * c.words) then load_stage c.writes (record { hint = hint; width = width; at = place; number = 0 }) else at.Idle) shut)
+    inl (ap (λ (b : Bool). if b && nat_le (place + size_of width) (8 * c.words) then load_stage c.writes (value_reading hint width place) else at.Idle) shut)
+idle_outside c (calls.Copy k) again shut = inl (ap (λ (b : Bool). if is_none (copy_refusal b c.words (length c.arena) k) then copy_stage c.writes k k.pair else at.Idle) shut)
 idle_outside c call again shut = inl refl
 
 begin_asks : (c new : Core) (call : Call) (again : Bool) (step : Step) → in_transaction c ≡ false → new.stage ≡ stage_at c call again → new.waits ≡ asked new → new.waits ≡ Some step → IsBegin (Some call)

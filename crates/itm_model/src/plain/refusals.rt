@@ -1,12 +1,11 @@
 //! Why a call is refused.
 
 ghost use Rattle.std.specs.Prelude.{◌≡◌, nat_lt, length};
-ghost use Rattle.itm_types.specs.Access.{size_of};
-ghost use Rattle.itm_model.specs.Machine.{abort_for, in_arena, in_shared, keeps_any, keeps_innermost, needs_open, ranges, refusal, standing, unless};
+ghost use Rattle.itm_model.specs.Machine.{abort_for, copy_ranges, in_arena, in_shared, is_clear, keeps_any, keeps_innermost, needs_open, ranges, refusal, source_range, standing, target_range, unless};
 
 use super::Plain;
 use crate::bytes::is_in_range;
-use itm_types::{Call, MAX_OPEN_BLOCKS, Refusal, Width};
+use itm_types::{Call, CopyPair, Copying, MAX_OPEN_BLOCKS, Refusal};
 
 impl Plain {
     /// Why the call is refused, if it is.
@@ -28,7 +27,9 @@ impl Plain {
             | Call::Read { .. }
             | Call::Write { .. }
             | Call::Log { .. }
-            | Call::LogBytes { .. } => self.outside(),
+            | Call::LogBytes { .. }
+            | Call::Copy(_)
+            | Call::Fill { .. } => self.outside(),
         }
     }
 
@@ -37,13 +38,43 @@ impl Plain {
         ensures { result ≡ ranges self.now.state call.now }
     {
         match call {
-            Call::Read { width, at, .. } => self.out_of_range(*at, *width),
-            Call::Write { at, value, .. } => self.out_of_range(*at, value.width),
+            Call::Read { width, at, .. } => self.out_of_range(*at, u64::from(width.size())),
+            Call::Write { at, value, .. } => self.out_of_range(*at, u64::from(value.width.size())),
             Call::Log { width, at } => self.out_of_arena(*at, u64::from(width.size())),
             Call::LogBytes { at, size } => self.out_of_arena(*at, *size),
+            Call::Copy(copying) => self.copy_ranges(copying),
+            Call::Fill { to, size, .. } => self.out_of_range(*to, *size),
             Call::Load { width, at } => self.out_of_arena(*at, u64::from(width.size())),
             Call::Save { at, value } => self.out_of_arena(*at, u64::from(value.width.size())),
             Call::Begin { .. } | Call::Commit | Call::Abort { .. } | Call::InTransaction => None,
+        }
+    }
+
+    /// Why a copy's bytes are not to be had, if they are not.
+    fn copy_ranges(&self, copying: &Copying) -> Option<Refusal>
+        ensures { result ≡ copy_ranges self.now.state copying.now }
+    {
+        let rest = self.source(copying).or(overlap(copying));
+        self.target(copying).or(rest)
+    }
+
+    /// Why the bytes that a copy writes are not to be had, if they are not.
+    fn target(&self, copying: &Copying) -> Option<Refusal>
+        ensures { result ≡ target_range self.now.state copying.now.pair copying.now.to copying.now.size }
+    {
+        match copying.pair {
+            CopyPair::In(_) => self.out_of_arena(copying.to, copying.size),
+            CopyPair::Out(_) | CopyPair::Within(..) => self.out_of_range(copying.to, copying.size),
+        }
+    }
+
+    /// Why the bytes that a copy reads are not to be had, if they are not.
+    fn source(&self, copying: &Copying) -> Option<Refusal>
+        ensures { result ≡ source_range self.now.state copying.now.pair copying.now.from copying.now.size }
+    {
+        match copying.pair {
+            CopyPair::Out(_) => self.out_of_arena(copying.from, copying.size),
+            CopyPair::In(_) | CopyPair::Within(..) => self.out_of_range(copying.from, copying.size),
         }
     }
 
@@ -95,11 +126,11 @@ impl Plain {
         self.marks.last().is_some_and(|mark| mark.props.no_abort)
     }
 
-    /// An access leaves the memory.
-    fn out_of_range(&self, place: u64, width: Width) -> Option<Refusal>
-        ensures { result ≡ in_shared self.now.state place (size_of width) }
+    /// So many bytes leave the memory.
+    fn out_of_range(&self, place: u64, size: u64) -> Option<Refusal>
+        ensures { result ≡ in_shared self.now.state place size }
     {
-        if is_in_range(&self.memory, place, u64::from(width.size())) {
+        if is_in_range(&self.memory, place, size) {
             None
         } else {
             Some(Refusal::OutOfRange)
@@ -115,5 +146,18 @@ impl Plain {
         } else {
             Some(Refusal::OutOfArena)
         }
+    }
+}
+
+/// The two shared ranges of a copy that does not move have a byte in common.
+fn overlap(copying: &Copying) -> Option<Refusal>
+    ensures { result ≡ unless (is_clear copying.now) Refusal.Overlap }
+{
+    let shared = matches!(copying.pair, CopyPair::Within(..));
+    let common = copying.to.abs_diff(copying.from) < copying.size;
+    if shared && common && !copying.moves {
+        Some(Refusal::Overlap)
+    } else {
+        None
     }
 }

@@ -2,11 +2,11 @@
 
 ghost use Rattle.std.specs.Prelude.{◌≡◌, flat_map};
 ghost use Rattle.itmrun.specs.Spelling.{Grows};
-ghost use Rattle.itmrun.specs.Histories.{outcome_name, props_text, abort_text, try_text, props_end, head_line, arena_line, body_text, reply_text, call_line, attempt_lines, first_lines, last_line, history_text};
+ghost use Rattle.itmrun.specs.Histories.{outcome_name, props_text, abort_text, try_text, props_end, head_line, arena_line, copy_text, fill_text, body_text, reply_text, call_line, attempt_lines, first_lines, last_line, history_text};
 
 use crate::history::pieces::Piece;
 use crate::history::stream::Stream;
-use itm_types::{Call, Entry as Function, Props, Reply, name_of};
+use itm_types::{Call, Copying, Entry as Function, Props, Reply, WriteHint, name_of};
 use norec_world::{Attempt, Entry, Outcome};
 use std::io::Write;
 
@@ -102,6 +102,46 @@ fn put_arena<W: Write>(stream: &mut Stream<'_, W>, bytes: &[u8])
     }
 }
 
+/// A copy: where it writes, where it reads, and how many bytes.
+#[tactic(auto, unfolding(crate::specs::Histories::copy_text), using(crate::proofs::AppendedTexts::grows_as))]
+fn put_copy<W: Write>(stream: &mut Stream<'_, W>, copying: Copying)
+    ensures same { stream.new.writer.ghost_name ≡ stream.old.writer.ghost_name }
+    ensures grows { Grows stream.old.failed (W.contents stream.old.writer.now) stream.new.failed
+        (W.contents stream.new.writer.now) (copy_text copying) }
+{
+    let function = Function::Copy {
+        moves: copying.moves,
+        pair: copying.pair,
+    };
+    stream.put(&[
+        Piece::Text(name_of(function).as_bytes()),
+        Piece::Text(b" "),
+        Piece::Number(copying.to),
+        Piece::Text(b" "),
+        Piece::Number(copying.from),
+        Piece::Text(b" "),
+        Piece::Number(copying.size),
+    ]);
+}
+
+/// A fill: where it writes, the byte that it sets, and how many.
+#[tactic(auto, unfolding(crate::specs::Histories::fill_text), using(crate::proofs::AppendedTexts::grows_as))]
+fn put_fill<W: Write>(stream: &mut Stream<'_, W>, hint: WriteHint, to: u64, byte: u64, size: u64)
+    ensures same { stream.new.writer.ghost_name ≡ stream.old.writer.ghost_name }
+    ensures grows { Grows stream.old.failed (W.contents stream.old.writer.now) stream.new.failed
+        (W.contents stream.new.writer.now) (fill_text hint to byte size) }
+{
+    stream.put(&[
+        Piece::Text(name_of(Function::Fill(hint)).as_bytes()),
+        Piece::Text(b" "),
+        Piece::Number(to),
+        Piece::Text(b" "),
+        Piece::Number(byte % 256),
+        Piece::Text(b" "),
+        Piece::Number(size),
+    ]);
+}
+
 #[tactic(auto, unfolding(crate::specs::Histories::body_text), using(crate::proofs::AppendedTexts::grows_as))]
 fn put_body<W: Write>(stream: &mut Stream<'_, W>, call: &Call)
     ensures same { stream.new.writer.ghost_name ≡ stream.old.writer.ghost_name }
@@ -143,6 +183,13 @@ fn put_body<W: Write>(stream: &mut Stream<'_, W>, call: &Call)
             Piece::Text(b" "),
             Piece::Number(*size),
         ]),
+        Call::Copy(copying) => put_copy(stream, *copying),
+        Call::Fill {
+            hint,
+            to,
+            byte,
+            size,
+        } => put_fill(stream, *hint, *to, *byte, *size),
         Call::Load { width, at } => stream.put(&[
             Piece::Text(b"ld"),
             Piece::Number(u64::from(width.size())),
@@ -270,3 +317,6 @@ pub fn put_history<W: Write>(
     put_last(stream, clock, bytes);
     stream.flush();
 }
+
+#[cfg(test)]
+mod tests;

@@ -30,8 +30,8 @@ pub(super) fn two_tried(
     first: Vec<Call>,
     second: Vec<Call>,
 ) -> Result<World<Planned>, AllocError> {
-    assert!(rt; 8 <= bytes.len() && bytes.len() <= 64 && bytes.len() % 8 == 0);
-    assert!(rt; arena <= 8);
+    assert!(rt; 8 <= bytes.len() && bytes.len() <= 256 && bytes.len() % 8 == 0);
+    assert!(rt; arena <= 256);
     assert!(rt; retries <= 100);
     let setup = Setup {
         bytes: Bytes::new(bytes.to_vec(alloc)?),

@@ -29,7 +29,7 @@ fn write_byte(at: u64, byte: u8) -> Call {
 }
 
 /// A byte of the arena is kept for a rollback.
-fn log(at: u64) -> Call {
+pub(super) fn log(at: u64) -> Call {
     Call::Log {
         width: Width::U1,
         at,
@@ -43,7 +43,7 @@ fn load(at: u64) -> Call {
     }
 }
 
-fn save(at: u64, byte: u8) -> Call {
+pub(super) fn save(at: u64, byte: u8) -> Call {
     Call::Save {
         at,
         value: Datum::new(Width::U1, &[byte]),
@@ -57,7 +57,7 @@ fn bytes(bytes: &[u8]) -> Reply {
 }
 
 /// The attempt's calls were answered so.
-fn expect_replies(rt: &impl Abort, attempt: Option<&Attempt>, replies: &[Reply]) {
+pub(super) fn expect_replies(rt: &impl Abort, attempt: Option<&Attempt>, replies: &[Reply]) {
     let entries = attempt.expect(rt, "an attempt").calls.as_slice();
     assert_eq!(rt; entries.len(), replies.len());
     for place in 0..replies.len() {

@@ -140,6 +140,18 @@ fn again(call: &Call) -> Call
             at: *at,
             size: *size,
         },
+        Call::Copy(copying) => Call::Copy(*copying),
+        Call::Fill {
+            hint,
+            to,
+            byte,
+            size,
+        } => Call::Fill {
+            hint: *hint,
+            to: *to,
+            byte: *byte,
+            size: *size,
+        },
         Call::Load { width, at } => Call::Load {
             width: *width,
             at: *at,

@@ -1,6 +1,7 @@
 use Rattle.std.proofs.Common.{◌≡◌, ◌≤◌, ◌+◌, ℕ, [], ◌∷◌, ◌++◌, length, take, drop, ap, sym, subst, ◌∙◌, arith, rules, length-append}
 use Rattle.std.specs.Option.{option_to_list}
 use Rattle.std.proofs.Math.Seq.{take-append_seam}
+use Rattle.itm_types.specs.Slices.{with_slice}
 use Rattle.itm_model.specs.Undoing.{put_back, AreWithin}
 use Rattle.itm_model.specs.declared.journal.Old.{Old}
 use Rattle.itm_model.proofs.JournalRollbacks.{take-take, pop_restores, length-with_slice, AreWithin-front, AreWithin-last}
@@ -12,6 +13,7 @@ replace-requires c =
     let m = c.loop-journal.memory.items in
     let e : c.loop-journal.journal.items ≡ c.pop.new.self.items ++ o ∷ [] = c.pop.ensures.items ∙ ap (λ r. c.pop.new.self.items ++ option_to_list r) c.unwrap-old.ensures in
     let fits : o.place + length o.bytes.items ≤ length m = AreWithin-last (length m) c.pop.new.self.items o (subst (AreWithin (length m)) e c.loop-journal.invariant.within) in
+    let bytes = c.deref.ensures.0 in
     search (rules, fits)
 
 pub loop-journal-preserved : goal.loop-journal-preserved
@@ -22,14 +24,15 @@ loop-journal-preserved c =
     let m = c.loop-journal.memory.items in
     let e : j ≡ j' ++ o ∷ [] = c.pop.ensures.items ∙ ap (λ r. j' ++ option_to_list r) c.unwrap-old.ensures in
     let all : AreWithin (length m) (j' ++ o ∷ []) = subst (AreWithin (length m)) e c.loop-journal.invariant.within in
-    let size : length c.replace.new.bytes.items ≡ length m = ap (length {A = ℕ}) c.replace.ensures ∙ length-with_slice m o.place o.bytes.items (AreWithin-last (length m) j' o all) in
+    let put : c.replace.new.bytes.items ≡ with_slice m o.place o.bytes.items = c.replace.ensures ∙ ap (with_slice m o.place) c.deref.ensures.0 in
+    let size : length c.replace.new.bytes.items ≡ length m = ap (length {A = ℕ}) put ∙ length-with_slice m o.place o.bytes.items (AreWithin-last (length m) j' o all) in
     let one : length j ≡ length j' + 1 = ap (length {A = Old}) e ∙ length-append j' (o ∷ []) in
     let at : c.args.at ≤ length j' = omega (arith, c.loop-journal-test.true, c.len.ensures, one) in
     record {
       at = at;
       within = subst (λ (n : ℕ). AreWithin n j') (sym size) (AreWithin-front (length m) j' (o ∷ []) all);
       same = sym (take-append_seam j' (o ∷ [])) ∙ (ap (take (length j')) (sym e ∙ c.loop-journal.invariant.same) ∙ take-take (length j') (length j) c.args.journal.now.items (omega (arith, one)));
-      restores = λ k l. ap (put_back (drop k j')) c.replace.ensures ∙ (pop_restores j j' o m e k (omega (arith, l, at)) ∙ c.loop-journal.invariant.restores k l);
+      restores = λ k l. ap (put_back (drop k j')) put ∙ (pop_restores j j' o m e k (omega (arith, l, at)) ∙ c.loop-journal.invariant.restores k l);
     }
 
 pub returns-clause-rest : goal.returns-clause-rest

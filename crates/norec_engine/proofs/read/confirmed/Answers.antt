@@ -10,17 +10,26 @@ use Rattle.write_set.specs.Rows.{overlay}
 use Rattle.norec_engine.specs.Rows.{AllWithin}
 use Rattle.norec_engine.specs.declared.phase.Phase.TheVariants.{Confirm}
 use Rattle.norec_engine.specs.Proceeds.{Settles}
-use Rattle.norec_engine.specs.Fields.{core, parts}
+use Rattle.norec_engine.specs.Fields.{core, count, parts, rows_before}
 use Rattle.norec_engine.specs.Order.{load_stage}
 use Rattle.norec_engine.proofs.Overlays.{AllWithin-push, Agrees-last, Agrees-front, index_of}
-use Rattle.norec_engine.proofs.Readings.{none_left, part_is, length-part_of, after_log, after_open, after_snapshot}
+use Rattle.norec_engine.proofs.Readings.{none_left, part_is, length-part_of, passed_next, among, total_left, after_log, after_open, after_snapshot}
+use Rattle.norec_engine.proofs.Sources.{purpose_more}
 use Rattle.norec_engine.proofs.read.confirmed.Goals as goal
 
 pub unreachable-requires : goal.unreachable-requires
 unreachable-requires c = (let none = none_left c.args.reading (sym c.piece.ensures.value ∙ c.in_default.is) in let some = c.requires.sound.in_phase.1.some in absurd (omega arith))
 
-pub next_piece-requires : goal.next_piece-requires
-next_piece-requires c =
+pub add-requires : goal.add-requires
+add-requires c =
+    let s = c.args.state.now in
+    let r = c.args.reading in
+    let phase = c.requires.sound.in_phase in
+    let to_come = total_left r.purpose r.number (count r) (among s r.purpose r.at r.size phase.1.reading.purpose) phase.1.some in
+    record { room = omega (arith, to_come, phase.1.reading.room) }
+
+pub go_on-requires : goal.go_on-requires
+go_on-requires c =
     let s = c.args.state.now in
     let r = c.args.reading in
     let phase = c.requires.sound.in_phase in
@@ -32,6 +41,10 @@ next_piece-requires c =
     let added = c.add.ensures.rows in
     let more = λ (m : List ℕ). c.in-Some.ensures.reads_on m in
     let gone = c.gather.ensures in
+    let on = passed_next r.purpose r.number in
+    let to_come = total_left r.purpose r.number (count r) (among s r.purpose r.at r.size reading.purpose) left in
+    let joined = λ (m : List ℕ) (agrees : Agrees m (drop s.entry c.add.new.self.rows)).
+    subst (Agrees m) (ap (drop s.entry) added ∙ drop-append-le s.entry s.log.rows (row ∷ []) reading.since) agrees in
     rw c.next.ensures (record {
       may = record {
         bounds = c.requires.sound.bounds;
@@ -45,12 +58,14 @@ next_piece-requires c =
         };
         reading = record {
           within = reading.within;
+          small = reading.small;
+          purpose = purpose_more s.words (length s.arena) s.frames.writes (drop s.entry s.log.rows) (drop s.entry c.add.new.self.rows) s.buffer.items (λ m agrees. Agrees-front m (drop s.entry s.log.rows) row (joined m agrees)) s.written r.purpose r.at r.size reading.purpose;
           far = omega (arith, left);
-          room = omega (arith, left, reading.room, c.add.ensures.room);
+          room = omega (arith, to_come, on, reading.room, c.add.ensures.room);
           since = omega (arith, reading.since, ap (length {A = LogRow}) added, length-append s.log.rows (row ∷ []));
-          grown = omega (arith, reading.grown, ap (length {A = LogRow}) added, length-append s.log.rows (row ∷ []));
+          grown = omega (arith, on, reading.grown, ap (length {A = LogRow}) added, length-append s.log.rows (row ∷ []));
           has = λ m mem agrees.
-              (let all = subst (Agrees m) (ap (drop s.entry) added ∙ drop-append-le s.entry s.log.rows (row ∷ []) reading.since) agrees in
+              (let all = joined m agrees in
               let here = Agrees-last m (drop s.entry s.log.rows) row all in
               let now = index_of (overlay m s.frames.writes.rows) p.word c.overlaid-word.result (c.overlaid-word.ensures m here) in
               gone ∙ ((λ i. reading.has m mem (Agrees-front m (drop s.entry s.log.rows) row all) i ++ part_of p (sym now i)) ∙ sym (more (overlay m s.frames.writes.rows))));
@@ -69,7 +84,7 @@ next_piece-requires c =
               ));
         };
         settled = c.if-seen-state.true;
-        spent = omega (arith, phase.3);
+        spent = omega (arith, on, phase.3);
       };
     })
 
@@ -78,9 +93,9 @@ returns-in-Some-clause-joins c =
     let s = c.args.state.now in
     let r = c.args.reading in
     let phase = c.requires.sound.in_phase in
-    let result = c.next_piece.result in
-    let new = c.next_piece.new.state in
-    let stays = c.next_piece.ensures.stays in
+    let result = c.go_on.result in
+    let new = c.go_on.new.state in
+    let stays = c.go_on.ensures.stays in
     let p = c.in-Some.piece in
     let word = ap (λ (x : Piece). x.word) (part_is r p (sym c.piece.ensures.value ∙ c.in-Some.is)) in
     let settles : Settles (core s (Confirm r c.args.value)) c.args.seen = record { load = refl; same = c.if-seen-state.true ∙ sym phase.2; even = omega (arith, c.requires.sound.bounds.even, c.if-seen-state.true) } in
@@ -97,12 +112,12 @@ returns-in-Some-clause-joins c =
 
 pub returns-in-Some-clause-order : goal.returns-in-Some-clause-order
 returns-in-Some-clause-order c =
-    c.next_piece.ensures.order ∙ (ap (load_stage c.args.state.now.frames.writes.rows) c.next.ensures ∙ (ap (λ (n : ℕ). load_stage c.args.state.now.frames.writes.rows (record c.args.reading { number = n })) (add-one c.args.reading.number)
+    c.go_on.ensures.order ∙ (ap (load_stage (rows_before c.args.state.now)) c.next.ensures ∙ (ap (λ (n : ℕ). load_stage (rows_before c.args.state.now) (record c.args.reading { number = n })) (add-one c.args.reading.number)
     ∙ sym (cond-true (c.args.seen == c.args.state.now.snapshot) _ _ (eq-eqb c.args.seen c.args.state.now.snapshot c.if-seen-state.true))))
 
 pub returns-in-Some-clause-log : goal.returns-in-Some-clause-log
 returns-in-Some-clause-log c o =
     let s = c.args.state.now in
     let word = ap (λ (x : Piece). x.word) (part_is c.args.reading c.in-Some.piece (sym c.piece.ensures.value ∙ c.in-Some.is)) in
-    c.next_piece.ensures.stays.log o ∙ (c.add.ensures.rows ∙ (ap (λ (n : ℕ). s.log.rows ++ record { word = n; value = c.args.value } ∷ []) word
+    c.go_on.ensures.stays.log o ∙ (c.add.ensures.rows ∙ (ap (λ (n : ℕ). s.log.rows ++ record { word = n; value = c.args.value } ∷ []) word
     ∙ sym (cond-true (c.args.seen == s.snapshot) _ _ (eq-eqb c.args.seen s.snapshot c.if-seen-state.true))))

@@ -8,12 +8,12 @@ use Rattle.norec_engine.proofs.Writings.{put_all_more, some_words}
 use Rattle.norec_engine.proofs.write.put_all.Goals as goal
 
 pub loop-piece-init : goal.loop-piece-init
-loop-piece-init c = record { rows = refl; may_put = c.requires.may_put; words = refl; blocks = refl; size = refl }
+loop-piece-init c = record { rows = refl; others = λ word may. may; words = refl; blocks = refl; size = refl }
 
 pub put-requires : goal.put-requires
 put-requires c = record {
   room = some_words c.loop-piece.frames.writes.rows c.args.frames.now.writes.rows _ c.loop-piece.invariant.words (c.requires.room c.loop-piece.piece-index _ c.loop-piece-test.true);
-  may_put = c.loop-piece.invariant.may_put c.loop-piece.piece-index _ c.loop-piece-test.true;
+  may_put = c.loop-piece.invariant.others _ (c.requires.may_put c.loop-piece.piece-index _ c.loop-piece-test.true);
 }
 
 pub loop-piece-preserved : goal.loop-piece-preserved
@@ -25,7 +25,7 @@ loop-piece-preserved c =
       rows = ap (λ (n : Nest). n.writes.rows) c.put.ensures.new ∙ ((λ j. put (i.rows j) p.word (c.mask.ensures.value j) (c.scatter.ensures.value j))
           ∙ sym (ap (λ (ps : List Piece). put_all c.args.frames.now.writes.rows ps c.args.bytes.now) (take_more c.args.pieces.now c.loop-piece.piece-index none c.loop-piece-test.true)
           ∙ put_all_more c.args.frames.now.writes.rows (take c.loop-piece.piece-index c.args.pieces.now) p c.args.bytes.now));
-      may_put = λ j d l. c.put.ensures.others _ (i.may_put j d l);
+      others = λ word may. c.put.ensures.others word (i.others word may);
       words = c.put.ensures.words ∙ i.words;
       blocks = ap (λ (n : Nest). n.blocks) c.put.ensures.new ∙ i.blocks;
       size = ap (λ (n : Nest). n.size) c.put.ensures.new ∙ i.size;

@@ -1,12 +1,12 @@
-use Rattle.std.proofs.Common.{◌≡◌, All, take, map}
-use Rattle.write_set.specs.Marks.{MayPut}
+use Rattle.std.proofs.Common.{◌≡◌, take, map}
+use Rattle.write_set.specs.Marks.{KeepsRoom}
 use Rattle.norec_engine.specs.Rows.{put_all}
 use Rattle.norec_engine.proofs.write.put_all.Given as goal
 
 abbrev pub invariant-loop-piece : goal.invariant-loop-piece
 invariant-loop-piece l = record {
   rows : l.frames.writes.rows ≡ put_all l.fn.frames.writes.rows (take l.piece-index l.pieces) l.bytes;
-  may_put : All (λ p. MayPut l.frames.writes p.word) l.pieces;
+  others : KeepsRoom l.fn.frames.writes l.frames.writes;
   words : map (λ r. r.word) l.frames.writes.rows ≡ map (λ r. r.word) l.fn.frames.writes.rows;
   blocks : l.frames.blocks ≡ l.fn.frames.blocks;
   size : l.frames.size ≡ l.fn.frames.size;

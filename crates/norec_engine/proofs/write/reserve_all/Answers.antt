@@ -1,5 +1,5 @@
-use Rattle.std.proofs.Common.{◌≡◌, ℕ, ◌<◌, ◌≤◌, List, All, None, length, take, drop, get_or, IsSome, refl, ap, sym, subst, ◌∙◌, arith}
-use Rattle.std.proofs.lemmas.List.{take_more, take_all, drop_all, length-take}
+use Rattle.std.proofs.Common.{◌≡◌, ℕ, ◌<◌, List, All, None, length, take, drop, get_or, IsSome, refl, ap, sym, subst, ◌∙◌, arith}
+use Rattle.std.proofs.lemmas.List.{take_more, take_all}
 use Rattle.std.proofs.lemmas.List.Elements.{All-more, All-nil}
 use Rattle.word_pieces.specs.declared.piece.Piece.{Piece}
 use Rattle.write_set.specs.declared.mark.Place.{Place}
@@ -8,7 +8,7 @@ use Rattle.write_set.specs.Marks.{MayPut}
 use Rattle.write_set.specs.Rows.{lookup, reserved, AreEmpty}
 use Rattle.nest_frames.specs.Nest.{Nest, Frame, rows_of}
 use Rattle.norec_engine.specs.Rows.{reserved_all}
-use Rattle.norec_engine.proofs.Writings.{reserved_all_more, some_kept_all, not_ok, on_err, on_ok}
+use Rattle.norec_engine.proofs.Writings.{cut-reserved_all, reserved_all_more, some_kept_all, not_ok, on_err, on_ok}
 use Rattle.norec_engine.proofs.write.reserve_all.Goals as goal
 
 pub loop-piece-init : goal.loop-piece-init
@@ -16,10 +16,9 @@ loop-piece-init c = record {
   rows = refl;
   may_put = All-nil (λ (p : Piece). MayPut c.args.frames.now.writes p.word);
   inner = refl;
+  others = λ word may. may;
   blocks = refl;
   size = refl;
-  empty = subst (AreEmpty) (sym (drop_all (length c.args.frames.now.writes.rows) c.args.frames.now.writes.rows (omega arith))) tt;
-  same = take_all (length c.args.frames.now.writes.rows) c.args.frames.now.writes.rows (omega arith);
 }
 
 pub reserve-requires : goal.reserve-requires
@@ -27,17 +26,28 @@ reserve-requires c = subst (λ (bs : List Frame). 0 < length bs) (sym c.loop-pie
 
 pub cut-requires : goal.cut-requires
 cut-requires c =
+    let old = c.args.frames.now.writes.rows in
+    let i = c.loop-piece.invariant in
     let same = on_err c.reserve.result c.reserve.ensures.err (sym c.is_err.ensures.value ∙ c.if-is_err.true) in
+    let rows = ap (λ (n : Nest). n.writes.rows) same ∙ i.rows in
     record {
       empty = subst (λ (n : ℕ). AreEmpty (drop n c.reserve.new.self.writes.rows)) (sym c.len-len.ensures.len)
-          (subst (λ (n : Nest). AreEmpty (drop (length c.args.frames.now.writes.rows) n.writes.rows)) (sym same) c.loop-piece.invariant.empty);
-      inner = omega (arith, ap (λ (n : Nest). n.writes.inner.rows) same, ap (λ (p : Place). p.rows) c.loop-piece.invariant.inner, c.len-len.ensures.marks.inner.rows, c.len-len.ensures.len);
+          (subst (λ (xs : List Row). AreEmpty (drop (length old) xs)) (sym rows) (cut-reserved_all old (take c.loop-piece.piece-index c.args.pieces.now)).0);
+      inner = omega (arith, ap (λ (n : Nest). n.writes.inner.rows) same, ap (λ (p : Place). p.rows) i.inner, c.len-len.ensures.marks.inner.rows, c.len-len.ensures.len);
     }
 
 pub returns-then-is_err-clause-err : goal.returns-then-is_err-clause-err
 returns-then-is_err-clause-err c =
+    let old = c.args.frames.now.writes.rows in
+    let i = c.loop-piece.invariant in
     let same = on_err c.reserve.result c.reserve.ensures.err (sym c.is_err.ensures.value ∙ c.if-is_err.true) in
-    ap (λ (n : Nest). n.writes.rows) c.cut.ensures.new ∙ ((λ i. take (c.len-len.ensures.len i) (same i).writes.rows) ∙ c.loop-piece.invariant.same)
+    ap (λ (n : Nest). n.writes.rows) c.cut.ensures.new
+    ∙ ((λ j. take (c.len-len.ensures.len j) ((ap (λ (n : Nest). n.writes.rows) same ∙ i.rows) j)) ∙ (cut-reserved_all old (take c.loop-piece.piece-index c.args.pieces.now)).1)
+
+pub returns-then-is_err-clause-inner : goal.returns-then-is_err-clause-inner
+returns-then-is_err-clause-inner c =
+    let same = on_err c.reserve.result c.reserve.ensures.err (sym c.is_err.ensures.value ∙ c.if-is_err.true) in
+    ap (λ (n : Nest). n.writes.inner) c.cut.ensures.new ∙ (ap (λ (n : Nest). n.writes.inner) same ∙ c.loop-piece.invariant.inner)
 
 pub returns-then-is_err-clause-blocks : goal.returns-then-is_err-clause-blocks
 returns-then-is_err-clause-blocks c =
@@ -54,9 +64,6 @@ loop-piece-preserved c =
     let none : Piece = record { word = 0; first = 0; count = 0; at = 0 } in
     let p : Piece = get_or c.args.pieces.now c.loop-piece.piece-index none in
     let i = c.loop-piece.invariant in
-    let n = length c.args.frames.now.writes.rows in
-    let long : n ≤ length c.loop-piece.frames.writes.rows = omega (arith, ap (length {A = Row}) i.same, length-take n c.loop-piece.frames.writes.rows) in
-    let cut = c.reserve.ensures.can_cut n long i.empty in
     let fine = sym c.is_err.ensures.value ∙ c.if-is_err.false in
     let ok = on_ok c.reserve.result c.reserve.ensures.ok fine in
     record {
@@ -65,10 +72,9 @@ loop-piece-preserved c =
       may_put = All-more (λ (q : Piece). MayPut c.reserve.new.self.writes q.word) c.args.pieces.now c.loop-piece.piece-index none c.loop-piece-test.true
           (λ j d l. c.reserve.ensures.others _ (i.may_put j d l)) (on_ok c.reserve.result c.reserve.ensures.may_put fine);
       inner = ap (λ (n : Nest). n.writes.inner) ok ∙ i.inner;
+      others = λ word may. c.reserve.ensures.others word (i.others word may);
       blocks = ap (λ (n : Nest). n.blocks) ok ∙ i.blocks;
       size = ap (λ (n : Nest). n.size) ok ∙ i.size;
-      empty = cut.0;
-      same = cut.1 ∙ i.same;
     }
 
 pub returns-clause-rows : goal.returns-clause-rows

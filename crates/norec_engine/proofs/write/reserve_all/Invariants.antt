@@ -1,6 +1,5 @@
-use Rattle.std.proofs.Common.{◌≡◌, All, length, take, drop}
-use Rattle.write_set.specs.Marks.{MayPut}
-use Rattle.write_set.specs.Rows.{AreEmpty}
+use Rattle.std.proofs.Common.{◌≡◌, All, take}
+use Rattle.write_set.specs.Marks.{KeepsRoom, MayPut}
 use Rattle.norec_engine.specs.Rows.{reserved_all}
 use Rattle.norec_engine.proofs.write.reserve_all.Given as goal
 
@@ -9,8 +8,7 @@ invariant-loop-piece l = record {
   rows : l.frames.writes.rows ≡ reserved_all l.fn.frames.writes.rows (take l.piece-index l.pieces);
   may_put : All (λ p. MayPut l.frames.writes p.word) (take l.piece-index l.pieces);
   inner : l.frames.writes.inner ≡ l.fn.frames.writes.inner;
+  others : KeepsRoom l.fn.frames.writes l.frames.writes;
   blocks : l.frames.blocks ≡ l.fn.frames.blocks;
   size : l.frames.size ≡ l.fn.frames.size;
-  empty : AreEmpty (drop (length l.fn.frames.writes.rows) l.frames.writes.rows);
-  same : take (length l.fn.frames.writes.rows) l.frames.writes.rows ≡ l.fn.frames.writes.rows;
 }

@@ -13,6 +13,7 @@ use Rattle.norec_engine.proofs.Refusals.{served}
 use Rattle.norec_engine.proofs.Machines.{writes, some_put, some_bytes}
 use Rattle.std.proofs.lemmas.List.Elements.{All-from_recursion}
 use Rattle.word_pieces.specs.Pieces.{pieces_of}
+use Rattle.word_pieces.proofs.Covers.{words_of-pieces_of}
 use Rattle.itm_types.specs.Slices.{AreBytes}
 use Rattle.norec_engine.proofs.Writings.{AllFitIn, either_way, all_reserved, some_pieces, bytes_of-put_all, fit_pieces, AllWritesWithin-put_all, AllWritesWithin-reserved_all, AreRows-put_all, AreRows-reserved_all}
 use Rattle.norec_engine.proofs.write.write.Goals as goal
@@ -20,12 +21,12 @@ use Rattle.norec_engine.proofs.write.write.Goals as goal
 pub returns-in_err-reserve_all-clause-starves : goal.returns-in_err-reserve_all-clause-starves
 returns-in_err-reserve_all-clause-starves c =
     let s = c.args.state.now in
-    let may = served (in_block s) s.words c.args.at c.size.result (sym c.in_default.ensures.value) in
+    let may = served (in_block s) s.words c.args.at c.from.result (sym c.in_default.ensures.value) in
     let size = size_of c.args.value.now.width in
     let pieces_are : c.deref.result.now ≡ pieces_of c.args.at size = c.deref.ensures.0 ∙ (c.pieces-pieces.ensures.value ∙ ap (pieces_of c.args.at) c.size-2.ensures.value) in
     either_way c.from_residual.result (
       may.0,
-      subst (λ (n : ℕ). c.args.at + n ≤ 8 * s.words) c.size.ensures.value may.1,
+      subst (λ (n : ℕ). c.args.at + n ≤ 8 * s.words) (c.from.ensures ∙ c.size.ensures.value) may.1,
       λ roomy. c.in_err-reserve_all.ensures.grows (subst (AreRoomy s.frames.writes.rows (rows_of s.frames.blocks)) (sym pieces_are) roomy),
     )
 
@@ -40,7 +41,7 @@ put_all-requires-clause-room c =
 pub returns-clause-sound : goal.returns-clause-sound
 returns-clause-sound c =
     let s = c.args.state.now in
-    let may = served (in_block s) s.words c.args.at c.size.result (sym c.in_default.ensures.value) in
+    let may = served (in_block s) s.words c.args.at c.from.result (sym c.in_default.ensures.value) in
     let w = c.args.value.now.width in
     let bytes = c.args.value.now.bytes.items in
     let ps = pieces_of c.args.at (size_of w) in
@@ -50,8 +51,8 @@ returns-clause-sound c =
     let rows : c.put_all.new.frames.writes.rows ≡ put_all (reserved_all s.frames.writes.rows ps) ps bytes =
     c.put_all.ensures.rows ∙ (λ i. put_all ((c.in_ok-reserve_all.ensures.rows ∙ ap (reserved_all s.frames.writes.rows) (c.deref.ensures.0 ∙ pieces_are)) i) ((c.deref-2.ensures.0 ∙ pieces_are) i) (c.as_slice.ensures.value i)) in
     let blocks = c.put_all.ensures.blocks ∙ c.in_ok-reserve_all.ensures.blocks in
-    let fit : AllFitIn s.words ps bytes = fit_pieces s.words c.args.at (size_of w) bytes
-    (subst (λ (n : ℕ). c.args.at + n ≤ 8 * s.words) c.size.ensures.value may.1)
+    let within : c.args.at + size_of w ≤ 8 * s.words = subst (λ (n : ℕ). c.args.at + n ≤ 8 * s.words) (c.from.ensures ∙ c.size.ensures.value) may.1 in
+    let fit : AllFitIn s.words ps bytes = fit_pieces s.words c.args.at (size_of w) bytes within
     (omega (arith, c.size.ensures.value, c.size.ensures.most)) (subst AreBytes c.as_slice.ensures.value c.put_all.ensures.bytes) in
     rw c.come.ensures (record {
       asked = tt;
@@ -63,7 +64,7 @@ returns-clause-sound c =
             record {
               is_open = o;
               log = idle.0.log;
-              writes = subst (AllWritesWithin s.words) (sym rows) (AllWritesWithin-put_all s.words (reserved_all s.frames.writes.rows ps) ps bytes (AllWritesWithin-reserved_all s.words s.frames.writes.rows ps bytes idle.0.writes fit) fit);
+              writes = subst (AllWritesWithin s.words) (sym rows) (AllWritesWithin-put_all s.words (reserved_all s.frames.writes.rows ps) ps bytes (AllWritesWithin-reserved_all s.words s.frames.writes.rows ps idle.0.writes (words_of-pieces_of c.args.at (size_of w) s.words within)) fit);
               rows = subst AreRows (sym rows) (AreRows-put_all s.words (reserved_all s.frames.writes.rows ps) ps bytes (AreRows-reserved_all s.frames.writes.rows ps idle.0.rows) fit);
               frames = subst (AreFrames s.words) (sym blocks) idle.0.frames;
               tries = idle.0.tries;
@@ -78,7 +79,7 @@ returns-clause-sound c =
 pub returns-clause-proceeds : goal.returns-clause-proceeds
 returns-clause-proceeds c =
     let s = c.args.state.now in
-    let may = served (in_block s) s.words c.args.at c.size.result (sym c.in_default.ensures.value) in
+    let may = served (in_block s) s.words c.args.at c.from.result (sym c.in_default.ensures.value) in
     let value = c.args.value.now in
     let bytes = value.bytes.items in
     let size = size_of value.width in
@@ -88,7 +89,7 @@ returns-clause-proceeds c =
     let rows : c.put_all.new.frames.writes.rows ≡ put_all (reserved_all s.frames.writes.rows ps) ps bytes =
     c.put_all.ensures.rows ∙ (λ i. put_all ((c.in_ok-reserve_all.ensures.rows ∙ ap (reserved_all s.frames.writes.rows) (c.deref.ensures.0 ∙ pieces_are)) i) ((c.deref-2.ensures.0 ∙ pieces_are) i) (c.as_slice.ensures.value i)) in
     let blocks = c.put_all.ensures.blocks ∙ c.in_ok-reserve_all.ensures.blocks in
-    let within : c.args.at + size ≤ 8 * s.words = subst (λ (n : ℕ). c.args.at + n ≤ 8 * s.words) c.size.ensures.value may.1 in
+    let within : c.args.at + size ≤ 8 * s.words = subst (λ (n : ℕ). c.args.at + n ≤ 8 * s.words) (c.from.ensures ∙ c.size.ensures.value) may.1 in
     let some : 0 < length ps = some_pieces c.args.at size (some_bytes value.width) in
     let all = λ (m : List ℕ) (mem : IsMemory s.words m).
     writes s.frames.writes.rows s.frames.blocks s.arena m s.words c.args.hint value c.args.at may.0 mem c.put_all.new.frames.writes.rows within
@@ -99,8 +100,8 @@ returns-clause-proceeds c =
       meets = λ m mem agrees. ap (λ (bs : List Frame). state_over c.put_all.new.frames.writes.rows bs s.arena m) blocks ∙ (all m mem).0;
       reply_is = λ m mem agrees. (all m mem).1;
       stays = search rules;
-      writes = rows;
-      arena = refl;
+      writes = λ m mem agrees. rows;
+      arena = λ m mem agrees. refl;
       free = refl;
       unfreed = refl;
       still = λ other o. ap is_inside blocks ∙ o;

@@ -11,14 +11,14 @@ invariant_of-self-2 c =
     let p = c.self.inside in
     record {
       within = c.self.invariant.within;
-      logged = subst (λ (t : List ℕ). AreWithin (length t) c.log.new.logs.items) c.deref.ensures.value c.in_ok-log.ensures.within;
-      under = AreUnder-more (length p.journal.items) (length p.journal.items) (length p.logs.items) (length c.log.new.logs.items) (reverse p.marks.items) (omega arith) c.in_ok-log.ensures.longer c.self.invariant.under;
+      logged = subst (λ (t : List ℕ). AreWithin (length t) c.keep.new.logs.items) c.deref.ensures.value c.in_ok-keep.ensures.within;
+      under = AreUnder-more (length p.journal.items) (length p.journal.items) (length p.logs.items) (length c.keep.new.logs.items) (reverse p.marks.items) (omega arith) c.in_ok-keep.ensures.longer c.self.invariant.under;
     }
 
 pub returns-clause-ok : goal.returns-clause-ok
 returns-clause-ok c =
     let p = c.self.inside in
-    let all : Logged p.arena.items c.args.place c.args.size p.logs.items c.log.new.logs.items = subst (λ (t : List ℕ). Logged t c.args.place c.args.size p.logs.items c.log.new.logs.items) c.deref.ensures.value c.in_ok-log.ensures.ok in
-    let blocks = logged_is p.journal.items p.memory.items p.arena.items p.logs.items c.log.new.logs.items (reverse p.marks.items) (length p.journal.items) c.args.place c.args.size c.self.invariant.under all in
+    let all : Logged p.arena.items c.args.place c.args.size p.logs.items c.keep.new.logs.items = subst (λ (t : List ℕ). Logged t c.args.place c.args.size p.logs.items c.keep.new.logs.items) c.deref.ensures.value c.in_ok-keep.ensures.ok in
+    let blocks = logged_is p.journal.items p.memory.items p.arena.items p.logs.items c.keep.new.logs.items (reverse p.marks.items) (length p.journal.items) c.args.place c.args.size c.self.invariant.under all in
     (λ i. record { memory = p.memory.items; arena = p.arena.items; blocks = blocks i; wrote = p.wrote })
     ∙ ap (λ (u : Undoable). logged u.state c.args.place c.args.size) c.self.view_is

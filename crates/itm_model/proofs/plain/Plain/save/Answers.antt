@@ -1,4 +1,5 @@
 use Rattle.std.proofs.Common.{◌≡◌, ◌+◌, ◌≤◌, ℕ, length, reverse, ap, ◌∙◌, rules}
+use Rattle.itm_types.specs.Slices.{with_slice}
 use Rattle.itm_model.specs.Undoable.{Undoable}
 use Rattle.itm_model.specs.Machine.{saved_in_arena}
 use Rattle.itm_model.proofs.JournalRollbacks.{length-with_slice}
@@ -12,7 +13,8 @@ returns-clause-ok c =
     let a = p.arena.items in
     let view = c.self.view_is in
     let fits : c.args.place + length new ≤ length a = search rules in
-    let long : length c.replace.new.bytes.items ≡ length a = ap (length {A = ℕ}) c.replace.ensures ∙ length-with_slice a c.args.place new fits in
+    let put : c.replace.new.bytes.items ≡ with_slice a c.args.place new = c.replace.ensures ∙ ap (with_slice a c.args.place) c.deref.ensures.0 in
+    let long : length c.replace.new.bytes.items ≡ length a = ap (length {A = ℕ}) put ∙ length-with_slice a c.args.place new fits in
     let blocks = blocks_long p.journal.items p.memory.items a c.replace.new.bytes.items p.logs.items (reverse p.marks.items) long in
-    (λ i. record { memory = p.memory.items; arena = c.replace.ensures i; blocks = blocks i; wrote = p.wrote })
+    (λ i. record { memory = p.memory.items; arena = put i; blocks = blocks i; wrote = p.wrote })
     ∙ ap (λ (u : Undoable). saved_in_arena u.state c.args.place new) c.self.view_is

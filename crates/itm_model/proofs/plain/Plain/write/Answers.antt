@@ -1,25 +1,33 @@
-use Rattle.std.proofs.Common.{◌≡◌, ◌||◌, nat_lt, length, reverse, ap, ◌∙◌, rules, arith}
+use Rattle.std.proofs.Common.{◌≡◌, ◌≤◌, ◌+◌, ◌||◌, ℕ, nat_lt, List, length, subst, ap, ◌∙◌, rules}
+use Rattle.itm_types.specs.Slices.{with_slice}
 use Rattle.itm_model.specs.Undoable.{Undoable}
 use Rattle.itm_model.specs.Machine.{written}
-use Rattle.itm_model.proofs.OpenBlocks.{blocks_same, AreUnder-more}
+use Rattle.itm_model.specs.Undoing.{AreWithin, Logged}
+use Rattle.itm_model.proofs.Overwrites.{IsWritten, is_written}
 use Rattle.itm_model.proofs.plain.Plain.write.Goals as goal
 use Rattle.itm_model.proofs.plain.Plain.write.Goals.{then-self, else-self}
 
-pub invariant_of-self-2 : goal.invariant_of-self-2
-invariant_of-self-2 c =
+done : (c : goal.After-self-1) → IsWritten c.self.inside.journal.items c.self.inside.memory.items c.self.inside.arena.items c.self.inside.logs.items c.self.inside.marks.items c.self.inside.wrote c.args.place c.args.value.now.bytes.items c.keep.new.logs.items c.replace.new.bytes.items c.if-self.self
+done c =
     let p = c.self.inside in
-    record {
-      logged = c.self.invariant.logged;
-      within = c.in_ok-write.ensures.within;
-      under = AreUnder-more (length p.journal.items) (length c.write.new.journal.items) (length p.logs.items) (length p.logs.items) (reverse p.marks.items) c.in_ok-write.ensures.longer (omega arith) c.self.invariant.under;
-    }
+    let m = p.memory.items in
+    let j = p.journal.items in
+    let j' = c.keep.new.logs.items in
+    let new = c.args.value.now.bytes.items in
+    let len : c.len-size.result ≡ length new = c.len-size.ensures.value in
+    let fits : c.args.place + length new ≤ length m = search (rules, len) in
+    let kept : Logged m c.args.place (length new) j j' = subst (λ (t : List ℕ). Logged t c.args.place (length new) j j') c.deref.ensures.value (subst (λ (n : ℕ). Logged c.deref.result.now c.args.place n j j') len c.in_ok-keep.ensures.ok) in
+    let within : AreWithin (length m) j' = subst (λ (t : List ℕ). AreWithin (length t) j') c.deref.ensures.value c.in_ok-keep.ensures.within in
+    let wrote : c.if-self.self ≡ (p.wrote || nat_lt 0 (length new)) =
+    elim c.if-self.branch [ then-self w ↦ search (rules, len) | else-self w ↦ search (rules, len) ] in
+    is_written j m p.arena.items p.logs.items p.marks.items p.wrote c.args.place new j' c.replace.new.bytes.items c.if-self.self
+    c.self.invariant fits kept c.in_ok-keep.ensures.longer within (c.replace.ensures ∙ ap (with_slice m c.args.place) c.deref-2.ensures.0) wrote
+
+pub invariant_of-self-2 : goal.invariant_of-self-2
+invariant_of-self-2 c = (done c).sound
 
 pub returns-clause-ok : goal.returns-clause-ok
-returns-clause-ok c =
-    let p = c.self.inside in
-    let wrote : c.if-self.self ≡ (p.wrote || nat_lt 0 (length c.args.value.now.bytes.items)) =
-    elim c.if-self.branch [ then-self w ↦ search rules | else-self w ↦ search rules ] in
-    let memory = c.in_ok-write.ensures.memory in
-    let blocks = blocks_same p.journal.items p.memory.items c.write.new.journal.items c.write.new.memory.items p.arena.items p.logs.items (length p.journal.items) (length p.logs.items) (reverse p.marks.items) c.self.invariant.under c.in_ok-write.ensures.restores in
-    (λ i. record { memory = memory i; arena = p.arena.items; blocks = blocks i; wrote = wrote i })
-    ∙ ap (λ (u : Undoable). written u.state c.args.place c.args.value.now.bytes.items) c.self.view_is
+returns-clause-ok c = (done c).state ∙ ap (λ (u : Undoable). written u.state c.args.place c.args.value.now.bytes.items) c.self.view_is
+
+pub returns-clause-before : goal.returns-clause-before
+returns-clause-before c = (done c).before ∙ ap (λ (u : Undoable). u.before) c.self.view_is

@@ -1,0 +1,34 @@
+use Rattle.std.proofs.Common.{◌≡◌, ◌≤◌, ◌+◌, ◌||◌, ℕ, nat_lt, List, length, subst, ap, sym, ◌∙◌, rules}
+use Rattle.itm_types.specs.Slices.{slice}
+use Rattle.itm_model.proofs.JournalRollbacks.{length-slice}
+use Rattle.itm_model.specs.Undoable.{Undoable}
+use Rattle.itm_model.specs.Machine.{written}
+use Rattle.itm_model.specs.Undoing.{AreWithin, Logged}
+use Rattle.itm_model.proofs.Overwrites.{IsWritten, is_written}
+use Rattle.itm_model.proofs.plain.Plain.copy_within.Goals as goal
+use Rattle.itm_model.proofs.plain.Plain.copy_within.Goals.{then-self, else-self}
+
+done : (c : goal.After-self-1) → IsWritten c.self.inside.journal.items c.self.inside.memory.items c.self.inside.arena.items c.self.inside.logs.items c.self.inside.marks.items c.self.inside.wrote c.args.to (slice c.self.inside.memory.items c.args.from c.args.size) c.keep.new.logs.items c.move_within.new.bytes.items c.if-self.self
+done c =
+    let p = c.self.inside in
+    let m = p.memory.items in
+    let j = p.journal.items in
+    let j' = c.keep.new.logs.items in
+    let new = (slice c.self.inside.memory.items c.args.from c.args.size) in
+    let len : c.args.size ≡ length new = sym (length-slice m c.args.from c.args.size (search rules)) in
+    let fits : c.args.to + length new ≤ length m = search (rules, len) in
+    let kept : Logged m c.args.to (length new) j j' = subst (λ (t : List ℕ). Logged t c.args.to (length new) j j') c.deref.ensures.value (subst (λ (n : ℕ). Logged c.deref.result.now c.args.to n j j') len c.in_ok-keep.ensures.ok) in
+    let within : AreWithin (length m) j' = subst (λ (t : List ℕ). AreWithin (length t) j') c.deref.ensures.value c.in_ok-keep.ensures.within in
+    let wrote : c.if-self.self ≡ (p.wrote || nat_lt 0 (length new)) =
+    elim c.if-self.branch [ then-self w ↦ search (rules, len) | else-self w ↦ search (rules, len) ] in
+    is_written j m p.arena.items p.logs.items p.marks.items p.wrote c.args.to new j' c.move_within.new.bytes.items c.if-self.self
+    c.self.invariant fits kept c.in_ok-keep.ensures.longer within (c.move_within.ensures) wrote
+
+pub invariant_of-self-2 : goal.invariant_of-self-2
+invariant_of-self-2 c = (done c).sound
+
+pub returns-clause-ok : goal.returns-clause-ok
+returns-clause-ok c = (done c).state ∙ ap (λ (u : Undoable). written u.state c.args.to (slice u.state.memory c.args.from c.args.size)) c.self.view_is
+
+pub returns-clause-before : goal.returns-clause-before
+returns-clause-before c = (done c).before ∙ ap (λ (u : Undoable). u.before) c.self.view_is

@@ -1,0 +1,112 @@
+use Rattle.std.proofs.Common.{◌≡◌, ℕ, List, [], ◌++◌, length, take, drop, refl, sym, ap, subst, ◌∙◌, arith}
+use Rattle.word_pieces.specs.Pieces.{gathered, part_of}
+use Rattle.std.specs.Prelude.{slice_index}
+use Rattle.std.proofs.lemmas.List.{length-append}
+use Rattle.write_set.specs.Rows.{overlay}
+use Rattle.norec_engine.specs.declared.phase.Reading.{Reading}
+use Rattle.norec_engine.specs.Order.{load_among}
+use Rattle.norec_engine.specs.Fields.{parts, count, rows_before, IsReading}
+use Rattle.norec_engine.specs.Rows.{is_covered}
+use Rattle.norec_engine.proofs.Readings.{load_ends, load_here, load_next, none_left, some_left, part_is, length-part_of, passed_next, among, total_left}
+use Rattle.norec_engine.proofs.Sources.{covered_before}
+use Rattle.norec_engine.proofs.read.+take_covered.Goals as goal
+
+pub piece-requires-clause-place : goal.piece-requires-clause-place
+piece-requires-clause-place t c = omega (arith, c.requires.may.0, c.requires.may.2.within)
+
+pub returns-in_default-clause-whole : goal.returns-in_default-clause-whole
+returns-in_default-clause-whole t c =
+    let r = c.args.reading in
+    let s = c.args.state.now in
+    let reading = c.requires.may.2 in
+    let all = none_left r (sym c.piece.ensures.value ∙ c.in_default.is) in
+    let same : r.number ≡ count r = omega (arith, all, reading.far) in
+    subst (λ (n : ℕ). IsReading s (record r { number = n })) same reading
+
+pub returns-in_default-clause-order : goal.returns-in_default-clause-order
+returns-in_default-clause-order t c past = sym (load_ends (rows_before c.args.state.now) past c.args.reading (sym c.piece.ensures.value ∙ c.in_default.is))
+
+pub gather-requires-clause-room : goal.gather-requires-clause-room
+gather-requires-clause-room t c =
+    let sized = c.requires.may.2.sized in
+    let before = c.in-Some.ensures.before [] in
+    let most = c.in-Some.ensures.in_value in
+    omega (arith, sized, before, most)
+
+pub take_covered-requires : goal.take_covered-requires
+take_covered-requires t c =
+    let s = c.args.state.now in
+    let r = c.args.reading in
+    let is_open = c.requires.may.1 in
+    let reading = c.requires.may.2 in
+    let p = c.in-Some.piece in
+    let left = some_left r p (sym c.piece.ensures.value ∙ c.in-Some.is) in
+    let gone = c.gather.ensures in
+    let covered = c.in-Some-covered.ensures.part in
+    let on = passed_next r.purpose r.number in
+    let to_come = total_left r.purpose r.number (count r) (among s r.purpose r.at r.size reading.purpose) left in
+    let more = λ (m : List ℕ). c.in-Some.ensures.reads_on m in (
+      rw c.next.ensures (omega (arith, left, c.decreases)),
+      rw c.next.ensures (
+        c.requires.may.0,
+        record { is_open = is_open.is_open; log = is_open.log; writes = is_open.writes; rows = is_open.rows; frames = is_open.frames; tries = is_open.tries },
+        record {
+          within = reading.within;
+          small = reading.small;
+          purpose = reading.purpose;
+          far = omega (arith, left);
+          room = omega (arith, reading.room, on);
+          since = reading.since;
+          grown = omega (arith, reading.grown, on);
+          has = λ m mem agrees.
+              (let word = c.in-Some.ensures.in_memory s.words reading.within in
+              let same = covered m mem.1 (omega (arith, word, mem.0)) in
+              gone ∙ ((λ i. reading.has m mem agrees i ++ sym same i) ∙ sym (more (overlay m s.frames.writes.rows))));
+          sized =
+              (let parts_are = more [] in
+              let in_word = c.in-Some.ensures.piece.in_word in
+              omega (
+                arith,
+                ap (length {A = ℕ}) gone,
+                length-append s.gathered.items (part_of p c.in-Some-covered.value),
+                reading.sized,
+                ap (length {A = ℕ}) parts_are,
+                length-append (gathered [] (take r.number (parts r))) (part_of p (slice_index [] p.word)),
+                length-part_of p c.in-Some-covered.value in_word,
+                length-part_of p (slice_index [] p.word) in_word,
+              ));
+        },
+      ),
+    )
+
+pub returns-in-Some-covered-clause-order : goal.returns-in-Some-covered-clause-order
+returns-in-Some-covered-clause-order t c past =
+    let s = c.args.state.now in
+    let r = c.args.reading in
+    let is = sym c.piece.ensures.value ∙ c.in-Some.is in
+    let covered = covered_before s r.purpose r.at r.size c.requires.may.2.purpose c.in-Some.piece c.in-Some.ensures.piece ∙ sym c.in-Some-covered.ensures.covered in
+    c.take_covered.ensures.order past
+    ∙ (ap (λ (x : Reading). load_among (rows_before s) past x (drop x.number (parts x))) c.next.ensures ∙ sym (load_next (rows_before s) past r c.in-Some.piece is covered))
+
+pub returns-in-None-clause-next : goal.returns-in-None-clause-next
+returns-in-None-clause-next t c =
+    let s = c.args.state.now in
+    let r = c.args.reading in
+    let is = sym c.piece.ensures.value ∙ c.in-Some.is in
+    let is_open = c.requires.may.1 in
+    let reading = c.requires.may.2 in (
+      refl,
+      omega arith,
+      record {
+        reading = record { within = reading.within; small = reading.small; purpose = reading.purpose; far = reading.far; room = reading.room; since = reading.since; grown = reading.grown; has = reading.has; sized = reading.sized };
+        some = some_left r c.in-Some.piece is;
+        uncovered = ap (is_covered s.frames.writes.rows) (sym (part_is r c.in-Some.piece is)) ∙ sym c.in-None.ensures.covered;
+      },
+    )
+
+pub returns-in-None-clause-order : goal.returns-in-None-clause-order
+returns-in-None-clause-order t c past =
+    let s = c.args.state.now in
+    let r = c.args.reading in
+    let covered = covered_before s r.purpose r.at r.size c.requires.may.2.purpose c.in-Some.piece c.in-Some.ensures.piece ∙ sym c.in-None.ensures.covered in
+    sym (load_here (rows_before s) past r c.in-Some.piece (sym c.piece.ensures.value ∙ c.in-Some.is) covered)

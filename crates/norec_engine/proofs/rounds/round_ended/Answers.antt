@@ -1,0 +1,44 @@
+use Rattle.std.proofs.Common.{◌+◌, refl, arith}
+use Rattle.norec_engine.specs.declared.phase.Aim.TheVariants as aims
+use Rattle.norec_engine.specs.Fields.{count, total}
+use Rattle.norec_engine.proofs.Counts.{more, round_over}
+use Rattle.norec_engine.proofs.Readings.{among, total_left}
+use Rattle.norec_engine.proofs.Loads.{aims_later}
+use Rattle.norec_engine.proofs.rounds.round_ended.Goals as goal
+
+pub try_round-requires : goal.try_round-requires
+try_round-requires c =
+    let s = c.args.state.now in
+    let phase = c.requires.sound.in_phase in
+    let o = phase.0.is_open in
+    record {
+      may = record {
+        bounds = c.requires.sound.bounds;
+        is_open = record { is_open = o.is_open; log = o.log; writes = o.writes; rows = o.rows; frames = o.frames; tries = o.tries };
+        may = aims_later s c.args.aim c.args.seen s.snapshot s.spent phase.0.may;
+        later = omega (arith, phase.0.later, c.requires.fits);
+        spent = round_over s c.args.aim c.args.seen phase.0;
+      };
+    }
+
+pub returns-in-Read-clause-sound : goal.returns-in-Read-clause-sound
+returns-in-Read-clause-sound c =
+    let s = c.args.state.now in
+    let sound = rw c.in-Read.is at c.requires.sound in
+    let r = c.in-Read.reading in
+    let round = sound.in_phase.0 in
+    let o = round.is_open in
+    let left = total_left r.purpose r.number (count r) (among s r.purpose r.at r.size round.may.reading.purpose) round.may.some in
+    record {
+      asked = tt;
+      sound = record {
+        bounds = record { patient = sound.bounds.patient; commits = sound.bounds.commits; small = sound.bounds.small; sized = sound.bounds.sized; even = omega (arith, c.if-is_steady.true, sound.in_phase.1) };
+        reached = omega arith;
+        in_phase = (
+          record { is_open = o.is_open; log = o.log; writes = o.writes; rows = o.rows; frames = o.frames; tries = o.tries },
+          aims_later s (aims.Read r) c.args.seen c.args.seen (s.spent + 1) round.may,
+          refl,
+          omega (arith, left, round.spent, round.may.reading.grown, more s.tries s.tries (s.entry + total r + 4) round.tried (omega arith)),
+        );
+      };
+    }
