@@ -4,8 +4,8 @@ ghost use Rattle.std.specs.Prelude.{◌≡◌, ◌<◌, ◌≤◌, IfOk, None};
 
 use crate::{Answer, Engine, Next, Undone};
 use itm_types::{
-    Call, Datum, Limits, MAX_PATIENCE, Props, ReadHint, Refusal, Reply, Step, Value, Width,
-    WriteHint,
+    Call, CopyPair, Copying, Datum, Limits, MAX_PATIENCE, Props, ReadHint, Refusal, Reply, Step,
+    Value, Width, WriteHint,
 };
 use std::alloc::{AllocError, Global};
 use std::process::Abort;
@@ -13,6 +13,8 @@ use undo_log::Arena;
 
 mod blocks;
 mod calls;
+mod copies;
+mod copy_tables;
 mod nests;
 mod reads;
 mod rounds;
@@ -45,6 +47,12 @@ enum Ask {
     Log(Width, u64),
     /// So many bytes of the arena are logged.
     LogBytes(u64, u64),
+    /// To a place, from a place, so many bytes, of which none may be in both ranges.
+    Copy(CopyPair, u64, u64, u64),
+    /// The same, where they may.
+    Move(CopyPair, u64, u64, u64),
+    /// From this place on the byte is put so many times.
+    Fill(u64, u64, u64),
     Load(Width, u64),
     /// These bytes go to the arena, as many as the type has.
     Save(Width, u64, &'static [u8]),
@@ -106,6 +114,14 @@ fn call_of(rt: &impl Abort, ask: Ask) -> Call {
         }
         Ask::Log(width, at) => Call::Log { width, at },
         Ask::LogBytes(at, size) => Call::LogBytes { at, size },
+        Ask::Copy(pair, to, from, size) => copying(false, pair, to, from, size),
+        Ask::Move(pair, to, from, size) => copying(true, pair, to, from, size),
+        Ask::Fill(to, byte, size) => Call::Fill {
+            hint: WriteHint::W,
+            to,
+            byte,
+            size,
+        },
         Ask::Load(width, at) => Call::Load { width, at },
         Ask::Save(width, at, bytes) => {
             assert_eq!(rt; bytes.len(), usize::from(width.size()));
@@ -115,6 +131,16 @@ fn call_of(rt: &impl Abort, ask: Ask) -> Call {
             }
         }
     }
+}
+
+fn copying(moves: bool, pair: CopyPair, to: u64, from: u64, size: u64) -> Call {
+    Call::Copy(Copying {
+        moves,
+        pair,
+        to,
+        from,
+        size,
+    })
 }
 
 /// The answer or step. A reply has at most 32 bytes.

@@ -7,6 +7,8 @@ use std::alloc::{AllocError, Global};
 use std::process::Abort;
 use std::test::Fail;
 
+mod overlaps;
+
 const OUT_OF_RANGE: Reply = Reply::Refused(Refusal::OutOfRange);
 
 const OUT_OF_ARENA: Reply = Reply::Refused(Refusal::OutOfArena);
@@ -75,87 +77,6 @@ fn are_copied(bytes: &[u8], before: &[u8], to: u64, new: Option<&[u8]>) -> bool 
         && range(bytes, 0, to) == range(before, 0, to)
         && range(bytes, end, rest) == range(before, end, rest)
         && bytes.len() == before.len()
-}
-
-/// What a copy within the memory answers.
-fn reply_of(copying: &Copying) -> Reply {
-    let to_end = copying.to.saturating_add(copying.size);
-    let from_end = copying.from.saturating_add(copying.size);
-    if to_end > 96 || from_end > 96 {
-        OUT_OF_RANGE
-    } else if copying.moves || to_end <= copying.from || from_end <= copying.to {
-        Reply::Done
-    } else {
-        Reply::Refused(Refusal::Overlap)
-    }
-}
-
-/// One copy within the memory, in a block that is then cancelled.
-fn copy_within(
-    rt: &impl Abort,
-    plain: &mut Plain,
-    before: &[u8],
-    copying: Copying,
-) -> Result<(), AllocError> {
-    let Copying { to, from, size, .. } = copying;
-    let reply = reply_of(&copying);
-    plain.one(&BEGIN)?;
-    assert_eq!(rt; plain.one(&Call::Copy(copying))?, reply, "{copying:?}");
-    if reply == Reply::Done {
-        let new = range(before, from, size);
-        assert!(rt; are_copied(plain.memory(), before, to, new), "{copying:?}");
-        assert_eq!(rt; plain.wrote(), size > 0, "{copying:?}");
-    } else {
-        assert_eq!(rt; plain.memory(), before, "{copying:?}");
-        assert!(rt; !plain.wrote(), "{copying:?}");
-    }
-    plain.one(&CANCEL)?;
-    assert_eq!(rt; plain.memory(), before, "{copying:?}");
-    assert!(rt; !plain.wrote(), "{copying:?}");
-    Ok(())
-}
-
-/// The smallest sizes, and those near full entries of the journal and near the memory's own.
-const EDGES: [u64; 11] = [0, 1, 2, 31, 32, 33, 63, 64, 65, 95, 96];
-
-/// Copies of so many bytes between places within the memory, and the first past its end: at each distance for a size
-/// that is an edge.
-fn copies_within(
-    rt: &impl Abort,
-    plain: &mut Plain,
-    before: &[u8],
-    size: u64,
-) -> Result<(), AllocError> {
-    let places = 98_u64.saturating_sub(size).max(1);
-    let (to_step, from_step) = if EDGES.contains(&size) {
-        (4, 1)
-    } else {
-        (31, 5)
-    };
-    for to in (0..places).step_by(to_step) {
-        for from in (0..places).step_by(from_step) {
-            copy_within(rt, plain, before, within(false, to, from, size))?;
-            copy_within(rt, plain, before, within(true, to, from, size))?;
-        }
-    }
-    Ok(())
-}
-
-#[test]
-fn every_overlap(rt: HostRuntime) -> Result<(), Fail> {
-    let mut plain = numbered(rt.alloc())?;
-    let before = plain.memory().to_vec(rt.alloc())?;
-    for size in 0..101 {
-        copies_within(&rt, &mut plain, &before, size)?;
-    }
-    for place in [0, 96, 97, u64::MAX - 1, u64::MAX] {
-        for size in [0, 1, 97, u64::MAX] {
-            copy_within(&rt, &mut plain, &before, within(false, place, 0, size))?;
-            copy_within(&rt, &mut plain, &before, within(true, 0, place, size))?;
-            copy_within(&rt, &mut plain, &before, within(true, place, place, size))?;
-        }
-    }
-    Ok(())
 }
 
 /// A copy out of the arena, in a block that is then cancelled.

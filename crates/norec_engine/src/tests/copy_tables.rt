@@ -1,0 +1,357 @@
+//! Copies and fills of every size against plain lists, over words that the test keeps.
+
+ghost use Rattle.std.specs.Prelude.{◌<◌, ◌≤◌};
+
+use super::{BLOCK, replied};
+use crate::{Answer, Engine, Next};
+use itm_types::{Call, CopyPair, Copying, Limits, Refusal, Reply, SharedSide, Step, WriteHint};
+use std::alloc::{AllocError, Global};
+use std::process::Abort;
+use std::test::Fail;
+use undo_log::Arena;
+
+mod conflicts;
+
+const SIDE: SharedSide = SharedSide::T;
+
+/// How many bytes the memory and the arena have, over which each size is copied.
+const SIZE: u64 = 96;
+
+/// Where ranges begin of copies from or to the arena.
+const PLACES: [u64; 12] = [0, 1, 3, 7, 8, 9, 31, 32, 33, 64, 95, 96];
+
+/// The byte that stands at a place of the memory and of the arena at first: no two are alike.
+fn first(place: usize) -> u8 {
+    (place % 200 + 10) as u8
+}
+
+/// The cells that the engine's steps are done on.
+#[derive(Clone, Copy)]
+struct Cells {
+    clock: u64,
+    words: [u64; 24],
+}
+
+impl Cells {
+    fn load(&self, cell: u32) -> u64 {
+        if cell == 0 {
+            return self.clock;
+        }
+        let words = self.words.as_slice();
+        words.get(cell as usize - 1).copied().unwrap_or(0)
+    }
+
+    fn store(&mut self, cell: u32, value: u64) {
+        if cell == 0 {
+            self.clock = value;
+        } else if let Some(word) = self.words.as_mut_slice().get_mut(cell as usize - 1) {
+            *word = value;
+        }
+    }
+
+    /// Does a step, and gives what is handed in.
+    fn serve(&mut self, step: Step) -> u64 {
+        match step {
+            Step::Load(cell) => self.load(cell),
+            Step::Store(cell, value) => {
+                self.store(cell, value);
+                0
+            }
+            Step::Cas(cell, from, to) => {
+                let found = self.load(cell);
+                if found == from {
+                    self.store(cell, to);
+                }
+                found
+            }
+        }
+    }
+
+    /// The bytes of the first words.
+    fn bytes(&self) -> [u8; 96] {
+        let mut bytes = [0; 96];
+        for (place, byte) in bytes.iter_mut().enumerate() {
+            if let Some(word) = self.words.as_slice().get(place / 8) {
+                *byte = word.to_le_bytes()[place % 8];
+            }
+        }
+        bytes
+    }
+}
+
+/// Words with the bytes.
+fn filled() -> Cells {
+    let mut words = [0; 24];
+    let mut next = 0x1110_0f0e_0d0c_0b0au64;
+    for word in words.iter_mut() {
+        *word = next;
+        next = next.wrapping_add(0x0808_0808_0808_0808);
+    }
+    Cells { clock: 0, words }
+}
+
+/// The bytes, once so many of them are copied.
+fn copied(to: u64, from: u64, size: u64) -> [u8; 96] {
+    let mut bytes = [0; 96];
+    for (place, byte) in bytes.iter_mut().enumerate() {
+        let at = place as u64;
+        *byte = if to <= at && at - to < size {
+            first((at - to).wrapping_add(from) as usize)
+        } else {
+            first(place)
+        };
+    }
+    bytes
+}
+
+/// An engine over so many words and an arena of so many bytes.
+fn numbered(rt: &impl Abort, alloc: Global, words: u32, size: usize) -> Result<Engine, AllocError>
+    requires words { (0 < words) × (words ≤ 24) }
+{
+    assert!(rt; size <= 160);
+    let mut arena = Arena::new(alloc, size)?;
+    for place in 0..size {
+        assert!(rt; place < arena.size());
+        arena.put(place, [first(place)].as_slice());
+    }
+    let limits = Limits {
+        patience: 8,
+        retries: 0,
+        max_commits: 1_000_000,
+    };
+    Ok(Engine::new(alloc, words, arena, limits))
+}
+
+/// Does so many steps at most, and gives what comes after them.
+fn go_on(rt: &impl Abort, engine: &mut Engine, cells: &mut Cells, asked: Next, most: u32) -> Next {
+    let mut next = asked;
+    for _ in 0..most {
+        let Next::Step(step) = next else {
+            return next;
+        };
+        let seen = cells.serve(step);
+        assert!(rt; engine.waits() && engine.fits(seen));
+        next = engine.resume(seen);
+    }
+    next
+}
+
+/// A call comes, and is served.
+fn ask(
+    rt: &impl Abort,
+    engine: &mut Engine,
+    cells: &mut Cells,
+    call: &Call,
+) -> Result<Next, AllocError> {
+    assert!(rt; !engine.waits());
+    let next = engine.call(call)?;
+    Ok(go_on(rt, engine, cells, next, 1000))
+}
+
+/// Both ranges have a byte in common.
+fn is_double(copying: Copying) -> bool {
+    for place in 0..SIZE {
+        let is_read = copying.from <= place && place - copying.from < copying.size;
+        let is_written = copying.to <= place && place - copying.to < copying.size;
+        if is_read && is_written {
+            return true;
+        }
+    }
+    false
+}
+
+/// Why a copy is to be refused, if it is.
+fn refusal(copying: Copying) -> Option<Refusal> {
+    let (target, source, is_shared) = match copying.pair {
+        CopyPair::Out(_) => (Refusal::OutOfRange, Refusal::OutOfArena, false),
+        CopyPair::In(_) => (Refusal::OutOfArena, Refusal::OutOfRange, false),
+        CopyPair::Within(_, _) => (Refusal::OutOfRange, Refusal::OutOfRange, true),
+    };
+    let end = SIZE.saturating_sub(copying.size);
+    if copying.size > SIZE || copying.to > end {
+        Some(target)
+    } else if copying.from > end {
+        Some(source)
+    } else if is_shared && !copying.moves && is_double(copying) {
+        Some(Refusal::Overlap)
+    } else {
+        None
+    }
+}
+
+/// A block begins on the first bytes of the memory.
+fn begin(rt: &impl Abort, engine: &mut Engine, cells: &mut Cells) -> Result<(), AllocError> {
+    let words = filled().words;
+    cells.words = words;
+    assert!(rt; !engine.waits());
+    let asked = engine.begin(BLOCK, 3, false)?;
+    let next = go_on(rt, engine, cells, asked, 1000);
+    assert_eq!(rt; next, replied(Reply::Code(5)));
+    Ok(())
+}
+
+/// The transaction commits, and leaves these bytes in the memory and in the arena.
+fn finish(
+    rt: &impl Abort,
+    engine: &mut Engine,
+    cells: &mut Cells,
+    wrote: bool,
+    memory: [u8; 96],
+    arena: [u8; 96],
+) -> Result<(), AllocError> {
+    let at = cells.clock / 2;
+    let next = ask(rt, engine, cells, &Call::Commit)?;
+    assert_eq!(rt; next, Next::Answer(Answer::Committed { at, wrote }));
+    let shared = cells.bytes();
+    assert_eq!(rt; shared.as_slice(), memory.as_slice());
+    assert_eq!(rt; engine.arena().bytes(), arena.as_slice());
+    Ok(())
+}
+
+/// A copy is made in a transaction of its own.
+fn copy(
+    rt: &impl Abort,
+    engine: &mut Engine,
+    cells: &mut Cells,
+    copying: Copying,
+) -> Result<(), AllocError> {
+    begin(rt, engine, cells)?;
+    let next = ask(rt, engine, cells, &Call::Copy(copying))?;
+    let (reply, size) = match refusal(copying) {
+        Some(refusal) => (Reply::Refused(refusal), 0),
+        None => (Reply::Done, copying.size),
+    };
+    assert_eq!(rt; next, replied(reply), "{copying:?}");
+    let before = copied(0, 0, 0);
+    let after = copied(copying.to, copying.from, size);
+    match copying.pair {
+        CopyPair::In(_) => finish(rt, engine, cells, false, before, after),
+        CopyPair::Out(_) | CopyPair::Within(_, _) => {
+            finish(rt, engine, cells, size > 0, after, before)
+        }
+    }
+}
+
+/// Copies of so many bytes, at every distance of two ranges: one begins at the first place, within a word, or at the last
+/// place where it lies in the memory, and the other at any place up to the first past the end. The plain machine of
+/// `itm_model` is tested with every pair of places.
+fn copies_within(rt: &impl Abort, alloc: Global, moves: bool, size: u64) -> Result<(), AllocError> {
+    let mut engine = numbered(rt, alloc, 12, SIZE as usize)?;
+    let mut cells = filled();
+    for one in [0, 5, SIZE.saturating_sub(size)] {
+        for other in 0..98_u64.saturating_sub(size).max(1) {
+            for (to, from) in [(one, other), (other, one)] {
+                let copying = Copying {
+                    moves,
+                    pair: CopyPair::Within(SIDE, SIDE),
+                    to,
+                    from,
+                    size,
+                };
+                copy(rt, &mut engine, &mut cells, copying)?;
+            }
+        }
+    }
+    Ok(())
+}
+
+#[test]
+fn moves_within_shared_memory(rt: HostRuntime) -> Result<(), Fail> {
+    for size in 0..101 {
+        copies_within(&rt, rt.alloc(), true, size)?;
+    }
+    Ok(())
+}
+
+#[test]
+fn copies_within_shared_memory(rt: HostRuntime) -> Result<(), Fail> {
+    for size in 0..101 {
+        copies_within(&rt, rt.alloc(), false, size)?;
+    }
+    Ok(())
+}
+
+/// Copies of so many bytes from each place to each, each of them with an arena of its own.
+fn arena_copies(
+    rt: &impl Abort,
+    alloc: Global,
+    pair: CopyPair,
+    size: u64,
+) -> Result<(), AllocError> {
+    for from in PLACES {
+        for to in PLACES {
+            let copying = Copying {
+                moves: size % 2 == 0,
+                pair,
+                to,
+                from,
+                size,
+            };
+            let mut engine = numbered(rt, alloc, 12, SIZE as usize)?;
+            copy(rt, &mut engine, &mut filled(), copying)?;
+        }
+    }
+    Ok(())
+}
+
+#[test]
+fn copies_out_of_the_arena(rt: HostRuntime) -> Result<(), Fail> {
+    for size in 0..101 {
+        arena_copies(&rt, rt.alloc(), CopyPair::Out(SIDE), size)?;
+    }
+    Ok(())
+}
+
+#[test]
+fn copies_into_the_arena(rt: HostRuntime) -> Result<(), Fail> {
+    for size in 0..101 {
+        arena_copies(&rt, rt.alloc(), CopyPair::In(SIDE), size)?;
+    }
+    Ok(())
+}
+
+/// So many bytes from a place on are set to one byte, in a transaction of its own.
+fn fill(
+    rt: &impl Abort,
+    engine: &mut Engine,
+    cells: &mut Cells,
+    to: u64,
+    size: u64,
+) -> Result<(), AllocError> {
+    begin(rt, engine, cells)?;
+    let call = Call::Fill {
+        hint: WriteHint::W,
+        to,
+        byte: 0x3f5,
+        size,
+    };
+    let is_done = to <= SIZE.saturating_sub(size) && size <= SIZE;
+    let mut bytes = copied(0, 0, 0);
+    for (place, byte) in bytes.iter_mut().enumerate() {
+        let at = place as u64;
+        if is_done && to <= at && at - to < size {
+            *byte = 0xf5;
+        }
+    }
+    let reply = if is_done {
+        Reply::Done
+    } else {
+        Reply::Refused(Refusal::OutOfRange)
+    };
+    let next = ask(rt, engine, cells, &call)?;
+    assert_eq!(rt; next, replied(reply), "{size} bytes at {to}");
+    let wrote = is_done && size > 0;
+    finish(rt, engine, cells, wrote, bytes, copied(0, 0, 0))
+}
+
+#[test]
+fn fills_of_shared_memory(rt: HostRuntime) -> Result<(), Fail> {
+    let mut engine = numbered(&rt, rt.alloc(), 12, SIZE as usize)?;
+    let mut cells = filled();
+    for size in 0..101 {
+        for to in 0..98 {
+            fill(&rt, &mut engine, &mut cells, to, size)?;
+        }
+    }
+    Ok(())
+}
