@@ -6,6 +6,7 @@ use super::{BLOCK, replied};
 use crate::{Answer, Engine, Next};
 use itm_types::{Call, CopyPair, Copying, Limits, Refusal, Reply, SharedSide, Step, WriteHint};
 use std::alloc::{AllocError, Global};
+use std::ops::Range;
 use std::process::Abort;
 use std::test::Fail;
 use undo_log::Arena;
@@ -232,42 +233,62 @@ fn copy(
     }
 }
 
-/// Copies of so many bytes, at every distance of two ranges: one begins at the first place, within a word, or at the last
-/// place where it lies in the memory, and the other at any place up to the first past the end. The plain machine of
-/// `itm_model` is tested with every pair of places.
+/// Copies of so many bytes between all places within the memory, and the first past its end.
 fn copies_within(rt: &impl Abort, alloc: Global, moves: bool, size: u64) -> Result<(), AllocError> {
     let mut engine = numbered(rt, alloc, 12, SIZE as usize)?;
     let mut cells = filled();
-    for one in [0, 5, SIZE.saturating_sub(size)] {
-        for other in 0..98_u64.saturating_sub(size).max(1) {
-            for (to, from) in [(one, other), (other, one)] {
-                let copying = Copying {
-                    moves,
-                    pair: CopyPair::Within(SIDE, SIDE),
-                    to,
-                    from,
-                    size,
-                };
-                copy(rt, &mut engine, &mut cells, copying)?;
-            }
+    let places = 98_u64.saturating_sub(size).max(1);
+    for from in 0..places {
+        for to in 0..places {
+            let copying = Copying {
+                moves,
+                pair: CopyPair::Within(SIDE, SIDE),
+                to,
+                from,
+                size,
+            };
+            copy(rt, &mut engine, &mut cells, copying)?;
         }
     }
     Ok(())
 }
 
-#[test]
-fn moves_within_shared_memory(rt: HostRuntime) -> Result<(), Fail> {
-    for size in 0..101 {
-        copies_within(&rt, rt.alloc(), true, size)?;
+/// Both kinds of copies of these sizes.
+fn copies_of(rt: &impl Abort, alloc: Global, sizes: Range<u64>) -> Result<(), AllocError> {
+    for size in sizes {
+        copies_within(rt, alloc, false, size)?;
+        copies_within(rt, alloc, true, size)?;
     }
     Ok(())
 }
 
 #[test]
-fn copies_within_shared_memory(rt: HostRuntime) -> Result<(), Fail> {
-    for size in 0..101 {
-        copies_within(&rt, rt.alloc(), false, size)?;
-    }
+fn copies_of_0_to_6_bytes(rt: HostRuntime) -> Result<(), Fail> {
+    copies_of(&rt, rt.alloc(), 0..7)?;
+    Ok(())
+}
+
+#[test]
+fn copies_of_7_to_14_bytes(rt: HostRuntime) -> Result<(), Fail> {
+    copies_of(&rt, rt.alloc(), 7..15)?;
+    Ok(())
+}
+
+#[test]
+fn copies_of_15_to_24_bytes(rt: HostRuntime) -> Result<(), Fail> {
+    copies_of(&rt, rt.alloc(), 15..25)?;
+    Ok(())
+}
+
+#[test]
+fn copies_of_25_to_40_bytes(rt: HostRuntime) -> Result<(), Fail> {
+    copies_of(&rt, rt.alloc(), 25..41)?;
+    Ok(())
+}
+
+#[test]
+fn copies_of_41_to_100_bytes(rt: HostRuntime) -> Result<(), Fail> {
+    copies_of(&rt, rt.alloc(), 41..101)?;
     Ok(())
 }
 
