@@ -1,3 +1,4 @@
+mod ActionExamples
 mod CopyExamples
 mod Examples
 mod JournalRollbacks

@@ -3,10 +3,13 @@ use Rattle.std.specs.Prelude.{ℕ, Bool, true, false, not, ◌||◌, ◌&&◌, �
 use Rattle.std.specs.List.{list_any}
 use Rattle.itm_types.specs.Access.{size_of}
 use Rattle.itm_types.specs.declared.call.Props.{Props}
+use Rattle.itm_types.specs.declared.call.Action.{Action}
+use Rattle.itm_types.specs.declared.call.ActionKind.{ActionKind}
+use Rattle.itm_types.specs.declared.call.ActionKind.TheVariants as kinds
 use Rattle.itm_types.specs.declared.call.Refusal.{Refusal}
 use Rattle.itm_types.specs.declared.call.Refusal.TheVariants.{Outside, OutOfRange, OutOfArena, Overlap, NoAbort, TooDeep}
 use Rattle.itm_types.specs.declared.call.Call.{Call}
-use Rattle.itm_types.specs.declared.call.Call.TheVariants.{Begin, Commit, Abort, InTransaction, Read, Write, Log, LogBytes, Copy, Fill, Load, Save}
+use Rattle.itm_types.specs.declared.call.Call.TheVariants.{Begin, Commit, Abort, InTransaction, Read, Write, Log, LogBytes, Copy, Fill, CommitAction, UndoAction, Load, Save}
 use Rattle.itm_types.specs.declared.call.Reply.{Reply}
 use Rattle.itm_types.specs.declared.call.Reply.TheVariants.{Done, Bytes, Code, Refused}
 use Rattle.itm_types.specs.declared.call.Copying.{Copying}
@@ -16,6 +19,7 @@ use Rattle.itm_types.specs.Copies.{both_shared, overlap}
 use Rattle.itm_types.specs.Calls.{begin_args, abort_of, needs_transaction}
 use Rattle.itm_types.specs.Kept.{nothing, also_kept, merged, restored}
 use Rattle.itm_types.specs.Slices.{slice, with_slice}
+use Rattle.user_actions.specs.Actions.{Actions, no_actions, registered, committed, cut_back}
 use Rattle.itm_model.specs.Places.{in_range}
 use Rattle.itm_model.specs.State.{Saved, Block, State}
 
@@ -102,6 +106,8 @@ ranges s (Log width at) = in_arena s at (size_of width)
 ranges s (LogBytes at size) = in_arena s at size
 ranges s (Copy c) = copy_ranges s c
 ranges s (Fill hint to byte size) = in_shared s to size
+ranges s (CommitAction action) = None
+ranges s (UndoAction action) = None
 ranges s (Load width at) = in_arena s at (size_of width)
 ranges s (Save at value) = in_arena s at (size_of value.width)
 
@@ -142,18 +148,34 @@ logged_in (b ∷ bs) arena place size = record b { saved = record b.saved { kept
 abbrev pub logged : State → ℕ → ℕ → State
 logged s place size = record s { blocks = logged_in s.blocks s.arena place size }
 
+-- an action is registered
+abbrev pub with_action : State → ActionKind → Action → State
+with_action s kind action = record s { actions = registered kind action s.actions }
+
 -- the innermost block closes: the one around it has what that one kept, where it keeps nothing itself
 abbrev pub closed_in : List Block → List Block
 closed_in [] = []
 closed_in (b ∷ []) = []
 closed_in (b ∷ p ∷ bs) = record p { saved = record p.saved { kept = merged p.saved.kept b.saved.kept } } ∷ bs
 
-abbrev pub closed : State → State
-closed s = record s { blocks = closed_in s.blocks }
+-- with the outermost block the commit actions run
+abbrev pub closed_actions : List Block → Actions → Actions
+closed_actions [] actions = actions
+closed_actions (b ∷ []) actions = committed actions
+closed_actions (b ∷ p ∷ bs) actions = actions
 
--- the state with the innermost block rolled back and gone
+abbrev pub closed : State → State
+closed s = record s { blocks = closed_in s.blocks; actions = closed_actions s.blocks s.actions }
+
+-- the state with the innermost block rolled back and gone: its undo actions run, and its commit actions never do
 abbrev pub rolled_back : State → List Block → Saved → State
-rolled_back s rest saved = record { memory = saved.memory; arena = restored saved.kept s.arena; blocks = rest; wrote = saved.wrote }
+rolled_back s rest saved = record {
+  memory = saved.memory;
+  arena = restored saved.kept s.arena;
+  blocks = rest;
+  actions = cut_back saved.commits saved.undos s.actions;
+  wrote = saved.wrote;
+}
 
 -- the innermost of these open blocks rolled back
 abbrev pub back_from : State → List Block → State
@@ -171,13 +193,17 @@ undone_from s (b ∷ bs) = undone_from (rolled_back s bs b.saved) bs
 abbrev pub undone : State → State
 undone s = undone_from s s.blocks
 
+-- what a block that opens goes back to
+abbrev pub saved_now : State → Saved
+saved_now s = record { memory = s.memory; wrote = s.wrote; commits = length s.actions.commits; undos = length s.actions.undos; kept = nothing s.arena }
+
 -- a block opens
 abbrev pub entered : State → Props → State
-entered s props = record s { blocks = record { props = props; saved = record { memory = s.memory; wrote = s.wrote; kept = nothing s.arena } } ∷ s.blocks }
+entered s props = record s { blocks = record { props = props; saved = saved_now s } ∷ s.blocks }
 
 -- no block is open
 abbrev pub outside : List ℕ → List ℕ → State
-outside memory arena = record { memory = memory; arena = arena; blocks = []; wrote = false }
+outside memory arena = record { memory = memory; arena = arena; blocks = []; actions = no_actions; wrote = false }
 
 -- the state after an accepted outermost begin
 abbrev pub opened : List ℕ → List ℕ → Props → State
@@ -194,6 +220,8 @@ effect s (Log width at) = logged s at (size_of width)
 effect s (LogBytes at size) = logged s at size
 effect s (Copy c) = copied s c
 effect s (Fill hint to byte size) = written s to (replicate size (byte % 256))
+effect s (CommitAction action) = with_action s kinds.Commit action
+effect s (UndoAction action) = with_action s kinds.Undo action
 effect s (Load width at) = s
 effect s (Save at value) = saved_in_arena s at value.bytes.items
 
@@ -215,6 +243,8 @@ answer s (Log width at) = Done
 answer s (LogBytes at size) = Done
 answer s (Copy c) = Done
 answer s (Fill hint to byte size) = Done
+answer s (CommitAction action) = Done
+answer s (UndoAction action) = Done
 answer s (Load width at) = bytes_reply (slice s.arena at (size_of width))
 answer s (Save at value) = Done
 

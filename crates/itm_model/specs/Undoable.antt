@@ -2,7 +2,7 @@
 use Rattle.std.specs.Prelude.{ℕ, Bool, true, false, nat_lt, if◌then◌else◌, List, Option, None, Some}
 use Rattle.itm_types.specs.declared.call.Refusal.{Refusal}
 use Rattle.itm_types.specs.declared.call.Call.{Call}
-use Rattle.itm_types.specs.declared.call.Call.TheVariants.{Begin, Commit, Abort, InTransaction, Read, Write, Log, LogBytes, Copy, Fill, Load, Save}
+use Rattle.itm_types.specs.declared.call.Call.TheVariants.{Begin, Commit, Abort, InTransaction, Read, Write, Log, LogBytes, Copy, Fill, CommitAction, UndoAction, Load, Save}
 use Rattle.itm_model.specs.State.{State}
 use Rattle.itm_model.specs.Machine.{is_open, refusal}
 
@@ -22,6 +22,8 @@ before_next u (Log width at) = u.before
 before_next u (LogBytes at size) = u.before
 before_next u (Copy c) = u.before
 before_next u (Fill hint to byte size) = u.before
+before_next u (CommitAction action) = u.before
+before_next u (UndoAction action) = u.before
 before_next u (Load width at) = u.before
 before_next u (Save at value) = u.before
 
@@ -44,5 +46,7 @@ takes_memory (Log width at) = true
 takes_memory (LogBytes at size) = nat_lt 0 size
 takes_memory (Copy c) = nat_lt 0 c.size
 takes_memory (Fill hint to byte size) = nat_lt 0 size
+takes_memory (CommitAction action) = true
+takes_memory (UndoAction action) = true
 takes_memory (Load width at) = false
 takes_memory (Save at value) = false

@@ -31,7 +31,13 @@ kept_of arena logs = kept_from (nothing arena) logs
 abbrev pub block_of : List Old → List ℕ → List ℕ → List Old → Mark → Block
 block_of journal memory arena logs m = record {
   props = m.props;
-  saved = record { memory = put_back (drop m.at journal) memory; wrote = m.wrote; kept = kept_of arena (drop m.logs logs) };
+  saved = record {
+    memory = put_back (drop m.at journal) memory;
+    wrote = m.wrote;
+    commits = m.actions.commits;
+    undos = m.actions.undos;
+    kept = kept_of arena (drop m.logs logs);
+  };
 }
 
 -- the open blocks of these marks, innermost first: what was logged since a block's begin is no log of those around it

@@ -6,6 +6,7 @@ ghost use Rattle.itm_model.specs.Undoing.{put_back, AreWithin, Restores, Logged}
 use crate::bytes::{WIDEST, part_at, replace};
 use itm_types::{Props, Value};
 use std::alloc::AllocError;
+use user_actions::ActionMark;
 
 /// What stood at a place.
 #[derive(Debug, Drop)]
@@ -22,6 +23,8 @@ pub(crate) struct Mark {
     pub(crate) at: usize,
     /// How many entries the log had by then.
     pub(crate) logs: usize,
+    /// How many actions were registered by then.
+    pub(crate) actions: ActionMark,
     /// Whether a byte had been written by then.
     pub(crate) wrote: bool,
 }

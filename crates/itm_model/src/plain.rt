@@ -9,11 +9,12 @@ use crate::bytes::{replace, value_at};
 use crate::journal::{Mark, Old, keep, unwind};
 use crate::limits::WORD;
 use itm_types::{
-    CANCELLED, Call, Datum, ENTERED, MAX_ARENA, MAX_MEMORY, MAX_OPEN_BLOCKS, NO_TRANSACTION, Props,
-    RETRYABLE, Refusal, Reply, Width,
+    ActionKind, CANCELLED, Call, Datum, ENTERED, MAX_ARENA, MAX_MEMORY, MAX_OPEN_BLOCKS,
+    NO_TRANSACTION, Props, RETRYABLE, Refusal, Reply, Width,
 };
 use std::alloc::{AllocError, Global};
 use std::marker::Model;
+use user_actions::{ActionMark, UserActions};
 
 /// A transaction alone on its bytes. It keeps what it overwrote of the memory and what its logs found, so
 /// that a begin copies nothing and a rollback costs what was written and logged.
@@ -27,6 +28,7 @@ pub struct Plain {
     logs: Vec<Old>,
     /// The open blocks, innermost last.
     marks: Vec<Mark>,
+    actions: UserActions,
     wrote: bool,
 }
 
@@ -42,6 +44,7 @@ impl Model for Plain {
         memory = p.memory.items;
         arena = p.arena.items;
         blocks = blocks_of p.journal.items p.memory.items p.arena.items p.logs.items p.marks.items;
+        actions = p.actions;
         wrote = p.wrote;
       };
       before = put_back p.journal.items p.memory.items;
@@ -66,6 +69,7 @@ impl Plain {
             journal: Vec::new(alloc),
             logs: Vec::new(alloc),
             marks: Vec::new(alloc),
+            actions: UserActions::new(alloc),
             wrote: false,
         };
         plain.enter(props)?;
@@ -79,7 +83,7 @@ impl Plain {
         ensures after { OnOk result (self.new.state ≡ after MAX_OPEN_BLOCKS self.old.state call.now) }
         ensures before { OnOk result (self.new.before ≡ before_after MAX_OPEN_BLOCKS self.old call.now) }
 
-        // Memory is refused only to a call that would be accepted: a begin, a write, or a log, a copy or a fill of some bytes.
+        // Memory is refused only to a call that would be accepted: a begin, a write, a registration, or a log, a copy or a fill of some bytes.
         ensures only_some { OnErr result (IsTrue (takes_memory call.now)) }
         ensures only_accepted { OnErr result (refusal MAX_OPEN_BLOCKS self.old.state call.now ≡ None) }
         ensures err { OnErr result (self.new ≡ self.old) }
@@ -90,7 +94,7 @@ impl Plain {
         }
     }
 
-    /// Rolls the innermost block back, if one is open.
+    /// Rolls the innermost block back, if one is open: the undo actions that were registered in it run.
     pub fn back(&mut self)
         ensures back { self.new.state ≡ back self.old.state }
         ensures before { self.new.before ≡ self.old.before }
@@ -98,6 +102,7 @@ impl Plain {
         if let Some(mark) = self.marks.pop() {
             unwind(&mut self.memory, &mut self.journal, mark.at);
             unwind(&mut self.arena, &mut self.logs, mark.logs);
+            self.actions.roll_back(mark.actions);
             self.wrote = mark.wrote;
         }
     }
@@ -113,18 +118,19 @@ impl Plain {
     }
 
     /// Puts back all that was written since the last outermost begin, after its commit too, and leaves
-    /// no block open. The arena stays.
+    /// no block open and no action. The arena stays.
     pub fn take_back(&mut self)
         ensures state { self.new.state ≡ outside self.old.before self.old.state.arena }
         ensures before { self.new.before ≡ self.old.before }
     {
         unwind(&mut self.memory, &mut self.journal, 0);
         self.marks.clear();
+        self.actions.clear();
         self.wrote = false;
     }
 
-    /// Begins another transaction, on the bytes that the last one left. What is still open is dropped
-    /// with what it wrote in place.
+    /// Begins another transaction, on the bytes that the last one left and with no action. What is still open is
+    /// dropped with what it wrote in place.
     pub fn again(&mut self, props: Props) -> Result<(), AllocError>
         ensures state { OnOk result (self.new.state ≡ opened self.old.state.memory self.old.state.arena props) }
         ensures before { OnOk result (self.new.before ≡ self.old.state.memory) }
@@ -136,10 +142,12 @@ impl Plain {
             props,
             at: 0,
             logs: 0,
+            actions: ActionMark::default(),
             wrote: false,
         });
         self.journal.clear();
         self.logs.clear();
+        self.actions.clear();
         self.wrote = false;
         Ok(())
     }
@@ -216,6 +224,14 @@ impl Plain {
                 self.fill(*to, (*byte % 256) as u8, *size)?;
                 Ok(Reply::Done)
             }
+            Call::CommitAction(action) => {
+                self.register(ActionKind::Commit, *action)?;
+                Ok(Reply::Done)
+            }
+            Call::UndoAction(action) => {
+                self.register(ActionKind::Undo, *action)?;
+                Ok(Reply::Done)
+            }
             Call::Load { width, at } => Ok(Reply::Bytes(value_at(&self.arena, *at, *width))),
             Call::Save { at, value } => {
                 self.save(*at, value);
@@ -251,12 +267,13 @@ impl Plain {
             props,
             at: self.journal.len(),
             logs: self.logs.len(),
+            actions: self.actions.mark(),
             wrote: self.wrote,
         })?;
         Ok(())
     }
 
-    /// The innermost block closes.
+    /// The innermost block closes. With the outermost one the commit actions run.
     fn close(&mut self)
         ensures closed { self.new.state ≡ closed self.old.state }
         ensures before { self.new.before ≡ self.old.before }
@@ -264,6 +281,9 @@ impl Plain {
         let Some(_closed) = self.marks.pop() else {
             return;
         };
+        if self.marks.is_empty() {
+            self.actions.run_commits();
+        }
     }
 
     /// The innermost block is cancelled, or with `outer` all that are open.
@@ -314,6 +334,7 @@ impl Plain {
     }
 }
 
+mod actions;
 mod copies;
 mod refusals;
 #[cfg(test)]

@@ -1,8 +1,11 @@
 -- Views of calls, for definitions to which most calls are alike.
 use Rattle.std.specs.Prelude.{ℕ, Bool, true, false, is_some, Option, None, Some}
 use Rattle.itm_types.specs.declared.call.Props.{Props}
+use Rattle.itm_types.specs.declared.call.Action.{Action}
+use Rattle.itm_types.specs.declared.call.ActionKind.{ActionKind}
+use Rattle.itm_types.specs.declared.call.ActionKind.TheVariants as kinds
 use Rattle.itm_types.specs.declared.call.Call.{Call}
-use Rattle.itm_types.specs.declared.call.Call.TheVariants.{Begin, Commit, Abort, InTransaction, Read, Write, Log, LogBytes, Copy, Fill, Load, Save}
+use Rattle.itm_types.specs.declared.call.Call.TheVariants.{Begin, Commit, Abort, InTransaction, Read, Write, Log, LogBytes, Copy, Fill, CommitAction, UndoAction, Load, Save}
 use Rattle.itm_types.specs.Access.{size_of}
 
 -- a begin's properties, and its room
@@ -37,6 +40,8 @@ needs_transaction (Log width at) = true
 needs_transaction (LogBytes at size) = true
 needs_transaction (Copy c) = true
 needs_transaction (Fill hint to byte size) = true
+needs_transaction (CommitAction action) = true
+needs_transaction (UndoAction action) = true
 needs_transaction (Load width at) = false
 needs_transaction (Save at value) = false
 
@@ -60,3 +65,9 @@ arena_access_of (LogBytes at size) = Some (at, size)
 arena_access_of (Load width at) = Some (at, size_of width)
 arena_access_of (Save at value) = Some (at, size_of value.width)
 arena_access_of _ = None
+
+-- the action that a call registers, and when it runs
+abbrev pub registered_by : Call → Option (ActionKind × Action)
+registered_by (CommitAction action) = Some (kinds.Commit, action)
+registered_by (UndoAction action) = Some (kinds.Undo, action)
+registered_by _ = None

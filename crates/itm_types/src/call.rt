@@ -28,6 +28,30 @@ pub struct Copying {
     pub size: u64,
 }
 
+/// What a transaction is asked to run at its end: a function, by its number, and its argument (section 5,
+/// `_ITM_addUserCommitAction` and `_ITM_addUserUndoAction`).
+#[derive(Clone, Copy, Debug, PartialEq, Eq)]
+pub struct Action {
+    pub fun: u32,
+    pub arg: u64,
+}
+
+/// When an action runs.
+#[derive(Clone, Copy, Debug, PartialEq, Eq)]
+pub enum ActionKind {
+    /// Once its transaction has committed.
+    Commit,
+    /// Where the block that registered it is rolled back.
+    Undo,
+}
+
+/// An action that has come to run.
+#[derive(Clone, Copy, Debug, PartialEq, Eq)]
+pub struct Ran {
+    pub kind: ActionKind,
+    pub action: Action,
+}
+
 /// One call of the runtime. Places are bytes, counted from 0.
 #[derive(Debug, Drop, PartialEq, Eq)]
 pub enum Call {
@@ -75,6 +99,10 @@ pub enum Call {
         byte: u64,
         size: u64,
     },
+    /// Registers an action that runs once the transaction has committed (section 5, `_ITM_addUserCommitAction`).
+    CommitAction(Action),
+    /// Registers an action that runs where the block is rolled back (section 5, `_ITM_addUserUndoAction`).
+    UndoAction(Action),
     /// Reads the thread's arena: its own access, which no entry point of the runtime serves.
     Load {
         width: Width,

@@ -15,7 +15,7 @@ mod row;
 mod step;
 
 pub use access::{ReadHint, Value, Width, WriteHint};
-pub use call::{Call, Copying, Props, Refusal, Reply};
+pub use call::{Action, ActionKind, Call, Copying, Props, Ran, Refusal, Reply};
 pub use codes::{CANCELLED, ENTERED, ENTERED_AGAIN, NO_TRANSACTION, RETRYABLE};
 pub use copy::{CopyPair, CopySide, SharedSide};
 pub use datum::Datum;

@@ -2,9 +2,11 @@
 use Rattle.std.proofs.Common.{◌≡◌, refl, ℕ, Bool, true, false, List, [], ◌++◌, take, Option, sym, ap, append-nil, subst, ◌+◌, ◌<◌, length, get_or, flat_map, arith}
 use Rattle.std.proofs.KnownBytes.{Appends-nil, Appends-trans, Appends-kept, Keeps-refl, Keeps-trans}
 use Rattle.std.proofs.lemmas.Grind.{common_steps}
+use Rattle.std.specs.Prelude.{decimal}
 use Rattle.norec_world.specs.declared.attempt.Entry.{Entry}
 use Rattle.norec_world.specs.declared.attempt.Attempt.{Attempt}
-use Rattle.itmrun.specs.Histories.{call_line, attempt_lines}
+use Rattle.itm_types.specs.declared.call.Ran.{Ran}
+use Rattle.itmrun.specs.Histories.{call_line, ran_line, attempt_lines}
 use Rattle.itmrun.specs.Spelling.{Grows}
 use Rattle.itmrun.proofs.TextPieces.{stopped}
 
@@ -30,6 +32,15 @@ grows_call f a g b h c rows i d l p q =
     let e : flat_map call_line (take (i + 1) rows) ≡ flat_map call_line (take i rows) ++ call_line (get_or rows i d) = grind (arith, common_steps) in
     subst (Grows f a h c) (sym e) (grows_then f a g b h c _ _ p q)
 
+pub grows_no_ran : (f : Bool) (a : Option (List ℕ)) (rows : List Ran) → Grows f a f a (flat_map ran_line (take 0 rows))
+grows_no_ran f a rows = grows_nil f a
+
+pub grows_ran : (f : Bool) (a : Option (List ℕ)) (g : Bool) (b : Option (List ℕ)) (h : Bool) (c : Option (List ℕ)) (rows : List Ran) (i : ℕ) (d : Ran)
+    → i < length rows → Grows f a g b (flat_map ran_line (take i rows)) → Grows g b h c (ran_line (get_or rows i d)) → Grows f a h c (flat_map ran_line (take (i + 1) rows))
+grows_ran f a g b h c rows i d l p q =
+    let e : flat_map ran_line (take (i + 1) rows) ≡ flat_map ran_line (take i rows) ++ ran_line (get_or rows i d) = grind (arith, common_steps) in
+    subst (Grows f a h c) (sym e) (grows_then f a g b h c _ _ p q)
+
 pub grows_as : (f : Bool) (a : Option (List ℕ)) (g : Bool) (b : Option (List ℕ)) (x y : List ℕ) → Grows f a g b x → x ≡ y → Grows f a g b y
 grows_as f a g b x y p e = subst (Grows f a g b) e p
 
@@ -45,3 +56,7 @@ grows_attempt f a g b h c rows i d l p q =
 -- nothing more is written
 pub grows_end : (f : Bool) (a : Option (List ℕ)) (g : Bool) (b : Option (List ℕ)) (h : Bool) (c : Option (List ℕ)) (x : List ℕ) → Grows f a g b x → Grows g b h c [] → Grows f a h c x
 grows_end f a g b h c x p q = subst (Grows f a h c) (append-nil x) (grows_then f a g b h c x [] p q)
+
+-- two texts, each with a number after it
+pub numbers_spelled : (a b : List ℕ) (m k n : ℕ) → m ≡ k → a ++ (decimal m ++ (b ++ (decimal n ++ []))) ≡ ((a ++ decimal k) ++ b) ++ decimal n
+numbers_spelled a b m k n e = grind (arith, common_steps, e)

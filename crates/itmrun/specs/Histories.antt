@@ -5,10 +5,14 @@ use Rattle.itm_types.specs.Access.{size_of}
 use Rattle.itm_types.specs.Names.{name_of}
 use Rattle.itm_types.specs.Refusals.{number_of}
 use Rattle.itm_types.specs.declared.access.WriteHint.{WriteHint}
+use Rattle.itm_types.specs.declared.call.Action.{Action}
+use Rattle.itm_types.specs.declared.call.ActionKind.{ActionKind}
+use Rattle.itm_types.specs.declared.call.ActionKind.TheVariants as kinds
 use Rattle.itm_types.specs.declared.call.Copying.{Copying}
 use Rattle.itm_types.specs.declared.call.Props.{Props}
 use Rattle.itm_types.specs.declared.call.Call.{Call}
 use Rattle.itm_types.specs.declared.call.Call.TheVariants as calls
+use Rattle.itm_types.specs.declared.call.Ran.{Ran}
 use Rattle.itm_types.specs.declared.call.Reply.{Reply}
 use Rattle.itm_types.specs.declared.call.Reply.TheVariants as replies
 use Rattle.itm_types.specs.declared.entry.Entry.TheVariants as entry
@@ -62,6 +66,14 @@ copy_text c = name_of (entry.Copy c.moves c.pair) ++ codes " " ++ decimal c.to +
 unfoldable pub fill_text : WriteHint → ℕ → ℕ → ℕ → List ℕ
 fill_text hint to byte size = name_of (entry.Fill hint) ++ codes " " ++ decimal to ++ codes " " ++ decimal (byte % 256) ++ codes " " ++ decimal size
 
+-- what is registered: the function, of which transaction, and the argument
+unfoldable pub commit_action_text : Action → List ℕ
+commit_action_text a = codes "_ITM_addUserCommitAction " ++ decimal a.fun ++ codes " _ITM_noTransactionId " ++ decimal a.arg
+
+-- the function and the argument
+unfoldable pub undo_action_text : Action → List ℕ
+undo_action_text a = codes "_ITM_addUserUndoAction " ++ decimal a.fun ++ codes " " ++ decimal a.arg
+
 unfoldable pub body_text : Call → List ℕ
 body_text (calls.Begin props room) = codes "_ITM_beginTransaction " ++ props_text props
 body_text calls.Commit = codes "_ITM_commitTransaction"
@@ -73,6 +85,8 @@ body_text (calls.Log width at) = name_of (entry.Log width) ++ codes " " ++ decim
 body_text (calls.LogBytes at size) = name_of entry.LogBytes ++ codes " " ++ decimal at ++ codes " " ++ decimal size
 body_text (calls.Copy c) = copy_text c
 body_text (calls.Fill hint to byte size) = fill_text hint to byte size
+body_text (calls.CommitAction action) = commit_action_text action
+body_text (calls.UndoAction action) = undo_action_text action
 body_text (calls.Load width at) = codes "ld" ++ decimal (size_of width) ++ codes " " ++ decimal at
 body_text (calls.Save at value) = codes "st" ++ decimal (size_of value.width) ++ codes " " ++ decimal at ++ codes " " ++ encode_lower value.bytes.items
 
@@ -85,8 +99,16 @@ reply_text (replies.Refused refusal) = codes "refused " ++ decimal (number_of re
 unfoldable pub call_line : Entry → List ℕ
 call_line e = codes "call " ++ body_text e.call ++ codes " = " ++ reply_text e.reply ++ codes "\n"
 
+abbrev pub kind_text : ActionKind → List ℕ
+kind_text kinds.Commit = codes "commit"
+kind_text kinds.Undo = codes "undo"
+
+-- an action that has run: its kind, its function and its argument
+unfoldable pub ran_line : Ran → List ℕ
+ran_line r = codes "ran " ++ kind_text r.kind ++ codes " " ++ decimal r.action.fun ++ codes " " ++ decimal r.action.arg ++ codes "\n"
+
 unfoldable pub attempt_lines : Attempt → List ℕ
-attempt_lines a = head_line a ++ arena_line a.arena ++ flat_map call_line a.calls ++ codes "end\n"
+attempt_lines a = head_line a ++ arena_line a.arena ++ flat_map call_line a.calls ++ flat_map ran_line a.ran ++ codes "end\n"
 
 -- the lines before the first attempt
 unfoldable pub first_lines : List ℕ → List ℕ

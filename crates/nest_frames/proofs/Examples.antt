@@ -1,12 +1,14 @@
 -- Worked cases of open blocks, computed.
 use Rattle.std.proofs.Common.{◌≡◌, true, false, List, ℕ, [], ◌∷◌, refl}
+use Rattle.itm_types.specs.declared.call.Action.{Action}
 use Rattle.itm_types.specs.declared.call.Props.{Props}
 use Rattle.undo_log.specs.Rollback.{Old, put_back}
 use Rattle.write_set.specs.declared.row.Row.{Row}
 use Rattle.write_set.specs.Marks.{Written, start}
 use Rattle.write_set.specs.Rows.{row}
+use Rattle.user_actions.specs.Actions.{Actions, no_actions, as_commit, as_undo}
 use Rattle.nest_frames.specs.declared.frames.Moment.{Moment}
-use Rattle.nest_frames.specs.Nest.{Frame, begun, log_of, logged, closed, is_kept, arena_back, arena_restored}
+use Rattle.nest_frames.specs.Nest.{Frame, begun, log_of, logged, closed, is_kept, arena_back, arena_restored, actions_closed, actions_cancelled, actions_back}
 use Rattle.nest_frames.specs.Moments.{frames_of}
 
 abbrev old : ℕ → ℕ → Old
@@ -16,7 +18,7 @@ abbrev cancellable : Props
 cancellable = record { no_abort = false }
 
 abbrev block : List Row → List Old → Frame
-block rows log = record { props = cancellable; rows = rows; log = log }
+block rows log = record { props = cancellable; rows = rows; log = log; commits = 0; undos = 0 }
 
 -- in the outer block byte 0 was logged as 5, in the inner one byte 0 as 6 and byte 1 as 8
 abbrev outer : Frame
@@ -52,7 +54,7 @@ both_restored = refl
 -- ## Blocks that are not cancelled
 
 abbrev not_cancelled : Frame
-not_cancelled = begun (record { no_abort = true }) []
+not_cancelled = begun (record { no_abort = true }) [] no_actions
 
 innermost_is_kept : is_kept (not_cancelled ∷ outer ∷ []) false ≡ true
 innermost_is_kept = refl
@@ -67,6 +69,36 @@ inner_may_be_cancelled = refl
 none_is_kept : is_kept (inner ∷ outer ∷ []) true ≡ false
 none_is_kept = refl
 
+-- ## Actions
+
+abbrev action : ℕ → Action
+action fun = record { fun = fun; arg = 0 }
+
+-- in the outer block 1 was registered for a commit and 2 for a rollback, in the inner one 3 and 4; 9 had come to run
+abbrev actions : Actions
+actions = record { commits = action 1 ∷ action 3 ∷ []; undos = action 2 ∷ action 4 ∷ []; ran = as_undo (action 9) ∷ [] }
+
+abbrev with_actions : Frame
+with_actions = record inner { commits = 1; undos = 1 }
+
+-- a block that began between them
+between : begun cancellable [] (record { commits = action 1 ∷ []; undos = action 2 ∷ []; ran = [] }) ≡ record outer { log = []; commits = 1; undos = 1 }
+between = refl
+
+-- none runs, and none is forgotten
+actions_inner_closes : actions_closed (with_actions ∷ outer ∷ []) actions ≡ actions
+actions_inner_closes = refl
+
+actions_outermost_closes : actions_closed (outer ∷ []) actions ≡ record { commits = []; undos = []; ran = as_undo (action 9) ∷ as_commit (action 1) ∷ as_commit (action 3) ∷ [] }
+actions_outermost_closes = refl
+
+-- the inner block's commit action is never to run
+actions_inner_goes_back : actions_cancelled (with_actions ∷ outer ∷ []) actions ≡ record { commits = action 1 ∷ []; undos = action 2 ∷ []; ran = as_undo (action 9) ∷ as_undo (action 4) ∷ [] }
+actions_inner_goes_back = refl
+
+actions_both_go_back : actions_back (with_actions ∷ outer ∷ []) actions ≡ record { commits = []; undos = []; ran = as_undo (action 9) ∷ as_undo (action 4) ∷ as_undo (action 2) ∷ [] }
+actions_both_go_back = refl
+
 -- ## What the moments stand for
 
 -- word 3 had its first byte written as 7 in the outer block, and as 9 in the inner one
@@ -75,13 +107,13 @@ writes = record { rows = row 3 255 9 ∷ []; saves = row 3 255 7 ∷ []; inner =
 
 abbrev moments : List Moment
 moments =
-    record { props = cancellable; rows = record { here = start; outer = start }; log = 0 }
-    ∷ record { props = cancellable; rows = record { here = record { rows = 1; saves = 0 }; outer = start }; log = 1 }
+    record { props = cancellable; rows = record { here = start; outer = start }; log = 0; actions = record { commits = 0; undos = 0 } }
+    ∷ record { props = cancellable; rows = record { here = record { rows = 1; saves = 0 }; outer = start }; log = 1; actions = record { commits = 1; undos = 1 } }
     ∷ []
 
-two_blocks : frames_of writes (old 0 5 ∷ old 0 6 ∷ old 1 8 ∷ []) moments ≡ inner ∷ outer ∷ []
+two_blocks : frames_of writes (old 0 5 ∷ old 0 6 ∷ old 1 8 ∷ []) moments ≡ with_actions ∷ outer ∷ []
 two_blocks = refl
 
 -- a block that begins there
-third_block : begun (cancellable) writes.rows ≡ block (row 3 255 9 ∷ []) []
+third_block : begun cancellable writes.rows actions ≡ record (block (row 3 255 9 ∷ []) []) { commits = 2; undos = 2 }
 third_block = refl

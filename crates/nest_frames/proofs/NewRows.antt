@@ -3,6 +3,7 @@ use Rattle.std.proofs.Common.{◌≡◌, ◌<◌, ◌≤◌, ℕ, ◌==◌, List
 use Rattle.std.proofs.lemmas.Bool.{eqb-true, cases_Bool, cond-true, cond-false}
 use Rattle.std.proofs.lemmas.List.{length-reverse, length-take-le}
 use Rattle.undo_log.specs.Rollback.{Old}
+use Rattle.user_actions.specs.Actions.{Actions}
 use Rattle.write_set.specs.declared.mark.Place.{Place}
 use Rattle.write_set.specs.declared.row.Row.{Row}
 use Rattle.write_set.specs.Rows.{lookup, replaced}
@@ -44,9 +45,9 @@ IsNew-from w os logs (m ∷ ms) word u some none =
     subst (λ (p : Place). lookup word (take p.rows w.rows) ≡ None) u.0 before
 
 -- such a word is new
-pub IsNew-at_begin : (w : Written) (os : List Old) (ms : List Moment) (word : ℕ) → IsSound w os ms → 0 < length (frames_of w os ms)
+pub IsNew-at_begin : (w : Written) (os : List Old) (a : Actions) (ms : List Moment) (word : ℕ) → IsSound w os a ms → 0 < length (frames_of w os ms)
     → lookup word (rows_of (frames_of w os ms)) ≡ None → IsNew w word
-IsNew-at_begin w os ms word s some none = IsNew-from w os (length os) (reverse ms) word s.under some none
+IsNew-at_begin w os a ms word s some none = IsNew-from w os (length os) (reverse ms) word s.under some none
 
 begun_from : (w : Written) (os : List Old) (logs : ℕ) (ms : List Moment) → AreUnder w.inner logs ms → AreMarks w → 0 < length ms
     → w.inner.rows ≡ length (rows_of (frames_from w os ms))
@@ -58,6 +59,6 @@ begun_from w os logs (m ∷ ms) u a some =
     sym here ∙ sym (length-take-le m.rows.here.rows saved within)
 
 -- the innermost mark is where the innermost block began
-pub inner-at_begin : (w : Written) (os : List Old) (ms : List Moment) → IsSound w os ms → AreMarks w → w.inner.rows ≡ length (rows_of (frames_of w os ms))
-inner-at_begin w os [] s a = ap (λ (v : Written). v.inner.rows) s.empty.0
-inner-at_begin w os (m ∷ ms) s a = begun_from w os (length os) (reverse (m ∷ ms)) s.under a (omega (arith, length-reverse (m ∷ ms)))
+pub inner-at_begin : (w : Written) (os : List Old) (a : Actions) (ms : List Moment) → IsSound w os a ms → AreMarks w → w.inner.rows ≡ length (rows_of (frames_of w os ms))
+inner-at_begin w os a [] s k = ap (λ (v : Written). v.inner.rows) s.empty.0
+inner-at_begin w os a (m ∷ ms) s k = begun_from w os (length os) (reverse (m ∷ ms)) s.under k (omega (arith, length-reverse (m ∷ ms)))

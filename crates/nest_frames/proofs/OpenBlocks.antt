@@ -8,12 +8,13 @@ use Rattle.std.proofs.lemmas.List.Sorted.{list_any-IsPermutation, IsPermutation-
 use Rattle.std.proofs.lemmas.Option.{slice_get-map, slice_get-get_or}
 use Rattle.itm_types.specs.Kept.{also_kept, merged}
 use Rattle.undo_log.specs.Rollback.{Old, found, kept_of}
+use Rattle.user_actions.specs.Actions.{Actions}
 use Rattle.undo_log.proofs.KeptBytes.{kept_of-append, kept_of-log}
 use Rattle.write_set.specs.declared.mark.Mark.{Mark}
 use Rattle.write_set.specs.declared.mark.Place.{Place}
 use Rattle.write_set.specs.Marks.{Written, IsBy, IsMark, KeepsMarks, KeepsOuter, rows_at, unwritten}
 use Rattle.nest_frames.specs.declared.frames.Moment.{Moment}
-use Rattle.nest_frames.specs.Nest.{Frame, Nest, log_of, logged, closed}
+use Rattle.nest_frames.specs.Nest.{Frame, Nest, log_of, logged, closed, actions_closed}
 use Rattle.nest_frames.specs.Moments.{frames_from, frames_of, AreUnder, BeginEmpty, IsSound}
 
 pub length-frames_from : (w : Written) (os : List Old) (ms : List Moment) → length (frames_from w os ms) ≡ length ms
@@ -48,19 +49,19 @@ frames_kept w w' os top n (m ∷ ms) u b f =
     let inner : IsBy m.rows.outer top = IsBy-trans u.1 here in
     let rows = f m.rows is here in
     let rest = frames_kept w w' (take m.log os) m.rows.outer m.log ms u.3 (IsBy-trans inner b) (λ k i h. f k i (IsBy-trans h inner)) in
-    (λ i. record { props = m.props; rows = rows i; log = drop m.log os } ∷ rest i)
+    (λ i. record { props = m.props; rows = rows i; log = drop m.log os; commits = m.actions.commits; undos = m.actions.undos } ∷ rest i)
 
 -- the write set has changed and kept its marks
-pub frames_written : (w w' : Written) (os : List Old) (ms : List Moment) → IsSound w os ms → KeepsMarks w w' → frames_of w' os ms ≡ frames_of w os ms
-frames_written w w' os ms s k = frames_kept w w' os w.inner (length os) (reverse ms) s.under (IsBy-refl w.inner) (λ m i h. (k m i).1)
+pub frames_written : (w w' : Written) (os : List Old) (a : Actions) (ms : List Moment) → IsSound w os a ms → KeepsMarks w w' → frames_of w' os ms ≡ frames_of w os ms
+frames_written w w' os a ms s k = frames_kept w w' os w.inner (length os) (reverse ms) s.under (IsBy-refl w.inner) (λ m i h. (k m i).1)
 
-pub IsSound-written : (w w' : Written) (os : List Old) (ms : List Moment) → IsSound w os ms → w'.inner ≡ w.inner → 0 < length ms → IsSound w' os ms
-IsSound-written w w' os [] s e h = absurd (omega (arith, h))
-IsSound-written w w' os (m ∷ ms) s e h = record { under = subst (λ (p : Place). AreUnder p (length os) (reverse (m ∷ ms))) (sym e) s.under; empty = s.empty }
+pub IsSound-written : (w w' : Written) (os : List Old) (a : Actions) (ms : List Moment) → IsSound w os a ms → w'.inner ≡ w.inner → 0 < length ms → IsSound w' os a ms
+IsSound-written w w' os a [] s e h = absurd (omega (arith, h))
+IsSound-written w w' os a (m ∷ ms) s e h = record { under = subst (λ (p : Place). AreUnder p (length os) (reverse (m ∷ ms))) (sym e) s.under; empty = s.empty }
 
-pub nest_written : (w w' v : Written) (os : List Old) (size : ℕ) (ms : List Moment) → IsSound w os ms → KeepsMarks w w' → w' ≡ v
-    → ◌≡◌ {A = Nest} (record { writes = w'; size = size; blocks = frames_of w' os ms }) (record { writes = v; size = size; blocks = frames_of w os ms })
-nest_written w w' v os size ms s k e = (λ i. record { writes = e i; size = size; blocks = frames_written w w' os ms s k i })
+pub nest_written : (w w' v : Written) (os : List Old) (size : ℕ) (a : Actions) (ms : List Moment) → IsSound w os a ms → KeepsMarks w w' → w' ≡ v
+    → ◌≡◌ {A = Nest} (record { writes = w'; size = size; blocks = frames_of w' os ms; actions = a }) (record { writes = v; size = size; blocks = frames_of w os ms; actions = a })
+nest_written w w' v os size a ms s k e = (λ i. record { writes = e i; size = size; blocks = frames_written w w' os a ms s k i; actions = a })
 
 -- these were logged
 logged_from : (w : Written) (os new : List Old) (top : Place) (ms : List Moment) → AreUnder top (length os) ms → frames_from w (os ++ new) ms ≡ logged (frames_from w os ms) new
@@ -68,14 +69,14 @@ logged_from w os new top [] u = refl
 logged_from w os new top (m ∷ ms) u =
     let own = drop-append-le m.log os new u.2 in
     let outer = take-append-le m.log os new u.2 in
-    (λ i. record { props = m.props; rows = rows_at w m.rows; log = own i } ∷ frames_from w (outer i) ms)
+    (λ i. record { props = m.props; rows = rows_at w m.rows; log = own i; commits = m.actions.commits; undos = m.actions.undos } ∷ frames_from w (outer i) ms)
 
-pub frames_logged : (w : Written) (os new : List Old) (ms : List Moment) → IsSound w os ms → frames_of w (os ++ new) ms ≡ logged (frames_of w os ms) new
-frames_logged w os new ms s = logged_from w os new w.inner (reverse ms) s.under
+pub frames_logged : (w : Written) (os new : List Old) (a : Actions) (ms : List Moment) → IsSound w os a ms → frames_of w (os ++ new) ms ≡ logged (frames_of w os ms) new
+frames_logged w os new a ms s = logged_from w os new w.inner (reverse ms) s.under
 
-pub IsSound-logged : (w : Written) (os os' : List Old) (ms : List Moment) → IsSound w os ms → length os ≤ length os' → 0 < length ms → IsSound w os' ms
-IsSound-logged w os os' [] s l h = absurd (omega (arith, h))
-IsSound-logged w os os' (m ∷ ms) s l h = record { under = AreUnder-more w.inner (length os) (length os') (reverse (m ∷ ms)) l s.under; empty = s.empty }
+pub IsSound-logged : (w : Written) (os os' : List Old) (a : Actions) (ms : List Moment) → IsSound w os a ms → length os ≤ length os' → 0 < length ms → IsSound w os' a ms
+IsSound-logged w os os' a [] s l h = absurd (omega (arith, h))
+IsSound-logged w os os' a (m ∷ ms) s l h = record { under = AreUnder-more w.inner (length os) (length os') (reverse (m ∷ ms)) l s.under; empty = s.empty }
 
 -- what the innermost block then keeps
 pub kept_of-logged : (arena : List ℕ) (bs : List Frame) (place size : ℕ) → 0 < length bs → place + size ≤ length arena
@@ -84,16 +85,16 @@ kept_of-logged arena [] place size h r = absurd (omega (arith, h))
 kept_of-logged arena (b ∷ bs) place size h r = kept_of-log arena b.log 0 place size (omega arith) r
 
 -- the innermost moment is taken off
-pub record HasInnermost (w : Written) (os : List Old) (all ms : List Moment) (m : Moment) : Type 0 where
+pub record HasInnermost (w : Written) (os : List Old) (a : Actions) (all ms : List Moment) (m : Moment) : Type 0 where
   pub is_mark : IsMark w m.rows
   pub log : m.log ≤ length os
   pub rest : AreUnder m.rows.outer m.log (reverse ms)
   pub count : length all ≡ length ms + 1
-  pub frames : frames_of w os all ≡ record { props = m.props; rows = rows_at w m.rows; log = drop m.log os } ∷ frames_of w (take m.log os) ms
-  pub empty : BeginEmpty w os (ms ++ m ∷ [])
+  pub frames : frames_of w os all ≡ record { props = m.props; rows = rows_at w m.rows; log = drop m.log os; commits = m.actions.commits; undos = m.actions.undos } ∷ frames_of w (take m.log os) ms
+  pub empty : BeginEmpty w os a (ms ++ m ∷ [])
 
-has_innermost : (w : Written) (os : List Old) (ms : List Moment) (m : Moment) → IsSound w os (ms ++ m ∷ []) → HasInnermost w os (ms ++ m ∷ []) ms m
-has_innermost w os ms m s =
+has_innermost : (w : Written) (os : List Old) (a : Actions) (ms : List Moment) (m : Moment) → IsSound w os a (ms ++ m ∷ []) → HasInnermost w os a (ms ++ m ∷ []) ms m
+has_innermost w os a ms m s =
     let u : AreUnder w.inner (length os) (m ∷ reverse ms) = subst (AreUnder w.inner (length os)) (reverse-append ms (m ∷ [])) s.under in
     record {
       is_mark = record { here = IsBy-here u.0; outer = u.1 };
@@ -104,22 +105,22 @@ has_innermost w os ms m s =
       empty = s.empty;
     }
 
-pub moment_popped : (w : Written) (os : List Old) (all ms : List Moment) (r : Option Moment) (m : Moment) → IsSound w os all
-    → all ≡ ms ++ option_to_list r → r ≡ Some m → HasInnermost w os all ms m
-moment_popped w os all ms r m s e f =
+pub moment_popped : (w : Written) (os : List Old) (a : Actions) (all ms : List Moment) (r : Option Moment) (m : Moment) → IsSound w os a all
+    → all ≡ ms ++ option_to_list r → r ≡ Some m → HasInnermost w os a all ms m
+moment_popped w os a all ms r m s e f =
     let whole : all ≡ ms ++ m ∷ [] = e ∙ ap (λ t. ms ++ option_to_list t) f in
-    subst (λ (t : List Moment). HasInnermost w os t ms m) (sym whole) (has_innermost w os ms m (subst (IsSound w os) whole s))
+    subst (λ (t : List Moment). HasInnermost w os a t ms m) (sym whole) (has_innermost w os a ms m (subst (IsSound w os a) whole s))
 
 -- the blocks around the innermost one, where the write set has kept the marks around its own
-frames_outer : (w w' : Written) (os us : List Old) (all ms : List Moment) (m : Moment) → HasInnermost w os all ms m → KeepsOuter m.rows w w' → frames_of w' us ms ≡ frames_of w us ms
-frames_outer w w' os us all ms m h k =
+frames_outer : (w w' : Written) (os us : List Old) (a : Actions) (all ms : List Moment) (m : Moment) → HasInnermost w os a all ms m → KeepsOuter m.rows w w' → frames_of w' us ms ≡ frames_of w us ms
+frames_outer w w' os us a all ms m h k =
     let inner : IsBy m.rows.outer w.inner = IsBy-trans h.is_mark.outer h.is_mark.here in
     frames_kept w w' us m.rows.outer m.log (reverse ms) h.rest inner (λ n i b. (k n i b).1)
 
 -- the innermost block is gone
-pub frames_cancelled : (w w' : Written) (os : List Old) (all ms : List Moment) (m : Moment) → HasInnermost w os all ms m → KeepsOuter m.rows w w'
+pub frames_cancelled : (w w' : Written) (os : List Old) (a : Actions) (all ms : List Moment) (m : Moment) → HasInnermost w os a all ms m → KeepsOuter m.rows w w'
     → frames_of w' (take m.log os) ms ≡ drop 1 (frames_of w os all)
-frames_cancelled w w' os all ms m h k = frames_outer w w' os (take m.log os) all ms m h k ∙ sym (ap (drop 1) h.frames)
+frames_cancelled w w' os a all ms m h k = frames_outer w w' os (take m.log os) a all ms m h k ∙ sym (ap (drop 1) h.frames)
 
 closed_from : (w : Written) (os : List Old) (b : Frame) (n : ℕ) (top : Place) (ms : List Moment) → n ≤ length os → AreUnder top n ms → b.log ≡ drop n os
     → frames_from w os ms ≡ closed (b ∷ frames_from w (take n os) ms)
@@ -129,24 +130,24 @@ closed_from w os b n top (m ∷ ms) l u e =
     ap (drop m.log) (sym (take-append-drop n os)) ∙ drop-append-le m.log (take n os) (drop n os) (omega (arith, u.2, length-take-le n os l)) in
     let log : drop m.log os ≡ drop m.log (take n os) ++ b.log = own ∙ ap (λ t. drop m.log (take n os) ++ t) (sym e) in
     let outer : take m.log os ≡ take m.log (take n os) = sym (take-take m.log n os u.2) in
-    (λ i. record { props = m.props; rows = rows_at w m.rows; log = log i } ∷ frames_from w (outer i) ms)
+    (λ i. record { props = m.props; rows = rows_at w m.rows; log = log i; commits = m.actions.commits; undos = m.actions.undos } ∷ frames_from w (outer i) ms)
 
 -- the innermost block has closed
-pub frames_closed : (w w' : Written) (os : List Old) (all ms : List Moment) (m : Moment) → HasInnermost w os all ms m → KeepsOuter m.rows w w'
+pub frames_closed : (w w' : Written) (os : List Old) (a : Actions) (all ms : List Moment) (m : Moment) → HasInnermost w os a all ms m → KeepsOuter m.rows w w'
     → frames_of w' os ms ≡ closed (frames_of w os all)
-frames_closed w w' os all ms m h k =
-    let b : Frame = record { props = m.props; rows = rows_at w m.rows; log = drop m.log os } in
-    frames_outer w w' os os all ms m h k
+frames_closed w w' os a all ms m h k =
+    let b : Frame = record { props = m.props; rows = rows_at w m.rows; log = drop m.log os; commits = m.actions.commits; undos = m.actions.undos } in
+    frames_outer w w' os os a all ms m h k
     ∙ (closed_from w os b m.log m.rows.outer (reverse ms) h.log h.rest refl ∙ sym (ap closed h.frames))
 
-empty-front : (w w' : Written) (os : List Old) (ms ns : List Moment) → 0 < length ms → BeginEmpty w os (ms ++ ns) → BeginEmpty w' os ms
-empty-front w w' os [] ns h e = absurd (omega (arith, h))
-empty-front w w' os (m ∷ ms) ns h e = e
+empty-front : (w w' : Written) (os : List Old) (a : Actions) (ms ns : List Moment) → 0 < length ms → BeginEmpty w os a (ms ++ ns) → BeginEmpty w' os a ms
+empty-front w w' os a [] ns h e = absurd (omega (arith, h))
+empty-front w w' os a (m ∷ ms) ns h e = e
 
-pub IsSound-closed : (w w' : Written) (os : List Old) (all ms : List Moment) (m : Moment) → HasInnermost w os all ms m → w'.inner ≡ m.rows.outer → 0 < length ms → IsSound w' os ms
-IsSound-closed w w' os all ms m h e l = record {
+pub IsSound-closed : (w w' : Written) (os : List Old) (a : Actions) (all ms : List Moment) (m : Moment) → HasInnermost w os a all ms m → w'.inner ≡ m.rows.outer → 0 < length ms → IsSound w' os a ms
+IsSound-closed w w' os a all ms m h e l = record {
   under = subst (λ (p : Place). AreUnder p (length os) (reverse ms)) (sym e) (AreUnder-more m.rows.outer m.log (length os) (reverse ms) h.log h.rest);
-  empty = empty-front w w' os ms (m ∷ []) l h.empty;
+  empty = empty-front w w' os a ms (m ∷ []) l h.empty;
 }
 
 -- what the block around the innermost one then keeps
@@ -156,11 +157,18 @@ kept_of-closed arena (b ∷ []) h = absurd (omega (arith, h))
 kept_of-closed arena (b ∷ p ∷ bs) h = kept_of-append arena p.log b.log
 
 -- no block is open
-pub no_frames : (w : Written) (os : List Old) (ms : List Moment) → IsSound w os ms → frames_of w os ms ≡ [] → w ≡ unwritten
-no_frames w os [] s e = s.empty.0
-no_frames w os (m ∷ ms) s e =
+pub no_frames : (w : Written) (os : List Old) (a : Actions) (ms : List Moment) → IsSound w os a ms → frames_of w os ms ≡ []
+    → (w ≡ unwritten) × (a.commits ≡ []) × (a.undos ≡ [])
+no_frames w os a [] s e = (s.empty.0, s.empty.2, s.empty.3)
+no_frames w os a (m ∷ ms) s e =
     let none : length (m ∷ ms) ≡ 0 = sym (length-frames_of w os (m ∷ ms)) ∙ ap (length {A = Frame}) e in
     absurd (omega (arith, none))
+
+-- the block that has closed was not the outermost one
+pub actions_inner : (bs : List Frame) (a : Actions) → 1 < length bs → actions_closed bs a ≡ a
+actions_inner [] a h = absurd (omega (arith, h))
+actions_inner (b ∷ []) a h = absurd (omega (arith, h))
+actions_inner (b ∷ p ∷ bs) a h = refl
 
 -- ## Properties
 

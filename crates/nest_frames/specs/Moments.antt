@@ -1,6 +1,7 @@
--- A nest's own fields: of each open block the moments of the write set and of the undo log at which it began.
+-- A nest's own fields: of each open block the moments of the write set, the undo log and the actions at which it began.
 use Rattle.std.specs.Prelude.{◌≡◌, ℕ, ◌≤◌, List, [], ◌∷◌, length, take, drop, reverse}
 use Rattle.undo_log.specs.Rollback.{Old}
+use Rattle.user_actions.specs.Actions.{Actions}
 use Rattle.write_set.specs.declared.mark.Place.{Place}
 use Rattle.write_set.specs.Marks.{Written, IsBy, rows_at, start, unwritten}
 use Rattle.nest_frames.specs.declared.frames.Moment.{Moment}
@@ -9,7 +10,7 @@ use Rattle.nest_frames.specs.Nest.{Frame}
 -- the blocks of these moments, the innermost first
 abbrev pub frames_from : Written → List Old → List Moment → List Frame
 frames_from writes olds [] = []
-frames_from writes olds (m ∷ ms) = record { props = m.props; rows = rows_at writes m.rows; log = drop m.log olds } ∷ frames_from writes (take m.log olds) ms
+frames_from writes olds (m ∷ ms) = record { props = m.props; rows = rows_at writes m.rows; log = drop m.log olds; commits = m.actions.commits; undos = m.actions.undos } ∷ frames_from writes (take m.log olds) ms
 
 -- the blocks of these moments, of which the innermost is the last
 abbrev pub frames_of : Written → List Old → List Moment → List Frame
@@ -21,11 +22,12 @@ abbrev pub AreUnder : Place → ℕ → List Moment → Type 0
 AreUnder place logs [] = Unit {0}
 AreUnder place logs (m ∷ ms) = (m.rows.here ≡ place) × IsBy m.rows.outer m.rows.here × (m.log ≤ logs) × AreUnder m.rows.outer m.log ms
 
--- the outermost block began with nothing written and nothing logged, and so it is where no block is open
-abbrev pub BeginEmpty : Written → List Old → List Moment → Type 0
-BeginEmpty writes olds [] = (writes ≡ unwritten) × (olds ≡ [])
-BeginEmpty writes olds (m ∷ ms) = (m.rows.here ≡ start) × (m.log ≡ 0)
+-- the outermost block began with nothing written, nothing logged and no action registered, and so it is where no block
+-- is open; those that have come to run may be there
+abbrev pub BeginEmpty : Written → List Old → Actions → List Moment → Type 0
+BeginEmpty writes olds actions [] = (writes ≡ unwritten) × (olds ≡ []) × (actions.commits ≡ []) × (actions.undos ≡ [])
+BeginEmpty writes olds actions (m ∷ ms) = (m.rows.here ≡ start) × (m.log ≡ 0) × (m.actions.commits ≡ 0) × (m.actions.undos ≡ 0)
 
-pub record IsSound (writes : Written) (olds : List Old) (moments : List Moment) : Type 0 where
+pub record IsSound (writes : Written) (olds : List Old) (actions : Actions) (moments : List Moment) : Type 0 where
   pub under : AreUnder writes.inner (length olds) (reverse moments)
-  pub empty : BeginEmpty writes olds moments
+  pub empty : BeginEmpty writes olds actions moments

@@ -1,10 +1,11 @@
 -- The open blocks of a transaction, as contracts see them.
-use Rattle.std.specs.Prelude.{ℕ, Bool, false, if◌then◌else◌, List, [], ◌∷◌, ◌++◌}
+use Rattle.std.specs.Prelude.{ℕ, Bool, false, if◌then◌else◌, List, [], ◌∷◌, ◌++◌, length}
 use Rattle.std.specs.List.{list_any}
 use Rattle.itm_types.specs.declared.call.Props.{Props}
 use Rattle.itm_types.specs.Kept.{restored}
 use Rattle.undo_log.specs.Rollback.{Old, put_back, kept_of}
 use Rattle.write_set.specs.declared.row.Row.{Row}
+use Rattle.user_actions.specs.Actions.{Actions, committed, cut_back}
 use Rattle.write_set.specs.Marks.{Written}
 
 -- an open block
@@ -12,15 +13,18 @@ pub record Frame : Type 0 where
   pub props : Props
   pub rows : List Row  -- the write set's rows as at its begin
   pub log : List Old  -- what was logged in it and in the blocks that closed within it, the oldest first
+  pub commits : ℕ  -- how many commit actions were registered at its begin
+  pub undos : ℕ  -- and how many undo actions
 
 pub record Nest : Type 0 where
   pub writes : Written
   pub size : ℕ  -- how many bytes the arena has
   pub blocks : List Frame  -- the innermost first
+  pub actions : Actions  -- those that are registered, and those that have come to run
 
--- a block that begins on these rows
-abbrev pub begun : Props → List Row → Frame
-begun props rows = record { props = props; rows = rows; log = [] }
+-- a block that begins on these rows, with these actions registered
+abbrev pub begun : Props → List Row → Actions → Frame
+begun props rows actions = record { props = props; rows = rows; log = []; commits = length actions.commits; undos = length actions.undos }
 
 -- what was logged in the innermost block
 abbrev pub log_of : List Frame → List Old
@@ -61,3 +65,19 @@ arena_back (b ∷ bs) arena = arena_back bs (put_back b.log arena)
 abbrev pub arena_restored : List Frame → List ℕ → List ℕ
 arena_restored [] arena = arena
 arena_restored (b ∷ bs) arena = arena_restored bs (restored (kept_of arena b.log) arena)
+
+-- the actions once the innermost block has closed: with the outermost one the commit actions run
+abbrev pub actions_closed : List Frame → Actions → Actions
+actions_closed [] actions = actions
+actions_closed (b ∷ []) actions = committed actions
+actions_closed (b ∷ p ∷ bs) actions = actions
+
+-- once the innermost block is rolled back: its undo actions run, and its commit actions never do
+abbrev pub actions_cancelled : List Frame → Actions → Actions
+actions_cancelled [] actions = actions
+actions_cancelled (b ∷ bs) actions = cut_back b.commits b.undos actions
+
+-- once every block is rolled back, the innermost first
+abbrev pub actions_back : List Frame → Actions → Actions
+actions_back [] actions = actions
+actions_back (b ∷ bs) actions = actions_back bs (cut_back b.commits b.undos actions)

@@ -1,19 +1,21 @@
 //! The open blocks.
 
-ghost use Rattle.std.specs.Prelude.{◌≡◌, ◌+◌, ◌<◌, ◌≤◌, ℕ, List, [], ◌∷◌, IsOk, IsSome, OnOk, OnErr, None, Some, length, map, take, drop, option_map, slice_get};
+ghost use Rattle.std.specs.Prelude.{◌≡◌, ◌+◌, ◌^◌, ◌<◌, ◌≤◌, ℕ, List, [], ◌∷◌, IsOk, IsSome, OnOk, OnErr, None, Some, length, map, take, drop, option_map, slice_get};
 ghost use Rattle.itm_types.specs.Kept.{also_kept, merged, restored};
 ghost use Rattle.itm_types.specs.Memory.{AllFit};
 ghost use Rattle.word_pieces.specs.Masks.{merged_at};
 ghost use Rattle.write_set.specs.Rows.{lookup, laid, put, reserved, overlay, AreEmpty, AreRows};
 ghost use Rattle.write_set.specs.Marks.{unwritten, place_of, reserve, AreMarks, KeepsRoom, MayPut};
 ghost use Rattle.undo_log.specs.Rollback.{found, put_back, kept_of};
-ghost use Rattle.nest_frames.specs.Nest.{Frame, begun, log_of, rows_of, logged, closed, is_kept, arena_back, arena_restored};
+ghost use Rattle.user_actions.specs.Actions.{no_actions, registered, total};
+ghost use Rattle.nest_frames.specs.Nest.{Frame, begun, log_of, rows_of, logged, closed, is_kept, arena_back, arena_restored, actions_closed, actions_cancelled, actions_back};
 
 use arrayvec::ArrayVec;
-use itm_types::{MAX_OPEN_BLOCKS, Props};
+use itm_types::{Action, ActionKind, MAX_OPEN_BLOCKS, Props, Ran};
 use std::alloc::{AllocError, Global};
 use std::marker::Model;
 use undo_log::{Arena, UndoLog};
+use user_actions::{ActionMark, UserActions};
 use write_set::{Row, WriteSet};
 
 /// Where an open block began.
@@ -22,13 +24,15 @@ pub(crate) struct Moment {
     pub(crate) props: Props,
     pub(crate) rows: write_set::Mark,
     pub(crate) log: undo_log::Mark,
+    pub(crate) actions: ActionMark,
 }
 
-/// What a transaction has written and logged, and its open blocks.
+/// What a transaction has written and logged, the actions that it has registered, and its open blocks.
 #[derive(Debug, Drop)]
 pub struct Frames {
     writes: WriteSet,
     undo: UndoLog,
+    actions: UserActions,
     /// Of each open block where it began, the innermost last.
     moments: ArrayVec<Moment, MAX_OPEN_BLOCKS>,
 }
@@ -44,19 +48,21 @@ impl Model for Frames {
       writes = f.writes;
       size = f.undo.size;
       blocks = frames_of f.writes f.undo.olds f.moments.items;
+      actions = f.actions;
     } };
 
-    ghost invariant = { λ f. IsSound f.writes f.undo.olds f.moments.items };
+    ghost invariant = { λ f. IsSound f.writes f.undo.olds f.actions f.moments.items };
 }
 
 impl Frames {
     /// No block is open, over an arena of this size. Takes no memory.
     pub fn new(alloc: Global, size: usize) -> Frames
-        ensures { result ≡ record { writes = unwritten; size = size; blocks = [] } }
+        ensures { result ≡ record { writes = unwritten; size = size; blocks = []; actions = no_actions } }
     {
         Frames {
             writes: WriteSet::new(alloc),
             undo: UndoLog::new(alloc, size),
+            actions: UserActions::new(alloc),
             moments: ArrayVec::new(),
         }
     }
@@ -68,8 +74,9 @@ impl Frames {
         // So many may be open.
         ensures few { length self.now.blocks ≤ MAX_OPEN_BLOCKS }
 
-        // Where none is, nothing is written.
-        ensures none { self.now.blocks ≡ [] → self.now.writes ≡ unwritten }
+        // Where none is, nothing is written, and no action is registered.
+        ensures none { self.now.blocks ≡ [] → (self.now.writes ≡ unwritten)
+            × (self.now.actions.commits ≡ []) × (self.now.actions.undos ≡ []) }
     {
         self.moments.len()
     }
@@ -144,17 +151,25 @@ impl Frames {
     /// A block begins within those that are open. Takes no memory.
     pub fn enter(&mut self, props: Props)
         requires { length self.old.blocks < MAX_OPEN_BLOCKS }
-        ensures blocks { self.new.blocks ≡ begun props self.old.writes.rows ∷ self.old.blocks }
+        ensures blocks { self.new.blocks ≡ begun props self.old.writes.rows self.old.actions ∷ self.old.blocks }
         ensures writes { self.new.writes ≡ record self.old.writes { inner = place_of self.old.writes } }
         ensures size { self.new.size ≡ self.old.size }
+        ensures actions { self.new.actions ≡ self.old.actions }
     {
         let rows = self.writes.mark();
         let log = self.undo.mark();
-        self.moments.push(Moment { props, rows, log });
+        let actions = self.actions.mark();
+        self.moments.push(Moment {
+            props,
+            rows,
+            log,
+            actions,
+        });
     }
 
-    /// The innermost block closes: what was logged in it goes to the one around it, and what was written stays. With
-    /// the outermost one all of it is forgotten. Takes no memory.
+    /// The innermost block closes: what was logged and registered in it goes to the one around it, and what was written
+    /// stays. With the outermost one all of it is forgotten, and the commit actions run, in the order in which they
+    /// were registered. Takes no memory.
     pub fn leave(&mut self)
         requires { 0 < length self.old.blocks }
         ensures blocks { self.new.blocks ≡ closed self.old.blocks }
@@ -163,6 +178,7 @@ impl Frames {
         ensures writes { 1 < length self.old.blocks →
             self.new.writes ≡ record self.old.writes { inner = self.new.writes.inner } }
         ensures outermost { length self.old.blocks ≡ 1 → self.new.writes ≡ unwritten }
+        ensures actions { self.new.actions ≡ actions_closed self.old.blocks self.old.actions }
 
         // What the one around it keeps of the arena wins.
         ensures handed { 1 < length self.old.blocks → (arena : List ℕ) →
@@ -175,13 +191,15 @@ impl Frames {
         if self.moments.is_empty() {
             self.writes.clear();
             self.undo.clear();
+            self.actions.run_commits();
         } else {
             self.writes.forget_mark(closed.rows);
             self.undo.forget_mark(closed.log);
         }
     }
 
-    /// The innermost block is rolled back and gone. Takes no memory.
+    /// The innermost block is rolled back and gone: its undo actions run, the last one first, and its commit actions
+    /// never do. Takes no memory.
     pub fn cancel(&mut self, arena: &mut Arena)
         requires open { 0 < length self.old.blocks }
         requires arena { length arena.old ≡ self.old.size }
@@ -189,6 +207,7 @@ impl Frames {
         ensures size { self.new.size ≡ self.old.size }
         ensures rows { self.new.writes.rows ≡ rows_of self.old.blocks }
         ensures saves { self.new.writes.saves ≡ take self.old.writes.inner.saves self.old.writes.saves }
+        ensures actions { self.new.actions ≡ actions_cancelled self.old.blocks self.old.actions }
         ensures arena_size { length arena.new ≡ length arena.old }
         ensures arena { arena.new ≡ put_back (log_of self.old.blocks) arena.old }
         ensures restored { arena.new ≡ restored (kept_of arena.old (log_of self.old.blocks)) arena.old }
@@ -198,12 +217,22 @@ impl Frames {
         };
         self.writes.back_to(cancelled.rows);
         self.undo.back_to(arena, cancelled.log);
+        self.actions.roll_back(cancelled.actions);
     }
 
     /// Every open block is rolled back, the innermost first. Takes no memory.
     pub fn cancel_all(&mut self, arena: &mut Arena)
         requires { length arena.old ≡ self.old.size }
-        ensures none { self.new ≡ record { writes = unwritten; size = self.old.size; blocks = [] } }
+        ensures none { self.new ≡ record {
+          writes = unwritten;
+          size = self.old.size;
+          blocks = [];
+          actions = actions_back self.old.blocks self.old.actions;
+        } }
+
+        // No action is registered any more.
+        ensures commits { self.new.actions.commits ≡ [] }
+        ensures undos { self.new.actions.undos ≡ [] }
         ensures arena_size { length arena.new ≡ length arena.old }
         ensures arena { arena.new ≡ arena_back self.old.blocks arena.old }
         ensures restored { arena.new ≡ arena_restored self.old.blocks arena.old }
@@ -289,5 +318,39 @@ impl Frames {
             overlay m self.new.writes.rows ≡ overlay m self.old.writes.rows }
     {
         self.writes.cut(len);
+    }
+
+    /// Registers an action.
+    pub fn register(&mut self, kind: ActionKind, action: Action) -> Result<(), AllocError>
+        requires { 0 < length self.old.blocks }
+        ensures ok { OnOk result (self.new ≡ record self.old { actions = registered kind action self.old.actions }) }
+        ensures err { OnErr result (self.new ≡ self.old) }
+    {
+        self.actions.register(kind, action)?;
+        Ok(())
+    }
+
+    /// How many actions there are in all: those that are registered, and those that have come to run. Takes no memory.
+    pub fn actions(&self) -> usize
+        ensures total { result ≡ total self.now.actions }
+
+        // There are fewer than a count can tell.
+        ensures few { total self.now.actions < 2 ^ 63 }
+    {
+        self.actions.total()
+    }
+
+    /// The actions that have come to run, in order, since they were last cleared.
+    pub fn due(&self) -> &[Ran]
+        ensures { result.now ≡ self.now.actions.ran }
+    {
+        self.actions.ran()
+    }
+
+    /// Forgets those that have come to run. Takes no memory.
+    pub fn clear_due(&mut self)
+        ensures { self.new ≡ record self.old { actions = record self.old.actions { ran = [] } } }
+    {
+        self.actions.forget_ran();
     }
 }

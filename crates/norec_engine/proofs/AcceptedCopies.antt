@@ -6,10 +6,10 @@ use Rattle.itm_types.specs.declared.copy.CopyPair.{CopyPair}
 use Rattle.itm_types.specs.declared.copy.CopyPair.TheVariants.{Out, In, Within}
 use Rattle.write_set.specs.declared.row.Row.{Row}
 use Rattle.write_set.specs.Marks.{MayPut, Written}
-use Rattle.norec_engine.specs.Copies.{copy_refusal, target_refusal, source_refusal, direction_of, chunks_in, is_out, WritesShared}
-use Rattle.norec_engine.specs.Rows.{range_pieces, reserved_all, put_range}
-use Rattle.norec_engine.specs.Proceeds.{writes_copied, arena_copied}
-use Rattle.norec_engine.specs.Fields.{reserved_for, MayPutFor}
+use Rattle.norec_core.specs.Copies.{copy_refusal, target_refusal, source_refusal, direction_of, chunks_in, is_out, WritesShared}
+use Rattle.norec_core.specs.Rows.{range_pieces, reserved_all, put_range}
+use Rattle.norec_core.specs.Proceeds.{writes_copied, arena_copied}
+use Rattle.norec_engine.specs.InPhases.{reserved_for, MayPutFor}
 use Rattle.norec_engine.proofs.Copies.{arena_within, shared_within, accepted_sides}
 
 -- ## What it reads

@@ -9,18 +9,21 @@ use Rattle.itm_types.specs.Memory.{bytes_of}
 use Rattle.undo_log.specs.Rollback.{put_back, kept_of}
 use Rattle.write_set.specs.declared.row.Row.{Row}
 use Rattle.write_set.specs.Rows.{overlay}
-use Rattle.nest_frames.specs.Nest.{Frame, Nest, log_of, rows_of, is_kept, arena_back, arena_restored}
+use Rattle.user_actions.specs.Actions.{Actions}
+use Rattle.nest_frames.specs.Nest.{Frame, Nest, log_of, rows_of, is_kept, arena_back, arena_restored, actions_back, actions_cancelled}
 use Rattle.itm_model.specs.State.{State}
 use Rattle.itm_model.specs.Machine.{unless, or_else, refusal, effect, answer, after, after_unless, reply, reply_unless, back}
 use Rattle.norec_engine.specs.declared.data.Data.{Data}
-use Rattle.norec_engine.specs.declared.phase.Phase.TheVariants.{Idle}
-use Rattle.norec_engine.specs.Core.{Core, came, ended, is_inside, is_outermost}
-use Rattle.norec_engine.specs.Fields.{core, in_block, AreFrames, IsEnded, IsSound}
-use Rattle.norec_engine.specs.Proceeds.{Replies}
-use Rattle.norec_engine.specs.Stands.{is_some_row, blocks_over, state_over}
-use Rattle.norec_engine.proofs.Blocks.{blocks_over-same, kept_over}
+use Rattle.norec_core.specs.declared.phase.Phase.TheVariants.{Idle}
+use Rattle.norec_core.specs.Core.{Core, came, ended, is_inside, is_outermost}
+use Rattle.norec_engine.specs.View.{core, in_block}
+use Rattle.norec_engine.specs.InPhases.{AreFrames, IsSound}
+use Rattle.norec_engine.specs.Between.{IsEnded}
+use Rattle.norec_core.specs.Proceeds.{Replies}
+use Rattle.norec_core.specs.Stands.{is_some_row, blocks_over, state_over}
+use Rattle.norec_core.proofs.Blocks.{blocks_over-same, kept_over}
 use Rattle.norec_engine.proofs.Ended.{core_ended, undone_over}
-use Rattle.norec_engine.proofs.Machines.{open_is, refuses}
+use Rattle.norec_core.proofs.Machines.{open_is, refuses}
 use Rattle.norec_engine.proofs.Refusals.{stands, denied}
 
 -- the engine as a call comes
@@ -31,7 +34,7 @@ come d = record d { spent = 0; entry = length d.log.rows }
 refusal_is : (d : Data) (outer keeps : Bool) (m : List ℕ) → in_block d ≡ true → is_kept d.frames.blocks outer ≡ keeps
     → refusal MAX_OPEN_BLOCKS (stands d m) (Abort outer) ≡ or_else (unless (not keeps) NoAbort) None
 refusal_is d outer keeps m o k =
-    let is_open = open_is d.frames.writes.rows d.frames.blocks d.arena m ∙ o in
+    let is_open = open_is d.frames.writes.rows d.frames.blocks d.arena d.frames.actions m ∙ o in
     let kept = sym (kept_over d.frames.blocks d.arena m outer) ∙ k in
     (λ i. or_else (or_else (unless (is_open i) Outside) (unless (not (kept i)) NoAbort)) None)
 
@@ -61,23 +64,24 @@ pub record IsCancelled (old : Data) (frames : Nest) (arena : List ℕ) : Type 0 
   pub may : is_kept old.frames.blocks false ≡ false
   pub blocks : frames.blocks ≡ drop 1 old.frames.blocks
   pub rows : frames.writes.rows ≡ rows_of old.frames.blocks
+  pub actions : frames.actions ≡ actions_cancelled old.frames.blocks old.frames.actions
   pub size : length arena ≡ length old.arena
   pub left : arena ≡ put_back (log_of old.frames.blocks) old.arena
   pub restored : arena ≡ restored (kept_of old.arena (log_of old.frames.blocks)) old.arena
 
-back_is : (rows : List Row) (blocks : List Frame) (arena m : List ℕ) (rows' : List Row) (blocks' : List Frame) (arena' : List ℕ) → is_inside blocks ≡ true
-    → rows' ≡ rows_of blocks → blocks' ≡ drop 1 blocks → length arena' ≡ length arena → arena' ≡ restored (kept_of arena (log_of blocks)) arena
-    → state_over rows' blocks' arena' m ≡ back (state_over rows blocks arena m)
-back_is rows [] arena m rows' blocks' arena' o r b l a = absurd (cc)
-back_is rows (f ∷ fs) arena m rows' blocks' arena' o r b l a =
+back_is : (rows : List Row) (blocks : List Frame) (arena : List ℕ) (actions : Actions) (m : List ℕ) (rows' : List Row) (blocks' : List Frame) (arena' : List ℕ) (actions' : Actions) → is_inside blocks ≡ true
+    → rows' ≡ rows_of blocks → blocks' ≡ drop 1 blocks → length arena' ≡ length arena → arena' ≡ restored (kept_of arena (log_of blocks)) arena → actions' ≡ actions_cancelled blocks actions
+    → state_over rows' blocks' arena' actions' m ≡ back (state_over rows blocks arena actions m)
+back_is rows [] arena actions m rows' blocks' arena' actions' o r b l a w = absurd (cc)
+back_is rows (f ∷ fs) arena actions m rows' blocks' arena' actions' o r b l a w =
     let rest = ap (λ (x : List Frame). blocks_over x arena' m) b ∙ blocks_over-same fs arena' arena m l in
-    (λ i. record { memory = bytes_of (overlay m (r i)); arena = a i; blocks = rest i; wrote = is_some_row (r i) })
+    (λ i. record { memory = bytes_of (overlay m (r i)); arena = a i; blocks = rest i; actions = w i; wrote = is_some_row (r i) })
 
 cancel_replies : (d : Data) (frames : Nest) (arena : List ℕ) → IsSound d Idle → IsCancelled (come d) frames arena
     → Replies (came (core d Idle) (Abort false) false) (Abort false) (Code 24) (core (record (come d) { frames = frames; arena = arena }) Idle)
 cancel_replies d frames arena s e = record {
-  meets = λ m mem agrees. cancels d false m (state_over frames.writes.rows frames.blocks arena m) e.is_open e.may
-      (back_is d.frames.writes.rows d.frames.blocks d.arena m frames.writes.rows frames.blocks arena e.is_open e.rows e.blocks e.size e.restored);
+  meets = λ m mem agrees. cancels d false m (state_over frames.writes.rows frames.blocks arena frames.actions m) e.is_open e.may
+      (back_is d.frames.writes.rows d.frames.blocks d.arena d.frames.actions m frames.writes.rows frames.blocks arena frames.actions e.is_open e.rows e.blocks e.size e.restored e.actions);
   reply_is = λ m mem agrees. told d false m e.is_open e.may;
   stays = refl;
   writes = λ m mem agrees. e.rows;
@@ -85,6 +89,7 @@ cancel_replies d frames arena s e = record {
   free = refl;
   unfreed = refl;
   blocks = e.blocks;
+  actions = e.actions;
   still = λ other o. absurd (cc);
   settled = λ o. ((s.in_phase.0 e.is_open).1, s.bounds.even);
 }
@@ -102,19 +107,19 @@ pub record IsUndoneBy (old : Data) (outer : Bool) (new : Data) : Type 0 where
   pub is_open : in_block old ≡ true
   pub all : outer ≡ false → is_outermost old.frames.blocks ≡ true
   pub may : is_kept old.frames.blocks outer ≡ false
-  pub ended : IsEnded old (arena_back old.frames.blocks old.arena) new
+  pub ended : IsEnded old (arena_back old.frames.blocks old.arena) (actions_back old.frames.blocks old.frames.actions) new
   pub restored : arena_back old.frames.blocks old.arena ≡ arena_restored old.frames.blocks old.arena
 
 -- one block is all of them
-undone_is : (outer : Bool) (words : ℕ) (rows : List Row) (blocks : List Frame) (arena m : List ℕ) → AreFrames words blocks → is_inside blocks ≡ true → (outer ≡ false → is_outermost blocks ≡ true)
+undone_is : (outer : Bool) (words : ℕ) (rows : List Row) (blocks : List Frame) (arena : List ℕ) (actions : Actions) (m : List ℕ) → AreFrames words blocks → is_inside blocks ≡ true → (outer ≡ false → is_outermost blocks ≡ true)
     → arena_back blocks arena ≡ arena_restored blocks arena
-    → state_over [] [] (arena_back blocks arena) m ≡ effect (state_over rows blocks arena m) (Abort outer)
-undone_is true words rows blocks arena m f o all same =
-    ap (λ (a : List ℕ). state_over [] [] a m) same ∙ sym (undone_over words blocks arena arena m (bytes_of (overlay m rows)) (is_some_row rows) f o refl)
-undone_is false words rows [] arena m f o all same = absurd (cc)
-undone_is false words rows (b ∷ []) arena m f o all same =
-    ap (λ (a : List ℕ). state_over [] [] a m) same ∙ sym (undone_over words (b ∷ []) arena arena m (bytes_of (overlay m rows)) (is_some_row rows) f o refl)
-undone_is false words rows (b ∷ p ∷ bs) arena m f o all same = (let one = all refl in absurd (cc))
+    → state_over [] [] (arena_back blocks arena) (actions_back blocks actions) m ≡ effect (state_over rows blocks arena actions m) (Abort outer)
+undone_is true words rows blocks arena actions m f o all same =
+    ap (λ (a : List ℕ). state_over [] [] a (actions_back blocks actions) m) same ∙ sym (undone_over words blocks arena arena actions m (bytes_of (overlay m rows)) (is_some_row rows) f o refl)
+undone_is false words rows [] arena actions m f o all same = absurd (cc)
+undone_is false words rows (b ∷ []) arena actions m f o all same =
+    ap (λ (a : List ℕ). state_over [] [] a (actions_back (b ∷ []) actions) m) same ∙ sym (undone_over words (b ∷ []) arena arena actions m (bytes_of (overlay m rows)) (is_some_row rows) f o refl)
+undone_is false words rows (b ∷ p ∷ bs) arena actions m f o all same = (let one = all refl in absurd (cc))
 
 rows_gone : (outer : Bool) (words : ℕ) (blocks : List Frame) → AreFrames words blocks → (outer ≡ false → is_outermost blocks ≡ true) → [] ≡ (if outer then [] else rows_of blocks)
 rows_gone true words blocks f all = refl
@@ -129,6 +134,13 @@ arena_gone false [] arena all = refl
 arena_gone false (b ∷ []) arena all = refl
 arena_gone false (b ∷ p ∷ bs) arena all = (let one = all refl in absurd (cc))
 
+actions_gone : (outer : Bool) (blocks : List Frame) (actions : Actions) → (outer ≡ false → is_outermost blocks ≡ true)
+    → actions_back blocks actions ≡ (if outer then actions_back blocks actions else actions_cancelled blocks actions)
+actions_gone true blocks actions all = refl
+actions_gone false [] actions all = refl
+actions_gone false (b ∷ []) actions all = refl
+actions_gone false (b ∷ p ∷ bs) actions all = (let one = all refl in absurd (cc))
+
 blocks_gone : (outer : Bool) (blocks : List Frame) → (outer ≡ false → is_outermost blocks ≡ true) → [] ≡ (if outer then [] else drop 1 blocks)
 blocks_gone true blocks all = refl
 blocks_gone false [] all = refl
@@ -140,10 +152,10 @@ undone_replies : (d : Data) (outer : Bool) (new : Data) → IsSound d Idle → I
 undone_replies d outer new s e =
     let blocks = d.frames.blocks in
     let is_open = (s.in_phase.0 e.is_open).0 in
-    let over : Core = record (ended (core (come d) Idle)) { tries = 0; arena = arena_back blocks d.arena } in
-    subst (λ (c : Core). Replies (came (core d Idle) (Abort outer) false) (Abort outer) (Code 24) c) (sym (core_ended (come d) new (arena_back blocks d.arena) e.ended)) (record {
-      meets = λ m mem agrees. cancels d outer m (state_over [] [] (arena_back blocks d.arena) m) e.is_open e.may
-          (undone_is outer d.words d.frames.writes.rows blocks d.arena m is_open.frames e.is_open e.all e.restored);
+    let over : Core = record (ended (core (come d) Idle)) { tries = 0; arena = arena_back blocks d.arena; actions = actions_back blocks d.frames.actions } in
+    subst (λ (c : Core). Replies (came (core d Idle) (Abort outer) false) (Abort outer) (Code 24) c) (sym (core_ended (come d) new (arena_back blocks d.arena) (actions_back blocks d.frames.actions) e.ended)) (record {
+      meets = λ m mem agrees. cancels d outer m (state_over [] [] (arena_back blocks d.arena) (actions_back blocks d.frames.actions) m) e.is_open e.may
+          (undone_is outer d.words d.frames.writes.rows blocks d.arena d.frames.actions m is_open.frames e.is_open e.all e.restored);
       reply_is = λ m mem agrees. told d outer m e.is_open e.may;
       stays = refl;
       writes = λ m mem agrees. rows_gone outer d.words blocks is_open.frames e.all;
@@ -151,6 +163,7 @@ undone_replies d outer new s e =
       free = refl;
       unfreed = refl;
       blocks = blocks_gone outer blocks e.all;
+      actions = actions_gone outer blocks d.frames.actions e.all;
       still = λ other o. absurd (cc);
       settled = λ o. absurd (cc);
     })

@@ -6,21 +6,25 @@ use Rattle.itm_types.specs.declared.limits.TheConstants.{MAX_PATIENCE, MAX_WORDS
 use Rattle.word_pieces.specs.Pieces.{count_of}
 use Rattle.itm_types.specs.declared.row.LogRow.{LogRow}
 use Rattle.write_set.specs.Marks.{Written}
-use Rattle.norec_engine.specs.declared.phase.Purpose.{Purpose}
-use Rattle.norec_engine.specs.declared.phase.Purpose.TheVariants as for
-use Rattle.norec_engine.specs.Core.{Core}
+use Rattle.norec_core.specs.declared.phase.Purpose.{Purpose}
+use Rattle.norec_core.specs.declared.phase.Purpose.TheVariants as for
+use Rattle.norec_core.specs.Core.{Core}
 use Rattle.norec_engine.proofs.AcceptedCopies.{source_within}
-use Rattle.norec_engine.proofs.CopyChunks.{few_words, source_few, length-chunks_in}
-use Rattle.norec_engine.proofs.Readings.{among, total_left}
-use Rattle.norec_engine.specs.declared.phase.Aim.{Aim}
-use Rattle.norec_engine.specs.declared.phase.Aim.TheVariants as aims
-use Rattle.norec_engine.specs.declared.phase.Phase.{Phase}
-use Rattle.norec_engine.specs.declared.phase.Phase.TheVariants as at
-use Rattle.norec_engine.specs.declared.phase.Reading.{Reading}
-use Rattle.norec_engine.specs.declared.phase.Turn.{Turn}
+use Rattle.norec_core.proofs.CopyChunks.{few_words, source_few, length-chunks_in}
+use Rattle.norec_core.proofs.Readings.{total_left}
+use Rattle.norec_engine.proofs.ReadingFields.{among}
+use Rattle.norec_core.specs.declared.phase.Aim.{Aim}
+use Rattle.norec_core.specs.declared.phase.Aim.TheVariants as aims
+use Rattle.norec_core.specs.declared.phase.Phase.{Phase}
+use Rattle.norec_core.specs.declared.phase.Phase.TheVariants as at
+use Rattle.norec_core.specs.declared.phase.Reading.{Reading}
+use Rattle.norec_engine.specs.declared.turn.Turn.{Turn}
 use Rattle.norec_engine.specs.declared.data.Data.{Data}
-use Rattle.norec_engine.specs.Proceeds.{most, IsWithin}
-use Rattle.norec_engine.specs.Fields.{core, count, total, total_for, passed, call_for, FitsPurpose, MayRead, first_of, round_of, IsSound, InRound, IsSoundTurn, data_after, phase_after, IsWaiting, doing_of, waits_of}
+use Rattle.norec_core.specs.Proceeds.{most, IsWithin}
+use Rattle.norec_core.specs.Accesses.{count, total, total_for, passed}
+use Rattle.norec_engine.specs.View.{core, call_for, doing_of, waits_of}
+use Rattle.norec_engine.specs.InPhases.{FitsPurpose, MayRead, first_of, round_of, IsSound, InRound}
+use Rattle.norec_engine.specs.Between.{IsSoundTurn, data_after, phase_after, IsWaiting}
 
 -- the most steps of the call that an access is made for
 most_for : (words bytes written : ℕ) (writes : Written) (own : List LogRow) (buffer : List ℕ) (what : Purpose) (at size : ℕ) → FitsPurpose words bytes written writes own buffer what at size → (c : Core)

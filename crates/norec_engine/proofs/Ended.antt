@@ -7,21 +7,24 @@ use Rattle.itm_types.proofs.KeptBytes.{length-restored}
 use Rattle.undo_log.proofs.KeptBytes.{kept_of-same}
 use Rattle.write_set.specs.Marks.{Written}
 use Rattle.write_set.specs.Rows.{overlay}
-use Rattle.nest_frames.specs.Nest.{Frame, arena_back, arena_restored}
+use Rattle.user_actions.specs.Actions.{Actions, cut_back}
+use Rattle.nest_frames.specs.Nest.{Frame, arena_back, arena_restored, actions_back}
 use Rattle.itm_model.specs.Machine.{undone, undone_from}
-use Rattle.norec_engine.specs.declared.phase.Phase.{Phase}
-use Rattle.norec_engine.specs.declared.phase.Phase.TheVariants as at
+use Rattle.norec_core.specs.declared.phase.Phase.{Phase}
+use Rattle.norec_core.specs.declared.phase.Phase.TheVariants as at
 use Rattle.norec_engine.specs.declared.data.Data.{Data}
-use Rattle.norec_engine.specs.Core.{Core, is_inside, in_transaction, ended, rolled_back}
-use Rattle.norec_engine.specs.Fields.{core, in_block, holds_of, writes_of, AreFrames, InPhase, IsEnded}
-use Rattle.norec_engine.specs.Proceeds.{IsUndone}
-use Rattle.norec_engine.specs.declared.answer.Undone.TheVariants.{Nothing, Done, Held}
-use Rattle.norec_engine.specs.Undoing.{undone_of, after_undoing}
-use Rattle.norec_engine.proofs.Blocks.{none_inside}
-use Rattle.norec_engine.specs.Stands.{is_some_row, blocks_over, state_over, stands_for}
+use Rattle.norec_core.specs.Core.{Core, is_inside, in_transaction, ended, rolled_back}
+use Rattle.norec_engine.specs.View.{core, in_block, holds_of, writes_of}
+use Rattle.norec_engine.specs.InPhases.{AreFrames, InPhase}
+use Rattle.norec_engine.specs.Between.{IsEnded}
+use Rattle.norec_core.specs.Proceeds.{IsUndone}
+use Rattle.norec_core.specs.declared.answer.Undone.TheVariants.{Nothing, Done, Held}
+use Rattle.norec_core.specs.Undoing.{undone_of, after_undoing}
+use Rattle.norec_core.proofs.Blocks.{none_inside}
+use Rattle.norec_core.specs.Stands.{is_some_row, blocks_over, state_over, stands_for}
 
-pub core_ended : (old new : Data) (arena : List ℕ) → IsEnded old arena new → core new at.Idle ≡ record (ended (core old at.Idle)) { tries = 0; arena = arena }
-core_ended old new arena e = λ i. record {
+pub core_ended : (old new : Data) (arena : List ℕ) (actions : Actions) → IsEnded old arena actions new → core new at.Idle ≡ record (ended (core old at.Idle)) { tries = 0; arena = arena; actions = actions }
+core_ended old new arena actions e = λ i. record {
   words = e.words i;
   patience = (e.limits i).patience;
   max_commits = (e.limits i).max_commits;
@@ -32,6 +35,7 @@ core_ended old new arena e = λ i. record {
   log = e.log i;
   writes = (e.frames i).writes.rows;
   blocks = (e.frames i).blocks;
+  actions = (e.frames i).actions;
   holds = false;
   done = 0;
   freed = false;
@@ -46,21 +50,21 @@ core_ended old new arena e = λ i. record {
 }
 
 -- a rollback of all these blocks: the memory without the write set, and the arena with what they logged
-pub undone_over : (words : ℕ) (blocks : List Frame) (arena now m memory : List ℕ) (wrote : Bool) → AreFrames words blocks → is_inside blocks ≡ true → length now ≡ length arena
-    → undone_from (record { memory = memory; arena = now; blocks = blocks_over blocks arena m; wrote = wrote }) (blocks_over blocks arena m) ≡ state_over [] [] (arena_restored blocks now) m
-undone_over words [] arena now m memory wrote f o same = absurd (cc)
-undone_over words (b ∷ []) arena now m memory wrote f o same =
-    λ i. record { memory = bytes_of (overlay m (f i)); arena = restored (kept_of-same arena now b.log (sym same) i) now; blocks = []; wrote = is_some_row (f i) }
-undone_over words (b ∷ p ∷ bs) arena now m memory wrote f o same =
+pub undone_over : (words : ℕ) (blocks : List Frame) (arena now : List ℕ) (actions : Actions) (m memory : List ℕ) (wrote : Bool) → AreFrames words blocks → is_inside blocks ≡ true → length now ≡ length arena
+    → undone_from (record { memory = memory; arena = now; blocks = blocks_over blocks arena m; actions = actions; wrote = wrote }) (blocks_over blocks arena m) ≡ state_over [] [] (arena_restored blocks now) (actions_back blocks actions) m
+undone_over words [] arena now actions m memory wrote f o same = absurd (cc)
+undone_over words (b ∷ []) arena now actions m memory wrote f o same =
+    λ i. record { memory = bytes_of (overlay m (f i)); arena = restored (kept_of-same arena now b.log (sym same) i) now; blocks = []; actions = cut_back b.commits b.undos actions; wrote = is_some_row (f i) }
+undone_over words (b ∷ p ∷ bs) arena now actions m memory wrote f o same =
     let next = restored (kept_of arena b.log) now in
-    undone_over words (p ∷ bs) arena next m (bytes_of (overlay m b.rows)) (is_some_row b.rows) f.2 refl (length-restored (kept_of arena b.log) now ∙ same)
-    ∙ ap (λ (ks : _). state_over [] [] (arena_restored (p ∷ bs) (restored ks now)) m) (kept_of-same arena now b.log (sym same))
+    undone_over words (p ∷ bs) arena next (cut_back b.commits b.undos actions) m (bytes_of (overlay m b.rows)) (is_some_row b.rows) f.2 refl (length-restored (kept_of arena b.log) now ∙ same)
+    ∙ ap (λ (ks : _). state_over [] [] (arena_restored (p ∷ bs) (restored ks now)) (actions_back (b ∷ p ∷ bs) actions) m) (kept_of-same arena now b.log (sym same))
 
 pub ended_undone : (mid new : Core) (stage : Phase) (tries snapshot : ℕ) → AreFrames mid.words mid.blocks → arena_back mid.blocks mid.arena ≡ arena_restored mid.blocks mid.arena
     → in_transaction mid ≡ true → new ≡ record (rolled_back mid) { stage = stage; tries = tries; snapshot = snapshot } → IsUndone mid new
 ended_undone mid new stage tries snapshot f same o stays m mem =
-    ap (λ (c : Core). stands_for c m) stays ∙ (ap (λ (arena : List ℕ). state_over [] [] arena m) same
-    ∙ sym (undone_over mid.words mid.blocks mid.arena mid.arena m (bytes_of (overlay m mid.writes)) (is_some_row mid.writes) f o refl))
+    ap (λ (c : Core). stands_for c m) stays ∙ (ap (λ (arena : List ℕ). state_over [] [] arena (actions_back mid.blocks mid.actions) m) same
+    ∙ sym (undone_over mid.words mid.blocks mid.arena mid.arena mid.actions m (bytes_of (overlay m mid.writes)) (is_some_row mid.writes) f o refl))
 
 -- ## Given up
 
@@ -115,31 +119,31 @@ none_written d at.Free p o = (let inside = p.is_open.is_open in absurd (cc))
 
 -- the phases that do not hold the clock are left alike
 left_alike : (d : Data) (phase : Phase) → IsFree phase
-    → record (rolled_back (core d phase)) { stage = at.Idle; tries = 0 } ≡ record (ended (core d at.Idle)) { tries = 0; arena = arena_back d.frames.blocks d.arena }
+    → record (rolled_back (core d phase)) { stage = at.Idle; tries = 0 } ≡ record (ended (core d at.Idle)) { tries = 0; arena = arena_back d.frames.blocks d.arena; actions = actions_back d.frames.blocks d.frames.actions }
 left_alike d (at.BackLoad row) f = absurd f
 left_alike d (at.Store row got) f = absurd f
 left_alike d at.Free f = absurd f
 left_alike d phase f = refl
 
-pub core_left : (d new : Data) (phase : Phase) → IsFree phase → IsEnded d (arena_back d.frames.blocks d.arena) new
+pub core_left : (d new : Data) (phase : Phase) → IsFree phase → IsEnded d (arena_back d.frames.blocks d.arena) (actions_back d.frames.blocks d.frames.actions) new
     → core new at.Idle ≡ record (rolled_back (core d phase)) { stage = at.Idle; tries = 0 }
-core_left d new phase f e = core_ended d new (arena_back d.frames.blocks d.arena) e ∙ sym (left_alike d phase f)
+core_left d new phase f e = core_ended d new (arena_back d.frames.blocks d.arena) (actions_back d.frames.blocks d.frames.actions) e ∙ sym (left_alike d phase f)
 
-pub after_left : (d new : Data) (phase : Phase) → IsFree phase → IsEnded d (arena_back d.frames.blocks d.arena) new → core new at.Idle ≡ after_undoing (core d phase)
+pub after_left : (d new : Data) (phase : Phase) → IsFree phase → IsEnded d (arena_back d.frames.blocks d.arena) (actions_back d.frames.blocks d.frames.actions) new → core new at.Idle ≡ after_undoing (core d phase)
 after_left d new phase f e =
     core_left d new phase f e
     ∙ sym (ap (λ (holds : Bool). if holds then core d phase else record (rolled_back (core d phase)) { stage = at.Idle; tries = 0 }) (free_holds phase f))
 
-undone_left : (d new : Data) (phase : Phase) (inside : Bool) → in_block d ≡ inside → InPhase d phase → IsFree phase → IsEnded d (arena_back d.frames.blocks d.arena) new
+undone_left : (d new : Data) (phase : Phase) (inside : Bool) → in_block d ≡ inside → InPhase d phase → IsFree phase → IsEnded d (arena_back d.frames.blocks d.arena) (actions_back d.frames.blocks d.frames.actions) new
     → arena_back d.frames.blocks d.arena ≡ arena_restored d.frames.blocks d.arena → IsUndone (core d phase) (core new at.Idle)
 undone_left d new phase true o p f e same = ended_undone (core d phase) (core new at.Idle) at.Idle 0 d.snapshot (open_frames d phase p o) same o (core_left d new phase f e)
 undone_left d new phase false o p f e same = λ m mem.
     (let none = none_inside d.frames.blocks o in
     let nothing = none_written d phase p o in
     ap (λ (c : Core). stands_for c m) (core_left d new phase f e)
-    ∙ ((λ i. state_over [] [] (arena_back (none i) d.arena) m) ∙ sym (λ i. undone (state_over (nothing i) (none i) d.arena m))))
+    ∙ ((λ i. state_over [] [] (arena_back (none i) d.arena) (actions_back (none i) d.frames.actions) m) ∙ sym (λ i. undone (state_over (nothing i) (none i) d.arena d.frames.actions m))))
 
-pub undone_of_left : (d new : Data) (phase : Phase) → InPhase d phase → IsFree phase → IsEnded d (arena_back d.frames.blocks d.arena) new
+pub undone_of_left : (d new : Data) (phase : Phase) → InPhase d phase → IsFree phase → IsEnded d (arena_back d.frames.blocks d.arena) (actions_back d.frames.blocks d.frames.actions) new
     → arena_back d.frames.blocks d.arena ≡ arena_restored d.frames.blocks d.arena → IsUndone (core d phase) (core new at.Idle)
 undone_of_left d new phase p f e same = undone_left d new phase (in_block d) refl p f e same
 

@@ -16,18 +16,22 @@ use Rattle.word_pieces.specs.declared.chunk.Direction.TheVariants.{Up}
 use Rattle.word_pieces.specs.Chunks.{chunks_of}
 use Rattle.write_set.specs.declared.row.Row.{Row}
 use Rattle.write_set.specs.Rows.{AreRows}
+use Rattle.user_actions.specs.Actions.{Actions}
 use Rattle.nest_frames.specs.Nest.{Frame, Nest}
-use Rattle.norec_engine.specs.declared.answer.Answer.TheVariants.{Reply}
+use Rattle.norec_core.specs.declared.answer.Answer.TheVariants.{Reply}
 use Rattle.norec_engine.specs.declared.data.Data.{Data}
-use Rattle.norec_engine.specs.declared.phase.Phase.TheVariants.{Idle}
-use Rattle.norec_engine.specs.declared.phase.Turn.TheVariants.{End}
-use Rattle.norec_engine.specs.Core.{came, is_inside}
-use Rattle.norec_engine.specs.Fields.{access_refusal, core, in_block, AreFrames, IsBounded, IsSound, IsSoundTurn}
-use Rattle.norec_engine.specs.Proceeds.{Replies}
-use Rattle.norec_engine.specs.Rows.{range_pieces, reserved_all, put_chunks, put_range, AllWritesWithin}
-use Rattle.norec_engine.specs.Stands.{state_over}
-use Rattle.norec_engine.proofs.Machines.{access_same}
-use Rattle.norec_engine.proofs.Ranges.{written_over, AreRows-put_range, AllWritesWithin-put_range}
+use Rattle.norec_core.specs.declared.phase.Phase.TheVariants.{Idle}
+use Rattle.norec_engine.specs.declared.turn.Turn.TheVariants.{End}
+use Rattle.norec_core.specs.Core.{came, is_inside}
+use Rattle.norec_core.specs.Accesses.{access_refusal}
+use Rattle.norec_engine.specs.View.{core, in_block}
+use Rattle.norec_engine.specs.InPhases.{AreFrames, IsBounded, IsSound}
+use Rattle.norec_engine.specs.Between.{IsSoundTurn}
+use Rattle.norec_core.specs.Proceeds.{Replies}
+use Rattle.norec_core.specs.Rows.{range_pieces, reserved_all, put_chunks, put_range, AllWritesWithin}
+use Rattle.norec_core.specs.Stands.{state_over}
+use Rattle.norec_core.proofs.Machines.{access_same}
+use Rattle.norec_core.proofs.Ranges.{written_over, AreRows-put_range, AllWritesWithin-put_range}
 use Rattle.norec_engine.proofs.Refusals.{served}
 
 -- so many bytes of a value
@@ -43,18 +47,18 @@ AreBytes-set : (size byte : ℕ) → AreBytes (bytes_set size byte)
 AreBytes-set size byte = AreBytes-replicate size (byte % 256) (omega arith)
 
 -- a fill by an engine that does not refuse it
-fills : (rows : List Row) (blocks : List Frame) (arena m : List ℕ) (words : ℕ) (hint : WriteHint) (to byte size : ℕ) → IsMemory words m → AreRows rows
+fills : (rows : List Row) (blocks : List Frame) (arena : List ℕ) (actions : Actions) (m : List ℕ) (words : ℕ) (hint : WriteHint) (to byte size : ℕ) → IsMemory words m → AreRows rows
     → access_refusal (is_inside blocks) words to size ≡ None
-    → (state_over (put_range rows to Up (bytes_set size byte)) blocks arena m ≡ after MAX_OPEN_BLOCKS (state_over rows blocks arena m) (Fill hint to byte size))
-    × (Done ≡ reply MAX_OPEN_BLOCKS (state_over rows blocks arena m) (Fill hint to byte size))
-fills rows blocks arena m words hint to byte size mem are accepted =
-    let s : State = state_over rows blocks arena m in
+    → (state_over (put_range rows to Up (bytes_set size byte)) blocks arena actions m ≡ after MAX_OPEN_BLOCKS (state_over rows blocks arena actions m) (Fill hint to byte size))
+    × (Done ≡ reply MAX_OPEN_BLOCKS (state_over rows blocks arena actions m) (Fill hint to byte size))
+fills rows blocks arena actions m words hint to byte size mem are accepted =
+    let s : State = state_over rows blocks arena actions m in
     let call : Call = Fill hint to byte size in
-    let none : refusal MAX_OPEN_BLOCKS s call ≡ None = access_same rows blocks arena m words call to size mem refl ∙ accepted in
+    let none : refusal MAX_OPEN_BLOCKS s call ≡ None = access_same rows blocks arena actions m words call to size mem refl ∙ accepted in
     let within = (served (is_inside blocks) words to size accepted).1 in
     let n = mem.0 in
     let len : length (bytes_set size byte) ≡ size = length-replicate size (byte % 256) in (
-      written_over m rows blocks arena to Up (bytes_set size byte) mem.1 are (AreBytes-set size byte) (omega arith) ∙ sym (ap (λ (r : Option Refusal). after_unless r s (effect s call)) none),
+      written_over m rows blocks arena actions to Up (bytes_set size byte) mem.1 are (AreBytes-set size byte) (omega arith) ∙ sym (ap (λ (r : Option Refusal). after_unless r s (effect s call)) none),
       sym (ap (λ (r : Option Refusal). reply_unless r Done) none),
     )
 
@@ -67,6 +71,7 @@ pub record IsFilled (d : Data) (to byte size : ℕ) (frames : Nest) : Type 0 whe
   pub rows : frames.writes.rows ≡ put_range d.frames.writes.rows to Up (bytes_set size byte)
   pub blocks : frames.blocks ≡ d.frames.blocks
   pub sized : frames.size ≡ d.frames.size
+  pub actions : frames.actions ≡ d.frames.actions
 
 -- a fill of no bytes
 pub none_filled : (d : Data) (to byte size : ℕ) → access_refusal (in_block d) d.words to size ≡ None → size ≡ 0 → IsFilled d to byte size d.frames
@@ -75,13 +80,14 @@ none_filled d to byte size accepted none = record {
   rows = sym (ap (λ (n : ℕ). put_range d.frames.writes.rows to Up (bytes_set n byte)) none);
   blocks = refl;
   sized = refl;
+  actions = refl;
 }
 
 -- one of these bytes, whose words have rows
 pub some_filled : (d : Data) (to byte size : ℕ) (rows : List Row) (bytes : List ℕ) (frames : Nest) → access_refusal (in_block d) d.words to size ≡ None
     → rows ≡ reserved_all d.frames.writes.rows (range_pieces to (chunks_of Up size)) → bytes ≡ bytes_set size byte → frames.writes.rows ≡ put_chunks rows to (chunks_of Up (length bytes)) bytes
-    → frames.blocks ≡ d.frames.blocks → frames.size ≡ d.frames.size → IsFilled d to byte size frames
-some_filled d to byte size rows bytes frames accepted reserved are put blocks sized =
+    → frames.blocks ≡ d.frames.blocks → frames.size ≡ d.frames.size → frames.actions ≡ d.frames.actions → IsFilled d to byte size frames
+some_filled d to byte size rows bytes frames accepted reserved are put blocks sized actions =
     let len : size ≡ length (bytes_set size byte) = sym (length-replicate size (byte % 256)) in
     let same = reserved ∙ (λ i. reserved_all d.frames.writes.rows (range_pieces to (chunks_of Up (len i)))) in
     record {
@@ -89,6 +95,7 @@ some_filled d to byte size rows bytes frames accepted reserved are put blocks si
       rows = put ∙ (λ i. put_chunks (same i) to (chunks_of Up (length (are i))) (are i));
       blocks = blocks;
       sized = sized;
+      actions = actions;
     }
 
 module _ (d : Data) (to byte size : ℕ) (frames : Nest) (buffer : Vec ℕ) (s : IsSound d Idle) (is : IsFilled d to byte size frames) where
@@ -126,9 +133,9 @@ module _ (d : Data) (to byte size : ℕ) (frames : Nest) (buffer : Vec ℕ) (s :
   fill_replies hint =
       let may = served (in_block d) d.words to size is.accepted in
       let idle = s.in_phase.0 may.0 in
-      let all = λ (m : List ℕ) (mem : IsMemory d.words m). fills d.frames.writes.rows d.frames.blocks d.arena m d.words hint to byte size mem idle.0.rows is.accepted in
+      let all = λ (m : List ℕ) (mem : IsMemory d.words m). fills d.frames.writes.rows d.frames.blocks d.arena d.frames.actions m d.words hint to byte size mem idle.0.rows is.accepted in
       record {
-        meets = λ m mem agrees. (λ i. state_over (is.rows i) (is.blocks i) d.arena m) ∙ (all m mem).0;
+        meets = λ m mem agrees. (λ i. state_over (is.rows i) (is.blocks i) d.arena (is.actions i) m) ∙ (all m mem).0;
         reply_is = λ m mem agrees. (all m mem).1;
         stays = refl;
         writes = λ m mem agrees. is.rows;
@@ -137,5 +144,6 @@ module _ (d : Data) (to byte size : ℕ) (frames : Nest) (buffer : Vec ℕ) (s :
         unfreed = refl;
         still = λ other o. ap is_inside is.blocks ∙ o;
         blocks = is.blocks;
+        actions = is.actions;
         settled = λ o. (idle.1, s.bounds.even);
       }

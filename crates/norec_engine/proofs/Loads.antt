@@ -13,17 +13,19 @@ use Rattle.word_pieces.proofs.Covers.{word-pieces_of}
 use Rattle.word_pieces.proofs.ChunkBytes.{all-written}
 use Rattle.word_pieces.specs.Chunks.{chunks_written}
 use Rattle.norec_engine.specs.declared.data.Data.{Data}
-use Rattle.norec_engine.specs.declared.phase.Aim.{Aim}
-use Rattle.norec_engine.specs.declared.phase.Aim.TheVariants as aims
-use Rattle.norec_engine.specs.declared.phase.Phase.TheVariants.{Load}
-use Rattle.norec_engine.specs.declared.phase.Reading.{Reading}
-use Rattle.norec_engine.specs.declared.phase.Turn.TheVariants.{Wait}
-use Rattle.norec_engine.specs.Copies.{chunks_in, direction_of, is_out, source_in}
-use Rattle.norec_engine.specs.Order.{chunk_reading}
-use Rattle.norec_engine.specs.Fields.{between, logged, passed, passed_for, total, round_of, Aims, IsBounded, IsOpen, IsReading, MayRead, MayCopy, IsSoundTurn, Turns}
+use Rattle.norec_core.specs.declared.phase.Aim.{Aim}
+use Rattle.norec_core.specs.declared.phase.Aim.TheVariants as aims
+use Rattle.norec_core.specs.declared.phase.Phase.TheVariants.{Load}
+use Rattle.norec_core.specs.declared.phase.Reading.{Reading}
+use Rattle.norec_engine.specs.declared.turn.Turn.TheVariants.{Wait}
+use Rattle.norec_core.specs.Copies.{chunks_in, direction_of, is_out, source_in}
+use Rattle.norec_core.specs.Order.{chunk_reading}
+use Rattle.norec_core.specs.Accesses.{passed, passed_for, total}
+use Rattle.norec_engine.specs.InPhases.{round_of, Aims, IsBounded, IsOpen, IsReading, MayRead}
+use Rattle.norec_engine.specs.Between.{between, logged, MayCopy, IsSoundTurn, Turns}
 use Rattle.norec_engine.proofs.AcceptedCopies.{source_within}
-use Rattle.norec_engine.proofs.CopyChunks.{chunk_within, no_chunk}
-use Rattle.norec_engine.proofs.Readings.{passed_on}
+use Rattle.norec_core.proofs.CopyChunks.{chunk_within, no_chunk}
+use Rattle.norec_core.proofs.Readings.{passed_on}
 
 -- an engine with other bytes gathered is as open
 pub open_gathering : (d : Data) (g : ArrayVec ℕ) → IsOpen d → IsOpen (record d { gathered = g })

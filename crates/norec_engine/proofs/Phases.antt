@@ -2,10 +2,10 @@
 use Rattle.std.proofs.Common.{◌≡◌, ℕ, suc, ◌+◌, ◌<◌, length, Option, None, Some, sym, ap, ◌∙◌, add-one}
 use Rattle.itm_types.specs.declared.step.Step.TheVariants.{Load, Store}
 use Rattle.write_set.specs.declared.row.Row.{Row}
-use Rattle.norec_engine.specs.Rows.{value_into}
-use Rattle.norec_engine.specs.declared.phase.Phase.TheVariants as at
+use Rattle.norec_core.specs.Rows.{value_into}
+use Rattle.norec_core.specs.declared.phase.Phase.TheVariants as at
 use Rattle.norec_engine.specs.declared.data.Data.{Data}
-use Rattle.norec_engine.specs.Fields.{IsOpen, InPhase}
+use Rattle.norec_engine.specs.InPhases.{IsOpen, InPhase}
 
 -- a row that is stored is one of the write set
 pub store_row : (d : Data) (row : ℕ) (got : Option ℕ) → InPhase d (at.Store row got) → IsOpen d × (row < length d.frames.writes.rows)

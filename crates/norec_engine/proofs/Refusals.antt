@@ -2,7 +2,7 @@
 use Rattle.std.proofs.Common.{◌≡◌, ℕ, ◌+◌, ◌*◌, ◌≤◌, nat_le, Bool, true, false, List, length, Option, None, Some, refl, sym, ap, subst, ◌∙◌, inl, inr, if◌then◌else◌}
 use Rattle.std.proofs.lemmas.Bool.{cases_Bool, leb-true, le-leb}
 use Rattle.itm_types.specs.declared.call.Call.{Call}
-use Rattle.itm_types.specs.declared.call.Call.TheVariants.{Begin, Commit, Abort, InTransaction, Write, Log, LogBytes, Copy, Fill, Save}
+use Rattle.itm_types.specs.declared.call.Call.TheVariants.{Begin, Commit, Abort, InTransaction, Write, Log, LogBytes, Copy, Fill, CommitAction, UndoAction, Save}
 use Rattle.itm_types.specs.declared.call.Refusal.{Refusal}
 use Rattle.itm_types.specs.declared.call.Refusal.TheVariants.{OutOfRange, OutOfArena}
 use Rattle.itm_types.specs.declared.call.Reply.TheVariants.{Done, Code, Refused}
@@ -15,17 +15,20 @@ use Rattle.itm_types.specs.Memory.{IsMemory}
 use Rattle.itm_types.specs.declared.call.Reply.{Reply as Replied}
 use Rattle.itm_model.specs.State.{State}
 use Rattle.itm_model.specs.Machine.{unless, effect, after, after_unless, reply, reply_unless}
-use Rattle.norec_engine.specs.Stands.{state_over}
+use Rattle.norec_core.specs.Stands.{state_over}
 use Rattle.norec_engine.specs.declared.data.Data.{Data}
-use Rattle.norec_engine.specs.declared.phase.Phase.TheVariants.{Idle}
-use Rattle.norec_engine.specs.Core.{Core, came}
-use Rattle.norec_engine.specs.Fields.{access_refusal, core, in_block, IsSound}
-use Rattle.norec_engine.specs.Proceeds.{Replies, recoded, writes_after, arena_after, blocks_after}
-use Rattle.norec_engine.proofs.Blocks.{blocks_over-same}
-use Rattle.norec_engine.proofs.Machines.{access_refused, open_is}
+use Rattle.norec_core.specs.declared.phase.Phase.TheVariants.{Idle}
+use Rattle.norec_core.specs.Core.{Core, came}
+use Rattle.norec_core.specs.Accesses.{access_refusal}
+use Rattle.norec_engine.specs.View.{core, in_block}
+use Rattle.norec_engine.specs.InPhases.{IsSound}
+use Rattle.norec_core.specs.Proceeds.{Replies, writes_after, arena_after, blocks_after, actions_after}
+use Rattle.norec_core.proofs.AnsweredEngines.{told_plainly}
+use Rattle.norec_core.proofs.Blocks.{blocks_over-same}
+use Rattle.norec_core.proofs.Machines.{access_refused, open_is}
 
 abbrev pub stands : Data → List ℕ → State
-stands d m = state_over d.frames.writes.rows d.frames.blocks d.arena m
+stands d m = state_over d.frames.writes.rows d.frames.blocks d.arena d.frames.actions m
 
 -- what is not refused
 pub served : (is_open : Bool) (words place size : ℕ) → access_refusal is_open words place size ≡ None → (is_open ≡ true) × (place + size ≤ 8 * words)
@@ -56,18 +59,21 @@ arena_kept c m (Copy k) why = refl
 arena_kept c m (Abort outer) why = refl
 arena_kept c m call why = refl
 
--- a call that begins no block anew is told what it is answered
-pub told_plainly : (call : Call) (r : Replied) → recoded call false r ≡ r
-told_plainly (Begin props room) r = refl
-told_plainly call r = refl
+actions_kept : (c : Core) (call : Call) (why : Refusal) → actions_after c call (Refused why) ≡ c.actions
+actions_kept c (Begin props room) why = refl
+actions_kept c Commit why = refl
+actions_kept c (Abort outer) why = refl
+actions_kept c (CommitAction action) why = refl
+actions_kept c (UndoAction action) why = refl
+actions_kept c call why = refl
 
 -- a reply that leaves the engine as it was, but for the counts and perhaps the arena
 local_replies : (d : Data) (call : Call) (r : Replied) (arena : List ℕ) → IsSound d Idle
-    → ((m : List ℕ) → IsMemory d.words m → (state_over d.frames.writes.rows d.frames.blocks arena m ≡ after MAX_OPEN_BLOCKS (stands d m) call) × (r ≡ reply MAX_OPEN_BLOCKS (stands d m) call))
+    → ((m : List ℕ) → IsMemory d.words m → (state_over d.frames.writes.rows d.frames.blocks arena d.frames.actions m ≡ after MAX_OPEN_BLOCKS (stands d m) call) × (r ≡ reply MAX_OPEN_BLOCKS (stands d m) call))
     → ((m : List ℕ) → d.frames.writes.rows ≡ writes_after (came (core d Idle) call false) m call r) → ((m : List ℕ) → arena ≡ arena_after (came (core d Idle) call false) m call r)
-    → d.frames.blocks ≡ blocks_after (came (core d Idle) call false) call r
+    → d.frames.blocks ≡ blocks_after (came (core d Idle) call false) call r → d.frames.actions ≡ actions_after (came (core d Idle) call false) call r
     → Replies (came (core d Idle) call false) call r (core (record d { arena = arena; spent = 0; entry = length d.log.rows }) Idle)
-local_replies d call r arena s all writes left blocks = record {
+local_replies d call r arena s all writes left blocks actions = record {
   meets = λ m mem agrees. (all m mem).0;
   reply_is = λ m mem agrees. (all m mem).1 ∙ sym (told_plainly call (reply MAX_OPEN_BLOCKS (stands d m) call));
   stays = refl;
@@ -76,6 +82,7 @@ local_replies d call r arena s all writes left blocks = record {
   free = refl;
   unfreed = refl;
   blocks = blocks;
+  actions = actions;
   still = λ other o. o;
   settled = λ o. ((s.in_phase.0 o).1, s.bounds.even);
 }
@@ -86,20 +93,20 @@ pub denied : (d : Data) (call : Call) (why : Refusal) → IsSound d Idle
     → Replies (came (core d Idle) call false) call (Refused why) (core (record d { spent = 0; entry = length d.log.rows }) Idle)
 denied d call why s all =
     let c = came (core d Idle) call false in
-    local_replies d call (Refused why) d.arena s all (λ m. sym (writes_kept c m call why)) (λ m. sym (arena_kept c m call why)) (sym (blocks_kept c call why))
+    local_replies d call (Refused why) d.arena s all (λ m. sym (writes_kept c m call why)) (λ m. sym (arena_kept c m call why)) (sym (blocks_kept c call why)) (sym (actions_kept c call why))
 
 pub refused_replies : (d : Data) (call : Call) (at size : ℕ) (why : Refusal) → IsSound d Idle → access_of call ≡ Some (at, size)
     → access_refusal (in_block d) d.words at size ≡ Some why
     → Replies (came (core d Idle) call false) call (Refused why) (core (record d { spent = 0; entry = length d.log.rows }) Idle)
 refused_replies d call at size why s is e =
-    denied d call why s (λ m mem. access_refused d.frames.writes.rows d.frames.blocks d.arena m d.words call at size why mem is e)
+    denied d call why s (λ m mem. access_refused d.frames.writes.rows d.frames.blocks d.arena d.frames.actions m d.words call at size why mem is e)
 
 -- it is told whether a transaction is open
 pub asked_replies : (d : Data) → IsSound d Idle
     → Replies (came (core d Idle) InTransaction false) InTransaction (Code (if in_block d then 1 else 0)) (core (record d { spent = 0; entry = length d.log.rows }) Idle)
 asked_replies d s =
     local_replies d InTransaction (Code (if in_block d then 1 else 0)) d.arena s
-    (λ m mem. (refl, ap (λ (o : Bool). Code (if o then 1 else 0)) (sym (open_is d.frames.writes.rows d.frames.blocks d.arena m)))) (λ m. refl) (λ m. refl) refl
+    (λ m mem. (refl, ap (λ (o : Bool). Code (if o then 1 else 0)) (sym (open_is d.frames.writes.rows d.frames.blocks d.arena d.frames.actions m)))) (λ m. refl) (λ m. refl) refl refl
 
 -- a save that is accepted
 saved_replies : (d : Data) (value : Datum) (place : ℕ) (arena : List ℕ) → IsSound d Idle → place + size_of value.width ≤ length d.arena
@@ -109,11 +116,11 @@ saved_replies d value place arena s within left size =
     local_replies d (Save place value) Done arena s (λ m mem.
     (let none = ap (λ (b : Bool). unless b OutOfArena) (le-leb (place + size_of value.width) (length d.arena) within) in
     let same = blocks_over-same d.frames.blocks arena d.arena m size in
-    let now : State = state_over d.frames.writes.rows d.frames.blocks d.arena m in (
-      (λ i. record { memory = now.memory; arena = left i; blocks = same i; wrote = now.wrote })
+    let now : State = state_over d.frames.writes.rows d.frames.blocks d.arena d.frames.actions m in (
+      (λ i. record { memory = now.memory; arena = left i; blocks = same i; actions = now.actions; wrote = now.wrote })
           ∙ sym (ap (λ (r : Option Refusal). after_unless r now (effect now (Save place value))) none),
       sym (ap (λ (r : Option Refusal). reply_unless r Done) none),
-    ))) (λ m. refl) (λ m. left) refl
+    ))) (λ m. refl) (λ m. left) refl refl
 
 pub save_replies : (d new : Data) (value : Datum) (place : ℕ) (arena : List ℕ) → new ≡ record d { spent = 0; entry = length d.log.rows } → IsSound d Idle
     → place + size_of value.width ≤ length new.arena → arena ≡ with_slice new.arena place value.bytes.items → length arena ≡ length new.arena

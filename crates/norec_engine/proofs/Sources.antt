@@ -13,17 +13,18 @@ use Rattle.write_set.specs.Marks.{Written}
 use Rattle.write_set.specs.Rows.{overlay, AreApart, AreRows, AllRowsFit}
 use Rattle.write_set.proofs.Overlays.{lookup-take}
 use Rattle.itm_types.specs.Slices.{AreBytes}
-use Rattle.norec_engine.specs.Copies.{chunks_in, copy_refusal, direction_of, target_refusal}
-use Rattle.norec_engine.specs.Proceeds.{arena_copied, writes_copied}
+use Rattle.norec_core.specs.Copies.{chunks_in, copy_refusal, direction_of, target_refusal}
+use Rattle.norec_core.specs.Proceeds.{arena_copied, writes_copied}
 use Rattle.word_pieces.proofs.Lists.{length-with_slice}
-use Rattle.norec_engine.specs.Rows.{is_covered, range_pieces, AllWritesWithin}
-use Rattle.norec_engine.specs.Fields.{reserved_for, rows_before, HasCopied, FitsPurpose, IsFor}
+use Rattle.norec_core.specs.Rows.{is_covered, range_pieces, AllWritesWithin}
+use Rattle.norec_engine.specs.View.{rows_before}
+use Rattle.norec_engine.specs.InPhases.{reserved_for, HasCopied, FitsPurpose, IsFor}
 use Rattle.norec_engine.specs.declared.data.Data.{Data}
-use Rattle.norec_engine.specs.declared.phase.Purpose.{Purpose}
-use Rattle.norec_engine.specs.declared.phase.Purpose.TheVariants as for
-use Rattle.norec_engine.proofs.Ranges.{is_covered-reserved_all, AreRows-put_range, AllWritesWithin-put_range}
+use Rattle.norec_core.specs.declared.phase.Purpose.{Purpose}
+use Rattle.norec_core.specs.declared.phase.Purpose.TheVariants as for
+use Rattle.norec_core.proofs.Ranges.{is_covered-reserved_all, AreRows-put_range, AllWritesWithin-put_range}
 use Rattle.norec_engine.proofs.Copies.{accepted_sides, arena_within, shared_within}
-use Rattle.norec_engine.proofs.Writings.{overlay-reserved_all}
+use Rattle.norec_core.proofs.Writings.{overlay-reserved_all}
 
 -- ## Rows of a copy's destination
 

@@ -1,11 +1,3 @@
-pub mod Rows
-pub mod Core
-pub mod Stands
-pub mod Copies
-pub mod Order
-pub mod Endings
-pub mod Proceeds
-pub mod Moves
-pub mod Fields
-pub mod Undoing
-pub mod Keeps
+pub mod View
+pub mod InPhases
+pub mod Between

@@ -3,13 +3,16 @@
 ghost use Rattle.std.specs.Prelude.{◌≡◌, ℕ, ◌≤◌, ◌+◌, ◌*◌, ◌&&◌, nat_le, false, None, Some, is_none};
 ghost use Rattle.itm_types.specs.declared.call.Call.{Call};
 ghost use Rattle.itm_types.specs.Calls.{access_of};
-ghost use Rattle.norec_engine.specs.Fields.{in_block, access_refusal, core, core_after, phase_after, IsSound, IsSoundTurn, Turns, TurnEndsSo, Stays};
-ghost use Rattle.norec_engine.specs.Core.{came};
+ghost use Rattle.norec_core.specs.Accesses.{access_refusal};
+ghost use Rattle.norec_engine.specs.View.{in_block, core};
+ghost use Rattle.norec_engine.specs.InPhases.{IsSound};
+ghost use Rattle.norec_engine.specs.Between.{core_after, phase_after, IsSoundTurn, Turns, TurnEndsSo, Stays};
+ghost use Rattle.norec_core.specs.Core.{came};
 
-use crate::answer::Answer;
 use crate::data::Data;
-use crate::phase::{Phase, Turn};
+use crate::turn::Turn;
 use itm_types::{MAX_WORDS, Refusal, Reply};
+use norec_core::{Answer, Phase};
 
 /// Why a read, a write or a fill of so many bytes from a place on is refused, if it is.
 pub(crate) fn refusal(state: &Data, at: u64, size: u64) -> Option<Refusal>

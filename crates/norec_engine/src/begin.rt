@@ -1,16 +1,18 @@
 //! Begins of blocks.
 
 ghost use Rattle.std.specs.Prelude.{◌≡◌, ◌≤◌, true};
-ghost use Rattle.norec_engine.specs.Fields.{in_block, core, core_after, phase_after, IsSound, IsSoundTurn, Turns, TurnEndsSo, Stays};
-ghost use Rattle.norec_engine.specs.Core.{came, handed};
-ghost use Rattle.norec_engine.specs.Order.{log_after, snapshot_after, stage_after, stage_at, tries_after, tries_at};
-ghost use Rattle.norec_engine.specs.Endings.{ending_at, ending_after};
-ghost use Rattle.norec_engine.specs.Proceeds.{Joins};
+ghost use Rattle.norec_engine.specs.View.{in_block, core};
+ghost use Rattle.norec_engine.specs.InPhases.{IsSound};
+ghost use Rattle.norec_engine.specs.Between.{core_after, phase_after, IsSoundTurn, Turns, TurnEndsSo, Stays};
+ghost use Rattle.norec_core.specs.Core.{came, handed};
+ghost use Rattle.norec_core.specs.Order.{log_after, snapshot_after, stage_after, stage_at, tries_after, tries_at};
+ghost use Rattle.norec_core.specs.Endings.{ending_at, ending_after};
+ghost use Rattle.norec_core.specs.Proceeds.{Joins};
 
-use crate::answer::Answer;
 use crate::data::Data;
-use crate::phase::{Opening, Phase, Turn};
+use crate::turn::Turn;
 use itm_types::{Call, ENTERED, ENTERED_AGAIN, MAX_OPEN_BLOCKS, Props, Refusal, Reply};
+use norec_core::{Answer, Opening, Phase};
 
 /// A begin comes.
 pub(crate) fn begin(state: &mut Data, props: Props, room: u32, again: bool) -> Turn
@@ -51,6 +53,7 @@ pub(crate) fn begin_seen(state: &mut Data, opening: Opening, seen: u64) -> Turn
     state.clock = seen;
     if seen % 2 == 0 {
         state.snapshot = seen;
+        state.frames.clear_due();
         state.frames.enter(opening.props);
         let code = if opening.again {
             ENTERED_AGAIN

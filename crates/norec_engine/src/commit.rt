@@ -1,16 +1,18 @@
 //! Commits: the clock is taken, the write set is stored in the order of first writing, and the clock is freed.
 
 ghost use Rattle.std.specs.Prelude.{◌≡◌, ◌≤◌, ◌/◌, length, ℕ, false, Option, Some};
-ghost use Rattle.norec_engine.specs.Fields.{core, core_after, phase_after, between, moved, in_stores, IsSound, IsSoundTurn, Turns, TurnEndsSo, Stays, MayExchange, InStores};
-ghost use Rattle.norec_engine.specs.Core.{came, handed};
-ghost use Rattle.norec_engine.specs.Endings.{ending_at, ending_after};
-ghost use Rattle.norec_engine.specs.Order.{exchange_stage, stage_after, stage_at, store_stage, tries_after, tries_at};
+ghost use Rattle.norec_engine.specs.View.{core};
+ghost use Rattle.norec_engine.specs.InPhases.{IsSound};
+ghost use Rattle.norec_engine.specs.Between.{core_after, phase_after, between, moved, in_stores, IsSoundTurn, Turns, TurnEndsSo, Stays, MayExchange, InStores};
+ghost use Rattle.norec_core.specs.Core.{came, handed};
+ghost use Rattle.norec_core.specs.Endings.{ending_at, ending_after};
+ghost use Rattle.norec_core.specs.Order.{exchange_stage, stage_after, stage_at, store_stage, tries_after, tries_at};
 
-use crate::answer::Answer;
 use crate::data::{Data, finish, roll_back};
-use crate::phase::{Aim, Phase, Turn};
 use crate::rounds::try_round;
+use crate::turn::Turn;
 use itm_types::{Call, Refusal, Reply};
+use norec_core::{Aim, Answer, Phase};
 
 /// A commit comes.
 pub(crate) fn commit(state: &mut Data) -> Turn

@@ -4,23 +4,26 @@
 ghost use Rattle.std.specs.Prelude.{◌≡◌, ◌<◌, ◌≤◌, ◌+◌, ◌^◌, ◌&&◌, false, IfOk, IfSome, OnOk, OnErr, List, None, length, drop, replicate, slice_get, option_map};
 ghost use Rattle.itm_types.specs.Slices.{slice, with_slice, AreBytes};
 ghost use Rattle.itm_types.specs.declared.row.LogRow.{LogRow};
-ghost use Rattle.norec_engine.specs.Copies.{copy_refusal, chunks_in, direction_of, is_out, source_words, WritesShared};
-ghost use Rattle.norec_engine.specs.Fields.{in_block, core, core_after, phase_after, in_copy, logged, IsSound, IsSoundTurn, Turns, TurnEndsSo, Stays, MayCopy, MayFinish, MayPutFor, Copied, IsServed, IsReading, reserved_for, rows_before, count};
-ghost use Rattle.norec_engine.specs.Core.{came};
-ghost use Rattle.norec_engine.specs.Order.{chunk_reading, load_chunks, stage_at, tries_after, tries_at};
-ghost use Rattle.norec_engine.specs.Proceeds.{MayStarve, arena_copied, writes_copied};
+ghost use Rattle.norec_core.specs.Copies.{copy_refusal, chunks_in, direction_of, is_out, source_words, WritesShared};
+ghost use Rattle.norec_core.specs.Accesses.{count};
+ghost use Rattle.norec_engine.specs.View.{in_block, core, rows_before};
+ghost use Rattle.norec_engine.specs.InPhases.{IsSound, MayPutFor, Copied, IsServed, IsReading, reserved_for};
+ghost use Rattle.norec_engine.specs.Between.{core_after, phase_after, in_copy, logged, IsSoundTurn, Turns, TurnEndsSo, Stays, MayCopy, MayFinish};
+ghost use Rattle.norec_core.specs.Core.{came};
+ghost use Rattle.norec_core.specs.Order.{chunk_reading, load_chunks, stage_at, tries_after, tries_at};
+ghost use Rattle.norec_core.specs.Proceeds.{MayStarve, arena_copied, writes_copied};
 
 mod refusals;
 
-use crate::answer::Answer;
 use crate::copy::refusals::{copy_refusal, overlaps, refuse_copy};
 use crate::data::Data;
 use crate::fill::set_all;
-use crate::phase::{Phase, Purpose, Reading, Turn};
 use crate::range::{put_range, reserve_range};
 use crate::read::{MOST_PIECES, take_covered};
+use crate::turn::Turn;
 use itm_types::{Call, CopyPair, Copying, MAX_MEMORY, MAX_WORDS, Reply, Value};
 use nest_frames::Frames;
+use norec_core::{Answer, Phase, Purpose, Reading};
 use std::alloc::AllocError;
 use value_log::ValueLog;
 use word_pieces::{Chunks, Direction};
@@ -69,6 +72,7 @@ fn reserve(state: &mut Data, copying: Copying) -> Result<(), AllocError>
     ensures log { state.new.log.rows ≡ state.old.log.rows }
     ensures blocks { state.new.frames.blocks ≡ state.old.frames.blocks }
     ensures size { state.new.frames.size ≡ state.old.frames.size }
+    ensures actions { state.new.frames.actions ≡ state.old.frames.actions }
     ensures buffer { OnOk result (state.new.buffer.items ≡ replicate copying.size 0) }
     ensures room { OnOk result (is_out copying.pair ≡ false → source_words copying ≤ state.new.log.room) }
     ensures rows { OnOk result (state.new.frames.writes.rows ≡ reserved_for copying copying.pair state.old.frames.writes.rows) }
@@ -110,6 +114,7 @@ fn reserve_target(frames: &mut Frames, copying: Copying) -> Result<(), AllocErro
     ensures err { OnErr result (frames.new.writes.rows ≡ frames.old.writes.rows) }
     ensures blocks { frames.new.blocks ≡ frames.old.blocks }
     ensures size { frames.new.size ≡ frames.old.size }
+    ensures actions { frames.new.actions ≡ frames.old.actions }
 {
     match copying.pair {
         CopyPair::In(_) => Ok(()),
@@ -189,6 +194,7 @@ fn deliver(state: &mut Data, copying: Copying)
     ensures arena { state.new.arena ≡ arena_copied state.old.arena copying copying.pair state.old.buffer.items }
     ensures blocks { state.new.frames.blocks ≡ state.old.frames.blocks }
     ensures size { state.new.frames.size ≡ state.old.frames.size }
+    ensures actions { state.new.frames.actions ≡ state.old.frames.actions }
     ensures bytes { AreBytes state.old.buffer.items }
 {
     match copying.pair {

@@ -1,9 +1,11 @@
 //! What an engine keeps beside the phase.
 
-ghost use Rattle.std.specs.Prelude.{◌≡◌, true, length};
-ghost use Rattle.nest_frames.specs.Nest.{arena_back, arena_restored};
-ghost use Rattle.norec_engine.specs.Core.{is_outermost};
-ghost use Rattle.norec_engine.specs.Fields.{in_block, IsEnded};
+ghost use Rattle.std.specs.Prelude.{◌≡◌, true, [], length};
+ghost use Rattle.user_actions.specs.Actions.{committed};
+ghost use Rattle.nest_frames.specs.Nest.{arena_back, arena_restored, actions_back};
+ghost use Rattle.norec_core.specs.Core.{is_outermost};
+ghost use Rattle.norec_engine.specs.View.{in_block};
+ghost use Rattle.norec_engine.specs.Between.{IsEnded};
 
 use itm_types::{Limits, Value};
 use nest_frames::Frames;
@@ -64,7 +66,7 @@ impl Data {
 /// The transaction has committed, and nothing of it is kept.
 pub(crate) fn finish(state: &mut Data)
     requires { is_outermost state.old.frames.blocks ≡ true }
-    ensures { IsEnded state.old state.old.arena state.new }
+    ensures { IsEnded state.old state.old.arena (committed state.old.frames.actions) state.new }
 {
     state.log.clear();
     state.frames.leave();
@@ -73,7 +75,8 @@ pub(crate) fn finish(state: &mut Data)
 /// The transaction is rolled back, and nothing of it is kept.
 pub(crate) fn roll_back(state: &mut Data)
     requires { state.old.frames.size ≡ length state.old.arena }
-    ensures ended { IsEnded state.old (arena_back state.old.frames.blocks state.old.arena) state.new }
+    ensures ended { IsEnded state.old (arena_back state.old.frames.blocks state.old.arena) (actions_back state.old.frames.blocks state.old.frames.actions) state.new }
+    ensures none { (state.new.frames.actions.commits ≡ []) × (state.new.frames.actions.undos ≡ []) }
     ensures restored { arena_back state.old.frames.blocks state.old.arena
         ≡ arena_restored state.old.frames.blocks state.old.arena }
     ensures sized { state.new.frames.size ≡ length state.new.arena }

@@ -1,28 +1,33 @@
 //! One thread's transactions over shared cells that someone else steps on.
 
-ghost use Rattle.std.specs.Prelude.{◌≡◌, ◌≢◌, ◌<◌, ◌≤◌, IfOk, IsOk, OnOk, OnErr, IsSome, true, IsTrue, ◌↔◌, is_some, false};
-ghost use Rattle.norec_engine.specs.Core.{in_transaction, opening, came, handed};
-ghost use Rattle.norec_engine.specs.Order.{asked, log_after, snapshot_after, stage_after, stage_at, tries_after, tries_at};
-ghost use Rattle.norec_engine.specs.Endings.{ending_at, ending_after, EndsSo};
-ghost use Rattle.norec_engine.specs.Proceeds.{Proceeds, Joins, StaysOn, IsAtOnce, IsUndone, MayStarve, Fits, IsWithin, IsSettled};
-ghost use Rattle.norec_engine.specs.Fields.{in_block, core, core_after, phase_after, data_after, next_of, waits_of, IsSound, IsSoundTurn, Turns, TurnEndsSo, Stays};
-ghost use Rattle.norec_engine.specs.Undoing.{undone_of, after_undoing};
+ghost use Rattle.std.specs.Prelude.{◌≡◌, ◌≢◌, ◌^◌, ◌<◌, ◌≤◌, IfOk, IsOk, OnOk, OnErr, IsSome, true, IsTrue, ◌↔◌, is_some, false, []};
+ghost use Rattle.user_actions.specs.Actions.{total};
+ghost use Rattle.norec_core.specs.Core.{in_transaction, opening, came, handed};
+ghost use Rattle.norec_core.specs.Order.{asked, log_after, snapshot_after, stage_after, stage_at, tries_after, tries_at};
+ghost use Rattle.norec_core.specs.Endings.{ending_at, ending_after, EndsSo};
+ghost use Rattle.norec_core.specs.Proceeds.{Proceeds, Joins, StaysOn, IsAtOnce, IsUndone, MayStarve, Fits, IsWithin, IsSettled};
+ghost use Rattle.norec_engine.specs.View.{in_block, core, waits_of};
+ghost use Rattle.norec_engine.specs.InPhases.{IsSound};
+ghost use Rattle.norec_engine.specs.Between.{core_after, phase_after, data_after, next_of, IsSoundTurn, Turns, TurnEndsSo, Stays};
+ghost use Rattle.norec_core.specs.Undoing.{undone_of, after_undoing};
 
 use crate::abort::abort;
-use crate::answer::{Answer, Next, Undone};
 use crate::begin::{begin, begin_seen};
 use crate::commit::{back_loaded, commit, exchanged, freed, stored};
 use crate::copy::copy;
 use crate::data::{Data, roll_back};
 use crate::fill::fill;
-use crate::local::{in_transaction, load, log, save};
-use crate::phase::{Phase, Turn};
+use crate::local::{in_transaction, load, log, register, save};
 use crate::read::{confirmed, loaded, read};
 use crate::rounds::{round_ended, round_started, row_seen};
 use crate::steps::step_of;
+use crate::turn::Turn;
 use crate::write::write;
-use itm_types::{Call, Limits, MAX_COMMITS, MAX_PATIENCE, MAX_WORDS, Props, Value};
+use itm_types::{
+    ActionKind, Call, Limits, MAX_COMMITS, MAX_PATIENCE, MAX_WORDS, Props, Ran, Value,
+};
 use nest_frames::Frames;
+use norec_core::{Answer, Next, Phase, Undone};
 use std::alloc::{AllocError, Global};
 use std::marker::Model;
 use undo_log::Arena;
@@ -39,11 +44,12 @@ pub struct Engine {
 }
 
 impl Model for Engine {
-    ghost use Rattle.norec_engine.specs.Core.{Core};
+    ghost use Rattle.norec_core.specs.Core.{Core};
 
     ghost Value = { Core };
 
-    ghost use Rattle.norec_engine.specs.Fields.{core, IsSound};
+    ghost use Rattle.norec_engine.specs.View.{core};
+    ghost use Rattle.norec_engine.specs.InPhases.{IsSound};
 
     ghost view = { λ e. core e.state e.phase };
 
@@ -140,6 +146,8 @@ impl Engine {
         ensures undone { result ≡ undone_of self.old }
         ensures after { self.new ≡ after_undoing self.old }
         ensures rolled_back { self.old.holds ≡ false → IsUndone self.old self.new }
+        ensures unregistered { self.old.holds ≡ false
+            → (self.new.actions.commits ≡ []) × (self.new.actions.undos ≡ []) }
     {
         match self.phase {
             Phase::BackLoad(_) | Phase::Store(_, _) | Phase::Free => Undone::Held,
@@ -208,6 +216,31 @@ impl Engine {
     {
         let Engine { state, phase: _ } = self;
         state.arena
+    }
+
+    /// How many actions there are in all: those that are registered, and those that have come to run. Takes no memory.
+    pub fn actions(&self) -> usize
+        ensures total { result ≡ total self.now.actions }
+
+        // There are fewer than a count can tell.
+        ensures few { total self.now.actions < 2 ^ 63 }
+    {
+        self.state.frames.actions()
+    }
+
+    /// The actions of the transaction that have come to run, in order: those of an open one too, where a block within it
+    /// was cancelled. The begin of the next one forgets them.
+    pub fn due(&self) -> &[Ran]
+        ensures { result.now ≡ self.now.actions.ran }
+    {
+        self.state.frames.due()
+    }
+
+    /// Forgets the actions that have come to run. Takes no memory.
+    pub fn clear_due(&mut self)
+        ensures { self.new ≡ record self.old { actions = record self.old.actions { ran = [] } } }
+    {
+        self.state.frames.clear_due();
     }
 
     /// The number of steps asked for since a call last came.
@@ -295,6 +328,8 @@ fn called(state: &mut Data, call: &Call) -> Result<Turn, AllocError>
         Call::LogBytes { at, size } => log(state, *at, *size),
         Call::Copy(copying) => copy(state, *copying),
         Call::Fill { to, byte, size, .. } => fill(state, *to, *byte, *size),
+        Call::CommitAction(action) => register(state, ActionKind::Commit, *action),
+        Call::UndoAction(action) => register(state, ActionKind::Undo, *action),
         Call::Load { width, at } => Ok(load(state, *width, *at)),
         Call::Save { at, value } => Ok(save(state, *at, value)),
     }

@@ -2,15 +2,17 @@
 
 ghost use Rattle.std.specs.Prelude.{◌≡◌, ◌<◌, ◌≤◌, ◌+◌, ◌*◌, false, true, IfOk, OnOk, OnErr, replicate};
 ghost use Rattle.itm_types.specs.declared.access.WriteHint.{WriteHint};
-ghost use Rattle.norec_engine.specs.Fields.{in_block, core, core_after, phase_after, IsSound, IsSoundTurn, Turns, TurnEndsSo, Stays};
-ghost use Rattle.norec_engine.specs.Core.{came};
+ghost use Rattle.norec_engine.specs.View.{in_block, core};
+ghost use Rattle.norec_engine.specs.InPhases.{IsSound};
+ghost use Rattle.norec_engine.specs.Between.{core_after, phase_after, IsSoundTurn, Turns, TurnEndsSo, Stays};
+ghost use Rattle.norec_core.specs.Core.{came};
 
 use crate::access::{refusal, refuse};
-use crate::answer::Answer;
 use crate::data::Data;
-use crate::phase::{Phase, Turn};
 use crate::range::{put_range, reserve_range};
+use crate::turn::Turn;
 use itm_types::{Call, Reply, WriteHint};
+use norec_core::{Answer, Phase};
 use std::alloc::AllocError;
 use word_pieces::{Chunks, Direction};
 

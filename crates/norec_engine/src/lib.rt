@@ -4,7 +4,6 @@
 
 mod abort;
 mod access;
-mod answer;
 mod begin;
 mod commit;
 mod copy;
@@ -12,15 +11,15 @@ mod data;
 mod engine;
 mod fill;
 mod local;
-mod phase;
 mod range;
 mod read;
 mod rounds;
 mod steps;
+mod turn;
 mod write;
 
-pub use answer::{Answer, Next, Undone};
 pub use engine::Engine;
+pub use norec_core::{Answer, Next, Undone};
 
 #[cfg(test)]
 mod tests;

@@ -2,14 +2,18 @@
 
 ghost use Rattle.std.specs.Prelude.{◌≡◌, ◌+◌, ◌<◌, ◌≤◌, None, Some, true, false, if◌then◌else◌, length, IfOk, OnOk, OnErr};
 ghost use Rattle.itm_types.specs.declared.call.Call.{Call};
-ghost use Rattle.itm_types.specs.Calls.{logged_of};
-ghost use Rattle.norec_engine.specs.Fields.{in_block, core, core_after, phase_after, IsSound, IsSoundTurn, Turns, TurnEndsSo, Stays};
-ghost use Rattle.norec_engine.specs.Core.{came};
+ghost use Rattle.itm_types.specs.Calls.{logged_of, registered_by};
+ghost use Rattle.norec_engine.specs.View.{in_block, core};
+ghost use Rattle.norec_engine.specs.InPhases.{IsSound};
+ghost use Rattle.norec_engine.specs.Between.{core_after, phase_after, IsSoundTurn, Turns, TurnEndsSo, Stays};
+ghost use Rattle.norec_core.specs.Core.{came};
 
-use crate::answer::Answer;
 use crate::data::Data;
-use crate::phase::{Phase, Turn};
-use itm_types::{Call, Datum, NO_TRANSACTION, RETRYABLE, Refusal, Reply, Width};
+use crate::turn::Turn;
+use itm_types::{
+    Action, ActionKind, Call, Datum, NO_TRANSACTION, RETRYABLE, Refusal, Reply, Width,
+};
+use norec_core::{Answer, Phase};
 use std::alloc::AllocError;
 
 /// It is asked whether a transaction is open.
@@ -48,6 +52,33 @@ pub(crate) fn log(state: &mut Data, at: u64, size: u64) -> Result<Turn, AllocErr
     } else {
         state.frames.log(&state.arena, at, size)?;
         Reply::Done
+    };
+    state.come();
+    Ok(Turn::End(Answer::Reply(reply)))
+}
+
+/// An action is registered.
+pub(crate) fn register(
+    state: &mut Data,
+    kind: ActionKind,
+    action: Action,
+) -> Result<Turn, AllocError>
+    requires sound { IsSound state.old Phase.Idle }
+    ensures sound { IfOk result (λ turn. IsSoundTurn turn state.new) }
+    ensures proceeds { IfOk result (λ turn. (call : Call) → registered_by call ≡ Some (kind, action)
+        → Turns (came (core state.old Phase.Idle) call false) turn state.new) }
+    ensures stays { OnOk result (Stays state.old state.new) }
+    ensures err { OnErr result (state.new ≡ state.old) }
+    ensures starves { OnErr result (in_block state.old ≡ true) }
+    ensures order { IfOk result (λ turn. phase_after turn ≡ Phase.Idle) }
+    ensures ends { IfOk result (TurnEndsSo None) }
+    ensures tries { IfOk result (λ turn. (core_after turn state.new).tries ≡ 0) }
+{
+    let reply = if state.is_open() {
+        state.frames.register(kind, action)?;
+        Reply::Done
+    } else {
+        Reply::Refused(Refusal::Outside)
     };
     state.come();
     Ok(Turn::End(Answer::Reply(reply)))

@@ -4,7 +4,7 @@ ghost use Rattle.std.specs.Prelude.{◌≡◌, ◌<◌, ◌≤◌, ◌+◌, OnOk
 ghost use Rattle.itm_types.specs.Slices.{AreBytes};
 ghost use Rattle.word_pieces.specs.Chunks.{chunks_of};
 ghost use Rattle.write_set.specs.Marks.{MayPut};
-ghost use Rattle.norec_engine.specs.Rows.{HaveRows, range_pieces, reserved_all, put_chunks};
+ghost use Rattle.norec_core.specs.Rows.{HaveRows, range_pieces, reserved_all, put_chunks};
 
 use crate::write::{put_all, reserve_all};
 use itm_types::MAX_MEMORY;
@@ -23,6 +23,7 @@ pub(crate) fn reserve_range(frames: &mut Frames, to: u64, chunks: Chunks) -> Res
     ensures err { OnErr result (frames.new.writes.rows ≡ frames.old.writes.rows) }
     ensures blocks { frames.new.blocks ≡ frames.old.blocks }
     ensures size { frames.new.size ≡ frames.old.size }
+    ensures actions { frames.new.actions ≡ frames.old.actions }
 {
     let len = frames.len();
     for number in 0..chunks.len() {
@@ -47,6 +48,7 @@ pub(crate) fn put_range(frames: &mut Frames, to: u64, direction: Direction, byte
         ≡ put_chunks frames.old.writes.rows to (chunks_of direction (length bytes.now)) bytes.now }
     ensures blocks { frames.new.blocks ≡ frames.old.blocks }
     ensures size { frames.new.size ≡ frames.old.size }
+    ensures actions { frames.new.actions ≡ frames.old.actions }
     ensures bytes { AreBytes bytes.now }
 {
     let chunks = Chunks::new(bytes.len() as u32, direction);

@@ -1,16 +1,18 @@
 //! Validation rounds: the value log is compared with the memory between two equal even clocks.
 
 ghost use Rattle.std.specs.Prelude.{◌≡◌, ◌≤◌, length, ℕ, true, Option, None, Some};
-ghost use Rattle.norec_engine.specs.Fields.{in_block, core, core_after, phase_after, between, in_rows, IsSound, IsSoundTurn, Turns, TurnEndsSo, Stays, MayTry, InRows};
-ghost use Rattle.norec_engine.specs.Core.{handed};
-ghost use Rattle.norec_engine.specs.Order.{log_after, row_stage, snapshot_after, stage_after, tries_after, try_stage};
-ghost use Rattle.norec_engine.specs.Endings.{ending_after};
-ghost use Rattle.norec_engine.specs.Proceeds.{Joins};
+ghost use Rattle.norec_engine.specs.View.{in_block, core};
+ghost use Rattle.norec_engine.specs.InPhases.{IsSound};
+ghost use Rattle.norec_engine.specs.Between.{core_after, phase_after, between, in_rows, IsSoundTurn, Turns, TurnEndsSo, Stays, MayTry, InRows};
+ghost use Rattle.norec_core.specs.Core.{handed};
+ghost use Rattle.norec_core.specs.Order.{log_after, row_stage, snapshot_after, stage_after, tries_after, try_stage};
+ghost use Rattle.norec_core.specs.Endings.{ending_after};
+ghost use Rattle.norec_core.specs.Proceeds.{Joins};
 
-use crate::answer::Answer;
 use crate::commit::exchange;
 use crate::data::{Data, roll_back};
-use crate::phase::{Aim, Phase, Turn};
+use crate::turn::Turn;
+use norec_core::{Aim, Answer, Phase};
 
 /// A new round, if one is left.
 pub(crate) fn try_round(state: &mut Data, aim: Aim) -> Turn

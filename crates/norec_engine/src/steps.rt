@@ -1,11 +1,13 @@
 //! The step that a phase waits for.
 
 ghost use Rattle.std.specs.Prelude.{◌≡◌};
-ghost use Rattle.norec_engine.specs.Fields.{IsSound, counted, step_of};
+ghost use Rattle.norec_engine.specs.View.{step_of};
+ghost use Rattle.norec_engine.specs.InPhases.{IsSound};
+ghost use Rattle.norec_engine.specs.Between.{counted};
 
 use crate::data::Data;
-use crate::phase::Phase;
 use itm_types::Step;
+use norec_core::Phase;
 use word_pieces::merge;
 
 /// The step that the phase waits for.

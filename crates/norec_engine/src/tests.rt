@@ -4,15 +4,17 @@ ghost use Rattle.std.specs.Prelude.{◌≡◌, ◌<◌, ◌≤◌, IfOk, None};
 
 use crate::{Answer, Engine, Next, Undone};
 use itm_types::{
-    Call, CopyPair, Copying, Datum, Limits, MAX_PATIENCE, Props, ReadHint, Refusal, Reply, Step,
-    Value, Width, WriteHint,
+    Action, ActionKind, Call, CopyPair, Copying, Datum, Limits, MAX_PATIENCE, Props, Ran, ReadHint,
+    Refusal, Reply, Step, Value, Width, WriteHint,
 };
 use std::alloc::{AllocError, Global};
 use std::process::Abort;
 use undo_log::Arena;
 
+mod actions;
 mod blocks;
 mod calls;
+mod cells;
 mod copies;
 mod copy_tables;
 mod nests;
@@ -53,6 +55,9 @@ enum Ask {
     Move(CopyPair, u64, u64, u64),
     /// From this place on the byte is put so many times.
     Fill(u64, u64, u64),
+    /// The action of this number is registered, for the commit or for a rollback.
+    OnCommit(u32),
+    OnUndo(u32),
     Load(Width, u64),
     /// These bytes go to the arena, as many as the type has.
     Save(Width, u64, &'static [u8]),
@@ -91,6 +96,19 @@ enum Line {
     Snapshot(u64),
     /// No transaction is open.
     Closed,
+    /// These actions have come to run.
+    Due(&'static [Due]),
+    /// Those that have come to run are forgotten.
+    ClearDue,
+    /// So many actions are registered or have come to run.
+    Actions(usize),
+}
+
+/// An action that has come to run, by its number: at the commit, or at a rollback.
+#[derive(Clone, Copy)]
+enum Due {
+    Committed(u32),
+    Undone(u32),
 }
 
 /// The call.
@@ -122,6 +140,8 @@ fn call_of(rt: &impl Abort, ask: Ask) -> Call {
             byte,
             size,
         },
+        Ask::OnCommit(fun) => Call::CommitAction(action(fun)),
+        Ask::OnUndo(fun) => Call::UndoAction(action(fun)),
         Ask::Load(width, at) => Call::Load { width, at },
         Ask::Save(width, at, bytes) => {
             assert_eq!(rt; bytes.len(), usize::from(width.size()));
@@ -130,6 +150,25 @@ fn call_of(rt: &impl Abort, ask: Ask) -> Call {
                 value: Datum::new(width, bytes),
             }
         }
+    }
+}
+
+/// The action of this number.
+fn action(fun: u32) -> Action {
+    Action {
+        fun,
+        arg: 100 + u64::from(fun),
+    }
+}
+
+fn ran(due: Due) -> Ran {
+    let (kind, fun) = match due {
+        Due::Committed(fun) => (ActionKind::Commit, fun),
+        Due::Undone(fun) => (ActionKind::Undo, fun),
+    };
+    Ran {
+        kind,
+        action: action(fun),
     }
 }
 
@@ -206,6 +245,14 @@ fn play_event(
     }
 }
 
+/// These actions, and no others, have come to run, in this order.
+fn is_due(rt: &impl Abort, engine: &Engine, number: usize, wanted: &[Due]) {
+    assert_eq!(rt; engine.due().len(), wanted.len(), "line {number}");
+    for (due, wanted) in engine.due().iter().zip(wanted) {
+        assert_eq!(rt; *due, ran(*wanted), "line {number}");
+    }
+}
+
 /// Plays a line, and compares what comes of it. Where memory is refused to a call, it is not played.
 fn play_line(
     rt: &impl Abort,
@@ -222,6 +269,9 @@ fn play_line(
         Line::Spent(steps) => assert_eq!(rt; engine.spent(), u128::from(steps), "line {number}"),
         Line::Snapshot(clock) => assert_eq!(rt; engine.snapshot(), clock, "line {number}"),
         Line::Closed => assert!(rt; !engine.is_open(), "line {number}"),
+        Line::Due(due) => is_due(rt, engine, number, due),
+        Line::ClearDue => engine.clear_due(),
+        Line::Actions(count) => assert_eq!(rt; engine.actions(), count, "line {number}"),
     }
     Ok(())
 }

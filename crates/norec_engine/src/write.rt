@@ -5,19 +5,21 @@ ghost use Rattle.word_pieces.specs.Pieces.{IsPiece};
 ghost use Rattle.itm_types.specs.Slices.{AreBytes};
 ghost use Rattle.write_set.specs.Marks.{KeepsRoom, MayPut};
 ghost use Rattle.nest_frames.specs.Nest.{rows_of};
-ghost use Rattle.norec_engine.specs.Rows.{AreRoomy, HaveRows, reserved_all, put_all};
-ghost use Rattle.norec_engine.specs.Fields.{core, core_after, phase_after, IsSound, IsSoundTurn, Turns, TurnEndsSo, Stays};
-ghost use Rattle.norec_engine.specs.Core.{came};
-ghost use Rattle.norec_engine.specs.Order.{stage_at, tries_at};
-ghost use Rattle.norec_engine.specs.Endings.{ending_at};
-ghost use Rattle.norec_engine.specs.Proceeds.{MayStarve};
+ghost use Rattle.norec_core.specs.Rows.{AreRoomy, HaveRows, reserved_all, put_all};
+ghost use Rattle.norec_engine.specs.View.{core};
+ghost use Rattle.norec_engine.specs.InPhases.{IsSound};
+ghost use Rattle.norec_engine.specs.Between.{core_after, phase_after, IsSoundTurn, Turns, TurnEndsSo, Stays};
+ghost use Rattle.norec_core.specs.Core.{came};
+ghost use Rattle.norec_core.specs.Order.{stage_at, tries_at};
+ghost use Rattle.norec_core.specs.Endings.{ending_at};
+ghost use Rattle.norec_core.specs.Proceeds.{MayStarve};
 
 use crate::access::{refusal, refuse};
-use crate::answer::Answer;
 use crate::data::Data;
-use crate::phase::{Phase, Turn};
+use crate::turn::Turn;
 use itm_types::{Call, Datum, Reply, WriteHint};
 use nest_frames::Frames;
+use norec_core::{Answer, Phase};
 use std::alloc::AllocError;
 use word_pieces::{Piece, pieces};
 
@@ -59,6 +61,7 @@ pub(crate) fn reserve_all(frames: &mut Frames, pieces: &[Piece]) -> Result<(), A
     ensures err { OnErr result (frames.new.writes.rows ≡ frames.old.writes.rows) }
     ensures blocks { frames.new.blocks ≡ frames.old.blocks }
     ensures size { frames.new.size ≡ frames.old.size }
+    ensures actions { frames.new.actions ≡ frames.old.actions }
     ensures inner { frames.new.writes.inner ≡ frames.old.writes.inner }
     ensures others { OnOk result (KeepsRoom frames.old.writes frames.new.writes) }
     ensures grows { OnErr result (AreRoomy frames.old.writes.rows (rows_of frames.old.blocks) pieces.now → ⊥) }
@@ -82,6 +85,7 @@ pub(crate) fn put_all(frames: &mut Frames, pieces: &[Piece], bytes: &[u8])
     ensures rows { frames.new.writes.rows ≡ put_all frames.old.writes.rows pieces.now bytes.now }
     ensures blocks { frames.new.blocks ≡ frames.old.blocks }
     ensures size { frames.new.size ≡ frames.old.size }
+    ensures actions { frames.new.actions ≡ frames.old.actions }
     ensures words { map (λ r. r.word) frames.new.writes.rows ≡ map (λ r. r.word) frames.old.writes.rows }
     ensures others { KeepsRoom frames.old.writes frames.new.writes }
     ensures bytes { AreBytes bytes.now }

@@ -301,3 +301,28 @@ module _ (items : List Attempt) (ended : ℕ) where
 
     pub opened_rows : (room room' : ℕ) → room' ≡ room - 1 → parted new ended room' ≡ with_opened a (parted items ended room)
     opened_rows room room' less = opened_parts room' ∙ ap (λ (n : ℕ). record (with_opened a (parted items ended room)) { room = n }) less
+
+-- ## Changed twice, and looked for where it was changed
+
+pub changed_twice : (thread : ℕ) (f g : Attempt → Attempt) (xs : List Attempt) → ((a : Attempt) → (f a).thread ≡ a.thread) → changed (is_of thread) g (changed (is_of thread) f xs) ≡ changed (is_of thread) (λ a. g (f a)) xs
+changed_twice thread f g [] keeps = refl
+changed_twice thread f g (x ∷ xs) keeps = elim (cases_Bool (is_of thread x)) [
+  | inl e ↦ (let k = keeps x in simp (e, k))
+  | inr e ↦ simp e (ap (λ (ys : List Attempt). x ∷ ys) (changed_twice thread f g xs keeps))
+]
+
+changed_from : (thread : ℕ) (f : Attempt → Attempt) (xs : List Attempt) → ((a : Attempt) → (f a).thread ≡ a.thread) → (y : Attempt) → active_of thread (changed (is_of thread) f xs) ≡ Some y
+    → (x : Attempt) × (active_of thread xs ≡ Some x) × (y ≡ f x)
+changed_from thread f [] keeps y e = absurd (cc)
+changed_from thread f (x ∷ xs) keeps y e = elim (cases_Bool (is_of thread x)) [
+  | inl is ↦ (x, simp is, (let k = keeps x in let found : Some (f x) ≡ Some y = simp (is, k) at e in cc))
+  | inr other ↦ (let below = changed_from thread f xs keeps y (simp other at e) in (below.0, simp other below.1, below.2))
+]
+
+-- the open attempt there was
+pub row_from : (r r' : Rows) (thread : ℕ) (f : Attempt → Attempt) → ((a : Attempt) → (f a).thread ≡ a.thread) → r' ≡ with_changed thread f r → (y : Attempt) → active_of thread r'.active ≡ Some y
+    → (x : Attempt) × (active_of thread r.active ≡ Some x) × (y ≡ f x)
+row_from r r' thread f keeps is y e = changed_from thread f r.active keeps y (sym (ap (λ (x : Rows). active_of thread x.active) is) ∙ e)
+
+pub changed_then : (r r1 r2 : Rows) (thread : ℕ) (f g : Attempt → Attempt) → ((a : Attempt) → (f a).thread ≡ a.thread) → r1 ≡ with_changed thread f r → r2 ≡ with_changed thread g r1 → r2 ≡ with_changed thread (λ a. g (f a)) r
+changed_then r r1 r2 thread f g keeps one two = two ∙ (ap (with_changed thread g) one ∙ (λ i. record r { active = changed_twice thread f g r.active keeps i }))

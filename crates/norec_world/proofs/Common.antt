@@ -15,20 +15,20 @@ pub use Rattle.itm_types.specs.declared.call.Reply.{Reply as Replied}
 pub use Rattle.itm_types.specs.declared.limits.TheConstants.{MAX_OPEN_BLOCKS, MAX_ACTORS}
 pub use Rattle.itm_types.specs.declared.step.Step.TheVariants.{Cas, Load, Store}
 pub use Rattle.itm_types.specs.declared.step.Step.{Step}
-pub use Rattle.norec_engine.proofs.AnsweredEngines.{rests}
-pub use Rattle.norec_engine.proofs.Blocks.{none_inside}
-pub use Rattle.norec_engine.proofs.KeptFields.{handed_is}
-pub use Rattle.norec_engine.proofs.Overlays.{Agrees-drop}
-pub use Rattle.norec_engine.specs.Core.{Core, came, handed_to, in_transaction, is_inside, opening, word_loaded}
-pub use Rattle.norec_engine.specs.Moves.{IsResumed}
-pub use Rattle.norec_engine.specs.Proceeds.{AsksFor, Ends, Got, IsAtOnce, IsLawful, IsWithin, Proceeds, Replies, RepliesTo, StaysOn, backed, recoded}
-pub use Rattle.norec_engine.specs.Rows.{write_at}
-pub use Rattle.norec_engine.specs.Stands.{stands_for, state_over}
-pub use Rattle.norec_engine.specs.Undoing.{after_undoing}
-pub use Rattle.norec_engine.specs.declared.answer.Answer.TheVariants.{Busy, Committed, Conflict, Full, Reply}
-pub use Rattle.norec_engine.specs.declared.answer.Answer.{Answer}
-pub use Rattle.norec_engine.specs.declared.answer.Next.TheVariants.{Answer as Answers, Step as Asks}
-pub use Rattle.norec_engine.specs.declared.answer.Next.{Next}
+pub use Rattle.norec_core.proofs.AnsweredEngines.{rests}
+pub use Rattle.norec_core.proofs.Blocks.{none_inside}
+pub use Rattle.norec_core.proofs.KeptFields.{handed_is}
+pub use Rattle.norec_core.proofs.Overlays.{Agrees-drop}
+pub use Rattle.norec_core.specs.Core.{Core, came, handed_to, in_transaction, is_inside, opening, word_loaded}
+pub use Rattle.norec_core.specs.Moves.{IsResumed}
+pub use Rattle.norec_core.specs.Proceeds.{AsksFor, Ends, Got, IsAtOnce, IsLawful, IsWithin, Proceeds, Replies, RepliesTo, StaysOn, backed, recoded}
+pub use Rattle.norec_core.specs.Rows.{write_at}
+pub use Rattle.norec_core.specs.Stands.{stands_for, state_over}
+pub use Rattle.norec_core.specs.Undoing.{after_undoing}
+pub use Rattle.norec_core.specs.declared.answer.Answer.TheVariants.{Busy, Committed, Conflict, Full, Reply}
+pub use Rattle.norec_core.specs.declared.answer.Answer.{Answer}
+pub use Rattle.norec_core.specs.declared.answer.Next.TheVariants.{Answer as Answers, Step as Asks}
+pub use Rattle.norec_core.specs.declared.answer.Next.{Next}
 pub use Rattle.norec_world.specs.Actors.{AreActors}
 pub use Rattle.norec_world.specs.Alone.{IsAlone, player_then, state_then}
 pub use Rattle.norec_world.specs.Attempts.{ClosedBy, alone, committed_at, is_at, is_committed, memory_left, of_thread, pair_of}

@@ -5,10 +5,13 @@ use Rattle.norec_world.proofs.TryEnds.{not_closed}
 use Rattle.norec_world.proofs.Common.{Agrees, Agrees-drop, AsksFor, Attempt, Begin, Beginning, Between, Call, Code, Commit, Core, Done, ClosedBy, EndsAs, Entry, IsAlone, IsInTry, IsMemory, IsTryAt, LacksCommit, MAX_OPEN_BLOCKS, Obeys, Outcome, Outside, Props, Replied, Replies, Row, Rules, State, Step, after, alone, answers, answers_within, begin_code, begins_at, bytes_at, bytes_of, handed_is, handed_to, in_transaction, is_done, is_open, map-append, none_inside, opened, pair_of, player_then, recoded, reply, stands_for, state_over, state_then, turn, words_at}
 use Rattle.write_set.specs.Rows.{overlay}
 use Rattle.itm_model.specs.Machine.{reply_unless, or_else, unless}
-use Rattle.norec_engine.specs.Stands.{is_some_row}
-use Rattle.norec_engine.specs.Proceeds.{Commits}
-use Rattle.norec_engine.proofs.Refusals.{told_plainly}
-use Rattle.norec_engine.proofs.Machines.{commits}
+use Rattle.norec_core.specs.Stands.{is_some_row}
+use Rattle.norec_core.specs.Proceeds.{Commits, actions_after}
+use Rattle.user_actions.specs.Actions.{Actions}
+use Rattle.itm_types.specs.declared.call.Ran.{Ran}
+use Rattle.norec_world.specs.Opacity.{ran_of}
+use Rattle.norec_core.proofs.AnsweredEngines.{told_plainly}
+use Rattle.norec_core.proofs.Machines.{commits}
 use Rattle.norec_world.specs.declared.attempt.Outcome.TheVariants as outcomes
 use Rattle.norec_world.proofs.Solos.{begins_alone, alone_snoc, player_snoc, state_snoc, stands_open, gets_none}
 
@@ -16,9 +19,9 @@ module _ {P : Type 0} {rules : Rules P} (laws : Obeys rules) where
   -- ## A step
 
   -- the engine goes on with the same blocks, and its log says no less
-  pub try_kept : {b : Between P} {row : Attempt} {p : P} {mid : Core} (new : Core) → IsInTry rules b row p mid → new.words ≡ mid.words → new.again ≡ false → ((m : List ℕ) → stands_for new m ≡ stands_for mid m) → row.began ≤ new.snapshot / 2
+  pub try_kept : {b : Between P} {row : Attempt} {p : P} {mid : Core} (new : Core) → IsInTry rules b row p mid → new.words ≡ mid.words → new.actions ≡ mid.actions → new.again ≡ false → ((m : List ℕ) → stands_for new m ≡ stands_for mid m) → row.began ≤ new.snapshot / 2
       → ((m : List ℕ) → Agrees m new.log → Agrees m mid.log) → IsInTry rules b row p new
-  try_kept new t words anew stands began less = record {
+  try_kept new t words actions anew stands began less = record {
     start = t.start;
     begins = t.begins;
     arena = t.arena;
@@ -26,6 +29,7 @@ module _ {P : Type 0} {rules : Rules P} (laws : Obeys rules) where
     tries = t.tries;
     began = began;
     anew = anew;
+    ran = t.ran ∙ ap (λ (a : Actions). a.ran) (sym actions);
     player = t.player;
     alone = λ m mem agrees. t.alone m (subst (λ (n : ℕ). IsMemory n m) words mem) (less m agrees);
     stands = λ m mem agrees. stands m ∙ t.stands m (subst (λ (n : ℕ). IsMemory n m) words mem) (less m agrees);
@@ -36,17 +40,17 @@ module _ {P : Type 0} {rules : Rules P} (laws : Obeys rules) where
   try_handed {e} step seen t =
       let h = handed_is e step seen in
       let k = h.keeps in
-      try_kept (handed_to e (Some step) seen) t k.words (k.again ∙ t.anew) (λ m i. state_over (k.writes i) (k.blocks i) (k.arena i) m) (omega (arith, t.began, h.snapshot)) (λ m. subst (Agrees m) h.log)
+      try_kept (handed_to e (Some step) seen) t k.words k.actions (k.again ∙ t.anew) (λ m i. state_over (k.writes i) (k.blocks i) (k.arena i) (k.actions i) m) (omega (arith, t.began, h.snapshot)) (λ m. subst (Agrees m) h.log)
 
   -- the attempt is told where it reads
   pub try_told : {b : Between P} {row : Attempt} {p : P} {e : Core} (at : ℕ) → IsInTry rules b row p e → IsInTry rules b (record row { at = at }) p e
   try_told at t =
-      record { start = t.start; begins = t.begins; arena = t.arena; props = t.props; tries = t.tries; began = t.began; anew = t.anew; player = t.player; alone = t.alone; stands = t.stands }
+      record { start = t.start; begins = t.begins; arena = t.arena; props = t.props; tries = t.tries; began = t.began; anew = t.anew; ran = t.ran; player = t.player; alone = t.alone; stands = t.stands }
 
   -- a step is asked for
   pub try_asks : {b : Between P} {row : Attempt} {p : P} {mid new : Core} {step : Step} → IsInTry rules b row p mid → AsksFor mid step new → row.began ≤ new.snapshot / 2 → ((m : List ℕ) → Agrees m new.log → Agrees m mid.log) → IsInTry rules b row p new
   try_asks {new} t g began less =
-      try_kept new t (ap (λ (c : Core). c.words) g.stays) (ap (λ (c : Core). c.again) g.stays ∙ t.anew) (λ m. ap (λ (c : Core). stands_for c m) g.stays) began less
+      try_kept new t (ap (λ (c : Core). c.words) g.stays) (ap (λ (c : Core). c.actions) g.stays) (ap (λ (c : Core). c.again) g.stays ∙ t.anew) (λ m. ap (λ (c : Core). stands_for c m) g.stays) began less
 
   -- ## A reply
 
@@ -64,7 +68,7 @@ module _ {P : Type 0} {rules : Rules P} (laws : Obeys rules) where
     state : List ℕ → State
     state m = opened (bytes_of m) t.start.arena t.start.props
 
-    pub try_replies : IsInTry rules b (record row { calls = row.calls ++ record { call = call; reply = r } ∷ [] }) (rules.answered p r) new
+    pub try_replies : IsInTry rules b (record row { calls = row.calls ++ record { call = call; reply = r } ∷ []; ran = new.actions.ran }) (rules.answered p r) new
     unfolding begun state
     try_replies =
         let words : new.words ≡ mid.words = ap (λ (c : Core). c.words) g.stays in
@@ -76,6 +80,7 @@ module _ {P : Type 0} {rules : Rules P} (laws : Obeys rules) where
           tries = t.tries;
           began = began;
           anew = ap (λ (c : Core). c.again) g.stays;
+          ran = refl;
           player = ap (λ (q : P). rules.answered q r) t.player ∙ sym (player_snoc rules.answered begun row.calls (record { call = call; reply = r }));
           alone = λ m mem agrees.
               (let memory : IsMemory mid.words m = subst (λ (n : ℕ). IsMemory n m) words mem in
@@ -107,10 +112,10 @@ module _ {P : Type 0} {rules : Rules P} (laws : Obeys rules) where
   pub is_try : (n : ℕ) (memory : ℕ → List ℕ) (b : Between P) (start : Beginning P) (row : Attempt) → row.arena ≡ start.arena → row.props ≡ start.props → b.tries < row.nth → row.began ≤ row.at → row.at ≤ n
       → IsAlone rules MAX_OPEN_BLOCKS (rules.answered start.player (begin_code b.again)) (opened (memory row.at) start.arena start.props) row.calls
       → EndsAs row.outcome (state_then MAX_OPEN_BLOCKS (opened (memory row.at) start.arena start.props) row.calls)
-      → ClosedBy row.outcome row.calls
+      → ClosedBy row.outcome row.calls → row.ran ≡ ran_of row.outcome (state_then MAX_OPEN_BLOCKS (opened (memory row.at) start.arena start.props) row.calls)
       → (row.outcome ≡ outcomes.Full → LacksCommit rules MAX_OPEN_BLOCKS (rules.answered start.player (begin_code b.again)) row (memory row.at))
       → IsTryAt rules MAX_OPEN_BLOCKS n memory b (Some start) row
-  is_try n memory b start row arena props tries older newer h ends closed full =
+  is_try n memory b start row arena props tries older newer h ends closed ran full =
       let p : P = rules.answered start.player (begin_code b.again) in
       let same : opened (memory row.at) row.arena row.props ≡ opened (memory row.at) start.arena start.props = λ i. opened (memory row.at) (arena i) (props i) in
       let alone_so : IsAlone rules MAX_OPEN_BLOCKS p (opened (memory row.at) row.arena row.props) row.calls = subst (λ (s : State). IsAlone rules MAX_OPEN_BLOCKS p s row.calls) (sym same) h in (
@@ -124,20 +129,22 @@ module _ {P : Type 0} {rules : Rules P} (laws : Obeys rules) where
           whole = λ closed. sym (all_alone p (memory row.at) row.arena row.props row.calls alone_so closed);
           ends = subst (λ (x : State). EndsAs row.outcome (state_then MAX_OPEN_BLOCKS x row.calls)) (sym same) ends;
           closed = closed;
+          ran = ran ∙ ap (λ (x : State). ran_of row.outcome (state_then MAX_OPEN_BLOCKS x row.calls)) (sym same);
           full = full;
         },
       )
 
   -- without a commit: in conflict, full, for want of memory, or not ended yet
-  pub try_stops : (n : ℕ) (base : List ℕ) (attempts : List Attempt) {b : Between P} {row : Attempt} {p : P} {e : Core} (t : IsInTry rules b row p e) (k : ℕ) (outcome : Outcome) → is_done outcome ≡ false
+  pub try_stops : (n : ℕ) (base : List ℕ) (attempts : List Attempt) {b : Between P} {row : Attempt} {p : P} {e : Core} (t : IsInTry rules b row p e) (k : ℕ) (outcome : Outcome) (ran : List Ran) → is_done outcome ≡ false
       → (is_open_still : EndsAs outcome (stands_for e (words_at base attempts k))) → row.began ≤ k → k ≤ n → IsMemory e.words (words_at base attempts k) → bytes_of (words_at base attempts k) ≡ bytes_at base attempts k
-      → Agrees (words_at base attempts k) e.log → (outcome ≡ outcomes.Full → LacksCommit rules MAX_OPEN_BLOCKS (rules.answered t.start.player (begin_code b.again)) row (bytes_at base attempts k))
-      → IsTryAt rules MAX_OPEN_BLOCKS n (bytes_at base attempts) b (Some t.start) (record row { at = k; outcome = outcome })
-  try_stops n base attempts {b} {row} t k outcome undone ends older newer memory same agrees full =
+      → Agrees (words_at base attempts k) e.log → ran ≡ ran_of outcome (stands_for e (words_at base attempts k)) → (outcome ≡ outcomes.Full → LacksCommit rules MAX_OPEN_BLOCKS (rules.answered t.start.player (begin_code b.again)) row (bytes_at base attempts k))
+      → IsTryAt rules MAX_OPEN_BLOCKS n (bytes_at base attempts) b (Some t.start) (record row { at = k; ran = ran; outcome = outcome })
+  try_stops n base attempts {b} {row} t k outcome ran undone ends older newer memory same agrees ran_is full =
       let bytes : opened (bytes_of (words_at base attempts k)) t.start.arena t.start.props ≡ opened (bytes_at base attempts k) t.start.arena t.start.props = ap (λ (m : List ℕ). opened m t.start.arena t.start.props) same in
-      is_try n (bytes_at base attempts) b t.start (record row { at = k; outcome = outcome }) t.arena t.props t.tries older newer
+      is_try n (bytes_at base attempts) b t.start (record row { at = k; ran = ran; outcome = outcome }) t.arena t.props t.tries older newer
       (subst (λ (s : State). IsAlone rules MAX_OPEN_BLOCKS (rules.answered t.start.player (begin_code b.again)) s row.calls) bytes (t.alone (words_at base attempts k) memory agrees))
-      (subst (λ (s : State). EndsAs outcome (state_then MAX_OPEN_BLOCKS s row.calls)) bytes (subst (EndsAs outcome) (t.stands (words_at base attempts k) memory agrees) ends)) (not_closed outcome undone row.calls) full
+      (subst (λ (s : State). EndsAs outcome (state_then MAX_OPEN_BLOCKS s row.calls)) bytes (subst (EndsAs outcome) (t.stands (words_at base attempts k) memory agrees) ends)) (not_closed outcome undone row.calls)
+      (ran_is ∙ (ap (ran_of outcome) (t.stands (words_at base attempts k) memory agrees) ∙ ap (λ (s : State). ran_of outcome (state_then MAX_OPEN_BLOCKS s row.calls)) bytes)) full
 
   -- its last call ends its block: the state that it leaves is that of the call over its memory
   module _ (memory : List ℕ) {b : Between P} {row : Attempt} {p : P} {mid : Core} (call : Call) (r : Replied) (m : List ℕ) (t : IsInTry rules b row p mid) (inside : in_transaction mid ≡ true)
@@ -162,17 +169,18 @@ module _ {P : Type 0} {rules : Rules P} (laws : Obeys rules) where
         alone_more by p (from memory) row.calls last (subst (λ (bytes : List ℕ). IsAlone rules MAX_OPEN_BLOCKS by (from bytes) row.calls) same (t.alone m mem agrees))
         (ap is_open (sym closing_stands) ∙ stands_open rules laws mid m inside) t.player asks (replied ∙ ap (λ (s : State). reply MAX_OPEN_BLOCKS s call) closing_stands)
 
-    pub try_closes : (n : ℕ) (memories : ℕ → List ℕ) (at : ℕ) (outcome : Outcome) → memories at ≡ memory → row.began ≤ at → at ≤ n → EndsAs outcome (after MAX_OPEN_BLOCKS (stands_for mid m) call)
-        → ClosedBy outcome (row.calls ++ record { call = call; reply = r } ∷ []) → (outcome ≡ outcomes.Full → ⊥)
-        → IsTryAt rules MAX_OPEN_BLOCKS n memories b (Some t.start) (record row { calls = row.calls ++ record { call = call; reply = r } ∷ []; at = at; outcome = outcome })
-    try_closes n memories at outcome here older newer ends closed never =
-        is_try n memories b t.start (record row { calls = row.calls ++ last ∷ []; at = at; outcome = outcome }) t.arena t.props t.tries older newer
+    pub try_closes : (n : ℕ) (memories : ℕ → List ℕ) (at : ℕ) (outcome : Outcome) (ran : List Ran) → memories at ≡ memory → row.began ≤ at → at ≤ n → EndsAs outcome (after MAX_OPEN_BLOCKS (stands_for mid m) call)
+        → ClosedBy outcome (row.calls ++ record { call = call; reply = r } ∷ []) → ran ≡ ran_of outcome (after MAX_OPEN_BLOCKS (stands_for mid m) call) → (outcome ≡ outcomes.Full → ⊥)
+        → IsTryAt rules MAX_OPEN_BLOCKS n memories b (Some t.start) (record row { calls = row.calls ++ record { call = call; reply = r } ∷ []; at = at; ran = ran; outcome = outcome })
+    try_closes n memories at outcome ran here older newer ends closed ran_is never =
+        is_try n memories b t.start (record row { calls = row.calls ++ last ∷ []; at = at; ran = ran; outcome = outcome }) t.arena t.props t.tries older newer
         (subst (λ (bytes : List ℕ). IsAlone rules MAX_OPEN_BLOCKS by (from bytes) (row.calls ++ last ∷ [])) (sym here) closing_alone)
-        (subst (EndsAs outcome) (sym (ap (λ (bytes : List ℕ). state_then MAX_OPEN_BLOCKS (from bytes) (row.calls ++ last ∷ [])) here ∙ closing_state)) ends) closed (λ f. absurd (never f))
+        (subst (EndsAs outcome) (sym (ap (λ (bytes : List ℕ). state_then MAX_OPEN_BLOCKS (from bytes) (row.calls ++ last ∷ [])) here ∙ closing_state)) ends) closed
+        (ran_is ∙ ap (ran_of outcome) (sym (ap (λ (bytes : List ℕ). state_then MAX_OPEN_BLOCKS (from bytes) (row.calls ++ last ∷ [])) here ∙ closing_state))) (λ f. absurd (never f))
 
-    pub closing_left : (at : ℕ) (outcome : Outcome)
-        → alone MAX_OPEN_BLOCKS memory (record row { calls = row.calls ++ record { call = call; reply = r } ∷ []; at = at; outcome = outcome }) ≡ after MAX_OPEN_BLOCKS (stands_for mid m) call
-    closing_left at outcome = (λ i. state_then MAX_OPEN_BLOCKS (opened memory (t.arena i) (t.props i)) (row.calls ++ last ∷ [])) ∙ closing_state
+    pub closing_left : (at : ℕ) (outcome : Outcome) (ran : List Ran)
+        → alone MAX_OPEN_BLOCKS memory (record row { calls = row.calls ++ record { call = call; reply = r } ∷ []; at = at; ran = ran; outcome = outcome }) ≡ after MAX_OPEN_BLOCKS (stands_for mid m) call
+    closing_left at outcome ran = (λ i. state_then MAX_OPEN_BLOCKS (opened memory (t.arena i) (t.props i)) (row.calls ++ last ∷ [])) ∙ closing_state
 
   -- a commit of the outermost block
   module _ (memory : List ℕ) {b : Between P} {row : Attempt} {p : P} {mid : Core} (call : Call) (m : List ℕ) (t : IsInTry rules b row p mid) (inside : in_transaction mid ≡ true) (outermost : length mid.blocks ≡ 1)
@@ -184,7 +192,7 @@ module _ {P : Type 0} {rules : Rules P} (laws : Obeys rules) where
     committed = ap (after MAX_OPEN_BLOCKS (stands_for mid m)) is
 
     closes : is_open (after MAX_OPEN_BLOCKS (stands_for mid m) call) ≡ false
-    closes = ap is_open (committed ∙ commits mid.writes mid.blocks mid.arena m outermost)
+    closes = ap is_open (committed ∙ commits mid.writes mid.blocks mid.arena mid.actions m outermost)
 
     -- refused as full, it is all that the player would have gone on to
     pub lacks_commit : mid.writes ≢ [] → LacksCommit rules MAX_OPEN_BLOCKS (rules.answered t.start.player (begin_code b.again)) row memory
@@ -199,7 +207,7 @@ module _ {P : Type 0} {rules : Rules P} (laws : Obeys rules) where
               ∙ (map-append pair_of row.calls (record { call = call; reply = Done } ∷ []) ∙ ap (λ (c : Call). map pair_of row.calls ++ (c, Done) ∷ []) is)),
           (
             ap is_open (sym state ∙ sym committed) ∙ closes,
-            ap (λ (s : State). s.wrote) (sym state) ∙ (ap (λ (s : State). s.wrote) (commits mid.writes mid.blocks mid.arena m outermost) ∙ written mid.writes some),
+            ap (λ (s : State). s.wrote) (sym state) ∙ (ap (λ (s : State). s.wrote) (commits mid.writes mid.blocks mid.arena mid.actions m outermost) ∙ written mid.writes some),
           ),
         )
       where
@@ -217,26 +225,30 @@ module _ {P : Type 0} {rules : Rules P} (laws : Obeys rules) where
       never_full true e = cc
       never_full false e = cc
 
+      ran_so : (w : Bool) → new.actions.ran ≡ ran_of (if w then outcomes.Committed else outcomes.ReadOnly) (after MAX_OPEN_BLOCKS (stands_for mid m) call)
+      ran_so true = ap (λ (a : Actions). a.ran) (g.actions_is m) ∙ ap (λ (s : State). s.actions.ran) (sym committed)
+      ran_so false = ap (λ (a : Actions). a.ran) (g.actions_is m) ∙ ap (λ (s : State). s.actions.ran) (sym committed)
+
       by_commit : (w : Bool) → ClosedBy (if w then outcomes.Committed else outcomes.ReadOnly) (row.calls ++ record { call = call; reply = Done } ∷ [])
       by_commit true = (row.calls, (λ i. row.calls ++ record { call = is i; reply = Done } ∷ []))
       by_commit false = (row.calls, (λ i. row.calls ++ record { call = is i; reply = Done } ∷ []))
 
       pub try_commits : (n : ℕ) (memories : ℕ → List ℕ) → memories at ≡ memory → row.began ≤ at → at ≤ n
-          → IsTryAt rules MAX_OPEN_BLOCKS n memories b (Some t.start) (record row { calls = row.calls ++ record { call = call; reply = Done } ∷ []; at = at; outcome = if wrote then outcomes.Committed else outcomes.ReadOnly })
+          → IsTryAt rules MAX_OPEN_BLOCKS n memories b (Some t.start) (record row { calls = row.calls ++ record { call = call; reply = Done } ∷ []; at = at; ran = new.actions.ran; outcome = if wrote then outcomes.Committed else outcomes.ReadOnly })
       try_commits n memories here older newer =
-          try_closes memory call Done m t inside asks mem same agrees done n memories at (if wrote then outcomes.Committed else outcomes.ReadOnly) here older newer (ends_so wrote refl) (by_commit wrote) (never_full wrote)
+          try_closes memory call Done m t inside asks mem same agrees done n memories at (if wrote then outcomes.Committed else outcomes.ReadOnly) new.actions.ran here older newer (ends_so wrote refl) (by_commit wrote) (ran_so wrote) (never_full wrote)
 
-      pub left_state : alone MAX_OPEN_BLOCKS memory (record row { calls = row.calls ++ record { call = call; reply = Done } ∷ []; at = at; outcome = if wrote then outcomes.Committed else outcomes.ReadOnly }) ≡ after MAX_OPEN_BLOCKS (stands_for mid m) Commit
-      left_state = closing_left memory call Done m t inside asks mem same agrees done at (if wrote then outcomes.Committed else outcomes.ReadOnly) ∙ committed
+      pub left_state : alone MAX_OPEN_BLOCKS memory (record row { calls = row.calls ++ record { call = call; reply = Done } ∷ []; at = at; ran = new.actions.ran; outcome = if wrote then outcomes.Committed else outcomes.ReadOnly }) ≡ after MAX_OPEN_BLOCKS (stands_for mid m) Commit
+      left_state = closing_left memory call Done m t inside asks mem same agrees done at (if wrote then outcomes.Committed else outcomes.ReadOnly) new.actions.ran ∙ committed
 
   -- ## A begin is accepted
 
   module _ (b : Between P) (row : Attempt) (p : P) (mid new : Core) (props : Props) (room : ℕ) (r : Replied) (comes : begins_at rules b ≡ Some (record { player = p; arena = mid.arena; props = row.props }))
-      (row_arena : row.arena ≡ mid.arena) (row_props : row.props ≡ props) (row_calls : row.calls ≡ []) (tries : b.tries < row.nth) (outside : in_transaction mid ≡ false) (empty : mid.writes ≡ []) (again : mid.again ≡ b.again)
+      (row_arena : row.arena ≡ mid.arena) (row_props : row.props ≡ props) (row_calls : row.calls ≡ []) (row_ran : row.ran ≡ []) (tries : b.tries < row.nth) (outside : in_transaction mid ≡ false) (empty : mid.writes ≡ []) (again : mid.again ≡ b.again)
       (g : Replies mid (Begin props room) r new) (began : row.began ≤ new.snapshot / 2) (words : List ℕ) (mem : IsMemory mid.words words) (agrees : Agrees words new.log) where
     entered : (w : Bool) → mid.again ≡ w → r ≡ begin_code w
     entered w e =
-        g.reply_is words mem (Agrees-drop words mid.entry new.log agrees) ∙ (ap (λ (o : List Frame). recoded (Begin props room) mid.again (reply MAX_OPEN_BLOCKS (state_over mid.writes o mid.arena words) (Begin props room))) (none_inside mid.blocks outside) ∙ (ap (λ (a : Bool). recoded (Begin props room) a (Code 5)) e ∙ coded w))
+        g.reply_is words mem (Agrees-drop words mid.entry new.log agrees) ∙ (ap (λ (o : List Frame). recoded (Begin props room) mid.again (reply MAX_OPEN_BLOCKS (state_over mid.writes o mid.arena mid.actions words) (Begin props room))) (none_inside mid.blocks outside) ∙ (ap (λ (a : Bool). recoded (Begin props room) a (Code 5)) e ∙ coded w))
       where
         coded : (w : Bool) → recoded (Begin props room) w (Code 5) ≡ begin_code w
         coded true = refl
@@ -252,10 +264,11 @@ module _ {P : Type 0} {rules : Rules P} (laws : Obeys rules) where
           tries = tries;
           began = began;
           anew = ap (λ (c : Core). c.again) g.stays;
+          ran = row_ran ∙ sym (ap (λ (a : Actions). a.ran) (g.actions ∙ ap (actions_after mid (Begin props room)) (entered b.again again)) ∙ ap (λ (w : Bool). (if w then mid.actions else record mid.actions { ran = [] }).ran) outside);
           player = ap (rules.answered p) (entered b.again again) ∙ ap (λ (xs : List Entry). player_then rules.answered (rules.answered p (begin_code b.again)) xs) (sym row_calls);
           alone = λ m memory a. subst (λ (xs : List Entry). IsAlone rules MAX_OPEN_BLOCKS (rules.answered p (begin_code b.again)) (opened (bytes_of m) mid.arena row.props) xs) (sym row_calls) tt;
           stands = λ m memory a.
               g.meets m (subst (λ (n : ℕ). IsMemory n m) (ap (λ (c : Core). c.words) g.stays) memory) a
-              ∙ (ap (λ (o : List Frame). after MAX_OPEN_BLOCKS (state_over mid.writes o mid.arena m) (Begin props room)) (none_inside mid.blocks outside)
+              ∙ (ap (λ (o : List Frame). after MAX_OPEN_BLOCKS (state_over mid.writes o mid.arena mid.actions m) (Begin props room)) (none_inside mid.blocks outside)
               ∙ ((λ i. opened (bytes_of (overlay m (empty i))) mid.arena (sym row_props i)) ∙ ap (λ (xs : List Entry). state_then MAX_OPEN_BLOCKS (opened (bytes_of m) mid.arena row.props) xs) (sym row_calls)));
         }

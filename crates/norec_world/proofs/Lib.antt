@@ -3,6 +3,8 @@ mod Examples
 pub mod WordLists
 pub mod ActiveRows
 pub mod OthersAttempts
+pub mod LaterActions
+pub mod ActionRoom
 pub mod Taken
 pub mod TryEnds
 pub mod TiedEngines

@@ -1,5 +1,6 @@
 -- One actor's work leaves the others' attempts.
-use Rattle.std.proofs.Common.{inl, inr, ◌≡◌, ℕ, ◌-◌, Bool, true, false, ◌+◌, ◌≤◌, subst, arith, List, [], ◌∷◌, ◌++◌, None, Some, refl, sym, ap, ◌∙◌, append_assoc, nat_lt, Option}
+use Rattle.itm_types.specs.declared.call.Ran.{Ran}
+use Rattle.std.proofs.Common.{Vec, Global, inl, inr, ◌≡◌, ℕ, ◌-◌, Bool, true, false, ◌+◌, ◌≤◌, subst, arith, List, [], ◌∷◌, ◌++◌, None, Some, refl, sym, ap, ◌∙◌, append_assoc, nat_lt, Option}
 use Rattle.norec_world.proofs.Common.{Actor, AllOf, AreFrom, Attempt, ChangesOwn, CountsTry, Ended, GaveUp, HasRow, KeepsOthers, Outcome, Rows, StopsAt, active_of, append-nil, cases_Bool, cond_both, count_pending, is_of, retried, with_changed, with_ended, with_opened}
 use Rattle.norec_world.proofs.ActiveRows.{row_is_of, changed_elsewhere, without_elsewhere, opened_elsewhere, from_changed, from_without, from_with_one}
 
@@ -82,16 +83,16 @@ module _ {P : Type 0} where
   pub retried_is : {A : Type 0} (f : Actor P → A) {a last : Actor P} → last ≡ retried a → f (record a { status = Ended GaveUp }) ≡ f a → f (record a { nth = a.nth + 1 }) ≡ f a → f last ≡ f a
   retried_is f {a} is given_up next = ap f is ∙ cond_both (nat_lt a.retries a.nth) _ _ (λ (b : Actor P). f b ≡ f a) (λ e. given_up) (λ e. next)
 
-  pub retried_counts : (a : Actor P) (player : P) (pending : Option Attempt) {last : Actor P} → last ≡ retried (record a { player = player; pending = pending }) → CountsTry a last
-  retried_counts a player pending is = subst (CountsTry a) (sym is) (elim (cases_Bool (nat_lt a.retries a.nth)) [
+  pub retried_counts : (a : Actor P) (player : P) (end_room : Vec Ran Global) (pending : Option Attempt) {last : Actor P} → last ≡ retried (record a { player = player; end_room = end_room; pending = pending }) → CountsTry a last
+  retried_counts a player end_room pending is = subst (CountsTry a) (sym is) (elim (cases_Bool (nat_lt a.retries a.nth)) [
     | inl e ↦ record { nth = simp e; status = simp e; again = simp e }
     | inr e ↦ record { nth = simp e; status = simp e; again = simp e }
   ])
 
   -- memory was refused
-  pub others_starved : (a a' : Actor P) (r r' : Rows) (is_open : Bool) (at : ℕ) (outcome : Outcome) → HasRow is_open r a.thread → a'.thread ≡ a.thread → a'.pending ≡ a.pending
-      → (is_open ≡ true → StopsAt a.thread r at outcome r') → (is_open ≡ false → r' ≡ r) → KeepsOthers a r a' r'
-  others_starved a a' r r' true at outcome row thread pending stops none = others_ended a a' r r' row.0 (record row.0 { at = at; outcome = outcome }) row.1 refl thread pending (stops refl row.0 row.1)
-  others_starved a a' r r' false at outcome row thread pending stops none =
+  pub others_starved : (a a' : Actor P) (r r' : Rows) (is_open : Bool) (at : ℕ) (outcome : Outcome) (ran : List Ran) → HasRow is_open r a.thread → a'.thread ≡ a.thread → a'.pending ≡ a.pending
+      → (is_open ≡ true → StopsAt a.thread r at outcome ran r') → (is_open ≡ false → r' ≡ r) → KeepsOthers a r a' r'
+  others_starved a a' r r' true at outcome ran row thread pending stops none = others_ended a a' r r' row.0 (record row.0 { at = at; ran = ran; outcome = outcome }) row.1 refl thread pending (stops refl row.0 row.1)
+  others_starved a a' r r' false at outcome ran row thread pending stops none =
       let same = none refl in
       others_same a a' r r' thread pending (ap (λ (x : Rows). x.ended) same) (ap (λ (x : Rows). x.active) same) (let roomy : r'.room ≡ r.room = ap (λ (x : Rows). x.room) same in omega arith)

@@ -1,4 +1,5 @@
 -- The player's laws, over one answer: its depth, where it goes back to, and how much is left to do; and what comes of the answer once it is recorded.
+use Rattle.itm_types.specs.declared.call.Ran.{Ran}
 use Rattle.std.proofs.Common.{◌&&◌, ◌≡◌, ℕ, ◌+◌, ◌*◌, ◌<◌, ◌≤◌, Bool, true, false, Some, refl, ap, subst, ◌∙◌, arith, if◌then◌else◌, ◌-◌, nat_lt, [], Option, None, sym, Vec, Global, ltb-false, List, length, ◌∷◌, drop, length-drop}
 use Rattle.std.proofs.Math.Nat.{mul-le-mul_right}
 use Rattle.norec_world.proofs.Common.{Actor, Attempt, Begin, Call, Code, Commit, Done, End, Ended, Entry, Falls, GaveUp, HasRow, IsAnswered, IsKept, IsNested, IsSettledBy, Obeys, Replied, Reply, RestsAs, Rows, Rules, Status, active_of, depth_after, in_transaction, is_begin, is_inside, ne_eqb, cond_both, Core, opens, retried, whole, Answer}
@@ -7,7 +8,7 @@ use Rattle.script_vm.specs.Depth.{is_code}
 use Rattle.nest_frames.specs.Nest.{Frame, closed, logged}
 use Rattle.itm_types.specs.declared.call.Call.TheVariants.{Abort, Log, LogBytes}
 use Rattle.undo_log.specs.Rollback.{Old}
-use Rattle.norec_engine.specs.Proceeds.{blocks_after}
+use Rattle.norec_core.specs.Proceeds.{blocks_after}
 
 length-closed : (bs : List Frame) → length (closed bs) ≡ length bs - 1
 length-closed [] = refl
@@ -130,12 +131,12 @@ module _ {P : Type 0} (rules : Rules P) (laws : Obeys rules) where
 module _ {P : Type 0} (rules : Rules P) (laws : Obeys rules)
     (r r' : Rows) (a : Actor P) (call : Call) where
   -- it is ready for its next call, with its block open or not
-  ready_again : (was now : Bool) → in_transaction a.engine ≡ now → {answer : Answer} → IsAnswered rules was r a call answer → (player : P) (spare : Vec Entry Global) (pending : Option Attempt) (nth : ℕ) (again : Bool)
+  ready_again : (was now : Bool) → in_transaction a.engine ≡ now → {answer : Answer} → IsAnswered rules was r a call answer → (player : P) (spare : Vec Entry Global) (end_room cancel_room : Vec Ran Global) (pending : Option Attempt) (nth : ℕ) (again : Bool)
       → HasRow now r' a.thread → spare.items ≡ [] → (0 < nth) × (nth ≤ a.retries + 1) → IsNested rules now player → rules.depth player ≡ length a.engine.blocks → pending ≡ None
-      → Falls rules was now a (record a { player = player; spare = spare; pending = pending; nth = nth; again = again })
-      → IsSettledBy rules was r' a (record a { player = player; spare = spare; pending = pending; nth = nth; again = again })
-  ready_again was now is d player spare pending nth again row empty tries nested deep nothing falls =
-      let new : Actor P = record a { player = player; spare = spare; pending = pending; nth = nth; again = again } in
+      → Falls rules was now a (record a { player = player; spare = spare; end_room = end_room; cancel_room = cancel_room; pending = pending; nth = nth; again = again })
+      → IsSettledBy rules was r' a (record a { player = player; spare = spare; end_room = end_room; cancel_room = cancel_room; pending = pending; nth = nth; again = again })
+  ready_again was now is d player spare end_room cancel_room pending nth again row empty tries nested deep nothing falls =
+      let new : Actor P = record a { player = player; spare = spare; end_room = end_room; cancel_room = cancel_room; pending = pending; nth = nth; again = again } in
       record {
         engine = refl;
         thread = refl;
@@ -156,37 +157,37 @@ module _ {P : Type 0} (rules : Rules P) (laws : Obeys rules)
 
   -- a reply
   pub after_reply : (was : Bool) (reply : Replied) → IsAnswered rules was r a call (Reply reply)
-      → (player : P) → player ≡ rules.answered a.player reply → (spare : Vec Entry Global) → spare.items ≡ [] → (pending : Option Attempt) → pending ≡ None → (again : Bool)
+      → (player : P) → player ≡ rules.answered a.player reply → (spare : Vec Entry Global) (end_room cancel_room : Vec Ran Global) → spare.items ≡ [] → (pending : Option Attempt) → pending ≡ None → (again : Bool)
       → HasRow (in_transaction a.engine) r' a.thread
-      → IsSettledBy rules was r' a (record a { player = player; spare = spare; pending = pending; again = again })
-  after_reply was reply d player is spare empty pending nothing again row =
+      → IsSettledBy rules was r' a (record a { player = player; spare = spare; end_room = end_room; cancel_room = cancel_room; pending = pending; again = again })
+  after_reply was reply d player is spare end_room cancel_room empty pending nothing again row =
       let now = in_transaction a.engine in
       let played : Played rules laws was now a.player player = subst (Played rules laws was now a.player) (sym is) (played was d reply d.fits.0) in
-      ready_again was now refl d player spare pending a.nth again row empty (d.kept.tried, d.kept.tries) played.nested (ap rules.depth is ∙ answered_deep reply d.in_call.asks d.fits.0) nothing (record {
+      ready_again was now refl d player spare end_room cancel_room pending a.nth again row empty (d.kept.tried, d.kept.tries) played.nested (ap rules.depth is ∙ answered_deep reply d.in_call.asks d.fits.0) nothing (record {
         whole_falls = played.whole_falls;
         rank_falls = λ n b. rank_same _ _ n _ _ (block_same _ _ a.retries (tries_left a) played.whole_falls) played.less;
       })
 
   -- the block is done
   pub after_close : {answer : Answer} → IsAnswered rules true r a call answer → (reply : Replied) → in_transaction a.engine ≡ false → depth_after (rules.depth a.player) call reply ≡ length a.engine.blocks
-      → (player : P) → player ≡ rules.answered a.player reply → (spare : Vec Entry Global) → spare.items ≡ [] → (pending : Option Attempt) → pending ≡ None → active_of a.thread r'.active ≡ None
-      → IsSettledBy rules true r' a (record a { player = player; spare = spare; pending = pending; nth = 1; again = false })
-  after_close d reply closed fits player is spare empty pending nothing row =
+      → (player : P) → player ≡ rules.answered a.player reply → (spare : Vec Entry Global) (end_room cancel_room : Vec Ran Global) → spare.items ≡ [] → (pending : Option Attempt) → pending ≡ None → active_of a.thread r'.active ≡ None
+      → IsSettledBy rules true r' a (record a { player = player; spare = spare; end_room = end_room; cancel_room = cancel_room; pending = pending; nth = 1; again = false })
+  after_close d reply closed fits player is spare end_room cancel_room empty pending nothing row =
       let x : Played rules laws true false a.player (rules.answered a.player reply) = subst (λ (b : Bool). Played rules laws true b a.player (rules.answered a.player reply)) closed (played true d reply fits) in
       let nested : IsNested rules false player = subst (IsNested rules false) (sym is) x.nested in
       let nearer = x.less in
       let room = d.nested.less refl in
       let fewer : rules.calls_left player < rules.calls_left (rules.restarted a.player) = subst (λ (p : P). rules.calls_left p < rules.calls_left (rules.restarted a.player)) (sym is) (omega arith) in
       let tried = d.kept.tries in
-      ready_again true false closed d player spare pending 1 false row empty (omega arith, omega arith) nested (ap rules.depth is ∙ answered_deep reply d.in_call.asks fits) nothing (record {
+      ready_again true false closed d player spare end_room cancel_room pending 1 false row empty (omega arith, omega arith) nested (ap rules.depth is ∙ answered_deep reply d.in_call.asks fits) nothing (record {
         whole_falls = (let f = fewer in omega arith);
         rank_falls = λ n b. rank_less _ _ n _ _ (rank_less _ _ a.retries (tries_left a) (a.retries + 1 - 1) fewer (omega arith)) (let f = fewer in omega arith);
       })
 
   -- no more tries: the actor has ended
-  pub after_end : (was : Bool) (end : End) (player : P) (pending : Option Attempt) → IsKept was r a → in_transaction a.engine ≡ false → active_of a.thread r'.active ≡ None
-      → IsSettledBy rules was r' a (record a { player = player; pending = pending; status = Ended end })
-  after_end was end player pending k closed row =
+  pub after_end : (was : Bool) (end : End) (player : P) (end_room : Vec Ran Global) (pending : Option Attempt) → IsKept was r a → in_transaction a.engine ≡ false → active_of a.thread r'.active ≡ None
+      → IsSettledBy rules was r' a (record a { player = player; end_room = end_room; pending = pending; status = Ended end })
+  after_end was end player end_room pending k closed row =
       record {
         engine = refl;
         thread = refl;
@@ -198,19 +199,19 @@ module _ {P : Type 0} (rules : Rules P) (laws : Obeys rules)
 
   -- a try came to nothing, and the player is where it began the block
   pub after_try : (was : Bool) {answer : Answer} → IsAnswered rules was r a call answer
-      → (pending : Option Attempt) → pending ≡ None → (player : P) → rules.depth player ≡ 0 → rules.calls_left player ≡ whole rules was a.player
+      → (end_room : Vec Ran Global) → (pending : Option Attempt) → pending ≡ None → (player : P) → rules.depth player ≡ 0 → rules.calls_left player ≡ whole rules was a.player
       → in_transaction a.engine ≡ false → active_of a.thread r'.active ≡ None
-      → IsSettledBy rules was r' a (retried (record a { player = player; pending = pending }))
-  after_try was d pending nothing player outside same closed row = tries (nat_lt a.retries a.nth) refl
+      → IsSettledBy rules was r' a (retried (record a { player = player; end_room = end_room; pending = pending }))
+  after_try was d end_room pending nothing player outside same closed row = tries (nat_lt a.retries a.nth) refl
     where
       tries : (b : Bool) → nat_lt a.retries a.nth ≡ b
-          → IsSettledBy rules was r' a (if b then record a { player = player; pending = pending; status = Ended GaveUp } else record a { player = player; pending = pending; nth = a.nth + 1 })
-      tries true e = after_end was GaveUp player pending d.kept closed row
+          → IsSettledBy rules was r' a (if b then record a { player = player; end_room = end_room; pending = pending; status = Ended GaveUp } else record a { player = player; end_room = end_room; pending = pending; nth = a.nth + 1 })
+      tries true e = after_end was GaveUp player end_room pending d.kept closed row
       tries false e =
           let low : a.nth ≤ a.retries = ltb-false a.retries a.nth e in
           let nested : IsNested rules false player = record { deep = outside; begun = λ o. absurd (cc); less = λ o. absurd (cc) } in
           let none : length a.engine.blocks ≡ 0 = subst (λ (b : Bool). IsDeep b (length a.engine.blocks)) closed (deep_of a.engine.blocks) in
-          ready_again was false closed d player a.spare pending (a.nth + 1) a.again row d.kept.empty (omega arith, omega arith) nested (outside ∙ sym none) nothing (record {
+          ready_again was false closed d player a.spare end_room a.cancel_room pending (a.nth + 1) a.again row d.kept.empty (omega arith, omega arith) nested (outside ∙ sym none) nothing (record {
             whole_falls = (let x = same in omega arith);
             rank_falls = λ n b. rank_less _ _ n _ _
                 (let w : rules.calls_left player * (a.retries + 1) ≡ whole rules was a.player * (a.retries + 1) = ap (λ (x : ℕ). x * (a.retries + 1)) same in omega arith)

@@ -1,5 +1,6 @@
 -- An actor's run between two tries: calls outside a transaction, and begins.
 use Rattle.std.proofs.Common.{◌≡◌, ℕ, zero, suc, ◌/◌, ◌≤◌, Bool, true, false, List, [], Option, None, Some, refl, sym, true≢false, ap, subst, ◌∙◌, arith, is_some, inl, inr}
+use Rattle.user_actions.specs.Actions.{Actions}
 use Rattle.nest_frames.specs.Nest.{Frame}
 use Rattle.norec_world.proofs.Common.{Actor, Agrees, Agrees-drop, Answer, Attempt, Begin, Beginning, Between, Busy, Call, Cells, Core, Done, IsBeforeTry, IsInTry, IsMemory, IsRun, LeadsTo, MAX_OPEN_BLOCKS, Obeys, Props, Ready, Refusal, Replied, Replies, RepliesTo, Reply, Row, Rows, Rules, State, active_of, after, after_unless, begin_of, begin_within, begins_at, in_transaction, is_begin, none_inside, outside, recoded, reply, same_Some, state_over, with_opened, words_at}
 use Rattle.itm_model.specs.Machine.{in_arena}
@@ -48,20 +49,20 @@ same_arena None s t s' t' old new = new
 same_arena (Some refusal) s t s' t' old new = old
 
 -- such a call is served with no memory
-same_outside : (writes : List Row) (arena m : List ℕ) (c : Call) → is_begin c ≡ false
-    → (reply MAX_OPEN_BLOCKS (state_over writes [] arena m) c ≡ reply MAX_OPEN_BLOCKS (outside [] arena) c)
-    × ((after MAX_OPEN_BLOCKS (state_over writes [] arena m) c).arena ≡ (after MAX_OPEN_BLOCKS (outside [] arena) c).arena)
-same_outside writes arena m (Begin props room) nb = absurd (cc)
-same_outside writes arena m (Load width at) nb = (refl, same_arena (in_arena (outside [] arena) at (size_of width)) _ _ _ _ refl refl)
-same_outside writes arena m (Save at value) nb = (refl, same_arena (in_arena (outside [] arena) at (size_of value.width)) _ _ _ _ refl refl)
-same_outside writes arena m c nb = (refl, refl)
+same_outside : (writes : List Row) (arena : List ℕ) (actions : Actions) (m : List ℕ) (c : Call) → is_begin c ≡ false
+    → (reply MAX_OPEN_BLOCKS (state_over writes [] arena actions m) c ≡ reply MAX_OPEN_BLOCKS (outside [] arena) c)
+    × ((after MAX_OPEN_BLOCKS (state_over writes [] arena actions m) c).arena ≡ (after MAX_OPEN_BLOCKS (outside [] arena) c).arena)
+same_outside writes arena actions m (Begin props room) nb = absurd (cc)
+same_outside writes arena actions m (Load width at) nb = (refl, same_arena (in_arena (outside [] arena) at (size_of width)) _ _ _ _ refl refl)
+same_outside writes arena actions m (Save at value) nb = (refl, same_arena (in_arena (outside [] arena) at (size_of value.width)) _ _ _ _ refl refl)
+same_outside writes arena actions m c nb = (refl, refl)
 
 -- the engine's reply to it, and its arena then
 served_outside : (mid new : Core) (c : Call) (r : Replied) (m : List ℕ) → Replies mid c r new → is_begin c ≡ false → in_transaction mid ≡ false → IsMemory mid.words m → Agrees m new.log
     → (r ≡ reply MAX_OPEN_BLOCKS (outside [] mid.arena) c) × (new.arena ≡ (after MAX_OPEN_BLOCKS (outside [] mid.arena) c).arena)
 served_outside mid new c r m g nb shut mem agrees =
-    let over = λ (o : List Frame). state_over mid.writes o mid.arena m in
-    let same = same_outside mid.writes mid.arena m c nb in
+    let over = λ (o : List Frame). state_over mid.writes o mid.arena mid.actions m in
+    let same = same_outside mid.writes mid.arena mid.actions m c nb in
     let none = none_inside mid.blocks shut in (
       g.reply_is m mem (Agrees-drop m mid.entry new.log agrees)
           ∙ (ap (λ (o : List Frame). recoded c mid.again (reply MAX_OPEN_BLOCKS (over o) c)) none ∙ (plainly c mid.again (reply MAX_OPEN_BLOCKS (over []) c) nb ∙ same.0)),
@@ -121,8 +122,8 @@ module _ {P : Type 0} {rules : Rules P} (laws : Obeys rules) {first : Between P}
         let ended : r1.ended ≡ r.ended = ap (λ (x : Rows). x.ended) rows in
         let g' : Replies mid (Begin props room) reply a.engine = subst (λ (c : Call). Replies mid c reply a.engine) is g in
         let asks : rules.next_call a.player ≡ Some (Begin props room) = m.answered.in_call.asks ∙ ap (λ (c : Call). Some c) is in
-        let props_same : row.props ≡ props = (let both_begin = sym p.3 ∙ (led_before rules laws k ∙ begin_here rules laws a.player mid.arena props room asks) in ap (λ (x : Beginning P). x.props) (same_Some _ _ both_begin)) in
-        let try = try_begins laws t.0 row a.player mid a.engine props room reply p.3 p.1 props_same p.2 (let nth = q.nth in let fewer = k.tries in omega arith) m.taken.was_is (m.taken.empty refl) p.4 g'
+        let props_same : row.props ≡ props = (let both_begin = sym p.4 ∙ (led_before rules laws k ∙ begin_here rules laws a.player mid.arena props room asks) in ap (λ (x : Beginning P). x.props) (same_Some _ _ both_begin)) in
+        let try = try_begins laws t.0 row a.player mid a.engine props room reply p.4 p.1 props_same p.2 p.3 (let nth = q.nth in let fewer = k.tries in omega arith) m.taken.was_is (m.taken.empty refl) p.5 g'
         (let early = p.0 in omega arith) (words_at base r.ended (a.engine.snapshot / 2)) (memory_at seen (a.engine.snapshot / 2) k_late) (seen.now now) at in
         let free : active_of row.thread r.active ≡ None = ap (λ (u : ℕ). active_of u r.active) q.thread ∙ m.answered.kept.row in
         record {

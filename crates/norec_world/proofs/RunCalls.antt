@@ -1,4 +1,5 @@
 -- An actor's run over a call, up to its first step, and over a step.
+use Rattle.norec_world.proofs.LaterActions.{given_up_as}
 use Rattle.std.proofs.Common.{◌≡◌, ℕ, ◌/◌, ◌≤◌, ◌&&◌, Bool, true, false, not, List, [], ◌∷◌, ◌++◌, Some, refl, sym, true≢false, ap, subst, ◌∙◌, arith, None, inl, inr}
 use Rattle.std.proofs.lemmas.Bool.{and_right, not_from_true}
 use Rattle.norec_world.proofs.Common.{Actor, Answer, AreCounted, AreLaid, Attempt, Begin, Between, Call, Cells, Commit, Core, Ended, HasRow, IsBeforeTry, IsDone, IsInTry, IsRun, IsRunOf, IsSound, IsTold, LeadsTo, MAX_OPEN_BLOCKS, Next, Obeys, Ready, Reply, Rows, Rules, RunsFrom, Sees, Starves, Status, Step, Tells, active_of, asked_pending, begins_again, begins_at, bytes_at, cases_Bool, ending_of, found, handed_is, handed_to, in_transaction, is_inside, of_thread, run_after, words_at, RecordsReply}
@@ -38,13 +39,14 @@ module _ {P : Type 0} {rules : Rules P} (laws : Obeys rules) {cells : Cells} {r0
     (first : Between P) (base : List ℕ) (laid : AreLaid base cells r0) (runs : RunsFrom rules first base cells r0 old) where
   -- the attempt that is to be opened then
   fresh_pending : (b : Between P) → IsBeforeTry rules (cells.clock / 2) b old → in_transaction old.engine ≡ false → (c : Call) → c ≡ call → (row : Attempt) → asked_pending false cells.clock old c ≡ Some row
-      → (row.began ≤ cells.clock / 2) × (row.arena ≡ old.engine.arena) × (row.calls ≡ []) × (begins_at rules b ≡ Some (record { player = a.player; arena = old.engine.arena; props = row.props })) × ((mid m).again ≡ b.again)
+      → (row.began ≤ cells.clock / 2) × (row.arena ≡ old.engine.arena) × (row.calls ≡ []) × (row.ran ≡ []) × (begins_at rules b ≡ Some (record { player = a.player; arena = old.engine.arena; props = row.props })) × ((mid m).again ≡ b.again)
   fresh_pending b k o (Begin props room) is row e =
-      let made : record { thread = old.thread; nth = old.nth; began = cells.clock / 2; at = 0; props = props; arena = old.engine.arena; calls = []; outcome = outcomes.Unfinished } ≡ row = cc in
+      let made : record { thread = old.thread; nth = old.nth; began = cells.clock / 2; at = 0; props = props; arena = old.engine.arena; calls = []; ran = []; outcome = outcomes.Unfinished } ≡ row = cc in
       let here = begin_here rules laws old.player old.engine.arena props room (ap rules.next_call (sym m.asked.same.player) ∙ (m.asked.in_call.asks ∙ ap (λ (c : Call). Some c) (sym is))) in (
         (let began = ap (λ (x : Attempt). x.began) made in omega arith),
         ap (λ (x : Attempt). x.arena) (sym made),
         ap (λ (x : Attempt). x.calls) (sym made),
+        ap (λ (x : Attempt). x.ran) (sym made),
         led_before rules laws k ∙ (here ∙ (λ i. Some (record { player = (sym m.asks.player) i; arena = old.engine.arena; props = (ap (λ (x : Attempt). x.props) made) i }))),
         (λ i. begins_again (o i) old.again (sym is i) && not (o i)) ∙ (and-true old.again ∙ k.again),
       )
@@ -62,7 +64,7 @@ module _ {P : Type 0} {rules : Rules P} (laws : Obeys rules) {cells : Cells} {r0
               (λ i. now_at rules first base (ended_same m i) (m.asks.thread i)) ∙ t.2,
               active_same m ∙ t.3,
               subst (λ (q : P). IsInTry rules t.0 t.1 q (mid m)) (sym m.asks.player)
-                  (try_kept laws (mid m) t.4 refl (and_right (begins_again (in_transaction old.engine) old.again call) (not (in_transaction old.engine)) (not_from_true (in_transaction old.engine) o))
+                  (try_kept laws (mid m) t.4 refl refl (and_right (begins_again (in_transaction old.engine) old.again call) (not (in_transaction old.engine)) (not_from_true (in_transaction old.engine) o))
                   (λ k. refl) t.4.began (λ k agrees. agrees)),
               m.asks.again ∙ t.5,
               t.6 ∙ sym m.asks.nth,
@@ -99,7 +101,7 @@ module _ {P : Type 0} {rules : Rules P} (laws : Obeys rules) {cells : Cells} {r0
       by_answer true (Reply reply) was t now row f =
           let x = run_came.inside was in
           let told = subst (λ (o : Bool). RecordsReply rules true o r r1 a last call reply) (ap in_transaction t.settled.engine ∙ now) t.told in
-          let with_call : Attempt → Attempt = λ x. record x { calls = x.calls ++ record { call = call; reply = reply } ∷ [] } in
+          let with_call : Attempt → Attempt = λ x. record x { calls = x.calls ++ record { call = call; reply = reply } ∷ []; ran = last.engine.actions.ran } in
           let here : active_of last.thread r1.active ≡ Some (with_call x.1) =
           ap (λ (k : ℕ). active_of k r1.active) t.settled.thread ∙ (ap (λ (x : Rows). active_of a.thread x.active) told.0 ∙ changed_here a.thread with_call r.active x.1 (λ x. refl) x.3) in
           let same : with_call x.1 ≡ row = (let z : Some (with_call x.1) ≡ Some row = sym here ∙ f in cc) in
@@ -126,7 +128,7 @@ module _ {P : Type 0} {rules : Rules P} (laws : Obeys rules) {cells : Cells} {r0
 -- ## Memory was refused
 
 module _ {P : Type 0} {rules : Rules P} (laws : Obeys rules) {cells : Cells} {r0 r1 : Rows} {old last : Actor P} (sound : IsSound rules cells r0 old) (s : Starves rules r0 old r1 last)
-    (first : Between P) (base : List ℕ) (laid : AreLaid base cells r0) (runs : RunsFrom rules first base cells r0 old) (fed : ending_of old.status ≡ Some ends.NoMemory → ⊥) (closed : in_transaction last.engine ≡ false) (more : List Attempt) (ended : r1.ended ≡ r0.ended ++ more) where
+    (first : Between P) (base : List ℕ) (laid : AreLaid base cells r0) (runs : RunsFrom rules first base cells r0 old) (free : old.engine.holds ≡ false) (fed : ending_of old.status ≡ Some ends.NoMemory → ⊥) (closed : in_transaction last.engine ≡ false) (more : List Attempt) (ended : r1.ended ≡ r0.ended ++ more) where
   abbrev roomy : Rows
   roomy = record r0 { room = s.room }
 
@@ -153,8 +155,8 @@ module _ {P : Type 0} {rules : Rules P} (laws : Obeys rules) {cells : Cells} {r0
   starve_run true o =
       let here : IsRun rules first base (cells.clock / 2) roomy old = record { run = runs.runs.run; inside = runs.runs.inside; between = λ x. absurd (true≢false (sym o ∙ x)) } in
       (stop_run laws r1 old last Commit still_seen here (cells.clock / 2) (let l : cells.clock / 2 ≤ cells.clock / 2 = omega arith in l)
-      (bytes_stay laid more ended) o (old.engine.snapshot / 2) outcomes.NoMemory refl (λ x y. y) s.same.thread (s.stops o)
-      (runs.runs.inside o).4.began still_seen.late ((runs.sees fed).logged o) (λ f. absurd (cc))).0
+      (bytes_stay laid more ended) o (old.engine.snapshot / 2) outcomes.NoMemory last.engine.actions.ran refl (λ x y. y) s.same.thread (s.stops o)
+      (runs.runs.inside o).4.began still_seen.late ((runs.sees fed).logged o) (given_up_as old.engine last.engine (words_at base r1.ended (old.engine.snapshot / 2)) free s.engine) (λ f. absurd (cc))).0
 
   pub starve_runs : RunsFrom rules first base cells r1 last
   starve_runs = record {
@@ -237,7 +239,7 @@ module _ {P : Type 0} {rules : Rules P} (laws : Obeys rules) {cells : Cells} {r 
       let taken = step_taken m status ready in
       let same_ended : rows.ended ≡ r1.ended = elim (cases_Bool (in_transaction last.engine)) [ inl o ↦ ap (λ (x : Rows). x.ended) (told.moves o) | inr shut ↦ ap (λ (x : Rows). x.ended) (told.stays shut) ] in
       let x = runs_recorded laws (in_transaction old.engine) (record old { engine = new; status = status }) call seen_step run_mid r1 last more (sym same_ended ∙ ended) what taken done tells in
-      let t = run_told rules laws first base (cells'.clock / 2) r1 rows last (now taken done tells).sound.kept.row told x.run in (
+      let t = run_told rules laws first base (cells'.clock / 2) r1 rows last (now taken done tells).kept.row told x.run in (
         laid_same base cells' r1 rows same_ended (x.laid (subst (AreCounted cells'.clock) same_ended counted)),
         record { runs = t.0; sees = λ fed. subst (λ (l : List Attempt). Sees (words_at base l) cells' last.engine) (sym same_ended) x.sees; starved = λ e. absurd (x.fed e); reads = t.1 },
       )

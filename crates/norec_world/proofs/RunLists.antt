@@ -1,6 +1,7 @@
 -- An actor's run with one attempt more, and over more commits.
+use Rattle.norec_world.specs.Opacity.{ran_of}
 use Rattle.std.proofs.Common.{inl, inr, ◌≡◌, ℕ, ◌≤◌, ◌==◌, Bool, if◌then◌else◌, List, [], ◌∷◌, ◌++◌, Option, None, Some, refl, sym, ap, subst, ◌∙◌, arith, eq-eqb}
-use Rattle.norec_world.proofs.Common.{Attempt, Beginning, Between, IsOpaque, IsRunOf, IsTryAt, MAX_OPEN_BLOCKS, Rules, after_try, begins_at, cases_Bool, of_thread, run_after}
+use Rattle.norec_world.proofs.Common.{alone, Attempt, Beginning, Between, IsOpaque, IsRunOf, IsTryAt, MAX_OPEN_BLOCKS, Rules, after_try, begins_at, cases_Bool, of_thread, run_after}
 
 -- ## The attempts of one actor
 
@@ -28,7 +29,7 @@ module _ {P : Type 0} (rules : Rules P) where
         let bytes : memory' a.at ≡ memory a.at = same a.at o.no_newer in
         let newer = o.no_newer in
         let opaque : IsOpaque rules MAX_OPEN_BLOCKS _ a n' (memory a.at) =
-        record { no_older = o.no_older; no_newer = (let l : a.at ≤ n' = omega arith in l); beginning = o.beginning; whole = o.whole; ends = o.ends; closed = o.closed; full = o.full } in (
+        record { no_older = o.no_older; no_newer = (let l : a.at ≤ n' = omega arith in l); beginning = o.beginning; whole = o.whole; ends = o.ends; closed = o.closed; ran = o.ran; full = o.full } in (
           (t.0, t.1, t.2, subst (IsOpaque rules MAX_OPEN_BLOCKS _ a n') (sym bytes) opaque),
           ap (λ (m : List ℕ). after_try rules MAX_OPEN_BLOCKS (λ k. m) b (Some start) a) bytes,
         )

@@ -71,7 +71,7 @@ module _ {P : Type 0} (rules : Rules P) (laws : Obeys rules) where
               (let t = x.runs.between o gave_up starved in let k = t.2 in (
                 t.0,
                 now ∙ t.1,
-                record { calls = k.calls; leads = k.leads; again = k.again; tries = k.tries; pending = λ row e. (let p = k.pending row e in ((let early = p.0 in omega arith), p.1, p.2, p.3, p.4)) },
+                record { calls = k.calls; leads = k.leads; again = k.again; tries = k.tries; pending = λ row e. (let p = k.pending row e in ((let early = p.0 in omega arith), p.1, p.2, p.3, p.4, p.5)) },
               ));
         };
         sees = λ fed. (let s = x.sees fed in record {
@@ -133,10 +133,10 @@ module _ {P : Type 0} (rules : Rules P) (laws : Obeys rules) where
               let unfinished : row.outcome ≡ outcomes.Unfinished = row_unfinished (in_transaction a.engine) w.attempts a.thread row s.sound.kept.row t.3 in
               let at : row.at ≡ k = x.reads o row t.3 in
               let early = t.4.began in
-              let try = try_stops laws (w.cells.clock / 2) w.base (attempts_of w) t.4 k outcomes.Unfinished refl (stands_open rules laws a.engine (words_at w.base (attempts_of w) k) o) early k_late
+              let try = try_stops laws (w.cells.clock / 2) w.base (attempts_of w) t.4 k outcomes.Unfinished a.engine.actions.ran refl (stands_open rules laws a.engine (words_at w.base (attempts_of w) k) o) early k_late
               (subst (IsMemory a.engine.words) (sym words) (fits.0 ∙ sym tied.words, fits.1)) (ap bytes_of words ∙ (running.laid.memories.same k k_late ∙ sym (shown_still k k_late)))
-              (subst (λ (m : List ℕ). Agrees m a.engine.log) (sym words) (sees.logged o)) (λ f. absurd (cc)) in
-              let as_it_is : record row { at = k; outcome = outcomes.Unfinished } ≡ row = λ i. record row { at = (sym at) i; outcome = (sym unfinished) i } in
+              (subst (λ (m : List ℕ). Agrees m a.engine.log) (sym words) (sees.logged o)) refl (λ f. absurd (cc)) in
+              let as_it_is : record row { at = k; ran = a.engine.actions.ran; outcome = outcomes.Unfinished } ≡ row = λ i. record row { at = (sym at) i; ran = (sym t.4.ran) i; outcome = (sym unfinished) i } in
               let here : IsTryAt rules MAX_OPEN_BLOCKS (w.cells.clock / 2) (bytes_at w.base (attempts_of w)) t.0 (begins_at rules t.0) row =
               subst (λ (y : _). IsTryAt rules MAX_OPEN_BLOCKS (w.cells.clock / 2) (bytes_at w.base (attempts_of w)) t.0 y row) (sym t.4.begins)
               (subst (IsTryAt rules MAX_OPEN_BLOCKS (w.cells.clock / 2) (bytes_at w.base (attempts_of w)) t.0 (Some t.4.start)) as_it_is try) in

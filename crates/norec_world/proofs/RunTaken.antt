@@ -121,7 +121,7 @@ module _ {P : Type 0} {rules : Rules P} (laws : Obeys rules) {first : Between P}
         let here : at ≤ cells.clock / 2 = omega arith in
         let inside = m.taken.was_is in
         let t = run.inside inside in
-        let row : Attempt = record t.1 { calls = t.1.calls ++ record { call = call; reply = Done } ∷ []; at = at; outcome = outcomes.Committed } in
+        let row : Attempt = record t.1 { calls = t.1.calls ++ record { call = call; reply = Done } ∷ []; at = at; ran = a.engine.actions.ran; outcome = outcomes.Committed } in
         let rows : r1.ended ≡ r.ended ++ row ∷ [] = commit_ended laws r1 a last call seen run (cells'.clock / 2) up (bytes_stay seen.laid more ended) inside at true m in
         let left_so = commit_left laws r1 a last call seen run (cells'.clock / 2) up (bytes_stay seen.laid more ended) inside at true m in
         let agrees = commit_agrees laws r1 a last call seen run (cells'.clock / 2) up (bytes_stay seen.laid more ended) inside at true m in

@@ -1,11 +1,11 @@
 -- What an engine has seen of the memories that the commits left, over a step or a call.
 use Rattle.std.proofs.Common.{◌≡◌, inl, inr, ℕ, zero, suc, ◌+◌, ◌/◌, ◌%◌, ◌≤◌, ◌==◌, Bool, true, false, if◌then◌else◌, List, length, length-set, Some, refl, sym, ap, subst, ◌∙◌, arith, ◌<◌, slice_get, slice_set, slice_index, eqb-true}
 use Rattle.norec_world.proofs.Common.{Agrees, AreLaid, Call, Cas, Cells, Core, Got, IsLawful, IsMemory, IsTied, Load, Loaded, Rows, Sees, StaysOn, Step, Store, backed, both_ways, bytes_at, bytes_of, came, cells_after, cond-true, found, handed_is, handed_to, in_transaction, is_inside, slice_get-get_or, word_loaded, words_at, write_at}
-use Rattle.norec_engine.specs.Proceeds.{Joins, Settles}
+use Rattle.norec_core.specs.Proceeds.{Joins, Settles}
 use Rattle.norec_world.proofs.ClockHolders.{freed_by, is_free}
 use Rattle.norec_world.proofs.TiedEngines.{held_even}
-use Rattle.norec_engine.proofs.Logs.{agrees_more}
-use Rattle.norec_engine.proofs.Logs as logs
+use Rattle.norec_core.proofs.Logs.{agrees_more}
+use Rattle.norec_core.proofs.Logs as logs
 
 module _ (memory : ℕ → List ℕ) (cells : Cells) (e : Core) (t : IsTied cells e) (free : cells.clock % 2 ≡ 0 → cells.words ≡ memory (cells.clock / 2)) (fits : IsMemory (length cells.words) (memory (cells.clock / 2))) where
   -- ## The value is handed in

@@ -130,7 +130,7 @@ module _ {P : Type 0} (rules : Rules P) (laws : Obeys rules) (w : World P) (kept
     state_here : alone MAX_OPEN_BLOCKS (bytes_at w.base (attempts_of w) row.at) row ≡ state_then MAX_OPEN_BLOCKS from row.calls
     state_here = same_state rules laws w.max_commits w.base (attempts_of w) (w.cells.clock / 2) x.before row y x.memory first_here at_here
 
-    row_here : (outcome : Outcome) → outcome ≡ row.outcome → row_of 0 x.before y.start row.calls outcome ≡ row
+    row_here : (outcome : Outcome) → outcome ≡ row.outcome → row_of MAX_OPEN_BLOCKS 0 x.before y.start row.calls outcome ≡ row
     row_here outcome o = same_row rules laws w.max_commits w.base (attempts_of w) (w.cells.clock / 2) x.before row y x.memory first_here at_here outcome o
 
     begun_so : (outcome : Outcome) → row.outcome ≡ outcome → IsBegun rules w.max_commits 0 x.before sole.past outcome (attempts_of w)

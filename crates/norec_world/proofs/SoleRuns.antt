@@ -1,4 +1,5 @@
 -- The run of an actor that has its world to itself is what its player does alone.
+use Rattle.norec_world.specs.Opacity.{ran_of}
 use Rattle.std.proofs.Common.{◌≡◌, ℕ, suc, ◌+◌, ◌<◌, ◌≤◌, ◌==◌, ◌&&◌, Bool, true, false, ◌%◌, drop, nat_le, nat_lt, if◌then◌else◌, List, [], ◌∷◌, ◌++◌, length, map, replicate, take, Option, None, Some, refl, sym, ap, subst, ◌∙◌, arith, eqb-true, eq-eqb, lt-ltb, leb-true}
 use Rattle.std.proofs.Math.Nat.{add-zero}
 use Rattle.std.proofs.lemmas.Bool.{or_parts}
@@ -160,7 +161,7 @@ module _ {P : Type 0} (rules : Rules P) (laws : Obeys rules) (max_commits : ℕ)
     pub same_answers : answers rules.next_call rules.answered rules.calls_left MAX_OPEN_BLOCKS (rules.answered x.start.player (begin_code false)) (bytes_at base all a.at) a.arena a.props ≡ answers rules.next_call rules.answered rules.calls_left MAX_OPEN_BLOCKS (rules.answered x.start.player (begin_code false)) b.memory x.start.arena x.start.props
     same_answers = λ i. answers rules.next_call rules.answered rules.calls_left MAX_OPEN_BLOCKS begun (bytes i) (x.arena i) (x.props i)
 
-    pub same_row : (outcome : Outcome) → outcome ≡ a.outcome → row_of 0 b x.start a.calls outcome ≡ a
+    pub same_row : (outcome : Outcome) → outcome ≡ a.outcome → row_of MAX_OPEN_BLOCKS 0 b x.start a.calls outcome ≡ a
     same_row outcome o = λ i. record {
       thread = sym first.thread i;
       nth = sym first.nth i;
@@ -169,6 +170,7 @@ module _ {P : Type 0} (rules : Rules P) (laws : Obeys rules) (max_commits : ℕ)
       props = sym x.props i;
       arena = sym x.arena i;
       calls = a.calls;
+      ran = (ap (λ (k : Outcome). ran_of k (state_then MAX_OPEN_BLOCKS (opened b.memory x.start.arena x.start.props) a.calls)) o ∙ (ap (ran_of a.outcome) (sym same_state) ∙ sym x.opaque.ran)) i;
       outcome = o i;
     }
 

@@ -7,7 +7,7 @@ use Rattle.itm_model.specs.Runs.{state_after}
 use Rattle.norec_world.specs.declared.attempt.Outcome.TheVariants.{Full}
 use Rattle.itm_types.specs.Calls.{is_abort}
 use Rattle.norec_world.specs.Solo.{entry_of, front, player_after, passed, block_then, begun_then, aborts}
-use Rattle.norec_engine.proofs.Machines.{open_is}
+use Rattle.norec_core.proofs.Machines.{open_is}
 
 -- a call that is made in an open block is the player's next
 asked_if : (b : Bool) (o : Option Call) (c : Call) → cond b o None ≡ Some c → o ≡ Some c
@@ -68,7 +68,7 @@ module _ {P : Type 0} (rules : Rules P) (laws : Obeys rules) where
 
   -- an open engine stands for an open block
   pub stands_open : (e : Core) (m : List ℕ) → in_transaction e ≡ true → is_open (stands_for e m) ≡ true
-  stands_open e m o = open_is e.writes e.blocks e.arena m ∙ o
+  stands_open e m o = open_is e.writes e.blocks e.arena e.actions m ∙ o
 
 pub state_pairs : (deepest : ℕ) (s : State) (xs : List Entry) → state_after deepest s (map (λ (c : Call × Reply). c.0) (map pair_of xs)) ≡ state_then deepest s xs
 state_pairs deepest s [] = refl
@@ -231,7 +231,7 @@ module _ {P : Type 0} (rules : Rules P) (laws : Obeys rules) (deepest : ℕ) whe
 
       -- it has ended
       pub ended_block : is_open (state_of b start xs) ≡ false → ((state_of b start xs).wrote && nat_le max_commits b.commits) ≡ false
-          → goes (rules.calls_left b.player) b ≡ with_first (row_of thread b start xs (ended_as (aborts (map pair_of xs)) (state_of b start xs).wrote))
+          → goes (rules.calls_left b.player) b ≡ with_first (row_of deepest thread b start xs (ended_as (aborts (map pair_of xs)) (state_of b start xs).wrote))
           (goes (rules.calls_left (player_then rules.answered (begun start) xs)) (next_of b (player_then rules.answered (begun start) xs) (state_of b start xs)))
       ended_block closed free =
           let n : ℕ = rules.calls_left b.player in
@@ -240,26 +240,26 @@ module _ {P : Type 0} (rules : Rules P) (laws : Obeys rules) (deepest : ℕ) whe
           whole_block
           ∙ (cond-false (is_open t) _ _ closed
           ∙ (cond-false (t.wrote && nat_le max_commits b.commits) _ _ free
-          ∙ ((λ i. with_first (row_of thread b start (entries_pairs xs i) (ended_as (aborts (map pair_of xs)) t.wrote)) (goes n (next_of b (player_pairs (begun start) xs i) t)))
-          ∙ ap (with_first (row_of thread b start xs (ended_as (aborts (map pair_of xs)) t.wrote))) (solo_enough n (rules.calls_left q) (next_of b q t) less (omega arith)))))
+          ∙ ((λ i. with_first (row_of deepest thread b start (entries_pairs xs i) (ended_as (aborts (map pair_of xs)) t.wrote)) (goes n (next_of b (player_pairs (begun start) xs i) t)))
+          ∙ ap (with_first (row_of deepest thread b start xs (ended_as (aborts (map pair_of xs)) t.wrote))) (solo_enough n (rules.calls_left q) (next_of b q t) less (omega arith)))))
 
       -- its commit is not made, as many writers having committed as may
       pub full_block : (ys : List Entry) (last : Entry) → xs ≡ ys ++ last ∷ [] → is_open (state_of b start xs) ≡ false → ((state_of b start xs).wrote && nat_le max_commits b.commits) ≡ true
-          → goes (rules.calls_left b.player) b ≡ with_first (row_of thread b start ys Full) (stopped rules deepest max_commits thread b GaveUp)
+          → goes (rules.calls_left b.player) b ≡ with_first (row_of deepest thread b start ys Full) (stopped rules deepest max_commits thread b GaveUp)
       full_block ys last is closed full_is =
           let t : State = state_of b start xs in
           let calls : map entry_of (front (map pair_of xs)) ≡ ys = ap (λ (l : List Entry). map entry_of (front (map pair_of l))) is ∙ (ap (map entry_of) (front_snoc ys last) ∙ entries_pairs ys) in
           whole_block
           ∙ (cond-false (is_open t) _ _ closed
           ∙ (cond-true (t.wrote && nat_le max_commits b.commits) _ _ full_is
-          ∙ ap (λ (l : List Entry). with_first (row_of thread b start l Full) (stopped rules deepest max_commits thread b GaveUp)) calls))
+          ∙ ap (λ (l : List Entry). with_first (row_of deepest thread b start l Full) (stopped rules deepest max_commits thread b GaveUp)) calls))
 
       -- the player leaves it open for good
-      pub open_block : is_open (state_of b start xs) ≡ true → goes (rules.calls_left b.player) b ≡ with_first (row_of thread b start xs Unfinished) (stopped rules deepest max_commits thread b Finished)
+      pub open_block : is_open (state_of b start xs) ≡ true → goes (rules.calls_left b.player) b ≡ with_first (row_of deepest thread b start xs Unfinished) (stopped rules deepest max_commits thread b Finished)
       open_block opens =
           whole_block
           ∙ (cond-true (is_open (state_of b start xs)) _ _ opens
-          ∙ ap (λ (l : List Entry). with_first (row_of thread b start l Unfinished) (stopped rules deepest max_commits thread b Finished)) (entries_pairs xs))
+          ∙ ap (λ (l : List Entry). with_first (row_of deepest thread b start l Unfinished) (stopped rules deepest max_commits thread b Finished)) (entries_pairs xs))
 
     -- a player that comes to no block
     pub no_block : (b : Progress P) → begin_of rules deepest b.player b.arena ≡ None → goes (rules.calls_left b.player) b ≡ stopped rules deepest max_commits thread b Finished

@@ -1,9 +1,13 @@
 -- A step was done, or a call of the player came: its value or the call went to the engine, and what the engine gave may be recorded.
+use Rattle.user_actions.specs.Actions.{total}
+use Rattle.norec_world.specs.ActionRoom.{MayRunOn, NoCancel}
+use Rattle.norec_world.proofs.ActionRoom.{gave_acting, registers_none}
+use Rattle.norec_world.proofs.LaterActions.{first_here}
 use Rattle.std.proofs.Common.{◌≡◌, inl, ℕ, zero, suc, ◌+◌, ◌*◌, ◌/◌, ◌%◌, ◌<◌, ◌≤◌, ◌==◌, Bool, true, false, if◌then◌else◌, Option, None, Some, refl, sym, true≢false, ap, subst, ◌∙◌, arith, eqb-true, inr, ◌-◌, length}
 use Rattle.norec_world.proofs.Common.{Actor, AllFit, Answers, Asks, AsksFor, Call, Cas, Cells, ClocksOn, Core, Ended, Falls, GoesOn, HoldsOn, IsDone, IsLawful, IsNested, IsNoMore, IsReady, IsResumed, IsSettledBy, IsSound, IsTied, IsWithin, Load, Next, Proceeds, Ready, RestsAs, Rows, Rules, Status, StatusIs, Step, Store, Waits, active_of, begins_again, came, cells_after, ending_of, found, handed_is, handed_to, in_transaction, is_inside, is_ready, is_waiting, rank, steps_left, whole, IsTold, Tells}
-use Rattle.norec_engine.specs.Keeps.{Keeps}
-use Rattle.norec_engine.specs.Proceeds.{most}
-use Rattle.norec_engine.proofs.KeptFields.{most_same}
+use Rattle.norec_core.specs.Keeps.{Keeps}
+use Rattle.norec_core.specs.Proceeds.{most}
+use Rattle.norec_core.proofs.KeptFields.{most_same}
 use Rattle.norec_world.specs.Sound.{IsWaiting, IsAsked}
 use Rattle.norec_world.proofs.ClockHolders.{clocks_of, clocks_still, clocks_twice, word_freed}
 use Rattle.norec_world.proofs.Taken.{ClockMoves, HasTaken, in_call_of, ready_of}
@@ -85,6 +89,7 @@ module _ {P : Type 0} {rules : Rules P} {cells : Cells} {r : Rows} {old : Actor 
         tied = tied cells' mid_step new what is_mid went;
         within = m.within;
         kept = record { row = k.row; empty = k.empty; tried = k.tried; tries = k.tries; retries = k.retries };
+        first = first_here r old.thread mid_step new call what (in_transaction old.engine) (ap is_inside same.blocks) k.row (same.doing ∙ waits.doing) went (λ row e. m.sound.acts.all row e ∙ ap (λ (x : _). x.ran) (sym same.actions));
         nested = waits.nested;
         depth = waits.depth ∙ ap length (sym same.blocks);
         in_call = in_call_of new status waits.in_call;
@@ -93,6 +98,18 @@ module _ {P : Type 0} {rules : Rules P} {cells : Cells} {r : Rows} {old : Actor 
         empty = λ e. same.writes ∙ (m.sound.tied.settled.closed e).1;
         outside = λ e. (let l = loads_clock cells old.engine m.step m.sound.tied waits.lawful e in (ap (λ (c : Cells). c.clock) m.cells_are ∙ l.0, inl (l.1 ∙ ap (λ (c : Cells). c.clock) (sym m.cells_are))));
       }
+
+  -- nothing of the actions is lost
+  pub step_acts : (status : Status) → status ≡ Ready → MayRunOn r (record old { engine = new; status = status }) call what
+  step_acts status ready =
+      let acts = m.sound.acts in
+      let plain = subst NoCancel m.waiting acts.status in
+      let same_actions : (handed_to old.engine (Some m.step) (found cells m.step)).actions ≡ old.engine.actions = same.actions in
+      let inside : in_transaction (handed_to old.engine (Some m.step) (found cells m.step)) ≡ in_transaction old.engine = ap is_inside same.blocks in
+      gave_acting r (record old { engine = new; status = status }) (handed_to old.engine (Some m.step) (found cells m.step)) call (in_transaction old.engine) inside m.sound.kept.row (same.doing ∙ waits.doing)
+      (record { end_room = acts.empty.end_room; cancel_room = acts.empty.cancel_room }) (λ row e. acts.all row e ∙ ap (λ (x : _). x.ran) (sym same_actions))
+      (λ row e. (let p = acts.places row e in let n = registers_none call plain.1 in let t = ap total same_actions in omega arith)) (λ row e abort. absurd (let both : false ≡ true = sym plain.0 ∙ abort in cc)) acts.pending
+      what went (λ shut. (let none = (m.sound.tied.settled.closed (sym inside ∙ shut)) in (ap (λ (x : _). x.commits) same_actions ∙ none.2, ap (λ (x : _). x.undos) same_actions ∙ none.3))) (λ step e. plain)
 
   -- what becomes of the clock, as the others see it
   pub step_clocks : (last : Core) → last ≡ new → ClocksOn cells old.engine cells' last
@@ -204,6 +221,8 @@ module _ {P : Type 0} {rules : Rules P} {cells : Cells} {r0 r : Rows} {old a : A
         tied = tied cells mid a.engine what (comes cells old.engine a.engine m.sound.tied ready.free m.asked.settled call (begins_again (in_transaction old.engine) old.again call) m.asked.stays) m.asks.called.proceeds;
         within = m.asked.within;
         kept = m.asked.kept;
+        first = first_here r a.thread mid a.engine call what (in_transaction old.engine) refl m.asked.kept.row refl m.asks.called.proceeds
+            (λ row e. m.sound.acts.all row (sym ((λ i. active_of (m.asks.thread i) r.active) ∙ ap (λ (x : Rows). active_of old.thread x.active) m.asks.rows_are) ∙ e));
         nested = subst (IsNested rules (in_transaction old.engine)) (sym m.asked.same.player) ready.nested;
         depth = ap rules.depth m.asked.same.player ∙ ready.depth;
         in_call = m.asked.in_call;

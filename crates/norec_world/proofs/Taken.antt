@@ -1,7 +1,8 @@
 -- The moment that a step and a call of the player share: the engine has taken in a value or a call, and what it gave is recorded next.
+use Rattle.norec_world.specs.ActionRoom.{HasFirst, IsActing}
 use Rattle.std.proofs.Common.{◌≡◌, ◌⊎◌, ◌+◌, ◌*◌, ◌/◌, Bool, true, false, [], refl, ap, subst, ◌∙◌, sym, length, Some, ◌≤◌, inl, inr, arith, ℕ}
 use Rattle.norec_world.proofs.Common.{Actor, Answer, AnswerFits, Answers, Asks, Call, Cells, Core, Ended, Ends, HasRow, IsAnswered, IsAtOnce, IsDone, IsKept, IsNested, IsSettledBy, IsSound, IsTied, IsWithin, Next, Proceeds, Ready, Records, RestsAs, Rows, Rules, Status, StatusIs, Step, Tells, Waits, in_transaction, is_ready, rests, End, ending_of, cases_Bool}
-use Rattle.norec_world.specs.Sound.{IsDue, IsInCall}
+use Rattle.norec_world.specs.Sound.{IsDue, IsInCall, IsWaiting}
 use Rattle.norec_world.proofs.TiedEngines.{answer_fits}
 
 pub ready_of : (s : Status) → is_ready s ≡ true → s ≡ Ready
@@ -30,6 +31,7 @@ module _ {P : Type 0} (rules : Rules P) where
     pub tied : IsTied cells' a.engine
     pub within : IsWithin a.engine
     pub kept : IsKept was r a
+    pub first : HasFirst r a
     pub nested : IsNested rules was a.player
     pub depth : rules.depth a.player ≡ length mid.blocks
     pub in_call : IsInCall rules was r a call
@@ -50,7 +52,9 @@ module _ {P : Type 0} (rules : Rules P) where
   -- what is true of the actor then
   pub record IsNow (cells : Cells) (r : Rows) (a last : Actor P) : Type 0 where
     pub engine : last.engine ≡ a.engine
-    pub sound : IsSound rules cells r last
+    pub kept : IsKept (in_transaction last.engine) r last
+    pub status : StatusIs rules r last last.status
+    pub sound : IsActing r last → IsSound rules cells r last
     pub thread : last.thread ≡ a.thread
     pub retries : last.retries ≡ a.retries
 
@@ -90,24 +94,17 @@ module _ {P : Type 0} {rules : Rules P} {was : Bool} {cells cells' : Cells} {r :
       let g = m.proceeds in
       let opens : was ≡ in_transaction a.engine = sym m.was_is ∙ sym (ap in_transaction g.stays) in
       let k = m.kept in
-      record {
-        engine = refl;
-        thread = refl;
-        retries = refl;
-        sound = record {
-          tied = m.tied;
-          kept = record { row = subst (λ (b : Bool). HasRow b r a.thread) opens k.row; empty = k.empty; tried = k.tried; tries = k.tries; retries = k.retries };
-          status = record {
-            nested = subst (λ (b : Bool). IsNested rules b a.player) opens m.nested;
-            depth = m.depth ∙ ap (λ (c : Core). length c.blocks) (sym g.stays);
-            in_call = subst (λ (b : Bool). IsInCall rules b r (record a { status = Waits call step }) call) opens (in_call_of a.engine (Waits call step) m.in_call);
-            doing = ap (λ (c : Core). c.doing) g.stays ∙ m.doing;
-            waits = ap (λ (c : Core). c.waits) g.stays;
-            lawful = g.lawful;
-            within = m.within;
-          };
-        };
-      }
+      let kept : IsKept (in_transaction a.engine) r (record a { status = Waits call step }) = record { row = subst (λ (b : Bool). HasRow b r a.thread) opens k.row; empty = k.empty; tried = k.tried; tries = k.tries; retries = k.retries } in
+      let status : IsWaiting rules r (record a { status = Waits call step }) call step = record {
+        nested = subst (λ (b : Bool). IsNested rules b a.player) opens m.nested;
+        depth = m.depth ∙ ap (λ (c : Core). length c.blocks) (sym g.stays);
+        in_call = subst (λ (b : Bool). IsInCall rules b r (record a { status = Waits call step }) call) opens (in_call_of a.engine (Waits call step) m.in_call);
+        doing = ap (λ (c : Core). c.doing) g.stays ∙ m.doing;
+        waits = ap (λ (c : Core). c.waits) g.stays;
+        lawful = g.lawful;
+        within = m.within;
+      } in
+      record { engine = refl; thread = refl; retries = refl; kept = kept; status = status; sound = λ acts. record { tied = m.tied; kept = kept; acts = acts; status = status } }
 
   -- the answer is recorded
   pub answered_now : {r1 : Rows} {last : Actor P} {answer : Answer} → HasAnswered rules was cells cells' r r1 mid a last call answer → IsNow rules cells' r1 a last
@@ -115,7 +112,9 @@ module _ {P : Type 0} {rules : Rules P} {was : Bool} {cells cells' : Cells} {r :
     engine = m.settled.engine;
     thread = m.settled.thread;
     retries = m.settled.retries;
-    sound = record { tied = subst (IsTied cells') (sym m.settled.engine) m.taken.tied; kept = m.settled.kept; status = status_of last.status m.settled.rests };
+    kept = m.settled.kept;
+    status = status_of last.status m.settled.rests;
+    sound = λ acts. record { tied = subst (IsTied cells') (sym m.settled.engine) m.taken.tied; acts = acts; kept = m.settled.kept; status = status_of last.status m.settled.rests };
   }
     where
       status_of : (st : Status) → RestsAs rules st last → StatusIs rules r1 last st

@@ -1,7 +1,7 @@
 -- The engine and the cells, over one event: the engine's data stay as the cells have them.
 use Rattle.std.proofs.Common.{◌≡◌, ℕ, zero, suc, ◌+◌, ◌*◌, ◌/◌, ◌%◌, ◌<◌, ◌≤◌, ◌==◌, Bool, true, false, length, Option, Some, slice_index, refl, sym, ap, subst, ◌∙◌, arith, if◌then◌else◌, eqb-true, length-set}
 use Rattle.norec_world.proofs.Common.{AllFit, Answer, AnswerFits, Answers, Asks, Busy, Call, Cas, Cells, Commit, Committed, Conflict, Core, Ends, Full, HoldsOn, IsLawful, IsTied, Load, Next, Proceeds, Replies, RepliesTo, Reply, StaysOn, Step, Store, after_undoing, both_ways, came, cells_after, cond_both, found, handed_to, in_transaction, rests, word_loaded}
-use Rattle.norec_engine.specs.Proceeds.{IsSettled}
+use Rattle.norec_core.specs.Proceeds.{IsSettled}
 use Rattle.norec_world.proofs.PlayerLaws.{reply_fits}
 
 -- ## What the operation asks and gives

@@ -1,5 +1,7 @@
 -- What a call of an actor, up to its first step, and a step of it do to its try.
-use Rattle.std.proofs.Common.{◌≡◌, ℕ, ◌/◌, Bool, true, false, [], Option, None, Some, refl, sym, ap, subst, ◌∙◌, arith}
+use Rattle.norec_world.proofs.LaterActions.{given_up_later}
+use Rattle.itm_types.specs.declared.call.Ran.{Ran}
+use Rattle.std.proofs.Common.{List, ◌++◌, ◌≡◌, ℕ, ◌/◌, Bool, true, false, [], Option, None, Some, refl, sym, ap, subst, ◌∙◌, arith}
 use Rattle.norec_world.proofs.Common.{Actor, Answer, Answers, Asks, Attempt, Begin, Busy, Call, Cells, Core, Ended, HasRow, IsAtOnce, IsDone, IsSound, IsTold, Next, Opens, Prior, Ready, Reply, Rows, Rules, Starves, Status, Step, Tells, Tries, Waits, active_of, asked_pending, begins, ending_of, false_from_ne_true, in_transaction, none-some, prior_of}
 use Rattle.norec_world.specs.declared.attempt.Outcome.TheVariants as outcomes
 use Rattle.norec_world.specs.declared.attempt.End.TheVariants as ends
@@ -25,10 +27,11 @@ module _ {P : Type 0} (rules : Rules P)
     where
       by_row : (b : Bool) → in_transaction old.engine ≡ b → HasRow b r0 old.thread → Tries cells.clock (prior_of r0 old) cells.clock r1 last
       by_row true e h =
+          let gone = given_up_later old.engine last.engine (rests sound ready).free s.engine in
           let reached = sound.tied.settled.reached in
           let late = sound.tied.late in
-          stops_try cells.clock cells.clock r0 r1 old last h.0 (old.engine.snapshot / 2) outcomes.NoMemory h.1
-          (ap (λ (x : Rows). x.ended) (s.stops e h.0 h.1)) (ap (λ (n : ℕ). n / 2) (sym (snapshot_still old.engine last.engine s.engine)))
+          stops_try cells.clock cells.clock r0 r1 old last h.0 (old.engine.snapshot / 2) outcomes.NoMemory last.engine.actions.ran h.1
+          (ap (λ (x : Rows). x.ended) (s.stops e h.0 h.1)) gone.0 (gone.1 ∙ ap (λ (x : List Ran). x ++ gone.0) (sym (sound.acts.all h.0 h.1))) (ap (λ (n : ℕ). n / 2) (sym (snapshot_still old.engine last.engine s.engine)))
           (refl, omega arith) refl (record { none = none; status = s.status })
       by_row false e h = stays_between cells.clock cells.clock r0 r1 old last (ap (λ (x : Rows). x.ended) (s.stays e)) refl h (rests sound ready).nothing (record {
         none = none;
@@ -42,11 +45,11 @@ module _ {P : Type 0} (rules : Rules P)
 module _ {P : Type 0} {rules : Rules P} {cells : Cells} {r0 r : Rows} {old a : Actor P} {call : Call} {what : Next} (m : IsCalling rules cells r0 r old a call what) where
   -- an attempt that is to be opened then is one of this moment
   opens_now : (c : Call) → (row : Attempt) → asked_pending false cells.clock old c ≡ Some row → a.engine.arena ≡ old.engine.arena
-      → row ≡ record { thread = a.thread; nth = old.nth; began = cells.clock / 2; at = 0; props = row.props; arena = a.engine.arena; calls = []; outcome = outcomes.Unfinished }
+      → row ≡ record { thread = a.thread; nth = old.nth; began = cells.clock / 2; at = 0; props = row.props; arena = a.engine.arena; calls = []; ran = []; outcome = outcomes.Unfinished }
   opens_now (Begin props room) row e arena =
-      let fresh : Attempt = record { thread = old.thread; nth = old.nth; began = cells.clock / 2; at = 0; props = props; arena = old.engine.arena; calls = []; outcome = outcomes.Unfinished } in
+      let fresh : Attempt = record { thread = old.thread; nth = old.nth; began = cells.clock / 2; at = 0; props = props; arena = old.engine.arena; calls = []; ran = []; outcome = outcomes.Unfinished } in
       let is : fresh ≡ row = cc in
-      sym is ∙ (λ i. record { thread = (sym m.asks.thread) i; nth = old.nth; began = cells.clock / 2; at = 0; props = (ap (λ (x : Attempt). x.props) is) i; arena = (sym arena) i; calls = []; outcome = outcomes.Unfinished })
+      sym is ∙ (λ i. record { thread = (sym m.asks.thread) i; nth = old.nth; began = cells.clock / 2; at = 0; props = (ap (λ (x : Attempt). x.props) is) i; arena = (sym arena) i; calls = []; ran = []; outcome = outcomes.Unfinished })
   opens_now c row e arena = absurd (let n = sym (rests m.sound m.ready).nothing ∙ e in cc)
 
   -- it waits for its first step
@@ -123,7 +126,7 @@ module _ {P : Type 0} {rules : Rules P} {cells : Cells} {r : Rows} {old : Actor 
     pub step_tries : (rows : Rows) → IsTold last.thread (in_transaction last.engine) r1 (last.engine.snapshot / 2) rows → Tries cells.clock (prior_of r old) cells'.clock rows last
     step_tries rows told =
         let t = step_taken m status ready in
-        told_tries cells.clock cells'.clock (prior_of r old) r1 rows last (now t done tells).sound.kept.row told (recorded Tried t done tells went_on (λ answer is t. answered_on answer t))
+        told_tries cells.clock cells'.clock (prior_of r old) r1 rows last (now t done tells).kept.row told (recorded Tried t done tells went_on (λ answer is t. answered_on answer t))
 
     -- an actor finishes in its local work alone
     pub step_unfinished : ending_of last.status ≡ Some ends.Finished → ⊥

@@ -1,5 +1,6 @@
 -- Local work after an event, or after other local work: what becomes of the try.
 -- Also what holds of actors that have taken no step.
+use Rattle.itm_types.specs.declared.call.Ran.{Ran}
 use Rattle.std.proofs.Common.{◌≡◌, ℕ, ◌+◌, ◌/◌, Bool, true, false, nat_lt, List, [], ◌∷◌, ◌++◌, append_assoc, Option, None, Some, refl, sym, ap, subst, ◌∙◌, arith, zero, suc}
 use Rattle.norec_world.proofs.Common.{Actor, Attempt, Cells, Continues, EndsAt, Entry, GoesOnAfter, IsBetween, IsFirst, IsSound, NoMemory, Outcome, Prior, Ready, Rows, Rules, Tries, TriesAgain, active_of, begins, between, current_of, ending_in, ending_of, in_transaction, over, prior_of, runs, turned_away, none-some}
 use Rattle.norec_world.specs.declared.attempt.Outcome.TheVariants as outcomes
@@ -44,6 +45,8 @@ continues_twice a b c x y = record {
   arena = y.arena ∙ x.arena;
   more = x.more ++ y.more;
   calls = y.calls ∙ (ap (λ (l : List Entry). l ++ y.more) x.calls ∙ append_assoc a.calls x.more y.more);
+  more_ran = x.more_ran ++ y.more_ran;
+  ran = y.ran ∙ (ap (λ (l : List Ran). l ++ y.more_ran) x.ran ∙ append_assoc a.ran x.more_ran y.more_ran);
 }
 
 -- with no step an attempt ends as it would have at the event before

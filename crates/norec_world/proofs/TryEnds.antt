@@ -1,11 +1,12 @@
 -- What an answer does to the try that its call belongs to.
+use Rattle.itm_types.specs.declared.call.Ran.{Ran}
 use Rattle.std.proofs.Common.{true≢false, inl, inr, ◌≡◌, ℕ, ◌+◌, ◌*◌, ◌/◌, ◌%◌, ◌≤◌, Bool, true, false, nat_lt, if◌then◌else◌, is_some, List, [], ◌∷◌, ◌++◌, length, Option, None, Some, refl, sym, ap, subst, ◌∙◌, arith, append-nil, ◌⊎◌}
 use Rattle.nest_frames.specs.Nest.{Frame}
 use Rattle.norec_world.proofs.PlayerLaws.{deep_of}
 use Rattle.norec_world.proofs.Cancels.{cancels}
 use Rattle.norec_world.proofs.Common.{Actor, Agrees, Answer, Attempt, Begin, ClosedBy, Entry, RecordsReply, Busy, Call, Cells, Committed, Conflict, Core, CountsTry, End, Ended, EndsAt, Full, GoesOnAfter, HasRow, IsBetween, IsMemory, IsReady, IsSettledBy, IsTied, IsTold, MAX_OPEN_BLOCKS, Opens, Outcome, Prior, Props, Ready, Records, Replied, Replies, RepliesTo, Reply, RestsAs, Rows, Rules, State, Status, Tries, TriesAgain, active_of, after, begins, between, cases_Bool, cond-false, cond-true, current_of, ending_of, in_transaction, is_begin, is_done, none_inside, over, prior_of, runs, state_over, turned_away, with_opened}
 use Rattle.itm_types.specs.declared.call.Reply.TheVariants as replies
-use Rattle.norec_engine.specs.Proceeds.{IsBegin}
+use Rattle.norec_core.specs.Proceeds.{IsBegin}
 use Rattle.norec_world.specs.declared.attempt.Outcome.TheVariants as outcomes
 use Rattle.norec_world.specs.declared.attempt.End.TheVariants as ends
 use Rattle.norec_world.proofs.Taken.{HasAnswered, still_going}
@@ -32,7 +33,7 @@ module _ {P : Type 0} (clock clock' : ℕ) (r r' : Rows) (a a' : Actor P) (ended
     row' = row;
     was = ap (λ (o : Option Attempt). current_of o a.pending) was;
     now = now;
-    continues = record { thread = refl; nth = refl; began = refl; props = refl; arena = refl; more = []; calls = sym (append-nil row.calls) };
+    continues = record { thread = refl; nth = refl; began = refl; props = refl; arena = refl; more = []; calls = sym (append-nil row.calls); more_ran = []; ran = sym (append-nil row.ran) };
     ended = ended;
     half = half;
     tries = nth;
@@ -42,7 +43,7 @@ module _ {P : Type 0} (clock clock' : ℕ) (r r' : Rows) (a a' : Actor P) (ended
 
   -- either
   pub stays : (b : Bool) → HasRow b r a.thread → a.pending ≡ None → active_of a'.thread r'.active ≡ active_of a.thread r.active → a'.nth ≡ a.nth
-      → (b ≡ false → (row : Attempt) → a'.pending ≡ Some row → row ≡ record { thread = a'.thread; nth = a.nth; began = clock' / 2; at = 0; props = row.props; arena = a'.engine.arena; calls = []; outcome = outcomes.Unfinished })
+      → (b ≡ false → (row : Attempt) → a'.pending ≡ Some row → row ≡ record { thread = a'.thread; nth = a.nth; began = clock' / 2; at = 0; props = row.props; arena = a'.engine.arena; calls = []; ran = []; outcome = outcomes.Unfinished })
       → (ending_of a'.status ≡ Some ends.GaveUp → ⊥) → (ending_of a'.status ≡ Some ends.NoMemory → ⊥) → Tries clock (prior_of r a) clock' r' a'
   stays true h nothing same nth opens goes_on fed = stays_open h.0 h.1 (same ∙ h.1) nth goes_on fed
   stays false h nothing same nth opens goes_on fed = stays_between h nothing (record { none = same ∙ h; tries = nth; opens = opens refl; goes_on = goes_on })
@@ -58,16 +59,16 @@ not_closed outcomes.NoMemory e calls = tt
 not_closed outcomes.Unfinished e calls = tt
 
 -- the open attempt ends, and its block has not
-pub stops_try : {P : Type 0} (clock clock' : ℕ) (r r' : Rows) (a a' : Actor P) (row : Attempt) (at : ℕ) (outcome : Outcome)
-    → active_of a.thread r.active ≡ Some row → r'.ended ≡ r.ended ++ record row { at = at; outcome = outcome } ∷ []
+pub stops_try : {P : Type 0} (clock clock' : ℕ) (r r' : Rows) (a a' : Actor P) (row : Attempt) (at : ℕ) (outcome : Outcome) (ran : List Ran)
+    → active_of a.thread r.active ≡ Some row → r'.ended ≡ r.ended ++ record row { at = at; ran = ran; outcome = outcome } ∷ [] → (more : List Ran) → ran ≡ row.ran ++ more
     → at ≡ a'.engine.snapshot / 2 → EndsAt a.engine.max_commits clock clock' at outcome → is_done outcome ≡ false
     → GoesOnAfter outcome clock' (prior_of r a) r' a' → Tries clock (prior_of r a) clock' r' a'
-stops_try clock clock' r r' a a' row at outcome was ended reads ends undone goes = over (record {
+stops_try clock clock' r r' a a' row at outcome ran was ended more_ran ran_is reads ends undone goes = over (record {
   row = row;
-  row' = record row { at = at; outcome = outcome };
+  row' = record row { at = at; ran = ran; outcome = outcome };
   was = ap (λ (o : Option Attempt). current_of o a.pending) was;
   ended = ended;
-  continues = record { thread = refl; nth = refl; began = refl; props = refl; arena = refl; more = []; calls = sym (append-nil row.calls) };
+  continues = record { thread = refl; nth = refl; began = refl; props = refl; arena = refl; more = []; calls = sym (append-nil row.calls); more_ran = more_ran; ran = ran_is };
   reads = reads;
   at = ends;
   closed = not_closed outcome undone row.calls;
@@ -129,13 +130,14 @@ module _ {P : Type 0} {rules : Rules P} {cells cells' : Cells} {r r1 : Rows} {mi
       by_open : (now : Bool) → in_transaction last.engine ≡ now → RecordsReply rules true now r r1 a last call reply → Tries cells.clock (prior_of r a) cells'.clock r1 last
       by_open true o told =
           let row = m.answered.kept.row in
-          let with_call : Attempt → Attempt = λ x. record x { calls = x.calls ++ record { call = call; reply = reply } ∷ [] } in
+          let later : (more : List Ran) × (last.engine.actions.ran ≡ row.0.ran ++ more) = (let f = m.taken.first row.0 row.1 in (f.0, ap (λ (c : Core). c.actions.ran) m.settled.engine ∙ sym f.1)) in
+          let with_call : Attempt → Attempt = λ x. record x { calls = x.calls ++ record { call = call; reply = reply } ∷ []; ran = last.engine.actions.ran } in
           runs (record {
             row = row.0;
             row' = with_call row.0;
             was = ap (λ (o : Option Attempt). current_of o a.pending) row.1;
             now = ap (λ (t : ℕ). active_of t r1.active) m.settled.thread ∙ (ap (λ (x : Rows). active_of a.thread x.active) told.0 ∙ changed_here a.thread with_call r.active row.0 (λ x. refl) row.1);
-            continues = record { thread = refl; nth = refl; began = refl; props = refl; arena = refl; more = record { call = call; reply = reply } ∷ []; calls = refl };
+            continues = record { thread = refl; nth = refl; began = refl; props = refl; arena = refl; more = record { call = call; reply = reply } ∷ []; calls = refl; more_ran = later.0; ran = later.1 };
             ended = ap (λ (x : Rows). x.ended) told.0;
             half = half;
             tries = told.3;
@@ -144,15 +146,16 @@ module _ {P : Type 0} {rules : Rules P} {cells cells' : Cells} {r r1 : Rows} {mi
           })
       by_open false o told =
           let row = m.answered.kept.row in
+          let later : (more : List Ran) × (last.engine.actions.ran ≡ row.0.ran ++ more) = (let f = m.taken.first row.0 row.1 in (f.0, ap (λ (c : Core). c.actions.ran) m.settled.engine ∙ sym f.1)) in
           let closed : in_transaction a.engine ≡ false = ap in_transaction (sym m.settled.engine) ∙ o in
           let ends : Replies mid call reply a.engine = subst (λ (o : Option Call). RepliesTo mid o reply a.engine) m.taken.doing m.ends in
           let abort = cancels mid a.engine call reply cells'.words ends m.taken.was_is closed (sym m.taken.words, m.taken.tied.fit) (subst (Agrees cells'.words) (sym (m.taken.tied.settled.closed closed).0) tt) in
           over (record {
             row = row.0;
-            row' = record row.0 { calls = row.0.calls ++ record { call = call; reply = reply } ∷ []; at = last.engine.snapshot / 2; outcome = outcomes.Cancelled };
+            row' = record row.0 { calls = row.0.calls ++ record { call = call; reply = reply } ∷ []; at = last.engine.snapshot / 2; ran = last.engine.actions.ran; outcome = outcomes.Cancelled };
             was = ap (λ (o : Option Attempt). current_of o a.pending) row.1;
             ended = ap (λ (x : Rows). x.ended) (told.0 row.0 row.1);
-            continues = record { thread = refl; nth = refl; began = refl; props = refl; arena = refl; more = record { call = call; reply = reply } ∷ []; calls = refl };
+            continues = record { thread = refl; nth = refl; began = refl; props = refl; arena = refl; more = record { call = call; reply = reply } ∷ []; calls = refl; more_ran = later.0; ran = later.1 };
             reads = refl;
             at = (half, omega (arith, ap (λ (c : Core). c.snapshot) m.settled.engine, seen cells' a.engine m.taken.tied));
             closed = (row.0.calls, abort.0, (λ i. row.0.calls ++ record { call = abort.1 i; reply = abort.2 i } ∷ []));
@@ -160,14 +163,15 @@ module _ {P : Type 0} {rules : Rules P} {cells cells' : Cells} {r r1 : Rows} {mi
           })
   open_tries (Committed at wrote) m =
       let row = m.answered.kept.row in
+      let later : (more : List Ran) × (last.engine.actions.ran ≡ row.0.ran ++ more) = (let f = m.taken.first row.0 row.1 in (f.0, ap (λ (c : Core). c.actions.ran) m.settled.engine ∙ sym f.1)) in
       let closed : in_transaction a.engine ≡ false = m.answered.fits.1 in
-      let done : Attempt = record row.0 { calls = row.0.calls ++ record { call = call; reply = replies.Done } ∷ []; at = at; outcome = if wrote then outcomes.Committed else outcomes.ReadOnly } in
+      let done : Attempt = record row.0 { calls = row.0.calls ++ record { call = call; reply = replies.Done } ∷ []; at = at; ran = last.engine.actions.ran; outcome = if wrote then outcomes.Committed else outcomes.ReadOnly } in
       over (record {
         row = row.0;
         row' = done;
         was = ap (λ (o : Option Attempt). current_of o a.pending) row.1;
         ended = ap (λ (x : Rows). x.ended) (m.told.0 row.0 row.1);
-        continues = record { thread = refl; nth = refl; began = refl; props = refl; arena = refl; more = record { call = call; reply = replies.Done } ∷ []; calls = refl };
+        continues = record { thread = refl; nth = refl; began = refl; props = refl; arena = refl; more = record { call = call; reply = replies.Done } ∷ []; calls = refl; more_ran = later.0; ran = later.1 };
         reads = m.ends.at_is ∙ ap (λ (n : ℕ). n / 2) (sym (ap (λ (c : Core). c.snapshot) (m.settled.engine ∙ m.ends.stays)));
         at = at_end wrote refl;
         closed = closed_end wrote;
@@ -188,7 +192,8 @@ module _ {P : Type 0} {rules : Rules P} {cells cells' : Cells} {r r1 : Rows} {mi
       after_end false x = x
   open_tries (Conflict clock word) m =
       let row = m.answered.kept.row in
-      stops_try cells.clock cells'.clock r r1 a last row.0 (last.engine.snapshot / 2) outcomes.Conflict row.1 (ap (λ (x : Rows). x.ended) (m.told.0 row.0 row.1)) refl (
+      stops_try cells.clock cells'.clock r r1 a last row.0 (last.engine.snapshot / 2) outcomes.Conflict last.engine.actions.ran row.1 (ap (λ (x : Rows). x.ended) (m.told.0 row.0 row.1))
+      (m.taken.first row.0 row.1).0 (ap (λ (c : Core). c.actions.ran) m.settled.engine ∙ sym (m.taken.first row.0 row.1).1) refl (
         m.taken.moves.keeps m.ends.unfreed,
         omega (arith, ap (λ (c : Core). c.snapshot) (m.settled.engine ∙ m.ends.stays), ap (λ (c : Core). c.clock) m.ends.stays, m.ends.later, m.ends.clock_is, m.taken.tied.late),
       ) refl
@@ -196,7 +201,8 @@ module _ {P : Type 0} {rules : Rules P} {cells cells' : Cells} {r r1 : Rows} {mi
   open_tries (Busy clock) m = absurd (let f : true ≡ false = m.answered.fits.0 in cc)
   open_tries (Full at) m =
       let row = m.answered.kept.row in
-      stops_try cells.clock cells'.clock r r1 a last row.0 at outcomes.Full row.1 (ap (λ (x : Rows). x.ended) (m.told.0 row.0 row.1))
+      stops_try cells.clock cells'.clock r r1 a last row.0 at outcomes.Full last.engine.actions.ran row.1 (ap (λ (x : Rows). x.ended) (m.told.0 row.0 row.1))
+      (m.taken.first row.0 row.1).0 (ap (λ (c : Core). c.actions.ran) m.settled.engine ∙ sym (m.taken.first row.0 row.1).1)
       (m.ends.at_is ∙ ap (λ (n : ℕ). n / 2) (sym (ap (λ (c : Core). c.snapshot) m.settled.engine))) (
         m.taken.moves.keeps m.ends.unfreed,
         omega (arith, m.ends.at_is, seen cells' a.engine m.taken.tied),
@@ -209,9 +215,9 @@ module _ {P : Type 0} {rules : Rules P} {cells cells' : Cells} {r r1 : Rows} {mi
 -- the plain machine refuses no outermost begin, so the engine's reply to one opens
 pub begin_opens : (mid new : Core) (m : List ℕ) (props : Props) (room : ℕ) (reply : Replied) → Replies mid (Begin props room) reply new → in_transaction mid ≡ false → IsMemory mid.words m → Agrees m new.log → in_transaction new ≡ false → ⊥
 begin_opens mid new m props room reply g outside memory agrees closed =
-    let opened_blocks = ap (λ (b : List Frame). (after MAX_OPEN_BLOCKS (state_over mid.writes b mid.arena m) (Begin props room)).blocks) (none_inside mid.blocks outside) in
+    let opened_blocks = ap (λ (b : List Frame). (after MAX_OPEN_BLOCKS (state_over mid.writes b mid.arena mid.actions m) (Begin props room)).blocks) (none_inside mid.blocks outside) in
     let blocks = ap (λ (s : State). s.blocks) (g.meets m memory agrees) in
-    let some = sym (ap (λ (b : List Frame). (state_over new.writes b new.arena m).blocks) (none_inside new.blocks closed)) ∙ (blocks ∙ opened_blocks) in
+    let some = sym (ap (λ (b : List Frame). (state_over new.writes b new.arena new.actions m).blocks) (none_inside new.blocks closed)) ∙ (blocks ∙ opened_blocks) in
     absurd (cc)
 
 pub begin_call : (call : Call) → is_begin call ≡ true → (props : Props) × (room : ℕ) × (call ≡ Begin props room)
@@ -255,7 +261,7 @@ module _ {P : Type 0} {rules : Rules P} {cells cells' : Cells} {r r1 : Rows} {mi
           row' = new_row;
           was = ap (λ (o : Option Attempt). current_of o a.pending) m.answered.kept.row ∙ b.1;
           now = ap (λ (t : ℕ). active_of t r1.active) (m.settled.thread ∙ sym q.thread) ∙ (ap (λ (x : Rows). active_of row.thread x.active) b.3 ∙ opened_here new_row r.active free);
-          continues = record { thread = refl; nth = refl; began = refl; props = refl; arena = refl; more = []; calls = sym (append-nil row.calls) };
+          continues = record { thread = refl; nth = refl; began = refl; props = refl; arena = refl; more = []; calls = sym (append-nil row.calls); more_ran = []; ran = sym (append-nil row.ran) };
           ended = ap (λ (x : Rows). x.ended) b.3;
           half = ap (λ (n : ℕ). n / 2) (m.taken.outside refl).0;
           tries = m.told.3;
@@ -345,7 +351,7 @@ module _ {P : Type 0} (clock clock' : ℕ) (p : Prior) (r r' : Rows) (a : Actor 
         row' = at t.row';
         was = t.was;
         now = ap (λ (x : Rows). active_of a.thread x.active) moved ∙ changed_here a.thread at r.active t.row' (λ x. refl) t.now;
-        continues = record { thread = k.thread; nth = k.nth; began = k.began; props = k.props; arena = k.arena; more = k.more; calls = k.calls };
+        continues = record { thread = k.thread; nth = k.nth; began = k.began; props = k.props; arena = k.arena; more = k.more; calls = k.calls; more_ran = k.more_ran; ran = k.ran };
         ended = ap (λ (x : Rows). x.ended) moved ∙ t.ended;
         half = t.half;
         tries = t.tries;

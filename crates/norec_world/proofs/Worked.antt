@@ -1,4 +1,5 @@
 -- Local work of an actor, one call of its player after the other: all that it leaves.
+use Rattle.norec_world.specs.ActionRoom.{IsActing}
 use Rattle.std.proofs.Common.{◌≡◌, ◌≤◌, Bool, true, false, List, ◌++◌, None, Some, refl, sym, ap, subst, ◌∙◌, arith}
 use Rattle.norec_world.proofs.Common.{Actor, Acts, Attempt, Call, Cells, Core, Ended, Finished, HasRow, HasWorked, IsDone, IsNoMore, IsSound, KeepsOthers, Next, Obeys, Ready, Rows, Rules, Starves, Tells, Works, ending_of, in_transaction, is_ready, prior_of, rank, whole}
 use Rattle.norec_world.specs.LocalWork.{calls, finishes, starves}
@@ -26,7 +27,7 @@ module _ {P : Type 0} {rules : Rules P} (laws : Obeys rules) {cells : Cells} {r0
   -- the player has none
   pub finish_worked : rules.next_call old.player ≡ None → HasWorked rules cells r0 old r0 (record old { status = Ended Finished })
   finish_worked none = record {
-    sound = record { tied = sound.tied; kept = (let k = sound.kept in record { row = k.row; empty = k.empty; tried = k.tried; tries = k.tries; retries = k.retries }); status = tt };
+    sound = record { tied = sound.tied; acts = (let x = sound.acts in record { empty = record { end_room = x.empty.end_room; cancel_room = x.empty.cancel_room }; all = x.all; places = x.places; pending = x.pending; status = tt }); kept = (let k = sound.kept in record { row = k.row; empty = k.empty; tried = k.tried; tries = k.tries; retries = k.retries }); status = tt };
     works = one_act r0 (record old { status = Ended Finished }) (finishes (record { none = none; actor = refl; rows = refl }));
     tries = λ w. finish_tries rules cells r0 old sound ready (record old { status = Ended Finished }) refl;
     runs = λ first base laid runs. (laid, finish_runs sound ready first base runs);
@@ -52,7 +53,7 @@ module _ {P : Type 0} {rules : Rules P} (laws : Obeys rules) {cells : Cells} {r0
         tries = λ w. tries;
         runs = λ first base laid runs. (
           laid_calls base cells r0 r1 laid own.more own.ended (counted_after cells.clock cells.clock (prior_of r0 old) r1 last tries laid.counted),
-          starve_runs laws sound s first base laid runs (still_going ready) closed own.more own.ended,
+          starve_runs laws sound s first base laid runs (rests sound ready).free (still_going ready) closed own.more own.ended,
         );
         others = others;
         holds = holds;
@@ -74,15 +75,15 @@ module _ {P : Type 0} {rules : Rules P} (laws : Obeys rules) {cells : Cells} {r0
     rank_falls = λ n b. (let e : rank rules n (in_transaction a.engine) a ≡ rank rules n (in_transaction old.engine) old = ap (λ (x : Bool). rank rules n x a) opens ∙ same_rank m n in omega arith);
   }
 
-  pub call_worked : rules.next_call old.player ≡ Some call → KeepsOthers old r0 last r1 → HasWorked rules cells r0 old r1 last
-  call_worked asks others =
+  pub call_worked : rules.next_call old.player ≡ Some call → KeepsOthers old r0 last r1 → IsActing r1 last → HasWorked rules cells r0 old r1 last
+  call_worked asks others acts =
       let taken = call_taken m in
       let x = now taken done tells in
       let tries = call_tries m done tells in
       let own = others.own in
       let kept = limit_same (mid m) a.engine what m.asks.called.proceeds in
       record {
-        sound = x.sound;
+        sound = x.sound acts;
         works = one_act laws m.sound m.ready r1 last (calls (record {
           call = call;
           next_is = asks;
@@ -93,7 +94,7 @@ module _ {P : Type 0} {rules : Rules P} (laws : Obeys rules) {cells : Cells} {r0
           ready = m.asked.same.status ∙ m.ready;
           tells = tells;
           engine = x.engine;
-          same = record { thread = x.thread ∙ m.asked.same.thread; retries = x.retries ∙ m.asked.same.retries; nothing = λ e. (rests x.sound e).nothing };
+          same = record { thread = x.thread ∙ m.asked.same.thread; retries = x.retries ∙ m.asked.same.retries; nothing = λ e. (rests (x.sound acts) e).nothing };
         }));
         tries = λ w. tries;
         runs = λ first base laid runs. call_runs laws m first base laid runs r1 last done tells own.more (own.ended ∙ ap (λ (l : List Attempt). l ++ own.more) (sym (ended_same m))) (counted_after cells.clock cells.clock (prior_of r0 old) r1 last tries laid.counted);

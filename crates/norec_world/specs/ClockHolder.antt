@@ -1,6 +1,6 @@
 -- Who holds the clock, over one step.
 use Rattle.std.specs.Prelude.{◌≡◌, ◌*◌, ◌≤◌, ◌%◌, true, false, length}
-use Rattle.norec_engine.specs.Core.{Core}
+use Rattle.norec_core.specs.Core.{Core}
 use Rattle.norec_world.specs.Cells.{Cells}
 
 -- what the cells are before and after a step of this engine

@@ -2,6 +2,7 @@ pub mod Attempts
 pub mod Opacity
 pub mod Cells
 pub mod Rows
+pub mod ActionRoom
 pub mod OthersAttempts
 pub mod Tries
 pub mod Events

@@ -1,13 +1,14 @@
 -- What an actor does with the value of its step, and in the local work that follows, up to its next step or its end.
-use Rattle.std.specs.Prelude.{◌≡◌, ◌⊎◌, ℕ, zero, suc, ◌/◌, ◌≤◌, true, false, length, vec_capacity, None, Some}
+use Rattle.std.specs.Prelude.{◌≡◌, ◌⊎◌, ℕ, zero, suc, ◌/◌, ◌<◌, ◌≤◌, true, false, length, is_some, vec_capacity, None, Some}
 use Rattle.itm_types.specs.declared.call.Call.{Call}
 use Rattle.itm_types.specs.declared.step.Step.{Step}
-use Rattle.norec_engine.specs.declared.answer.Next.{Next}
-use Rattle.norec_engine.specs.Moves.{IsResumed}
-use Rattle.norec_engine.specs.Proceeds.{MayStarve}
-use Rattle.norec_engine.specs.Undoing.{after_undoing}
-use Rattle.itm_types.specs.Calls.{is_begin}
-use Rattle.norec_engine.specs.Core.{in_transaction}
+use Rattle.norec_core.specs.declared.answer.Next.{Next}
+use Rattle.norec_core.specs.Moves.{IsResumed}
+use Rattle.norec_core.specs.Proceeds.{MayStarve}
+use Rattle.norec_core.specs.Undoing.{after_undoing}
+use Rattle.itm_types.specs.Calls.{is_abort, is_begin, registered_by}
+use Rattle.user_actions.specs.Actions.{total}
+use Rattle.norec_core.specs.Core.{in_transaction}
 use Rattle.norec_world.specs.declared.attempt.Attempt.{Attempt}
 use Rattle.norec_world.specs.declared.attempt.Outcome.TheVariants as outcomes
 use Rattle.norec_world.specs.declared.attempt.End.TheVariants.{Finished, NoMemory}
@@ -24,9 +25,13 @@ pub record SameActor {P : Type 0} (a a' : Actor P) : Type 0 where
   pub retries : a'.retries ≡ a.retries
   pub nothing : a'.status ≡ Ready → a'.pending ≡ None
 
--- within a block memory is wanted for the call with its reply where there is no room left for them, or by a read, a write or a log for itself
+-- there is no room for one action more that runs at the attempt's end, or for those that have run once a cancel is done
+abbrev pub LacksRoom : {P : Type 0} → Actor P → Call → Type 0
+LacksRoom a call = ((is_some (registered_by call) ≡ true) × (vec_capacity a.end_room ≤ total a.engine.actions)) ⊎ ((is_abort call ≡ true) × (vec_capacity a.cancel_room < total a.engine.actions))
+
+-- within a block memory is wanted for the call with its reply where there is no room left for them, likewise for the actions that it leaves, or by the call for itself
 abbrev pub IsShort : {P : Type 0} → Rows → Actor P → Call → Type 0
-IsShort r a call = (row : Attempt) → active_of a.thread r.active ≡ Some row → (vec_capacity a.spare ≤ length row.calls) ⊎ MayStarve a.engine call
+IsShort r a call = (row : Attempt) → active_of a.thread r.active ≡ Some row → (vec_capacity a.spare ≤ length row.calls) ⊎ LacksRoom a call ⊎ MayStarve a.engine call
 
 -- its step was done on these cells: its engine is handed what was found, and of what comes the call waits for the next step, or is answered
 pub record TakesIn {P : Type 0} (rules : Rules P) (cells : Cells) (r : Rows) (a : Actor P) (r' : Rows) (a' : Actor P) : Type 0 where
@@ -72,7 +77,7 @@ module _ {P : Type 0} (rules : Rules P) where
     pub counts : (a'.nth ≡ a.nth) × (a'.again ≡ a.again) × (a'.pending ≡ a.pending)
     pub engine : a'.engine ≡ after_undoing a.engine
     pub room : ℕ
-    pub stops : in_transaction a.engine ≡ true → StopsAt a.thread (record r { room = room }) (a.engine.snapshot / 2) outcomes.NoMemory r'
+    pub stops : in_transaction a.engine ≡ true → StopsAt a.thread (record r { room = room }) (a.engine.snapshot / 2) outcomes.NoMemory a'.engine.actions.ran r'
     pub stays : in_transaction a.engine ≡ false → r' ≡ record r { room = room }
 
   -- one of these

@@ -1,9 +1,9 @@
 -- What an engine has seen of the memories that the commits left.
 use Rattle.std.specs.Prelude.{◌≡◌, ℕ, ◌/◌, ◌%◌, true, false, List, length, slice_get}
 use Rattle.itm_types.specs.Memory.{Agrees}
-use Rattle.norec_engine.specs.Core.{Core, in_transaction}
-use Rattle.norec_engine.specs.Proceeds.{backed, Got}
-use Rattle.norec_engine.specs.Rows.{write_at}
+use Rattle.norec_core.specs.Core.{Core, in_transaction}
+use Rattle.norec_core.specs.Proceeds.{backed, Got}
+use Rattle.norec_core.specs.Rows.{write_at}
 use Rattle.norec_world.specs.Cells.{Cells}
 use Rattle.norec_world.specs.Rows.{Rows}
 use Rattle.norec_world.specs.Commits.{AreCounted}

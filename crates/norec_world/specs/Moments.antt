@@ -1,7 +1,7 @@
 -- What an actor's step, and its local work, leave: all of it at once. No contract above cites it.
 use Rattle.std.specs.Prelude.{◌≡◌, true, false, None, Some}
 use Rattle.itm_types.specs.declared.step.Step.{Step}
-use Rattle.norec_engine.specs.Core.{in_transaction}
+use Rattle.norec_core.specs.Core.{in_transaction}
 use Rattle.norec_world.specs.declared.attempt.End.TheVariants.{Finished}
 use Rattle.norec_world.specs.declared.actor.Actor.{Actor}
 use Rattle.norec_world.specs.Cells.{Cells, cells_after}

@@ -3,6 +3,7 @@ use Rattle.std.specs.Prelude.{ℕ, zero, suc, ◌≡◌, ◌<◌, ◌≤◌, Boo
 use Rattle.itm_types.specs.declared.call.Props.{Props}
 use Rattle.itm_types.specs.declared.call.Call.{Call}
 use Rattle.itm_types.specs.declared.call.Call.TheVariants.{Begin, Commit}
+use Rattle.itm_types.specs.declared.call.Ran.{Ran}
 use Rattle.itm_types.specs.declared.call.Reply.{Reply}
 use Rattle.itm_types.specs.declared.call.Reply.TheVariants.{Code, Done}
 use Rattle.itm_model.specs.State.{State}
@@ -23,6 +24,16 @@ EndsAs Conflict s = is_open s ≡ true
 EndsAs Full s = is_open s ≡ true
 EndsAs NoMemory s = is_open s ≡ true
 EndsAs Unfinished s = is_open s ≡ true
+
+-- the actions that have run once an attempt ended so, by the plain state after its calls: one that was given up is rolled back
+abbrev pub ran_of : Outcome → State → List Ran
+ran_of Committed s = s.actions.ran
+ran_of ReadOnly s = s.actions.ran
+ran_of Cancelled s = s.actions.ran
+ran_of Conflict s = (undone s).actions.ran
+ran_of Full s = (undone s).actions.ran
+ran_of NoMemory s = (undone s).actions.ran
+ran_of Unfinished s = s.actions.ran
 
 abbrev pub IsBeginningOf : {A : Type 0} → List A → List A → Type 0
 IsBeginningOf {A} xs ys = (rest : List A) × (xs ++ rest ≡ ys)
@@ -77,6 +88,7 @@ module _ {P : Type 0} (rules : Rules P) (deepest : ℕ) where
     pub whole : is_open (alone deepest memory a) ≡ false → pairs_of a ≡ answers rules.next_call rules.answered rules.calls_left deepest p memory a.arena a.props
     pub ends : EndsAs a.outcome (alone deepest memory a)
     pub closed : ClosedBy a.outcome a.calls
+    pub ran : a.ran ≡ ran_of a.outcome (alone deepest memory a)
     pub full : a.outcome ≡ Full → LacksCommit p a memory  -- full is told of a writer's commit alone
 
   -- what follows an attempt whose player after the begin was p and that left the plain state s, if anything does

@@ -1,7 +1,7 @@
 -- The headline, of a world: what every attempt was answered, and what the commits left.
 use Rattle.std.specs.Prelude.{◌≡◌, ℕ, ◌/◌, ◌%◌, true, false, length, replicate, Some, slice_get}
 use Rattle.itm_types.specs.declared.limits.TheConstants.{MAX_OPEN_BLOCKS}
-use Rattle.norec_engine.specs.Proceeds.{backed}
+use Rattle.norec_core.specs.Proceeds.{backed}
 use Rattle.norec_world.specs.declared.actor.Actor.{Actor}
 use Rattle.norec_world.specs.Attempts.{of_thread}
 use Rattle.norec_world.specs.declared.attempt.Attempt.{Attempt}

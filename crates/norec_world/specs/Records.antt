@@ -1,15 +1,16 @@
 -- What the actor's rows, player and counts are once an answer is recorded.
-use Rattle.std.specs.Prelude.{◌≡◌, ℕ, ◌+◌, ◌/◌, nat_lt, Bool, true, false, [], ◌∷◌, ◌++◌, Option, None, Some, if◌then◌else◌}
+use Rattle.std.specs.Prelude.{◌≡◌, ℕ, ◌+◌, ◌/◌, nat_lt, Bool, true, false, List, [], ◌∷◌, ◌++◌, Option, None, Some, if◌then◌else◌}
 use Rattle.itm_types.specs.declared.call.Call.{Call}
 use Rattle.itm_types.specs.declared.call.Call.TheVariants.{Begin}
-use Rattle.norec_engine.specs.Moves.{IsCalled}
-use Rattle.norec_engine.specs.declared.answer.Next.{Next}
-use Rattle.norec_engine.specs.declared.answer.Next.TheVariants.{Step as Steps, Answer as Answers}
+use Rattle.norec_core.specs.Moves.{IsCalled}
+use Rattle.norec_core.specs.declared.answer.Next.{Next}
+use Rattle.norec_core.specs.declared.answer.Next.TheVariants.{Step as Steps, Answer as Answers}
+use Rattle.itm_types.specs.declared.call.Ran.{Ran}
 use Rattle.itm_types.specs.declared.call.Reply.{Reply as Replied}
 use Rattle.itm_types.specs.declared.call.Reply.TheVariants.{Done}
-use Rattle.norec_engine.specs.declared.answer.Answer.{Answer}
-use Rattle.norec_engine.specs.declared.answer.Answer.TheVariants.{Reply, Committed, Conflict, Busy, Full}
-use Rattle.norec_engine.specs.Core.{in_transaction}
+use Rattle.norec_core.specs.declared.answer.Answer.{Answer}
+use Rattle.norec_core.specs.declared.answer.Answer.TheVariants.{Reply, Committed, Conflict, Busy, Full}
+use Rattle.norec_core.specs.Core.{in_transaction}
 use Rattle.norec_world.specs.declared.attempt.Attempt.{Attempt}
 use Rattle.norec_world.specs.Rows.{Rows, active_of, with_changed, with_opened, with_ended}
 use Rattle.norec_world.specs.declared.attempt.Outcome.{Outcome}
@@ -19,18 +20,18 @@ use Rattle.norec_world.specs.declared.actor.Actor.{Actor}
 use Rattle.norec_world.specs.declared.actor.Status.TheVariants.{Waits, Ended}
 use Rattle.script_vm.specs.Rules.{Rules}
 
--- the actor's open attempt has one call more
-abbrev pub AddsCall : ℕ → Rows → Call → Replied → Rows → Type 0
-AddsCall thread r call reply r' = r' ≡ with_changed thread (λ row. record row { calls = row.calls ++ record { call = call; reply = reply } ∷ [] }) r
+-- the actor's open attempt has one call more, and these actions have run in it
+abbrev pub AddsCall : ℕ → Rows → Call → Replied → List Ran → Rows → Type 0
+AddsCall thread r call reply ran r' = r' ≡ with_changed thread (λ row. record row { calls = row.calls ++ record { call = call; reply = reply } ∷ []; ran = ran }) r
 
 -- it has the call that ends its block, and is over
-abbrev pub EndsBy : ℕ → Rows → ℕ → Outcome → Call → Replied → Rows → Type 0
-EndsBy thread r at outcome call reply r' = (row : Attempt) → active_of thread r.active ≡ Some row
-    → r' ≡ with_ended thread (record row { calls = row.calls ++ record { call = call; reply = reply } ∷ []; at = at; outcome = outcome }) r
+abbrev pub EndsBy : ℕ → Rows → ℕ → Outcome → Call → Replied → List Ran → Rows → Type 0
+EndsBy thread r at outcome call reply ran r' = (row : Attempt) → active_of thread r.active ≡ Some row
+    → r' ≡ with_ended thread (record row { calls = row.calls ++ record { call = call; reply = reply } ∷ []; at = at; ran = ran; outcome = outcome }) r
 
 -- it is over, and its block has not ended
-abbrev pub StopsAt : ℕ → Rows → ℕ → Outcome → Rows → Type 0
-StopsAt thread r at outcome r' = (row : Attempt) → active_of thread r.active ≡ Some row → r' ≡ with_ended thread (record row { at = at; outcome = outcome }) r
+abbrev pub StopsAt : ℕ → Rows → ℕ → Outcome → List Ran → Rows → Type 0
+StopsAt thread r at outcome ran r' = (row : Attempt) → active_of thread r.active ≡ Some row → r' ≡ with_ended thread (record row { at = at; ran = ran; outcome = outcome }) r
 
 -- it is told where it reads, if there is one
 pub record IsTold (thread : ℕ) (is_open : Bool) (r : Rows) (at : ℕ) (r' : Rows) : Type 0 where
@@ -59,9 +60,9 @@ module _ {P : Type 0} (rules : Rules P) where
   -- of a reply to a call that came where a transaction was open, or not, and where one is then, or none: a cancel ends the attempt
   abbrev pub RecordsReply : Bool → Bool → Rows → Rows → Actor P → Actor P → Call → Replied → Type 0
   RecordsReply true true r r' old new call reply =
-      AddsCall old.thread r call reply r' × (new.player ≡ rules.answered old.player reply) × (new.again ≡ old.again) × (new.nth ≡ old.nth) × (new.status ≡ old.status)
+      AddsCall old.thread r call reply new.engine.actions.ran r' × (new.player ≡ rules.answered old.player reply) × (new.again ≡ old.again) × (new.nth ≡ old.nth) × (new.status ≡ old.status)
   RecordsReply true false r r' old new call reply =
-      EndsBy old.thread r (new.engine.snapshot / 2) outcomes.Cancelled call reply r' × (new.player ≡ rules.answered old.player reply) × (new.again ≡ false) × (new.nth ≡ 1) × (new.status ≡ old.status)
+      EndsBy old.thread r (new.engine.snapshot / 2) outcomes.Cancelled call reply new.engine.actions.ran r' × (new.player ≡ rules.answered old.player reply) × (new.again ≡ false) × (new.nth ≡ 1) × (new.status ≡ old.status)
   RecordsReply false now r r' old new call reply =
       Opens now r old.pending (new.engine.snapshot / 2) r' × (new.player ≡ rules.answered old.player reply) × (new.again ≡ again_after now old.pending old.again) × (new.nth ≡ old.nth) × (new.status ≡ old.status)
 
@@ -69,11 +70,11 @@ module _ {P : Type 0} (rules : Rules P) where
   abbrev pub Records : Bool → Rows → Rows → Actor P → Actor P → Call → Answer → Type 0
   Records was r r' old new call (Reply reply) = RecordsReply was (in_transaction new.engine) r r' old new call reply
   Records was r r' old new call (Committed at wrote) =
-      EndsBy old.thread r at (if wrote then outcomes.Committed else outcomes.ReadOnly) call Done r' × (new.player ≡ rules.answered old.player Done) × (new.again ≡ false) × (new.nth ≡ 1) × (new.status ≡ old.status)
-  Records was r r' old new call (Conflict clock word) = StopsAt old.thread r (new.engine.snapshot / 2) outcomes.Conflict r' × (new.player ≡ rules.restarted old.player) × CountsTry old new × (new.pending ≡ old.pending)
+      EndsBy old.thread r at (if wrote then outcomes.Committed else outcomes.ReadOnly) call Done new.engine.actions.ran r' × (new.player ≡ rules.answered old.player Done) × (new.again ≡ false) × (new.nth ≡ 1) × (new.status ≡ old.status)
+  Records was r r' old new call (Conflict clock word) = StopsAt old.thread r (new.engine.snapshot / 2) outcomes.Conflict new.engine.actions.ran r' × (new.player ≡ rules.restarted old.player) × CountsTry old new × (new.pending ≡ old.pending)
   Records was r r' old new call (Busy clock) = (r' ≡ r) × (new.player ≡ old.player) × CountsTry old new × (new.pending ≡ None)
   Records was r r' old new call (Full at) =
-      StopsAt old.thread r at outcomes.Full r' × (new.status ≡ Ended GaveUp) × (new.player ≡ old.player) × (new.again ≡ old.again) × (new.nth ≡ old.nth) × (new.pending ≡ old.pending)
+      StopsAt old.thread r at outcomes.Full new.engine.actions.ran r' × (new.status ≡ Ended GaveUp) × (new.player ≡ old.player) × (new.again ≡ old.again) × (new.nth ≡ old.nth) × (new.pending ≡ old.pending)
 
   -- of what the engine gave for the call: it waits for the step, or its answer is recorded
   abbrev pub Tells : Bool → Rows → Rows → Actor P → Actor P → Call → Next → Type 0
@@ -93,6 +94,7 @@ asked_pending false clock a (Begin props room) = Some (record {
   props = props;
   arena = a.engine.arena;
   calls = [];
+  ran = [];
   outcome = outcomes.Unfinished;
 })
 asked_pending false clock a _ = a.pending

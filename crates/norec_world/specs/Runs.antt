@@ -5,8 +5,8 @@ use Rattle.itm_types.specs.declared.limits.TheConstants.{MAX_OPEN_BLOCKS}
 use Rattle.itm_types.specs.declared.call.Call.{Call}
 use Rattle.itm_types.specs.Calls.{is_begin}
 use Rattle.itm_model.specs.Machine.{opened, outside, reply, after}
-use Rattle.norec_engine.specs.Core.{Core, in_transaction}
-use Rattle.norec_engine.specs.Stands.{stands_for}
+use Rattle.norec_core.specs.Core.{Core, in_transaction}
+use Rattle.norec_core.specs.Stands.{stands_for}
 use Rattle.norec_world.specs.declared.attempt.Attempt.{Attempt}
 use Rattle.norec_world.specs.declared.attempt.End.TheVariants.{GaveUp, NoMemory}
 use Rattle.norec_world.specs.declared.actor.Actor.{Actor}
@@ -40,6 +40,7 @@ module _ {P : Type 0} (rules : Rules P) where
     pub tries : b.tries < row.nth
     pub began : row.began ≤ e.snapshot / 2
     pub anew : e.again ≡ false
+    pub ran : row.ran ≡ e.actions.ran
     pub player : p ≡ player_then rules.answered (rules.answered start.player (begin_code b.again)) row.calls
     pub alone : (m : List ℕ) → IsMemory e.words m → Agrees m e.log
         → IsAlone rules MAX_OPEN_BLOCKS (rules.answered start.player (begin_code b.again)) (opened (bytes_of m) start.arena start.props) row.calls
@@ -59,7 +60,7 @@ module _ {P : Type 0} (rules : Rules P) where
     pub again : a.again ≡ b.again
     pub tries : b.tries < a.nth
     pub pending : (row : Attempt) → a.pending ≡ Some row
-        → (row.began ≤ n) × (row.arena ≡ a.engine.arena) × (row.calls ≡ [])
+        → (row.began ≤ n) × (row.arena ≡ a.engine.arena) × (row.calls ≡ []) × (row.ran ≡ [])
         × (begins_at b ≡ Some (record { player = a.player; arena = a.engine.arena; props = row.props })) × (a.engine.again ≡ b.again)
 
   -- the actor's attempts are its player's run from here, over the memories of so many commits, and each saw what its player gets alone

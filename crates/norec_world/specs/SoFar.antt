@@ -20,7 +20,7 @@ module _ {P : Type 0} (rules : Rules P) (max_commits thread : ℕ) where
   pub record IsBegun (b : Progress P) (past : List Attempt) (outcome : Outcome) (rows : List Attempt) : Type 0 where
     pub start : Beginning P
     pub calls : List Entry
-    pub rows_are : rows ≡ past ++ row_of thread b start calls outcome ∷ []
+    pub rows_are : rows ≡ past ++ row_of MAX_OPEN_BLOCKS thread b start calls outcome ∷ []
     pub begins : begin_of rules MAX_OPEN_BLOCKS b.player b.arena ≡ Some start
     pub alone : IsAlone rules MAX_OPEN_BLOCKS (rules.answered start.player (begin_code false)) (opened b.memory start.arena start.props) calls
 

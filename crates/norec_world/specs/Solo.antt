@@ -12,7 +12,7 @@ use Rattle.norec_world.specs.declared.attempt.Outcome.{Outcome}
 use Rattle.norec_world.specs.declared.attempt.Outcome.TheVariants.{Committed, ReadOnly, Cancelled, Full, Unfinished}
 use Rattle.norec_world.specs.declared.attempt.End.{End}
 use Rattle.norec_world.specs.declared.attempt.End.TheVariants.{Finished, GaveUp}
-use Rattle.norec_world.specs.Opacity.{Beginning, answered_all, begin_code, begin_of}
+use Rattle.norec_world.specs.Opacity.{Beginning, answered_all, begin_code, begin_of, ran_of}
 use Rattle.script_vm.specs.Rules.{Rules}
 
 -- a player between two blocks
@@ -42,8 +42,8 @@ abbrev pub with_all : List Attempt → Solo → Solo
 with_all past s = record s { attempts = past ++ s.attempts }
 
 -- the row of the block that begins so, with these calls
-abbrev pub row_of : {P : Type 0} → ℕ → Progress P → Beginning P → List Entry → Outcome → Attempt
-row_of thread b start calls outcome = record {
+abbrev pub row_of : {P : Type 0} → ℕ → ℕ → Progress P → Beginning P → List Entry → Outcome → Attempt
+row_of deepest thread b start calls outcome = record {
   thread = thread;
   nth = 1;
   began = b.commits;
@@ -51,6 +51,7 @@ row_of thread b start calls outcome = record {
   props = start.props;
   arena = start.arena;
   calls = calls;
+  ran = ran_of outcome (state_after deepest (opened b.memory start.arena start.props) (map (λ (e : Entry). e.call) calls));
   outcome = outcome;
 }
 
@@ -79,7 +80,7 @@ ended_as false false = ReadOnly
 module _ {P : Type 0} (rules : Rules P) (deepest max_commits thread : ℕ) where
   -- the row of the block, with these calls
   abbrev pub the_attempt : Progress P → Beginning P → List (Call × Reply) → Outcome → Attempt
-  the_attempt b start pairs outcome = row_of thread b start (map entry_of pairs) outcome
+  the_attempt b start pairs outcome = row_of deepest thread b start (map entry_of pairs) outcome
 
   -- the player after these replies
   abbrev pub player_after : P → List (Call × Reply) → P

@@ -7,18 +7,19 @@ use Rattle.itm_types.specs.Memory.{AllFit}
 use Rattle.itm_types.specs.declared.limits.TheConstants.{MAX_RETRIES}
 use Rattle.itm_types.specs.Calls.{is_begin, is_abort}
 use Rattle.script_vm.specs.Depth.{depth_after}
-use Rattle.norec_engine.specs.Core.{Core, came, in_transaction}
-use Rattle.norec_engine.specs.Proceeds.{IsAtOnce, IsLawful, IsSettled, IsWithin, Proceeds, StaysOn, most}
-use Rattle.norec_engine.specs.declared.answer.Next.{Next}
-use Rattle.norec_engine.specs.declared.answer.Next.TheVariants.{Step as Asks, Answer as Answers}
-use Rattle.norec_engine.specs.declared.answer.Answer.{Answer}
-use Rattle.norec_engine.specs.declared.answer.Answer.TheVariants.{Reply, Committed, Conflict, Busy, Full}
+use Rattle.norec_core.specs.Core.{Core, came, in_transaction}
+use Rattle.norec_core.specs.Proceeds.{IsAtOnce, IsLawful, IsSettled, IsWithin, Proceeds, StaysOn, most}
+use Rattle.norec_core.specs.declared.answer.Next.{Next}
+use Rattle.norec_core.specs.declared.answer.Next.TheVariants.{Step as Asks, Answer as Answers}
+use Rattle.norec_core.specs.declared.answer.Answer.{Answer}
+use Rattle.norec_core.specs.declared.answer.Answer.TheVariants.{Reply, Committed, Conflict, Busy, Full}
 use Rattle.norec_world.specs.declared.attempt.Attempt.{Attempt}
 use Rattle.norec_world.specs.declared.attempt.Outcome.TheVariants.{Unfinished}
 use Rattle.norec_world.specs.declared.attempt.End.TheVariants.{GaveUp}
 use Rattle.norec_world.specs.declared.actor.Actor.{Actor}
 use Rattle.norec_world.specs.declared.actor.Status.{Status}
 use Rattle.norec_world.specs.declared.actor.Status.TheVariants.{Ready, Waits, Ended}
+use Rattle.norec_world.specs.ActionRoom.{IsActing}
 use Rattle.norec_world.specs.Cells.{Cells}
 use Rattle.norec_world.specs.Rows.{Rows, active_of}
 use Rattle.norec_world.specs.Status.{is_ready, is_waiting}
@@ -125,6 +126,7 @@ module _ {P : Type 0} (rules : Rules P) where
   pub record IsSound (cells : Cells) (r : Rows) (a : Actor P) : Type 0 where
     pub tied : IsTied cells a.engine
     pub kept : IsKept (in_transaction a.engine) r a
+    pub acts : IsActing r a
     pub status : StatusIs r a a.status
 
   -- ## How much is left to do

@@ -1,6 +1,7 @@
 -- What an event, or the local work of an actor, does to the try that the actor makes of its block.
 use Rattle.std.specs.Prelude.{◌≡◌, ℕ, ◌+◌, ◌*◌, ◌/◌, ◌%◌, ◌<◌, ◌≤◌, Bool, true, false, nat_lt, List, [], ◌∷◌, ◌++◌, Option, None, Some}
 use Rattle.norec_world.specs.declared.attempt.Attempt.{Attempt}
+use Rattle.itm_types.specs.declared.call.Ran.{Ran}
 use Rattle.norec_world.specs.declared.attempt.Entry.{Entry}
 use Rattle.norec_world.specs.declared.attempt.Outcome.{Outcome}
 use Rattle.norec_world.specs.declared.attempt.Outcome.TheVariants.{Committed, ReadOnly, Cancelled, Conflict, Full, NoMemory, Unfinished}
@@ -12,7 +13,7 @@ use Rattle.norec_world.specs.Attempts.{ClosedBy}
 use Rattle.norec_world.specs.Rows.{Rows, active_of}
 use Rattle.norec_world.specs.Status.{ending_of}
 
--- it is the same attempt later: it has the calls that it had, and perhaps more
+-- it is the same attempt later: it has the calls that it had, and perhaps more, and so the actions that have run
 pub record Continues (row row' : Attempt) : Type 0 where
   pub thread : row'.thread ≡ row.thread
   pub nth : row'.nth ≡ row.nth
@@ -21,6 +22,8 @@ pub record Continues (row row' : Attempt) : Type 0 where
   pub arena : row'.arena ≡ row.arena
   pub more : List Entry
   pub calls : row'.calls ≡ row.calls ++ more
+  pub more_ran : List Ran
+  pub ran : row'.ran ≡ row.ran ++ more_ran
 
 -- how the clock stands before and after an attempt of this position ends so: a writer's own event frees the clock, and no other one's does
 abbrev pub EndsAt : ℕ → ℕ → ℕ → ℕ → Outcome → Type 0
@@ -72,7 +75,7 @@ module _ {P : Type 0} where
     pub none : active_of a.thread r.active ≡ None
     pub tries : a.nth ≡ nth
     pub opens : (row : Attempt) → a.pending ≡ Some row
-        → row ≡ record { thread = a.thread; nth = nth; began = clock / 2; at = 0; props = row.props; arena = a.engine.arena; calls = []; outcome = Unfinished }
+        → row ≡ record { thread = a.thread; nth = nth; began = clock / 2; at = 0; props = row.props; arena = a.engine.arena; calls = []; ran = []; outcome = Unfinished }
     pub goes_on : ending_of a.status ≡ Some ends.GaveUp → ⊥
 
   -- it has ended so, with no try open

@@ -5,8 +5,8 @@ use Rattle.itm_types.specs.Memory.{IsMemory, Agrees}
 use Rattle.norec_world.specs.declared.fault.WorldFault.{WorldFault}
 use Rattle.norec_world.specs.declared.fault.WorldFault.TheVariants.{NoSuchActor, Ended, NoMemory}
 use Rattle.norec_world.specs.declared.schedule.Passes.{Passes}
-use Rattle.norec_engine.specs.Proceeds.{IsLawful}
-use Rattle.norec_engine.specs.Core.{in_transaction}
+use Rattle.norec_core.specs.Proceeds.{IsLawful}
+use Rattle.norec_core.specs.Core.{in_transaction}
 use Rattle.norec_world.specs.declared.actor.Actor.{Actor}
 use Rattle.norec_world.specs.Cells.{cells_after}
 use Rattle.norec_world.specs.Status.{waiting_step, is_ready}

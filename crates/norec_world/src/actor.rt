@@ -1,12 +1,13 @@
 //! One actor.
 
-ghost use Rattle.norec_engine.specs.Core.{in_transaction};
+ghost use Rattle.norec_core.specs.Core.{in_transaction};
 
 use crate::attempt::{Attempt, End, Entry};
 use crate::memory::Memory;
 use crate::recorded::Recorded;
-use itm_types::{Call, Step};
-use norec_engine::{Engine, Next};
+use itm_types::{Call, Ran, Step};
+use norec_core::Next;
+use norec_engine::Engine;
 use script_vm::Player;
 use std::alloc::Global;
 use std::mem;
@@ -32,6 +33,10 @@ pub(crate) struct Actor<P> {
     pub(crate) engine: Engine,
     /// Room for the calls of the open attempt, and one more while a call is in progress.
     pub(crate) spare: Vec<Entry>,
+    /// Room for the actions that have run once the open attempt ends.
+    pub(crate) end_room: Vec<Ran>,
+    /// Room for those that have run once the cancel in progress is done, where the attempt stays open.
+    pub(crate) cancel_room: Vec<Ran>,
     /// The attempt that its begin, which is in progress, is to open.
     pub(crate) pending: Option<Attempt>,
     /// Which try of its block is under way or comes next, counted from 1.
@@ -48,6 +53,7 @@ impl<P: Player> Actor<P> {
     ghost use Rattle.norec_world.specs.Records.{Tells, IsTold};
     ghost use Rattle.norec_world.specs.Moments.{HasStepped};
     ghost use Rattle.norec_world.specs.OthersAttempts.{KeepsOthers};
+    ghost use Rattle.norec_world.specs.ActionRoom.{MayRunOn, IsActing};
     ghost use Rattle.norec_world.specs.Sound.{IsKept, IsSound, IsDue, IsDone, StatusIs, GoesOn, Falls};
 
     /// An actor that has made no call.
@@ -55,7 +61,7 @@ impl<P: Player> Actor<P> {
         ensures parts { (result.thread ≡ thread) × (result.retries ≡ retries) × (result.player ≡ player)
             × (result.engine ≡ engine) }
         ensures tries { (result.nth ≡ 1) × (result.again ≡ false) }
-        ensures nothing { (result.spare.items ≡ []) × (result.pending ≡ None) × (result.status ≡ Status.Ready) }
+        ensures nothing { (result.spare.items ≡ []) × (result.end_room.items ≡ []) × (result.cancel_room.items ≡ []) × (result.pending ≡ None) × (result.status ≡ Status.Ready) }
     {
         Actor {
             thread,
@@ -63,6 +69,8 @@ impl<P: Player> Actor<P> {
             player,
             engine,
             spare: Vec::new(alloc),
+            end_room: Vec::new(alloc),
+            cancel_room: Vec::new(alloc),
             pending: None,
             nth: 1,
             again: false,
@@ -109,7 +117,9 @@ impl<P: Player> Actor<P> {
 
     /// The call waits for a step, or what comes of its answer is recorded.
     pub(crate) fn proceed(&mut self, recorded: &mut Recorded, call: Call, next: Next)
-        requires { (was : Bool) × IsDue P.Player was recorded.old self.old call next }
+        requires due { (was : Bool) × IsDue P.Player was recorded.old self.old call next }
+        requires acts { MayRunOn recorded.old self.old call next }
+        ensures acts { IsActing recorded.new self.new }
         ensures done { (was : Bool) → IsDue P.Player was recorded.old self.old call next
             → IsDone P.Player was recorded.old recorded.new self.old self.new call next }
         ensures tells { (was : Bool) → IsDue P.Player was recorded.old self.old call next
@@ -126,6 +136,7 @@ impl<P: Player> Actor<P> {
     /// The open attempt is told where the engine reads.
     fn follow(&self, recorded: &mut Recorded)
         requires { IsKept (in_transaction self.now.engine) recorded.old self.now }
+        ensures acts { IsActing recorded.old self.now → IsActing recorded.new self.now }
         ensures kept { IsKept (in_transaction self.now.engine) recorded.new self.now }
         ensures told { IsTold self.now.thread (in_transaction self.now.engine) recorded.old
             (self.now.engine.snapshot / 2) recorded.new }

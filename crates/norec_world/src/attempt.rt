@@ -1,6 +1,6 @@
 //! What the tries of transactions did.
 
-use crate::lists::{Bytes, Calls};
+use crate::lists::{Bytes, Calls, RanActions};
 use itm_types::{Call, Props, Reply};
 
 /// How an attempt stands.
@@ -57,5 +57,7 @@ pub struct Attempt {
     pub arena: Bytes,
     /// The calls that have a reply, after the begin.
     pub calls: Calls,
+    /// The actions that have run, in order: undo actions of what was rolled back, and commit actions once it has committed.
+    pub ran: RanActions,
     pub outcome: Outcome,
 }

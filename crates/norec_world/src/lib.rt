@@ -17,7 +17,7 @@ mod world;
 
 pub use attempt::{Attempt, End, Entry, Outcome};
 pub use fault::WorldFault;
-pub use lists::{Bytes, Calls};
+pub use lists::{Bytes, Calls, RanActions};
 pub use schedule::Passes;
 pub use setup::Setup;
 pub use world::World;

@@ -1,8 +1,10 @@
 //! Lists that contracts compare by what stands in them.
 
-ghost use Rattle.std.specs.Prelude.{◌≡◌, ◌<◌, ◌∷◌, [], ◌++◌, length, vec_capacity};
+ghost use Rattle.std.specs.Prelude.{◌≡◌, ◌<◌, ◌≤◌, ◌+◌, ◌∷◌, [], ◌++◌, length, vec_capacity};
+ghost use Rattle.norec_world.specs.Opacity.{IsBeginningOf};
 
 use crate::attempt::Entry;
+use itm_types::Ran;
 use std::alloc::{AllocError, Global};
 use std::marker::Model;
 use std::mem;
@@ -87,5 +89,62 @@ impl Calls {
             mem::swap(spare, &mut self.items);
         }
         self.items.push_reserved(entry);
+    }
+}
+
+/// Actions that have run, in order.
+#[derive(Debug, Drop)]
+pub struct RanActions {
+    items: Vec<Ran>,
+}
+
+impl Model for RanActions {
+    ghost use Rattle.std.specs.Prelude.{List};
+    ghost use Rattle.itm_types.specs.declared.call.Ran.{Ran};
+
+    ghost Value = { List Ran };
+
+    ghost view = { λ r. r.items.items };
+}
+
+impl RanActions {
+    /// No actions. Takes no memory.
+    pub fn new(alloc: Global) -> Self
+        ensures { result ≡ [] }
+    {
+        RanActions {
+            items: Vec::new(alloc),
+        }
+    }
+
+    pub fn as_slice(&self) -> &[Ran]
+        ensures { result.now ≡ self.now }
+    {
+        &self.items
+    }
+
+    /// All of these, of which the first ones are there already. There is room for them in `spare`, to which they move.
+    pub(crate) fn grow(&mut self, spare: &mut Vec<Ran>, all: &[Ran])
+        requires first { IsBeginningOf self.old all.now }
+        requires empty { spare.old.items ≡ [] }
+        requires room { length self.old < length all.now → length all.now ≤ vec_capacity spare.old }
+        ensures all { self.new ≡ all.now }
+        ensures empty { spare.new.items ≡ [] }
+    {
+        if self.items.len() < all.len() {
+            copy_all(spare, all);
+            mem::swap(spare, &mut self.items);
+            spare.clear();
+        }
+    }
+}
+
+/// Puts copies of these behind what is there.
+fn copy_all(ran: &mut Vec<Ran>, more: &[Ran])
+    requires room { length ran.old.items + length more.now ≤ vec_capacity ran.old }
+    ensures { ran.new.items ≡ ran.old.items ++ more.now }
+{
+    for action in more {
+        ran.push_reserved(*action);
     }
 }

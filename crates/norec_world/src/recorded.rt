@@ -2,9 +2,12 @@
 
 ghost use Rattle.std.specs.Prelude.{◌≡◌, ◌==◌, ◌+◌, ◌-◌, ◌<◌, ◌≤◌, ◌++◌, ◌∷◌, [], List, length, position, insert, nat_lt, Some, None, is_some, IfSome, IfOk, OnErr, vec_len, vec_capacity};
 ghost use Rattle.norec_world.specs.declared.attempt.Attempt.{Attempt};
+ghost use Rattle.norec_world.specs.Opacity.{IsBeginningOf};
+ghost use Rattle.norec_world.specs.Records.{StopsAt};
 ghost use Rattle.norec_world.specs.Rows.{Rows, AreFrom, all_of, active_of, is_of, with_changed, with_opened, with_ended};
 
 use crate::attempt::{Attempt, Entry, Outcome};
+use itm_types::Ran;
 use std::alloc::{AllocError, Global};
 use std::marker::Model;
 
@@ -110,8 +113,46 @@ impl Recorded {
         }
     }
 
+    /// These are the actions that have run in the actor's open attempt, of which it has the first ones already.
+    pub(crate) fn run(&mut self, thread: u8, spare: &mut Vec<Ran>, ran: &[Ran])
+        requires first { (row : Attempt) → active_of thread self.old.active ≡ Some row
+            → IsBeginningOf row.ran ran.now }
+        requires empty { spare.old.items ≡ [] }
+        requires room { (row : Attempt) → active_of thread self.old.active ≡ Some row → length row.ran < length ran.now
+            → length ran.now ≤ vec_capacity spare.old }
+        ensures ran { self.new ≡ with_changed thread (λ row. record row { ran = ran.now }) self.old }
+        ensures empty { spare.new.items ≡ [] }
+    {
+        if let Some(place) = position_of(&self.rows[self.ended..], thread) {
+            let row = &mut self.rows[self.ended + place];
+            row.ran.grow(spare, ran);
+        }
+    }
+
+    /// The actor's open attempt ends, at this position, with these actions that have run in it.
+    pub(crate) fn stop(
+        &mut self,
+        thread: u8,
+        at: u64,
+        outcome: Outcome,
+        spare: &mut Vec<Ran>,
+        ran: &[Ran],
+    )
+        requires first { (row : Attempt) → active_of thread self.old.active ≡ Some row
+            → IsBeginningOf row.ran ran.now }
+        requires empty { spare.old.items ≡ [] }
+        requires room { (row : Attempt) → active_of thread self.old.active ≡ Some row
+            → length ran.now ≤ vec_capacity spare.old }
+        ensures gone { active_of thread self.new.active ≡ None }
+        ensures stops { StopsAt thread self.old at outcome ran.now self.new }
+        ensures empty { spare.new.items ≡ [] }
+    {
+        self.run(thread, spare, ran);
+        self.end(thread, at, outcome);
+    }
+
     /// The actor's open attempt ends, at this position.
-    pub(crate) fn end(&mut self, thread: u8, at: u64, outcome: Outcome)
+    fn end(&mut self, thread: u8, at: u64, outcome: Outcome)
         ensures gone { active_of thread self.new.active ≡ None }
         ensures ended { (row : Attempt) → active_of thread self.old.active ≡ Some row
             → self.new ≡ with_ended thread (record row { at = at; outcome = outcome }) self.old }

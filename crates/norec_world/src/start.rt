@@ -9,7 +9,7 @@ ghost use Rattle.norec_world.specs.Rows.{active_of};
 ghost use Rattle.norec_world.specs.OthersAttempts.{KeepsOthers};
 ghost use Rattle.norec_world.specs.Actors.{AreActors};
 ghost use Rattle.norec_world.specs.World.{ending_in};
-ghost use Rattle.norec_engine.specs.Core.{opening};
+ghost use Rattle.norec_core.specs.Core.{opening};
 ghost use Rattle.norec_world.specs.Starts.{IsFirst, HasStarted};
 ghost use Rattle.norec_world.specs.Runs.{RunsFrom};
 ghost use Rattle.norec_world.specs.Opaque.{first_of};

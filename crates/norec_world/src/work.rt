@@ -1,16 +1,17 @@
 //! The local work of an actor: what it does between two operations.
 
-ghost use Rattle.std.specs.Prelude.{◌≡◌, ◌+◌, ◌/◌, ◌<◌, ◌≤◌, ◌++◌, ◌∷◌, ℕ, Bool, true, false, [], if◌then◌else◌, Some, None, IfOk, OnErr, length, vec_capacity};
+ghost use Rattle.std.specs.Prelude.{◌≡◌, ◌⊎◌, ◌^◌, ◌+◌, ◌/◌, ◌<◌, ◌≤◌, ◌++◌, ◌∷◌, ℕ, Bool, true, false, [], if◌then◌else◌, Some, None, IfOk, OnOk, OnErr, is_some, length, vec_capacity};
 ghost use Rattle.norec_world.specs.declared.attempt.Attempt.{Attempt};
-ghost use Rattle.norec_engine.specs.Core.{in_transaction};
+ghost use Rattle.itm_types.specs.Calls.{is_abort, registered_by};
+ghost use Rattle.norec_core.specs.Core.{in_transaction};
 
 use crate::actor::{Actor, Status};
 use crate::attempt::{Attempt, End, Entry, Outcome};
-use crate::lists::{Bytes, Calls};
+use crate::lists::{Bytes, Calls, RanActions};
 use crate::memory::Memory;
 use crate::recorded::Recorded;
-use itm_types::{Call, MAX_ACTORS, MAX_RETRIES, Props, Reply};
-use norec_engine::{Answer, Next, Undone};
+use itm_types::{Call, MAX_ACTORS, MAX_RETRIES, Props, Ran, Reply};
+use norec_core::{Answer, Next, Undone};
 use script_vm::Player;
 use std::alloc::{AllocError, Global};
 
@@ -19,11 +20,12 @@ impl<P: Player> Actor<P> {
     ghost use Rattle.norec_world.specs.Status.{is_ready, ending_of};
     ghost use Rattle.norec_world.specs.Records.{Asks, Records, StopsAt};
     ghost use Rattle.norec_world.specs.Rows.{active_of, with_ended};
-    ghost use Rattle.norec_engine.specs.Undoing.{after_undoing};
+    ghost use Rattle.norec_core.specs.Undoing.{after_undoing};
     ghost use Rattle.itm_types.specs.Calls.{is_begin};
     ghost use Rattle.norec_world.specs.LocalWork.{IsShort};
     ghost use Rattle.norec_world.specs.Moments.{HasWorked};
     ghost use Rattle.norec_world.specs.OthersAttempts.{KeepsOthers};
+    ghost use Rattle.norec_world.specs.ActionRoom.{MayRunOn, HasFirst, HasPlaces, IsActing, IsEmpty, MayRun};
     ghost use Rattle.norec_world.specs.Sound.{IsTied, IsKept, IsReady, IsSound, IsAnswered, IsSettledBy, IsAsked, IsUnasked, IsNoMore, Falls, retried};
 
     /// Calls are made until one waits for a step or the actor has ended.
@@ -66,7 +68,10 @@ impl<P: Player> Actor<P> {
     ) -> Result<Next, AllocError>
         requires kept { IsKept (in_transaction self.old.engine) recorded.old self.old }
         requires ready { IsReady P.Player self.old }
+        requires acts { IsActing recorded.old self.old }
         requires asks { P.next_call self.old.player ≡ Some call.now }
+        ensures acts { IfOk result (MayRunOn recorded.new self.new call.now) }
+        ensures unasked_acts { OnErr result (IsActing recorded.new self.new) }
         ensures asked { IfOk result (λ next. IsAsked P.Player recorded.new self.old self.new call.now next) }
         ensures told { IfOk result
             (λ next. Asks memory.now.clock recorded.old recorded.new self.old self.new call.now next) }
@@ -88,6 +93,8 @@ impl<P: Player> Actor<P> {
             _ => {
                 let calls = recorded.calls_of(self.thread);
                 self.spare.reserve(calls.saturating_add(1))?;
+                let actions = self.engine.actions();
+                reserve_actions(call, actions, &mut self.end_room, &mut self.cancel_room)?;
                 self.engine.call(call)
             }
         }
@@ -103,6 +110,7 @@ impl<P: Player> Actor<P> {
           props = props;
           arena = self.now.engine.arena;
           calls = [];
+          ran = [];
           outcome = Outcome.Unfinished;
         }) }
     {
@@ -115,13 +123,16 @@ impl<P: Player> Actor<P> {
             props,
             arena: Bytes::new(arena),
             calls: Calls::new(alloc),
+            ran: RanActions::new(alloc),
             outcome: Outcome::Unfinished,
         })
     }
 
     /// What comes of the call's answer.
     pub(crate) fn settle(&mut self, recorded: &mut Recorded, call: Call, answer: Answer)
-        requires { (was : Bool) × IsAnswered P.Player was recorded.old self.old call answer }
+        requires answered { (was : Bool) × IsAnswered P.Player was recorded.old self.old call answer }
+        requires acts { MayRun recorded.old self.old }
+        ensures acts { IsActing recorded.new self.new }
         ensures settled { (was : Bool) → IsAnswered P.Player was recorded.old self.old call answer
             → IsSettledBy P.Player was recorded.new self.old self.new }
         ensures records { (was : Bool) → IsAnswered P.Player was recorded.old self.old call answer
@@ -133,7 +144,14 @@ impl<P: Player> Actor<P> {
             Answer::Reply(reply) => self.replied(recorded, call, reply),
             Answer::Committed { at, wrote } => self.committed(recorded, call, at, wrote),
             Answer::Conflict { .. } => {
-                recorded.end(self.thread, self.engine.snapshot() / 2, Outcome::Conflict);
+                let at = self.engine.snapshot() / 2;
+                recorded.stop(
+                    self.thread,
+                    at,
+                    Outcome::Conflict,
+                    &mut self.end_room,
+                    self.engine.due(),
+                );
                 self.player.restart();
                 self.retry();
             }
@@ -142,7 +160,13 @@ impl<P: Player> Actor<P> {
                 self.retry();
             }
             Answer::Full { at } => {
-                recorded.end(self.thread, at, Outcome::Full);
+                recorded.stop(
+                    self.thread,
+                    at,
+                    Outcome::Full,
+                    &mut self.end_room,
+                    self.engine.due(),
+                );
                 self.status = Status::Ended(End::GaveUp);
             }
         }
@@ -150,7 +174,9 @@ impl<P: Player> Actor<P> {
 
     /// The transaction is open as it was, or was cancelled, or its begin is over.
     fn replied(&mut self, recorded: &mut Recorded, call: Call, reply: Reply)
-        requires { (was : Bool) × IsAnswered P.Player was recorded.old self.old call (Answer.Reply reply) }
+        requires answered { (was : Bool) × IsAnswered P.Player was recorded.old self.old call (Answer.Reply reply) }
+        requires acts { MayRun recorded.old self.old }
+        ensures acts { IsActing recorded.new self.new }
         ensures settled { (was : Bool) → IsAnswered P.Player was recorded.old self.old call (Answer.Reply reply)
             → IsSettledBy P.Player was recorded.new self.old self.new }
         ensures records { (was : Bool) → IsAnswered P.Player was recorded.old self.old call (Answer.Reply reply)
@@ -171,6 +197,7 @@ impl<P: Player> Actor<P> {
             None => {
                 if is_open {
                     recorded.add(self.thread, &mut self.spare, Entry { call, reply });
+                    recorded.run(self.thread, &mut self.cancel_room, self.engine.due());
                 } else if recorded.has_open(self.thread) {
                     let at = self.engine.snapshot() / 2;
                     self.close(recorded, Entry { call, reply }, at, Outcome::Cancelled);
@@ -181,7 +208,9 @@ impl<P: Player> Actor<P> {
 
     /// The block is done, and the next one is tried for the first time.
     fn committed(&mut self, recorded: &mut Recorded, call: Call, at: u64, wrote: bool)
-        requires { (was : Bool) × IsAnswered P.Player was recorded.old self.old call (Answer.Committed at wrote) }
+        requires answered { (was : Bool) × IsAnswered P.Player was recorded.old self.old call (Answer.Committed at wrote) }
+        requires acts { MayRun recorded.old self.old }
+        ensures acts { IsActing recorded.new self.new }
         ensures settled { (was : Bool) → IsAnswered P.Player was recorded.old self.old call (Answer.Committed at wrote)
             → IsSettledBy P.Player was recorded.new self.old self.new }
         ensures records { (was : Bool) → IsAnswered P.Player was recorded.old self.old call (Answer.Committed at wrote)
@@ -202,19 +231,30 @@ impl<P: Player> Actor<P> {
         requires empty { self.old.spare.items ≡ [] }
         requires room { (row : Attempt) → active_of self.old.thread recorded.old.active ≡ Some row
             → length row.calls < vec_capacity self.old.spare }
-        ensures actor { self.new ≡ record self.old { spare = self.new.spare; nth = 1; again = false } }
+        requires end_empty { self.old.end_room.items ≡ [] }
+        requires first { HasFirst recorded.old self.old }
+        requires places { HasPlaces recorded.old self.old }
+        ensures actor { self.new ≡ record self.old { spare = self.new.spare; end_room = self.new.end_room; nth = 1; again = false } }
         ensures empty { self.new.spare.items ≡ [] }
+        ensures end_empty { self.new.end_room.items ≡ [] }
         ensures gone { active_of self.old.thread recorded.new.active ≡ None }
         ensures ended { (row : Attempt) → active_of self.old.thread recorded.old.active ≡ Some row
             → recorded.new
             ≡ with_ended self.old.thread (record row {
               calls = row.calls ++ entry ∷ [];
               at = at;
+              ran = self.old.engine.actions.ran;
               outcome = outcome;
             }) recorded.old }
     {
         recorded.add(self.thread, &mut self.spare, entry);
-        recorded.end(self.thread, at, outcome);
+        recorded.stop(
+            self.thread,
+            at,
+            outcome,
+            &mut self.end_room,
+            self.engine.due(),
+        );
         self.nth = 1;
         self.again = false;
     }
@@ -235,6 +275,8 @@ impl<P: Player> Actor<P> {
     fn starve(&mut self, recorded: &mut Recorded)
         requires kept { IsKept (in_transaction self.old.engine) recorded.old self.old }
         requires free { self.old.engine.holds ≡ false }
+        requires acts { IsActing recorded.old self.old }
+        ensures acts { IsActing recorded.new self.new }
         ensures kept { IsKept (in_transaction self.new.engine) recorded.new self.new }
         ensures tied { (cells : Cells) → IsTied cells self.old.engine → IsTied cells self.new.engine }
         ensures status { self.new.status ≡ Status.Ended End.NoMemory }
@@ -249,14 +291,47 @@ impl<P: Player> Actor<P> {
         ensures pending { self.new.pending ≡ self.old.pending }
         ensures again { self.new.again ≡ self.old.again }
         ensures row { in_transaction self.old.engine ≡ true
-            → StopsAt self.old.thread recorded.old (self.old.engine.snapshot / 2) Outcome.NoMemory recorded.new }
+            → StopsAt self.old.thread recorded.old (self.old.engine.snapshot / 2) Outcome.NoMemory self.new.engine.actions.ran recorded.new }
         ensures none { in_transaction self.old.engine ≡ false → recorded.new ≡ recorded.old }
         ensures others { KeepsOthers self.old recorded.old self.new recorded.new }
     {
         if let Undone::Done = self.engine.abort() {
-            recorded.end(self.thread, self.engine.snapshot() / 2, Outcome::NoMemory);
+            let at = self.engine.snapshot() / 2;
+            recorded.stop(
+                self.thread,
+                at,
+                Outcome::NoMemory,
+                &mut self.end_room,
+                self.engine.due(),
+            );
         }
         self.status = Status::Ended(End::NoMemory);
+    }
+}
+
+/// Makes room for the actions that the call may leave, where there are so many: for one more at the attempt's end, or for
+/// those that a cancel runs.
+fn reserve_actions(
+    call: &Call,
+    actions: usize,
+    end_room: &mut Vec<Ran>,
+    cancel_room: &mut Vec<Ran>,
+) -> Result<(), AllocError>
+    requires few { actions < 2 ^ 63 }
+    requires end_empty { end_room.old.items ≡ [] }
+    requires cancel_empty { cancel_room.old.items ≡ [] }
+    ensures end_empty { end_room.new.items ≡ [] }
+    ensures cancel_empty { cancel_room.new.items ≡ [] }
+    ensures kept { vec_capacity end_room.old ≤ vec_capacity end_room.new }
+    ensures end { OnOk result (is_some (registered_by call.now) ≡ true → actions < vec_capacity end_room.new) }
+    ensures cancel { OnOk result (is_abort call.now ≡ true → actions ≤ vec_capacity cancel_room.new) }
+    ensures short { OnErr result (((is_some (registered_by call.now) ≡ true) × (vec_capacity end_room.old ≤ actions))
+        ⊎ ((is_abort call.now ≡ true) × (vec_capacity cancel_room.old < actions))) }
+{
+    match call {
+        Call::CommitAction(_) | Call::UndoAction(_) => end_room.reserve(actions + 1),
+        Call::Abort { .. } => cancel_room.reserve(actions),
+        _ => Ok(()),
     }
 }
 

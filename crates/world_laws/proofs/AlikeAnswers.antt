@@ -1,13 +1,14 @@
 -- What comes of a call is recorded alike of two actors that are alike.
-use Rattle.std.proofs.Common.{◌≡◌, ℕ, ◌+◌, ◌/◌, nat_lt, if◌then◌else◌, Bool, true, false, [], ◌∷◌, ◌++◌, Option, None, Some, refl, sym, ap, subst, ◌∙◌}
+use Rattle.std.proofs.Common.{◌≡◌, ℕ, ◌+◌, ◌/◌, nat_lt, if◌then◌else◌, Bool, true, false, List, [], ◌∷◌, ◌++◌, Option, None, Some, refl, sym, ap, subst, ◌∙◌}
+use Rattle.itm_types.specs.declared.call.Ran.{Ran}
 use Rattle.itm_types.specs.declared.call.Reply.{Reply as Replied}
 use Rattle.itm_types.specs.declared.call.Call.{Call}
 use Rattle.itm_types.specs.declared.call.Reply.TheVariants.{Done}
-use Rattle.norec_engine.specs.Core.{Core, in_transaction}
-use Rattle.norec_engine.specs.declared.answer.Answer.{Answer}
-use Rattle.norec_engine.specs.declared.answer.Answer.TheVariants.{Reply, Committed, Conflict, Busy, Full}
-use Rattle.norec_engine.specs.declared.answer.Next.{Next}
-use Rattle.norec_engine.specs.declared.answer.Next.TheVariants.{Step as Steps, Answer as Answers}
+use Rattle.norec_core.specs.Core.{Core, in_transaction}
+use Rattle.norec_core.specs.declared.answer.Answer.{Answer}
+use Rattle.norec_core.specs.declared.answer.Answer.TheVariants.{Reply, Committed, Conflict, Busy, Full}
+use Rattle.norec_core.specs.declared.answer.Next.{Next}
+use Rattle.norec_core.specs.declared.answer.Next.TheVariants.{Step as Steps, Answer as Answers}
 use Rattle.norec_world.specs.declared.attempt.Attempt.{Attempt}
 use Rattle.norec_world.specs.declared.attempt.Outcome.{Outcome}
 use Rattle.norec_world.specs.declared.attempt.Outcome.TheVariants as outcomes
@@ -60,12 +61,13 @@ module _ (r s : Rows) (same : SameRows r s) where
     found_too : active_of u s.active ≡ Some row
     found_too = (λ i. active_of (sym e i) (sym same.active i)) ∙ found
 
-    stopped_same : (m n : ℕ) (o : Outcome) (r' s' : Rows) → m ≡ n → StopsAt t r m o r' → StopsAt u s n o s' → SameRows r' s'
-    stopped_same m n o r' s' f x y = ended_same t u _ _ r' s' e (λ i. record row { at = f i; outcome = o }) (x row found) (y row found_too)
+    stopped_same : (m n : ℕ) (o : Outcome) (p q : List Ran) (r' s' : Rows) → m ≡ n → p ≡ q → StopsAt t r m o p r' → StopsAt u s n o q s' → SameRows r' s'
+    stopped_same m n o p q r' s' f g x y = ended_same t u _ _ r' s' e (λ i. record row { at = f i; ran = g i; outcome = o }) (x row found) (y row found_too)
 
-    ended_by_same : (m n : ℕ) (o : Outcome) (call : Call) (reply : Replied) (r' s' : Rows) → m ≡ n → EndsBy t r m o call reply r' → EndsBy u s n o call reply s' → SameRows r' s'
-    ended_by_same m n o call reply r' s' f x y =
-        ended_same t u _ _ r' s' e (λ i. record row { calls = row.calls ++ record { call = call; reply = reply } ∷ []; at = f i; outcome = o }) (x row found) (y row found_too)
+    ended_by_same : (m n : ℕ) (o : Outcome) (call : Call) (reply : Replied) (p q : List Ran) (r' s' : Rows) → m ≡ n → p ≡ q → EndsBy t r m o call reply p r' → EndsBy u s n o call reply q s'
+        → SameRows r' s'
+    ended_by_same m n o call reply p q r' s' f g x y =
+        ended_same t u _ _ r' s' e (λ i. record row { calls = row.calls ++ record { call = call; reply = reply } ∷ []; at = f i; ran = g i; outcome = o }) (x row found) (y row found_too)
 
 -- ## Answers
 
@@ -91,6 +93,9 @@ ready_none s e = ap ending_of e
 module _ {P : Type 0} (rules : Rules P) (r s : Rows) (same : SameRows r s) (a b a' b' : Actor P)
     (thread : a.thread ≡ b.thread) (player : a.player ≡ b.player) (pending : a.pending ≡ b.pending) (nth : a.nth ≡ b.nth) (again : a.again ≡ b.again) (ready : a.status ≡ Ready) (ready' : b.status ≡ Ready)
     (engine : a'.engine ≡ b'.engine) (thread' : a'.thread ≡ b'.thread) (retries' : a'.retries ≡ b'.retries) (nothing : a'.status ≡ Ready → a'.pending ≡ None) (nothing' : b'.status ≡ Ready → b'.pending ≡ None) where
+  same_ran : a'.engine.actions.ran ≡ b'.engine.actions.ran
+  same_ran = λ i. (engine i).actions.ran
+
   -- the player is to be asked again
   asked_again : a'.status ≡ Ready → b'.status ≡ Ready → a'.player ≡ b'.player → a'.nth ≡ b'.nth → a'.again ≡ b'.again → AreAlike a' b'
   asked_again x y p n g = record {
@@ -134,11 +139,12 @@ module _ {P : Type 0} (rules : Rules P) (r s : Rows) (same : SameRows r s) (a b 
       where
         by_open : (now : Bool) → RecordsReply rules true now r r' a a' call reply → RecordsReply rules true now s s' b b' call reply → SameRows r' s' × AreAlike a' b'
         by_open true x y = (
-          changed_same r s same a.thread b.thread _ _ r' s' thread refl x.0 y.0,
+          changed_same r s same a.thread b.thread _ _ r' s' thread
+              (λ i. λ row. record row { calls = row.calls ++ record { call = call; reply = reply } ∷ []; ran = (engine i).actions.ran }) x.0 y.0,
           asked_again (x.4 ∙ ready) (y.4 ∙ ready') (x.1 ∙ ((λ i. rules.answered (player i) reply) ∙ sym y.1)) (x.3 ∙ (nth ∙ sym y.3)) (x.2 ∙ (again ∙ sym y.2)),
         )
         by_open false x y = (
-          ended_by_same r s same a.thread b.thread thread (k.opened refl).0 (k.opened refl).1 (a'.engine.snapshot / 2) (b'.engine.snapshot / 2) outcomes.Cancelled call reply r' s' (ap (λ (c : Core). c.snapshot / 2) engine) x.0 y.0,
+          ended_by_same r s same a.thread b.thread thread (k.opened refl).0 (k.opened refl).1 (a'.engine.snapshot / 2) (b'.engine.snapshot / 2) outcomes.Cancelled call reply a'.engine.actions.ran b'.engine.actions.ran r' s' (ap (λ (c : Core). c.snapshot / 2) engine) same_ran x.0 y.0,
           asked_again (x.4 ∙ ready) (y.4 ∙ ready') (x.1 ∙ ((λ i. rules.answered (player i) reply) ∙ sym y.1)) (x.3 ∙ sym y.3) (x.2 ∙ sym y.2),
         )
     recorded_same false (Reply reply) k x y = (
@@ -149,16 +155,16 @@ module _ {P : Type 0} (rules : Rules P) (r s : Rows) (same : SameRows r s) (a b 
           (x.2 ∙ ((λ i. again_after (in_transaction (engine i)) (pending i) (again i)) ∙ sym y.2)),
     )
     recorded_same was (Committed at wrote) k x y = (
-      ended_by_same r s same a.thread b.thread thread (k.inside tt).0 (k.inside tt).1 at at (if wrote then outcomes.Committed else outcomes.ReadOnly) call Done r' s' refl x.0 y.0,
+      ended_by_same r s same a.thread b.thread thread (k.inside tt).0 (k.inside tt).1 at at (if wrote then outcomes.Committed else outcomes.ReadOnly) call Done a'.engine.actions.ran b'.engine.actions.ran r' s' refl same_ran x.0 y.0,
       asked_again (x.4 ∙ ready) (y.4 ∙ ready') (x.1 ∙ ((λ i. rules.answered (player i) Done) ∙ sym y.1)) (x.3 ∙ sym y.3) (x.2 ∙ sym y.2),
     )
     recorded_same was (Conflict clock word) k x y = (
-      stopped_same r s same a.thread b.thread thread (k.inside tt).0 (k.inside tt).1 (a'.engine.snapshot / 2) (b'.engine.snapshot / 2) outcomes.Conflict r' s' (ap (λ (c : Core). c.snapshot / 2) engine) x.0 y.0,
+      stopped_same r s same a.thread b.thread thread (k.inside tt).0 (k.inside tt).1 (a'.engine.snapshot / 2) (b'.engine.snapshot / 2) outcomes.Conflict a'.engine.actions.ran b'.engine.actions.ran r' s' (ap (λ (c : Core). c.snapshot / 2) engine) same_ran x.0 y.0,
       counted_same (k.retries tt) (x.1 ∙ (ap rules.restarted player ∙ sym y.1)) x.2 y.2,
     )
     recorded_same was (Busy clock) k x y = (rows_same r s same r' s' x.0 y.0, counted_same (k.retries tt) (x.1 ∙ (player ∙ sym y.1)) x.2 y.2)
     recorded_same was (Full at) k x y = (
-      stopped_same r s same a.thread b.thread thread (k.inside tt).0 (k.inside tt).1 at at outcomes.Full r' s' refl x.0 y.0,
+      stopped_same r s same a.thread b.thread thread (k.inside tt).0 (k.inside tt).1 at at outcomes.Full a'.engine.actions.ran b'.engine.actions.ran r' s' refl same_ran x.0 y.0,
       record { thread = thread'; status = x.1 ∙ sym y.1; parts = λ on. absurd (let z = sym on ∙ ap ending_of x.1 in cc) },
     )
 

@@ -5,11 +5,11 @@ use Rattle.norec_world.specs.declared.actor.Actor.{Actor}
 use Rattle.norec_world.specs.declared.actor.Status.TheVariants.{Ready, Waits}
 use Rattle.world_laws.specs.Alike.{AreAlike, HasAttempt}
 use Rattle.itm_types.specs.declared.call.Call.TheVariants as requests
-use Rattle.norec_engine.specs.Core.{handed}
-use Rattle.norec_engine.specs.Stands.{SeesOne}
-use Rattle.norec_engine.specs.Moves.{IsCalled, IsResumed}
-use Rattle.norec_engine.specs.declared.answer.Next.TheVariants.{Step as Steps}
-use Rattle.norec_engine.proofs.OneOutcome.{called_once, resumed_once, sees_still}
+use Rattle.norec_core.specs.Core.{handed}
+use Rattle.norec_core.specs.Stands.{SeesOne}
+use Rattle.norec_core.specs.Moves.{IsCalled, IsResumed}
+use Rattle.norec_core.specs.declared.answer.Next.TheVariants.{Step as Steps}
+use Rattle.norec_core.proofs.OneOutcome.{called_once, resumed_once, sees_still}
 use Rattle.norec_world.specs.declared.attempt.Outcome.TheVariants as outcomes
 use Rattle.norec_world.specs.LocalWork.{TakesIn, Calls}
 use Rattle.world_laws.specs.Alike.{SameRows, SameParts}
@@ -77,6 +77,7 @@ pending_same false clock a b (requests.Begin props room) thread p = λ i. Some (
   props = props;
   arena = (p.engine i).arena;
   calls = [];
+  ran = [];
   outcome = outcomes.Unfinished;
 })
 pending_same false clock a b call thread p = p.pending

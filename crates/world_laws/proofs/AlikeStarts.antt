@@ -4,8 +4,8 @@ use Rattle.norec_world.proofs.Common.{Acts, Answer, Answers, Busy, Committed, Co
 use Rattle.norec_world.specs.declared.actor.Actor.{Actor}
 use Rattle.norec_world.specs.declared.attempt.Attempt.{Attempt}
 use Rattle.world_laws.specs.Alike.{AreAlike, HasAttempt}
-use Rattle.norec_engine.specs.Core.{opening}
-use Rattle.norec_engine.specs.declared.answer.Next.TheVariants.{Step as Steps}
+use Rattle.norec_core.specs.Core.{opening}
+use Rattle.norec_core.specs.declared.answer.Next.TheVariants.{Step as Steps}
 use Rattle.norec_world.specs.LocalWork.{Calls, calls, finishes, starves, ActsOn}
 use Rattle.norec_world.specs.Starts.{HasStarted, IsNew}
 use Rattle.world_laws.specs.Alike.{SameRows}

@@ -7,7 +7,7 @@ use Rattle.norec_world.specs.declared.actor.Status.TheVariants.{Ended, Ready}
 use Rattle.norec_world.specs.declared.attempt.Attempt.{Attempt}
 use Rattle.norec_world.specs.declared.attempt.End.TheVariants.{Finished, NoMemory}
 use Rattle.world_laws.specs.Alike.{AreAlike, HasAttempt}
-use Rattle.norec_engine.specs.Stands.{SeesOne}
+use Rattle.norec_core.specs.Stands.{SeesOne}
 use Rattle.norec_world.specs.LocalWork.{Finishes, calls, finishes, starves, ActsOn, Works}
 use Rattle.world_laws.specs.Alike.{SameRows}
 use Rattle.world_laws.proofs.AlikeAnswers.{rows_same}

@@ -4,7 +4,7 @@ use Rattle.norec_world.proofs.Common.{Cells, Goes, HasRead, IsEvent, Rows, Rules
 use Rattle.norec_world.specs.declared.actor.Actor.{Actor}
 use Rattle.norec_world.specs.declared.actor.Status.{Status}
 use Rattle.world_laws.specs.Alike.{AreAlike, HasAttempt}
-use Rattle.norec_engine.specs.Stands.{SeesOne}
+use Rattle.norec_core.specs.Stands.{SeesOne}
 use Rattle.norec_world.specs.declared.fault.WorldFault.{WorldFault}
 use Rattle.norec_world.specs.declared.fault.WorldFault.TheVariants as faults
 use Rattle.norec_world.specs.World.{is_event}

@@ -10,12 +10,12 @@ use Rattle.world_laws.specs.Alike.{HasAttempt}
 use Rattle.nest_frames.specs.Nest.{Frame}
 use Rattle.itm_types.specs.declared.call.Call.TheVariants as calls
 use Rattle.itm_types.specs.Access.{size_of}
-use Rattle.norec_engine.specs.Core.{handed, is_outermost}
-use Rattle.norec_engine.specs.Copies.{copy_refusal}
-use Rattle.norec_engine.specs.Order.{asked, asked_from, stage_at, commit_stage, copy_stage, load_stage, value_reading}
-use Rattle.norec_engine.specs.Proceeds.{IsBegin}
-use Rattle.norec_engine.specs.declared.answer.Next.TheVariants.{Step as Steps}
-use Rattle.norec_engine.specs.declared.phase.Phase.TheVariants as at
+use Rattle.norec_core.specs.Core.{handed, is_outermost}
+use Rattle.norec_core.specs.Copies.{copy_refusal}
+use Rattle.norec_core.specs.Order.{asked, asked_from, stage_at, commit_stage, copy_stage, load_stage, value_reading}
+use Rattle.norec_core.specs.Proceeds.{IsBegin}
+use Rattle.norec_core.specs.declared.answer.Next.TheVariants.{Step as Steps}
+use Rattle.norec_core.specs.declared.phase.Phase.TheVariants as at
 use Rattle.norec_world.specs.Rows.{with_one}
 use Rattle.norec_world.specs.Records.{CountsTry}
 use Rattle.norec_world.specs.LocalWork.{TakesIn, Calls}

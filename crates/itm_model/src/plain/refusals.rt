@@ -29,7 +29,9 @@ impl Plain {
             | Call::Log { .. }
             | Call::LogBytes { .. }
             | Call::Copy(_)
-            | Call::Fill { .. } => self.outside(),
+            | Call::Fill { .. }
+            | Call::CommitAction(_)
+            | Call::UndoAction(_) => self.outside(),
         }
     }
 
@@ -46,7 +48,12 @@ impl Plain {
             Call::Fill { to, size, .. } => self.out_of_range(*to, *size),
             Call::Load { width, at } => self.out_of_arena(*at, u64::from(width.size())),
             Call::Save { at, value } => self.out_of_arena(*at, u64::from(value.width.size())),
-            Call::Begin { .. } | Call::Commit | Call::Abort { .. } | Call::InTransaction => None,
+            Call::Begin { .. }
+            | Call::Commit
+            | Call::Abort { .. }
+            | Call::InTransaction
+            | Call::CommitAction(_)
+            | Call::UndoAction(_) => None,
         }
     }
 

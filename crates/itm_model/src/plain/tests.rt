@@ -5,6 +5,7 @@ use itm_types::{Call, Datum, Props, ReadHint, Refusal, Reply, Value, Width, Writ
 use std::alloc::{AllocError, Global};
 use std::test::Fail;
 
+mod actions;
 mod copies;
 mod nested;
 

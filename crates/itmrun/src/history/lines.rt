@@ -2,11 +2,13 @@
 
 ghost use Rattle.std.specs.Prelude.{◌≡◌, flat_map};
 ghost use Rattle.itmrun.specs.Spelling.{Grows};
-ghost use Rattle.itmrun.specs.Histories.{outcome_name, props_text, abort_text, try_text, props_end, head_line, arena_line, copy_text, fill_text, body_text, reply_text, call_line, attempt_lines, first_lines, last_line, history_text};
+ghost use Rattle.itmrun.specs.Histories.{outcome_name, props_text, abort_text, try_text, props_end, head_line, arena_line, copy_text, fill_text, commit_action_text, undo_action_text, body_text, reply_text, call_line, kind_text, ran_line, attempt_lines, first_lines, last_line, history_text};
 
 use crate::history::pieces::Piece;
 use crate::history::stream::Stream;
-use itm_types::{Call, Copying, Entry as Function, Props, Reply, WriteHint, name_of};
+use itm_types::{
+    Action, ActionKind, Call, Copying, Entry as Function, Props, Ran, Reply, WriteHint, name_of,
+};
 use norec_world::{Attempt, Entry, Outcome};
 use std::io::Write;
 
@@ -142,6 +144,36 @@ fn put_fill<W: Write>(stream: &mut Stream<'_, W>, hint: WriteHint, to: u64, byte
     ]);
 }
 
+/// An action that runs once the transaction has committed.
+#[tactic(auto, unfolding(crate::specs::Histories::commit_action_text), using(crate::proofs::AppendedTexts::grows_as))]
+fn put_commit_action<W: Write>(stream: &mut Stream<'_, W>, action: Action)
+    ensures same { stream.new.writer.ghost_name ≡ stream.old.writer.ghost_name }
+    ensures grows { Grows stream.old.failed (W.contents stream.old.writer.now) stream.new.failed
+        (W.contents stream.new.writer.now) (commit_action_text action) }
+{
+    stream.put(&[
+        Piece::Text(b"_ITM_addUserCommitAction "),
+        Piece::Number(u64::from(action.fun)),
+        Piece::Text(b" _ITM_noTransactionId "),
+        Piece::Number(action.arg),
+    ]);
+}
+
+/// An action that runs where its block is rolled back.
+#[tactic(auto, unfolding(crate::specs::Histories::undo_action_text), using(crate::proofs::AppendedTexts::grows_as))]
+fn put_undo_action<W: Write>(stream: &mut Stream<'_, W>, action: Action)
+    ensures same { stream.new.writer.ghost_name ≡ stream.old.writer.ghost_name }
+    ensures grows { Grows stream.old.failed (W.contents stream.old.writer.now) stream.new.failed
+        (W.contents stream.new.writer.now) (undo_action_text action) }
+{
+    stream.put(&[
+        Piece::Text(b"_ITM_addUserUndoAction "),
+        Piece::Number(u64::from(action.fun)),
+        Piece::Text(b" "),
+        Piece::Number(action.arg),
+    ]);
+}
+
 #[tactic(auto, unfolding(crate::specs::Histories::body_text), using(crate::proofs::AppendedTexts::grows_as))]
 fn put_body<W: Write>(stream: &mut Stream<'_, W>, call: &Call)
     ensures same { stream.new.writer.ghost_name ≡ stream.old.writer.ghost_name }
@@ -190,6 +222,8 @@ fn put_body<W: Write>(stream: &mut Stream<'_, W>, call: &Call)
             byte,
             size,
         } => put_fill(stream, *hint, *to, *byte, *size),
+        Call::CommitAction(action) => put_commit_action(stream, *action),
+        Call::UndoAction(action) => put_undo_action(stream, *action),
         Call::Load { width, at } => stream.put(&[
             Piece::Text(b"ld"),
             Piece::Number(u64::from(width.size())),
@@ -247,6 +281,44 @@ fn put_calls<W: Write>(stream: &mut Stream<'_, W>, calls: &[Entry])
     }
 }
 
+fn kind_text(kind: ActionKind) -> &'static [u8]
+    ensures { result.now ≡ kind_text kind }
+{
+    match kind {
+        ActionKind::Commit => b"commit",
+        ActionKind::Undo => b"undo",
+    }
+}
+
+/// An action that has run.
+#[tactic(auto, unfolding(crate::specs::Histories::ran_line), using(crate::proofs::AppendedTexts::grows_as))]
+fn put_ran<W: Write>(stream: &mut Stream<'_, W>, ran: Ran)
+    ensures same { stream.new.writer.ghost_name ≡ stream.old.writer.ghost_name }
+    ensures grows { Grows stream.old.failed (W.contents stream.old.writer.now) stream.new.failed
+        (W.contents stream.new.writer.now) (ran_line ran) }
+{
+    stream.put(&[
+        Piece::Text(b"ran "),
+        Piece::Text(kind_text(ran.kind)),
+        Piece::Text(b" "),
+        Piece::Number(u64::from(ran.action.fun)),
+        Piece::Text(b" "),
+        Piece::Number(ran.action.arg),
+        Piece::Text(b"\n"),
+    ]);
+}
+
+#[tactic(auto, using(crate::proofs::AppendedTexts::grows_no_ran, crate::proofs::AppendedTexts::grows_ran))]
+fn put_all_ran<W: Write>(stream: &mut Stream<'_, W>, all: &[Ran])
+    ensures same { stream.new.writer.ghost_name ≡ stream.old.writer.ghost_name }
+    ensures grows { Grows stream.old.failed (W.contents stream.old.writer.now) stream.new.failed
+        (W.contents stream.new.writer.now) (flat_map ran_line all.now) }
+{
+    for ran in all {
+        put_ran(stream, *ran);
+    }
+}
+
 /// Writes the lines before the first attempt: the format's name, and the memory as it was.
 #[tactic(auto, unfolding(crate::specs::Histories::first_lines), using(crate::proofs::AppendedTexts::grows_as))]
 fn put_first<W: Write>(stream: &mut Stream<'_, W>, memory: &[u8])
@@ -269,6 +341,7 @@ fn put_attempt<W: Write>(stream: &mut Stream<'_, W>, attempt: &Attempt)
     put_head(stream, attempt);
     put_arena(stream, attempt.arena.as_slice());
     put_calls(stream, attempt.calls.as_slice());
+    put_all_ran(stream, attempt.ran.as_slice());
     stream.put(&[Piece::Text(b"end\n")]);
 }
 

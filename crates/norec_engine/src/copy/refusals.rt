@@ -4,15 +4,17 @@ ghost use Rattle.std.specs.Prelude.{◌≡◌, ◌≤◌, ◌&&◌, false, Some,
 ghost use Rattle.itm_model.specs.Machine.{is_clear, unless};
 ghost use Rattle.itm_types.specs.Copies.{both_shared, overlap};
 ghost use Rattle.itm_types.specs.declared.call.Call.{Call};
-ghost use Rattle.norec_engine.specs.Copies.{arena_refusal, copy_refusal, shared_refusal, source_refusal, target_refusal};
-ghost use Rattle.norec_engine.specs.Core.{came};
-ghost use Rattle.norec_engine.specs.Fields.{in_block, core, core_after, phase_after, IsSound, IsSoundTurn, Turns, TurnEndsSo, Stays};
+ghost use Rattle.norec_core.specs.Copies.{arena_refusal, copy_refusal, shared_refusal, source_refusal, target_refusal};
+ghost use Rattle.norec_core.specs.Core.{came};
+ghost use Rattle.norec_engine.specs.View.{in_block, core};
+ghost use Rattle.norec_engine.specs.InPhases.{IsSound};
+ghost use Rattle.norec_engine.specs.Between.{core_after, phase_after, IsSoundTurn, Turns, TurnEndsSo, Stays};
 
 use crate::access::is_within;
-use crate::answer::Answer;
 use crate::data::Data;
-use crate::phase::{Phase, Turn};
+use crate::turn::Turn;
 use itm_types::{Call, CopyPair, Copying, MAX_WORDS, Refusal, Reply};
+use norec_core::{Answer, Phase};
 
 /// Why a copy is refused, if it is: the bytes that it writes are tested first, then those that it reads, then what they
 /// have in common.

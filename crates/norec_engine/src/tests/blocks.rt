@@ -6,18 +6,18 @@ use itm_types::{ReadHint, Refusal, Width, WriteHint};
 use std::test::Fail;
 
 /// A block comes within another.
-const INNER: Line = Line::Begin(false, Gives::Code(5));
+pub(super) const INNER: Line = Line::Begin(false, Gives::Code(5));
 
 /// The innermost block closes within another.
-const CLOSED: Line = Line::Call(Ask::Commit, Gives::Done);
+pub(super) const CLOSED: Line = Line::Call(Ask::Commit, Gives::Done);
 
 /// The innermost block is cancelled.
-const CANCELLED: Line = Line::Call(Ask::Abort(false), Gives::Code(24));
+pub(super) const CANCELLED: Line = Line::Call(Ask::Abort(false), Gives::Code(24));
 
 /// Every block is cancelled.
-const ALL_CANCELLED: Line = Line::Call(Ask::Abort(true), Gives::Code(24));
+pub(super) const ALL_CANCELLED: Line = Line::Call(Ask::Abort(true), Gives::Code(24));
 
-const OUTSIDE: Gives = Gives::Refused(Refusal::Outside);
+pub(super) const OUTSIDE: Gives = Gives::Refused(Refusal::Outside);
 
 const NO_ABORT: Gives = Gives::Refused(Refusal::NoAbort);
 

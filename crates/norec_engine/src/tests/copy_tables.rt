@@ -2,9 +2,10 @@
 
 ghost use Rattle.std.specs.Prelude.{◌<◌, ◌≤◌};
 
+use super::cells::{Cells, go_on};
 use super::{BLOCK, replied};
 use crate::{Answer, Engine, Next};
-use itm_types::{Call, CopyPair, Copying, Limits, Refusal, Reply, SharedSide, Step, WriteHint};
+use itm_types::{Call, CopyPair, Copying, Limits, Refusal, Reply, SharedSide, WriteHint};
 use std::alloc::{AllocError, Global};
 use std::ops::Range;
 use std::process::Abort;
@@ -24,60 +25,6 @@ const PLACES: [u64; 12] = [0, 1, 3, 7, 8, 9, 31, 32, 33, 64, 95, 96];
 /// The byte that stands at a place of the memory and of the arena at first: no two are alike.
 fn first(place: usize) -> u8 {
     (place % 200 + 10) as u8
-}
-
-/// The cells that the engine's steps are done on.
-#[derive(Clone, Copy)]
-struct Cells {
-    clock: u64,
-    words: [u64; 24],
-}
-
-impl Cells {
-    fn load(&self, cell: u32) -> u64 {
-        if cell == 0 {
-            return self.clock;
-        }
-        let words = self.words.as_slice();
-        words.get(cell as usize - 1).copied().unwrap_or(0)
-    }
-
-    fn store(&mut self, cell: u32, value: u64) {
-        if cell == 0 {
-            self.clock = value;
-        } else if let Some(word) = self.words.as_mut_slice().get_mut(cell as usize - 1) {
-            *word = value;
-        }
-    }
-
-    /// Does a step, and gives what is handed in.
-    fn serve(&mut self, step: Step) -> u64 {
-        match step {
-            Step::Load(cell) => self.load(cell),
-            Step::Store(cell, value) => {
-                self.store(cell, value);
-                0
-            }
-            Step::Cas(cell, from, to) => {
-                let found = self.load(cell);
-                if found == from {
-                    self.store(cell, to);
-                }
-                found
-            }
-        }
-    }
-
-    /// The bytes of the first words.
-    fn bytes(&self) -> [u8; 96] {
-        let mut bytes = [0; 96];
-        for (place, byte) in bytes.iter_mut().enumerate() {
-            if let Some(word) = self.words.as_slice().get(place / 8) {
-                *byte = word.to_le_bytes()[place % 8];
-            }
-        }
-        bytes
-    }
 }
 
 /// Words with the bytes.
@@ -121,20 +68,6 @@ fn numbered(rt: &impl Abort, alloc: Global, words: u32, size: usize) -> Result<E
         max_commits: 1_000_000,
     };
     Ok(Engine::new(alloc, words, arena, limits))
-}
-
-/// Does so many steps at most, and gives what comes after them.
-fn go_on(rt: &impl Abort, engine: &mut Engine, cells: &mut Cells, asked: Next, most: u32) -> Next {
-    let mut next = asked;
-    for _ in 0..most {
-        let Next::Step(step) = next else {
-            return next;
-        };
-        let seen = cells.serve(step);
-        assert!(rt; engine.waits() && engine.fits(seen));
-        next = engine.resume(seen);
-    }
-    next
 }
 
 /// A call comes, and is served.

@@ -152,6 +152,8 @@ fn again(call: &Call) -> Call
             byte: *byte,
             size: *size,
         },
+        Call::CommitAction(action) => Call::CommitAction(*action),
+        Call::UndoAction(action) => Call::UndoAction(*action),
         Call::Load { width, at } => Call::Load {
             width: *width,
             at: *at,

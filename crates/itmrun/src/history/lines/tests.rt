@@ -1,4 +1,4 @@
-//! The lines of copies and fills, which no script makes.
+//! The lines of copies, fills and actions, which no script makes.
 
 use super::*;
 use itm_types::{CopyPair, Refusal, SharedSide};
@@ -76,5 +76,56 @@ fn fills(rt: HostRuntime) -> Result<(), Fail> {
         Reply::Refused(Refusal::OutOfRange),
         line,
     );
+    Ok(())
+}
+
+fn on_commit(fun: u32, arg: u64) -> Call {
+    Call::CommitAction(Action { fun, arg })
+}
+
+fn on_undo(fun: u32, arg: u64) -> Call {
+    Call::UndoAction(Action { fun, arg })
+}
+
+#[test]
+fn registrations(rt: HostRuntime) -> Result<(), Fail> {
+    let alloc = rt.alloc();
+    let line = b"call _ITM_addUserUndoAction 1 0 = ok\n";
+    expect(&rt, alloc, on_undo(1, 0), Reply::Done, line);
+    let line = b"call _ITM_addUserCommitAction 9 _ITM_noTransactionId 0 = ok\n";
+    expect(&rt, alloc, on_commit(9, 0), Reply::Done, line);
+    let line = b"call _ITM_addUserUndoAction 4294967295 18446744073709551615 = ok\n";
+    let last = on_undo(u32::MAX, u64::MAX);
+    expect(&rt, alloc, last, Reply::Done, line);
+    let line = b"call _ITM_addUserCommitAction 0 _ITM_noTransactionId 16 = refused 1\n";
+    let refused = Reply::Refused(Refusal::Outside);
+    expect(&rt, alloc, on_commit(0, 16), refused, line);
+    Ok(())
+}
+
+/// The actions that have run have a line each, in order.
+#[test]
+fn actions(rt: HostRuntime) -> Result<(), Fail> {
+    let ran = [
+        (ActionKind::Undo, 3, 0),
+        (ActionKind::Undo, 2, u64::MAX),
+        (ActionKind::Commit, 9, 0),
+        (ActionKind::Commit, u32::MAX, 10),
+    ]
+    .map(|(kind, fun, arg)| Ran {
+        kind,
+        action: Action { fun, arg },
+    });
+    let mut text = Vec::new(rt.alloc());
+    let mut stream = Stream {
+        writer: &mut text,
+        failed: false,
+    };
+    put_all_ran(&mut stream, &ran);
+    put_all_ran(&mut stream, &[]);
+    assert!(rt; !stream.failed);
+    let lines =
+        b"ran undo 3 0\nran undo 2 18446744073709551615\nran commit 9 0\nran commit 4294967295 10\n";
+    assert_eq!(rt; text.as_slice(), lines.as_slice());
     Ok(())
 }

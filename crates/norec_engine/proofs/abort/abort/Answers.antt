@@ -1,6 +1,6 @@
 use Rattle.std.proofs.Common.{◌≡◌, Bool, false, sym, ap, ◌∙◌}
 use Rattle.nest_frames.specs.Nest.{is_kept}
-use Rattle.norec_engine.specs.Core.{is_outermost}
+use Rattle.norec_core.specs.Core.{is_outermost}
 use Rattle.norec_engine.proofs.Cancels.{kept_replies, cancelled_replies, all_replies}
 use Rattle.norec_engine.proofs.abort.abort.Goals.{then-outer, else-outer, then-is_outermost, else-is_outermost}
 use Rattle.norec_engine.proofs.abort.abort.Goals as goal
@@ -39,6 +39,7 @@ returns-clause-proceeds c =
             inner = inner;
             may = sym (ap (λ (o : Bool). is_kept c.come.new.self.frames.blocks o) outer) ∙ may;
             blocks = w.cancel.ensures.blocks;
+            actions = w.cancel.ensures.actions;
             rows = w.cancel.ensures.rows;
             size = w.cancel.ensures.arena_size;
             left = w.cancel.ensures.arena;

@@ -1,5 +1,5 @@
 use Rattle.std.proofs.Common.{arith, refl}
-use Rattle.norec_engine.proofs.Overlays.{AllWritesWithin-at, stores_part}
+use Rattle.norec_core.proofs.Overlays.{AllWritesWithin-at, stores_part}
 use Rattle.norec_engine.proofs.commit.back_loaded.Goals as goal
 
 pub returns-clause-proceeds : goal.returns-clause-proceeds

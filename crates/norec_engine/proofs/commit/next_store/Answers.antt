@@ -2,10 +2,10 @@ use Rattle.std.proofs.Common.{◌≡◌, ◌≢◌, ◌<◌, ◌==◌, nat_lt, l
 use Rattle.std.proofs.lemmas.Bool.{cond-true, cond-false, lt-ltb, ne_eqb}
 use Rattle.write_set.specs.declared.row.Row.{Row}
 use Rattle.word_pieces.specs.Masks.{whole}
-use Rattle.norec_engine.specs.declared.phase.Phase.TheVariants.{BackLoad, Store, Free}
-use Rattle.norec_engine.specs.Rows.{write_at}
-use Rattle.norec_engine.specs.Order.{row_store}
-use Rattle.norec_engine.proofs.Overlays.{AllWritesWithin-at, write_at_of, stores_whole}
+use Rattle.norec_core.specs.declared.phase.Phase.TheVariants.{BackLoad, Store, Free}
+use Rattle.norec_core.specs.Rows.{write_at}
+use Rattle.norec_core.specs.Order.{row_store}
+use Rattle.norec_core.proofs.Overlays.{AllWritesWithin-at, write_at_of, stores_whole}
 use Rattle.norec_engine.proofs.commit.next_store.Goals as goal
 
 pub returns-then-written-clause-proceeds : goal.returns-then-written-clause-proceeds

@@ -2,14 +2,15 @@ use Rattle.std.proofs.Common.{ℕ, List, length, drop, refl, sym, ap, subst, ◌
 use Rattle.itm_types.specs.Memory.{bytes_of, IsMemory, Agrees}
 use Rattle.write_set.specs.declared.row.Row.{Row}
 use Rattle.write_set.specs.Rows.{overlay, AreRows}
-use Rattle.norec_engine.specs.Copies.{source_in}
-use Rattle.norec_engine.specs.Core.{is_inside}
-use Rattle.norec_engine.specs.Fields.{rows_before, AreFrames}
-use Rattle.norec_engine.specs.Proceeds.{arena_copied, writes_copied}
-use Rattle.norec_engine.specs.Rows.{AllWritesWithin}
-use Rattle.norec_engine.specs.Stands.{state_over}
+use Rattle.norec_core.specs.Copies.{source_in}
+use Rattle.norec_core.specs.Core.{is_inside}
+use Rattle.norec_engine.specs.View.{rows_before}
+use Rattle.norec_engine.specs.InPhases.{AreFrames}
+use Rattle.norec_core.specs.Proceeds.{arena_copied, writes_copied}
+use Rattle.norec_core.specs.Rows.{AllWritesWithin}
+use Rattle.norec_core.specs.Stands.{state_over}
 use Rattle.norec_engine.proofs.Copies.{copies}
-use Rattle.norec_engine.proofs.Overlays.{Agrees-drop}
+use Rattle.norec_core.proofs.Overlays.{Agrees-drop}
 use Rattle.norec_engine.proofs.Sources.{rows_before-fit, copied_fits, overlay_for, length-arena_copied}
 use Rattle.norec_engine.proofs.copy.copied.Goals as goal
 
@@ -63,9 +64,9 @@ returns-clause-proceeds c log =
     may.source.has m mem agrees
     ∙ ap (λ (x : List ℕ). source_in k.pair s.arena (bytes_of x) k.from k.size) (ap (overlay m) served.reserved ∙ overlay_for k k.pair m before mem.1 fits.0) in
     let all = λ (m : List ℕ) (mem : IsMemory s.words m) (agrees : Agrees m (drop s.entry s.log.rows)).
-    copies before s.frames.blocks s.arena m s.words k may.is_open.is_open mem fits.0 served.accepted s.buffer.items c.deliver.ensures.bytes (got m mem agrees) in
+    copies before s.frames.blocks s.arena s.frames.actions m s.words k may.is_open.is_open mem fits.0 served.accepted s.buffer.items c.deliver.ensures.bytes (got m mem agrees) in
     rw c.deliver.ensures.frame (record {
-      meets = λ m mem agrees. (λ i. state_over (c.deliver.ensures.rows i) (blocks i) (c.deliver.ensures.arena i) m) ∙ (all m mem (Agrees-drop m s.entry s.log.rows agrees)).0;
+      meets = λ m mem agrees. (λ i. state_over (c.deliver.ensures.rows i) (blocks i) (c.deliver.ensures.arena i) (c.deliver.ensures.actions i) m) ∙ (all m mem (Agrees-drop m s.entry s.log.rows agrees)).0;
       reply_is = λ m mem agrees. (all m mem agrees).1;
       stays = refl;
       writes = λ m mem agrees. c.deliver.ensures.rows ∙ ap (writes_copied before k k.pair) (got m mem agrees);
@@ -74,5 +75,6 @@ returns-clause-proceeds c log =
       unfreed = refl;
       still = λ other o. ap is_inside blocks ∙ o;
       blocks = blocks;
+      actions = c.deliver.ensures.actions;
       settled = λ o. (may.settled, may.bounds.even);
     })

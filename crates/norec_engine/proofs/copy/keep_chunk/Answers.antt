@@ -7,10 +7,11 @@ use Rattle.word_pieces.proofs.ChunkBytes.{written-next-chunk}
 use Rattle.word_pieces.proofs.Lists.{slice-slice, length-with_slice}
 use Rattle.write_set.specs.Rows.{overlay}
 use Rattle.write_set.proofs.Overlays.{length-overlay}
-use Rattle.norec_engine.specs.Copies.{direction_of}
-use Rattle.norec_engine.specs.Fields.{parts, count, IsFor}
-use Rattle.norec_engine.specs.declared.phase.Purpose.{Purpose}
-use Rattle.norec_engine.proofs.CopyChunks.{chunk_there, chunk_within, length-gathered-all}
+use Rattle.norec_core.specs.Copies.{direction_of}
+use Rattle.norec_core.specs.Accesses.{parts, count}
+use Rattle.norec_engine.specs.InPhases.{IsFor}
+use Rattle.norec_core.specs.declared.phase.Purpose.{Purpose}
+use Rattle.norec_core.proofs.CopyChunks.{chunk_there, chunk_within, length-gathered-all}
 use Rattle.norec_engine.proofs.copy.keep_chunk.Goals as goal
 
 pub overflow_sub-start : goal.overflow_sub-start

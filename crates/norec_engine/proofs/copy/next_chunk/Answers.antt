@@ -5,15 +5,17 @@ use Rattle.word_pieces.proofs.Lists.{length-slice}
 use Rattle.write_set.specs.Rows.{overlay}
 use Rattle.write_set.proofs.Overlays.{length-overlay}
 use Rattle.norec_engine.specs.declared.data.Data.{Data}
-use Rattle.norec_engine.specs.declared.phase.Phase.{Phase}
-use Rattle.norec_engine.specs.declared.phase.Reading.{Reading}
-use Rattle.norec_engine.specs.Copies.{chunks_in, direction_of}
-use Rattle.norec_engine.specs.Order.{chunk_reading, load_among, load_chunks}
-use Rattle.norec_engine.specs.Fields.{parts, rows_before, IsReading}
+use Rattle.norec_core.specs.declared.phase.Phase.{Phase}
+use Rattle.norec_core.specs.declared.phase.Reading.{Reading}
+use Rattle.norec_core.specs.Copies.{chunks_in, direction_of}
+use Rattle.norec_core.specs.Order.{chunk_reading, load_among, load_chunks}
+use Rattle.norec_core.specs.Accesses.{parts}
+use Rattle.norec_engine.specs.View.{rows_before}
+use Rattle.norec_engine.specs.InPhases.{IsReading}
 use Rattle.norec_engine.proofs.AcceptedCopies.{source_within}
-use Rattle.norec_engine.proofs.CopyChunks.{chunk_there}
+use Rattle.norec_core.proofs.CopyChunks.{chunk_there}
 use Rattle.norec_engine.proofs.Loads.{open_gathering, load_sound, reading_of, no_reading, starts_chunk, whole_source}
-use Rattle.norec_engine.proofs.Readings.{none_drop, some_drop, some_count, words_in-next}
+use Rattle.norec_core.proofs.Readings.{none_drop, some_drop, some_count, words_in-next}
 use Rattle.norec_engine.proofs.copy.next_chunk.Goals as goal
 
 pub take_covered-requires : goal.take_covered-requires

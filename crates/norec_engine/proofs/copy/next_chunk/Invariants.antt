@@ -1,7 +1,8 @@
 use Rattle.std.proofs.Common.{◌≡◌, ◌-◌, length, drop}
-use Rattle.norec_engine.specs.Copies.{chunks_in}
-use Rattle.norec_engine.specs.Fields.{MayCopy, rows_before}
-use Rattle.norec_engine.specs.Order.{load_chunks}
+use Rattle.norec_core.specs.Copies.{chunks_in}
+use Rattle.norec_engine.specs.View.{rows_before}
+use Rattle.norec_engine.specs.Between.{MayCopy}
+use Rattle.norec_core.specs.Order.{load_chunks}
 use Rattle.norec_engine.proofs.copy.next_chunk.Given as goal
 
 abbrev pub decreases-loop-reading : goal.decreases-loop-reading

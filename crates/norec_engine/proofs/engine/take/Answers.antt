@@ -1,5 +1,5 @@
 use Rattle.std.proofs.Common.{arith, rules}
-use Rattle.norec_engine.specs.Fields.{counted}
+use Rattle.norec_engine.specs.Between.{counted}
 use Rattle.norec_engine.proofs.Counts.{fits}
 use Rattle.norec_engine.proofs.engine.take.Goals as goal
 

@@ -4,20 +4,21 @@ use Rattle.std.proofs.lemmas.List.Elements.{All-from_recursion}
 use Rattle.itm_types.specs.declared.access.WriteHint.{WriteHint}
 use Rattle.itm_types.specs.declared.call.Call.TheVariants.{Fill}
 use Rattle.itm_types.specs.declared.call.Reply.TheVariants.{Done}
-use Rattle.norec_engine.specs.declared.answer.Answer.TheVariants.{Reply}
-use Rattle.norec_engine.specs.declared.phase.Phase.TheVariants.{Idle}
-use Rattle.norec_engine.specs.declared.phase.Turn.TheVariants.{End}
-use Rattle.norec_engine.specs.Core.{came}
-use Rattle.norec_engine.specs.Fields.{core, IsSoundTurn}
-use Rattle.norec_engine.specs.Proceeds.{Replies}
+use Rattle.norec_core.specs.declared.answer.Answer.TheVariants.{Reply}
+use Rattle.norec_core.specs.declared.phase.Phase.TheVariants.{Idle}
+use Rattle.norec_engine.specs.declared.turn.Turn.TheVariants.{End}
+use Rattle.norec_core.specs.Core.{came}
+use Rattle.norec_engine.specs.View.{core}
+use Rattle.norec_engine.specs.Between.{IsSoundTurn}
+use Rattle.norec_core.specs.Proceeds.{Replies}
 use Rattle.word_pieces.specs.declared.piece.Piece.{Piece}
 use Rattle.word_pieces.specs.declared.chunk.Direction.TheVariants.{Up}
 use Rattle.word_pieces.specs.Chunks.{chunks_of}
 use Rattle.write_set.specs.declared.row.Row.{Row}
 use Rattle.write_set.specs.Rows.{lookup}
-use Rattle.norec_engine.specs.Rows.{range_pieces, reserved_all}
+use Rattle.norec_core.specs.Rows.{range_pieces, reserved_all}
 use Rattle.norec_engine.proofs.Fills.{none_filled, some_filled, filled_sound, fill_replies}
-use Rattle.norec_engine.proofs.Writings.{all_reserved}
+use Rattle.norec_core.proofs.Writings.{all_reserved}
 use Rattle.norec_engine.proofs.fill.fill.Goals.{then-size-gt0+in_ok-set_all+in_ok-reserve_range, else-size-gt0}
 use Rattle.norec_engine.proofs.fill.fill.Goals as goal
 
@@ -45,7 +46,7 @@ filled_turn c =
           let made = w.in_ok-reserve_range.ensures.rows ∙ (λ i. reserved_all s.frames.writes.rows (range_pieces to (chunks_of (w.new.ensures.direction i) (w.new.ensures.size i)))) in
           let is = some_filled s to byte size w.reserve_range.new.frames.writes.rows w.deref.result.now w.put_range.new.frames accepted made
           (w.deref.ensures.value ∙ w.in_ok-set_all.ensures) w.put_range.ensures.rows (w.put_range.ensures.blocks ∙ w.reserve_range.ensures.blocks)
-          (w.put_range.ensures.size ∙ w.reserve_range.ensures.size) in
+          (w.put_range.ensures.size ∙ w.reserve_range.ensures.size) (w.put_range.ensures.actions ∙ w.reserve_range.ensures.actions) in
           let sound = c.requires.sound in
           rw w.state-is (filled_sound s to byte size w.put_range.new.frames w.set_all.new.buffer sound is, fill_replies s to byte size w.put_range.new.frames w.set_all.new.buffer sound is))
       | else-size-gt0 w ↦ (

@@ -6,13 +6,13 @@ use Rattle.word_pieces.specs.Chunks.{chunks_of, chunks_before}
 use Rattle.word_pieces.specs.Pieces.{pieces_of}
 use Rattle.write_set.specs.Marks.{MayPut}
 use Rattle.write_set.specs.Rows.{lookup}
-use Rattle.norec_engine.specs.Rows.{put_all, put_chunks}
-use Rattle.norec_engine.proofs.Ranges.{all_of_chunk, put_chunks_more}
-use Rattle.norec_engine.proofs.Writings.{some_words}
+use Rattle.norec_core.specs.Rows.{put_all, put_chunks}
+use Rattle.norec_core.proofs.Ranges.{all_of_chunk, put_chunks_more}
+use Rattle.norec_core.proofs.Writings.{some_words}
 use Rattle.norec_engine.proofs.range.put_range.Goals as goal
 
 pub loop-number-init : goal.loop-number-init
-loop-number-init c = record { rows = refl; words = refl; others = λ word may. may; blocks = refl; size = refl }
+loop-number-init c = record { rows = refl; words = refl; others = λ word may. may; blocks = refl; size = refl; actions = refl }
 
 pub put_all-requires-clause-room : goal.put_all-requires-clause-room
 put_all-requires-clause-room c =
@@ -52,6 +52,7 @@ loop-number-preserved c =
       others = λ word may. c.put_all.ensures.others word (i.others word may);
       blocks = c.put_all.ensures.blocks ∙ i.blocks;
       size = c.put_all.ensures.size ∙ i.size;
+      actions = c.put_all.ensures.actions ∙ i.actions;
     }
 
 pub returns-clause-rows : goal.returns-clause-rows

@@ -1,7 +1,7 @@
 use Rattle.std.proofs.Common.{◌≡◌, map}
 use Rattle.word_pieces.specs.Chunks.{chunks_before}
 use Rattle.write_set.specs.Marks.{KeepsRoom}
-use Rattle.norec_engine.specs.Rows.{put_chunks}
+use Rattle.norec_core.specs.Rows.{put_chunks}
 use Rattle.norec_engine.proofs.range.put_range.Given as goal
 
 abbrev pub invariant-loop-number : goal.invariant-loop-number
@@ -11,4 +11,5 @@ invariant-loop-number l = record {
   others : KeepsRoom l.fn.frames.writes l.frames.writes;
   blocks : l.frames.blocks ≡ l.fn.frames.blocks;
   size : l.frames.size ≡ l.fn.frames.size;
+  actions : l.frames.actions ≡ l.fn.frames.actions;
 }

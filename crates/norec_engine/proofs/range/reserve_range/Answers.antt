@@ -10,9 +10,9 @@ use Rattle.write_set.specs.declared.row.Row.{Row}
 use Rattle.write_set.specs.Marks.{MayPut}
 use Rattle.write_set.specs.Rows.{AreEmpty}
 use Rattle.nest_frames.specs.Nest.{Nest, Frame}
-use Rattle.norec_engine.specs.Rows.{range_pieces, reserved_all}
-use Rattle.norec_engine.proofs.Ranges.{range_pieces_more, reserved_all-append}
-use Rattle.norec_engine.proofs.Writings.{cut-reserved_all, on_err, on_ok}
+use Rattle.norec_core.specs.Rows.{range_pieces, reserved_all}
+use Rattle.norec_core.proofs.Ranges.{range_pieces_more, reserved_all-append}
+use Rattle.norec_core.proofs.Writings.{cut-reserved_all, on_err, on_ok}
 use Rattle.norec_engine.proofs.range.reserve_range.Goals as goal
 
 pub loop-number-init : goal.loop-number-init
@@ -22,6 +22,7 @@ loop-number-init c = record {
   inner = refl;
   blocks = refl;
   size = refl;
+  actions = refl;
 }
 
 pub reserve_all-requires : goal.reserve_all-requires
@@ -53,6 +54,9 @@ returns-then-is_err-clause-blocks c = ap (λ (n : Nest). n.blocks) c.cut.ensures
 pub returns-then-is_err-clause-size : goal.returns-then-is_err-clause-size
 returns-then-is_err-clause-size c = ap (λ (n : Nest). n.size) c.cut.ensures.new ∙ (c.reserve_all.ensures.size ∙ c.loop-number.invariant.size)
 
+pub returns-then-is_err-clause-actions : goal.returns-then-is_err-clause-actions
+returns-then-is_err-clause-actions c = ap (λ (n : Nest). n.actions) c.cut.ensures.new ∙ (c.reserve_all.ensures.actions ∙ c.loop-number.invariant.actions)
+
 pub loop-number-preserved : goal.loop-number-preserved
 loop-number-preserved c =
     let i = c.loop-number.invariant in
@@ -74,6 +78,7 @@ loop-number-preserved c =
       inner = c.reserve_all.ensures.inner ∙ i.inner;
       blocks = c.reserve_all.ensures.blocks ∙ i.blocks;
       size = c.reserve_all.ensures.size ∙ i.size;
+      actions = c.reserve_all.ensures.actions ∙ i.actions;
     }
 
 pub returns-clause-rows : goal.returns-clause-rows

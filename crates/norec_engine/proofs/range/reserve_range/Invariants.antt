@@ -1,7 +1,7 @@
 use Rattle.std.proofs.Common.{◌≡◌, All}
 use Rattle.word_pieces.specs.Chunks.{chunks_before}
 use Rattle.write_set.specs.Marks.{MayPut}
-use Rattle.norec_engine.specs.Rows.{range_pieces, reserved_all}
+use Rattle.norec_core.specs.Rows.{range_pieces, reserved_all}
 use Rattle.norec_engine.proofs.range.reserve_range.Given as goal
 
 abbrev pub invariant-loop-number : goal.invariant-loop-number
@@ -11,4 +11,5 @@ invariant-loop-number l = record {
   inner : l.frames.writes.inner ≡ l.fn.frames.writes.inner;
   blocks : l.frames.blocks ≡ l.fn.frames.blocks;
   size : l.frames.size ≡ l.fn.frames.size;
+  actions : l.frames.actions ≡ l.fn.frames.actions;
 }

@@ -3,11 +3,14 @@ use Rattle.word_pieces.specs.Pieces.{gathered, part_of}
 use Rattle.std.specs.Prelude.{slice_index}
 use Rattle.std.proofs.lemmas.List.{length-append}
 use Rattle.write_set.specs.Rows.{overlay}
-use Rattle.norec_engine.specs.declared.phase.Reading.{Reading}
-use Rattle.norec_engine.specs.Order.{load_among}
-use Rattle.norec_engine.specs.Fields.{parts, count, rows_before, IsReading}
-use Rattle.norec_engine.specs.Rows.{is_covered}
-use Rattle.norec_engine.proofs.Readings.{load_ends, load_here, load_next, none_left, some_left, part_is, length-part_of, passed_next, among, total_left}
+use Rattle.norec_core.specs.declared.phase.Reading.{Reading}
+use Rattle.norec_core.specs.Order.{load_among}
+use Rattle.norec_core.specs.Accesses.{parts, count}
+use Rattle.norec_engine.specs.View.{rows_before}
+use Rattle.norec_engine.specs.InPhases.{IsReading}
+use Rattle.norec_core.specs.Rows.{is_covered}
+use Rattle.norec_core.proofs.Readings.{load_ends, load_here, load_next, none_left, some_left, part_is, length-part_of, passed_next, total_left}
+use Rattle.norec_engine.proofs.ReadingFields.{among}
 use Rattle.norec_engine.proofs.Sources.{covered_before}
 use Rattle.norec_engine.proofs.read.+take_covered.Goals as goal
 

@@ -7,13 +7,15 @@ use Rattle.itm_types.specs.Memory.{Agrees}
 use Rattle.word_pieces.specs.declared.piece.Piece.{Piece}
 use Rattle.word_pieces.specs.Pieces.{gathered, part_of}
 use Rattle.write_set.specs.Rows.{overlay}
-use Rattle.norec_engine.specs.Rows.{AllWithin}
-use Rattle.norec_engine.specs.declared.phase.Phase.TheVariants.{Confirm}
-use Rattle.norec_engine.specs.Proceeds.{Settles}
-use Rattle.norec_engine.specs.Fields.{core, count, parts, rows_before}
-use Rattle.norec_engine.specs.Order.{load_stage}
-use Rattle.norec_engine.proofs.Overlays.{AllWithin-push, Agrees-last, Agrees-front, index_of}
-use Rattle.norec_engine.proofs.Readings.{none_left, part_is, length-part_of, passed_next, among, total_left, after_log, after_open, after_snapshot}
+use Rattle.norec_core.specs.Rows.{AllWithin}
+use Rattle.norec_core.specs.declared.phase.Phase.TheVariants.{Confirm}
+use Rattle.norec_core.specs.Proceeds.{Settles}
+use Rattle.norec_core.specs.Accesses.{count, parts}
+use Rattle.norec_engine.specs.View.{core, rows_before}
+use Rattle.norec_core.specs.Order.{load_stage}
+use Rattle.norec_core.proofs.Overlays.{AllWithin-push, Agrees-last, Agrees-front, index_of}
+use Rattle.norec_core.proofs.Readings.{none_left, part_is, length-part_of, passed_next, total_left}
+use Rattle.norec_engine.proofs.ReadingFields.{among, after_log, after_open, after_snapshot}
 use Rattle.norec_engine.proofs.Sources.{purpose_more}
 use Rattle.norec_engine.proofs.read.confirmed.Goals as goal
 

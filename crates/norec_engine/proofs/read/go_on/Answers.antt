@@ -7,26 +7,29 @@ use Rattle.write_set.specs.declared.row.Row.{Row}
 use Rattle.write_set.specs.Rows.{overlay}
 use Rattle.write_set.proofs.Overlays.{length-overlay}
 use Rattle.norec_engine.specs.declared.data.Data.{Data}
-use Rattle.norec_engine.specs.declared.phase.Aim.TheVariants as aims
-use Rattle.norec_engine.specs.declared.phase.Phase.TheVariants.{Idle}
-use Rattle.norec_engine.specs.declared.phase.Purpose.{Purpose}
+use Rattle.norec_core.specs.declared.phase.Aim.TheVariants as aims
+use Rattle.norec_core.specs.declared.phase.Phase.TheVariants.{Idle}
+use Rattle.norec_core.specs.declared.phase.Purpose.{Purpose}
 use Rattle.itm_types.specs.Access.{size_of}
 use Rattle.itm_types.specs.declared.call.Call.TheVariants.{Read}
 use Rattle.itm_types.specs.declared.call.Reply.TheVariants.{Bytes}
 use Rattle.itm_types.specs.declared.limits.TheConstants.{MAX_OPEN_BLOCKS}
 use Rattle.itm_types.specs.Slices.{slice}
 use Rattle.itm_model.specs.Machine.{after, reply}
-use Rattle.norec_engine.specs.Proceeds.{Replies}
-use Rattle.norec_engine.specs.Copies.{chunks_in, direction_of, source_words, words_in}
+use Rattle.norec_core.specs.Proceeds.{Replies}
+use Rattle.norec_core.specs.Copies.{chunks_in, direction_of, source_words, words_in}
 use Rattle.norec_engine.proofs.AcceptedCopies.{source_within}
-use Rattle.norec_engine.proofs.CopyChunks.{chunk_there}
-use Rattle.norec_engine.specs.Order.{load_chunks, load_past}
-use Rattle.norec_engine.specs.Stands.{state_over}
-use Rattle.norec_engine.specs.Fields.{between, call_for, core, count, in_copy, logged, passed, passed_for, rows_before, total, total_for, IsFor, IsReading, Turns}
+use Rattle.norec_core.proofs.CopyChunks.{chunk_there}
+use Rattle.norec_core.specs.Order.{load_chunks, load_past}
+use Rattle.norec_core.specs.Stands.{state_over}
+use Rattle.norec_core.specs.Accesses.{count, passed, passed_for, total, total_for}
+use Rattle.norec_engine.specs.View.{call_for, core, rows_before}
+use Rattle.norec_engine.specs.InPhases.{IsFor, IsReading}
+use Rattle.norec_engine.specs.Between.{between, in_copy, logged, Turns}
 use Rattle.norec_engine.proofs.Loads.{open_gathering, load_sound, load_proceeds}
-use Rattle.norec_engine.proofs.Machines.{reads}
-use Rattle.norec_engine.proofs.Overlays.{Agrees-drop}
-use Rattle.norec_engine.proofs.Readings.{some_count, words_in-next}
+use Rattle.norec_core.proofs.Machines.{reads}
+use Rattle.norec_core.proofs.Overlays.{Agrees-drop}
+use Rattle.norec_core.proofs.Readings.{some_count, words_in-next}
 use Rattle.norec_engine.proofs.read.go_on.Goals as goal
 
 pub take_covered-requires : goal.take_covered-requires
@@ -107,16 +110,17 @@ returns-in-Value-clause-proceeds c log =
     ∙ (gathered-pieces_of (overlay m rows) r.at r.size (omega (arith, size, may.reading.within)) ∙ ap (slice (bytes_of (overlay m rows)) r.at) f.0))) in
     let within : r.at + size_of width ≤ 8 * s.words = omega (arith, may.reading.within, f.0) in
     let all = λ (m : List ℕ) (mem : IsMemory s.words m) (agrees : Agrees m (drop s.entry s.log.rows)).
-    reads rows s.frames.blocks s.arena m s.words hint width r.at may.is_open.is_open mem c.replace-bytes.result.items within (ap (λ v. v.items) c.replace-bytes.ensures.value ∙ bytes m mem agrees) in
+    reads rows s.frames.blocks s.arena s.frames.actions m s.words hint width r.at may.is_open.is_open mem c.replace-bytes.result.items within (ap (λ v. v.items) c.replace-bytes.ensures.value ∙ bytes m mem agrees) in
     rw c.take_covered.ensures.frame (subst (λ (what : Purpose). Replies (logged (between s (aims.Read (record r { purpose = what }))) log) (call_for what r.at) (Bytes c.replace-bytes.result) (core s Idle)) (sym c.in-Value.is) (record {
-      meets = λ m mem agrees. (all m mem (Agrees-drop m s.entry s.log.rows agrees)).0 ∙ ap (λ (rs : List Row). after MAX_OPEN_BLOCKS (state_over rs s.frames.blocks s.arena m) (Read hint width r.at)) (sym before);
-      reply_is = λ m mem agrees. (all m mem agrees).1 ∙ ap (λ (rs : List Row). reply MAX_OPEN_BLOCKS (state_over rs s.frames.blocks s.arena m) (Read hint width r.at)) (sym before);
+      meets = λ m mem agrees. (all m mem (Agrees-drop m s.entry s.log.rows agrees)).0 ∙ ap (λ (rs : List Row). after MAX_OPEN_BLOCKS (state_over rs s.frames.blocks s.arena s.frames.actions m) (Read hint width r.at)) (sym before);
+      reply_is = λ m mem agrees. (all m mem agrees).1 ∙ ap (λ (rs : List Row). reply MAX_OPEN_BLOCKS (state_over rs s.frames.blocks s.arena s.frames.actions m) (Read hint width r.at)) (sym before);
       stays = refl;
       writes = λ m mem agrees. sym before;
       arena = λ m mem agrees. refl;
       free = refl;
       unfreed = refl;
       blocks = refl;
+      actions = refl;
       still = λ other o. o;
       settled = λ o. (may.settled, may.bounds.even);
     }))

@@ -1,8 +1,8 @@
 use Rattle.std.proofs.Common.{take, sym, ap, ◌∙◌}
-use Rattle.norec_engine.specs.declared.phase.Phase.{Phase}
-use Rattle.norec_engine.specs.declared.phase.Purpose.TheVariants as for
-use Rattle.norec_engine.specs.Order.{tries_after, tries_at}
-use Rattle.norec_engine.proofs.Readings.{tries_loading}
+use Rattle.norec_core.specs.declared.phase.Phase.{Phase}
+use Rattle.norec_core.specs.declared.phase.Purpose.TheVariants as for
+use Rattle.norec_core.specs.Order.{tries_after, tries_at}
+use Rattle.norec_core.proofs.Readings.{tries_loading}
 use Rattle.norec_engine.proofs.read.read.Goals as goal
 
 pub returns-clause-tries : goal.returns-clause-tries

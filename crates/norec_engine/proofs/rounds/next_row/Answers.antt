@@ -1,5 +1,5 @@
 use Rattle.std.proofs.Common.{arith, refl}
-use Rattle.norec_engine.proofs.Overlays.{AllWithin-at}
+use Rattle.norec_core.proofs.Overlays.{AllWithin-at}
 use Rattle.norec_engine.proofs.rounds.next_row.Goals as goal
 
 pub returns-then-row-len-clause-proceeds : goal.returns-then-row-len-clause-proceeds

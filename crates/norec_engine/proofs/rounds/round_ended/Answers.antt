@@ -1,8 +1,9 @@
 use Rattle.std.proofs.Common.{◌+◌, refl, arith}
-use Rattle.norec_engine.specs.declared.phase.Aim.TheVariants as aims
-use Rattle.norec_engine.specs.Fields.{count, total}
+use Rattle.norec_core.specs.declared.phase.Aim.TheVariants as aims
+use Rattle.norec_core.specs.Accesses.{count, total}
 use Rattle.norec_engine.proofs.Counts.{more, round_over}
-use Rattle.norec_engine.proofs.Readings.{among, total_left}
+use Rattle.norec_core.proofs.Readings.{total_left}
+use Rattle.norec_engine.proofs.ReadingFields.{among}
 use Rattle.norec_engine.proofs.Loads.{aims_later}
 use Rattle.norec_engine.proofs.rounds.round_ended.Goals as goal
 

@@ -3,10 +3,11 @@ use Rattle.std.proofs.lemmas.Bool.{cond-true, cond-false, ne_eqb}
 use Rattle.std.proofs.lemmas.List.{take_more}
 use Rattle.std.proofs.lemmas.Option.{get_or_from_slice_get}
 use Rattle.itm_types.specs.declared.row.LogRow.{LogRow}
-use Rattle.norec_engine.specs.declared.phase.Phase.TheVariants.{Idle, RoundRow}
-use Rattle.norec_engine.specs.Core.{handed}
-use Rattle.norec_engine.specs.Rows.{row_at}
-use Rattle.norec_engine.specs.Fields.{core, in_rows, Turns}
+use Rattle.norec_core.specs.declared.phase.Phase.TheVariants.{Idle, RoundRow}
+use Rattle.norec_core.specs.Core.{handed}
+use Rattle.norec_core.specs.Rows.{row_at}
+use Rattle.norec_engine.specs.View.{core}
+use Rattle.norec_engine.specs.Between.{in_rows, Turns}
 use Rattle.norec_engine.proofs.Ended.{core_ended, ended_undone}
 use Rattle.norec_engine.proofs.rounds.row_seen.Goals as goal
 
@@ -47,10 +48,10 @@ returns-else-logged-seen-clause-proceeds c =
       );
       free = refl;
       unfreed = refl;
-      stays = core_ended _ _ _ c.roll_back.ensures.ended;
+      stays = core_ended _ _ _ _ c.roll_back.ensures.ended;
       undone =
           ended_undone (handed (core c.args.state.now (RoundRow c.args.aim c.args.row)) c.args.seen) (core c.roll_back.new.state Idle) Idle 0 c.args.state.now.snapshot
-          c.requires.sound.in_phase.0.is_open.frames c.roll_back.ensures.restored c.requires.sound.in_phase.0.is_open.is_open (core_ended _ _ _ c.roll_back.ensures.ended);
+          c.requires.sound.in_phase.0.is_open.frames c.roll_back.ensures.restored c.requires.sound.in_phase.0.is_open.is_open (core_ended _ _ _ _ c.roll_back.ensures.ended);
     }
 
 pub returns-else-logged-seen-clause-order : goal.returns-else-logged-seen-clause-order

@@ -1,6 +1,7 @@
 use Rattle.std.proofs.Common.{arith, refl}
-use Rattle.norec_engine.specs.declared.phase.Phase.TheVariants.{Idle}
-use Rattle.norec_engine.specs.Fields.{core, between}
+use Rattle.norec_core.specs.declared.phase.Phase.TheVariants.{Idle}
+use Rattle.norec_engine.specs.View.{core}
+use Rattle.norec_engine.specs.Between.{between}
 use Rattle.norec_engine.proofs.Ended.{core_ended, ended_undone}
 use Rattle.norec_engine.proofs.rounds.try_round.Goals as goal
 
@@ -8,7 +9,7 @@ pub returns-else-state-clause-proceeds : goal.returns-else-state-clause-proceeds
 returns-else-state-clause-proceeds c =
     let s = c.args.state.now in
     let may = c.requires.may in
-    let ended = core_ended _ _ _ c.roll_back.ensures.ended in
+    let ended = core_ended _ _ _ _ c.roll_back.ensures.ended in
     record {
       is_open = may.is_open.is_open;
       clock_is = c.roll_back.ensures.ended.clock;

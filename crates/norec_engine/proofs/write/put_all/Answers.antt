@@ -3,12 +3,12 @@ use Rattle.std.proofs.lemmas.List.{take_more, take_all}
 use Rattle.word_pieces.specs.declared.piece.Piece.{Piece}
 use Rattle.write_set.specs.Rows.{put}
 use Rattle.nest_frames.specs.Nest.{Nest}
-use Rattle.norec_engine.specs.Rows.{put_all}
-use Rattle.norec_engine.proofs.Writings.{put_all_more, some_words}
+use Rattle.norec_core.specs.Rows.{put_all}
+use Rattle.norec_core.proofs.Writings.{put_all_more, some_words}
 use Rattle.norec_engine.proofs.write.put_all.Goals as goal
 
 pub loop-piece-init : goal.loop-piece-init
-loop-piece-init c = record { rows = refl; others = λ word may. may; words = refl; blocks = refl; size = refl }
+loop-piece-init c = record { rows = refl; others = λ word may. may; words = refl; blocks = refl; size = refl; actions = refl }
 
 pub put-requires : goal.put-requires
 put-requires c = record {
@@ -29,6 +29,7 @@ loop-piece-preserved c =
       words = c.put.ensures.words ∙ i.words;
       blocks = ap (λ (n : Nest). n.blocks) c.put.ensures.new ∙ i.blocks;
       size = ap (λ (n : Nest). n.size) c.put.ensures.new ∙ i.size;
+      actions = ap (λ (n : Nest). n.actions) c.put.ensures.new ∙ i.actions;
     }
 
 pub returns-clause-rows : goal.returns-clause-rows

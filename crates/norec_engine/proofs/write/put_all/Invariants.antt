@@ -1,6 +1,6 @@
 use Rattle.std.proofs.Common.{◌≡◌, take, map}
 use Rattle.write_set.specs.Marks.{KeepsRoom}
-use Rattle.norec_engine.specs.Rows.{put_all}
+use Rattle.norec_core.specs.Rows.{put_all}
 use Rattle.norec_engine.proofs.write.put_all.Given as goal
 
 abbrev pub invariant-loop-piece : goal.invariant-loop-piece
@@ -10,4 +10,5 @@ invariant-loop-piece l = record {
   words : map (λ r. r.word) l.frames.writes.rows ≡ map (λ r. r.word) l.fn.frames.writes.rows;
   blocks : l.frames.blocks ≡ l.fn.frames.blocks;
   size : l.frames.size ≡ l.fn.frames.size;
+  actions : l.frames.actions ≡ l.fn.frames.actions;
 }

@@ -7,8 +7,8 @@ use Rattle.write_set.specs.declared.row.Row.{Row}
 use Rattle.write_set.specs.Marks.{MayPut}
 use Rattle.write_set.specs.Rows.{lookup, reserved, AreEmpty}
 use Rattle.nest_frames.specs.Nest.{Nest, Frame, rows_of}
-use Rattle.norec_engine.specs.Rows.{reserved_all}
-use Rattle.norec_engine.proofs.Writings.{cut-reserved_all, reserved_all_more, some_kept_all, not_ok, on_err, on_ok}
+use Rattle.norec_core.specs.Rows.{reserved_all}
+use Rattle.norec_core.proofs.Writings.{cut-reserved_all, reserved_all_more, some_kept_all, not_ok, on_err, on_ok}
 use Rattle.norec_engine.proofs.write.reserve_all.Goals as goal
 
 pub loop-piece-init : goal.loop-piece-init
@@ -19,6 +19,7 @@ loop-piece-init c = record {
   others = λ word may. may;
   blocks = refl;
   size = refl;
+  actions = refl;
 }
 
 pub reserve-requires : goal.reserve-requires
@@ -59,6 +60,11 @@ returns-then-is_err-clause-size c =
     let same = on_err c.reserve.result c.reserve.ensures.err (sym c.is_err.ensures.value ∙ c.if-is_err.true) in
     ap (λ (n : Nest). n.size) c.cut.ensures.new ∙ (ap (λ (n : Nest). n.size) same ∙ c.loop-piece.invariant.size)
 
+pub returns-then-is_err-clause-actions : goal.returns-then-is_err-clause-actions
+returns-then-is_err-clause-actions c =
+    let same = on_err c.reserve.result c.reserve.ensures.err (sym c.is_err.ensures.value ∙ c.if-is_err.true) in
+    ap (λ (n : Nest). n.actions) c.cut.ensures.new ∙ (ap (λ (n : Nest). n.actions) same ∙ c.loop-piece.invariant.actions)
+
 pub loop-piece-preserved : goal.loop-piece-preserved
 loop-piece-preserved c =
     let none : Piece = record { word = 0; first = 0; count = 0; at = 0 } in
@@ -75,6 +81,7 @@ loop-piece-preserved c =
       others = λ word may. c.reserve.ensures.others word (i.others word may);
       blocks = ap (λ (n : Nest). n.blocks) ok ∙ i.blocks;
       size = ap (λ (n : Nest). n.size) ok ∙ i.size;
+      actions = ap (λ (n : Nest). n.actions) ok ∙ i.actions;
     }
 
 pub returns-clause-rows : goal.returns-clause-rows

@@ -1,6 +1,6 @@
 use Rattle.std.proofs.Common.{◌≡◌, All, take}
 use Rattle.write_set.specs.Marks.{KeepsRoom, MayPut}
-use Rattle.norec_engine.specs.Rows.{reserved_all}
+use Rattle.norec_core.specs.Rows.{reserved_all}
 use Rattle.norec_engine.proofs.write.reserve_all.Given as goal
 
 abbrev pub invariant-loop-piece : goal.invariant-loop-piece
@@ -11,4 +11,5 @@ invariant-loop-piece l = record {
   others : KeepsRoom l.fn.frames.writes l.frames.writes;
   blocks : l.frames.blocks ≡ l.fn.frames.blocks;
   size : l.frames.size ≡ l.fn.frames.size;
+  actions : l.frames.actions ≡ l.fn.frames.actions;
 }

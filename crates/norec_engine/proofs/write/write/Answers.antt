@@ -2,20 +2,21 @@ use Rattle.std.proofs.Common.{◌≡◌, ℕ, ◌+◌, ◌*◌, ◌<◌, ◌≤�
 use Rattle.word_pieces.specs.declared.piece.Piece.{Piece}
 use Rattle.write_set.specs.declared.row.Row.{Row}
 use Rattle.write_set.specs.Rows.{lookup, overlay, AreRows}
-use Rattle.norec_engine.specs.Fields.{in_block, AreFrames, IsBounded}
-use Rattle.norec_engine.specs.Stands.{is_some_row, state_over}
-use Rattle.norec_engine.specs.Core.{is_inside}
-use Rattle.nest_frames.specs.Nest.{Frame, rows_of}
-use Rattle.norec_engine.specs.Rows.{reserved_all, put_all, AllWritesWithin, AreRoomy}
+use Rattle.norec_engine.specs.View.{in_block}
+use Rattle.norec_engine.specs.InPhases.{AreFrames, IsBounded}
+use Rattle.norec_core.specs.Stands.{is_some_row, state_over}
+use Rattle.norec_core.specs.Core.{is_inside}
+use Rattle.nest_frames.specs.Nest.{rows_of}
+use Rattle.norec_core.specs.Rows.{reserved_all, put_all, AllWritesWithin, AreRoomy}
 use Rattle.itm_types.specs.Access.{size_of}
 use Rattle.itm_types.specs.Memory.{bytes_of, IsMemory}
 use Rattle.norec_engine.proofs.Refusals.{served}
-use Rattle.norec_engine.proofs.Machines.{writes, some_put, some_bytes}
+use Rattle.norec_core.proofs.Machines.{writes, some_put, some_bytes}
 use Rattle.std.proofs.lemmas.List.Elements.{All-from_recursion}
 use Rattle.word_pieces.specs.Pieces.{pieces_of}
 use Rattle.word_pieces.proofs.Covers.{words_of-pieces_of}
 use Rattle.itm_types.specs.Slices.{AreBytes}
-use Rattle.norec_engine.proofs.Writings.{AllFitIn, either_way, all_reserved, some_pieces, bytes_of-put_all, fit_pieces, AllWritesWithin-put_all, AllWritesWithin-reserved_all, AreRows-put_all, AreRows-reserved_all}
+use Rattle.norec_core.proofs.Writings.{AllFitIn, either_way, all_reserved, some_pieces, bytes_of-put_all, fit_pieces, AllWritesWithin-put_all, AllWritesWithin-reserved_all, AreRows-put_all, AreRows-reserved_all}
 use Rattle.norec_engine.proofs.write.write.Goals as goal
 
 pub returns-in_err-reserve_all-clause-starves : goal.returns-in_err-reserve_all-clause-starves
@@ -51,6 +52,7 @@ returns-clause-sound c =
     let rows : c.put_all.new.frames.writes.rows ≡ put_all (reserved_all s.frames.writes.rows ps) ps bytes =
     c.put_all.ensures.rows ∙ (λ i. put_all ((c.in_ok-reserve_all.ensures.rows ∙ ap (reserved_all s.frames.writes.rows) (c.deref.ensures.0 ∙ pieces_are)) i) ((c.deref-2.ensures.0 ∙ pieces_are) i) (c.as_slice.ensures.value i)) in
     let blocks = c.put_all.ensures.blocks ∙ c.in_ok-reserve_all.ensures.blocks in
+    let actions = c.put_all.ensures.actions ∙ c.in_ok-reserve_all.ensures.actions in
     let within : c.args.at + size_of w ≤ 8 * s.words = subst (λ (n : ℕ). c.args.at + n ≤ 8 * s.words) (c.from.ensures ∙ c.size.ensures.value) may.1 in
     let fit : AllFitIn s.words ps bytes = fit_pieces s.words c.args.at (size_of w) bytes within
     (omega (arith, c.size.ensures.value, c.size.ensures.most)) (subst AreBytes c.as_slice.ensures.value c.put_all.ensures.bytes) in
@@ -89,15 +91,16 @@ returns-clause-proceeds c =
     let rows : c.put_all.new.frames.writes.rows ≡ put_all (reserved_all s.frames.writes.rows ps) ps bytes =
     c.put_all.ensures.rows ∙ (λ i. put_all ((c.in_ok-reserve_all.ensures.rows ∙ ap (reserved_all s.frames.writes.rows) (c.deref.ensures.0 ∙ pieces_are)) i) ((c.deref-2.ensures.0 ∙ pieces_are) i) (c.as_slice.ensures.value i)) in
     let blocks = c.put_all.ensures.blocks ∙ c.in_ok-reserve_all.ensures.blocks in
+    let actions = c.put_all.ensures.actions ∙ c.in_ok-reserve_all.ensures.actions in
     let within : c.args.at + size ≤ 8 * s.words = subst (λ (n : ℕ). c.args.at + n ≤ 8 * s.words) (c.from.ensures ∙ c.size.ensures.value) may.1 in
     let some : 0 < length ps = some_pieces c.args.at size (some_bytes value.width) in
     let all = λ (m : List ℕ) (mem : IsMemory s.words m).
-    writes s.frames.writes.rows s.frames.blocks s.arena m s.words c.args.hint value c.args.at may.0 mem c.put_all.new.frames.writes.rows within
+    writes s.frames.writes.rows s.frames.blocks s.arena s.frames.actions m s.words c.args.hint value c.args.at may.0 mem c.put_all.new.frames.writes.rows within
     (ap is_some_row rows ∙ some_put (reserved_all s.frames.writes.rows ps) ps bytes some)
     (ap (λ (xs : List Row). bytes_of (overlay m xs)) rows
     ∙ bytes_of-put_all m s.frames.writes.rows c.args.at size bytes mem.1 idle.0.rows (omega (arith, within, mem.0)) (omega (arith, c.size.ensures.value, c.size.ensures.most)) (subst AreBytes c.as_slice.ensures.value c.put_all.ensures.bytes) value.sized) in
     rw c.come.ensures (record {
-      meets = λ m mem agrees. ap (λ (bs : List Frame). state_over c.put_all.new.frames.writes.rows bs s.arena m) blocks ∙ (all m mem).0;
+      meets = λ m mem agrees. (λ i. state_over c.put_all.new.frames.writes.rows (blocks i) s.arena (actions i) m) ∙ (all m mem).0;
       reply_is = λ m mem agrees. (all m mem).1;
       stays = search rules;
       writes = λ m mem agrees. rows;
@@ -106,5 +109,6 @@ returns-clause-proceeds c =
       unfreed = refl;
       still = λ other o. ap is_inside blocks ∙ o;
       blocks = blocks;
+      actions = actions;
       settled = λ o. (idle.1, c.requires.sound.bounds.even);
     })

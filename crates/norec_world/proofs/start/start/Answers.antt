@@ -9,9 +9,9 @@ returns-in_default-clause-first g c =
     let a = c.new-actor.result in
     let engine : a.engine ≡ opening (length c.args.memory.now.words) (replicate c.args.terms.arena 0) c.args.terms.limits.patience c.args.terms.limits.max_commits =
     c.new-actor.ensures.parts.3 ∙ (c.new-engine.ensures ∙ (λ i. opening (c.words.ensures i) (c.in_ok-arena.ensures i) c.args.terms.limits.patience c.args.terms.limits.max_commits)) in
-    let ready : is_ready a.status ≡ true = ap is_ready c.new-actor.ensures.nothing.2 in
+    let ready : is_ready a.status ≡ true = ap is_ready c.new-actor.ensures.nothing.4 in
     let s = starts_between c.args.memory.now.clock 1 (prior_of c.args.recorded.now a) c.work.new.recorded c.work.new.self (c.work.ensures.worked.tries ready)
-    (ap (λ (n : ℕ). active_of n c.args.recorded.now.active) c.new-actor.ensures.parts.0 ∙ c.requires.none) c.new-actor.ensures.nothing.1 c.new-actor.ensures.tries.0 in
+    (ap (λ (n : ℕ). active_of n c.args.recorded.now.active) c.new-actor.ensures.parts.0 ∙ c.requires.none) c.new-actor.ensures.nothing.3 c.new-actor.ensures.tries.0 in
     record {
       between = s.0;
       retries_are = c.work.ensures.worked.retries ∙ c.new-actor.ensures.parts.1;
@@ -22,9 +22,9 @@ returns-in_default-clause-first g c =
 pub returns-in_default-clause-ended : goal.returns-in_default-clause-ended
 returns-in_default-clause-ended g c =
     let a = c.new-actor.result in
-    let ready : is_ready a.status ≡ true = ap is_ready c.new-actor.ensures.nothing.2 in
+    let ready : is_ready a.status ≡ true = ap is_ready c.new-actor.ensures.nothing.4 in
     (starts_between c.args.memory.now.clock 1 (prior_of c.args.recorded.now a) c.work.new.recorded c.work.new.self (c.work.ensures.worked.tries ready)
-    (ap (λ (n : ℕ). active_of n c.args.recorded.now.active) c.new-actor.ensures.parts.0 ∙ c.requires.none) c.new-actor.ensures.nothing.1 c.new-actor.ensures.tries.0).1
+    (ap (λ (n : ℕ). active_of n c.args.recorded.now.active) c.new-actor.ensures.parts.0 ∙ c.requires.none) c.new-actor.ensures.nothing.3 c.new-actor.ensures.tries.0).1
 
 pub returns-in_default-clause-runs : goal.returns-in_default-clause-runs
 returns-in_default-clause-runs g c none =
@@ -33,7 +33,7 @@ returns-in_default-clause-runs g c none =
     let engine : a.engine ≡ opening (length cells.words) (replicate c.args.terms.arena 0) c.args.terms.limits.patience c.args.terms.limits.max_commits =
     c.new-actor.ensures.parts.3 ∙ (c.new-engine.ensures ∙ (λ i. opening (c.words.ensures i) (c.in_ok-arena.ensures i) c.args.terms.limits.patience c.args.terms.limits.max_commits)) in
     let fresh = fresh_runs g.P.Player g.met.P.Player.laws cells c.args.recorded.now a (bytes_of cells.words) c.args.terms.arena c.args.terms.limits.patience c.args.terms.limits.max_commits
-    engine none c.new-actor.ensures.tries.0 c.new-actor.ensures.tries.1 c.new-actor.ensures.nothing.1 c.new-actor.ensures.nothing.2 in
+    engine none c.new-actor.ensures.tries.0 c.new-actor.ensures.tries.1 c.new-actor.ensures.nothing.3 c.new-actor.ensures.nothing.4 in
     (c.work.ensures.worked.runs (first_of c.args.player c.args.terms.arena) (bytes_of cells.words) (laid_first (bytes_of cells.words) cells c.args.recorded.now refl c.requires.fit c.requires.clock none)
     (subst (λ (p : g.row.P.Denot). RunsFrom g.P.Player (first_of p c.args.terms.arena) (bytes_of cells.words) cells c.args.recorded.now a) c.new-actor.ensures.parts.2 fresh)).1
 
@@ -46,12 +46,12 @@ returns-in_default-clause-starts g c =
       place_is = made.parts.0;
       retries_are = made.parts.1;
       tries = made.tries;
-      pending = made.nothing.1;
-      ready = made.nothing.2;
+      pending = made.nothing.3;
+      ready = made.nothing.4;
       rows = c.args.recorded.now;
       rows' = c.work.new.recorded;
       works = c.work.ensures.worked.works;
       done = c.work.ensures.done;
-      finishes = c.work.ensures.worked.finishes (ap is_ready made.nothing.2);
+      finishes = c.work.ensures.worked.finishes (ap is_ready made.nothing.4);
       thread = c.work.ensures.worked.others.thread ∙ made.parts.0;
     }

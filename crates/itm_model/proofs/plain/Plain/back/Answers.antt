@@ -15,7 +15,7 @@ returns-in-Some-clause-back c =
     let rest = c.pop.new.self.items in
     let e : p.marks.items ≡ rest ++ mark ∷ [] = c.in-Some.ensures.items in
     let under = under_last (length p.journal.items) (length p.logs.items) rest mark (subst (λ (t : List Mark). AreUnder (length p.journal.items) (length p.logs.items) (reverse t)) e c.self.invariant.under) in
-    back_is p.journal.items p.memory.items c.unwind.new.journal.items c.unwind.new.memory.items p.arena.items c.unwind-in-Some.new.memory.items p.logs.items c.unwind-in-Some.new.journal.items rest mark p.wrote
-    c.unwind.ensures.memory c.unwind.ensures.restores under.2 c.unwind-in-Some.ensures.memory c.unwind-in-Some.ensures.rest (AreWithin-drop (length p.arena.items) mark.logs p.logs.items c.self.invariant.logged)
-    ∙ (ap (λ (t : List Mark). back (state_of p.journal.items p.memory.items p.arena.items p.logs.items t p.wrote)) (sym e)
+    back_is p.journal.items p.memory.items c.unwind.new.journal.items c.unwind.new.memory.items p.arena.items c.unwind-in-Some.new.memory.items p.logs.items c.unwind-in-Some.new.journal.items rest mark p.actions c.roll_back.new.self p.wrote
+    c.unwind.ensures.memory c.unwind.ensures.restores under.2 c.unwind-in-Some.ensures.memory c.unwind-in-Some.ensures.rest (AreWithin-drop (length p.arena.items) mark.logs p.logs.items c.self.invariant.logged) c.roll_back.ensures
+    ∙ (ap (λ (t : List Mark). back (state_of p.journal.items p.memory.items p.arena.items p.logs.items t p.actions p.wrote)) (sym e)
     ∙ ap (λ (u : Undoable). back u.state) c.self.view_is)

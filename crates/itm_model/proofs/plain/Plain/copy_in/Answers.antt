@@ -16,5 +16,5 @@ returns-clause-ok c =
     let put : c.replace.new.bytes.items ≡ with_slice a c.args.to new = c.replace.ensures ∙ ap (with_slice a c.args.to) (c.range_at.ensures ∙ ap (λ t. slice t c.args.from c.args.size) c.deref.ensures.value) in
     let long : length c.replace.new.bytes.items ≡ length a = ap (length {A = ℕ}) put ∙ length-with_slice a c.args.to new fits in
     let blocks = blocks_long p.journal.items p.memory.items a c.replace.new.bytes.items p.logs.items (reverse p.marks.items) long in
-    (λ i. record { memory = p.memory.items; arena = put i; blocks = blocks i; wrote = p.wrote })
+    (λ i. record { memory = p.memory.items; arena = put i; blocks = blocks i; actions = p.actions; wrote = p.wrote })
     ∙ ap (λ (u : Undoable). saved_in_arena u.state c.args.to (slice u.state.memory c.args.from c.args.size)) c.self.view_is

@@ -20,5 +20,5 @@ returns-clause-ok c =
     let p = c.self.inside in
     let all : Logged p.arena.items c.args.place c.args.size p.logs.items c.keep.new.logs.items = subst (λ (t : List ℕ). Logged t c.args.place c.args.size p.logs.items c.keep.new.logs.items) c.deref.ensures.value c.in_ok-keep.ensures.ok in
     let blocks = logged_is p.journal.items p.memory.items p.arena.items p.logs.items c.keep.new.logs.items (reverse p.marks.items) (length p.journal.items) c.args.place c.args.size c.self.invariant.under all in
-    (λ i. record { memory = p.memory.items; arena = p.arena.items; blocks = blocks i; wrote = p.wrote })
+    (λ i. record { memory = p.memory.items; arena = p.arena.items; blocks = blocks i; actions = p.actions; wrote = p.wrote })
     ∙ ap (λ (u : Undoable). logged u.state c.args.place c.args.size) c.self.view_is

@@ -1,10 +1,11 @@
 use Rattle.std.proofs.Common.{◌≡◌, length}
-use Rattle.nest_frames.specs.Nest.{arena_back, arena_restored}
+use Rattle.nest_frames.specs.Nest.{actions_back, arena_back, arena_restored}
 use Rattle.nest_frames.proofs.frames.Frames.cancel_all.Given as goal
 
 abbrev pub invariant-loop-self : goal.invariant-loop-self
 invariant-loop-self l = record {
   size : l.self.size ≡ l.fn.self.size;
+  actions : actions_back l.self.blocks l.self.actions ≡ actions_back l.fn.self.blocks l.fn.self.actions;
   arena_size : length l.arena ≡ length l.fn.arena;
   restored : arena_restored l.self.blocks l.arena ≡ arena_restored l.fn.self.blocks l.fn.arena;
   back : arena_back l.self.blocks l.arena ≡ arena_back l.fn.self.blocks l.fn.arena;

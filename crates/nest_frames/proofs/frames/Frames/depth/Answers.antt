@@ -1,4 +1,5 @@
-use Rattle.std.proofs.Common.{length, ap, sym, ◌∙◌, arith}
+use Rattle.std.proofs.Common.{◌≡◌, [], length, ap, subst, ◌∙◌, arith}
+use Rattle.write_set.specs.Marks.{unwritten}
 use Rattle.nest_frames.specs.Nest.{Nest}
 use Rattle.nest_frames.proofs.OpenBlocks.{length-frames_of, no_frames}
 use Rattle.nest_frames.proofs.frames.Frames.depth.Goals as goal
@@ -18,5 +19,5 @@ returns-clause-few c =
 pub returns-clause-none : goal.returns-clause-none
 returns-clause-none c e =
     let f = c.self.inside in
-    let writes = ap (λ (v : Nest). v.writes) c.self.view_is in
-    sym writes ∙ no_frames f.writes f.undo.olds f.moments.items c.self.invariant (ap (λ (v : Nest). v.blocks) c.self.view_is ∙ e)
+    subst (λ (v : Nest). (v.writes ≡ unwritten) × (v.actions.commits ≡ []) × (v.actions.undos ≡ [])) c.self.view_is
+    (no_frames f.writes f.undo.olds f.actions f.moments.items c.self.invariant (ap (λ (v : Nest). v.blocks) c.self.view_is ∙ e))

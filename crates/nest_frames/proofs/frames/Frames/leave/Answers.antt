@@ -3,7 +3,7 @@ use Rattle.undo_log.specs.Rollback.{Undo, kept_of}
 use Rattle.write_set.specs.Marks.{Written}
 use Rattle.nest_frames.specs.Nest.{Frame, Nest, closed, log_of}
 use Rattle.nest_frames.specs.Moments.{frames_of, IsSound}
-use Rattle.nest_frames.proofs.OpenBlocks.{moment_popped, length-frames_of, frames_closed, IsSound-closed, kept_of-closed}
+use Rattle.nest_frames.proofs.OpenBlocks.{moment_popped, length-frames_of, frames_closed, IsSound-closed, kept_of-closed, actions_inner}
 use Rattle.nest_frames.proofs.frames.Frames.leave.Goals as goal
 
 -- the blocks as the call leaves them
@@ -11,9 +11,9 @@ blocks_are : (c : goal.After-forget_mark-else-is_empty) → frames_of c.forget_m
 blocks_are c =
     let f = c.self.inside in
     let rest = c.pop.new.self.items in
-    let h = moment_popped f.writes f.undo.olds f.moments.items rest _ c.in-Some.closed c.self.invariant c.pop.ensures.items c.in-Some.is in
+    let h = moment_popped f.writes f.undo.olds f.actions f.moments.items rest _ c.in-Some.closed c.self.invariant c.pop.ensures.items c.in-Some.is in
     ap (λ (u : Undo). frames_of c.forget_mark.new.self u.olds rest) c.forget_mark-else-is_empty.ensures.log
-    ∙ (frames_closed f.writes c.forget_mark.new.self f.undo.olds f.moments.items rest c.in-Some.closed h c.forget_mark.ensures.marks
+    ∙ (frames_closed f.writes c.forget_mark.new.self f.undo.olds f.actions f.moments.items rest c.in-Some.closed h c.forget_mark.ensures.marks
     ∙ ap (λ (v : Nest). closed v.blocks) c.self.view_is)
 
 -- the block that closes is not the outermost one
@@ -24,20 +24,29 @@ pub invariant_of-self-else-is_empty : goal.invariant_of-self-else-is_empty
 invariant_of-self-else-is_empty c =
     let f = c.self.inside in
     let rest = c.pop.new.self.items in
-    let h = moment_popped f.writes f.undo.olds f.moments.items rest _ c.in-Some.closed c.self.invariant c.pop.ensures.items c.in-Some.is in
+    let h = moment_popped f.writes f.undo.olds f.actions f.moments.items rest _ c.in-Some.closed c.self.invariant c.pop.ensures.items c.in-Some.is in
     let inner = ap (λ (w : Written). w.inner) c.forget_mark.ensures.new in
-    subst (λ (u : Undo). IsSound c.forget_mark.new.self u.olds rest) (sym c.forget_mark-else-is_empty.ensures.log)
-    (IsSound-closed f.writes c.forget_mark.new.self f.undo.olds f.moments.items rest c.in-Some.closed h inner (not_alone c))
+    subst (λ (u : Undo). IsSound c.forget_mark.new.self u.olds f.actions rest) (sym c.forget_mark-else-is_empty.ensures.log)
+    (IsSound-closed f.writes c.forget_mark.new.self f.undo.olds f.actions f.moments.items rest c.in-Some.closed h inner (not_alone c))
 
 pub returns-else-is_empty-clause-blocks : goal.returns-else-is_empty-clause-blocks
 returns-else-is_empty-clause-blocks c = blocks_are c
 
-pub returns-else-is_empty-clause-outermost : goal.returns-else-is_empty-clause-outermost
-returns-else-is_empty-clause-outermost c e =
+-- the block around it was open too
+two_open : (c : goal.After-forget_mark-else-is_empty) → 1 < length c.args.self.now.blocks
+two_open c =
     let f = c.self.inside in
-    let h = moment_popped f.writes f.undo.olds f.moments.items c.pop.new.self.items _ c.in-Some.closed c.self.invariant c.pop.ensures.items c.in-Some.is in
+    let h = moment_popped f.writes f.undo.olds f.actions f.moments.items c.pop.new.self.items _ c.in-Some.closed c.self.invariant c.pop.ensures.items c.in-Some.is in
     let blocks = ap (λ (v : Nest). length v.blocks) c.self.view_is in
-    absurd (omega (arith, e, h.count, not_alone c, blocks, length-frames_of f.writes f.undo.olds f.moments.items))
+    omega (arith, h.count, not_alone c, blocks, length-frames_of f.writes f.undo.olds f.moments.items)
+
+pub returns-else-is_empty-clause-outermost : goal.returns-else-is_empty-clause-outermost
+returns-else-is_empty-clause-outermost c e = absurd (omega (arith, e, two_open c))
+
+pub returns-else-is_empty-clause-actions : goal.returns-else-is_empty-clause-actions
+returns-else-is_empty-clause-actions c =
+    let here = ap (λ (v : Nest). v.actions) c.self.view_is in
+    here ∙ sym (actions_inner c.args.self.now.blocks c.args.self.now.actions (two_open c))
 
 pub returns-else-is_empty-clause-handed : goal.returns-else-is_empty-clause-handed
 returns-else-is_empty-clause-handed c h arena = ap (λ (bs : List Frame). kept_of arena (log_of bs)) (blocks_are c) ∙ kept_of-closed arena c.args.self.now.blocks h

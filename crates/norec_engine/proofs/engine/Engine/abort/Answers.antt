@@ -1,5 +1,5 @@
 use Rattle.std.proofs.Common.{Bool, sym, ap, ◌∙◌, if◌then◌else◌}
-use Rattle.norec_engine.specs.declared.answer.Undone.TheVariants.{Nothing, Done}
+use Rattle.norec_core.specs.declared.answer.Undone.TheVariants.{Nothing, Done}
 use Rattle.norec_engine.proofs.Ended.{is_free, after_left, undone_of_left, told_left}
 use Rattle.norec_engine.proofs.engine.Engine.abort.Goals.{then-was_open, else-was_open}
 use Rattle.norec_engine.proofs.engine.Engine.abort.Goals as goal
@@ -18,4 +18,5 @@ returns-after-was_open c =
           ]) ∙ sym (told_left s phase free);
       after = after_left s new phase free c.roll_back.ensures.ended;
       rolled_back = λ holds. undone_of_left s new phase c.self.invariant.in_phase free c.roll_back.ensures.ended c.roll_back.ensures.restored;
+      unregistered = λ holds. c.roll_back.ensures.none;
     })

@@ -1,3 +1,4 @@
+use Rattle.norec_world.specs.ActionRoom.{MayRunOn}
 use Rattle.std.proofs.Common.{◌≡◌, ◌/◌, ℕ, true, refl, sym, ap, subst, ◌∙◌}
 use Rattle.norec_world.proofs.Common.{Core, IsTied, Rows, Starves, StatusIs, StopsAt, Waits, after_undoing, in_transaction}
 use Rattle.norec_world.specs.declared.attempt.Outcome.TheVariants as outcomes
@@ -8,10 +9,13 @@ use Rattle.norec_world.proofs.Worked.{call_worked, finish_worked, starve_worked}
 use Rattle.norec_world.proofs.actor.Actor.call_next.Goals as goal
 
 pub settle-requires : goal.settle-requires
-settle-requires g c = (
-  in_transaction c.args.self.now.engine,
-  due (call_taken (calling c.requires.sound c.requires.ready c.in-Ok-Answer.field-0-is c.in-Ok-Answer.ensures.asked c.in-Ok-Answer.ensures.told)),
-)
+settle-requires g c = record {
+  answered = (
+    in_transaction c.args.self.now.engine,
+    due (call_taken (calling c.requires.sound c.requires.ready c.in-Ok-Answer.field-0-is c.in-Ok-Answer.ensures.asked c.in-Ok-Answer.ensures.told)),
+  );
+  acts = subst (MayRunOn c.ask.new.recorded c.ask.new.self c.in-Some.call) c.in-Ok-Answer.field-0-is c.in-Ok-Answer.ensures.acts;
+}
 
 pub returns-in_default-clause-worked : goal.returns-in_default-clause-worked
 returns-in_default-clause-worked g c = finish_worked g.met.P.Player.laws c.requires.sound c.requires.ready (sym c.next.ensures ∙ c.in_default.is)
@@ -19,7 +23,7 @@ returns-in_default-clause-worked g c = finish_worked g.met.P.Player.laws c.requi
 pub returns-in-Ok-Step-clause-worked : goal.returns-in-Ok-Step-clause-worked
 returns-in-Ok-Step-clause-worked g c =
     let m = calling c.requires.sound c.requires.ready c.in-Ok-Step.field-0-is c.in-Ok-Step.ensures.asked c.in-Ok-Step.ensures.told in
-    call_worked g.met.P.Player.laws m c.ask.new.recorded (record c.ask.new.self { status = Waits c.in-Some.call c.in-Ok-Step.step }) (refl, refl) (refl, refl) (sym c.next.ensures ∙ c.in-Some.is) (let o = c.ask.ensures.others in record { thread = o.thread; own = o.own; room = o.room })
+    call_worked g.met.P.Player.laws m c.ask.new.recorded (record c.ask.new.self { status = Waits c.in-Some.call c.in-Ok-Step.step }) (refl, refl) (refl, refl) (sym c.next.ensures ∙ c.in-Some.is) (let o = c.ask.ensures.others in record { thread = o.thread; own = o.own; room = o.room }) (subst (MayRunOn c.ask.new.recorded c.ask.new.self c.in-Some.call) c.in-Ok-Step.field-0-is c.in-Ok-Step.ensures.acts)
 
 pub returns-in-Ok-Answer-clause-worked : goal.returns-in-Ok-Answer-clause-worked
 returns-in-Ok-Answer-clause-worked g c =
@@ -27,7 +31,7 @@ returns-in-Ok-Answer-clause-worked g c =
     let was = in_transaction c.args.self.now.engine in
     let d = due (call_taken m) in
     call_worked g.met.P.Player.laws m c.settle.new.recorded c.settle.new.self (c.settle.ensures.settled was d) (c.settle.ensures.records was d) (sym c.next.ensures ∙ c.in-Some.is)
-    (others_twice c.args.self.now c.ask.new.self c.settle.new.self c.args.recorded.now c.ask.new.recorded c.settle.new.recorded c.ask.ensures.others (c.settle.ensures.others was d))
+    (others_twice c.args.self.now c.ask.new.self c.settle.new.self c.args.recorded.now c.ask.new.recorded c.settle.new.recorded c.ask.ensures.others (c.settle.ensures.others was d)) c.settle.ensures.acts
 
 pub returns-in-Ok-Answer-clause-falls : goal.returns-in-Ok-Answer-clause-falls
 returns-in-Ok-Answer-clause-falls g c =
@@ -51,12 +55,12 @@ returns-in-Err-clause-worked g c =
       engine = starved.engine ∙ ap after_undoing u.engine;
       room = c.ask.new.recorded.room;
       stops = λ o. (let o' : in_transaction c.ask.new.self.engine ≡ true = ap in_transaction u.engine ∙ o in
-          subst (λ (e : Core). StopsAt c.args.self.now.thread (record c.args.recorded.now { room = c.ask.new.recorded.room }) (e.snapshot / 2) outcomes.NoMemory c.starve.new.recorded) u.engine
-          (subst (λ (x : Rows). StopsAt c.args.self.now.thread x (c.ask.new.self.engine.snapshot / 2) outcomes.NoMemory c.starve.new.recorded) roomy
-          (subst (λ (n : ℕ). StopsAt n c.ask.new.recorded (c.ask.new.self.engine.snapshot / 2) outcomes.NoMemory c.starve.new.recorded) u.same.thread (starved.row o'))));
+          subst (λ (e : Core). StopsAt c.args.self.now.thread (record c.args.recorded.now { room = c.ask.new.recorded.room }) (e.snapshot / 2) outcomes.NoMemory c.starve.new.self.engine.actions.ran c.starve.new.recorded) u.engine
+          (subst (λ (x : Rows). StopsAt c.args.self.now.thread x (c.ask.new.self.engine.snapshot / 2) outcomes.NoMemory c.starve.new.self.engine.actions.ran c.starve.new.recorded) roomy
+          (subst (λ (n : ℕ). StopsAt n c.ask.new.recorded (c.ask.new.self.engine.snapshot / 2) outcomes.NoMemory c.starve.new.self.engine.actions.ran c.starve.new.recorded) u.same.thread (starved.row o'))));
       stays = λ o. starved.none (ap in_transaction u.engine ∙ o) ∙ roomy;
     } in
     starve_worked g.met.P.Player.laws c.requires.sound c.requires.ready c.starve.new.recorded c.starve.new.self
-    (record { tied = starved.tied c.args.memory.now (subst (IsTied c.args.memory.now) (sym u.engine) c.requires.sound.tied); kept = starved.kept; status = subst (StatusIs g.P.Player c.starve.new.recorded c.starve.new.self) (sym starved.status) tt })
+    (record { tied = starved.tied c.args.memory.now (subst (IsTied c.args.memory.now) (sym u.engine) c.requires.sound.tied); kept = starved.kept; acts = starved.acts; status = subst (StatusIs g.P.Player c.starve.new.recorded c.starve.new.self) (sym starved.status) tt })
     s (others_twice c.args.self.now c.ask.new.self c.starve.new.self c.args.recorded.now c.ask.new.recorded c.starve.new.recorded c.ask.ensures.others starved.others) starved.closed
     (starved.holds ∙ ap (λ (e : Core). e.holds) u.engine) (starved.limit.0 ∙ ap (λ (e : Core). e.max_commits) u.engine, starved.limit.1 ∙ ap (λ (e : Core). e.patience) u.engine)

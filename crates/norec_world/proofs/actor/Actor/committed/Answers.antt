@@ -1,4 +1,6 @@
-use Rattle.std.proofs.Common.{◌≡◌, Bool, true, length, refl, sym, ap, subst, ◌∙◌, ◌++◌, ◌∷◌, []}
+use Rattle.itm_types.specs.declared.call.Ran.{Ran}
+use Rattle.norec_world.specs.declared.attempt.Outcome.TheVariants as outcomes
+use Rattle.std.proofs.Common.{List, if◌then◌else◌, ◌≡◌, Bool, true, length, refl, sym, ap, subst, ◌∙◌, ◌++◌, ◌∷◌, []}
 use Rattle.norec_world.proofs.Common.{Actor, Committed, Done, HasRow, IsAnswered, IsSettledBy, Outcome, depth_after, with_ended}
 use Rattle.norec_world.proofs.OthersAttempts.{others_ended}
 use Rattle.norec_world.proofs.PlayerLaws.{after_close, deep_of}
@@ -14,12 +16,14 @@ returns-clause-settled g c was d =
     subst (λ (b : Bool). IsSettledBy g.P.Player b c.close.new.recorded a c.close.new.self) (sym d.fits.0)
     (subst (IsSettledBy g.P.Player true c.close.new.recorded a) (sym c.close.ensures.actor)
     (after_close g.P.Player g.met.P.Player.laws c.args.recorded.now c.close.new.recorded a c.args.call
-    d' Done d.fits.1 fits c.answer.new.self c.answer.ensures c.close.new.self.spare c.close.ensures.empty a.pending (d.in_call.inside d.fits.0) c.close.ensures.gone))
+    d' Done d.fits.1 fits c.answer.new.self c.answer.ensures c.close.new.self.spare c.close.new.self.end_room a.cancel_room c.close.ensures.empty a.pending (d.in_call.inside d.fits.0) c.close.ensures.gone))
 
 pub returns-clause-records : goal.returns-clause-records
 returns-clause-records g c was d = (
   λ row e. c.close.ensures.ended row e
-      ∙ ap (λ (o : Outcome). with_ended c.args.self.now.thread (record row { calls = row.calls ++ record { call = c.args.call; reply = Done } ∷ []; at = c.args.at; outcome = o }) c.args.recorded.now) c.outcome_of.ensures,
+      ∙ ap (λ (o : Outcome). with_ended c.args.self.now.thread (record row { calls = row.calls ++ record { call = c.args.call; reply = Done } ∷ []; at = c.args.at; ran = c.args.self.now.engine.actions.ran; outcome = o }) c.args.recorded.now) c.outcome_of.ensures
+      ∙ ap (λ (ran : List Ran). with_ended c.args.self.now.thread (record row { calls = row.calls ++ record { call = c.args.call; reply = Done } ∷ []; at = c.args.at; ran = ran; outcome = if c.args.wrote then outcomes.Committed else outcomes.ReadOnly }) c.args.recorded.now)
+      (sym (ap (λ (x : Actor g.row.P.Denot). x.engine.actions.ran) c.close.ensures.actor)),
   ap (λ (x : Actor g.row.P.Denot). x.player) c.close.ensures.actor ∙ c.answer.ensures,
   ap (λ (x : Actor g.row.P.Denot). x.again) c.close.ensures.actor,
   ap (λ (x : Actor g.row.P.Denot). x.nth) c.close.ensures.actor,

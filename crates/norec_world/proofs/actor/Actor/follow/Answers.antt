@@ -1,3 +1,4 @@
+use Rattle.norec_world.proofs.ActionRoom.{changed_acting}
 use Rattle.norec_world.proofs.OthersAttempts.{others_changed}
 use Rattle.std.proofs.Common.{refl, sym, ◌∙◌, ◌/◌}
 use Rattle.norec_world.proofs.RecordedRows.{told_kept, told_status}
@@ -16,3 +17,7 @@ returns-then-is_open-clause-status g c =
 pub returns-then-is_open-clause-others : goal.returns-then-is_open-clause-others
 returns-then-is_open-clause-others g c =
     others_changed c.args.self.now c.args.self.now c.args.recorded.now c.move_to.new.self (λ row. record row { at = c.snapshot.result / 2 }) (λ x. refl) refl refl c.move_to.ensures
+
+pub returns-then-is_open-clause-acts : goal.returns-then-is_open-clause-acts
+returns-then-is_open-clause-acts g c acts =
+    changed_acting c.args.recorded.now c.move_to.new.self c.args.self.now (λ row. record row { at = c.snapshot.result / 2 }) (λ x. refl) (λ x. refl) c.move_to.ensures acts

@@ -1,6 +1,10 @@
+use Rattle.itm_types.specs.declared.call.Ran.{Ran}
+use Rattle.user_actions.specs.Actions.{total}
+use Rattle.norec_world.specs.ActionRoom.{NoCancel}
+use Rattle.norec_world.proofs.ActiveRows.{changed_then, opened_here, row_from}
 use Rattle.norec_world.proofs.OthersAttempts.{others_opened, others_changed, others_ended}
-use Rattle.std.proofs.Common.{◌≡◌, ◌/◌, refl, Some, subst, ◌++◌, ◌∷◌, [], ap, ◌∙◌, sym, Bool, true, None, is_some, length}
-use Rattle.norec_world.proofs.Common.{Actor, Attempt, HasRow, IsAnswered, IsSettledBy, Reply, active_of, in_transaction}
+use Rattle.std.proofs.Common.{◌≡◌, ◌/◌, refl, Some, subst, ◌++◌, ◌∷◌, [], ap, ◌∙◌, sym, Bool, true, List, ℕ, None, is_some, length, arith}
+use Rattle.norec_world.proofs.Common.{Actor, Attempt, HasRow, IsAnswered, IsSettledBy, RecordsReply, Reply, Rows, active_of, in_transaction, with_changed, with_opened}
 use Rattle.norec_world.proofs.PlayerLaws.{after_close, after_reply, deep_of}
 use Rattle.norec_world.proofs.RecordedRows.{has_active, no_active, row_stays, was_open, row_opened, row_changed, row_none}
 use Rattle.norec_world.proofs.actor.Actor.replied.Goals as goal
@@ -10,7 +14,7 @@ returns-else-is_open-clause-settled g c was d =
     let a = c.args.self.now in
     let r = c.args.recorded.now in
     after_reply g.P.Player g.met.P.Player.laws r r a c.args.call
-    was c.args.reply d c.answer.new.self c.answer.ensures a.spare d.kept.empty c.take.new.self c.take.ensures.after a.again
+    was c.args.reply d c.answer.new.self c.answer.ensures a.spare a.end_room a.cancel_room d.kept.empty c.take.new.self c.take.ensures.after a.again
     (row_stays r a.thread (in_transaction a.engine) (sym c.is_open-is_open.ensures ∙ c.if-is_open.false)
     (row_none r a.thread was (λ e. (let n = d.in_call.inside e in absurd (let none = sym n ∙ sym c.in-Some.ensures.value in cc))) d.kept.row))
 
@@ -23,7 +27,7 @@ returns-then-is_open-clause-settled g c was d =
     let shut : was ≡ true → ⊥ = λ e. (let n = d.in_call.inside e in absurd (cc)) in
     let opened : in_transaction a.engine ≡ true = sym c.is_open-is_open.ensures ∙ c.if-is_open.true in
     after_reply g.P.Player g.met.P.Player.laws r c.open.new.self a c.args.call
-    was c.args.reply d c.answer.new.self c.answer.ensures a.spare d.kept.empty c.take.new.self c.take.ensures.after true
+    was c.args.reply d c.answer.new.self c.answer.ensures a.spare a.end_room a.cancel_room d.kept.empty c.take.new.self c.take.ensures.after true
     (row_opened r c.open.new.self a.thread (in_transaction a.engine) row opened c.open.ensures (row_none r a.thread was shut d.kept.row) p.thread p.outcome)
 
 pub returns-then-is_open-2-clause-settled : goal.returns-then-is_open-2-clause-settled
@@ -34,9 +38,10 @@ returns-then-is_open-2-clause-settled g c was d =
     let none : a.pending ≡ None = sym c.in-None.ensures.value in
     let open_before : was ≡ true = was_open was (in_transaction a.engine) (g.P.Player.depth a.player) (length a.engine.blocks) c.args.call c.args.reply d.nested.deep (deep_of a.engine.blocks) (λ e. sym (d.in_call.begins e) ∙ ap is_some none) d.fits.0 opened in
     let h : HasRow true r a.thread = subst (λ (b : Bool). HasRow b r a.thread) open_before d.kept.row in
-    after_reply g.P.Player g.met.P.Player.laws r c.add.new.self a c.args.call
-    was c.args.reply d c.answer.new.self c.answer.ensures c.add.new.spare c.add.ensures.empty c.take.new.self c.take.ensures.after a.again
-    (row_changed r c.add.new.self a.thread (in_transaction a.engine) (λ row. record row { calls = row.calls ++ record { call = c.args.call; reply = c.args.reply } ∷ [] }) (λ x. refl) (λ x. refl) c.add.ensures.added h opened)
+    after_reply g.P.Player g.met.P.Player.laws r c.run.new.self a c.args.call
+    was c.args.reply d c.answer.new.self c.answer.ensures c.add.new.spare a.end_room c.run.new.spare c.add.ensures.empty c.take.new.self c.take.ensures.after a.again
+    (row_changed r c.run.new.self a.thread (in_transaction a.engine) (λ row. record row { calls = row.calls ++ record { call = c.args.call; reply = c.args.reply } ∷ []; ran = c.due.result.now }) (λ x. refl) (λ x. refl)
+    (changed_then r c.add.new.self c.run.new.self a.thread (λ row. record row { calls = row.calls ++ record { call = c.args.call; reply = c.args.reply } ∷ [] }) (λ row. record row { ran = c.due.result.now }) (λ x. refl) c.add.ensures.added c.run.ensures.ran) h opened)
 
 -- no transaction was open, nor is one now
 pub returns-else-has_open-clause-settled : goal.returns-else-has_open-clause-settled
@@ -44,7 +49,7 @@ returns-else-has_open-clause-settled g c was d =
     let a = c.args.self.now in
     let r = c.args.recorded.now in
     after_reply g.P.Player g.met.P.Player.laws r r a c.args.call
-    was c.args.reply d c.answer.new.self c.answer.ensures a.spare d.kept.empty c.take.new.self c.take.ensures.after a.again
+    was c.args.reply d c.answer.new.self c.answer.ensures a.spare a.end_room a.cancel_room d.kept.empty c.take.new.self c.take.ensures.after a.again
     (row_stays r a.thread (in_transaction a.engine) (sym c.is_open-is_open.ensures ∙ c.if-is_open-2.false) (no_active (active_of a.thread r.active) (sym c.has_open.ensures ∙ c.if-has_open.false)))
 
 -- the block was cancelled
@@ -57,7 +62,7 @@ returns-then-has_open-clause-settled g c was d =
     subst (λ (b : Bool). IsSettledBy g.P.Player b c.close.new.recorded a c.close.new.self) (sym open_before)
     (subst (IsSettledBy g.P.Player true c.close.new.recorded a) (sym c.close.ensures.actor)
     (after_close g.P.Player g.met.P.Player.laws r c.close.new.recorded a c.args.call
-    d' c.args.reply (sym c.is_open-is_open.ensures ∙ c.if-is_open-2.false) d.fits.0 c.answer.new.self c.answer.ensures c.close.new.self.spare c.close.ensures.empty c.take.new.self c.take.ensures.after c.close.ensures.gone))
+    d' c.args.reply (sym c.is_open-is_open.ensures ∙ c.if-is_open-2.false) d.fits.0 c.answer.new.self c.answer.ensures c.close.new.self.spare c.close.new.self.end_room a.cancel_room c.close.ensures.empty c.take.new.self c.take.ensures.after c.close.ensures.gone))
 
 pub returns-then-has_open-clause-others : goal.returns-then-has_open-clause-others
 returns-then-has_open-clause-others g c was d =
@@ -76,5 +81,75 @@ returns-then-is_open-clause-others g c was d =
 
 pub returns-then-is_open-2-clause-others : goal.returns-then-is_open-2-clause-others
 returns-then-is_open-2-clause-others g c was d =
-    others_changed c.args.self.now _ c.args.recorded.now c.add.new.self (λ row. record row { calls = row.calls ++ record { call = c.args.call; reply = c.args.reply } ∷ [] }) (λ x. refl) refl
-    (c.take.ensures.after ∙ sym (sym c.in-None.ensures.value)) c.add.ensures.added
+    others_changed c.args.self.now _ c.args.recorded.now c.run.new.self (λ row. record row { calls = row.calls ++ record { call = c.args.call; reply = c.args.reply } ∷ []; ran = c.due.result.now }) (λ x. refl) refl
+    (c.take.ensures.after ∙ sym (sym c.in-None.ensures.value)) (changed_then c.args.recorded.now c.add.new.self c.run.new.self c.args.self.now.thread (λ row. record row { calls = row.calls ++ record { call = c.args.call; reply = c.args.reply } ∷ [] }) (λ row. record row { ran = c.due.result.now }) (λ x. refl) c.add.ensures.added c.run.ensures.ran)
+
+no_length : (xs : List Ran) → length xs ≡ 0 → xs ≡ []
+no_length [] e = refl
+no_length (x ∷ xs) e = absurd (omega arith)
+
+pub run-requires-clause-first : goal.run-requires-clause-first
+run-requires-clause-first g c row e =
+    let was = row_from c.args.recorded.now c.add.new.self c.args.self.now.thread (λ row. record row { calls = row.calls ++ record { call = c.args.call; reply = c.args.reply } ∷ [] }) (λ x. refl) c.add.ensures.added row e in
+    let first = c.requires.acts.first was.0 was.1 in
+    (first.0, (ap (λ (x : Attempt). x.ran ++ first.0) was.2 ∙ first.1) ∙ sym c.due.ensures)
+
+pub run-requires-clause-room : goal.run-requires-clause-room
+run-requires-clause-room g c row e less =
+    let was = row_from c.args.recorded.now c.add.new.self c.args.self.now.thread (λ row. record row { calls = row.calls ++ record { call = c.args.call; reply = c.args.reply } ∷ [] }) (λ x. refl) c.add.ensures.added row e in
+    let opened : in_transaction c.args.self.now.engine ≡ true = sym c.is_open-is_open.ensures ∙ c.if-is_open-2.true in
+    let due = ap (length {A = Ran}) c.due.ensures in
+    let same = ap (λ (x : Attempt). length x.ran) was.2 in
+    let place = c.requires.acts.cancel_places opened was.0 was.1 (omega arith) in
+    omega arith
+
+pub returns-then-is_open-2-clause-acts : goal.returns-then-is_open-2-clause-acts
+returns-then-is_open-2-clause-acts g c =
+    let r = c.args.recorded.now in
+    let rows = (changed_then r c.add.new.self c.run.new.self c.args.self.now.thread (λ row. record row { calls = row.calls ++ record { call = c.args.call; reply = c.args.reply } ∷ [] }) (λ row. record row { ran = c.due.result.now }) (λ x. refl) c.add.ensures.added c.run.ensures.ran) in
+    let was = λ (row : Attempt) (e : active_of c.args.self.now.thread c.run.new.self.active ≡ Some row).
+    row_from r c.run.new.self c.args.self.now.thread (λ x. record x { calls = x.calls ++ record { call = c.args.call; reply = c.args.reply } ∷ []; ran = c.due.result.now }) (λ x. refl) rows row e in
+    record {
+      empty = record { end_room = c.requires.acts.empty.end_room; cancel_room = c.run.ensures.empty };
+      all = λ row e. ap (λ (x : Attempt). x.ran) (was row e).2 ∙ c.due.ensures;
+      places = λ row e. (let w = was row e in c.requires.acts.places w.0 w.1);
+      pending = λ row e. absurd (let none : None ≡ Some row = sym c.take.ensures.after ∙ e in cc);
+      status = subst NoCancel (sym c.requires.answered.1.status) tt;
+    }
+
+pub returns-then-is_open-clause-acts : goal.returns-then-is_open-clause-acts
+returns-then-is_open-clause-acts g c =
+    let a = c.args.self.now in
+    let r = c.args.recorded.now in
+    let d = c.requires.answered.1 in
+    let was = c.requires.answered.0 in
+    let attempt : Attempt = record c.in-Some.attempt { at = c.snapshot.result / 2 } in
+    let p = d.in_call.opens c.in-Some.attempt (sym c.in-Some.ensures.value) in
+    let shut : was ≡ true → ⊥ = λ e. (let n = d.in_call.inside e in absurd (cc)) in
+    let opened : in_transaction a.engine ≡ true = sym c.is_open-is_open.ensures ∙ c.if-is_open.true in
+    let none : active_of a.thread r.active ≡ None = row_none r a.thread was shut d.kept.row in
+    let before : active_of attempt.thread r.active ≡ None = ap (λ (t : ℕ). active_of t r.active) p.thread ∙ none in
+    let there : active_of a.thread c.open.new.self.active ≡ Some attempt =
+    ap (λ (x : Rows). active_of a.thread x.active) c.open.ensures ∙ (ap (λ (t : ℕ). active_of t (with_opened attempt r).active) (sym p.thread) ∙ opened_here attempt r.active before) in
+    let nothing : total a.engine.actions ≡ 0 = c.requires.acts.anew opened none in
+    let empty : c.in-Some.attempt.ran ≡ [] = c.requires.acts.pending c.in-Some.attempt (sym c.in-Some.ensures.value) in
+    let none_ran : a.engine.actions.ran ≡ [] = no_length a.engine.actions.ran (omega arith) in
+    record {
+      empty = record { end_room = c.requires.acts.empty.end_room; cancel_room = c.requires.acts.empty.cancel_room };
+      all = λ row e. (let same : attempt ≡ row = (let both : Some attempt ≡ Some row = sym there ∙ e in cc) in ap (λ (x : Attempt). x.ran) (sym same) ∙ (empty ∙ sym none_ran));
+      places = λ row e. omega arith;
+      pending = λ row e. absurd (let gone : None ≡ Some row = sym c.take.ensures.after ∙ e in cc);
+      status = subst NoCancel (sym d.status) tt;
+    }
+
+pub returns-then-is_open-2-clause-records : goal.returns-then-is_open-2-clause-records
+returns-then-is_open-2-clause-records g c was d =
+    let a = c.args.self.now in
+    let r = c.args.recorded.now in
+    let opened : in_transaction a.engine ≡ true = sym c.is_open-is_open.ensures ∙ c.if-is_open-2.true in
+    let none : a.pending ≡ None = sym c.in-None.ensures.value in
+    let open_before : was ≡ true = was_open was (in_transaction a.engine) (g.P.Player.depth a.player) (length a.engine.blocks) c.args.call c.args.reply d.nested.deep (deep_of a.engine.blocks) (λ e. sym (d.in_call.begins e) ∙ ap is_some none) d.fits.0 opened in
+    let rows = (changed_then r c.add.new.self c.run.new.self a.thread (λ row. record row { calls = row.calls ++ record { call = c.args.call; reply = c.args.reply } ∷ [] }) (λ row. record row { ran = c.due.result.now }) (λ x. refl) c.add.ensures.added c.run.ensures.ran)
+    ∙ ap (λ (ran : List Ran). with_changed a.thread (λ row. record row { calls = row.calls ++ record { call = c.args.call; reply = c.args.reply } ∷ []; ran = ran }) r) c.due.ensures in
+    subst (λ (b : Bool). RecordsReply g.P.Player b (in_transaction a.engine) r c.run.new.self a (record a { player = c.answer.new.self; spare = c.add.new.spare; cancel_room = c.run.new.spare; pending = c.take.new.self }) c.args.call c.args.reply) (sym open_before)
+    (subst (λ (n : Bool). RecordsReply g.P.Player true n r c.run.new.self a (record a { player = c.answer.new.self; spare = c.add.new.spare; cancel_room = c.run.new.spare; pending = c.take.new.self }) c.args.call c.args.reply) (sym opened) (rows, c.answer.ensures, refl, refl, refl))

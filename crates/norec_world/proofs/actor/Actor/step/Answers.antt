@@ -3,7 +3,7 @@ use Rattle.norec_world.proofs.Common.{cells_after, in_transaction, prior_of, wai
 use Rattle.norec_world.proofs.CommitCounts.{counted_after}
 use Rattle.norec_world.proofs.OthersAttempts.{others_twice}
 use Rattle.norec_world.proofs.RunCalls.{step_runs}
-use Rattle.norec_world.proofs.SoundSteps.{step_clocks, step_falls, step_on, step_taken, stepping, takes_in, IsStepping, rests}
+use Rattle.norec_world.proofs.SoundSteps.{step_acts, step_clocks, step_falls, step_on, step_taken, stepping, takes_in, IsStepping, rests}
 use Rattle.norec_world.proofs.Taken.{due, now}
 use Rattle.norec_world.proofs.TryCalls.{step_tries, step_unfinished}
 use Rattle.norec_world.proofs.actor.Actor.step.Goals as goal
@@ -17,13 +17,16 @@ stepped g c =
     (record { proceeds = e.proceeds; joins = e.joins; order = e.order; ends = e.ends; tries = e.tries; snapshot = e.snapshot; log = e.log; asks = e.asks; settled = e.settled }) e.count
 
 pub proceed-requires : goal.proceed-requires
-proceed-requires g c = (in_transaction c.args.self.now.engine, due (step_taken (stepped g (goal.at.proceed-requires g c).After-resume-next) c.replace.new.dest c.replace.ensures.after))
+proceed-requires g c = record {
+  due = (in_transaction c.args.self.now.engine, due (step_taken (stepped g (goal.at.proceed-requires g c).After-resume-next) c.replace.new.dest c.replace.ensures.after));
+  acts = step_acts (stepped g (goal.at.proceed-requires g c).After-resume-next) c.replace.new.dest c.replace.ensures.after;
+}
 
 pub follow-requires : goal.follow-requires
 follow-requires g c =
     let taken = step_taken (stepped g (goal.at.follow-requires g c).After-resume-next) c.replace.new.dest c.replace.ensures.after in
     let was = in_transaction c.args.self.now.engine in
-    (now taken (c.proceed.ensures.done was (due taken)) (c.proceed.ensures.tells was (due taken))).sound.kept
+    (now taken (c.proceed.ensures.done was (due taken)) (c.proceed.ensures.tells was (due taken))).kept
 
 pub returns-in-Waits : goal.returns-in-Waits
 returns-in-Waits g c =
@@ -40,9 +43,9 @@ returns-in-Waits g c =
     (let d = c.proceed.ensures.others was (due taken) in record { thread = d.thread; own = d.own; room = d.room }) c.follow.ensures.others in
     let tries = step_tries m c.replace.new.dest ready c.proceed.new.recorded last done tells c.follow.new.recorded told in
     record {
-      sound = record { tied = x.sound.tied; kept = c.follow.ensures.kept; status = c.follow.ensures.status last.status x.sound.status };
+      sound = record { tied = (x.sound c.proceed.ensures.acts).tied; kept = c.follow.ensures.kept; acts = c.follow.ensures.acts c.proceed.ensures.acts; status = c.follow.ensures.status last.status x.status };
       cells_are = λ step w. c.apply-seen.ensures.cells ∙ ap (cells_after c.args.memory.now) (let some : Some c.in-Waits.step ≡ Some step = sym (ap waiting_step (sym c.in-Waits.ensures.value)) ∙ w in let same : c.in-Waits.step ≡ step = cc in same);
-      takes = takes_in m c.replace.new.dest ready x.engine tells told (record { thread = x.thread; retries = x.retries; nothing = λ e. (rests x.sound e).nothing });
+      takes = takes_in m c.replace.new.dest ready x.engine tells told (record { thread = x.thread; retries = x.retries; nothing = λ e. (rests (x.sound c.proceed.ensures.acts) e).nothing });
       tries = tries;
       runs = λ first base laid runs. (let own = others.own in
           step_runs g.met.P.Player.laws m c.replace.new.dest ready first base laid runs c.proceed.new.recorded last done tells c.follow.new.recorded told own.more own.ended

@@ -1,0 +1,34 @@
+//! Actions that run at a transaction's end.
+
+ghost use Rattle.std.specs.Prelude.{◌≡◌, OnOk, OnErr};
+ghost use Rattle.itm_model.specs.Machine.{with_action};
+
+use super::Plain;
+use itm_types::{Action, ActionKind, Ran};
+use std::alloc::AllocError;
+
+impl Plain {
+    /// The actions that have come to run since the last outermost begin, in order.
+    pub fn ran(&self) -> &[Ran]
+        ensures { result.now ≡ self.now.state.actions.ran }
+    {
+        self.actions.ran()
+    }
+
+    /// The undo actions that are registered, in order.
+    pub fn undo(&self) -> &[Action]
+        ensures { result.now ≡ self.now.state.actions.undos }
+    {
+        self.actions.undos()
+    }
+
+    /// An action is registered.
+    pub(super) fn register(&mut self, kind: ActionKind, action: Action) -> Result<(), AllocError>
+        ensures ok { OnOk result (self.new.state ≡ with_action self.old.state kind action) }
+        ensures before { OnOk result (self.new.before ≡ self.old.before) }
+        ensures err { OnErr result (self.new ≡ self.old) }
+    {
+        self.actions.register(kind, action)?;
+        Ok(())
+    }
+}

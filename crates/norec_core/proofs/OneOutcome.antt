@@ -1,0 +1,181 @@
+-- What an engine gives, and what it is then, follow from what it was and what it is handed.
+use Rattle.std.proofs.Common.{◌≡◌, ℕ, zero, suc, ◌+◌, Bool, true, false, List, [], replicate, Option, None, Some, refl, sym, ap, subst, ◌∙◌, arith}
+use Rattle.std.proofs.lemmas.List.{length-replicate}
+use Rattle.itm_types.specs.declared.call.Call.{Call}
+use Rattle.itm_types.specs.declared.call.Reply.{Reply as Replied}
+use Rattle.itm_types.specs.declared.step.Step.{Step}
+use Rattle.itm_types.specs.Memory.{IsMemory, AllFit, Agrees}
+use Rattle.norec_core.proofs.Overlays.{Agrees-drop}
+use Rattle.norec_core.specs.declared.answer.Answer.{Answer}
+use Rattle.norec_core.specs.declared.answer.Answer.TheVariants.{Reply, Committed, Conflict, Busy, Full}
+use Rattle.norec_core.specs.declared.answer.Next.{Next}
+use Rattle.norec_core.specs.declared.answer.Next.TheVariants.{Step as Asks, Answer as Answers}
+use Rattle.norec_core.specs.declared.phase.Phase.{Phase}
+use Rattle.norec_core.specs.declared.phase.Phase.TheVariants as at
+use Rattle.norec_core.specs.Core.{Core, came, handed, ended, finished, rolled_back, is_inside, in_transaction}
+use Rattle.norec_core.specs.Stands.{SeesOne}
+use Rattle.norec_core.specs.Order.{asked, asked_in, asked_from, tries_at, tries_after}
+use Rattle.norec_core.specs.Endings.{EndsSo, IsEnding, ending_at, ending_after}
+use Rattle.norec_core.specs.Proceeds.{Proceeds, AsksFor, Ends, RepliesTo, writes_after, arena_after, blocks_after, actions_after, IsSettled}
+use Rattle.norec_core.specs.Moves.{IsCalled, IsResumed}
+
+-- a memory of so many words
+all_zero : (n : ℕ) → AllFit (replicate n 0)
+all_zero zero = tt
+all_zero (suc n) = (omega arith, all_zero n)
+
+-- who waits for a step is not idle
+idle_of : (c : Core) (s : Phase) → asked_from c s ≡ None → s ≡ at.Idle
+idle_of c at.Idle e = refl
+idle_of c s e = absurd (cc)
+
+replied_waits : (mid : Core) (o : Option Call) (r : Replied) (new : Core) → RepliesTo mid o r new → new.waits ≡ None
+replied_waits mid None r new e = absurd e
+replied_waits mid (Some call) r new e = ap (λ (c : Core). c.waits) e.stays
+
+pub answered_waits : (mid : Core) (x : Answer) (new : Core) → Ends mid x new → new.waits ≡ None
+answered_waits mid (Reply r) new e = replied_waits mid mid.doing r new e
+answered_waits mid (Committed at wrote) new e = ap (λ (c : Core). c.waits) e.stays
+answered_waits mid (Conflict clock word) new e = ap (λ (c : Core). c.waits) e.stays
+answered_waits mid (Busy clock) new e = ap (λ (c : Core). c.waits) e.stays
+answered_waits mid (Full at) new e = ap (λ (c : Core). c.waits) e.stays
+
+-- ## One outcome
+
+module _ (mid new new' : Core) (end : Option Answer)
+    (stage : new.stage ≡ new'.stage) (tries : new.tries ≡ new'.tries) (snapshot : new.snapshot ≡ new'.snapshot)
+    (both_open : in_transaction new ≡ true → in_transaction new' ≡ true → new.log ≡ new'.log) (settled : IsSettled new) (settled' : IsSettled new')
+    (asks : new.waits ≡ asked new) (asks' : new'.waits ≡ asked new') (sees : SeesOne new) (sees' : SeesOne new') where
+  same_log : in_transaction new ≡ (in_transaction new') → new.log ≡ new'.log
+  same_log same = by_open (in_transaction new) refl
+    where
+      by_open : (b : Bool) → in_transaction new ≡ b → new.log ≡ new'.log
+      by_open true o = both_open o (sym same ∙ o)
+      by_open false o = (settled.closed o).0 ∙ sym (settled'.closed (sym same ∙ o)).0
+
+  -- both ask for a step
+  asks_both : (s s' : Step) → AsksFor mid s new → AsksFor mid s' new' → (Asks s ≡ Asks s') × (new ≡ new')
+  asks_both s s' g g' =
+      let e = g.stays in
+      let e' = g'.stays in
+      let open_same : in_transaction new ≡ (in_transaction new') = ap in_transaction e ∙ sym (ap in_transaction e') in
+      let writes : new.writes ≡ new'.writes = ap (λ (c : Core). c.writes) e ∙ sym (ap (λ (c : Core). c.writes) e') in
+      let log = same_log open_same in
+      let step : Some s ≡ Some s' = sym (ap (λ (c : Core). c.waits) e) ∙ (asks ∙ ((λ i. asked_in (log i) (snapshot i) (writes i) (stage i)) ∙ (sym asks' ∙ ap (λ (c : Core). c.waits) e'))) in
+      let one : s ≡ s' = (cc) in (
+        ap Asks one,
+        e ∙ ((λ i. record mid { waits = Some (one i); spent = mid.spent + 1; stage = stage i; tries = tries i; log = log i; snapshot = snapshot i }) ∙ sym e'),
+      )
+
+  -- a memory that agrees with both logs
+  one_memory : new.words ≡ mid.words → new'.words ≡ mid.words → (m : List ℕ) × IsMemory mid.words m × Agrees m new.log × Agrees m new'.log
+  one_memory w w' = by_open (in_transaction new) (in_transaction new') refl refl
+    where
+      by_open : (a b : Bool) → in_transaction new ≡ a → in_transaction new' ≡ b → (m : List ℕ) × IsMemory mid.words m × Agrees m new.log × Agrees m new'.log
+      by_open true true a b = let s = sees a in (s.0, subst (λ (n : ℕ). IsMemory n s.0) w s.1, s.2, subst (Agrees s.0) (both_open a b) s.2)
+      by_open true false a b = let s = sees a in (s.0, subst (λ (n : ℕ). IsMemory n s.0) w s.1, s.2, subst (Agrees s.0) (sym (settled'.closed b).0) tt)
+      by_open false true a b = let s = sees' b in (s.0, subst (λ (n : ℕ). IsMemory n s.0) w' s.1, subst (Agrees s.0) (sym (settled.closed a).0) tt, s.2)
+      by_open false false a b =
+          let zeros : List ℕ = replicate mid.words 0 in
+          (zeros, (length-replicate mid.words 0, all_zero mid.words), subst (Agrees zeros) (sym (settled.closed a).0) tt, subst (Agrees zeros) (sym (settled'.closed b).0) tt)
+
+  replies_both : (o : Option Call) (r r' : Replied) → RepliesTo mid o r new → RepliesTo mid o r' new' → (r ≡ r') × (new ≡ new')
+  replies_both None r r' g g' = absurd g
+  replies_both (Some call) r r' g g' =
+      let e = g.stays in
+      let e' = g'.stays in
+      let m = one_memory (ap (λ (c : Core). c.words) e) (ap (λ (c : Core). c.words) e') in
+      let own = Agrees-drop m.0 mid.entry new.log m.2 in
+      let own' = Agrees-drop m.0 mid.entry new'.log m.3 in
+      let one : r ≡ r' = g.reply_is m.0 m.1 own ∙ sym (g'.reply_is m.0 m.1 own') in
+      let writes : new.writes ≡ new'.writes = g.writes m.0 m.1 own ∙ (ap (writes_after mid m.0 call) one ∙ sym (g'.writes m.0 m.1 own')) in
+      let blocks : new.blocks ≡ new'.blocks = g.blocks ∙ (ap (blocks_after mid call) one ∙ sym g'.blocks) in
+      let arena : new.arena ≡ new'.arena = g.arena m.0 m.1 own ∙ (ap (arena_after mid m.0 call) one ∙ sym (g'.arena m.0 m.1 own')) in
+      let actions : new.actions ≡ new'.actions = g.actions ∙ (ap (actions_after mid call) one ∙ sym g'.actions) in
+      let log = same_log (ap is_inside blocks) in (
+        one,
+        e ∙ ((λ i. record mid {
+          stage = stage i;
+          tries = tries i;
+          waits = None;
+          doing = None;
+          again = false;
+          fresh = [];
+          done = 0;
+          log = log i;
+          snapshot = snapshot i;
+          writes = writes i;
+          blocks = blocks i;
+          actions = actions i;
+          arena = arena i;
+        }) ∙ sym e'),
+      )
+
+  ends_both : (a : Answer) → Ends mid a new → Ends mid a new' → new ≡ new'
+  ends_both (Reply r) g g' = (replies_both mid.doing r r g g').1
+  ends_both (Committed at wrote) g g' = g.stays ∙ ((λ i. record (finished mid) { stage = stage i; tries = tries i }) ∙ sym g'.stays)
+  ends_both (Conflict clock word) g g' = g.stays ∙ ((λ i. record (rolled_back mid) { stage = stage i; tries = tries i }) ∙ sym g'.stays)
+  ends_both (Busy clock) g g' = g.stays ∙ ((λ i. record (ended mid) { stage = stage i; tries = tries i }) ∙ sym g'.stays)
+  ends_both (Full at) g g' = g.stays ∙ ((λ i. record (rolled_back mid) { stage = stage i; tries = tries i; snapshot = snapshot i }) ∙ sym g'.stays)
+
+  -- neither ends, so both reply
+  none_both : (a a' : Answer) → IsEnding None a → IsEnding None a' → Ends mid a new → Ends mid a' new' → (Answers a ≡ Answers a') × (new ≡ new')
+  none_both (Reply r) (Reply r') i i' g g' = let x = replies_both mid.doing r r' g g' in (ap (λ (y : Replied). Answers (Reply y)) x.0, x.1)
+  none_both (Reply r) a' i i' g g' = absurd i'
+  none_both a a' i i' g g' = absurd i
+
+  answers_both : (o : Option Answer) (a a' : Answer) → IsEnding o a → IsEnding o a' → Ends mid a new → Ends mid a' new' → (Answers a ≡ Answers a') × (new ≡ new')
+  answers_both None a a' i i' g g' = none_both a a' i i' g g'
+  answers_both (Some e) a a' i i' g g' =
+      let one : a ≡ a' = i ∙ sym i' in
+      (ap Answers one, ends_both a g (subst (λ (x : Answer). Ends mid x new') (sym one) g'))
+
+  -- a step is waited for by both or by neither
+  not_both : (s : Step) (a : Answer) (c d : Core) → c.stage ≡ d.stage → c.waits ≡ asked c → d.waits ≡ asked d → AsksFor mid s c → Ends mid a d → ⊥
+  not_both s a c d same x y g h =
+      let none : asked d ≡ None = sym y ∙ answered_waits mid a d h in
+      let idle : c.stage ≡ at.Idle = same ∙ idle_of d d.stage none in
+      let some : None ≡ Some s = ap (asked_from c) (sym idle) ∙ (sym x ∙ ap (λ (e : Core). e.waits) g.stays) in
+      absurd (cc)
+
+  one_outcome : (what what' : Next) → Proceeds mid what new → Proceeds mid what' new' → EndsSo end what → EndsSo end what' → (what ≡ what') × (new ≡ new')
+  one_outcome (Asks s) (Asks s') g g' i i' = asks_both s s' g g'
+  one_outcome (Asks s) (Answers a) g g' i i' = absurd (not_both s a new new' stage asks asks' g g')
+  one_outcome (Answers a) (Asks s) g g' i i' = absurd (not_both s a new' new (sym stage) asks' asks g' g)
+  one_outcome (Answers a) (Answers a') g g' i i' = answers_both end a a' i i' g g'
+
+-- ## Calls
+
+replied_words : (mid : Core) (o : Option Call) (r : Replied) (new : Core) → RepliesTo mid o r new → new.words ≡ mid.words
+replied_words mid None r new e = absurd e
+replied_words mid (Some call) r new e = ap (λ (c : Core). c.words) e.stays
+
+words_same : (mid : Core) (what : Next) (new : Core) → Proceeds mid what new → new.words ≡ mid.words
+words_same mid (Asks step) new e = ap (λ (c : Core). c.words) e.stays
+words_same mid (Answers (Reply r)) new e = replied_words mid mid.doing r new e
+words_same mid (Answers (Committed at wrote)) new e = ap (λ (c : Core). c.words) e.stays
+words_same mid (Answers (Conflict clock word)) new e = ap (λ (c : Core). c.words) e.stays
+words_same mid (Answers (Busy clock)) new e = ap (λ (c : Core). c.words) e.stays
+words_same mid (Answers (Full at)) new e = ap (λ (c : Core). c.words) e.stays
+
+-- a call opens nothing and logs nothing
+pub sees_still : (old : Core) (call : Call) (again : Bool) (what : Next) (new : Core) → IsCalled old call again what new → SeesOne old → SeesOne new
+sees_still old call again what new f sees o =
+    let s = sees (f.stays.opens o) in
+    (s.0, subst (λ (n : ℕ). IsMemory n s.0) (sym (words_same (came old call again) what new f.proceeds)) s.1, subst (Agrees s.0) (sym (f.stays.log o)) s.2)
+
+-- a call came
+pub called_once : (old : Core) (call : Call) (again : Bool) (what what' : Next) (new new' : Core) → IsCalled old call again what new → IsCalled old call again what' new' → SeesOne old
+    → (what ≡ what') × (new ≡ new')
+called_once old call again what what' new new' f g sees =
+    let stage : new.stage ≡ new'.stage = f.order ∙ sym g.order in
+    one_outcome (came old call again) new new' (ending_at old call) stage (f.tries ∙ (ap tries_at stage ∙ sym g.tries)) (f.stays.snapshot ∙ sym g.stays.snapshot)
+    (λ o o'. f.stays.log o ∙ sym (g.stays.log o')) f.settled g.settled f.asks g.asks
+    (sees_still old call again what new f sees) (sees_still old call again what' new' g sees) what what' f.proceeds g.proceeds f.ends g.ends
+
+-- a value was handed in
+pub resumed_once : (old : Core) (seen : ℕ) (what what' : Next) (new new' : Core) → IsResumed old seen what new → IsResumed old seen what' new' → SeesOne new → SeesOne new' → (what ≡ what') × (new ≡ new')
+resumed_once old seen what what' new new' f g sees sees' =
+    let stage : new.stage ≡ new'.stage = f.order ∙ sym g.order in
+    one_outcome (handed old seen) new new' (ending_after old seen) stage (f.tries ∙ ((λ i. tries_after (stage i) old.tries) ∙ sym g.tries)) (f.snapshot ∙ sym g.snapshot)
+    (λ o o'. f.log o ∙ sym (g.log o')) f.settled g.settled f.asks g.asks sees sees' what what' f.proceeds g.proceeds f.ends g.ends

@@ -1,0 +1,120 @@
+-- What an engine is to its callers.
+use Rattle.std.specs.Prelude.{ℕ, ◌+◌, ◌==◌, ◌&&◌, not, zero, suc, Bool, false, true, List, [], ◌∷◌, ◌++◌, Option, None, Some, length}
+use Rattle.itm_types.specs.declared.row.LogRow.{LogRow}
+use Rattle.write_set.specs.declared.row.Row.{Row}
+use Rattle.itm_types.specs.declared.call.Call.{Call}
+use Rattle.user_actions.specs.Actions.{Actions, no_actions, committed}
+use Rattle.nest_frames.specs.Nest.{Frame, arena_back, actions_back}
+use Rattle.itm_types.specs.declared.step.Step.{Step}
+use Rattle.itm_types.specs.declared.step.Step.TheVariants.{Load, Store, Cas}
+use Rattle.norec_core.specs.declared.phase.Phase.{Phase}
+use Rattle.norec_core.specs.declared.phase.Phase.TheVariants as at
+
+pub record Core : Type 0 where
+  pub words : ℕ  -- of the shared memory
+  pub patience : ℕ
+  pub max_commits : ℕ
+  pub arena : List ℕ
+  pub snapshot : ℕ
+  pub clock : ℕ  -- the last clock value handed in
+  pub fresh : List LogRow  -- the words loaded since then
+  pub log : List LogRow  -- the value log
+  pub writes : List Row  -- the write set
+  pub blocks : List Frame  -- the open blocks, innermost first: what each goes back to
+  pub actions : Actions  -- those that are registered, and those that have come to run
+  pub holds : Bool  -- it holds the clock
+  pub done : ℕ  -- how many rows of the write set were stored since it took the clock
+  pub freed : Bool  -- the last step freed the clock
+  pub got : Option ℕ  -- what the last step, a load by the holder, found
+  pub doing : Option Call  -- the call that has no answer yet
+  pub again : Bool  -- that call begins a block that was begun before
+  pub waits : Option Step  -- the step that it asked for
+  pub spent : ℕ  -- how many steps the present or last call has asked for
+  pub stage : Phase  -- where the call in progress stands
+  pub tries : ℕ  -- validation rounds that the call in progress has started, or clock loads of a begin
+  pub entry : ℕ  -- how many rows were logged as the call came
+
+abbrev pub opening : ℕ → List ℕ → ℕ → ℕ → Core
+opening words arena patience max_commits = record {
+  words = words;
+  patience = patience;
+  max_commits = max_commits;
+  arena = arena;
+  snapshot = 0;
+  clock = 0;
+  fresh = [];
+  log = [];
+  writes = [];
+  blocks = [];
+  actions = no_actions;
+  holds = false;
+  done = 0;
+  freed = false;
+  got = None;
+  doing = None;
+  again = false;
+  waits = None;
+  spent = 0;
+  stage = at.Idle;
+  tries = 0;
+  entry = 0;
+}
+
+-- some block is open
+abbrev pub is_inside : List Frame → Bool
+is_inside [] = false
+is_inside (b ∷ bs) = true
+
+-- one block is open
+abbrev pub is_outermost : List Frame → Bool
+is_outermost [] = false
+is_outermost (b ∷ []) = true
+is_outermost (b ∷ p ∷ bs) = false
+
+abbrev pub in_transaction : Core → Bool
+in_transaction c = is_inside c.blocks
+
+-- the engine as a call comes
+abbrev pub came : Core → Call → Bool → Core
+came c call again = record c { doing = Some call; again = again && not (in_transaction c); stage = at.Idle; tries = 0; fresh = []; done = 0; freed = false; got = None; spent = 0; entry = length c.log }
+
+-- a word was loaded, by the holder of the clock or by another
+abbrev pub word_loaded : Core → Bool → ℕ → ℕ → Core
+word_loaded c true word seen = record c { waits = None; stage = at.Idle; tries = 0; got = Some seen }
+word_loaded c false word seen = record c { waits = None; stage = at.Idle; tries = 0; fresh = c.fresh ++ record { word = word; value = seen } ∷ [] }
+
+-- the value that a load found
+abbrev pub loaded : Core → ℕ → ℕ → Core
+loaded c zero seen = record c { waits = None; stage = at.Idle; tries = 0; clock = seen; fresh = [] }
+loaded c (suc word) seen = word_loaded c c.holds word seen
+
+-- a store was done
+abbrev pub stored : Core → ℕ → ℕ → Core
+stored c zero value = record c { waits = None; stage = at.Idle; tries = 0; clock = value; fresh = []; holds = false; freed = true }
+stored c (suc word) value = record c { waits = None; stage = at.Idle; tries = 0; got = None; done = c.done + 1 }
+
+-- the value that an exchange found: the clock is taken where that is the expected one
+abbrev pub exchanged : Core → ℕ → ℕ → Core
+exchanged c from seen = record c { waits = None; stage = at.Idle; tries = 0; clock = seen; fresh = []; holds = seen == from; done = 0; got = None }
+
+-- the engine with the step's value taken in, by the kinds of step
+abbrev pub handed_to : Core → Option Step → ℕ → Core
+handed_to c None seen = c
+handed_to c (Some (Load cell)) seen = loaded c cell seen
+handed_to c (Some (Store cell value)) seen = stored c cell value
+handed_to c (Some (Cas cell from to)) seen = exchanged c from seen
+
+abbrev pub handed : Core → ℕ → Core
+handed c seen = handed_to c c.waits seen
+
+-- the engine outside, with nothing kept
+abbrev pub ended : Core → Core
+ended c = record c { waits = None; doing = None; again = false; freed = false; fresh = []; done = 0; log = []; writes = []; blocks = [] }
+
+-- the same, with the transaction committed: its commit actions have come to run
+abbrev pub finished : Core → Core
+finished c = record (ended c) { actions = committed c.actions }
+
+-- the same, with every open block rolled back: what they logged of the arena stands there again, and their undo actions have come to run
+abbrev pub rolled_back : Core → Core
+rolled_back c = record (ended c) { arena = arena_back c.blocks c.arena; actions = actions_back c.blocks c.actions }

@@ -1,0 +1,11 @@
+pub mod Rows
+pub mod Core
+pub mod Stands
+pub mod Copies
+pub mod Order
+pub mod Accesses
+pub mod Endings
+pub mod Proceeds
+pub mod Moves
+pub mod Undoing
+pub mod Keeps

@@ -1,0 +1,311 @@
+-- What an engine may do next. `mid` is the engine with a call that came, or with the value of the step that it waited for.
+use Rattle.std.specs.Prelude.{◌≡◌, ◌≢◌, ◌⊎◌, ℕ, zero, suc, ◌+◌, ◌*◌, ◌/◌, ◌%◌, ◌<◌, ◌≤◌, Bool, true, false, if◌then◌else◌, List, [], ◌∷◌, ◌++◌, Option, None, Some, slice_get, slice_set, take, drop, replicate, length}
+use Rattle.itm_types.specs.declared.limits.TheConstants.{MAX_OPEN_BLOCKS, MAX_COMMITS}
+use Rattle.itm_types.specs.declared.row.LogRow.{LogRow}
+use Rattle.write_set.specs.declared.row.Row.{Row}
+use Rattle.itm_types.specs.declared.call.Call.{Call}
+use Rattle.user_actions.specs.Actions.{Actions, registered}
+use Rattle.nest_frames.specs.Nest.{Frame, begun, closed, logged, log_of, rows_of, arena_back, actions_back, actions_cancelled, actions_closed}
+use Rattle.undo_log.specs.Rollback.{found, put_back}
+use Rattle.itm_types.specs.Calls.{is_abort}
+use Rattle.itm_types.specs.declared.call.ActionKind.TheVariants as kinds
+use Rattle.itm_types.specs.declared.call.Call.TheVariants.{Begin, Commit, Abort, Read, Write, Log, LogBytes, Copy, Fill, CommitAction, UndoAction, Save}
+use Rattle.itm_types.specs.declared.call.Copying.{Copying}
+use Rattle.itm_types.specs.declared.copy.CopyPair.{CopyPair}
+use Rattle.itm_types.specs.declared.copy.CopyPair.TheVariants.{Out, In, Within}
+use Rattle.word_pieces.specs.declared.chunk.Direction.TheVariants.{Up}
+use Rattle.itm_types.specs.declared.call.Reply.{Reply as Replied}
+use Rattle.itm_types.specs.declared.call.Reply.TheVariants.{Done, Code}
+use Rattle.itm_types.specs.declared.step.Step.{Step}
+use Rattle.itm_types.specs.declared.step.Step.TheVariants.{Load, Store, Cas}
+use Rattle.itm_types.specs.Access.{size_of}
+use Rattle.word_pieces.specs.Pieces.{pieces_of, count_of}
+use Rattle.itm_types.specs.Memory.{bytes_of, IsMemory, Agrees}
+use Rattle.itm_types.specs.Slices.{with_slice}
+use Rattle.itm_model.specs.Machine.{after, reply, undone}
+use Rattle.norec_core.specs.declared.answer.Answer.{Answer as Answered}
+use Rattle.norec_core.specs.declared.answer.Answer.TheVariants.{Reply, Committed, Conflict, Busy, Full}
+use Rattle.norec_core.specs.declared.answer.Next.{Next}
+use Rattle.norec_core.specs.declared.answer.Next.TheVariants.{Step as Asks, Answer as Answers}
+use Rattle.write_set.specs.Rows.{overlay}
+use Rattle.norec_core.specs.Rows.{AreRoomy, write_at, reserved_all, put_all, put_range}
+use Rattle.norec_core.specs.Copies.{copy_refusal, direction_of, source_in, source_words}
+use Rattle.norec_core.specs.Core.{Core, in_transaction, ended, finished, rolled_back}
+use Rattle.norec_core.specs.Stands.{stands_for}
+
+-- ## Lawful steps
+
+-- the words that the holder's stores have made of this memory
+abbrev pub backed : Core → List ℕ → List ℕ
+backed c m = overlay m (take c.done c.writes)
+
+-- what the holder loaded is the word of this memory, if it has loaded one
+abbrev pub Got : Option ℕ → Option ℕ → Type 0
+Got None word = Unit {0}
+Got (Some seen) word = word ≡ Some seen
+
+-- a store by the holder is of the next row, and brings the memory on by that row
+pub record StoresNext (c : Core) (word value : ℕ) : Type 0 where
+  pub some : c.done < length c.writes  -- a row is left
+  pub word_is : word ≡ (write_at c.writes c.done).word
+  pub value_is : (m : List ℕ) → IsMemory c.words m → Got c.got (slice_get (backed c m) word) → overlay m (take (c.done + 1) c.writes) ≡ slice_set (backed c m) word value
+
+-- the holder stores a word, or frees the clock once each row is stored
+abbrev pub StoresOrFrees : Core → ℕ → ℕ → Type 0
+StoresOrFrees c zero value = (value ≡ c.clock + 2) × (c.done ≡ length c.writes)
+StoresOrFrees c (suc word) value = StoresNext c word value
+
+-- the clock is loaded by one that does not hold it; a word by an open transaction, and by the holder the one that it stores next
+abbrev pub LoadsOwn : Core → ℕ → Type 0
+LoadsOwn c zero = c.holds ≡ false
+LoadsOwn c (suc word) = (in_transaction c ≡ true) × (c.holds ≡ true → (c.done < length c.writes) × (word ≡ (write_at c.writes c.done).word))
+
+-- the step of an engine that asks for it is one of the algorithm's
+abbrev pub IsLawful : Core → Step → Type 0
+IsLawful c (Load cell) = (cell ≤ c.words) × LoadsOwn c cell
+IsLawful c (Store cell value) = (cell ≤ c.words) × (c.holds ≡ true) × StoresOrFrees c cell value
+IsLawful c (Cas cell from to) =
+    (cell ≡ 0) × (c.holds ≡ false) × (in_transaction c ≡ true) × (from ≡ c.snapshot) × (from % 2 ≡ 0) × (from / 2 < c.max_commits) × (to ≡ from + 1)
+
+-- ## What comes of an event
+
+-- a step is asked for: all else stays, but the log and the snapshot (`Joins`)
+pub record AsksFor (mid : Core) (step : Step) (new : Core) : Type 0 where
+  pub lawful : IsLawful new step
+  pub unfreed : mid.freed ≡ false
+  pub stays : new ≡ record mid { waits = Some step; spent = mid.spent + 1; stage = new.stage; tries = new.tries; log = new.log; snapshot = new.snapshot }
+
+-- the begin of a block that was begun before is told so
+abbrev pub recoded : Call → Bool → Replied → Replied
+recoded (Begin props room) true (Code n) = Code 9
+recoded _ again r = r
+
+-- the bytes that a copy reads, where this is the memory under the write set
+abbrev pub source_over : Core → List ℕ → Copying → List ℕ
+source_over c m k = source_in k.pair c.arena (bytes_of (overlay m c.writes)) k.from k.size
+
+-- bytes that a copy writes: in the write set, from the end that the copy is taken from
+abbrev pub writes_copied : List Row → Copying → CopyPair → List ℕ → List Row
+writes_copied rows k (Out to) bytes = put_range rows k.to (direction_of k) bytes
+writes_copied rows k (In from) bytes = rows
+writes_copied rows k (Within from to) bytes = put_range rows k.to (direction_of k) bytes
+
+-- or in the arena
+abbrev pub arena_copied : List ℕ → Copying → CopyPair → List ℕ → List ℕ
+arena_copied arena k (Out to) bytes = arena
+arena_copied arena k (In from) bytes = with_slice arena k.to bytes
+arena_copied arena k (Within from to) bytes = arena
+
+-- an accepted write, copy or fill puts its pieces in the write set, which keeps the order of first writing; a cancel goes back to the rows as at the block's begin
+abbrev pub writes_after : Core → List ℕ → Call → Replied → List Row
+writes_after c m (Write hint at value) Done = (let ps = pieces_of at (size_of value.width) in put_all (reserved_all c.writes ps) ps value.bytes.items)
+writes_after c m (Copy k) Done = writes_copied c.writes k k.pair (source_over c m k)
+writes_after c m (Fill hint to byte size) Done = put_range c.writes to Up (replicate size (byte % 256))
+writes_after c m (Abort outer) (Code n) = if outer then [] else rows_of c.blocks
+writes_after c m _ r = c.writes
+
+-- an accepted save puts its bytes in the arena, and so does a copy to it; a cancel puts back what was logged
+abbrev pub arena_after : Core → List ℕ → Call → Replied → List ℕ
+arena_after c m (Save at value) Done = with_slice c.arena at value.bytes.items
+arena_after c m (Copy k) Done = arena_copied c.arena k k.pair (source_over c m k)
+arena_after c m (Abort outer) (Code n) = if outer then arena_back c.blocks c.arena else put_back (log_of c.blocks) c.arena
+arena_after c m _ r = c.arena
+
+-- an accepted begin opens a block, a commit closes one, a cancel takes one or all away, and a log adds to the innermost one
+abbrev pub blocks_after : Core → Call → Replied → List Frame
+blocks_after c (Begin props room) (Code n) = begun props c.writes c.actions ∷ c.blocks
+blocks_after c Commit Done = closed c.blocks
+blocks_after c (Abort outer) (Code n) = if outer then [] else drop 1 c.blocks
+blocks_after c (Log width at) Done = logged c.blocks (found c.arena at (size_of width))
+blocks_after c (LogBytes at size) Done = logged c.blocks (found c.arena at size)
+blocks_after c _ r = c.blocks
+
+-- an accepted outermost begin forgets those that have come to run; a registration adds one, and a cancel runs undo actions
+abbrev pub actions_after : Core → Call → Replied → Actions
+actions_after c (Begin props room) (Code n) = if in_transaction c then c.actions else record c.actions { ran = [] }
+actions_after c Commit Done = actions_closed c.blocks c.actions
+actions_after c (Abort outer) (Code n) = if outer then actions_back c.blocks c.actions else actions_cancelled c.blocks c.actions
+actions_after c (CommitAction action) Done = registered kinds.Commit action c.actions
+actions_after c (UndoAction action) Done = registered kinds.Undo action c.actions
+actions_after c _ r = c.actions
+
+-- the rows that the call in progress has logged itself
+abbrev pub own_rows : ℕ → List LogRow → List LogRow
+own_rows entry log = drop entry log
+
+-- at a reply the engine is the plain machine's, over every memory that agrees with the log; the reply too, even over each that agrees with what the call itself has logged
+pub record Replies (mid : Core) (call : Call) (r : Replied) (new : Core) : Type 0 where
+  pub meets : (m : List ℕ) → IsMemory mid.words m → Agrees m new.log → stands_for new m ≡ after MAX_OPEN_BLOCKS (stands_for mid m) call
+  pub reply_is : (m : List ℕ) → IsMemory mid.words m → Agrees m (own_rows mid.entry new.log) → r ≡ recoded call mid.again (reply MAX_OPEN_BLOCKS (stands_for mid m) call)
+  pub stays : new ≡ record mid {
+    stage = new.stage;
+    tries = new.tries;
+    waits = None;
+    doing = None;
+    again = false;
+    fresh = [];
+    done = 0;
+    log = new.log;
+    snapshot = new.snapshot;
+    writes = new.writes;
+    blocks = new.blocks;
+    actions = new.actions;
+    arena = new.arena;
+  }
+  pub writes : (m : List ℕ) → IsMemory mid.words m → Agrees m (own_rows mid.entry new.log) → new.writes ≡ writes_after mid m call r
+  pub arena : (m : List ℕ) → IsMemory mid.words m → Agrees m (own_rows mid.entry new.log) → new.arena ≡ arena_after mid m call r
+  pub free : mid.holds ≡ false
+  pub unfreed : mid.freed ≡ false
+  pub blocks : new.blocks ≡ blocks_after mid call r
+  pub actions : new.actions ≡ actions_after mid call r
+  pub still : is_abort call ≡ false → in_transaction mid ≡ true → in_transaction new ≡ true  -- an abort alone ends a transaction by its reply
+  pub settled : in_transaction new ≡ true → (new.clock ≡ new.snapshot) × (new.snapshot % 2 ≡ 0)
+
+-- the call is a commit: over every memory that agrees with the log, the stores leave the plain machine's memory
+pub record Commits (mid : Core) (at : ℕ) (wrote : Bool) (new : Core) : Type 0 where
+  pub doing : mid.doing ≡ Some Commit
+  pub is_open : in_transaction mid ≡ true
+  pub outermost : length mid.blocks ≡ 1
+  pub at_is : at ≡ mid.snapshot / 2
+  pub wrote_is : (m : List ℕ) → IsMemory mid.words m → Agrees m mid.log → wrote ≡ (after MAX_OPEN_BLOCKS (stands_for mid m) Commit).wrote
+  pub memory_is : (m : List ℕ) → IsMemory mid.words m → Agrees m mid.log → bytes_of (backed mid m) ≡ (after MAX_OPEN_BLOCKS (stands_for mid m) Commit).memory
+  pub arena_is : (m : List ℕ) → new.arena ≡ (after MAX_OPEN_BLOCKS (stands_for mid m) Commit).arena
+  pub actions_is : (m : List ℕ) → new.actions ≡ (after MAX_OPEN_BLOCKS (stands_for mid m) Commit).actions
+  pub free : mid.holds ≡ false
+  pub freed : mid.freed ≡ wrote
+  pub stays : new ≡ record (finished mid) { stage = new.stage; tries = new.tries }
+
+-- the engine stands for the state with every open block rolled back
+abbrev pub IsUndone : Core → Core → Type 0
+IsUndone mid new = (m : List ℕ) → IsMemory mid.words m → stands_for new m ≡ undone (stands_for mid m)
+
+-- the word that differs was the last one loaded
+abbrev pub Differs : List LogRow → List LogRow → Option ℕ → Type 0
+Differs fresh log None = fresh ≡ []
+Differs fresh log (Some word) =
+    (before : List LogRow) × (found : ℕ) × (logged : LogRow) × (place : ℕ)
+    × (fresh ≡ before ++ record { word = word; value = found } ∷ []) × (slice_get log place ≡ Some logged) × (logged.word ≡ word) × (logged.value ≢ found)
+
+-- the clock that was seen last is later than the snapshot, and the transaction is undone
+pub record Conflicts (mid : Core) (clock : ℕ) (word : Option ℕ) (new : Core) : Type 0 where
+  pub is_open : in_transaction mid ≡ true
+  pub clock_is : clock ≡ mid.clock
+  pub later : mid.snapshot < clock
+  pub word_is : Differs mid.fresh mid.log word
+  pub free : mid.holds ≡ false
+  pub unfreed : mid.freed ≡ false
+  pub stays : new ≡ record (rolled_back mid) { stage = new.stage; tries = new.tries }
+  pub undone : IsUndone mid new
+
+abbrev pub IsBegin : Option Call → Type 0
+IsBegin (Some (Begin props room)) = Unit {0}
+IsBegin _ = ⊥
+
+-- a begin found the clock odd as often as it may
+pub record IsBusy (mid : Core) (clock : ℕ) (new : Core) : Type 0 where
+  pub begins : IsBegin mid.doing
+  pub closed : in_transaction mid ≡ false
+  pub clock_is : clock ≡ mid.clock
+  pub odd : clock % 2 ≡ 1
+  pub free : mid.holds ≡ false
+  pub unfreed : mid.freed ≡ false
+  pub stays : new ≡ record (ended mid) { stage = new.stage; tries = new.tries }
+
+-- there is something to write, and as many commits are done as may be; the transaction is undone
+pub record IsFull (mid : Core) (at : ℕ) (new : Core) : Type 0 where
+  pub doing : mid.doing ≡ Some Commit
+  pub is_open : in_transaction mid ≡ true
+  pub outermost : length mid.blocks ≡ 1
+  pub at_is : at ≡ new.snapshot / 2
+  pub full : mid.max_commits ≤ at
+  pub some : mid.writes ≢ []
+  pub free : mid.holds ≡ false
+  pub unfreed : mid.freed ≡ false
+  pub stays : new ≡ record (rolled_back mid) { stage = new.stage; tries = new.tries; snapshot = new.snapshot }
+  pub undone : IsUndone mid new
+
+abbrev pub RepliesTo : Core → Option Call → Replied → Core → Type 0
+RepliesTo mid None r new = ⊥
+RepliesTo mid (Some call) r new = Replies mid call r new
+
+abbrev pub Ends : Core → Answered → Core → Type 0
+Ends mid (Reply r) new = RepliesTo mid mid.doing r new
+Ends mid (Committed at wrote) new = Commits mid at wrote new
+Ends mid (Conflict clock word) new = Conflicts mid clock word new
+Ends mid (Busy clock) new = IsBusy mid clock new
+Ends mid (Full at) new = IsFull mid at new
+
+abbrev pub Proceeds : Core → Next → Core → Type 0
+Proceeds mid (Asks step) new = AsksFor mid step new
+Proceeds mid (Answers a) new = Ends mid a new
+
+-- ## The log and the snapshot
+
+-- a clock load gives the even value that was handed in last before it
+pub record Settles (old : Core) (seen : ℕ) : Type 0 where
+  pub load : old.waits ≡ Some (Load 0)
+  pub same : seen ≡ old.clock
+  pub even : seen % 2 ≡ 0
+
+-- rows join the log, and the snapshot moves, only there, and never both: the rows that join, or at a move all rows, were loaded between the two loads
+pub record Joins (old : Core) (seen : ℕ) (new : Core) : Type 0 where
+  pub log : in_transaction new ≡ true → (new.log ≡ old.log) ⊎ (Settles old seen × (new.log ≡ old.log ++ old.fresh) × (new.snapshot ≡ seen) × (old.snapshot ≡ seen))
+  pub begins : in_transaction old ≡ false → in_transaction new ≡ true → (old.waits ≡ Some (Load 0)) × (new.snapshot ≡ seen) × (seen % 2 ≡ 0)
+  pub snapshot : in_transaction old ≡ true → (new.snapshot ≡ old.snapshot) ⊎ (Settles old seen × (old.fresh ≡ old.log) × (new.snapshot ≡ seen))
+
+-- a transaction opens at a clock load alone, so not as a call comes; no row joins the log then, and the snapshot stays
+pub record StaysOn (old new : Core) : Type 0 where
+  pub opens : in_transaction new ≡ true → in_transaction old ≡ true
+  pub log : in_transaction new ≡ true → new.log ≡ old.log
+  pub snapshot : new.snapshot ≡ old.snapshot
+
+-- what a call may be answered before its first step
+abbrev pub IsAtOnce : Next → Type 0
+IsAtOnce (Answers (Conflict clock word)) = ⊥
+IsAtOnce (Answers (Busy clock)) = ⊥
+IsAtOnce _ = Unit {0}
+
+-- memory is asked for by a read, a write, a log, a copy, a fill or a registration alone, by no refused one, by no write to words that the innermost block has given rows, and by no log, copy or fill of no bytes
+abbrev pub MayStarve : Core → Call → Type 0
+MayStarve c (Read hint width at) = (in_transaction c ≡ true) × (at + size_of width ≤ 8 * c.words)
+MayStarve c (Write hint at value) = (in_transaction c ≡ true) × (at + size_of value.width ≤ 8 * c.words) × (AreRoomy c.writes (rows_of c.blocks) (pieces_of at (size_of value.width)) → ⊥)
+MayStarve c (Log width at) = (in_transaction c ≡ true) × (at + size_of width ≤ length c.arena)
+MayStarve c (LogBytes at size) = (in_transaction c ≡ true) × (at + size ≤ length c.arena) × (0 < size)
+MayStarve c (Copy k) = (copy_refusal (in_transaction c) c.words (length c.arena) k ≡ None) × (0 < k.size)
+MayStarve c (Fill hint to byte size) = (in_transaction c ≡ true) × (to + size ≤ 8 * c.words) × (0 < size)
+MayStarve c (CommitAction action) = in_transaction c ≡ true
+MayStarve c (UndoAction action) = in_transaction c ≡ true
+MayStarve c _ = ⊥
+
+-- ## Values and counts
+
+-- a value that the memory can hand in: the clock never falls
+abbrev pub FitsStep : Core → Option Step → ℕ → Type 0
+FitsStep c (Some (Load zero)) seen = c.clock ≤ seen
+FitsStep c (Some (Cas cell from to)) seen = c.clock ≤ seen
+FitsStep c _ seen = Unit {0}
+
+abbrev pub Fits : Core → ℕ → Type 0
+Fits c seen = FitsStep c c.waits seen
+
+-- the most steps of a call
+abbrev pub most : Core → Option Call → ℕ
+most c (Some (Begin props room)) = 2 * c.patience
+most c (Some Commit) = c.patience * (c.entry + 3) + 2 * length c.writes + 2
+most c (Some (Read hint width at)) = 2 * count_of at (size_of width) + c.patience * (c.entry + count_of at (size_of width) + 4)
+most c (Some (Copy k)) = 2 * source_words k + c.patience * (c.entry + source_words k + 4)
+most c _ = 0
+
+-- while it waits, it has asked for no more than the call's most steps
+abbrev pub IsWithin : Core → Type 0
+IsWithin c = c.waits ≢ None → c.spent ≤ most c c.doing
+
+-- between calls: outside, nothing is kept; inside, the clock that was handed in last is the snapshot
+pub record IsSettled (c : Core) : Type 0 where
+  pub closed : in_transaction c ≡ false → (c.log ≡ []) × (c.writes ≡ []) × (c.actions.commits ≡ []) × (c.actions.undos ≡ [])
+  pub reached : c.snapshot ≤ c.clock
+  pub inside : c.waits ≡ None → in_transaction c ≡ true → (c.clock ≡ c.snapshot) × (c.snapshot % 2 ≡ 0)
+  pub unfreed : c.freed ≡ false
+  pub even : c.snapshot % 2 ≡ 0
+  pub holder : c.holds ≡ true → (in_transaction c ≡ true) × (c.clock ≡ c.snapshot) × (c.snapshot / 2 < c.max_commits)
+  pub limit : c.max_commits ≤ MAX_COMMITS

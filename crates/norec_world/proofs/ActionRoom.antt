@@ -1,0 +1,137 @@
+-- What an engine gives for a call leaves room for the actions that have run.
+use Rattle.std.proofs.Common.{◌≡◌, ℕ, ◌+◌, ◌<◌, ◌≤◌, Bool, true, false, true≢false, List, [], length, is_some, Result, Ok, Err, IfOk, OnOk, Some, None, refl, sym, ap, subst, ◌∙◌, inl, inr, arith, vec_capacity}
+use Rattle.itm_types.specs.Calls.{is_abort, registered_by}
+use Rattle.norec_core.specs.Order.{asked, asked_from, stage_at}
+use Rattle.norec_world.proofs.ActiveRows.{row_from}
+use Rattle.itm_types.specs.declared.call.Call.TheVariants.{Abort, CommitAction, UndoAction}
+use Rattle.itm_types.specs.declared.call.Ran.{Ran}
+use Rattle.user_actions.specs.Actions.{total}
+use Rattle.norec_core.specs.declared.answer.Next.{Next}
+use Rattle.norec_core.specs.declared.answer.Next.TheVariants.{Step as Asks, Answer as Answers}
+use Rattle.norec_core.proofs.ActionCounts.{begins_empty, goes_on, open_reply, registers, reply_same}
+use Rattle.norec_world.specs.ActionRoom.{IsActing, IsEmpty, MayRun, MayRunOn, NoCancel, StartsEmpty}
+use Rattle.norec_world.proofs.Common.{Actor, Answer, Attempt, Call, Core, Ends, HasRow, Proceeds, RepliesTo, Rows, Step, active_of, cases_Bool, in_transaction, with_changed}
+use Rattle.norec_world.proofs.LaterActions.{first_here}
+
+cancels_register_none : (call : Call) → is_abort call ≡ true → registers call ≡ 0
+cancels_register_none (Abort outer) e = refl
+cancels_register_none call e = absurd (cc)
+
+module _ {P : Type 0} (r : Rows) (a : Actor P) (mid : Core) (call : Call) (was : Bool) (o : in_transaction mid ≡ was) (has : HasRow was r a.thread) (doing : mid.doing ≡ Some call)
+    (empty : IsEmpty a) (all : (row : Attempt) → active_of a.thread r.active ≡ Some row → row.ran ≡ mid.actions.ran)
+    (places : (row : Attempt) → active_of a.thread r.active ≡ Some row → total mid.actions + registers call ≤ vec_capacity a.end_room)
+    (cancel : (row : Attempt) → active_of a.thread r.active ≡ Some row → is_abort call ≡ true → total mid.actions ≤ vec_capacity a.cancel_room)
+    (pending : StartsEmpty a) where
+  open_as : (b : Bool) → was ≡ b → HasRow b r a.thread → (row : Attempt) → active_of a.thread r.active ≡ Some row → in_transaction mid ≡ true
+  open_as true e h row f = o ∙ e
+  open_as false e none row f = absurd (let both : None ≡ Some row = sym none ∙ f in cc)
+
+  was_open : (row : Attempt) → active_of a.thread r.active ≡ Some row → in_transaction mid ≡ true
+  was_open = open_as was refl has
+
+  shut_as : (b : Bool) → was ≡ b → HasRow b r a.thread → active_of a.thread r.active ≡ None → in_transaction mid ≡ false
+  shut_as false e h none = o ∙ e
+  shut_as true e h none = absurd (let both : None ≡ Some h.0 = sym none ∙ h.1 in cc)
+
+  -- it waits for a step
+  pub waits_acting : (step : Step) → Proceeds mid (Asks step) a.engine → (is_abort call ≡ false) × (is_some (registered_by call) ≡ false) → MayRunOn r a call (Asks step)
+  waits_acting step g other =
+      let same : a.engine.actions ≡ mid.actions = ap (λ (c : Core). c.actions) g.stays in
+      record {
+        empty = record { end_room = empty.end_room; cancel_room = empty.cancel_room };
+        all = λ row e. all row e ∙ ap (λ (x : _). x.ran) (sym same);
+        places = λ row e. (let p = places row e in let n = ap total same in omega arith);
+        pending = pending;
+        status = other;
+      }
+
+  module _ (answer : Answer) (g : Ends mid answer a.engine) (shut : in_transaction mid ≡ false → (mid.actions.commits ≡ []) × (mid.actions.undos ≡ [])) where
+    cancel_place : in_transaction a.engine ≡ true → (row : Attempt) → active_of a.thread r.active ≡ Some row → length row.ran < length a.engine.actions.ran → length a.engine.actions.ran ≤ vec_capacity a.cancel_room
+    cancel_place now row e less = elim (cases_Bool (is_abort call)) [
+      | inl abort ↦
+          (let c = cancel row e abort in
+          let f = goes_on mid a.engine call (Answers answer) doing (was_open row e) g in
+          let m = f.most in
+          let n = cancels_register_none call abort in
+          omega arith)
+      | inr other ↦
+          absurd (let reply = open_reply mid a.engine answer g now in
+          let same = reply_same mid a.engine call reply.0 mid.doing doing (was_open row e) other (subst (λ (x : Answer). Ends mid x a.engine) reply.1 g) in
+          let one = ap (length {A = Ran}) (all row e ∙ sym same) in
+          omega arith)
+    ]
+
+    -- it is answered
+    pub answered_acting : MayRunOn r a call (Answers answer)
+    answered_acting = record {
+      empty = empty;
+      first = first_here r a.thread mid a.engine call (Answers answer) was o has doing g all;
+      places = λ row e. (let p = places row e in let m = (goes_on mid a.engine call (Answers answer) doing (was_open row e) g).most in omega arith);
+      cancel_places = cancel_place;
+      pending = pending;
+      anew = λ now none. (let x = shut_as was refl has none in begins_empty mid a.engine (Answers answer) x (shut x).0 (shut x).1 g now);
+    }
+
+  -- whatever it gave
+  pub gave_acting : (what : Next) → Proceeds mid what a.engine → (in_transaction mid ≡ false → (mid.actions.commits ≡ []) × (mid.actions.undos ≡ []))
+      → ((step : Step) → what ≡ Asks step → (is_abort call ≡ false) × (is_some (registered_by call) ≡ false)) → MayRunOn r a call what
+  gave_acting (Asks step) g shut plain = waits_acting step g (plain step refl)
+  gave_acting (Answers answer) g shut plain = answered_acting answer g shut
+
+-- ## Calls that wait for a step
+
+pub registers_none : (call : Call) → is_some (registered_by call) ≡ false → registers call ≡ 0
+registers_none (CommitAction action) e = absurd (cc)
+registers_none (UndoAction action) e = absurd (cc)
+registers_none call e = refl
+
+-- a cancel and a registration take no step
+pub plain_waits : (old new : Core) (call : Call) (again : Bool) (step : Step) → new.stage ≡ stage_at old call again → new.waits ≡ asked new → new.waits ≡ Some step → (is_abort call ≡ false) × (is_some (registered_by call) ≡ false)
+plain_waits old new (Abort outer) again step stage asks waits = absurd (let none : None ≡ Some step = sym (ap (asked_from new) stage) ∙ (sym asks ∙ waits) in cc)
+plain_waits old new (CommitAction action) again step stage asks waits = absurd (let none : None ≡ Some step = sym (ap (asked_from new) stage) ∙ (sym asks ∙ waits) in cc)
+plain_waits old new (UndoAction action) again step stage asks waits = absurd (let none : None ≡ Some step = sym (ap (asked_from new) stage) ∙ (sym asks ∙ waits) in cc)
+plain_waits old new call again step stage asks waits = (refl, refl)
+
+-- ## An actor that has no open attempt, and one whose attempt is changed
+
+pub none_acting : {P : Type 0} (r : Rows) (a : Actor P) → active_of a.thread r.active ≡ None → IsEmpty a → StartsEmpty a → NoCancel a.status → IsActing r a
+none_acting r a none empty pending status = record {
+  empty = empty;
+  all = λ row e. absurd (let both : None ≡ Some row = sym none ∙ e in cc);
+  places = λ row e. absurd (let both : None ≡ Some row = sym none ∙ e in cc);
+  pending = pending;
+  status = status;
+}
+
+pub changed_acting : {P : Type 0} (r r' : Rows) (a : Actor P) (f : Attempt → Attempt) → ((x : Attempt) → (f x).thread ≡ x.thread) → ((x : Attempt) → (f x).ran ≡ x.ran) → r' ≡ with_changed a.thread f r → IsActing r a → IsActing r' a
+changed_acting r r' a f thread ran is acts = record {
+  empty = acts.empty;
+  all = λ row e. (let was = row_from r r' a.thread f thread is row e in ap (λ (x : Attempt). x.ran) was.2 ∙ (ran was.0 ∙ acts.all was.0 was.1));
+  places = λ row e. (let was = row_from r r' a.thread f thread is row e in acts.places was.0 was.1);
+  pending = acts.pending;
+  status = acts.status;
+}
+
+-- ## A call goes to the engine
+
+gave_plainly : (mid new old : Core) (call : Call) (again : Bool) (what : Next) → Proceeds mid what new → new.stage ≡ stage_at old call again → new.waits ≡ asked new → (step : Step) → what ≡ Asks step → (is_abort call ≡ false) × (is_some (registered_by call) ≡ false)
+gave_plainly mid new old call again what g stage asks step is =
+    let h = subst (λ (w : Next). Proceeds mid w new) is g in
+    plain_waits old new call again step stage asks (ap (λ (c : Core). c.waits) h.stays)
+
+-- there is room for what comes of it
+pub called_acting : {P E : Type 0} (r : Rows) (a : Actor P) (mid old : Core) (call : Call) (again was : Bool) (o : in_transaction mid ≡ was) (has : HasRow was r a.thread) (doing : mid.doing ≡ Some call) (empty : IsEmpty a)
+    → ((row : Attempt) → active_of a.thread r.active ≡ Some row → row.ran ≡ mid.actions.ran)
+    → ((row : Attempt) → active_of a.thread r.active ≡ Some row → total mid.actions + registers call ≤ vec_capacity a.end_room)
+    → ((row : Attempt) → active_of a.thread r.active ≡ Some row → is_abort call ≡ true → total mid.actions ≤ vec_capacity a.cancel_room)
+    → StartsEmpty a → (in_transaction mid ≡ false → (mid.actions.commits ≡ []) × (mid.actions.undos ≡ []))
+    → (result : Result Next E) → IfOk result (λ what. Proceeds mid what a.engine) → OnOk result (a.engine.stage ≡ stage_at old call again) → OnOk result (a.engine.waits ≡ asked a.engine) → IfOk result (MayRunOn r a call)
+called_acting r a mid old call again was o has doing empty all places cancel pending shut (Ok what) g stage asks =
+    gave_acting r a mid call was o has doing empty all places cancel pending what g shut (gave_plainly mid a.engine old call again what g stage asks)
+called_acting r a mid old call again was o has doing empty all places cancel pending shut (Err x) g stage asks = tt
+
+-- a place more where the call registers one
+pub places_for : (call : Call) (least room room' : ℕ) → least ≤ room → room ≤ room' → (is_some (registered_by call) ≡ true → least < room') → least + registers call ≤ room'
+places_for (CommitAction action) least room room' l k more = (let m = more refl in omega arith)
+places_for (UndoAction action) least room room' l k more = (let m = more refl in omega arith)
+places_for call least room room' l k more = omega arith

@@ -1,0 +1,74 @@
+-- The actions of an actor's transaction: which of them have run, and the room for those that are to run.
+use Rattle.std.specs.Prelude.{◌≡◌, ℕ, ◌+◌, ◌<◌, ◌≤◌, Bool, true, false, [], length, is_some, Option, None, Some, vec_capacity}
+use Rattle.itm_types.specs.declared.call.Ran.{Ran}
+use Rattle.itm_types.specs.Calls.{is_abort, registered_by}
+use Rattle.user_actions.specs.Actions.{total}
+use Rattle.norec_core.specs.Core.{in_transaction}
+use Rattle.itm_types.specs.declared.call.Call.{Call}
+use Rattle.norec_core.specs.declared.answer.Next.{Next}
+use Rattle.norec_core.specs.declared.answer.Next.TheVariants.{Step, Answer}
+use Rattle.norec_world.specs.declared.attempt.Attempt.{Attempt}
+use Rattle.norec_world.specs.declared.actor.Actor.{Actor}
+use Rattle.norec_world.specs.declared.actor.Status.{Status}
+use Rattle.norec_world.specs.declared.actor.Status.TheVariants.{Ready, Waits, Ended}
+use Rattle.norec_world.specs.Opacity.{IsBeginningOf}
+use Rattle.norec_world.specs.Rows.{Rows, active_of}
+
+-- the call in progress is no cancel, and registers nothing
+abbrev pub NoCancel : Status → Type 0
+NoCancel Ready = Unit {0}
+NoCancel (Waits call step) = (is_abort call ≡ false) × (is_some (registered_by call) ≡ false)
+NoCancel (Ended end) = Unit {0}
+
+module _ {P : Type 0} where
+  -- the actor's open attempt, if it has one, has the actions that have run
+  abbrev pub HasAll : Rows → Actor P → Type 0
+  HasAll r a = (row : Attempt) → active_of a.thread r.active ≡ Some row → row.ran ≡ a.engine.actions.ran
+
+  -- or the first of them
+  abbrev pub HasFirst : Rows → Actor P → Type 0
+  HasFirst r a = (row : Attempt) → active_of a.thread r.active ≡ Some row → IsBeginningOf row.ran a.engine.actions.ran
+
+  -- all that are registered have a place where the attempt ends
+  abbrev pub HasPlaces : Rows → Actor P → Type 0
+  HasPlaces r a = (row : Attempt) → active_of a.thread r.active ≡ Some row → total a.engine.actions ≤ vec_capacity a.end_room
+
+  -- those that a cancel has run have one where it does not end
+  abbrev pub HasCancelPlaces : Rows → Actor P → Type 0
+  HasCancelPlaces r a = in_transaction a.engine ≡ true → (row : Attempt) → active_of a.thread r.active ≡ Some row → length row.ran < length a.engine.actions.ran
+      → length a.engine.actions.ran ≤ vec_capacity a.cancel_room
+
+  -- none has run in an attempt that is to be opened
+  abbrev pub StartsEmpty : Actor P → Type 0
+  StartsEmpty a = (row : Attempt) → a.pending ≡ Some row → row.ran ≡ []
+
+  -- there are none where the transaction has just begun
+  abbrev pub BeginsEmpty : Rows → Actor P → Type 0
+  BeginsEmpty r a = in_transaction a.engine ≡ true → active_of a.thread r.active ≡ None → total a.engine.actions ≡ 0
+
+  -- the room is empty
+  pub record IsEmpty (a : Actor P) : Type 0 where
+    pub end_room : a.end_room.items ≡ []
+    pub cancel_room : a.cancel_room.items ≡ []
+
+  -- between two calls, or in one
+  pub record IsActing (r : Rows) (a : Actor P) : Type 0 where
+    pub empty : IsEmpty a
+    pub all : HasAll r a
+    pub places : HasPlaces r a
+    pub pending : StartsEmpty a
+    pub status : NoCancel a.status
+
+  -- a call is answered, and nothing is recorded of that yet
+  pub record MayRun (r : Rows) (a : Actor P) : Type 0 where
+    pub empty : IsEmpty a
+    pub first : HasFirst r a
+    pub places : HasPlaces r a
+    pub cancel_places : HasCancelPlaces r a
+    pub pending : StartsEmpty a
+    pub anew : BeginsEmpty r a
+
+  -- what the engine gave for the call is to be recorded
+  abbrev pub MayRunOn : Rows → Actor P → Call → Next → Type 0
+  MayRunOn r a call (Step step) = IsActing r (record a { status = Waits call step })
+  MayRunOn r a call (Answer answer) = MayRun r a
