@@ -4,6 +4,9 @@
 set -e
 top=$(cd "$(dirname "$0")/.." && pwd)
 [ $# -gt 0 ] || { echo "usage: sh tests/wrong_bodies.sh CRATE.." >&2; exit 2; }
+for name in "$@"; do
+    [ -d "$top/crates/$name/wrong-bodies" ] || { echo "$name has no wrong-bodies/" >&2; exit 2; }
+done
 work=$(mktemp -d)
 trap 'rm -rf "$work"' EXIT
 cp -a "$top" "$work/copy"
