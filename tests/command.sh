@@ -82,9 +82,19 @@ cp "$work/input" "$work/-x"
 status=$?
 check 'a file whose name begins with a dash' 0
 
-cp "$root/examples/lost_update.history" "$work/want_output"
-run sched "$root/examples/lost_update.itm"
-check 'two threads and a schedule' 0
+# each example gives its history
+for script in "$root"/examples/*.itm; do
+    cp "${script%.itm}.history" "$work/want_output"
+    if [ -f "${script%.itm}.errors" ]; then
+        cp "${script%.itm}.errors" "$work/want_errors"
+        wanted=4
+    else
+        : >"$work/want_errors"
+        wanted=0
+    fi
+    run sched "$script"
+    check "$(basename "$script")" "$wanted"
+done
 
 # threads that give up: one that waits for a commit that stands still, and all but the first of those that may commit
 cat >"$work/input" <<'END'
@@ -231,7 +241,7 @@ want_line 'itmrun: line 0: too long'
 run sched -
 check 'a text that is too large' 2
 
-want_line 'itmrun: line 2: unknown name'
+want_line 'itmrun: line 2: misplaced'
 printf '.memory 8\n.rept 2\n' >"$work/input"
 run sched -
 check 'a script that is refused' 2

@@ -5,6 +5,16 @@
 #   sh tests/soak.sh [COUNT [SEED]]     so many scripts, 3000 where it is not said, of a seed, 1 where it is not said
 #   sh tests/soak.sh FILE               the script in FILE, as one that failed
 #
+# The scripts have the whole language: every directive and instruction, every entry point with any place, blocks in
+# blocks, actions, irrevocable transactions, for up to 8 threads. Of each history it is worked out
+#
+# - that every attempt's calls are what its thread's code makes alone, and every reply the plain machine's, on the bytes
+#   that as many first commits left as its position says; which arena it began with, which actions ran, and whether it
+#   may have ended as it did where it stood;
+# - that the commits are numbered as they ended, and stand no earlier than their thread was there;
+# - that the final clock and bytes are those of all commits, or with an odd clock those of one that holds it as well;
+# - that no thread took more steps than the schedule gives it, which threads gave up, and the exit status.
+#
 # ITMRUN=PROGRAM takes another built program than this tree's. The exit status is 0 where every history was right. At
 # the first one that was not, the script and what came of it are kept, and the status is 1.
 

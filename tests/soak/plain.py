@@ -1,111 +1,205 @@
-"""What a script says, what its threads call, and what a memory that nobody else uses answers."""
+"""What a memory that nobody else uses answers to a thread's calls, and what they leave of it."""
 
-READ, WRITE, BEGIN, COMMIT = "_ITM_RU8", "_ITM_WU8", "_ITM_beginTransaction", "_ITM_commitTransaction"
-ANY = float("inf")
+import collections
 
+from entries import (
+    ABORT, ASKS, BEGIN, COMMIT, COPIES, FILLS, GOES, LOADS, LOG_BYTES, LOGS, MODE, NO_ABORT, NO_IRREVOCABLE, ON_COMMIT,
+    ON_UNDO, OUTER, READS, STORES, WRITES,
+)  # fmt: skip
 
-class Script:
-    """The fields of a script that has no fault."""
+WORD, CHUNK, DEEPEST = 8, 32, 16
 
-    def __init__(self, text):
-        self.retries, self.commits, self.items, self.codes = 100, (1 << 62) - 1, [], []
-        lines = [line.split(";")[0].split() for line in text.split("\n")]
-        for name, *operands in filter(None, lines):
-            if name == ".memory":
-                self.opening = bytearray(int(operands[0]))
-            elif name == ".init":
-                at, data = int(operands[0]), bytes.fromhex(operands[1])
-                self.opening[at : at + len(data)] = data
-            elif name in (".patience", ".retries", ".commits"):
-                setattr(self, name[1:], int(operands[0]))
-            elif name == ".schedule":
-                self.items += operands
-            elif name == ".thread":
-                code = []
-                self.codes += [code] * int(operands[0] if operands else 1)
-            else:
-                code.append([name, *operands])
-        threads = range(len(self.codes))
-        items = [item.replace("!", "x").split("x") for item in self.items or [f"{t}!" for t in threads]]
-        # the steps that each thread has at most, ANY where it has to run to its end
-        self.steps = [sum(int(k) if k else ANY for t, k in items if int(t) == thread) for thread in threads]
-        # where each thread runs to its end before the next one begins: their order
-        self.turns = None if any(k for _, k in items) else [int(t) for t, _ in items]
+# of an open block its properties; what stood at its begin: the memory, the bytes that were written, and how many
+# actions of both kinds were registered; and of each place of the arena that is logged in it the byte at the first log.
+# All but the properties is for a rollback, so it counts no more once the transaction is irrevocable.
+Block = collections.namedtuple("Block", "props memory written commits undos kept")
 
 
-class Player:
-    """A thread's code and registers: what it calls, given the replies. A register is a number of 8 bytes here: no
-    instruction that is there so far looks at the rest of its 32, or leaves anything in it."""
-
-    def __init__(self, code):
-        self.code, self.line, self.registers = code, 0, dict.fromkeys((f"r{n}" for n in range(16)), 0)
-
-    def run_to(self, *names):
-        """The operands of the next line with such a name; None where there is none. Calls that are passed on the way
-        are those outside a block, which are refused and change nothing."""
-        while self.line < len(self.code):
-            name, *operands = self.code[self.line]
-            if name in names:
-                return operands
-            if name == "set":
-                self.registers[operands[0]] = int(operands[1])
-            elif name == "add":
-                self.registers[operands[0]] = (self.registers[operands[1]] + self.registers[operands[2]]) % (1 << 64)
-            self.line += 1
-        return None
-
-    def to_block(self):
-        """Goes on to the next block; False where there is none. Each of its tries begins with what stands now."""
-        begin = self.run_to(BEGIN)
-        self.saved = self.line, dict(self.registers)
-        return begin is not None
-
-    def enter(self, answer):
-        self.line, registers = self.saved
-        self.registers = dict(registers)
-        self.go_on(answer)
-
-    def call(self):
-        """The block's next call: its name, its place, and the bytes that it writes."""
-        operands = self.run_to(READ, WRITE, COMMIT)
-        name = self.code[self.line][0]
-        if name == READ:
-            return name, int(operands[1]), None
-        if name == WRITE:
-            return name, int(operands[0]), self.registers[operands[1]].to_bytes(8, "little")
-        return name, None, None
-
-    def go_on(self, value):
-        """Goes past the line, a begin or a call; its register gets the value, if there is one."""
-        if value is not None:
-            self.registers[self.code[self.line][1]] = value
-        self.line += 1
+def spelled(call):
+    """A call as a history has it."""
+    return " ".join(it.hex() if isinstance(it, bytes) else str(it) for it in call)
 
 
-class Plain:
-    """A memory with one open block and nobody else."""
+def pieces(start, end):
+    """A range's bytes word by word, upwards."""
+    while start < end:
+        stop = min(end, start - start % WORD + WORD)
+        yield start, stop
+        start = stop
 
-    def __init__(self, memory):
-        self.memory = bytearray(memory)
-        self.own = set()  # the bytes written
-        self.words = []  # the words written, in the order of first writing
 
-    def one(self, name, place, data):
+def chunks(size, down):
+    """Parts of a range in the order in which a copy or a fill takes them, from its low end or from its high one."""
+    if down:
+        return [(max(end - CHUNK, 0), end) for end in range(size, 0, -CHUNK)]
+    return [(start, min(start + CHUNK, size)) for start in range(0, size, CHUNK)]
+
+
+def goes(name, values):
+    """Whether a call is to make its transaction irrevocable."""
+    return name == MODE or name == BEGIN and GOES in values[0].split("+")
+
+
+def ranges(name, values):
+    """The bytes that a call is for, in the order in which they are tested: whether they are the arena's, their place
+    and their number."""
+    if name in COPIES:
+        to, source, size = values
+        return [(COPIES[name].writes_arena, to, size), (COPIES[name].reads_arena, source, size)]
+    if name in FILLS:
+        return [(False, values[0], values[2])]
+    if name == LOG_BYTES:
+        return [(True, *values)]
+    for sizes, is_arena in ((READS, False), (WRITES, False), (LOGS, True), (LOADS, True), (STORES, True)):
+        if name in sizes:
+            return [(is_arena, values[0], sizes[name])]
+    return []
+
+
+class Machine:
+    def __init__(self, memory, arena):
+        self.memory, self.arena = bytearray(memory), bytearray(arena)
+        self.blocks = []  # the outermost one first
+        self.written = {}  # the bytes written of each word, in the order of first writing
+        self.irrevocable = self.cancelled = False
+        self.commits, self.undos, self.ran = [], [], []  # actions
+        self.watch = lambda: None  # is called after each store of an irrevocable transaction
+
+    def one(self, call):
         """The reply to a call, in the history's spelling."""
-        if name == COMMIT:
-            return "ok"
-        if place + 8 > len(self.memory):
-            return "refused 2"
-        if name == READ:
-            return self.memory[place : place + 8].hex()
-        self.memory[place : place + 8] = data
-        self.own.update(range(place, place + 8))
-        self.words = list(dict.fromkeys(self.words + [place // 8, (place + 7) // 8]))
-        return "ok"
+        name, *values = call
+        refusal = self.refusal(call)
+        if refusal:
+            return f"refused {refusal}"
+        return EFFECTS[name](self, name, *values) or "ok"
 
-    def takes_steps(self, name, place, _):
-        """Whether others can come in between: at a read of a byte that the block has not written, and at the commit of
-        a block that wrote. All else is done with no look at the shared memory."""
-        if name == COMMIT:
-            return bool(self.words)
-        return name == READ and place + 8 <= len(self.memory) and not self.own.issuperset(range(place, place + 8))
+    def refusal(self, call):
+        """The first number for which the call is refused, if there is one."""
+        return next((number for number, holds in self.reasons(*call) if holds), None)
+
+    def reasons(self, name, *values):
+        yield 1, not self.blocks and name not in (BEGIN, ASKS, *LOADS, *STORES)
+        if name == ABORT:
+            asked = self.blocks if OUTER in values else self.blocks[-1:]
+            yield 5, any(NO_ABORT in block.props for block in asked)
+            yield 6, self.irrevocable
+        if goes(name, values):
+            own = values[0] if name == BEGIN else ""
+            yield 7, any(NO_IRREVOCABLE in props for props in (own, *(block.props for block in self.blocks)))
+        yield 8, name == BEGIN and len(self.blocks) == DEEPEST
+        for is_arena, place, size in ranges(name, values):
+            yield 3 if is_arena else 2, place + size > len(self.arena if is_arena else self.memory)
+        yield 4, name in COPIES and not COPIES[name].moves and self.overlap(name, *values)
+
+    def overlap(self, name, to, source, size):
+        """Whether a copy's ranges have a shared byte in common."""
+        _, reads_arena, writes_arena = COPIES[name]
+        return not reads_arena and not writes_arena and abs(to - source) < size
+
+    def wrote(self):
+        return self.irrevocable or bool(self.written)
+
+    # blocks
+
+    def begin(self, name, props):
+        self.blocks.append(Block(props, bytes(self.memory), dict(self.written), len(self.commits), len(self.undos), {}))
+        self.irrevocable = self.irrevocable or goes(name, [props])
+        return "code 5"
+
+    def commit(self, _):
+        block = self.blocks.pop()
+        if self.blocks:
+            # what the block around it has logged itself counts
+            self.blocks[-1].kept.update({**block.kept, **self.blocks[-1].kept})
+        else:
+            self.ran += [("commit", *action) for action in self.commits]
+
+    def abort(self, _, which):
+        self.back()
+        if which == OUTER:
+            self.back_to_start()
+        self.cancelled = not self.blocks
+        return "code 24"
+
+    def back(self):
+        """Rolls the innermost block back."""
+        block = self.blocks.pop()
+        self.memory[:], self.written = block.memory, block.written
+        for place, byte in block.kept.items():
+            self.arena[place] = byte
+        self.ran += [("undo", *action) for action in reversed(self.undos[block.undos :])]
+        del self.commits[block.commits :], self.undos[block.undos :]
+
+    def back_to_start(self):
+        """Rolls every open block back, the innermost first."""
+        while self.blocks:
+            self.back()
+
+    def mode(self, *_):
+        self.irrevocable = True
+
+    def asks(self, _):
+        return f"code {(1 + self.irrevocable) if self.blocks else 0}"
+
+    def on_commit(self, _, function, __, argument):
+        self.commits.append((function, argument))
+
+    def on_undo(self, _, function, argument):
+        self.undos.append((function, argument))
+
+    # bytes
+
+    def read(self, name, place):
+        return self.memory[place : place + READS[name]].hex()
+
+    def write(self, _, place, data):
+        for start, stop in pieces(place, place + len(data)):
+            self.memory[start:stop] = data[start - place : stop - place]
+            if not self.irrevocable:
+                word = start // WORD
+                self.written[word] = self.written.get(word, frozenset()).union(range(start, stop))
+            else:
+                self.watch()
+
+    def log(self, name, place, size=None):
+        for at in range(place, place + (LOGS[name] if size is None else size)):
+            self.blocks[-1].kept.setdefault(at, self.arena[at])
+
+    def copy(self, name, to, source, size):
+        data = bytes((self.arena if COPIES[name].reads_arena else self.memory)[source : source + size])
+        if COPIES[name].writes_arena:
+            self.arena[to : to + size] = data
+        else:
+            self.write_chunks(to, data, down=source < to and self.overlap(name, to, source, size))
+
+    def fill(self, _, to, byte, size):
+        self.write_chunks(to, bytes([byte]) * size, down=False)
+
+    def write_chunks(self, to, data, down):
+        for start, stop in chunks(len(data), down):
+            self.write(None, to + start, data[start:stop])
+
+    def load(self, name, place):
+        return self.arena[place : place + LOADS[name]].hex()
+
+    def store(self, _, place, data):
+        self.arena[place : place + len(data)] = data
+
+
+EFFECTS = {
+    BEGIN: Machine.begin,
+    COMMIT: Machine.commit,
+    ABORT: Machine.abort,
+    MODE: Machine.mode,
+    ASKS: Machine.asks,
+    ON_COMMIT: Machine.on_commit,
+    ON_UNDO: Machine.on_undo,
+    LOG_BYTES: Machine.log,
+    **dict.fromkeys(READS, Machine.read),
+    **dict.fromkeys(WRITES, Machine.write),
+    **dict.fromkeys(LOGS, Machine.log),
+    **dict.fromkeys(COPIES, Machine.copy),
+    **dict.fromkeys(FILLS, Machine.fill),
+    **dict.fromkeys(LOADS, Machine.load),
+    **dict.fromkeys(STORES, Machine.store),
+}

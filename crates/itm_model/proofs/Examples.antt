@@ -19,7 +19,7 @@ use Rattle.itm_model.specs.Undoable.{Undoable, before_after, takes_memory}
 use Rattle.itm_model.specs.Runs.{answers, replies, state_after}
 
 abbrev pub plain : Props
-plain = record { no_abort = false }
+plain = record { no_abort = false; no_irrevocable = false; goes_irrevocable = false }
 
 -- the eight bytes of a small number
 abbrev pub eight : ℕ → List ℕ
@@ -216,7 +216,7 @@ handing_on =
     Log U1 0 ∷ Save 0 (byte 1) ∷ Begin plain 0 ∷ Log U2 0 ∷ Save 0 (byte 2) ∷ Save 1 (byte 3) ∷ Save 2 (byte 4) ∷ Commit ∷ Save 1 (byte 5) ∷ []
 
 handed_on : (state_after 16 (start_with 8 4) handing_on).blocks
-    ≡ record { props = plain; saved = record { memory = eight 0; wrote = false; commits = 0; undos = 0; kept = Some 0 ∷ Some 0 ∷ None ∷ None ∷ [] } } ∷ []
+    ≡ record { props = plain; saved = Some (record { memory = eight 0; wrote = false; commits = 0; undos = 0; kept = Some 0 ∷ Some 0 ∷ None ∷ None ∷ [] }) } ∷ []
 handed_on = refl
 
 handed_on_cancel : (state_after 16 (start_with 8 4) (handing_on ++ Abort false ∷ [])).arena ≡ 0 ∷ 0 ∷ 4 ∷ 0 ∷ []
@@ -224,13 +224,13 @@ handed_on_cancel = refl
 
 -- the parent's own value of the byte wins
 parents_win : (state_after 16 (opened (eight 0) (10 ∷ 20 ∷ []) plain) (Log U1 0 ∷ Save 0 (byte 1) ∷ Begin plain 0 ∷ Log U2 0 ∷ Commit ∷ [])).blocks
-    ≡ record { props = plain; saved = record { memory = eight 0; wrote = false; commits = 0; undos = 0; kept = Some 10 ∷ Some 20 ∷ [] } } ∷ []
+    ≡ record { props = plain; saved = Some (record { memory = eight 0; wrote = false; commits = 0; undos = 0; kept = Some 10 ∷ Some 20 ∷ [] }) } ∷ []
 parents_win = refl
 
 -- a closed block hands on to the block around it alone
 handed_on_once : (state_after 16 (start_with 8 1) (Begin plain 0 ∷ Begin plain 0 ∷ Log U1 0 ∷ Commit ∷ [])).blocks
-    ≡ record { props = plain; saved = record { memory = eight 0; wrote = false; commits = 0; undos = 0; kept = Some 0 ∷ [] } }
-    ∷ record { props = plain; saved = record { memory = eight 0; wrote = false; commits = 0; undos = 0; kept = None ∷ [] } }
+    ≡ record { props = plain; saved = Some (record { memory = eight 0; wrote = false; commits = 0; undos = 0; kept = Some 0 ∷ [] }) }
+    ∷ record { props = plain; saved = Some (record { memory = eight 0; wrote = false; commits = 0; undos = 0; kept = None ∷ [] }) }
     ∷ []
 handed_on_once = refl
 
@@ -242,7 +242,7 @@ nothing_handed_on = refl
 -- ## Blocks that are not to be cancelled
 
 abbrev unabortable : Props
-unabortable = record { no_abort = true }
+unabortable = record plain { no_abort = true }
 
 -- the innermost block is such a one
 no_abort_innermost : replies 16 (start 8) (Begin unabortable 0 ∷ Abort false ∷ Abort true ∷ Commit ∷ Abort false ∷ [])
@@ -301,12 +301,12 @@ newest_first = refl
 
 -- of two blocks the inner one began after the first write, and after the first log of the arena
 abbrev marked : List Block
-marked = blocks_of (old 0 1 ∷ old 0 2 ∷ []) (eight 3) (eight 9) (logged_byte 0 5 ∷ logged_byte 0 6 ∷ logged_byte 1 7 ∷ [])
+marked = blocks_of false (old 0 1 ∷ old 0 2 ∷ []) (eight 3) (eight 9) (logged_byte 0 5 ∷ logged_byte 0 6 ∷ logged_byte 1 7 ∷ [])
     (record { props = plain; at = 0; logs = 0; actions = record { commits = 0; undos = 0 }; wrote = false } ∷ record { props = plain; at = 1; logs = 1; actions = record { commits = 3; undos = 4 }; wrote = true } ∷ [])
 
 marked_blocks : marked
-    ≡ record { props = plain; saved = record { memory = eight 2; wrote = true; commits = 3; undos = 4; kept = Some 6 ∷ Some 7 ∷ replicate 6 None } }
-    ∷ record { props = plain; saved = record { memory = eight 1; wrote = false; commits = 0; undos = 0; kept = Some 5 ∷ replicate 7 None } }
+    ≡ record { props = plain; saved = Some (record { memory = eight 2; wrote = true; commits = 3; undos = 4; kept = Some 6 ∷ Some 7 ∷ replicate 6 None }) }
+    ∷ record { props = plain; saved = Some (record { memory = eight 1; wrote = false; commits = 0; undos = 0; kept = Some 5 ∷ replicate 7 None }) }
     ∷ []
 marked_blocks = refl
 

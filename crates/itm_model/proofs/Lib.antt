@@ -1,6 +1,7 @@
 mod ActionExamples
 mod CopyExamples
 mod Examples
+mod IrrevocableExamples
 mod JournalRollbacks
 mod KeptLogs
 mod OpenBlocks

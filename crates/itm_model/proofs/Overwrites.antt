@@ -49,24 +49,24 @@ kept_restores j j' m p new h w w' g k l =
     ∙ sym (restored_kept olds m (AreWithin-drop (length m) k j w))))
 
 -- a machine of which shared bytes are written
-pub record IsWritten (j : List Old) (m a : List ℕ) (os : List Old) (marks : List Mark) (acts : Actions) (wrote : Bool) (p : ℕ) (new : List ℕ) (j' : List Old) (m' : List ℕ) (wrote' : Bool) : Type 0 where
+pub record IsWritten (j : List Old) (m a : List ℕ) (os : List Old) (marks : List Mark) (acts : Actions) (wrote irr : Bool) (p : ℕ) (new : List ℕ) (j' : List Old) (m' : List ℕ) (wrote' : Bool) : Type 0 where
   pub sound : IsSound m' j' a os marks
-  pub state : state_of j' m' a os marks acts wrote' ≡ written (state_of j m a os marks acts wrote) p new
+  pub state : state_of irr j' m' a os marks acts wrote' ≡ written (state_of irr j m a os marks acts wrote) p new
   pub before : put_back j' m' ≡ put_back j m
 
-pub is_written : (j : List Old) (m a : List ℕ) (os : List Old) (marks : List Mark) (acts : Actions) (wrote : Bool) (p : ℕ) (new : List ℕ) (j' : List Old) (m' : List ℕ) (wrote' : Bool)
+pub is_written : (j : List Old) (m a : List ℕ) (os : List Old) (marks : List Mark) (acts : Actions) (wrote irr : Bool) (p : ℕ) (new : List ℕ) (j' : List Old) (m' : List ℕ) (wrote' : Bool)
     → IsSound m j a os marks → p + length new ≤ length m → Logged m p (length new) j j' → length j ≤ length j' → AreWithin (length m) j'
-    → m' ≡ with_slice m p new → wrote' ≡ (wrote || nat_lt 0 (length new)) → IsWritten j m a os marks acts wrote p new j' m' wrote'
-is_written j m a os marks acts wrote p new j' m' wrote' s h g l w e f =
+    → m' ≡ with_slice m p new → wrote' ≡ (wrote || nat_lt 0 (length new)) → IsWritten j m a os marks acts wrote irr p new j' m' wrote'
+is_written j m a os marks acts wrote irr p new j' m' wrote' s h g l w e f =
     let size : length m' ≡ length m = ap (length {A = ℕ}) e ∙ length-with_slice m p new h in
     let r : Restores (length j) j m j' m' = λ k t. ap (put_back (drop k j')) e ∙ kept_restores j j' m p new h s.within w g k t in
-    let blocks = blocks_same j m j' m' a os (length j) (length os) (reverse marks) s.under r in
+    let blocks = blocks_same irr j m j' m' a os (length j) (length os) (reverse marks) s.under r in
     record {
       sound = record {
         within = subst (λ (n : ℕ). AreWithin n j') (sym size) w;
         logged = s.logged;
         under = AreUnder-more (length j) (length j') (length os) (length os) (reverse marks) l (omega arith) s.under;
       };
-      state = (λ i. record { memory = e i; arena = a; blocks = blocks i; actions = acts; wrote = f i });
+      state = (λ i. record { memory = e i; arena = a; blocks = blocks i; actions = acts; wrote = f i; irrevocable = irr });
       before = r 0 (omega arith);
     }

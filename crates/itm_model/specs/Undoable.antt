@@ -2,7 +2,7 @@
 use Rattle.std.specs.Prelude.{ℕ, Bool, true, false, nat_lt, if◌then◌else◌, List, Option, None, Some}
 use Rattle.itm_types.specs.declared.call.Refusal.{Refusal}
 use Rattle.itm_types.specs.declared.call.Call.{Call}
-use Rattle.itm_types.specs.declared.call.Call.TheVariants.{Begin, Commit, Abort, InTransaction, Read, Write, Log, LogBytes, Copy, Fill, CommitAction, UndoAction, Load, Save}
+use Rattle.itm_types.specs.declared.call.Call.TheVariants.{Begin, Commit, Abort, Mode, InTransaction, Read, Write, Log, LogBytes, Copy, Fill, CommitAction, UndoAction, Load, Save}
 use Rattle.itm_model.specs.State.{State}
 use Rattle.itm_model.specs.Machine.{is_open, refusal}
 
@@ -15,6 +15,7 @@ abbrev pub before_next : Undoable → Call → List ℕ
 before_next u (Begin props room) = if is_open u.state then u.before else u.state.memory
 before_next u Commit = u.before
 before_next u (Abort outer) = u.before
+before_next u (Mode room) = u.before
 before_next u InTransaction = u.before
 before_next u (Read hint width at) = u.before
 before_next u (Write hint at value) = u.before
@@ -39,6 +40,7 @@ abbrev pub takes_memory : Call → Bool
 takes_memory (Begin props room) = true
 takes_memory Commit = false
 takes_memory (Abort outer) = false
+takes_memory (Mode room) = false
 takes_memory InTransaction = false
 takes_memory (Read hint width at) = false
 takes_memory (Write hint at value) = true

@@ -1,10 +1,10 @@
 -- What an open transaction has overwritten, oldest first, and what stands when it is put back.
-use Rattle.std.specs.Prelude.{ℕ, zero, suc, ◌+◌, ◌≤◌, ◌≡◌, List, [], ◌∷◌, length, take, drop, reverse, Option, Some}
+use Rattle.std.specs.Prelude.{ℕ, zero, suc, ◌+◌, ◌≤◌, ◌≡◌, Bool, true, false, List, [], ◌∷◌, length, take, drop, reverse, Option, None, Some}
 use Rattle.itm_types.specs.Kept.{first_of_two, nothing, also_kept}
 use Rattle.itm_types.specs.Slices.{with_slice}
 use Rattle.itm_model.specs.declared.journal.Old.{Old}
 use Rattle.itm_model.specs.declared.journal.Mark.{Mark}
-use Rattle.itm_model.specs.State.{Block}
+use Rattle.itm_model.specs.State.{Block, Saved}
 
 -- the bytes once these are put back, the newest first
 abbrev pub put_back : List Old → List ℕ → List ℕ
@@ -27,27 +27,33 @@ kept_from ks (o ∷ os) = kept_from (laid ks o.place o.bytes.items) os
 abbrev pub kept_of : List ℕ → List Old → List (Option ℕ)
 kept_of arena logs = kept_from (nothing arena) logs
 
--- the open block that a mark stands for: it keeps what was logged since its begin
-abbrev pub block_of : List Old → List ℕ → List ℕ → List Old → Mark → Block
-block_of journal memory arena logs m = record {
-  props = m.props;
-  saved = record {
-    memory = put_back (drop m.at journal) memory;
-    wrote = m.wrote;
-    commits = m.actions.commits;
-    undos = m.actions.undos;
-    kept = kept_of arena (drop m.logs logs);
-  };
+-- what a rollback to a mark goes back to: it keeps what was logged since
+abbrev pub saved_of : List Old → List ℕ → List ℕ → List Old → Mark → Saved
+saved_of journal memory arena logs m = record {
+  memory = put_back (drop m.at journal) memory;
+  wrote = m.wrote;
+  commits = m.actions.commits;
+  undos = m.actions.undos;
+  kept = kept_of arena (drop m.logs logs);
 }
 
+-- in an irrevocable transaction no block goes back to anything
+abbrev pub saved_in : Bool → Saved → Option Saved
+saved_in true saved = None
+saved_in false saved = Some saved
+
+-- the open block that a mark stands for
+abbrev pub block_of : Bool → List Old → List ℕ → List ℕ → List Old → Mark → Block
+block_of irrevocable journal memory arena logs m = record { props = m.props; saved = saved_in irrevocable (saved_of journal memory arena logs m) }
+
 -- the open blocks of these marks, innermost first: what was logged since a block's begin is no log of those around it
-abbrev pub blocks_from : List Old → List ℕ → List ℕ → List Old → List Mark → List Block
-blocks_from journal memory arena logs [] = []
-blocks_from journal memory arena logs (m ∷ ms) = block_of journal memory arena logs m ∷ blocks_from journal memory arena (take m.logs logs) ms
+abbrev pub blocks_from : Bool → List Old → List ℕ → List ℕ → List Old → List Mark → List Block
+blocks_from irrevocable journal memory arena logs [] = []
+blocks_from irrevocable journal memory arena logs (m ∷ ms) = block_of irrevocable journal memory arena logs m ∷ blocks_from irrevocable journal memory arena (take m.logs logs) ms
 
 -- the open blocks of these marks, innermost last
-abbrev pub blocks_of : List Old → List ℕ → List ℕ → List Old → List Mark → List Block
-blocks_of journal memory arena logs marks = blocks_from journal memory arena logs (reverse marks)
+abbrev pub blocks_of : Bool → List Old → List ℕ → List ℕ → List Old → List Mark → List Block
+blocks_of irrevocable journal memory arena logs marks = blocks_from irrevocable journal memory arena logs (reverse marks)
 
 -- each old slice lies in so many bytes
 abbrev pub AreWithin : ℕ → List Old → Type 0

@@ -1,7 +1,7 @@
 //! The plain machine.
 
-ghost use Rattle.std.specs.Prelude.{◌≡◌, ◌≤◌, ◌%◌, if◌then◌else◌, IsTrue, IsOk, IfOk, OnOk, OnErr, None, [], length};
-ghost use Rattle.itm_model.specs.Machine.{after, answer, back, closed, effect, entered, is_open, logged, mode_code, opened, outside, refusal, reply, saved_in_arena, undone, written};
+ghost use Rattle.std.specs.Prelude.{◌≡◌, ◌≤◌, ◌-◌, ◌%◌, ◌&&◌, if◌then◌else◌, false, IsTrue, IsOk, IfOk, OnOk, OnErr, None, [], length};
+ghost use Rattle.itm_model.specs.Machine.{after, answer, back, closed, effect, entered, is_open, logged, opened, outside, refusal, reply, saved_in_arena, undone, written};
 ghost use Rattle.itm_model.specs.Places.{in_range};
 ghost use Rattle.itm_model.specs.Undoable.{before_after, before_next, takes_memory};
 
@@ -9,8 +9,8 @@ use crate::bytes::{replace, value_at};
 use crate::journal::{Mark, Old, keep, unwind};
 use crate::limits::WORD;
 use itm_types::{
-    ActionKind, CANCELLED, Call, Datum, ENTERED, MAX_ARENA, MAX_MEMORY, MAX_OPEN_BLOCKS,
-    NO_TRANSACTION, Props, RETRYABLE, Refusal, Reply, Width,
+    ActionKind, CANCELLED, Call, Datum, ENTERED, MAX_ARENA, MAX_MEMORY, MAX_OPEN_BLOCKS, Props,
+    Refusal, Reply, Width,
 };
 use std::alloc::{AllocError, Global};
 use std::marker::Model;
@@ -30,6 +30,8 @@ pub struct Plain {
     marks: Vec<Mark>,
     actions: UserActions,
     wrote: bool,
+    /// No open block goes back any more.
+    irrevocable: bool,
 }
 
 impl Model for Plain {
@@ -43,9 +45,10 @@ impl Model for Plain {
       state = record {
         memory = p.memory.items;
         arena = p.arena.items;
-        blocks = blocks_of p.journal.items p.memory.items p.arena.items p.logs.items p.marks.items;
-        actions = p.actions;
+        blocks = blocks_of p.irrevocable p.journal.items p.memory.items p.arena.items p.logs.items p.marks.items;
+        actions = p.actions.actions;
         wrote = p.wrote;
+        irrevocable = p.irrevocable;
       };
       before = put_back p.journal.items p.memory.items;
     } };
@@ -60,6 +63,7 @@ impl Plain {
         requires room { length bytes.now ≤ MAX_MEMORY }
         requires words { length bytes.now % WORD ≡ 0 }
         requires arena { length arena.now ≤ MAX_ARENA }
+        requires props { (props.goes_irrevocable && props.no_irrevocable) ≡ false }
         ensures state { IfOk result (λ p. p.state ≡ opened bytes.now arena.now props) }
         ensures before { IfOk result (λ p. p.before ≡ bytes.now) }
     {
@@ -71,6 +75,7 @@ impl Plain {
             marks: Vec::new(alloc),
             actions: UserActions::new(alloc),
             wrote: false,
+            irrevocable: false,
         };
         plain.enter(props)?;
         Ok(plain)
@@ -94,11 +99,17 @@ impl Plain {
         }
     }
 
-    /// Rolls the innermost block back, if one is open: the undo actions that were registered in it run.
+    /// Rolls the innermost block back, if one is open: the undo actions that were registered in it run. In an
+    /// irrevocable transaction it does nothing.
     pub fn back(&mut self)
         ensures back { self.new.state ≡ back self.old.state }
         ensures before { self.new.before ≡ self.old.before }
+        ensures fewer { self.old.state.irrevocable ≡ false
+            → length self.new.state.blocks ≡ length self.old.state.blocks - 1 }
     {
+        if self.irrevocable {
+            return;
+        }
         if let Some(mark) = self.marks.pop() {
             unwind(&mut self.memory, &mut self.journal, mark.at);
             unwind(&mut self.arena, &mut self.logs, mark.logs);
@@ -107,11 +118,14 @@ impl Plain {
         }
     }
 
-    /// Rolls every open block back.
+    /// Rolls every open block back. In an irrevocable transaction it does nothing.
     pub fn back_all(&mut self)
         ensures undone { self.new.state ≡ undone self.old.state }
         ensures before { self.new.before ≡ self.old.before }
     {
+        if self.irrevocable {
+            return;
+        }
         while self.depth() > 0 {
             self.back();
         }
@@ -127,11 +141,13 @@ impl Plain {
         self.marks.clear();
         self.actions.clear();
         self.wrote = false;
+        self.irrevocable = false;
     }
 
     /// Begins another transaction, on the bytes that the last one left and with no action. What is still open is
     /// dropped with what it wrote in place.
     pub fn again(&mut self, props: Props) -> Result<(), AllocError>
+        requires { (props.goes_irrevocable && props.no_irrevocable) ≡ false }
         ensures state { OnOk result (self.new.state ≡ opened self.old.state.memory self.old.state.arena props) }
         ensures before { OnOk result (self.new.before ≡ self.old.state.memory) }
         ensures err { OnErr result (self.new ≡ self.old) }
@@ -149,6 +165,10 @@ impl Plain {
         self.logs.clear();
         self.actions.clear();
         self.wrote = false;
+        self.irrevocable = false;
+        if props.goes_irrevocable {
+            self.go_irrevocable();
+        }
         Ok(())
     }
 
@@ -173,7 +193,7 @@ impl Plain {
         self.marks.len()
     }
 
-    /// Whether a shared byte was written and not rolled back.
+    /// Whether a shared byte was written and not rolled back, or the transaction is irrevocable.
     pub fn wrote(&self) -> bool
         ensures { result ≡ self.now.state.wrote }
     {
@@ -202,6 +222,10 @@ impl Plain {
                 self.cancel(*outer);
                 Ok(Reply::Code(CANCELLED))
             }
+            Call::Mode { .. } => {
+                self.go_irrevocable();
+                Ok(Reply::Done)
+            }
             Call::InTransaction => Ok(Reply::Code(self.mode())),
             Call::Read { width, at, .. } => Ok(Reply::Bytes(value_at(&self.memory, *at, *width))),
             Call::Write { at, value, .. } => {
@@ -229,7 +253,7 @@ impl Plain {
                 Ok(Reply::Done)
             }
             Call::UndoAction(action) => {
-                self.register(ActionKind::Undo, *action)?;
+                self.register_undo(*action)?;
                 Ok(Reply::Done)
             }
             Call::Load { width, at } => Ok(Reply::Bytes(value_at(&self.arena, *at, *width))),
@@ -240,19 +264,9 @@ impl Plain {
         }
     }
 
-    /// Whether a transaction is open, as a code.
-    fn mode(&self) -> u32
-        ensures { result ≡ mode_code self.now.state }
-    {
-        if self.depth() == 0 {
-            NO_TRANSACTION
-        } else {
-            RETRYABLE
-        }
-    }
-
     /// A block opens. An outermost one has written nothing yet, and what stands is what it began on.
     fn enter(&mut self, props: Props) -> Result<(), AllocError>
+        requires { (props.goes_irrevocable && props.no_irrevocable) ≡ false }
         ensures inner { IsTrue (is_open self.old.state) → OnOk result (self.new.state ≡ entered self.old.state props) }
         ensures outermost { self.old.state.blocks ≡ []
             → OnOk result (self.new.state ≡ opened self.old.state.memory self.old.state.arena props) }
@@ -270,10 +284,14 @@ impl Plain {
             actions: self.actions.mark(),
             wrote: self.wrote,
         })?;
+        if props.goes_irrevocable {
+            self.go_irrevocable();
+        }
         Ok(())
     }
 
-    /// The innermost block closes. With the outermost one the commit actions run.
+    /// The innermost block closes. With the outermost one the commit actions run, and the transaction is irrevocable no
+    /// more.
     fn close(&mut self)
         ensures closed { self.new.state ≡ closed self.old.state }
         ensures before { self.new.before ≡ self.old.before }
@@ -283,6 +301,7 @@ impl Plain {
         };
         if self.marks.is_empty() {
             self.actions.run_commits();
+            self.irrevocable = false;
         }
     }
 
@@ -312,7 +331,7 @@ impl Plain {
         Ok(())
     }
 
-    /// Bytes of the arena are kept.
+    /// Bytes of the arena are kept, unless nothing goes back any more.
     fn log(&mut self, place: u64, size: u64) -> Result<(), AllocError>
         requires { IsTrue (in_range self.old.state.arena place size) }
         ensures ok { OnOk result (self.new.state ≡ logged self.old.state place size) }
@@ -320,6 +339,9 @@ impl Plain {
         ensures none { size ≡ 0 → IsOk result }
         ensures err { OnErr result (self.new ≡ self.old) }
     {
+        if self.irrevocable {
+            return Ok(());
+        }
         keep(&self.arena, &mut self.logs, place, size)?;
         Ok(())
     }
@@ -336,6 +358,7 @@ impl Plain {
 
 mod actions;
 mod copies;
+mod irrevocable;
 mod refusals;
 #[cfg(test)]
 mod tests;

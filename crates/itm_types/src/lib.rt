@@ -16,7 +16,7 @@ mod step;
 
 pub use access::{ReadHint, Value, Width, WriteHint};
 pub use call::{Action, ActionKind, Call, Copying, Props, Ran, Refusal, Reply};
-pub use codes::{CANCELLED, ENTERED, ENTERED_AGAIN, NO_TRANSACTION, RETRYABLE};
+pub use codes::{CANCELLED, ENTERED, ENTERED_AGAIN, IRREVOCABLE, NO_TRANSACTION, RETRYABLE};
 pub use copy::{CopyPair, CopySide, SharedSide};
 pub use datum::Datum;
 pub use entries::all_entries;

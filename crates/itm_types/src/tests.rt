@@ -65,12 +65,19 @@ fn numbers(rt: HostRuntime) {
         (Refusal::OutOfRange, 2),
         (Refusal::OutOfArena, 3),
         (Refusal::NoAbort, 5),
+        (Refusal::IsIrrevocable, 6),
+        (Refusal::NoIrrevocable, 7),
         (Refusal::TooDeep, 8),
     ];
     for (refusal, number) in refusals {
         assert_eq!(rt; refusal.number(), number);
     }
     assert_eq!(rt; [ENTERED, ENTERED_AGAIN, CANCELLED], [5, 9, 24]);
-    assert_eq!(rt; [NO_TRANSACTION, RETRYABLE], [0, 1]);
-    assert!(rt; !Props::default().no_abort);
+    assert_eq!(rt; [NO_TRANSACTION, RETRYABLE, IRREVOCABLE], [0, 1, 2]);
+    let Props {
+        no_abort,
+        no_irrevocable,
+        goes_irrevocable,
+    } = Props::default();
+    assert!(rt; !no_abort && !no_irrevocable && !goes_irrevocable);
 }

@@ -2,13 +2,11 @@ pub mod Worked
 pub mod WorkedPages
 pub mod WorkedLines
 pub mod WorkedRuns
-pub mod Padding
-pub mod LowBytes
-pub mod BegunBlocks
 pub mod TextPieces
 pub mod AppendedTexts
 pub mod EndingLines
 pub mod ReadTexts
+pub mod ReadPrograms
 pub mod ScheduleItems
 pub mod ProgramPages
 pub mod WrittenWorlds

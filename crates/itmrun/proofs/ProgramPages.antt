@@ -1,5 +1,5 @@
 -- What is told of a program's world is what its one thread does alone.
-use Rattle.std.proofs.Common.{◌≡◌, ℕ, ◌*◌, ◌/◌, ◌%◌, List, [], ◌∷◌, length, map, replicate, Option, None, Some, sym, ap, subst, ◌∙◌, arith}
+use Rattle.std.proofs.Common.{◌≡◌, inl, inr, ℕ, zero, suc, ◌+◌, ◌*◌, ◌/◌, ◌%◌, ◌<◌, ◌==◌, List, [], ◌∷◌, length, map, replicate, Option, None, Some, refl, sym, ap, subst, ◌∙◌, arith}
 use Rattle.std.specs.Prelude.{slice_index_or}
 use Rattle.std.proofs.lemmas.List.{length-map}
 use Rattle.itm_types.specs.declared.limits.TheConstants.{MAX_OPEN_BLOCKS}
@@ -8,14 +8,14 @@ use Rattle.norec_world.specs.declared.attempt.End.{End}
 use Rattle.norec_world.specs.declared.attempt.End.TheVariants.{Finished, GaveUp, NoMemory}
 use Rattle.norec_world.specs.declared.attempt.Outcome.{Outcome}
 use Rattle.norec_world.specs.declared.attempt.Outcome.TheVariants as outcomes
-use Rattle.norec_world.specs.Solo.{Solo, solo}
+use Rattle.norec_world.specs.Solo.{Solo, one_if, solo}
 use Rattle.norec_world.specs.SoFar.{IsSoFar}
 use Rattle.norec_world.specs.Commits.{CommitsInOrder}
 use Rattle.norec_world.specs.Opaque.{AreOpaque}
 use Rattle.norec_world.specs.World.{World, ShowsAlone, DoneBy, attempts_of, ending_at, memory_of}
 use Rattle.script_asm.specs.declared.instruction.Instruction.{Instruction}
 use Rattle.script_asm.specs.Listing.{Listing, opening_of, threads_of}
-use Rattle.itmrun.specs.Threads.{Thread, opening, thread_rules}
+use Rattle.script_vm.specs.Threads.{Thread, opening, thread_rules}
 use Rattle.itmrun.specs.Scheduled.{Leaves, schedule_of, players_of}
 use Rattle.itmrun.specs.Pages.{first_thread, solo_of, page, IsOf, IsWorldOf, history_of}
 use Rattle.itmrun.proofs.ScheduleItems.{items_keep}
@@ -24,14 +24,19 @@ first_is : (threads : List (List Instruction)) (x : Thread) → map opening thre
 first_is [] x e = absurd cc
 first_is (t ∷ threads) x e = cc
 
-doubled : (n : ℕ) → n % 2 ≡ 0 → n ≡ 2 * (n / 2)
-doubled n e = omega (arith, e)
+parity : (k : ℕ) → k < 2 → one_if (k == 1) ≡ k
+parity zero l = refl
+parity (suc zero) l = refl
+parity (suc (suc k)) l = absurd (omega arith)
+
+doubled : (n : ℕ) → n ≡ 2 * (n / 2) + one_if (n % 2 == 1)
+doubled n = omega (arith, parity (n % 2) (omega arith))
 
 -- the world began with the program's memory, limits and threads
 record BeganAs (p : Listing) (w : World Thread) : Type 0 where
   pub players : w.opening ≡ players_of p
   pub base : w.base ≡ opening_of p
-  pub arena : w.arena ≡ 0
+  pub arena : w.arena ≡ p.arena
   pub limit : w.max_commits ≡ p.limits.max_commits
 
 began_as : (p : Listing) (w : World Thread) → Leaves p w → BeganAs p w
@@ -52,31 +57,32 @@ module _ (p : Listing) (w : World Thread) (began : BeganAs p w) (player : Thread
 
   so_far : (commits : ℕ) (memory : List ℕ) (outcome : Outcome) (rows : List Attempt)
       → IsSoFar thread_rules w.max_commits 0 player w.base (replicate w.arena 0) commits memory outcome rows
-      → IsSoFar thread_rules p.limits.max_commits 0 (first_thread p) (opening_of p) [] commits memory outcome rows
+      → IsSoFar thread_rules p.limits.max_commits 0 (first_thread p) (opening_of p) (replicate p.arena 0) commits memory outcome rows
   so_far commits memory outcome rows s =
       subst (λ (n : ℕ). IsSoFar thread_rules p.limits.max_commits 0 (first_thread p) (opening_of p) (replicate n 0) commits memory outcome rows) began.arena
       (subst (λ (base : List ℕ). IsSoFar thread_rules p.limits.max_commits 0 (first_thread p) base (replicate w.arena 0) commits memory outcome rows) began.base
       (subst (λ (t : Thread). IsSoFar thread_rules p.limits.max_commits 0 t w.base (replicate w.arena 0) commits memory outcome rows) player_is
       (subst (λ (n : ℕ). IsSoFar thread_rules n 0 player w.base (replicate w.arena 0) commits memory outcome rows) began.limit s)))
 
-  shows : (end : End) → solo_of p ≡ record { attempts = attempts_of w; memory = memory_of w; commits = w.cells.clock / 2; ending = end } → w.cells.clock % 2 ≡ 0
+  shows : (end : End) → solo_of p ≡ record { attempts = attempts_of w; memory = memory_of w; commits = w.cells.clock / 2; held = w.cells.clock % 2 == 1; ending = end }
       → ((solo_of p).ending ≡ end) × (history_of w ≡ page p)
   unfolding page
-  shows end all even = (
+  shows end all = (
     ap (λ (s : Solo). s.ending) all,
     (λ i. record {
       memory = began.base i;
       attempts = (ap (λ (s : Solo). s.attempts) (sym all)) i;
-      clock = (doubled w.cells.clock even ∙ ap (λ (s : Solo). 2 * s.commits) (sym all)) i;
+      clock = (doubled w.cells.clock ∙ ap (λ (s : Solo). 2 * s.commits + one_if s.held) (sym all)) i;
       bytes = (ap (λ (s : Solo). s.memory) (sym all)) i;
     }),
   )
 
   of_ending : (ending : Option End) → DoneBy thread_rules w player ending → IsOf p ending (history_of w)
   of_ending None (memory, part, told) = (began.base, memory, so_far (w.cells.clock / 2) memory outcomes.Unfinished (attempts_of w) part, told)
-  of_ending (Some Finished) all = shows Finished (sym alone_is ∙ all.all) all.even
-  of_ending (Some GaveUp) all = shows GaveUp (sym alone_is ∙ all.all) all.even
-  of_ending (Some NoMemory) part = (began.base, part.0, so_far (w.cells.clock / 2) (memory_of w) outcomes.NoMemory (attempts_of w) part.1)
+  of_ending (Some Finished) all = shows Finished (sym alone_is ∙ all)
+  of_ending (Some GaveUp) all = shows GaveUp (sym alone_is ∙ all)
+  of_ending (Some NoMemory) (inl part) = (began.base, inl (part.0, so_far (w.cells.clock / 2) (memory_of w) outcomes.NoMemory (attempts_of w) part.1))
+  of_ending (Some NoMemory) (inr part) = (began.base, inr (part.0, (part.1.0, so_far (w.cells.clock / 2) part.1.0 outcomes.Unfinished (attempts_of w) part.1.1)))
 
 pub world_of_run : (p : Listing) (w : World Thread) → Leaves p w → CommitsInOrder w → AreOpaque thread_rules w → ShowsAlone thread_rules w → IsWorldOf p w
 world_of_run p w leaves commits opaque shown = record {

@@ -11,7 +11,7 @@ use Rattle.norec_world.specs.WorldEvents.{Goes, Leads, Takes}
 use Rattle.script_asm.specs.declared.schedule.Item.{Item}
 use Rattle.script_asm.specs.declared.schedule.Item.TheVariants.{Take, Out}
 use Rattle.script_asm.specs.declared.instruction.Instruction.{Instruction}
-use Rattle.itmrun.specs.Threads.{Thread, opening, depth_of, thread_rules}
+use Rattle.script_vm.specs.Threads.{Thread, opening, depth_of, thread_rules}
 use Rattle.itmrun.specs.Scheduled.{ItemLeads, ItemsLead, each_out, endings_of}
 
 abbrev IsEvent : ℕ → World Thread → Result (Unit {0}) WorldFault → World Thread → Type 0

@@ -8,10 +8,13 @@ use Rattle.itm_types.specs.declared.limits.TheConstants.{MAX_COMMITS}
 use Rattle.itm_types.specs.declared.access.WriteHint.TheVariants.{W}
 use Rattle.itm_types.specs.declared.access.Width.TheVariants.{U8}
 use Rattle.norec_world.specs.declared.attempt.End.TheVariants.{GaveUp}
+use Rattle.script_fields.specs.declared.register.Register.TheVariants.{R0, R1, R2}
+use Rattle.script_fields.specs.declared.place.Place.TheVariants.{Number}
 use Rattle.script_asm.specs.declared.instruction.Instruction.{Instruction}
+use Rattle.script_asm.specs.declared.instruction.Operation.TheVariants.{Add}
 use Rattle.script_asm.specs.declared.instruction.Instruction.TheVariants as code
 use Rattle.script_asm.specs.Listing.{Listing, bytes_of, codes_of}
-use Rattle.itmrun.specs.Threads.{datum}
+use Rattle.script_vm.specs.Registers.{datum}
 use Rattle.itmrun.specs.Histories.{history_text, first_lines, attempt_lines, head_line, try_text, props_end, arena_line, call_line, body_text, reply_text, last_line}
 use Rattle.itmrun.specs.Pages.{solo_of, page}
 
@@ -22,6 +25,7 @@ line t = t ++ 10 ∷ []
 abbrev pub listing : ℕ → ℕ → List Instruction → Listing
 listing memory threads instructions = record {
   memory = record { size = memory; inits = [] };
+  arena = 0;
   limits = record { patience = 8; retries = 100; max_commits = MAX_COMMITS };
   schedule = [];
   parts = record { count = threads; code = instructions } ∷ [];
@@ -31,7 +35,7 @@ abbrev one_thread : ℕ → List Instruction → Listing
 one_thread memory instructions = listing memory 1 instructions
 
 abbrev pub counter_code : List Instruction
-counter_code = code.Set 1 1 ∷ code.Begin (record { no_abort = false }) 0 ∷ code.Read R U8 2 0 ∷ code.Add 2 2 1 ∷ code.Write W U8 0 2 ∷ code.Commit ∷ []
+counter_code = code.Set R1 1 ∷ code.Begin (record { no_abort = false; no_irrevocable = false; goes_irrevocable = false }) R0 ∷ code.Read R U8 R2 (Number 0) ∷ code.Compute Add R2 R2 R1 ∷ code.Write W U8 (Number 0) R2 ∷ code.Commit ∷ []
 
 abbrev pub counter : Listing
 counter = one_thread 8 counter_code
@@ -50,7 +54,7 @@ unfolding page solo_of bytes_of codes_of datum history_text first_lines attempt_
 counter_page = rw (decimal_digit 0 (omega arith), decimal_digit 1 (omega arith), decimal_digit 2 (omega arith)) refl
 
 abbrev pub empty_block : Listing
-empty_block = one_thread 8 (code.Begin (record { no_abort = false }) 0 ∷ code.Commit ∷ [])
+empty_block = one_thread 8 (code.Begin (record { no_abort = false; no_irrevocable = false; goes_irrevocable = false }) R0 ∷ code.Commit ∷ [])
 
 empty_block_page : history_text (page empty_block) ≡
     line (codes "itm-history 1")
@@ -65,7 +69,7 @@ empty_block_page = rw (decimal_digit 0 (omega arith), decimal_digit 1 (omega ari
 
 -- a read beyond the memory is refused, and its register stays
 abbrev pub beyond : Listing
-beyond = one_thread 8 (code.Set 1 5 ∷ code.Begin (record { no_abort = false }) 0 ∷ code.Read R U8 1 8 ∷ code.Write W U8 0 1 ∷ code.Commit ∷ [])
+beyond = one_thread 8 (code.Set R1 5 ∷ code.Begin (record { no_abort = false; no_irrevocable = false; goes_irrevocable = false }) R0 ∷ code.Read R U8 R1 (Number 8) ∷ code.Write W U8 (Number 0) R1 ∷ code.Commit ∷ [])
 
 beyond_page : history_text (page beyond) ≡
     line (codes "itm-history 1")
@@ -82,7 +86,7 @@ beyond_page = rw (decimal_digit 0 (omega arith), decimal_digit 1 (omega arith), 
 
 -- bytes that lie over one another at the start, read and written over the end of a word
 abbrev pub laid_in : Listing
-laid_in = record (one_thread 16 (code.Begin (record { no_abort = false }) 0 ∷ code.Read R U8 1 4 ∷ code.Write W U8 8 1 ∷ code.Commit ∷ [])) {
+laid_in = record (one_thread 16 (code.Begin (record { no_abort = false; no_irrevocable = false; goes_irrevocable = false }) R0 ∷ code.Read R U8 R1 (Number 4) ∷ code.Write W U8 (Number 8) R1 ∷ code.Commit ∷ [])) {
   memory = record { size = 16; inits = record { at = 6; bytes = 161 ∷ 178 ∷ 195 ∷ [] } ∷ record { at = 8; bytes = 0 ∷ [] } ∷ [] };
 }
 
@@ -102,10 +106,10 @@ laid_in_page = rw (decimal_digit 0 (omega arith), decimal_digit 1 (omega arith),
 -- blocks where one writer may commit: one that writes, one that reads what it wrote, and one that is full, after which none begins
 abbrev pub one_commit : Listing
 one_commit = record (one_thread 8 (
-    code.Set 1 1 ∷ code.Begin (record { no_abort = false }) 0 ∷ code.Write W U8 0 1 ∷ code.Commit
-    ∷ code.Begin (record { no_abort = false }) 0 ∷ code.Read R U8 2 0 ∷ code.Commit
-    ∷ code.Begin (record { no_abort = false }) 0 ∷ code.Write W U8 0 2 ∷ code.Commit
-    ∷ code.Begin (record { no_abort = false }) 0 ∷ code.Commit ∷ [])) { limits = record { patience = 8; retries = 100; max_commits = 1 } }
+    code.Set R1 1 ∷ code.Begin (record { no_abort = false; no_irrevocable = false; goes_irrevocable = false }) R0 ∷ code.Write W U8 (Number 0) R1 ∷ code.Commit
+    ∷ code.Begin (record { no_abort = false; no_irrevocable = false; goes_irrevocable = false }) R0 ∷ code.Read R U8 R2 (Number 0) ∷ code.Commit
+    ∷ code.Begin (record { no_abort = false; no_irrevocable = false; goes_irrevocable = false }) R0 ∷ code.Write W U8 (Number 0) R2 ∷ code.Commit
+    ∷ code.Begin (record { no_abort = false; no_irrevocable = false; goes_irrevocable = false }) R0 ∷ code.Commit ∷ [])) { limits = record { patience = 8; retries = 100; max_commits = 1 } }
 
 one_commit_page : history_text (page one_commit) ≡
     line (codes "itm-history 1")

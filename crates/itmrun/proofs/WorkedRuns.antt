@@ -6,7 +6,7 @@ use Rattle.std.proofs.lemmas.Fmt.{decimal_digit}
 use Rattle.norec_world.specs.declared.attempt.End.TheVariants.{Finished, GaveUp, NoMemory}
 use Rattle.script_asm.specs.declared.schedule.Item.TheVariants.{Take, Out}
 use Rattle.script_asm.specs.Listing.{Listing, codes_of}
-use Rattle.itmrun.specs.Threads.{opening}
+use Rattle.script_vm.specs.Threads.{opening}
 use Rattle.itmrun.specs.Scheduled.{players_of, schedule_of}
 use Rattle.itmrun.specs.Answers.{fell_short, thread_line, ending_line, ending_lines}
 use Rattle.itmrun.proofs.WorkedPages.{line, counter_code, listing}

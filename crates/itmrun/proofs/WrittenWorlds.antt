@@ -3,7 +3,7 @@ use Rattle.std.proofs.Common.{◌≡◌, ℕ, Bool, true, false, List, length, O
 use Rattle.norec_world.specs.declared.attempt.End.{End}
 use Rattle.norec_world.specs.World.{World}
 use Rattle.script_asm.specs.Listing.{Listing, threads_of}
-use Rattle.itmrun.specs.Threads.{Thread}
+use Rattle.script_vm.specs.Threads.{Thread}
 use Rattle.itmrun.specs.Spelling.{Grows}
 use Rattle.itmrun.specs.Histories.{history_text}
 use Rattle.itmrun.specs.Scheduled.{endings_of}

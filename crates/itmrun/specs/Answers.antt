@@ -5,16 +5,27 @@ use Rattle.std.specs.Io.KnownBytes.{Appends, Keeps}
 use Rattle.norec_world.specs.declared.attempt.End.{End}
 use Rattle.norec_world.specs.declared.attempt.End.TheVariants.{Finished, GaveUp, NoMemory}
 use Rattle.norec_world.specs.World.{World}
-use Rattle.script_asm.specs.declared.fault.AsmFault.{AsmFault}
-use Rattle.script_asm.specs.Faults.{kind_text}
+use Rattle.script_fields.specs.declared.fault.AsmFault.{AsmFault}
+use Rattle.script_fields.specs.Faults.{kind_text}
 use Rattle.script_asm.specs.Listing.{Listing, threads_of}
 use Rattle.itmrun.specs.declared.finish.Finish.{Finish}
 use Rattle.itmrun.specs.declared.finish.Finish.TheVariants as ends
-use Rattle.itmrun.specs.Threads.{Thread}
+use Rattle.script_vm.specs.Threads.{Thread}
 use Rattle.itmrun.specs.Spelling.{IsCut}
 use Rattle.itmrun.specs.Histories.{history_text}
 use Rattle.itmrun.specs.Scheduled.{endings_of}
 use Rattle.itmrun.specs.Pages.{IsWorldOf, history_of}
+
+-- a program that was read, or why there is none
+abbrev pub Reads : Result Listing Finish → Result Listing AsmFault → Type 0
+Reads (Ok p) read = read ≡ Ok p
+Reads (Err (ends.Refused f)) read = read ≡ Err f
+Reads (Err ends.NoMemory) read = Unit {0}
+Reads (Err ends.Reading) read = Unit {0}
+Reads (Err (ends.Ran endings)) read = ⊥
+Reads (Err ends.Writing) read = ⊥
+
+-- ## A script that is run
 
 -- the text of the history of a run after which the threads stand so is written
 abbrev pub Told : Result Listing AsmFault → List (Option End) → Option (List ℕ) → Option (List ℕ) → Type 0

@@ -1,5 +1,5 @@
 -- The text of a history.
-use Rattle.std.specs.Prelude.{ℕ, Bool, List, ◌++◌, length, flat_map, decimal, codes, if◌then◌else◌, ◌==◌, ◌%◌}
+use Rattle.std.specs.Prelude.{ℕ, Bool, true, false, List, ◌++◌, length, flat_map, decimal, codes, if◌then◌else◌, ◌==◌, ◌%◌}
 use Rattle.hex.specs.Hex.{encode_lower}
 use Rattle.itm_types.specs.Access.{size_of}
 use Rattle.itm_types.specs.Names.{name_of}
@@ -37,8 +37,19 @@ outcome_name outcomes.Full = codes "full"
 outcome_name outcomes.NoMemory = codes "nomemory"
 outcome_name outcomes.Unfinished = codes "unfinished"
 
+abbrev pub props_named : Bool → Bool → Bool → List ℕ
+props_named false false false = codes "-"
+props_named false false true = codes "pr_doesGoIrrevocable"
+props_named false true false = codes "pr_hasNoIrrevocable"
+props_named false true true = codes "pr_hasNoIrrevocable+pr_doesGoIrrevocable"
+props_named true false false = codes "pr_hasNoAbort"
+props_named true false true = codes "pr_hasNoAbort+pr_doesGoIrrevocable"
+props_named true true false = codes "pr_hasNoAbort+pr_hasNoIrrevocable"
+props_named true true true = codes "pr_hasNoAbort+pr_hasNoIrrevocable+pr_doesGoIrrevocable"
+
+-- in this order
 abbrev pub props_text : Props → List ℕ
-props_text props = if props.no_abort then codes "pr_hasNoAbort" else codes "-"
+props_text props = props_named props.no_abort props.no_irrevocable props.goes_irrevocable
 
 -- which blocks an abort cancels
 abbrev pub abort_text : Bool → List ℕ
@@ -78,6 +89,7 @@ unfoldable pub body_text : Call → List ℕ
 body_text (calls.Begin props room) = codes "_ITM_beginTransaction " ++ props_text props
 body_text calls.Commit = codes "_ITM_commitTransaction"
 body_text (calls.Abort outer) = codes "_ITM_abortTransaction " ++ abort_text outer
+body_text (calls.Mode room) = codes "_ITM_changeTransactionMode modeSerialIrrevocable"
 body_text calls.InTransaction = codes "_ITM_inTransaction"
 body_text (calls.Read hint width at) = name_of (entry.Read hint width) ++ codes " " ++ decimal at
 body_text (calls.Write hint at value) = name_of (entry.Write hint value.width) ++ codes " " ++ decimal at ++ codes " " ++ encode_lower value.bytes.items

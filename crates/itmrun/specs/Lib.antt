@@ -1,6 +1,3 @@
-pub mod Registers
-pub mod Threads
-pub mod ThreadLaws
 pub mod Spelling
 pub mod Histories
 pub mod Input

@@ -1,16 +1,16 @@
 -- What is told of a run, and the page of a program: what its first thread does alone on the memory that the program begins with.
-use Rattle.std.specs.Prelude.{◌≡◌, ℕ, ◌*◌, ◌/◌, ◌%◌, List, [], length, slice_index_or, Option, None, Some}
+use Rattle.std.specs.Prelude.{◌≡◌, ◌⊎◌, ℕ, ◌+◌, ◌*◌, ◌/◌, ◌%◌, List, [], length, replicate, slice_index_or, Option, None, Some}
 use Rattle.itm_types.specs.declared.limits.TheConstants.{MAX_OPEN_BLOCKS}
 use Rattle.norec_world.specs.declared.attempt.End.{End}
 use Rattle.norec_world.specs.declared.attempt.End.TheVariants.{Finished, GaveUp, NoMemory}
 use Rattle.norec_world.specs.declared.attempt.Outcome.TheVariants as outcomes
-use Rattle.norec_world.specs.Solo.{Solo, solo}
+use Rattle.norec_world.specs.Solo.{Solo, one_if, solo}
 use Rattle.norec_world.specs.SoFar.{IsSoFar}
 use Rattle.norec_world.specs.Commits.{CommitsInOrder}
 use Rattle.norec_world.specs.Opaque.{AreOpaque}
 use Rattle.norec_world.specs.World.{World, attempts_of, ending_at, memory_of}
 use Rattle.script_asm.specs.Listing.{Listing, opening_of, threads_of}
-use Rattle.itmrun.specs.Threads.{Thread, opening, thread_rules}
+use Rattle.script_vm.specs.Threads.{Thread, opening, thread_rules}
 use Rattle.itmrun.specs.Histories.{History}
 use Rattle.itmrun.specs.Scheduled.{Leaves}
 
@@ -19,20 +19,21 @@ first_thread p = opening (slice_index_or (threads_of p) 0 [])
 
 -- all that the first thread does alone
 unfoldable pub solo_of : Listing → Solo
-solo_of p = solo thread_rules MAX_OPEN_BLOCKS p.limits.max_commits 0 (first_thread p) (opening_of p) []
+solo_of p = solo thread_rules MAX_OPEN_BLOCKS p.limits.max_commits 0 (first_thread p) (opening_of p) (replicate p.arena 0)
 
--- its history
+-- its history: the clock is odd where its last transaction is irrevocable and has not ended
 unfoldable pub page : Listing → History
-page p = record { memory = opening_of p; attempts = (solo_of p).attempts; clock = 2 * (solo_of p).commits; bytes = (solo_of p).memory }
+page p = record { memory = opening_of p; attempts = (solo_of p).attempts; clock = 2 * (solo_of p).commits + one_if (solo_of p).held; bytes = (solo_of p).memory }
 
--- The history of a run after which the one thread stands so: the page, where it ran to its end; a beginning of what it does, with what the commits so far left, where it found no memory or has not ended.
+-- The history of a run after which the one thread stands so: the page, where it ran to its end; a beginning of what it does, with what the commits so far left, where it found no memory or has not ended; of an irrevocable transaction that found none, with what it stored over that.
 abbrev pub IsOf : Listing → Option End → History → Type 0
 IsOf p (Some Finished) h = ((solo_of p).ending ≡ Finished) × (h ≡ page p)
 IsOf p (Some GaveUp) h = ((solo_of p).ending ≡ GaveUp) × (h ≡ page p)
-IsOf p (Some NoMemory) h = (h.memory ≡ opening_of p) × (h.clock % 2 ≡ 0)
-    × IsSoFar thread_rules p.limits.max_commits 0 (first_thread p) (opening_of p) [] (h.clock / 2) h.bytes outcomes.NoMemory h.attempts
+IsOf p (Some NoMemory) h = (h.memory ≡ opening_of p)
+    × (((h.clock % 2 ≡ 0) × IsSoFar thread_rules p.limits.max_commits 0 (first_thread p) (opening_of p) (replicate p.arena 0) (h.clock / 2) h.bytes outcomes.NoMemory h.attempts)
+    ⊎ ((h.clock % 2 ≡ 1) × ((memory : List ℕ) × IsSoFar thread_rules p.limits.max_commits 0 (first_thread p) (opening_of p) (replicate p.arena 0) (h.clock / 2) memory outcomes.Unfinished h.attempts)))
 IsOf p None h = (h.memory ≡ opening_of p) × (memory : List ℕ)
-    × IsSoFar thread_rules p.limits.max_commits 0 (first_thread p) (opening_of p) [] (h.clock / 2) memory outcomes.Unfinished h.attempts
+    × IsSoFar thread_rules p.limits.max_commits 0 (first_thread p) (opening_of p) (replicate p.arena 0) (h.clock / 2) memory outcomes.Unfinished h.attempts
     × (h.clock % 2 ≡ 0 → h.bytes ≡ memory)
 
 -- ## The run of a program

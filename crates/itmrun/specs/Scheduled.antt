@@ -13,7 +13,7 @@ use Rattle.norec_world.specs.WorldEvents.{Leads, Takes}
 use Rattle.script_asm.specs.declared.schedule.Item.{Item}
 use Rattle.script_asm.specs.declared.schedule.Item.TheVariants.{Take, Out}
 use Rattle.script_asm.specs.Listing.{Listing, opening_of, threads_of}
-use Rattle.itmrun.specs.Threads.{Thread, opening, thread_rules}
+use Rattle.script_vm.specs.Threads.{Thread, opening, thread_rules}
 
 -- the players of its threads, by number
 abbrev pub players_of : Listing → List Thread
@@ -24,7 +24,7 @@ pub record Begins (p : Listing) (w : World Thread) : Type 0 where
   pub players : w.opening ≡ players_of p
   pub base : w.base ≡ opening_of p
   pub memory : memory_of w ≡ opening_of p
-  pub arena : w.arena ≡ 0
+  pub arena : w.arena ≡ p.arena
   pub patience : w.patience ≡ p.limits.patience
   pub limit : w.max_commits ≡ p.limits.max_commits
   pub retries : w.retries ≡ p.limits.retries

@@ -5,9 +5,9 @@ mod command;
 mod finish;
 mod history;
 mod input;
+mod programs;
 mod running;
 mod sched;
-mod script;
 
 use std::process::ExitCode;
 

@@ -8,10 +8,10 @@ ghost use Rattle.script_asm.specs.Listing.{opening_of, thread_of};
 ghost use Rattle.itmrun.specs.Scheduled.{Begins, ItemLeads, ItemsLead, Leaves, each_out, endings_of, players_of};
 
 use crate::finish::Endings;
-use crate::script::Script;
 use itm_types::MAX_ACTORS;
 use norec_world::{Bytes, Setup, World, WorldFault};
 use script_asm::{Item, Program};
+use script_vm::Script;
 use std::alloc::{AllocError, Global};
 
 /// The memory that a program begins with.
@@ -25,7 +25,7 @@ fn opening(alloc: Global, program: &Program) -> Result<Vec<u8>, AllocError>
 }
 
 /// The players of a program's threads, by number.
-fn players(alloc: Global, program: &Program) -> Result<Vec<Script>, AllocError>
+fn players<'p>(alloc: Global, program: &'p Program) -> Result<Vec<Script<'p>>, AllocError>
     ensures players { IfOk result (λ players. players.items ≡ players_of program.now) }
     ensures some { IfOk result (λ players. 1 ≤ vec_len players) }
     ensures few { IfOk result (λ players. vec_len players ≤ MAX_ACTORS) }
@@ -38,14 +38,14 @@ fn players(alloc: Global, program: &Program) -> Result<Vec<Script>, AllocError>
 }
 
 /// A program's world before the first event.
-fn begin(alloc: Global, program: &Program) -> Result<World<Script>, AllocError>
+fn begin<'p>(alloc: Global, program: &'p Program) -> Result<World<Script<'p>>, AllocError>
     ensures { IfOk result (λ w. Begins program.now w) }
 {
     let players = players(alloc, program)?;
     let memory = opening(alloc, program)?;
     let setup = Setup {
         bytes: Bytes::new(memory),
-        arena: 0,
+        arena: program.arena() as u32,
         limits: program.limits(),
     };
     World::new(alloc, setup, players)
@@ -53,7 +53,7 @@ fn begin(alloc: Global, program: &Program) -> Result<World<Script>, AllocError>
 
 /// So many events of the thread, or as many as it takes until it has ended.
 #[tactic(auto, using(crate::proofs::ScheduleItems::led_none))]
-fn take_events(alloc: Global, world: &mut World<Script>, thread: u8, count: u32)
+fn take_events(alloc: Global, world: &mut World<Script<'_>>, thread: u8, count: u32)
     ensures leads { ItemLeads (Take thread count) world.old world.new }
     ensures actors { length world.new.actors ≡ length world.old.actors }
 {
@@ -65,7 +65,7 @@ fn take_events(alloc: Global, world: &mut World<Script>, thread: u8, count: u32)
 }
 
 /// What one item of a schedule asks for.
-fn take_item(alloc: Global, world: &mut World<Script>, item: Item)
+fn take_item(alloc: Global, world: &mut World<Script<'_>>, item: Item)
     requires { thread_of item < length world.old.actors }
     ensures leads { ItemLeads item world.old world.new }
     ensures actors { length world.new.actors ≡ length world.old.actors }
@@ -80,7 +80,7 @@ fn take_item(alloc: Global, world: &mut World<Script>, item: Item)
 
 /// One item after the other.
 #[tactic(auto, using(crate::proofs::ScheduleItems::items_none, crate::proofs::ScheduleItems::items_more))]
-fn take_items(alloc: Global, world: &mut World<Script>, items: &[Item])
+fn take_items(alloc: Global, world: &mut World<Script<'_>>, items: &[Item])
     requires { All (λ i. thread_of i < length world.old.actors) items.now }
     ensures { ItemsLead items.now world.old world.new }
 {
@@ -91,7 +91,7 @@ fn take_items(alloc: Global, world: &mut World<Script>, items: &[Item])
 
 /// Each thread to its end, by number.
 #[tactic(auto, using(crate::proofs::ScheduleItems::each_none, crate::proofs::ScheduleItems::each_more))]
-fn run_out_each(alloc: Global, world: &mut World<Script>, threads: u8)
+fn run_out_each(alloc: Global, world: &mut World<Script<'_>>, threads: u8)
     requires { threads ≤ length world.old.actors }
     ensures { ItemsLead (each_out threads) world.old world.new }
 {
@@ -101,7 +101,7 @@ fn run_out_each(alloc: Global, world: &mut World<Script>, threads: u8)
 }
 
 /// The program's world once its schedule is run, or, where it has none, each of its threads to its end.
-pub fn run_program(alloc: Global, program: &Program) -> Result<World<Script>, AllocError>
+pub fn run_program<'p>(alloc: Global, program: &'p Program) -> Result<World<Script<'p>>, AllocError>
     ensures { IfOk result (λ w. Leaves program.now w) }
 {
     let mut world = begin(alloc, program)?;
@@ -115,7 +115,7 @@ pub fn run_program(alloc: Global, program: &Program) -> Result<World<Script>, Al
 }
 
 /// How the threads of a world stand, by number.
-pub fn endings(world: &World<Script>, threads: usize) -> Endings
+pub fn endings(world: &World<Script<'_>>, threads: usize) -> Endings
     requires { threads ≤ MAX_ACTORS }
     ensures { result.items ≡ endings_of threads world.now }
 {

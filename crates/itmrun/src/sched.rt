@@ -6,7 +6,7 @@ ghost use Rattle.script_asm.specs.Assembly.{program_of};
 ghost use Rattle.norec_world.specs.World.{ShowsAlone};
 ghost use Rattle.norec_world.specs.Commits.{CommitsInOrder};
 ghost use Rattle.norec_world.specs.Opaque.{AreOpaque};
-ghost use Rattle.itmrun.specs.Threads.{thread_rules};
+ghost use Rattle.script_vm.specs.Threads.{thread_rules};
 ghost use Rattle.itmrun.specs.Histories.{history_text};
 ghost use Rattle.itmrun.specs.Pages.{history_of};
 ghost use Rattle.itmrun.specs.Input.{IsFront};
@@ -14,16 +14,16 @@ ghost use Rattle.itmrun.specs.Answers.{Runs, Answers};
 
 use crate::finish::{Finish, status, write_error};
 use crate::history::{Stream, put_history};
-use crate::input::{InputFault, read_up_to};
+use crate::programs::read_program;
 use crate::running::{endings, run_program};
-use crate::script::Script;
 use norec_world::World;
-use script_asm::{AsmKind, MAX_TEXT, Program, assemble};
+use script_asm::{MAX_TEXT, Program};
+use script_vm::Script;
 use std::alloc::Global;
 use std::io::{Read, Write};
 
 /// Writes the history of a world; answers whether that failed.
-fn write_world<W: Write>(writer: &mut W, world: &World<Script>) -> bool
+fn write_world<W: Write>(writer: &mut W, world: &World<Script<'_>>) -> bool
     ensures text { Grows false (W.contents writer.old) result (W.contents writer.new)
         (history_text (history_of world.now)) }
     ensures commits { CommitsInOrder world.now }
@@ -58,28 +58,15 @@ fn play<W: Write>(alloc: Global, program: &Program, writer: &mut W) -> Finish
     }
 }
 
-fn answer<W: Write>(alloc: Global, text: &[u8], writer: &mut W) -> Finish
-    ensures { Runs result (program_of text.now) (W.contents writer.old) (W.contents writer.new) }
-{
-    match assemble(alloc, text) {
-        Ok(program) => play(alloc, &program, writer),
-        Err(fault) => match fault.kind {
-            AsmKind::Memory => Finish::NoMemory,
-            _ => Finish::Refused(fault),
-        },
-    }
-}
-
-/// Reads a script and answers it. Of its text no more is read than decides that it is too long.
+/// Reads a script, runs it and writes its history.
 fn run<R: Read, W: Write>(alloc: Global, reader: &mut R, writer: &mut W) -> Finish
     ensures answer { (text : List ℕ) × IfSome (R.remaining reader.old) (λ all. text ≡ all)
         × Runs result (program_of text) (W.contents writer.old) (W.contents writer.new) }
     ensures few { IsFront (R.remaining reader.old) (R.remaining reader.new) (MAX_TEXT + 1) }
 {
-    match read_up_to(alloc, reader, MAX_TEXT + 1) {
-        Ok(text) => answer(alloc, &text, writer),
-        Err(InputFault::Memory) => Finish::NoMemory,
-        Err(InputFault::Reading) => Finish::Reading,
+    match read_program(alloc, reader) {
+        Ok(program) => play(alloc, &program, writer),
+        Err(finish) => finish,
     }
 }
 

@@ -15,7 +15,7 @@ abbrev old : ℕ → ℕ → Old
 old place byte = record { place = place; bytes = byte ∷ [] }
 
 abbrev cancellable : Props
-cancellable = record { no_abort = false }
+cancellable = record { no_abort = false; no_irrevocable = false; goes_irrevocable = false }
 
 abbrev block : List Row → List Old → Frame
 block rows log = record { props = cancellable; rows = rows; log = log; commits = 0; undos = 0 }
@@ -54,7 +54,7 @@ both_restored = refl
 -- ## Blocks that are not cancelled
 
 abbrev not_cancelled : Frame
-not_cancelled = begun (record { no_abort = true }) [] no_actions
+not_cancelled = begun (record { no_abort = true; no_irrevocable = false; goes_irrevocable = false }) [] no_actions
 
 innermost_is_kept : is_kept (not_cancelled ∷ outer ∷ []) false ≡ true
 innermost_is_kept = refl

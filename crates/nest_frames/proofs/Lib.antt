@@ -1,3 +1,4 @@
 pub mod OpenBlocks
 pub mod NewRows
 pub mod Examples
+pub mod ForgottenMoments

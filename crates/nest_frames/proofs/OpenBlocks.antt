@@ -1,11 +1,12 @@
 -- The open blocks, as calls change what they stand for.
-use Rattle.std.proofs.Common.{◌≡◌, ℕ, suc, ◌+◌, ◌-◌, ◌<◌, ◌≤◌, List, [], ◌∷◌, ◌++◌, ◌||◌, length, map, take, drop, reverse, refl, ap, sym, subst, ◌∙◌, arith, length-append, Option, Some}
+use Rattle.std.proofs.Common.{◌≡◌, Bool, ℕ, suc, ◌+◌, ◌-◌, ◌<◌, ◌≤◌, List, [], ◌∷◌, ◌++◌, ◌||◌, length, map, take, drop, reverse, refl, ap, sym, subst, ◌∙◌, arith, length-append, Option, Some}
 use Rattle.std.specs.Prelude.{get_or, option_map, slice_get}
 use Rattle.std.specs.List.{list_any}
 use Rattle.std.specs.Option.{option_to_list}
 use Rattle.std.proofs.lemmas.List.{drop-append-le, take-append-le, take-append-drop, take-take, length-take-le, reverse-append, length-reverse, get_or-reverse}
 use Rattle.std.proofs.lemmas.List.Sorted.{list_any-IsPermutation, IsPermutation-reverse}
 use Rattle.std.proofs.lemmas.Option.{slice_get-map, slice_get-get_or}
+use Rattle.itm_types.specs.declared.call.Props.{Props}
 use Rattle.itm_types.specs.Kept.{also_kept, merged}
 use Rattle.undo_log.specs.Rollback.{Old, found, kept_of}
 use Rattle.user_actions.specs.Actions.{Actions}
@@ -59,9 +60,9 @@ pub IsSound-written : (w w' : Written) (os : List Old) (a : Actions) (ms : List 
 IsSound-written w w' os a [] s e h = absurd (omega (arith, h))
 IsSound-written w w' os a (m ∷ ms) s e h = record { under = subst (λ (p : Place). AreUnder p (length os) (reverse (m ∷ ms))) (sym e) s.under; empty = s.empty }
 
-pub nest_written : (w w' v : Written) (os : List Old) (size : ℕ) (a : Actions) (ms : List Moment) → IsSound w os a ms → KeepsMarks w w' → w' ≡ v
-    → ◌≡◌ {A = Nest} (record { writes = w'; size = size; blocks = frames_of w' os ms; actions = a }) (record { writes = v; size = size; blocks = frames_of w os ms; actions = a })
-nest_written w w' v os size a ms s k e = (λ i. record { writes = e i; size = size; blocks = frames_written w w' os a ms s k i; actions = a })
+pub nest_written : (w w' v : Written) (os : List Old) (size room : ℕ) (a : Actions) (ms : List Moment) → IsSound w os a ms → KeepsMarks w w' → w' ≡ v
+    → ◌≡◌ {A = Nest} (record { writes = w'; size = size; blocks = frames_of w' os ms; actions = a; room = room }) (record { writes = v; size = size; blocks = frames_of w os ms; actions = a; room = room })
+nest_written w w' v os size room a ms s k e = (λ i. record { writes = e i; size = size; blocks = frames_written w w' os a ms s k i; actions = a; room = room })
 
 -- these were logged
 logged_from : (w : Written) (os new : List Old) (top : Place) (ms : List Moment) → AreUnder top (length os) ms → frames_from w (os ++ new) ms ≡ logged (frames_from w os ms) new
@@ -184,10 +185,11 @@ props_at w os ms place m h =
     ap (λ t. slice_get t place) (props_from w os (reverse ms))
     ∙ (slice_get-map (λ (k : Moment). k.props) (reverse ms) place ∙ ap (option_map (λ (k : Moment). k.props)) there)
 
-any_from : (w : Written) (os : List Old) (ms : List Moment) → list_any (λ (m : Moment). m.props.no_abort) ms ≡ list_any (λ (f : Frame). f.props.no_abort) (frames_from w os ms)
-any_from w os [] = refl
-any_from w os (m ∷ ms) = ap (λ t. m.props.no_abort || t) (any_from w (take m.log os) ms)
+-- whether one of the blocks has a property, by their moments
+module _ (has : Props → Bool) where
+  any_from : (w : Written) (os : List Old) (ms : List Moment) → list_any (λ (m : Moment). has m.props) ms ≡ list_any (λ (f : Frame). has f.props) (frames_from w os ms)
+  any_from w os [] = refl
+  any_from w os (m ∷ ms) = ap (λ t. has m.props || t) (any_from w (take m.log os) ms)
 
--- whether one of the blocks is not to be cancelled
-pub any_of : (w : Written) (os : List Old) (ms : List Moment) → list_any (λ (m : Moment). m.props.no_abort) ms ≡ list_any (λ (f : Frame). f.props.no_abort) (frames_of w os ms)
-any_of w os ms = list_any-IsPermutation (λ (m : Moment). m.props.no_abort) ms (reverse ms) (IsPermutation-reverse ms) ∙ any_from w os (reverse ms)
+  pub any_of : (w : Written) (os : List Old) (ms : List Moment) → list_any (λ (m : Moment). has m.props) ms ≡ list_any (λ (f : Frame). has f.props) (frames_of w os ms)
+  any_of w os ms = list_any-IsPermutation (λ (m : Moment). has m.props) ms (reverse ms) (IsPermutation-reverse ms) ∙ any_from w os (reverse ms)

@@ -1,11 +1,16 @@
 -- A nest's own fields: of each open block the moments of the write set, the undo log and the actions at which it began.
 use Rattle.std.specs.Prelude.{◌≡◌, ℕ, ◌≤◌, List, [], ◌∷◌, length, take, drop, reverse}
+use Rattle.itm_types.specs.declared.call.Props.{Props}
 use Rattle.undo_log.specs.Rollback.{Old}
 use Rattle.user_actions.specs.Actions.{Actions}
 use Rattle.write_set.specs.declared.mark.Place.{Place}
 use Rattle.write_set.specs.Marks.{Written, IsBy, rows_at, start, unwritten}
 use Rattle.nest_frames.specs.declared.frames.Moment.{Moment}
 use Rattle.nest_frames.specs.Nest.{Frame}
+
+-- a moment at which there was nothing
+abbrev pub at_start : Props → Moment
+at_start props = record { props = props; rows = record { here = start; outer = start }; log = 0; actions = record { commits = 0; undos = 0 } }
 
 -- the blocks of these moments, the innermost first
 abbrev pub frames_from : Written → List Old → List Moment → List Frame

@@ -21,6 +21,7 @@ pub record Nest : Type 0 where
   pub size : ℕ  -- how many bytes the arena has
   pub blocks : List Frame  -- the innermost first
   pub actions : Actions  -- those that are registered, and those that have come to run
+  pub room : ℕ  -- how many more commit actions are registered with no memory
 
 -- a block that begins on these rows, with these actions registered
 abbrev pub begun : Props → List Row → Actions → Frame
@@ -45,6 +46,10 @@ keeps_innermost (b ∷ bs) = b.props.no_abort
 abbrev pub is_kept : List Frame → Bool → Bool
 is_kept blocks outer = if outer then list_any (λ (b : Frame). b.props.no_abort) blocks else keeps_innermost blocks
 
+-- whether one of these blocks has the property that the transaction does not become irrevocable within it
+abbrev pub stays_revocable : List Frame → Bool
+stays_revocable blocks = list_any (λ (b : Frame). b.props.no_irrevocable) blocks
+
 -- the blocks once these were logged in the innermost one
 abbrev pub logged : List Frame → List Old → List Frame
 logged [] olds = []
@@ -65,6 +70,10 @@ arena_back (b ∷ bs) arena = arena_back bs (put_back b.log arena)
 abbrev pub arena_restored : List Frame → List ℕ → List ℕ
 arena_restored [] arena = arena
 arena_restored (b ∷ bs) arena = arena_restored bs (restored (kept_of arena b.log) arena)
+
+-- a block of an irrevocable transaction, which goes back to nothing
+abbrev pub made_irrevocable : Frame → Frame
+made_irrevocable b = record { props = b.props; rows = []; log = []; commits = 0; undos = 0 }
 
 -- the actions once the innermost block has closed: with the outermost one the commit actions run
 abbrev pub actions_closed : List Frame → Actions → Actions

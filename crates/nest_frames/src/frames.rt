@@ -7,8 +7,9 @@ ghost use Rattle.word_pieces.specs.Masks.{merged_at};
 ghost use Rattle.write_set.specs.Rows.{lookup, laid, put, reserved, overlay, AreEmpty, AreRows};
 ghost use Rattle.write_set.specs.Marks.{unwritten, place_of, reserve, AreMarks, KeepsRoom, MayPut};
 ghost use Rattle.undo_log.specs.Rollback.{found, put_back, kept_of};
-ghost use Rattle.user_actions.specs.Actions.{no_actions, registered, total};
-ghost use Rattle.nest_frames.specs.Nest.{Frame, begun, log_of, rows_of, logged, closed, is_kept, arena_back, arena_restored, actions_closed, actions_cancelled, actions_back};
+ghost use Rattle.user_actions.specs.Actions.{no_actions, registered, room_after, total};
+ghost use Rattle.nest_frames.specs.Moments.{at_start};
+ghost use Rattle.nest_frames.specs.Nest.{Frame, begun, log_of, rows_of, logged, closed, is_kept, arena_back, arena_restored, stays_revocable, actions_closed, actions_cancelled, actions_back, made_irrevocable};
 
 use arrayvec::ArrayVec;
 use itm_types::{Action, ActionKind, MAX_OPEN_BLOCKS, Props, Ran};
@@ -25,6 +26,18 @@ pub(crate) struct Moment {
     pub(crate) rows: write_set::Mark,
     pub(crate) log: undo_log::Mark,
     pub(crate) actions: ActionMark,
+}
+
+impl Moment {
+    /// The begin of such a block at which there was nothing.
+    fn at_start(props: Props) -> Moment
+        ensures { result ≡ at_start props }
+    {
+        Moment {
+            props,
+            ..Moment::default()
+        }
+    }
 }
 
 /// What a transaction has written and logged, the actions that it has registered, and its open blocks.
@@ -48,16 +61,17 @@ impl Model for Frames {
       writes = f.writes;
       size = f.undo.size;
       blocks = frames_of f.writes f.undo.olds f.moments.items;
-      actions = f.actions;
+      actions = f.actions.actions;
+      room = f.actions.room;
     } };
 
-    ghost invariant = { λ f. IsSound f.writes f.undo.olds f.actions f.moments.items };
+    ghost invariant = { λ f. IsSound f.writes f.undo.olds f.actions.actions f.moments.items };
 }
 
 impl Frames {
     /// No block is open, over an arena of this size. Takes no memory.
     pub fn new(alloc: Global, size: usize) -> Frames
-        ensures { result ≡ record { writes = unwritten; size = size; blocks = []; actions = no_actions } }
+        ensures { result ≡ record { writes = unwritten; size = size; blocks = []; actions = no_actions; room = 0 } }
     {
         Frames {
             writes: WriteSet::new(alloc),
@@ -148,6 +162,16 @@ impl Frames {
         }
     }
 
+    /// Whether an open block has the property that the transaction does not become irrevocable within it. Takes no
+    /// memory.
+    pub fn stays_revocable(&self) -> bool
+        ensures { result ≡ stays_revocable self.now.blocks }
+    {
+        self.moments
+            .iter()
+            .any(|moment| moment.props.no_irrevocable)
+    }
+
     /// A block begins within those that are open. Takes no memory.
     pub fn enter(&mut self, props: Props)
         requires { length self.old.blocks < MAX_OPEN_BLOCKS }
@@ -155,6 +179,7 @@ impl Frames {
         ensures writes { self.new.writes ≡ record self.old.writes { inner = place_of self.old.writes } }
         ensures size { self.new.size ≡ self.old.size }
         ensures actions { self.new.actions ≡ self.old.actions }
+        ensures room { self.new.room ≡ self.old.room }
     {
         let rows = self.writes.mark();
         let log = self.undo.mark();
@@ -179,6 +204,7 @@ impl Frames {
             self.new.writes ≡ record self.old.writes { inner = self.new.writes.inner } }
         ensures outermost { length self.old.blocks ≡ 1 → self.new.writes ≡ unwritten }
         ensures actions { self.new.actions ≡ actions_closed self.old.blocks self.old.actions }
+        ensures room { self.new.room ≡ self.old.room }
 
         // What the one around it keeps of the arena wins.
         ensures handed { 1 < length self.old.blocks → (arena : List ℕ) →
@@ -208,6 +234,7 @@ impl Frames {
         ensures rows { self.new.writes.rows ≡ rows_of self.old.blocks }
         ensures saves { self.new.writes.saves ≡ take self.old.writes.inner.saves self.old.writes.saves }
         ensures actions { self.new.actions ≡ actions_cancelled self.old.blocks self.old.actions }
+        ensures room { self.new.room ≡ self.old.room }
         ensures arena_size { length arena.new ≡ length arena.old }
         ensures arena { arena.new ≡ put_back (log_of self.old.blocks) arena.old }
         ensures restored { arena.new ≡ restored (kept_of arena.old (log_of self.old.blocks)) arena.old }
@@ -228,6 +255,7 @@ impl Frames {
           size = self.old.size;
           blocks = [];
           actions = actions_back self.old.blocks self.old.actions;
+          room = self.old.room;
         } }
 
         // No action is registered any more.
@@ -320,11 +348,44 @@ impl Frames {
         self.writes.cut(len);
     }
 
-    /// Registers an action.
+    /// The transaction is irrevocable from now on: what is written stands in the memory, and no block goes back to
+    /// anything. The rows, what was logged and the undo actions are forgotten. Takes no memory.
+    pub fn make_irrevocable(&mut self)
+        ensures { self.new ≡ record {
+          writes = unwritten;
+          size = self.old.size;
+          blocks = map made_irrevocable self.old.blocks;
+          actions = record self.old.actions { undos = [] };
+          room = self.old.room;
+        } }
+    {
+        self.writes.clear();
+        self.undo.clear();
+        self.actions.forget_undos();
+        for moment in self.moments.as_mut_slice().iter_mut() {
+            *moment = Moment::at_start(moment.props);
+        }
+    }
+
+    /// Makes room for so many more commit actions, and no other room is kept.
+    pub fn reserve_actions(&mut self, more: usize) -> Result<(), AllocError>
+        ensures ok { OnOk result (self.new ≡ record self.old { room = more }) }
+        ensures err { OnErr result (self.new ≡ self.old) }
+        ensures none { more ≡ 0 → IsOk result }
+    {
+        self.actions.reserve(more)?;
+        Ok(())
+    }
+
+    /// Registers an action. A commit action for which there is room takes no memory.
     pub fn register(&mut self, kind: ActionKind, action: Action) -> Result<(), AllocError>
         requires { 0 < length self.old.blocks }
-        ensures ok { OnOk result (self.new ≡ record self.old { actions = registered kind action self.old.actions }) }
+        ensures ok { OnOk result (self.new ≡ record self.old {
+          actions = registered kind action self.old.actions;
+          room = room_after kind self.old.room;
+        }) }
         ensures err { OnErr result (self.new ≡ self.old) }
+        ensures has_room { kind ≡ ActionKind.Commit → 0 < self.old.room → IsOk result }
     {
         self.actions.register(kind, action)?;
         Ok(())

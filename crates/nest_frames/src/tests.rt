@@ -11,9 +11,17 @@ use word_pieces::merge;
 mod actions;
 mod plain;
 
-const BLOCK: Props = Props { no_abort: false };
+const BLOCK: Props = Props {
+    no_abort: false,
+    no_irrevocable: false,
+    goes_irrevocable: false,
+};
 
-const NOT_CANCELLED: Props = Props { no_abort: true };
+const NOT_CANCELLED: Props = Props {
+    no_abort: true,
+    no_irrevocable: false,
+    goes_irrevocable: false,
+};
 
 /// Writes the masked bytes of a value to a word.
 fn write(

@@ -1,5 +1,5 @@
 -- Over an answer, no action that has run is lost, and there are no more actions in all than before, but for one that is registered.
-use Rattle.std.proofs.Common.{◌≡◌, ℕ, ◌+◌, ◌≤◌, Bool, true, false, if◌then◌else◌, List, [], ◌∷◌, ◌++◌, length, map, take, drop, reverse, Option, None, Some, refl, sym, ap, subst, inl, inr, ◌∙◌, arith, append-nil, append_assoc, length-append}
+use Rattle.std.proofs.Common.{◌≡◌, ℕ, ◌+◌, ◌≤◌, Bool, true, false, if◌then◌else◌, List, [], ◌∷◌, ◌++◌, length, map, take, drop, reverse, Option, None, Some, IsSome, is_some, refl, sym, ap, subst, ◌⊎◌, inl, inr, ◌∙◌, arith, append-nil, append_assoc, length-append}
 use Rattle.std.proofs.lemmas.List.{length-map, length-reverse, take-append-drop}
 use Rattle.itm_types.specs.declared.call.Call.{Call}
 use Rattle.itm_types.specs.declared.call.Call.TheVariants.{Begin, Commit, Abort, Log, LogBytes, CommitAction, UndoAction}
@@ -8,15 +8,15 @@ use Rattle.itm_types.specs.declared.call.Ran.{Ran}
 use Rattle.itm_types.specs.declared.call.Reply.{Reply as Replied}
 use Rattle.itm_types.specs.declared.call.Reply.TheVariants.{Done, Code}
 use Rattle.itm_types.specs.Calls.{is_abort, is_begin}
-use Rattle.user_actions.specs.Actions.{Actions, as_commit, as_undo, committed, cut_back, total}
-use Rattle.nest_frames.specs.Nest.{Frame, actions_back, actions_cancelled, actions_closed, closed, logged}
+use Rattle.user_actions.specs.Actions.{Actions, as_commit, as_undo, committed, cut_back, registered, total}
+use Rattle.nest_frames.specs.Nest.{Frame, actions_back, actions_cancelled, actions_closed, closed, logged, made_irrevocable}
 use Rattle.std.proofs.lemmas.Bool.{cases_Bool}
 use Rattle.itm_types.specs.Access.{size_of}
-use Rattle.undo_log.specs.Rollback.{found}
+use Rattle.undo_log.specs.Rollback.{Old, found}
 use Rattle.norec_core.proofs.Blocks.{none_inside}
 use Rattle.norec_core.specs.declared.answer.Answer.{Answer}
 use Rattle.norec_core.specs.declared.answer.Answer.TheVariants.{Reply, Committed, Conflict, Busy, Full}
-use Rattle.norec_core.specs.Core.{Core, in_transaction, is_inside, is_outermost, rolled_back}
+use Rattle.norec_core.specs.Core.{Core, goes, in_transaction, is_inside, is_outermost, rolled_back}
 use Rattle.itm_model.specs.State.{State}
 use Rattle.itm_model.specs.Machine.{rolled_back as plainly_back, undone_from}
 use Rattle.norec_core.specs.declared.answer.Next.{Next}
@@ -24,7 +24,9 @@ use Rattle.norec_core.specs.declared.answer.Next.TheVariants.{Step as Asks, Answ
 use Rattle.norec_core.specs.declared.phase.Phase.TheVariants.{Idle}
 use Rattle.norec_core.specs.Stands.{block_over, blocks_over}
 use Rattle.norec_core.specs.Undoing.{after_undoing}
-use Rattle.norec_core.specs.Proceeds.{Ends, Proceeds, RepliesTo, actions_after, blocks_after}
+use Rattle.norec_core.specs.Proceeds.{ConflictsIn, Ends, Enters, Proceeds, Replies, RepliesHeld, RepliesTo, actions_after, blocks_after}
+use Rattle.norec_core.proofs.ReplyCases.{reply_cases}
+use Rattle.itm_types.specs.declared.call.ActionKind.TheVariants as kinds
 
 -- more of them have run, and there are at most so many more in all
 pub record RunsOn (more : ℕ) (old new : Actions) : Type 0 where
@@ -90,6 +92,14 @@ cancels : (c : Core) (outer : Bool) → RunsOn 0 c.actions (if outer then action
 cancels c true = all_run c.blocks c.actions
 cancels c false = cancel_runs c.blocks c.actions
 
+undo_on : (c : Core) (action : Action) (irrevocable : Bool) → RunsOn 1 c.actions (if irrevocable then c.actions else registered kinds.Undo action c.actions)
+undo_on c action true = still 1 c.actions
+undo_on c action false = record {
+  later = [];
+  ran = sym (append-nil c.actions.ran);
+  most = (let n = one_more c.actions.undos action in omega arith);
+}
+
 -- a reply within a transaction
 replied_on : (c : Core) (call : Call) (r : Replied) → in_transaction c ≡ true → RunsOn (registers call) c.actions (actions_after c call r)
 replied_on c (Begin props room) (Code n) o = begins c (in_transaction c) refl o
@@ -104,11 +114,7 @@ replied_on c (CommitAction action) Done o = record {
   most = (let n = one_more c.actions.commits action in omega arith);
 }
 replied_on c (CommitAction action) r o = still 1 c.actions
-replied_on c (UndoAction action) Done o = record {
-  later = [];
-  ran = sym (append-nil c.actions.ran);
-  most = (let n = one_more c.actions.undos action in omega arith);
-}
+replied_on c (UndoAction action) Done o = undo_on c action c.irrevocable
 replied_on c (UndoAction action) r o = still 1 c.actions
 replied_on c call r o = still (registers call) c.actions
 
@@ -118,11 +124,30 @@ more_room n k a b l f = record { later = f.later; ran = f.ran; most = (let x = f
 pub to_actions : (n : ℕ) (a b c : Actions) → b ≡ c → RunsOn n a c → RunsOn n a b
 to_actions n a b c e f = record { later = f.later; ran = ap (λ (x : Actions). x.ran) e ∙ f.ran; most = (let x = f.most in let y = ap total e in omega arith) }
 
+-- what is kept of undo actions in an irrevocable transaction
+no_undos : (n : ℕ) (a b : Actions) → RunsOn n a b → RunsOn n a (record b { undos = [] })
+no_undos n a b f = record { later = f.later; ran = f.ran; most = (let x = f.most in omega arith) }
+
+any_reply : (mid new : Core) (call : Call) (r : Replied) → in_transaction mid ≡ true → Replies mid call r new ⊎ Enters mid call r new ⊎ RepliesHeld mid call r new → RunsOn (registers call) mid.actions new.actions
+any_reply mid new call r o (inl g) = to_actions (registers call) mid.actions new.actions (actions_after mid call r) g.actions (replied_on mid call r o)
+any_reply mid new call r o (inr (inl g)) =
+    to_actions (registers call) mid.actions new.actions (record (actions_after mid call r) { undos = [] }) (ap (λ (c : Core). c.actions) g.stays)
+    (no_undos (registers call) mid.actions (actions_after mid call r) (replied_on mid call r o))
+any_reply mid new call r o (inr (inr g)) =
+    to_actions (registers call) mid.actions new.actions (actions_after mid call r) (ap (λ (c : Core). c.actions) g.stays) (replied_on mid call r o)
+
 by_reply : (mid new : Core) (call : Call) (r : Replied) (doing : Option Call) → doing ≡ Some call → in_transaction mid ≡ true → RepliesTo mid doing r new → RunsOn (registers call) mid.actions new.actions
 by_reply mid new call r None d o g = absurd (cc)
 by_reply mid new call r (Some other) d o g =
     let same : other ≡ call = cc in
-    subst (λ (x : Call). RunsOn (registers x) mid.actions new.actions) same (to_actions (registers other) mid.actions new.actions (actions_after mid other r) g.actions (replied_on mid other r o))
+    subst (λ (x : Call). RunsOn (registers x) mid.actions new.actions) same (any_reply mid new other r o (reply_cases mid other r new mid.holds mid.irrevocable g))
+
+conflict_on : (mid new : Core) (call : Call) (clock : ℕ) (word : Option ℕ) (inside : Bool) → ConflictsIn inside mid clock word new → RunsOn (registers call) mid.actions new.actions
+conflict_on mid new call clock word true g =
+    to_actions (registers call) mid.actions new.actions (actions_back mid.blocks mid.actions) (ap (λ (c : Core). c.actions) g.stays)
+    (more_room 0 (registers call) mid.actions (actions_back mid.blocks mid.actions) (omega arith) (all_run mid.blocks mid.actions))
+conflict_on mid new call clock word false g =
+    to_actions (registers call) mid.actions new.actions mid.actions (ap (λ (c : Core). c.actions) g.stays) (still (registers call) mid.actions)
 
 -- any answer to a call that came within a transaction
 pub answered_on : (mid new : Core) (call : Call) (a : Answer) → mid.doing ≡ Some call → in_transaction mid ≡ true → Ends mid a new → RunsOn (registers call) mid.actions new.actions
@@ -130,9 +155,7 @@ answered_on mid new call (Reply r) d o g = by_reply mid new call r mid.doing d o
 answered_on mid new call (Committed at wrote) d o g =
     to_actions (registers call) mid.actions new.actions (committed mid.actions) (ap (λ (c : Core). c.actions) g.stays)
     (more_room 0 (registers call) mid.actions (committed mid.actions) (omega arith) (commits_run mid.actions))
-answered_on mid new call (Conflict clock word) d o g =
-    to_actions (registers call) mid.actions new.actions (actions_back mid.blocks mid.actions) (ap (λ (c : Core). c.actions) g.stays)
-    (more_room 0 (registers call) mid.actions (actions_back mid.blocks mid.actions) (omega arith) (all_run mid.blocks mid.actions))
+answered_on mid new call (Conflict clock word) d o g = conflict_on mid new call clock word (in_transaction mid) g
 answered_on mid new call (Busy clock) d o g =
     to_actions (registers call) mid.actions new.actions mid.actions (ap (λ (c : Core). c.actions) g.stays) (still (registers call) mid.actions)
 answered_on mid new call (Full at) d o g =
@@ -150,6 +173,16 @@ inner_closes [] a i = refl
 inner_closes (b ∷ []) a i = absurd (cc)
 inner_closes (b ∷ p ∷ bs) a i = refl
 
+undo_same : (c : Core) (action : Action) (irrevocable : Bool) → (if irrevocable then c.actions else registered kinds.Undo action c.actions).ran ≡ c.actions.ran
+undo_same c action true = refl
+undo_same c action false = refl
+
+none_goes : is_some {T = ℕ} None ≡ true → ⊥
+none_goes h = (let both : false ≡ true = h in absurd (cc))
+
+no_commit : (c : Core) (call : Call) → call ≡ Commit → IsSome (goes c call) → ⊥
+no_commit c call e g = subst (λ (x : Call). IsSome (goes c x) → ⊥) (sym e) none_goes g
+
 -- no other reply than that to a cancel runs actions where the transaction stays open
 pub ran_same : (c : Core) (call : Call) (r : Replied) → is_abort call ≡ false → in_transaction c ≡ true → ((r ≡ Done) → call ≡ Commit → is_outermost c.blocks ≡ false) → (actions_after c call r).ran ≡ c.actions.ran
 ran_same c (Begin props room) (Code n) other o inner = ap (λ (b : Bool). (if b then c.actions else record c.actions { ran = [] }).ran) o
@@ -159,7 +192,7 @@ ran_same c Commit r other o inner = refl
 ran_same c (Abort outer) r other o inner = absurd (cc)
 ran_same c (CommitAction action) Done other o inner = refl
 ran_same c (CommitAction action) r other o inner = refl
-ran_same c (UndoAction action) Done other o inner = refl
+ran_same c (UndoAction action) Done other o inner = undo_same c action c.irrevocable
 ran_same c (UndoAction action) r other o inner = refl
 ran_same c call r other o inner = refl
 
@@ -171,13 +204,24 @@ closes (b ∷ p ∷ bs) i = refl
 closes_inner : (mid new : Core) (call : Call) (r : Replied) → new.blocks ≡ blocks_after mid call r → in_transaction new ≡ true → (r ≡ Done) → call ≡ Commit → is_outermost mid.blocks ≡ false
 closes_inner mid new call r blocks now done commit = closes mid.blocks (sym (ap is_inside (blocks ∙ (λ i. blocks_after mid (commit i) (done i)))) ∙ now)
 
+inside_all : (blocks : List Frame) → is_inside (map made_irrevocable blocks) ≡ is_inside blocks
+inside_all [] = refl
+inside_all (b ∷ bs) = refl
+
+same_by : (mid new : Core) (call : Call) (r : Replied) → in_transaction mid ≡ true → is_abort call ≡ false → Replies mid call r new ⊎ Enters mid call r new ⊎ RepliesHeld mid call r new → new.actions.ran ≡ mid.actions.ran
+same_by mid new call r o other (inl g) =
+    ap (λ (a : Actions). a.ran) g.actions ∙ ran_same mid call r other o (closes_inner mid new call r g.blocks (g.still other o))
+same_by mid new call r o other (inr (inl g)) =
+    ap (λ (c : Core). c.actions.ran) g.stays ∙ ran_same mid call r other o (λ done commit. absurd (no_commit mid call commit g.goes))
+same_by mid new call r o other (inr (inr g)) =
+    ap (λ (c : Core). c.actions.ran) g.stays ∙ ran_same mid call r other o (closes_inner mid new call r (ap (λ (c : Core). c.blocks) g.stays) (g.still o))
+
 pub reply_same : (mid new : Core) (call : Call) (r : Replied) (doing : Option Call) → doing ≡ Some call → in_transaction mid ≡ true → is_abort call ≡ false → RepliesTo mid doing r new
     → new.actions.ran ≡ mid.actions.ran
 reply_same mid new call r None d o other g = absurd (cc)
 reply_same mid new call r (Some it) d o other g =
     let same : it ≡ call = cc in
-    let other_it = ap is_abort same ∙ other in
-    ap (λ (a : Actions). a.ran) g.actions ∙ ran_same mid it r other_it o (closes_inner mid new it r g.blocks (g.still other_it o))
+    same_by mid new it r o (ap is_abort same ∙ other) (reply_cases mid it r new mid.holds mid.irrevocable g)
 
 -- ## Steps too
 
@@ -200,15 +244,19 @@ both_ways : (outer : Bool) (blocks : List Frame) → blocks ≡ [] → is_inside
 both_ways true blocks none = refl
 both_ways false blocks none = ap (λ (bs : List Frame). is_inside (drop 1 bs)) none
 
+none_logged : (irrevocable : Bool) (blocks : List Frame) (olds : List Old) → blocks ≡ [] → is_inside (if irrevocable then blocks else logged blocks olds) ≡ false
+none_logged true blocks olds none = ap is_inside none
+none_logged false blocks olds none = ap (λ (bs : List Frame). is_inside (logged bs olds)) none
+
 no_block : (mid : Core) (call : Call) (r : Replied) → mid.blocks ≡ [] → is_begin call ≡ false → is_inside (blocks_after mid call r) ≡ false
 no_block mid (Begin props room) r none other = absurd (cc)
 no_block mid Commit Done none other = ap (λ (bs : List Frame). is_inside (closed bs)) none
 no_block mid Commit r none other = ap is_inside none
 no_block mid (Abort outer) (Code n) none other = both_ways outer mid.blocks none
 no_block mid (Abort outer) r none other = ap is_inside none
-no_block mid (Log width at) Done none other = ap (λ (bs : List Frame). is_inside (logged bs (found mid.arena at (size_of width)))) none
+no_block mid (Log width at) Done none other = none_logged mid.irrevocable mid.blocks (found mid.arena at (size_of width)) none
 no_block mid (Log width at) r none other = ap is_inside none
-no_block mid (LogBytes at size) Done none other = ap (λ (bs : List Frame). is_inside (logged bs (found mid.arena at size))) none
+no_block mid (LogBytes at size) Done none other = none_logged mid.irrevocable mid.blocks (found mid.arena at size) none
 no_block mid (LogBytes at size) r none other = ap is_inside none
 no_block mid call r none other = ap is_inside none
 
@@ -226,18 +274,34 @@ begun_none mid call r shut commits undos inside =
       | inr other ↦ absurd (let both : false ≡ true = sym (no_block mid call r (none_inside mid.blocks shut) other) ∙ inside in cc)
     ]
 
+no_more : (a : Actions) → total a ≡ 0 → total (record a { undos = [] }) ≡ 0
+no_more a e = omega (arith, e)
+
+begins_by : (mid new : Core) (call : Call) (r : Replied) → in_transaction mid ≡ false → mid.actions.commits ≡ [] → mid.actions.undos ≡ []
+    → Replies mid call r new ⊎ Enters mid call r new ⊎ RepliesHeld mid call r new → in_transaction new ≡ true → total new.actions ≡ 0
+begins_by mid new call r shut commits undos (inl g) now = ap total g.actions ∙ begun_none mid call r shut commits undos (sym (ap is_inside g.blocks) ∙ now)
+begins_by mid new call r shut commits undos (inr (inl g)) now =
+    let inside = sym (inside_all (blocks_after mid call r)) ∙ (sym (ap (λ (c : Core). is_inside c.blocks) g.stays) ∙ now) in
+    ap (λ (c : Core). total c.actions) g.stays ∙ no_more (actions_after mid call r) (begun_none mid call r shut commits undos inside)
+begins_by mid new call r shut commits undos (inr (inr g)) now =
+    ap (λ (c : Core). total c.actions) g.stays ∙ begun_none mid call r shut commits undos (sym (ap (λ (c : Core). is_inside c.blocks) g.stays) ∙ now)
+
 begins_to : (mid new : Core) (r : Replied) (doing : Option Call) → in_transaction mid ≡ false → mid.actions.commits ≡ [] → mid.actions.undos ≡ [] → RepliesTo mid doing r new → in_transaction new ≡ true → total new.actions ≡ 0
 begins_to mid new r None shut commits undos g now = absurd g
-begins_to mid new r (Some call) shut commits undos g now = ap total g.actions ∙ begun_none mid call r shut commits undos (sym (ap is_inside g.blocks) ∙ now)
+begins_to mid new r (Some call) shut commits undos g now = begins_by mid new call r shut commits undos (reply_cases mid call r new mid.holds mid.irrevocable g) now
 
 ended_shut : (mid new : Core) → new.blocks ≡ [] → in_transaction new ≡ true → ⊥
 ended_shut mid new none now = (let both : false ≡ true = sym (ap is_inside none) ∙ now in cc)
+
+conflict_shuts : (mid new : Core) (clock : ℕ) (word : Option ℕ) (inside : Bool) → ConflictsIn inside mid clock word new → new.blocks ≡ []
+conflict_shuts mid new clock word true g = ap (λ (c : Core). c.blocks) g.stays
+conflict_shuts mid new clock word false g = ap (λ (c : Core). c.blocks) g.stays
 
 -- what answers a call and leaves a transaction open is a reply
 pub open_reply : (mid new : Core) (a : Answer) → Ends mid a new → in_transaction new ≡ true → (r : Replied) × (a ≡ Reply r)
 open_reply mid new (Reply r) g now = (r, refl)
 open_reply mid new (Committed at wrote) g now = absurd (ended_shut mid new (ap (λ (c : Core). c.blocks) g.stays) now)
-open_reply mid new (Conflict clock word) g now = absurd (ended_shut mid new (ap (λ (c : Core). c.blocks) g.stays) now)
+open_reply mid new (Conflict clock word) g now = absurd (ended_shut mid new (conflict_shuts mid new clock word (in_transaction mid) g) now)
 open_reply mid new (Busy clock) g now = absurd (ended_shut mid new (ap (λ (c : Core). c.blocks) g.stays) now)
 open_reply mid new (Full at) g now = absurd (ended_shut mid new (ap (λ (c : Core). c.blocks) g.stays) now)
 

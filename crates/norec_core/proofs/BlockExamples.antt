@@ -10,6 +10,7 @@ use Rattle.user_actions.specs.Actions.{no_actions}
 use Rattle.nest_frames.specs.Nest.{Frame, begun}
 use Rattle.norec_core.specs.declared.answer.Answer.TheVariants.{Committed}
 use Rattle.norec_core.specs.declared.answer.Undone.TheVariants as undoings
+use Rattle.norec_core.specs.declared.phase.Taking.TheVariants as takings
 use Rattle.norec_core.specs.declared.phase.Phase.TheVariants.{Exchange, Store, Free}
 use Rattle.norec_core.specs.Core.{Core, ended, rolled_back}
 use Rattle.norec_core.specs.Proceeds.{writes_after, arena_after, blocks_after}
@@ -70,8 +71,8 @@ log_inside = refl
 
 -- the outermost block's commit takes the clock and stores, whatever was logged
 outermost_commit : lines (record (inside 8 0 [] (all_of 1 9 ∷ [])) { blocks = outer ∷ [] }) calls.Commit (0 ∷ 0 ∷ 0 ∷ [])
-    ≡ Asks Exchange (exchanges 0 1)
-    ∷ Asks (Store 0 None) (stores 2 9)
+    ≡ Asks (Exchange takings.Commit) (exchanges 0 1)
+    ∷ Asks (Store takings.Commit 0 None) (stores 2 9)
     ∷ Asks Free (stores 0 2)
     ∷ Ends (Some (Committed 0 true))
     ∷ []
@@ -152,10 +153,10 @@ held_arena = refl
 
 -- the memory as at its begin, and each byte of the arena that was logged in it
 inner_over : (block_over inner (1 ∷ 2 ∷ 3 ∷ []) (0 ∷ 0 ∷ [])).saved
-    ≡ record { memory = 0 ∷ 0 ∷ 0 ∷ 0 ∷ 0 ∷ 0 ∷ 0 ∷ 0 ∷ 0 ∷ 0xab ∷ 0 ∷ 0 ∷ 0 ∷ 0 ∷ 0 ∷ 0 ∷ []; wrote = true; commits = 0; undos = 0; kept = Some 6 ∷ Some 8 ∷ None ∷ [] }
+    ≡ Some (record { memory = 0 ∷ 0 ∷ 0 ∷ 0 ∷ 0 ∷ 0 ∷ 0 ∷ 0 ∷ 0 ∷ 0xab ∷ 0 ∷ 0 ∷ 0 ∷ 0 ∷ 0 ∷ 0 ∷ []; wrote = true; commits = 0; undos = 0; kept = Some 6 ∷ Some 8 ∷ None ∷ [] })
 inner_over = refl
 
-outer_over : (block_over outer (1 ∷ 2 ∷ 3 ∷ []) (7 ∷ [])).saved ≡ record { memory = 7 ∷ 0 ∷ 0 ∷ 0 ∷ 0 ∷ 0 ∷ 0 ∷ 0 ∷ []; wrote = false; commits = 0; undos = 0; kept = Some 5 ∷ None ∷ None ∷ [] }
+outer_over : (block_over outer (1 ∷ 2 ∷ 3 ∷ []) (7 ∷ [])).saved ≡ Some (record { memory = 7 ∷ 0 ∷ 0 ∷ 0 ∷ 0 ∷ 0 ∷ 0 ∷ 0 ∷ []; wrote = false; commits = 0; undos = 0; kept = Some 5 ∷ None ∷ None ∷ [] })
 outer_over = refl
 
 -- the memory has what both blocks have written

@@ -1,5 +1,5 @@
 -- Open blocks.
-use Rattle.std.proofs.Common.{◌≡◌, ℕ, Bool, true, false, ◌||◌, List, [], ◌∷◌, length, refl, ap, if◌then◌else◌}
+use Rattle.std.proofs.Common.{◌≡◌, ℕ, Bool, true, false, ◌||◌, List, [], ◌∷◌, length, refl, ap, if◌then◌else◌, Some}
 use Rattle.undo_log.proofs.KeptBytes.{kept_of-same}
 use Rattle.write_set.specs.Rows.{overlay}
 use Rattle.itm_types.specs.Memory.{bytes_of}
@@ -29,7 +29,7 @@ blocks_over-same [] a b m h = refl
 blocks_over-same (f ∷ fs) a b m h =
     let kept = kept_of-same a b f.log h in
     let rest = blocks_over-same fs a b m h in
-    (λ i. record { props = f.props; saved = record { memory = bytes_of (overlay m f.rows); wrote = is_some_row f.rows; commits = f.commits; undos = f.undos; kept = kept i } } ∷ rest i)
+    (λ i. record { props = f.props; saved = Some (record { memory = bytes_of (overlay m f.rows); wrote = is_some_row f.rows; commits = f.commits; undos = f.undos; kept = kept i }) } ∷ rest i)
 
 -- they have the properties of the blocks that they stand for
 keeps_any_over : (blocks : List Frame) (arena m : List ℕ) → is_kept blocks true ≡ keeps_any (blocks_over blocks arena m)

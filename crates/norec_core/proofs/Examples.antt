@@ -16,8 +16,10 @@ use Rattle.norec_core.specs.declared.answer.Answer.TheVariants.{Committed, Confl
 use Rattle.norec_core.specs.declared.phase.Reading.{Reading}
 use Rattle.norec_core.specs.declared.phase.Purpose.TheVariants as for
 use Rattle.norec_core.specs.declared.phase.Aim.TheVariants as aims
+use Rattle.norec_core.specs.declared.phase.Taking.TheVariants as takings
 use Rattle.norec_core.specs.declared.phase.Phase.{Phase}
 use Rattle.norec_core.specs.declared.phase.Phase.TheVariants.{Idle, Begin, Load, Confirm, RoundStart, RoundRow, RoundEnd, Exchange, BackLoad, Store, Free}
+use Rattle.norec_core.specs.OwnAccesses.{gathered_at}
 use Rattle.norec_core.specs.Core.{Core, opening, came, handed}
 use Rattle.norec_core.specs.Order.{stage_at, stage_after, tries_at, tries_after, snapshot_after, log_after, asked}
 use Rattle.norec_core.specs.Endings.{ending_at, ending_after}
@@ -35,11 +37,11 @@ staged c stage tries = let there : Core = record c { stage = stage; tries = trie
 
 -- the engine once a call has come
 abbrev called : Core → Call → Core
-called c call = staged (came c call false) (stage_at c call false) (tries_at (stage_at c call false))
+called c call = (let mid = came c call false in staged (record mid { gathered = gathered_at (stage_at c call false) mid.arena mid.gathered }) (stage_at c call false) (tries_at (stage_at c call false)))
 
 -- and once the step that it asked for has found this value
 abbrev resumed : Core → ℕ → Core
-resumed c seen = staged (record (handed c seen) { snapshot = snapshot_after c seen; log = log_after c seen }) (stage_after c seen) (tries_after (stage_after c seen) c.tries)
+resumed c seen = (let mid = handed c seen in staged (record mid { snapshot = snapshot_after c seen; log = log_after c seen; gathered = gathered_at (stage_after c seen) mid.arena mid.gathered }) (stage_after c seen) (tries_after (stage_after c seen) c.tries))
 
 abbrev line : Core → Phase → Option Answer → Line
 line c Idle end = Ends end
@@ -59,13 +61,13 @@ abbrev resumed_by : Core → List ℕ → Core
 resumed_by c [] = c
 resumed_by c (seen ∷ seens) = resumed_by (resumed c seen) seens
 
-abbrev engine_after : Core → Call → List ℕ → Core
+abbrev pub engine_after : Core → Call → List ℕ → Core
 engine_after c call seens = resumed_by (called c call) seens
 
 -- ## Calls, and where they come
 
 abbrev pub no_props : Props
-no_props = record { no_abort = false }
+no_props = record { no_abort = false; no_irrevocable = false; goes_irrevocable = false }
 
 -- over four words, with room for four commits: a transaction is open at this snapshot, with these rows logged and these written
 abbrev pub inside : ℕ → ℕ → List LogRow → List Row → Core
@@ -85,13 +87,13 @@ abbrev pub byte_of : ℕ → ℕ → Row
 byte_of word byte = record { word = word; mask = 0xff00; value = 256 * byte }
 
 -- eight bytes from a place on, at the first piece and at the second
-abbrev first : ℕ → Reading
+abbrev pub first : ℕ → Reading
 first at = record { purpose = for.Value R U8; at = at; size = 8; number = 0 }
 
 abbrev second : ℕ → Reading
 second at = record { purpose = for.Value R U8; at = at; size = 8; number = 1 }
 
-abbrev read : ℕ → Call
+abbrev pub read : ℕ → Call
 read at = calls.Read R U8 at
 
 abbrev pub begin : Call
@@ -100,7 +102,7 @@ begin = calls.Begin no_props 3
 abbrev begins : Phase
 begins = Begin (record { props = no_props; room = 3; again = false })
 
-abbrev loads : ℕ → Option Step
+abbrev pub loads : ℕ → Option Step
 loads cell = Some (steps.Load cell)
 
 abbrev pub exchanges : ℕ → ℕ → Option Step
@@ -235,8 +237,8 @@ commit_outside = refl
 
 -- the clock is taken, a whole word is stored, and the clock is freed
 clean_commit : lines (inside 8 0 (logged 0 7 ∷ []) (all_of 0 8 ∷ [])) calls.Commit (0 ∷ 0 ∷ 0 ∷ [])
-    ≡ Asks Exchange (exchanges 0 1)
-    ∷ Asks (Store 0 None) (stores 1 8)
+    ≡ Asks (Exchange takings.Commit) (exchanges 0 1)
+    ∷ Asks (Store takings.Commit 0 None) (stores 1 8)
     ∷ Asks Free (stores 0 2)
     ∷ Ends (Some (Committed 0 true))
     ∷ []
@@ -244,10 +246,10 @@ clean_commit = refl
 
 -- the rows in their order: of a part of a word the word is loaded first
 two_rows : lines (inside 8 4 [] (byte_of 2 0xab ∷ all_of 0 8 ∷ [])) calls.Commit (4 ∷ 0x111111 ∷ 0 ∷ 0 ∷ 0 ∷ [])
-    ≡ Asks Exchange (exchanges 4 5)
-    ∷ Asks (BackLoad 0) (loads 3)
-    ∷ Asks (Store 0 (Some 0x111111)) (stores 3 0x11ab11)
-    ∷ Asks (Store 1 None) (stores 1 8)
+    ≡ Asks (Exchange takings.Commit) (exchanges 4 5)
+    ∷ Asks (BackLoad takings.Commit 0) (loads 3)
+    ∷ Asks (Store takings.Commit 0 (Some 0x111111)) (stores 3 0x11ab11)
+    ∷ Asks (Store takings.Commit 1 None) (stores 1 8)
     ∷ Asks Free (stores 0 6)
     ∷ Ends (Some (Committed 2 true))
     ∷ []
@@ -255,25 +257,25 @@ two_rows = refl
 
 -- the exchange finds a commit of another: a round succeeds, and the clock is taken at what it found
 whole_word_after_a_round : lines (inside 8 0 (logged 0 7 ∷ []) (all_of 0 8 ∷ [])) calls.Commit (2 ∷ 2 ∷ 7 ∷ 2 ∷ 2 ∷ 0 ∷ 0 ∷ [])
-    ≡ Asks Exchange (exchanges 0 1)
-    ∷ Asks (RoundStart aims.Commit) (loads 0)
-    ∷ Asks (RoundRow aims.Commit 0) (loads 1)
-    ∷ Asks (RoundEnd aims.Commit) (loads 0)
-    ∷ Asks Exchange (exchanges 2 3)
-    ∷ Asks (Store 0 None) (stores 1 8)
+    ≡ Asks (Exchange takings.Commit) (exchanges 0 1)
+    ∷ Asks (RoundStart (aims.Take takings.Commit)) (loads 0)
+    ∷ Asks (RoundRow (aims.Take takings.Commit) 0) (loads 1)
+    ∷ Asks (RoundEnd (aims.Take takings.Commit)) (loads 0)
+    ∷ Asks (Exchange takings.Commit) (exchanges 2 3)
+    ∷ Asks (Store takings.Commit 0 None) (stores 1 8)
     ∷ Asks Free (stores 0 4)
     ∷ Ends (Some (Committed 1 true))
     ∷ []
 whole_word_after_a_round = refl
 
 byte_after_a_round : lines (inside 8 0 (logged 0 7 ∷ []) (byte_of 1 0xab ∷ [])) calls.Commit (2 ∷ 2 ∷ 7 ∷ 2 ∷ 2 ∷ 0x111111 ∷ 0 ∷ 0 ∷ [])
-    ≡ Asks Exchange (exchanges 0 1)
-    ∷ Asks (RoundStart aims.Commit) (loads 0)
-    ∷ Asks (RoundRow aims.Commit 0) (loads 1)
-    ∷ Asks (RoundEnd aims.Commit) (loads 0)
-    ∷ Asks Exchange (exchanges 2 3)
-    ∷ Asks (BackLoad 0) (loads 2)
-    ∷ Asks (Store 0 (Some 0x111111)) (stores 2 0x11ab11)
+    ≡ Asks (Exchange takings.Commit) (exchanges 0 1)
+    ∷ Asks (RoundStart (aims.Take takings.Commit)) (loads 0)
+    ∷ Asks (RoundRow (aims.Take takings.Commit) 0) (loads 1)
+    ∷ Asks (RoundEnd (aims.Take takings.Commit)) (loads 0)
+    ∷ Asks (Exchange takings.Commit) (exchanges 2 3)
+    ∷ Asks (BackLoad takings.Commit 0) (loads 2)
+    ∷ Asks (Store takings.Commit 0 (Some 0x111111)) (stores 2 0x11ab11)
     ∷ Asks Free (stores 0 4)
     ∷ Ends (Some (Committed 1 true))
     ∷ []
@@ -281,14 +283,14 @@ byte_after_a_round = refl
 
 -- the second exchange fails too
 two_rounds : lines (inside 8 0 [] (all_of 0 8 ∷ [])) calls.Commit (2 ∷ 2 ∷ 2 ∷ 4 ∷ 4 ∷ 4 ∷ 4 ∷ 0 ∷ 0 ∷ [])
-    ≡ Asks Exchange (exchanges 0 1)
-    ∷ Asks (RoundStart aims.Commit) (loads 0)
-    ∷ Asks (RoundEnd aims.Commit) (loads 0)
-    ∷ Asks Exchange (exchanges 2 3)
-    ∷ Asks (RoundStart aims.Commit) (loads 0)
-    ∷ Asks (RoundEnd aims.Commit) (loads 0)
-    ∷ Asks Exchange (exchanges 4 5)
-    ∷ Asks (Store 0 None) (stores 1 8)
+    ≡ Asks (Exchange takings.Commit) (exchanges 0 1)
+    ∷ Asks (RoundStart (aims.Take takings.Commit)) (loads 0)
+    ∷ Asks (RoundEnd (aims.Take takings.Commit)) (loads 0)
+    ∷ Asks (Exchange takings.Commit) (exchanges 2 3)
+    ∷ Asks (RoundStart (aims.Take takings.Commit)) (loads 0)
+    ∷ Asks (RoundEnd (aims.Take takings.Commit)) (loads 0)
+    ∷ Asks (Exchange takings.Commit) (exchanges 4 5)
+    ∷ Asks (Store takings.Commit 0 None) (stores 1 8)
     ∷ Asks Free (stores 0 6)
     ∷ Ends (Some (Committed 2 true))
     ∷ []
@@ -300,10 +302,10 @@ full = refl
 
 -- the fourth is done by another while this one waits
 full_after_a_round : lines (inside 8 6 (logged 0 7 ∷ []) (all_of 0 8 ∷ [])) calls.Commit (8 ∷ 8 ∷ 7 ∷ 8 ∷ [])
-    ≡ Asks Exchange (exchanges 6 7)
-    ∷ Asks (RoundStart aims.Commit) (loads 0)
-    ∷ Asks (RoundRow aims.Commit 0) (loads 1)
-    ∷ Asks (RoundEnd aims.Commit) (loads 0)
+    ≡ Asks (Exchange takings.Commit) (exchanges 6 7)
+    ∷ Asks (RoundStart (aims.Take takings.Commit)) (loads 0)
+    ∷ Asks (RoundRow (aims.Take takings.Commit) 0) (loads 1)
+    ∷ Asks (RoundEnd (aims.Take takings.Commit)) (loads 0)
     ∷ Ends (Some (Full 4))
     ∷ []
 full_after_a_round = refl
@@ -322,9 +324,9 @@ changed_word : lines (inside 8 0 (logged 0 7 ∷ logged 3 9 ∷ logged 1 5 ∷ [
 changed_word = refl
 
 changed_word_at_a_commit : lines (inside 8 0 (logged 0 7 ∷ []) (all_of 0 8 ∷ [])) calls.Commit (2 ∷ 4 ∷ 8 ∷ [])
-    ≡ Asks Exchange (exchanges 0 1)
-    ∷ Asks (RoundStart aims.Commit) (loads 0)
-    ∷ Asks (RoundRow aims.Commit 0) (loads 1)
+    ≡ Asks (Exchange takings.Commit) (exchanges 0 1)
+    ∷ Asks (RoundStart (aims.Take takings.Commit)) (loads 0)
+    ∷ Asks (RoundRow (aims.Take takings.Commit) 0) (loads 1)
     ∷ Ends (Some (Conflict 4 (Some 0)))
     ∷ []
 changed_word_at_a_commit = refl
@@ -354,23 +356,23 @@ odd_rounds_alone = refl
 
 -- two rounds between whose clock loads another commits, and no third one
 patience_at_a_commit : lines (inside 2 0 (logged 0 7 ∷ []) (all_of 1 8 ∷ [])) calls.Commit (2 ∷ 2 ∷ 7 ∷ 4 ∷ 4 ∷ 7 ∷ 6 ∷ [])
-    ≡ Asks Exchange (exchanges 0 1)
-    ∷ Asks (RoundStart aims.Commit) (loads 0)
-    ∷ Asks (RoundRow aims.Commit 0) (loads 1)
-    ∷ Asks (RoundEnd aims.Commit) (loads 0)
-    ∷ Asks (RoundStart aims.Commit) (loads 0)
-    ∷ Asks (RoundRow aims.Commit 0) (loads 1)
-    ∷ Asks (RoundEnd aims.Commit) (loads 0)
+    ≡ Asks (Exchange takings.Commit) (exchanges 0 1)
+    ∷ Asks (RoundStart (aims.Take takings.Commit)) (loads 0)
+    ∷ Asks (RoundRow (aims.Take takings.Commit) 0) (loads 1)
+    ∷ Asks (RoundEnd (aims.Take takings.Commit)) (loads 0)
+    ∷ Asks (RoundStart (aims.Take takings.Commit)) (loads 0)
+    ∷ Asks (RoundRow (aims.Take takings.Commit) 0) (loads 1)
+    ∷ Asks (RoundEnd (aims.Take takings.Commit)) (loads 0)
     ∷ Ends (Some (Conflict 6 None))
     ∷ []
 patience_at_a_commit = refl
 
 -- a round that succeeds counts as well
 patience_at_an_exchange : lines (inside 1 0 [] (all_of 0 8 ∷ [])) calls.Commit (2 ∷ 2 ∷ 2 ∷ 4 ∷ [])
-    ≡ Asks Exchange (exchanges 0 1)
-    ∷ Asks (RoundStart aims.Commit) (loads 0)
-    ∷ Asks (RoundEnd aims.Commit) (loads 0)
-    ∷ Asks Exchange (exchanges 2 3)
+    ≡ Asks (Exchange takings.Commit) (exchanges 0 1)
+    ∷ Asks (RoundStart (aims.Take takings.Commit)) (loads 0)
+    ∷ Asks (RoundEnd (aims.Take takings.Commit)) (loads 0)
+    ∷ Asks (Exchange takings.Commit) (exchanges 2 3)
     ∷ Ends (Some (Conflict 4 None))
     ∷ []
 patience_at_an_exchange = refl

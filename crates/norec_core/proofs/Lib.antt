@@ -1,3 +1,4 @@
+pub mod ReplyCases
 mod ActionExamples
 pub mod ActionCounts
 pub mod Overlays
@@ -14,3 +15,6 @@ pub mod Examples
 pub mod BlockExamples
 pub mod CopyExamples
 pub mod OneOutcome
+mod IrrevocableExamples
+pub mod RefusedCalls
+pub mod CopyRefusals

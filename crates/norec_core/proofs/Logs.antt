@@ -1,10 +1,10 @@
 -- The value log over a step, where each position has a memory.
-use Rattle.std.proofs.Common.{◌≡◌, inl, inr, ℕ, ◌/◌, ◌≤◌, Bool, true, false, List, [], ◌∷◌, ◌++◌, Some, refl, sym, subst, ◌∙◌, arith, append-nil}
+use Rattle.std.proofs.Common.{◌≡◌, ◌⊎◌, inl, inr, ℕ, ◌/◌, ◌≤◌, Bool, true, false, List, [], ◌∷◌, ◌++◌, Some, refl, sym, subst, ◌∙◌, arith, append-nil}
 use Rattle.itm_types.specs.declared.row.LogRow.{LogRow}
 use Rattle.itm_types.specs.declared.step.Step.TheVariants.{Load}
 use Rattle.itm_types.specs.Memory.{Agrees}
 use Rattle.norec_core.specs.Core.{Core, in_transaction}
-use Rattle.norec_core.specs.Proceeds.{Joins, Settles, IsSettled}
+use Rattle.norec_core.specs.Proceeds.{GoesOver, Joins, Settles, IsSettled}
 
 pub agrees_more : (m : List ℕ) (xs ys : List LogRow) → Agrees m xs → Agrees m ys → Agrees m (xs ++ ys)
 agrees_more m [] ys a b = b
@@ -28,10 +28,12 @@ module _ (e new : Core) (n : ℕ) (joins : Joins e n new) (settled : IsSettled e
     | inr moved ↦ (let a = moved.0.same in let b = moved.2 in let r = settled.reached in omega arith)
   ]
 
-  pub log_longer : in_transaction new ≡ true → (more : List LogRow) × (new.log ≡ e.log ++ more)
+  -- rows are added, unless the transaction becomes irrevocable
+  pub log_longer : in_transaction new ≡ true → ((more : List LogRow) × (new.log ≡ e.log ++ more)) ⊎ GoesOver e new
   log_longer o = elim (joins.log o) [
-    | inl same ↦ ([], same ∙ sym (append-nil e.log))
-    | inr more ↦ (e.fresh, more.1)
+    | inl same ↦ inl ([], same ∙ sym (append-nil e.log))
+    | inr (inl more) ↦ inl (e.fresh, more.1)
+    | inr (inr over) ↦ inr over
   ]
 
   -- what was logged agrees with the memory of its position, and what is settled was loaded from the memory of the new one
@@ -49,7 +51,8 @@ module _ (e new : Core) (n : ℕ) (joins : Joins e n new) (settled : IsSettled e
     pub log_now : in_transaction new ≡ true → Agrees (memory (new.snapshot / 2)) new.log
     log_now o = elim (joins.log o) [
       | inl same ↦ subst (Agrees (memory (new.snapshot / 2))) (sym same) (by_open (in_transaction e) refl)
-      | inr more ↦
+      | inr (inl more) ↦
           subst (Agrees (memory (new.snapshot / 2))) (sym more.1)
           (agrees_more (memory (new.snapshot / 2)) e.log e.fresh (by_open (in_transaction e) refl) (subst (λ (p : ℕ). Agrees (memory (p / 2)) e.fresh) (sym more.2) (fresh more.0)))
+      | inr (inr over) ↦ subst (Agrees (memory (new.snapshot / 2))) (sym over.log) tt
     ]

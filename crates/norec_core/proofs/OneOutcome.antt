@@ -1,5 +1,5 @@
 -- What an engine gives, and what it is then, follow from what it was and what it is handed.
-use Rattle.std.proofs.Common.{◌≡◌, ℕ, zero, suc, ◌+◌, Bool, true, false, List, [], replicate, Option, None, Some, refl, sym, ap, subst, ◌∙◌, arith}
+use Rattle.std.proofs.Common.{◌≡◌, ℕ, zero, suc, ◌+◌, Bool, true, false, List, [], map, replicate, Option, None, Some, refl, sym, ap, subst, ◌∙◌, arith}
 use Rattle.std.proofs.lemmas.List.{length-replicate}
 use Rattle.itm_types.specs.declared.call.Call.{Call}
 use Rattle.itm_types.specs.declared.call.Reply.{Reply as Replied}
@@ -16,7 +16,10 @@ use Rattle.norec_core.specs.Core.{Core, came, handed, ended, finished, rolled_ba
 use Rattle.norec_core.specs.Stands.{SeesOne}
 use Rattle.norec_core.specs.Order.{asked, asked_in, asked_from, tries_at, tries_after}
 use Rattle.norec_core.specs.Endings.{EndsSo, IsEnding, ending_at, ending_after}
-use Rattle.norec_core.specs.Proceeds.{Proceeds, AsksFor, Ends, RepliesTo, writes_after, arena_after, blocks_after, actions_after, IsSettled}
+use Rattle.norec_core.specs.Proceeds.{Proceeds, AsksFor, ConflictsIn, Ends, RepliesBy, RepliesTo, writes_after, arena_after, arena_held, blocks_after, actions_after, room_left, IsSettled}
+use Rattle.norec_core.specs.OwnAccesses.{gathered_at}
+use Rattle.nest_frames.specs.Nest.{made_irrevocable}
+use Rattle.norec_core.proofs.AnsweredEngines.{rests}
 use Rattle.norec_core.specs.Moves.{IsCalled, IsResumed}
 
 -- a memory of so many words
@@ -29,16 +32,8 @@ idle_of : (c : Core) (s : Phase) → asked_from c s ≡ None → s ≡ at.Idle
 idle_of c at.Idle e = refl
 idle_of c s e = absurd (cc)
 
-replied_waits : (mid : Core) (o : Option Call) (r : Replied) (new : Core) → RepliesTo mid o r new → new.waits ≡ None
-replied_waits mid None r new e = absurd e
-replied_waits mid (Some call) r new e = ap (λ (c : Core). c.waits) e.stays
-
 pub answered_waits : (mid : Core) (x : Answer) (new : Core) → Ends mid x new → new.waits ≡ None
-answered_waits mid (Reply r) new e = replied_waits mid mid.doing r new e
-answered_waits mid (Committed at wrote) new e = ap (λ (c : Core). c.waits) e.stays
-answered_waits mid (Conflict clock word) new e = ap (λ (c : Core). c.waits) e.stays
-answered_waits mid (Busy clock) new e = ap (λ (c : Core). c.waits) e.stays
-answered_waits mid (Full at) new e = ap (λ (c : Core). c.waits) e.stays
+answered_waits mid x new e = (rests mid new x e).idle
 
 -- ## One outcome
 
@@ -61,10 +56,11 @@ module _ (mid new new' : Core) (end : Option Answer)
       let open_same : in_transaction new ≡ (in_transaction new') = ap in_transaction e ∙ sym (ap in_transaction e') in
       let writes : new.writes ≡ new'.writes = ap (λ (c : Core). c.writes) e ∙ sym (ap (λ (c : Core). c.writes) e') in
       let log = same_log open_same in
-      let step : Some s ≡ Some s' = sym (ap (λ (c : Core). c.waits) e) ∙ (asks ∙ ((λ i. asked_in (log i) (snapshot i) (writes i) (stage i)) ∙ (sym asks' ∙ ap (λ (c : Core). c.waits) e'))) in
+      let gathered : new.gathered ≡ new'.gathered = ap (λ (c : Core). c.gathered) e ∙ ((λ i. gathered_at (stage i) mid.arena mid.gathered) ∙ sym (ap (λ (c : Core). c.gathered) e')) in
+      let step : Some s ≡ Some s' = sym (ap (λ (c : Core). c.waits) e) ∙ (asks ∙ ((λ i. asked_in (log i) (snapshot i) (writes i) (gathered i) (stage i)) ∙ (sym asks' ∙ ap (λ (c : Core). c.waits) e'))) in
       let one : s ≡ s' = (cc) in (
         ap Asks one,
-        e ∙ ((λ i. record mid { waits = Some (one i); spent = mid.spent + 1; stage = stage i; tries = tries i; log = log i; snapshot = snapshot i }) ∙ sym e'),
+        e ∙ ((λ i. record mid { waits = Some (one i); spent = mid.spent + 1; stage = stage i; tries = tries i; log = log i; snapshot = snapshot i; gathered = gathered_at (stage i) mid.arena mid.gathered }) ∙ sym e'),
       )
 
   -- a memory that agrees with both logs
@@ -79,9 +75,49 @@ module _ (mid new new' : Core) (end : Option Answer)
           let zeros : List ℕ = replicate mid.words 0 in
           (zeros, (length-replicate mid.words 0, all_zero mid.words), subst (Agrees zeros) (sym (settled.closed a).0) tt, subst (Agrees zeros) (sym (settled'.closed b).0) tt)
 
-  replies_both : (o : Option Call) (r r' : Replied) → RepliesTo mid o r new → RepliesTo mid o r' new' → (r ≡ r') × (new ≡ new')
-  replies_both None r r' g g' = absurd g
-  replies_both (Some call) r r' g g' =
+  replies_by : (holds irrevocable : Bool) (call : Call) (r r' : Replied) → RepliesBy holds irrevocable mid call r new → RepliesBy holds irrevocable mid call r' new' → (r ≡ r') × (new ≡ new')
+  replies_by true false call r r' g g' =
+      let one : r ≡ r' = g.reply_is [] ∙ sym (g'.reply_is []) in (
+        one,
+        g.stays
+            ∙ ((λ i. record mid {
+              stage = stage i;
+              tries = tries i;
+              waits = None;
+              doing = None;
+              again = false;
+              fresh = [];
+              done = 0;
+              got = None;
+              gathered = [];
+              log = [];
+              writes = [];
+              blocks = map made_irrevocable (blocks_after mid call (one i));
+              actions = record (actions_after mid call (one i)) { undos = [] };
+              irrevocable = true;
+            }) ∙ sym g'.stays),
+      )
+  replies_by true true call r r' g g' =
+      let one : r ≡ r' = g.reply_is ∙ sym g'.reply_is in (
+        one,
+        g.stays
+            ∙ ((λ i. record mid {
+              stage = stage i;
+              tries = tries i;
+              waits = None;
+              doing = None;
+              again = false;
+              fresh = [];
+              done = 0;
+              got = None;
+              gathered = [];
+              blocks = blocks_after mid call (one i);
+              actions = actions_after mid call (one i);
+              arena = arena_held mid call (one i);
+              room = room_left mid call (one i);
+            }) ∙ sym g'.stays),
+      )
+  replies_by false irrevocable call r r' g g' =
       let e = g.stays in
       let e' = g'.stays in
       let m = one_memory (ap (λ (c : Core). c.words) e) (ap (λ (c : Core). c.words) e') in
@@ -108,13 +144,23 @@ module _ (mid new new' : Core) (end : Option Answer)
           blocks = blocks i;
           actions = actions i;
           arena = arena i;
+          room = room_left mid call (one i);
+          gathered = [];
         }) ∙ sym e'),
       )
+
+  replies_both : (o : Option Call) (r r' : Replied) → RepliesTo mid o r new → RepliesTo mid o r' new' → (r ≡ r') × (new ≡ new')
+  replies_both None r r' g g' = absurd g
+  replies_both (Some call) r r' g g' = replies_by mid.holds mid.irrevocable call r r' g g'
+
+  conflicts_both : (clock : ℕ) (word : Option ℕ) (inside : Bool) → ConflictsIn inside mid clock word new → ConflictsIn inside mid clock word new' → new ≡ new'
+  conflicts_both clock word true g g' = g.stays ∙ ((λ i. record (rolled_back mid) { stage = stage i; tries = tries i }) ∙ sym g'.stays)
+  conflicts_both clock word false g g' = g.stays ∙ ((λ i. record (ended mid) { stage = stage i; tries = tries i }) ∙ sym g'.stays)
 
   ends_both : (a : Answer) → Ends mid a new → Ends mid a new' → new ≡ new'
   ends_both (Reply r) g g' = (replies_both mid.doing r r g g').1
   ends_both (Committed at wrote) g g' = g.stays ∙ ((λ i. record (finished mid) { stage = stage i; tries = tries i }) ∙ sym g'.stays)
-  ends_both (Conflict clock word) g g' = g.stays ∙ ((λ i. record (rolled_back mid) { stage = stage i; tries = tries i }) ∙ sym g'.stays)
+  ends_both (Conflict clock word) g g' = conflicts_both clock word (in_transaction mid) g g'
   ends_both (Busy clock) g g' = g.stays ∙ ((λ i. record (ended mid) { stage = stage i; tries = tries i }) ∙ sym g'.stays)
   ends_both (Full at) g g' = g.stays ∙ ((λ i. record (rolled_back mid) { stage = stage i; tries = tries i; snapshot = snapshot i }) ∙ sym g'.stays)
 
@@ -146,17 +192,9 @@ module _ (mid new new' : Core) (end : Option Answer)
 
 -- ## Calls
 
-replied_words : (mid : Core) (o : Option Call) (r : Replied) (new : Core) → RepliesTo mid o r new → new.words ≡ mid.words
-replied_words mid None r new e = absurd e
-replied_words mid (Some call) r new e = ap (λ (c : Core). c.words) e.stays
-
 words_same : (mid : Core) (what : Next) (new : Core) → Proceeds mid what new → new.words ≡ mid.words
 words_same mid (Asks step) new e = ap (λ (c : Core). c.words) e.stays
-words_same mid (Answers (Reply r)) new e = replied_words mid mid.doing r new e
-words_same mid (Answers (Committed at wrote)) new e = ap (λ (c : Core). c.words) e.stays
-words_same mid (Answers (Conflict clock word)) new e = ap (λ (c : Core). c.words) e.stays
-words_same mid (Answers (Busy clock)) new e = ap (λ (c : Core). c.words) e.stays
-words_same mid (Answers (Full at)) new e = ap (λ (c : Core). c.words) e.stays
+words_same mid (Answers a) new e = (rests mid new a e).words
 
 -- a call opens nothing and logs nothing
 pub sees_still : (old : Core) (call : Call) (again : Bool) (what : Next) (new : Core) → IsCalled old call again what new → SeesOne old → SeesOne new

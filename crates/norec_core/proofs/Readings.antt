@@ -12,7 +12,8 @@ use Rattle.norec_core.specs.Accesses.{part, parts, count, passed_for, total_for}
 use Rattle.norec_core.specs.declared.phase.Phase.TheVariants.{Load}
 use Rattle.norec_core.specs.declared.phase.Reading.{Reading}
 use Rattle.norec_core.specs.Rows.{is_covered}
-use Rattle.norec_core.specs.Order.{load_among, load_past, load_chunks, load_stage, chunk_reading, tries_after, tries_at, word_of}
+use Rattle.norec_core.specs.Order.{load_among, load_past, load_chunks, load_stage, chunk_reading, tries_after, tries_at}
+use Rattle.norec_core.specs.OwnAccesses.{word_of}
 use Rattle.norec_core.specs.Copies.{chunks_in, words_in, source_words}
 use Rattle.norec_core.specs.declared.phase.Purpose.{Purpose}
 use Rattle.norec_core.specs.declared.phase.Purpose.TheVariants as for

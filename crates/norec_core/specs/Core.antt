@@ -1,14 +1,18 @@
 -- What an engine is to its callers.
-use Rattle.std.specs.Prelude.{ℕ, ◌+◌, ◌==◌, ◌&&◌, not, zero, suc, Bool, false, true, List, [], ◌∷◌, ◌++◌, Option, None, Some, length}
+use Rattle.std.specs.Prelude.{ℕ, ◌+◌, ◌==◌, ◌&&◌, ◌||◌, not, nat_lt, if◌then◌else◌, zero, suc, Bool, false, true, List, [], ◌∷◌, ◌++◌, Option, None, Some, unwrap_or, length}
+use Rattle.itm_types.specs.declared.limits.TheConstants.{MAX_OPEN_BLOCKS}
+use Rattle.itm_types.specs.declared.call.Props.{Props}
+use Rattle.itm_types.specs.declared.call.Call.TheVariants as calls
 use Rattle.itm_types.specs.declared.row.LogRow.{LogRow}
 use Rattle.write_set.specs.declared.row.Row.{Row}
 use Rattle.itm_types.specs.declared.call.Call.{Call}
 use Rattle.user_actions.specs.Actions.{Actions, no_actions, committed}
-use Rattle.nest_frames.specs.Nest.{Frame, arena_back, actions_back}
+use Rattle.nest_frames.specs.Nest.{Frame, arena_back, actions_back, stays_revocable}
 use Rattle.itm_types.specs.declared.step.Step.{Step}
 use Rattle.itm_types.specs.declared.step.Step.TheVariants.{Load, Store, Cas}
 use Rattle.norec_core.specs.declared.phase.Phase.{Phase}
 use Rattle.norec_core.specs.declared.phase.Phase.TheVariants as at
+use Rattle.norec_core.specs.OwnAccesses.{got_in, gathered_in, saved_in}
 
 pub record Core : Type 0 where
   pub words : ℕ  -- of the shared memory
@@ -22,10 +26,13 @@ pub record Core : Type 0 where
   pub writes : List Row  -- the write set
   pub blocks : List Frame  -- the open blocks, innermost first: what each goes back to
   pub actions : Actions  -- those that are registered, and those that have come to run
+  pub irrevocable : Bool  -- the transaction is: it holds the clock from call to call, and what it writes is stored at once
+  pub room : ℕ  -- how many more commit actions are registered with no memory
   pub holds : Bool  -- it holds the clock
   pub done : ℕ  -- how many rows of the write set were stored since it took the clock
   pub freed : Bool  -- the last step freed the clock
   pub got : Option ℕ  -- what the last step, a load by the holder, found
+  pub gathered : List ℕ  -- of an access in an irrevocable transaction: what it has read so far, or what it writes
   pub doing : Option Call  -- the call that has no answer yet
   pub again : Bool  -- that call begins a block that was begun before
   pub waits : Option Step  -- the step that it asked for
@@ -47,10 +54,13 @@ opening words arena patience max_commits = record {
   writes = [];
   blocks = [];
   actions = no_actions;
+  irrevocable = false;
+  room = 0;
   holds = false;
   done = 0;
   freed = false;
   got = None;
+  gathered = [];
   doing = None;
   again = false;
   waits = None;
@@ -74,13 +84,41 @@ is_outermost (b ∷ p ∷ bs) = false
 abbrev pub in_transaction : Core → Bool
 in_transaction c = is_inside c.blocks
 
--- the engine as a call comes
+-- a begin of such a block is not refused for it
+abbrev pub may_go : List Frame → Props → Bool
+may_go blocks props = not (props.goes_irrevocable && (props.no_irrevocable || stays_revocable blocks))
+
+-- the call makes the transaction irrevocable, or begins one that is: with this room
+abbrev pub goes : Core → Call → Option ℕ
+goes c (calls.Begin props room) = if props.goes_irrevocable && may_go c.blocks props && nat_lt (length c.blocks) MAX_OPEN_BLOCKS && not c.irrevocable then Some room else None
+goes c (calls.Mode room) = if in_transaction c && not (stays_revocable c.blocks) && not c.irrevocable then Some room else None
+goes c _ = None
+
+-- the bytes that a call brings
+abbrev pub bytes_to_write : Call → List ℕ
+bytes_to_write (calls.Write hint at value) = value.bytes.items
+bytes_to_write _ = []
+
+-- the engine as a call comes; one that makes the transaction irrevocable has its room reserved
 abbrev pub came : Core → Call → Bool → Core
-came c call again = record c { doing = Some call; again = again && not (in_transaction c); stage = at.Idle; tries = 0; fresh = []; done = 0; freed = false; got = None; spent = 0; entry = length c.log }
+came c call again = record c {
+  doing = Some call;
+  again = again && not (in_transaction c);
+  stage = at.Idle;
+  tries = 0;
+  fresh = [];
+  done = 0;
+  freed = false;
+  got = None;
+  gathered = if c.irrevocable then bytes_to_write call else [];
+  room = unwrap_or (goes c call) c.room;
+  spent = 0;
+  entry = length c.log;
+}
 
 -- a word was loaded, by the holder of the clock or by another
 abbrev pub word_loaded : Core → Bool → ℕ → ℕ → Core
-word_loaded c true word seen = record c { waits = None; stage = at.Idle; tries = 0; got = Some seen }
+word_loaded c true word seen = (let bytes = gathered_in c.stage c.gathered seen in record c { waits = None; stage = at.Idle; tries = 0; got = got_in c.stage seen; gathered = bytes; arena = if c.irrevocable then saved_in c.stage c.arena bytes else c.arena })
 word_loaded c false word seen = record c { waits = None; stage = at.Idle; tries = 0; fresh = c.fresh ++ record { word = word; value = seen } ∷ [] }
 
 -- the value that a load found
@@ -91,7 +129,7 @@ loaded c (suc word) seen = word_loaded c c.holds word seen
 -- a store was done
 abbrev pub stored : Core → ℕ → ℕ → Core
 stored c zero value = record c { waits = None; stage = at.Idle; tries = 0; clock = value; fresh = []; holds = false; freed = true }
-stored c (suc word) value = record c { waits = None; stage = at.Idle; tries = 0; got = None; done = c.done + 1 }
+stored c (suc word) value = record c { waits = None; stage = at.Idle; tries = 0; got = None; done = if c.irrevocable then c.done else c.done + 1 }
 
 -- the value that an exchange found: the clock is taken where that is the expected one
 abbrev pub exchanged : Core → ℕ → ℕ → Core
@@ -109,7 +147,7 @@ handed c seen = handed_to c c.waits seen
 
 -- the engine outside, with nothing kept
 abbrev pub ended : Core → Core
-ended c = record c { waits = None; doing = None; again = false; freed = false; fresh = []; done = 0; log = []; writes = []; blocks = [] }
+ended c = record c { waits = None; doing = None; again = false; freed = false; fresh = []; done = 0; got = None; gathered = []; log = []; writes = []; blocks = []; irrevocable = false; holds = false }
 
 -- the same, with the transaction committed: its commit actions have come to run
 abbrev pub finished : Core → Core

@@ -9,23 +9,24 @@ use Rattle.norec_core.specs.declared.answer.Next.TheVariants.{Step as Asks, Answ
 use Rattle.norec_core.specs.declared.phase.Aim.{Aim}
 use Rattle.norec_core.specs.declared.phase.Aim.TheVariants as aims
 use Rattle.norec_core.specs.declared.phase.Phase.{Phase}
-use Rattle.norec_core.specs.declared.phase.Phase.TheVariants.{Begin, Confirm, RoundStart, RoundRow, RoundEnd, Exchange, Free}
+use Rattle.norec_core.specs.declared.phase.Phase.TheVariants.{Begin, Take, Confirm, RoundStart, RoundRow, RoundEnd, Exchange, Free}
 use Rattle.norec_core.specs.Rows.{row_at}
-use Rattle.norec_core.specs.Core.{Core, is_outermost}
+use Rattle.norec_core.specs.Core.{Core, goes, in_transaction, is_outermost}
 
--- once a round has succeeded: a commit finds as many done as may be
+-- once a round has succeeded: who is to take the clock finds as many done as may be
 abbrev pub aimed_ending : Aim → ℕ → Option Answer
 aimed_ending (aims.Read r) seen = None
-aimed_ending aims.Commit seen = Some (Full (seen / 2))
+aimed_ending (aims.Take taking) seen = Some (Full (seen / 2))
 
 -- the end that comes of the value found, by where the call stands; where there is none, the call is replied to
 abbrev pub ending_from : Core → Phase → ℕ → Option Answer
-ending_from c (Begin b) seen = if seen % 2 == 0 then None else Some (Busy seen)
+ending_from c (Begin b) seen = if seen % 2 == 0 then (if b.props.goes_irrevocable then Some (Full (seen / 2)) else None) else Some (Busy seen)
+ending_from c (Take b) seen = if seen == c.snapshot then None else Some (Conflict seen None)
 ending_from c (Confirm r value) seen = if seen == c.snapshot then None else Some (Conflict seen None)
 ending_from c (RoundStart aim) seen = Some (Conflict seen None)
 ending_from c (RoundRow aim row) seen = Some (Conflict c.clock (Some (row_at c.log row).word))
 ending_from c (RoundEnd aim) seen = if seen == c.clock then aimed_ending aim seen else Some (Conflict seen None)
-ending_from c Exchange seen = Some (Conflict seen None)
+ending_from c (Exchange taking) seen = if seen == c.snapshot then None else Some (Conflict seen None)
 ending_from c Free seen = Some (Committed (c.snapshot / 2) true)
 ending_from c _ seen = None
 
@@ -36,11 +37,17 @@ ending_after c seen = ending_from c c.stage seen
 abbrev pub commit_ending : Core → Option Answer
 commit_ending c = if length c.writes == 0 then Some (Committed (c.snapshot / 2) false) else Some (Full (c.snapshot / 2))
 
+-- and of a call that is to make the transaction irrevocable
+abbrev pub going_ending : Core → Option ℕ → Option Answer
+going_ending c None = None
+going_ending c (Some room) = Some (Full (c.snapshot / 2))
+
 -- and of any call
 abbrev pub ending_at : Core → Call → Option Answer
-ending_at c (calls.Begin props room) = None
+ending_at c (calls.Begin props room) = if in_transaction c then going_ending c (goes c (calls.Begin props room)) else None
 ending_at c calls.Commit = if is_outermost c.blocks then commit_ending c else None
 ending_at c (calls.Abort outer) = None
+ending_at c (calls.Mode room) = going_ending c (goes c (calls.Mode room))
 ending_at c calls.InTransaction = None
 ending_at c (calls.Read hint width at) = None
 ending_at c (calls.Write hint at value) = None

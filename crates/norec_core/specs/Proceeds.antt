@@ -1,18 +1,19 @@
 -- What an engine may do next. `mid` is the engine with a call that came, or with the value of the step that it waited for.
-use Rattle.std.specs.Prelude.{◌≡◌, ◌≢◌, ◌⊎◌, ℕ, zero, suc, ◌+◌, ◌*◌, ◌/◌, ◌%◌, ◌<◌, ◌≤◌, Bool, true, false, if◌then◌else◌, List, [], ◌∷◌, ◌++◌, Option, None, Some, slice_get, slice_set, take, drop, replicate, length}
+use Rattle.std.specs.Prelude.{◌≡◌, ◌≢◌, ◌⊎◌, ℕ, zero, suc, ◌+◌, ◌-◌, ◌*◌, ◌/◌, ◌%◌, ◌<◌, ◌≤◌, Bool, true, false, if◌then◌else◌, List, [], ◌∷◌, ◌++◌, map, Option, None, Some, IsSome, slice_get, slice_set, take, drop, replicate, length}
 use Rattle.itm_types.specs.declared.limits.TheConstants.{MAX_OPEN_BLOCKS, MAX_COMMITS}
 use Rattle.itm_types.specs.declared.row.LogRow.{LogRow}
 use Rattle.write_set.specs.declared.row.Row.{Row}
 use Rattle.itm_types.specs.declared.call.Call.{Call}
 use Rattle.user_actions.specs.Actions.{Actions, registered}
-use Rattle.nest_frames.specs.Nest.{Frame, begun, closed, logged, log_of, rows_of, arena_back, actions_back, actions_cancelled, actions_closed}
+use Rattle.nest_frames.specs.Nest.{Frame, begun, closed, logged, log_of, rows_of, arena_back, actions_back, actions_cancelled, actions_closed, made_irrevocable}
 use Rattle.undo_log.specs.Rollback.{found, put_back}
 use Rattle.itm_types.specs.Calls.{is_abort}
 use Rattle.itm_types.specs.declared.call.ActionKind.TheVariants as kinds
-use Rattle.itm_types.specs.declared.call.Call.TheVariants.{Begin, Commit, Abort, Read, Write, Log, LogBytes, Copy, Fill, CommitAction, UndoAction, Save}
+use Rattle.itm_types.specs.declared.call.Call.TheVariants.{Begin, Commit, Abort, Mode, Read, Write, Log, LogBytes, Copy, Fill, CommitAction, UndoAction, Save}
 use Rattle.itm_types.specs.declared.call.Copying.{Copying}
 use Rattle.itm_types.specs.declared.copy.CopyPair.{CopyPair}
 use Rattle.itm_types.specs.declared.copy.CopyPair.TheVariants.{Out, In, Within}
+use Rattle.word_pieces.specs.Chunks.{chunks_of}
 use Rattle.word_pieces.specs.declared.chunk.Direction.TheVariants.{Up}
 use Rattle.itm_types.specs.declared.call.Reply.{Reply as Replied}
 use Rattle.itm_types.specs.declared.call.Reply.TheVariants.{Done, Code}
@@ -22,15 +23,16 @@ use Rattle.itm_types.specs.Access.{size_of}
 use Rattle.word_pieces.specs.Pieces.{pieces_of, count_of}
 use Rattle.itm_types.specs.Memory.{bytes_of, IsMemory, Agrees}
 use Rattle.itm_types.specs.Slices.{with_slice}
-use Rattle.itm_model.specs.Machine.{after, reply, undone}
+use Rattle.itm_model.specs.Machine.{after, bytes_reply, refusal, reply, reply_unless, undone}
 use Rattle.norec_core.specs.declared.answer.Answer.{Answer as Answered}
 use Rattle.norec_core.specs.declared.answer.Answer.TheVariants.{Reply, Committed, Conflict, Busy, Full}
 use Rattle.norec_core.specs.declared.answer.Next.{Next}
 use Rattle.norec_core.specs.declared.answer.Next.TheVariants.{Step as Asks, Answer as Answers}
 use Rattle.write_set.specs.Rows.{overlay}
 use Rattle.norec_core.specs.Rows.{AreRoomy, write_at, reserved_all, put_all, put_range}
-use Rattle.norec_core.specs.Copies.{copy_refusal, direction_of, source_in, source_words}
-use Rattle.norec_core.specs.Core.{Core, in_transaction, ended, finished, rolled_back}
+use Rattle.norec_core.specs.Copies.{copy_refusal, direction_of, source_in, source_words, words_in, words_read, words_written}
+use Rattle.norec_core.specs.OwnAccesses.{gathered_at}
+use Rattle.norec_core.specs.Core.{Core, goes, in_transaction, ended, finished, rolled_back}
 use Rattle.norec_core.specs.Stands.{stands_for}
 
 -- ## Lawful steps
@@ -50,30 +52,35 @@ pub record StoresNext (c : Core) (word value : ℕ) : Type 0 where
   pub word_is : word ≡ (write_at c.writes c.done).word
   pub value_is : (m : List ℕ) → IsMemory c.words m → Got c.got (slice_get (backed c m) word) → overlay m (take (c.done + 1) c.writes) ≡ slice_set (backed c m) word value
 
--- the holder stores a word, or frees the clock once each row is stored
+-- the holder stores a word, or frees the clock once each row is stored; what an irrevocable transaction stores, it says itself (`Held.antt`)
 abbrev pub StoresOrFrees : Core → ℕ → ℕ → Type 0
 StoresOrFrees c zero value = (value ≡ c.clock + 2) × (c.done ≡ length c.writes)
-StoresOrFrees c (suc word) value = StoresNext c word value
+StoresOrFrees c (suc word) value = c.irrevocable ≡ false → StoresNext c word value
 
--- the clock is loaded by one that does not hold it; a word by an open transaction, and by the holder the one that it stores next
+-- the clock is loaded by one that does not hold it; a word by an open transaction, and in a write-back the one that is stored next
 abbrev pub LoadsOwn : Core → ℕ → Type 0
 LoadsOwn c zero = c.holds ≡ false
-LoadsOwn c (suc word) = (in_transaction c ≡ true) × (c.holds ≡ true → (c.done < length c.writes) × (word ≡ (write_at c.writes c.done).word))
+LoadsOwn c (suc word) = (in_transaction c ≡ true) × (c.holds ≡ true → c.irrevocable ≡ false → (c.done < length c.writes) × (word ≡ (write_at c.writes c.done).word))
+
+-- the clock is taken by an open transaction, or by a begin that goes irrevocable
+abbrev pub TakesFor : Core → Option Call → Type 0
+TakesFor c (Some (Begin props room)) = (in_transaction c ≡ false → props.goes_irrevocable ≡ true)
+TakesFor c call = in_transaction c ≡ true
 
 -- the step of an engine that asks for it is one of the algorithm's
 abbrev pub IsLawful : Core → Step → Type 0
 IsLawful c (Load cell) = (cell ≤ c.words) × LoadsOwn c cell
 IsLawful c (Store cell value) = (cell ≤ c.words) × (c.holds ≡ true) × StoresOrFrees c cell value
 IsLawful c (Cas cell from to) =
-    (cell ≡ 0) × (c.holds ≡ false) × (in_transaction c ≡ true) × (from ≡ c.snapshot) × (from % 2 ≡ 0) × (from / 2 < c.max_commits) × (to ≡ from + 1)
+    (cell ≡ 0) × (c.holds ≡ false) × TakesFor c c.doing × (from ≡ c.snapshot) × (from % 2 ≡ 0) × (from / 2 < c.max_commits) × (to ≡ from + 1)
 
 -- ## What comes of an event
 
--- a step is asked for: all else stays, but the log and the snapshot (`Joins`)
+-- a step is asked for: all else stays, but the log and the snapshot (`Joins`), and what is gathered
 pub record AsksFor (mid : Core) (step : Step) (new : Core) : Type 0 where
   pub lawful : IsLawful new step
   pub unfreed : mid.freed ≡ false
-  pub stays : new ≡ record mid { waits = Some step; spent = mid.spent + 1; stage = new.stage; tries = new.tries; log = new.log; snapshot = new.snapshot }
+  pub stays : new ≡ record mid { waits = Some step; spent = mid.spent + 1; stage = new.stage; tries = new.tries; log = new.log; snapshot = new.snapshot; gathered = gathered_at new.stage mid.arena mid.gathered }
 
 -- the begin of a block that was begun before is told so
 abbrev pub recoded : Call → Bool → Replied → Replied
@@ -111,13 +118,18 @@ arena_after c m (Copy k) Done = arena_copied c.arena k k.pair (source_over c m k
 arena_after c m (Abort outer) (Code n) = if outer then arena_back c.blocks c.arena else put_back (log_of c.blocks) c.arena
 arena_after c m _ r = c.arena
 
--- an accepted begin opens a block, a commit closes one, a cancel takes one or all away, and a log adds to the innermost one
+-- in an irrevocable transaction a copy to the arena is there chunk by chunk as it is read
+abbrev pub arena_held : Core → Call → Replied → List ℕ
+arena_held c (Save at value) Done = with_slice c.arena at value.bytes.items
+arena_held c _ r = c.arena
+
+-- an accepted begin opens a block, a commit closes one, a cancel takes one or all away, and a log adds to the innermost one, unless the transaction is irrevocable
 abbrev pub blocks_after : Core → Call → Replied → List Frame
 blocks_after c (Begin props room) (Code n) = begun props c.writes c.actions ∷ c.blocks
 blocks_after c Commit Done = closed c.blocks
 blocks_after c (Abort outer) (Code n) = if outer then [] else drop 1 c.blocks
-blocks_after c (Log width at) Done = logged c.blocks (found c.arena at (size_of width))
-blocks_after c (LogBytes at size) Done = logged c.blocks (found c.arena at size)
+blocks_after c (Log width at) Done = if c.irrevocable then c.blocks else logged c.blocks (found c.arena at (size_of width))
+blocks_after c (LogBytes at size) Done = if c.irrevocable then c.blocks else logged c.blocks (found c.arena at size)
 blocks_after c _ r = c.blocks
 
 -- an accepted outermost begin forgets those that have come to run; a registration adds one, and a cancel runs undo actions
@@ -126,8 +138,13 @@ actions_after c (Begin props room) (Code n) = if in_transaction c then c.actions
 actions_after c Commit Done = actions_closed c.blocks c.actions
 actions_after c (Abort outer) (Code n) = if outer then actions_back c.blocks c.actions else actions_cancelled c.blocks c.actions
 actions_after c (CommitAction action) Done = registered kinds.Commit action c.actions
-actions_after c (UndoAction action) Done = registered kinds.Undo action c.actions
+actions_after c (UndoAction action) Done = if c.irrevocable then c.actions else registered kinds.Undo action c.actions
 actions_after c _ r = c.actions
+
+-- a commit action takes of the room, where there is some
+abbrev pub room_left : Core → Call → Replied → ℕ
+room_left c (CommitAction action) Done = c.room - 1
+room_left c _ r = c.room
 
 -- the rows that the call in progress has logged itself
 abbrev pub own_rows : ℕ → List LogRow → List LogRow
@@ -151,15 +168,73 @@ pub record Replies (mid : Core) (call : Call) (r : Replied) (new : Core) : Type 
     blocks = new.blocks;
     actions = new.actions;
     arena = new.arena;
+    room = room_left mid call r;
+    gathered = [];
   }
   pub writes : (m : List ℕ) → IsMemory mid.words m → Agrees m (own_rows mid.entry new.log) → new.writes ≡ writes_after mid m call r
   pub arena : (m : List ℕ) → IsMemory mid.words m → Agrees m (own_rows mid.entry new.log) → new.arena ≡ arena_after mid m call r
   pub free : mid.holds ≡ false
+  pub revocable : mid.irrevocable ≡ false
   pub unfreed : mid.freed ≡ false
   pub blocks : new.blocks ≡ blocks_after mid call r
   pub actions : new.actions ≡ actions_after mid call r
   pub still : is_abort call ≡ false → in_transaction mid ≡ true → in_transaction new ≡ true  -- an abort alone ends a transaction by its reply
   pub settled : in_transaction new ≡ true → (new.clock ≡ new.snapshot) × (new.snapshot % 2 ≡ 0)
+
+-- the transaction has become irrevocable: over every memory that agrees with the log, the stores leave the plain machine's memory, and all else is the plain machine's
+pub record Enters (mid : Core) (call : Call) (r : Replied) (new : Core) : Type 0 where
+  pub held : mid.holds ≡ true
+  pub revocable : mid.irrevocable ≡ false
+  pub goes : IsSome (goes mid call)
+  pub meets : (m : List ℕ) → IsMemory mid.words m → Agrees m mid.log → stands_for new (backed mid m) ≡ after MAX_OPEN_BLOCKS (stands_for mid m) call
+  pub reply_is : (m : List ℕ) → r ≡ recoded call mid.again (reply MAX_OPEN_BLOCKS (stands_for mid m) call)
+  pub stored : mid.done ≡ length mid.writes
+  pub unfreed : mid.freed ≡ false
+  pub taken : (mid.clock ≡ mid.snapshot) × (mid.snapshot % 2 ≡ 0)
+  pub stays : new ≡ record mid {
+    stage = new.stage;
+    tries = new.tries;
+    waits = None;
+    doing = None;
+    again = false;
+    fresh = [];
+    done = 0;
+    got = None;
+    gathered = [];
+    log = [];
+    writes = [];
+    blocks = map made_irrevocable (blocks_after mid call r);
+    actions = record (actions_after mid call r) { undos = [] };
+    irrevocable = true;
+  }
+
+-- what is replied in an irrevocable transaction: a read tells what it has gathered, and the memory decides no other reply
+abbrev pub reply_held : Core → Call → Replied
+reply_held c (Read hint width at) = reply_unless (refusal MAX_OPEN_BLOCKS (stands_for c (replicate c.words 0)) (Read hint width at)) (bytes_reply c.gathered)
+reply_held c call = reply MAX_OPEN_BLOCKS (stands_for c (replicate c.words 0)) call
+
+-- a reply in an irrevocable transaction: that it is the plain machine's, with what it makes of the memory, is said in `Held.antt`
+pub record RepliesHeld (mid : Core) (call : Call) (r : Replied) (new : Core) : Type 0 where
+  pub held : mid.holds ≡ true
+  pub irrevocable : mid.irrevocable ≡ true
+  pub reply_is : r ≡ reply_held mid call
+  pub unfreed : mid.freed ≡ false
+  pub stays : new ≡ record mid {
+    stage = new.stage;
+    tries = new.tries;
+    waits = None;
+    doing = None;
+    again = false;
+    fresh = [];
+    done = 0;
+    got = None;
+    gathered = [];
+    blocks = blocks_after mid call r;
+    actions = actions_after mid call r;
+    arena = arena_held mid call r;
+    room = room_left mid call r;
+  }
+  pub still : in_transaction mid ≡ true → in_transaction new ≡ true
 
 -- the call is a commit: over every memory that agrees with the log, the stores leave the plain machine's memory
 pub record Commits (mid : Core) (at : ℕ) (wrote : Bool) (new : Core) : Type 0 where
@@ -179,12 +254,26 @@ pub record Commits (mid : Core) (at : ℕ) (wrote : Bool) (new : Core) : Type 0 
 abbrev pub IsUndone : Core → Core → Type 0
 IsUndone mid new = (m : List ℕ) → IsMemory mid.words m → stands_for new m ≡ undone (stands_for mid m)
 
+abbrev pub IsBegin : Option Call → Type 0
+IsBegin (Some (Begin props room)) = Unit {0}
+IsBegin _ = ⊥
+
 -- the word that differs was the last one loaded
 abbrev pub Differs : List LogRow → List LogRow → Option ℕ → Type 0
 Differs fresh log None = fresh ≡ []
 Differs fresh log (Some word) =
     (before : List LogRow) × (found : ℕ) × (logged : LogRow) × (place : ℕ)
     × (fresh ≡ before ++ record { word = word; value = found } ∷ []) × (slice_get log place ≡ Some logged) × (logged.word ≡ word) × (logged.value ≢ found)
+
+-- a begin that goes irrevocable found another clock as it took it, as often as it may
+pub record IsLost (mid : Core) (clock : ℕ) (word : Option ℕ) (new : Core) : Type 0 where
+  pub begins : IsBegin mid.doing
+  pub clock_is : clock ≡ mid.clock
+  pub later : mid.snapshot < clock
+  pub word_is : word ≡ None
+  pub free : mid.holds ≡ false
+  pub unfreed : mid.freed ≡ false
+  pub stays : new ≡ record (ended mid) { stage = new.stage; tries = new.tries }
 
 -- the clock that was seen last is later than the snapshot, and the transaction is undone
 pub record Conflicts (mid : Core) (clock : ℕ) (word : Option ℕ) (new : Core) : Type 0 where
@@ -197,10 +286,6 @@ pub record Conflicts (mid : Core) (clock : ℕ) (word : Option ℕ) (new : Core)
   pub stays : new ≡ record (rolled_back mid) { stage = new.stage; tries = new.tries }
   pub undone : IsUndone mid new
 
-abbrev pub IsBegin : Option Call → Type 0
-IsBegin (Some (Begin props room)) = Unit {0}
-IsBegin _ = ⊥
-
 -- a begin found the clock odd as often as it may
 pub record IsBusy (mid : Core) (clock : ℕ) (new : Core) : Type 0 where
   pub begins : IsBegin mid.doing
@@ -211,27 +296,40 @@ pub record IsBusy (mid : Core) (clock : ℕ) (new : Core) : Type 0 where
   pub unfreed : mid.freed ≡ false
   pub stays : new ≡ record (ended mid) { stage = new.stage; tries = new.tries }
 
--- there is something to write, and as many commits are done as may be; the transaction is undone
+-- a commit wants the clock where something is written, and any other call that makes the transaction irrevocable
+abbrev pub WantsClock : Core → Option Call → Type 0
+WantsClock c None = ⊥
+WantsClock c (Some Commit) = (length c.blocks ≡ 1) × (c.writes ≢ [])
+WantsClock c (Some call) = IsSome (goes c call)
+
+-- the clock is wanted, and as many commits are done as may be; the transaction is undone
 pub record IsFull (mid : Core) (at : ℕ) (new : Core) : Type 0 where
-  pub doing : mid.doing ≡ Some Commit
-  pub is_open : in_transaction mid ≡ true
-  pub outermost : length mid.blocks ≡ 1
+  pub wants : WantsClock mid mid.doing
   pub at_is : at ≡ new.snapshot / 2
   pub full : mid.max_commits ≤ at
-  pub some : mid.writes ≢ []
   pub free : mid.holds ≡ false
   pub unfreed : mid.freed ≡ false
   pub stays : new ≡ record (rolled_back mid) { stage = new.stage; tries = new.tries; snapshot = new.snapshot }
   pub undone : IsUndone mid new
 
+-- with the clock held a transaction is irrevocable, or becomes so
+abbrev pub RepliesBy : Bool → Bool → Core → Call → Replied → Core → Type 0
+RepliesBy false irrevocable mid call r new = Replies mid call r new
+RepliesBy true false mid call r new = Enters mid call r new
+RepliesBy true true mid call r new = RepliesHeld mid call r new
+
 abbrev pub RepliesTo : Core → Option Call → Replied → Core → Type 0
 RepliesTo mid None r new = ⊥
-RepliesTo mid (Some call) r new = Replies mid call r new
+RepliesTo mid (Some call) r new = RepliesBy mid.holds mid.irrevocable mid call r new
+
+abbrev pub ConflictsIn : Bool → Core → ℕ → Option ℕ → Core → Type 0
+ConflictsIn true mid clock word new = Conflicts mid clock word new
+ConflictsIn false mid clock word new = IsLost mid clock word new
 
 abbrev pub Ends : Core → Answered → Core → Type 0
 Ends mid (Reply r) new = RepliesTo mid mid.doing r new
 Ends mid (Committed at wrote) new = Commits mid at wrote new
-Ends mid (Conflict clock word) new = Conflicts mid clock word new
+Ends mid (Conflict clock word) new = ConflictsIn (in_transaction mid) mid clock word new
 Ends mid (Busy clock) new = IsBusy mid clock new
 Ends mid (Full at) new = IsFull mid at new
 
@@ -247,13 +345,24 @@ pub record Settles (old : Core) (seen : ℕ) : Type 0 where
   pub same : seen ≡ old.clock
   pub even : seen % 2 ≡ 0
 
+-- an irrevocable transaction has no log
+pub record GoesOver (old new : Core) : Type 0 where
+  pub was : old.irrevocable ≡ false
+  pub is : new.irrevocable ≡ true
+  pub log : new.log ≡ []
+
+-- the clock is taken at the snapshot
+pub record Takes (old : Core) (seen : ℕ) : Type 0 where
+  pub cas : old.waits ≡ Some (Cas 0 old.snapshot (old.snapshot + 1))
+  pub same : seen ≡ old.snapshot
+
 -- rows join the log, and the snapshot moves, only there, and never both: the rows that join, or at a move all rows, were loaded between the two loads
 pub record Joins (old : Core) (seen : ℕ) (new : Core) : Type 0 where
-  pub log : in_transaction new ≡ true → (new.log ≡ old.log) ⊎ (Settles old seen × (new.log ≡ old.log ++ old.fresh) × (new.snapshot ≡ seen) × (old.snapshot ≡ seen))
-  pub begins : in_transaction old ≡ false → in_transaction new ≡ true → (old.waits ≡ Some (Load 0)) × (new.snapshot ≡ seen) × (seen % 2 ≡ 0)
+  pub log : in_transaction new ≡ true → (new.log ≡ old.log) ⊎ (Settles old seen × (new.log ≡ old.log ++ old.fresh) × (new.snapshot ≡ seen) × (old.snapshot ≡ seen)) ⊎ GoesOver old new
+  pub begins : in_transaction old ≡ false → in_transaction new ≡ true → ((old.waits ≡ Some (Load 0)) × (new.snapshot ≡ seen) × (seen % 2 ≡ 0)) ⊎ (Takes old seen × (new.snapshot ≡ seen) × (new.irrevocable ≡ true))
   pub snapshot : in_transaction old ≡ true → (new.snapshot ≡ old.snapshot) ⊎ (Settles old seen × (old.fresh ≡ old.log) × (new.snapshot ≡ seen))
 
--- a transaction opens at a clock load alone, so not as a call comes; no row joins the log then, and the snapshot stays
+-- a transaction opens at a load of the clock or as it is taken, so not as a call comes; no row joins the log then, and the snapshot stays
 pub record StaysOn (old new : Core) : Type 0 where
   pub opens : in_transaction new ≡ true → in_transaction old ≡ true
   pub log : in_transaction new ≡ true → new.log ≡ old.log
@@ -265,17 +374,31 @@ IsAtOnce (Answers (Conflict clock word)) = ⊥
 IsAtOnce (Answers (Busy clock)) = ⊥
 IsAtOnce _ = Unit {0}
 
--- memory is asked for by a read, a write, a log, a copy, a fill or a registration alone, by no refused one, by no write to words that the innermost block has given rows, and by no log, copy or fill of no bytes
+-- memory is asked for by a read, a write, a log, a copy, a fill, a registration or a call that makes the transaction irrevocable alone, by no refused one, by no write to words that the innermost block has given rows, and by no log, copy or fill of no bytes
+abbrev pub MayStarveOpen : Core → Call → Type 0
+MayStarveOpen c (Read hint width at) = (in_transaction c ≡ true) × (at + size_of width ≤ 8 * c.words)
+MayStarveOpen c (Write hint at value) = (in_transaction c ≡ true) × (at + size_of value.width ≤ 8 * c.words) × (AreRoomy c.writes (rows_of c.blocks) (pieces_of at (size_of value.width)) → ⊥)
+MayStarveOpen c (Log width at) = (in_transaction c ≡ true) × (at + size_of width ≤ length c.arena)
+MayStarveOpen c (LogBytes at size) = (in_transaction c ≡ true) × (at + size ≤ length c.arena) × (0 < size)
+MayStarveOpen c (Copy k) = (copy_refusal (in_transaction c) c.words (length c.arena) k ≡ None) × (0 < k.size)
+MayStarveOpen c (Fill hint to byte size) = (in_transaction c ≡ true) × (to + size ≤ 8 * c.words) × (0 < size)
+MayStarveOpen c (Begin props room) = (goes c (Begin props room) ≡ Some room) × (0 < room)
+MayStarveOpen c (Mode room) = (goes c (Mode room) ≡ Some room) × (0 < room)
+MayStarveOpen c (CommitAction action) = (in_transaction c ≡ true) × (c.room ≡ 0)
+MayStarveOpen c (UndoAction action) = in_transaction c ≡ true
+MayStarveOpen c _ = ⊥
+
+-- in an irrevocable transaction only by a commit action beyond its room
+abbrev pub MayStarveHeld : Core → Call → Type 0
+MayStarveHeld c (CommitAction action) = c.room ≡ 0
+MayStarveHeld c _ = ⊥
+
+abbrev pub MayStarveIn : Bool → Core → Call → Type 0
+MayStarveIn true c call = MayStarveHeld c call
+MayStarveIn false c call = MayStarveOpen c call
+
 abbrev pub MayStarve : Core → Call → Type 0
-MayStarve c (Read hint width at) = (in_transaction c ≡ true) × (at + size_of width ≤ 8 * c.words)
-MayStarve c (Write hint at value) = (in_transaction c ≡ true) × (at + size_of value.width ≤ 8 * c.words) × (AreRoomy c.writes (rows_of c.blocks) (pieces_of at (size_of value.width)) → ⊥)
-MayStarve c (Log width at) = (in_transaction c ≡ true) × (at + size_of width ≤ length c.arena)
-MayStarve c (LogBytes at size) = (in_transaction c ≡ true) × (at + size ≤ length c.arena) × (0 < size)
-MayStarve c (Copy k) = (copy_refusal (in_transaction c) c.words (length c.arena) k ≡ None) × (0 < k.size)
-MayStarve c (Fill hint to byte size) = (in_transaction c ≡ true) × (to + size ≤ 8 * c.words) × (0 < size)
-MayStarve c (CommitAction action) = in_transaction c ≡ true
-MayStarve c (UndoAction action) = in_transaction c ≡ true
-MayStarve c _ = ⊥
+MayStarve c call = MayStarveIn c.irrevocable c call
 
 -- ## Values and counts
 
@@ -290,10 +413,13 @@ Fits c seen = FitsStep c c.waits seen
 
 -- the most steps of a call
 abbrev pub most : Core → Option Call → ℕ
-most c (Some (Begin props room)) = 2 * c.patience
+most c (Some (Begin props room)) = if in_transaction c then c.patience * (c.entry + 3) + 2 * length c.writes + 2 else 2 * c.patience
 most c (Some Commit) = c.patience * (c.entry + 3) + 2 * length c.writes + 2
+most c (Some (Mode room)) = c.patience * (c.entry + 3) + 2 * length c.writes + 2
 most c (Some (Read hint width at)) = 2 * count_of at (size_of width) + c.patience * (c.entry + count_of at (size_of width) + 4)
-most c (Some (Copy k)) = 2 * source_words k + c.patience * (c.entry + source_words k + 4)
+most c (Some (Write hint at value)) = 2 * count_of at (size_of value.width)
+most c (Some (Copy k)) = if c.irrevocable then words_read k k.pair + 2 * words_written k k.pair else 2 * source_words k + c.patience * (c.entry + source_words k + 4)
+most c (Some (Fill hint to byte size)) = 2 * words_in to (chunks_of Up size)
 most c _ = 0
 
 -- while it waits, it has asked for no more than the call's most steps
@@ -309,3 +435,4 @@ pub record IsSettled (c : Core) : Type 0 where
   pub even : c.snapshot % 2 ≡ 0
   pub holder : c.holds ≡ true → (in_transaction c ≡ true) × (c.clock ≡ c.snapshot) × (c.snapshot / 2 < c.max_commits)
   pub limit : c.max_commits ≤ MAX_COMMITS
+  pub irrevocable : c.irrevocable ≡ true → (c.holds ≡ true) × (c.writes ≡ []) × (c.log ≡ [])

@@ -3,9 +3,9 @@
 ghost use Rattle.std.specs.Prelude.{◌≡◌, ℕ, ◌+◌, ◌*◌, ◌<◌, ◌≤◌, List, ◌++◌, take, length, IfSome, slice_get, slice_index};
 ghost use Rattle.word_pieces.specs.Pieces.{IsPiece, gathered, part_of};
 ghost use Rattle.norec_core.specs.Accesses.{parts};
-ghost use Rattle.norec_core.specs.Order.{word_of};
+ghost use Rattle.norec_core.specs.OwnAccesses.{word_of};
 
-use itm_types::{Copying, MAX_MEMORY, Props, ReadHint, Width};
+use itm_types::{Copying, MAX_MEMORY, Props, ReadHint, Width, WriteHint};
 use word_pieces::{Piece, piece_at};
 
 /// A begin of an outermost block.
@@ -76,11 +76,55 @@ impl Reading {
     }
 }
 
+/// What an open transaction takes the clock for.
+#[derive(Clone, Copy, Debug, PartialEq, Eq)]
+pub enum Taking {
+    Commit,
+    /// The transaction becomes irrevocable.
+    Mode { room: u32 },
+    /// And a block begins within it.
+    Begin { props: Props, room: u32 },
+}
+
 /// What a validation round is made for.
 #[derive(Clone, Copy, Debug, PartialEq, Eq)]
 pub enum Aim {
     Read(Reading),
-    Commit,
+    Take(Taking),
+}
+
+/// What shared bytes are written for, in an irrevocable transaction.
+#[derive(Clone, Copy, Debug, PartialEq, Eq)]
+pub enum Target {
+    /// The value of a write.
+    Value {
+        hint: WriteHint,
+        width: Width,
+    },
+    /// A chunk of a fill, by its number.
+    Fill {
+        hint: WriteHint,
+        to: u64,
+        byte: u64,
+        size: u64,
+        number: u32,
+    },
+    /// A chunk of a copy, by its number in the order in which they are taken.
+    Chunk {
+        copying: Copying,
+        number: u32,
+    },
+}
+
+/// An access that writes, at one of the pieces in which its bytes lie, in an irrevocable transaction.
+#[derive(Clone, Copy, Debug, PartialEq, Eq)]
+pub struct Writing {
+    pub target: Target,
+    pub at: u64,
+    /// How many bytes are written, at most as many as the widest access has.
+    pub size: u8,
+    /// The number of the piece, counted upwards from 0.
+    pub number: u8,
 }
 
 /// What the call in progress waits for.
@@ -90,6 +134,8 @@ pub enum Phase {
     Idle,
     /// The clock, for a begin.
     Begin(Opening),
+    /// The exchange that takes the clock for a begin that goes irrevocable.
+    Take(Opening),
     /// The word of the read's piece.
     Load(Reading),
     /// The clock, to confirm this value of the word.
@@ -101,11 +147,15 @@ pub enum Phase {
     /// The clock, at the end of a round.
     RoundEnd(Aim),
     /// The exchange that takes the clock.
-    Exchange,
+    Exchange(Taking),
     /// The word of this row of the write set, which has a part of it.
-    BackLoad(usize),
+    BackLoad(Taking, usize),
     /// The store of this row of the write set, into this word where the row has a part of it.
-    Store(usize, Option<u64>),
+    Store(Taking, usize, Option<u64>),
     /// The store that frees the clock.
     Free,
+    /// The word of this piece, which has a part of it, in an irrevocable transaction.
+    Fetch(Writing),
+    /// The store of this piece, into this word where it has a part of it, in an irrevocable transaction.
+    Place(Writing, Option<u64>),
 }

@@ -10,7 +10,7 @@ use Rattle.norec_core.specs.Copies.{copy_refusal, target_refusal, source_refusal
 use Rattle.norec_core.specs.Rows.{range_pieces, reserved_all, put_range}
 use Rattle.norec_core.specs.Proceeds.{writes_copied, arena_copied}
 use Rattle.norec_engine.specs.InPhases.{reserved_for, MayPutFor}
-use Rattle.norec_engine.proofs.Copies.{arena_within, shared_within, accepted_sides}
+use Rattle.norec_core.proofs.CopyRefusals.{arena_within, shared_within, accepted_sides}
 
 -- ## What it reads
 

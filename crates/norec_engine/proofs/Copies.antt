@@ -20,30 +20,21 @@ use Rattle.write_set.specs.Rows.{overlay, AreRows}
 use Rattle.write_set.proofs.Overlays.{length-overlay}
 use Rattle.user_actions.specs.Actions.{Actions}
 use Rattle.nest_frames.specs.Nest.{Frame}
-use Rattle.norec_engine.specs.declared.data.Data.{Data}
+use Rattle.norec_data.specs.declared.data.Data.{Data}
 use Rattle.norec_core.specs.declared.phase.Phase.TheVariants.{Idle}
 use Rattle.norec_core.specs.Core.{came, is_inside}
 use Rattle.norec_core.specs.Copies.{shared_refusal, arena_refusal, target_refusal, source_refusal, copy_refusal, direction_of, source_in}
-use Rattle.norec_engine.specs.View.{core, in_block}
+use Rattle.norec_data.specs.View.{core, in_block}
 use Rattle.norec_engine.specs.InPhases.{IsSound}
 use Rattle.norec_core.specs.Proceeds.{Replies, writes_copied, arena_copied}
 use Rattle.norec_core.specs.Stands.{is_some_row, state_over}
 use Rattle.norec_core.proofs.Blocks.{blocks_over-same}
+use Rattle.norec_core.proofs.CopyRefusals.{target_is, source_is, shared_within, arena_within, accepted_sides, length-source_in}
 use Rattle.norec_core.proofs.Machines.{open_is, refuses}
 use Rattle.norec_core.proofs.Ranges.{written_over}
 use Rattle.norec_engine.proofs.Refusals.{denied, stands}
 
 -- ## Refusals
-
-target_is : (s : State) (words : ℕ) (pair : CopyPair) (place size : ℕ) → length s.memory ≡ 8 * words → target_range s pair place size ≡ target_refusal words (length s.arena) pair place size
-target_is s words (Out to) place size e = ap (λ (n : ℕ). unless (nat_le (place + size) n) OutOfRange) e
-target_is s words (In from) place size e = refl
-target_is s words (Within from to) place size e = ap (λ (n : ℕ). unless (nat_le (place + size) n) OutOfRange) e
-
-source_is : (s : State) (words : ℕ) (pair : CopyPair) (place size : ℕ) → length s.memory ≡ 8 * words → source_range s pair place size ≡ source_refusal words (length s.arena) pair place size
-source_is s words (Out to) place size e = refl
-source_is s words (In from) place size e = ap (λ (n : ℕ). unless (nat_le (place + size) n) OutOfRange) e
-source_is s words (Within from to) place size e = ap (λ (n : ℕ). unless (nat_le (place + size) n) OutOfRange) e
 
 -- a copy is refused by an engine as by the state that it stands for
 pub copy_refused : (rows : List Row) (blocks : List Frame) (arena : List ℕ) (actions : Actions) (m : List ℕ) (words : ℕ) (k : Copying) → IsMemory words m
@@ -60,38 +51,7 @@ copy_refused rows blocks arena actions m words k mem =
 pub refused_copy : (d : Data) (k : Copying) (why : Refusal) → IsSound d Idle → copy_refusal (in_block d) d.words (length d.arena) k ≡ Some why
     → Replies (came (core d Idle) (Copy k) false) (Copy k) (Refused why) (core (record d { spent = 0; entry = length d.log.rows }) Idle)
 refused_copy d k why s e =
-    denied d (Copy k) why s (λ m mem. refuses (stands d m) (Copy k) why (copy_refused d.frames.writes.rows d.frames.blocks d.arena d.frames.actions m d.words k mem ∙ e))
-
--- ## What is not refused
-
-unless_none : (b : Bool) (why : Refusal) → unless b why ≡ None → b ≡ true
-unless_none true why e = refl
-unless_none false why e = absurd (cc)
-
-or_none : (a b : Option Refusal) → or_else a b ≡ None → (a ≡ None) × (b ≡ None)
-or_none None b e = (refl, e)
-or_none (Some why) b e = absurd (cc)
-
-pub shared_within : (words place size : ℕ) → shared_refusal words place size ≡ None → place + size ≤ 8 * words
-shared_within words place size e = leb-true (place + size) (8 * words) (unless_none (nat_le (place + size) (8 * words)) OutOfRange e)
-
-pub arena_within : (bytes place size : ℕ) → arena_refusal bytes place size ≡ None → place + size ≤ bytes
-arena_within bytes place size e = leb-true (place + size) bytes (unless_none (nat_le (place + size) bytes) OutOfArena e)
-
--- neither side leaves its bytes
-pub accepted_sides : (words bytes : ℕ) (k : Copying) → copy_refusal true words bytes k ≡ None
-    → (target_refusal words bytes k.pair k.to k.size ≡ None) × (source_refusal words bytes k.pair k.from k.size ≡ None)
-accepted_sides words bytes k e =
-    let source = source_refusal words bytes k.pair k.from k.size in
-    let first = or_none (target_refusal words bytes k.pair k.to k.size) (or_else source (unless (is_clear k) Overlap)) e in
-    (first.0, (or_none source (unless (is_clear k) Overlap) first.1).0)
-
--- so a copy reads as many bytes as it is asked to
-pub length-source_in : (pair : CopyPair) (words : ℕ) (arena memory : List ℕ) (place size : ℕ) → length memory ≡ 8 * words → source_refusal words (length arena) pair place size ≡ None
-    → length (source_in pair arena memory place size) ≡ size
-length-source_in (Out to) words arena memory place size e ok = length-slice arena place size (arena_within (length arena) place size ok)
-length-source_in (In from) words arena memory place size e ok = (let l = shared_within words place size ok in length-slice memory place size (omega arith))
-length-source_in (Within from to) words arena memory place size e ok = (let l = shared_within words place size ok in length-slice memory place size (omega arith))
+    denied d (Copy k) why s refl (λ m mem. refuses (stands d m) (Copy k) why (copy_refused d.frames.writes.rows d.frames.blocks d.arena d.frames.actions m d.words k mem ∙ e))
 
 -- ## What is copied
 
@@ -105,7 +65,7 @@ saved_over : (rows : List Row) (blocks : List Frame) (arena : List ℕ) (actions
     → state_over rows blocks (with_slice arena place bytes) actions m ≡ saved_in_arena (state_over rows blocks arena actions m) place bytes
 saved_over rows blocks arena actions m place bytes l =
     let same = blocks_over-same blocks (with_slice arena place bytes) arena m (length-with_slice arena bytes place l) in
-    λ i. record { memory = bytes_of (overlay m rows); arena = with_slice arena place bytes; blocks = same i; actions = actions; wrote = is_some_row rows }
+    λ i. record { memory = bytes_of (overlay m rows); arena = with_slice arena place bytes; blocks = same i; actions = actions; wrote = is_some_row rows; irrevocable = false }
 
 -- bytes that a copy writes go to its destination
 copied_over : (pair : CopyPair) (rows : List Row) (blocks : List Frame) (arena : List ℕ) (actions : Actions) (m : List ℕ) (words : ℕ) (k : Copying) (bytes : List ℕ) → IsMemory words m → AreRows rows → AreBytes bytes

@@ -12,79 +12,56 @@ use Rattle.nest_frames.specs.Nest.{Frame, arena_back, arena_restored, actions_ba
 use Rattle.itm_model.specs.Machine.{undone, undone_from}
 use Rattle.norec_core.specs.declared.phase.Phase.{Phase}
 use Rattle.norec_core.specs.declared.phase.Phase.TheVariants as at
-use Rattle.norec_engine.specs.declared.data.Data.{Data}
+use Rattle.norec_core.specs.declared.phase.Taking.{Taking}
+use Rattle.norec_data.specs.declared.data.Data.{Data}
 use Rattle.norec_core.specs.Core.{Core, is_inside, in_transaction, ended, rolled_back}
-use Rattle.norec_engine.specs.View.{core, in_block, holds_of, writes_of}
+use Rattle.norec_data.specs.View.{core, in_block, holds_of, writes_of}
+use Rattle.norec_data.proofs.Ended.{core_ended}
 use Rattle.norec_engine.specs.InPhases.{AreFrames, InPhase}
-use Rattle.norec_engine.specs.Between.{IsEnded}
+use Rattle.norec_data.specs.Turns.{IsEnded}
 use Rattle.norec_core.specs.Proceeds.{IsUndone}
 use Rattle.norec_core.specs.declared.answer.Undone.TheVariants.{Nothing, Done, Held}
 use Rattle.norec_core.specs.Undoing.{undone_of, after_undoing}
 use Rattle.norec_core.proofs.Blocks.{none_inside}
-use Rattle.norec_core.specs.Stands.{is_some_row, blocks_over, state_over, stands_for}
-
-pub core_ended : (old new : Data) (arena : List ℕ) (actions : Actions) → IsEnded old arena actions new → core new at.Idle ≡ record (ended (core old at.Idle)) { tries = 0; arena = arena; actions = actions }
-core_ended old new arena actions e = λ i. record {
-  words = e.words i;
-  patience = (e.limits i).patience;
-  max_commits = (e.limits i).max_commits;
-  arena = e.arena i;
-  snapshot = e.snapshot i;
-  clock = e.clock i;
-  fresh = [];
-  log = e.log i;
-  writes = (e.frames i).writes.rows;
-  blocks = (e.frames i).blocks;
-  actions = (e.frames i).actions;
-  holds = false;
-  done = 0;
-  freed = false;
-  got = None;
-  doing = None;
-  again = false;
-  waits = None;
-  spent = e.spent i;
-  stage = at.Idle;
-  tries = 0;
-  entry = e.entry i;
-}
+use Rattle.norec_core.specs.Stands.{is_some_row, blocks_over, state_in, state_over, stands_for}
 
 -- a rollback of all these blocks: the memory without the write set, and the arena with what they logged
 pub undone_over : (words : ℕ) (blocks : List Frame) (arena now : List ℕ) (actions : Actions) (m memory : List ℕ) (wrote : Bool) → AreFrames words blocks → is_inside blocks ≡ true → length now ≡ length arena
-    → undone_from (record { memory = memory; arena = now; blocks = blocks_over blocks arena m; actions = actions; wrote = wrote }) (blocks_over blocks arena m) ≡ state_over [] [] (arena_restored blocks now) (actions_back blocks actions) m
+    → undone_from (record { memory = memory; arena = now; blocks = blocks_over blocks arena m; actions = actions; wrote = wrote; irrevocable = false }) (blocks_over blocks arena m) ≡ state_over [] [] (arena_restored blocks now) (actions_back blocks actions) m
 undone_over words [] arena now actions m memory wrote f o same = absurd (cc)
 undone_over words (b ∷ []) arena now actions m memory wrote f o same =
-    λ i. record { memory = bytes_of (overlay m (f i)); arena = restored (kept_of-same arena now b.log (sym same) i) now; blocks = []; actions = cut_back b.commits b.undos actions; wrote = is_some_row (f i) }
+    λ i. record { memory = bytes_of (overlay m (f i)); arena = restored (kept_of-same arena now b.log (sym same) i) now; blocks = []; actions = cut_back b.commits b.undos actions; wrote = is_some_row (f i); irrevocable = false }
 undone_over words (b ∷ p ∷ bs) arena now actions m memory wrote f o same =
     let next = restored (kept_of arena b.log) now in
     undone_over words (p ∷ bs) arena next (cut_back b.commits b.undos actions) m (bytes_of (overlay m b.rows)) (is_some_row b.rows) f.2 refl (length-restored (kept_of arena b.log) now ∙ same)
     ∙ ap (λ (ks : _). state_over [] [] (arena_restored (p ∷ bs) (restored ks now)) (actions_back (b ∷ p ∷ bs) actions) m) (kept_of-same arena now b.log (sym same))
 
 pub ended_undone : (mid new : Core) (stage : Phase) (tries snapshot : ℕ) → AreFrames mid.words mid.blocks → arena_back mid.blocks mid.arena ≡ arena_restored mid.blocks mid.arena
-    → in_transaction mid ≡ true → new ≡ record (rolled_back mid) { stage = stage; tries = tries; snapshot = snapshot } → IsUndone mid new
-ended_undone mid new stage tries snapshot f same o stays m mem =
+    → mid.irrevocable ≡ false → in_transaction mid ≡ true → new ≡ record (rolled_back mid) { stage = stage; tries = tries; snapshot = snapshot } → IsUndone mid new
+ended_undone mid new stage tries snapshot f same r o stays m mem =
     ap (λ (c : Core). stands_for c m) stays ∙ (ap (λ (arena : List ℕ). state_over [] [] arena (actions_back mid.blocks mid.actions) m) same
-    ∙ sym (undone_over mid.words mid.blocks mid.arena mid.arena mid.actions m (bytes_of (overlay m mid.writes)) (is_some_row mid.writes) f o refl))
+    ∙ (sym (undone_over mid.words mid.blocks mid.arena mid.arena mid.actions m (bytes_of (overlay m mid.writes)) (is_some_row mid.writes) f o refl)
+    ∙ ap (λ (b : Bool). undone (state_in b mid.writes mid.blocks mid.arena mid.actions m)) (sym r)))
 
 -- ## Given up
 
 -- the clock is not held
 abbrev pub IsFree : Phase → Type 0
-IsFree (at.BackLoad row) = ⊥
-IsFree (at.Store row got) = ⊥
+IsFree (at.BackLoad taking row) = ⊥
+IsFree (at.Store taking row got) = ⊥
 IsFree at.Free = ⊥
 IsFree _ = Unit {0}
 
 pub free_holds : (phase : Phase) → IsFree phase → holds_of phase ≡ false
-free_holds (at.BackLoad row) f = absurd f
-free_holds (at.Store row got) f = absurd f
+free_holds (at.BackLoad taking row) f = absurd f
+free_holds (at.Store taking row got) f = absurd f
 free_holds at.Free f = absurd f
 free_holds phase f = refl
 
 -- such a phase, by what it is not
-pub is_free : (phase : Phase) → ((row : ℕ) → phase ≡ at.BackLoad row → ⊥) → ((row : ℕ) (got : Option ℕ) → phase ≡ at.Store row got → ⊥) → (phase ≡ at.Free → ⊥) → IsFree phase
-is_free (at.BackLoad row) f g h = f row refl
-is_free (at.Store row got) f g h = g row got refl
+pub is_free : (phase : Phase) → ((taking : Taking) (row : ℕ) → phase ≡ at.BackLoad taking row → ⊥) → ((taking : Taking) (row : ℕ) (got : Option ℕ) → phase ≡ at.Store taking row got → ⊥) → (phase ≡ at.Free → ⊥) → IsFree phase
+is_free (at.BackLoad taking row) f g h = f taking row refl
+is_free (at.Store taking row got) f g h = g taking row got refl
 is_free at.Free f g h = h refl
 is_free phase f g h = tt
 
@@ -97,13 +74,16 @@ open_frames d (at.Confirm r value) p o = p.0.frames
 open_frames d (at.RoundStart aim) p o = p.is_open.frames
 open_frames d (at.RoundRow aim row) p o = p.0.is_open.frames
 open_frames d (at.RoundEnd aim) p o = p.0.is_open.frames
-open_frames d at.Exchange p o = p.0.frames
-open_frames d (at.BackLoad row) p o = p.0.is_open.frames
-open_frames d (at.Store row None) p o = p.0.is_open.frames
-open_frames d (at.Store row (Some word)) p o = p.0.is_open.frames
+open_frames d (at.Take b) p o = (let outside = p.0.is_open in absurd (cc))
+open_frames d (at.Exchange taking) p o = p.0.frames
+open_frames d (at.BackLoad taking row) p o = p.0.is_open.frames
+open_frames d (at.Store taking row None) p o = p.0.is_open.frames
+open_frames d (at.Store taking row (Some word)) p o = p.0.is_open.frames
 open_frames d at.Free p o = p.is_open.frames
+open_frames d (at.Fetch w) p o = absurd p
+open_frames d (at.Place w got) p o = absurd p
 
-none_written : (d : Data) (phase : Phase) → InPhase d phase → in_block d ≡ false → writes_of d phase ≡ []
+pub none_written : (d : Data) (phase : Phase) → InPhase d phase → in_block d ≡ false → writes_of d phase ≡ []
 none_written d at.Idle p o = ap (λ (w : Written). w.rows) (p.1 o).writes
 none_written d (at.Begin b) p o = ap (λ (w : Written). w.rows) p.0.writes
 none_written d (at.Load r) p o = (let inside = p.0.is_open in absurd (cc))
@@ -111,17 +91,20 @@ none_written d (at.Confirm r value) p o = (let inside = p.0.is_open in absurd (c
 none_written d (at.RoundStart aim) p o = (let inside = p.is_open.is_open in absurd (cc))
 none_written d (at.RoundRow aim row) p o = (let inside = p.0.is_open.is_open in absurd (cc))
 none_written d (at.RoundEnd aim) p o = (let inside = p.0.is_open.is_open in absurd (cc))
-none_written d at.Exchange p o = (let inside = p.0.is_open in absurd (cc))
-none_written d (at.BackLoad row) p o = (let inside = p.0.is_open.is_open in absurd (cc))
-none_written d (at.Store row None) p o = (let inside = p.0.is_open.is_open in absurd (cc))
-none_written d (at.Store row (Some word)) p o = (let inside = p.0.is_open.is_open in absurd (cc))
+none_written d (at.Take b) p o = ap (λ (w : Written). w.rows) p.0.writes
+none_written d (at.Exchange taking) p o = (let inside = p.0.is_open in absurd (cc))
+none_written d (at.BackLoad taking row) p o = (let inside = p.0.is_open.is_open in absurd (cc))
+none_written d (at.Store taking row None) p o = (let inside = p.0.is_open.is_open in absurd (cc))
+none_written d (at.Store taking row (Some word)) p o = (let inside = p.0.is_open.is_open in absurd (cc))
 none_written d at.Free p o = (let inside = p.is_open.is_open in absurd (cc))
+none_written d (at.Fetch w) p o = absurd p
+none_written d (at.Place w got) p o = absurd p
 
 -- the phases that do not hold the clock are left alike
 left_alike : (d : Data) (phase : Phase) → IsFree phase
     → record (rolled_back (core d phase)) { stage = at.Idle; tries = 0 } ≡ record (ended (core d at.Idle)) { tries = 0; arena = arena_back d.frames.blocks d.arena; actions = actions_back d.frames.blocks d.frames.actions }
-left_alike d (at.BackLoad row) f = absurd f
-left_alike d (at.Store row got) f = absurd f
+left_alike d (at.BackLoad taking row) f = absurd f
+left_alike d (at.Store taking row got) f = absurd f
 left_alike d at.Free f = absurd f
 left_alike d phase f = refl
 
@@ -136,7 +119,7 @@ after_left d new phase f e =
 
 undone_left : (d new : Data) (phase : Phase) (inside : Bool) → in_block d ≡ inside → InPhase d phase → IsFree phase → IsEnded d (arena_back d.frames.blocks d.arena) (actions_back d.frames.blocks d.frames.actions) new
     → arena_back d.frames.blocks d.arena ≡ arena_restored d.frames.blocks d.arena → IsUndone (core d phase) (core new at.Idle)
-undone_left d new phase true o p f e same = ended_undone (core d phase) (core new at.Idle) at.Idle 0 d.snapshot (open_frames d phase p o) same o (core_left d new phase f e)
+undone_left d new phase true o p f e same = ended_undone (core d phase) (core new at.Idle) at.Idle 0 d.snapshot (open_frames d phase p o) same refl o (core_left d new phase f e)
 undone_left d new phase false o p f e same = λ m mem.
     (let none = none_inside d.frames.blocks o in
     let nothing = none_written d phase p o in

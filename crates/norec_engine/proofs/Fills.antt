@@ -19,13 +19,14 @@ use Rattle.write_set.specs.Rows.{AreRows}
 use Rattle.user_actions.specs.Actions.{Actions}
 use Rattle.nest_frames.specs.Nest.{Frame, Nest}
 use Rattle.norec_core.specs.declared.answer.Answer.TheVariants.{Reply}
-use Rattle.norec_engine.specs.declared.data.Data.{Data}
+use Rattle.norec_data.specs.declared.data.Data.{Data}
 use Rattle.norec_core.specs.declared.phase.Phase.TheVariants.{Idle}
-use Rattle.norec_engine.specs.declared.turn.Turn.TheVariants.{End}
+use Rattle.norec_data.specs.declared.turn.Turn.TheVariants.{End}
 use Rattle.norec_core.specs.Core.{came, is_inside}
 use Rattle.norec_core.specs.Accesses.{access_refusal}
-use Rattle.norec_engine.specs.View.{core, in_block}
-use Rattle.norec_engine.specs.InPhases.{AreFrames, IsBounded, IsSound}
+use Rattle.norec_data.specs.View.{core, in_block}
+use Rattle.norec_engine.specs.InPhases.{AreFrames, IsSound}
+use Rattle.norec_data.specs.Bounds.{IsBounded}
 use Rattle.norec_engine.specs.Between.{IsSoundTurn}
 use Rattle.norec_core.specs.Proceeds.{Replies}
 use Rattle.norec_core.specs.Rows.{range_pieces, reserved_all, put_chunks, put_range, AllWritesWithin}
@@ -72,6 +73,7 @@ pub record IsFilled (d : Data) (to byte size : ℕ) (frames : Nest) : Type 0 whe
   pub blocks : frames.blocks ≡ d.frames.blocks
   pub sized : frames.size ≡ d.frames.size
   pub actions : frames.actions ≡ d.frames.actions
+  pub room : frames.room ≡ d.frames.room
 
 -- a fill of no bytes
 pub none_filled : (d : Data) (to byte size : ℕ) → access_refusal (in_block d) d.words to size ≡ None → size ≡ 0 → IsFilled d to byte size d.frames
@@ -81,13 +83,14 @@ none_filled d to byte size accepted none = record {
   blocks = refl;
   sized = refl;
   actions = refl;
+  room = refl;
 }
 
 -- one of these bytes, whose words have rows
 pub some_filled : (d : Data) (to byte size : ℕ) (rows : List Row) (bytes : List ℕ) (frames : Nest) → access_refusal (in_block d) d.words to size ≡ None
     → rows ≡ reserved_all d.frames.writes.rows (range_pieces to (chunks_of Up size)) → bytes ≡ bytes_set size byte → frames.writes.rows ≡ put_chunks rows to (chunks_of Up (length bytes)) bytes
-    → frames.blocks ≡ d.frames.blocks → frames.size ≡ d.frames.size → frames.actions ≡ d.frames.actions → IsFilled d to byte size frames
-some_filled d to byte size rows bytes frames accepted reserved are put blocks sized actions =
+    → frames.blocks ≡ d.frames.blocks → frames.size ≡ d.frames.size → frames.actions ≡ d.frames.actions → frames.room ≡ d.frames.room → IsFilled d to byte size frames
+some_filled d to byte size rows bytes frames accepted reserved are put blocks sized actions room =
     let len : size ≡ length (bytes_set size byte) = sym (length-replicate size (byte % 256)) in
     let same = reserved ∙ (λ i. reserved_all d.frames.writes.rows (range_pieces to (chunks_of Up (len i)))) in
     record {
@@ -96,6 +99,7 @@ some_filled d to byte size rows bytes frames accepted reserved are put blocks si
       blocks = blocks;
       sized = sized;
       actions = actions;
+      room = room;
     }
 
 module _ (d : Data) (to byte size : ℕ) (frames : Nest) (buffer : Vec ℕ) (s : IsSound d Idle) (is : IsFilled d to byte size frames) where
@@ -137,10 +141,11 @@ module _ (d : Data) (to byte size : ℕ) (frames : Nest) (buffer : Vec ℕ) (s :
       record {
         meets = λ m mem agrees. (λ i. state_over (is.rows i) (is.blocks i) d.arena (is.actions i) m) ∙ (all m mem).0;
         reply_is = λ m mem agrees. (all m mem).1;
-        stays = refl;
+        stays = ap (λ (n : ℕ). record (core (filled d frames buffer) Idle) { room = n }) is.room;
         writes = λ m mem agrees. is.rows;
         arena = λ m mem agrees. refl;
         free = refl;
+        revocable = refl;
         unfreed = refl;
         still = λ other o. ap is_inside is.blocks ∙ o;
         blocks = is.blocks;

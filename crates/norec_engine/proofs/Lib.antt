@@ -10,3 +10,9 @@ pub mod Loads
 pub mod ReadyCopies
 pub mod Counts
 pub mod Fills
+pub mod IrrevocableEntries
+mod BlockBegins
+mod LocalReplies
+pub mod EitherMode
+pub mod HeldCounts
+pub mod Settled

@@ -1,5 +1,5 @@
 -- A piece that is loaded, and the chunk of a copy's source that it may be one of.
-use Rattle.std.proofs.Common.{◌≡◌, ℕ, ◌+◌, ◌*◌, ◌≤◌, false, List, [], ◌++◌, length, take, replicate, Option, None, Some, slice_get, refl, sym, ap, subst, ◌∙◌, arith, append-nil}
+use Rattle.std.proofs.Common.{◌≡◌, ℕ, ◌+◌, ◌*◌, ◌≤◌, ◌==◌, Bool, true, false, if◌then◌else◌, List, [], ◌++◌, length, take, replicate, Option, None, Some, slice_get, refl, sym, ap, subst, ◌∙◌, arith, append-nil}
 use Rattle.std.specs.Prelude.{option_map}
 use Rattle.std.proofs.lemmas.List.{drop_all, length-replicate}
 use Rattle.arrayvec.specs.ArrayVec.{ArrayVec}
@@ -12,17 +12,22 @@ use Rattle.word_pieces.specs.declared.chunk.Chunk.{Chunk}
 use Rattle.word_pieces.proofs.Covers.{word-pieces_of}
 use Rattle.word_pieces.proofs.ChunkBytes.{all-written}
 use Rattle.word_pieces.specs.Chunks.{chunks_written}
-use Rattle.norec_engine.specs.declared.data.Data.{Data}
+use Rattle.norec_data.specs.declared.data.Data.{Data}
 use Rattle.norec_core.specs.declared.phase.Aim.{Aim}
 use Rattle.norec_core.specs.declared.phase.Aim.TheVariants as aims
+use Rattle.norec_core.specs.declared.phase.Taking.{Taking}
+use Rattle.norec_core.specs.declared.phase.Taking.TheVariants as takings
 use Rattle.norec_core.specs.declared.phase.Phase.TheVariants.{Load}
 use Rattle.norec_core.specs.declared.phase.Reading.{Reading}
-use Rattle.norec_engine.specs.declared.turn.Turn.TheVariants.{Wait}
+use Rattle.norec_data.specs.declared.turn.Turn.TheVariants.{Wait}
 use Rattle.norec_core.specs.Copies.{chunks_in, direction_of, is_out, source_in}
 use Rattle.norec_core.specs.Order.{chunk_reading}
 use Rattle.norec_core.specs.Accesses.{passed, passed_for, total}
-use Rattle.norec_engine.specs.InPhases.{round_of, Aims, IsBounded, IsOpen, IsReading, MayRead}
-use Rattle.norec_engine.specs.Between.{between, logged, MayCopy, IsSoundTurn, Turns}
+use Rattle.norec_engine.specs.InPhases.{round_of, Aims, Wants, IsOpen, IsReading, MayRead}
+use Rattle.norec_data.specs.Bounds.{IsBounded}
+use Rattle.norec_data.specs.View.{core}
+use Rattle.norec_engine.specs.Between.{between, logged, MayCopy, IsSoundTurn}
+use Rattle.norec_data.specs.Turns.{Turns}
 use Rattle.norec_engine.proofs.AcceptedCopies.{source_within}
 use Rattle.norec_core.proofs.CopyChunks.{chunk_within, no_chunk}
 use Rattle.norec_core.proofs.Readings.{passed_on}
@@ -30,6 +35,11 @@ use Rattle.norec_core.proofs.Readings.{passed_on}
 -- an engine with other bytes gathered is as open
 pub open_gathering : (d : Data) (g : ArrayVec ℕ) → IsOpen d → IsOpen (record d { gathered = g })
 open_gathering d g o = record { is_open = o.is_open; log = o.log; writes = o.writes; rows = o.rows; frames = o.frames; tries = o.tries }
+
+-- nothing is gathered but in an irrevocable transaction
+none_gathered : (first : Bool) → ◌≡◌ {A = List ℕ} [] (if first then [] else [])
+none_gathered true = refl
+none_gathered false = refl
 
 -- ## The piece that is loaded next
 
@@ -76,10 +86,10 @@ module _ (d : Data) (r next : Reading) (is : next ≡ record r { number = next.n
   at_next log = record {
     lawful = (
       (let within = word-pieces_of next.at next.size next.number d.words may.some may.reading.within in omega arith),
-      (o.is_open, λ h. absurd (cc)),
+      (o.is_open, λ h r. absurd (cc)),
     );
     unfreed = refl;
-    stays = refl;
+    stays = ap (λ (g : List ℕ). record (logged (core (record d { spent = d.spent + 1 }) (Load next)) d.log.rows) { gathered = g }) (none_gathered (next.number == 0));
   }
 
   pub load_proceeds : (log : List LogRow) → Turns (logged (between d (aims.Read r)) log) (Wait (Load next)) d
@@ -142,6 +152,11 @@ whole_source k n arena memory buffer out none many has =
 
 -- ## After the clock was loaded
 
+pub wants_later : (d : Data) (taking : Taking) (clock snapshot spent : ℕ) → Wants d taking → Wants (record d { clock = clock; snapshot = snapshot; spent = spent }) taking
+wants_later d takings.Commit clock snapshot spent w = w
+wants_later d (takings.Mode room) clock snapshot spent w = w
+wants_later d (takings.Begin props room) clock snapshot spent w = w
+
 -- what a round is made for stays
 pub aims_later : (d : Data) (aim : Aim) (clock snapshot spent : ℕ) → Aims d aim → Aims (record d { clock = clock; snapshot = snapshot; spent = spent }) aim
 aims_later d (aims.Read r) clock snapshot spent may = record {
@@ -159,4 +174,4 @@ aims_later d (aims.Read r) clock snapshot spent may = record {
   some = may.some;
   uncovered = may.uncovered;
 }
-aims_later d aims.Commit clock snapshot spent may = record { outermost = may.outermost; some = may.some; grown = may.grown }
+aims_later d (aims.Take taking) clock snapshot spent may = record { wants = wants_later d taking clock snapshot spent may.wants; grown = may.grown }

@@ -4,13 +4,14 @@ use Rattle.itm_types.specs.declared.step.Step.TheVariants.{Load, Store}
 use Rattle.write_set.specs.declared.row.Row.{Row}
 use Rattle.norec_core.specs.Rows.{value_into}
 use Rattle.norec_core.specs.declared.phase.Phase.TheVariants as at
-use Rattle.norec_engine.specs.declared.data.Data.{Data}
+use Rattle.norec_core.specs.declared.phase.Taking.{Taking}
+use Rattle.norec_data.specs.declared.data.Data.{Data}
 use Rattle.norec_engine.specs.InPhases.{IsOpen, InPhase}
 
 -- a row that is stored is one of the write set
-pub store_row : (d : Data) (row : ℕ) (got : Option ℕ) → InPhase d (at.Store row got) → IsOpen d × (row < length d.frames.writes.rows)
-store_row d row None s = (s.0.is_open, s.1)
-store_row d row (Some word) s = (s.0.is_open, s.1)
+pub store_row : (d : Data) (taking : Taking) (row : ℕ) (got : Option ℕ) → InPhase d (at.Store taking row got) → IsOpen d × (row < length d.frames.writes.rows)
+store_row d taking row None s = (s.0.is_open, s.1)
+store_row d taking row (Some word) s = (s.0.is_open, s.1)
 
 -- the store of a row, as the write set shows it
 pub stores_as : (r w : Row) → w ≡ r → (got : Option ℕ) (value : ℕ) → value ≡ value_into r got → Store (r.word + 1) value ≡ Store (suc w.word) (value_into w got)

@@ -8,12 +8,12 @@ use Rattle.norec_core.specs.declared.phase.Purpose.TheVariants as for
 use Rattle.norec_core.specs.Copies.{chunks_in}
 use Rattle.norec_core.specs.Core.{in_transaction}
 use Rattle.norec_core.proofs.Readings.{IsAmong, words_in-at}
-use Rattle.norec_engine.specs.declared.turn.Turn.{Turn}
-use Rattle.norec_engine.specs.declared.turn.Turn.TheVariants.{Wait, End}
-use Rattle.norec_engine.specs.declared.data.Data.{Data}
-use Rattle.norec_engine.specs.View.{in_block}
+use Rattle.norec_data.specs.declared.turn.Turn.{Turn}
+use Rattle.norec_data.specs.declared.turn.Turn.TheVariants.{Wait, End, Enter}
+use Rattle.norec_data.specs.declared.data.Data.{Data}
+use Rattle.norec_data.specs.View.{in_block}
 use Rattle.norec_engine.specs.InPhases.{FitsPurpose, IsFor}
-use Rattle.norec_engine.specs.Between.{core_after}
+use Rattle.norec_data.specs.Turns.{core_after}
 
 -- the words of a chunk that is read are some of its copy's
 among_for : (words bytes written : ℕ) (writes : Written) (own : List LogRow) (buffer : List ℕ) (what : Purpose) (at size : ℕ) → FitsPurpose words bytes written writes own buffer what at size → IsAmong what (count_of at size)
@@ -29,11 +29,14 @@ among d what at size f = among_for d.words (length d.arena) d.written d.frames.w
 pub after_log : (turn : Turn) (d : Data) → (core_after turn d).log ≡ d.log.rows
 after_log (Wait phase) d = refl
 after_log (End a) d = refl
+after_log (Enter r) d = refl
 
 pub after_open : (turn : Turn) (d : Data) → in_transaction (core_after turn d) ≡ in_block d
 after_open (Wait phase) d = refl
 after_open (End a) d = refl
+after_open (Enter r) d = refl
 
 pub after_snapshot : (turn : Turn) (d : Data) → (core_after turn d).snapshot ≡ d.snapshot
 after_snapshot (Wait phase) d = refl
 after_snapshot (End a) d = refl
+after_snapshot (Enter r) d = refl

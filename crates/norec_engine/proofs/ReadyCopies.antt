@@ -8,17 +8,18 @@ use Rattle.itm_types.specs.declared.copy.CopyPair.{CopyPair}
 use Rattle.itm_types.specs.declared.copy.CopyPair.TheVariants.{Out, In, Within}
 use Rattle.write_set.specs.declared.row.Row.{Row}
 use Rattle.write_set.specs.Rows.{AreRows}
-use Rattle.norec_engine.specs.declared.data.Data.{Data}
+use Rattle.norec_data.specs.declared.data.Data.{Data}
 use Rattle.norec_core.specs.declared.phase.Phase.TheVariants.{Idle}
 use Rattle.norec_core.specs.Copies.{copy_refusal, target_refusal, chunks_in, direction_of, is_out, source_in, source_words}
 use Rattle.norec_core.specs.Core.{came, is_inside}
 use Rattle.norec_core.specs.Order.{copy_stage, load_chunks}
 use Rattle.norec_core.specs.Rows.{range_pieces, AllWithin, AllWritesWithin}
-use Rattle.norec_engine.specs.View.{in_block, core, rows_before}
-use Rattle.norec_engine.specs.InPhases.{reserved_for, AreFrames, IsBounded, IsOpen, IsServed, IsSound, MayPutFor}
+use Rattle.norec_data.specs.View.{in_block, core, rows_before}
+use Rattle.norec_engine.specs.InPhases.{reserved_for, AreFrames, IsOpen, IsServed, IsSound, MayPutFor}
+use Rattle.norec_data.specs.Bounds.{IsBounded}
 use Rattle.norec_engine.specs.Between.{in_copy, logged, MayCopy}
 use Rattle.norec_engine.proofs.AcceptedCopies.{accepted_open}
-use Rattle.norec_engine.proofs.Copies.{accepted_sides, shared_within}
+use Rattle.norec_core.proofs.CopyRefusals.{accepted_sides, shared_within}
 use Rattle.norec_core.proofs.Ranges.{AllWritesWithin-reserved_range}
 use Rattle.norec_core.proofs.Writings.{AreRows-reserved_all, cut-reserved_all}
 
@@ -46,7 +47,7 @@ abbrev pub ready : Data → Data → Data
 ready s e = record s { buffer = e.buffer; log = e.log; frames = e.frames; written = length s.frames.writes.rows; entry = length e.log.rows; tries = 0; spent = 0 }
 
 module _ (s e : Data) (k : Copying) (sound : IsSound s Idle) (accepted : copy_refusal (in_block s) s.words (length s.arena) k ≡ None)
-    (log : e.log.rows ≡ s.log.rows) (blocks : e.frames.blocks ≡ s.frames.blocks) (size : e.frames.size ≡ s.frames.size) (actions : e.frames.actions ≡ s.frames.actions)
+    (log : e.log.rows ≡ s.log.rows) (blocks : e.frames.blocks ≡ s.frames.blocks) (size : e.frames.size ≡ s.frames.size) (actions : e.frames.actions ≡ s.frames.actions) (room : e.frames.room ≡ s.frames.room)
     (rows : e.frames.writes.rows ≡ reserved_for k k.pair s.frames.writes.rows) (may_put : MayPutFor k k.pair e.frames.writes) where
   was_open : in_block s ≡ true
   was_open = accepted_open (in_block s) s.words (length s.arena) k accepted
@@ -86,7 +87,7 @@ module _ (s e : Data) (k : Copying) (sound : IsSound s Idle) (accepted : copy_re
 
   -- as callers see it, it has come
   pub ready_came : logged (in_copy (ready s e) k) s.log.rows ≡ came (core s Idle) (Copy k) false
-  ready_came = λ i. record (came (core s Idle) (Copy k) false) { writes = before i; entry = length (log i); blocks = blocks i; actions = actions i }
+  ready_came = λ i. record (came (core s Idle) (Copy k) false) { writes = before i; entry = length (log i); blocks = blocks i; actions = actions i; room = room i }
 
   -- nothing is read yet
   pub ready_to_copy : is_out k.pair ≡ false → e.buffer.items ≡ replicate k.size 0 → source_words k ≤ e.log.room → MayCopy (ready s e) k 0

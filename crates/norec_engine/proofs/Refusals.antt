@@ -2,7 +2,7 @@
 use Rattle.std.proofs.Common.{◌≡◌, ℕ, ◌+◌, ◌*◌, ◌≤◌, nat_le, Bool, true, false, List, length, Option, None, Some, refl, sym, ap, subst, ◌∙◌, inl, inr, if◌then◌else◌}
 use Rattle.std.proofs.lemmas.Bool.{cases_Bool, leb-true, le-leb}
 use Rattle.itm_types.specs.declared.call.Call.{Call}
-use Rattle.itm_types.specs.declared.call.Call.TheVariants.{Begin, Commit, Abort, InTransaction, Write, Log, LogBytes, Copy, Fill, CommitAction, UndoAction, Save}
+use Rattle.itm_types.specs.declared.call.Call.TheVariants.{InTransaction, Read, Write, Fill, Save}
 use Rattle.itm_types.specs.declared.call.Refusal.{Refusal}
 use Rattle.itm_types.specs.declared.call.Refusal.TheVariants.{OutOfRange, OutOfArena}
 use Rattle.itm_types.specs.declared.call.Reply.TheVariants.{Done, Code, Refused}
@@ -16,16 +16,17 @@ use Rattle.itm_types.specs.declared.call.Reply.{Reply as Replied}
 use Rattle.itm_model.specs.State.{State}
 use Rattle.itm_model.specs.Machine.{unless, effect, after, after_unless, reply, reply_unless}
 use Rattle.norec_core.specs.Stands.{state_over}
-use Rattle.norec_engine.specs.declared.data.Data.{Data}
+use Rattle.norec_data.specs.declared.data.Data.{Data}
 use Rattle.norec_core.specs.declared.phase.Phase.TheVariants.{Idle}
 use Rattle.norec_core.specs.Core.{Core, came}
 use Rattle.norec_core.specs.Accesses.{access_refusal}
-use Rattle.norec_engine.specs.View.{core, in_block}
+use Rattle.norec_data.specs.View.{core, in_block}
 use Rattle.norec_engine.specs.InPhases.{IsSound}
-use Rattle.norec_core.specs.Proceeds.{Replies, writes_after, arena_after, blocks_after, actions_after}
+use Rattle.norec_core.specs.Proceeds.{Replies, room_left, writes_after, arena_after, blocks_after, actions_after}
 use Rattle.norec_core.proofs.AnsweredEngines.{told_plainly}
 use Rattle.norec_core.proofs.Blocks.{blocks_over-same}
 use Rattle.norec_core.proofs.Machines.{access_refused, open_is}
+use Rattle.norec_core.proofs.RefusedCalls.{writes_kept, blocks_kept, arena_kept, actions_kept}
 
 abbrev pub stands : Data → List ℕ → State
 stands d m = state_over d.frames.writes.rows d.frames.blocks d.arena d.frames.actions m
@@ -38,48 +39,21 @@ served true words place size e = elim (cases_Bool (nat_le (place + size) (8 * wo
   | inr far ↦ (let some : Some OutOfRange ≡ None = ap (λ (b : Bool). unless b OutOfRange) (sym far) ∙ e in absurd (cc))
 ]
 
-writes_kept : (c : Core) (m : List ℕ) (call : Call) (why : Refusal) → writes_after c m call (Refused why) ≡ c.writes
-writes_kept c m (Write hint at value) why = refl
-writes_kept c m (Copy k) why = refl
-writes_kept c m (Fill hint to byte size) why = refl
-writes_kept c m (Abort outer) why = refl
-writes_kept c m call why = refl
-
-blocks_kept : (c : Core) (call : Call) (why : Refusal) → blocks_after c call (Refused why) ≡ c.blocks
-blocks_kept c (Begin props room) why = refl
-blocks_kept c Commit why = refl
-blocks_kept c (Abort outer) why = refl
-blocks_kept c (Log width at) why = refl
-blocks_kept c (LogBytes at size) why = refl
-blocks_kept c call why = refl
-
-arena_kept : (c : Core) (m : List ℕ) (call : Call) (why : Refusal) → arena_after c m call (Refused why) ≡ c.arena
-arena_kept c m (Save at value) why = refl
-arena_kept c m (Copy k) why = refl
-arena_kept c m (Abort outer) why = refl
-arena_kept c m call why = refl
-
-actions_kept : (c : Core) (call : Call) (why : Refusal) → actions_after c call (Refused why) ≡ c.actions
-actions_kept c (Begin props room) why = refl
-actions_kept c Commit why = refl
-actions_kept c (Abort outer) why = refl
-actions_kept c (CommitAction action) why = refl
-actions_kept c (UndoAction action) why = refl
-actions_kept c call why = refl
-
 -- a reply that leaves the engine as it was, but for the counts and perhaps the arena
 local_replies : (d : Data) (call : Call) (r : Replied) (arena : List ℕ) → IsSound d Idle
     → ((m : List ℕ) → IsMemory d.words m → (state_over d.frames.writes.rows d.frames.blocks arena d.frames.actions m ≡ after MAX_OPEN_BLOCKS (stands d m) call) × (r ≡ reply MAX_OPEN_BLOCKS (stands d m) call))
     → ((m : List ℕ) → d.frames.writes.rows ≡ writes_after (came (core d Idle) call false) m call r) → ((m : List ℕ) → arena ≡ arena_after (came (core d Idle) call false) m call r)
     → d.frames.blocks ≡ blocks_after (came (core d Idle) call false) call r → d.frames.actions ≡ actions_after (came (core d Idle) call false) call r
+    → d.frames.room ≡ room_left (came (core d Idle) call false) call r
     → Replies (came (core d Idle) call false) call r (core (record d { arena = arena; spent = 0; entry = length d.log.rows }) Idle)
-local_replies d call r arena s all writes left blocks actions = record {
+local_replies d call r arena s all writes left blocks actions room = record {
   meets = λ m mem agrees. (all m mem).0;
   reply_is = λ m mem agrees. (all m mem).1 ∙ sym (told_plainly call (reply MAX_OPEN_BLOCKS (stands d m) call));
-  stays = refl;
+  stays = ap (λ (n : ℕ). record (core (record d { arena = arena; spent = 0; entry = length d.log.rows }) Idle) { room = n }) room;
   writes = λ m mem agrees. writes m;
   arena = λ m mem agrees. left m;
   free = refl;
+  revocable = refl;
   unfreed = refl;
   blocks = blocks;
   actions = actions;
@@ -88,25 +62,32 @@ local_replies d call r arena s all writes left blocks actions = record {
 }
 
 -- of a refused call
-pub denied : (d : Data) (call : Call) (why : Refusal) → IsSound d Idle
+pub denied : (d : Data) (call : Call) (why : Refusal) → IsSound d Idle → d.frames.room ≡ room_left (came (core d Idle) call false) call (Refused why)
     → ((m : List ℕ) → IsMemory d.words m → (stands d m ≡ after MAX_OPEN_BLOCKS (stands d m) call) × (Refused why ≡ reply MAX_OPEN_BLOCKS (stands d m) call))
     → Replies (came (core d Idle) call false) call (Refused why) (core (record d { spent = 0; entry = length d.log.rows }) Idle)
-denied d call why s all =
+denied d call why s room all =
     let c = came (core d Idle) call false in
-    local_replies d call (Refused why) d.arena s all (λ m. sym (writes_kept c m call why)) (λ m. sym (arena_kept c m call why)) (sym (blocks_kept c call why)) (sym (actions_kept c call why))
+    local_replies d call (Refused why) d.arena s all (λ m. sym (writes_kept c m call why)) (λ m. sym (arena_kept c m call why)) (sym (blocks_kept c call why)) (sym (actions_kept c call why)) room
+
+-- an access takes no room
+access_room : (c : Core) (call : Call) (at size : ℕ) (why : Refusal) → access_of call ≡ Some (at, size) → c.room ≡ room_left (came c call false) call (Refused why)
+access_room c (Read hint width at') at size why is = refl
+access_room c (Write hint at' value) at size why is = refl
+access_room c (Fill hint to byte size') at size why is = refl
+access_room c call at size why is = absurd (cc)
 
 pub refused_replies : (d : Data) (call : Call) (at size : ℕ) (why : Refusal) → IsSound d Idle → access_of call ≡ Some (at, size)
     → access_refusal (in_block d) d.words at size ≡ Some why
     → Replies (came (core d Idle) call false) call (Refused why) (core (record d { spent = 0; entry = length d.log.rows }) Idle)
 refused_replies d call at size why s is e =
-    denied d call why s (λ m mem. access_refused d.frames.writes.rows d.frames.blocks d.arena d.frames.actions m d.words call at size why mem is e)
+    denied d call why s (access_room (core d Idle) call at size why is) (λ m mem. access_refused d.frames.writes.rows d.frames.blocks d.arena d.frames.actions m d.words call at size why mem is e)
 
 -- it is told whether a transaction is open
 pub asked_replies : (d : Data) → IsSound d Idle
     → Replies (came (core d Idle) InTransaction false) InTransaction (Code (if in_block d then 1 else 0)) (core (record d { spent = 0; entry = length d.log.rows }) Idle)
 asked_replies d s =
     local_replies d InTransaction (Code (if in_block d then 1 else 0)) d.arena s
-    (λ m mem. (refl, ap (λ (o : Bool). Code (if o then 1 else 0)) (sym (open_is d.frames.writes.rows d.frames.blocks d.arena d.frames.actions m)))) (λ m. refl) (λ m. refl) refl refl
+    (λ m mem. (refl, ap (λ (o : Bool). Code (if o then 1 else 0)) (sym (open_is d.frames.writes.rows d.frames.blocks d.arena d.frames.actions m)))) (λ m. refl) (λ m. refl) refl refl refl
 
 -- a save that is accepted
 saved_replies : (d : Data) (value : Datum) (place : ℕ) (arena : List ℕ) → IsSound d Idle → place + size_of value.width ≤ length d.arena
@@ -117,10 +98,10 @@ saved_replies d value place arena s within left size =
     (let none = ap (λ (b : Bool). unless b OutOfArena) (le-leb (place + size_of value.width) (length d.arena) within) in
     let same = blocks_over-same d.frames.blocks arena d.arena m size in
     let now : State = state_over d.frames.writes.rows d.frames.blocks d.arena d.frames.actions m in (
-      (λ i. record { memory = now.memory; arena = left i; blocks = same i; actions = now.actions; wrote = now.wrote })
+      (λ i. record { memory = now.memory; arena = left i; blocks = same i; actions = now.actions; wrote = now.wrote; irrevocable = false })
           ∙ sym (ap (λ (r : Option Refusal). after_unless r now (effect now (Save place value))) none),
       sym (ap (λ (r : Option Refusal). reply_unless r Done) none),
-    ))) (λ m. refl) (λ m. left) refl refl
+    ))) (λ m. refl) (λ m. left) refl refl refl
 
 pub save_replies : (d new : Data) (value : Datum) (place : ℕ) (arena : List ℕ) → new ≡ record d { spent = 0; entry = length d.log.rows } → IsSound d Idle
     → place + size_of value.width ≤ length new.arena → arena ≡ with_slice new.arena place value.bytes.items → length arena ≡ length new.arena

@@ -17,13 +17,13 @@ use Rattle.norec_core.specs.Copies.{chunks_in, copy_refusal, direction_of, targe
 use Rattle.norec_core.specs.Proceeds.{arena_copied, writes_copied}
 use Rattle.word_pieces.proofs.Lists.{length-with_slice}
 use Rattle.norec_core.specs.Rows.{is_covered, range_pieces, AllWritesWithin}
-use Rattle.norec_engine.specs.View.{rows_before}
+use Rattle.norec_data.specs.View.{rows_before}
 use Rattle.norec_engine.specs.InPhases.{reserved_for, HasCopied, FitsPurpose, IsFor}
-use Rattle.norec_engine.specs.declared.data.Data.{Data}
+use Rattle.norec_data.specs.declared.data.Data.{Data}
 use Rattle.norec_core.specs.declared.phase.Purpose.{Purpose}
 use Rattle.norec_core.specs.declared.phase.Purpose.TheVariants as for
 use Rattle.norec_core.proofs.Ranges.{is_covered-reserved_all, AreRows-put_range, AllWritesWithin-put_range}
-use Rattle.norec_engine.proofs.Copies.{accepted_sides, arena_within, shared_within}
+use Rattle.norec_core.proofs.CopyRefusals.{accepted_sides, arena_within, shared_within}
 use Rattle.norec_core.proofs.Writings.{overlay-reserved_all}
 
 -- ## Rows of a copy's destination

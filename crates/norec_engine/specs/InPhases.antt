@@ -1,15 +1,18 @@
 -- What is true of the fields in each phase.
 use Rattle.std.specs.Prelude.{◌≡◌, ◌≢◌, ℕ, ◌+◌, ◌-◌, ◌*◌, ◌/◌, ◌%◌, ◌<◌, ◌≤◌, true, false, List, [], ◌∷◌, length, take, replicate, slice_get, All, Option, None, Some}
-use Rattle.itm_types.specs.declared.limits.TheConstants.{MAX_COMMITS, MAX_PATIENCE, MAX_WORDS}
+use Rattle.itm_types.specs.declared.limits.TheConstants.{MAX_OPEN_BLOCKS}
 use Rattle.itm_types.specs.declared.row.LogRow.{LogRow}
 use Rattle.write_set.specs.declared.row.Row.{Row}
-use Rattle.nest_frames.specs.Nest.{Frame}
+use Rattle.nest_frames.specs.Nest.{Frame, stays_revocable}
 use Rattle.itm_types.specs.Access.{size_of}
 use Rattle.itm_types.specs.Memory.{bytes_of, IsMemory, Agrees}
 use Rattle.word_pieces.specs.Masks.{whole}
 use Rattle.word_pieces.specs.Pieces.{gathered}
 use Rattle.norec_core.specs.declared.phase.Aim.{Aim}
 use Rattle.norec_core.specs.declared.phase.Aim.TheVariants as aims
+use Rattle.norec_core.specs.declared.phase.Opening.{Opening}
+use Rattle.norec_core.specs.declared.phase.Taking.{Taking}
+use Rattle.norec_core.specs.declared.phase.Taking.TheVariants as takings
 use Rattle.norec_core.specs.declared.phase.Phase.{Phase}
 use Rattle.norec_core.specs.declared.phase.Phase.TheVariants as at
 use Rattle.norec_core.specs.declared.phase.Reading.{Reading}
@@ -22,38 +25,30 @@ use Rattle.itm_types.specs.Slices.{slice}
 use Rattle.word_pieces.specs.declared.chunk.Chunk.{Chunk}
 use Rattle.word_pieces.specs.Chunks.{chunks_written}
 use Rattle.norec_core.specs.Copies.{copy_refusal, chunks_in, source_in, is_out}
-use Rattle.norec_engine.specs.declared.data.Data.{Data}
-use Rattle.itm_types.specs.declared.limits.Limits.{Limits}
+use Rattle.norec_data.specs.declared.data.Data.{Data}
 use Rattle.norec_core.specs.Rows.{write_at, is_covered, reserved_all, range_pieces, AllWithin, AllWritesWithin}
-use Rattle.write_set.specs.Marks.{unwritten, Written, MayPut}
+use Rattle.write_set.specs.Marks.{Written, MayPut}
 use Rattle.write_set.specs.Rows.{overlay, AreRows}
-use Rattle.norec_core.specs.Core.{is_outermost}
+use Rattle.norec_core.specs.Core.{is_outermost, may_go}
 use Rattle.norec_core.specs.Proceeds.{own_rows}
 use Rattle.norec_core.specs.Accesses.{part, parts, count, total, passed}
-use Rattle.norec_engine.specs.View.{rows_before, in_block}
+use Rattle.norec_data.specs.View.{rows_before, in_block}
+use Rattle.norec_data.specs.Bounds.{IsBounded, IsOutside}
 
 -- the steps of one round for this aim, and those before the first round
 abbrev pub round_of : Aim → Data → ℕ
 round_of (aims.Read r) d = d.entry + total r + 4
-round_of aims.Commit d = d.entry + 3
+round_of (aims.Take taking) d = d.entry + 3
 
 abbrev pub first_of : Aim → ℕ
 first_of (aims.Read r) = 2 * passed r + 2
-first_of aims.Commit = 1
+first_of (aims.Take taking) = 1
 
 -- the rows of the open blocks lie within the memory, and the outermost one began with none
 abbrev pub AreFrames : ℕ → List Frame → Type 0
 AreFrames words [] = Unit {0}
 AreFrames words (b ∷ []) = b.rows ≡ []
 AreFrames words (b ∷ p ∷ bs) = AllWritesWithin words b.rows × AreRows b.rows × AreFrames words (p ∷ bs)
-
--- in every phase
-pub record IsBounded (words : ℕ) (limits : Limits) (snapshot size : ℕ) (arena : List ℕ) : Type 0 where
-  pub patient : (0 < limits.patience) × (limits.patience ≤ MAX_PATIENCE)
-  pub commits : limits.max_commits ≤ MAX_COMMITS
-  pub small : words ≤ MAX_WORDS
-  pub sized : size ≡ length arena
-  pub even : snapshot % 2 ≡ 0
 
 -- a transaction is open, and its words lie within the memory
 pub record IsOpen (d : Data) : Type 0 where
@@ -62,14 +57,6 @@ pub record IsOpen (d : Data) : Type 0 where
   pub writes : AllWritesWithin d.words d.frames.writes.rows
   pub rows : AreRows d.frames.writes.rows
   pub frames : AreFrames d.words d.frames.blocks
-  pub tries : d.tries ≤ d.limits.patience
-
-pub record IsOutside (d : Data) : Type 0 where
-  pub is_open : in_block d ≡ false
-  pub log : d.log.rows ≡ []
-  pub writes : d.frames.writes ≡ unwritten
-  pub commits : d.frames.actions.commits ≡ []
-  pub undos : d.frames.actions.undos ≡ []
   pub tries : d.tries ≤ d.limits.patience
 
 -- the rows that a copy's destination was given
@@ -140,15 +127,19 @@ pub record MayRead (d : Data) (r : Reading) : Type 0 where
   pub some : r.number < count r
   pub uncovered : is_covered d.frames.writes.rows (part r) ≡ false
 
--- there is something to write
-pub record MayCommit (d : Data) : Type 0 where
-  pub outermost : is_outermost d.frames.blocks ≡ true
-  pub some : d.frames.writes.rows ≢ []
+-- a commit takes the clock where something is written, and any other call that makes the transaction irrevocable, with its room reserved
+abbrev pub Wants : Data → Taking → Type 0
+Wants d takings.Commit = (is_outermost d.frames.blocks ≡ true) × (d.frames.writes.rows ≢ [])
+Wants d (takings.Mode room) = (stays_revocable d.frames.blocks ≡ false) × (d.frames.room ≡ room)
+Wants d (takings.Begin props room) = (props.goes_irrevocable ≡ true) × (may_go d.frames.blocks props ≡ true) × (length d.frames.blocks < MAX_OPEN_BLOCKS) × (d.frames.room ≡ room)
+
+pub record MayTake (d : Data) (taking : Taking) : Type 0 where
+  pub wants : Wants d taking
   pub grown : length d.log.rows ≤ d.entry
 
 abbrev pub Aims : Data → Aim → Type 0
 Aims d (aims.Read r) = MayRead d r
-Aims d aims.Commit = MayCommit d
+Aims d (aims.Take taking) = MayTake d taking
 
 pub record InRound (d : Data) (aim : Aim) (steps : ℕ) : Type 0 where
   pub is_open : IsOpen d
@@ -158,27 +149,34 @@ pub record InRound (d : Data) (aim : Aim) (steps : ℕ) : Type 0 where
   pub spent : d.spent ≤ first_of aim + (d.tries - 1) * round_of aim d + steps
 
 -- the clock is held: so many steps may have been asked for
-pub record IsHolding (d : Data) (steps : ℕ) : Type 0 where
+pub record IsHolding (d : Data) (taking : Taking) (steps : ℕ) : Type 0 where
   pub is_open : IsOpen d
-  pub outermost : is_outermost d.frames.blocks ≡ true
-  pub some : 0 < length d.frames.writes.rows
+  pub wants : Wants d taking
   pub settled : d.clock ≡ d.snapshot
   pub free : d.snapshot / 2 < d.limits.max_commits
-  pub spent : d.spent ≤ 1 + d.tries * round_of aims.Commit d + steps
+  pub spent : d.spent ≤ 1 + d.tries * (d.entry + 3) + steps
+
+-- a begin that goes irrevocable is not refused, and its room is reserved
+abbrev pub MayBegin : Data → Opening → Type 0
+MayBegin d b = (may_go [] b.props ≡ true) × (b.props.goes_irrevocable ≡ true → d.frames.room ≡ b.room)
 
 abbrev pub InPhase : Data → Phase → Type 0
 InPhase d at.Idle = (in_block d ≡ true → IsOpen d × (d.clock ≡ d.snapshot)) × (in_block d ≡ false → IsOutside d)
-InPhase d (at.Begin b) = IsOutside d × (d.spent ≤ d.tries)
+InPhase d (at.Begin b) = IsOutside d × MayBegin d b × (d.spent ≤ 2 * (d.tries - 1) + 1) × (0 < d.tries)
+InPhase d (at.Take b) = IsOutside d × MayBegin d b × (b.props.goes_irrevocable ≡ true) × (d.clock ≡ d.snapshot) × (d.snapshot / 2 < d.limits.max_commits) × (d.spent ≤ 2 * d.tries) × (0 < d.tries)
 InPhase d (at.Load r) = IsOpen d × MayRead d r × (d.clock ≡ d.snapshot) × (d.spent ≤ 2 * passed r + 1 + d.tries * round_of (aims.Read r) d)
 InPhase d (at.Confirm r value) = IsOpen d × MayRead d r × (d.clock ≡ d.snapshot) × (d.spent ≤ 2 * passed r + 2 + d.tries * round_of (aims.Read r) d)
 InPhase d (at.RoundStart aim) = InRound d aim 1
 InPhase d (at.RoundRow aim row) = InRound d aim (row + 2) × (d.clock % 2 ≡ 0) × (row < length d.log.rows)
 InPhase d (at.RoundEnd aim) = InRound d aim (length d.log.rows + 2) × (d.clock % 2 ≡ 0)
-InPhase d at.Exchange = IsOpen d × MayCommit d × (d.clock ≡ d.snapshot) × (d.snapshot / 2 < d.limits.max_commits) × (d.spent ≤ 1 + d.tries * round_of aims.Commit d)
-InPhase d (at.BackLoad row) = IsHolding d (2 * row + 1) × (row < length d.frames.writes.rows) × ((write_at d.frames.writes.rows row).mask ≢ whole)
-InPhase d (at.Store row None) = IsHolding d (2 * row + 1) × (row < length d.frames.writes.rows) × ((write_at d.frames.writes.rows row).mask ≡ whole)
-InPhase d (at.Store row (Some word)) = IsHolding d (2 * row + 2) × (row < length d.frames.writes.rows)
-InPhase d at.Free = IsHolding d (2 * length d.frames.writes.rows + 1)
+InPhase d (at.Exchange taking) = IsOpen d × MayTake d taking × (d.clock ≡ d.snapshot) × (d.snapshot / 2 < d.limits.max_commits) × (d.spent ≤ 1 + d.tries * (d.entry + 3))
+InPhase d (at.BackLoad taking row) = IsHolding d taking (2 * row + 1) × (row < length d.frames.writes.rows) × ((write_at d.frames.writes.rows row).mask ≢ whole)
+InPhase d (at.Store taking row None) = IsHolding d taking (2 * row + 1) × (row < length d.frames.writes.rows) × ((write_at d.frames.writes.rows row).mask ≡ whole)
+InPhase d (at.Store taking row (Some word)) = IsHolding d taking (2 * row + 2) × (row < length d.frames.writes.rows)
+InPhase d at.Free = IsHolding d takings.Commit (2 * length d.frames.writes.rows + 1)
+-- the others are those of an irrevocable transaction
+InPhase d (at.Fetch w) = ⊥
+InPhase d (at.Place w got) = ⊥
 
 pub record IsSound (d : Data) (phase : Phase) : Type 0 where
   pub bounds : IsBounded d.words d.limits d.snapshot d.frames.size d.arena

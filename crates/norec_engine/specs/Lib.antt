@@ -1,3 +1,3 @@
-pub mod View
 pub mod InPhases
 pub mod Between
+pub mod Modes

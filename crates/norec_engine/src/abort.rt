@@ -1,15 +1,15 @@
 //! Blocks that are cancelled.
 
 ghost use Rattle.std.specs.Prelude.{◌≡◌, None, false};
-ghost use Rattle.norec_engine.specs.View.{core};
+ghost use Rattle.norec_data.specs.View.{core};
 ghost use Rattle.norec_engine.specs.InPhases.{IsSound};
-ghost use Rattle.norec_engine.specs.Between.{core_after, phase_after, IsSoundTurn, Turns, TurnEndsSo, Stays};
+ghost use Rattle.norec_engine.specs.Between.{IsSoundTurn};
+ghost use Rattle.norec_data.specs.Turns.{core_after, phase_after, Turns, TurnEndsSo, Stays};
 ghost use Rattle.norec_core.specs.Core.{came};
 
-use crate::data::{Data, roll_back};
-use crate::turn::Turn;
 use itm_types::{CANCELLED, Call, Refusal, Reply};
 use norec_core::{Answer, Phase};
+use norec_data::{Data, Turn, roll_back};
 
 /// The innermost block, or with `outer` all of them, are to be cancelled.
 pub(crate) fn abort(state: &mut Data, outer: bool) -> Turn

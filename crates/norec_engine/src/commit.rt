@@ -1,18 +1,19 @@
 //! Commits: the clock is taken, the write set is stored in the order of first writing, and the clock is freed.
 
-ghost use Rattle.std.specs.Prelude.{◌≡◌, ◌≤◌, ◌/◌, length, ℕ, false, Option, Some};
-ghost use Rattle.norec_engine.specs.View.{core};
+ghost use Rattle.std.specs.Prelude.{◌≡◌, ◌≤◌, ◌/◌, length, ℕ, false, None, Some};
+ghost use Rattle.norec_data.specs.View.{core};
 ghost use Rattle.norec_engine.specs.InPhases.{IsSound};
-ghost use Rattle.norec_engine.specs.Between.{core_after, phase_after, between, moved, in_stores, IsSoundTurn, Turns, TurnEndsSo, Stays, MayExchange, InStores};
+ghost use Rattle.norec_engine.specs.Between.{between, moved, in_stores, IsSoundTurn, StaysBy, MayExchange, InStores};
+ghost use Rattle.norec_data.specs.Turns.{core_after, phase_after, Turns, TurnEndsSo, Stays};
 ghost use Rattle.norec_core.specs.Core.{came, handed};
 ghost use Rattle.norec_core.specs.Endings.{ending_at, ending_after};
 ghost use Rattle.norec_core.specs.Order.{exchange_stage, stage_after, stage_at, store_stage, tries_after, tries_at};
 
-use crate::data::{Data, finish, roll_back};
+use crate::mode::go_irrevocable;
 use crate::rounds::try_round;
-use crate::turn::Turn;
 use itm_types::{Call, Refusal, Reply};
-use norec_core::{Aim, Answer, Phase};
+use norec_core::{Aim, Answer, Phase, Taking};
+use norec_data::{Data, Turn, finish, roll_back};
 
 /// A commit comes.
 pub(crate) fn commit(state: &mut Data) -> Turn
@@ -38,24 +39,24 @@ pub(crate) fn commit(state: &mut Data) -> Turn
         finish(state);
         Turn::End(Answer::Committed { at, wrote: false })
     } else {
-        exchange(state)
+        exchange(state, Taking::Commit)
     }
 }
 
 /// The clock is to be taken, where fewer writers have committed than may.
-pub(crate) fn exchange(state: &mut Data) -> Turn
-    requires may { MayExchange state.old }
+pub(crate) fn exchange(state: &mut Data, taking: Taking) -> Turn
+    requires may { MayExchange state.old taking }
     ensures sound { IsSoundTurn result state.new }
     // whatever the snapshot was before a round moved it
-    ensures proceeds { (was : ℕ) → Turns (moved (between state.old Aim.Commit) was) result state.new }
+    ensures proceeds { (was : ℕ) → Turns (moved (between state.old (Aim.Take taking)) was) result state.new }
     ensures stays { Stays state.old state.new }
-    ensures order { phase_after result ≡ exchange_stage state.old.limits.max_commits state.old.snapshot }
+    ensures order { phase_after result ≡ exchange_stage state.old.limits.max_commits state.old.snapshot taking }
     ensures ends { TurnEndsSo (Some (Answer.Full (state.old.snapshot / 2))) result }
     ensures tries { (core_after result state.new).tries ≡ tries_after (phase_after result) state.old.tries }
 {
     let at = state.snapshot / 2;
     if at < state.limits.max_commits {
-        Turn::Wait(Phase::Exchange)
+        Turn::Wait(Phase::Exchange(taking))
     } else {
         roll_back(state);
         Turn::End(Answer::Full { at })
@@ -63,71 +64,75 @@ pub(crate) fn exchange(state: &mut Data) -> Turn
 }
 
 /// The clock was taken, or another value was found in it.
-pub(crate) fn exchanged(state: &mut Data, seen: u64) -> Turn
-    requires sound { IsSound state.old Phase.Exchange }
+pub(crate) fn exchanged(state: &mut Data, taking: Taking, seen: u64) -> Turn
+    requires sound { IsSound state.old (Phase.Exchange taking) }
     requires fits { state.old.clock ≤ seen }
     ensures sound { IsSoundTurn result state.new }
-    ensures proceeds { Turns (handed (core state.old Phase.Exchange) seen) result state.new }
-    ensures stays { Stays state.old state.new }
-    ensures order { phase_after result ≡ stage_after (core state.old Phase.Exchange) seen }
-    ensures ends { TurnEndsSo (ending_after (core state.old Phase.Exchange) seen) result }
+    ensures proceeds { Turns (handed (core state.old (Phase.Exchange taking)) seen) result state.new }
+    ensures stays { StaysBy result state.old state.new }
+    ensures order { phase_after result ≡ stage_after (core state.old (Phase.Exchange taking)) seen }
+    ensures ends { TurnEndsSo (ending_after (core state.old (Phase.Exchange taking)) seen) result }
     ensures tries { (core_after result state.new).tries ≡ tries_after (phase_after result) state.old.tries }
 {
     state.clock = seen;
     if seen == state.snapshot {
-        next_store(state, 0)
+        next_store(state, taking, 0)
     } else {
-        try_round(state, Aim::Commit)
+        try_round(state, Aim::Take(taking))
     }
 }
 
 /// The next row is stored, or the clock is freed.
-fn next_store(state: &mut Data, row: usize) -> Turn
-    requires may { InStores state.old row }
+fn next_store(state: &mut Data, taking: Taking, row: usize) -> Turn
+    requires may { InStores state.old taking row }
     ensures sound { IsSoundTurn result state.new }
-    ensures proceeds { Turns (in_stores state.old row) result state.new }
-    ensures stays { Stays state.old state.new }
-    ensures order { phase_after result ≡ store_stage state.old.frames.writes.rows row }
-    ensures ends { (end : Option Answer) → TurnEndsSo end result }
+    ensures proceeds { Turns (in_stores state.old taking row) result state.new }
+    ensures stays { StaysBy result state.old state.new }
+    ensures order { phase_after result ≡ store_stage taking state.old.frames.writes.rows row }
+    ensures ends { TurnEndsSo None result }
     ensures tries { (core_after result state.new).tries ≡ tries_after (phase_after result) state.old.tries }
 {
     if row < state.frames.len() {
         let written = state.frames.row(row);
         if written.mask == u64::MAX {
-            Turn::Wait(Phase::Store(row, None))
+            Turn::Wait(Phase::Store(taking, row, None))
         } else {
-            Turn::Wait(Phase::BackLoad(row))
+            Turn::Wait(Phase::BackLoad(taking, row))
         }
     } else {
-        Turn::Wait(Phase::Free)
+        match taking {
+            Taking::Commit => Turn::Wait(Phase::Free),
+            Taking::Mode { .. } => Turn::Enter(go_irrevocable(state, None)),
+            Taking::Begin { props, .. } => Turn::Enter(go_irrevocable(state, Some(props))),
+        }
     }
 }
 
 /// The word of a row was loaded, to be stored with the row's part of it.
-pub(crate) fn back_loaded(state: &mut Data, row: usize, seen: u64) -> Turn
-    requires sound { IsSound state.old (Phase.BackLoad row) }
+pub(crate) fn back_loaded(state: &mut Data, taking: Taking, row: usize, seen: u64) -> Turn
+    requires sound { IsSound state.old (Phase.BackLoad taking row) }
     ensures sound { IsSoundTurn result state.new }
-    ensures proceeds { Turns (handed (core state.old (Phase.BackLoad row)) seen) result state.new }
+    ensures proceeds { Turns (handed (core state.old (Phase.BackLoad taking row)) seen) result state.new }
     ensures stays { Stays state.old state.new }
-    ensures order { phase_after result ≡ stage_after (core state.old (Phase.BackLoad row)) seen }
-    ensures ends { TurnEndsSo (ending_after (core state.old (Phase.BackLoad row)) seen) result }
+    ensures order { phase_after result ≡ stage_after (core state.old (Phase.BackLoad taking row)) seen }
+    ensures ends { TurnEndsSo (ending_after (core state.old (Phase.BackLoad taking row)) seen) result }
     ensures tries { (core_after result state.new).tries ≡ tries_after (phase_after result) state.old.tries }
 {
-    Turn::Wait(Phase::Store(row, Some(seen)))
+    Turn::Wait(Phase::Store(taking, row, Some(seen)))
 }
 
 /// A row was stored.
-pub(crate) fn stored(state: &mut Data, row: usize, got: Option<u64>) -> Turn
-    requires sound { IsSound state.old (Phase.Store row got) }
+pub(crate) fn stored(state: &mut Data, taking: Taking, row: usize, got: Option<u64>) -> Turn
+    requires sound { IsSound state.old (Phase.Store taking row got) }
     ensures sound { IsSoundTurn result state.new }
-    ensures proceeds { Turns (handed (core state.old (Phase.Store row got)) 0) result state.new }
-    ensures stays { Stays state.old state.new }
-    ensures order { phase_after result ≡ stage_after (core state.old (Phase.Store row got)) 0 }
-    ensures ends { TurnEndsSo (ending_after (core state.old (Phase.Store row got)) 0) result }
+    ensures proceeds { Turns (handed (core state.old (Phase.Store taking row got)) 0) result state.new }
+    ensures stays { StaysBy result state.old state.new }
+    ensures order { phase_after result ≡ stage_after (core state.old (Phase.Store taking row got)) 0 }
+    ensures ends { TurnEndsSo (ending_after (core state.old (Phase.Store taking row got)) 0) result }
     ensures tries { (core_after result state.new).tries ≡ tries_after (phase_after result) state.old.tries }
 {
     let _rows = state.frames.len();
-    next_store(state, row + 1)
+    next_store(state, taking, row + 1)
 }
 
 /// The clock was freed.

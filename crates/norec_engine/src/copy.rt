@@ -6,24 +6,24 @@ ghost use Rattle.itm_types.specs.Slices.{slice, with_slice, AreBytes};
 ghost use Rattle.itm_types.specs.declared.row.LogRow.{LogRow};
 ghost use Rattle.norec_core.specs.Copies.{copy_refusal, chunks_in, direction_of, is_out, source_words, WritesShared};
 ghost use Rattle.norec_core.specs.Accesses.{count};
-ghost use Rattle.norec_engine.specs.View.{in_block, core, rows_before};
+ghost use Rattle.norec_data.specs.View.{in_block, core, rows_before};
 ghost use Rattle.norec_engine.specs.InPhases.{IsSound, MayPutFor, Copied, IsServed, IsReading, reserved_for};
-ghost use Rattle.norec_engine.specs.Between.{core_after, phase_after, in_copy, logged, IsSoundTurn, Turns, TurnEndsSo, Stays, MayCopy, MayFinish};
+ghost use Rattle.norec_engine.specs.Between.{in_copy, logged, IsSoundTurn, MayCopy, MayFinish};
+ghost use Rattle.norec_data.specs.Turns.{core_after, phase_after, Turns, TurnEndsSo, Stays};
 ghost use Rattle.norec_core.specs.Core.{came};
 ghost use Rattle.norec_core.specs.Order.{chunk_reading, load_chunks, stage_at, tries_after, tries_at};
 ghost use Rattle.norec_core.specs.Proceeds.{MayStarve, arena_copied, writes_copied};
 
 mod refusals;
 
-use crate::copy::refusals::{copy_refusal, overlaps, refuse_copy};
-use crate::data::Data;
+use crate::copy::refusals::refuse_copy;
 use crate::fill::set_all;
 use crate::range::{put_range, reserve_range};
 use crate::read::{MOST_PIECES, take_covered};
-use crate::turn::Turn;
 use itm_types::{Call, CopyPair, Copying, MAX_MEMORY, MAX_WORDS, Reply, Value};
 use nest_frames::Frames;
 use norec_core::{Answer, Phase, Purpose, Reading};
+use norec_data::{Data, Turn, chunk_reading, chunks, copy_refusal, direction};
 use std::alloc::AllocError;
 use value_log::ValueLog;
 use word_pieces::{Chunks, Direction};
@@ -73,6 +73,7 @@ fn reserve(state: &mut Data, copying: Copying) -> Result<(), AllocError>
     ensures blocks { state.new.frames.blocks ≡ state.old.frames.blocks }
     ensures size { state.new.frames.size ≡ state.old.frames.size }
     ensures actions { state.new.frames.actions ≡ state.old.frames.actions }
+    ensures room_left { state.new.frames.room ≡ state.old.frames.room }
     ensures buffer { OnOk result (state.new.buffer.items ≡ replicate copying.size 0) }
     ensures room { OnOk result (is_out copying.pair ≡ false → source_words copying ≤ state.new.log.room) }
     ensures rows { OnOk result (state.new.frames.writes.rows ≡ reserved_for copying copying.pair state.old.frames.writes.rows) }
@@ -115,6 +116,7 @@ fn reserve_target(frames: &mut Frames, copying: Copying) -> Result<(), AllocErro
     ensures blocks { frames.new.blocks ≡ frames.old.blocks }
     ensures size { frames.new.size ≡ frames.old.size }
     ensures actions { frames.new.actions ≡ frames.old.actions }
+    ensures room { frames.new.room ≡ frames.old.room }
 {
     match copying.pair {
         CopyPair::In(_) => Ok(()),
@@ -195,6 +197,7 @@ fn deliver(state: &mut Data, copying: Copying)
     ensures blocks { state.new.frames.blocks ≡ state.old.frames.blocks }
     ensures size { state.new.frames.size ≡ state.old.frames.size }
     ensures actions { state.new.frames.actions ≡ state.old.frames.actions }
+    ensures room_left { state.new.frames.room ≡ state.old.frames.room }
     ensures bytes { AreBytes state.old.buffer.items }
 {
     match copying.pair {
@@ -221,40 +224,4 @@ fn take_source(state: &mut Data, copying: Copying)
     state
         .buffer
         .copy_from_slice(&state.arena.bytes()[start..end]);
-}
-
-/// The chunk of this number of a copy's source, at its first piece, if there are as many.
-fn chunk_reading(copying: Copying, number: u32) -> Option<Reading>
-    requires small { copying.size ≤ MAX_MEMORY }
-    requires place { copying.from + copying.size ≤ MAX_MEMORY }
-    ensures value { result ≡ option_map (chunk_reading copying number) (slice_get (chunks_in copying) number) }
-    ensures some { IfSome result (λ r. (r.size ≤ 32) × (copying.from ≤ r.at) × (r.at + r.size ≤ copying.from + copying.size)) }
-{
-    let chunk = chunks(copying).get(number)?;
-    Some(Reading {
-        purpose: Purpose::Chunk { copying, number },
-        at: copying.from + chunk.at,
-        size: chunk.size,
-        number: 0,
-    })
-}
-
-/// The chunks that a copy is taken in.
-fn chunks(copying: Copying) -> Chunks
-    requires { copying.size ≤ MAX_MEMORY }
-    ensures size { result.size ≡ copying.size }
-    ensures direction { result.direction ≡ direction_of copying }
-{
-    Chunks::new(copying.size as u32, direction(copying))
-}
-
-/// From which end a copy is taken: one to a higher place that overlaps its source from the high end.
-fn direction(copying: Copying) -> Direction
-    ensures { result ≡ direction_of copying }
-{
-    if overlaps(copying) && copying.from < copying.to {
-        Direction::Down
-    } else {
-        Direction::Up
-    }
 }

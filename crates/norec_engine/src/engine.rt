@@ -1,33 +1,37 @@
 //! One thread's transactions over shared cells that someone else steps on.
 
-ghost use Rattle.std.specs.Prelude.{◌≡◌, ◌≢◌, ◌^◌, ◌<◌, ◌≤◌, IfOk, IsOk, OnOk, OnErr, IsSome, true, IsTrue, ◌↔◌, is_some, false, []};
+ghost use Rattle.std.specs.Prelude.{◌≡◌, ◌≢◌, ◌+◌, ◌^◌, ◌<◌, ◌≤◌, IfOk, IsOk, OnOk, OnErr, IsSome, true, IsTrue, ◌↔◌, is_some, false, []};
 ghost use Rattle.user_actions.specs.Actions.{total};
-ghost use Rattle.norec_core.specs.Core.{in_transaction, opening, came, handed};
+ghost use Rattle.norec_core.specs.Core.{in_transaction, opening, came, handed, goes};
 ghost use Rattle.norec_core.specs.Order.{asked, log_after, snapshot_after, stage_after, stage_at, tries_after, tries_at};
 ghost use Rattle.norec_core.specs.Endings.{ending_at, ending_after, EndsSo};
 ghost use Rattle.norec_core.specs.Proceeds.{Proceeds, Joins, StaysOn, IsAtOnce, IsUndone, MayStarve, Fits, IsWithin, IsSettled};
-ghost use Rattle.norec_engine.specs.View.{in_block, core, waits_of};
+ghost use Rattle.norec_core.specs.Held.{ComesHeld, StepsHeld};
+ghost use Rattle.norec_data.specs.View.{in_block, core, waits_of, step_of as asked_step};
+ghost use Rattle.norec_engine.specs.Modes.{mode_after, IsSoundIn, IsSoundWith};
 ghost use Rattle.norec_engine.specs.InPhases.{IsSound};
-ghost use Rattle.norec_engine.specs.Between.{core_after, phase_after, data_after, next_of, IsSoundTurn, Turns, TurnEndsSo, Stays};
+ghost use Rattle.norec_engine.specs.Between.{IsSoundTurn};
+ghost use Rattle.norec_data.specs.Turns.{counted, core_after, phase_after, data_after, next_of, Asked, IsWaiting, Turns, TurnEndsSo, Stays};
 ghost use Rattle.norec_core.specs.Undoing.{undone_of, after_undoing};
 
 use crate::abort::abort;
-use crate::begin::{begin, begin_seen};
+use crate::begin::{begin, begin_seen, begin_taken};
 use crate::commit::{back_loaded, commit, exchanged, freed, stored};
 use crate::copy::copy;
-use crate::data::{Data, roll_back};
 use crate::fill::fill;
 use crate::local::{in_transaction, load, log, register, save};
+use crate::mode::{goes, mode};
 use crate::read::{confirmed, loaded, read};
 use crate::rounds::{round_ended, round_started, row_seen};
 use crate::steps::step_of;
-use crate::turn::Turn;
 use crate::write::write;
 use itm_types::{
-    ActionKind, Call, Limits, MAX_COMMITS, MAX_PATIENCE, MAX_WORDS, Props, Ran, Value,
+    ActionKind, Call, Datum, Limits, MAX_COMMITS, MAX_PATIENCE, MAX_WORDS, Props, Ran, Step, Value,
+    Width,
 };
 use nest_frames::Frames;
 use norec_core::{Answer, Next, Phase, Undone};
+use norec_data::{Data, Turn, roll_back};
 use std::alloc::{AllocError, Global};
 use std::marker::Model;
 use undo_log::Arena;
@@ -41,6 +45,8 @@ use value_log::ValueLog;
 pub struct Engine {
     state: Data,
     phase: Phase,
+    /// The transaction is irrevocable: the clock is held from call to call.
+    irrevocable: bool,
 }
 
 impl Model for Engine {
@@ -48,12 +54,11 @@ impl Model for Engine {
 
     ghost Value = { Core };
 
-    ghost use Rattle.norec_engine.specs.View.{core};
-    ghost use Rattle.norec_engine.specs.InPhases.{IsSound};
+    ghost use Rattle.norec_engine.specs.Modes.{engine_in, IsSoundIn};
 
-    ghost view = { λ e. core e.state e.phase };
+    ghost view = { λ e. engine_in e.irrevocable e.state e.phase };
 
-    ghost invariant = { λ e. IsSound e.state e.phase };
+    ghost invariant = { λ e. IsSoundIn e.irrevocable e.state e.phase };
 }
 
 impl Engine {
@@ -74,6 +79,7 @@ impl Engine {
                 clock: 0,
                 log: ValueLog::new(alloc),
                 gathered: Value::new(),
+                value: Datum::new(Width::U1, &[0]),
                 buffer: Vec::new(alloc),
                 written: 0,
                 entry: 0,
@@ -81,13 +87,13 @@ impl Engine {
                 spent: 0,
             },
             phase: Phase::Idle,
+            irrevocable: false,
         }
     }
 
     /// An outermost block begins, `again` where an earlier try of it got past its begin; inside a transaction this is `call`.
     pub fn begin(&mut self, props: Props, room: u32, again: bool) -> Result<Next, AllocError>
         requires idle { self.old.waits ≡ None }
-        ensures ok { IsOk result }
         ensures proceeds { IfOk result (λ next. Proceeds (came self.old (Call.Begin props room) again) next self.new) }
         ensures at_once { IfOk result IsAtOnce }
         ensures stays { OnOk result (StaysOn self.old self.new) }
@@ -98,9 +104,23 @@ impl Engine {
         ensures count { OnOk result (IsWithin self.new) }
         ensures settled { OnOk result (IsSettled self.new) }
         ensures err { OnErr result (self.new ≡ self.old) }
+        ensures starves { OnErr result (MayStarve self.old (Call.Begin props room)) }
+
+        // In an irrevocable transaction it comes to what the plain machine makes of it.
+        ensures held { self.old.irrevocable ≡ true
+            → IfOk result (λ next. ComesHeld self.old (Call.Begin props room) next self.new) }
     {
-        let turn = begin(&mut self.state, props, room, again);
-        Ok(take(&mut self.state, &mut self.phase, turn))
+        let turn = if self.irrevocable {
+            norec_irrevocable::called(&mut self.state, &Call::Begin { props, room })?
+        } else {
+            begin(&mut self.state, props, room, again)?
+        };
+        Ok(take(
+            &mut self.state,
+            &mut self.phase,
+            &mut self.irrevocable,
+            turn,
+        ))
     }
 
     /// A call comes.
@@ -117,9 +137,21 @@ impl Engine {
         ensures settled { OnOk result (IsSettled self.new) }
         ensures err { OnErr result (self.new ≡ self.old) }
         ensures starves { OnErr result (MayStarve self.old call.now) }
+
+        // In an irrevocable transaction it comes to what the plain machine makes of it.
+        ensures held { self.old.irrevocable ≡ true → IfOk result (λ next. ComesHeld self.old call.now next self.new) }
     {
-        let turn = called(&mut self.state, call)?;
-        Ok(take(&mut self.state, &mut self.phase, turn))
+        let turn = if self.irrevocable {
+            norec_irrevocable::called(&mut self.state, call)?
+        } else {
+            called(&mut self.state, call)?
+        };
+        Ok(take(
+            &mut self.state,
+            &mut self.phase,
+            &mut self.irrevocable,
+            turn,
+        ))
     }
 
     /// The step that it waits for was done: `seen` is the value loaded, the value that an exchange found, or 0 after a store.
@@ -136,9 +168,21 @@ impl Engine {
         ensures asks { self.new.waits ≡ asked self.new }
         ensures count { IsWithin self.new }
         ensures settled { IsSettled self.new }
+
+        // In an irrevocable transaction it comes to what the call was to come to.
+        ensures held { self.old.irrevocable ≡ true → StepsHeld self.old seen result self.new }
     {
-        let turn = turned(&mut self.state, self.phase, seen);
-        take(&mut self.state, &mut self.phase, turn)
+        let turn = if self.irrevocable {
+            norec_irrevocable::resumed(&mut self.state, self.phase, seen)
+        } else {
+            turned(&mut self.state, self.phase, seen)
+        };
+        take(
+            &mut self.state,
+            &mut self.phase,
+            &mut self.irrevocable,
+            turn,
+        )
     }
 
     /// Gives the transaction up, with the call in progress. While the clock is held, nothing is changed.
@@ -149,8 +193,11 @@ impl Engine {
         ensures unregistered { self.old.holds ≡ false
             → (self.new.actions.commits ≡ []) × (self.new.actions.undos ≡ []) }
     {
+        if self.irrevocable {
+            return Undone::Held;
+        }
         match self.phase {
-            Phase::BackLoad(_) | Phase::Store(_, _) | Phase::Free => Undone::Held,
+            Phase::BackLoad(_, _) | Phase::Store(_, _, _) | Phase::Free => Undone::Held,
             _ => {
                 let was_open = self.state.is_open();
                 roll_back(&mut self.state);
@@ -182,8 +229,10 @@ impl Engine {
             Phase::Idle
             | Phase::Load(_)
             | Phase::RoundRow(_, _)
-            | Phase::BackLoad(_)
-            | Phase::Store(_, _)
+            | Phase::BackLoad(_, _)
+            | Phase::Store(_, _, _)
+            | Phase::Fetch(_)
+            | Phase::Place(_, _)
             | Phase::Free => true,
             _ => self.state.clock <= seen,
         }
@@ -203,6 +252,17 @@ impl Engine {
         self.state.snapshot
     }
 
+    /// The room that the call asks for, where it is served and makes the transaction irrevocable.
+    pub fn goes(&self, call: &Call) -> Option<u32>
+        ensures { result ≡ goes self.now call.now }
+    {
+        if self.irrevocable {
+            None
+        } else {
+            goes(&self.state, call)
+        }
+    }
+
     /// The thread's private bytes.
     pub fn arena(&self) -> &Arena
         ensures { result.now ≡ self.now.arena }
@@ -214,7 +274,11 @@ impl Engine {
     pub fn into_arena(self) -> Arena
         ensures { result ≡ self.arena }
     {
-        let Engine { state, phase: _ } = self;
+        let Engine {
+            state,
+            phase: _,
+            irrevocable: _,
+        } = self;
         state.arena
     }
 
@@ -252,25 +316,47 @@ impl Engine {
 }
 
 /// Takes a turn: the call goes on in its phase, or is over. A step that is asked for is counted.
-fn take(state: &mut Data, phase: &mut Phase, turn: Turn) -> Next
-    requires sound { IsSoundTurn turn state.old }
+fn take(state: &mut Data, phase: &mut Phase, irrevocable: &mut bool, turn: Turn) -> Next
+    requires sound { IsSoundWith irrevocable.old turn state.old }
+    requires asked { Asked turn }
     ensures state { state.new ≡ data_after turn state.old }
     ensures phase { phase.new ≡ phase_after turn }
+    ensures mode { irrevocable.new ≡ mode_after irrevocable.old turn }
     ensures next { result ≡ next_of turn state.old }
 {
     match turn {
         Turn::Wait(next) => {
-            let _writes = state.frames.len();
-            let _entry = state.entry;
-            let step = step_of(state, next);
+            let step = next_step(state, *irrevocable, next);
             state.spent += 1;
             *phase = next;
             Next::Step(step)
         }
         Turn::End(answer) => {
             *phase = Phase::Idle;
+            *irrevocable = false;
             Next::Answer(answer)
         }
+        Turn::Enter(reply) => {
+            *phase = Phase::Idle;
+            *irrevocable = true;
+            Next::Answer(Answer::Reply(reply))
+        }
+    }
+}
+
+/// The step that the phase waits for. There are fewer in all than a count can tell.
+fn next_step(state: &Data, irrevocable: bool, phase: Phase) -> Step
+    requires sound { IsSoundIn irrevocable (counted state.now) phase }
+    requires waits { IsWaiting phase }
+    ensures step { result ≡ asked_step state.now phase }
+    ensures few { state.now.spent + 1 < 2 ^ 128 }
+{
+    let _writes = state.frames.len();
+    let _entry = state.entry;
+    if irrevocable {
+        norec_irrevocable::step_of(state, phase)
+    } else {
+        step_of(state, phase)
     }
 }
 
@@ -297,10 +383,12 @@ fn turned(state: &mut Data, phase: Phase, seen: u64) -> Turn
         Phase::RoundStart(aim) => round_started(state, aim, seen),
         Phase::RoundRow(aim, row) => row_seen(state, aim, row, seen),
         Phase::RoundEnd(aim) => round_ended(state, aim, seen),
-        Phase::Exchange => exchanged(state, seen),
-        Phase::BackLoad(row) => back_loaded(state, row, seen),
-        Phase::Store(row, got) => stored(state, row, got),
+        Phase::Take(opening) => begin_taken(state, opening, seen),
+        Phase::Exchange(taking) => exchanged(state, taking, seen),
+        Phase::BackLoad(taking, row) => back_loaded(state, taking, row, seen),
+        Phase::Store(taking, row, got) => stored(state, taking, row, got),
         Phase::Free => freed(state),
+        Phase::Fetch(_) | Phase::Place(_, _) => unreachable!(),
     }
 }
 
@@ -318,9 +406,10 @@ fn called(state: &mut Data, call: &Call) -> Result<Turn, AllocError>
     ensures tries { IfOk result (λ turn. (core_after turn state.new).tries ≡ tries_at (phase_after turn)) }
 {
     match call {
-        Call::Begin { props, room } => Ok(begin(state, *props, *room, false)),
+        Call::Begin { props, room } => begin(state, *props, *room, false),
         Call::Commit => Ok(commit(state)),
         Call::Abort { outer } => Ok(abort(state, *outer)),
+        Call::Mode { room } => mode(state, *room),
         Call::InTransaction => Ok(in_transaction(state)),
         Call::Read { hint, width, at } => read(state, *hint, *width, *at),
         Call::Write { hint, at, value } => write(state, *hint, *at, value),

@@ -2,17 +2,17 @@
 
 ghost use Rattle.std.specs.Prelude.{◌≡◌, ◌<◌, ◌≤◌, ◌+◌, ◌*◌, false, true, IfOk, OnOk, OnErr, replicate};
 ghost use Rattle.itm_types.specs.declared.access.WriteHint.{WriteHint};
-ghost use Rattle.norec_engine.specs.View.{in_block, core};
+ghost use Rattle.norec_data.specs.View.{in_block, core};
 ghost use Rattle.norec_engine.specs.InPhases.{IsSound};
-ghost use Rattle.norec_engine.specs.Between.{core_after, phase_after, IsSoundTurn, Turns, TurnEndsSo, Stays};
+ghost use Rattle.norec_engine.specs.Between.{IsSoundTurn};
+ghost use Rattle.norec_data.specs.Turns.{core_after, phase_after, Turns, TurnEndsSo, Stays};
 ghost use Rattle.norec_core.specs.Core.{came};
 
-use crate::access::{refusal, refuse};
-use crate::data::Data;
+use crate::access::refuse;
 use crate::range::{put_range, reserve_range};
-use crate::turn::Turn;
 use itm_types::{Call, Reply, WriteHint};
 use norec_core::{Answer, Phase};
+use norec_data::{Data, Turn, access_refusal};
 use std::alloc::AllocError;
 use word_pieces::{Chunks, Direction};
 
@@ -31,7 +31,7 @@ pub(crate) fn fill(state: &mut Data, to: u64, byte: u64, size: u64) -> Result<Tu
     ensures ends { IfOk result (TurnEndsSo None) }
     ensures tries { IfOk result (λ turn. (core_after turn state.new).tries ≡ 0) }
 {
-    if let Some(why) = refusal(state, to, size) {
+    if let Some(why) = access_refusal(state, to, size) {
         return Ok(refuse(state, why));
     }
     if size > 0 {

@@ -7,15 +7,14 @@ mod access;
 mod begin;
 mod commit;
 mod copy;
-mod data;
 mod engine;
 mod fill;
 mod local;
+mod mode;
 mod range;
 mod read;
 mod rounds;
 mod steps;
-mod turn;
 mod write;
 
 pub use engine::Engine;

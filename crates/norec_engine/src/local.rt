@@ -3,17 +3,17 @@
 ghost use Rattle.std.specs.Prelude.{◌≡◌, ◌+◌, ◌<◌, ◌≤◌, None, Some, true, false, if◌then◌else◌, length, IfOk, OnOk, OnErr};
 ghost use Rattle.itm_types.specs.declared.call.Call.{Call};
 ghost use Rattle.itm_types.specs.Calls.{logged_of, registered_by};
-ghost use Rattle.norec_engine.specs.View.{in_block, core};
+ghost use Rattle.norec_data.specs.View.{in_block, core};
 ghost use Rattle.norec_engine.specs.InPhases.{IsSound};
-ghost use Rattle.norec_engine.specs.Between.{core_after, phase_after, IsSoundTurn, Turns, TurnEndsSo, Stays};
+ghost use Rattle.norec_engine.specs.Between.{IsSoundTurn};
+ghost use Rattle.norec_data.specs.Turns.{core_after, phase_after, Turns, TurnEndsSo, Stays};
 ghost use Rattle.norec_core.specs.Core.{came};
 
-use crate::data::Data;
-use crate::turn::Turn;
 use itm_types::{
     Action, ActionKind, Call, Datum, NO_TRANSACTION, RETRYABLE, Refusal, Reply, Width,
 };
 use norec_core::{Answer, Phase};
+use norec_data::{Data, Turn};
 use std::alloc::AllocError;
 
 /// It is asked whether a transaction is open.
@@ -69,7 +69,8 @@ pub(crate) fn register(
         → Turns (came (core state.old Phase.Idle) call false) turn state.new) }
     ensures stays { OnOk result (Stays state.old state.new) }
     ensures err { OnErr result (state.new ≡ state.old) }
-    ensures starves { OnErr result (in_block state.old ≡ true) }
+    ensures starves { OnErr result
+        ((in_block state.old ≡ true) × (kind ≡ ActionKind.Commit → state.old.frames.room ≡ 0)) }
     ensures order { IfOk result (λ turn. phase_after turn ≡ Phase.Idle) }
     ensures ends { IfOk result (TurnEndsSo None) }
     ensures tries { IfOk result (λ turn. (core_after turn state.new).tries ≡ 0) }

@@ -24,6 +24,7 @@ pub(crate) fn reserve_range(frames: &mut Frames, to: u64, chunks: Chunks) -> Res
     ensures blocks { frames.new.blocks ≡ frames.old.blocks }
     ensures size { frames.new.size ≡ frames.old.size }
     ensures actions { frames.new.actions ≡ frames.old.actions }
+    ensures room { frames.new.room ≡ frames.old.room }
 {
     let len = frames.len();
     for number in 0..chunks.len() {
@@ -49,6 +50,7 @@ pub(crate) fn put_range(frames: &mut Frames, to: u64, direction: Direction, byte
     ensures blocks { frames.new.blocks ≡ frames.old.blocks }
     ensures size { frames.new.size ≡ frames.old.size }
     ensures actions { frames.new.actions ≡ frames.old.actions }
+    ensures room { frames.new.room ≡ frames.old.room }
     ensures bytes { AreBytes bytes.now }
 {
     let chunks = Chunks::new(bytes.len() as u32, direction);

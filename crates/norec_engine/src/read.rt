@@ -8,21 +8,21 @@ ghost use Rattle.write_set.specs.Rows.{overlay, AreRows};
 ghost use Rattle.norec_core.specs.Rows.{is_covered};
 ghost use Rattle.itm_types.specs.Access.{size_of};
 ghost use Rattle.norec_core.specs.Accesses.{parts, count, passed};
-ghost use Rattle.norec_engine.specs.View.{in_block, core, rows_before};
+ghost use Rattle.norec_data.specs.View.{in_block, core, rows_before};
 ghost use Rattle.norec_engine.specs.InPhases.{IsSound, MayRead, IsOpen, IsReading, next_load};
-ghost use Rattle.norec_engine.specs.Between.{core_after, phase_after, between, logged, IsSoundTurn, Turns, TurnEndsSo, Stays, MayGather};
+ghost use Rattle.norec_engine.specs.Between.{between, logged, IsSoundTurn, MayGather};
+ghost use Rattle.norec_data.specs.Turns.{core_after, phase_after, Turns, TurnEndsSo, Stays};
 ghost use Rattle.norec_core.specs.Core.{came, handed};
 ghost use Rattle.norec_core.specs.Order.{load_among, load_stage, log_after, snapshot_after, stage_after, stage_at, tries_after, tries_at};
 ghost use Rattle.norec_core.specs.Endings.{ending_at, ending_after};
 ghost use Rattle.norec_core.specs.Proceeds.{Joins, MayStarve};
 
-use crate::access::{refusal, refuse};
+use crate::access::refuse;
 use crate::copy::{keep_chunk, next_chunk};
-use crate::data::Data;
 use crate::rounds::try_round;
-use crate::turn::Turn;
 use itm_types::{Call, LogRow, MAX_WORDS, ReadHint, Reply, Value, Width};
 use norec_core::{Aim, Answer, Phase, Purpose, Reading};
+use norec_data::{Data, Turn, access_refusal};
 use std::alloc::AllocError;
 use std::mem;
 use word_pieces::{Piece, merge};
@@ -50,7 +50,7 @@ pub(crate) fn read(
     ensures ends { IfOk result (TurnEndsSo (ending_at (core state.old Phase.Idle) (Call.Read hint width at))) }
     ensures tries { IfOk result (λ turn. (core_after turn state.new).tries ≡ tries_at (phase_after turn)) }
 {
-    if let Some(why) = refusal(state, at, u64::from(width.size())) {
+    if let Some(why) = access_refusal(state, at, u64::from(width.size())) {
         return Ok(refuse(state, why));
     }
     state.log.reserve(MOST_PIECES)?;

@@ -1,18 +1,18 @@
 //! Validation rounds: the value log is compared with the memory between two equal even clocks.
 
 ghost use Rattle.std.specs.Prelude.{◌≡◌, ◌≤◌, length, ℕ, true, Option, None, Some};
-ghost use Rattle.norec_engine.specs.View.{in_block, core};
+ghost use Rattle.norec_data.specs.View.{in_block, core};
 ghost use Rattle.norec_engine.specs.InPhases.{IsSound};
-ghost use Rattle.norec_engine.specs.Between.{core_after, phase_after, between, in_rows, IsSoundTurn, Turns, TurnEndsSo, Stays, MayTry, InRows};
+ghost use Rattle.norec_engine.specs.Between.{between, in_rows, IsSoundTurn, MayTry, InRows};
+ghost use Rattle.norec_data.specs.Turns.{core_after, phase_after, Turns, TurnEndsSo, Stays};
 ghost use Rattle.norec_core.specs.Core.{handed};
 ghost use Rattle.norec_core.specs.Order.{log_after, row_stage, snapshot_after, stage_after, tries_after, try_stage};
 ghost use Rattle.norec_core.specs.Endings.{ending_after};
 ghost use Rattle.norec_core.specs.Proceeds.{Joins};
 
 use crate::commit::exchange;
-use crate::data::{Data, roll_back};
-use crate::turn::Turn;
 use norec_core::{Aim, Answer, Phase};
+use norec_data::{Data, Turn, roll_back};
 
 /// A new round, if one is left.
 pub(crate) fn try_round(state: &mut Data, aim: Aim) -> Turn
@@ -115,7 +115,7 @@ pub(crate) fn round_ended(state: &mut Data, aim: Aim, seen: u64) -> Turn
         state.snapshot = seen;
         match aim {
             Aim::Read(reading) => Turn::Wait(Phase::Load(reading)),
-            Aim::Commit => exchange(state),
+            Aim::Take(taking) => exchange(state, taking),
         }
     } else {
         try_round(state, aim)

@@ -1,13 +1,13 @@
 //! The step that a phase waits for.
 
 ghost use Rattle.std.specs.Prelude.{◌≡◌};
-ghost use Rattle.norec_engine.specs.View.{step_of};
+ghost use Rattle.norec_data.specs.View.{step_of};
 ghost use Rattle.norec_engine.specs.InPhases.{IsSound};
-ghost use Rattle.norec_engine.specs.Between.{counted};
+ghost use Rattle.norec_data.specs.Turns.{counted};
 
-use crate::data::Data;
 use itm_types::Step;
 use norec_core::Phase;
+use norec_data::Data;
 use word_pieces::merge;
 
 /// The step that the phase waits for.
@@ -27,12 +27,12 @@ pub(crate) fn step_of(state: &Data, phase: Phase) -> Step
             let logged = state.log.row(row);
             Step::Load(logged.word + 1)
         }
-        Phase::Exchange => Step::Cas(0, state.snapshot, state.snapshot + 1),
-        Phase::BackLoad(row) => {
+        Phase::Take(_) | Phase::Exchange(_) => Step::Cas(0, state.snapshot, state.snapshot + 1),
+        Phase::BackLoad(_, row) => {
             let written = state.frames.row(row);
             Step::Load(written.word + 1)
         }
-        Phase::Store(row, got) => {
+        Phase::Store(_, row, got) => {
             let written = state.frames.row(row);
             let value = match got {
                 Some(word) => merge(word, written.mask, written.value),
@@ -41,5 +41,6 @@ pub(crate) fn step_of(state: &Data, phase: Phase) -> Step
             Step::Store(written.word + 1, value)
         }
         Phase::Free => Step::Store(0, state.snapshot + 2),
+        Phase::Fetch(_) | Phase::Place(_, _) => unreachable!(),
     }
 }

@@ -17,6 +17,7 @@ mod calls;
 mod cells;
 mod copies;
 mod copy_tables;
+mod irrevocable;
 mod nests;
 mod reads;
 mod rounds;
@@ -39,7 +40,11 @@ const WIDEST: [u8; 32] = [
 enum Ask {
     /// A block begins, which is not cancelled or may be.
     Begin(bool),
+    /// A block begins whose transaction becomes irrevocable, with room for so many calls.
+    Goes(u32),
     Commit,
+    /// The transaction becomes irrevocable, with room for so many calls.
+    Mode(u32),
     /// The innermost block is cancelled, or all of them.
     Abort(bool),
     InTransaction,
@@ -115,10 +120,12 @@ enum Due {
 fn call_of(rt: &impl Abort, ask: Ask) -> Call {
     match ask {
         Ask::Begin(no_abort) => Call::Begin {
-            props: Props { no_abort },
+            props: Props { no_abort, ..BLOCK },
             room: 3,
         },
+        Ask::Goes(room) => Call::Begin { props: GOES, room },
         Ask::Commit => Call::Commit,
+        Ask::Mode(room) => Call::Mode { room },
         Ask::Abort(outer) => Call::Abort { outer },
         Ask::InTransaction => Call::InTransaction,
         Ask::Read(hint, width, at) => Call::Read { hint, width, at },
@@ -300,7 +307,18 @@ fn play_over(
 }
 
 /// A block that may be cancelled.
-const BLOCK: Props = Props { no_abort: false };
+const BLOCK: Props = Props {
+    no_abort: false,
+    no_irrevocable: false,
+    goes_irrevocable: false,
+};
+
+/// A block whose transaction becomes irrevocable.
+const GOES: Props = Props {
+    no_abort: false,
+    no_irrevocable: false,
+    goes_irrevocable: true,
+};
 
 /// A block comes for the first time.
 const BEGIN: Line = Line::Begin(false, Gives::Load(0));

@@ -6,20 +6,20 @@ ghost use Rattle.itm_types.specs.Slices.{AreBytes};
 ghost use Rattle.write_set.specs.Marks.{KeepsRoom, MayPut};
 ghost use Rattle.nest_frames.specs.Nest.{rows_of};
 ghost use Rattle.norec_core.specs.Rows.{AreRoomy, HaveRows, reserved_all, put_all};
-ghost use Rattle.norec_engine.specs.View.{core};
+ghost use Rattle.norec_data.specs.View.{core};
 ghost use Rattle.norec_engine.specs.InPhases.{IsSound};
-ghost use Rattle.norec_engine.specs.Between.{core_after, phase_after, IsSoundTurn, Turns, TurnEndsSo, Stays};
+ghost use Rattle.norec_engine.specs.Between.{IsSoundTurn};
+ghost use Rattle.norec_data.specs.Turns.{core_after, phase_after, Turns, TurnEndsSo, Stays};
 ghost use Rattle.norec_core.specs.Core.{came};
 ghost use Rattle.norec_core.specs.Order.{stage_at, tries_at};
 ghost use Rattle.norec_core.specs.Endings.{ending_at};
 ghost use Rattle.norec_core.specs.Proceeds.{MayStarve};
 
-use crate::access::{refusal, refuse};
-use crate::data::Data;
-use crate::turn::Turn;
+use crate::access::refuse;
 use itm_types::{Call, Datum, Reply, WriteHint};
 use nest_frames::Frames;
 use norec_core::{Answer, Phase};
+use norec_data::{Data, Turn, access_refusal};
 use std::alloc::AllocError;
 use word_pieces::{Piece, pieces};
 
@@ -43,7 +43,7 @@ pub(crate) fn write(
     ensures ends { IfOk result (TurnEndsSo (ending_at (core state.old Phase.Idle) (Call.Write hint at value.now))) }
     ensures tries { IfOk result (λ turn. (core_after turn state.new).tries ≡ tries_at (phase_after turn)) }
 {
-    if let Some(why) = refusal(state, at, u64::from(value.width.size())) {
+    if let Some(why) = access_refusal(state, at, u64::from(value.width.size())) {
         return Ok(refuse(state, why));
     }
     let pieces = pieces(at, value.width.size());
@@ -62,6 +62,7 @@ pub(crate) fn reserve_all(frames: &mut Frames, pieces: &[Piece]) -> Result<(), A
     ensures blocks { frames.new.blocks ≡ frames.old.blocks }
     ensures size { frames.new.size ≡ frames.old.size }
     ensures actions { frames.new.actions ≡ frames.old.actions }
+    ensures room { frames.new.room ≡ frames.old.room }
     ensures inner { frames.new.writes.inner ≡ frames.old.writes.inner }
     ensures others { OnOk result (KeepsRoom frames.old.writes frames.new.writes) }
     ensures grows { OnErr result (AreRoomy frames.old.writes.rows (rows_of frames.old.blocks) pieces.now → ⊥) }
@@ -86,6 +87,7 @@ pub(crate) fn put_all(frames: &mut Frames, pieces: &[Piece], bytes: &[u8])
     ensures blocks { frames.new.blocks ≡ frames.old.blocks }
     ensures size { frames.new.size ≡ frames.old.size }
     ensures actions { frames.new.actions ≡ frames.old.actions }
+    ensures room { frames.new.room ≡ frames.old.room }
     ensures words { map (λ r. r.word) frames.new.writes.rows ≡ map (λ r. r.word) frames.old.writes.rows }
     ensures others { KeepsRoom frames.old.writes frames.new.writes }
     ensures bytes { AreBytes bytes.now }

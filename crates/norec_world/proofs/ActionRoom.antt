@@ -1,16 +1,23 @@
 -- What an engine gives for a call leaves room for the actions that have run.
-use Rattle.std.proofs.Common.{◌≡◌, ℕ, ◌+◌, ◌<◌, ◌≤◌, Bool, true, false, true≢false, List, [], length, is_some, Result, Ok, Err, IfOk, OnOk, Some, None, refl, sym, ap, subst, ◌∙◌, inl, inr, arith, vec_capacity}
+use Rattle.std.proofs.Common.{◌≡◌, ℕ, ◌+◌, ◌<◌, ◌≤◌, Bool, true, false, true≢false, List, [], length, is_some, Result, Ok, Err, IfOk, OnOk, OnErr, Some, None, refl, sym, ap, subst, ◌∙◌, inl, inr, arith, vec_capacity}
 use Rattle.itm_types.specs.Calls.{is_abort, registered_by}
-use Rattle.norec_core.specs.Order.{asked, asked_from, stage_at}
+use Rattle.norec_core.specs.Core.{came, goes}
+use Rattle.norec_core.specs.Copies.{copy_refusal}
+use Rattle.norec_core.specs.Endings.{EndsSo, ending_at}
+use Rattle.norec_core.specs.Held.{ComesHeld}
+use Rattle.norec_core.specs.Moves.{IsCalled}
+use Rattle.norec_core.specs.Order.{asked, asked_from, stage_at, tries_at}
+use Rattle.norec_core.specs.Proceeds.{IsAtOnce, IsSettled, MayStarve, MayStarveIn, MayStarveOpen, StaysOn}
+use Rattle.norec_world.specs.Records.{Asks as AsksOf, asked_pending, begins_again}
 use Rattle.norec_world.proofs.ActiveRows.{row_from}
-use Rattle.itm_types.specs.declared.call.Call.TheVariants.{Abort, CommitAction, UndoAction}
+use Rattle.itm_types.specs.declared.call.Call.TheVariants.{Abort, Begin, CommitAction, Copy, Fill, Log, LogBytes, Mode, Read, UndoAction, Write}
 use Rattle.itm_types.specs.declared.call.Ran.{Ran}
 use Rattle.user_actions.specs.Actions.{total}
 use Rattle.norec_core.specs.declared.answer.Next.{Next}
 use Rattle.norec_core.specs.declared.answer.Next.TheVariants.{Step as Asks, Answer as Answers}
 use Rattle.norec_core.proofs.ActionCounts.{begins_empty, goes_on, open_reply, registers, reply_same}
 use Rattle.norec_world.specs.ActionRoom.{IsActing, IsEmpty, MayRun, MayRunOn, NoCancel, StartsEmpty}
-use Rattle.norec_world.proofs.Common.{Actor, Answer, Attempt, Call, Core, Ends, HasRow, Proceeds, RepliesTo, Rows, Step, active_of, cases_Bool, in_transaction, with_changed}
+use Rattle.norec_world.proofs.Common.{Actor, Answer, Attempt, Call, Core, Ends, HasRow, Proceeds, RepliesTo, Rows, Step, active_of, cases_Bool, in_transaction, is_begin, is_inside, none_inside, with_changed}
 use Rattle.norec_world.proofs.LaterActions.{first_here}
 
 cancels_register_none : (call : Call) → is_abort call ≡ true → registers call ≡ 0
@@ -135,3 +142,62 @@ pub places_for : (call : Call) (least room room' : ℕ) → least ≤ room → r
 places_for (CommitAction action) least room room' l k more = (let m = more refl in omega arith)
 places_for (UndoAction action) least room room' l k more = (let m = more refl in omega arith)
 places_for call least room room' l k more = omega arith
+
+-- what the engine says of a call that came to it, or for which it found no memory
+pub record IsServed {E : Type 0} (result : Result Next E) (old : Core) (call : Call) (new : Core) : Type 0 where
+  pub proceeds : IfOk result (λ what. Proceeds (came old call false) what new)
+  pub at_once : IfOk result IsAtOnce
+  pub stays : OnOk result (StaysOn old new)
+  pub order : OnOk result (new.stage ≡ stage_at old call false)
+  pub ends : IfOk result (EndsSo (ending_at old call))
+  pub tries : OnOk result (new.tries ≡ tries_at new.stage)
+  pub asks : OnOk result (new.waits ≡ asked new)
+  pub settled : OnOk result (IsSettled new)
+  pub held : old.irrevocable ≡ true → IfOk result (λ what. ComesHeld old call what new)
+
+-- within a block, nothing else has changed
+pub asked_inside : {P E : Type 0} (clock : ℕ) (r r' : Rows) (old new : Actor P) (call : Call) → in_transaction old.engine ≡ true
+    → new.pending ≡ old.pending → new.again ≡ old.again → new.player ≡ old.player → new.nth ≡ old.nth → new.thread ≡ old.thread → r' ≡ record r { room = r'.room }
+    → (result : Result Next E) → IsServed result old.engine call new.engine → IfOk result (AsksOf clock r r' old new call)
+asked_inside clock r r' old new call inside pending again player nth thread rows (Ok what) e = record {
+  pending = pending ∙ sym (ap (λ (b : Bool). asked_pending b clock old call) inside);
+  again = again;
+  player = player;
+  nth = nth;
+  thread = thread;
+  rows_are = rows;
+  called = subst (λ (b : Bool). IsCalled old.engine call (begins_again b old.again call) what new.engine) (sym inside) (record {
+    proceeds = e.proceeds;
+    at_once = e.at_once;
+    stays = e.stays;
+    order = e.order;
+    ends = e.ends;
+    tries = e.tries;
+    asks = e.asks;
+    settled = e.settled;
+    held = e.held;
+  });
+}
+asked_inside clock r r' old new call inside pending again player nth thread rows (Err x) e = tt
+
+-- outside one memory is wanted for a begin alone
+starves_open : (c : Core) (call : Call) → c.blocks ≡ [] → MayStarveOpen c call → is_begin call ≡ true
+starves_open c (Begin props room) none s = refl
+starves_open c (Mode room) none s = absurd (let both : None ≡ Some room = (λ i. goes (record c { blocks = sym none i }) (Mode room)) ∙ s.0 in cc)
+starves_open c (Copy k) none s = absurd (let both = (λ i. copy_refusal (is_inside (sym none i)) c.words (length c.arena) k) ∙ s.0 in cc)
+starves_open c (Read hint width at) none s = absurd (true≢false (sym s.0 ∙ ap is_inside none))
+starves_open c (Write hint at value) none s = absurd (true≢false (sym s.0 ∙ ap is_inside none))
+starves_open c (Log width at) none s = absurd (true≢false (sym s.0 ∙ ap is_inside none))
+starves_open c (LogBytes at size) none s = absurd (true≢false (sym s.0 ∙ ap is_inside none))
+starves_open c (Fill hint to byte size) none s = absurd (true≢false (sym s.0 ∙ ap is_inside none))
+starves_open c (CommitAction action) none s = absurd (true≢false (sym s.0 ∙ ap is_inside none))
+starves_open c (UndoAction action) none s = absurd (true≢false (sym s ∙ ap is_inside none))
+starves_open c call none s = absurd s
+
+starves_in : (irrevocable : Bool) (c : Core) (call : Call) → c.irrevocable ≡ irrevocable → IsSettled c → in_transaction c ≡ false → MayStarveIn irrevocable c call → is_begin call ≡ true
+starves_in true c call i s shut m = absurd (true≢false (sym (s.holder (s.irrevocable i).0).0 ∙ shut))
+starves_in false c call i s shut m = starves_open c call (none_inside c.blocks shut) m
+
+pub starves_begin : {E : Type 0} (c : Core) (call : Call) → IsSettled c → (result : Result Next E) → OnErr result (MayStarve c call) → OnErr result (in_transaction c ≡ false → is_begin call ≡ true)
+starves_begin c call s (Ok what) m = tt
+starves_begin c call s (Err x) m = λ shut. starves_in c.irrevocable c call refl s shut m

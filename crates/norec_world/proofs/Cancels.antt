@@ -4,6 +4,7 @@ use Rattle.norec_world.proofs.Common.{Agrees, Agrees-drop, Call, Code, Core, IsM
 use Rattle.itm_types.specs.declared.call.Call.TheVariants.{Abort}
 use Rattle.itm_model.specs.Machine.{reply_unless}
 use Rattle.norec_core.specs.Proceeds.{blocks_after}
+use Rattle.norec_core.specs.Stands.{state_in}
 
 pub cancels : (mid new : Core) (call : Call) (r : Replied) (m : List ℕ) → Replies mid call r new → in_transaction mid ≡ true → in_transaction new ≡ false → IsMemory mid.words m → Agrees m new.log
     → (outer : Bool) × (call ≡ Abort outer) × (r ≡ Code 24)
@@ -19,5 +20,6 @@ pub cancelled : (mid new : Core) (call : Call) (r : Replied) (m : List ℕ) → 
     → (is_open (after MAX_OPEN_BLOCKS (stands_for mid m) call) ≡ false) × ((after MAX_OPEN_BLOCKS (stands_for mid m) call).wrote ≡ false)
 cancelled mid new call r m g closed empty mem agrees =
     let state : stands_for new m ≡ after MAX_OPEN_BLOCKS (stands_for mid m) call = g.meets m mem agrees in
-    let here : stands_for new m ≡ state_over [] [] new.arena new.actions m = λ i. state_over (empty i) (none_inside new.blocks closed i) new.arena new.actions m in
+    let revocable : new.irrevocable ≡ false = ap (λ (c : Core). c.irrevocable) g.stays ∙ g.revocable in
+    let here : stands_for new m ≡ state_over [] [] new.arena new.actions m = λ i. state_in (revocable i) (empty i) (none_inside new.blocks closed i) new.arena new.actions m in
     (ap is_open (sym state ∙ here), ap (λ (s : State). s.wrote) (sym state ∙ here))

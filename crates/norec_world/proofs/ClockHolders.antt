@@ -21,11 +21,12 @@ clocks_of cells cells' e e' h odd = record {
   long = h.long;
   limit = h.limit;
   capped = h.capped;
+  seen = h.seen;
 }
 
 -- no step
-pub clocks_still : (cells : Cells) (e e' : Core) → e'.holds ≡ e.holds → (e'.max_commits ≡ e.max_commits) × (e'.patience ≡ e.patience) → ClocksOn cells e cells e'
-clocks_still cells e e' same limit = record {
+pub clocks_still : (cells : Cells) (e e' : Core) → e'.holds ≡ e.holds → e'.clock ≡ e.clock → (e'.max_commits ≡ e.max_commits) × (e'.patience ≡ e.patience) → ClocksOn cells e cells e'
+clocks_still cells e e' same clock limit = record {
   apart = λ odd free. (refl, same ∙ free);
   alone = λ mine odd. same ∙ mine odd;
   odd = λ before h. before (sym same ∙ h);
@@ -33,6 +34,7 @@ clocks_still cells e e' same limit = record {
   long = refl;
   limit = limit;
   capped = λ l. l;
+  seen = λ s free. clock ∙ s (sym same ∙ free);
 }
 
 pub clocks_twice : (c0 c1 c2 : Cells) (e0 e1 e2 : Core) → ClocksOn c0 e0 c1 e1 → ClocksOn c1 e1 c2 e2 → ClocksOn c0 e0 c2 e2
@@ -47,6 +49,7 @@ clocks_twice c0 c1 c2 e0 e1 e2 x y = record {
   long = y.long ∙ x.long;
   limit = (y.limit.0 ∙ x.limit.0, y.limit.1 ∙ x.limit.1);
   capped = λ l. subst (λ (n : ℕ). c2.clock ≤ 2 * n) x.limit.0 (y.capped (subst (λ (n : ℕ). c1.clock ≤ 2 * n) (sym x.limit.0) (x.capped l)));
+  seen = λ s. y.seen (x.seen s);
 }
 
 -- the store that frees the clock

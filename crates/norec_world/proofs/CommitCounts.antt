@@ -1,7 +1,7 @@
 -- The commits stay in order over an event.
 use Rattle.std.proofs.Common.{◌≡◌, inl, inr, ℕ, ◌+◌, ◌*◌, ◌/◌, ◌%◌, ◌≤◌, ◌==◌, ◌&&◌, Bool, true, false, nat_lt, List, [], ◌∷◌, ◌++◌, Some, slice_get, slice_set, refl, sym, ap, subst, ◌∙◌, arith, eq-eqb, lt-ltb}
 use Rattle.std.proofs.lemmas.Bool.{cases_order}
-use Rattle.norec_world.proofs.Common.{Actor, AreActors, AreCounted, Attempt, Cells, CommitsInOrder, EndsAt, IsEvent, IsFirst, Outcome, Prior, Rows, Rules, Tries, World, begins, between, both_ways, count_at, count_committed, false_from_ne_true, is_at, is_committed, le-ltb, ne_eqb, one_where, over, prior_of, runs, turned_away}
+use Rattle.norec_world.proofs.Common.{Actor, AreActors, AreCounted, Attempt, Cells, CommitsInOrder, EndsAt, IsEvent, IsFirst, Outcome, Prior, Rows, Rules, Tries, World, begins, between, both_ways, count_at, count_committed, false_from_ne_true, is_at, is_committed, le-ltb, ne_eqb, one_where, outrun, over, prior_of, runs, shut_out, turned_away}
 use Rattle.norec_world.specs.declared.attempt.Outcome.TheVariants as outcomes
 use Rattle.norec_world.specs.Commits.{HasLimits}
 use Rattle.norec_world.proofs.SoundOthers.{held_after, held_apart, odd_or_even, one_after, set_place}
@@ -59,6 +59,8 @@ module _ {P : Type 0} where
   counted_after clock clock' p r a (begins t) c = counted_same clock clock' p.ended r.ended t.ended t.half c
   counted_after clock clock' p r a (runs t) c = counted_same clock clock' p.ended r.ended t.ended t.half c
   counted_after clock clock' p r a (turned_away t) c = counted_same clock clock' p.ended r.ended t.ended (ap (λ (n : ℕ). n / 2) t.same) c
+  counted_after clock clock' p r a (outrun t) c = counted_same clock clock' p.ended r.ended t.ended (ap (λ (n : ℕ). n / 2) t.same) c
+  counted_after clock clock' p r a (shut_out t) c = counted_same clock clock' p.ended r.ended t.ended (ap (λ (n : ℕ). n / 2) t.same) c
   counted_after clock clock' p r a (over t) c = by_outcome t.row'.outcome refl t.at
     where
       by_outcome : (o : Outcome) → t.row'.outcome ≡ o → EndsAt p.max_commits clock clock' t.row'.at o → AreCounted clock' r.ended

@@ -21,7 +21,9 @@ pub use Rattle.norec_core.proofs.KeptFields.{handed_is}
 pub use Rattle.norec_core.proofs.Overlays.{Agrees-drop}
 pub use Rattle.norec_core.specs.Core.{Core, came, handed_to, in_transaction, is_inside, opening, word_loaded}
 pub use Rattle.norec_core.specs.Moves.{IsResumed}
-pub use Rattle.norec_core.specs.Proceeds.{AsksFor, Ends, Got, IsAtOnce, IsLawful, IsWithin, Proceeds, Replies, RepliesTo, StaysOn, backed, recoded}
+pub use Rattle.norec_core.proofs.ReplyCases.{reply_cases}
+pub use Rattle.norec_core.specs.Order.{asked}
+pub use Rattle.norec_core.specs.Proceeds.{AsksFor, ConflictsIn, Ends, Enters, Got, IsAtOnce, IsLawful, IsWithin, Proceeds, Replies, RepliesBy, RepliesHeld, RepliesTo, StaysOn, backed, recoded}
 pub use Rattle.norec_core.specs.Rows.{write_at}
 pub use Rattle.norec_core.specs.Stands.{stands_for, state_over}
 pub use Rattle.norec_core.specs.Undoing.{after_undoing}
@@ -41,18 +43,19 @@ pub use Rattle.norec_world.specs.LocalWork.{Acts, Starves, Works}
 pub use Rattle.norec_world.specs.LogAgreement.{AreLaid, Loaded, Sees}
 pub use Rattle.norec_world.specs.Memories.{bytes_at, words_at}
 pub use Rattle.norec_world.specs.Moments.{HasWorked}
-pub use Rattle.norec_world.specs.Opacity.{Beginning, Between, EndsAs, IsOpaque, IsRunOf, IsTryAt, LacksCommit, after_try, answered_all, begin_code, begin_of, begin_within, follows}
+pub use Rattle.norec_world.specs.Opacity.{Beginning, Between, EndsAs, IsOpaque, IsRunOf, IsTryAt, LacksClock, after_try, takes_clock, answered_all, begin_code, begin_of, begin_within, follows}
 pub use Rattle.norec_world.specs.Opaque.{AreOpaque, first_of}
 pub use Rattle.norec_world.specs.OthersAttempts.{AllOf, ChangesOwn, KeepsOthers, count_pending}
-pub use Rattle.norec_world.specs.Records.{CountsTry, IsTold, Opens, Records, RecordsReply, StopsAt, Tells, asked_pending, begins_again}
+pub use Rattle.norec_world.specs.Records.{CountsTry, IsTold, Opens, Records, RecordsReply, StopsAt, StopsIf, Tells, asked_pending, begins_again}
 pub use Rattle.norec_world.specs.Rows.{AreFrom, AreOfActors, AreOpen, AreUnfinished, Rows, active_of, changed, is_of, with_changed, with_ended, with_opened, without}
-pub use Rattle.norec_world.specs.Runs.{IsBeforeTry, IsInTry, IsRun, LeadsTo, RunsFrom, begins_at, run_after}
+pub use Rattle.norec_world.specs.HeldAttempts.{IsHeld, StandsIn}
+pub use Rattle.norec_world.specs.Runs.{IsBeforeTry, IsInTry, IsRun, LeadsTo, ReadsFrom, RunsFrom, begins_at, run_after}
 pub use Rattle.norec_world.specs.Sole.{AreSole, EndsWith, IsFirstTry, IsOnWay, IsSole, StandsSole}
 pub use Rattle.norec_world.specs.Solo.{Progress, Solo, ended_as, one_if, row_of, solo_within, stopped, with_all, with_first}
-pub use Rattle.norec_world.specs.Sound.{AnswerFits, Falls, GoesOn, HasLess, HasRow, IsAnswered, IsDone, IsKept, IsNested, IsNoMore, IsReady, IsSettledBy, IsSound, IsTied, RestsAs, StatusIs, rank, retried, run_left, steps_left, whole}
+pub use Rattle.norec_world.specs.Sound.{AnswerFits, BeginsAt, Falls, GoesOn, HasLess, HasRow, IsAnswered, IsDone, IsKept, IsNested, IsNoMore, IsReady, IsSettledBy, IsSound, IsTied, RestsAs, StatusIs, rank, retried, run_left, steps_left, whole}
 pub use Rattle.norec_world.specs.Starts.{HasStarted, IsFirst}
 pub use Rattle.norec_world.specs.Status.{ending_of, is_ready, is_waiting, waiting_step}
-pub use Rattle.norec_world.specs.Tries.{Continues, EndsAt, GoesOnAfter, IsBetween, Prior, Tries, TriesAgain, begins, between, current_of, is_done, over, prior_of, runs, turned_away}
+pub use Rattle.norec_world.specs.Tries.{Continues, EndsAt, GoesOnAfter, IsBetween, Prior, Tries, TriesAgain, begins, between, current_of, is_done, outrun, over, prior_of, runs, shut_out, turned_away}
 pub use Rattle.norec_world.specs.Views.{world_of}
 pub use Rattle.norec_world.specs.World.{SameOpening, ShowsAlone, World, attempts_of, counted, ending_at, ending_in, told, waits_at}
 pub use Rattle.norec_world.specs.WorldEvents.{ActorGoes, Goes, HasRead, Leads, Takes, passes_of}
@@ -67,8 +70,8 @@ pub use Rattle.norec_world.specs.declared.attempt.Outcome.TheVariants.{Unfinishe
 pub use Rattle.norec_world.specs.declared.attempt.Outcome.{Outcome}
 pub use Rattle.norec_world.specs.declared.fault.WorldFault.{WorldFault}
 pub use Rattle.norec_world.specs.declared.schedule.Passes.{Passes}
-pub use Rattle.script_vm.specs.Depth.{depth_after, opens}
-pub use Rattle.script_vm.specs.Rules.{Obeys, Rules}
+pub use Rattle.tx_player.specs.Depth.{depth_after, opens}
+pub use Rattle.tx_player.specs.Rules.{Obeys, Rules}
 pub use Rattle.std.proofs.lemmas.Bool.{both_ways, cases_Bool, cases_eq, cases_lt, cond-false, cond-true, cond_both, eqb-false, false_from_ne_true, le-ltb, ne_eqb}
 pub use Rattle.std.proofs.lemmas.List.{append-nil, drop_at, get_or-drop, map-append}
 pub use Rattle.std.proofs.lemmas.Option.{none-some, same_Some, slice_get-get_or, slice_get_past, slice_get_within}

@@ -7,7 +7,7 @@ use Rattle.norec_world.proofs.CommitCounts.{commits_after}
 use Rattle.norec_world.proofs.OthersAttempts.{others_twice}
 use Rattle.norec_world.proofs.RunOthers.{has_read, running_after, world_opaque}
 use Rattle.norec_world.proofs.ShownAlone.{shows_alone}
-use Rattle.norec_world.proofs.SoleEvents.{finished_free, sole_still}
+use Rattle.norec_world.proofs.SoleEvents.{sole_still}
 use Rattle.norec_world.proofs.SoundOthers.{actors_after}
 use Rattle.norec_world.proofs.Taken.{ready_of}
 use Rattle.norec_world.proofs.TryChains.{tries_then}
@@ -22,7 +22,7 @@ module _ {P : Type 0} {rules : Rules P} {cells cells' : Cells} {r r1 r2 : Rows} 
   event_others = others_twice a a1 a2 r r1 r2 x.others y.others
 
   event_clocks : ClocksOn cells a.engine cells' a2.engine
-  event_clocks = clocks_twice cells cells' cells' a.engine a1.engine a2.engine x.clocks (clocks_still cells' a1.engine a2.engine y.holds y.limit)
+  event_clocks = clocks_twice cells cells' cells' a.engine a1.engine a2.engine x.clocks (clocks_still cells' a1.engine a2.engine y.holds y.clock y.limit)
 
   event_then : (base : List ℕ) → HasRead base r1 a1 → (event : IsEvent rules cells r a cells' r2 a2) × HasRead base event.rows event.stepped
   event_then base read = (
@@ -74,7 +74,7 @@ module _ {P : Type 0} {rules : Rules P} (laws : Obeys rules) (w : World P) (kept
         long = length-set w.actors i a2 ∙ kept.long;
         commits = commits;
         running = running;
-        sole = sole_still rules w kept i got a2 here going cells' r2 events event.0 actors commits running (finished_free rules cells' r1 r2 a1 a2 x.sound x.unfinished y.holds y.still);
+        sole = sole_still rules w kept i got a2 here going cells' r2 events event.0 actors commits running;
       }
 
   pub goes_after : events ≡ counted w.events 1

@@ -1,12 +1,12 @@
 -- Worked cases, computed: the attempts of one counter, and of two whose first try is lost; a block that is cancelled and the next one; the counts of a schedule.
-use Rattle.std.proofs.Common.{◌≡◌, ℕ, zero, suc, ◌-◌, List, [], ◌∷◌, ◌++◌, map, refl, ap, false, true, replicate, Option, None, Some, Ok, Err, arith}
+use Rattle.std.proofs.Common.{◌≡◌, ℕ, zero, suc, ◌-◌, List, [], ◌∷◌, ◌++◌, map, refl, sym, ap, ◌∙◌, false, true, replicate, Option, None, Some, Ok, Err, arith}
 use Rattle.itm_types.specs.declared.access.Width.TheVariants.{U1, U2, U8}
 use Rattle.itm_types.specs.declared.access.ReadHint.TheVariants.{R}
 use Rattle.itm_types.specs.declared.access.WriteHint.TheVariants.{W}
 use Rattle.itm_types.specs.declared.datum.Datum.{Datum}
-use Rattle.norec_world.proofs.Common.{Attempt, Begin, Between, Call, Commit, Done, Entry, Finished, GaveUp, IsOpaque, IsRunOf, Props, Read, Rules, Write, passes_of}
+use Rattle.norec_world.proofs.Common.{Attempt, Begin, Between, Call, Commit, Done, Entry, Finished, GaveUp, IsOpaque, IsRunOf, Props, Read, Rules, Unfinished, Write, after, alone, passes_of, takes_clock}
 use Rattle.itm_types.specs.declared.call.Reply.{Reply}
-use Rattle.itm_types.specs.declared.call.Call.TheVariants.{Abort, Load, Log, Save}
+use Rattle.itm_types.specs.declared.call.Call.TheVariants.{Abort, Load, Log, Mode, Save}
 use Rattle.itm_types.specs.declared.call.Reply.TheVariants.{Bytes, Code}
 use Rattle.norec_world.specs.declared.attempt.Outcome.TheVariants.{Cancelled, Committed, Conflict, Full, ReadOnly}
 use Rattle.norec_world.specs.declared.fault.WorldFault.TheVariants as faults
@@ -18,7 +18,7 @@ use Rattle.norec_world.specs.Solo.{solo}
 -- ## A player that adds one to the counter at place 0
 
 abbrev plain : Props
-plain = record { no_abort = false }
+plain = record { no_abort = false; no_irrevocable = false; goes_irrevocable = false }
 
 -- a byte as a U8
 abbrev eight : ℕ → List ℕ
@@ -88,7 +88,7 @@ counter_is_opaque = record { no_older = omega arith; no_newer = omega arith; beg
 counter_run : IsRunOf counter_rules 1 1 (memory_after 1 (replicate 8 0) (counter ∷ [])) (Some fresh) (counter ∷ [])
 counter_run = ((refl, refl, omega arith, counter_is_opaque), tt)
 
-counter_alone : solo counter_rules 1 1 0 fresh.player (replicate 8 0) [] ≡ record { attempts = counter ∷ []; memory = 1 ∷ replicate 7 0; commits = 1; ending = Finished }
+counter_alone : solo counter_rules 1 1 0 fresh.player (replicate 8 0) [] ≡ record { attempts = counter ∷ []; memory = 1 ∷ replicate 7 0; commits = 1; held = false; ending = Finished }
 counter_alone = refl
 
 -- ## The lost update: of two counters the first to begin is the last to commit. Its first try conflicts, and is opaque all the same.
@@ -126,15 +126,25 @@ abbrev refused : Attempt
 refused = record { thread = 0; nth = 1; began = 0; at = 0; props = plain; arena = []; calls = read 0 ∷ write 1 ∷ []; ran = []; outcome = Full }
 
 refused_is_opaque : IsOpaque counter_rules 1 (record { step = 1; got = 0 }) refused 0 (replicate 8 0)
-refused_is_opaque = record { no_older = omega arith; no_newer = omega arith; beginning = (commit_pair, refl); whole = λ e. absurd (cc); ends = refl; closed = tt; ran = refl; full = λ f. (refl, (refl, refl)) }
+refused_is_opaque = record { no_older = omega arith; no_newer = omega arith; beginning = (commit_pair, refl); whole = λ e. absurd (cc); ends = refl; closed = tt; ran = refl; full = λ f. record { call = Commit; rest = []; answers_are = refl; revocable = refl; takes = refl } }
 
 -- the player alone does the same where no writer may commit
-refused_alone : solo counter_rules 1 0 0 fresh.player (replicate 8 0) [] ≡ record { attempts = refused ∷ []; memory = replicate 8 0; commits = 0; ending = GaveUp }
+refused_alone : solo counter_rules 1 0 0 fresh.player (replicate 8 0) [] ≡ record { attempts = refused ∷ []; memory = replicate 8 0; commits = 0; held = false; ending = GaveUp }
 refused_alone = refl
 
 -- one that would still write is not full
-too_early : IsOpaque counter_rules 1 (record { step = 1; got = 0 }) (record refused { calls = read 0 ∷ [] }) 0 (replicate 8 0) → ⊥
-too_early o = (let lacks = (o.full refl).0 in cc)
+abbrev early : Attempt
+early = record { thread = 0; nth = 1; began = 0; at = 0; props = plain; arena = []; calls = read 0 ∷ []; ran = []; outcome = Full }
+
+abbrev second : List (Call × Reply) → Call
+second [] = Commit
+second (x ∷ []) = Commit
+second (x ∷ y ∷ rest) = y.0
+
+too_early : IsOpaque counter_rules 1 (record { step = 1; got = 0 }) early 0 (replicate 8 0) → ⊥
+too_early o =
+    let lacks = o.full refl in
+    absurd (let taken : false ≡ true = ap (λ (l : List (Call × Reply)). takes_clock (after 1 (alone 1 (replicate 8 0) early) (second l))) lacks.answers_are ∙ lacks.takes in cc)
 
 -- ## A block that logs a byte of its arena, saves that byte and the next one, writes, and is cancelled with the block in it. The next block begins with the logged byte as it was, and the other one as it was saved.
 
@@ -182,8 +192,39 @@ cancelled_run : IsRunOf plan_rules 2 0 (memory_after 2 (replicate 8 0) (cancelle
 cancelled_run = ((refl, refl, omega arith, cancelled_is_opaque), ((refl, refl, omega arith, next_is_opaque), tt))
 
 -- the player alone does the same
-cancelled_alone : solo plan_rules 2 1 0 planned (replicate 8 0) (two 0 0) ≡ record { attempts = cancelled ∷ next ∷ []; memory = replicate 8 0; commits = 0; ending = Finished }
+cancelled_alone : solo plan_rules 2 1 0 planned (replicate 8 0) (two 0 0) ≡ record { attempts = cancelled ∷ next ∷ []; memory = replicate 8 0; commits = 0; held = false; ending = Finished }
 cancelled_alone = refl
+
+-- ## Irrevocable blocks
+
+-- a block that writes, goes irrevocable and commits: where no writer may commit it ends before it goes
+abbrev turning : Plan
+turning = record { calls = begin ∷ Write W 0 (word 7) ∷ Mode 0 ∷ Commit ∷ []; at = 0; blocks = None }
+
+abbrev turned : Attempt
+turned = record { thread = 0; nth = 1; began = 0; at = 0; props = plain; arena = []; calls = write 7 ∷ record { call = Mode 0; reply = Done } ∷ commit ∷ []; ran = []; outcome = Committed }
+
+turned_alone : solo plan_rules 2 1 0 turning (replicate 8 0) [] ≡ record { attempts = turned ∷ []; memory = 7 ∷ replicate 7 0; commits = 1; held = false; ending = Finished }
+turned_alone = refl
+
+full_alone : solo plan_rules 2 0 0 turning (replicate 8 0) [] ≡ record { attempts = record turned { calls = write 7 ∷ []; outcome = Full } ∷ []; memory = replicate 8 0; commits = 0; held = false; ending = GaveUp }
+full_alone = refl
+
+-- a block that begins irrevocable and is left open: what it wrote stays, and where no writer may commit it does not begin
+abbrev going : Props
+going = record { no_abort = false; no_irrevocable = false; goes_irrevocable = true }
+
+abbrev leaving : Plan
+leaving = record { calls = Begin going 0 ∷ Write W 0 (word 7) ∷ []; at = 0; blocks = None }
+
+abbrev left : Attempt
+left = record { thread = 0; nth = 1; began = 0; at = 0; props = going; arena = []; calls = write 7 ∷ []; ran = []; outcome = Unfinished }
+
+left_alone : solo plan_rules 2 1 0 leaving (replicate 8 0) [] ≡ record { attempts = left ∷ []; memory = 7 ∷ replicate 7 0; commits = 0; held = true; ending = Finished }
+left_alone = refl
+
+shut_out_alone : solo plan_rules 2 0 0 leaving (replicate 8 0) [] ≡ record { attempts = []; memory = replicate 8 0; commits = 0; held = false; ending = GaveUp }
+shut_out_alone = refl
 
 -- what ended by a commit was not cancelled
 not_cancelled : ByAbort (commit ∷ []) → ⊥

@@ -14,11 +14,15 @@ pub mod CommitCounts
 pub mod Memories
 pub mod RunLists
 pub mod InTries
+pub mod TryOutcomes
+pub mod HeldCalls
 pub mod RunAnswers
+pub mod RunEndings
 pub mod RunBegins
 pub mod Seen
 pub mod Laid
 pub mod RunTaken
+pub mod HeldMoves
 pub mod RunCalls
 pub mod RunOthers
 pub mod PlayerLaws
@@ -32,8 +36,10 @@ pub mod LessLeft
 pub mod Worked
 pub mod Worlds
 pub mod WorldEvents
+pub mod TakingCalls
 pub mod Solos
 pub mod SoleRuns
 pub mod SoleEvents
+pub mod IdleEngines
 pub mod ShownAlone
 pub mod EventWorlds

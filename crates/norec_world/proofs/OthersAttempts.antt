@@ -1,7 +1,7 @@
 -- One actor's work leaves the others' attempts.
 use Rattle.itm_types.specs.declared.call.Ran.{Ran}
 use Rattle.std.proofs.Common.{Vec, Global, inl, inr, ◌≡◌, ℕ, ◌-◌, Bool, true, false, ◌+◌, ◌≤◌, subst, arith, List, [], ◌∷◌, ◌++◌, None, Some, refl, sym, ap, ◌∙◌, append_assoc, nat_lt, Option}
-use Rattle.norec_world.proofs.Common.{Actor, AllOf, AreFrom, Attempt, ChangesOwn, CountsTry, Ended, GaveUp, HasRow, KeepsOthers, Outcome, Rows, StopsAt, active_of, append-nil, cases_Bool, cond_both, count_pending, is_of, retried, with_changed, with_ended, with_opened}
+use Rattle.norec_world.proofs.Common.{Actor, AllOf, AreFrom, Attempt, ChangesOwn, CountsTry, Ended, GaveUp, HasRow, KeepsOthers, Outcome, Rows, StopsAt, StopsIf, active_of, append-nil, cases_Bool, cond_both, count_pending, is_of, retried, with_changed, with_ended, with_opened}
 use Rattle.norec_world.proofs.ActiveRows.{row_is_of, changed_elsewhere, without_elsewhere, opened_elsewhere, from_changed, from_without, from_with_one}
 
 all_both : (thread : ℕ) (xs ys : List Attempt) → AllOf thread xs → AllOf thread ys → AllOf thread (xs ++ ys)
@@ -53,6 +53,10 @@ module _ {P : Type 0} where
   pub others_same : (a a' : Actor P) (r r' : Rows) → a'.thread ≡ a.thread → a'.pending ≡ a.pending → r'.ended ≡ r.ended → r'.active ≡ r.active → r.room ≤ r'.room → KeepsOthers a r a' r'
   others_same a a' r r' thread pending ended active room = others_own a a' r r' thread pending (own_same a.thread r r' ended active) room
 
+  others_still : (a a' : Actor P) (r r' : Rows) → a'.thread ≡ a.thread → a'.pending ≡ a.pending → r' ≡ r → KeepsOthers a r a' r'
+  others_still a a' r r' thread pending same =
+      others_same a a' r r' thread pending (ap (λ (x : Rows). x.ended) same) (ap (λ (x : Rows). x.active) same) (let roomy : r'.room ≡ r.room = ap (λ (x : Rows). x.room) same in omega arith)
+
   pub others_twice : (a b c : Actor P) (r r1 r2 : Rows) → KeepsOthers a r b r1 → KeepsOthers b r1 c r2 → KeepsOthers a r c r2
   others_twice a b c r r1 r2 x y = record {
     thread = y.thread ∙ x.thread;
@@ -79,6 +83,21 @@ module _ {P : Type 0} where
         omega arith);
   }
 
+  -- the try has come to nothing, and no attempt is to be opened
+  pub others_stopped : (a a' : Actor P) (r r' : Rows) (was : Bool) (at : ℕ) (outcome : Outcome) (ran : List Ran) → HasRow was r a.thread → a'.thread ≡ a.thread → a'.pending ≡ None → StopsIf was a.thread r at outcome ran r' → KeepsOthers a r a' r'
+  others_stopped a a' r r' true at outcome ran row thread none stops =
+      let is = stops row.0 row.1 in
+      record {
+        thread = thread;
+        own = own_ended a.thread (record row.0 { at = at; ran = ran; outcome = outcome }) r r' (row_is_of a.thread r.active row.0 row.1) is;
+        room = λ k few l. (let nothing : count_pending a'.pending ≡ 0 = ap count_pending none in let roomy = ap (λ (y : Rows). y.room) is in omega arith);
+      }
+  others_stopped a a' r r' false at outcome ran row thread none is = record {
+    thread = thread;
+    own = own_same a.thread r r' (ap (λ (x : Rows). x.ended) is) (ap (λ (x : Rows). x.active) is);
+    room = λ k few l. (let nothing : count_pending a'.pending ≡ 0 = ap count_pending none in let roomy = ap (λ (y : Rows). y.room) is in omega arith);
+  }
+
   -- a try that came to nothing changes the status and the number of tries alone
   pub retried_is : {A : Type 0} (f : Actor P → A) {a last : Actor P} → last ≡ retried a → f (record a { status = Ended GaveUp }) ≡ f a → f (record a { nth = a.nth + 1 }) ≡ f a → f last ≡ f a
   retried_is f {a} is given_up next = ap f is ∙ cond_both (nat_lt a.retries a.nth) _ _ (λ (b : Actor P). f b ≡ f a) (λ e. given_up) (λ e. next)
@@ -89,10 +108,9 @@ module _ {P : Type 0} where
     | inr e ↦ record { nth = simp e; status = simp e; again = simp e }
   ])
 
-  -- memory was refused
-  pub others_starved : (a a' : Actor P) (r r' : Rows) (is_open : Bool) (at : ℕ) (outcome : Outcome) (ran : List Ran) → HasRow is_open r a.thread → a'.thread ≡ a.thread → a'.pending ≡ a.pending
-      → (is_open ≡ true → StopsAt a.thread r at outcome ran r') → (is_open ≡ false → r' ≡ r) → KeepsOthers a r a' r'
-  others_starved a a' r r' true at outcome ran row thread pending stops none = others_ended a a' r r' row.0 (record row.0 { at = at; ran = ran; outcome = outcome }) row.1 refl thread pending (stops refl row.0 row.1)
-  others_starved a a' r r' false at outcome ran row thread pending stops none =
-      let same = none refl in
-      others_same a a' r r' thread pending (ap (λ (x : Rows). x.ended) same) (ap (λ (x : Rows). x.active) same) (let roomy : r'.room ≡ r.room = ap (λ (x : Rows). x.room) same in omega arith)
+  -- memory was refused: an irrevocable attempt stays
+  pub others_starved : (a a' : Actor P) (r r' : Rows) (is_open irrevocable : Bool) (at : ℕ) (outcome : Outcome) (ran : List Ran) → HasRow is_open r a.thread → a'.thread ≡ a.thread → a'.pending ≡ a.pending
+      → (is_open ≡ true → irrevocable ≡ false → StopsAt a.thread r at outcome ran r') → (is_open ≡ false → r' ≡ r) → (irrevocable ≡ true → r' ≡ r) → KeepsOthers a r a' r'
+  others_starved a a' r r' true false at outcome ran row thread pending stops none held = others_ended a a' r r' row.0 (record row.0 { at = at; ran = ran; outcome = outcome }) row.1 refl thread pending (stops refl refl row.0 row.1)
+  others_starved a a' r r' true true at outcome ran row thread pending stops none held = others_still a a' r r' thread pending (held refl)
+  others_starved a a' r r' false irrevocable at outcome ran row thread pending stops none held = others_still a a' r r' thread pending (none refl)

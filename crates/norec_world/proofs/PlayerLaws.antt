@@ -1,10 +1,10 @@
 -- The player's laws, over one answer: its depth, where it goes back to, and how much is left to do; and what comes of the answer once it is recorded.
 use Rattle.itm_types.specs.declared.call.Ran.{Ran}
-use Rattle.std.proofs.Common.{◌&&◌, ◌≡◌, ℕ, ◌+◌, ◌*◌, ◌<◌, ◌≤◌, Bool, true, false, Some, refl, ap, subst, ◌∙◌, arith, if◌then◌else◌, ◌-◌, nat_lt, [], Option, None, sym, Vec, Global, ltb-false, List, length, ◌∷◌, drop, length-drop}
+use Rattle.std.proofs.Common.{◌&&◌, ◌≡◌, ℕ, ◌+◌, ◌*◌, ◌<◌, ◌≤◌, Bool, true, false, Some, refl, ap, subst, ◌∙◌, arith, if◌then◌else◌, ◌-◌, nat_lt, [], Option, None, is_some, sym, Vec, Global, ltb-false, List, length, ◌∷◌, drop, length-drop}
 use Rattle.std.proofs.Math.Nat.{mul-le-mul_right}
 use Rattle.norec_world.proofs.Common.{Actor, Attempt, Begin, Call, Code, Commit, Done, End, Ended, Entry, Falls, GaveUp, HasRow, IsAnswered, IsKept, IsNested, IsSettledBy, Obeys, Replied, Reply, RestsAs, Rows, Rules, Status, active_of, depth_after, in_transaction, is_begin, is_inside, ne_eqb, cond_both, Core, opens, retried, whole, Answer}
 use Rattle.norec_world.specs.Sound.{IsDeep, tries_left}
-use Rattle.script_vm.specs.Depth.{is_code}
+use Rattle.tx_player.specs.Depth.{is_code}
 use Rattle.nest_frames.specs.Nest.{Frame, closed, logged}
 use Rattle.itm_types.specs.declared.call.Call.TheVariants.{Abort, Log, LogBytes}
 use Rattle.undo_log.specs.Rollback.{Old}
@@ -19,6 +19,10 @@ length-logged : (bs : List Frame) (olds : List Old) → length (logged bs olds) 
 length-logged [] olds = refl
 length-logged (b ∷ bs) olds = omega arith
 
+length-kept : (irrevocable : Bool) (bs : List Frame) (olds : List Old) → length (if irrevocable then bs else logged bs olds) ≡ length bs
+length-kept true bs olds = refl
+length-kept false bs olds = length-logged bs olds
+
 -- the player is as deep as the engine says
 pub reply_fits : (c : Core) (call : Call) (r : Replied) → length (blocks_after c call r) ≡ depth_after (length c.blocks) call r
 reply_fits c (Begin props room) (Code n) = omega arith
@@ -27,9 +31,9 @@ reply_fits c Commit Done = length-closed c.blocks
 reply_fits c Commit r = refl
 reply_fits c (Abort outer) (Code n) = cond_both outer [] (drop 1 c.blocks) (λ (bs : List Frame). length bs ≡ (if outer then 0 else length c.blocks - 1)) (λ e. ap (λ (o : Bool). if o then 0 else length c.blocks - 1) (sym e)) (λ e. length-drop 1 c.blocks ∙ ap (λ (o : Bool). if o then 0 else length c.blocks - 1) (sym e))
 reply_fits c (Abort outer) r = refl
-reply_fits c (Log width at) Done = length-logged c.blocks _
+reply_fits c (Log width at) Done = length-kept c.irrevocable c.blocks _
 reply_fits c (Log width at) r = refl
-reply_fits c (LogBytes at size) Done = length-logged c.blocks _
+reply_fits c (LogBytes at size) Done = length-kept c.irrevocable c.blocks _
 reply_fits c (LogBytes at size) r = refl
 reply_fits c call r = refl
 
@@ -37,6 +41,15 @@ reply_fits c call r = refl
 pub deep_of : (blocks : List Frame) → IsDeep (is_inside blocks) (length blocks)
 deep_of [] = refl
 deep_of (b ∷ bs) = omega arith
+
+-- a try that ends by its begin has its attempt still to be opened
+pub ends_inside : (was : Bool) (p : Option Attempt) (call : Call) → (was ≡ false → is_some p ≡ is_begin call) → (was ≡ false → is_begin call ≡ true) → is_some p ≡ false → was ≡ true
+ends_inside true p call begins fits none = refl
+ends_inside false p call begins fits none = absurd (let both : false ≡ true = sym none ∙ (begins refl ∙ fits refl) in cc)
+
+pub ends_outside : (was : Bool) (p : Option Attempt) → (was ≡ true → p ≡ None) → is_some p ≡ true → was ≡ false
+ends_outside false p inside some = refl
+ends_outside true p inside some = absurd (let both : false ≡ true = sym (ap is_some (inside refl)) ∙ some in cc)
 
 -- ## Numbers
 
@@ -126,6 +139,12 @@ module _ {P : Type 0} (rules : Rules P) (laws : Obeys rules) where
       less = laws.nearer p c r asks;
     }
 
+module _ {P : Type 0} (rules : Rules P) where
+  -- by other names
+  pub settled_as : {was : Bool} {r1 r2 : Rows} {a x s last : Actor P} → last ≡ retried s → s ≡ x → r1 ≡ r2 → IsSettledBy rules was r2 a (retried x) → IsSettledBy rules was r1 a last
+  settled_as {was} {r1} {r2} {a} {x} {s} {last} is same rows settled =
+      subst (λ (r : Rows). IsSettledBy rules was r a last) (sym rows) (subst (IsSettledBy rules was r2 a) (sym (is ∙ ap retried same)) settled)
+
 -- ## The answer is recorded: the actor is between calls again, or has ended
 
 module _ {P : Type 0} (rules : Rules P) (laws : Obeys rules)
@@ -185,15 +204,15 @@ module _ {P : Type 0} (rules : Rules P) (laws : Obeys rules)
       })
 
   -- no more tries: the actor has ended
-  pub after_end : (was : Bool) (end : End) (player : P) (end_room : Vec Ran Global) (pending : Option Attempt) → IsKept was r a → in_transaction a.engine ≡ false → active_of a.thread r'.active ≡ None
+  pub after_end : (was : Bool) (end : End) (player : P) (end_room : Vec Ran Global) (pending : Option Attempt) → IsKept was r a → a.engine.waits ≡ None → in_transaction a.engine ≡ false → active_of a.thread r'.active ≡ None
       → IsSettledBy rules was r' a (record a { player = player; end_room = end_room; pending = pending; status = Ended end })
-  after_end was end player end_room pending k closed row =
+  after_end was end player end_room pending k idle closed row =
       record {
         engine = refl;
         thread = refl;
         retries = refl;
         kept = record { row = subst (λ (b : Bool). HasRow b r' a.thread) (sym closed) row; empty = k.empty; tried = k.tried; tries = k.tries; retries = k.retries };
-        rests = tt;
+        rests = idle;
         falls = λ over. absurd (cc);
       }
 
@@ -206,7 +225,7 @@ module _ {P : Type 0} (rules : Rules P) (laws : Obeys rules)
     where
       tries : (b : Bool) → nat_lt a.retries a.nth ≡ b
           → IsSettledBy rules was r' a (if b then record a { player = player; end_room = end_room; pending = pending; status = Ended GaveUp } else record a { player = player; end_room = end_room; pending = pending; nth = a.nth + 1 })
-      tries true e = after_end was GaveUp player end_room pending d.kept closed row
+      tries true e = after_end was GaveUp player end_room pending d.kept d.idle closed row
       tries false e =
           let low : a.nth ≤ a.retries = ltb-false a.retries a.nth e in
           let nested : IsNested rules false player = record { deep = outside; begun = λ o. absurd (cc); less = λ o. absurd (cc) } in

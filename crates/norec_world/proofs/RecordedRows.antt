@@ -1,6 +1,6 @@
 -- What stands in the rows of attempts, after an answer.
 use Rattle.std.proofs.Common.{is_some, Option, inl, inr, None, Some, sym, subst, ◌≡◌, ℕ, ◌&&◌, Bool, true, false, List, [], ◌∷◌, length, refl, ap, ◌∙◌, arith, ◌<◌}
-use Rattle.script_vm.specs.Depth.{is_code}
+use Rattle.tx_player.specs.Depth.{is_code}
 use Rattle.norec_world.proofs.ActiveRows.{opened_here, changed_here}
 use Rattle.norec_world.proofs.Common.{Actor, Attempt, Call, HasRow, IsKept, Replied, Rows, Rules, Status, StatusIs, Unfinished, active_of, cases_Bool, changed, depth_after, in_transaction, is_begin, is_of, opens, with_changed, with_ended, with_opened, without}
 use Rattle.norec_world.specs.Sound.{IsDeep}

@@ -1,19 +1,23 @@
 -- An actor's run between two tries: calls outside a transaction, and begins.
-use Rattle.std.proofs.Common.{◌≡◌, ℕ, zero, suc, ◌/◌, ◌≤◌, Bool, true, false, List, [], Option, None, Some, refl, sym, true≢false, ap, subst, ◌∙◌, arith, is_some, inl, inr}
+use Rattle.std.proofs.Common.{◌≡◌, ◌⊎◌, ℕ, zero, suc, ◌/◌, ◌<◌, ◌≤◌, Bool, true, false, if◌then◌else◌, List, [], Option, None, Some, refl, sym, true≢false, ap, subst, ◌∙◌, arith, is_none, is_some, inl, inr}
 use Rattle.user_actions.specs.Actions.{Actions}
-use Rattle.nest_frames.specs.Nest.{Frame}
-use Rattle.norec_world.proofs.Common.{Actor, Agrees, Agrees-drop, Answer, Attempt, Begin, Beginning, Between, Busy, Call, Cells, Core, Done, IsBeforeTry, IsInTry, IsMemory, IsRun, LeadsTo, MAX_OPEN_BLOCKS, Obeys, Props, Ready, Refusal, Replied, Replies, RepliesTo, Reply, Row, Rows, Rules, State, active_of, after, after_unless, begin_of, begin_within, begins_at, in_transaction, is_begin, none_inside, outside, recoded, reply, same_Some, state_over, with_opened, words_at}
-use Rattle.itm_model.specs.Machine.{in_arena}
+use Rattle.norec_world.proofs.Common.{Actor, Agrees, Agrees-drop, Answer, Attempt, Begin, Beginning, Between, Busy, Call, Cells, Committed, Conflict, ConflictsIn, Core, CountsTry, Done, Enters, Full, IsBeforeTry, IsInTry, IsMemory, IsRun, LeadsTo, MAX_OPEN_BLOCKS, Obeys, Props, Ready, Refusal, Replied, Replies, RepliesHeld, RepliesTo, Reply, Row, Rows, Rules, State, active_of, after, after_unless, alone, backed, begin_of, begin_within, begins_at, bytes_at, cond-true, ending_of, in_transaction, is_inside, none_inside, opened, outside, recoded, refusal, reply, reply_cases, same_Some, stands_for, state_over, state_then, with_opened, words_at}
+use Rattle.itm_model.specs.Machine.{answer, in_arena, irrevocable_from, or_else, pushed, reply_unless, unless}
+use Rattle.itm_types.specs.declared.call.Refusal.TheVariants.{NoIrrevocable}
+use Rattle.norec_core.specs.Core.{may_go}
+use Rattle.norec_core.specs.Proceeds.{IsLost, blocks_after}
+use Rattle.norec_world.specs.Opacity.{stays_outside}
 use Rattle.itm_types.specs.Access.{size_of}
 use Rattle.itm_types.specs.declared.call.Call.TheVariants.{Load, Save}
 use Rattle.norec_world.specs.Records.{again_after}
 use Rattle.norec_world.proofs.ActiveRows.{opened_here}
 use Rattle.norec_world.proofs.RunAnswers.{now_at, run_same}
 use Rattle.norec_world.proofs.Solos.{comes_past}
-use Rattle.norec_world.proofs.TryEnds.{none_pending, none_retried, begin_call, next_try, begun_or_not}
-use Rattle.norec_world.proofs.Seen.{HasSeen, memory_at}
+use Rattle.norec_world.proofs.TryEnds.{none_pending, begin_call, next_try, begun_or_not, plain_reply, unfreed_to}
+use Rattle.norec_world.proofs.Seen.{HasSeen, memory_at, same_at}
 use Rattle.norec_world.proofs.Taken.{HasAnswered, still_going}
-use Rattle.norec_world.proofs.InTries.{try_begins}
+use Rattle.norec_world.proofs.InTries.{begin_leaves, begin_may, inside_all, held_served, stands_outside, try_begins, try_begins_held}
+use Rattle.norec_world.proofs.HeldCalls.{stands_arena}
 
 module _ {P : Type 0} (rules : Rules P) (laws : Obeys rules) where
   abbrev comes_to : P → List ℕ → Option (Beginning P)
@@ -24,17 +28,17 @@ module _ {P : Type 0} (rules : Rules P) (laws : Obeys rules) where
   told_outside p arena c = rules.answered p (reply MAX_OPEN_BLOCKS (outside [] arena) c)
 
   -- such a call, where it begins no block, leads on
-  past_outside : (p : P) (arena : List ℕ) (c : Call) → rules.next_call p ≡ Some c → is_begin c ≡ false
+  past_outside : (p : P) (arena : List ℕ) (c : Call) → rules.next_call p ≡ Some c → stays_outside MAX_OPEN_BLOCKS arena c ≡ true
       → comes_to p arena ≡ comes_to (told_outside p arena c) (after MAX_OPEN_BLOCKS (outside [] arena) c).arena
   past_outside p arena c e nb = comes_past rules laws MAX_OPEN_BLOCKS 0 0 (rules.calls_left p) (record { player = p; arena = arena; memory = []; commits = 0 }) c e nb (omega arith)
 
   -- a begin that the player calls is where it comes to
-  pub begin_here : (p : P) (arena : List ℕ) (props : Props) (room : ℕ) → rules.next_call p ≡ Some (Begin props room) → comes_to p arena ≡ Some (record { player = p; arena = arena; props = props })
-  begin_here p arena props room e = by_left (rules.calls_left p) refl
+  pub begin_here : (p : P) (arena : List ℕ) (props : Props) (room : ℕ) → rules.next_call p ≡ Some (Begin props room) → may_go [] props ≡ true → comes_to p arena ≡ Some (record { player = p; arena = arena; props = props })
+  begin_here p arena props room e may = by_left (rules.calls_left p) refl
     where
       by_left : (n : ℕ) → rules.calls_left p ≡ n → begin_within rules MAX_OPEN_BLOCKS n p arena (rules.next_call p) ≡ Some (record { player = p; arena = arena; props = props })
       by_left zero l = absurd (let k = laws.nearer p (Begin props room) Done e in omega arith)
-      by_left (suc n) l = ap (begin_within rules MAX_OPEN_BLOCKS (suc n) p arena) e
+      by_left (suc n) l = ap (begin_within rules MAX_OPEN_BLOCKS (suc n) p arena) e ∙ cond-true (is_none (refusal MAX_OPEN_BLOCKS (outside [] arena) (Begin props room))) _ _ (ap (λ (b : Bool). is_none (or_else (or_else (unless b NoIrrevocable) None) None)) may)
 
   -- where its calls have led, it comes to the same begin
   pub led : (n : ℕ) (p : P) (arena : List ℕ) (q : P) (bytes : List ℕ) → LeadsTo rules n p arena q bytes → comes_to p arena ≡ comes_to q bytes
@@ -48,33 +52,46 @@ same_arena : (why : Option Refusal) (s t s' t' : State) → s.arena ≡ s'.arena
 same_arena None s t s' t' old new = new
 same_arena (Some refusal) s t s' t' old new = old
 
+opened_arena : (memory arena : List ℕ) (props : Props) → (opened memory arena props).arena ≡ arena
+opened_arena memory arena props = by_props props.goes_irrevocable
+  where
+    by_props : (b : Bool) → (if b then irrevocable_from (pushed (outside memory arena) props) else pushed (outside memory arena) props).arena ≡ arena
+    by_props true = refl
+    by_props false = refl
+
 -- such a call is served with no memory
-same_outside : (writes : List Row) (arena : List ℕ) (actions : Actions) (m : List ℕ) (c : Call) → is_begin c ≡ false
+same_outside : (writes : List Row) (arena : List ℕ) (actions : Actions) (m : List ℕ) (c : Call)
     → (reply MAX_OPEN_BLOCKS (state_over writes [] arena actions m) c ≡ reply MAX_OPEN_BLOCKS (outside [] arena) c)
     × ((after MAX_OPEN_BLOCKS (state_over writes [] arena actions m) c).arena ≡ (after MAX_OPEN_BLOCKS (outside [] arena) c).arena)
-same_outside writes arena actions m (Begin props room) nb = absurd (cc)
-same_outside writes arena actions m (Load width at) nb = (refl, same_arena (in_arena (outside [] arena) at (size_of width)) _ _ _ _ refl refl)
-same_outside writes arena actions m (Save at value) nb = (refl, same_arena (in_arena (outside [] arena) at (size_of value.width)) _ _ _ _ refl refl)
-same_outside writes arena actions m c nb = (refl, refl)
+same_outside writes arena actions m (Begin props room) = (refl, same_arena (refusal MAX_OPEN_BLOCKS (outside [] arena) (Begin props room)) _ _ _ _ refl (opened_arena _ arena props ∙ sym (opened_arena [] arena props)))
+same_outside writes arena actions m (Load width at) = (refl, same_arena (in_arena (outside [] arena) at (size_of width)) _ _ _ _ refl refl)
+same_outside writes arena actions m (Save at value) = (refl, same_arena (in_arena (outside [] arena) at (size_of value.width)) _ _ _ _ refl refl)
+same_outside writes arena actions m c = (refl, refl)
+
+-- a begin that opens no block is refused
+plainly : (mid : Core) (c : Call) (again : Bool) (r : Replied) (why : Option Refusal) → is_inside (blocks_after mid c r) ≡ false → why ≡ refusal MAX_OPEN_BLOCKS (outside [] mid.arena) c → r ≡ recoded c again (reply_unless why (answer (outside [] mid.arena) c))
+    → (stays_outside MAX_OPEN_BLOCKS mid.arena c ≡ true) × (r ≡ reply_unless why (answer (outside [] mid.arena) c))
+plainly mid (Begin props room) true r None shut is e = absurd (true≢false (ap (λ (x : Replied). is_inside (blocks_after mid (Begin props room) x)) (sym e) ∙ shut))
+plainly mid (Begin props room) false r None shut is e = absurd (true≢false (ap (λ (x : Replied). is_inside (blocks_after mid (Begin props room) x)) (sym e) ∙ shut))
+plainly mid (Begin props room) true r (Some why) shut is e = (ap is_some (sym is), e)
+plainly mid (Begin props room) false r (Some why) shut is e = (ap is_some (sym is), e)
+plainly mid c again r why shut is e = (refl, e)
 
 -- the engine's reply to it, and its arena then
-served_outside : (mid new : Core) (c : Call) (r : Replied) (m : List ℕ) → Replies mid c r new → is_begin c ≡ false → in_transaction mid ≡ false → IsMemory mid.words m → Agrees m new.log
-    → (r ≡ reply MAX_OPEN_BLOCKS (outside [] mid.arena) c) × (new.arena ≡ (after MAX_OPEN_BLOCKS (outside [] mid.arena) c).arena)
-served_outside mid new c r m g nb shut mem agrees =
-    let over = λ (o : List Frame). state_over mid.writes o mid.arena mid.actions m in
-    let same = same_outside mid.writes mid.arena mid.actions m c nb in
-    let none = none_inside mid.blocks shut in (
-      g.reply_is m mem (Agrees-drop m mid.entry new.log agrees)
-          ∙ (ap (λ (o : List Frame). recoded c mid.again (reply MAX_OPEN_BLOCKS (over o) c)) none ∙ (plainly c mid.again (reply MAX_OPEN_BLOCKS (over []) c) nb ∙ same.0)),
-      ap (λ (s : State). s.arena) (g.meets m mem agrees) ∙ (ap (λ (o : List Frame). (after MAX_OPEN_BLOCKS (over o) c).arena) none ∙ same.1),
+served_outside : (mid new : Core) (c : Call) (r : Replied) (m : List ℕ) → Replies mid c r new → in_transaction mid ≡ false → in_transaction new ≡ false → IsMemory mid.words m → Agrees m new.log
+    → (stays_outside MAX_OPEN_BLOCKS mid.arena c ≡ true) × (r ≡ reply MAX_OPEN_BLOCKS (outside [] mid.arena) c) × (new.arena ≡ (after MAX_OPEN_BLOCKS (outside [] mid.arena) c).arena)
+served_outside mid new c r m g shut closed mem agrees =
+    let same = same_outside mid.writes mid.arena mid.actions m c in
+    let stands = stands_outside mid shut g.revocable m in
+    let so = plainly mid c mid.again r (refusal MAX_OPEN_BLOCKS (outside [] mid.arena) c) (sym (ap is_inside g.blocks) ∙ closed) refl
+    (g.reply_is m mem (Agrees-drop m mid.entry new.log agrees) ∙ (ap (λ (s : State). recoded c mid.again (reply MAX_OPEN_BLOCKS s c)) stands ∙ ap (recoded c mid.again) same.0)) in (
+      so.0,
+      so.1,
+      sym (stands_arena new m) ∙ (ap (λ (s : State). s.arena) (g.meets m mem agrees) ∙ (ap (λ (s : State). (after MAX_OPEN_BLOCKS s c).arena) stands ∙ same.1)),
     )
-  where
-    plainly : (c : Call) (again : Bool) (r : Replied) → is_begin c ≡ false → recoded c again r ≡ r
-    plainly (Begin props room) again r nb = absurd (cc)
-    plainly c again r nb = refl
 
 module _ {P : Type 0} {rules : Rules P} (laws : Obeys rules) {first : Between P} {base : List ℕ} {cells cells' : Cells} {r : Rows} (r1 : Rows) {mid : Core} (a last : Actor P) (call : Call)
-    (seen : HasSeen base cells cells' r mid a.engine) (run : IsRun rules first base (cells.clock / 2) r (record a { engine = mid })) where
+    (seen : HasSeen base cells cells' r mid a.engine) (run : IsRun rules first base (cells.clock / 2) r (record a { engine = mid })) (revocable : mid.irrevocable ≡ false) where
   -- where the actor stands before the answer
   before : in_transaction mid ≡ false → a.status ≡ Ready → (b : Between P) × (now_at rules first base r.ended a.thread ≡ Some b) × IsBeforeTry rules (cells.clock / 2) b (record a { engine = mid })
   before outside ready = run.between outside (still_going ready) (still_going ready)
@@ -82,16 +99,17 @@ module _ {P : Type 0} {rules : Rules P} (laws : Obeys rules) {first : Between P}
   -- ## A reply outside a transaction
 
   module _ (reply : Replied) (m : HasAnswered rules false cells cells' r r1 mid a last call (Reply reply)) where
-    g : Replies mid call reply a.engine
-    g = subst (λ (o : Option Call). RepliesTo mid o reply a.engine) m.taken.doing m.ends
+    by_case : Replies mid call reply a.engine ⊎ Enters mid call reply a.engine ⊎ RepliesHeld mid call reply a.engine
+    by_case = reply_cases mid call reply a.engine mid.holds mid.irrevocable (subst (λ (o : Option Call). RepliesTo mid o reply a.engine) m.taken.doing m.ends)
 
-    outside_runs : is_begin call ≡ false → in_transaction last.engine ≡ false → r1.ended ≡ r.ended → IsRun rules first base (cells.clock / 2) r1 last
-    outside_runs other closed ended =
+    outside_runs : in_transaction last.engine ≡ false → r1.ended ≡ r.ended → IsRun rules first base (cells.clock / 2) r1 last
+    outside_runs closed ended =
         let t = before m.taken.was_is m.answered.status in
         let k = t.2 in
+        let shut : in_transaction a.engine ≡ false = ap in_transaction (sym m.settled.engine) ∙ closed in
+        let g = plain_reply mid a.engine call reply m.taken.doing m.taken.tied.settled shut m.ends in
         -- its memory is the words as they are: nothing is logged
-        let served = served_outside mid a.engine call reply cells'.words g other m.taken.was_is (sym m.taken.words, m.taken.tied.fit)
-        (subst (Agrees cells'.words) (sym (m.taken.tied.settled.closed (ap in_transaction (sym m.settled.engine) ∙ closed)).0) tt) in
+        let served = served_outside mid a.engine call reply cells'.words g m.taken.was_is shut (sym m.taken.words, m.taken.tied.fit) (subst (Agrees cells'.words) (sym (m.taken.tied.settled.closed shut).0) tt) in
         record {
           run = run_same rules first base (cells.clock / 2) r.ended r1.ended a.thread last.thread ended m.settled.thread run.run;
           inside = λ o. absurd (true≢false (sym o ∙ closed));
@@ -100,7 +118,7 @@ module _ {P : Type 0} {rules : Rules P} (laws : Obeys rules) {first : Between P}
             (λ i. now_at rules first base (ended i) (m.settled.thread i)) ∙ t.1,
             record {
               calls = suc k.calls;
-              leads = (a.player, mid.arena, call, k.leads, m.answered.in_call.asks, other, m.told.1 ∙ ap (rules.answered a.player) served.0, ap (λ (c : Core). c.arena) m.settled.engine ∙ served.1);
+              leads = (a.player, mid.arena, call, k.leads, m.answered.in_call.asks, served.0, m.told.1 ∙ ap (rules.answered a.player) served.1, ap (λ (c : Core). c.arena) m.settled.engine ∙ served.2);
               again = m.told.2 ∙ (ap (λ (o : Bool). again_after o a.pending a.again) closed ∙ k.again);
               tries = (let nth = m.told.3 in let fewer = k.tries in omega arith);
               pending = λ x e. absurd (let none = sym (none_pending rules r r1 a last false m.settled (m.told.4 ∙ m.answered.status)) ∙ e in cc);
@@ -108,23 +126,46 @@ module _ {P : Type 0} {rules : Rules P} (laws : Obeys rules) {first : Between P}
           );
         }
 
+    accepted : (props : Props) (room : ℕ) → call ≡ Begin props room → in_transaction a.engine ≡ true → may_go [] props ≡ true
+    accepted props room is now = elim by_case [
+      | inl g ↦
+          (let g' : Replies mid (Begin props room) reply a.engine = subst (λ (c : Call). Replies mid c reply a.engine) is g in
+          let late : a.engine.snapshot / 2 ≤ cells.clock / 2 = (let half = m.taken.moves.keeps g.unfreed in let reached = m.taken.tied.settled.reached in let late = m.taken.tied.late in omega arith) in
+          let words : List ℕ = words_at base r.ended (a.engine.snapshot / 2) in
+          begin_may mid props room reply words m.taken.was_is revocable (sym (ap is_inside g'.blocks) ∙ now) (g'.reply_is words (memory_at seen (a.engine.snapshot / 2) late) (Agrees-drop words mid.entry a.engine.log (seen.now now))))
+      | inr (inl g) ↦
+          (let g' : Enters mid (Begin props room) reply a.engine = subst (λ (c : Call). Enters mid c reply a.engine) is g in
+          begin_may mid props room reply [] m.taken.was_is revocable (sym (inside_all (blocks_after mid (Begin props room) reply)) ∙ (sym (ap (λ (c : Core). is_inside c.blocks) g'.stays) ∙ now)) (g'.reply_is []))
+      | inr (inr g) ↦ absurd (true≢false (sym g.irrevocable ∙ revocable))
+    ]
+
     -- an accepted begin
     begin_runs : (row : Attempt) → a.pending ≡ Some row → (props : Props) (room : ℕ) → call ≡ Begin props room → in_transaction last.engine ≡ true → r1 ≡ with_opened (record row { at = last.engine.snapshot / 2 }) r → IsRun rules first base (cells.clock / 2) r1 last
     begin_runs row pending props room is opened rows =
         let now : in_transaction a.engine ≡ true = ap in_transaction (sym m.settled.engine) ∙ opened in
         let late = seen.opens m.taken.was_is now in
-        let k_late : a.engine.snapshot / 2 ≤ cells.clock / 2 = (let reached = m.taken.tied.settled.reached in let late = m.taken.tied.late in let same = (m.taken.outside refl).0 in omega arith) in
+        let half = m.taken.moves.keeps (unfreed_to mid a.engine mid.doing reply m.ends) in
+        let k_late : a.engine.snapshot / 2 ≤ cells.clock / 2 = (let reached = m.taken.tied.settled.reached in let late = m.taken.tied.late in omega arith) in
         let t = before m.taken.was_is m.answered.status in
         let k = t.2 in
         let p = k.pending row pending in
         let q = m.answered.in_call.opens row pending in
         let at : ℕ = last.engine.snapshot / 2 in
         let ended : r1.ended ≡ r.ended = ap (λ (x : Rows). x.ended) rows in
-        let g' : Replies mid (Begin props room) reply a.engine = subst (λ (c : Call). Replies mid c reply a.engine) is g in
-        let asks : rules.next_call a.player ≡ Some (Begin props room) = m.answered.in_call.asks ∙ ap (λ (c : Call). Some c) is in
-        let props_same : row.props ≡ props = (let both_begin = sym p.4 ∙ (led_before rules laws k ∙ begin_here rules laws a.player mid.arena props room asks) in ap (λ (x : Beginning P). x.props) (same_Some _ _ both_begin)) in
-        let try = try_begins laws t.0 row a.player mid a.engine props room reply p.4 p.1 props_same p.2 p.3 (let nth = q.nth in let fewer = k.tries in omega arith) m.taken.was_is (m.taken.empty refl) p.5 g'
-        (let early = p.0 in omega arith) (words_at base r.ended (a.engine.snapshot / 2)) (memory_at seen (a.engine.snapshot / 2) k_late) (seen.now now) at in
+        let props_same : row.props ≡ props = m.answered.in_call.props row props room pending is in
+        let tries : t.0.tries < row.nth = (let nth = q.nth in let fewer = k.tries in omega arith) in
+        let began : row.began ≤ a.engine.snapshot / 2 = (let early = p.0 in omega arith) in
+        let comes = p.4 (subst (λ (x : Props). may_go [] x ≡ true) (sym props_same) (accepted props room is now)) in
+        let try : IsInTry rules (words_at base r.ended (cells.clock / 2)) t.0 (record row { at = at }) (rules.answered a.player reply) a.engine =
+        elim by_case [
+          | inl g ↦
+              try_begins rules _ t.0 row a.player mid a.engine props room reply comes p.1 props_same p.2 p.3 tries m.taken.was_is (m.taken.empty refl) p.5 began revocable
+              (subst (λ (c : Call). Replies mid c reply a.engine) is g) (words_at base r.ended (a.engine.snapshot / 2)) (memory_at seen (a.engine.snapshot / 2) k_late) (seen.now now) now at
+          | inr (inl g) ↦
+              try_begins_held rules _ t.0 row a.player mid a.engine props room reply comes p.1 props_same p.2 p.3 tries m.taken.was_is (m.taken.empty refl) p.5 began revocable
+              (subst (λ (c : Call). Enters mid c reply a.engine) is g) now at
+          | inr (inr g) ↦ absurd (true≢false (sym g.irrevocable ∙ revocable))
+        ] in
         let free : active_of row.thread r.active ≡ None = ap (λ (u : ℕ). active_of u r.active) q.thread ∙ m.answered.kept.row in
         record {
           run = run_same rules first base (cells.clock / 2) r.ended r1.ended a.thread last.thread ended m.settled.thread run.run;
@@ -133,7 +174,9 @@ module _ {P : Type 0} {rules : Rules P} (laws : Obeys rules) {first : Between P}
             record row { at = at },
             (λ i. now_at rules first base (ended i) (m.settled.thread i)) ∙ t.1,
             ap (λ (u : ℕ). active_of u r1.active) (m.settled.thread ∙ sym q.thread) ∙ (ap (λ (x : Rows). active_of row.thread x.active) rows ∙ opened_here (record row { at = at }) r.active free),
-            subst (λ (c : Core). IsInTry rules t.0 (record row { at = at }) last.player c) (sym m.settled.engine) (subst (λ (x : P). IsInTry rules t.0 (record row { at = at }) x a.engine) (sym m.told.1) try),
+            subst (λ (xs : List Attempt). IsInTry rules (words_at base xs (cells.clock / 2)) t.0 (record row { at = at }) last.player last.engine) (sym ended)
+                (subst (λ (c : Core). IsInTry rules (words_at base r.ended (cells.clock / 2)) t.0 (record row { at = at }) last.player c) (sym m.settled.engine)
+                (subst (λ (x : P). IsInTry rules (words_at base r.ended (cells.clock / 2)) t.0 (record row { at = at }) x a.engine) (sym m.told.1) try)),
             m.told.2 ∙ (λ i. again_after (opened i) (pending i) a.again),
             q.nth ∙ sym m.told.3,
           );
@@ -144,34 +187,92 @@ module _ {P : Type 0} {rules : Rules P} (laws : Obeys rules) {first : Between P}
     reply_shut : IsRun rules first base (cells.clock / 2) r1 last
     reply_shut = elim (begun_or_not reply m) [
       | inl b ↦ (let c = begin_call call (sym (m.answered.in_call.begins refl) ∙ ap is_some b.1) in begin_runs b.0 b.1 c.0 c.1 c.2 b.2 b.3)
-      | inr n ↦ outside_runs (sym (m.answered.in_call.begins refl) ∙ ap is_some n.0) n.1 (ap (λ (x : Rows). x.ended) n.2)
+      | inr n ↦ outside_runs n.0 (ap (λ (x : Rows). x.ended) n.1)
     ]
 
-  -- ## A begin found the clock odd once too often
+    -- an accepted begin that goes irrevocable: the words are the memory of its position
+    pub begin_holds : in_transaction last.engine ≡ true → a.engine.irrevocable ≡ true → (row : Attempt) → active_of last.thread r1.active ≡ Some row
+        → (stands_for a.engine cells'.words ≡ alone MAX_OPEN_BLOCKS (bytes_at base r.ended (cells.clock / 2)) row) × (row.ran ≡ a.engine.actions.ran)
+    begin_holds now_open irrevocable row found = elim by_case [
+      | inl g ↦ absurd (true≢false (sym irrevocable ∙ (ap (λ (c : Core). c.irrevocable) g.stays ∙ g.revocable)))
+      | inr (inl g) ↦ elim (begun_or_not reply m) [
+        | inl b ↦ entered g b.0 b.1 b.3
+        | inr n ↦ absurd (true≢false (sym now_open ∙ n.0))
+      ]
+      | inr (inr g) ↦ absurd (true≢false (sym g.irrevocable ∙ revocable))
+    ]
+      where
+        now : in_transaction a.engine ≡ true
+        now = ap in_transaction (sym m.settled.engine) ∙ now_open
 
-  busy_runs : (clock : ℕ) (m : HasAnswered rules false cells cells' r r1 mid a last call (Busy clock)) → IsRun rules first base (cells.clock / 2) r1 last
-  busy_runs clock m =
-      let t = before m.ends.closed m.answered.status in
+        entered : Enters mid call reply a.engine → (row' : Attempt) → a.pending ≡ Some row' → r1 ≡ with_opened (record row' { at = last.engine.snapshot / 2 }) r
+            → (stands_for a.engine cells'.words ≡ alone MAX_OPEN_BLOCKS (bytes_at base r.ended (cells.clock / 2)) row) × (row.ran ≡ a.engine.actions.ran)
+        entered g row' pending rows =
+            let c = begin_call call (sym (m.answered.in_call.begins refl) ∙ ap is_some pending) in
+            let g' : Enters mid (Begin c.0 c.1) reply a.engine = subst (λ (x : Call). Enters mid x reply a.engine) c.2 g in
+            let q = m.answered.in_call.opens row' pending in
+            let at : ℕ = last.engine.snapshot / 2 in
+            let free : active_of row'.thread r.active ≡ None = ap (λ (u : ℕ). active_of u r.active) q.thread ∙ m.answered.kept.row in
+            let here : active_of last.thread r1.active ≡ Some (record row' { at = at }) = ap (λ (u : ℕ). active_of u r1.active) (m.settled.thread ∙ sym q.thread) ∙ (ap (λ (x : Rows). active_of row'.thread x.active) rows ∙ opened_here (record row' { at = at }) r.active free) in
+            let same : record row' { at = at } ≡ row = same_Some _ _ (sym here ∙ found) in
+            let t = before m.taken.was_is m.answered.status in
+            let k = t.2 in
+            let p = k.pending row' pending in
+            let half = m.taken.moves.keeps g.unfreed in
+            let props_same : row'.props ≡ c.0 = m.answered.in_call.props row' c.0 c.1 pending c.2 in
+            let tries : t.0.tries < row'.nth = (let nth = q.nth in let fewer = k.tries in omega arith) in
+            let position : List ℕ = words_at base r.ended (cells.clock / 2) in
+            let l : cells.clock / 2 ≤ cells.clock / 2 = omega arith in
+            let fits : IsMemory mid.words position = memory_at seen (cells.clock / 2) l in
+            let nothing : Agrees position mid.log = subst (Agrees position) (sym (seen.unlogged m.taken.was_is)) tt in
+            let words : cells'.words ≡ backed mid position = (seen.loaded g.unfreed).held g.held g.revocable ∙ ap (λ (n : ℕ). backed mid (words_at base r.ended n)) half in
+            let late = seen.opens m.taken.was_is now in
+            let began : row'.began ≤ a.engine.snapshot / 2 = (let early = p.0 in omega arith) in
+            let comes = p.4 (subst (λ (x : Props). may_go [] x ≡ true) (sym props_same) (accepted c.0 c.1 c.2 now)) in
+            let served = held_served rules position t.0 row' a.player mid a.engine c.0 c.1 reply comes p.1 props_same p.2 p.3 tries m.taken.was_is (m.taken.empty refl) p.5 began revocable g' now in
+            let leaves = begin_leaves rules position t.0 row' a.player mid a.engine c.0 c.1 reply comes p.1 props_same p.2 p.3 tries m.taken.was_is (m.taken.empty refl) p.5 began revocable position served.0 in
+            let try = try_begins_held rules position t.0 row' a.player mid a.engine c.0 c.1 reply comes p.1 props_same p.2 p.3 tries m.taken.was_is (m.taken.empty refl) p.5 began revocable g' now at in (
+              ap (stands_for a.engine) words
+                  ∙ (g'.meets position fits nothing
+                  ∙ (leaves
+                  ∙ ((ap (λ (bytes : List ℕ). state_then MAX_OPEN_BLOCKS (opened bytes mid.arena row'.props) row'.calls) (same_at seen (cells.clock / 2) l) ∙ ap (λ (arena : List ℕ). state_then MAX_OPEN_BLOCKS (opened (bytes_at base r.ended (cells.clock / 2)) arena row'.props) row'.calls) (sym p.1)) ∙ ap (alone MAX_OPEN_BLOCKS (bytes_at base r.ended (cells.clock / 2))) same))),
+              ap (λ (x : Attempt). x.ran) (sym same) ∙ try.ran,
+            )
+
+  -- ## A begin came to nothing
+
+  nothing_runs : r1.ended ≡ r.ended → last.thread ≡ a.thread → last.player ≡ a.player → last.engine.arena ≡ mid.arena → in_transaction mid ≡ false → in_transaction last.engine ≡ false → a.status ≡ Ready → CountsTry a last → last.pending ≡ None
+      → IsRun rules first base (cells.clock / 2) r1 last
+  nothing_runs ended thread player arena outside closed ready counts none =
+      let t = before outside ready in
       let k = t.2 in
-      let ended : r1.ended ≡ r.ended = ap (λ (x : Rows). x.ended) m.told.0 in
       record {
-        run = run_same rules first base (cells.clock / 2) r.ended r1.ended a.thread last.thread ended m.settled.thread run.run;
-        inside = λ o. absurd (true≢false (sym o ∙ (ap in_transaction m.settled.engine ∙ m.answered.fits.1)));
+        run = run_same rules first base (cells.clock / 2) r.ended r1.ended a.thread last.thread ended thread run.run;
+        inside = λ o. absurd (true≢false (sym o ∙ closed));
         between = λ o gave_up starved. (
           t.0,
-          (λ i. now_at rules first base (ended i) (m.settled.thread i)) ∙ t.1,
+          (λ i. now_at rules first base (ended i) (thread i)) ∙ t.1,
           record {
             calls = k.calls;
-            leads = subst (λ (q : P). LeadsTo rules k.calls t.0.player t.0.arena q last.engine.arena) (sym m.told.1)
-                (subst (LeadsTo rules k.calls t.0.player t.0.arena a.player) (sym (ap (λ (c : Core). c.arena) (m.settled.engine ∙ m.ends.stays))) k.leads);
-            again = m.told.2.again ∙ k.again;
-            tries = (let more = (next_try m.told.2 m.answered.status gave_up).1 in let fewer = k.tries in omega arith);
-            pending = λ x e. absurd (let none = sym (none_retried rules r r1 a last false m.settled m.told.2 m.answered.status gave_up) ∙ e in cc);
+            leads = subst (λ (q : P). LeadsTo rules k.calls t.0.player t.0.arena q last.engine.arena) (sym player)
+                (subst (LeadsTo rules k.calls t.0.player t.0.arena a.player) (sym arena) k.leads);
+            again = counts.again ∙ k.again;
+            tries = (let more = (next_try counts ready gave_up).1 in let fewer = k.tries in omega arith);
+            pending = λ x e. absurd (let z = sym none ∙ e in cc);
           },
         );
       }
 
   pub shut_runs : (answer : Answer) → HasAnswered rules false cells cells' r r1 mid a last call answer → IsRun rules first base (cells.clock / 2) r1 last
   shut_runs (Reply reply) m = reply_shut reply m
-  shut_runs (Busy clock) m = busy_runs clock m
-  shut_runs answer m = absurd (let f : false ≡ true = m.answered.fits.0 in cc)
+  shut_runs (Busy clock) m =
+      nothing_runs (ap (λ (x : Rows). x.ended) m.told.0) m.settled.thread m.told.1 (ap (λ (c : Core). c.arena) (m.settled.engine ∙ m.ends.stays)) m.taken.was_is (ap in_transaction m.settled.engine ∙ m.answered.fits.1) m.answered.status m.told.2 m.told.3
+  shut_runs (Conflict clock word) m =
+      let lost : IsLost mid clock word a.engine = subst (λ (b : Bool). ConflictsIn b mid clock word a.engine) m.taken.was_is m.ends in
+      nothing_runs (ap (λ (x : Rows). x.ended) m.told.0) m.settled.thread m.told.1 (ap (λ (c : Core). c.arena) (m.settled.engine ∙ lost.stays)) m.taken.was_is (ap in_transaction m.settled.engine ∙ m.answered.fits.1) m.answered.status m.told.2 m.told.3
+  shut_runs (Full at) m = record {
+    run = run_same rules first base (cells.clock / 2) r.ended r1.ended a.thread last.thread (ap (λ (x : Rows). x.ended) m.told.0) m.settled.thread run.run;
+    inside = λ o. absurd (true≢false (sym o ∙ (ap in_transaction m.settled.engine ∙ m.answered.fits.1)));
+    between = λ o gave_up starved. absurd (gave_up (ap ending_of m.told.1));
+  }
+  shut_runs (Committed at wrote) m = absurd (let f : false ≡ true = m.answered.fits.0 in cc)

@@ -2,17 +2,22 @@
 use Rattle.norec_world.proofs.LaterActions.{given_up_as}
 use Rattle.std.proofs.Common.{◌≡◌, ℕ, ◌/◌, ◌≤◌, ◌&&◌, Bool, true, false, not, List, [], ◌∷◌, ◌++◌, Some, refl, sym, true≢false, ap, subst, ◌∙◌, arith, None, inl, inr}
 use Rattle.std.proofs.lemmas.Bool.{and_right, not_from_true}
-use Rattle.norec_world.proofs.Common.{Actor, Answer, AreCounted, AreLaid, Attempt, Begin, Between, Call, Cells, Commit, Core, Ended, HasRow, IsBeforeTry, IsDone, IsInTry, IsRun, IsRunOf, IsSound, IsTold, LeadsTo, MAX_OPEN_BLOCKS, Next, Obeys, Ready, Reply, Rows, Rules, RunsFrom, Sees, Starves, Status, Step, Tells, active_of, asked_pending, begins_again, begins_at, bytes_at, cases_Bool, ending_of, found, handed_is, handed_to, in_transaction, is_inside, of_thread, run_after, words_at, RecordsReply}
+use Rattle.norec_world.proofs.Common.{Actor, Agrees, Answer, AreCounted, AreLaid, Attempt, Begin, Between, Call, Cells, Commit, Core, Ended, HasRow, IsBeforeTry, IsDone, IsHeld, IsInTry, IsRun, IsRunOf, IsSound, IsTold, LeadsTo, MAX_OPEN_BLOCKS, Next, Obeys, Props, Ready, Reply, Rows, Rules, RunsFrom, Sees, Starves, Status, Step, Tells, active_of, asked_pending, begins_again, begins_at, bytes_at, cases_Bool, cond-false, cond-true, ending_of, found, handed_is, handed_to, in_transaction, is_inside, of_thread, run_after, words_at, RecordsReply}
 use Rattle.norec_world.specs.declared.attempt.Outcome.TheVariants as outcomes
 use Rattle.norec_world.specs.declared.attempt.End.TheVariants as ends
-use Rattle.norec_world.proofs.ActiveRows.{changed_here}
+use Rattle.norec_world.proofs.ActiveRows.{changed_here, row_from}
+use Rattle.norec_core.specs.Core.{may_go, rolled_back}
+use Rattle.norec_core.specs.Proceeds.{IsSettled}
+use Rattle.norec_core.specs.declared.phase.Phase.TheVariants.{Idle}
 use Rattle.norec_world.proofs.SoundSteps.{IsCalling, active_same, call_taken, ended_same, mid, rests, IsStepping, mid_step, same, step_taken, waits}
 use Rattle.norec_world.proofs.Memories.{bytes_stay}
 use Rattle.norec_world.proofs.Laid.{laid_on, laid_same}
 use Rattle.norec_world.proofs.RunTaken.{runs_recorded}
+use Rattle.norec_world.proofs.HeldMoves.{call_held, shut_revocable, step_held}
 use Rattle.norec_world.proofs.Seen.{HasSeen, call_seen, step_seen}
 use Rattle.norec_world.proofs.Taken.{HasAnswered, recorded, now, still_going}
-use Rattle.norec_world.proofs.RunAnswers.{RunOf, before_on, now_at, run_same, stop_run}
+use Rattle.norec_world.proofs.RunAnswers.{RunOf, before_on, now_at, run_same}
+use Rattle.norec_world.proofs.RunEndings.{stop_run}
 use Rattle.norec_world.proofs.RunBegins.{begin_here, led_before}
 use Rattle.norec_world.proofs.InTries.{try_handed, try_told, try_kept}
 use Rattle.std.proofs.Math.Bool.{and-true}
@@ -28,7 +33,8 @@ module _ {P : Type 0} {rules : Rules P} {cells : Cells} {r0 : Rows} {old : Actor
       between = λ o gave_up starved.
           (let t = x.between o (still_going ready) (still_going ready) in (t.0, t.1, before_on t.2 old.engine (Ended ends.Finished) refl refl));
     });
-    sees = λ fed. runs.sees (still_going ready);
+    sees = runs.sees;
+    held = runs.held;
     starved = λ e. absurd (cc);
     reads = runs.reads;
   }
@@ -39,15 +45,16 @@ module _ {P : Type 0} {rules : Rules P} (laws : Obeys rules) {cells : Cells} {r0
     (first : Between P) (base : List ℕ) (laid : AreLaid base cells r0) (runs : RunsFrom rules first base cells r0 old) where
   -- the attempt that is to be opened then
   fresh_pending : (b : Between P) → IsBeforeTry rules (cells.clock / 2) b old → in_transaction old.engine ≡ false → (c : Call) → c ≡ call → (row : Attempt) → asked_pending false cells.clock old c ≡ Some row
-      → (row.began ≤ cells.clock / 2) × (row.arena ≡ old.engine.arena) × (row.calls ≡ []) × (row.ran ≡ []) × (begins_at rules b ≡ Some (record { player = a.player; arena = old.engine.arena; props = row.props })) × ((mid m).again ≡ b.again)
+      → (row.began ≤ cells.clock / 2) × (row.arena ≡ old.engine.arena) × (row.calls ≡ []) × (row.ran ≡ []) × (may_go [] row.props ≡ true → begins_at rules b ≡ Some (record { player = a.player; arena = old.engine.arena; props = row.props })) × ((mid m).again ≡ b.again)
   fresh_pending b k o (Begin props room) is row e =
       let made : record { thread = old.thread; nth = old.nth; began = cells.clock / 2; at = 0; props = props; arena = old.engine.arena; calls = []; ran = []; outcome = outcomes.Unfinished } ≡ row = cc in
-      let here = begin_here rules laws old.player old.engine.arena props room (ap rules.next_call (sym m.asked.same.player) ∙ (m.asked.in_call.asks ∙ ap (λ (c : Call). Some c) (sym is))) in (
+      let asks : rules.next_call old.player ≡ Some (Begin props room) = ap rules.next_call (sym m.asked.same.player) ∙ (m.asked.in_call.asks ∙ ap (λ (c : Call). Some c) (sym is)) in
+      let same : props ≡ row.props = ap (λ (x : Attempt). x.props) made in (
         (let began = ap (λ (x : Attempt). x.began) made in omega arith),
         ap (λ (x : Attempt). x.arena) (sym made),
         ap (λ (x : Attempt). x.calls) (sym made),
         ap (λ (x : Attempt). x.ran) (sym made),
-        led_before rules laws k ∙ (here ∙ (λ i. Some (record { player = (sym m.asks.player) i; arena = old.engine.arena; props = (ap (λ (x : Attempt). x.props) made) i }))),
+        λ may. led_before rules laws k ∙ (begin_here rules laws old.player old.engine.arena props room asks (subst (λ (x : Props). may_go [] x ≡ true) (sym same) may) ∙ (λ i. Some (record { player = (sym m.asks.player) i; arena = old.engine.arena; props = same i }))),
         (λ i. begins_again (o i) old.again (sym is i) && not (o i)) ∙ (and-true old.again ∙ k.again),
       )
   fresh_pending b k o c is row e = absurd (let z = sym (rests m.sound m.ready).nothing ∙ e in cc)
@@ -63,9 +70,10 @@ module _ {P : Type 0} {rules : Rules P} (laws : Obeys rules) {cells : Cells} {r0
               t.1,
               (λ i. now_at rules first base (ended_same m i) (m.asks.thread i)) ∙ t.2,
               active_same m ∙ t.3,
-              subst (λ (q : P). IsInTry rules t.0 t.1 q (mid m)) (sym m.asks.player)
-                  (try_kept laws (mid m) t.4 refl refl (and_right (begins_again (in_transaction old.engine) old.again call) (not (in_transaction old.engine)) (not_from_true (in_transaction old.engine) o))
-                  (λ k. refl) t.4.began (λ k agrees. agrees)),
+              subst (λ (l : List Attempt). IsInTry rules (words_at base l (cells.clock / 2)) t.0 t.1 a.player (mid m)) (sym (ended_same m))
+                  (subst (λ (q : P). IsInTry rules (words_at base r0.ended (cells.clock / 2)) t.0 t.1 q (mid m)) (sym m.asks.player)
+                  (try_kept laws (mid m) t.4 refl refl (and_right (begins_again (in_transaction old.engine) old.again call) (not (in_transaction old.engine)) (not_from_true (in_transaction old.engine) o)) refl
+                  (λ e k. refl) t.4.began (λ e k agrees. agrees))),
               m.asks.again ∙ t.5,
               t.6 ∙ sym m.asks.nth,
             ));
@@ -86,7 +94,7 @@ module _ {P : Type 0} {rules : Rules P} (laws : Obeys rules) {cells : Cells} {r0
   seen : HasSeen base cells cells r (mid m) a.engine
   seen =
       call_seen base cells r old.engine a.engine call (begins_again (in_transaction old.engine) old.again call) (laid_same base cells r0 r (ended_same m) laid) m.sound.tied (rests m.sound m.ready).free
-      (subst (λ (l : List Attempt). Sees (words_at base l) cells old.engine) (sym (ended_same m)) (runs.sees (still_going m.ready))) m.asked.stays
+      (subst (λ (l : List Attempt). Sees (words_at base l) cells old.engine) (sym (ended_same m)) runs.sees) m.asked.stays
 
   -- where its attempt reads
   abbrev ReadsAt : Rows → Actor P → Type 0
@@ -113,11 +121,12 @@ module _ {P : Type 0} {rules : Rules P} (laws : Obeys rules) {cells : Cells} {r0
       → AreLaid base cells r1 × RunsFrom rules first base cells r1 last
   call_runs r1 last done tells more ended counted =
       let taken = call_taken m in
-      let x = runs_recorded laws (in_transaction old.engine) a call seen run_came r1 last more ended what taken done tells in (
+      let x = runs_recorded laws (in_transaction old.engine) a call seen run_came r1 last more ended what taken (call_held m base runs.held) done tells in (
         x.laid counted,
         record {
           runs = x.run;
-          sees = λ fed. x.sees;
+          sees = x.sees;
+          held = x.held;
           starved = λ e. absurd (x.fed e);
           reads = recorded ReadsAt taken done tells
               (λ step t o row e. runs.reads (sym (ap in_transaction t.proceeds.stays) ∙ o) row (sym (active_same m) ∙ e) ∙ ap (λ (k : ℕ). k / 2) (sym m.asked.stays.snapshot))
@@ -128,7 +137,7 @@ module _ {P : Type 0} {rules : Rules P} (laws : Obeys rules) {cells : Cells} {r0
 -- ## Memory was refused
 
 module _ {P : Type 0} {rules : Rules P} (laws : Obeys rules) {cells : Cells} {r0 r1 : Rows} {old last : Actor P} (sound : IsSound rules cells r0 old) (s : Starves rules r0 old r1 last)
-    (first : Between P) (base : List ℕ) (laid : AreLaid base cells r0) (runs : RunsFrom rules first base cells r0 old) (free : old.engine.holds ≡ false) (fed : ending_of old.status ≡ Some ends.NoMemory → ⊥) (closed : in_transaction last.engine ≡ false) (more : List Attempt) (ended : r1.ended ≡ r0.ended ++ more) where
+    (first : Between P) (base : List ℕ) (laid : AreLaid base cells r0) (runs : RunsFrom rules first base cells r0 old) (free : old.engine.holds ≡ old.engine.irrevocable) (more : List Attempt) (ended : r1.ended ≡ r0.ended ++ more) where
   abbrev roomy : Rows
   roomy = record r0 { room = s.room }
 
@@ -140,31 +149,88 @@ module _ {P : Type 0} {rules : Rules P} (laws : Obeys rules) {cells : Cells} {r0
     late = (let reached = sound.tied.settled.reached in let late = sound.tied.late in omega arith);
     up = λ o. (let l : old.engine.snapshot ≤ old.engine.snapshot = omega arith in l);
     opens = λ shut o. absurd (true≢false (sym o ∙ shut));
-    logged = (runs.sees fed).logged;
-    still = (runs.sees fed).logged;
-    now = (runs.sees fed).logged;
-    fewer = λ o m x. x;
-    loaded = λ f. (runs.sees fed).loaded;
+    unlogged = λ shut. (sound.tied.settled.closed shut).0;
+    logged = runs.sees.logged;
+    still = runs.sees.logged;
+    now = runs.sees.logged;
+    fewer = λ o e m x. x;
+    loaded = λ f. runs.sees.loaded;
     even = λ f even. refl;
     freed = λ f. absurd (true≢false (sym f ∙ sound.tied.settled.unfreed));
   }
 
-  starve_run : (b : Bool) → in_transaction old.engine ≡ b → RunOf rules first base (cells.clock / 2) r1.ended last.thread
-  starve_run false o =
-      run_same rules first base (cells.clock / 2) r0.ended r1.ended old.thread last.thread (ap (λ (x : Rows). x.ended) (s.stays o)) s.same.thread runs.runs.run
-  starve_run true o =
-      let here : IsRun rules first base (cells.clock / 2) roomy old = record { run = runs.runs.run; inside = runs.runs.inside; between = λ x. absurd (true≢false (sym o ∙ x)) } in
-      (stop_run laws r1 old last Commit still_seen here (cells.clock / 2) (let l : cells.clock / 2 ≤ cells.clock / 2 = omega arith in l)
-      (bytes_stay laid more ended) o (old.engine.snapshot / 2) outcomes.NoMemory last.engine.actions.ran refl (λ x y. y) s.same.thread (s.stops o)
-      (runs.runs.inside o).4.began still_seen.late ((runs.sees fed).logged o) (given_up_as old.engine last.engine (words_at base r1.ended (old.engine.snapshot / 2)) free s.engine) (λ f. absurd (cc))).0
+  module _ (revocable : old.engine.irrevocable ≡ false) where
+    gone : last.engine ≡ record (rolled_back old.engine) { stage = Idle; tries = 0 }
+    gone = s.engine ∙ cond-false old.engine.holds _ _ (free ∙ revocable)
+
+    closed : in_transaction last.engine ≡ false
+    closed = ap in_transaction gone
+
+    starve_run : (b : Bool) → in_transaction old.engine ≡ b → RunOf rules first base (cells.clock / 2) r1.ended last.thread
+    starve_run false o =
+        run_same rules first base (cells.clock / 2) r0.ended r1.ended old.thread last.thread (ap (λ (x : Rows). x.ended) (s.stays o)) s.same.thread runs.runs.run
+    starve_run true o =
+        let here : IsRun rules first base (cells.clock / 2) roomy old = record { run = runs.runs.run; inside = runs.runs.inside; between = λ x. absurd (true≢false (sym o ∙ x)) } in
+        (stop_run laws r1 old last Commit still_seen here (cells.clock / 2) (let l : cells.clock / 2 ≤ cells.clock / 2 = omega arith in l)
+        (bytes_stay laid more ended) o (old.engine.snapshot / 2) outcomes.NoMemory last.engine.actions.ran refl (λ x y. y) s.same.thread (s.stops o revocable)
+        (runs.runs.inside o).4.began still_seen.late (runs.sees.logged o) revocable (given_up_as old.engine last.engine (words_at base r1.ended (old.engine.snapshot / 2)) (free ∙ revocable) revocable s.engine) (λ f. absurd (cc))).0
+
+    -- its transaction is rolled back
+    rolled_runs : RunsFrom rules first base cells r1 last
+    rolled_runs = record {
+      runs = record { run = starve_run (in_transaction old.engine) refl; inside = λ o. absurd (true≢false (sym o ∙ closed)); between = λ o gave_up starved. absurd (starved (ap ending_of s.status)) };
+      sees = record {
+        loaded = record {
+          fresh = λ even same f. subst (Agrees (words_at base r1.ended (cells.clock / 2))) (sym (ap (λ (c : Core). c.fresh) gone)) tt;
+          held = λ h. absurd (true≢false (sym h ∙ ap (λ (c : Core). c.holds) gone));
+          got = λ h. absurd (true≢false (sym h ∙ ap (λ (c : Core). c.holds) gone));
+        };
+        logged = λ o. absurd (true≢false (sym o ∙ closed));
+      };
+      held = λ i. absurd (true≢false (sym i ∙ ap (λ (c : Core). c.irrevocable) gone));
+      starved = λ e r. closed;
+      reads = λ o. absurd (true≢false (sym o ∙ closed));
+    }
+
+  module _ (irrevocable : old.engine.irrevocable ≡ true) where
+    kept : last.engine ≡ old.engine
+    kept = s.engine ∙ cond-true old.engine.holds _ _ (free ∙ irrevocable)
+
+    rows : r1 ≡ roomy
+    rows = s.held irrevocable
+
+    inside : in_transaction old.engine ≡ true
+    inside = (sound.tied.settled.holder (sound.tied.settled.irrevocable irrevocable).0).0
+
+    -- it stays as it is
+    held_runs : RunsFrom rules first base cells r1 last
+    held_runs = record {
+      runs = record {
+        run = run_same rules first base (cells.clock / 2) r0.ended r1.ended old.thread last.thread (ap (λ (x : Rows). x.ended) rows) s.same.thread runs.runs.run;
+        inside = λ o.
+            (let t = runs.runs.inside inside in (
+              t.0,
+              t.1,
+              (λ i. now_at rules first base (rows i).ended (s.same.thread i)) ∙ t.2,
+              (λ i. active_of (s.same.thread i) (rows i).active) ∙ t.3,
+              subst (λ (x : Rows). IsInTry rules (words_at base x.ended (cells.clock / 2)) t.0 t.1 last.player last.engine) (sym rows)
+                  (subst (λ (q : P). IsInTry rules (words_at base r0.ended (cells.clock / 2)) t.0 t.1 q last.engine) (sym s.player)
+                  (subst (λ (e : Core). IsInTry rules (words_at base r0.ended (cells.clock / 2)) t.0 t.1 old.player e) (sym kept) t.4)),
+              s.counts.1 ∙ t.5,
+              t.6 ∙ sym s.counts.0,
+            ));
+        between = λ o. absurd (true≢false (sym (ap in_transaction kept ∙ inside) ∙ o));
+      };
+      sees = subst (λ (x : Rows). Sees (words_at base x.ended) cells last.engine) (sym rows) (subst (Sees (words_at base r0.ended) cells) (sym kept) runs.sees);
+      held = λ i row f.
+          subst (λ (x : Rows). IsHeld (bytes_at base x.ended (cells.clock / 2)) cells.words row last.engine) (sym rows)
+          (subst (IsHeld (bytes_at base r0.ended (cells.clock / 2)) cells.words row) (sym kept) (runs.held irrevocable row (sym (λ j. active_of (s.same.thread j) (rows j).active) ∙ f)));
+      starved = λ e r. absurd (true≢false (sym irrevocable ∙ (sym (ap (λ (c : Core). c.irrevocable) kept) ∙ r)));
+      reads = λ o row f. runs.reads inside row (sym (λ j. active_of (s.same.thread j) (rows j).active) ∙ f) ∙ ap (λ (c : Core). c.snapshot / 2) (sym kept);
+    }
 
   pub starve_runs : RunsFrom rules first base cells r1 last
-  starve_runs = record {
-    runs = record { run = starve_run (in_transaction old.engine) refl; inside = λ o. absurd (true≢false (sym o ∙ closed)); between = λ o gave_up starved. absurd (starved (ap ending_of s.status)) };
-    sees = λ fed. absurd (fed (ap ending_of s.status));
-    starved = λ e. closed;
-    reads = λ o. absurd (true≢false (sym o ∙ closed));
-  }
+  starve_runs = elim (cases_Bool old.engine.irrevocable) [ inl i ↦ held_runs i | inr r ↦ rolled_runs r ]
 
 -- ## The words
 
@@ -180,16 +246,16 @@ reading k row = record row { at = k }
 
 module _ {P : Type 0} (rules : Rules P) (laws : Obeys rules) (first : Between P) (base : List ℕ) where
   -- the value is handed in
-  pub run_handed : (n : ℕ) (r : Rows) (a : Actor P) (step : Step) (seen : ℕ) (status : Status) → ending_of a.status ≡ None → in_transaction (handed_to a.engine (Some step) seen) ≡ in_transaction a.engine
+  pub run_handed : (n : ℕ) (r : Rows) (a : Actor P) (step : Step) (seen : ℕ) (status : Status) → IsSettled a.engine → ending_of a.status ≡ None → in_transaction (handed_to a.engine (Some step) seen) ≡ in_transaction a.engine
       → IsRun rules first base n r a → IsRun rules first base n r (record a { engine = handed_to a.engine (Some step) seen; status = status })
-  run_handed n r a step seen status on same x =
+  run_handed n r a step seen status settled on same x =
       let kept = (handed_is a.engine step seen).keeps in
       record {
         run = x.run;
         inside = λ o. (let t = x.inside (sym same ∙ o) in (t.0, t.1, t.2, t.3, try_handed laws step seen t.4, t.5, t.6));
         between = λ o gave_up starved.
             (let t = x.between (sym same ∙ o) (λ e. absurd (let z = sym on ∙ e in cc)) (λ e. absurd (let z = sym on ∙ e in cc)) in
-            (t.0, t.1, before_on t.2 (handed_to a.engine (Some step) seen) status kept.arena kept.again));
+            (t.0, t.1, before_on t.2 (handed_to a.engine (Some step) seen) status (kept.arena (shut_revocable a.engine settled (sym same ∙ o))) kept.again));
       }
 
   -- the open attempt is told where it reads
@@ -210,7 +276,7 @@ module _ {P : Type 0} (rules : Rules P) (laws : Obeys rules) (first : Between P)
                 reading (a.engine.snapshot / 2) t.1,
                 ap (λ (rows : Rows). run_after rules (bytes_at base rows.ended) (Some first) (of_thread a.thread rows.ended)) moved ∙ t.2,
                 now,
-                try_told laws (a.engine.snapshot / 2) t.4,
+                subst (λ (rows : Rows). IsInTry rules (words_at base rows.ended n) t.0 (reading (a.engine.snapshot / 2) t.1) a.player a.engine) (sym moved) (try_told laws (a.engine.snapshot / 2) t.4),
                 t.5,
                 t.6,
               );
@@ -219,6 +285,18 @@ module _ {P : Type 0} (rules : Rules P) (laws : Obeys rules) (first : Between P)
             λ y row e. (let same : reading (a.engine.snapshot / 2) t.1 ≡ row = (let z : Some (reading (a.engine.snapshot / 2) t.1) ≡ Some row = sym now ∙ e in cc) in ap (λ (w : Attempt). w.at) (sym same)),
           )
 
+-- an irrevocable attempt that is told where it reads
+held_told : {P : Type 0} (memory words : List ℕ) (r r' : Rows) (a : Actor P) → IsTold a.thread (in_transaction a.engine) r (a.engine.snapshot / 2) r' → ((row : Attempt) → active_of a.thread r.active ≡ Some row → IsHeld memory words row a.engine)
+    → (row : Attempt) → active_of a.thread r'.active ≡ Some row → IsHeld memory words row a.engine
+held_told memory words r r' a told held row f = by_open (in_transaction a.engine) refl
+  where
+    by_open : (b : Bool) → in_transaction a.engine ≡ b → IsHeld memory words row a.engine
+    by_open true o =
+        let was = row_from r r' a.thread (reading (a.engine.snapshot / 2)) (λ x. refl) (told.moves o) row f in
+        let h = held was.0 was.1 in
+        subst (λ (x : Attempt). IsHeld memory words x a.engine) (sym was.2) (record { still_open = h.still_open; ran = h.ran; stands = h.stands; got = h.got })
+    by_open false o = held row (ap (λ (x : Rows). active_of a.thread x.active) (sym (told.stays o)) ∙ f)
+
 -- it goes on, or is answered
 
 module _ {P : Type 0} {rules : Rules P} (laws : Obeys rules) {cells : Cells} {r : Rows} {old : Actor P} {call : Call} {what : Next} {cells' : Cells} {new : Core} (m : IsStepping rules cells r old call what cells' new)
@@ -226,11 +304,11 @@ module _ {P : Type 0} {rules : Rules P} (laws : Obeys rules) {cells : Cells} {r 
   seen_step : HasSeen base cells cells' r (mid_step m) new
   seen_step =
       let w = waits m in
-      let sees = runs.sees (λ e. absurd (let z = sym (ap ending_of m.waiting) ∙ e in cc)) in
+      let sees = runs.sees in
       subst (λ (c : Cells). HasSeen base cells c r (mid_step m) new) (sym m.cells_are) (step_seen base cells r old.engine new m.step laid m.sound.tied sees w.waits w.lawful m.resumed.joins)
 
   run_mid : IsRun rules first base (cells.clock / 2) r (record old { engine = mid_step m; status = status })
-  run_mid = run_handed rules laws first base (cells.clock / 2) r old m.step (found cells m.step) status (ap ending_of m.waiting) (ap is_inside (same m).blocks) runs.runs
+  run_mid = run_handed rules laws first base (cells.clock / 2) r old m.step (found cells m.step) status m.sound.tied.settled (ap ending_of m.waiting) (ap is_inside (same m).blocks) runs.runs
 
   pub step_runs : (r1 : Rows) (last : Actor P) → IsDone rules (in_transaction old.engine) r r1 (record old { engine = new; status = status }) last call what → Tells rules (in_transaction old.engine) r r1 (record old { engine = new; status = status }) last call what
       → (rows : Rows) → IsTold last.thread (in_transaction last.engine) r1 (last.engine.snapshot / 2) rows → (more : List Attempt) → rows.ended ≡ r.ended ++ more → AreCounted cells'.clock rows.ended
@@ -238,8 +316,16 @@ module _ {P : Type 0} {rules : Rules P} (laws : Obeys rules) {cells : Cells} {r 
   step_runs r1 last done tells rows told more ended counted =
       let taken = step_taken m status ready in
       let same_ended : rows.ended ≡ r1.ended = elim (cases_Bool (in_transaction last.engine)) [ inl o ↦ ap (λ (x : Rows). x.ended) (told.moves o) | inr shut ↦ ap (λ (x : Rows). x.ended) (told.stays shut) ] in
-      let x = runs_recorded laws (in_transaction old.engine) (record old { engine = new; status = status }) call seen_step run_mid r1 last more (sym same_ended ∙ ended) what taken done tells in
+      let x = runs_recorded laws (in_transaction old.engine) (record old { engine = new; status = status }) call seen_step run_mid r1 last more (sym same_ended ∙ ended) what taken (step_held m base runs.held) done tells in
       let t = run_told rules laws first base (cells'.clock / 2) r1 rows last (now taken done tells).kept.row told x.run in (
         laid_same base cells' r1 rows same_ended (x.laid (subst (AreCounted cells'.clock) same_ended counted)),
-        record { runs = t.0; sees = λ fed. subst (λ (l : List Attempt). Sees (words_at base l) cells' last.engine) (sym same_ended) x.sees; starved = λ e. absurd (x.fed e); reads = t.1 },
+        record {
+          runs = t.0;
+          sees = subst (λ (l : List Attempt). Sees (words_at base l) cells' last.engine) (sym same_ended) x.sees;
+          held = λ i row f.
+              subst (λ (l : List Attempt). IsHeld (bytes_at base l (cells'.clock / 2)) cells'.words row last.engine) (sym same_ended)
+              (held_told (bytes_at base r1.ended (cells'.clock / 2)) cells'.words r1 rows last told (x.held i) row f);
+          starved = λ e. absurd (x.fed e);
+          reads = t.1;
+        },
       )

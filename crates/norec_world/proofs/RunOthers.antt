@@ -1,12 +1,15 @@
 -- The actors' runs: one's event leaves the others', and together they are the headline.
 use Rattle.std.proofs.Common.{◌≡◌, ◌≢◌, inl, inr, ℕ, ◌+◌, ◌/◌, ◌%◌, ◌<◌, ◌≤◌, ◌==◌, Bool, true, false, List, [], ◌∷◌, ◌++◌, length, length-set, replicate, None, Some, slice_get, slice_set, refl, sym, ap, subst, ◌∙◌, arith, eqb-true, nat_lt}
-use Rattle.norec_world.proofs.Common.{Actor, Agrees, AllFit, AllOf, AreActors, AreFrom, AreLaid, AreOfActors, AreOpaque, AreOpen, AreRunning, Attempt, Between, Cells, ChangesOwn, ClocksOn, Core, Got, HasRead, HasRow, IsMemory, IsRunOf, IsTied, IsTryAt, IsWorld, KeepsOthers, MAX_OPEN_BLOCKS, NoMemory, Obeys, Ready, Rows, Rules, RunsFrom, World, active_of, append-nil, attempts_of, backed, begins_at, bytes_at, bytes_of, cases_Bool, count_at, count_committed, ending_of, first_of, in_transaction, le-ltb, ne_eqb, of_thread, one_where, opening, run_after, words_at, words_of, write_at, slice_get_within}
+use Rattle.norec_world.proofs.Common.{Actor, Agrees, AllFit, AllOf, AreActors, AreFrom, AreLaid, AreOfActors, AreOpaque, AreOpen, AreRunning, Attempt, Between, Cells, ChangesOwn, ClocksOn, Core, Got, HasRead, HasRow, IsHeld, IsMemory, IsRunOf, IsTied, IsTryAt, IsWorld, KeepsOthers, MAX_OPEN_BLOCKS, NoMemory, Obeys, Ready, Rows, Rules, RunsFrom, StandsIn, State, World, active_of, alone, append-nil, attempts_of, backed, begins_at, bytes_at, bytes_of, cases_Bool, count_at, count_committed, ending_of, first_of, in_transaction, is_open, le-ltb, ne_eqb, of_thread, one_where, opened, opening, run_after, state_then, words_at, words_of, write_at, slice_get_within}
 use Rattle.norec_world.specs.declared.attempt.Outcome.TheVariants as outcomes
 use Rattle.norec_world.proofs.WordLists.{words_of-bytes_of}
 use Rattle.norec_world.specs.Runs.{StillRuns}
 use Rattle.norec_world.proofs.SoundOthers.{first_found, set_place, there_is, are_open, held_apart, odd_held, row_unfinished, row_open}
 use Rattle.norec_world.proofs.Solos.{stands_open}
-use Rattle.norec_world.proofs.InTries.{try_stops}
+use Rattle.norec_world.proofs.InTries.{try_moved}
+use Rattle.norec_world.proofs.TryOutcomes.{IsMadeAlone, alone_led, made_held, made_so, stands_led, try_stops}
+use Rattle.norec_world.proofs.HeldCalls.{stands_actions}
+use Rattle.user_actions.specs.Actions.{Actions}
 use Rattle.norec_world.proofs.Memories.{bytes_still, bytes_stay}
 use Rattle.norec_world.proofs.RunLists.{of_thread_more, run_still, run_more}
 use Rattle.norec_world.proofs.ActiveRows.{past_all}
@@ -66,7 +69,7 @@ module _ {P : Type 0} (rules : Rules P) (laws : Obeys rules) where
       record {
         runs = record {
           run = subst (IsRunOf rules MAX_OPEN_BLOCKS (cells'.clock / 2) (bytes_at base r'.ended) (Some first)) (sym rows) on.0;
-          inside = λ o. (let t = x.runs.inside o in (t.0, t.1, now ∙ t.2, own.others b.thread apart ∙ t.3, t.4, t.5, t.6));
+          inside = λ o. (let t = x.runs.inside o in (t.0, t.1, now ∙ t.2, own.others b.thread apart ∙ t.3, try_moved laws (words_at base r'.ended (cells'.clock / 2)) (λ i. ap words_of (memory_held i)) t.4, t.5, t.6));
           between = λ o gave_up starved.
               (let t = x.runs.between o gave_up starved in let k = t.2 in (
                 t.0,
@@ -74,24 +77,34 @@ module _ {P : Type 0} (rules : Rules P) (laws : Obeys rules) where
                 record { calls = k.calls; leads = k.leads; again = k.again; tries = k.tries; pending = λ row e. (let p = k.pending row e in ((let early = p.0 in omega arith), p.1, p.2, p.3, p.4, p.5)) },
               ));
         };
-        sees = λ fed. (let s = x.sees fed in record {
+        sees = (let s = x.sees in record {
           loaded = record {
             fresh = λ even same f.
                 (let clock : cells'.clock ≡ cells.clock = (let late = tied.late in omega arith) in
                 let words : words_at base r'.ended (cells'.clock / 2) ≡ words_at base r.ended (cells.clock / 2) = ap (λ (k : ℕ). words_at base r'.ended (k / 2)) clock ∙ ap words_of (bytes_stay laid own.more own.ended (cells.clock / 2) (let l : cells.clock / 2 ≤ cells.clock / 2 = omega arith in l)) in
                 subst (λ (m : List ℕ). Agrees m b.engine.fresh) (sym words) (s.loaded.fresh (ap (λ (k : ℕ). k % 2) (sym clock) ∙ even) (same ∙ clock) f));
-            held = λ h.
+            held = λ h revocable.
                 (let is = held h in
-                ap (λ (c : Cells). c.words) is ∙ (s.loaded.held h ∙ (ap (λ (m : List ℕ). backed b.engine m) (ap words_of (sym (bytes_stay laid own.more own.ended (cells.clock / 2) (let l : cells.clock / 2 ≤ cells.clock / 2 = omega arith in l))))
+                ap (λ (c : Cells). c.words) is ∙ (s.loaded.held h revocable ∙ (ap (λ (m : List ℕ). backed b.engine m) (ap words_of (sym (bytes_stay laid own.more own.ended (cells.clock / 2) (let l : cells.clock / 2 ≤ cells.clock / 2 = omega arith in l))))
                 ∙ ap (λ (c : Cells). backed b.engine (words_at base r'.ended (c.clock / 2))) (sym is))));
-            got = λ h. subst (λ (c : Cells). Got b.engine.got (slice_get c.words (write_at b.engine.writes b.engine.done).word)) (sym (held h)) (s.loaded.got h);
+            got = λ h revocable. subst (λ (c : Cells). Got b.engine.got (slice_get c.words (write_at b.engine.writes b.engine.done).word)) (sym (held h)) (s.loaded.got h revocable);
           };
           logged = λ o. subst (λ (m : List ℕ). Agrees m b.engine.log) (sym (ap words_of (bytes_stay laid own.more own.ended (b.engine.snapshot / 2) (let reached = tied.settled.reached in let late = tied.late in omega arith)))) (s.logged o);
         });
+        held = λ i row f.
+            subst (λ (bytes : List ℕ). IsHeld bytes cells'.words row b.engine) (sym (memory_held i))
+            (subst (λ (c : Cells). IsHeld (bytes_at base r.ended (cells.clock / 2)) c.words row b.engine) (sym (held (holds_it i))) (x.held i row (sym (own.others b.thread apart) ∙ f)));
         starved = x.starved;
         reads = λ o row e. x.reads o row (sym (own.others b.thread apart) ∙ e);
       }
     where
+      -- an irrevocable one holds the clock
+      holds_it : b.engine.irrevocable ≡ true → b.engine.holds ≡ true
+      holds_it i = (tied.settled.irrevocable i).0
+
+      memory_held : b.engine.irrevocable ≡ true → bytes_at base r'.ended (cells'.clock / 2) ≡ bytes_at base r.ended (cells.clock / 2)
+      memory_held i = ap (λ (c : Cells). bytes_at base r'.ended (c.clock / 2)) (held (holds_it i)) ∙ bytes_stay laid own.more own.ended (cells.clock / 2) (let l : cells.clock / 2 ≤ cells.clock / 2 = omega arith in l)
+
       rows : of_thread b.thread r'.ended ≡ of_thread b.thread r.ended
       rows =
           ap (of_thread b.thread) own.ended ∙ (of_thread_more b.thread r.ended own.more
@@ -111,6 +124,56 @@ module _ {P : Type 0} (rules : Rules P) (laws : Obeys rules) where
     shown_still : (k : ℕ) → k ≤ w.cells.clock / 2 → bytes_at w.base (attempts_of w) k ≡ bytes_at w.base w.attempts.ended k
     shown_still k l = bytes_still w.base w.cells.clock w.attempts.ended running.laid.counted w.attempts.active k l
 
+    -- of an open attempt: its calls are made alone on the memory of its position, and its actions are those of the state that they lead to
+    open_parts : (place : ℕ) (p : P) (a : Actor P) (e : slice_get w.opening place ≡ Some p) (f : slice_get w.actors place ≡ Some a) (o : in_transaction a.engine ≡ true)
+        → let t = (running.each place p a e f).runs.inside o in let k : ℕ = a.engine.snapshot / 2 in
+        IsMadeAlone rules t.0 t.4.start t.1 (bytes_at w.base (attempts_of w) k) × (a.engine.actions.ran ≡ (state_then MAX_OPEN_BLOCKS (opened (bytes_at w.base (attempts_of w) k) t.4.start.arena t.4.start.props) t.1.calls).actions.ran)
+    open_parts place p a e f o = elim (cases_Bool a.engine.irrevocable) [ inl i ↦ held_so i | inr r ↦ open_so r ]
+      where
+        x : RunsFrom rules (first_of p w.arena) w.base w.cells w.attempts a
+        x = running.each place p a e f
+
+        tied : IsTied w.cells a.engine
+        tied = (sound.each place a f).sound.tied
+
+        k_late : a.engine.snapshot / 2 ≤ w.cells.clock / 2
+        k_late = (let reached = tied.settled.reached in let late = tied.late in omega arith)
+
+        words : words_at w.base (attempts_of w) (a.engine.snapshot / 2) ≡ words_at w.base w.attempts.ended (a.engine.snapshot / 2)
+        words = ap words_of (shown_still (a.engine.snapshot / 2) k_late)
+
+        memory : IsMemory a.engine.words (words_at w.base (attempts_of w) (a.engine.snapshot / 2))
+        memory = (let fits = running.laid.memories.fits (a.engine.snapshot / 2) k_late in subst (IsMemory a.engine.words) (sym words) (fits.0 ∙ sym tied.words, fits.1))
+
+        same : bytes_of (words_at w.base (attempts_of w) (a.engine.snapshot / 2)) ≡ bytes_at w.base (attempts_of w) (a.engine.snapshot / 2)
+        same = ap bytes_of words ∙ (running.laid.memories.same (a.engine.snapshot / 2) k_late ∙ sym (shown_still (a.engine.snapshot / 2) k_late))
+
+        agrees : Agrees (words_at w.base (attempts_of w) (a.engine.snapshot / 2)) a.engine.log
+        agrees = subst (λ (m : List ℕ). Agrees m a.engine.log) (sym words) (x.sees.logged o)
+
+        open_so : a.engine.irrevocable ≡ false → IsMadeAlone rules (x.runs.inside o).0 (x.runs.inside o).4.start (x.runs.inside o).1 (bytes_at w.base (attempts_of w) (a.engine.snapshot / 2))
+            × (a.engine.actions.ran ≡ (state_then MAX_OPEN_BLOCKS (opened (bytes_at w.base (attempts_of w) (a.engine.snapshot / 2)) (x.runs.inside o).4.start.arena (x.runs.inside o).4.start.props) (x.runs.inside o).1.calls).actions.ran)
+        open_so r =
+            let m : List ℕ = words_at w.base (attempts_of w) (a.engine.snapshot / 2) in
+            let stands = stands_led laws (x.runs.inside o).4 (bytes_at w.base (attempts_of w) (a.engine.snapshot / 2)) m r o memory same agrees in (
+              made_so laws (x.runs.inside o).4 (bytes_at w.base (attempts_of w) (a.engine.snapshot / 2)) m r o memory same agrees,
+              ap (λ (y : Actions). y.ran) (sym (stands_actions a.engine m)) ∙ ap (λ (y : State). y.actions.ran) stands,
+            )
+
+        held_so : a.engine.irrevocable ≡ true → IsMadeAlone rules (x.runs.inside o).0 (x.runs.inside o).4.start (x.runs.inside o).1 (bytes_at w.base (attempts_of w) (a.engine.snapshot / 2))
+            × (a.engine.actions.ran ≡ (state_then MAX_OPEN_BLOCKS (opened (bytes_at w.base (attempts_of w) (a.engine.snapshot / 2)) (x.runs.inside o).4.start.arena (x.runs.inside o).4.start.props) (x.runs.inside o).1.calls).actions.ran)
+        held_so i =
+            let t = x.runs.inside o in
+            let h = x.held i t.1 t.3 in
+            let holds = (tied.settled.irrevocable i).0 in
+            let half : a.engine.snapshot / 2 ≡ w.cells.clock / 2 = omega (arith, tied.holder holds, (tied.settled.holder holds).1, tied.settled.even) in
+            let top : w.cells.clock / 2 ≤ w.cells.clock / 2 = omega arith in
+            let fits = running.laid.memories.fits (w.cells.clock / 2) top in
+            let shown : bytes_at w.base (attempts_of w) (a.engine.snapshot / 2) ≡ bytes_at w.base w.attempts.ended (w.cells.clock / 2) = ap (bytes_at w.base (attempts_of w)) half ∙ shown_still (w.cells.clock / 2) top in (
+              made_held laws t.4 (bytes_at w.base (attempts_of w) (a.engine.snapshot / 2)) i (fits.0 ∙ sym tied.words, fits.1) (running.laid.memories.same (w.cells.clock / 2) top ∙ sym shown) (ap (λ (bytes : List ℕ). is_open (alone MAX_OPEN_BLOCKS bytes t.1)) shown ∙ h.still_open),
+              sym t.4.ran ∙ (h.ran ∙ (ap (λ (bytes : List ℕ). (alone MAX_OPEN_BLOCKS bytes t.1).actions.ran) (sym shown) ∙ ap (λ (y : State). y.actions.ran) (alone_led laws t.4 (bytes_at w.base (attempts_of w) (a.engine.snapshot / 2))))),
+            )
+
     of_actor : (place : ℕ) (p : P) (a : Actor P) → slice_get w.opening place ≡ Some p → slice_get w.actors place ≡ Some a
         → IsRunOf rules MAX_OPEN_BLOCKS (w.cells.clock / 2) (bytes_at w.base (attempts_of w)) (Some (first_of p w.arena)) (of_thread place (attempts_of w))
     of_actor place p a e f =
@@ -125,17 +188,12 @@ module _ {P : Type 0} (rules : Rules P) (laws : Obeys rules) where
               let t = x.runs.inside o in
               let k : ℕ = a.engine.snapshot / 2 in
               let k_late : k ≤ w.cells.clock / 2 = (let reached = tied.settled.reached in let late = tied.late in omega arith) in
-              let fed : ending_of a.status ≡ Some NoMemory → ⊥ = λ e. absurd (let shut = x.starved e in let z = sym o ∙ shut in cc) in
-              let sees = x.sees fed in
-              let fits = running.laid.memories.fits k k_late in
-              let words : words_at w.base (attempts_of w) k ≡ words_at w.base w.attempts.ended k = ap words_of (shown_still k k_late) in
               let row : Attempt = t.1 in
               let unfinished : row.outcome ≡ outcomes.Unfinished = row_unfinished (in_transaction a.engine) w.attempts a.thread row s.sound.kept.row t.3 in
               let at : row.at ≡ k = x.reads o row t.3 in
               let early = t.4.began in
-              let try = try_stops laws (w.cells.clock / 2) w.base (attempts_of w) t.4 k outcomes.Unfinished a.engine.actions.ran refl (stands_open rules laws a.engine (words_at w.base (attempts_of w) k) o) early k_late
-              (subst (IsMemory a.engine.words) (sym words) (fits.0 ∙ sym tied.words, fits.1)) (ap bytes_of words ∙ (running.laid.memories.same k k_late ∙ sym (shown_still k k_late)))
-              (subst (λ (m : List ℕ). Agrees m a.engine.log) (sym words) (sees.logged o)) refl (λ f. absurd (cc)) in
+              let parts = open_parts place p a e f o in
+              let try = try_stops laws t.4 (w.cells.clock / 2) (bytes_at w.base (attempts_of w)) k outcomes.Unfinished a.engine.actions.ran refl parts.0 parts.0.still_open early k_late parts.1 (λ f. absurd (cc)) in
               let as_it_is : record row { at = k; ran = a.engine.actions.ran; outcome = outcomes.Unfinished } ≡ row = λ i. record row { at = (sym at) i; ran = (sym t.4.ran) i; outcome = (sym unfinished) i } in
               let here : IsTryAt rules MAX_OPEN_BLOCKS (w.cells.clock / 2) (bytes_at w.base (attempts_of w)) t.0 (begins_at rules t.0) row =
               subst (λ (y : _). IsTryAt rules MAX_OPEN_BLOCKS (w.cells.clock / 2) (bytes_at w.base (attempts_of w)) t.0 y row) (sym t.4.begins)
@@ -164,13 +222,17 @@ module _ {P : Type 0} (rules : Rules P) (laws : Obeys rules) where
       free = λ even.
           (let top : w.cells.clock / 2 ≤ w.cells.clock / 2 = omega arith in
           ap bytes_of (running.laid.free even) ∙ (running.laid.memories.same (w.cells.clock / 2) top ∙ sym (shown_still (w.cells.clock / 2) top)));
-      held = λ place a e h.
+      held = λ place a e h r.
           (let l = slice_get_within w.actors place a e in
           let top : w.cells.clock / 2 ≤ w.cells.clock / 2 = omega arith in
           let here = there_is w.opening place (omega (arith, long)) in
-          let x = running.each place here.0 a here.1 e in
-          let fed : ending_of a.status ≡ Some NoMemory → ⊥ = λ z. absurd (let shut = x.starved z in let inside = ((sound.each place a e).sound.tied.settled.holder h).0 in let q = sym inside ∙ shut in cc) in
-          (x.sees fed).loaded.held h ∙ ap (λ (m : List ℕ). backed a.engine (words_of m)) (sym (shown_still (w.cells.clock / 2) top)));
+          (running.each place here.0 a here.1 e).sees.loaded.held h r ∙ ap (λ (m : List ℕ). backed a.engine (words_of m)) (sym (shown_still (w.cells.clock / 2) top)));
+      stored = λ place a row e some i.
+          (let l = slice_get_within w.actors place a e in
+          let top : w.cells.clock / 2 ≤ w.cells.clock / 2 = omega arith in
+          let here = there_is w.opening place (omega (arith, long)) in
+          let mine : active_of a.thread w.attempts.active ≡ Some row = ap (λ (t : ℕ). active_of t w.attempts.active) (sound.each place a e).thread ∙ some in
+          subst (λ (bytes : List ℕ). StandsIn a.engine.waits a.engine.doing a.engine w.cells.words (alone MAX_OPEN_BLOCKS bytes row)) (sym (shown_still (w.cells.clock / 2) top)) ((running.each place here.0 a here.1 e).held i row mine).stands);
     }
 
   pub world_opaque : (w : World P) → IsWorld rules w → AreOpaque rules w
@@ -195,8 +257,7 @@ module _ {P : Type 0} (rules : Rules P) (laws : Obeys rules) where
     has_read tied o =
         let k_late : new.engine.snapshot / 2 ≤ cells'.clock / 2 = (let reached = tied.settled.reached in let late = tied.late in omega arith) in
         let fits = went.0.memories.fits (new.engine.snapshot / 2) k_late in
-        let fed : ending_of new.status ≡ Some NoMemory → ⊥ = λ e. absurd (let shut = went.1.starved e in let z = sym o ∙ shut in cc) in
-        ((fits.0 ∙ sym tied.words, fits.1), (went.1.sees fed).logged o)
+        ((fits.0 ∙ sym tied.words, fits.1), went.1.sees.logged o)
 
     -- another one that holds the clock sees no change
     others_held : (j : ℕ) (b : Actor P) → i ≢ j → slice_get w.actors j ≡ Some b → b.engine.holds ≡ true → cells' ≡ w.cells
@@ -248,7 +309,7 @@ module _ {P : Type 0} (rules : Rules P) (laws : Obeys rules) where
             },
           );
         };
-        sees = λ fed. record {
+        sees = record {
           loaded = record {
             fresh = λ even same f. subst (Agrees (words_at base r.ended (cells.clock / 2))) (sym (ap (λ (c : Core). c.fresh) is)) tt;
             held = λ h. absurd (let z = sym h ∙ free in cc);
@@ -256,7 +317,8 @@ module _ {P : Type 0} (rules : Rules P) (laws : Obeys rules) where
           };
           logged = λ o. absurd (let z = sym o ∙ shut in cc);
         };
-        starved = λ e. shut;
+        held = λ i. absurd (let z = sym i ∙ ap (λ (c : Core). c.irrevocable) is in cc);
+        starved = λ e r. shut;
         reads = λ o. absurd (let z = sym o ∙ shut in cc);
       }
 

@@ -1,30 +1,52 @@
 -- A value or a call was taken in, and what the engine gave is recorded: the actor's run goes on, and the words are still those that the commits left.
-use Rattle.std.proofs.Common.{◌≡◌, ℕ, suc, ◌+◌, ◌/◌, ◌≤◌, ◌==◌, Bool, true, false, List, [], ◌∷◌, ◌++◌, Option, None, Some, refl, sym, true≢false, ap, subst, ◌∙◌, arith, eq-eqb, append-nil, inl, inr}
-use Rattle.norec_world.proofs.Common.{Actor, Agrees, Answer, AreCounted, AreLaid, Asks, Attempt, Between, Busy, Call, Cells, Committed, Conflict, Core, Done, Ends, Full, IsDone, IsRun, Loaded, MAX_OPEN_BLOCKS, Next, NoMemory, Obeys, RecordsReply, RepliesTo, Reply, Rows, Rules, Sees, State, Step, Tells, Waits, alone, backed, bytes_at, bytes_of, committed_at, cond-true, ending_of, in_transaction, memory_left, rests, words_at}
+use Rattle.std.proofs.Common.{◌≡◌, ◌⊎◌, ℕ, suc, ◌+◌, ◌/◌, ◌≤◌, ◌==◌, Bool, true, false, List, [], ◌∷◌, ◌++◌, Option, None, Some, refl, sym, true≢false, ap, subst, ◌∙◌, arith, eq-eqb, append-nil, inl, inr}
+use Rattle.norec_world.proofs.Common.{Actor, Agrees, Answer, Answers, AreCounted, AreLaid, Asks, Attempt, Between, Busy, Call, Cells, Committed, Conflict, ConflictsIn, Core, Done, Ends, Enters, Full, IsDone, IsHeld, IsMemory, IsRun, Loaded, MAX_OPEN_BLOCKS, Next, NoMemory, Obeys, RecordsReply, Replied, Replies, RepliesHeld, RepliesTo, Reply, Rows, Rules, Sees, StandsIn, State, Step, Tells, Waits, active_of, after, alone, backed, bytes_at, bytes_of, committed_at, cond-true, ending_of, in_transaction, is_open, memory_left, opened, reply_cases, rests, same_Some, stands_for, words_at}
 use Rattle.norec_world.specs.declared.attempt.Outcome.TheVariants as outcomes
 use Rattle.norec_world.proofs.InTries.{try_asks}
 use Rattle.norec_world.proofs.Laid.{laid_more, laid_on}
 use Rattle.norec_world.proofs.Memories.{bytes_stay, found_later, none_next}
-use Rattle.norec_world.proofs.RunAnswers.{before_on, commit_agrees, commit_ended, commit_left, commit_runs, cancel_runs, conflict_runs, full_runs, reply_runs}
-use Rattle.norec_world.proofs.RunBegins.{shut_runs}
+use Rattle.norec_world.proofs.RunAnswers.{before_on, held_position, position_bytes, position_fits, reply_runs}
+use Rattle.norec_world.proofs.RunEndings.{cancel_runs, commit_ended, commit_memory, commit_runs, conflict_runs, full_runs}
+use Rattle.norec_world.proofs.HeldCalls.{HasHeld, stands_actions}
+use Rattle.norec_world.proofs.TryOutcomes.{alone_led, stands_led}
+use Rattle.norec_world.proofs.ActiveRows.{changed_here}
+use Rattle.norec_world.proofs.Solos.{stands_open, state_snoc}
+use Rattle.user_actions.specs.Actions.{Actions}
+use Rattle.norec_world.proofs.RunBegins.{begin_holds, shut_runs}
 use Rattle.norec_world.proofs.Seen.{HasSeen, memory_at}
-use Rattle.norec_world.proofs.Taken.{HasAnswered, HasTaken, recorded, still_going, clock_grows}
+use Rattle.norec_world.proofs.Taken.{HasAnswered, HasTaken, answered, still_going, clock_grows}
 use Rattle.norec_world.proofs.TryEnds.{not_starved, unfreed_to, begun_or_not}
 
 -- an answer clears what was loaded since the clock
 no_fresh : (mid new : Core) (answer : Answer) → Ends mid answer new → new.fresh ≡ []
 no_fresh mid new (Reply reply) g = by_doing mid.doing g
   where
+    by_case : (c : Call) → Replies mid c reply new ⊎ Enters mid c reply new ⊎ RepliesHeld mid c reply new → new.fresh ≡ []
+    by_case c (inl g) = ap (λ (c : Core). c.fresh) g.stays
+    by_case c (inr (inl g)) = ap (λ (c : Core). c.fresh) g.stays
+    by_case c (inr (inr g)) = ap (λ (c : Core). c.fresh) g.stays
+
     by_doing : (o : Option Call) → RepliesTo mid o reply new → new.fresh ≡ []
     by_doing None g = absurd g
-    by_doing (Some c) g = ap (λ (c : Core). c.fresh) g.stays
+    by_doing (Some c) g = by_case c (reply_cases mid c reply new mid.holds mid.irrevocable g)
+no_fresh mid new (Conflict clock word) g = by_open (in_transaction mid) g
+  where
+    by_open : (b : Bool) → ConflictsIn b mid clock word new → new.fresh ≡ []
+    by_open true g = ap (λ (c : Core). c.fresh) g.stays
+    by_open false g = ap (λ (c : Core). c.fresh) g.stays
 no_fresh mid new answer g = ap (λ (c : Core). c.fresh) g.stays
+
+-- nor was the clock freed, where it is no writer's commit
+unfreed_in : (b : Bool) (mid new : Core) (clock : ℕ) (word : Option ℕ) → ConflictsIn b mid clock word new → mid.freed ≡ false
+unfreed_in true mid new clock word g = g.unfreed
+unfreed_in false mid new clock word g = g.unfreed
 
 module _ {P : Type 0} (rules : Rules P) (first : Between P) (base : List ℕ) where
   -- what is true of the actor then; the words are laid as soon as its attempts are counted
   pub record HasRun (cells : Cells) (r : Rows) (last : Actor P) : Type 0 where
     pub run : IsRun rules first base (cells.clock / 2) r last
     pub sees : Sees (words_at base r.ended) cells last.engine
+    pub held : last.engine.irrevocable ≡ true → (row : Attempt) → active_of last.thread r.active ≡ Some row → IsHeld (bytes_at base r.ended (cells.clock / 2)) cells.words row last.engine
     pub laid : AreCounted cells.clock r.ended → AreLaid base cells r
     pub fed : ending_of last.status ≡ Some NoMemory → ⊥
 
@@ -37,8 +59,8 @@ module _ {P : Type 0} {rules : Rules P} (laws : Obeys rules) {first : Between P}
 
   -- ## The call goes on
 
-  waits_on : (step : Step) → HasTaken rules was cells cells' r mid a call (Asks step) → HasRun rules first base cells' r (record a { status = Waits call step })
-  waits_on step t =
+  waits_on : (step : Step) → HasTaken rules was cells cells' r mid a call (Asks step) → HasHeld base cells cells' r a.thread mid a.engine call (Asks step) → HasRun rules first base cells' r (record a { status = Waits call step })
+  waits_on step t held =
       let g = t.proceeds in
       let opens : in_transaction a.engine ≡ in_transaction mid = ap in_transaction g.stays in
       let half = t.moves.keeps g.unfreed in
@@ -58,6 +80,15 @@ module _ {P : Type 0} {rules : Rules P} (laws : Obeys rules) {first : Between P}
           loaded = subst (Loaded (words_at base r.ended) cells') (sym g.stays) (let l = seen.loaded g.unfreed in record { fresh = l.fresh; held = l.held; got = l.got });
           logged = seen.now;
         };
+        held = λ irrevocable row active.
+            (let before : mid.irrevocable ≡ true = sym (ap (λ (c : Core). c.irrevocable) g.stays) ∙ irrevocable in
+            subst (λ (k : ℕ). IsHeld (bytes_at base r.ended k) cells'.words row a.engine) (sym half) (record {
+              still_open = held.still_open before row active;
+              ran = held.ran before row active;
+              stands = subst (λ (w : Option Step). StandsIn w a.engine.doing a.engine cells'.words (alone MAX_OPEN_BLOCKS (bytes_at base r.ended (cells.clock / 2)) row)) (sym (ap (λ (c : Core). c.waits) g.stays))
+                  (subst (λ (o : Option Call). StandsIn (Some step) o a.engine cells'.words (alone MAX_OPEN_BLOCKS (bytes_at base r.ended (cells.clock / 2)) row)) (sym (ap (λ (c : Core). c.doing) g.stays ∙ t.doing)) (held.comes before row active));
+              got = held.got before;
+            }));
         laid = laid_still r [] (sym (append-nil r.ended)) half g.unfreed;
         fed = λ e. absurd (cc);
       }
@@ -68,32 +99,39 @@ module _ {P : Type 0} {rules : Rules P} (laws : Obeys rules) {first : Between P}
     to_now : cells'.clock / 2 ≡ cells.clock / 2 → IsRun rules first base (cells.clock / 2) r1 last → IsRun rules first base (cells'.clock / 2) r1 last
     to_now half x = subst (λ (k : ℕ). IsRun rules first base k r1 last) (sym half) x
 
-    open_runs : (answer : Answer) → HasAnswered rules true cells cells' r r1 mid a last call answer → IsRun rules first base (cells'.clock / 2) r1 last
-    open_runs (Reply reply) m = by_open (in_transaction last.engine) refl m.told
+    open_runs : (answer : Answer) → HasAnswered rules true cells cells' r r1 mid a last call answer → HasHeld base cells cells' r a.thread mid a.engine call (Answers answer) → IsRun rules first base (cells'.clock / 2) r1 last
+    open_runs (Reply reply) m held = by_open (in_transaction last.engine) refl m.told
       where
         half : cells'.clock / 2 ≡ cells.clock / 2
         half = m.taken.moves.keeps (unfreed_to mid a.engine mid.doing reply m.ends)
 
         by_open : (now : Bool) → in_transaction last.engine ≡ now → RecordsReply rules true now r r1 a last call reply → IsRun rules first base (cells'.clock / 2) r1 last
-        by_open true o told = to_now half (reply_runs laws r1 a last call seen run reply m o told)
+        by_open true o told = to_now half (reply_runs laws r1 a last call seen run reply m held o told)
         by_open false o told = cancel_runs laws r1 a last call seen run (cells'.clock / 2) (clock_grows m.taken.moves) (bytes_stay seen.laid more ended) m.taken.was_is reply m o told
             (omega (arith, half, m.taken.tied.settled.reached, m.taken.tied.late))
-    open_runs (Committed at wrote) m = commit_runs laws r1 a last call seen run (cells'.clock / 2) (clock_grows m.taken.moves) (bytes_stay seen.laid more ended) m.taken.was_is at wrote m
-    open_runs (Conflict clock word) m = conflict_runs laws r1 a last call seen run (cells'.clock / 2) (clock_grows m.taken.moves) (bytes_stay seen.laid more ended) m.taken.was_is clock word m
-    open_runs (Busy clock) m = absurd (let f : true ≡ false = m.answered.fits.0 in cc)
-    open_runs (Full at) m =
+    open_runs (Committed at wrote) m held = commit_runs laws r1 a last call seen run (cells'.clock / 2) (clock_grows m.taken.moves) (bytes_stay seen.laid more ended) m.taken.was_is at wrote m held
+    open_runs (Conflict clock word) m held = conflict_runs laws r1 a last call seen run (cells'.clock / 2) (clock_grows m.taken.moves) (bytes_stay seen.laid more ended) m.taken.was_is clock word m held
+    open_runs (Busy clock) m held = absurd (let f : true ≡ false = m.answered.fits.0 in cc)
+    open_runs (Full at) m held =
         let at_is = m.ends.at_is in
-        full_runs laws r1 a last call seen run (cells'.clock / 2) (clock_grows m.taken.moves) (bytes_stay seen.laid more ended) m.taken.was_is at m
+        full_runs laws r1 a last call seen run (cells'.clock / 2) (clock_grows m.taken.moves) (bytes_stay seen.laid more ended) m.taken.was_is at m held
         (omega (arith, (run.inside m.taken.was_is).4.began, seen.up m.taken.was_is)) (omega (arith, m.taken.tied.settled.reached, m.taken.tied.late, clock_grows m.taken.moves, m.taken.moves.keeps m.ends.unfreed))
 
-    runs_on : (b : Bool) (answer : Answer) → HasAnswered rules b cells cells' r r1 mid a last call answer → IsRun rules first base (cells'.clock / 2) r1 last
-    runs_on true answer m = open_runs answer m
-    runs_on false answer m = to_now (ap (λ (k : ℕ). k / 2) (m.taken.outside refl).0) (shut_runs laws r1 a last call seen run answer m)
+    runs_on : (b : Bool) (answer : Answer) → HasAnswered rules b cells cells' r r1 mid a last call answer → HasHeld base cells cells' r a.thread mid a.engine call (Answers answer) → IsRun rules first base (cells'.clock / 2) r1 last
+    runs_on true answer m held = open_runs answer m held
+    runs_on false answer m held = to_now (m.taken.moves.keeps (shut_unfreed answer m)) (shut_runs laws r1 a last call seen run (held.shut m.taken.was_is) answer m)
+      where
+        shut_unfreed : (answer : Answer) → HasAnswered rules false cells cells' r r1 mid a last call answer → mid.freed ≡ false
+        shut_unfreed (Reply reply) m = unfreed_to mid a.engine mid.doing reply m.ends
+        shut_unfreed (Conflict clock word) m = unfreed_in (in_transaction mid) mid a.engine clock word m.ends
+        shut_unfreed (Busy clock) m = m.ends.unfreed
+        shut_unfreed (Full at) m = m.ends.unfreed
+        shut_unfreed (Committed at wrote) m = absurd (let f : false ≡ true = m.answered.fits.0 in cc)
 
     -- an answer that leaves the transaction open ends no attempt
     pub open_ended : (b : Bool) (answer : Answer) → HasAnswered rules b cells cells' r r1 mid a last call answer → in_transaction a.engine ≡ true → r1.ended ≡ r.ended
     open_ended true (Reply reply) m o = ap (λ (x : Rows). x.ended) (subst (λ (now : Bool). RecordsReply rules true now r r1 a last call reply) (ap in_transaction m.settled.engine ∙ o) m.told).0
-    open_ended false (Reply reply) m o = elim (begun_or_not reply m) [ inl b ↦ ap (λ (x : Rows). x.ended) b.3 | inr n ↦ ap (λ (x : Rows). x.ended) n.2 ]
+    open_ended false (Reply reply) m o = elim (begun_or_not reply m) [ inl b ↦ ap (λ (x : Rows). x.ended) b.3 | inr n ↦ ap (λ (x : Rows). x.ended) n.1 ]
     open_ended b answer m o = absurd (true≢false (sym o ∙ m.answered.fits.1))
 
     sees_on : (answer : Answer) → HasAnswered rules was cells cells' r r1 mid a last call answer → Sees (words_at base r1.ended) cells' last.engine
@@ -102,15 +140,15 @@ module _ {P : Type 0} {rules : Rules P} (laws : Obeys rules) {first : Between P}
         subst (Sees (words_at base r1.ended) cells') (sym m.settled.engine) (record {
           loaded = record {
             fresh = λ even same f. subst (Agrees (words_at base r1.ended (cells'.clock / 2))) (sym (no_fresh mid a.engine answer m.ends)) tt;
-            held = λ h. absurd (true≢false (sym h ∙ rest.holds));
-            got = λ h. absurd (true≢false (sym h ∙ rest.holds));
+            held = λ h revocable. absurd (true≢false (sym h ∙ (rest.holds ∙ revocable)));
+            got = λ h revocable. absurd (true≢false (sym h ∙ (rest.holds ∙ revocable)));
           };
           logged = λ o. subst (λ (rows : List Attempt). Agrees (words_at base rows (a.engine.snapshot / 2)) a.engine.log) (sym (open_ended was answer m o)) (seen.now o);
         })
 
     -- a writer's commit: its row's memory is what its stores have made of the words
-    laid_freed : (at : ℕ) → HasAnswered rules true cells cells' r r1 mid a last call (Committed at true) → AreCounted cells'.clock r1.ended → AreLaid base cells' r1
-    laid_freed at m counted =
+    laid_freed : (at : ℕ) → HasAnswered rules true cells cells' r r1 mid a last call (Committed at true) → HasHeld base cells cells' r a.thread mid a.engine call (Answers (Committed at true)) → AreCounted cells'.clock r1.ended → AreLaid base cells' r1
+    laid_freed at m held counted =
         let freed : mid.freed ≡ true = m.ends.freed in
         let x = m.taken.moves.frees freed in
         let before = x.0 in
@@ -118,40 +156,103 @@ module _ {P : Type 0} {rules : Rules P} (laws : Obeys rules) {first : Between P}
         let at_is = m.ends.at_is in
         let position : at ≡ cells.clock / 2 = omega arith in
         let up = clock_grows m.taken.moves in
-        let here : at ≤ cells.clock / 2 = omega arith in
         let inside = m.taken.was_is in
         let t = run.inside inside in
         let row : Attempt = record t.1 { calls = t.1.calls ++ record { call = call; reply = Done } ∷ []; at = at; ran = a.engine.actions.ran; outcome = outcomes.Committed } in
-        let rows : r1.ended ≡ r.ended ++ row ∷ [] = commit_ended laws r1 a last call seen run (cells'.clock / 2) up (bytes_stay seen.laid more ended) inside at true m in
-        let left_so = commit_left laws r1 a last call seen run (cells'.clock / 2) up (bytes_stay seen.laid more ended) inside at true m in
-        let agrees = commit_agrees laws r1 a last call seen run (cells'.clock / 2) up (bytes_stay seen.laid more ended) inside at true m in
+        let rows : r1.ended ≡ r.ended ++ row ∷ [] = commit_ended laws r1 a last call seen run (cells'.clock / 2) up (bytes_stay seen.laid more ended) inside at true m held in
+        let left_so = commit_memory laws r1 a last call seen run (cells'.clock / 2) up (bytes_stay seen.laid more ended) inside at true m held refl in
         let found_row : committed_at r1.ended (cells.clock / 2) ≡ Some row =
         ap (λ (x : List Attempt). committed_at x (cells.clock / 2)) rows
         ∙ (found_later r.ended (row ∷ []) (cells.clock / 2) (none_next base cells.clock r.ended seen.laid.counted (cells.clock / 2) (let l : cells.clock / 2 ≤ cells.clock / 2 = omega arith in l)) ∙ cond-true (at == cells.clock / 2) (Some row) None (eq-eqb at (cells.clock / 2) position)) in
-        let backed_words : cells'.words ≡ backed mid (words_at base r.ended at) = seen.freed freed ∙ ap (λ (k : ℕ). backed mid (words_at base r.ended k)) (sym position) in
         let next_is : cells.clock / 2 + 1 ≡ suc (cells.clock / 2) = omega arith in
         laid_more base cells cells' r r1 seen.laid counted (omega arith) seen.long m.taken.tied.fit (bytes_stay seen.laid more ended)
         (ap (bytes_at base r1.ended) next_is
         ∙ (ap (memory_left MAX_OPEN_BLOCKS (bytes_at base r1.ended (cells.clock / 2))) found_row
-        ∙ (ap (λ (k : ℕ). (alone MAX_OPEN_BLOCKS (bytes_at base r1.ended k) row).memory) (sym position)
-        ∙ (ap (λ (x : State). x.memory) left_so ∙ (sym (m.ends.memory_is (words_at base r.ended at) (memory_at seen at here) agrees) ∙ ap bytes_of (sym backed_words))))))
+        ∙ (ap (λ (k : ℕ). (alone MAX_OPEN_BLOCKS (bytes_at base r1.ended k) row).memory) (sym position) ∙ left_so)))
 
-    laid_answered : (b : Bool) (answer : Answer) → HasAnswered rules b cells cells' r r1 mid a last call answer → AreCounted cells'.clock r1.ended → AreLaid base cells' r1
-    laid_answered b (Reply reply) m = (let unfreed = unfreed_to mid a.engine mid.doing reply m.ends in laid_still r1 more ended (m.taken.moves.keeps unfreed) unfreed)
-    laid_answered b (Committed at false) m = laid_still r1 more ended (m.taken.moves.keeps m.ends.freed) m.ends.freed
-    laid_answered true (Committed at true) m = laid_freed at m
-    laid_answered false (Committed at true) m = absurd (let f : false ≡ true = m.answered.fits.0 in cc)
-    laid_answered b answer m = laid_still r1 more ended (m.taken.moves.keeps m.ends.unfreed) m.ends.unfreed
+    laid_answered : (b : Bool) (answer : Answer) → HasAnswered rules b cells cells' r r1 mid a last call answer → HasHeld base cells cells' r a.thread mid a.engine call (Answers answer) → AreCounted cells'.clock r1.ended → AreLaid base cells' r1
+    laid_answered b (Reply reply) m held = (let unfreed = unfreed_to mid a.engine mid.doing reply m.ends in laid_still r1 more ended (m.taken.moves.keeps unfreed) unfreed)
+    laid_answered b (Committed at false) m held = laid_still r1 more ended (m.taken.moves.keeps m.ends.freed) m.ends.freed
+    laid_answered true (Committed at true) m held = laid_freed at m held
+    laid_answered false (Committed at true) m held = absurd (let f : false ≡ true = m.answered.fits.0 in cc)
+    laid_answered b (Conflict clock word) m held = (let unfreed = unfreed_in (in_transaction mid) mid a.engine clock word m.ends in laid_still r1 more ended (m.taken.moves.keeps unfreed) unfreed)
+    laid_answered b answer m held = laid_still r1 more ended (m.taken.moves.keeps m.ends.unfreed) m.ends.unfreed
 
-    answers_on : (answer : Answer) → HasAnswered rules was cells cells' r r1 mid a last call answer → HasRun rules first base cells' r1 last
-    answers_on answer m = record {
-      run = runs_on was answer m;
+    -- ### In an irrevocable transaction
+
+    -- it goes on with its calls alone, as the words stand
+    stands_held : (memory : List ℕ) (row : Attempt) → in_transaction a.engine ≡ true → stands_for a.engine cells'.words ≡ alone MAX_OPEN_BLOCKS memory row → row.ran ≡ a.engine.actions.ran → a.engine.waits ≡ None → IsHeld memory cells'.words row a.engine
+    stands_held memory row inside stands ran waits = record {
+      still_open = ap is_open (sym stands) ∙ stands_open rules laws a.engine cells'.words inside;
+      ran = ran ∙ (ap (λ (x : Actions). x.ran) (sym (stands_actions a.engine cells'.words)) ∙ ap (λ (s : State). s.actions.ran) stands);
+      stands = subst (λ (w : Option Step). StandsIn w a.engine.doing a.engine cells'.words (alone MAX_OPEN_BLOCKS memory row)) (sym waits) stands;
+      got = λ word value e. absurd (let none = sym waits ∙ e in cc);
+    }
+
+    -- a reply within it, or that of the call that made it so
+    held_stands : (reply : Replied) (m : HasAnswered rules true cells cells' r r1 mid a last call (Reply reply)) → HasHeld base cells cells' r a.thread mid a.engine call (Answers (Reply reply)) → a.engine.irrevocable ≡ true
+        → stands_for a.engine cells'.words ≡ after MAX_OPEN_BLOCKS (alone MAX_OPEN_BLOCKS (bytes_at base r.ended (cells.clock / 2)) (run.inside m.taken.was_is).1) call
+    held_stands reply m held irrevocable = elim (reply_cases mid call reply a.engine mid.holds mid.irrevocable (subst (λ (o : Option Call). RepliesTo mid o reply a.engine) m.taken.doing m.ends)) [
+      | inl g ↦ absurd (true≢false (sym irrevocable ∙ (ap (λ (c : Core). c.irrevocable) g.stays ∙ g.revocable)))
+      | inr (inl g) ↦
+          (let t = run.inside m.taken.was_is in
+          let half = m.taken.moves.keeps g.unfreed in
+          let position : List ℕ = words_at base r.ended (cells.clock / 2) in
+          let fits = position_fits laws r1 a last call seen run in
+          let bytes = position_bytes laws r1 a last call seen run in
+          let same = held_position laws r1 a last call seen run m.taken.tied (ap (λ (c : Core). c.holds) g.stays ∙ g.held) (ap (λ (c : Core). c.clock) g.stays) half g.taken in
+          let agrees : Agrees position mid.log = subst (λ (k : ℕ). Agrees (words_at base r.ended k) mid.log) same (seen.logged m.taken.was_is) in
+          let words : cells'.words ≡ backed mid position = (seen.loaded g.unfreed).held g.held g.revocable ∙ ap (λ (n : ℕ). backed mid (words_at base r.ended n)) half in
+          ap (stands_for a.engine) words
+          ∙ (g.meets position fits agrees
+          ∙ ap (λ (s : State). after MAX_OPEN_BLOCKS s call) (stands_led laws t.4 (bytes_at base r.ended (cells.clock / 2)) position g.revocable m.taken.was_is fits bytes agrees ∙ sym (alone_led laws t.4 (bytes_at base r.ended (cells.clock / 2))))))
+      | inr (inr g) ↦ (held.comes g.irrevocable (run.inside m.taken.was_is).1 (run.inside m.taken.was_is).3).0
+    ]
+
+    abbrev HeldOn : Type 0
+    HeldOn = last.engine.irrevocable ≡ true → (row : Attempt) → active_of last.thread r1.active ≡ Some row → IsHeld (bytes_at base r1.ended (cells'.clock / 2)) cells'.words row last.engine
+
+    held_on : (b : Bool) (answer : Answer) → HasAnswered rules b cells cells' r r1 mid a last call answer → HasHeld base cells cells' r a.thread mid a.engine call (Answers answer) → HeldOn
+    held_on b answer m held irrevocable row active =
+        let now : a.engine.irrevocable ≡ true = ap (λ (c : Core). c.irrevocable) (sym m.settled.engine) ∙ irrevocable in
+        let inside : in_transaction a.engine ≡ true = (m.taken.tied.settled.holder (m.taken.tied.settled.irrevocable now).0).0 in
+        let idle = (rests mid a.engine answer m.ends).idle in
+        subst (λ (c : Core). IsHeld (bytes_at base r1.ended (cells'.clock / 2)) cells'.words row c) (sym m.settled.engine) (by_answer b answer m held now inside idle)
+      where
+        by_answer : (b : Bool) (answer : Answer) → HasAnswered rules b cells cells' r r1 mid a last call answer → HasHeld base cells cells' r a.thread mid a.engine call (Answers answer) → a.engine.irrevocable ≡ true → in_transaction a.engine ≡ true → a.engine.waits ≡ None
+            → IsHeld (bytes_at base r1.ended (cells'.clock / 2)) cells'.words row a.engine
+        by_answer true (Reply reply) m held now inside idle =
+            let t = run.inside m.taken.was_is in
+            let half = m.taken.moves.keeps (unfreed_to mid a.engine mid.doing reply m.ends) in
+            let told = subst (λ (o : Bool). RecordsReply rules true o r r1 a last call reply) (ap in_transaction m.settled.engine ∙ inside) m.told in
+            let with_call : Attempt → Attempt = λ x. record x { calls = x.calls ++ record { call = call; reply = reply } ∷ []; ran = last.engine.actions.ran } in
+            let here : active_of last.thread r1.active ≡ Some (with_call t.1) = ap (λ (k : ℕ). active_of k r1.active) m.settled.thread ∙ (ap (λ (x : Rows). active_of a.thread x.active) told.0 ∙ changed_here a.thread with_call r.active t.1 (λ x. refl) t.3) in
+            let same : with_call t.1 ≡ row = same_Some _ _ (sym here ∙ active) in
+            let s = held_stands reply m held now in
+            let memory : bytes_at base r.ended (cells.clock / 2) ≡ bytes_at base r1.ended (cells'.clock / 2) = λ i. bytes_at base (sym (ap (λ (x : Rows). x.ended) told.0) i) (sym half i) in
+            subst (λ (x : Attempt). IsHeld (bytes_at base r1.ended (cells'.clock / 2)) cells'.words x a.engine) same
+            (subst (λ (bytes : List ℕ). IsHeld bytes cells'.words (with_call t.1) a.engine) memory
+            (stands_held (bytes_at base r.ended (cells.clock / 2)) (with_call t.1) inside (s ∙ sym (state_snoc MAX_OPEN_BLOCKS (opened (bytes_at base r.ended (cells.clock / 2)) t.1.arena t.1.props) t.1.calls (record { call = call; reply = reply })))
+            (ap (λ (c : Core). c.actions.ran) m.settled.engine) idle))
+        by_answer false (Reply reply) m held now inside idle =
+            let half = m.taken.moves.keeps (unfreed_to mid a.engine mid.doing reply m.ends) in
+            let s = begin_holds laws r1 a last call seen run (held.shut m.taken.was_is) reply m (ap in_transaction m.settled.engine ∙ inside) now row active in
+            let memory : bytes_at base r.ended (cells.clock / 2) ≡ bytes_at base r1.ended (cells'.clock / 2) = λ i. bytes_at base (sym (open_ended false (Reply reply) m inside) i) (sym half i) in
+            subst (λ (bytes : List ℕ). IsHeld bytes cells'.words row a.engine) memory (stands_held (bytes_at base r.ended (cells.clock / 2)) row inside s.0 s.1 idle)
+        by_answer b answer m held now inside idle = absurd (true≢false (sym inside ∙ m.answered.fits.1))
+
+    answers_on : (answer : Answer) → HasAnswered rules was cells cells' r r1 mid a last call answer → HasHeld base cells cells' r a.thread mid a.engine call (Answers answer) → HasRun rules first base cells' r1 last
+    answers_on answer m held = record {
+      run = runs_on was answer m held;
       sees = sees_on answer m;
-      laid = laid_answered was answer m;
+      held = held_on was answer m held;
+      laid = laid_answered was answer m held;
       fed = not_starved rules r r1 a last call was m.taken.ready answer m.told;
     }
 
     -- ## Either
 
-    pub runs_recorded : (what : Next) → HasTaken rules was cells cells' r mid a call what → IsDone rules was r r1 a last call what → Tells rules was r r1 a last call what → HasRun rules first base cells' r1 last
-    runs_recorded what t done tells = recorded (λ x y. HasRun rules first base cells' x y) t done tells waits_on (λ answer is t. answers_on answer t)
+    pub runs_recorded : (what : Next) → HasTaken rules was cells cells' r mid a call what → HasHeld base cells cells' r a.thread mid a.engine call what → IsDone rules was r r1 a last call what → Tells rules was r r1 a last call what → HasRun rules first base cells' r1 last
+    runs_recorded (Asks step) t held done tells =
+        subst (λ (x : Rows). HasRun rules first base cells' x last) (sym done.1) (subst (HasRun rules first base cells' r) (sym done.0) (waits_on step t held))
+    runs_recorded (Answers answer) t held done tells = answers_on answer (record { taken = t; answered = answered t; ends = t.proceeds; told = tells; settled = done }) held

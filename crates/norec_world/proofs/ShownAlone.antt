@@ -1,19 +1,24 @@
 -- What a world with one actor shows is what its player does alone.
-use Rattle.std.proofs.Common.{◌≡◌, ◌⊎◌, inl, inr, ℕ, zero, suc, ◌/◌, ◌%◌, ◌≤◌, Bool, true, false, nat_le, if◌then◌else◌, List, [], ◌∷◌, ◌++◌, length, map, replicate, Option, None, Some, slice_get, refl, sym, ap, subst, ◌∙◌, arith, append-nil, le-leb}
-use Rattle.std.proofs.lemmas.Bool.{and_from}
-use Rattle.norec_world.proofs.Common.{Actor, AreOfActors, AreOpaque, AreUnfinished, Attempt, Between, Call, Commit, Done, End, EndsAs, EndsWith, Entry, Finished, GaveUp, IsAlone, IsBeforeTry, IsFirstTry, IsOnWay, IsRunOf, IsSole, IsWorld, MAX_OPEN_BLOCKS, NoMemory, Obeys, Outcome, Rules, ShowsAlone, StandsSole, State, World, active_of, after, alone, answers, answers_within, attempts_of, begin_code, begin_of, begin_within, bytes_at, committed_at, current_of, ending_at, ending_of, first_of, in_transaction, is_open, map-append, of_thread, opened, option_and_then, pair_of, player_then, row_of, run_after, same_Some, solo_within, state_then, stopped, with_all, with_first}
+use Rattle.std.proofs.Common.{◌≡◌, ◌⊎◌, inl, inr, ℕ, zero, suc, ◌/◌, ◌%◌, ◌≤◌, Bool, true, false, ◌&&◌, ◌==◌, nat_le, if◌then◌else◌, List, [], ◌∷◌, ◌++◌, length, map, replicate, Option, None, Some, slice_get, refl, sym, ap, subst, ◌∙◌, arith, append-nil, le-leb}
+use Rattle.std.proofs.lemmas.Bool.{and_left, and_right, lt-leb}
+use Rattle.norec_world.proofs.Common.{Actor, AreOfActors, AreOpaque, AreUnfinished, Attempt, Between, Call, End, EndsAs, EndsWith, Entry, Finished, GaveUp, IsAlone, IsBeforeTry, IsFirstTry, IsOnWay, IsRunOf, IsSole, IsWorld, MAX_OPEN_BLOCKS, NoMemory, Obeys, Outcome, Row, Rules, ShowsAlone, StandsIn, StandsSole, State, Step, World, active_of, after, alone, answers, answers_within, attempts_of, begin_code, begin_of, begin_within, both_ways, bytes_at, bytes_of, committed_at, cond-false, cond-true, current_of, ending_at, ending_of, first_of, in_transaction, is_open, map-append, of_thread, opened, option_and_then, pair_of, player_then, reply, row_of, run_after, same_Some, solo_within, stands_for, state_then, takes_clock, stopped, with_all, with_first, words_at}
 use Rattle.norec_world.proofs.RunBegins.{led_before}
 use Rattle.itm_types.specs.declared.call.Reply.{Reply}
 use Rattle.norec_world.specs.declared.attempt.Outcome.TheVariants as outcomes
 use Rattle.norec_world.specs.SoFar.{IsBegun, IsSoFar, IsAll}
 use Rattle.norec_world.specs.World.{DoneBy, memory_of}
-use Rattle.norec_world.proofs.Solos.{begins_alone, state_snoc, gets_none, full_block, open_block, no_block}
+use Rattle.norec_world.proofs.Solos.{begins_alone, gets_none, full_block, kept_out, open_block, no_block}
 use Rattle.norec_world.proofs.Memories.{bytes_still}
 use Rattle.norec_world.proofs.RunLists.{run_still}
 use Rattle.norec_world.proofs.RunOthers.{world_opaque, open_none, open_one}
 use Rattle.norec_world.proofs.SoleEvents.{of_thread_all, even_free, even_shut}
 use Rattle.norec_world.proofs.SoleRuns.{Arrives, IsNext, between, arrives, is_next, same_state, same_answers, same_row, made_alone}
-use Rattle.norec_world.proofs.SoundOthers.{are_open, row_open, row_shut}
+use Rattle.norec_world.proofs.SoundOthers.{are_open, odd_or_even, row_open, row_shut}
+use Rattle.norec_world.specs.Sole.{IsIdle, IsKeptOut}
+use Rattle.norec_world.specs.Solo.{left_open}
+use Rattle.norec_core.specs.Stands.{state_in}
+use Rattle.nest_frames.specs.Nest.{Frame}
+use Rattle.user_actions.specs.Actions.{Actions}
 
 -- the list of one
 one_of : {A : Type 0} (xs : List A) → length xs ≡ 1 → (x : A) × (xs ≡ x ∷ [])
@@ -25,8 +30,12 @@ of_actors_parts : (n : ℕ) (xs ys : List Attempt) → AreOfActors n (xs ++ ys) 
 of_actors_parts n [] ys f = f
 of_actors_parts n (x ∷ xs) ys f = of_actors_parts n xs ys f.1
 
+mode_in : (b : Bool) (writes : List Row) (blocks : List Frame) (arena : List ℕ) (actions : Actions) (m : List ℕ) → (state_in b writes blocks arena actions m).irrevocable ≡ b
+mode_in true writes blocks arena actions m = refl
+mode_in false writes blocks arena actions m = refl
+
 module _ {P : Type 0} (rules : Rules P) (laws : Obeys rules) (w : World P) (kept : IsWorld rules w)
-    (p : P) (a : Actor P) (players : w.opening ≡ p ∷ []) (actors : w.actors ≡ a ∷ []) (sole : IsSole rules w.max_commits w.cells.clock w.attempts a) where
+    (p : P) (a : Actor P) (players : w.opening ≡ p ∷ []) (actors : w.actors ≡ a ∷ []) (sole : IsSole rules w.max_commits w.base (first_of p w.arena) w.cells.clock w.attempts a) where
   opaque : AreOpaque rules w
   opaque = world_opaque rules laws w kept
 
@@ -85,12 +94,15 @@ module _ {P : Type 0} (rules : Rules P) (laws : Obeys rules) (w : World P) (kept
   left_by tail x z = opaque.free z ∙ (ap (bytes_at w.base (attempts_of w)) (sym x.commits) ∙ sym x.memory)
 
   -- the player goes no further
-  stops : (tail : List Attempt) (x : Arrived tail) (end : End) → solo_within rules MAX_OPEN_BLOCKS w.max_commits 0 (rules.calls_left x.before.player) x.before ≡ record { attempts = tail; memory = x.before.memory; commits = x.before.commits; ending = end }
+  stops : (tail : List Attempt) (x : Arrived tail) (end : End) (memory : List ℕ) (held : Bool) → solo_within rules MAX_OPEN_BLOCKS w.max_commits 0 (rules.calls_left x.before.player) x.before ≡ record { attempts = tail; memory = memory; commits = x.before.commits; held = held; ending = end }
+      → attempts_of w ≡ sole.past ++ tail → memory_of w ≡ memory → (w.cells.clock % 2 == 1) ≡ held → All end
+  stops tail x end memory held last is left odd =
+      x.whole ∙ (ap (with_all sole.past) last ∙ (λ i. record { attempts = sym is i; memory = sym left i; commits = x.commits i; held = sym odd i; ending = end }))
+
+  -- between two blocks, or with the block given up
+  rests_even : (tail : List Attempt) (x : Arrived tail) (end : End) → solo_within rules MAX_OPEN_BLOCKS w.max_commits 0 (rules.calls_left x.before.player) x.before ≡ record { attempts = tail; memory = x.before.memory; commits = x.before.commits; held = false; ending = end }
       → attempts_of w ≡ sole.past ++ tail → w.cells.clock % 2 ≡ 0 → All end
-  stops tail x end last is z = record {
-    all = x.whole ∙ (ap (with_all sole.past) last ∙ (λ i. record { attempts = sym is i; memory = sym (left_by tail x z) i; commits = x.commits i; ending = end }));
-    even = z;
-  }
+  rests_even tail x end last is z = stops tail x end x.before.memory false last is (left_by tail x z) (ap (λ (n : ℕ). n == 1) z)
 
   abbrev place_now : Option (Between P)
   place_now = run_after rules (bytes_at w.base w.attempts.ended) (Some (first_of p w.arena)) (of_thread a.thread w.attempts.ended)
@@ -105,6 +117,13 @@ module _ {P : Type 0} (rules : Rules P) (laws : Obeys rules) (w : World P) (kept
       let still = run_still rules (w.cells.clock / 2) (w.cells.clock / 2) (bytes_at w.base w.attempts.ended) (bytes_at w.base (attempts_of w)) (omega arith)
       (λ k l. bytes_still w.base w.cells.clock w.attempts.ended kept.commits.counted w.attempts.active k l) (Some (first_of p w.arena)) (of_thread a.thread w.attempts.ended) run.run in
       sym still.1 ∙ (ap (run_after rules (bytes_at w.base (attempts_of w)) (Some (first_of p w.arena))) rows ∙ x.led)
+
+  -- the clock is odd where its engine is irrevocable
+  odd_where : a.engine.irrevocable ≡ true → w.cells.clock % 2 ≡ 1
+  odd_where e = elim (odd_or_even w.cells.clock) [
+    | inl even ↦ absurd (both_ways a.engine.holds (kept.commits.free even 0 a here) ((kept.actors.each 0 a here).sound.tied.settled.irrevocable e).0)
+    | inr odd ↦ odd
+  ]
 
   -- ## The last one
 
@@ -137,8 +156,9 @@ module _ {P : Type 0} (rules : Rules P) (laws : Obeys rules) (w : World P) (kept
     begun_so outcome o = record { start = y.start; calls = row.calls; rows_are = is ∙ ap (λ (r : Attempt). sole.past ++ r ∷ []) (sym (row_here outcome (sym o))); begins = y.comes; alone = alone_here }
 
     -- its player makes no more calls
-    rests_open : row.outcome ≡ outcomes.Unfinished → rules.next_call (player_then rules.answered begun row.calls) ≡ None → w.cells.clock % 2 ≡ 0 → All Finished
-    rests_open o none z =
+    rests_open : row.outcome ≡ outcomes.Unfinished → rules.next_call (player_then rules.answered begun row.calls) ≡ None → ((state_then MAX_OPEN_BLOCKS from row.calls).irrevocable && nat_le w.max_commits x.before.commits) ≡ false
+        → memory_of w ≡ (if (state_then MAX_OPEN_BLOCKS from row.calls).irrevocable then (state_then MAX_OPEN_BLOCKS from row.calls).memory else x.before.memory) → (w.cells.clock % 2 == 1) ≡ (state_then MAX_OPEN_BLOCKS from row.calls).irrevocable → All Finished
+    rests_open o none free left odd =
         let t : State = state_then MAX_OPEN_BLOCKS from row.calls in
         let q : P = player_then rules.answered begun row.calls in
         let gets : answers rules.next_call rules.answered rules.calls_left MAX_OPEN_BLOCKS begun x.before.memory y.start.arena y.start.props ≡ map pair_of row.calls =
@@ -146,28 +166,88 @@ module _ {P : Type 0} (rules : Rules P) (laws : Obeys rules) (w : World P) (kept
         ∙ (ap (λ (k : Option Call). map pair_of row.calls ++ answers_within rules.next_call rules.answered rules.calls_left MAX_OPEN_BLOCKS (rules.calls_left begun) q t k) (no_turn (is_open t) (rules.next_call q) none)
         ∙ (ap (λ (l : List (Call × Reply)). map pair_of row.calls ++ l) (gets_none rules laws MAX_OPEN_BLOCKS 0 0 (rules.calls_left begun) q t) ∙ append-nil (map pair_of row.calls))) in
         let open_then : is_open t ≡ true = ap is_open (sym state_here) ∙ subst (λ (k : Outcome). EndsAs k (alone MAX_OPEN_BLOCKS (bytes_at w.base (attempts_of w) row.at) row)) o y.opaque.ends in
-        stops (row ∷ []) x Finished
-        (open_block rules laws MAX_OPEN_BLOCKS w.max_commits 0 x.before y.start row.calls y.comes gets open_then
-        ∙ ap (λ (r : Attempt). with_first r (stopped rules MAX_OPEN_BLOCKS w.max_commits 0 x.before Finished)) (row_here outcomes.Unfinished (sym o))) is z
+        stops (row ∷ []) x Finished (if t.irrevocable then t.memory else x.before.memory) t.irrevocable
+        (open_block rules laws MAX_OPEN_BLOCKS w.max_commits 0 x.before y.start y.comes row.calls gets alone_here open_then free
+        ∙ ap (λ (r : Attempt). with_first r (left_open rules MAX_OPEN_BLOCKS w.max_commits 0 x.before t)) (row_here outcomes.Unfinished (sym o))) is left odd
       where
         no_turn : (b : Bool) (k : Option Call) → k ≡ None → (if b then k else None) ≡ None
         no_turn true k e = e
         no_turn false k e = refl
 
-    -- its commit was refused as full
+    -- it was refused the clock, as full
     refused : row.outcome ≡ outcomes.Full → w.max_commits ≤ w.cells.clock / 2 → w.cells.clock % 2 ≡ 0 → All GaveUp
     refused o full z =
-        let last : Entry = record { call = Commit; reply = Done } in
         let lacks = y.opaque.full o in
-        let state : after MAX_OPEN_BLOCKS (alone MAX_OPEN_BLOCKS (bytes_at w.base (attempts_of w) row.at) row) Commit ≡ state_then MAX_OPEN_BLOCKS from (row.calls ++ last ∷ []) =
-        ap (λ (s : State). after MAX_OPEN_BLOCKS s Commit) state_here ∙ sym (state_snoc MAX_OPEN_BLOCKS from row.calls last) in
-        let gets : answers rules.next_call rules.answered rules.calls_left MAX_OPEN_BLOCKS begun x.before.memory y.start.arena y.start.props ≡ map pair_of (row.calls ++ last ∷ []) =
-        sym (same_answers rules laws w.max_commits w.base (attempts_of w) (w.cells.clock / 2) x.before row y x.memory first_here at_here) ∙ (lacks.0 ∙ sym (map-append pair_of row.calls (last ∷ []))) in
         let n = x.commits in
-        stops (row ∷ []) x GaveUp
-        (full_block rules laws MAX_OPEN_BLOCKS w.max_commits 0 x.before y.start (row.calls ++ last ∷ []) y.comes gets row.calls last refl (ap is_open (sym state) ∙ lacks.1.0)
-        (and_from (state_then MAX_OPEN_BLOCKS from (row.calls ++ last ∷ [])).wrote (nat_le w.max_commits x.before.commits) (ap (λ (s : State). s.wrote) (sym state) ∙ lacks.1.1) (le-leb w.max_commits x.before.commits (omega arith)))
+        rests_even (row ∷ []) x GaveUp
+        (full_block rules laws MAX_OPEN_BLOCKS w.max_commits 0 x.before y.start y.comes row.calls lacks.call (reply MAX_OPEN_BLOCKS (alone MAX_OPEN_BLOCKS (bytes_at w.base (attempts_of w) row.at) row) lacks.call) lacks.rest
+        (sym (same_answers rules laws w.max_commits w.base (attempts_of w) (w.cells.clock / 2) x.before row y x.memory first_here at_here) ∙ lacks.answers_are) alone_here
+        (ap is_open (sym state_here) ∙ subst (λ (k : Outcome). EndsAs k (alone MAX_OPEN_BLOCKS (bytes_at w.base (attempts_of w) row.at) row)) o y.opaque.ends)
+        (ap (λ (s : State). s.irrevocable) (sym state_here) ∙ lacks.revocable) (ap (λ (s : State). takes_clock (after MAX_OPEN_BLOCKS s lacks.call)) (sym state_here) ∙ lacks.takes)
+        (le-leb w.max_commits x.before.commits (omega arith))
         ∙ ap (λ (r : Attempt). with_first r (stopped rules MAX_OPEN_BLOCKS w.max_commits 0 x.before GaveUp)) (row_here outcomes.Full (sym o))) is z
+
+    -- its engine, and the plain state after its calls
+    module _ (some : active_of a.thread w.attempts.active ≡ Some row) where
+      in_own : in_transaction a.engine ≡ true
+      in_own = row_open (in_transaction a.engine) w.attempts a.thread row (kept.actors.each 0 a here).sound.kept.row some
+
+      placed : active_of 0 w.attempts.active ≡ Some row
+      placed = ap (λ (t : ℕ). active_of t w.attempts.active) (sym own) ∙ some
+
+      read_at : row.at ≡ a.engine.snapshot / 2
+      read_at = opaque.reads 0 a row here placed
+
+      -- it is not irrevocable where its engine is not
+      revocable_here : a.engine.irrevocable ≡ false → (state_then MAX_OPEN_BLOCKS from row.calls).irrevocable ≡ false
+      revocable_here e =
+          let r = kept.running.each 0 p a player_here here in
+          let t = r.runs.inside in_own in
+          let tied = (kept.actors.each 0 a here).sound.tied in
+          let k : ℕ = a.engine.snapshot / 2 in
+          let k_late : k ≤ w.cells.clock / 2 = (let reached = tied.settled.reached in let late = tied.late in omega arith) in
+          let fits = kept.running.laid.memories.fits k k_late in
+          let same : t.1 ≡ row = same_Some _ _ (sym t.3 ∙ some) in
+          let memory : List ℕ = words_at w.base w.attempts.ended k in
+          let stands = t.4.stands e memory (fits.0 ∙ sym tied.words, fits.1) (r.sees.logged in_own) in
+          let bytes : bytes_at w.base (attempts_of w) row.at ≡ bytes_of memory =
+          ap (bytes_at w.base (attempts_of w)) read_at ∙ (bytes_still w.base w.cells.clock w.attempts.ended kept.commits.counted w.attempts.active k k_late ∙ sym (kept.running.laid.memories.same k k_late)) in
+          let arena : row.arena ≡ t.4.start.arena = ap (λ (r : Attempt). r.arena) (sym same) ∙ t.4.arena in
+          let props : row.props ≡ t.4.start.props = ap (λ (r : Attempt). r.props) (sym same) ∙ t.4.props in
+          let led : alone MAX_OPEN_BLOCKS (bytes_at w.base (attempts_of w) row.at) row ≡ state_then MAX_OPEN_BLOCKS (opened (bytes_of memory) t.4.start.arena t.4.start.props) t.1.calls =
+          λ i. state_then MAX_OPEN_BLOCKS (opened (bytes i) (arena i) (props i)) (sym same i).calls in
+          ap (λ (s : State). s.irrevocable) (sym state_here ∙ (led ∙ sym stands)) ∙ (mode_in a.engine.irrevocable a.engine.writes a.engine.blocks a.engine.arena a.engine.actions memory ∙ e)
+
+      -- and where it is, it is what the words hold
+      held_here : IsIdle a.engine → a.engine.irrevocable ≡ true → stands_for a.engine w.cells.words ≡ state_then MAX_OPEN_BLOCKS from row.calls
+      held_here idle e =
+          let n : w.cells.clock / 2 ≡ row.at = sym (at_here ∙ x.commits) in
+          subst (λ (o : Option Step). StandsIn o a.engine.doing a.engine w.cells.words (alone MAX_OPEN_BLOCKS (bytes_at w.base (attempts_of w) (w.cells.clock / 2)) row)) idle.0 (opaque.stored 0 a row here placed e)
+          ∙ (ap (λ (k : ℕ). alone MAX_OPEN_BLOCKS (bytes_at w.base (attempts_of w) k) row) n ∙ state_here)
+
+      -- fewer have committed than may
+      few_here : a.engine.irrevocable ≡ true → nat_le w.max_commits x.before.commits ≡ false
+      few_here e =
+          let sound = (kept.actors.each 0 a here).sound in
+          let few = (sound.tied.settled.holder (sound.tied.settled.irrevocable e).0).2 in
+          lt-leb w.max_commits x.before.commits (omega (arith, few, (kept.commits.limits 0 a here).max_commits, read_at, at_here))
+
+      rests_idle : IsIdle a.engine → row.outcome ≡ outcomes.Unfinished → rules.next_call (player_then rules.answered begun row.calls) ≡ None → All Finished
+      rests_idle idle o none = by_mode a.engine.irrevocable refl
+        where
+          by_mode : (b : Bool) → a.engine.irrevocable ≡ b → All Finished
+          by_mode true e =
+              let t : State = state_then MAX_OPEN_BLOCKS from row.calls in
+              let stands = held_here idle e in
+              let odd = odd_where e in
+              let mode : t.irrevocable ≡ true = ap (λ (s : State). s.irrevocable) (sym stands) ∙ (mode_in a.engine.irrevocable a.engine.writes a.engine.blocks a.engine.arena a.engine.actions w.cells.words ∙ e) in
+              let left : memory_of w ≡ t.memory = sym (ap (λ (b : Bool). (state_in b a.engine.writes a.engine.blocks a.engine.arena a.engine.actions w.cells.words).memory) e) ∙ ap (λ (s : State). s.memory) stands in
+              rests_open o none (and_right t.irrevocable (nat_le w.max_commits x.before.commits) (few_here e)) (left ∙ sym (cond-true t.irrevocable t.memory x.before.memory mode)) (ap (λ (n : ℕ). n == 1) odd ∙ sym mode)
+          by_mode false e =
+              let t : State = state_then MAX_OPEN_BLOCKS from row.calls in
+              let even = even_free w kept.commits one a here (idle.1 ∙ e) in
+              let mode = revocable_here e in
+              rests_open o none (and_left t.irrevocable (nat_le w.max_commits x.before.commits) mode) (left_by (row ∷ []) x even ∙ sym (cond-false t.irrevocable t.memory x.before.memory mode)) (ap (λ (n : ℕ). n == 1) even ∙ sym mode)
 
     -- its player stands where its calls have led it
     stands_so : w.attempts.ended ≡ sole.past → active_of a.thread w.attempts.active ≡ Some row → a.player ≡ player_then rules.answered begun row.calls
@@ -193,7 +273,7 @@ module _ {P : Type 0} (rules : Rules P) (laws : Obeys rules) (w : World P) (kept
   rests : (x : Arrived []) → attempts_of w ≡ sole.past ++ [] → w.attempts.ended ≡ sole.past → ending_of a.status ≡ Some Finished → active_of a.thread w.attempts.active ≡ None → rules.next_call a.player ≡ None → w.cells.clock % 2 ≡ 0 → All Finished
   rests x is ended finished shut none z =
       let t = (opaque.players 0 p a player_here here).between (row_shut (in_transaction a.engine) w.attempts a.thread (kept.actors.each 0 a here).sound.kept.row shut) (λ e. absurd (let both = sym finished ∙ e in cc)) (λ e. absurd (let both = sym finished ∙ e in cc)) in
-      stops [] x Finished (no_block rules laws MAX_OPEN_BLOCKS w.max_commits 0 x.before (none_comes t.0 x t.2 t.1 ended none)) is z
+      rests_even [] x Finished (no_block rules laws MAX_OPEN_BLOCKS w.max_commits 0 x.before (none_comes t.0 x t.2 t.1 ended none)) is z
 
   module _ (ended : w.attempts.ended ≡ sole.past) where
     is_none : active_of a.thread w.attempts.active ≡ None → attempts_of w ≡ sole.past ++ []
@@ -208,43 +288,54 @@ module _ {P : Type 0} (rules : Rules P) (laws : Obeys rules) (w : World P) (kept
   some_over : (outcome : Outcome) (row : Attempt) (is : attempts_of w ≡ sole.past ++ row ∷ []) → IsFirstTry (w.cells.clock / 2) row → row.outcome ≡ outcome → (memory : List ℕ) × So (w.cells.clock / 2) memory outcome × (w.cells.clock % 2 ≡ 0 → memory_of w ≡ memory)
   some_over outcome row is first o = (let x = arrived (row ∷ []) is in (x.before.memory, so_far (row ∷ []) x outcome (inr (begun_so row is first x outcome o)), left_by (row ∷ []) x))
 
-  going : IsOnWay rules w.max_commits sole.past (w.cells.clock / 2) w.attempts a → DoneBy rules w p None
+  going : IsOnWay rules w.max_commits w.base (first_of p w.arena) sole.past (w.cells.clock / 2) w.attempts a → DoneBy rules w p None
   going s = by_open (active_of a.thread w.attempts.active) refl
     where
       by_open : (o : Option Attempt) → active_of a.thread w.attempts.active ≡ o → DoneBy rules w p None
       by_open None e = nothing_open s.ended outcomes.Unfinished e
       by_open (Some row) e = some_over outcomes.Unfinished row (is_some_row s.ended row e) (s.current row (ap (λ (o : Option Attempt). current_of o a.pending) e)) (unfinished row (active_one row e))
 
-  finished : IsOnWay rules w.max_commits sole.past (w.cells.clock / 2) w.attempts a → ending_of a.status ≡ Some Finished → rules.next_call a.player ≡ None → a.engine.holds ≡ false → All Finished
-  finished s end none free = by_open (active_of a.thread w.attempts.active) refl
+  finished : IsOnWay rules w.max_commits w.base (first_of p w.arena) sole.past (w.cells.clock / 2) w.attempts a → ending_of a.status ≡ Some Finished → rules.next_call a.player ≡ None → IsIdle a.engine → All Finished
+  finished s end none idle = by_open (active_of a.thread w.attempts.active) refl
     where
-      z : w.cells.clock % 2 ≡ 0
-      z = even_free w kept.commits one a here free
-
       by_open : (o : Option Attempt) → active_of a.thread w.attempts.active ≡ o → All Finished
-      by_open None e = rests (arrived [] (is_none s.ended e)) (is_none s.ended e) s.ended end e none z
+      by_open None e = rests (arrived [] (is_none s.ended e)) (is_none s.ended e) s.ended end e none (even_shut rules w kept.actors kept.commits one a here e)
       by_open (Some row) e =
           let is = is_some_row s.ended row e in
           let first = s.current row (ap (λ (o : Option Attempt). current_of o a.pending) e) in
           let x = arrived (row ∷ []) is in
-          rests_open row is first x (unfinished row (active_one row e)) (ap rules.next_call (sym (stands_so row is first x s.ended e)) ∙ none) z
+          rests_idle row is first x e idle (unfinished row (active_one row e)) (ap rules.next_call (sym (stands_so row is first x s.ended e)) ∙ none)
+
+  -- its next block goes irrevocable, where as many have committed as may
+  kept_away : IsKeptOut rules w.max_commits w.base (first_of p w.arena) sole.past w.attempts a → active_of a.thread w.attempts.active ≡ None → w.max_commits ≤ w.cells.clock / 2 → w.cells.clock % 2 ≡ 0 → All GaveUp
+  kept_away k shut full z =
+      let is = is_none k.ended shut in
+      let x = arrived [] is in
+      let place : k.before ≡ between x.before = same_Some _ _ (sym k.led ∙ led [] x k.ended) in
+      let n = x.commits in
+      rests_even [] x GaveUp
+      (kept_out rules laws MAX_OPEN_BLOCKS w.max_commits 0 x.before k.start (ap (λ (b : Between P). begin_of rules MAX_OPEN_BLOCKS b.player b.arena) (sym place) ∙ k.begins) k.goes (le-leb w.max_commits x.before.commits (omega arith))) is z
 
   last_is : (outcome : Outcome) → active_of a.thread w.attempts.active ≡ None → (l : EndsWith sole.past (w.cells.clock / 2) outcome w.attempts) → attempts_of w ≡ sole.past ++ l.row ∷ []
   last_is outcome none l = (λ i. l.ended i ++ active_none none i) ∙ append-nil (sole.past ++ l.row ∷ [])
 
-  starved : (outcome : Outcome) → w.cells.clock % 2 ≡ 0 → (memory : List ℕ) × So (w.cells.clock / 2) memory outcome × (w.cells.clock % 2 ≡ 0 → memory_of w ≡ memory) → (w.cells.clock % 2 ≡ 0) × So (w.cells.clock / 2) (memory_of w) outcome
-  starved outcome z (memory, part, told) = (z, subst (λ (m : List ℕ). So (w.cells.clock / 2) m outcome) (sym (told z)) part)
+  starved : w.cells.clock % 2 ≡ 0 → (memory : List ℕ) × So (w.cells.clock / 2) memory outcomes.NoMemory × (w.cells.clock % 2 ≡ 0 → memory_of w ≡ memory) → DoneBy rules w p (Some NoMemory)
+  starved z (memory, part, told) = inl (z, subst (λ (m : List ℕ). So (w.cells.clock / 2) m outcomes.NoMemory) (sym (told z)) part)
 
-  done_by : (o : Option End) → ending_of a.status ≡ o → StandsSole rules w.max_commits o sole.past (w.cells.clock / 2) w.attempts a → DoneBy rules w p o
+  done_by : (o : Option End) → ending_of a.status ≡ o → StandsSole rules w.max_commits w.base (first_of p w.arena) o sole.past (w.cells.clock / 2) w.attempts a → DoneBy rules w p o
   done_by None e s = going s
   done_by (Some Finished) e s = finished s.0 e s.1 s.2
   done_by (Some GaveUp) e s =
-      let is = last_is outcomes.Full s.0 s.2 in
-      refused s.2.row is s.2.first (arrived (s.2.row ∷ []) is) s.2.outcome_is s.1 (even_shut rules w kept.actors kept.commits one a here s.0)
-  done_by (Some NoMemory) e s = starved outcomes.NoMemory (even_shut rules w kept.actors kept.commits one a here s.0) (elim s.1 [
+      let even = even_shut rules w kept.actors kept.commits one a here s.0 in
+      elim s.2 [
+        | inl k ↦ kept_away k s.0 s.1 even
+        | inr last ↦ (let is = last_is outcomes.Full s.0 last in refused last.row is last.first (arrived (last.row ∷ []) is) last.outcome_is s.1 even)
+      ]
+  done_by (Some NoMemory) e (inl s) = starved (even_shut rules w kept.actors kept.commits one a here s.0) (elim s.1 [
     | inl ended ↦ nothing_open ended outcomes.NoMemory s.0
     | inr last ↦ some_over outcomes.NoMemory last.row (last_is outcomes.NoMemory s.0 last) last.first last.outcome_is
   ])
+  done_by (Some NoMemory) e (inr s) = (let part = going s.1 in inr (odd_where s.0, (part.0, part.1)))
 
   done_so : DoneBy rules w p (ending_at w 0)
   done_so =
@@ -259,5 +350,5 @@ module _ {P : Type 0} (rules : Rules P) (laws : Obeys rules) where
       let a = one_of w.actors (kept.long ∙ one) in (
         p.0,
         p.1,
-        done_so rules laws w kept p.0 a.0 p.1 a.1 (kept.sole one a.0 (ap (λ (l : List (Actor P)). slice_get l 0) a.1)),
+        done_so rules laws w kept p.0 a.0 p.1 a.1 (kept.sole one p.0 a.0 (ap (λ (l : List P). slice_get l 0) p.1) (ap (λ (l : List (Actor P)). slice_get l 0) a.1)),
       )

@@ -1,10 +1,13 @@
 -- An actor that has its world to itself goes on so over an event.
 use Rattle.std.proofs.Common.{◌≡◌, inl, inr, ℕ, ◌+◌, ◌/◌, ◌%◌, ◌≤◌, true, false, nat_lt, if◌then◌else◌, List, [], ◌∷◌, ◌++◌, Option, None, Some, slice_get, slice_set, length, length-set, refl, sym, ap, subst, ◌∙◌, arith, eq-eqb}
-use Rattle.norec_world.proofs.Common.{Actor, AreActors, AreOfActors, AreRunning, AreSole, Attempt, Between, Cells, CommitsInOrder, Continues, End, EndsAt, EndsWith, Finished, GaveUp, GoesOnAfter, IsBetween, IsEvent, IsFirstTry, IsOnWay, IsRunOf, IsSole, IsSound, IsWorld, MAX_OPEN_BLOCKS, NoMemory, Outcome, Ready, Rows, Rules, StandsSole, Status, StatusIs, Tries, World, active_of, after_try, begin_of, begins, between, bytes_at, current_of, ending_of, false_from_ne_true, first_of, is_committed, is_done, is_ready, of_thread, one_if, over, prior_of, runs, slice_get-set_same, turned_away, slice_get_within, same_Some, both_ways, in_transaction}
+use Rattle.norec_world.proofs.Common.{Actor, AreActors, AreOfActors, AreRunning, AreSole, Attempt, Beginning, Between, Cells, CommitsInOrder, Continues, End, Ended, EndsAt, EndsWith, Finished, GaveUp, GoesOnAfter, IsBetween, IsEvent, IsFirstTry, IsOnWay, IsRunOf, IsSole, IsSound, IsWorld, MAX_OPEN_BLOCKS, NoMemory, Outcome, Props, Ready, Rows, Rules, StandsSole, Status, StatusIs, Tries, World, active_of, after_try, begin_of, begins, begins_at, between, bytes_at, current_of, ending_of, false_from_ne_true, first_of, is_committed, is_done, is_ready, of_thread, one_if, outrun, over, prior_of, run_after, runs, shut_out, slice_get-set_same, turned_away, slice_get_within, same_Some, both_ways, in_transaction}
 use Rattle.norec_world.specs.declared.attempt.Outcome.TheVariants as outcomes
 use Rattle.norec_world.proofs.SoundOthers.{there_is, odd_or_even, row_shut}
 use Rattle.norec_world.proofs.TryEnds.{none_again}
 use Rattle.norec_world.specs.Tries.{EndsIt}
+use Rattle.norec_core.specs.Core.{may_go}
+use Rattle.norec_world.specs.Sole.{IsIdle, IsKeptOut}
+use Rattle.norec_world.proofs.IdleEngines.{ended_still, idle_event}
 use Rattle.norec_world.proofs.RunLists.{try_begun}
 
 -- ## Lists of attempts
@@ -41,28 +44,32 @@ even_free {P} w c one a here free = elim (odd_or_even w.cells.clock) [
 ]
 
 module _ {P : Type 0} (rules : Rules P) where
-  pub even_shut : (w : World P) → AreActors rules w.cells w.attempts w.actors → CommitsInOrder w → length w.actors ≡ 1 → (a : Actor P) → slice_get w.actors 0 ≡ Some a → active_of a.thread w.attempts.active ≡ None → w.cells.clock % 2 ≡ 0
-  even_shut w actors c one a here none =
+  -- without an open attempt it does not hold it
+  pub shut_free : (w : World P) → AreActors rules w.cells w.attempts w.actors → (a : Actor P) → slice_get w.actors 0 ≡ Some a → active_of a.thread w.attempts.active ≡ None → a.engine.holds ≡ false
+  shut_free w actors a here none =
       let s = (actors.each 0 a here).sound in
-      even_free w c one a here (false_from_ne_true a.engine.holds (λ h. both_ways (in_transaction a.engine) (row_shut (in_transaction a.engine) w.attempts a.thread s.kept.row none) (s.tied.settled.holder h).0))
+      false_from_ne_true a.engine.holds (λ h. both_ways (in_transaction a.engine) (row_shut (in_transaction a.engine) w.attempts a.thread s.kept.row none) (s.tied.settled.holder h).0)
+
+  pub even_shut : (w : World P) → AreActors rules w.cells w.attempts w.actors → CommitsInOrder w → length w.actors ≡ 1 → (a : Actor P) → slice_get w.actors 0 ≡ Some a → active_of a.thread w.attempts.active ≡ None → w.cells.clock % 2 ≡ 0
+  even_shut w actors c one a here none = even_free w c one a here (shut_free w actors a here none)
 
 -- ## The event
 
-module _ {P : Type 0} (rules : Rules P) (max_commits : ℕ) where
+module _ {P : Type 0} (rules : Rules P) (max_commits : ℕ) (base : List ℕ) (begin : Between P) where
   -- on its way, it goes on or has finished
-  stands_on : {n : ℕ} {past : List Attempt} {r : Rows} {a : Actor P} → IsOnWay rules max_commits past n r a → (ending_of a.status ≡ Some Finished → (rules.next_call a.player ≡ None) × (a.engine.holds ≡ false))
-      → (ending_of a.status ≡ Some GaveUp → ⊥) → (ending_of a.status ≡ Some NoMemory → StandsSole rules max_commits (Some NoMemory) past n r a) → StandsSole rules max_commits (ending_of a.status) past n r a
+  stands_on : {n : ℕ} {past : List Attempt} {r : Rows} {a : Actor P} → IsOnWay rules max_commits base begin past n r a → (ending_of a.status ≡ Some Finished → (rules.next_call a.player ≡ None) × IsIdle a.engine)
+      → (ending_of a.status ≡ Some GaveUp → ⊥) → (ending_of a.status ≡ Some NoMemory → StandsSole rules max_commits base begin (Some NoMemory) past n r a) → StandsSole rules max_commits base begin (ending_of a.status) past n r a
   stands_on {n} {past} {r} {a} way finishes goes_on starved = by_ending (ending_of a.status) refl
     where
-      by_ending : (o : Option End) → ending_of a.status ≡ o → StandsSole rules max_commits o past n r a
+      by_ending : (o : Option End) → ending_of a.status ≡ o → StandsSole rules max_commits base begin o past n r a
       by_ending None e = way
       by_ending (Some Finished) e = (let f = finishes e in (way, f.0, f.1))
       by_ending (Some GaveUp) e = absurd (goes_on e)
       by_ending (Some NoMemory) e = starved e
 
   -- between two tries, its attempts so far have ended by their commits
-  pub stands_between : (clock : ℕ) (past : List Attempt) (r : Rows) (a : Actor P) → a.thread ≡ 0 → r.ended ≡ past → IsBetween clock 1 r a → (ending_of a.status ≡ Some Finished → (rules.next_call a.player ≡ None) × (a.engine.holds ≡ false))
-      → StandsSole rules max_commits (ending_of a.status) past (clock / 2) r a
+  pub stands_between : (clock : ℕ) (past : List Attempt) (r : Rows) (a : Actor P) → a.thread ≡ 0 → r.ended ≡ past → IsBetween clock 1 r a → (ending_of a.status ≡ Some Finished → (rules.next_call a.player ≡ None) × IsIdle a.engine)
+      → StandsSole rules max_commits base begin (ending_of a.status) past (clock / 2) r a
   stands_between clock past r a mine ended b finishes =
       stands_on (record {
         ended = ended;
@@ -70,22 +77,48 @@ module _ {P : Type 0} (rules : Rules P) (max_commits : ℕ) where
         current = λ row e.
             (let is = b.opens row (ap (λ (o : Option Attempt). current_of o a.pending) (sym b.none) ∙ e) in
             record { thread = ap (λ (x : Attempt). x.thread) is ∙ mine; nth = ap (λ (x : Attempt). x.nth) is; began = ap (λ (x : Attempt). x.began) is });
-      }) finishes b.goes_on (λ e. (b.none, inl ended))
+      }) finishes b.goes_on (λ e. inl (b.none, inl ended))
+
+  -- a block that is to begin goes on where its attempts have led
+  pub record IsToBegin (r : Rows) (a : Actor P) (row : Attempt) : Type 0 where
+    pub before : Between P
+    pub led : run_after rules (bytes_at base r.ended) (Some begin) (of_thread a.thread r.ended) ≡ Some before
+    pub start : Beginning P
+    pub begins : begins_at rules before ≡ Some start
+    pub props : start.props ≡ row.props
 
   continued : (n : ℕ) (row row' : Attempt) → Continues row row' → IsFirstTry n row → IsFirstTry n row'
   continued n row row' c f = record { thread = c.thread ∙ f.thread; nth = c.nth ∙ f.nth; began = c.began ∙ f.began }
 
-  module _ (clock clock' : ℕ) (r r' : Rows) (a a' : Actor P) (going : ending_of a.status ≡ None) (old : IsSole rules max_commits clock r a) (mine : a'.thread ≡ 0) (limit : a.engine.max_commits ≡ max_commits)
-      (shut : active_of a'.thread r'.active ≡ None → clock' % 2 ≡ 0) (early : (row : Attempt) → r'.ended ≡ r.ended ++ row ∷ [] → row.began ≤ row.at) (finishes : ending_of a'.status ≡ Some Finished → (rules.next_call a'.player ≡ None) × (a'.engine.holds ≡ false)) where
-    way : IsOnWay rules max_commits old.past (clock / 2) r a
-    way = subst (λ (o : Option End). StandsSole rules max_commits o old.past (clock / 2) r a) going old.stands
+  module _ (clock clock' : ℕ) (r r' : Rows) (a a' : Actor P) (going : ending_of a.status ≡ None) (old : IsSole rules max_commits base begin clock r a) (here : a.thread ≡ 0) (mine : a'.thread ≡ 0) (limit : a.engine.max_commits ≡ max_commits)
+      (free : active_of a.thread r.active ≡ None → a.engine.holds ≡ false) (to_begin : (row : Attempt) → active_of a.thread r.active ≡ None → a.pending ≡ Some row → may_go [] row.props ≡ true → IsToBegin r a row)
+      (seen : a'.engine.holds ≡ false → a'.engine.clock ≡ clock')
+      (shut : active_of a'.thread r'.active ≡ None → clock' % 2 ≡ 0) (early : (row : Attempt) → r'.ended ≡ r.ended ++ row ∷ [] → row.began ≤ row.at) (finishes : ending_of a'.status ≡ Some Finished → (rules.next_call a'.player ≡ None) × IsIdle a'.engine) where
+    way : IsOnWay rules max_commits base begin old.past (clock / 2) r a
+    way = subst (λ (o : Option End). StandsSole rules max_commits base begin o old.past (clock / 2) r a) going old.stands
 
     -- no attempt has ended
-    goes_on : clock' / 2 ≡ clock / 2 → StandsSole rules max_commits (ending_of a'.status) old.past (clock' / 2) r' a' → IsSole rules max_commits clock' r' a'
-    goes_on half s = record { past = old.past; commit = subst (AreSole 0 old.past) (sym half) old.commit; stands = s }
+    goes_on : clock' / 2 ≡ clock / 2 → StandsSole rules max_commits base begin (ending_of a'.status) old.past (clock' / 2) r' a' → IsSole rules max_commits base begin clock' r' a'
+    goes_on half s = record { past = old.past; commit = subst (AreSole 0 old.past) (sym half) old.commit; stands = s; seen = seen }
 
     now : (row : Attempt) → clock' / 2 ≡ clock / 2 → IsFirstTry (clock / 2) row → IsFirstTry (clock' / 2) row
     now row half f = subst (λ (k : ℕ). IsFirstTry k row) (sym half) f
+
+    stands_so : (end : End) → a'.status ≡ Ended end → StandsSole rules max_commits base begin (Some end) old.past (clock' / 2) r' a' → StandsSole rules max_commits base begin (ending_of a'.status) old.past (clock' / 2) r' a'
+    stands_so end is s = subst (λ (x : Option End). StandsSole rules max_commits base begin x old.past (clock' / 2) r' a') (sym (ap ending_of is)) s
+
+    -- its next block goes irrevocable, and has not begun
+    is_kept_out : (row : Attempt) → active_of a.thread r.active ≡ None → a.pending ≡ Some row → r'.ended ≡ r.ended → row.props.goes_irrevocable ≡ true → may_go [] row.props ≡ true → IsKeptOut rules max_commits base begin old.past r' a'
+    is_kept_out row none was same goes may =
+        let k = to_begin row none was may in
+        record {
+          ended = same ∙ way.ended;
+          before = k.before;
+          led = (λ i. run_after rules (bytes_at base (same i)) (Some begin) (of_thread ((mine ∙ sym here) i) (same i))) ∙ k.led;
+          start = k.start;
+          begins = k.begins;
+          goes = ap (λ (x : Props). x.goes_irrevocable) k.props ∙ goes;
+        }
 
     -- one has ended, and if not by its commit it was the last one
     module _ (t : EndsIt clock (prior_of r a) clock' r' a') where
@@ -98,17 +131,18 @@ module _ {P : Type 0} (rules : Rules P) (max_commits : ℕ) where
       ended : r'.ended ≡ old.past ++ t.row' ∷ []
       ended = t.ended ∙ ap (λ (l : List Attempt). l ++ t.row' ∷ []) way.ended
 
-      by_commit : is_done t.row'.outcome ≡ true → t.row'.at ≡ clock / 2 → clock / 2 + one_if (is_committed t.row'.outcome) ≡ clock' / 2 → IsBetween clock' 1 r' a' → IsSole rules max_commits clock' r' a'
+      by_commit : is_done t.row'.outcome ≡ true → t.row'.at ≡ clock / 2 → clock / 2 + one_if (is_committed t.row'.outcome) ≡ clock' / 2 → IsBetween clock' 1 r' a' → IsSole rules max_commits base begin clock' r' a'
       by_commit d at n b = record {
         past = old.past ++ t.row' ∷ [];
         commit = subst (AreSole 0 (old.past ++ t.row' ∷ [])) n (sole_more 0 (clock / 2) old.past t.row' old.commit first at d);
         stands = stands_between clock' (old.past ++ t.row' ∷ []) r' a' mine ended b finishes;
+        seen = seen;
       }
 
       last : (outcome : Outcome) → t.row'.outcome ≡ outcome → clock' / 2 ≡ clock / 2 → EndsWith old.past (clock' / 2) outcome r'
       last outcome o half = record { row = t.row'; ended = ended; first = now t.row' half first; outcome_is = o }
 
-      by_outcome : (o : Outcome) → t.row'.outcome ≡ o → EndsAt a.engine.max_commits clock clock' t.row'.at o → GoesOnAfter o clock' (prior_of r a) r' a' → IsSole rules max_commits clock' r' a'
+      by_outcome : (o : Outcome) → t.row'.outcome ≡ o → EndsAt a.engine.max_commits clock clock' t.row'.at o → GoesOnAfter o clock' (prior_of r a) r' a' → IsSole rules max_commits base begin clock' r' a'
       by_outcome outcomes.Committed o at g =
           by_commit (ap is_done o) (omega (arith, at.0, at.1)) (omega (arith, at.0, at.1, ap (λ (x : Outcome). one_if (is_committed x)) o)) g
       by_outcome outcomes.ReadOnly o at g =
@@ -117,17 +151,16 @@ module _ {P : Type 0} (rules : Rules P) (max_commits : ℕ) where
           by_commit (ap is_done o) (omega (arith, at.0, at.1, later)) (omega (arith, at.0, at.1, ap (λ (x : Outcome). one_if (is_committed x)) o)) g
       by_outcome outcomes.Conflict o at g = absurd (omega (arith, at.0, at.1, later, shut (none_again clock' a.nth r' a' (nat_lt a.retries a.nth) g)))
       by_outcome outcomes.Full o at g =
-          goes_on at.0 (subst (λ (x : Option End). StandsSole rules max_commits x old.past (clock' / 2) r' a') (sym (ap ending_of g.status))
-          (g.none, (omega (arith, at.0, at.1, at.2)), last outcomes.Full o at.0))
+          goes_on at.0 (stands_so GaveUp g.status (g.none, (omega (arith, at.0, at.1, at.2)), inr (last outcomes.Full o at.0)))
       by_outcome outcomes.NoMemory o at g =
-          goes_on at.0 (subst (λ (x : Option End). StandsSole rules max_commits x old.past (clock' / 2) r' a') (sym (ap ending_of g.status)) (g.none, inr (last outcomes.NoMemory o at.0)))
+          goes_on at.0 (stands_so NoMemory g.status (inl (g.none, inr (last outcomes.NoMemory o at.0))))
       by_outcome outcomes.Unfinished o at g = absurd at
 
-    pub sole_after : Tries clock (prior_of r a) clock' r' a' → IsSole rules max_commits clock' r' a'
+    pub sole_after : Tries clock (prior_of r a) clock' r' a' → IsSole rules max_commits base begin clock' r' a'
     sole_after (between t) =
         goes_on t.half (stands_between clock' old.past r' a' mine (t.ended ∙ way.ended) (subst (λ (n : ℕ). IsBetween clock' n r' a') way.nth t.between) finishes)
     sole_after (begins t) =
-        goes_on t.half (subst (λ (o : Option End). StandsSole rules max_commits o old.past (clock' / 2) r' a') (sym t.on) (record {
+        goes_on t.half (subst (λ (o : Option End). StandsSole rules max_commits base begin o old.past (clock' / 2) r' a') (sym t.on) (record {
           ended = t.ended ∙ way.ended;
           nth = t.tries ∙ way.nth;
           current = λ row e.
@@ -135,56 +168,62 @@ module _ {P : Type 0} (rules : Rules P) (max_commits : ℕ) where
               subst (IsFirstTry (clock' / 2)) same (now t.row t.half (way.current t.row (ap (λ (o : Option Attempt). current_of o a.pending) t.none ∙ t.was))));
         }))
     sole_after (runs t) =
-        goes_on t.half (stands_on (record {
+        let on : IsOnWay rules max_commits base begin old.past (clock' / 2) r' a' = record {
           ended = t.ended ∙ way.ended;
           nth = t.tries ∙ way.nth;
           current = λ row e.
               (let same : t.row' ≡ row = same_Some _ _ (ap (λ (o : Option Attempt). current_of o a'.pending) (sym t.now) ∙ e) in
               subst (IsFirstTry (clock' / 2)) same (now t.row' t.half (continued (clock / 2) t.row t.row' t.continues (way.current t.row t.was))));
-        }) finishes t.goes_on (λ e. absurd (t.fed e)))
+        } in
+        goes_on t.half (stands_on on finishes t.goes_on (λ e. inr (t.fed e, on)))
     sole_after (over t) = by_outcome t t.row'.outcome refl t.at t.after
     sole_after (turned_away t) = absurd (let even = shut (none_again clock' a.nth r' a' (nat_lt a.retries a.nth) t.after) in let odd = t.odd in omega arith)
+    sole_after (outrun t) = absurd (let last = old.seen (free t.none) in let moved = t.moved in omega arith)
+    sole_after (shut_out t) =
+        goes_on (ap (λ (n : ℕ). n / 2) t.same) (stands_so GaveUp t.after.status (t.after.none, (let full = t.full in let same = t.same in omega arith), inl (is_kept_out t.row t.none t.was t.ended t.goes t.may)))
 
 -- ## A world
 
 module _ {P : Type 0} (rules : Rules P) where
   -- one that has just begun
-  pub sole_first : (w : World P) → AreActors rules w.cells w.attempts w.actors → CommitsInOrder w → w.cells.clock ≡ 0 → w.attempts.ended ≡ [] → (a : Actor P) → slice_get w.actors 0 ≡ Some a → IsBetween w.cells.clock 1 w.attempts a
-      → (ending_of a.status ≡ Some Finished → rules.next_call a.player ≡ None) → IsSole rules w.max_commits w.cells.clock w.attempts a
-  sole_first w actors c zero_clock none a here b finishes = record {
+  pub sole_first : (w : World P) → AreActors rules w.cells w.attempts w.actors → w.cells.clock ≡ 0 → w.attempts.ended ≡ [] → (begin : Between P) (a : Actor P) → slice_get w.actors 0 ≡ Some a → IsBetween w.cells.clock 1 w.attempts a
+      → a.engine.clock ≡ w.cells.clock → (ending_of a.status ≡ Some Finished → (rules.next_call a.player ≡ None) × IsIdle a.engine) → IsSole rules w.max_commits w.base begin w.cells.clock w.attempts a
+  sole_first w actors zero_clock none begin a here b seen finishes = record {
     past = [];
     commit = ap (λ (n : ℕ). n / 2) (sym zero_clock);
-    stands = stands_between rules w.max_commits w.cells.clock [] w.attempts a (actors.each 0 a here).thread none b (λ e. (finishes e, c.free (ap (λ (n : ℕ). n % 2) zero_clock) 0 a here));
+    stands = stands_between rules w.max_commits w.base begin w.cells.clock [] w.attempts a (actors.each 0 a here).thread none b finishes;
+    seen = λ f. seen;
   }
+
+  -- its player's next block, where no attempt is open
+  to_begin_of : (w : World P) → IsWorld rules w → (p : P) (a : Actor P) → slice_get w.opening 0 ≡ Some p → slice_get w.actors 0 ≡ Some a → ending_of a.status ≡ None → (row : Attempt) → active_of a.thread w.attempts.active ≡ None → a.pending ≡ Some row → may_go [] row.props ≡ true
+      → IsToBegin rules w.max_commits w.base (first_of p w.arena) w.attempts a row
+  to_begin_of w kept p a player here going row none was may =
+      let shut = row_shut (in_transaction a.engine) w.attempts a.thread (kept.actors.each 0 a here).sound.kept.row none in
+      let t = (kept.running.each 0 p a player here).runs.between shut (λ e. absurd (let both = sym going ∙ e in cc)) (λ e. absurd (let both = sym going ∙ e in cc)) in
+      record { before = t.0; led = t.1; start = _; begins = (t.2.pending row was).4 may; props = refl }
 
   -- and over an event
   pub sole_still : (w : World P) → IsWorld rules w → (i : ℕ) (got new : Actor P) → slice_get w.actors i ≡ Some got → ending_of got.status ≡ None → (cells' : Cells) (r' : Rows) (events : ℕ)
       → IsEvent rules w.cells w.attempts got cells' r' new → AreActors rules cells' r' (slice_set w.actors i new)
       → CommitsInOrder (record w { cells = cells'; actors = slice_set w.actors i new; attempts = r'; events = events }) → AreRunning rules (record w { cells = cells'; actors = slice_set w.actors i new; attempts = r'; events = events })
-      → (ending_of new.status ≡ Some Finished → new.engine.holds ≡ false) → length w.opening ≡ 1 → (a : Actor P) → slice_get (slice_set w.actors i new) 0 ≡ Some a → IsSole rules w.max_commits cells'.clock r' a
-  sole_still w kept i got new here going cells' r' events event actors commits running free one a here' =
+      → length w.opening ≡ 1 → (p : P) (a : Actor P) → slice_get w.opening 0 ≡ Some p → slice_get (slice_set w.actors i new) 0 ≡ Some a → IsSole rules w.max_commits w.base (first_of p w.arena) cells'.clock r' a
+  sole_still w kept i got new here going cells' r' events event actors commits running one p a player here' =
       let within = slice_get_within w.actors i got here in
       let first : i ≡ 0 = omega arith in
+      let was : slice_get w.actors 0 ≡ Some got = ap (slice_get w.actors) (sym first) ∙ here in
       let placed : slice_get (slice_set w.actors i new) 0 ≡ Some new = ap (slice_get (slice_set w.actors i new)) (sym first) ∙ slice_get-set_same w.actors i new within in
       let same : new ≡ a = (let z : Some new ≡ Some a = sym placed ∙ here' in cc) in
       let mine = (actors.each 0 new placed).thread in
       let still_one : length (slice_set w.actors i new) ≡ 1 = length-set w.actors i new ∙ (kept.long ∙ one) in
-      let player = there_is w.opening 0 (omega arith) in
-      subst (IsSole rules w.max_commits cells'.clock r') same
-      (sole_after rules w.max_commits w.cells.clock cells'.clock w.attempts r' got new going (kept.sole one got (ap (slice_get w.actors) (sym first) ∙ here)) mine (kept.commits.limits i got here).max_commits
+      let sole = kept.sole one p got player was in
+      subst (IsSole rules w.max_commits w.base (first_of p w.arena) cells'.clock r') same
+      (sole_after rules w.max_commits w.base (first_of p w.arena) w.cells.clock cells'.clock w.attempts r' got new going sole (kept.actors.each 0 got was).thread mine (kept.commits.limits i got here).max_commits
+      (shut_free rules w kept.actors got was) (to_begin_of w kept p got player was going) (event.clocks.seen sole.seen)
       (even_shut rules (record w { cells = cells'; actors = slice_set w.actors i new; attempts = r'; events = events }) actors commits still_one new placed)
       (λ row ended.
-      (let run = (running.each 0 player.0 new player.1 placed).runs.run in
+      (let run = (running.each 0 p new player placed).runs.run in
       let rows : of_thread new.thread r'.ended ≡ w.attempts.ended ++ row ∷ [] = ap (λ (t : ℕ). of_thread t r'.ended) mine ∙ (of_thread_all r'.ended (subst (λ (n : ℕ). AreOfActors n r'.ended) still_one running.threads) ∙ ended) in
-      last_early rules (cells'.clock / 2) (bytes_at w.base r'.ended) (Some (first_of player.0 w.arena)) w.attempts.ended row
-      (subst (IsRunOf rules MAX_OPEN_BLOCKS (cells'.clock / 2) (bytes_at w.base r'.ended) (Some (first_of player.0 w.arena))) rows run)))
-      (λ e. (event.finishes e, free e)) event.tries)
-
-  -- an actor that finishes does not hold the clock
-  pub finished_free : (cells : Cells) (r1 r2 : Rows) (a1 a2 : Actor P) → IsSound rules cells r1 a1 → (ending_of a1.status ≡ Some Finished → ⊥) → a2.engine.holds ≡ a1.engine.holds
-      → (is_ready a1.status ≡ false → (a2 ≡ a1) × (r2 ≡ r1)) → ending_of a2.status ≡ Some Finished → a2.engine.holds ≡ false
-  finished_free cells r1 r2 a1 a2 sound unfinished holds still end = holds ∙ by_status a1.status refl sound.status
-    where
-      by_status : (s : Status) → a1.status ≡ s → StatusIs rules r1 a1 s → a1.engine.holds ≡ false
-      by_status Ready e s = s.free
-      by_status x e s = absurd (unfinished (ap (λ (z : Actor P). ending_of z.status) (sym (still (ap is_ready e)).0) ∙ end))
+      last_early rules (cells'.clock / 2) (bytes_at w.base r'.ended) (Some (first_of p w.arena)) w.attempts.ended row
+      (subst (IsRunOf rules MAX_OPEN_BLOCKS (cells'.clock / 2) (bytes_at w.base r'.ended) (Some (first_of p w.arena))) rows run)))
+      (λ e. (event.finishes e, idle_event rules event (ended_still new.status Finished e))) event.tries)

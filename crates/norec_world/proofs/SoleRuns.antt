@@ -4,12 +4,12 @@ use Rattle.std.proofs.Common.{◌≡◌, ℕ, suc, ◌+◌, ◌<◌, ◌≤◌, 
 use Rattle.std.proofs.Math.Nat.{add-zero}
 use Rattle.std.proofs.lemmas.Bool.{or_parts}
 use Rattle.std.proofs.lemmas.List.{append-nil, take-append-drop}
-use Rattle.norec_world.proofs.Common.{AreSole, Attempt, Begin, Beginning, Between, Block, Call, ClosedBy, Commit, EndsAs, Entry, IsAlone, IsFirstTry, IsOpaque, IsRunOf, MAX_OPEN_BLOCKS, Obeys, Outcome, Progress, Refusal, Rules, Solo, State, Write, after, after_try, after_unless, alone, answered_all, answers, answers_within, begin_code, begin_of, bytes_at, committed_at, ended_as, false_from_ne_true, follows, is_at, is_committed, is_done, is_open, memory_left, one_if, opened, pair_of, player_then, refusal, reply, row_of, run_after, solo_within, state_then, turn, with_all, with_first}
+use Rattle.norec_world.proofs.Common.{AreSole, Attempt, Begin, Beginning, Between, Block, Call, ClosedBy, Commit, EndsAs, Entry, IsAlone, IsFirstTry, IsOpaque, IsRunOf, MAX_OPEN_BLOCKS, Obeys, Outcome, Progress, Refusal, Rules, Solo, State, Write, after, after_try, after_unless, alone, answered_all, answers, answers_within, begin_code, begin_of, bytes_at, committed_at, ended_as, false_from_ne_true, follows, is_at, is_committed, is_done, is_open, memory_left, one_if, opened, outside, pair_of, player_then, Props, refusal, reply, row_of, run_after, solo_within, state_then, turn, with_all, with_first}
 use Rattle.itm_types.specs.declared.call.Reply.{Reply}
-use Rattle.itm_model.specs.Machine.{effect, back_from, closed_in, entered, logged_in, rolled_back, source_bytes, target_written, undone_from, written}
+use Rattle.itm_model.specs.Machine.{effect, back_from, closed_in, entered, handed, irrevocable_from, logged_in, made_irrevocable, pushed, rolled_back, with_action, source_bytes, target_written, undone_from, written}
 use Rattle.itm_types.specs.Access.{size_of}
 use Rattle.itm_types.specs.Calls.{is_abort}
-use Rattle.itm_types.specs.declared.call.Call.TheVariants.{Abort, Log, LogBytes, Copy, Fill}
+use Rattle.itm_types.specs.declared.call.Call.TheVariants.{Abort, Log, LogBytes, Copy, Fill, Mode, UndoAction}
 use Rattle.itm_types.specs.declared.copy.CopyPair.{CopyPair}
 use Rattle.itm_types.specs.declared.copy.CopyPair.TheVariants.{Out, In, Within}
 use Rattle.itm_types.specs.Slices.{with_slice}
@@ -17,6 +17,11 @@ use Rattle.norec_world.specs.Solo.{aborts}
 use Rattle.norec_world.specs.declared.attempt.Outcome.TheVariants as outcomes
 use Rattle.norec_world.specs.Attempts.{replies_of}
 use Rattle.norec_world.proofs.Solos.{aborts_snoc, ended_block}
+use Rattle.norec_world.proofs.TakingCalls.{in_open}
+use Rattle.itm_model.specs.State.{Saved}
+use Rattle.std.specs.Option.{option_map}
+use Rattle.itm_types.specs.declared.call.ActionKind.TheVariants as kinds
+use Rattle.itm_types.specs.Kept.{also_kept, nothing}
 use Rattle.norec_world.proofs.RunLists.{try_begun}
 
 -- ## The calls of an attempt
@@ -44,37 +49,79 @@ module _ {P : Type 0} (rules : Rules P) (deepest : ℕ) where
       )
   alone_of n p s o (x ∷ xs) rest t e = absurd (cc)
 
-  in_open : (b : Bool) (o : Option Call) (c : Call) → (if b then o else None) ≡ Some c → b ≡ true
-  in_open true o c e = refl
-  in_open false o c e = absurd (cc)
-
   -- calls that wrote nothing leave the memory
   module _ (m : List ℕ) where
-    -- so it is of each open block, as at its begin
+    -- so it is of each open block, as at its begin, where it can be rolled back
+    abbrev pub WasUnwritten : Option Saved → Type 0
+    WasUnwritten None = Unit {0}
+    WasUnwritten (Some saved) = saved.wrote ≡ false → saved.memory ≡ m
+
     abbrev pub AreUnwritten : List Block → Type 0
     AreUnwritten [] = Unit {0}
-    AreUnwritten (b ∷ bs) = (b.saved.wrote ≡ false → b.saved.memory ≡ m) × AreUnwritten bs
+    AreUnwritten (b ∷ bs) = WasUnwritten b.saved × AreUnwritten bs
 
     pub record IsUnwritten (s : State) : Type 0 where
       pub now : s.wrote ≡ false → s.memory ≡ m
       pub blocks : AreUnwritten s.blocks
 
+    unwritten_handed : (outer inner : Option Saved) → WasUnwritten outer → WasUnwritten (handed outer inner)
+    unwritten_handed None inner h = tt
+    unwritten_handed (Some saved) None h = h
+    unwritten_handed (Some saved) (Some inner) h = h
+
     unwritten_closed : (bs : List Block) → AreUnwritten bs → AreUnwritten (closed_in bs)
     unwritten_closed [] h = tt
     unwritten_closed (b ∷ []) h = tt
-    unwritten_closed (b ∷ p ∷ bs) h = h.1
+    unwritten_closed (b ∷ p ∷ bs) h = (unwritten_handed p.saved b.saved h.1.0, h.1.1)
+
+    unwritten_kept : (o : Option Saved) (arena : List ℕ) (place size : ℕ) → WasUnwritten o → WasUnwritten (option_map {T = Saved} (λ (saved : Saved). record saved { kept = also_kept saved.kept arena place size }) o)
+    unwritten_kept None arena place size h = tt
+    unwritten_kept (Some saved) arena place size h = h
 
     unwritten_logged : (bs : List Block) (arena : List ℕ) (place size : ℕ) → AreUnwritten bs → AreUnwritten (logged_in bs arena place size)
     unwritten_logged [] arena place size h = tt
-    unwritten_logged (b ∷ bs) arena place size h = h
+    unwritten_logged (b ∷ bs) arena place size h = (unwritten_kept b.saved arena place size h.0, h.1)
 
-    unwritten_back : (s : State) (bs : List Block) → (s.wrote ≡ false → s.memory ≡ m) → AreUnwritten s.blocks → AreUnwritten bs → IsUnwritten (back_from s bs)
-    unwritten_back s [] n h k = record { now = n; blocks = h }
-    unwritten_back s (b ∷ bs) n h k = record { now = k.0; blocks = k.1 }
+    unwritten_rolled : (s : State) (rest : List Block) (o : Option Saved) → IsUnwritten s → WasUnwritten o → AreUnwritten rest → IsUnwritten (rolled_back s rest o)
+    unwritten_rolled s rest None h k l = h
+    unwritten_rolled s rest (Some saved) h k l = record { now = k; blocks = l }
 
-    unwritten_undone : (s : State) (bs : List Block) → (s.wrote ≡ false → s.memory ≡ m) → AreUnwritten s.blocks → AreUnwritten bs → IsUnwritten (undone_from s bs)
-    unwritten_undone s [] n h k = record { now = n; blocks = h }
-    unwritten_undone s (b ∷ bs) n h k = unwritten_undone (rolled_back s bs b.saved) bs k.0 k.1 k.1
+    unwritten_back : (s : State) (bs : List Block) → IsUnwritten s → AreUnwritten bs → IsUnwritten (back_from s bs)
+    unwritten_back s [] h k = h
+    unwritten_back s (b ∷ bs) h k = unwritten_rolled s bs b.saved h k.0 k.1
+
+    unwritten_undone : (s : State) (bs : List Block) → IsUnwritten s → AreUnwritten bs → IsUnwritten (undone_from s bs)
+    unwritten_undone s [] h k = h
+    unwritten_undone s (b ∷ bs) h k = unwritten_undone (rolled_back s bs b.saved) bs (unwritten_rolled s bs b.saved h k.0 k.1) k.1
+
+    -- what is irrevocable has written
+    unwritten_kept_all : (bs : List Block) → AreUnwritten (map (λ (b : Block). record b { saved = None }) bs)
+    unwritten_kept_all [] = tt
+    unwritten_kept_all (b ∷ bs) = (tt, unwritten_kept_all bs)
+
+    unwritten_irrevocable : (s : State) → IsUnwritten s → IsUnwritten (irrevocable_from s)
+    unwritten_irrevocable s h = by_mode s.irrevocable
+      where
+        by_mode : (b : Bool) → IsUnwritten (if b then s else made_irrevocable s)
+        by_mode true = h
+        by_mode false = record { now = λ w. absurd (cc); blocks = unwritten_kept_all s.blocks }
+
+    unwritten_entered : (s : State) (props : Props) → IsUnwritten s → IsUnwritten (entered s props)
+    unwritten_entered s props h = by_props props.goes_irrevocable
+      where
+        saved : (b : Bool) → WasUnwritten (if b then None else Some (record { memory = s.memory; wrote = s.wrote; commits = length s.actions.commits; undos = length s.actions.undos; kept = nothing s.arena }))
+        saved true = tt
+        saved false = h.now
+
+        opens : IsUnwritten (pushed s props)
+        opens = record { now = h.now; blocks = (saved s.irrevocable, h.blocks) }
+
+        by_props : (goes : Bool) → IsUnwritten (if goes then irrevocable_from (pushed s props) else pushed s props)
+        by_props true = unwritten_irrevocable (pushed s props) opens
+        by_props false = opens
+
+    pub unwritten_opened : (arena : List ℕ) (props : Props) → IsUnwritten (opened m arena props)
+    unwritten_opened arena props = unwritten_entered (outside m arena) props (record { now = λ w. refl; blocks = tt })
 
     -- bytes are written: where they are none the memory is as it was
     unwritten_written : (s : State) (place : ℕ) (bytes : List ℕ) → IsUnwritten s → IsUnwritten (written s place bytes)
@@ -94,15 +141,21 @@ module _ {P : Type 0} (rules : Rules P) (deepest : ℕ) where
 
     unwritten_effect : (s : State) (c : Call) → is_open s ≡ true → IsUnwritten s → IsUnwritten (effect s c)
     unwritten_effect s (Begin props room) o h =
-        subst (λ (b : Bool). IsUnwritten (if b then entered s props else opened s.memory s.arena props)) (sym o) (record { now = h.now; blocks = (h.now, h.blocks) })
+        subst (λ (b : Bool). IsUnwritten (if b then entered s props else opened s.memory s.arena props)) (sym o) (unwritten_entered s props h)
     unwritten_effect s Commit o h = record { now = h.now; blocks = unwritten_closed s.blocks h.blocks }
-    unwritten_effect s (Abort true) o h = unwritten_undone s s.blocks h.now h.blocks h.blocks
-    unwritten_effect s (Abort false) o h = unwritten_back s s.blocks h.now h.blocks h.blocks
+    unwritten_effect s (Abort true) o h = unwritten_undone s s.blocks h h.blocks
+    unwritten_effect s (Abort false) o h = unwritten_back s s.blocks h h.blocks
+    unwritten_effect s (Mode room) o h = unwritten_irrevocable s h
     unwritten_effect s (Write hint at value) o h = unwritten_written s at value.bytes.items h
     unwritten_effect s (Log width at) o h = record { now = h.now; blocks = unwritten_logged s.blocks s.arena at (size_of width) h.blocks }
     unwritten_effect s (LogBytes at size) o h = record { now = h.now; blocks = unwritten_logged s.blocks s.arena at size h.blocks }
     unwritten_effect s (Copy c) o h = unwritten_copied s c.pair c.to (source_bytes s c.pair c.from c.size) h
     unwritten_effect s (Fill hint to byte size) o h = unwritten_written s to (replicate size (byte % 256)) h
+    unwritten_effect s (UndoAction action) o h = by_mode s.irrevocable
+      where
+        by_mode : (b : Bool) → IsUnwritten (if b then s else with_action s kinds.Undo action)
+        by_mode true = h
+        by_mode false = record { now = h.now; blocks = h.blocks }
     unwritten_effect s c o h = record { now = h.now; blocks = h.blocks }
 
     unwritten_call : (s : State) (c : Call) (o : Option Refusal) → is_open s ≡ true → IsUnwritten s → IsUnwritten (after_unless o s (effect s c))
@@ -210,7 +263,7 @@ module _ {P : Type 0} (rules : Rules P) (laws : Obeys rules) (max_commits : ℕ)
 
       pub goes_past : (is_committed a.outcome ≡ true → b.commits < max_commits) → goes (rules.calls_left b.player) b ≡ with_first a (goes (rules.calls_left after_it.player) after_it)
       goes_past few =
-          ended_block rules laws MAX_OPEN_BLOCKS max_commits 0 b x.start a.calls x.comes (sym same_answers ∙ sym (x.opaque.whole over.shut))
+          ended_block rules laws MAX_OPEN_BLOCKS max_commits 0 b x.start x.comes a.calls (sym same_answers ∙ sym (x.opaque.whole over.shut)) made_alone
           (ap is_open (sym same_state) ∙ over.shut) (not_full _ b.commits max_commits (λ w. few (sym wrote_then ∙ w)))
           ∙ (λ i. with_first (same_row (ended_as (aborts (map pair_of a.calls)) ((state_then MAX_OPEN_BLOCKS (opened b.memory x.start.arena x.start.props) a.calls).wrote)) (ap (ended_as (aborts (map pair_of a.calls))) wrote_then ∙ over.named) i)
           (goes (rules.calls_left after_it.player) (record { player = after_it.player; arena = (sym same_state i).arena; memory = (sym same_state i).memory; commits = b.commits + one_if (wrote_then i) })))
@@ -229,7 +282,7 @@ module _ {P : Type 0} (rules : Rules P) (laws : Obeys rules) (max_commits : ℕ)
               ap (λ (k : ℕ). (alone MAX_OPEN_BLOCKS (bytes_at base all k) a).memory) at
               ∙ (ap (memory_left MAX_OPEN_BLOCKS (bytes_at base all b.commits)) (sym it) ∙ ap (bytes_at base all) (let n : suc b.commits ≡ b.commits + 1 = omega arith in n))
           by_commit false e =
-              let left_as = (unwritten rules MAX_OPEN_BLOCKS b.memory begun (opened b.memory x.start.arena x.start.props) a.calls made_alone (record { now = λ w. refl; blocks = (λ w. refl, tt) })).now (wrote_then ∙ e) in
+              let left_as = (unwritten rules MAX_OPEN_BLOCKS b.memory begun (opened b.memory x.start.arena x.start.props) a.calls made_alone (unwritten_opened rules MAX_OPEN_BLOCKS b.memory x.start.arena x.start.props)).now (wrote_then ∙ e) in
               ap (λ (s : State). s.memory) same_state ∙ (left_as ∙ (now ∙ ap (bytes_at base all) (let n : b.commits ≡ b.commits + 0 = omega arith in n)))
 
       pub found_past : (rest : List Attempt) → ((j : ℕ) → b.commits ≤ j → committed_at all j ≡ committed_at (a ∷ rest) j) → (j : ℕ) → after_it.commits ≤ j → committed_at all j ≡ committed_at rest j

@@ -1,12 +1,19 @@
 -- A player that runs alone, block by block.
 -- Its calls alone come first in what it gets.
-use Rattle.std.proofs.Common.{◌≡◌, ℕ, zero, suc, ◌+◌, ◌<◌, ◌≤◌, Bool, true, false, ◌&&◌, nat_le, is_none, List, [], ◌∷◌, ◌++◌, map, Option, None, Some, refl, sym, ap, subst, ◌∙◌, arith, cond}
-use Rattle.norec_world.proofs.Common.{Begin, Beginning, Call, Core, Entry, Finished, GaveUp, IsAlone, Obeys, Progress, Props, Rules, Solo, State, Unfinished, after, answers, answers_within, begin_code, begin_of, begin_within, cond-false, cond-true, ended_as, in_transaction, is_begin, is_open, one_if, opened, outside, pair_of, player_then, refusal, reply, row_of, same_Some, solo_within, stands_for, state_then, stopped, turn, with_first}
+use Rattle.std.proofs.Common.{◌≡◌, ℕ, zero, suc, ◌+◌, ◌<◌, ◌≤◌, Bool, true, false, not, ◌&&◌, ◌||◌, nat_le, is_none, is_some, if◌then◌else◌, List, [], ◌∷◌, ◌++◌, length, map, Option, None, Some, refl, sym, ap, subst, ◌∙◌, arith, cond, lt-ltb}
+use Rattle.norec_world.proofs.Common.{Begin, Beginning, Call, Core, Entry, Finished, GaveUp, IsAlone, Obeys, Progress, Props, Rules, Solo, State, Unfinished, Refusal, after, after_unless, answers, both_ways, false_from_ne_true, is_inside, takes_clock, answers_within, begin_code, begin_of, begin_within, cond-false, cond-true, ended_as, in_transaction, is_open, one_if, opened, outside, pair_of, player_then, refusal, reply, row_of, same_Some, solo_within, stands_for, state_then, stopped, turn, with_first}
 use Rattle.itm_types.specs.declared.call.Reply.{Reply}
 use Rattle.itm_model.specs.Runs.{state_after}
 use Rattle.norec_world.specs.declared.attempt.Outcome.TheVariants.{Full}
 use Rattle.itm_types.specs.Calls.{is_abort}
-use Rattle.norec_world.specs.Solo.{entry_of, front, player_after, passed, block_then, begun_then, aborts}
+use Rattle.norec_world.specs.Solo.{entry_of, player_after, passed, before_taking, block_then, limited_then, within_limit, left_open, begun_then, aborts}
+use Rattle.norec_world.specs.Opacity.{stays_outside}
+use Rattle.norec_world.proofs.TakingCalls.{goes_opened, marked_opened, marked_then, next_takes, none_takes}
+use Rattle.itm_model.specs.Machine.{effect}
+use Rattle.std.proofs.lemmas.Bool.{and_from, and_left, and_right, or_from}
+use Rattle.norec_core.specs.Stands.{block_kept, state_in, state_kept}
+use Rattle.nest_frames.specs.Nest.{Frame}
+use Rattle.user_actions.specs.Actions.{Actions}
 use Rattle.norec_core.proofs.Machines.{open_is}
 
 -- a call that is made in an open block is the player's next
@@ -59,6 +66,10 @@ pub state_snoc : (deepest : ℕ) (s : State) (xs : List Entry) (x : Entry) → s
 state_snoc deepest s [] x = refl
 state_snoc deepest s (y ∷ ys) x = state_snoc deepest (after deepest s y.call) ys x
 
+kept_open : (blocks : List Frame) (arena : List ℕ) (actions : Actions) (m : List ℕ) → is_inside blocks ≡ true → is_open (state_kept blocks arena actions m) ≡ true
+kept_open [] arena actions m o = absurd (cc)
+kept_open (b ∷ bs) arena actions m o = lt-ltb 0 (length (map block_kept (b ∷ bs))) (omega arith)
+
 module _ {P : Type 0} (rules : Rules P) (laws : Obeys rules) where
   pub alone_snoc : (deepest : ℕ) (p : P) (s : State) (xs : List Entry) (x : Entry) → IsAlone rules deepest p s xs
       → turn rules.next_call rules.answered rules.calls_left (player_then rules.answered p xs) (state_then deepest s xs) ≡ Some x.call → x.reply ≡ reply deepest (state_then deepest s xs) x.call
@@ -68,11 +79,23 @@ module _ {P : Type 0} (rules : Rules P) (laws : Obeys rules) where
 
   -- an open engine stands for an open block
   pub stands_open : (e : Core) (m : List ℕ) → in_transaction e ≡ true → is_open (stands_for e m) ≡ true
-  stands_open e m o = open_is e.writes e.blocks e.arena e.actions m ∙ o
+  stands_open e m o = by_mode e.irrevocable
+    where
+      by_mode : (b : Bool) → is_open (state_in b e.writes e.blocks e.arena e.actions m) ≡ true
+      by_mode true = kept_open e.blocks e.arena e.actions m o
+      by_mode false = open_is e.writes e.blocks e.arena e.actions m ∙ o
 
 pub state_pairs : (deepest : ℕ) (s : State) (xs : List Entry) → state_after deepest s (map (λ (c : Call × Reply). c.0) (map pair_of xs)) ≡ state_then deepest s xs
 state_pairs deepest s [] = refl
 state_pairs deepest s (x ∷ xs) = state_pairs deepest (after deepest s x.call) xs
+
+of_and : (x : Bool) → (x && true) ≡ false → x ≡ false
+of_and true e = e
+of_and false e = refl
+
+or_none : (x y : Bool) → y ≡ false → (x || y) ≡ x
+or_none true y e = refl
+or_none false y e = e
 
 module _ {P : Type 0} (rules : Rules P) (laws : Obeys rules) (deepest : ℕ) where
   abbrev comes : ℕ → P → List ℕ → Option Call → Option (Beginning P)
@@ -160,15 +183,23 @@ module _ {P : Type 0} (rules : Rules P) (laws : Obeys rules) (deepest : ℕ) whe
         let m = laws.nearer start.player (Begin start.props found.room) (begin_code false) found.asks in
         omega (arith, found.less, falls_along (rules.calls_left p) p s (turn rules.next_call rules.answered rules.calls_left p s) refl)
 
+    limited_same : (n k : ℕ) (b : Progress P) (start : Beginning P) (p : P) (pairs : List (Call × Reply)) (t : State) (o : Option (List (Call × Reply)))
+        → goes n (passed rules deepest max_commits thread b p pairs t) ≡ goes k (passed rules deepest max_commits thread b p pairs t)
+        → limited_then rules deepest max_commits thread (goes n) b start p pairs t o ≡ limited_then rules deepest max_commits thread (goes k) b start p pairs t o
+    limited_same n k b start p pairs t None e = ap (λ (r : Solo). block_then rules deepest max_commits thread (λ (q : Progress P). r) b start p pairs t) e
+    limited_same n k b start p pairs t (Some before) e = refl
+
     same_from : (n k : ℕ) (b : Progress P) (o : Option (Beginning P)) → begin_of rules deepest b.player b.arena ≡ o
         → ((c : Progress P) → rules.calls_left c.player < rules.calls_left b.player → goes n c ≡ goes k c)
         → begun_then rules deepest max_commits thread (goes n) b o ≡ begun_then rules deepest max_commits thread (goes k) b o
     same_from n k b None e rest = refl
     same_from n k b (Some start) e rest =
         let p : P = rules.answered start.player (begin_code false) in
+        let s : State = opened b.memory start.arena start.props in
         let pairs : List (Call × Reply) = answers rules.next_call rules.answered rules.calls_left deepest p b.memory start.arena start.props in
-        let t : State = state_after deepest (opened b.memory start.arena start.props) (map (λ (c : Call × Reply). c.0) pairs) in
-        ap (λ (r : Solo). block_then rules deepest max_commits thread (λ (q : Progress P). r) b start p pairs t) (rest (passed rules deepest max_commits thread b p pairs t) (passed_less b start e))
+        let t : State = state_after deepest s (map (λ (c : Call × Reply). c.0) pairs) in
+        ap (λ (r : Solo). if start.props.goes_irrevocable && nat_le max_commits b.commits then stopped rules deepest max_commits thread b GaveUp else r)
+        (limited_same n k b start p pairs t (if nat_le max_commits b.commits then before_taking deepest s pairs else None) (rest (passed rules deepest max_commits thread b p pairs t) (passed_less b start e)))
 
     -- so many blocks suffice
     pub solo_enough : (n k : ℕ) (b : Progress P) → rules.calls_left b.player ≤ n → rules.calls_left b.player ≤ k → goes n b ≡ goes k b
@@ -196,11 +227,6 @@ module _ {P : Type 0} (rules : Rules P) (laws : Obeys rules) (deepest : ℕ) whe
     abbrev pub next_of : Progress P → P → State → Progress P
     next_of b q t = record { player = q; arena = t.arena; memory = t.memory; commits = b.commits + one_if t.wrote }
 
-    front_snoc : (xs : List Entry) (x : Entry) → front (map pair_of (xs ++ x ∷ [])) ≡ map pair_of xs
-    front_snoc [] x = refl
-    front_snoc (y ∷ []) x = refl
-    front_snoc (y ∷ z ∷ zs) x = ap (λ (ps : List (Call × Reply)). pair_of y ∷ ps) (front_snoc (z ∷ zs) x)
-
     -- the last of the calls
     pub aborts_snoc : (xs : List Entry) (x : Entry) → aborts (map pair_of (xs ++ x ∷ [])) ≡ is_abort x.call
     aborts_snoc [] x = refl
@@ -213,53 +239,104 @@ module _ {P : Type 0} (rules : Rules P) (laws : Obeys rules) (deepest : ℕ) whe
     abbrev pub state_of : Progress P → Beginning P → List Entry → State
     state_of b start xs = state_then deepest (opened b.memory start.arena start.props) xs
 
-    -- the block that begins here has these calls
-    module _ (b : Progress P) (start : Beginning P) (xs : List Entry) (comes_to : begin_of rules deepest b.player b.arena ≡ Some start)
-        (all : answers rules.next_call rules.answered rules.calls_left deepest (begun start) b.memory start.arena start.props ≡ map pair_of xs) where
-      whole_block : goes (rules.calls_left b.player) b ≡ block_then rules deepest max_commits thread (goes (rules.calls_left b.player)) b start (begun start) (map pair_of xs) (state_of b start xs)
-      whole_block =
+    -- the block that begins here
+    module _ (b : Progress P) (start : Beginning P) (comes_to : begin_of rules deepest b.player b.arena ≡ Some start) where
+      abbrev first_state : State
+      first_state = opened b.memory start.arena start.props
+
+      begun_here : goes (rules.calls_left b.player) b ≡ begun_then rules deepest max_commits thread (goes (rules.calls_left b.player)) b (Some start)
+      begun_here =
           let n : ℕ = rules.calls_left b.player in
-          let s : State = opened b.memory start.arena start.props in
-          solo_enough n (suc n) b (omega arith) (omega arith)
-          ∙ (ap (begun_then rules deepest max_commits thread (goes n) b) comes_to
-          ∙ (ap (λ (pairs : List (Call × Reply)). block_then rules deepest max_commits thread (goes n) b start (begun start) pairs (state_after deepest s (map (λ (c : Call × Reply). c.0) pairs))) all
-          ∙ ap (block_then rules deepest max_commits thread (goes n) b start (begun start) (map pair_of xs)) (state_pairs deepest s xs)))
+          solo_enough n (suc n) b (omega arith) (omega arith) ∙ ap (begun_then rules deepest max_commits thread (goes n) b) comes_to
 
-      less : rules.calls_left (player_then rules.answered (begun start) xs) ≤ rules.calls_left b.player
-      less =
-          omega (arith, passed_less b start comes_to, ap (λ (pairs : List (Call × Reply)). rules.calls_left (player_after rules deepest max_commits thread (begun start) pairs)) all, ap rules.calls_left (player_pairs (begun start) xs))
+      -- it goes irrevocable, and as many have committed as may
+      pub kept_out : start.props.goes_irrevocable ≡ true → nat_le max_commits b.commits ≡ true → goes (rules.calls_left b.player) b ≡ stopped rules deepest max_commits thread b GaveUp
+      kept_out irrevocable full =
+          begun_here
+          ∙ cond-true (start.props.goes_irrevocable && nat_le max_commits b.commits) _ _ (and_from start.props.goes_irrevocable (nat_le max_commits b.commits) irrevocable full)
 
-      -- it has ended
-      pub ended_block : is_open (state_of b start xs) ≡ false → ((state_of b start xs).wrote && nat_le max_commits b.commits) ≡ false
-          → goes (rules.calls_left b.player) b ≡ with_first (row_of deepest thread b start xs (ended_as (aborts (map pair_of xs)) (state_of b start xs).wrote))
-          (goes (rules.calls_left (player_then rules.answered (begun start) xs)) (next_of b (player_then rules.answered (begun start) xs) (state_of b start xs)))
-      ended_block closed free =
+      -- its calls are these
+      whole_block : (pairs : List (Call × Reply)) → answers rules.next_call rules.answered rules.calls_left deepest (begun start) b.memory start.arena start.props ≡ pairs
+          → (start.props.goes_irrevocable && nat_le max_commits b.commits) ≡ false → (o : Option (List (Call × Reply))) → (if nat_le max_commits b.commits then before_taking deepest first_state pairs else None) ≡ o
+          → goes (rules.calls_left b.player) b
+          ≡ limited_then rules deepest max_commits thread (goes (rules.calls_left b.player)) b start (begun start) pairs (state_after deepest first_state (map (λ (c : Call × Reply). c.0) pairs)) o
+      whole_block pairs all enters o limit =
           let n : ℕ = rules.calls_left b.player in
-          let q : P = player_then rules.answered (begun start) xs in
-          let t : State = state_of b start xs in
-          whole_block
-          ∙ (cond-false (is_open t) _ _ closed
-          ∙ (cond-false (t.wrote && nat_le max_commits b.commits) _ _ free
-          ∙ ((λ i. with_first (row_of deepest thread b start (entries_pairs xs i) (ended_as (aborts (map pair_of xs)) t.wrote)) (goes n (next_of b (player_pairs (begun start) xs i) t)))
-          ∙ ap (with_first (row_of deepest thread b start xs (ended_as (aborts (map pair_of xs)) t.wrote))) (solo_enough n (rules.calls_left q) (next_of b q t) less (omega arith)))))
+          begun_here
+          ∙ (cond-false (start.props.goes_irrevocable && nat_le max_commits b.commits) _ _ enters
+          ∙ (ap (within_limit rules deepest max_commits thread (goes n) b start (begun start)) all
+          ∙ ap (limited_then rules deepest max_commits thread (goes n) b start (begun start) pairs (state_after deepest first_state (map (λ (c : Call × Reply). c.0) pairs))) limit))
 
-      -- its commit is not made, as many writers having committed as may
-      pub full_block : (ys : List Entry) (last : Entry) → xs ≡ ys ++ last ∷ [] → is_open (state_of b start xs) ≡ false → ((state_of b start xs).wrote && nat_le max_commits b.commits) ≡ true
+      -- one that is not irrevocable at once did not go irrevocable
+      revocable_begins : first_state.irrevocable ≡ false → start.props.goes_irrevocable ≡ false
+      revocable_begins e = false_from_ne_true start.props.goes_irrevocable (λ goes. both_ways first_state.irrevocable e (goes_opened b.memory start.arena start.props goes))
+
+      -- the player makes these alone, and then one that takes the clock, as many writers having committed as may
+      pub full_block : (ys : List Entry) (c : Call) (r : Reply) (rest : List (Call × Reply))
+          → answers rules.next_call rules.answered rules.calls_left deepest (begun start) b.memory start.arena start.props ≡ map pair_of ys ++ (c, r) ∷ rest → IsAlone rules deepest (begun start) first_state ys
+          → is_open (state_of b start ys) ≡ true → (state_of b start ys).irrevocable ≡ false → takes_clock (after deepest (state_of b start ys) c) ≡ true → nat_le max_commits b.commits ≡ true
           → goes (rules.calls_left b.player) b ≡ with_first (row_of deepest thread b start ys Full) (stopped rules deepest max_commits thread b GaveUp)
-      full_block ys last is closed full_is =
-          let t : State = state_of b start xs in
-          let calls : map entry_of (front (map pair_of xs)) ≡ ys = ap (λ (l : List Entry). map entry_of (front (map pair_of l))) is ∙ (ap (map entry_of) (front_snoc ys last) ∙ entries_pairs ys) in
-          whole_block
-          ∙ (cond-false (is_open t) _ _ closed
-          ∙ (cond-true (t.wrote && nat_le max_commits b.commits) _ _ full_is
-          ∙ ap (λ (l : List Entry). with_first (row_of deepest thread b start l Full) (stopped rules deepest max_commits thread b GaveUp)) calls))
+      full_block ys c r rest all made opens revocable takes full =
+          let before = next_takes rules deepest (begun start) first_state ys c r rest made (marked_opened b.memory start.arena start.props) opens revocable takes in
+          whole_block (map pair_of ys ++ (c, r) ∷ rest) all (and_left start.props.goes_irrevocable (nat_le max_commits b.commits) (revocable_begins before.0)) (Some (map pair_of ys))
+          (cond-true (nat_le max_commits b.commits) _ _ full ∙ before.1)
+          ∙ ap (λ (l : List Entry). with_first (row_of deepest thread b start l Full) (stopped rules deepest max_commits thread b GaveUp)) (entries_pairs ys)
 
-      -- the player leaves it open for good
-      pub open_block : is_open (state_of b start xs) ≡ true → goes (rules.calls_left b.player) b ≡ with_first (row_of deepest thread b start xs Unfinished) (stopped rules deepest max_commits thread b Finished)
-      open_block opens =
-          whole_block
-          ∙ (cond-true (is_open (state_of b start xs)) _ _ opens
-          ∙ ap (λ (l : List Entry). with_first (row_of deepest thread b start l Unfinished) (stopped rules deepest max_commits thread b Finished)) (entries_pairs xs))
+      -- these are all that the player makes
+      module _ (xs : List Entry) (all : answers rules.next_call rules.answered rules.calls_left deepest (begun start) b.memory start.arena start.props ≡ map pair_of xs)
+          (made : IsAlone rules deepest (begun start) (opened b.memory start.arena start.props) xs) where
+        abbrev last_state : State
+        last_state = state_of b start xs
+
+        abbrev IsFree : Bool → Type 0
+        IsFree full = ((start.props.goes_irrevocable && full) ≡ false) × ((if full then before_taking deepest first_state (map pair_of xs) else None) ≡ None)
+
+        free_where : (takes_clock last_state && nat_le max_commits b.commits) ≡ false → IsFree (nat_le max_commits b.commits)
+        free_where free = by_limit (nat_le max_commits b.commits) free
+          where
+            by_limit : (full : Bool) → (takes_clock last_state && full) ≡ false → IsFree full
+            by_limit false e = (and_right start.props.goes_irrevocable false refl, refl)
+            by_limit true e =
+                let none = none_takes rules deepest (begun start) first_state xs made (marked_opened b.memory start.arena start.props) (of_and (takes_clock last_state) e) in
+                (and_left start.props.goes_irrevocable true (revocable_begins none.0), none.1)
+
+        block_here : (takes_clock last_state && nat_le max_commits b.commits) ≡ false
+            → goes (rules.calls_left b.player) b ≡ block_then rules deepest max_commits thread (goes (rules.calls_left b.player)) b start (begun start) (map pair_of xs) last_state
+        block_here free =
+            let is = free_where free in
+            whole_block (map pair_of xs) all is.0 None is.1
+            ∙ ap (block_then rules deepest max_commits thread (goes (rules.calls_left b.player)) b start (begun start) (map pair_of xs)) (state_pairs deepest first_state xs)
+
+        less : rules.calls_left (player_then rules.answered (begun start) xs) ≤ rules.calls_left b.player
+        less =
+            omega (arith, passed_less b start comes_to, ap (λ (pairs : List (Call × Reply)). rules.calls_left (player_after rules deepest max_commits thread (begun start) pairs)) all, ap rules.calls_left (player_pairs (begun start) xs))
+
+        -- it has ended
+        pub ended_block : is_open (state_of b start xs) ≡ false → ((state_of b start xs).wrote && nat_le max_commits b.commits) ≡ false
+            → goes (rules.calls_left b.player) b ≡ with_first (row_of deepest thread b start xs (ended_as (aborts (map pair_of xs)) (state_of b start xs).wrote))
+            (goes (rules.calls_left (player_then rules.answered (begun start) xs)) (next_of b (player_then rules.answered (begun start) xs) (state_of b start xs)))
+        ended_block closed free =
+            let n : ℕ = rules.calls_left b.player in
+            let q : P = player_then rules.answered (begun start) xs in
+            block_here (by_wrote last_state.wrote refl)
+            ∙ (cond-false (is_open last_state) _ _ closed
+            ∙ ((λ i. with_first (row_of deepest thread b start (entries_pairs xs i) (ended_as (aborts (map pair_of xs)) last_state.wrote)) (goes n (next_of b (player_pairs (begun start) xs i) last_state)))
+            ∙ ap (with_first (row_of deepest thread b start xs (ended_as (aborts (map pair_of xs)) last_state.wrote))) (solo_enough n (rules.calls_left q) (next_of b q last_state) less (omega arith))))
+          where
+            by_wrote : (w : Bool) → last_state.wrote ≡ w → (takes_clock last_state && nat_le max_commits b.commits) ≡ false
+            by_wrote true w = and_right (takes_clock last_state) (nat_le max_commits b.commits) (ap (λ (x : Bool). x && nat_le max_commits b.commits) (sym w) ∙ free)
+            by_wrote false w =
+                let marked = marked_then rules deepest (begun start) first_state xs made (marked_opened b.memory start.arena start.props) in
+                let revocable = false_from_ne_true last_state.irrevocable (λ e. both_ways last_state.wrote w (marked e)) in
+                and_left (takes_clock last_state) (nat_le max_commits b.commits) (or_from last_state.irrevocable (not (is_open last_state) && last_state.wrote) revocable (and_right (not (is_open last_state)) last_state.wrote w))
+
+        -- the player leaves it open for good
+        pub open_block : is_open (state_of b start xs) ≡ true → ((state_of b start xs).irrevocable && nat_le max_commits b.commits) ≡ false
+            → goes (rules.calls_left b.player) b ≡ with_first (row_of deepest thread b start xs Unfinished) (left_open rules deepest max_commits thread b (state_of b start xs))
+        open_block opens free =
+            block_here (ap (λ (x : Bool). x && nat_le max_commits b.commits) (or_none last_state.irrevocable (not (is_open last_state) && last_state.wrote) (and_left (not (is_open last_state)) last_state.wrote (ap not opens))) ∙ free)
+            ∙ (cond-true (is_open last_state) _ _ opens
+            ∙ ap (λ (l : List Entry). with_first (row_of deepest thread b start l Unfinished) (left_open rules deepest max_commits thread b last_state)) (entries_pairs xs))
 
     -- a player that comes to no block
     pub no_block : (b : Progress P) → begin_of rules deepest b.player b.arena ≡ None → goes (rules.calls_left b.player) b ≡ stopped rules deepest max_commits thread b Finished
@@ -276,12 +353,20 @@ module _ {P : Type 0} (rules : Rules P) (laws : Obeys rules) (deepest : ℕ) whe
       commits = b.commits;
     }
 
-    steps_past : (n : ℕ) (b : Progress P) (c : Call) → is_begin c ≡ false
+    -- a begin that is refused is passed over
+    steps_past : (n : ℕ) (b : Progress P) (c : Call) → stays_outside deepest b.arena c ≡ true
         → comes (suc n) b.player b.arena (Some c) ≡ comes n (passing b c).player (passing b c).arena (rules.next_call (passing b c).player)
-    steps_past n b (Begin props room) e = absurd (cc)
+    steps_past n b (Begin props room) e = past (refusal deepest (outside [] b.arena) (Begin props room)) refl e
+      where
+        past : (o : Option Refusal) → refusal deepest (outside [] b.arena) (Begin props room) ≡ o → is_some o ≡ true
+            → comes (suc n) b.player b.arena (Some (Begin props room)) ≡ comes n (passing b (Begin props room)).player (passing b (Begin props room)).arena (rules.next_call (passing b (Begin props room)).player)
+        past None is f = absurd (cc)
+        past (Some why) is f =
+            cond-false (is_none (refusal deepest (outside [] b.arena) (Begin props room))) _ _ (ap is_none is)
+            ∙ ap (λ (o : Option Refusal). comes n (passing b (Begin props room)).player (after_unless o (outside [] b.arena) (effect (outside [] b.arena) (Begin props room))).arena (rules.next_call (passing b (Begin props room)).player)) (sym is)
     steps_past n b c e = refl
 
-    pub comes_past : (n : ℕ) (b : Progress P) (c : Call) → rules.next_call b.player ≡ Some c → is_begin c ≡ false → rules.calls_left b.player ≤ n
+    pub comes_past : (n : ℕ) (b : Progress P) (c : Call) → rules.next_call b.player ≡ Some c → stays_outside deepest b.arena c ≡ true → rules.calls_left b.player ≤ n
         → comes n b.player b.arena (rules.next_call b.player) ≡ comes (rules.calls_left (passing b c).player) (passing b c).player (passing b c).arena (rules.next_call (passing b c).player)
     comes_past zero b c e nb l = (let k = laws.nearer b.player c (reply deepest (outside [] b.arena) c) e in absurd (omega arith))
     comes_past (suc n) b c e nb l =

@@ -39,6 +39,7 @@ module _ {P : Type 0} (rules : Rules P) where
           asks = i.asks;
           begins = i.begins;
           inside = i.inside;
+          props = i.props;
           opens = λ row e. (let p = i.opens row e in record { thread = p.thread; nth = p.nth; outcome = p.outcome; room = roomy row e p.room });
           room = λ row o e. (let was = calls row e in let some = i.room was.0 o was.1 in let same = was.2 in omega arith);
         };
@@ -46,6 +47,8 @@ module _ {P : Type 0} (rules : Rules P) where
         waits = s.waits;
         lawful = s.lawful;
         within = s.within;
+        asks = s.asks;
+        begun = s.begun;
       }
   status_as r r' b roomy calls status s = s
 

@@ -3,9 +3,14 @@ use Rattle.user_actions.specs.Actions.{total}
 use Rattle.norec_world.specs.ActionRoom.{MayRunOn, NoCancel}
 use Rattle.norec_world.proofs.ActionRoom.{gave_acting, registers_none}
 use Rattle.norec_world.proofs.LaterActions.{first_here}
-use Rattle.std.proofs.Common.{◌≡◌, inl, ℕ, zero, suc, ◌+◌, ◌*◌, ◌/◌, ◌%◌, ◌<◌, ◌≤◌, ◌==◌, Bool, true, false, if◌then◌else◌, Option, None, Some, refl, sym, true≢false, ap, subst, ◌∙◌, arith, eqb-true, inr, ◌-◌, length}
-use Rattle.norec_world.proofs.Common.{Actor, AllFit, Answers, Asks, AsksFor, Call, Cas, Cells, ClocksOn, Core, Ended, Falls, GoesOn, HoldsOn, IsDone, IsLawful, IsNested, IsNoMore, IsReady, IsResumed, IsSettledBy, IsSound, IsTied, IsWithin, Load, Next, Proceeds, Ready, RestsAs, Rows, Rules, Status, StatusIs, Step, Store, Waits, active_of, begins_again, came, cells_after, ending_of, found, handed_is, handed_to, in_transaction, is_inside, is_ready, is_waiting, rank, steps_left, whole, IsTold, Tells}
+use Rattle.std.proofs.Common.{◌≡◌, ◌≢◌, [], nat_lt, inl, ℕ, zero, suc, ◌+◌, ◌*◌, ◌/◌, ◌%◌, ◌<◌, ◌≤◌, ◌==◌, Bool, true, false, if◌then◌else◌, Option, None, Some, refl, sym, true≢false, ap, subst, ◌∙◌, arith, eqb-true, inr, ◌-◌, length}
+use Rattle.norec_world.proofs.Common.{Actor, AllFit, Answers, Asks, AsksFor, Begin, BeginsAt, Call, Cas, Cells, ClocksOn, Core, Ended, Falls, GoesOn, HoldsOn, IsDone, IsLawful, IsNested, IsNoMore, IsReady, IsResumed, IsSettledBy, IsSound, IsTied, IsWithin, Load, Next, Proceeds, Ready, RestsAs, Rows, Rules, Status, StatusIs, Step, Store, Waits, active_of, begins_again, came, cells_after, ending_of, found, handed_is, handed_to, in_transaction, is_inside, is_ready, is_waiting, none_inside, asked, same_Some, rank, rests as rested, steps_left, whole, IsTold, Tells}
 use Rattle.norec_core.specs.Keeps.{Keeps}
+use Rattle.norec_core.specs.Core.{may_go}
+use Rattle.norec_core.specs.Order.{asked_from, snapshot_from, stage_at, stage_from}
+use Rattle.norec_core.specs.declared.phase.Opening.{Opening}
+use Rattle.norec_core.specs.declared.phase.Phase.{Phase}
+use Rattle.norec_core.specs.declared.phase.Phase.TheVariants as at
 use Rattle.norec_core.specs.Proceeds.{most}
 use Rattle.norec_core.proofs.KeptFields.{most_same}
 use Rattle.norec_world.specs.Sound.{IsWaiting, IsAsked}
@@ -36,13 +41,72 @@ moves_of cells e (Cas cell from to) t l = record {
   keeps = λ f. half_taken (cells.clock == from) cells.clock from to (λ y. eqb-true cells.clock from y) l.4 l.6;
 }
 
--- outside a transaction a step loads the clock
-loads_clock : (cells : Cells) (e : Core) (step : Step) → IsTied cells e → IsLawful e step → in_transaction e ≡ false
+-- outside a transaction a step loads the clock, or takes it
+loads_clock : (cells : Cells) (e : Core) (step : Step) → IsTied cells e → IsLawful e step → in_transaction e ≡ false → (handed_to e (Some step) (found cells step)).holds ≡ false
     → ((cells_after cells step).clock ≡ cells.clock) × ((handed_to e (Some step) (found cells step)).clock ≡ (cells_after cells step).clock)
-loads_clock cells e (Load zero) t l outside = (refl, refl)
-loads_clock cells e (Load (suc word)) t l outside = absurd (true≢false (sym l.1.0 ∙ outside))
-loads_clock cells e (Store cell value) t l outside = absurd (true≢false (sym (t.settled.holder l.1).0 ∙ outside))
-loads_clock cells e (Cas cell from to) t l outside = absurd (true≢false (sym l.2 ∙ outside))
+loads_clock cells e (Load zero) t l outside free = (refl, refl)
+loads_clock cells e (Load (suc word)) t l outside free = absurd (true≢false (sym l.1.0 ∙ outside))
+loads_clock cells e (Store cell value) t l outside free = absurd (true≢false (sym (t.settled.holder l.1).0 ∙ outside))
+loads_clock cells e (Cas cell from to) t l outside free =
+    let still : (if cells.clock == from then to else cells.clock) ≡ cells.clock = ap (λ (b : Bool). if b then to else cells.clock) free in
+    (still, sym still)
+
+-- ## A begin that waits for a step
+
+module _ (new : Core) (some : new.waits ≢ None) (asks : new.waits ≡ asked new) where
+  not_idle : {A : Type 0} → new.stage ≡ at.Idle → A
+  not_idle e = absurd (some (asks ∙ ap (asked_from new) e))
+
+  stands_at : (stage : Phase) → new.stage ≡ stage → BeginsAt new stage → BeginsAt new new.stage
+  stands_at stage e b = subst (BeginsAt new) (sym e) b
+
+  module _ (b : Opening) (doing : new.doing ≡ Some (Begin b.props b.room)) where
+    begins_or_not : (more : Bool) → (more ≡ true → may_go new.blocks b.props ≡ true) → new.stage ≡ (if more then at.Begin b else at.Idle) → BeginsAt new new.stage
+    begins_or_not true may e = stands_at (at.Begin b) e (doing, may refl)
+    begins_or_not false may e = not_idle e
+
+    module _ (may : may_go new.blocks b.props ≡ true) where
+      takes_or_not : (goes few : Bool) → new.clock ≡ new.snapshot → new.stage ≡ (if goes then (if few then at.Take b else at.Idle) else at.Idle) → BeginsAt new new.stage
+      takes_or_not true true same e = stands_at (at.Take b) e (doing, may, same)
+      takes_or_not true false same e = not_idle e
+      takes_or_not false few same e = not_idle e
+
+      -- after the clock was loaded
+      loaded_begun : (even goes few more : Bool) → (even ≡ true → new.clock ≡ new.snapshot)
+          → new.stage ≡ (if even then (if goes then (if few then at.Take b else at.Idle) else at.Idle) else (if more then at.Begin b else at.Idle)) → BeginsAt new new.stage
+      loaded_begun true goes few more same e = takes_or_not goes few (same refl) e
+      loaded_begun false goes few more same e = begins_or_not more (λ m. may) e
+
+      -- after it was to be taken
+      tried_begun : (taken more : Bool) → new.stage ≡ (if taken then at.Idle else (if more then at.Begin b else at.Idle)) → BeginsAt new new.stage
+      tried_begun true more e = not_idle e
+      tried_begun false more e = begins_or_not more (λ m. may) e
+
+  -- once a step was done
+  begun_after : (old : Core) (seen : ℕ) (stage : Phase) → BeginsAt old stage → new.doing ≡ old.doing → new.blocks ≡ old.blocks → new.stage ≡ stage_from old stage seen → new.snapshot ≡ snapshot_from old stage seen
+      → ((b : Opening) → stage ≡ at.Begin b → new.clock ≡ seen) → BeginsAt new new.stage
+  begun_after old seen (at.Begin b) begun doing blocks order snapshot clock =
+      loaded_begun b (doing ∙ begun.0) (ap (λ (bs : _). may_go bs b.props) blocks ∙ begun.1) (seen % 2 == 0) b.props.goes_irrevocable (nat_lt (seen / 2) old.max_commits) (nat_lt old.tries old.patience)
+      (λ even. clock b refl ∙ sym (snapshot ∙ ap (λ (x : Bool). if x then seen else old.snapshot) even)) order
+  begun_after old seen (at.Take b) begun doing blocks order snapshot clock =
+      tried_begun b (doing ∙ begun.0) (ap (λ (bs : _). may_go bs b.props) blocks ∙ begun.1) (seen == old.snapshot) (nat_lt old.tries old.patience) order
+  begun_after old seen stage begun doing blocks order snapshot clock = absurd begun
+
+  -- as a call comes
+  begun_shut : (c : Core) (call : Call) (again : Bool) → new.doing ≡ Some call → new.blocks ≡ [] → new.stage ≡ stage_at (record c { blocks = [] }) call again → BeginsAt new new.stage
+  begun_shut c (Begin props room) again doing none e =
+      begins_or_not (record { props = props; room = room; again = again }) doing (may_go [] props) (λ m. ap (λ (bs : _). may_go bs props) none ∙ m) e
+  begun_shut c call again doing none e = not_idle e
+
+  begun_call : (c : Core) (call : Call) (again : Bool) → in_transaction c ≡ false → new.doing ≡ Some call → new.blocks ≡ c.blocks → new.stage ≡ stage_at c call again → BeginsAt new new.stage
+  begun_call c call again shut doing blocks e =
+      let none = none_inside c.blocks shut in
+      begun_shut c call again doing (blocks ∙ none) (e ∙ (λ i. stage_at (record c { blocks = none i }) call again))
+
+-- what waits for a step has not been answered
+asks_step : (mid new : Core) (what : Next) → Proceeds mid what new → new.waits ≢ None → (new.blocks ≡ mid.blocks) × (new.doing ≡ mid.doing)
+asks_step mid new (Asks step) g some = (ap (λ (c : Core). c.blocks) g.stays, ap (λ (c : Core). c.doing) g.stays)
+asks_step mid new (Answers a) g some = absurd (some (rested mid new a g).idle)
 
 -- ## The step
 
@@ -78,6 +142,17 @@ module _ {P : Type 0} {rules : Rules P} {cells : Cells} {r : Rows} {old : Actor 
   pub moves : ClockMoves cells cells' (handed_to old.engine (Some m.step) (found cells m.step))
   moves = subst (λ (c : Cells). ClockMoves cells c mid_step) (sym m.cells_are) (moves_of cells old.engine m.step m.sound.tied waits.lawful)
 
+  -- a begin that goes on
+  step_begun : new.waits ≢ None → in_transaction new ≡ false → BeginsAt new new.stage
+  unfolding waits
+  step_begun some shut =
+      let went_on = asks_step mid_step new what went some in
+      let blocks : new.blocks ≡ old.engine.blocks = went_on.0 ∙ same.blocks in
+      let seen = found cells m.step in
+      begun_after new some m.resumed.asks old.engine seen old.engine.stage (waits.begun (sym (ap is_inside blocks) ∙ shut)) (went_on.1 ∙ same.doing) blocks m.resumed.order m.resumed.snapshot
+      (λ b is. (let loads : m.step ≡ Load zero = same_Some _ _ (sym waits.waits ∙ (waits.asks ∙ ap (asked_from old.engine) is)) in
+      (clock_same mid_step new what went).1 ∙ subst (λ (s : Step). (handed_to old.engine (Some s) (found cells s)).clock ≡ found cells s) (sym loads) refl))
+
   pub step_taken : (status : Status) → status ≡ Ready → HasTaken rules (in_transaction old.engine) cells cells' r (handed_to old.engine (Some m.step) (found cells m.step)) (record old { engine = new; status = status }) call what
   step_taken status ready =
       let k = m.sound.kept in
@@ -96,7 +171,9 @@ module _ {P : Type 0} {rules : Rules P} {cells : Cells} {r : Rows} {old : Actor 
         ready = ready;
         moves = moves;
         empty = λ e. same.writes ∙ (m.sound.tied.settled.closed e).1;
-        outside = λ e. (let l = loads_clock cells old.engine m.step m.sound.tied waits.lawful e in (ap (λ (c : Cells). c.clock) m.cells_are ∙ l.0, inl (l.1 ∙ ap (λ (c : Cells). c.clock) (sym m.cells_are))));
+        asks = m.resumed.asks;
+        begun = step_begun;
+        outside = λ e free. (let l = loads_clock cells old.engine m.step m.sound.tied waits.lawful e free in (ap (λ (c : Cells). c.clock) m.cells_are ∙ l.0, inl (l.1 ∙ ap (λ (c : Cells). c.clock) (sym m.cells_are))));
       }
 
   -- nothing of the actions is lost
@@ -117,7 +194,7 @@ module _ {P : Type 0} {rules : Rules P} {cells : Cells} {r : Rows} {old : Actor 
       let taken = subst (λ (c : Cells). HoldsOn cells old.engine c mid_step) (sym m.cells_are) (holds_handed cells old.engine m.step m.sound.tied waits.lawful) in
       let kept = limit_same mid_step new what went in
       clocks_twice cells cells' cells' old.engine mid_step last (clocks_of cells cells' old.engine mid_step taken (λ h. (let held = is_mid.holder h in let even = is_mid.even h in omega arith)))
-      (clocks_still cells' mid_step last (ap (λ (c : Core). c.holds) is ∙ (clock_same mid_step new what went).2) (ap (λ (c : Core). c.max_commits) is ∙ kept.0, ap (λ (c : Core). c.patience) is ∙ kept.1))
+      (clocks_still cells' mid_step last (ap (λ (c : Core). c.holds) is ∙ (clock_same mid_step new what went).2) (ap (λ (c : Core). c.clock) is ∙ (clock_same mid_step new what went).1) (ap (λ (c : Core). c.max_commits) is ∙ kept.0, ap (λ (c : Core). c.patience) is ∙ kept.1))
 
   -- the value came to the engine, and what came of it was taken up
   pub takes_in : (status : Status) → status ≡ Ready → {rows r' : Rows} {last : Actor P} → last.engine ≡ new → Tells rules (in_transaction old.engine) r rows (record old { engine = new; status = status }) last call what
@@ -218,7 +295,7 @@ module _ {P : Type 0} {rules : Rules P} {cells : Cells} {r0 r : Rows} {old a : A
         proceeds = m.asks.called.proceeds;
         doing = refl;
         words = m.sound.tied.words;
-        tied = tied cells mid a.engine what (comes cells old.engine a.engine m.sound.tied ready.free m.asked.settled call (begins_again (in_transaction old.engine) old.again call) m.asked.stays) m.asks.called.proceeds;
+        tied = tied cells mid a.engine what (comes cells old.engine a.engine m.sound.tied m.asked.settled call (begins_again (in_transaction old.engine) old.again call)) m.asks.called.proceeds;
         within = m.asked.within;
         kept = m.asked.kept;
         first = first_here r a.thread mid a.engine call what (in_transaction old.engine) refl m.asked.kept.row refl m.asks.called.proceeds
@@ -229,7 +306,11 @@ module _ {P : Type 0} {rules : Rules P} {cells : Cells} {r0 r : Rows} {old a : A
         ready = m.asked.same.status ∙ m.ready;
         moves = record { frees = λ f. absurd (cc); keeps = λ f. refl };
         empty = λ o. (m.sound.tied.settled.closed o).1;
-        outside = λ o. (refl, inr m.asked.at_once);
+        asks = m.asks.called.asks;
+        begun = λ some shut. (let went_on = asks_step mid a.engine what m.asks.called.proceeds some in
+            begun_call a.engine some m.asks.called.asks old.engine call (begins_again (in_transaction old.engine) old.again call)
+            (sym (ap is_inside went_on.0) ∙ shut) went_on.1 went_on.0 m.asks.called.order);
+        outside = λ o free. (refl, inr m.asked.at_once);
       }
 
   -- the rows are those that were

@@ -1,7 +1,7 @@
 -- The moment that a step and a call of the player share: the engine has taken in a value or a call, and what it gave is recorded next.
 use Rattle.norec_world.specs.ActionRoom.{HasFirst, IsActing}
-use Rattle.std.proofs.Common.{◌≡◌, ◌⊎◌, ◌+◌, ◌*◌, ◌/◌, Bool, true, false, [], refl, ap, subst, ◌∙◌, sym, length, Some, ◌≤◌, inl, inr, arith, ℕ}
-use Rattle.norec_world.proofs.Common.{Actor, Answer, AnswerFits, Answers, Asks, Call, Cells, Core, Ended, Ends, HasRow, IsAnswered, IsAtOnce, IsDone, IsKept, IsNested, IsSettledBy, IsSound, IsTied, IsWithin, Next, Proceeds, Ready, Records, RestsAs, Rows, Rules, Status, StatusIs, Step, Tells, Waits, in_transaction, is_ready, rests, End, ending_of, cases_Bool}
+use Rattle.std.proofs.Common.{◌≡◌, ◌≢◌, ◌⊎◌, None, ◌+◌, ◌*◌, ◌/◌, Bool, true, false, [], refl, ap, subst, ◌∙◌, sym, length, Some, ◌≤◌, inl, inr, arith, ℕ}
+use Rattle.norec_world.proofs.Common.{Actor, Answer, AnswerFits, Answers, Asks, BeginsAt, Call, asked, Cells, Core, Ended, Ends, HasRow, IsAnswered, IsAtOnce, IsDone, IsKept, IsNested, IsSettledBy, IsSound, IsTied, IsWithin, Next, Proceeds, Ready, Records, RestsAs, Rows, Rules, Status, StatusIs, Step, Tells, Waits, in_transaction, is_ready, rests, End, ending_of, cases_Bool}
 use Rattle.norec_world.specs.Sound.{IsDue, IsInCall, IsWaiting}
 use Rattle.norec_world.proofs.TiedEngines.{answer_fits}
 
@@ -38,8 +38,10 @@ module _ {P : Type 0} (rules : Rules P) where
     pub ready : a.status ≡ Ready
     pub moves : ClockMoves cells cells' mid
     pub empty : was ≡ false → mid.writes ≡ []
-    -- outside a transaction the clock stands still, and is loaded where the answer takes a step
-    pub outside : was ≡ false → (cells'.clock ≡ cells.clock) × ((mid.clock ≡ cells'.clock) ⊎ IsAtOnce what)
+    pub asks : a.engine.waits ≡ asked a.engine
+    pub begun : a.engine.waits ≢ None → in_transaction a.engine ≡ false → BeginsAt a.engine a.engine.stage
+    -- outside a transaction the clock stands still, unless it is taken, and is loaded where the answer takes a step
+    pub outside : was ≡ false → mid.holds ≡ false → (cells'.clock ≡ cells.clock) × ((mid.clock ≡ cells'.clock) ⊎ IsAtOnce what)
 
   -- and the answer is recorded
   pub record HasAnswered (was : Bool) (cells cells' : Cells) (r r1 : Rows) (mid : Core) (a last : Actor P) (call : Call) (answer : Answer) : Type 0 where
@@ -64,6 +66,7 @@ in_call_of e s i = record {
   asks = i.asks;
   begins = i.begins;
   inside = i.inside;
+  props = i.props;
   room = i.room;
   opens = λ row e. (let p = i.opens row e in record { thread = p.thread; nth = p.nth; outcome = p.outcome; room = p.room });
 }
@@ -103,6 +106,8 @@ module _ {P : Type 0} {rules : Rules P} {was : Bool} {cells cells' : Cells} {r :
         waits = ap (λ (c : Core). c.waits) g.stays;
         lawful = g.lawful;
         within = m.within;
+        asks = m.asks;
+        begun = m.begun (λ none. absurd (let both : Some step ≡ None = sym (ap (λ (c : Core). c.waits) g.stays) ∙ none in cc));
       } in
       record { engine = refl; thread = refl; retries = refl; kept = kept; status = status; sound = λ acts. record { tied = m.tied; kept = kept; acts = acts; status = status } }
 
@@ -120,7 +125,7 @@ module _ {P : Type 0} {rules : Rules P} {was : Bool} {cells cells' : Cells} {r :
       status_of : (st : Status) → RestsAs rules st last → StatusIs rules r1 last st
       status_of Ready rest = rest
       status_of (Waits c step) rest = absurd rest
-      status_of (Ended end) rest = tt
+      status_of (Ended end) rest = rest
 
   -- what holds of an actor that waits, and of one whose call is answered, holds once either is recorded
   pub recorded : {what : Next} {r1 : Rows} {last : Actor P} (Holds : Rows → Actor P → Type 0) → HasTaken rules was cells cells' r mid a call what → IsDone rules was r r1 a last call what → Tells rules was r r1 a last call what

@@ -1,7 +1,13 @@
 -- The engine and the cells, over one event: the engine's data stay as the cells have them.
-use Rattle.std.proofs.Common.{◌≡◌, ℕ, zero, suc, ◌+◌, ◌*◌, ◌/◌, ◌%◌, ◌<◌, ◌≤◌, ◌==◌, Bool, true, false, length, Option, Some, slice_index, refl, sym, ap, subst, ◌∙◌, arith, if◌then◌else◌, eqb-true, length-set}
-use Rattle.norec_world.proofs.Common.{AllFit, Answer, AnswerFits, Answers, Asks, Busy, Call, Cas, Cells, Commit, Committed, Conflict, Core, Ends, Full, HoldsOn, IsLawful, IsTied, Load, Next, Proceeds, Replies, RepliesTo, Reply, StaysOn, Step, Store, after_undoing, both_ways, came, cells_after, cond_both, found, handed_to, in_transaction, rests, word_loaded}
-use Rattle.norec_core.specs.Proceeds.{IsSettled}
+use Rattle.std.proofs.Common.{◌≡◌, ◌⊎◌, inl, inr, ◌&&◌, not, List, [], ◌∷◌, map, None, IsSome, ℕ, zero, suc, ◌+◌, ◌*◌, ◌/◌, ◌%◌, ◌<◌, ◌≤◌, ◌==◌, Bool, true, false, length, Option, Some, slice_index, refl, sym, ap, subst, ◌∙◌, arith, if◌then◌else◌, eqb-true, length-set}
+use Rattle.norec_world.proofs.Common.{AllFit, Answer, AnswerFits, Answers, Asks, Begin, Busy, Call, Cas, Cells, Code, Commit, Committed, Conflict, ConflictsIn, Core, Ends, Enters, Full, HoldsOn, IsLawful, IsTied, Load, Next, Proceeds, Replied, Replies, RepliesHeld, RepliesTo, Reply, StaysOn, Step, Store, after_undoing, both_ways, came, cells_after, cond-false, cond-true, cond_both, found, handed_to, in_transaction, is_begin, is_inside, none_inside, reply_cases, rests, word_loaded}
+use Rattle.itm_types.specs.Calls.{is_abort}
+use Rattle.itm_types.specs.declared.call.Call.TheVariants.{Mode}
+use Rattle.nest_frames.specs.Nest.{Frame, made_irrevocable, stays_revocable}
+use Rattle.std.proofs.lemmas.List.{length-map}
+use Rattle.norec_core.specs.Core.{goes, rolled_back}
+use Rattle.norec_core.specs.declared.phase.Phase.TheVariants.{Idle}
+use Rattle.norec_core.specs.Proceeds.{IsBegin, IsSettled, WantsClock, blocks_after}
 use Rattle.norec_world.proofs.PlayerLaws.{reply_fits}
 
 -- ## What the operation asks and gives
@@ -35,10 +41,31 @@ loose {mid} words fit late free settled = record {
   settled = settled;
 }
 
+-- over an answer the clock is held as before
+replied_holds : (mid new : Core) (call : Call) (r : Replied) → Replies mid call r new ⊎ Enters mid call r new ⊎ RepliesHeld mid call r new → new.holds ≡ mid.holds
+replied_holds mid new call r (inl g) = ap (λ (c : Core). c.holds) g.stays
+replied_holds mid new call r (inr (inl g)) = ap (λ (c : Core). c.holds) g.stays
+replied_holds mid new call r (inr (inr g)) = ap (λ (c : Core). c.holds) g.stays
+
+reply_holds : (mid new : Core) (r : Replied) (doing : Option Call) → RepliesTo mid doing r new → new.holds ≡ mid.holds
+reply_holds mid new r None g = absurd g
+reply_holds mid new r (Some call) g = replied_holds mid new call r (reply_cases mid call r new mid.holds mid.irrevocable g)
+
+conflict_holds : (mid new : Core) (clock : ℕ) (word : Option ℕ) (inside : Bool) → ConflictsIn inside mid clock word new → new.holds ≡ mid.holds
+conflict_holds mid new clock word true g = ap (λ (c : Core). c.holds) g.stays ∙ sym g.free
+conflict_holds mid new clock word false g = ap (λ (c : Core). c.holds) g.stays ∙ sym g.free
+
+pub holds_same : (mid new : Core) (a : Answer) → Ends mid a new → new.holds ≡ mid.holds
+holds_same mid new (Reply r) g = reply_holds mid new r mid.doing g
+holds_same mid new (Committed at wrote) g = ap (λ (c : Core). c.holds) g.stays ∙ sym g.free
+holds_same mid new (Conflict clock word) g = conflict_holds mid new clock word (in_transaction mid) g
+holds_same mid new (Busy clock) g = ap (λ (c : Core). c.holds) g.stays ∙ sym g.free
+holds_same mid new (Full at) g = ap (λ (c : Core). c.holds) g.stays ∙ sym g.free
+
 -- what the engine goes on to has the same words and the same clock, and holds it or not as before
 pub clock_same : (mid new : Core) (what : Next) → Proceeds mid what new → (new.words ≡ mid.words) × (new.clock ≡ mid.clock) × (new.holds ≡ mid.holds)
 clock_same mid new (Asks step) g = (ap (λ (c : Core). c.words) g.stays, ap (λ (c : Core). c.clock) g.stays, ap (λ (c : Core). c.holds) g.stays)
-clock_same mid new (Answers a) g = (let r = rests mid new a g in (r.words, r.clock, r.holds ∙ sym r.free))
+clock_same mid new (Answers a) g = (let r = rests mid new a g in (r.words, r.clock, holds_same mid new a g))
 
 -- the engine stays as the cells have it
 pub tied : (cells : Cells) (mid new : Core) (what : Next) → IsMid cells mid new → Proceeds mid what new → IsTied cells new
@@ -54,9 +81,9 @@ tied cells mid new what m g =
 
 -- ## A call comes
 
-module _ (cells : Cells) (e new : Core) (t : IsTied cells e) (free : e.holds ≡ false) (settled : IsSettled new) where
-  pub comes : (call : Call) (again : Bool) → StaysOn e new → IsMid cells (came e call again) new
-  comes call again stays = loose t.words t.fit t.late free settled
+module _ (cells : Cells) (e new : Core) (t : IsTied cells e) (settled : IsSettled new) where
+  pub comes : (call : Call) (again : Bool) → IsMid cells (came e call again) new
+  comes call again = record { words = t.words; fit = t.fit; late = t.late; holder = t.holder; even = held_even e t.settled; settled = settled }
 
 -- ## A value is handed in
 
@@ -105,14 +132,53 @@ limit_same mid new (Answers a) g = (let r = rests mid new a g in (r.max_commits,
 pub snapshot_still : (e new : Core) → new ≡ after_undoing e → new.snapshot ≡ e.snapshot
 snapshot_still e new is = ap (λ (c : Core). c.snapshot) is ∙ cond_both e.holds _ _ (λ (c : Core). c.snapshot ≡ e.snapshot) (λ h. refl) (λ h. refl)
 
+-- it waits for nothing, if it did not
+pub idle_still : (e new : Core) → new ≡ after_undoing e → e.waits ≡ None → new.waits ≡ None
+idle_still e new is idle = ap (λ (c : Core). c.waits) is ∙ cond_both e.holds _ _ (λ (c : Core). c.waits ≡ None) (λ h. idle) (λ h. refl)
+
+-- and it is left as the cells have it
+pub tied_undone : (cells : Cells) (e new : Core) → new ≡ after_undoing e → (e.holds ≡ false → (new.actions.commits ≡ []) × (new.actions.undos ≡ [])) → IsTied cells e → IsTied cells new
+tied_undone cells e new is unregistered t = by_holds e.holds refl
+  where
+    over : e.holds ≡ false → new ≡ record (rolled_back e) { stage = Idle; tries = 0 } → IsTied cells new
+    over free same =
+        let gone = unregistered free in
+        let shut : in_transaction new ≡ false = ap in_transaction same in
+        let lost : new.holds ≡ false = ap (λ (c : Core). c.holds) same in
+        let revocable : new.irrevocable ≡ false = ap (λ (c : Core). c.irrevocable) same in
+        let clock = ap (λ (c : Core). c.clock) same in
+        let snapshot = ap (λ (c : Core). c.snapshot) same in
+        let limit = ap (λ (c : Core). c.max_commits) same in
+        let s = t.settled in
+        record {
+          words = ap (λ (c : Core). c.words) same ∙ t.words;
+          fit = t.fit;
+          late = (let l = t.late in omega arith);
+          holder = λ h. absurd (both_ways new.holds lost h);
+          settled = record {
+            closed = λ o. (ap (λ (c : Core). c.log) same, ap (λ (c : Core). c.writes) same, gone.0, gone.1);
+            reached = (let l = s.reached in omega arith);
+            inside = λ w o. absurd (both_ways (in_transaction new) shut o);
+            unfreed = ap (λ (c : Core). c.freed) same;
+            even = ap (λ (n : ℕ). n % 2) snapshot ∙ s.even;
+            holder = λ h. absurd (both_ways new.holds lost h);
+            limit = (let l = s.limit in omega arith);
+            irrevocable = λ i. absurd (both_ways new.irrevocable revocable i);
+          };
+        }
+
+    by_holds : (b : Bool) → e.holds ≡ b → IsTied cells new
+    by_holds true h = subst (IsTied cells) (sym (is ∙ cond-true e.holds _ _ h)) t
+    by_holds false h = over h (is ∙ cond-false e.holds _ _ h)
+
 taken_capped : (b : Bool) (clock from to max_commits : ℕ) → from % 2 ≡ 0 → from / 2 < max_commits → to ≡ from + 1 → clock ≤ 2 * max_commits → (if b then to else clock) ≤ 2 * max_commits
 taken_capped true clock from to max_commits even few up l = omega arith
 taken_capped false clock from to max_commits even few up l = l
 
 -- one that neither takes nor frees it
 holds_still : (cells cells' : Cells) (e e' : Core) → e'.holds ≡ e.holds → (e.holds ≡ false → cells' ≡ cells) → cells'.clock ≡ cells.clock → length cells'.words ≡ length cells.words
-    → (e'.max_commits ≡ e.max_commits) × (e'.patience ≡ e.patience) → HoldsOn cells e cells' e'
-holds_still cells cells' e e' same leaves clock long limit = record {
+    → (e'.max_commits ≡ e.max_commits) × (e'.patience ≡ e.patience) → ((e.holds ≡ false → e.clock ≡ cells.clock) → e'.holds ≡ false → e'.clock ≡ cells'.clock) → HoldsOn cells e cells' e'
+holds_still cells cells' e e' same leaves clock long limit seen = record {
   takes = λ f h. absurd (both_ways e.holds f (sym same ∙ h));
   frees = λ h f. absurd (both_ways e.holds (sym same ∙ f) h);
   stores = λ h k. clock;
@@ -121,20 +187,22 @@ holds_still cells cells' e e' same leaves clock long limit = record {
   long = long;
   limit = limit;
   capped = λ l. omega arith;
+  seen = seen;
 }
 
 -- the step's value came
 pub holds_handed : (cells : Cells) (e : Core) (step : Step) → IsTied cells e → IsLawful e step → HoldsOn cells e (cells_after cells step) (handed_to e (Some step) (found cells step))
-holds_handed cells e (Load zero) t l = holds_still cells cells e _ refl (λ f. refl) refl refl (refl, refl)
+holds_handed cells e (Load zero) t l = holds_still cells cells e _ refl (λ f. refl) refl refl (refl, refl) (λ s f. refl)
 holds_handed cells e (Load (suc word)) t l =
     let k = kept e.holds in
-    holds_still cells cells e (word_loaded e e.holds word (slice_index cells.words word)) k.0 (λ f. refl) refl refl k.1
+    holds_still cells cells e (word_loaded e e.holds word (slice_index cells.words word)) k.0 (λ f. refl) refl refl k.1 (λ s f. k.2 ∙ s (sym k.0 ∙ f))
   where
     kept : (h : Bool) → ((word_loaded e h word (slice_index cells.words word)).holds ≡ e.holds)
         × (((word_loaded e h word (slice_index cells.words word)).max_commits ≡ e.max_commits) × ((word_loaded e h word (slice_index cells.words word)).patience ≡ e.patience))
-    kept true = (refl, (refl, refl))
-    kept false = (refl, (refl, refl))
-holds_handed cells e (Store (suc word) value) t l = holds_still cells _ e _ refl (λ f. absurd (both_ways e.holds f l.1)) refl (length-set cells.words word value) (refl, refl)
+        × ((word_loaded e h word (slice_index cells.words word)).clock ≡ e.clock)
+    kept true = (refl, (refl, refl), refl)
+    kept false = (refl, (refl, refl), refl)
+holds_handed cells e (Store (suc word) value) t l = holds_still cells _ e _ refl (λ f. absurd (both_ways e.holds f l.1)) refl (length-set cells.words word value) (refl, refl) (λ s f. absurd (both_ways e.holds f l.1))
 holds_handed cells e (Store zero value) t l =
     let even = held_even e t.settled l.1 in
     let held = t.holder l.1 in
@@ -148,6 +216,7 @@ holds_handed cells e (Store zero value) t l =
       long = refl;
       limit = (refl, refl);
       capped = λ m. (let few = held_below e t.settled l.1 in omega arith);
+      seen = λ s f. refl;
     }
 holds_handed cells e (Cas cell from to) t l = record {
   takes = λ f h. ((let same = eqb-true cells.clock from h in let even = l.4 in omega arith), refl);
@@ -158,20 +227,61 @@ holds_handed cells e (Cas cell from to) t l = record {
   long = refl;
   limit = (refl, refl);
   capped = taken_capped (cells.clock == from) cells.clock from to e.max_commits l.4 l.5 l.6;
+  seen = λ s f. sym (ap (λ (b : Bool). if b then to else cells.clock) f);
 }
 
 -- ## What the answer says
 
+inside_all : (blocks : List Frame) → is_inside (map made_irrevocable blocks) ≡ is_inside blocks
+inside_all [] = refl
+inside_all (b ∷ bs) = refl
+
+-- a transaction that becomes irrevocable stays open
+goes_inside : (c : Core) (call : Call) (r : Replied) → IsSome (goes c call) → in_transaction c ≡ true → is_inside (blocks_after c call r) ≡ true
+goes_inside c (Begin props room) (Code n) g o = refl
+goes_inside c (Begin props room) r g o = o
+goes_inside c (Mode room) r g o = o
+goes_inside c call r g o = absurd (cc)
+
+goes_outside : (c : Core) (room : ℕ) (inside : Bool) → inside ≡ false → IsSome (if inside && not (stays_revocable c.blocks) && not c.irrevocable then Some room else None) → ⊥
+goes_outside c room true e g = absurd (cc)
+goes_outside c room false e g = absurd (cc)
+
+-- what is full is a commit, or a call that makes the transaction irrevocable; outside a transaction a begin
+wants_begin : (c : Core) (call : Call) → WantsClock c (Some call) → in_transaction c ≡ false → is_begin call ≡ true
+wants_begin c (Begin props room) w shut = refl
+wants_begin c Commit w shut = absurd (let none = ap (λ (bs : List Frame). length bs) (none_inside c.blocks shut) in omega (arith, w.0, none))
+wants_begin c (Mode room) w shut = absurd (goes_outside c room (in_transaction c) shut w)
+wants_begin c call w shut = absurd (cc)
+
+begin_is : (doing : Option Call) (call : Call) → doing ≡ Some call → IsBegin doing → is_begin call ≡ true
+begin_is None call d b = absurd b
+begin_is (Some (Begin props room)) call d b = (let same : Begin props room ≡ call = cc in sym (ap is_begin same))
+begin_is (Some other) call d b = absurd b
+
 module _ (mid new : Core) where
+  reply_answers : (call : Call) (r : Replied) → Replies mid call r new ⊎ Enters mid call r new ⊎ RepliesHeld mid call r new
+      → (length (blocks_after mid call r) ≡ length new.blocks) × (is_abort call ≡ false → in_transaction mid ≡ true → in_transaction new ≡ true)
+  reply_answers call r (inl g) = (sym (ap length g.blocks), g.still)
+  reply_answers call r (inr (inl g)) = (
+    sym (ap (λ (c : Core). length c.blocks) g.stays ∙ length-map (blocks_after mid call r) made_irrevocable),
+    λ other o. ap in_transaction g.stays ∙ (inside_all (blocks_after mid call r) ∙ goes_inside mid call r g.goes o),
+  )
+  reply_answers call r (inr (inr g)) = (sym (ap (λ (c : Core). length c.blocks) g.stays), λ other o. g.still o)
+
+  conflict_fits : (call : Call) (clock : ℕ) (word : Option ℕ) (inside : Bool) → mid.doing ≡ Some call → ConflictsIn inside mid clock word new → (inside ≡ false → is_begin call ≡ true) × (in_transaction new ≡ false)
+  conflict_fits call clock word true doing g = (λ shut. absurd (cc), ap in_transaction g.stays)
+  conflict_fits call clock word false doing g = (λ shut. begin_is mid.doing call doing g.begins, ap in_transaction g.stays)
+
   pub answer_fits : (call : Call) (a : Answer) → mid.doing ≡ Some call → Ends mid a new → AnswerFits (in_transaction mid) (length mid.blocks) (in_transaction new) (length new.blocks) call a
   answer_fits call (Reply r) doing g =
       let Told : Option Call → Type 0 = λ o. RepliesTo mid o r new in
-      let told : Replies mid call r new = subst Told doing g in
-      (sym (reply_fits mid call r) ∙ sym (ap length told.blocks), told.still)
+      let told = reply_answers call r (reply_cases mid call r new mid.holds mid.irrevocable (subst Told doing g)) in
+      (sym (reply_fits mid call r) ∙ told.0, told.1)
   answer_fits call (Committed at wrote) doing g =
       let same : Some call ≡ Some Commit = sym doing ∙ g.doing in
       let is : call ≡ Commit = cc in
       (g.is_open, ap in_transaction g.stays, is, g.outermost)
-  answer_fits call (Conflict clock word) doing g = (g.is_open, ap in_transaction g.stays)
+  answer_fits call (Conflict clock word) doing g = conflict_fits call clock word (in_transaction mid) doing g
   answer_fits call (Busy clock) doing g = (g.closed, ap in_transaction g.stays)
-  answer_fits call (Full at) doing g = (g.is_open, ap in_transaction g.stays)
+  answer_fits call (Full at) doing g = (wants_begin mid call (subst (WantsClock mid) doing g.wants), ap in_transaction g.stays)

@@ -2,7 +2,7 @@
 -- Also what holds of actors that have taken no step.
 use Rattle.itm_types.specs.declared.call.Ran.{Ran}
 use Rattle.std.proofs.Common.{◌≡◌, ℕ, ◌+◌, ◌/◌, Bool, true, false, nat_lt, List, [], ◌∷◌, ◌++◌, append_assoc, Option, None, Some, refl, sym, ap, subst, ◌∙◌, arith, zero, suc}
-use Rattle.norec_world.proofs.Common.{Actor, Attempt, Cells, Continues, EndsAt, Entry, GoesOnAfter, IsBetween, IsFirst, IsSound, NoMemory, Outcome, Prior, Ready, Rows, Rules, Tries, TriesAgain, active_of, begins, between, current_of, ending_in, ending_of, in_transaction, over, prior_of, runs, turned_away, none-some}
+use Rattle.norec_world.proofs.Common.{Actor, Attempt, Cells, Continues, EndsAt, Entry, GoesOnAfter, IsBetween, IsFirst, IsSound, NoMemory, Outcome, Prior, Ready, Rows, Rules, Tries, TriesAgain, active_of, begins, between, current_of, ending_in, ending_of, in_transaction, outrun, over, prior_of, runs, shut_out, turned_away, none-some}
 use Rattle.norec_world.specs.declared.attempt.Outcome.TheVariants as outcomes
 use Rattle.norec_world.proofs.SoundSteps.{rests}
 use Rattle.norec_world.proofs.TryEnds.{stays}
@@ -29,12 +29,14 @@ starts_between {P} clock nth p r a t none nothing first = by_try t
     by_try (runs t) = absurd (let n = sym idle ∙ t.was in cc)
     by_try (over t) = absurd (let n = sym idle ∙ t.was in cc)
     by_try (turned_away t) = absurd (let n = sym nothing ∙ t.was in cc)
+    by_try (outrun t) = absurd (let n = sym nothing ∙ t.was in cc)
+    by_try (shut_out t) = absurd (let n = sym nothing ∙ t.was in cc)
 
 -- another actor's attempts leave it there
 pub first_still : {P : Type 0} (clock patience max_commits retries : ℕ) (r r' : Rows) (a : Actor P) → active_of a.thread r'.active ≡ active_of a.thread r.active → IsFirst clock patience max_commits retries r a → IsFirst clock patience max_commits retries r' a
 first_still clock patience max_commits retries r r' a same f =
     let b = f.between in
-    record { between = record { none = same ∙ b.none; tries = b.tries; opens = b.opens; goes_on = b.goes_on }; patience_is = f.patience_is; limit = f.limit; retries_are = f.retries_are }
+    record { between = record { none = same ∙ b.none; tries = b.tries; opens = b.opens; goes_on = b.goes_on }; patience_is = f.patience_is; limit = f.limit; retries_are = f.retries_are; seen = f.seen }
 
 continues_twice : (a b c : Attempt) → Continues a b → Continues b c → Continues a c
 continues_twice a b c x y = record {
@@ -83,7 +85,7 @@ module _ {P : Type 0} (clock clock1 : ℕ) (p : Prior) (r1 r2 : Rows) (a1 a2 : A
   after o t = still_going ready (ap ending_of t.status)
 
   -- the tries left and the limit are what they were
-  after_same : (o : Outcome) → (nth : ℕ) → nth ≡ p.nth → GoesOnAfter o clock1 (record { ended = r1.ended; active = active_of a1.thread r1.active; pending = a1.pending; nth = nth; retries = a1.retries; max_commits = a1.engine.max_commits }) r2 a2
+  after_same : (o : Outcome) → (nth : ℕ) → nth ≡ p.nth → GoesOnAfter o clock1 (record { ended = r1.ended; active = active_of a1.thread r1.active; pending = a1.pending; nth = nth; retries = a1.retries; max_commits = a1.engine.max_commits; seen = a1.engine.clock }) r2 a2
       → GoesOnAfter o clock1 p r2 a2
   after_same outcomes.Conflict nth e t = subst (λ (k : ℕ). TriesAgain (nat_lt k p.nth) clock1 p.nth r2 a2) retries (subst (λ (k : ℕ). TriesAgain (nat_lt a1.retries k) clock1 k r2 a2) e t)
   after_same o nth e t = t
@@ -97,6 +99,10 @@ module _ {P : Type 0} (clock clock1 : ℕ) (p : Prior) (r1 r2 : Rows) (a1 a2 : A
   tries_then (turned_away t) =
       let b = again (nat_lt p.retries p.nth) t.after in
       turned_away (record { none = t.none; row = t.row; was = t.was; ended = b.1 ∙ t.ended; odd = t.odd; same = t.same; after = b.0 })
+  tries_then (outrun t) =
+      let b = again (nat_lt p.retries p.nth) t.after in
+      outrun (record { none = t.none; row = t.row; was = t.was; ended = b.1 ∙ t.ended; moved = t.moved; same = t.same; after = b.0 })
+  tries_then (shut_out t) = still_going ready (ap ending_of t.after.status)
   tries_then (runs t) = by_work work
     where
       same_row : (row : Attempt) → current_of (active_of a1.thread r1.active) a1.pending ≡ Some row → t.row' ≡ row
@@ -106,6 +112,8 @@ module _ {P : Type 0} (clock clock1 : ℕ) (p : Prior) (r1 r2 : Rows) (a1 a2 : A
       by_work (between w) = absurd (let n = sym (ap (λ (o : Option Attempt). current_of o a1.pending) t.now) ∙ w.idle in cc)
       by_work (begins w) = absurd (let n = sym nothing ∙ w.was in cc)
       by_work (turned_away w) = absurd (let n = sym nothing ∙ w.was in cc)
+      by_work (outrun w) = absurd (let n = sym nothing ∙ w.was in cc)
+      by_work (shut_out w) = absurd (let n = sym nothing ∙ w.was in cc)
       by_work (runs w) = runs (record {
         row = t.row;
         row' = w.row';

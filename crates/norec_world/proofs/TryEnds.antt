@@ -1,12 +1,16 @@
 -- What an answer does to the try that its call belongs to.
 use Rattle.itm_types.specs.declared.call.Ran.{Ran}
-use Rattle.std.proofs.Common.{true≢false, inl, inr, ◌≡◌, ℕ, ◌+◌, ◌*◌, ◌/◌, ◌%◌, ◌≤◌, Bool, true, false, nat_lt, if◌then◌else◌, is_some, List, [], ◌∷◌, ◌++◌, length, Option, None, Some, refl, sym, ap, subst, ◌∙◌, arith, append-nil, ◌⊎◌}
+use Rattle.std.proofs.Common.{true≢false, inl, inr, ◌≡◌, ℕ, ◌+◌, ◌*◌, ◌/◌, ◌%◌, ◌≤◌, Bool, true, false, nat_lt, if◌then◌else◌, is_some, IsSome, ◌&&◌, not, List, [], ◌∷◌, ◌++◌, length, Option, None, Some, refl, sym, ap, subst, ◌∙◌, arith, append-nil, ◌⊎◌}
 use Rattle.nest_frames.specs.Nest.{Frame}
 use Rattle.norec_world.proofs.PlayerLaws.{deep_of}
 use Rattle.norec_world.proofs.Cancels.{cancels}
-use Rattle.norec_world.proofs.Common.{Actor, Agrees, Answer, Attempt, Begin, ClosedBy, Entry, RecordsReply, Busy, Call, Cells, Committed, Conflict, Core, CountsTry, End, Ended, EndsAt, Full, GoesOnAfter, HasRow, IsBetween, IsMemory, IsReady, IsSettledBy, IsTied, IsTold, MAX_OPEN_BLOCKS, Opens, Outcome, Prior, Props, Ready, Records, Replied, Replies, RepliesTo, Reply, RestsAs, Rows, Rules, State, Status, Tries, TriesAgain, active_of, after, begins, between, cases_Bool, cond-false, cond-true, current_of, ending_of, in_transaction, is_begin, is_done, none_inside, over, prior_of, runs, state_over, turned_away, with_opened}
+use Rattle.norec_world.proofs.Common.{Actor, Agrees, Answer, Attempt, Begin, ClosedBy, Entry, RecordsReply, Busy, Call, Cells, Committed, Code, Conflict, ConflictsIn, Core, CountsTry, Enters, End, Ended, EndsAt, Full, GoesOnAfter, HasRow, IsBetween, IsMemory, IsReady, IsSettledBy, IsTied, IsTold, MAX_OPEN_BLOCKS, Opens, Outcome, Prior, Props, Ready, Records, Replied, Replies, RepliesHeld, RepliesTo, Reply, RestsAs, Rows, Rules, State, Status, Tries, TriesAgain, Agrees-drop, active_of, begins, between, cases_Bool, cond-false, cond-true, current_of, ending_of, in_transaction, is_begin, is_done, is_inside, none_inside, outrun, over, prior_of, recoded, reply as replied, reply_cases, runs, shut_out, stands_for, turned_away, with_opened}
 use Rattle.itm_types.specs.declared.call.Reply.TheVariants as replies
-use Rattle.norec_core.specs.Proceeds.{IsBegin}
+use Rattle.itm_model.specs.Machine.{or_else, reply_unless, unless}
+use Rattle.itm_types.specs.declared.call.Refusal.TheVariants.{NoIrrevocable}
+use Rattle.norec_core.specs.Core.{goes, may_go}
+use Rattle.norec_core.specs.Proceeds.{Conflicts, IsBegin, IsLost, IsSettled, WantsClock, blocks_after}
+use Rattle.norec_core.specs.Stands.{state_in}
 use Rattle.norec_world.specs.declared.attempt.Outcome.TheVariants as outcomes
 use Rattle.norec_world.specs.declared.attempt.End.TheVariants as ends
 use Rattle.norec_world.proofs.Taken.{HasAnswered, still_going}
@@ -14,9 +18,29 @@ use Rattle.norec_world.proofs.ActiveRows.{changed_here, opened_here}
 use Rattle.norec_world.proofs.RecordedRows.{row_none, was_open}
 use Rattle.norec_world.proofs.SoundOthers.{row_open, row_shut}
 
+unfreed_by : (mid new : Core) (call : Call) (r : Replied) → Replies mid call r new ⊎ Enters mid call r new ⊎ RepliesHeld mid call r new → mid.freed ≡ false
+unfreed_by mid new call r (inl g) = g.unfreed
+unfreed_by mid new call r (inr (inl g)) = g.unfreed
+unfreed_by mid new call r (inr (inr g)) = g.unfreed
+
 pub unfreed_to : (mid new : Core) (o : Option Call) (r : Replied) → RepliesTo mid o r new → mid.freed ≡ false
 unfreed_to mid new None r g = absurd g
-unfreed_to mid new (Some call) r g = g.unfreed
+unfreed_to mid new (Some call) r g = unfreed_by mid new call r (reply_cases mid call r new mid.holds mid.irrevocable g)
+
+-- an irrevocable transaction is open
+irrevocable_open : (e : Core) → IsSettled e → e.irrevocable ≡ true → in_transaction e ≡ true
+irrevocable_open e s i = (s.holder (s.irrevocable i).0).0
+
+-- a reply that leaves no transaction open is one of a transaction that is not irrevocable
+plain_by : (mid new : Core) (call : Call) (r : Replied) → IsSettled new → in_transaction new ≡ false → Replies mid call r new ⊎ Enters mid call r new ⊎ RepliesHeld mid call r new → Replies mid call r new
+plain_by mid new call r s shut (inl g) = g
+plain_by mid new call r s shut (inr (inl g)) = absurd (true≢false (sym (irrevocable_open new s (ap (λ (c : Core). c.irrevocable) g.stays)) ∙ shut))
+plain_by mid new call r s shut (inr (inr g)) = absurd (true≢false (sym (irrevocable_open new s (ap (λ (c : Core). c.irrevocable) g.stays ∙ g.irrevocable)) ∙ shut))
+
+pub plain_reply : (mid new : Core) (call : Call) (r : Replied) → mid.doing ≡ Some call → IsSettled new → in_transaction new ≡ false → RepliesTo mid mid.doing r new → Replies mid call r new
+plain_reply mid new call r doing s shut g =
+    let Told : Option Call → Type 0 = λ o. RepliesTo mid o r new in
+    plain_by mid new call r s shut (reply_cases mid call r new mid.holds mid.irrevocable (subst Told doing g))
 
 -- ## What stays as it is, and what ends with no call more
 
@@ -26,7 +50,7 @@ module _ {P : Type 0} (clock clock' : ℕ) (r r' : Rows) (a a' : Actor P) (ended
   stays_between none nothing b = between (record { idle = ap (λ (o : Option Attempt). current_of o a.pending) none ∙ nothing; ended = ended; half = half; between = b })
 
   -- the open attempt stays as it is
-  pub stays_open : (row : Attempt) → active_of a.thread r.active ≡ Some row → active_of a'.thread r'.active ≡ Some row → a'.nth ≡ a.nth → (ending_of a'.status ≡ Some ends.GaveUp → ⊥) → (ending_of a'.status ≡ Some ends.NoMemory → ⊥)
+  pub stays_open : (row : Attempt) → active_of a.thread r.active ≡ Some row → active_of a'.thread r'.active ≡ Some row → a'.nth ≡ a.nth → (ending_of a'.status ≡ Some ends.GaveUp → ⊥) → (ending_of a'.status ≡ Some ends.NoMemory → a'.engine.irrevocable ≡ true)
       → Tries clock (prior_of r a) clock' r' a'
   stays_open row was now nth goes_on fed = runs (record {
     row = row;
@@ -44,7 +68,7 @@ module _ {P : Type 0} (clock clock' : ℕ) (r r' : Rows) (a a' : Actor P) (ended
   -- either
   pub stays : (b : Bool) → HasRow b r a.thread → a.pending ≡ None → active_of a'.thread r'.active ≡ active_of a.thread r.active → a'.nth ≡ a.nth
       → (b ≡ false → (row : Attempt) → a'.pending ≡ Some row → row ≡ record { thread = a'.thread; nth = a.nth; began = clock' / 2; at = 0; props = row.props; arena = a'.engine.arena; calls = []; ran = []; outcome = outcomes.Unfinished })
-      → (ending_of a'.status ≡ Some ends.GaveUp → ⊥) → (ending_of a'.status ≡ Some ends.NoMemory → ⊥) → Tries clock (prior_of r a) clock' r' a'
+      → (ending_of a'.status ≡ Some ends.GaveUp → ⊥) → (ending_of a'.status ≡ Some ends.NoMemory → a'.engine.irrevocable ≡ true) → Tries clock (prior_of r a) clock' r' a'
   stays true h nothing same nth opens goes_on fed = stays_open h.0 h.1 (same ∙ h.1) nth goes_on fed
   stays false h nothing same nth opens goes_on fed = stays_between h nothing (record { none = same ∙ h; tries = nth; opens = opens refl; goes_on = goes_on })
 
@@ -59,11 +83,11 @@ not_closed outcomes.NoMemory e calls = tt
 not_closed outcomes.Unfinished e calls = tt
 
 -- the open attempt ends, and its block has not
-pub stops_try : {P : Type 0} (clock clock' : ℕ) (r r' : Rows) (a a' : Actor P) (row : Attempt) (at : ℕ) (outcome : Outcome) (ran : List Ran)
+pub stops_try : {P : Type 0} (seen clock clock' : ℕ) (r r' : Rows) (a a' : Actor P) (row : Attempt) (at : ℕ) (outcome : Outcome) (ran : List Ran)
     → active_of a.thread r.active ≡ Some row → r'.ended ≡ r.ended ++ record row { at = at; ran = ran; outcome = outcome } ∷ [] → (more : List Ran) → ran ≡ row.ran ++ more
     → at ≡ a'.engine.snapshot / 2 → EndsAt a.engine.max_commits clock clock' at outcome → is_done outcome ≡ false
-    → GoesOnAfter outcome clock' (prior_of r a) r' a' → Tries clock (prior_of r a) clock' r' a'
-stops_try clock clock' r r' a a' row at outcome ran was ended more_ran ran_is reads ends undone goes = over (record {
+    → GoesOnAfter outcome clock' (prior_of r a) r' a' → Tries clock (record (prior_of r a) { seen = seen }) clock' r' a'
+stops_try seen clock clock' r r' a a' row at outcome ran was ended more_ran ran_is reads ends undone goes = over (record {
   row = row;
   row' = record row { at = at; ran = ran; outcome = outcome };
   was = ap (λ (o : Option Attempt). current_of o a.pending) was;
@@ -72,8 +96,17 @@ stops_try clock clock' r r' a a' row at outcome ran was ended more_ran ran_is re
   reads = reads;
   at = ends;
   closed = not_closed outcome undone row.calls;
-  after = goes;
+  after = goes_seen outcome goes;
 })
+  where
+    goes_seen : (o : Outcome) → GoesOnAfter o clock' (prior_of r a) r' a' → GoesOnAfter o clock' (record (prior_of r a) { seen = seen }) r' a'
+    goes_seen outcomes.Committed g = g
+    goes_seen outcomes.ReadOnly g = g
+    goes_seen outcomes.Cancelled g = g
+    goes_seen outcomes.Conflict g = g
+    goes_seen outcomes.Full g = g
+    goes_seen outcomes.NoMemory g = g
+    goes_seen outcomes.Unfinished g = g
 
 -- a try came to nothing: it was the last one, or one more comes
 one_try_more : {P : Type 0} {a last : Actor P} → CountsTry a last → a.status ≡ Ready
@@ -117,17 +150,18 @@ module _ {P : Type 0} (rules : Rules P)
 -- ## A call of an open transaction is answered
 
 -- half the snapshot is no later than the clock
-seen : (cells : Cells) (e : Core) → IsTied cells e → 2 * (e.snapshot / 2) ≤ cells.clock
-seen cells e tied = (let reached = tied.settled.reached in let late = tied.late in omega arith)
+reached : (cells : Cells) (e : Core) → IsTied cells e → 2 * (e.snapshot / 2) ≤ cells.clock
+reached cells e tied = (let reached = tied.settled.reached in let late = tied.late in omega arith)
 
-module _ {P : Type 0} {rules : Rules P} {cells cells' : Cells} {r r1 : Rows} {mid : Core} {a last : Actor P} {call : Call} where
-  pub open_tries : (ans : Answer) → HasAnswered rules true cells cells' r r1 mid a last call ans → Tries cells.clock (prior_of r a) cells'.clock r1 last
+-- which clock the engine had seen before, is nothing to it
+module _ {P : Type 0} {rules : Rules P} {cells cells' : Cells} {r r1 : Rows} {mid : Core} {a last : Actor P} {call : Call} (seen : ℕ) where
+  pub open_tries : (ans : Answer) → HasAnswered rules true cells cells' r r1 mid a last call ans → Tries cells.clock (record (prior_of r a) { seen = seen }) cells'.clock r1 last
   open_tries (Reply reply) m = by_open (in_transaction last.engine) refl m.told
     where
       half : cells'.clock / 2 ≡ cells.clock / 2
       half = m.taken.moves.keeps (unfreed_to mid a.engine mid.doing reply m.ends)
 
-      by_open : (now : Bool) → in_transaction last.engine ≡ now → RecordsReply rules true now r r1 a last call reply → Tries cells.clock (prior_of r a) cells'.clock r1 last
+      by_open : (now : Bool) → in_transaction last.engine ≡ now → RecordsReply rules true now r r1 a last call reply → Tries cells.clock (record (prior_of r a) { seen = seen }) cells'.clock r1 last
       by_open true o told =
           let row = m.answered.kept.row in
           let later : (more : List Ran) × (last.engine.actions.ran ≡ row.0.ran ++ more) = (let f = m.taken.first row.0 row.1 in (f.0, ap (λ (c : Core). c.actions.ran) m.settled.engine ∙ sym f.1)) in
@@ -148,7 +182,7 @@ module _ {P : Type 0} {rules : Rules P} {cells cells' : Cells} {r r1 : Rows} {mi
           let row = m.answered.kept.row in
           let later : (more : List Ran) × (last.engine.actions.ran ≡ row.0.ran ++ more) = (let f = m.taken.first row.0 row.1 in (f.0, ap (λ (c : Core). c.actions.ran) m.settled.engine ∙ sym f.1)) in
           let closed : in_transaction a.engine ≡ false = ap in_transaction (sym m.settled.engine) ∙ o in
-          let ends : Replies mid call reply a.engine = subst (λ (o : Option Call). RepliesTo mid o reply a.engine) m.taken.doing m.ends in
+          let ends : Replies mid call reply a.engine = plain_reply mid a.engine call reply m.taken.doing m.taken.tied.settled closed m.ends in
           let abort = cancels mid a.engine call reply cells'.words ends m.taken.was_is closed (sym m.taken.words, m.taken.tied.fit) (subst (Agrees cells'.words) (sym (m.taken.tied.settled.closed closed).0) tt) in
           over (record {
             row = row.0;
@@ -157,7 +191,7 @@ module _ {P : Type 0} {rules : Rules P} {cells cells' : Cells} {r r1 : Rows} {mi
             ended = ap (λ (x : Rows). x.ended) (told.0 row.0 row.1);
             continues = record { thread = refl; nth = refl; began = refl; props = refl; arena = refl; more = record { call = call; reply = reply } ∷ []; calls = refl; more_ran = later.0; ran = later.1 };
             reads = refl;
-            at = (half, omega (arith, ap (λ (c : Core). c.snapshot) m.settled.engine, seen cells' a.engine m.taken.tied));
+            at = (half, omega (arith, ap (λ (c : Core). c.snapshot) m.settled.engine, reached cells' a.engine m.taken.tied));
             closed = (row.0.calls, abort.0, (λ i. row.0.calls ++ record { call = abort.1 i; reply = abort.2 i } ∷ []));
             after = is_between rules r r1 a last true m.settled cells'.clock 1 closed (told.4 ∙ m.answered.status) told.3;
           })
@@ -181,76 +215,93 @@ module _ {P : Type 0} {rules : Rules P} {cells cells' : Cells} {r r1 : Rows} {mi
       at_end : (b : Bool) → wrote ≡ b → EndsAt a.engine.max_commits cells.clock cells'.clock at (if b then outcomes.Committed else outcomes.ReadOnly)
       at_end true e = subst (λ (n : ℕ). (cells.clock ≡ 2 * n + 1) × (cells'.clock ≡ 2 * n + 2)) (sym m.ends.at_is) (m.taken.moves.frees (m.ends.freed ∙ e))
       at_end false e =
-          (m.taken.moves.keeps (m.ends.freed ∙ e), omega (arith, ap (λ (c : Core). c.snapshot) m.ends.stays, m.ends.at_is, seen cells' a.engine m.taken.tied))
+          (m.taken.moves.keeps (m.ends.freed ∙ e), omega (arith, ap (λ (c : Core). c.snapshot) m.ends.stays, m.ends.at_is, reached cells' a.engine m.taken.tied))
 
       closed_end : (b : Bool) → ClosedBy (if b then outcomes.Committed else outcomes.ReadOnly) (m.answered.kept.row.0.calls ++ record { call = call; reply = replies.Done } ∷ [])
       closed_end true = (m.answered.kept.row.0.calls, (λ i. m.answered.kept.row.0.calls ++ record { call = m.answered.fits.2 i; reply = replies.Done } ∷ []))
       closed_end false = (m.answered.kept.row.0.calls, (λ i. m.answered.kept.row.0.calls ++ record { call = m.answered.fits.2 i; reply = replies.Done } ∷ []))
 
-      after_end : (b : Bool) → IsBetween cells'.clock 1 r1 last → GoesOnAfter (if b then outcomes.Committed else outcomes.ReadOnly) cells'.clock (prior_of r a) r1 last
+      after_end : (b : Bool) → IsBetween cells'.clock 1 r1 last → GoesOnAfter (if b then outcomes.Committed else outcomes.ReadOnly) cells'.clock (record (prior_of r a) { seen = seen }) r1 last
       after_end true x = x
       after_end false x = x
   open_tries (Conflict clock word) m =
       let row = m.answered.kept.row in
-      stops_try cells.clock cells'.clock r r1 a last row.0 (last.engine.snapshot / 2) outcomes.Conflict last.engine.actions.ran row.1 (ap (λ (x : Rows). x.ended) (m.told.0 row.0 row.1))
+      let g : Conflicts mid clock word a.engine = subst (λ (b : Bool). ConflictsIn b mid clock word a.engine) m.taken.was_is m.ends in
+      stops_try seen cells.clock cells'.clock r r1 a last row.0 (last.engine.snapshot / 2) outcomes.Conflict last.engine.actions.ran row.1 (ap (λ (x : Rows). x.ended) (m.told.0 row.0 row.1))
       (m.taken.first row.0 row.1).0 (ap (λ (c : Core). c.actions.ran) m.settled.engine ∙ sym (m.taken.first row.0 row.1).1) refl (
-        m.taken.moves.keeps m.ends.unfreed,
-        omega (arith, ap (λ (c : Core). c.snapshot) (m.settled.engine ∙ m.ends.stays), ap (λ (c : Core). c.clock) m.ends.stays, m.ends.later, m.ends.clock_is, m.taken.tied.late),
+        m.taken.moves.keeps g.unfreed,
+        omega (arith, ap (λ (c : Core). c.snapshot) (m.settled.engine ∙ g.stays), ap (λ (c : Core). c.clock) g.stays, g.later, g.clock_is, m.taken.tied.late),
       ) refl
       (tries_again rules r r1 a last true m.settled cells'.clock m.answered.fits.1 m.answered.status m.told.2)
   open_tries (Busy clock) m = absurd (let f : true ≡ false = m.answered.fits.0 in cc)
   open_tries (Full at) m =
       let row = m.answered.kept.row in
-      stops_try cells.clock cells'.clock r r1 a last row.0 at outcomes.Full last.engine.actions.ran row.1 (ap (λ (x : Rows). x.ended) (m.told.0 row.0 row.1))
+      stops_try seen cells.clock cells'.clock r r1 a last row.0 at outcomes.Full last.engine.actions.ran row.1 (ap (λ (x : Rows). x.ended) (m.told.0 row.0 row.1))
       (m.taken.first row.0 row.1).0 (ap (λ (c : Core). c.actions.ran) m.settled.engine ∙ sym (m.taken.first row.0 row.1).1)
       (m.ends.at_is ∙ ap (λ (n : ℕ). n / 2) (sym (ap (λ (c : Core). c.snapshot) m.settled.engine))) (
         m.taken.moves.keeps m.ends.unfreed,
-        omega (arith, m.ends.at_is, seen cells' a.engine m.taken.tied),
+        omega (arith, m.ends.at_is, reached cells' a.engine m.taken.tied),
         omega (arith, m.ends.full, ap (λ (c : Core). c.max_commits) m.ends.stays),
       ) refl
       (record { none = none_active rules r r1 a last true m.settled m.answered.fits.1; status = m.told.1 })
 
 -- ## A begin is answered
 
--- the plain machine refuses no outermost begin, so the engine's reply to one opens
-pub begin_opens : (mid new : Core) (m : List ℕ) (props : Props) (room : ℕ) (reply : Replied) → Replies mid (Begin props room) reply new → in_transaction mid ≡ false → IsMemory mid.words m → Agrees m new.log → in_transaction new ≡ false → ⊥
-begin_opens mid new m props room reply g outside memory agrees closed =
-    let opened_blocks = ap (λ (b : List Frame). (after MAX_OPEN_BLOCKS (state_over mid.writes b mid.arena mid.actions m) (Begin props room)).blocks) (none_inside mid.blocks outside) in
-    let blocks = ap (λ (s : State). s.blocks) (g.meets m memory agrees) in
-    let some = sym (ap (λ (b : List Frame). (state_over new.writes b new.arena new.actions m).blocks) (none_inside new.blocks closed)) ∙ (blocks ∙ opened_blocks) in
-    absurd (cc)
+-- the plain machine refuses an outermost begin only where it may not go irrevocable, so else the engine's reply to one opens
+opening_reply : (c : Core) (m : List ℕ) (props : Props) (room : ℕ) → c.irrevocable ≡ false → c.blocks ≡ [] → may_go c.blocks props ≡ true → replied MAX_OPEN_BLOCKS (stands_for c m) (Begin props room) ≡ Code 5
+opening_reply c m props room revocable none may =
+    (λ i. replied MAX_OPEN_BLOCKS (state_in (revocable i) c.writes (none i) c.arena c.actions m) (Begin props room))
+    ∙ ap (λ (b : Bool). reply_unless (or_else (or_else (unless b NoIrrevocable) None) None) (Code 5)) (sym (ap (λ (bs : List Frame). may_go bs props) none) ∙ may)
+
+code_opens : (mid : Core) (props : Props) (room : ℕ) (again : Bool) → is_inside (blocks_after mid (Begin props room) (recoded (Begin props room) again (Code 5))) ≡ true
+code_opens mid props room true = refl
+code_opens mid props room false = refl
+
+pub begin_opens : (mid new : Core) (m : List ℕ) (props : Props) (room : ℕ) (told : Replied) → Replies mid (Begin props room) told new → in_transaction mid ≡ false → may_go mid.blocks props ≡ true → IsMemory mid.words m → Agrees m new.log → in_transaction new ≡ false → ⊥
+begin_opens mid new m props room told g outside may memory agrees closed =
+    let code = g.reply_is m memory (Agrees-drop m mid.entry new.log agrees) ∙ ap (recoded (Begin props room) mid.again) (opening_reply mid m props room g.revocable (none_inside mid.blocks outside) may) in
+    let opens : in_transaction new ≡ true = ap is_inside (g.blocks ∙ ap (blocks_after mid (Begin props room)) code) ∙ code_opens mid props room mid.again in
+    true≢false (sym opens ∙ closed)
 
 pub begin_call : (call : Call) → is_begin call ≡ true → (props : Props) × (room : ℕ) × (call ≡ Begin props room)
 begin_call (Begin props room) e = (props, room, refl)
 begin_call call e = absurd (cc)
+
+-- a begin that goes irrevocable
+may_by : (room : ℕ) (goes may few revocable : Bool) → IsSome (if goes && may && few && revocable then Some room else None) → may ≡ true
+may_by room true true few revocable g = refl
+may_by room true false few revocable g = absurd (cc)
+may_by room false may few revocable g = absurd (cc)
+
+goes_by : (room : ℕ) (goes may few revocable : Bool) → IsSome (if goes && may && few && revocable then Some room else None) → goes ≡ true
+goes_by room true may few revocable g = refl
+goes_by room false may few revocable g = absurd (cc)
 
 call_begins : (call : Call) → IsBegin (Some call) → is_begin call ≡ true
 call_begins (Begin props room) b = refl
 call_begins call b = absurd b
 
 module _ {P : Type 0} {rules : Rules P} {cells cells' : Cells} {r r1 : Rows} {mid : Core} {a last : Actor P} {call : Call} where
-  -- a reply outside a transaction: a begin's attempt is open, or the call was no begin
+  -- a reply outside a transaction: a begin's attempt is open, or the call was no begin, or one that was refused
   pub begun_or_not : (reply : Replied) → HasAnswered rules false cells cells' r r1 mid a last call (Reply reply)
       → ((row : Attempt) × (a.pending ≡ Some row) × (in_transaction last.engine ≡ true) × (r1 ≡ with_opened (record row { at = last.engine.snapshot / 2 }) r))
-      ⊎ ((a.pending ≡ None) × (in_transaction last.engine ≡ false) × (r1 ≡ r))
+      ⊎ ((in_transaction last.engine ≡ false) × (r1 ≡ r) × ((a.pending ≡ None) ⊎ ((props : Props) × (room : ℕ) × (call ≡ Begin props room))))
   begun_or_not reply m = by_open (in_transaction last.engine) refl a.pending refl m.told.0
     where
       by_open : (now : Bool) → in_transaction last.engine ≡ now → (p : Option Attempt) → a.pending ≡ p → Opens now r p (last.engine.snapshot / 2) r1
           → ((row : Attempt) × (a.pending ≡ Some row) × (in_transaction last.engine ≡ true) × (r1 ≡ with_opened (record row { at = last.engine.snapshot / 2 }) r))
-          ⊎ ((a.pending ≡ None) × (in_transaction last.engine ≡ false) × (r1 ≡ r))
+          ⊎ ((in_transaction last.engine ≡ false) × (r1 ≡ r) × ((a.pending ≡ None) ⊎ ((props : Props) × (room : ℕ) × (call ≡ Begin props room))))
       by_open true e (Some row) p told = inl (row, p, e, told)
-      by_open false e None p told = inr (p, e, told)
+      by_open false e None p told = inr (e, told, inl p)
       by_open true e None p told =
           let now = ap in_transaction (sym m.settled.engine) ∙ e in
           absurd (let f : false ≡ true = was_open false (in_transaction a.engine) (rules.depth a.player) (length a.engine.blocks) call reply m.answered.nested.deep (deep_of a.engine.blocks) (λ x. sym (m.answered.in_call.begins x) ∙ ap is_some p) m.answered.fits.0 now in cc)
-      by_open false e (Some row) p told =
-          let b = begin_call call (sym (m.answered.in_call.begins refl) ∙ ap is_some p) in
-          let g : Replies mid (Begin b.0 b.1) reply a.engine = subst (λ (o : Option Call). RepliesTo mid o reply a.engine) (m.taken.doing ∙ ap (λ (x : Call). Some x) b.2) m.ends in
-          let closed = ap in_transaction (sym m.settled.engine) ∙ e in
-          absurd (begin_opens mid a.engine cells'.words b.0 b.1 reply g m.taken.was_is (sym m.taken.words, m.taken.tied.fit) (subst (Agrees cells'.words) (sym (m.taken.tied.settled.closed closed).0) tt) closed)
+      by_open false e (Some row) p told = inr (e, told, inr (begin_call call (sym (m.answered.in_call.begins refl) ∙ ap is_some p)))
 
-  pub begin_tries : (ans : Answer) → HasAnswered rules false cells cells' r r1 mid a last call ans → Tries cells.clock (prior_of r a) cells'.clock r1 last
-  begin_tries (Reply reply) m = elim (begun_or_not reply m) [
+  -- where a step was done, the begin was not refused; the engine had seen this clock before
+  pub begin_tries : (seen : ℕ) → ((props : Props) (room : ℕ) → call ≡ Begin props room → may_go mid.blocks props ≡ true) → (ans : Answer) → ((clock : ℕ) (word : Option ℕ) → ans ≡ Conflict clock word → seen ≤ mid.snapshot)
+      → HasAnswered rules false cells cells' r r1 mid a last call ans → Tries cells.clock (record (prior_of r a) { seen = seen }) cells'.clock r1 last
+  begin_tries seen may (Reply reply) early m = elim (begun_or_not reply m) [
     | inl b ↦
         (let row = b.0 in
         let q = m.answered.in_call.opens row b.1 in
@@ -263,35 +314,89 @@ module _ {P : Type 0} {rules : Rules P} {cells cells' : Cells} {r r1 : Rows} {mi
           now = ap (λ (t : ℕ). active_of t r1.active) (m.settled.thread ∙ sym q.thread) ∙ (ap (λ (x : Rows). active_of row.thread x.active) b.3 ∙ opened_here new_row r.active free);
           continues = record { thread = refl; nth = refl; began = refl; props = refl; arena = refl; more = []; calls = sym (append-nil row.calls); more_ran = []; ran = sym (append-nil row.ran) };
           ended = ap (λ (x : Rows). x.ended) b.3;
-          half = ap (λ (n : ℕ). n / 2) (m.taken.outside refl).0;
+          half = half;
           tries = m.told.3;
           goes_on = still_going (m.told.4 ∙ m.answered.status);
           fed = still_going (m.told.4 ∙ m.answered.status);
         }))
-    | inr n ↦ between (record {
-      idle = ap (λ (o : Option Attempt). current_of o a.pending) m.answered.kept.row ∙ n.0;
-      ended = ap (λ (x : Rows). x.ended) n.2;
-      half = ap (λ (n : ℕ). n / 2) (m.taken.outside refl).0;
-      between = is_between rules r r1 a last false m.settled cells'.clock a.nth (ap in_transaction (sym m.settled.engine) ∙ n.1) (m.told.4 ∙ m.answered.status) m.told.3;
-    })
-  ]
-  begin_tries (Busy clock) m = by_pending a.pending refl
-    where
-      by_pending : (p : Option Attempt) → a.pending ≡ p → Tries cells.clock (prior_of r a) cells'.clock r1 last
-      by_pending None p = absurd (let b = call_begins call (subst IsBegin m.taken.doing m.ends.begins) in let f : false ≡ true = ap is_some (sym p) ∙ (m.answered.in_call.begins refl ∙ b) in cc)
-      by_pending (Some row) p = turned_away (record {
-        none = m.answered.kept.row;
-        row = row;
-        was = p;
-        ended = ap (λ (x : Rows). x.ended) m.told.0;
-        odd = elim (m.taken.outside refl).1 [
-          | inl loaded ↦ ap (λ (n : ℕ). n % 2) (sym loaded ∙ sym m.ends.clock_is) ∙ m.ends.odd
-          | inr soon ↦ absurd soon
-        ];
-        same = (m.taken.outside refl).0;
-        after = tries_again rules r r1 a last false m.settled cells'.clock m.answered.fits.1 m.answered.status m.told.2;
+    | inr n ↦ elim n.2 [
+      | inl nothing ↦ between (record {
+        idle = ap (λ (o : Option Attempt). current_of o a.pending) m.answered.kept.row ∙ nothing;
+        ended = ap (λ (x : Rows). x.ended) n.1;
+        half = half;
+        between = is_between rules r r1 a last false m.settled cells'.clock a.nth (ap in_transaction (sym m.settled.engine) ∙ n.0) (m.told.4 ∙ m.answered.status) m.told.3;
       })
-  begin_tries answer m = absurd (let f : false ≡ true = m.answered.fits.0 in cc)
+      | inr b ↦ absurd (refused b.0 b.1 b.2 (ap in_transaction (sym m.settled.engine) ∙ n.0))
+    ]
+  ]
+    where
+      half : cells'.clock / 2 ≡ cells.clock / 2
+      half = m.taken.moves.keeps (unfreed_to mid a.engine mid.doing reply m.ends)
+
+      refused : (props : Props) (room : ℕ) → call ≡ Begin props room → in_transaction a.engine ≡ false → ⊥
+      refused props room is closed =
+          let g : Replies mid (Begin props room) reply a.engine = subst (λ (c : Call). Replies mid c reply a.engine) is (plain_reply mid a.engine call reply m.taken.doing m.taken.tied.settled closed m.ends) in
+          begin_opens mid a.engine cells'.words props room reply g m.taken.was_is (may props room is) (sym m.taken.words, m.taken.tied.fit) (subst (Agrees cells'.words) (sym (m.taken.tied.settled.closed closed).0) tt) closed
+  begin_tries seen may (Busy clock) early m = by_pending a.pending refl
+    where
+      by_pending : (p : Option Attempt) → a.pending ≡ p → Tries cells.clock (record (prior_of r a) { seen = seen }) cells'.clock r1 last
+      by_pending None p = absurd (let b = call_begins call (subst IsBegin m.taken.doing m.ends.begins) in let f : false ≡ true = ap is_some (sym p) ∙ (m.answered.in_call.begins refl ∙ b) in cc)
+      by_pending (Some row) p =
+          let out = m.taken.outside refl m.ends.free in
+          turned_away (record {
+            none = m.answered.kept.row;
+            row = row;
+            was = p;
+            ended = ap (λ (x : Rows). x.ended) m.told.0;
+            odd = elim out.1 [
+              | inl loaded ↦ ap (λ (n : ℕ). n % 2) (sym loaded ∙ sym m.ends.clock_is) ∙ m.ends.odd
+              | inr soon ↦ absurd soon
+            ];
+            same = out.0;
+            after = tries_again rules r r1 a last false m.settled cells'.clock m.answered.fits.1 m.answered.status m.told.2;
+          })
+  begin_tries seen may (Conflict clock word) early m = by_pending a.pending refl
+    where
+      g : IsLost mid clock word a.engine
+      g = subst (λ (b : Bool). ConflictsIn b mid clock word a.engine) m.taken.was_is m.ends
+
+      by_pending : (p : Option Attempt) → a.pending ≡ p → Tries cells.clock (record (prior_of r a) { seen = seen }) cells'.clock r1 last
+      by_pending None p = absurd (let f : false ≡ true = ap is_some (sym p) ∙ (m.answered.in_call.begins refl ∙ m.answered.fits.0 refl) in cc)
+      by_pending (Some row) p =
+          let out = m.taken.outside refl g.free in
+          outrun (record {
+            none = m.answered.kept.row;
+            row = row;
+            was = p;
+            ended = ap (λ (x : Rows). x.ended) m.told.0;
+            moved = elim out.1 [
+              | inl loaded ↦ omega (arith, early clock word refl, g.later, g.clock_is, loaded, out.0)
+              | inr soon ↦ absurd soon
+            ];
+            same = out.0;
+            after = tries_again rules r r1 a last false m.settled cells'.clock m.answered.fits.1 m.answered.status m.told.2;
+          })
+  begin_tries seen may (Full at) early m = by_pending a.pending refl
+    where
+      by_pending : (p : Option Attempt) → a.pending ≡ p → Tries cells.clock (record (prior_of r a) { seen = seen }) cells'.clock r1 last
+      by_pending None p = absurd (let f : false ≡ true = ap is_some (sym p) ∙ (m.answered.in_call.begins refl ∙ m.answered.fits.0 refl) in cc)
+      by_pending (Some row) p =
+          let out = m.taken.outside refl m.ends.free in
+          let b = begin_call call (m.answered.fits.0 refl) in
+          let wants : IsSome (goes mid (Begin b.0 b.1)) = subst (λ (o : Option Call). WantsClock mid o) (m.taken.doing ∙ ap (λ (x : Call). Some x) b.2) m.ends.wants in
+          shut_out (record {
+            none = m.answered.kept.row;
+            row = row;
+            was = p;
+            ended = ap (λ (x : Rows). x.ended) m.told.0;
+            goes = ap (λ (x : Props). x.goes_irrevocable) (m.answered.in_call.props row b.0 b.1 p b.2) ∙ goes_by b.1 b.0.goes_irrevocable (may_go mid.blocks b.0) (nat_lt (length mid.blocks) MAX_OPEN_BLOCKS) (not mid.irrevocable) wants;
+            may = ap (may_go []) (m.answered.in_call.props row b.0 b.1 p b.2)
+                ∙ (sym (ap (λ (bs : List Frame). may_go bs b.0) (none_inside mid.blocks m.taken.was_is)) ∙ may_by b.1 b.0.goes_irrevocable (may_go mid.blocks b.0) (nat_lt (length mid.blocks) MAX_OPEN_BLOCKS) (not mid.irrevocable) wants);
+            full = omega (arith, m.ends.full, m.ends.at_is, ap (λ (c : Core). c.max_commits) m.ends.stays, reached cells' a.engine m.taken.tied, out.0);
+            same = out.0;
+            after = record { none = none_active rules r r1 a last false m.settled m.answered.fits.1; status = m.told.1 };
+          })
+  begin_tries seen may (Committed at wrote) early m = absurd (let f : false ≡ true = m.answered.fits.0 in cc)
 
 -- ## An answer ends no actor but one that gives up
 
@@ -341,6 +446,8 @@ module _ {P : Type 0} (clock clock' : ℕ) (p : Prior) (r r' : Rows) (a : Actor 
   told_tries (between t) = unchanged t.between.none (between t)
   told_tries (begins t) = unchanged t.still (begins t)
   told_tries (over t) = unchanged (none_after t.row'.outcome t.after) (over t)
+  told_tries (outrun t) = unchanged (none_again clock' p.nth r a (nat_lt p.retries p.nth) t.after) (outrun t)
+  told_tries (shut_out t) = unchanged t.after.none (shut_out t)
   told_tries (turned_away t) = unchanged (none_again clock' p.nth r a (nat_lt p.retries p.nth) t.after) (turned_away t)
   told_tries (runs t) =
       let at : Attempt → Attempt = λ x. record x { at = a.engine.snapshot / 2 } in

@@ -1,7 +1,7 @@
 -- Local work of an actor, one call of its player after the other: all that it leaves.
 use Rattle.norec_world.specs.ActionRoom.{IsActing}
 use Rattle.std.proofs.Common.{◌≡◌, ◌≤◌, Bool, true, false, List, ◌++◌, None, Some, refl, sym, ap, subst, ◌∙◌, arith}
-use Rattle.norec_world.proofs.Common.{Actor, Acts, Attempt, Call, Cells, Core, Ended, Finished, HasRow, HasWorked, IsDone, IsNoMore, IsSound, KeepsOthers, Next, Obeys, Ready, Rows, Rules, Starves, Tells, Works, ending_of, in_transaction, is_ready, prior_of, rank, whole}
+use Rattle.norec_world.proofs.Common.{Actor, Acts, Attempt, Call, Cells, Core, Ended, Finished, HasRow, HasWorked, IsDone, IsNoMore, IsSound, KeepsOthers, Next, Obeys, Ready, Rows, Rules, Starves, Tells, Works, after_undoing, cond_both, ending_of, in_transaction, is_ready, prior_of, rank, whole}
 use Rattle.norec_world.specs.LocalWork.{calls, finishes, starves}
 use Rattle.norec_world.proofs.CommitCounts.{counted_after}
 use Rattle.norec_world.proofs.LessLeft.{less_less}
@@ -18,6 +18,10 @@ use Rattle.norec_world.proofs.TryEnds.{not_finished}
 not_still : {P : Type 0} {A : Type 0} (a : Actor P) → a.status ≡ Ready → is_ready a.status ≡ false → A
 not_still a ready n = absurd (let both : true ≡ false = ap is_ready (sym ready) ∙ n in cc)
 
+-- giving up leaves the clock that was seen last
+clock_still : (e new : Core) → new ≡ after_undoing e → new.clock ≡ e.clock
+clock_still e new is = ap (λ (c : Core). c.clock) is ∙ cond_both e.holds _ _ (λ (c : Core). c.clock ≡ e.clock) (λ h. refl) (λ h. refl)
+
 -- ## One call
 
 module _ {P : Type 0} {rules : Rules P} (laws : Obeys rules) {cells : Cells} {r0 : Rows} {old : Actor P} (sound : IsSound rules cells r0 old) (ready : old.status ≡ Ready) where
@@ -27,12 +31,13 @@ module _ {P : Type 0} {rules : Rules P} (laws : Obeys rules) {cells : Cells} {r0
   -- the player has none
   pub finish_worked : rules.next_call old.player ≡ None → HasWorked rules cells r0 old r0 (record old { status = Ended Finished })
   finish_worked none = record {
-    sound = record { tied = sound.tied; acts = (let x = sound.acts in record { empty = record { end_room = x.empty.end_room; cancel_room = x.empty.cancel_room }; all = x.all; places = x.places; pending = x.pending; status = tt }); kept = (let k = sound.kept in record { row = k.row; empty = k.empty; tried = k.tried; tries = k.tries; retries = k.retries }); status = tt };
+    sound = record { tied = sound.tied; acts = (let x = sound.acts in record { empty = record { end_room = x.empty.end_room; cancel_room = x.empty.cancel_room }; all = x.all; places = x.places; pending = x.pending; status = tt }); kept = (let k = sound.kept in record { row = k.row; empty = k.empty; tried = k.tried; tries = k.tries; retries = k.retries }); status = (rests sound ready).idle };
     works = one_act r0 (record old { status = Ended Finished }) (finishes (record { none = none; actor = refl; rows = refl }));
     tries = λ w. finish_tries rules cells r0 old sound ready (record old { status = Ended Finished }) refl;
     runs = λ first base laid runs. (laid, finish_runs sound ready first base runs);
     others = others_same old (record old { status = Ended Finished }) r0 r0 refl refl refl refl (let l : r0.room ≤ r0.room = omega arith in l);
     holds = refl;
+    clock = refl;
     limit = (refl, refl);
     snapshot = refl;
     retries = refl;
@@ -42,10 +47,10 @@ module _ {P : Type 0} {rules : Rules P} (laws : Obeys rules) {cells : Cells} {r0
   }
 
   -- memory was refused to it
-  pub starve_worked : (r1 : Rows) (last : Actor P) → IsSound rules cells r1 last → Starves rules r0 old r1 last → KeepsOthers old r0 last r1 → in_transaction last.engine ≡ false → last.engine.holds ≡ old.engine.holds
+  pub starve_worked : (r1 : Rows) (last : Actor P) → IsSound rules cells r1 last → Starves rules r0 old r1 last → KeepsOthers old r0 last r1 → (old.engine.irrevocable ≡ false → in_transaction last.engine ≡ false) → last.engine.holds ≡ old.engine.holds
       → (last.engine.max_commits ≡ old.engine.max_commits) × (last.engine.patience ≡ old.engine.patience) → HasWorked rules cells r0 old r1 last
   starve_worked r1 last sound' s others closed holds limit =
-      let tries = starve_tries rules cells r0 old sound ready r1 last s (subst (λ (b : Bool). HasRow b r1 last.thread) closed sound'.kept.row) in
+      let tries = starve_tries rules cells r0 old sound ready r1 last s (λ revocable. subst (λ (b : Bool). HasRow b r1 last.thread) (closed revocable) sound'.kept.row) in
       let own = others.own in
       record {
         sound = sound';
@@ -53,10 +58,11 @@ module _ {P : Type 0} {rules : Rules P} (laws : Obeys rules) {cells : Cells} {r0
         tries = λ w. tries;
         runs = λ first base laid runs. (
           laid_calls base cells r0 r1 laid own.more own.ended (counted_after cells.clock cells.clock (prior_of r0 old) r1 last tries laid.counted),
-          starve_runs laws sound s first base laid runs (rests sound ready).free (still_going ready) closed own.more own.ended,
+          starve_runs laws sound s first base laid runs (rests sound ready).free own.more own.ended,
         );
         others = others;
         holds = holds;
+        clock = clock_still old.engine last.engine s.engine;
         limit = limit;
         snapshot = snapshot_still old.engine last.engine s.engine;
         retries = s.same.retries;
@@ -100,6 +106,7 @@ module _ {P : Type 0} {rules : Rules P} (laws : Obeys rules) {cells : Cells} {r0
         runs = λ first base laid runs. call_runs laws m first base laid runs r1 last done tells own.more (own.ended ∙ ap (λ (l : List Attempt). l ++ own.more) (sym (ended_same m))) (counted_after cells.clock cells.clock (prior_of r0 old) r1 last tries laid.counted);
         others = others;
         holds = ap (λ (c : Core). c.holds) x.engine ∙ (clock_same (mid m) a.engine what m.asks.called.proceeds).2;
+        clock = ap (λ (c : Core). c.clock) x.engine ∙ (clock_same (mid m) a.engine what m.asks.called.proceeds).1;
         limit = (ap (λ (c : Core). c.max_commits) x.engine ∙ kept.0, ap (λ (c : Core). c.patience) x.engine ∙ kept.1);
         snapshot = ap (λ (c : Core). c.snapshot) x.engine ∙ m.asked.stays.snapshot;
         retries = x.retries ∙ m.asked.same.retries;
@@ -120,6 +127,7 @@ module _ {P : Type 0} {rules : Rules P} {cells : Cells} {r : Rows} {a : Actor P}
     runs = λ first base laid runs. (laid, runs);
     others = others_same a a r r refl refl refl refl (let l : r.room ≤ r.room = omega arith in l);
     holds = refl;
+    clock = refl;
     limit = (refl, refl);
     snapshot = refl;
     retries = refl;
@@ -138,6 +146,7 @@ module _ {P : Type 0} {rules : Rules P} {cells : Cells} {r : Rows} {a : Actor P}
         runs = λ first base laid runs. (let z = x.runs first base laid runs in y.runs first base z.0 z.1);
         others = others_twice a a1 a2 r r1 r2 x.others y.others;
         holds = y.holds ∙ x.holds;
+        clock = y.clock ∙ x.clock;
         limit = (y.limit.0 ∙ x.limit.0, y.limit.1 ∙ x.limit.1);
         snapshot = y.snapshot ∙ x.snapshot;
         retries = y.retries ∙ x.retries;

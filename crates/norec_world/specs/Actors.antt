@@ -8,7 +8,7 @@ use Rattle.norec_world.specs.Rows.{Rows, active_of}
 use Rattle.norec_world.specs.Status.{is_ready}
 use Rattle.norec_world.specs.OthersAttempts.{pending_in}
 use Rattle.norec_world.specs.Sound.{IsSound}
-use Rattle.script_vm.specs.Rules.{Rules}
+use Rattle.tx_player.specs.Rules.{Rules}
 
 module _ {P : Type 0} (rules : Rules P) where
   -- the actor at its place, whose local work is done

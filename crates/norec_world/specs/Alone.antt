@@ -6,7 +6,7 @@ use Rattle.itm_model.specs.Machine.{after, reply}
 use Rattle.itm_model.specs.Runs.{turn, state_after}
 use Rattle.norec_world.specs.declared.attempt.Entry.{Entry}
 use Rattle.norec_world.specs.Opacity.{answered_all}
-use Rattle.script_vm.specs.Rules.{Rules}
+use Rattle.tx_player.specs.Rules.{Rules}
 
 -- the plain state after the calls
 abbrev pub state_then : ℕ → State → List Entry → State

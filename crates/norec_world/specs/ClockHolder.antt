@@ -13,6 +13,7 @@ pub record HoldsOn (cells : Cells) (e : Core) (cells' : Cells) (e' : Core) : Typ
   pub long : length cells'.words ≡ length cells.words
   pub limit : (e'.max_commits ≡ e.max_commits) × (e'.patience ≡ e.patience)
   pub capped : cells.clock ≤ 2 * e.max_commits → cells'.clock ≤ 2 * e.max_commits  -- no more writers commit than may
+  pub seen : (e.holds ≡ false → e.clock ≡ cells.clock) → e'.holds ≡ false → e'.clock ≡ cells'.clock  -- who has seen the clock as it is still has
 
 -- what an actor's steps do to the clock, as the others see it
 pub record ClocksOn (cells : Cells) (e : Core) (cells' : Cells) (e' : Core) : Type 0 where
@@ -23,3 +24,4 @@ pub record ClocksOn (cells : Cells) (e : Core) (cells' : Cells) (e' : Core) : Ty
   pub long : length cells'.words ≡ length cells.words
   pub limit : (e'.max_commits ≡ e.max_commits) × (e'.patience ≡ e.patience)
   pub capped : cells.clock ≤ 2 * e.max_commits → cells'.clock ≤ 2 * e.max_commits
+  pub seen : (e.holds ≡ false → e.clock ≡ cells.clock) → e'.holds ≡ false → e'.clock ≡ cells'.clock

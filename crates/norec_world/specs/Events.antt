@@ -9,7 +9,7 @@ use Rattle.norec_world.specs.OthersAttempts.{KeepsOthers}
 use Rattle.norec_world.specs.ClockHolder.{ClocksOn}
 use Rattle.norec_world.specs.Tries.{Tries, prior_of}
 use Rattle.norec_world.specs.LocalWork.{TakesIn, Works}
-use Rattle.script_vm.specs.Rules.{Rules}
+use Rattle.tx_player.specs.Rules.{Rules}
 
 module _ {P : Type 0} (rules : Rules P) where
   pub record IsEvent (cells : Cells) (r : Rows) (a : Actor P) (cells' : Cells) (r' : Rows) (a' : Actor P) : Type 0 where

@@ -9,7 +9,7 @@ use Rattle.norec_world.specs.Runs.{RunsFrom}
 use Rattle.norec_world.specs.Opaque.{first_of}
 use Rattle.norec_world.specs.Sole.{IsSole}
 use Rattle.norec_world.specs.World.{World}
-use Rattle.script_vm.specs.Rules.{Rules}
+use Rattle.tx_player.specs.Rules.{Rules}
 
 module _ {P : Type 0} (rules : Rules P) where
   -- the headline, with what the actors have not recorded yet
@@ -22,6 +22,6 @@ module _ {P : Type 0} (rules : Rules P) where
   pub record IsWorld (w : World P) : Type 0 where
     pub actors : AreActors rules w.cells w.attempts w.actors
     pub long : length w.actors ≡ length w.opening
-    pub sole : length w.opening ≡ 1 → (a : Actor P) → slice_get w.actors 0 ≡ Some a → IsSole rules w.max_commits w.cells.clock w.attempts a  -- where there is one actor
+    pub sole : length w.opening ≡ 1 → (p : P) (a : Actor P) → slice_get w.opening 0 ≡ Some p → slice_get w.actors 0 ≡ Some a → IsSole rules w.max_commits w.base (first_of p w.arena) w.cells.clock w.attempts a  -- where there is one actor
     pub commits : CommitsInOrder w
     pub running : AreRunning w

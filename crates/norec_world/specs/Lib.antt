@@ -23,6 +23,7 @@ pub mod World
 pub mod Commits
 pub mod WorldEvents
 pub mod Memories
+pub mod HeldAttempts
 pub mod LogAgreement
 pub mod Runs
 pub mod Opaque

@@ -17,7 +17,7 @@ use Rattle.norec_world.specs.declared.actor.Status.TheVariants.{Ready, Waits, En
 use Rattle.norec_world.specs.Cells.{Cells, found}
 use Rattle.norec_world.specs.Rows.{Rows, active_of}
 use Rattle.norec_world.specs.Records.{Asks, Tells, IsTold, StopsAt}
-use Rattle.script_vm.specs.Rules.{Rules}
+use Rattle.tx_player.specs.Rules.{Rules}
 
 -- it is the same actor, and where its player is to be asked, no attempt is to be opened
 pub record SameActor {P : Type 0} (a a' : Actor P) : Type 0 where
@@ -77,8 +77,9 @@ module _ {P : Type 0} (rules : Rules P) where
     pub counts : (a'.nth ≡ a.nth) × (a'.again ≡ a.again) × (a'.pending ≡ a.pending)
     pub engine : a'.engine ≡ after_undoing a.engine
     pub room : ℕ
-    pub stops : in_transaction a.engine ≡ true → StopsAt a.thread (record r { room = room }) (a.engine.snapshot / 2) outcomes.NoMemory a'.engine.actions.ran r'
+    pub stops : in_transaction a.engine ≡ true → a.engine.irrevocable ≡ false → StopsAt a.thread (record r { room = room }) (a.engine.snapshot / 2) outcomes.NoMemory a'.engine.actions.ran r'
     pub stays : in_transaction a.engine ≡ false → r' ≡ record r { room = room }
+    pub held : a.engine.irrevocable ≡ true → r' ≡ record r { room = room }  -- an irrevocable attempt stays unfinished
 
   -- one of these
   pub data Acts (clock : ℕ) (r : Rows) (a : Actor P) (r' : Rows) (a' : Actor P) : Type 0 where

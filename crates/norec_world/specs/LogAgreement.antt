@@ -9,11 +9,11 @@ use Rattle.norec_world.specs.Rows.{Rows}
 use Rattle.norec_world.specs.Commits.{AreCounted}
 use Rattle.norec_world.specs.Memories.{AreMemories, words_at}
 
--- what it loaded since its last look at the clock is of the last memory, if the clock is still the same; the words are that memory with the rows that the holder has stored
+-- what it loaded since its last look at the clock is of the last memory, if the clock is still the same; as a write set is stored, the words are that memory with the rows that the holder has stored
 pub record Loaded (memory : ℕ → List ℕ) (cells : Cells) (e : Core) : Type 0 where
   pub fresh : cells.clock % 2 ≡ 0 → e.clock ≡ cells.clock → e.holds ≡ false → Agrees (memory (cells.clock / 2)) e.fresh
-  pub held : e.holds ≡ true → cells.words ≡ backed e (memory (cells.clock / 2))
-  pub got : e.holds ≡ true → Got e.got (slice_get cells.words (write_at e.writes e.done).word)
+  pub held : e.holds ≡ true → e.irrevocable ≡ false → cells.words ≡ backed e (memory (cells.clock / 2))
+  pub got : e.holds ≡ true → e.irrevocable ≡ false → Got e.got (slice_get cells.words (write_at e.writes e.done).word)
 
 -- and its log is of the memory of its snapshot
 pub record Sees (memory : ℕ → List ℕ) (cells : Cells) (e : Core) : Type 0 where

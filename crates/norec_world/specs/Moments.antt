@@ -13,7 +13,7 @@ use Rattle.norec_world.specs.Runs.{StillRuns}
 use Rattle.norec_world.specs.Sound.{Falls, GoesOn, IsNoMore, IsSound}
 use Rattle.norec_world.specs.Status.{ending_of, is_ready, is_waiting, waiting_step}
 use Rattle.norec_world.specs.Tries.{Tries, prior_of}
-use Rattle.script_vm.specs.Rules.{Rules}
+use Rattle.tx_player.specs.Rules.{Rules}
 
 module _ {P : Type 0} (rules : Rules P) where
   -- the operation that it waited for was done, and its engine took in what was found
@@ -37,6 +37,7 @@ module _ {P : Type 0} (rules : Rules P) where
     pub runs : StillRuns rules cells r a cells r' a'
     pub others : KeepsOthers a r a' r'
     pub holds : a'.engine.holds ≡ a.engine.holds
+    pub clock : a'.engine.clock ≡ a.engine.clock
     pub limit : (a'.engine.max_commits ≡ a.engine.max_commits) × (a'.engine.patience ≡ a.engine.patience)
     pub snapshot : a'.engine.snapshot ≡ a.engine.snapshot
     pub retries : a'.retries ≡ a.retries

@@ -1,11 +1,12 @@
 -- Opacity: what an attempt saw is what its player gets alone on the bytes that some first commits left, also where the attempt came to nothing.
-use Rattle.std.specs.Prelude.{ℕ, zero, suc, ◌≡◌, ◌<◌, ◌≤◌, Bool, true, false, is_none, if◌then◌else◌, List, [], ◌∷◌, ◌++◌, Option, None, Some}
+use Rattle.std.specs.Prelude.{ℕ, zero, suc, ◌≡◌, ◌<◌, ◌≤◌, Bool, true, false, not, ◌&&◌, ◌||◌, is_none, is_some, if◌then◌else◌, List, [], ◌∷◌, ◌++◌, Option, None, Some}
 use Rattle.itm_types.specs.declared.call.Props.{Props}
 use Rattle.itm_types.specs.declared.call.Call.{Call}
-use Rattle.itm_types.specs.declared.call.Call.TheVariants.{Begin, Commit}
+use Rattle.itm_types.specs.declared.call.Call.TheVariants.{Begin}
 use Rattle.itm_types.specs.declared.call.Ran.{Ran}
+use Rattle.itm_types.specs.Calls.{is_begin}
 use Rattle.itm_types.specs.declared.call.Reply.{Reply}
-use Rattle.itm_types.specs.declared.call.Reply.TheVariants.{Code, Done}
+use Rattle.itm_types.specs.declared.call.Reply.TheVariants.{Code}
 use Rattle.itm_model.specs.State.{State}
 use Rattle.itm_model.specs.Machine.{outside, undone, is_open, refusal, reply, after}
 use Rattle.itm_model.specs.Runs.{answers}
@@ -13,7 +14,7 @@ use Rattle.norec_world.specs.declared.attempt.Outcome.{Outcome}
 use Rattle.norec_world.specs.declared.attempt.Outcome.TheVariants.{Committed, ReadOnly, Cancelled, Conflict, Full, NoMemory, Unfinished}
 use Rattle.norec_world.specs.declared.attempt.Attempt.{Attempt}
 use Rattle.norec_world.specs.Attempts.{ClosedBy, alone, pairs_of, replies_of}
-use Rattle.script_vm.specs.Rules.{Rules}
+use Rattle.tx_player.specs.Rules.{Rules}
 
 -- how an attempt ended, by the plain state after its calls: whether its block has ended, and whether it wrote
 abbrev pub EndsAs : Outcome → State → Type 0
@@ -35,6 +36,10 @@ ran_of Full s = (undone s).actions.ran
 ran_of NoMemory s = (undone s).actions.ran
 ran_of Unfinished s = s.actions.ran
 
+-- the call that leads here takes the clock: it commits what the transaction wrote, or makes it irrevocable
+abbrev pub takes_clock : State → Bool
+takes_clock s = s.irrevocable || (not (is_open s) && s.wrote)
+
 abbrev pub IsBeginningOf : {A : Type 0} → List A → List A → Type 0
 IsBeginningOf {A} xs ys = (rest : List A) × (xs ++ rest ≡ ys)
 
@@ -54,6 +59,10 @@ pub record Between (P : Type 0) : Type 0 where
   pub arena : List ℕ
   pub again : Bool
   pub tries : ℕ
+
+-- a call that begins no block outside a transaction
+abbrev pub stays_outside : ℕ → List ℕ → Call → Bool
+stays_outside deepest arena call = not (is_begin call) || is_some (refusal deepest (outside [] arena) call)
 
 module _ {P : Type 0} (answered : P → Reply → P) where
   abbrev pub answered_all : P → List Reply → P
@@ -76,9 +85,13 @@ module _ {P : Type 0} (rules : Rules P) (deepest : ℕ) where
   begin_of p arena = begin_within (rules.calls_left p) p arena (rules.next_call p)
 
 module _ {P : Type 0} (rules : Rules P) (deepest : ℕ) where
-  -- all that its player makes alone are its calls and a commit, which would have ended it as one that wrote
-  abbrev pub LacksCommit : P → Attempt → List ℕ → Type 0
-  LacksCommit p a memory = (answers rules.next_call rules.answered rules.calls_left deepest p memory a.arena a.props ≡ pairs_of a ++ (Commit, Done) ∷ []) × EndsAs Committed (after deepest (alone deepest memory a) Commit)
+  -- after its calls its player makes one alone that takes the clock
+  pub record LacksClock (p : P) (a : Attempt) (memory : List ℕ) : Type 0 where
+    pub call : Call
+    pub rest : List (Call × Reply)
+    pub answers_are : answers rules.next_call rules.answered rules.calls_left deepest p memory a.arena a.props ≡ pairs_of a ++ (call, reply deepest (alone deepest memory a) call) ∷ rest
+    pub revocable : (alone deepest memory a).irrevocable ≡ false
+    pub takes : takes_clock (after deepest (alone deepest memory a) call) ≡ true
 
   -- The attempt is opaque: its player after the begin is p, n commits are done, and the memory is the bytes that the first a.at of them left.
   pub record IsOpaque (p : P) (a : Attempt) (n : ℕ) (memory : List ℕ) : Type 0 where
@@ -89,7 +102,7 @@ module _ {P : Type 0} (rules : Rules P) (deepest : ℕ) where
     pub ends : EndsAs a.outcome (alone deepest memory a)
     pub closed : ClosedBy a.outcome a.calls
     pub ran : a.ran ≡ ran_of a.outcome (alone deepest memory a)
-    pub full : a.outcome ≡ Full → LacksCommit p a memory  -- full is told of a writer's commit alone
+    pub full : a.outcome ≡ Full → LacksClock p a memory  -- full is told of a writer's commit alone, or of a call that makes the transaction irrevocable
 
   -- what follows an attempt whose player after the begin was p and that left the plain state s, if anything does
   abbrev pub follows : Outcome → P → Attempt → State → Option (Between P)

@@ -3,14 +3,15 @@ use Rattle.std.specs.Prelude.{◌≡◌, ℕ, ◌/◌, ◌%◌, true, false, len
 use Rattle.itm_types.specs.declared.limits.TheConstants.{MAX_OPEN_BLOCKS}
 use Rattle.norec_core.specs.Proceeds.{backed}
 use Rattle.norec_world.specs.declared.actor.Actor.{Actor}
-use Rattle.norec_world.specs.Attempts.{of_thread}
+use Rattle.norec_world.specs.Attempts.{alone, of_thread}
 use Rattle.norec_world.specs.declared.attempt.Attempt.{Attempt}
 use Rattle.norec_world.specs.Rows.{AreOfActors, active_of}
 use Rattle.norec_world.specs.Opacity.{Between, IsRunOf}
 use Rattle.norec_world.specs.World.{World, attempts_of, memory_of}
 use Rattle.norec_world.specs.Memories.{bytes_at, words_at}
+use Rattle.norec_world.specs.HeldAttempts.{StandsIn}
 use Rattle.norec_world.specs.Runs.{IsRun}
-use Rattle.script_vm.specs.Rules.{Rules}
+use Rattle.tx_player.specs.Rules.{Rules}
 
 -- a player before its first try, with an arena of so many bytes
 abbrev pub first_of : {P : Type 0} → P → ℕ → Between P
@@ -25,4 +26,7 @@ module _ {P : Type 0} (rules : Rules P) where
     pub threads : AreOfActors (length w.actors) (attempts_of w)  -- there are no others
     pub reads : (place : ℕ) (a : Actor P) (row : Attempt) → slice_get w.actors place ≡ Some a → active_of place w.attempts.active ≡ Some row → row.at ≡ a.engine.snapshot / 2  -- an open one is at half its engine's snapshot
     pub free : w.cells.clock % 2 ≡ 0 → memory_of w ≡ bytes_at w.base (attempts_of w) (w.cells.clock / 2)
-    pub held : (place : ℕ) (a : Actor P) → slice_get w.actors place ≡ Some a → a.engine.holds ≡ true → w.cells.words ≡ backed a.engine (words_at w.base (attempts_of w) (w.cells.clock / 2))
+    pub held : (place : ℕ) (a : Actor P) → slice_get w.actors place ≡ Some a → a.engine.holds ≡ true → a.engine.irrevocable ≡ false → w.cells.words ≡ backed a.engine (words_at w.base (attempts_of w) (w.cells.clock / 2))
+    -- of an irrevocable attempt, with what its calls have stored, and what the call in progress has
+    pub stored : (place : ℕ) (a : Actor P) (row : Attempt) → slice_get w.actors place ≡ Some a → active_of place w.attempts.active ≡ Some row → a.engine.irrevocable ≡ true
+        → StandsIn a.engine.waits a.engine.doing a.engine w.cells.words (alone MAX_OPEN_BLOCKS (bytes_at w.base (attempts_of w) (w.cells.clock / 2)) row)

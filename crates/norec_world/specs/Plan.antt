@@ -2,7 +2,7 @@
 use Rattle.std.specs.Prelude.{ℕ, zero, suc, ◌+◌, ◌-◌, min, List, length, Option, None, Some, slice_get}
 use Rattle.itm_types.specs.declared.call.Call.{Call}
 use Rattle.itm_types.specs.declared.call.Reply.{Reply}
-use Rattle.script_vm.specs.Depth.{depth_after}
+use Rattle.tx_player.specs.Depth.{depth_after}
 
 -- the blocks that are open
 pub record Blocks : Type 0 where

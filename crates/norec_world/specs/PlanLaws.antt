@@ -6,8 +6,8 @@ use Rattle.itm_types.specs.declared.call.Call.TheVariants.{Begin, Commit, Abort}
 use Rattle.itm_types.specs.declared.call.Reply.{Reply}
 use Rattle.itm_types.specs.declared.call.Reply.TheVariants.{Code}
 use Rattle.itm_types.specs.Calls.{is_begin}
-use Rattle.script_vm.specs.Laws.{Laws}
-use Rattle.script_vm.specs.Depth.{depth_after, is_code, opens}
+use Rattle.tx_player.specs.Laws.{Laws}
+use Rattle.tx_player.specs.Depth.{depth_after, is_code, opens}
 use Rattle.norec_world.specs.Plan.{Blocks, Plan, next_call, answered, restarted, restarted_at, calls_left, depth, depth_in, blocks_after, blocks_by}
 
 nearer : (p : Plan) (c : Call) (r : Reply) → next_call p ≡ Some c → calls_left (answered p r) < calls_left p

@@ -18,7 +18,7 @@ use Rattle.norec_world.specs.declared.attempt.Outcome.TheVariants as outcomes
 use Rattle.norec_world.specs.declared.attempt.End.TheVariants.{GaveUp}
 use Rattle.norec_world.specs.declared.actor.Actor.{Actor}
 use Rattle.norec_world.specs.declared.actor.Status.TheVariants.{Waits, Ended}
-use Rattle.script_vm.specs.Rules.{Rules}
+use Rattle.tx_player.specs.Rules.{Rules}
 
 -- the actor's open attempt has one call more, and these actions have run in it
 abbrev pub AddsCall : ℕ → Rows → Call → Replied → List Ran → Rows → Type 0
@@ -32,6 +32,11 @@ EndsBy thread r at outcome call reply ran r' = (row : Attempt) → active_of thr
 -- it is over, and its block has not ended
 abbrev pub StopsAt : ℕ → Rows → ℕ → Outcome → List Ran → Rows → Type 0
 StopsAt thread r at outcome ran r' = (row : Attempt) → active_of thread r.active ≡ Some row → r' ≡ with_ended thread (record row { at = at; ran = ran; outcome = outcome }) r
+
+-- likewise, where the transaction was open
+abbrev pub StopsIf : Bool → ℕ → Rows → ℕ → Outcome → List Ran → Rows → Type 0
+StopsIf true thread r at outcome ran r' = StopsAt thread r at outcome ran r'
+StopsIf false thread r at outcome ran r' = r' ≡ r
 
 -- it is told where it reads, if there is one
 pub record IsTold (thread : ℕ) (is_open : Bool) (r : Rows) (at : ℕ) (r' : Rows) : Type 0 where
@@ -66,15 +71,16 @@ module _ {P : Type 0} (rules : Rules P) where
   RecordsReply false now r r' old new call reply =
       Opens now r old.pending (new.engine.snapshot / 2) r' × (new.player ≡ rules.answered old.player reply) × (new.again ≡ again_after now old.pending old.again) × (new.nth ≡ old.nth) × (new.status ≡ old.status)
 
-  -- of an answer
+  -- of an answer: a begin may end its try too
   abbrev pub Records : Bool → Rows → Rows → Actor P → Actor P → Call → Answer → Type 0
   Records was r r' old new call (Reply reply) = RecordsReply was (in_transaction new.engine) r r' old new call reply
   Records was r r' old new call (Committed at wrote) =
       EndsBy old.thread r at (if wrote then outcomes.Committed else outcomes.ReadOnly) call Done new.engine.actions.ran r' × (new.player ≡ rules.answered old.player Done) × (new.again ≡ false) × (new.nth ≡ 1) × (new.status ≡ old.status)
-  Records was r r' old new call (Conflict clock word) = StopsAt old.thread r (new.engine.snapshot / 2) outcomes.Conflict new.engine.actions.ran r' × (new.player ≡ rules.restarted old.player) × CountsTry old new × (new.pending ≡ old.pending)
+  Records was r r' old new call (Conflict clock word) =
+      StopsIf was old.thread r (new.engine.snapshot / 2) outcomes.Conflict new.engine.actions.ran r' × (new.player ≡ (if was then rules.restarted old.player else old.player)) × CountsTry old new × (new.pending ≡ None)
   Records was r r' old new call (Busy clock) = (r' ≡ r) × (new.player ≡ old.player) × CountsTry old new × (new.pending ≡ None)
   Records was r r' old new call (Full at) =
-      StopsAt old.thread r at outcomes.Full new.engine.actions.ran r' × (new.status ≡ Ended GaveUp) × (new.player ≡ old.player) × (new.again ≡ old.again) × (new.nth ≡ old.nth) × (new.pending ≡ old.pending)
+      StopsIf was old.thread r at outcomes.Full new.engine.actions.ran r' × (new.status ≡ Ended GaveUp) × (new.player ≡ old.player) × (new.again ≡ old.again) × (new.nth ≡ old.nth) × (new.pending ≡ None)
 
   -- of what the engine gave for the call: it waits for the step, or its answer is recorded
   abbrev pub Tells : Bool → Rows → Rows → Actor P → Actor P → Call → Next → Type 0

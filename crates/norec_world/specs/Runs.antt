@@ -1,24 +1,30 @@
 -- The run of an actor's player, as far as it has come.
-use Rattle.std.specs.Prelude.{◌≡◌, ℕ, zero, suc, ◌<◌, ◌≤◌, ◌/◌, true, false, List, [], ◌∷◌, Option, None, Some}
+use Rattle.std.specs.Prelude.{◌≡◌, ℕ, zero, suc, ◌<◌, ◌≤◌, ◌/◌, Bool, true, false, List, [], ◌∷◌, Option, None, Some}
+use Rattle.itm_types.specs.declared.row.LogRow.{LogRow}
 use Rattle.itm_types.specs.Memory.{bytes_of, IsMemory, Agrees}
 use Rattle.itm_types.specs.declared.limits.TheConstants.{MAX_OPEN_BLOCKS}
 use Rattle.itm_types.specs.declared.call.Call.{Call}
-use Rattle.itm_types.specs.Calls.{is_begin}
 use Rattle.itm_model.specs.Machine.{opened, outside, reply, after}
-use Rattle.norec_core.specs.Core.{Core, in_transaction}
+use Rattle.norec_core.specs.Core.{Core, in_transaction, may_go}
 use Rattle.norec_core.specs.Stands.{stands_for}
 use Rattle.norec_world.specs.declared.attempt.Attempt.{Attempt}
 use Rattle.norec_world.specs.declared.attempt.End.TheVariants.{GaveUp, NoMemory}
 use Rattle.norec_world.specs.declared.actor.Actor.{Actor}
 use Rattle.norec_world.specs.Attempts.{of_thread}
 use Rattle.norec_world.specs.Alone.{state_then, player_then, IsAlone}
-use Rattle.norec_world.specs.Opacity.{Beginning, Between, begin_code, begin_of, after_try, IsRunOf}
+use Rattle.norec_world.specs.Opacity.{Beginning, Between, begin_code, begin_of, after_try, stays_outside, IsRunOf}
 use Rattle.norec_world.specs.Cells.{Cells}
 use Rattle.norec_world.specs.Rows.{Rows, active_of}
 use Rattle.norec_world.specs.Status.{ending_of}
 use Rattle.norec_world.specs.Memories.{bytes_at, words_at}
 use Rattle.norec_world.specs.LogAgreement.{Sees, AreLaid}
-use Rattle.script_vm.specs.Rules.{Rules}
+use Rattle.norec_world.specs.HeldAttempts.{IsHeld}
+use Rattle.tx_player.specs.Rules.{Rules}
+
+-- the memory that an attempt reads may be this one: one that agrees with its log, or, of an irrevocable attempt, that of its position
+abbrev pub ReadsFrom : Bool → List ℕ → List LogRow → List ℕ → Type 0
+ReadsFrom false position log m = Agrees m log
+ReadsFrom true position log m = m ≡ position
 
 module _ {P : Type 0} (rules : Rules P) where
   -- where the player's blocks lead from here
@@ -31,8 +37,8 @@ module _ {P : Type 0} (rules : Rules P) where
   run_after memory None (a ∷ rest) = None
   run_after memory (Some b) (a ∷ rest) = run_after memory (after_try rules MAX_OPEN_BLOCKS memory b (begins_at b) a) rest
 
-  -- the open attempt: its calls are those of its player alone, over every memory that agrees with the log
-  pub record IsInTry (b : Between P) (row : Attempt) (p : P) (e : Core) : Type 0 where
+  -- the open attempt: its calls are those of its player alone, over every memory that it may have read; the words of its position are these
+  pub record IsInTry (position : List ℕ) (b : Between P) (row : Attempt) (p : P) (e : Core) : Type 0 where
     pub start : Beginning P
     pub begins : begins_at b ≡ Some start
     pub arena : row.arena ≡ start.arena
@@ -42,15 +48,15 @@ module _ {P : Type 0} (rules : Rules P) where
     pub anew : e.again ≡ false
     pub ran : row.ran ≡ e.actions.ran
     pub player : p ≡ player_then rules.answered (rules.answered start.player (begin_code b.again)) row.calls
-    pub alone : (m : List ℕ) → IsMemory e.words m → Agrees m e.log
+    pub alone : (m : List ℕ) → IsMemory e.words m → ReadsFrom e.irrevocable position e.log m
         → IsAlone rules MAX_OPEN_BLOCKS (rules.answered start.player (begin_code b.again)) (opened (bytes_of m) start.arena start.props) row.calls
-    pub stands : (m : List ℕ) → IsMemory e.words m → Agrees m e.log → stands_for e m ≡ state_then MAX_OPEN_BLOCKS (opened (bytes_of m) start.arena start.props) row.calls
+    pub stands : e.irrevocable ≡ false → (m : List ℕ) → IsMemory e.words m → Agrees m e.log → stands_for e m ≡ state_then MAX_OPEN_BLOCKS (opened (bytes_of m) start.arena start.props) row.calls
 
   -- so many calls outside a transaction, none of which begins a block, lead a player with its arena from here to there
   abbrev pub LeadsTo : ℕ → P → List ℕ → P → List ℕ → Type 0
   LeadsTo zero p arena q bytes = (q ≡ p) × (bytes ≡ arena)
   LeadsTo (suc n) p arena q bytes =
-      (last : P) × (held : List ℕ) × (c : Call) × LeadsTo n p arena last held × (rules.next_call last ≡ Some c) × (is_begin c ≡ false)
+      (last : P) × (held : List ℕ) × (c : Call) × LeadsTo n p arena last held × (rules.next_call last ≡ Some c) × (stays_outside MAX_OPEN_BLOCKS held c ≡ true)
       × (q ≡ rules.answered last (reply MAX_OPEN_BLOCKS (outside [] held) c)) × (bytes ≡ (after MAX_OPEN_BLOCKS (outside [] held) c).arena)
 
   -- before the next one, with so many commits done: the player has come as far as its calls outside a transaction led, and perhaps called its begin
@@ -61,20 +67,21 @@ module _ {P : Type 0} (rules : Rules P) where
     pub tries : b.tries < a.nth
     pub pending : (row : Attempt) → a.pending ≡ Some row
         → (row.began ≤ n) × (row.arena ≡ a.engine.arena) × (row.calls ≡ []) × (row.ran ≡ [])
-        × (begins_at b ≡ Some (record { player = a.player; arena = a.engine.arena; props = row.props })) × (a.engine.again ≡ b.again)
+        × (may_go [] row.props ≡ true → begins_at b ≡ Some (record { player = a.player; arena = a.engine.arena; props = row.props })) × (a.engine.again ≡ b.again)
 
   -- the actor's attempts are its player's run from here, over the memories of so many commits, and each saw what its player gets alone
   pub record IsRun (first : Between P) (base : List ℕ) (n : ℕ) (r : Rows) (a : Actor P) : Type 0 where
     pub run : IsRunOf rules MAX_OPEN_BLOCKS n (bytes_at base r.ended) (Some first) (of_thread a.thread r.ended)
     pub inside : in_transaction a.engine ≡ true → (b : Between P) × (row : Attempt) × (run_after (bytes_at base r.ended) (Some first) (of_thread a.thread r.ended) ≡ Some b) × (active_of a.thread r.active ≡ Some row)
-        × IsInTry b row a.player a.engine × (a.again ≡ true) × (row.nth ≡ a.nth)
+        × IsInTry (words_at base r.ended n) b row a.player a.engine × (a.again ≡ true) × (row.nth ≡ a.nth)
     pub between : in_transaction a.engine ≡ false → (ending_of a.status ≡ Some GaveUp → ⊥) → (ending_of a.status ≡ Some NoMemory → ⊥)
         → (b : Between P) × (run_after (bytes_at base r.ended) (Some first) (of_thread a.thread r.ended) ≡ Some b) × IsBeforeTry n b a
 
   pub record RunsFrom (first : Between P) (base : List ℕ) (cells : Cells) (r : Rows) (a : Actor P) : Type 0 where
     pub runs : IsRun first base (cells.clock / 2) r a
-    pub sees : (ending_of a.status ≡ Some NoMemory → ⊥) → Sees (words_at base r.ended) cells a.engine
-    pub starved : ending_of a.status ≡ Some NoMemory → in_transaction a.engine ≡ false
+    pub sees : Sees (words_at base r.ended) cells a.engine
+    pub held : a.engine.irrevocable ≡ true → (row : Attempt) → active_of a.thread r.active ≡ Some row → IsHeld (bytes_at base r.ended (cells.clock / 2)) cells.words row a.engine
+    pub starved : ending_of a.status ≡ Some NoMemory → a.engine.irrevocable ≡ false → in_transaction a.engine ≡ false
     pub reads : in_transaction a.engine ≡ true → (row : Attempt) → active_of a.thread r.active ≡ Some row → row.at ≡ a.engine.snapshot / 2
 
   -- where the words were those of the commits, and the actor's attempts its player's run, they still are

@@ -1,5 +1,5 @@
 -- What a player that runs alone has done at some moment: its first blocks, and perhaps some calls of the next one. This is opacity where each attempt reads what all before it left.
-use Rattle.std.specs.Prelude.{◌≡◌, ◌⊎◌, ℕ, ◌/◌, ◌%◌, false, List, [], ◌∷◌, ◌++◌, Some}
+use Rattle.std.specs.Prelude.{◌≡◌, ◌⊎◌, ℕ, ◌/◌, ◌%◌, ◌==◌, false, List, [], ◌∷◌, ◌++◌, Some}
 use Rattle.itm_types.specs.Memory.{bytes_of}
 use Rattle.itm_types.specs.declared.limits.TheConstants.{MAX_OPEN_BLOCKS}
 use Rattle.itm_model.specs.Machine.{opened}
@@ -13,7 +13,7 @@ use Rattle.norec_world.specs.Opacity.{Beginning, begin_code, begin_of}
 use Rattle.norec_world.specs.Alone.{IsAlone}
 use Rattle.norec_world.specs.Solo.{Progress, row_of, with_all, solo, solo_within}
 use Rattle.norec_world.specs.Cells.{Cells}
-use Rattle.script_vm.specs.Rules.{Rules}
+use Rattle.tx_player.specs.Rules.{Rules}
 
 module _ {P : Type 0} (rules : Rules P) (max_commits thread : ℕ) where
   -- the next block has begun: its row has these calls, which the player makes alone on the memory of its blocks before
@@ -33,13 +33,18 @@ module _ {P : Type 0} (rules : Rules P) (max_commits thread : ℕ) where
     pub memory_is : memory ≡ before.memory
     pub rows_are : (rows ≡ past) ⊎ IsBegun before past outcome rows
 
-  -- all that it does
-  pub record IsAll (p0 : P) (base arena : List ℕ) (cells : Cells) (rows : List Attempt) (ending : End) : Type 0 where
-    pub all : solo rules MAX_OPEN_BLOCKS max_commits thread p0 base arena ≡ record { attempts = rows; memory = bytes_of cells.words; commits = cells.clock / 2; ending = ending }
-    pub even : cells.clock % 2 ≡ 0
+  -- all that it does: the clock is odd where its last transaction is irrevocable and has not ended
+  abbrev pub IsAll : P → List ℕ → List ℕ → Cells → List Attempt → End → Type 0
+  IsAll p0 base arena cells rows ending = solo rules MAX_OPEN_BLOCKS max_commits thread p0 base arena ≡ record { attempts = rows; memory = bytes_of cells.words; commits = cells.clock / 2; held = cells.clock % 2 == 1; ending = ending }
+
+  -- memory was refused: to an irrevocable transaction, which is left unfinished, or elsewhere
+  abbrev pub HasStarved : P → List ℕ → List ℕ → Cells → List Attempt → Type 0
+  HasStarved p0 base arena cells rows =
+      ((cells.clock % 2 ≡ 0) × IsSoFar p0 base arena (cells.clock / 2) (bytes_of cells.words) outcomes.NoMemory rows)
+      ⊎ ((cells.clock % 2 ≡ 1) × ((memory : List ℕ) × IsSoFar p0 base arena (cells.clock / 2) memory outcomes.Unfinished rows))
 
   -- It has ended: all that it does is done, or, where memory was refused, a beginning of that.
   abbrev pub HasEnded : P → List ℕ → List ℕ → Cells → List Attempt → End → Type 0
   HasEnded p0 base arena cells rows Finished = IsAll p0 base arena cells rows Finished
   HasEnded p0 base arena cells rows GaveUp = IsAll p0 base arena cells rows GaveUp
-  HasEnded p0 base arena cells rows NoMemory = (cells.clock % 2 ≡ 0) × IsSoFar p0 base arena (cells.clock / 2) (bytes_of cells.words) outcomes.NoMemory rows
+  HasEnded p0 base arena cells rows NoMemory = HasStarved p0 base arena cells rows

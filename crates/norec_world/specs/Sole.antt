@@ -1,17 +1,21 @@
 -- The attempts of an actor that has its world to itself, between two events. No contract above cites it.
 use Rattle.std.specs.Prelude.{◌≡◌, ◌⊎◌, ℕ, ◌+◌, ◌≤◌, ◌/◌, true, false, List, [], ◌∷◌, ◌++◌, Option, None, Some}
+use Rattle.norec_core.specs.Core.{Core}
 use Rattle.norec_world.specs.declared.attempt.Attempt.{Attempt}
 use Rattle.norec_world.specs.declared.attempt.Outcome.{Outcome}
 use Rattle.norec_world.specs.declared.attempt.Outcome.TheVariants as outcomes
 use Rattle.norec_world.specs.declared.attempt.End.{End}
 use Rattle.norec_world.specs.declared.attempt.End.TheVariants.{Finished, GaveUp, NoMemory}
 use Rattle.norec_world.specs.declared.actor.Actor.{Actor}
-use Rattle.norec_world.specs.Attempts.{is_committed}
+use Rattle.norec_world.specs.Attempts.{is_committed, of_thread}
+use Rattle.norec_world.specs.Memories.{bytes_at}
+use Rattle.norec_world.specs.Opacity.{Beginning, Between}
+use Rattle.norec_world.specs.Runs.{begins_at, run_after}
 use Rattle.norec_world.specs.Rows.{Rows, active_of}
 use Rattle.norec_world.specs.Solo.{one_if}
 use Rattle.norec_world.specs.Status.{ending_of}
 use Rattle.norec_world.specs.Tries.{current_of, is_done}
-use Rattle.script_vm.specs.Rules.{Rules}
+use Rattle.tx_player.specs.Rules.{Rules}
 
 -- the first try of its block, begun when so many had committed
 pub record IsFirstTry (n : ℕ) (a : Attempt) : Type 0 where
@@ -31,21 +35,35 @@ pub record EndsWith (past : List Attempt) (n : ℕ) (outcome : Outcome) (r : Row
   pub first : IsFirstTry n row
   pub outcome_is : row.outcome ≡ outcome
 
-module _ {P : Type 0} (rules : Rules P) (max_commits : ℕ) where
+-- no step is waited for, and an irrevocable transaction alone holds the clock
+abbrev pub IsIdle : Core → Type 0
+IsIdle e = (e.waits ≡ None) × (e.holds ≡ e.irrevocable)
+
+module _ {P : Type 0} (rules : Rules P) (max_commits : ℕ) (base : List ℕ) (first : Between P) where
   -- after these attempts it goes on, at the first try of its block
   pub record IsOnWay (past : List Attempt) (n : ℕ) (r : Rows) (a : Actor P) : Type 0 where
     pub ended : r.ended ≡ past
     pub nth : a.nth ≡ 1
     pub current : (row : Attempt) → current_of (active_of a.thread r.active) a.pending ≡ Some row → IsFirstTry n row
 
+  -- after these attempts the next block goes irrevocable, and has not begun
+  pub record IsKeptOut (past : List Attempt) (r : Rows) (a : Actor P) : Type 0 where
+    pub ended : r.ended ≡ past
+    pub before : Between P
+    pub led : run_after rules (bytes_at base r.ended) (Some first) (of_thread a.thread r.ended) ≡ Some before
+    pub start : Beginning P
+    pub begins : begins_at rules before ≡ Some start
+    pub goes : start.props.goes_irrevocable ≡ true
+
   -- by how it ended, if it has
   abbrev pub StandsSole : Option End → List Attempt → ℕ → Rows → Actor P → Type 0
   StandsSole None past n r a = IsOnWay past n r a
-  StandsSole (Some Finished) past n r a = IsOnWay past n r a × (rules.next_call a.player ≡ None) × (a.engine.holds ≡ false)
-  StandsSole (Some GaveUp) past n r a = (active_of a.thread r.active ≡ None) × (max_commits ≤ n) × EndsWith past n outcomes.Full r
-  StandsSole (Some NoMemory) past n r a = (active_of a.thread r.active ≡ None) × ((r.ended ≡ past) ⊎ EndsWith past n outcomes.NoMemory r)
+  StandsSole (Some Finished) past n r a = IsOnWay past n r a × (rules.next_call a.player ≡ None) × IsIdle a.engine
+  StandsSole (Some GaveUp) past n r a = (active_of a.thread r.active ≡ None) × (max_commits ≤ n) × (IsKeptOut past r a ⊎ EndsWith past n outcomes.Full r)
+  StandsSole (Some NoMemory) past n r a = ((active_of a.thread r.active ≡ None) × ((r.ended ≡ past) ⊎ EndsWith past n outcomes.NoMemory r)) ⊎ ((a.engine.irrevocable ≡ true) × IsOnWay past n r a)
 
   pub record IsSole (clock : ℕ) (r : Rows) (a : Actor P) : Type 0 where
     pub past : List Attempt
     pub commit : AreSole 0 past (clock / 2)
     pub stands : StandsSole (ending_of a.status) past (clock / 2) r a
+    pub seen : a.engine.holds ≡ false → a.engine.clock ≡ clock

@@ -1,10 +1,10 @@
 -- A player with no other beside it: block after block, each on the bytes that those before left. Of a world with one player the headline implies it; it is stated by itself since it computes the whole, from the first begin to the end.
-use Rattle.std.specs.Prelude.{ℕ, zero, suc, ◌+◌, ◌&&◌, Bool, true, false, nat_le, if◌then◌else◌, List, [], ◌∷◌, ◌++◌, map, Option, None, Some}
+use Rattle.std.specs.Prelude.{ℕ, zero, suc, ◌+◌, ◌&&◌, Bool, true, false, nat_le, if◌then◌else◌, List, [], ◌∷◌, ◌++◌, map, option_map, Option, None, Some}
 use Rattle.itm_types.specs.declared.call.Call.{Call}
 use Rattle.itm_types.specs.Calls.{is_abort}
 use Rattle.itm_types.specs.declared.call.Reply.{Reply}
 use Rattle.itm_model.specs.State.{State}
-use Rattle.itm_model.specs.Machine.{opened, is_open}
+use Rattle.itm_model.specs.Machine.{after, opened, is_open}
 use Rattle.itm_model.specs.Runs.{answers, state_after}
 use Rattle.norec_world.specs.declared.attempt.Entry.{Entry}
 use Rattle.norec_world.specs.declared.attempt.Attempt.{Attempt}
@@ -12,8 +12,8 @@ use Rattle.norec_world.specs.declared.attempt.Outcome.{Outcome}
 use Rattle.norec_world.specs.declared.attempt.Outcome.TheVariants.{Committed, ReadOnly, Cancelled, Full, Unfinished}
 use Rattle.norec_world.specs.declared.attempt.End.{End}
 use Rattle.norec_world.specs.declared.attempt.End.TheVariants.{Finished, GaveUp}
-use Rattle.norec_world.specs.Opacity.{Beginning, answered_all, begin_code, begin_of, ran_of}
-use Rattle.script_vm.specs.Rules.{Rules}
+use Rattle.norec_world.specs.Opacity.{Beginning, answered_all, begin_code, begin_of, ran_of, takes_clock}
+use Rattle.tx_player.specs.Rules.{Rules}
 
 -- a player between two blocks
 pub record Progress (P : Type 0) : Type 0 where
@@ -27,6 +27,7 @@ pub record Solo : Type 0 where
   pub attempts : List Attempt
   pub memory : List ℕ
   pub commits : ℕ
+  pub held : Bool  -- its last transaction is irrevocable and has not ended
   pub ending : End
 
 -- a call with its reply, as attempts list them
@@ -55,11 +56,10 @@ row_of deepest thread b start calls outcome = record {
   outcome = outcome;
 }
 
--- all but the last
-abbrev pub front : {A : Type 0} → List A → List A
-front [] = []
-front (x ∷ []) = []
-front (x ∷ y ∷ ys) = x ∷ front (y ∷ ys)
+-- of these calls with their replies, from this state on, those before the first one that takes the clock, if one does
+abbrev pub before_taking : ℕ → State → List (Call × Reply) → Option (List (Call × Reply))
+before_taking deepest s [] = None
+before_taking deepest s (c ∷ rest) = (let t = after deepest s c.0 in if takes_clock t then Some [] else option_map (λ before. c ∷ before) (before_taking deepest t rest))
 
 abbrev pub one_if : Bool → ℕ
 one_if true = 1
@@ -92,22 +92,34 @@ module _ {P : Type 0} (rules : Rules P) (deepest max_commits thread : ℕ) where
 
   -- the player goes no further
   abbrev pub stopped : Progress P → End → Solo
-  stopped b ending = record { attempts = []; memory = b.memory; commits = b.commits; ending = ending }
+  stopped b ending = record { attempts = []; memory = b.memory; commits = b.commits; held = false; ending = ending }
+
+  -- and leaves a block open, in this state: what an irrevocable transaction has written is there
+  abbrev pub left_open : Progress P → State → Solo
+  left_open b s = record { attempts = []; memory = if s.irrevocable then s.memory else b.memory; commits = b.commits; held = s.irrevocable; ending = Finished }
 
   -- one block: its player after the begin is p, its calls with their replies are these, and s is the state after them
   abbrev pub block_then : (Progress P → Solo) → Progress P → Beginning P → P → List (Call × Reply) → State → Solo
   block_then rest b start p pairs s =
-      if is_open s then with_first (the_attempt b start pairs Unfinished) (stopped b Finished)
-      else (if s.wrote && nat_le max_commits b.commits then with_first (the_attempt b start (front pairs) Full) (stopped b GaveUp)
-      else with_first (the_attempt b start pairs (ended_as (aborts pairs) s.wrote)) (rest (passed b p pairs s)))
+      if is_open s then with_first (the_attempt b start pairs Unfinished) (left_open b s)
+      else with_first (the_attempt b start pairs (ended_as (aborts pairs) s.wrote)) (rest (passed b p pairs s))
 
-  -- the block that begins here, and then the rest
+  -- where as many have committed as may, it ends before the first call that takes the clock
+  abbrev pub limited_then : (Progress P → Solo) → Progress P → Beginning P → P → List (Call × Reply) → State → Option (List (Call × Reply)) → Solo
+  limited_then rest b start p pairs s None = block_then rest b start p pairs s
+  limited_then rest b start p pairs s (Some before) = with_first (the_attempt b start before Full) (stopped b GaveUp)
+
+  abbrev pub within_limit : (Progress P → Solo) → Progress P → Beginning P → P → List (Call × Reply) → Solo
+  within_limit rest b start p pairs =
+      let s = opened b.memory start.arena start.props in
+      limited_then rest b start p pairs (state_after deepest s (map (λ c. c.0) pairs)) (if nat_le max_commits b.commits then before_taking deepest s pairs else None)
+
+  -- the block that begins here, and then the rest: one that goes irrevocable begins only where one more may commit
   abbrev pub begun_then : (Progress P → Solo) → Progress P → Option (Beginning P) → Solo
   begun_then rest b None = stopped b Finished
   begun_then rest b (Some start) =
-      let p = rules.answered start.player (begin_code false) in
-      let pairs = answers rules.next_call rules.answered rules.calls_left deepest p b.memory start.arena start.props in
-      block_then rest b start p pairs (state_after deepest (opened b.memory start.arena start.props) (map (λ c. c.0) pairs))
+      if start.props.goes_irrevocable && nat_le max_commits b.commits then stopped b GaveUp
+      else (let p = rules.answered start.player (begin_code false) in within_limit rest b start p (answers rules.next_call rules.answered rules.calls_left deepest p b.memory start.arena start.props))
 
   -- the player's blocks, at most so many
   abbrev pub solo_within : ℕ → Progress P → Solo

@@ -1,14 +1,18 @@
 -- What is true of an actor between two events.
 use Rattle.std.specs.Prelude.{◌≡◌, ℕ, ◌+◌, ◌-◌, ◌*◌, ◌<◌, ◌≤◌, Bool, true, false, nat_lt, if◌then◌else◌, is_some, [], length, None, Some, vec_capacity}
 use Rattle.itm_types.specs.declared.call.Call.{Call}
-use Rattle.itm_types.specs.declared.call.Call.TheVariants.{Commit}
+use Rattle.itm_types.specs.declared.call.Props.{Props}
+use Rattle.itm_types.specs.declared.call.Call.TheVariants.{Begin, Commit}
 use Rattle.itm_types.specs.declared.step.Step.{Step}
 use Rattle.itm_types.specs.Memory.{AllFit}
 use Rattle.itm_types.specs.declared.limits.TheConstants.{MAX_RETRIES}
 use Rattle.itm_types.specs.Calls.{is_begin, is_abort}
-use Rattle.script_vm.specs.Depth.{depth_after}
-use Rattle.norec_core.specs.Core.{Core, came, in_transaction}
+use Rattle.tx_player.specs.Depth.{depth_after}
+use Rattle.norec_core.specs.Core.{Core, came, in_transaction, may_go}
+use Rattle.norec_core.specs.Order.{asked}
 use Rattle.norec_core.specs.Proceeds.{IsAtOnce, IsLawful, IsSettled, IsWithin, Proceeds, StaysOn, most}
+use Rattle.norec_core.specs.declared.phase.Phase.{Phase}
+use Rattle.norec_core.specs.declared.phase.Phase.TheVariants as at
 use Rattle.norec_core.specs.declared.answer.Next.{Next}
 use Rattle.norec_core.specs.declared.answer.Next.TheVariants.{Step as Asks, Answer as Answers}
 use Rattle.norec_core.specs.declared.answer.Answer.{Answer}
@@ -23,7 +27,7 @@ use Rattle.norec_world.specs.ActionRoom.{IsActing}
 use Rattle.norec_world.specs.Cells.{Cells}
 use Rattle.norec_world.specs.Rows.{Rows, active_of}
 use Rattle.norec_world.specs.Status.{is_ready, is_waiting}
-use Rattle.script_vm.specs.Rules.{Rules}
+use Rattle.tx_player.specs.Rules.{Rules}
 
 -- ## The engine and the cells
 
@@ -34,6 +38,12 @@ pub record IsTied (cells : Cells) (e : Core) : Type 0 where
   pub late : e.clock ≤ cells.clock
   pub holder : e.holds ≡ true → cells.clock ≡ e.clock + 1
   pub settled : IsSettled e
+
+-- an outermost begin that is not refused loads the clock, and one that goes irrevocable takes it as it was just loaded
+abbrev pub BeginsAt : Core → Phase → Type 0
+BeginsAt e (at.Begin b) = (e.doing ≡ Some (Begin b.props b.room)) × (may_go e.blocks b.props ≡ true)
+BeginsAt e (at.Take b) = (e.doing ≡ Some (Begin b.props b.room)) × (may_go e.blocks b.props ≡ true) × (e.clock ≡ e.snapshot)
+BeginsAt e stage = ⊥
 
 -- the steps that the call in progress may still ask for
 abbrev pub steps_left : Core → ℕ
@@ -82,9 +92,9 @@ IsDeep false deep = deep ≡ 0
 abbrev pub AnswerFits : Bool → ℕ → Bool → ℕ → Call → Answer → Type 0
 AnswerFits was before now deep call (Reply r) = (depth_after before call r ≡ deep) × (is_abort call ≡ false → was ≡ true → now ≡ true)
 AnswerFits was before now deep call (Committed at wrote) = (was ≡ true) × (now ≡ false) × (call ≡ Commit) × (before ≡ 1)
-AnswerFits was before now deep call (Conflict clock word) = (was ≡ true) × (now ≡ false)
+AnswerFits was before now deep call (Conflict clock word) = (was ≡ false → is_begin call ≡ true) × (now ≡ false)
 AnswerFits was before now deep call (Busy clock) = (was ≡ false) × (now ≡ false)
-AnswerFits was before now deep call (Full at) = (was ≡ true) × (now ≡ false)
+AnswerFits was before now deep call (Full at) = (was ≡ false → is_begin call ≡ true) × (now ≡ false)
 
 module _ {P : Type 0} (rules : Rules P) where
   -- the player has blocks open where the engine has, and can go back to where it began the outermost one
@@ -99,6 +109,7 @@ module _ {P : Type 0} (rules : Rules P) where
     pub begins : is_open ≡ false → is_some a.pending ≡ is_begin call
     pub inside : is_open ≡ true → a.pending ≡ None
     pub opens : (row : Attempt) → a.pending ≡ Some row → IsPending r a row
+    pub props : (row : Attempt) (props : Props) (room : ℕ) → a.pending ≡ Some row → call ≡ Begin props room → row.props ≡ props
     pub room : (row : Attempt) → is_open ≡ true → active_of a.thread r.active ≡ Some row → length row.calls < vec_capacity a.spare
 
   pub record IsWaiting (r : Rows) (a : Actor P) (call : Call) (step : Step) : Type 0 where
@@ -109,18 +120,20 @@ module _ {P : Type 0} (rules : Rules P) where
     pub waits : a.engine.waits ≡ Some step
     pub lawful : IsLawful a.engine step
     pub within : IsWithin a.engine
+    pub asks : a.engine.waits ≡ asked a.engine
+    pub begun : in_transaction a.engine ≡ false → BeginsAt a.engine a.engine.stage
 
   pub record IsReady (a : Actor P) : Type 0 where
     pub nested : IsNested (in_transaction a.engine) a.player
     pub depth : rules.depth a.player ≡ length a.engine.blocks  -- it has as many open as the engine
     pub idle : a.engine.waits ≡ None
-    pub free : a.engine.holds ≡ false
+    pub free : a.engine.holds ≡ a.engine.irrevocable  -- an irrevocable transaction alone holds the clock between two calls
     pub nothing : a.pending ≡ None
 
   abbrev pub StatusIs : Rows → Actor P → Status → Type 0
   StatusIs r a Ready = IsReady a
   StatusIs r a (Waits call step) = IsWaiting r a call step
-  StatusIs r a (Ended end) = Unit {0}
+  StatusIs r a (Ended end) = a.engine.waits ≡ None
 
   -- between two events, and within local work
   pub record IsSound (cells : Cells) (r : Rows) (a : Actor P) : Type 0 where
@@ -154,14 +167,14 @@ module _ {P : Type 0} (rules : Rules P) where
     pub in_call : IsInCall was r a call
     pub fits : AnswerFits was (rules.depth a.player) (in_transaction a.engine) (length a.engine.blocks) call answer
     pub idle : a.engine.waits ≡ None
-    pub free : a.engine.holds ≡ false
+    pub free : a.engine.holds ≡ a.engine.irrevocable
     pub status : a.status ≡ Ready
 
   -- the actor is between calls, or has ended
   abbrev pub RestsAs : Status → Actor P → Type 0
   RestsAs Ready a = IsReady a
   RestsAs (Waits call step) a = ⊥
-  RestsAs (Ended end) a = Unit {0}
+  RestsAs (Ended end) a = a.engine.waits ≡ None
 
   -- the answer is recorded
   pub record IsSettledBy (was : Bool) (r : Rows) (old new : Actor P) : Type 0 where

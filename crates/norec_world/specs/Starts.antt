@@ -10,7 +10,7 @@ use Rattle.norec_world.specs.Tries.{IsBetween}
 use Rattle.norec_world.specs.LocalWork.{Works}
 use Rattle.norec_world.specs.Cells.{words_of}
 use Rattle.norec_world.specs.World.{World, attempts_of, ending_at}
-use Rattle.script_vm.specs.Rules.{Rules}
+use Rattle.tx_player.specs.Rules.{Rules}
 
 -- an actor with these limits, before or at the begin of its first try
 pub record IsFirst {P : Type 0} (clock patience max_commits retries : ℕ) (r : Rows) (a : Actor P) : Type 0 where
@@ -18,6 +18,7 @@ pub record IsFirst {P : Type 0} (clock patience max_commits retries : ℕ) (r : 
   pub patience_is : a.engine.patience ≡ patience
   pub limit : a.engine.max_commits ≡ max_commits
   pub retries_are : a.retries ≡ retries
+  pub seen : a.engine.clock ≡ clock
 
 -- the actor at its place, of this player and with this engine, whose local work up to its first step is done; it has ended only where its player has no call
 pub record HasStarted {P : Type 0} (rules : Rules P) (clock : ℕ) (engine : Core) (retries place : ℕ) (p : P) (a : Actor P) : Type 0 where

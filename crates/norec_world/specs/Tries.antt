@@ -1,5 +1,6 @@
 -- What an event, or the local work of an actor, does to the try that the actor makes of its block.
 use Rattle.std.specs.Prelude.{◌≡◌, ℕ, ◌+◌, ◌*◌, ◌/◌, ◌%◌, ◌<◌, ◌≤◌, Bool, true, false, nat_lt, List, [], ◌∷◌, ◌++◌, Option, None, Some}
+use Rattle.norec_core.specs.Core.{may_go}
 use Rattle.norec_world.specs.declared.attempt.Attempt.{Attempt}
 use Rattle.itm_types.specs.declared.call.Ran.{Ran}
 use Rattle.norec_world.specs.declared.attempt.Entry.{Entry}
@@ -53,6 +54,7 @@ pub record Prior : Type 0 where
   pub nth : ℕ  -- which try of its block is under way or comes next
   pub retries : ℕ
   pub max_commits : ℕ
+  pub seen : ℕ  -- the clock as its engine saw it last
 
 abbrev pub prior_of : {P : Type 0} → Rows → Actor P → Prior
 prior_of r a = record {
@@ -62,6 +64,7 @@ prior_of r a = record {
   nth = a.nth;
   retries = a.retries;
   max_commits = a.engine.max_commits;
+  seen = a.engine.clock;
 }
 
 -- the attempt that is open, or else the one that is to be opened
@@ -128,7 +131,7 @@ module _ {P : Type 0} where
     pub half : clock' / 2 ≡ clock / 2
     pub tries : a.nth ≡ p.nth
     pub goes_on : ending_of a.status ≡ Some ends.GaveUp → ⊥
-    pub fed : ending_of a.status ≡ Some ends.NoMemory → ⊥
+    pub fed : ending_of a.status ≡ Some ends.NoMemory → a.engine.irrevocable ≡ true  -- an irrevocable one that finds no memory stays unfinished
 
   -- it has ended
   pub record EndsIt (clock : ℕ) (p : Prior) (clock' : ℕ) (r : Rows) (a : Actor P) : Type 0 where
@@ -152,6 +155,28 @@ module _ {P : Type 0} where
     pub same : clock' ≡ clock
     pub after : TriesAgain (nat_lt p.retries p.nth) clock' p.nth r a
 
+  -- its begin lost the clock once too often: it had moved since the engine saw it last
+  pub record IsOutrun (clock : ℕ) (p : Prior) (clock' : ℕ) (r : Rows) (a : Actor P) : Type 0 where
+    pub none : p.active ≡ None
+    pub row : Attempt
+    pub was : p.pending ≡ Some row
+    pub ended : r.ended ≡ p.ended
+    pub moved : p.seen < clock
+    pub same : clock' ≡ clock
+    pub after : TriesAgain (nat_lt p.retries p.nth) clock' p.nth r a
+
+  -- its begin goes irrevocable, and as many have committed as may
+  pub record IsShutOut (clock : ℕ) (p : Prior) (clock' : ℕ) (r : Rows) (a : Actor P) : Type 0 where
+    pub none : p.active ≡ None
+    pub row : Attempt
+    pub was : p.pending ≡ Some row
+    pub ended : r.ended ≡ p.ended
+    pub goes : row.props.goes_irrevocable ≡ true
+    pub may : may_go [] row.props ≡ true
+    pub full : p.max_commits ≤ clock / 2
+    pub same : clock' ≡ clock
+    pub after : HasStopped ends.GaveUp r a
+
   -- one of these
   pub data Tries (clock : ℕ) (p : Prior) (clock' : ℕ) (r : Rows) (a : Actor P) : Type 0 where
     between : StaysBetween clock p clock' r a → Tries clock p clock' r a
@@ -159,3 +184,5 @@ module _ {P : Type 0} where
     runs : StaysOpen clock p clock' r a → Tries clock p clock' r a
     over : EndsIt clock p clock' r a → Tries clock p clock' r a
     turned_away : IsTurnedAway clock p clock' r a → Tries clock p clock' r a
+    outrun : IsOutrun clock p clock' r a → Tries clock p clock' r a
+    shut_out : IsShutOut clock p clock' r a → Tries clock p clock' r a

@@ -14,7 +14,7 @@ use Rattle.norec_world.specs.declared.actor.Actor.{Actor}
 use Rattle.norec_world.specs.Cells.{Cells}
 use Rattle.norec_world.specs.Status.{ending_of, waiting_step}
 use Rattle.norec_world.specs.SoFar.{IsSoFar, HasEnded}
-use Rattle.script_vm.specs.Rules.{Rules}
+use Rattle.tx_player.specs.Rules.{Rules}
 
 pub record World (P : Type 0) : Type 0 where
   pub opening : List P  -- the players as they were handed in

@@ -16,7 +16,7 @@ use Rattle.norec_world.specs.Opaque.{AreOpaque}
 use Rattle.norec_world.specs.Rows.{Rows}
 use Rattle.norec_world.specs.Memories.{words_at}
 use Rattle.norec_world.specs.World.{World, SameOpening, ShowsAlone, ending_at, waits_at, told, is_event, counted}
-use Rattle.script_vm.specs.Rules.{Rules}
+use Rattle.tx_player.specs.Rules.{Rules}
 
 -- what a transaction has read is of one memory, which the first commits left
 abbrev pub HasRead : {P : Type 0} → List ℕ → Rows → Actor P → Type 0

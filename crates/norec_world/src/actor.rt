@@ -8,9 +8,9 @@ use crate::recorded::Recorded;
 use itm_types::{Call, Ran, Step};
 use norec_core::Next;
 use norec_engine::Engine;
-use script_vm::Player;
 use std::alloc::Global;
 use std::mem;
+use tx_player::Player;
 
 /// What an actor does next.
 #[derive(Drop)]

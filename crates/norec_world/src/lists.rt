@@ -1,6 +1,6 @@
 //! Lists that contracts compare by what stands in them.
 
-ghost use Rattle.std.specs.Prelude.{◌≡◌, ◌<◌, ◌≤◌, ◌+◌, ◌∷◌, [], ◌++◌, length, vec_capacity};
+ghost use Rattle.std.specs.Prelude.{◌≡◌, ◌<◌, ◌≤◌, ◌+◌, ◌∷◌, [], ◌++◌, length, vec_capacity, IfOk, OnErr};
 ghost use Rattle.norec_world.specs.Opacity.{IsBeginningOf};
 
 use crate::attempt::Entry;
@@ -68,6 +68,25 @@ impl Calls {
         Calls {
             items: Vec::new(alloc),
         }
+    }
+
+    /// No calls, with room for so many.
+    pub(crate) fn with_room(alloc: Global, room: usize) -> Result<Self, AllocError>
+        ensures none { IfOk result (λ calls. calls ≡ []) }
+        ensures short { OnErr result (0 < room) }
+    {
+        let mut items = Vec::new(alloc);
+        items.reserve(room)?;
+        Ok(Calls { items })
+    }
+
+    /// Makes room for so many more.
+    pub(crate) fn reserve(&mut self, more: usize) -> Result<(), AllocError>
+        ensures same { self.new ≡ self.old }
+        ensures short { OnErr result (0 < more) }
+    {
+        self.items.reserve(more)?;
+        Ok(())
     }
 
     pub fn as_slice(&self) -> &[Entry]

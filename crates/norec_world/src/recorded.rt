@@ -88,6 +88,18 @@ impl Recorded {
         }
     }
 
+    /// Makes room for so many more calls of the actor's open attempt.
+    pub(crate) fn reserve_calls(&mut self, thread: u8, more: usize) -> Result<(), AllocError>
+        ensures same { self.new ≡ self.old }
+        ensures short { OnErr result (0 < more) }
+    {
+        if let Some(place) = position_of(&self.rows[self.ended..], thread) {
+            let row = &mut self.rows[self.ended + place];
+            row.calls.reserve(more)?;
+        }
+        Ok(())
+    }
+
     /// The actor's open attempt reads at this position.
     pub(crate) fn move_to(&mut self, thread: u8, at: u64)
         ensures { self.new ≡ with_changed thread (λ row. record row { at = at }) self.old }

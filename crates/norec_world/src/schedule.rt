@@ -4,8 +4,8 @@ ghost use Rattle.std.specs.Prelude.{◌≡◌, ◌+◌, List, Result, length};
 
 use crate::fault::WorldFault;
 use crate::world::World;
-use script_vm::Player;
 use std::alloc::Global;
+use tx_player::Player;
 
 /// What came of a schedule's entries.
 #[derive(Clone, Copy, Debug, PartialEq, Eq)]

@@ -21,8 +21,8 @@ use crate::memory::Memory;
 use crate::recorded::Recorded;
 use itm_types::{Limits, MAX_ACTORS, MAX_WORDS};
 use norec_engine::Engine;
-use script_vm::Player;
 use std::alloc::{AllocError, Global};
+use tx_player::Player;
 use undo_log::Arena;
 
 /// What every actor begins with.

@@ -5,6 +5,7 @@ ghost use Rattle.std.specs.Prelude.{◌≡◌, ◌%◌, ◌<◌, ◌≤◌, leng
 mod actions;
 mod barriers;
 mod copies;
+mod irrevocable;
 mod local;
 mod many;
 mod nests;
@@ -46,7 +47,11 @@ fn world(
 
 fn begin() -> Call {
     Call::Begin {
-        props: Props { no_abort: false },
+        props: Props {
+            no_abort: false,
+            no_irrevocable: false,
+            goes_irrevocable: false,
+        },
         room: 8,
     }
 }

@@ -1,6 +1,6 @@
 //! The local work of an actor: what it does between two operations.
 
-ghost use Rattle.std.specs.Prelude.{◌≡◌, ◌⊎◌, ◌^◌, ◌+◌, ◌/◌, ◌<◌, ◌≤◌, ◌++◌, ◌∷◌, ℕ, Bool, true, false, [], if◌then◌else◌, Some, None, IfOk, OnOk, OnErr, is_some, length, vec_capacity};
+ghost use Rattle.std.specs.Prelude.{◌≡◌, ◌⊎◌, ◌^◌, ◌+◌, ◌/◌, ◌<◌, ◌≤◌, ◌++◌, ◌∷◌, ℕ, Bool, true, false, [], if◌then◌else◌, Some, None, IfOk, OnOk, OnErr, is_some, length, unwrap_or, vec_capacity};
 ghost use Rattle.norec_world.specs.declared.attempt.Attempt.{Attempt};
 ghost use Rattle.itm_types.specs.Calls.{is_abort, registered_by};
 ghost use Rattle.norec_core.specs.Core.{in_transaction};
@@ -12,14 +12,15 @@ use crate::memory::Memory;
 use crate::recorded::Recorded;
 use itm_types::{Call, MAX_ACTORS, MAX_RETRIES, Props, Ran, Reply};
 use norec_core::{Answer, Next, Undone};
-use script_vm::Player;
 use std::alloc::{AllocError, Global};
+use tx_player::Player;
 
 impl<P: Player> Actor<P> {
     ghost use Rattle.norec_world.specs.Cells.{Cells};
     ghost use Rattle.norec_world.specs.Status.{is_ready, ending_of};
     ghost use Rattle.norec_world.specs.Records.{Asks, Records, StopsAt};
     ghost use Rattle.norec_world.specs.Rows.{active_of, with_ended};
+    ghost use Rattle.norec_core.specs.Proceeds.{IsSettled};
     ghost use Rattle.norec_core.specs.Undoing.{after_undoing};
     ghost use Rattle.itm_types.specs.Calls.{is_begin};
     ghost use Rattle.norec_world.specs.LocalWork.{IsShort};
@@ -68,6 +69,7 @@ impl<P: Player> Actor<P> {
     ) -> Result<Next, AllocError>
         requires kept { IsKept (in_transaction self.old.engine) recorded.old self.old }
         requires ready { IsReady P.Player self.old }
+        requires settled { IsSettled self.old.engine }
         requires acts { IsActing recorded.old self.old }
         requires asks { P.next_call self.old.player ≡ Some call.now }
         ensures acts { IfOk result (MayRunOn recorded.new self.new call.now) }
@@ -84,7 +86,11 @@ impl<P: Player> Actor<P> {
         match call {
             Call::Begin { props, room } if !self.engine.is_open() => {
                 recorded.reserve(MAX_ACTORS)?;
-                let attempt = self.attempt(alloc, memory.clock(), *props)?;
+                let ahead = ahead(self.engine.goes(call));
+                let attempt = self.attempt(alloc, memory.clock(), *props, ahead)?;
+                self.spare.reserve(ahead)?;
+                self.end_room.reserve(ahead)?;
+                self.cancel_room.reserve(ahead)?;
                 let next = self.engine.begin(*props, *room, self.again)?;
                 self.pending = Some(attempt);
                 Ok(next)
@@ -95,13 +101,52 @@ impl<P: Player> Actor<P> {
                 self.spare.reserve(calls.saturating_add(1))?;
                 let actions = self.engine.actions();
                 reserve_actions(call, actions, &mut self.end_room, &mut self.cancel_room)?;
+                let ahead = ahead(self.engine.goes(call));
+                self.reserve_ahead(recorded, calls, actions, ahead)?;
                 self.engine.call(call)
             }
         }
     }
 
-    /// The attempt that a begin is to open.
-    fn attempt(&self, alloc: Global, clock: u64, props: Props) -> Result<Attempt, AllocError>
+    /// Makes room for so many more calls in the open attempt, and for as many more actions that run at its end. A cancel
+    /// asks for room too, though in an irrevocable transaction it is refused.
+    fn reserve_ahead(
+        &mut self,
+        recorded: &mut Recorded,
+        calls: usize,
+        actions: usize,
+        ahead: usize,
+    ) -> Result<(), AllocError>
+        requires few { (actions < 2 ^ 63) × (ahead < 2 ^ 32) }
+        requires empty { (self.old.spare.items ≡ []) × (self.old.end_room.items ≡ []) × (self.old.cancel_room.items ≡ []) }
+        ensures actor { self.new ≡ record self.old { spare = self.new.spare; end_room = self.new.end_room; cancel_room = self.new.cancel_room } }
+        ensures empty { (self.new.spare.items ≡ []) × (self.new.end_room.items ≡ []) × (self.new.cancel_room.items ≡ []) }
+        ensures kept { (vec_capacity self.old.spare ≤ vec_capacity self.new.spare) × (vec_capacity self.old.end_room ≤ vec_capacity self.new.end_room)
+            × (vec_capacity self.old.cancel_room ≤ vec_capacity self.new.cancel_room) }
+        ensures room { OnOk result (0 < ahead → (calls + 1 + ahead ≤ vec_capacity self.new.spare) × (actions + ahead ≤ vec_capacity self.new.end_room)
+            × (actions + ahead ≤ vec_capacity self.new.cancel_room)) }
+        ensures rows { recorded.new ≡ recorded.old }
+        ensures short { OnErr result (0 < ahead) }
+    {
+        if ahead == 0 {
+            return Ok(());
+        }
+        self.spare
+            .reserve(calls.saturating_add(1).saturating_add(ahead))?;
+        recorded.reserve_calls(self.thread, ahead + 1)?;
+        self.end_room.reserve(actions + ahead)?;
+        self.cancel_room.reserve(actions + ahead)?;
+        Ok(())
+    }
+
+    /// The attempt that a begin is to open, with room for so many calls.
+    fn attempt(
+        &self,
+        alloc: Global,
+        clock: u64,
+        props: Props,
+        ahead: usize,
+    ) -> Result<Attempt, AllocError>
         ensures { IfOk result (λ a. a ≡ record {
           thread = self.now.thread;
           nth = self.now.nth;
@@ -122,7 +167,7 @@ impl<P: Player> Actor<P> {
             at: 0,
             props,
             arena: Bytes::new(arena),
-            calls: Calls::new(alloc),
+            calls: Calls::with_room(alloc, ahead)?,
             ran: RanActions::new(alloc),
             outcome: Outcome::Unfinished,
         })
@@ -144,15 +189,17 @@ impl<P: Player> Actor<P> {
             Answer::Reply(reply) => self.replied(recorded, call, reply),
             Answer::Committed { at, wrote } => self.committed(recorded, call, at, wrote),
             Answer::Conflict { .. } => {
-                let at = self.engine.snapshot() / 2;
-                recorded.stop(
-                    self.thread,
-                    at,
-                    Outcome::Conflict,
-                    &mut self.end_room,
-                    self.engine.due(),
-                );
-                self.player.restart();
+                if self.pending.take().is_none() {
+                    let at = self.engine.snapshot() / 2;
+                    recorded.stop(
+                        self.thread,
+                        at,
+                        Outcome::Conflict,
+                        &mut self.end_room,
+                        self.engine.due(),
+                    );
+                    self.player.restart();
+                }
                 self.retry();
             }
             Answer::Busy { .. } => {
@@ -160,13 +207,15 @@ impl<P: Player> Actor<P> {
                 self.retry();
             }
             Answer::Full { at } => {
-                recorded.stop(
-                    self.thread,
-                    at,
-                    Outcome::Full,
-                    &mut self.end_room,
-                    self.engine.due(),
-                );
+                if self.pending.take().is_none() {
+                    recorded.stop(
+                        self.thread,
+                        at,
+                        Outcome::Full,
+                        &mut self.end_room,
+                        self.engine.due(),
+                    );
+                }
                 self.status = Status::Ended(End::GaveUp);
             }
         }
@@ -271,10 +320,11 @@ impl<P: Player> Actor<P> {
         }
     }
 
-    /// Memory was refused before the call came to the engine: the actor ends.
+    /// Memory was refused before the call came to the engine: the actor ends. An irrevocable attempt stays unfinished, with
+    /// the clock held.
     fn starve(&mut self, recorded: &mut Recorded)
         requires kept { IsKept (in_transaction self.old.engine) recorded.old self.old }
-        requires free { self.old.engine.holds ≡ false }
+        requires free { self.old.engine.holds ≡ self.old.engine.irrevocable }
         requires acts { IsActing recorded.old self.old }
         ensures acts { IsActing recorded.new self.new }
         ensures kept { IsKept (in_transaction self.new.engine) recorded.new self.new }
@@ -282,7 +332,7 @@ impl<P: Player> Actor<P> {
         ensures status { self.new.status ≡ Status.Ended End.NoMemory }
         ensures thread { self.new.thread ≡ self.old.thread }
         ensures player { self.new.player ≡ self.old.player }
-        ensures closed { in_transaction self.new.engine ≡ false }
+        ensures closed { self.old.engine.irrevocable ≡ false → in_transaction self.new.engine ≡ false }
         ensures engine { self.new.engine ≡ after_undoing self.old.engine }
         ensures holds { self.new.engine.holds ≡ self.old.engine.holds }
         ensures same { (self.new.nth ≡ self.old.nth) × (self.new.retries ≡ self.old.retries) }
@@ -290,9 +340,11 @@ impl<P: Player> Actor<P> {
             × (self.new.engine.patience ≡ self.old.engine.patience) }
         ensures pending { self.new.pending ≡ self.old.pending }
         ensures again { self.new.again ≡ self.old.again }
-        ensures row { in_transaction self.old.engine ≡ true
+        ensures row { in_transaction self.old.engine ≡ true → self.old.engine.irrevocable ≡ false
             → StopsAt self.old.thread recorded.old (self.old.engine.snapshot / 2) Outcome.NoMemory self.new.engine.actions.ran recorded.new }
         ensures none { in_transaction self.old.engine ≡ false → recorded.new ≡ recorded.old }
+        ensures held { self.old.engine.irrevocable ≡ true
+            → (recorded.new ≡ recorded.old) × (self.new.engine ≡ self.old.engine) }
         ensures others { KeepsOthers self.old recorded.old self.new recorded.new }
     {
         if let Undone::Done = self.engine.abort() {
@@ -333,6 +385,14 @@ fn reserve_actions(
         Call::Abort { .. } => cancel_room.reserve(actions),
         _ => Ok(()),
     }
+}
+
+/// How many calls and actions are to come in a transaction that becomes irrevocable with this room.
+fn ahead(goes: Option<u32>) -> usize
+    ensures value { result ≡ unwrap_or goes 0 }
+    ensures few { result < 2 ^ 32 }
+{
+    goes.map_or(0, |room| room as usize)
 }
 
 /// How a transaction that committed ended.

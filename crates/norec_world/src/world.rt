@@ -12,9 +12,9 @@ use crate::recorded::Recorded;
 use crate::setup::Setup;
 use crate::start::{Terms, start_all};
 use itm_types::{MAX_ACTORS, MAX_ARENA, MAX_COMMITS, MAX_MEMORY, MAX_PATIENCE, MAX_RETRIES, Step};
-use script_vm::Player;
 use std::alloc::{AllocError, Global};
 use std::marker::Model;
+use tx_player::Player;
 
 /// Actors over one memory, each with a player and an engine. They take events one at a time: an actor's next load,
 /// store or compare-exchange on a shared cell, and then all that it can do without another one.

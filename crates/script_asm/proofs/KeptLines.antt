@@ -1,26 +1,39 @@
--- Lines that leave more to be kept.
-use Rattle.std.proofs.Common.{◌≡◌, ℕ, ◌+◌, ◌<◌, ◌≤◌, List, [], ◌∷◌, ◌++◌, length, Option, Some, None, Result, Ok, refl, ap, arith, length-append}
+-- Lines that leave more to be kept, or more open.
+use Rattle.std.proofs.Common.{◌≡◌, ℕ, ◌+◌, ◌<◌, ◌≤◌, inl, inr, Bool, true, false, cond, leb, List, [], ◌∷◌, ◌++◌, length, Option, Some, None, Result, Ok, refl, ap, arith, length-append}
 use Rattle.std.proofs.lemmas.Bool.{lt-ltb, le-ltb, lt-leb}
 use Rattle.itm_types.specs.declared.limits.TheConstants.{MAX_ACTORS}
-use Rattle.script_asm.specs.declared.limits.TheConstants.{MAX_ITEMS, MAX_INSTRUCTIONS}
+use Rattle.script_asm.specs.declared.limits.TheConstants.{MAX_ITEMS, MAX_INSTRUCTIONS, MAX_LEVELS}
 use Rattle.script_asm.specs.declared.words.Word.TheVariants as words
-use Rattle.script_asm.specs.declared.fault.AsmFault.{AsmFault}
+use Rattle.script_fields.specs.declared.fault.AsmKind.TheVariants as kinds
+use Rattle.script_fields.specs.declared.fault.AsmFault.{AsmFault}
 use Rattle.script_asm.specs.declared.instruction.Instruction.{Instruction}
+use Rattle.script_asm.specs.declared.groups.Group.{Group}
+use Rattle.script_asm.specs.declared.groups.Group.TheVariants as groups
 use Rattle.script_asm.specs.declared.schedule.Item.{Item}
 use Rattle.script_asm.specs.declared.state.State.{State}
 use Rattle.script_asm.specs.Listing.{Shared, Placed, Part}
-use Rattle.script_asm.specs.Sections.{Sections, thread_total, instruction_total, begun}
+use Rattle.script_asm.specs.Sections.{Sections, thread_total, instruction_total, begun, expanded}
 use Rattle.script_asm.specs.Schedules.{planned}
-use Rattle.script_asm.specs.Assembly.{Adds, init_count, counted, threaded, obeyed, ◌>>=◌}
+use Rattle.script_asm.specs.Readings.{◌>>=◌, fault}
+use Rattle.script_asm.specs.Directives.{threaded}
+use Rattle.script_asm.specs.Blocks.{counted, opened, begins, repeated, without_innermost}
+use Rattle.script_asm.specs.Assembly.{obeyed}
+use Rattle.script_asm.specs.Wants.{Adds, init_count, kept}
 use Rattle.script_asm.specs.Items.{schedule_of}
 use Rattle.script_asm.proofs.AddedSections.{code_more}
 use Rattle.script_asm.proofs.LineItems.{some_items}
 
-pub adds_init : (s : State) (m : Shared) (i : Placed) → s.memory ≡ Some m → Adds s (Ok (record s { memory = Some (record m { inits = m.inits ++ i ∷ [] }) }))
-adds_init s m i e = (record s { memory = Some (record m { inits = m.inits ++ i ∷ [] }) }, refl, omega (arith, ap init_count e, length-append m.inits (i ∷ [])))
+-- ## Directives
 
-pub adds_items : (s : State) (n : ℕ) (items : List Item) → 0 < length items → Adds s (Ok (record s { schedule = planned s.schedule n items }))
-adds_items s n items some = (record s { schedule = planned s.schedule n items }, refl, omega (arith, length-append s.schedule.items items))
+pub adds_init : (s : State) (m : Shared) (i : Placed) → s.memory ≡ Some m → Adds s (Ok (record s { memory = Some (record m { inits = m.inits ++ i ∷ [] }) }))
+adds_init s m i e = (record s { memory = Some (record m { inits = m.inits ++ i ∷ [] }) }, refl, inl (omega (arith, ap init_count e, length-append m.inits (i ∷ []))))
+
+adds_items : (s : State) (n : ℕ) (items : List Item) → 0 < length items → Adds s (Ok (record s { schedule = planned s.schedule n items }))
+adds_items s n items some = (record s { schedule = planned s.schedule n items }, refl, inl (omega (arith, length-append s.schedule.items items)))
+
+pub items_kept : (s : State) (n : ℕ) (fs : List (List ℕ)) (items : List Item) → schedule_of fs ≡ Ok items → length s.schedule.items + length items ≤ MAX_ITEMS → Adds s (obeyed s n words.Schedule fs)
+unfolding obeyed
+items_kept s n fs items e h = rw (e, le-ltb MAX_ITEMS (length s.schedule.items + length items) h) (adds_items s n items (some_items fs items e))
 
 section_total : (t : Sections) (n : ℕ) → 0 < t.count → (length (begun t n).ended ≡ length t.ended + 1) × (instruction_total (begun t n) ≡ instruction_total t)
 unfolding instruction_total
@@ -28,26 +41,53 @@ section_total t n h =
     let last : Part = record { count = t.count; code = t.code } in
     rw (lt-ltb 0 t.count h) (length-append t.ended (last ∷ []), omega (arith, code_more t.ended last))
 
-pub adds_section : (s : State) (n : ℕ) → 0 < s.threads.count → Adds s (Ok (record s { threads = begun s.threads n }))
+adds_section : (s : State) (n : ℕ) → 0 < s.threads.count → Adds s (Ok (record s { threads = begun s.threads n }))
 adds_section s n some =
     let t = section_total s.threads n some in
-    (record s { threads = begun s.threads n }, refl, omega (arith, t.0, t.1))
+    (record s { threads = begun s.threads n }, refl, inl (omega (arith, t.0, t.1)))
 
-pub adds_code : (s : State) (i : Instruction) → Adds s (Ok (record s { threads = record s.threads { code = s.threads.code ++ i ∷ [] } }))
-unfolding instruction_total
-adds_code s i = (record s { threads = record s.threads { code = s.threads.code ++ i ∷ [] } }, refl, omega (arith, length-append s.threads.code (i ∷ [])))
-
-pub adds_then : (old : State) (n : ℕ) (read : Result State AsmFault) → Adds old read → Adds old (read >>= λ t. Ok (record t { block = Some n }))
-adds_then old n read h = (record h.0 { block = Some n }, ap (λ (r : Result State AsmFault). r >>= λ t. Ok (record t { block = Some n })) h.1, h.2)
-
-pub code_kept : (s : State) (n : ℕ) (i : Instruction) → instruction_total s.threads < MAX_INSTRUCTIONS → Adds s (counted s n i)
-code_kept s n i h = rw (lt-leb MAX_INSTRUCTIONS (instruction_total s.threads) h) (adds_code s i)
-
-pub section_kept : (s : State) (n count : ℕ) (block : Option ℕ) → block ≡ None → thread_total s.threads + count ≤ MAX_ACTORS → 0 < s.threads.count → Adds s (threaded s n count block)
+pub section_kept : (s : State) (n count : ℕ) (line : Option ℕ) → line ≡ None → thread_total s.threads + count ≤ MAX_ACTORS → 0 < s.threads.count → Adds s (threaded s n count line)
 unfolding threaded
 section_kept s n count None e h some = rw (le-ltb MAX_ACTORS (thread_total s.threads + count) h) (adds_section s count some)
-section_kept s n count (Some begin) e h some = absurd cc
+section_kept s n count (Some line) e h some = absurd cc
 
-pub items_kept : (s : State) (n : ℕ) (fs : List (List ℕ)) (items : List Item) → schedule_of fs ≡ Ok items → length s.schedule.items + length items ≤ MAX_ITEMS → Adds s (obeyed s n words.Schedule fs)
-unfolding obeyed
-items_kept s n fs items e h = rw (e, le-ltb MAX_ITEMS (length s.schedule.items + length items) h) (adds_items s n items (some_items fs items e))
+-- ## One more instruction
+
+abbrev with_code : State → Instruction → State
+with_code s i = record s { threads = record s.threads { code = s.threads.code ++ i ∷ [] } }
+
+code_grows : (s : State) (i : Instruction) → kept s < kept (with_code s i)
+unfolding instruction_total
+code_grows s i = omega (arith, length-append s.threads.code (i ∷ []))
+
+pub code_kept : (s : State) (n : ℕ) (i : Instruction) → instruction_total s.threads < MAX_INSTRUCTIONS → Adds s (counted s n i)
+code_kept s n i h = rw (lt-leb MAX_INSTRUCTIONS (instruction_total s.threads) h) (with_code s i, refl, inl (code_grows s i))
+
+-- where it is well, what comes after it keeps it
+then_kept : (s t : State) (n : ℕ) (i : Instruction) (b : Bool) (next : State → Result State AsmFault) → cond b (fault n kinds.TooLong) (Ok (with_code s i)) ≡ Ok t → Adds s (next (with_code s i))
+    → Adds s (cond b (fault n kinds.TooLong) (Ok (with_code s i)) >>= next)
+then_kept s t n i true next e h = absurd cc
+then_kept s t n i false next e h = h
+
+pub begin_kept : (s t : State) (n : ℕ) (i : Instruction) (g : Group) → counted s n i ≡ Ok t → length s.levels < MAX_LEVELS → Adds s (begins s n i g)
+begin_kept s t n i g e h =
+    then_kept s t n i (leb MAX_INSTRUCTIONS (instruction_total s.threads)) (λ t. opened t n g) e
+    (rw (lt-leb MAX_LEVELS (length s.levels) h) (record (with_code s i) { levels = record { line = n; group = g } ∷ s.levels }, refl, inl (code_grows s i)))
+
+-- ## One more that is open, and code that stands several times
+
+pub level_kept : (s : State) (n : ℕ) (g : Group) → length s.levels < MAX_LEVELS → Adds s (opened s n g)
+level_kept s n g h = rw (lt-leb MAX_LEVELS (length s.levels) h) (record s { levels = record { line = n; group = g } ∷ s.levels }, refl, inr (omega arith))
+
+abbrev with_repeats : State → ℕ → ℕ → State
+with_repeats s start times = without_innermost (record s { threads = expanded s.threads start times })
+
+repeats_grow : (s : State) (start times : ℕ) → length s.threads.code < length (expanded s.threads start times).code → kept s < kept (with_repeats s start times)
+unfolding expanded instruction_total
+repeats_grow s start times h = omega arith
+
+pub repeats_kept : (s : State) (n start times : ℕ) (g : Option Group) → g ≡ Some (groups.Repeat start times) → instruction_total (expanded s.threads start times) ≤ MAX_INSTRUCTIONS
+    → length s.threads.code < length (expanded s.threads start times).code → Adds s (repeated s n g)
+unfolding repeated
+repeats_kept s n start times g e few h =
+    rw (e, le-ltb MAX_INSTRUCTIONS (instruction_total (expanded s.threads start times)) few) (with_repeats s start times, refl, inl (repeats_grow s start times h))

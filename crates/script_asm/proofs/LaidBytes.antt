@@ -7,11 +7,13 @@ use Rattle.std.proofs.lemmas.List.Sums.{AllPass-from_list_all}
 use Rattle.hex.specs.declared.error.FromHexError.{FromHexError}
 use Rattle.hex.specs.Hex.{decode_of, is_hex_digit}
 use Rattle.hex.proofs.HexLemmas.{decode_of-digits, decode_of-ok}
-use Rattle.script_asm.specs.declared.fault.AsmKind.TheVariants as kinds
+use Rattle.script_fields.specs.declared.fault.AsmKind.TheVariants as kinds
 use Rattle.script_asm.specs.declared.state.State.{State}
 use Rattle.script_asm.specs.Listing.{Shared}
-use Rattle.script_asm.specs.Operands.{is_hex, decoded}
-use Rattle.script_asm.specs.Assembly.{laid_in, fault, Adds}
+use Rattle.script_fields.specs.Operands.{is_hex, decoded}
+use Rattle.script_asm.specs.Readings.{fault}
+use Rattle.script_asm.specs.Directives.{laid_in}
+use Rattle.script_asm.specs.Wants.{Adds}
 use Rattle.script_asm.proofs.KeptLines.{adds_init}
 
 and_true : (a b : Bool) → (a && b) ≡ true → (a ≡ true) × (b ≡ true)

@@ -4,9 +4,11 @@ use Rattle.std.specs.Prelude.{slice_get}
 use Rattle.std.specs.Str.Lines.{lines}
 use Rattle.std.proofs.lemmas.List.{length-drop, length-take, take-take, drop-take, take-append-drop, drop-drop}
 use Rattle.std.proofs.Math.Seq.{drop-nil}
-use Rattle.script_asm.specs.declared.fault.AsmFault.{AsmFault}
+use Rattle.script_fields.specs.declared.fault.AsmFault.{AsmFault}
 use Rattle.script_asm.specs.declared.state.State.{State}
-use Rattle.script_asm.specs.Assembly.{Adds, RunsOut, meaning, lines_say, initial, ◌>>=◌}
+use Rattle.script_asm.specs.Readings.{◌>>=◌}
+use Rattle.script_asm.specs.Assembly.{meaning, lines_say, initial}
+use Rattle.script_asm.specs.Wants.{Adds, RunsOut}
 
 bound_ok : (r : Result State AsmFault) → (r >>= λ t. Ok t) ≡ r
 bound_ok (Ok t) = refl

@@ -1,30 +1,30 @@
--- Worked scripts, by computation.
-use Rattle.std.proofs.Common.{◌≡◌, List, ℕ, [], ◌∷◌, ◌++◌, Ok, refl, false}
-use Rattle.std.specs.Prelude.{codes}
-use Rattle.itm_types.specs.declared.access.ReadHint.TheVariants.{R}
+-- Worked scripts, by computation: whole programs.
+use Rattle.std.proofs.Common.{◌≡◌, List, ℕ, [], ◌∷◌, ◌++◌, Ok, refl, true, false}
+use Rattle.std.specs.Prelude.{codes, replicate}
+use Rattle.itm_types.specs.declared.access.ReadHint.TheVariants.{R, RfW}
+use Rattle.itm_types.specs.declared.access.WriteHint.TheVariants.{W, WaR}
+use Rattle.itm_types.specs.declared.access.Width.TheVariants as width
+use Rattle.itm_types.specs.declared.copy.CopyPair.TheVariants.{In, Within}
+use Rattle.itm_types.specs.declared.copy.SharedSide.TheVariants as sides
+use Rattle.itm_types.specs.declared.call.Props.{Props}
 use Rattle.itm_types.specs.declared.limits.TheConstants.{MAX_COMMITS}
-use Rattle.itm_types.specs.declared.access.WriteHint.TheVariants.{W}
-use Rattle.itm_types.specs.declared.access.Width.TheVariants.{U8}
-use Rattle.script_asm.specs.declared.fault.AsmKind.TheVariants as kinds
+use Rattle.script_fields.specs.declared.register.Register.TheVariants.{R0, R1, R2, R3, R15}
+use Rattle.script_fields.specs.declared.place.Place.TheVariants as places
 use Rattle.script_asm.specs.declared.instruction.Instruction.{Instruction}
-use Rattle.script_asm.specs.declared.instruction.Instruction.TheVariants.{Set, Add, Begin, Commit, Read, Write}
+use Rattle.script_asm.specs.declared.instruction.Instruction.TheVariants as code
+use Rattle.script_asm.specs.declared.instruction.Operation.TheVariants as operations
+use Rattle.script_asm.specs.declared.instruction.ArenaWidth.TheVariants as widths
 use Rattle.script_asm.specs.declared.schedule.Item.TheVariants.{Take, Out}
 use Rattle.script_asm.specs.Listing.{Listing, Placed, Part, opening_of, threads_of}
-use Rattle.script_asm.specs.Assembly.{program_of, fault}
+use Rattle.script_asm.specs.Assembly.{program_of}
 use Rattle.script_asm.proofs.OnLiterals.{on_literals}
-
--- a line with its end
-abbrev line : List ℕ → List ℕ
-line t = t ++ 10 ∷ []
-
--- a script of one thread with this code
-abbrev script : List ℕ → List ℕ
-script code = line (codes ".memory 8") ++ line (codes ".thread") ++ code
+use Rattle.script_asm.proofs.WorkedTexts.{line, script}
 
 -- with the limits that are not said
 abbrev listing : ℕ → List Part → Listing
 listing memory parts = record {
   memory = record { size = memory; inits = [] };
+  arena = 0;
   limits = record { patience = 8; retries = 100; max_commits = MAX_COMMITS };
   schedule = [];
   parts = parts;
@@ -36,10 +36,20 @@ part count code = record { count = count; code = code }
 abbrev placed : ℕ → List ℕ → Placed
 placed at bytes = record { at = at; bytes = bytes }
 
+abbrev no_props : Props
+no_props = record { no_abort = false; no_irrevocable = false; goes_irrevocable = false }
+
 -- ## Programs
 
 abbrev counter_code : List Instruction
-counter_code = Set 1 1 ∷ Begin (record { no_abort = false }) 0 ∷ Read R U8 2 0 ∷ Add 2 2 1 ∷ Write W U8 0 2 ∷ Commit ∷ []
+counter_code =
+    code.Set R1 1
+    ∷ code.Begin no_props R0
+    ∷ code.Read R width.U8 R2 (places.Number 0)
+    ∷ code.Compute operations.Add R2 R2 R1
+    ∷ code.Write W width.U8 (places.Number 0) R2
+    ∷ code.Commit
+    ∷ []
 
 abbrev counter_text : List ℕ
 counter_text = line (codes "set r1 1 ; one") ++ line (codes "_ITM_beginTransaction r0 -") ++ line (codes "  _ITM_RU8 r2 0") ++ line (codes "add\tr2 r2 r1\r") ++ line (codes "_ITM_WU8 0 r2") ++ codes "_ITM_commitTransaction"
@@ -60,11 +70,11 @@ two_codes = refl
 
 -- several sections; the code of a thread may be empty
 sections : program_of (line (codes ".schedule 2!") ++ line (codes ".memory 16") ++ line (codes ".schedule 0x1000000 3x1") ++ line (codes ".thread 3") ++ line (codes ".thread") ++ codes "set r15 7")
-    ≡ Ok (record (listing 16 (part 3 [] ∷ part 1 (Set 15 7 ∷ []) ∷ [])) { schedule = Out 2 ∷ Take 0 1000000 ∷ Take 3 1 ∷ [] })
+    ≡ Ok (record (listing 16 (part 3 [] ∷ part 1 (code.Set R15 7 ∷ []) ∷ [])) { schedule = Out 2 ∷ Take 0 1000000 ∷ Take 3 1 ∷ [] })
 unfolding on_literals
 sections = refl
 
-four_codes : threads_of (listing 16 (part 3 [] ∷ part 1 (Set 15 7 ∷ []) ∷ [])) ≡ [] ∷ [] ∷ [] ∷ (Set 15 7 ∷ []) ∷ []
+four_codes : threads_of (listing 16 (part 3 [] ∷ part 1 (code.Set R15 7 ∷ []) ∷ [])) ≡ [] ∷ [] ∷ [] ∷ (code.Set R15 7 ∷ []) ∷ []
 unfolding on_literals
 four_codes = refl
 
@@ -80,114 +90,97 @@ laid_bytes : opening_of overlapping ≡ 17 ∷ 34 ∷ 170 ∷ 187 ∷ 204 ∷ 0 
 unfolding on_literals
 laid_bytes = refl
 
-limits : program_of (line (codes ".patience 1000") ++ line (codes ".retries 0") ++ line (codes ".commits 1") ++ line (codes ".memory 8") ++ codes ".thread")
-    ≡ Ok (record (listing 8 (part 1 [] ∷ [])) { limits = record { patience = 1000; retries = 0; max_commits = 1 } })
+limits : program_of (line (codes ".patience 1000") ++ line (codes ".arena 4096") ++ line (codes ".retries 0") ++ line (codes ".commits 1") ++ line (codes ".memory 8") ++ codes ".thread")
+    ≡ Ok (record (listing 8 (part 1 [] ∷ [])) { arena = 4096; limits = record { patience = 1000; retries = 0; max_commits = 1 } })
 unfolding on_literals
 limits = refl
 
--- ## Faults of one line
+-- ## Instructions
 
-unknown : program_of (script (codes "_ITM_RaRU8 r0 0")) ≡ fault 3 kinds.Unknown
+registers : program_of (script (line (codes "bytes r3 0aFF") ++ line (codes "mov r0 r15") ++ line (codes "sub r0 r1 r2") ++ line (codes "and r0 r1 r2") ++ codes "ltu r0 r1 r2"))
+    ≡ Ok (listing 8 (part 1 (
+    code.Bytes R3 (record { bytes = 10 ∷ 255 ∷ replicate 30 0; count = 2 })
+    ∷ code.Move R0 R15
+    ∷ code.Compute operations.Sub R0 R1 R2
+    ∷ code.Compute operations.And R0 R1 R2
+    ∷ code.Compute operations.LessThan R0 R1 R2
+    ∷ []) ∷ []))
 unfolding on_literals
-unknown = refl
+registers = refl
 
--- a carriage return at the end of the text is no part of a line's end
-lone_return : program_of (script (codes "_ITM_commitTransaction\r")) ≡ fault 3 kinds.Character
+arena : program_of (script (line (codes "ld1 r0 4095") ++ line (codes "ld4 r1 r2") ++ line (codes "st2 r3 r0") ++ codes "st8 0 r1"))
+    ≡ Ok (listing 8 (part 1 (
+    code.Load widths.One R0 (places.Number 4095)
+    ∷ code.Load widths.Four R1 (places.Register R2)
+    ∷ code.Save widths.Two (places.Register R3) R0
+    ∷ code.Save widths.Eight (places.Number 0) R1
+    ∷ []) ∷ []))
 unfolding on_literals
-lone_return = refl
+arena = refl
 
-twice_begun : program_of (script (line (codes "_ITM_beginTransaction r0 -") ++ codes "_ITM_beginTransaction r77 +")) ≡ fault 4 kinds.Misplaced
+control : program_of (script (line (codes "_ITM_inTransaction r1") ++ line (codes "_ITM_changeTransactionMode modeSerialIrrevocable") ++ line (codes "_ITM_abortTransaction userAbort+outerAbort") ++ line (codes "_ITM_addUserCommitAction 4294967295 _ITM_noTransactionId r1") ++ codes "_ITM_addUserUndoAction 0 7"))
+    ≡ Ok (listing 8 (part 1 (
+    code.InTransaction R1
+    ∷ code.Mode
+    ∷ code.Abort true
+    ∷ code.CommitAction 4294967295 (places.Register R1)
+    ∷ code.UndoAction 0 (places.Number 7)
+    ∷ []) ∷ []))
 unfolding on_literals
-twice_begun = refl
+control = refl
 
--- a wrong form goes before a number beyond its limit
-form_first : program_of (script (codes "_ITM_RU8 r16 18446744073709551616")) ≡ fault 3 kinds.Operand
+barriers : program_of (script (line (codes "_ITM_RfWM256 r1 r2") ++ line (codes "_ITM_WaRF r2 r1") ++ line (codes "_ITM_LCD 16") ++ line (codes "_ITM_LB r1 3") ++ line (codes "_ITM_memcpyRtaRWn 1 r2 3") ++ line (codes "_ITM_memmoveRtWtaW r1 2 r3") ++ codes "_ITM_memsetWaR 0 255 8"))
+    ≡ Ok (listing 8 (part 1 (
+    code.Read RfW width.M256 R1 (places.Register R2)
+    ∷ code.Write WaR width.F (places.Register R2) R1
+    ∷ code.Log width.CD (places.Number 16)
+    ∷ code.LogBytes (places.Register R1) (places.Number 3)
+    ∷ code.Copy false (In sides.TaR) (places.Number 1) (places.Register R2) (places.Number 3)
+    ∷ code.Copy true (Within sides.T sides.TaW) (places.Register R1) (places.Number 2) (places.Register R3)
+    ∷ code.Fill WaR (places.Number 0) (places.Number 255) (places.Number 8)
+    ∷ []) ∷ []))
 unfolding on_literals
-form_first = refl
+barriers = refl
 
-no_whole_word : program_of (line (codes ".memory 12") ++ codes ".thread") ≡ fault 1 kinds.Range
+-- ## Blocks and groups
+
+-- blocks and groups within each other, with properties
+nested : program_of (script (line (codes "_ITM_beginTransaction r0 pr_doesGoIrrevocable+pr_hasNoAbort") ++ line (codes "ifnz r0") ++ line (codes "_ITM_beginTransaction r1 -") ++ line (codes "_ITM_commitTransaction") ++ line (codes "else") ++ line (codes "endif") ++ codes "_ITM_commitTransaction"))
+    ≡ Ok (listing 8 (part 1 (
+    code.Begin (record { no_abort = true; no_irrevocable = false; goes_irrevocable = true }) R0
+    ∷ code.IfNotZero R0
+    ∷ code.Begin no_props R1
+    ∷ code.Commit
+    ∷ code.Else
+    ∷ code.EndIf
+    ∷ code.Commit
+    ∷ []) ∷ []))
 unfolding on_literals
-no_whole_word = refl
+nested = refl
 
-init_before_memory : program_of (codes ".init 0 00") ≡ fault 1 kinds.Misplaced
+abbrev set_to : ℕ → Instruction
+set_to n = code.Set R0 n
+
+-- a group's code stands so many times, also within a group
+repeats : program_of (script (line (codes "set r0 1") ++ line (codes ".rept 2") ++ line (codes "set r0 2") ++ line (codes ".rept 3") ++ line (codes "set r0 3") ++ line (codes ".endr") ++ line (codes ".endr") ++ codes "set r0 4"))
+    ≡ Ok (listing 8 (part 1 (set_to 1 ∷ set_to 2 ∷ set_to 3 ∷ set_to 3 ∷ set_to 3 ∷ set_to 2 ∷ set_to 3 ∷ set_to 3 ∷ set_to 3 ∷ set_to 4 ∷ []) ∷ []))
 unfolding on_literals
-init_before_memory = refl
+repeats = refl
 
-odd_digits : program_of (line (codes ".memory 8") ++ codes ".init 18446744073709551616 123") ≡ fault 2 kinds.Operand
+-- none and one
+no_repeats : program_of (script (line (codes ".rept 0") ++ line (codes "set r0 1") ++ line (codes ".endr") ++ line (codes ".rept 1") ++ line (codes "set r0 2") ++ codes ".endr"))
+    ≡ Ok (listing 8 (part 1 (set_to 2 ∷ []) ∷ []))
 unfolding on_literals
-odd_digits = refl
+no_repeats = refl
 
-init_beyond : program_of (line (codes ".memory 8") ++ codes ".init 7 0011") ≡ fault 2 kinds.Range
+-- groups of nothing
+empty_repeats : program_of (script (line (codes ".rept 9") ++ line (codes ".rept 9") ++ line (codes ".rept 9") ++ line (codes ".endr") ++ line (codes ".endr") ++ codes ".endr"))
+    ≡ Ok (listing 8 (part 1 [] ∷ []))
 unfolding on_literals
-init_beyond = refl
+empty_repeats = refl
 
-no_patience : program_of (codes ".patience 0") ≡ fault 1 kinds.Range
+-- a group in each part, and blocks that end where they began
+in_parts : program_of (script (line (codes "ifnz r1") ++ line (codes ".rept 2") ++ line (codes "set r0 1") ++ line (codes ".endr") ++ line (codes "else") ++ line (codes ".rept 1") ++ line (codes "ifnz r2") ++ line (codes "endif") ++ line (codes ".endr") ++ codes "endif"))
+    ≡ Ok (listing 8 (part 1 (code.IfNotZero R1 ∷ set_to 1 ∷ set_to 1 ∷ code.Else ∷ code.IfNotZero R2 ∷ code.EndIf ∷ code.EndIf ∷ []) ∷ []))
 unfolding on_literals
-no_patience = refl
-
-retries_twice : program_of (line (codes ".retries 1") ++ codes ".retries x") ≡ fault 2 kinds.Misplaced
-unfolding on_literals
-retries_twice = refl
-
-too_many_commits : program_of (codes ".commits 4611686018427387904") ≡ fault 1 kinds.Range
-unfolding on_literals
-too_many_commits = refl
-
-no_item : program_of (codes ".schedule ; none") ≡ fault 1 kinds.Operand
-unfolding on_literals
-no_item = refl
-
--- no events is beyond the limit, and an item of another form goes first
-item_forms : program_of (codes ".schedule 0x0 1x1! 2!") ≡ fault 1 kinds.Operand
-unfolding on_literals
-item_forms = refl
-
-no_events : program_of (codes ".schedule 0x1 0x0 2!") ≡ fault 1 kinds.Range
-unfolding on_literals
-no_events = refl
-
-late_schedule : program_of (script (codes ".schedule 0!")) ≡ fault 3 kinds.Misplaced
-unfolding on_literals
-late_schedule = refl
-
-no_threads : program_of (line (codes ".memory 8") ++ codes ".thread 0") ≡ fault 2 kinds.Range
-unfolding on_literals
-no_threads = refl
-
-too_many_threads : program_of (script (line (codes ".thread 31") ++ codes ".thread")) ≡ fault 4 kinds.TooLong
-unfolding on_literals
-too_many_threads = refl
-
--- ## Faults of the whole
-
--- what is wrong with the whole is said of the block that is open
-left_open : program_of (script (line (codes "_ITM_beginTransaction r0 -") ++ codes ".thread 99")) ≡ fault 3 kinds.Unbalanced
-unfolding on_literals
-left_open = refl
-
--- but of the next section's own line where its number is wrong
-wrong_count : program_of (script (line (codes "_ITM_beginTransaction r0 -") ++ codes ".thread 0")) ≡ fault 4 kinds.Range
-unfolding on_literals
-wrong_count = refl
-
-nothing : program_of [] ≡ fault 0 kinds.Misplaced
-unfolding on_literals
-nothing = refl
-
--- an item of a thread that is not there is told after the last line, in its own
-stray_item : program_of (line (codes ".schedule 0! 1x1") ++ line (codes ".schedule 18446744073709551615!") ++ line (codes ".memory 8") ++ codes ".thread") ≡ fault 1 kinds.Range
-unfolding on_literals
-stray_item = refl
-
-stray_but_open : program_of (line (codes ".schedule 300!") ++ script (codes "_ITM_beginTransaction r0 -")) ≡ fault 4 kinds.Unbalanced
-unfolding on_literals
-stray_but_open = refl
-
-stray_without_threads : program_of (codes ".schedule 300!") ≡ fault 0 kinds.Misplaced
-unfolding on_literals
-stray_without_threads = refl
-
--- a number beyond 64 bits is told at once
-stray_beyond : program_of (codes ".schedule 18446744073709551616!") ≡ fault 1 kinds.Range
-unfolding on_literals
-stray_beyond = refl
+in_parts = refl

@@ -1,11 +1,11 @@
 -- The operands of `.schedule`: items, each `TxK` or `T!`.
 use Rattle.std.specs.Prelude.{ℕ, ◌+◌, ◌-◌, ◌==◌, Bool, List, [], ◌∷◌, length, take, drop, min, slice_index, position, Option, Some, None, Result, Ok, Err, if◌then◌else◌}
-use Rattle.script_asm.specs.declared.fault.AsmKind.{AsmKind}
-use Rattle.script_asm.specs.declared.fault.AsmKind.TheVariants as kinds
+use Rattle.script_fields.specs.declared.fault.AsmKind.{AsmKind}
+use Rattle.script_fields.specs.declared.fault.AsmKind.TheVariants as kinds
 use Rattle.script_asm.specs.declared.limits.TheConstants.{MAX_EVENTS}
 use Rattle.script_asm.specs.declared.schedule.Item.{Item}
 use Rattle.script_asm.specs.declared.schedule.Item.TheVariants.{Take, Out}
-use Rattle.script_asm.specs.Operands.{◌>>=◌, both, number, within}
+use Rattle.script_fields.specs.Operands.{◌>>=◌, both, number, within}
 
 abbrev pub is_times : ℕ → Bool
 is_times b = b == 120

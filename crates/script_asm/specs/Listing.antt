@@ -35,9 +35,14 @@ bytes_of m = fold laid (replicate m.size 0) m.inits
 
 -- those that are said
 pub record Bounds : Type 0 where
+  pub arena : Option ℕ
   pub patience : Option ℕ
   pub retries : Option ℕ
   pub commits : Option ℕ
+
+-- how many bytes each thread's arena has: none, where it is not said
+abbrev pub arena_of : Bounds → ℕ
+arena_of b = unwrap_or b.arena 0
 
 -- those of the run: of each that is not said, what it is else
 abbrev pub limits_of : Bounds → Limits
@@ -65,6 +70,7 @@ codes_of parts = flat_map (λ p. replicate p.count p.code) parts
 
 pub record Listing : Type 0 where
   pub memory : Shared
+  pub arena : ℕ
   pub limits : Limits
   pub schedule : List Item
   pub parts : List Part

@@ -1,6 +1,6 @@
 -- The sections of a script: those that have ended, and the one that is read.
-use Rattle.std.specs.Prelude.{ℕ, ◌+◌, nat_lt, List, [], ◌∷◌, ◌++◌, length, if◌then◌else◌}
-use Rattle.std.specs.List.{sum_by}
+use Rattle.std.specs.Prelude.{ℕ, ◌+◌, nat_lt, List, [], ◌∷◌, ◌++◌, length, take, drop, if◌then◌else◌}
+use Rattle.std.specs.List.{repeat, sum_by}
 use Rattle.script_asm.specs.declared.instruction.Instruction.{Instruction}
 use Rattle.script_asm.specs.Listing.{Part}
 
@@ -25,3 +25,7 @@ instruction_total t = sum_by (λ p. length p.code) t.ended + length t.code
 -- the section of so many threads begins
 abbrev pub begun : Sections → ℕ → Sections
 begun t n = if nat_lt 0 t.count then record { ended = parts_of t; count = n; code = [] } else record t { count = n }
+
+-- the code from a place on stands so many times in place of once
+unfoldable pub expanded : Sections → ℕ → ℕ → Sections
+expanded t start times = record t { code = take start t.code ++ repeat times (drop start t.code) }

@@ -1,73 +1,51 @@
--- What a first field is: a word of the table, or the name of an entry point that scripts can call.
-use Rattle.std.specs.Prelude.{ℕ, List, [], ◌∷◌, Option, Some, None, if◌then◌else◌, codes, bytes_eq}
-use Rattle.std.specs.Borrow.{Bor}
+-- What a first field is: a word of the table, or the name of an entry point.
+use Rattle.std.specs.Prelude.{ℕ, List, [], ◌∷◌, Option, Some, None, codes}
+use Rattle.itm_types.specs.declared.entry.Entry.{Entry}
+use Rattle.itm_types.specs.Entries.{entry_of}
+use Rattle.script_fields.specs.Names.{lookup}
+use Rattle.script_asm.specs.declared.instruction.Operation.TheVariants as operations
+use Rattle.script_asm.specs.declared.instruction.ArenaWidth.TheVariants as widths
 use Rattle.script_asm.specs.declared.words.Word.{Word}
 use Rattle.script_asm.specs.declared.words.Word.TheVariants as words
-use Rattle.script_asm.specs.declared.words.Mnemonic.{Mnemonic}
 use Rattle.script_asm.specs.declared.words.Mnemonic.TheVariants as mnemonics
-use Rattle.itm_types.specs.declared.access.ReadHint.{ReadHint}
-use Rattle.itm_types.specs.declared.access.ReadHint.TheVariants.{R}
-use Rattle.itm_types.specs.declared.access.WriteHint.{WriteHint}
-use Rattle.itm_types.specs.declared.access.WriteHint.TheVariants.{W}
-use Rattle.itm_types.specs.declared.access.Width.{Width}
-use Rattle.itm_types.specs.declared.access.Width.TheVariants.{U8}
-use Rattle.itm_types.specs.declared.entry.Control.{Control}
-use Rattle.itm_types.specs.declared.entry.Control.TheVariants.{BeginTransaction, CommitTransaction}
-use Rattle.itm_types.specs.declared.entry.Entry.{Entry}
-use Rattle.itm_types.specs.declared.entry.Entry.TheVariants as entry
-use Rattle.itm_types.specs.Entries.{entry_of}
 
--- the words that are no calls
+-- the words that are no entry points
 abbrev pub table : List (List ℕ × Word)
 table =
     (codes ".memory", words.Memory)
     ∷ (codes ".init", words.Init)
+    ∷ (codes ".arena", words.Arena)
     ∷ (codes ".patience", words.Patience)
     ∷ (codes ".retries", words.Retries)
     ∷ (codes ".commits", words.Commits)
     ∷ (codes ".schedule", words.Schedule)
     ∷ (codes ".thread", words.Thread)
+    ∷ (codes ".rept", words.Repeat)
+    ∷ (codes ".endr", words.EndRepeat)
     ∷ (codes "set", words.Code mnemonics.Set)
-    ∷ (codes "add", words.Code mnemonics.Add)
+    ∷ (codes "bytes", words.Code mnemonics.Bytes)
+    ∷ (codes "mov", words.Code mnemonics.Move)
+    ∷ (codes "add", words.Code (mnemonics.Compute operations.Add))
+    ∷ (codes "sub", words.Code (mnemonics.Compute operations.Sub))
+    ∷ (codes "and", words.Code (mnemonics.Compute operations.And))
+    ∷ (codes "ltu", words.Code (mnemonics.Compute operations.LessThan))
+    ∷ (codes "ld1", words.Code (mnemonics.Load widths.One))
+    ∷ (codes "ld2", words.Code (mnemonics.Load widths.Two))
+    ∷ (codes "ld4", words.Code (mnemonics.Load widths.Four))
+    ∷ (codes "ld8", words.Code (mnemonics.Load widths.Eight))
+    ∷ (codes "st1", words.Code (mnemonics.Save widths.One))
+    ∷ (codes "st2", words.Code (mnemonics.Save widths.Two))
+    ∷ (codes "st4", words.Code (mnemonics.Save widths.Four))
+    ∷ (codes "st8", words.Code (mnemonics.Save widths.Eight))
+    ∷ (codes "ifnz", words.Code mnemonics.IfNotZero)
+    ∷ (codes "else", words.Code mnemonics.Else)
+    ∷ (codes "endif", words.Code mnemonics.EndIf)
     ∷ []
-
--- what stands beside the first row with this name
-abbrev pub lookup : List (List ℕ × Word) → List ℕ → Option Word
-lookup [] f = None
-lookup (row ∷ rows) f = if bytes_eq row.0 f then Some row.1 else lookup rows f
-
--- ## Calls
-
-abbrev pub control_call : Control → Option Mnemonic
-control_call BeginTransaction = Some mnemonics.Begin
-control_call CommitTransaction = Some mnemonics.Commit
-control_call c = None
-
-abbrev pub read_call : ReadHint → Width → Option Mnemonic
-read_call R U8 = Some (mnemonics.Read R U8)
-read_call hint width = None
-
-abbrev pub write_call : WriteHint → Width → Option Mnemonic
-write_call W U8 = Some (mnemonics.Write W U8)
-write_call hint width = None
-
--- the call that an entry point is, where scripts can make it
-abbrev pub call_of : Entry → Option Mnemonic
-call_of (entry.Control c) = control_call c
-call_of (entry.Read hint width) = read_call hint width
-call_of (entry.Write hint width) = write_call hint width
-call_of e = None
-
--- ## First fields
-
-abbrev pub call_word : Option Mnemonic → Option Word
-call_word None = None
-call_word (Some m) = Some (words.Code m)
 
 -- the entry point's word
 abbrev pub entry_word : Option Entry → Option Word
 entry_word None = None
-entry_word (Some e) = call_word (call_of e)
+entry_word (Some e) = Some (words.Code (mnemonics.Entry e))
 
 abbrev pub or_entry : Option Word → List ℕ → Option Word
 or_entry (Some w) f = Some w
@@ -76,7 +54,3 @@ or_entry None f = entry_word (entry_of f)
 -- the word that a first field is
 unfoldable pub word_of : List ℕ → Option Word
 word_of f = or_entry (lookup table f) f
-
--- a row of the code's table
-abbrev pub row : Bor (List ℕ) × Word → List ℕ × Word
-row r = (r.0.now, r.1)

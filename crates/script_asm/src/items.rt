@@ -1,15 +1,13 @@
 //! The operands of `.schedule`.
 
 ghost use Rattle.std.specs.Prelude.{◌≡◌, Ok, Err, IfErr, IfOk, OnOk, length, position};
-ghost use Rattle.script_asm.specs.Text.{fields};
+ghost use Rattle.script_fields.specs.Text.{fields};
 ghost use Rattle.script_asm.specs.Schedules.{planned};
 ghost use Rattle.script_asm.specs.Items.{is_times, thread_number, events, item_of, items_in, schedule_of};
 
-use crate::fault::AsmKind;
 use crate::limits::MAX_EVENTS;
-use crate::operands::{both, number, within};
 use crate::schedule::{Item, Plan};
-use crate::text::first_field;
+use script_fields::{AsmKind, both, first_field, number, within};
 use std::alloc::AllocError;
 
 fn times_at(field: &[u8]) -> Option<usize>

@@ -1,49 +1,64 @@
 //! Scripts as texts, and the programs that they are.
 //!
-//! A script says how large shared memory is and what stands in it at the start, the limits of a run, which thread
-//! takes the next events, and what each thread does. A line holds fields with blanks between them; from a `;` on the
-//! rest of a line is a comment. N is a decimal number of 64 bits with no needless zero in front, REG is `r0` to `r15`.
+//! A script says how large shared memory is and what stands in it at the start, how large each thread's arena is, the
+//! limits of a run, which thread takes the next events, and what each thread does. A line holds fields with blanks
+//! between them; from a `;` on the rest of a line is a comment. `script_fields` says what N, REG, PLACE, HEX and PROPS
+//! are.
 //!
 //! | Line | Meaning | Where |
 //! |---|---|---|
 //! | `.memory N` | shared memory has N bytes, 8 to 65,536 in whole words of 8 | once, before `.init` and `.thread` |
 //! | `.init N HEX` | the bytes that the digits say stand from byte N on, at most 131,072 digits; the last line to write a byte wins | before the first `.thread` |
+//! | `.arena N` | each thread's arena has N bytes: 0 to 4,096, else 0 | at most once, before the first `.thread` |
 //! | `.patience N` | rounds of validation that a call may start: 1 to 1,000, else 8 | at most once, before the first `.thread` |
 //! | `.retries N` | how often a block is tried again: 0 to 10,000, else 100 | at most once, before the first `.thread` |
 //! | `.commits N` | commits that the memory takes: 1 to 2^62 - 1, else that | at most once, before the first `.thread` |
 //! | `.schedule ITEM ..` | who takes the next events: `TxK` is K events of thread T, 1 to 1,000,000, and `T!` those up to its end | before the first `.thread`; at most 65,536 items |
 //! | `.thread`, `.thread N` | the code that follows is that of one thread, or of N threads, numbered on from 0 | at most 32 threads |
-//! | `set REG N`, `add REG REG REG` | a number, or the sum of two registers, into a register | in a thread's code |
-//! | `_ITM_beginTransaction REG -`, `_ITM_commitTransaction` | a block, which ends in the section that it begins in; blocks do not nest | in a thread's code |
-//! | `_ITM_RU8 REG N`, `_ITM_WU8 N REG` | reads and writes 8 bytes of shared memory | in a thread's code |
+//! | `.rept N`, `.endr` | the lines between stand N times, 0 to 65,536 | in a thread's code |
+//! | `set REG N`, `bytes REG HEX`, `mov REG REG` | a number, at most 32 bytes, or what stands in another register, into a register | in a thread's code |
+//! | `add`, `sub`, `and`, `ltu`, each with `REG REG REG` | what is worked out from the second and the third register, into the first | in a thread's code |
+//! | `ld1`, `ld2`, `ld4`, `ld8`, each with `REG PLACE`, and `st1` .. `st8`, each with `PLACE REG` | reads and writes the thread's arena | in a thread's code |
+//! | `ifnz REG`, `else`, `endif` | a group of one part or two: the first is done where the register's number is not 0, and else the second | in a thread's code |
+//! | `_ITM_beginTransaction REG PROPS`, `_ITM_commitTransaction` | a block | in a thread's code |
+//! | `_ITM_abortTransaction userAbort`, or `userAbort+outerAbort` | cancels the innermost block, or all | in a thread's code |
+//! | `_ITM_changeTransactionMode modeSerialIrrevocable`, `_ITM_inTransaction REG` | makes the transaction irrevocable, and tells of it | in a thread's code |
+//! | `_ITM_addUserCommitAction N _ITM_noTransactionId PLACE`, `_ITM_addUserUndoAction N PLACE` | an action: a function of 32 bits and its argument | in a thread's code |
+//! | a read `REG PLACE`, a write `PLACE REG` | reads and writes shared memory | in a thread's code |
+//! | a log `PLACE`, `_ITM_LB PLACE PLACE` | keeps bytes of the arena: from a place on, and with their size | in a thread's code |
+//! | a copy or a set of bytes, `PLACE PLACE PLACE` | to, from or the byte, and the size | in a thread's code |
 //!
-//! There are at most 65,536 instructions, each section of `.thread N` counted once, and at most 16,777,216 bytes.
+//! Blocks, groups of `ifnz` and groups of `.rept` nest within each other, at most 256 of them at once, and end in the
+//! section that they begin in. There are at most 65,536 instructions, each section of `.thread N` counted once: line
+//! by line, and at each `.endr` the group's instructions as often as they stand then. A text has at most 16,777,216
+//! bytes.
 #![tactic(auto)]
 
+mod blocks;
 mod code;
 mod directives;
-mod fault;
+mod groups;
 mod instruction;
 mod items;
 mod limits;
+mod obeying;
 mod opening;
-mod operands;
 mod program;
 mod reading;
 mod schedule;
+mod standing;
 mod state;
 mod stop;
-mod text;
 mod threads;
 mod whole;
 mod words;
 
-pub use fault::{AsmFault, AsmKind};
-pub use instruction::{Instruction, Register};
+pub use instruction::{ArenaWidth, Instruction, Operation};
 pub use limits::{MAX_INSTRUCTIONS, MAX_TEXT, largest};
 pub use opening::Size;
 pub use program::Program;
 pub use schedule::Item;
+pub use script_fields::{AsmFault, AsmKind, Literal, Place, Register};
 pub use whole::assemble;
 
 #[cfg(test)]

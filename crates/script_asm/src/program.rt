@@ -11,7 +11,7 @@ use crate::limits::MAX_INSTRUCTIONS;
 use crate::opening::Opening;
 use crate::schedule::Item;
 use crate::threads::Threads;
-use itm_types::{Limits, MAX_ACTORS};
+use itm_types::{Limits, MAX_ACTORS, MAX_ARENA};
 use std::marker::Model;
 
 /// A script that was read: shared memory as the threads begin, the limits of the run, which thread takes the next
@@ -19,13 +19,15 @@ use std::marker::Model;
 #[derive(Drop)]
 pub struct Program {
     opening: Opening,
+    arena: usize,
     limits: Limits,
     schedule: Vec<Item>,
     threads: Threads,
 }
 
 impl Model for Program {
-    ghost use Rattle.std.specs.Prelude.{◌<◌, All};
+    ghost use Rattle.std.specs.Prelude.{◌<◌, ◌≤◌, All};
+    ghost use Rattle.itm_types.specs.declared.limits.TheConstants.{MAX_ARENA};
     ghost use Rattle.itm_types.specs.Limits.{AreWithin};
     ghost use Rattle.script_asm.specs.Listing.{Listing, thread_of};
     ghost use Rattle.script_asm.specs.Sections.{parts_of, thread_total};
@@ -34,27 +36,31 @@ impl Model for Program {
 
     ghost view = { λ p. record {
       memory = p.opening;
+      arena = p.arena;
       limits = p.limits;
       schedule = p.schedule.items;
       parts = parts_of p.threads;
     } };
 
-    ghost invariant = { λ p. AreWithin p.limits × (0 < p.threads.count) × All (λ i. thread_of i < thread_total p.threads) p.schedule.items };
+    ghost invariant = { λ p. AreWithin p.limits × (p.arena ≤ MAX_ARENA) × (0 < p.threads.count) × All (λ i. thread_of i < thread_total p.threads) p.schedule.items };
 }
 
 impl Program {
     /// The program of these parts. Takes no memory.
     pub(crate) fn new(
         opening: Opening,
+        arena: usize,
         limits: Limits,
         schedule: Vec<Item>,
         threads: Threads,
     ) -> Self
         requires within { AreWithin limits }
+        requires small { arena ≤ MAX_ARENA }
         requires begun { 0 < threads.count }
         requires named { All (λ i. thread_of i < thread_total threads) schedule.items }
         ensures { result ≡ record {
           memory = opening;
+          arena = arena;
           limits = limits;
           schedule = schedule.items;
           parts = parts_of threads;
@@ -62,6 +68,7 @@ impl Program {
     {
         Program {
             opening,
+            arena,
             limits,
             schedule,
             threads,
@@ -82,6 +89,14 @@ impl Program {
         ensures { memory.new ≡ opening_of self.now }
     {
         self.opening.lay(memory);
+    }
+
+    /// How many bytes each thread's arena has.
+    pub fn arena(&self) -> usize
+        ensures value { result ≡ self.now.arena }
+        ensures small { result ≤ MAX_ARENA }
+    {
+        self.arena
     }
 
     /// The limits of the run.

@@ -1,15 +1,16 @@
 //! Scripts line by line.
 
 ghost use Rattle.std.specs.Prelude.{◌≡◌};
-ghost use Rattle.script_asm.specs.Assembly.{Steps, meaning, end_of};
+ghost use Rattle.script_asm.specs.Assembly.{meaning, end_of};
+ghost use Rattle.script_asm.specs.Wants.{Steps};
 
-use crate::directives::{may_stand, obey};
-use crate::fault::{AsmFault, AsmKind};
+use crate::obeying::obey;
 use crate::program::Program;
+use crate::standing::may_stand;
 use crate::state::State;
-use crate::stop::Stop;
-use crate::text::{code_part, first_field, has_allowed};
+use crate::stop::{Stop, fault};
 use crate::words::word_of;
+use script_fields::{AsmFault, AsmKind, code_part, first_field, has_allowed};
 use std::alloc::Global;
 
 /// Reads one more line.
@@ -19,25 +20,16 @@ pub fn read_line(alloc: Global, state: &mut State, number: usize, line: &[u8]) -
 {
     let code = code_part(line);
     if !has_allowed(code) {
-        return Err(Stop::Fault(AsmFault {
-            line: number,
-            kind: AsmKind::Character,
-        }));
+        return fault(number, AsmKind::Character);
     }
     let Some((first, rest)) = first_field(code) else {
         return Ok(());
     };
     let Some(word) = word_of(first) else {
-        return Err(Stop::Fault(AsmFault {
-            line: number,
-            kind: AsmKind::Unknown,
-        }));
+        return fault(number, AsmKind::Unknown);
     };
     if !may_stand(state, word) {
-        return Err(Stop::Fault(AsmFault {
-            line: number,
-            kind: AsmKind::Misplaced,
-        }));
+        return fault(number, AsmKind::Misplaced);
     }
     obey(alloc, state, number, word, rest)
 }
@@ -47,9 +39,9 @@ pub fn read_line(alloc: Global, state: &mut State, number: usize, line: &[u8]) -
 pub fn finish(state: State) -> Result<Program, AsmFault>
     ensures { result ≡ end_of state }
 {
-    if let Some(begin) = state.block {
+    if let Some(line) = state.levels.innermost_line() {
         return Err(AsmFault {
-            line: begin,
+            line,
             kind: AsmKind::Unbalanced,
         });
     }
@@ -66,7 +58,13 @@ pub fn finish(state: State) -> Result<Program, AsmFault>
                 line,
                 kind: AsmKind::Range,
             }),
-            None => Ok(Program::new(opening, limits.limits(), schedule.into_items(), threads)),
+            None => Ok(Program::new(
+                opening,
+                limits.arena(),
+                limits.limits(),
+                schedule.into_items(),
+                threads,
+            )),
         },
         _ => Err(AsmFault {
             line: 0,

@@ -1,5 +1,6 @@
 //! What has been read of a script.
 
+use crate::groups::Groups;
 use crate::limits::SaidLimits;
 use crate::opening::Opening;
 use crate::schedule::Plan;
@@ -13,6 +14,6 @@ pub struct State {
     pub limits: SaidLimits,
     pub schedule: Plan,
     pub threads: Threads,
-    /// The line of the begin whose block is open.
-    pub block: Option<usize>,
+    /// The blocks and groups that are open.
+    pub levels: Groups,
 }

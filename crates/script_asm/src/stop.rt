@@ -1,9 +1,9 @@
 //! Why reading stopped.
 
-ghost use Rattle.std.specs.Prelude.{◌≡◌};
+ghost use Rattle.std.specs.Prelude.{◌≡◌, Err};
 ghost use Rattle.script_asm.specs.declared.stop.Stop.TheVariants.{Memory, Fault};
 
-use crate::fault::AsmFault;
+use script_fields::{AsmFault, AsmKind};
 use std::alloc::{AllocError, AllocFailed};
 
 /// Memory was refused, or a line is at fault.
@@ -35,4 +35,11 @@ impl From<AsmFault> for Stop {
     fn from(fault: AsmFault) -> Stop {
         Stop::Fault(fault)
     }
+}
+
+/// The fault of a line.
+pub fn fault(line: usize, kind: AsmKind) -> Result<(), Stop>
+    ensures { result ≡ Err (Fault (record { line = line; kind = kind })) }
+{
+    Err(Stop::Fault(AsmFault { line, kind }))
 }

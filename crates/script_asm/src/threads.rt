@@ -1,8 +1,8 @@
 //! The threads of a script: sections of code, each for one thread or for several.
 
-ghost use Rattle.std.specs.Prelude.{◌≡◌, ◌+◌, ◌<◌, ◌≤◌, [], ◌∷◌, ◌++◌, Some, OnErr, OnOk, length, nat_le, nat_lt, slice_get};
+ghost use Rattle.std.specs.Prelude.{◌≡◌, ◌+◌, ◌-◌, ◌<◌, ◌≤◌, [], ◌∷◌, ◌++◌, Some, OnErr, OnOk, length, nat_le, nat_lt, slice_get, slice_range, take};
 ghost use Rattle.script_asm.specs.Listing.{codes_of};
-ghost use Rattle.script_asm.specs.Sections.{parts_of, thread_total, instruction_total, begun};
+ghost use Rattle.script_asm.specs.Sections.{parts_of, thread_total, instruction_total, begun, expanded};
 
 use crate::instruction::Instruction;
 use crate::limits::MAX_INSTRUCTIONS;
@@ -122,8 +122,74 @@ impl Threads {
         requires { instruction_total self.old < MAX_INSTRUCTIONS }
         ensures { OnOk result (self.new ≡ record self.old { code = self.old.code ++ instruction ∷ [] }) }
     {
-        self.code.push(instruction)?;
-        self.instructions += 1;
+        match self.code.push(instruction) {
+            Ok(()) => {
+                self.instructions += 1;
+                Ok(())
+            }
+            Err(_) => Err(AllocError),
+        }
+    }
+
+    /// How many instructions the code that is read has.
+    pub fn code_len(&self) -> usize
+        ensures { result ≡ length self.now.code }
+    {
+        self.code.len()
+    }
+
+    /// Whether there would be more instructions than may be, if those of the code that is read from a place on stood
+    /// so many times.
+    #[tactic(auto, unfolding(crate::specs::Sections::instruction_total))]
+    pub fn exceeds(&self, start: usize, times: usize) -> bool
+        ensures { result ≡ nat_lt MAX_INSTRUCTIONS (instruction_total (expanded self.now start times)) }
+    {
+        let group = self.code.len().saturating_sub(start);
+        let others = self.instructions - group;
+        MAX_INSTRUCTIONS - others < group.saturating_mul(times)
+    }
+
+    /// The code that is read ends before a place.
+    #[tactic(auto, unfolding(crate::specs::Sections::thread_total, crate::specs::Sections::instruction_total))]
+    fn cut(&mut self, start: usize)
+        ensures { self.new ≡ record self.old { code = take start self.old.code } }
+    {
+        let group = self.code.len().saturating_sub(start);
+        self.code.truncate(start);
+        self.instructions -= group;
+    }
+
+    /// What stands between two places of the code that is read stands after its end too.
+    #[tactic(auto, unfolding(crate::specs::Sections::thread_total, crate::specs::Sections::instruction_total))]
+    fn append(&mut self, start: usize, end: usize) -> Result<(), AllocError>
+        requires order { start ≤ end }
+        requires within { end ≤ length self.old.code }
+        requires room { instruction_total self.old + (end - start) ≤ MAX_INSTRUCTIONS }
+        ensures { OnOk result (self.new ≡ record self.old { code = self.old.code ++ slice_range self.old.code start end }) }
+    {
+        self.code.extend_from_within(start..end)?;
+        self.instructions += end - start;
+        Ok(())
+    }
+
+    /// The code that is read, from a place on, stands so many times in place of once.
+    #[tactic(auto, unfolding(crate::specs::Sections::expanded), using(crate::proofs::Repeats::nothing, crate::proofs::Repeats::once))]
+    pub fn repeat(&mut self, start: usize, times: usize) -> Result<(), AllocError>
+        requires { instruction_total (expanded self.old start times) ≤ MAX_INSTRUCTIONS }
+        ensures ok { OnOk result (self.new ≡ expanded self.old start times) }
+        ensures refused { OnErr result (length self.old.code < length (expanded self.old start times).code) }
+    {
+        if times == 0 {
+            self.cut(start);
+            return Ok(());
+        }
+        let end = self.code_len();
+        if end <= start {
+            return Ok(());
+        }
+        for count in 1..times {
+            self.append(start, end)?;
+        }
         Ok(())
     }
 

@@ -2,18 +2,19 @@
 
 ghost use Rattle.std.specs.Prelude.{◌≡◌, ◌≤◌, length, IfErr};
 ghost use Rattle.std.specs.Str.Lines.{lines};
-ghost use Rattle.script_asm.specs.Assembly.{Gives, program_of, lines_say, initial, RunsOut, IsAnswer};
+ghost use Rattle.script_asm.specs.Assembly.{program_of, lines_say, initial};
+ghost use Rattle.script_asm.specs.Wants.{Gives, RunsOut, IsAnswer};
 ghost use Rattle.script_asm.specs.declared.stop.Stop.TheVariants.{Memory};
 
-use crate::fault::{AsmFault, AsmKind};
+use crate::groups::Groups;
 use crate::limits::{MAX_TEXT, SaidLimits};
 use crate::program::Program;
 use crate::reading::{finish, read_line};
 use crate::schedule::Plan;
 use crate::state::State;
 use crate::stop::Stop;
-use crate::text::first_line;
 use crate::threads::Threads;
+use script_fields::{AsmFault, AsmKind, first_line};
 use std::alloc::Global;
 
 /// What the lines say, one after the other; `number` is the line that was read last.
@@ -29,7 +30,7 @@ fn read_lines(alloc: Global, text: &[u8], number: &mut usize) -> Result<State, S
         limits: SaidLimits::new(),
         schedule: Plan::new(alloc),
         threads: Threads::new(alloc),
-        block: None,
+        levels: Groups::new(alloc),
     };
     let mut rest = text;
     while let Some((line, after)) = first_line(rest) {
@@ -58,9 +59,9 @@ fn read_text(alloc: Global, text: &[u8], number: &mut usize) -> Result<Program, 
 /// The program that the text says, or its first fault.
 ///
 /// Lines are read in order, and the first that has a fault decides. What is wrong with the whole is told after the
-/// last line: a block that is left open, in the line of its begin; no `.thread`, in line 0; an item of `.schedule`
-/// whose thread is not there, in the first such line. A text of more than 16,777,216 bytes is too long in line 0.
-/// Where memory is refused, the fault is `AsmKind::Memory` in the line that was read.
+/// last line: a block or a group that is left open, in the line of the innermost beginning; no `.thread`, in line 0;
+/// an item of `.schedule` whose thread is not there, in the first such line. A text of more than 16,777,216 bytes is
+/// too long in line 0. Where memory is refused, the fault is `AsmKind::Memory` in the line that was read.
 pub fn assemble(alloc: Global, text: &[u8]) -> Result<Program, AsmFault>
     ensures { IsAnswer result text.now }
 {

@@ -1,20 +1,25 @@
 //! The words of the language: first fields.
 
-ghost use Rattle.std.specs.Prelude.{◌≡◌, map};
-ghost use Rattle.script_asm.specs.Words.{word_of, lookup, row, control_call, read_call, write_call, call_of};
+ghost use Rattle.std.specs.Prelude.{◌≡◌};
+ghost use Rattle.script_asm.specs.Words.{word_of};
 
-use itm_types::{Control, Entry, ReadHint, Width, WriteHint, entry_of};
+use crate::instruction::{ArenaWidth, Operation};
+use itm_types::{Entry, entry_of};
+use script_fields::lookup;
 
 /// What the first field of a line is.
 #[derive(Clone, Copy)]
 pub enum Word {
     Memory,
     Init,
+    Arena,
     Patience,
     Retries,
     Commits,
     Schedule,
     Thread,
+    Repeat,
+    EndRepeat,
     Code(Mnemonic),
 }
 
@@ -22,77 +27,48 @@ pub enum Word {
 #[derive(Clone, Copy)]
 pub enum Mnemonic {
     Set,
-    Add,
-    Begin,
-    Commit,
-    Read(ReadHint, Width),
-    Write(WriteHint, Width),
+    Bytes,
+    Move,
+    Compute(Operation),
+    IfNotZero,
+    Else,
+    EndIf,
+    Load(ArenaWidth),
+    Save(ArenaWidth),
+    Entry(Entry),
 }
 
-/// The words that are no calls.
-const WORDS: [(&[u8], Word); 9] = [
+/// The words that are no entry points.
+const WORDS: [(&[u8], Word); 28] = [
     (b".memory", Word::Memory),
     (b".init", Word::Init),
+    (b".arena", Word::Arena),
     (b".patience", Word::Patience),
     (b".retries", Word::Retries),
     (b".commits", Word::Commits),
     (b".schedule", Word::Schedule),
     (b".thread", Word::Thread),
+    (b".rept", Word::Repeat),
+    (b".endr", Word::EndRepeat),
     (b"set", Word::Code(Mnemonic::Set)),
-    (b"add", Word::Code(Mnemonic::Add)),
+    (b"bytes", Word::Code(Mnemonic::Bytes)),
+    (b"mov", Word::Code(Mnemonic::Move)),
+    (b"add", Word::Code(Mnemonic::Compute(Operation::Add))),
+    (b"sub", Word::Code(Mnemonic::Compute(Operation::Sub))),
+    (b"and", Word::Code(Mnemonic::Compute(Operation::And))),
+    (b"ltu", Word::Code(Mnemonic::Compute(Operation::LessThan))),
+    (b"ld1", Word::Code(Mnemonic::Load(ArenaWidth::One))),
+    (b"ld2", Word::Code(Mnemonic::Load(ArenaWidth::Two))),
+    (b"ld4", Word::Code(Mnemonic::Load(ArenaWidth::Four))),
+    (b"ld8", Word::Code(Mnemonic::Load(ArenaWidth::Eight))),
+    (b"st1", Word::Code(Mnemonic::Save(ArenaWidth::One))),
+    (b"st2", Word::Code(Mnemonic::Save(ArenaWidth::Two))),
+    (b"st4", Word::Code(Mnemonic::Save(ArenaWidth::Four))),
+    (b"st8", Word::Code(Mnemonic::Save(ArenaWidth::Eight))),
+    (b"ifnz", Word::Code(Mnemonic::IfNotZero)),
+    (b"else", Word::Code(Mnemonic::Else)),
+    (b"endif", Word::Code(Mnemonic::EndIf)),
 ];
-
-#[tactic(auto, using(crate::proofs::FieldLookup::goes_on, crate::proofs::FieldLookup::found, crate::proofs::FieldLookup::ended))]
-fn lookup(rows: &[(&[u8], Word)], field: &[u8]) -> Option<Word>
-    ensures { result ≡ lookup (map row rows.now) field.now }
-{
-    for (name, word) in rows {
-        if *name == field {
-            return Some(*word);
-        }
-    }
-    None
-}
-
-fn control_call(control: Control) -> Option<Mnemonic>
-    ensures { result ≡ control_call control }
-{
-    match control {
-        Control::BeginTransaction => Some(Mnemonic::Begin),
-        Control::CommitTransaction => Some(Mnemonic::Commit),
-        _ => None,
-    }
-}
-
-fn read_call(hint: ReadHint, width: Width) -> Option<Mnemonic>
-    ensures { result ≡ read_call hint width }
-{
-    match (hint, width) {
-        (ReadHint::R, Width::U8) => Some(Mnemonic::Read(hint, width)),
-        _ => None,
-    }
-}
-
-fn write_call(hint: WriteHint, width: Width) -> Option<Mnemonic>
-    ensures { result ≡ write_call hint width }
-{
-    match (hint, width) {
-        (WriteHint::W, Width::U8) => Some(Mnemonic::Write(hint, width)),
-        _ => None,
-    }
-}
-
-/// The call that an entry point is, where scripts can make it.
-fn call_of(entry: Entry) -> Option<Mnemonic>
-    ensures { result ≡ call_of entry }
-{
-    match entry {
-        Entry::Control(control) => control_call(control),
-        Entry::Read(hint, width) => read_call(hint, width),
-        Entry::Write(hint, width) => write_call(hint, width),
-        _ => None,
-    }
-}
 
 /// The word that a first field is.
 #[tactic(auto, unfolding(crate::specs::Words::word_of))]
@@ -102,5 +78,5 @@ pub fn word_of(field: &[u8]) -> Option<Word>
     if let Some(word) = lookup(&WORDS, field) {
         return Some(word);
     }
-    Some(Word::Code(call_of(entry_of(field)?)?))
+    Some(Word::Code(Mnemonic::Entry(entry_of(field)?)))
 }

@@ -20,7 +20,7 @@ use Rattle.norec_world.specs.Rows.{Rows, active_of, changed, without, with_one, 
 use Rattle.norec_world.specs.Status.{ending_of}
 use Rattle.norec_world.specs.Records.{Records, Tells, EndsBy, StopsAt, IsTold, Opens, CountsTry, again_after, RecordsReply}
 use Rattle.world_laws.specs.Alike.{SameRows, AreAlike}
-use Rattle.script_vm.specs.Rules.{Rules}
+use Rattle.tx_player.specs.Rules.{Rules}
 
 -- ## Rows
 
@@ -79,13 +79,13 @@ Counts (Conflict clock word) = Unit {0}
 Counts (Busy clock) = Unit {0}
 Counts (Full at) = ⊥
 
--- a transaction is over
+-- a transaction has committed
 abbrev pub Closes : Answer → Type 0
 Closes (Reply r) = ⊥
 Closes (Committed at wrote) = Unit {0}
-Closes (Conflict clock word) = Unit {0}
+Closes (Conflict clock word) = ⊥
 Closes (Busy clock) = ⊥
-Closes (Full at) = Unit {0}
+Closes (Full at) = ⊥
 
 ready_none : (s : Status) → s ≡ Ready → ending_of s ≡ None
 ready_none s e = ap ending_of e
@@ -158,15 +158,18 @@ module _ {P : Type 0} (rules : Rules P) (r s : Rows) (same : SameRows r s) (a b 
       ended_by_same r s same a.thread b.thread thread (k.inside tt).0 (k.inside tt).1 at at (if wrote then outcomes.Committed else outcomes.ReadOnly) call Done a'.engine.actions.ran b'.engine.actions.ran r' s' refl same_ran x.0 y.0,
       asked_again (x.4 ∙ ready) (y.4 ∙ ready') (x.1 ∙ ((λ i. rules.answered (player i) Done) ∙ sym y.1)) (x.3 ∙ sym y.3) (x.2 ∙ sym y.2),
     )
-    recorded_same was (Conflict clock word) k x y = (
-      stopped_same r s same a.thread b.thread thread (k.inside tt).0 (k.inside tt).1 (a'.engine.snapshot / 2) (b'.engine.snapshot / 2) outcomes.Conflict a'.engine.actions.ran b'.engine.actions.ran r' s' (ap (λ (c : Core). c.snapshot / 2) engine) same_ran x.0 y.0,
+    recorded_same true (Conflict clock word) k x y = (
+      stopped_same r s same a.thread b.thread thread (k.opened refl).0 (k.opened refl).1 (a'.engine.snapshot / 2) (b'.engine.snapshot / 2) outcomes.Conflict a'.engine.actions.ran b'.engine.actions.ran r' s' (ap (λ (c : Core). c.snapshot / 2) engine) same_ran x.0 y.0,
       counted_same (k.retries tt) (x.1 ∙ (ap rules.restarted player ∙ sym y.1)) x.2 y.2,
     )
+    recorded_same false (Conflict clock word) k x y = (rows_same r s same r' s' x.0 y.0, counted_same (k.retries tt) (x.1 ∙ (player ∙ sym y.1)) x.2 y.2)
     recorded_same was (Busy clock) k x y = (rows_same r s same r' s' x.0 y.0, counted_same (k.retries tt) (x.1 ∙ (player ∙ sym y.1)) x.2 y.2)
-    recorded_same was (Full at) k x y = (
-      stopped_same r s same a.thread b.thread thread (k.inside tt).0 (k.inside tt).1 at at outcomes.Full a'.engine.actions.ran b'.engine.actions.ran r' s' refl same_ran x.0 y.0,
+    recorded_same true (Full at) k x y = (
+      stopped_same r s same a.thread b.thread thread (k.opened refl).0 (k.opened refl).1 at at outcomes.Full a'.engine.actions.ran b'.engine.actions.ran r' s' refl same_ran x.0 y.0,
       record { thread = thread'; status = x.1 ∙ sym y.1; parts = λ on. absurd (let z = sym on ∙ ap ending_of x.1 in cc) },
     )
+    recorded_same false (Full at) k x y =
+        (rows_same r s same r' s' x.0 y.0, record { thread = thread'; status = x.1 ∙ sym y.1; parts = λ on. absurd (let z = sym on ∙ ap ending_of x.1 in cc) })
 
     abbrev pub IsGroundedNext : Bool → Next → Type 0
     IsGroundedNext was (Steps step) = Unit {0}

@@ -35,7 +35,8 @@ module _ {P : Type 0} (rules : Rules P) (clock : ℕ) (q : Rows) where
     records_anywhere was e (Committed at wrote) x g k = absurd (both (in_transaction a.engine) g.is_open shut)
     records_anywhere was e (Conflict at word) x g k = absurd x
     records_anywhere was e (Busy at) x g k = absurd x
-    records_anywhere was e (Full at) x g k = absurd (both (in_transaction a.engine) g.is_open shut)
+    records_anywhere true e (Full at) x g k = absurd (cc)
+    records_anywhere false e (Full at) x g k = (refl, k.1, k.2, k.3, k.4, k.5)
 
     tells_anywhere : (what : Next) → IsAtOnce what → Proceeds (came a.engine f.call (begins_again (in_transaction a.engine) a.again f.call)) what f.asked.engine
         → Tells rules (in_transaction a.engine) f.rows r' f.asked a' f.call what → Tells rules (in_transaction a.engine) q q f.asked a' f.call what

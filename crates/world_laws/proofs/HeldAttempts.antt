@@ -1,21 +1,22 @@
 -- Within a transaction the actor has an open attempt, over a step and over a call.
-use Rattle.std.proofs.Common.{◌≡◌, ℕ, ◌+◌, ◌/◌, nat_lt, is_none, length, ◌==◌, ◌&&◌, ◌*◌, ◌⊎◌, nat_le, if◌then◌else◌, Bool, true, false, List, [], ◌∷◌, Option, None, Some, inl, inr, refl, sym, ap, subst, ◌∙◌, eq-eqb}
+use Rattle.std.proofs.Common.{◌≡◌, ℕ, ◌+◌, ◌/◌, nat_lt, not, is_none, length, ◌==◌, ◌&&◌, ◌*◌, ◌⊎◌, nat_le, if◌then◌else◌, Bool, true, false, List, [], ◌∷◌, Option, None, Some, inl, inr, refl, sym, ap, subst, ◌∙◌, eq-eqb}
 use Rattle.std.proofs.lemmas.Bool.{cases_Bool}
-use Rattle.norec_world.proofs.Common.{Answer, Answers, Busy, Call, Cells, Committed, Conflict, Core, Ends, Full, IsTold, Next, Opens, Proceeds, Records, Reply, Rows, Rules, Step, Tells, active_of, asked_pending, begins_again, came, found, handed_is, handed_to, in_transaction, is_inside, with_changed, RecordsReply, none_inside}
+use Rattle.norec_world.proofs.Common.{Answer, Answers, Busy, Call, Cells, Committed, Conflict, ConflictsIn, Core, Ends, Full, IsTold, Next, Opens, Proceeds, Records, Reply, Rows, Rules, Step, Tells, active_of, asked_pending, begins_again, came, found, handed_is, handed_to, in_transaction, is_inside, with_changed, RecordsReply, none_inside}
 use Rattle.norec_world.specs.declared.actor.Actor.{Actor}
 use Rattle.norec_world.specs.declared.actor.Status.TheVariants.{Ended, Ready, Waits}
 use Rattle.norec_world.specs.declared.attempt.Attempt.{Attempt}
 use Rattle.norec_world.specs.declared.attempt.End.TheVariants.{GaveUp}
 use Rattle.world_laws.specs.Alike.{HasAttempt}
-use Rattle.nest_frames.specs.Nest.{Frame}
+use Rattle.nest_frames.specs.Nest.{Frame, stays_revocable}
 use Rattle.itm_types.specs.declared.call.Call.TheVariants as calls
 use Rattle.itm_types.specs.Access.{size_of}
 use Rattle.norec_core.specs.Core.{handed, is_outermost}
 use Rattle.norec_core.specs.Copies.{copy_refusal}
-use Rattle.norec_core.specs.Order.{asked, asked_from, stage_at, commit_stage, copy_stage, load_stage, value_reading}
+use Rattle.norec_core.specs.Order.{asked, asked_from, copying_stage, commit_stage, fill_from, going_stage, place_from, placed_in, read_stage, stage_at, value_reading, value_writing}
 use Rattle.norec_core.specs.Proceeds.{IsBegin}
 use Rattle.norec_core.specs.declared.answer.Next.TheVariants.{Step as Steps}
 use Rattle.norec_core.specs.declared.phase.Phase.TheVariants as at
+use Rattle.norec_core.specs.declared.phase.Taking.TheVariants as takings
 use Rattle.norec_world.specs.Rows.{with_one}
 use Rattle.norec_world.specs.Records.{CountsTry}
 use Rattle.norec_world.specs.LocalWork.{TakesIn, Calls}
@@ -34,17 +35,26 @@ handed_open e (Some step) n = ap is_inside (handed_is e step n).keeps.blocks
 pub ends_inside : (mid new : Core) (a : Answer) → Closes a → Ends mid a new → in_transaction mid ≡ true
 ends_inside mid new (Reply r) k g = absurd k
 ends_inside mid new (Committed at wrote) k g = g.is_open
-ends_inside mid new (Conflict clock word) k g = g.is_open
+ends_inside mid new (Conflict clock word) k g = absurd k
 ends_inside mid new (Busy clock) k g = absurd k
-ends_inside mid new (Full at) k g = g.is_open
+ends_inside mid new (Full at) k g = absurd k
+
+conflicted : (mid new : Core) (clock : ℕ) (word : Option ℕ) (inside : Bool) → ConflictsIn inside mid clock word new → in_transaction new ≡ false
+conflicted mid new clock word true g = ap in_transaction g.stays
+conflicted mid new clock word false g = ap in_transaction g.stays
 
 -- outside a transaction only a begin asks for a step
 idle_outside : (c : Core) (call : Call) (again : Bool) → in_transaction c ≡ false → (stage_at c call again ≡ at.Idle) ⊎ IsBegin (Some call)
 idle_outside c (calls.Begin props room) again shut = inr tt
 idle_outside c calls.Commit again shut = inl (ap (λ (bs : List Frame). if is_outermost bs then commit_stage c else at.Idle) (none_inside c.blocks shut))
+idle_outside c (calls.Mode room) again shut =
+    inl (ap (λ (b : Bool). going_stage c (if b && not (stays_revocable c.blocks) && not c.irrevocable then Some room else None) (takings.Mode room)) shut)
 idle_outside c (calls.Read hint width place) again shut =
-    inl (ap (λ (b : Bool). if b && nat_le (place + size_of width) (8 * c.words) then load_stage c.writes (value_reading hint width place) else at.Idle) shut)
-idle_outside c (calls.Copy k) again shut = inl (ap (λ (b : Bool). if is_none (copy_refusal b c.words (length c.arena) k) then copy_stage c.writes k k.pair else at.Idle) shut)
+    inl (ap (λ (b : Bool). if b && nat_le (place + size_of width) (8 * c.words) then read_stage c (value_reading hint width place) else at.Idle) shut)
+idle_outside c (calls.Write hint place value) again shut =
+    inl (ap (λ (b : Bool). if b && nat_le (place + size_of value.width) (8 * c.words) then placed_in c (place_from at.Idle (value_writing hint place value.width)) else at.Idle) shut)
+idle_outside c (calls.Copy k) again shut = inl (ap (λ (b : Bool). if is_none (copy_refusal b c.words (length c.arena) k) then copying_stage c k else at.Idle) shut)
+idle_outside c (calls.Fill hint to byte size) again shut = inl (ap (λ (b : Bool). if b && nat_le (to + size) (8 * c.words) then placed_in c (fill_from hint to byte size 0) else at.Idle) shut)
 idle_outside c call again shut = inl refl
 
 begin_asks : (c new : Core) (call : Call) (again : Bool) (step : Step) → in_transaction c ≡ false → new.stage ≡ stage_at c call again → new.waits ≡ asked new → new.waits ≡ Some step → IsBegin (Some call)
@@ -95,7 +105,7 @@ module _ {P : Type 0} (rules : Rules P) (r r' : Rows) (a a' : Actor P) (call : C
       let k = begins refl o in
       opened_in a.thread r r' a.pending (a'.engine.snapshot / 2) k.0 k.1 k.2 (subst (λ (b : Bool). Opens b r a.pending (a'.engine.snapshot / 2) r') o x.0)
   recorded_in mid was (Committed at wrote) x g inside begins o = absurd (both (in_transaction a'.engine) o (ap in_transaction g.stays))
-  recorded_in mid was (Conflict clock word) x g inside begins o = absurd (both (in_transaction a'.engine) o (ap in_transaction g.stays))
+  recorded_in mid was (Conflict clock word) x g inside begins o = absurd (both (in_transaction a'.engine) o (conflicted mid a'.engine clock word (in_transaction mid) g))
   recorded_in mid was (Busy clock) x g inside begins o = absurd (both (in_transaction a'.engine) o (ap in_transaction g.stays))
   recorded_in mid was (Full at) x g inside begins o = absurd (both (in_transaction a'.engine) o (ap in_transaction g.stays))
 

@@ -7,7 +7,7 @@ use Rattle.norec_world.specs.World.{World, SameOpening, ending_at}
 use Rattle.norec_world.specs.WorldEvents.{Goes, Leads, Takes, passes_of}
 use Rattle.world_laws.specs.SameWorlds.{SameWorld, ShowSame}
 use Rattle.norec_world.specs.Starts.{IsNew}
-use Rattle.script_vm.specs.Rules.{Rules}
+use Rattle.tx_player.specs.Rules.{Rules}
 
 module _ {P : Type 0} (rules : Rules P) where
   -- two new worlds of equal beginning are the same

@@ -8,7 +8,7 @@ ghost use Rattle.norec_world.specs.Attempts.{pairs_of};
 ghost use Rattle.norec_world.specs.Opacity.{IsBeginningOf, IsOpaque};
 ghost use Rattle.world_laws.specs.ScheduleDecides.{BeginningDecides, EventDecides, EntriesDecide, RunDecides, SameShows, ScheduleDecides};
 
-use script_vm::Player;
+use tx_player::Player;
 
 /// Isolation: of two opaque attempts, in any two worlds, whose players, properties and arenas at the begin are equal
 /// and which read equal memories, the shorter list of calls with replies is a beginning of the longer one. Does

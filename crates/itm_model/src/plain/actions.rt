@@ -1,7 +1,7 @@
 //! Actions that run at a transaction's end.
 
 ghost use Rattle.std.specs.Prelude.{◌≡◌, OnOk, OnErr};
-ghost use Rattle.itm_model.specs.Machine.{with_action};
+ghost use Rattle.itm_model.specs.Machine.{with_action, with_undo};
 
 use super::Plain;
 use itm_types::{Action, ActionKind, Ran};
@@ -30,5 +30,17 @@ impl Plain {
     {
         self.actions.register(kind, action)?;
         Ok(())
+    }
+
+    /// An undo action is registered, unless nothing goes back any more.
+    pub(super) fn register_undo(&mut self, action: Action) -> Result<(), AllocError>
+        ensures ok { OnOk result (self.new.state ≡ with_undo self.old.state action) }
+        ensures before { OnOk result (self.new.before ≡ self.old.before) }
+        ensures err { OnErr result (self.new ≡ self.old) }
+    {
+        if self.irrevocable {
+            return Ok(());
+        }
+        self.register(ActionKind::Undo, action)
     }
 }

@@ -1,11 +1,11 @@
 //! Why a call is refused.
 
-ghost use Rattle.std.specs.Prelude.{◌≡◌, nat_lt, length};
-ghost use Rattle.itm_model.specs.Machine.{abort_for, copy_ranges, in_arena, in_shared, is_clear, keeps_any, keeps_innermost, needs_open, ranges, refusal, source_range, standing, target_range, unless};
+ghost use Rattle.std.specs.Prelude.{not, ◌≡◌, nat_lt, length, true};
+ghost use Rattle.itm_model.specs.Machine.{abort_for, begin_for, copy_ranges, in_arena, in_shared, is_clear, keeps_any, keeps_innermost, keeps_revocable, needs_open, ranges, refusal, source_range, standing, target_range, unless};
 
 use super::Plain;
 use crate::bytes::is_in_range;
-use itm_types::{Call, CopyPair, Copying, MAX_OPEN_BLOCKS, Refusal};
+use itm_types::{Call, CopyPair, Copying, MAX_OPEN_BLOCKS, Props, Refusal};
 
 impl Plain {
     /// Why the call is refused, if it is.
@@ -20,9 +20,10 @@ impl Plain {
         ensures { result ≡ standing MAX_OPEN_BLOCKS self.now.state call.now }
     {
         match call {
-            Call::Begin { .. } => self.too_deep(),
+            Call::Begin { props, .. } => self.no_begin(*props),
             Call::InTransaction | Call::Load { .. } | Call::Save { .. } => None,
             Call::Abort { outer } => self.outside().or(self.no_abort(*outer)),
+            Call::Mode { .. } => self.outside().or(self.no_mode()),
             Call::Commit
             | Call::Read { .. }
             | Call::Write { .. }
@@ -51,6 +52,7 @@ impl Plain {
             Call::Begin { .. }
             | Call::Commit
             | Call::Abort { .. }
+            | Call::Mode { .. }
             | Call::InTransaction
             | Call::CommitAction(_)
             | Call::UndoAction(_) => None,
@@ -85,6 +87,17 @@ impl Plain {
         }
     }
 
+    /// Why a block with these properties does not begin, if it does not.
+    fn no_begin(&self, props: Props) -> Option<Refusal>
+        ensures { result ≡ begin_for MAX_OPEN_BLOCKS self.now.state props }
+    {
+        if props.goes_irrevocable && (props.no_irrevocable || self.keeps_revocable()) {
+            Some(Refusal::NoIrrevocable)
+        } else {
+            self.too_deep()
+        }
+    }
+
     /// One more block is too many.
     fn too_deep(&self) -> Option<Refusal>
         ensures { result ≡ unless (nat_lt (length self.now.state.blocks) MAX_OPEN_BLOCKS) Refusal.TooDeep }
@@ -107,7 +120,7 @@ impl Plain {
         }
     }
 
-    /// An abort would cancel a block that is not to be cancelled.
+    /// An abort would cancel a block that is not to be cancelled, or an irrevocable transaction.
     fn no_abort(&self, outer: bool) -> Option<Refusal>
         ensures { result ≡ abort_for self.now.state outer }
     {
@@ -116,7 +129,24 @@ impl Plain {
         } else {
             self.keeps_innermost()
         };
-        if keeps { Some(Refusal::NoAbort) } else { None }
+        if keeps {
+            Some(Refusal::NoAbort)
+        } else if self.irrevocable {
+            Some(Refusal::IsIrrevocable)
+        } else {
+            None
+        }
+    }
+
+    /// A block is open within which the transaction does not become irrevocable.
+    fn no_mode(&self) -> Option<Refusal>
+        ensures { result ≡ unless (not (keeps_revocable self.now.state.blocks)) Refusal.NoIrrevocable }
+    {
+        if self.keeps_revocable() {
+            Some(Refusal::NoIrrevocable)
+        } else {
+            None
+        }
     }
 
     /// Whether an open block is not to be cancelled.
@@ -131,6 +161,13 @@ impl Plain {
         ensures { result ≡ keeps_innermost self.now.state.blocks }
     {
         self.marks.last().is_some_and(|mark| mark.props.no_abort)
+    }
+
+    /// Whether the transaction does not become irrevocable within an open block.
+    fn keeps_revocable(&self) -> bool
+        ensures { result ≡ keeps_revocable self.now.state.blocks }
+    {
+        self.marks.iter().any(|mark| mark.props.no_irrevocable)
     }
 
     /// So many bytes leave the memory.

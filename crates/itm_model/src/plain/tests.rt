@@ -7,9 +7,14 @@ use std::test::Fail;
 
 mod actions;
 mod copies;
+mod irrevocable;
 mod nested;
 
-const PLAIN: Props = Props { no_abort: false };
+const PLAIN: Props = Props {
+    no_abort: false,
+    no_irrevocable: false,
+    goes_irrevocable: false,
+};
 
 const BEGIN: Call = Call::Begin {
     props: PLAIN,

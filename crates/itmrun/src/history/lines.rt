@@ -29,10 +29,15 @@ fn outcome_name(outcome: Outcome) -> &'static [u8]
 fn props_text(props: Props) -> &'static [u8]
     ensures { result.now ≡ props_text props }
 {
-    if props.no_abort {
-        b"pr_hasNoAbort"
-    } else {
-        b"-"
+    match (props.no_abort, props.no_irrevocable, props.goes_irrevocable) {
+        (false, false, false) => b"-",
+        (false, false, true) => b"pr_doesGoIrrevocable",
+        (false, true, false) => b"pr_hasNoIrrevocable",
+        (false, true, true) => b"pr_hasNoIrrevocable+pr_doesGoIrrevocable",
+        (true, false, false) => b"pr_hasNoAbort",
+        (true, false, true) => b"pr_hasNoAbort+pr_doesGoIrrevocable",
+        (true, true, false) => b"pr_hasNoAbort+pr_hasNoIrrevocable",
+        (true, true, true) => b"pr_hasNoAbort+pr_hasNoIrrevocable+pr_doesGoIrrevocable",
     }
 }
 
@@ -190,6 +195,9 @@ fn put_body<W: Write>(stream: &mut Stream<'_, W>, call: &Call)
             Piece::Text(b"_ITM_abortTransaction "),
             Piece::Text(abort_text(*outer)),
         ]),
+        Call::Mode { .. } => stream.put(&[Piece::Text(
+            b"_ITM_changeTransactionMode modeSerialIrrevocable",
+        )]),
         Call::InTransaction => stream.put(&[Piece::Text(b"_ITM_inTransaction")]),
         Call::Read { hint, width, at } => stream.put(&[
             Piece::Text(name_of(Function::Read(*hint, *width)).as_bytes()),

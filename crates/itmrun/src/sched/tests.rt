@@ -1,10 +1,15 @@
 //! Scripts from their bytes to what is written, said and answered.
 
+mod barriers;
+mod copies;
 mod endings;
+mod irrevocable;
+mod nests;
 mod schedules;
 mod threads;
 
 use super::*;
+use script_asm::assemble;
 use std::alloc::AllocError;
 use std::io;
 use std::process::Abort;
@@ -79,7 +84,7 @@ fn refused_scripts(rt: HostRuntime) -> Result<(), Fail> {
     let rows: [(&[u8], &[u8]); 8] = [
         (b"\xc3\xa9", b"itmrun: line 1: bad character\n"),
         (
-            b".memory 8\n.thread\n_ITM_RaRU8 r0 0",
+            b".memory 8\n.thread\n_ITM_RaU8 r0 0",
             b"itmrun: line 3: unknown name\n",
         ),
         (

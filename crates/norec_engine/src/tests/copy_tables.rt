@@ -14,21 +14,21 @@ use undo_log::Arena;
 
 mod conflicts;
 
-const SIDE: SharedSide = SharedSide::T;
+pub(super) const SIDE: SharedSide = SharedSide::T;
 
 /// How many bytes the memory and the arena have, over which each size is copied.
-const SIZE: u64 = 96;
+pub(super) const SIZE: u64 = 96;
 
 /// Where ranges begin of copies from or to the arena.
-const PLACES: [u64; 12] = [0, 1, 3, 7, 8, 9, 31, 32, 33, 64, 95, 96];
+pub(super) const PLACES: [u64; 12] = [0, 1, 3, 7, 8, 9, 31, 32, 33, 64, 95, 96];
 
 /// The byte that stands at a place of the memory and of the arena at first: no two are alike.
-fn first(place: usize) -> u8 {
+pub(super) fn first(place: usize) -> u8 {
     (place % 200 + 10) as u8
 }
 
 /// Words with the bytes.
-fn filled() -> Cells {
+pub(super) fn filled() -> Cells {
     let mut words = [0; 24];
     let mut next = 0x1110_0f0e_0d0c_0b0au64;
     for word in words.iter_mut() {
@@ -53,7 +53,12 @@ fn copied(to: u64, from: u64, size: u64) -> [u8; 96] {
 }
 
 /// An engine over so many words and an arena of so many bytes.
-fn numbered(rt: &impl Abort, alloc: Global, words: u32, size: usize) -> Result<Engine, AllocError>
+pub(super) fn numbered(
+    rt: &impl Abort,
+    alloc: Global,
+    words: u32,
+    size: usize,
+) -> Result<Engine, AllocError>
     requires words { (0 < words) × (words ≤ 24) }
 {
     assert!(rt; size <= 160);

@@ -12,41 +12,41 @@ use std::process::Abort;
 use std::test::Fail;
 use undo_log::Arena;
 
-const CANCEL: Call = Call::Abort { outer: false };
+pub(super) const CANCEL: Call = Call::Abort { outer: false };
 
-const CANCEL_ALL: Call = Call::Abort { outer: true };
+pub(super) const CANCEL_ALL: Call = Call::Abort { outer: true };
 
-fn on_commit(fun: u32, arg: u64) -> Call {
+pub(super) fn on_commit(fun: u32, arg: u64) -> Call {
     Call::CommitAction(Action { fun, arg })
 }
 
-fn on_undo(fun: u32, arg: u64) -> Call {
+pub(super) fn on_undo(fun: u32, arg: u64) -> Call {
     Call::UndoAction(Action { fun, arg })
 }
 
-fn committed(fun: u32, arg: u64) -> Ran {
+pub(super) fn committed(fun: u32, arg: u64) -> Ran {
     Ran {
         kind: ActionKind::Commit,
         action: Action { fun, arg },
     }
 }
 
-fn undone(fun: u32, arg: u64) -> Ran {
+pub(super) fn undone(fun: u32, arg: u64) -> Ran {
     Ran {
         kind: ActionKind::Undo,
         action: Action { fun, arg },
     }
 }
 
-fn answered(call: Call, reply: Reply) -> Entry {
+pub(super) fn answered(call: Call, reply: Reply) -> Entry {
     Entry { call, reply }
 }
 
-fn done(call: Call) -> Entry {
+pub(super) fn done(call: Call) -> Entry {
     answered(call, Reply::Done)
 }
 
-fn entered() -> Entry {
+pub(super) fn entered() -> Entry {
     answered(begin(), Reply::Code(5))
 }
 
@@ -54,7 +54,7 @@ fn cancelled() -> Entry {
     answered(CANCEL, Reply::Code(24))
 }
 
-fn found(at: u64, byte: u8) -> Entry {
+pub(super) fn found(at: u64, byte: u8) -> Entry {
     let mut value = Value::new();
     let _ = value.try_extend_from_slice(&[byte, 0, 0, 0, 0, 0, 0, 0]);
     answered(read(at), Reply::Bytes(value))
@@ -62,17 +62,22 @@ fn found(at: u64, byte: u8) -> Entry {
 
 /// What an attempt has to tell.
 #[derive(Clone, Copy)]
-struct Told<'a> {
-    thread: u8,
-    nth: u32,
-    at: u64,
-    outcome: Outcome,
-    calls: &'a [Entry],
-    ran: &'a [Ran],
+pub(super) struct Told<'a> {
+    pub(super) thread: u8,
+    pub(super) nth: u32,
+    pub(super) at: u64,
+    pub(super) outcome: Outcome,
+    pub(super) calls: &'a [Entry],
+    pub(super) ran: &'a [Ran],
 }
 
 /// Of the first try of actor 0.
-fn first_try<'a>(outcome: Outcome, at: u64, calls: &'a [Entry], ran: &'a [Ran]) -> Told<'a> {
+pub(super) fn first_try<'a>(
+    outcome: Outcome,
+    at: u64,
+    calls: &'a [Entry],
+    ran: &'a [Ran],
+) -> Told<'a> {
     Told {
         thread: 0,
         nth: 1,
@@ -83,7 +88,7 @@ fn first_try<'a>(outcome: Outcome, at: u64, calls: &'a [Entry], ran: &'a [Ran]) 
     }
 }
 
-fn expect(rt: &impl Abort, attempt: Option<&Attempt>, told: Told<'_>) {
+pub(super) fn expect(rt: &impl Abort, attempt: Option<&Attempt>, told: Told<'_>) {
     let attempt = attempt.expect(rt, "an attempt");
     assert_eq!(rt; attempt.thread, told.thread);
     assert_eq!(rt; attempt.nth, told.nth);

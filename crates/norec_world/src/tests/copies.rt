@@ -9,14 +9,14 @@ use itm_types::{Call, CopyPair, Copying, Refusal, Reply, SharedSide, WriteHint};
 use std::process::Abort;
 use std::test::Fail;
 
-const TO_ARENA: CopyPair = CopyPair::In(SharedSide::T);
+pub(super) const TO_ARENA: CopyPair = CopyPair::In(SharedSide::T);
 
-const FROM_ARENA: CopyPair = CopyPair::Out(SharedSide::T);
+pub(super) const FROM_ARENA: CopyPair = CopyPair::Out(SharedSide::T);
 
-const SHARED: CopyPair = CopyPair::Within(SharedSide::T, SharedSide::T);
+pub(super) const SHARED: CopyPair = CopyPair::Within(SharedSide::T, SharedSide::T);
 
 /// A copy of ranges that are apart.
-fn copy(pair: CopyPair, to: u64, from: u64, size: u64) -> Call {
+pub(super) fn copy(pair: CopyPair, to: u64, from: u64, size: u64) -> Call {
     Call::Copy(Copying {
         moves: false,
         pair,
@@ -27,7 +27,7 @@ fn copy(pair: CopyPair, to: u64, from: u64, size: u64) -> Call {
 }
 
 /// A copy whose ranges may overlap.
-fn shift(pair: CopyPair, to: u64, from: u64, size: u64) -> Call {
+pub(super) fn shift(pair: CopyPair, to: u64, from: u64, size: u64) -> Call {
     Call::Copy(Copying {
         moves: true,
         pair,
@@ -37,7 +37,7 @@ fn shift(pair: CopyPair, to: u64, from: u64, size: u64) -> Call {
     })
 }
 
-fn fill(to: u64, byte: u64, size: u64) -> Call {
+pub(super) fn fill(to: u64, byte: u64, size: u64) -> Call {
     Call::Fill {
         hint: WriteHint::W,
         to,

@@ -20,7 +20,7 @@ fn read_byte(at: u64) -> Call {
     }
 }
 
-fn write_byte(at: u64, byte: u8) -> Call {
+pub(super) fn write_byte(at: u64, byte: u8) -> Call {
     Call::Write {
         hint: WriteHint::W,
         at,
@@ -50,7 +50,7 @@ pub(super) fn save(at: u64, byte: u8) -> Call {
     }
 }
 
-fn bytes(bytes: &[u8]) -> Reply {
+pub(super) fn bytes(bytes: &[u8]) -> Reply {
     let mut value = Value::new();
     let _ = value.try_extend_from_slice(bytes);
     Reply::Bytes(value)
@@ -203,7 +203,11 @@ fn logs_at_the_end(rt: HostRuntime) -> Result<(), Fail> {
 fn no_abort(rt: HostRuntime) -> Result<(), Fail> {
     let alloc = rt.alloc();
     let kept = Call::Begin {
-        props: Props { no_abort: true },
+        props: Props {
+            no_abort: true,
+            no_irrevocable: false,
+            goes_irrevocable: false,
+        },
         room: 8,
     };
     let calls = vec![in alloc;

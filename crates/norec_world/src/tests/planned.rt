@@ -2,13 +2,13 @@
 
 ghost use Rattle.std.specs.Prelude.{◌≡◌, ◌-◌, ◌^◌, ◌<◌, None, IfOk};
 ghost use Rattle.std.specs.Option.{ForSome};
-ghost use Rattle.script_vm.specs.Depth.{depth_after};
+ghost use Rattle.tx_player.specs.Depth.{depth_after};
 ghost use Rattle.norec_world.specs.Plan.{depth_in, blocks_after};
 
 use itm_types::{Call, Datum, Reply, Value};
-use script_vm::Player;
 use std::alloc::{AllocError, Global};
 use std::marker::Model;
+use tx_player::Player;
 
 /// The blocks that are open.
 #[derive(Clone, Copy)]
@@ -121,6 +121,7 @@ fn again(call: &Call) -> Call
         },
         Call::Commit => Call::Commit,
         Call::Abort { outer } => Call::Abort { outer: *outer },
+        Call::Mode { room } => Call::Mode { room: *room },
         Call::InTransaction => Call::InTransaction,
         Call::Read { hint, width, at } => Call::Read {
             hint: *hint,

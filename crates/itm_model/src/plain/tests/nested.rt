@@ -125,7 +125,11 @@ fn sixteen_at_once(rt: HostRuntime) -> Result<(), Fail> {
 #[test]
 fn not_cancelled(rt: HostRuntime) -> Result<(), Fail> {
     let refused = Reply::Refused(Refusal::NoAbort);
-    let mut plain = Plain::new(rt.alloc(), &THREE, &[], Props { no_abort: true })?;
+    let props = Props {
+        no_abort: true,
+        ..PLAIN
+    };
+    let mut plain = Plain::new(rt.alloc(), &THREE, &[], props)?;
     plain.one(&write(0, FOUR))?;
     assert_eq!(rt; plain.one(&CANCEL)?, refused);
     assert_eq!(rt; plain.one(&CANCEL_ALL)?, refused);

@@ -1,5 +1,5 @@
 use Rattle.std.proofs.Common.{◌≡◌, append_assoc}
-use Rattle.script_asm.specs.Faults.{kind_text}
+use Rattle.script_fields.specs.Faults.{kind_text}
 use Rattle.itmrun.specs.Answers.{error_text}
 use Rattle.itmrun.proofs.TextPieces.{put_as}
 use Rattle.itmrun.proofs.finish.write_error.Goals as goal

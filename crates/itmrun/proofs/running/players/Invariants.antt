@@ -1,6 +1,6 @@
 use Rattle.std.proofs.Common.{◌≡◌, map, take}
 use Rattle.script_asm.specs.Listing.{threads_of}
-use Rattle.itmrun.specs.Threads.{opening}
+use Rattle.script_vm.specs.Threads.{opening}
 use Rattle.itmrun.proofs.running.players.Given as goal
 
 abbrev pub invariant-loop-thread : goal.invariant-loop-thread

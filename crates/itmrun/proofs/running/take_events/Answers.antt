@@ -1,7 +1,7 @@
 use Rattle.std.proofs.Common.{◌≡◌, ◌∙◌, Err, ap, arith, subst}
 use Rattle.norec_world.specs.declared.fault.WorldFault.TheVariants.{Ended}
 use Rattle.norec_world.specs.WorldEvents.{Goes}
-use Rattle.itmrun.specs.Threads.{thread_rules}
+use Rattle.script_vm.specs.Threads.{thread_rules}
 use Rattle.itmrun.proofs.ScheduleItems.{led_on, led_to_end}
 use Rattle.itmrun.proofs.running.take_events.Goals as goal
 

@@ -1,7 +1,7 @@
-use Rattle.std.proofs.Common.{◌≡◌, Bool, false, sym, ap, ◌∙◌}
+use Rattle.std.proofs.Common.{◌≡◌, Bool, false, sym, ap, ◌∙◌, rules}
 use Rattle.nest_frames.specs.Nest.{is_kept}
 use Rattle.norec_core.specs.Core.{is_outermost}
-use Rattle.norec_engine.proofs.Cancels.{kept_replies, cancelled_replies, all_replies}
+use Rattle.norec_engine.proofs.Cancels.{kept_replies, cancelled_replies, cancelled_sound, all_replies, not_both}
 use Rattle.norec_engine.proofs.abort.abort.Goals.{then-outer, else-outer, then-is_outermost, else-is_outermost}
 use Rattle.norec_engine.proofs.abort.abort.Goals as goal
 
@@ -39,6 +39,7 @@ returns-clause-proceeds c =
             inner = inner;
             may = sym (ap (λ (o : Bool). is_kept c.come.new.self.frames.blocks o) outer) ∙ may;
             blocks = w.cancel.ensures.blocks;
+            room = w.cancel.ensures.room;
             actions = w.cancel.ensures.actions;
             rows = w.cancel.ensures.rows;
             size = w.cancel.ensures.arena_size;
@@ -46,3 +47,18 @@ returns-clause-proceeds c =
             restored = w.cancel.ensures.restored;
           })))
     ]
+
+pub returns-clause-sound : goal.returns-clause-sound
+returns-clause-sound c = elim c.if-is_outermost.branch [
+  | then-is_outermost w ↦ rw w.state-is (search rules)
+  | else-is_outermost w ↦ (
+      let inner : is_outermost c.come.new.self.frames.blocks ≡ false = (elim c.if-outer.branch [
+        | then-outer v ↦ not_both (sym v.if-outer.true ∙ (sym v.value-is ∙ w.if-is_outermost.false))
+        | else-outer v ↦ sym v.is_outermost.ensures ∙ (sym v.value-is ∙ w.if-is_outermost.false)
+      ]) in
+      let left = w.cancel.ensures in
+      rw w.state-is (record {
+        asked = tt;
+        sound = cancelled_sound c.args.state.now c.come.new.self w.cancel.new.self w.cancel.new.arena c.come.ensures c.requires.sound (sym c.is_open.ensures ∙ c.if-not-is_open.false) inner left.blocks left.rows left.size left.arena_size;
+      }))
+]

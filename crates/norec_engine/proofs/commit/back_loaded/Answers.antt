@@ -11,7 +11,7 @@ returns-clause-proceeds c =
       lawful = (
         omega (arith, AllWritesWithin-at c.args.state.now.words rows c.args.row phase.0.is_open.writes phase.1),
         refl,
-        record { some = phase.1; word_is = refl; value_is = λ m mem got. stores_part m rows c.args.row c.args.seen phase.1 got },
+        λ r. record { some = phase.1; word_is = refl; value_is = λ m mem got. stores_part m rows c.args.row c.args.seen phase.1 got },
       );
       stays = refl;
     }

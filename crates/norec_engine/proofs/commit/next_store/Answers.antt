@@ -1,10 +1,21 @@
-use Rattle.std.proofs.Common.{◌≡◌, ◌≢◌, ◌<◌, ◌==◌, nat_lt, length, arith, refl, sym, ap, ◌∙◌, eq-eqb}
+use Rattle.std.proofs.Common.{◌≡◌, ◌≢◌, ◌<◌, ◌+◌, ◌*◌, ◌==◌, nat_lt, length, arith, refl, sym, ap, subst, ◌∙◌, eq-eqb}
+use Rattle.itm_types.specs.declared.call.Call.TheVariants.{Begin, Mode}
+use Rattle.itm_types.specs.declared.call.Reply.{Reply as Replied}
+use Rattle.norec_core.specs.declared.phase.Aim.TheVariants as aims
+use Rattle.norec_core.specs.declared.phase.Taking.{Taking}
+use Rattle.norec_core.specs.declared.phase.Taking.TheVariants as takings
+use Rattle.norec_core.specs.Proceeds.{Enters}
+use Rattle.norec_data.specs.View.{call_of, core_held}
+use Rattle.norec_engine.specs.InPhases.{IsHolding}
+use Rattle.norec_engine.specs.Between.{in_stores}
+use Rattle.norec_engine.proofs.IrrevocableEntries.{begin_entered, mode_entered}
 use Rattle.std.proofs.lemmas.Bool.{cond-true, cond-false, lt-ltb, ne_eqb}
 use Rattle.write_set.specs.declared.row.Row.{Row}
 use Rattle.word_pieces.specs.Masks.{whole}
-use Rattle.norec_core.specs.declared.phase.Phase.TheVariants.{BackLoad, Store, Free}
+use Rattle.norec_core.specs.declared.phase.Phase.TheVariants.{BackLoad, Store}
 use Rattle.norec_core.specs.Rows.{write_at}
-use Rattle.norec_core.specs.Order.{row_store}
+use Rattle.norec_core.specs.Order.{row_store, stored_stage}
+use Rattle.norec_engine.proofs.Loads.{wants_later}
 use Rattle.norec_core.proofs.Overlays.{AllWritesWithin-at, write_at_of, stores_whole}
 use Rattle.norec_engine.proofs.commit.next_store.Goals as goal
 
@@ -18,7 +29,7 @@ returns-then-written-clause-proceeds c =
       lawful = (
         omega (arith, AllWritesWithin-at c.args.state.now.words rows c.args.row c.requires.may.holding.is_open.writes within),
         refl,
-        record { some = within; word_is = refl; value_is = λ m mem got. stores_whole m rows c.args.row within c.requires.may.holding.is_open.rows mask },
+        λ r. record { some = within; word_is = refl; value_is = λ m mem got. stores_whole m rows c.args.row within c.requires.may.holding.is_open.rows mask },
       );
       stays = refl;
     }
@@ -28,8 +39,8 @@ returns-then-written-clause-order c =
     let rows = c.args.state.now.frames.writes.rows in
     let within : c.args.row < length rows = omega (arith, c.if-row-len.true, c.len.ensures.len) in
     let mask : (write_at rows c.args.row).mask ≡ whole = ap (λ (r : Row). r.mask) (write_at_of rows c.args.row c.row-written.result c.row-written.ensures.row) ∙ c.if-written.true in
-    sym (cond-true (nat_lt c.args.row (length rows)) (row_store (write_at rows c.args.row) c.args.row) Free (lt-ltb c.args.row (length rows) within)
-    ∙ cond-true ((write_at rows c.args.row).mask == whole) (Store c.args.row _) (BackLoad c.args.row) (eq-eqb (write_at rows c.args.row).mask whole mask))
+    sym (cond-true (nat_lt c.args.row (length rows)) (row_store c.args.taking (write_at rows c.args.row) c.args.row) (stored_stage c.args.taking) (lt-ltb c.args.row (length rows) within)
+    ∙ cond-true ((write_at rows c.args.row).mask == whole) (Store c.args.taking c.args.row _) (BackLoad c.args.taking c.args.row) (eq-eqb (write_at rows c.args.row).mask whole mask))
 
 pub returns-else-written-clause-sound : goal.returns-else-written-clause-sound
 returns-else-written-clause-sound c =
@@ -43,7 +54,7 @@ returns-else-written-clause-sound c =
         bounds = may.bounds;
         reached = omega (arith, hold.settled);
         in_phase = (
-          record { is_open = record { is_open = hold.is_open.is_open; log = hold.is_open.log; writes = hold.is_open.writes; rows = hold.is_open.rows; frames = hold.is_open.frames; tries = hold.is_open.tries }; outermost = hold.outermost; some = hold.some; settled = hold.settled; free = hold.free; spent = omega (arith, hold.spent) },
+          record { is_open = record { is_open = hold.is_open.is_open; log = hold.is_open.log; writes = hold.is_open.writes; rows = hold.is_open.rows; frames = hold.is_open.frames; tries = hold.is_open.tries }; wants = wants_later c.args.state.now c.args.taking c.args.state.now.clock c.args.state.now.snapshot (c.args.state.now.spent + 1) hold.wants; settled = hold.settled; free = hold.free; spent = omega (arith, hold.spent) },
           within,
           λ e. c.if-written.false (ap (λ (r : Row). r.mask) (sym (write_at_of rows c.args.row c.row-written.result c.row-written.ensures.row)) ∙ e),
         );
@@ -56,7 +67,7 @@ returns-else-written-clause-proceeds c =
     let within : c.args.row < length rows = omega (arith, c.if-row-len.true, c.len.ensures.len) in
     record {
       unfreed = refl;
-      lawful = (omega (arith, AllWritesWithin-at c.args.state.now.words rows c.args.row c.requires.may.holding.is_open.writes within), (c.requires.may.holding.is_open.is_open, λ h. (within, refl)));
+      lawful = (omega (arith, AllWritesWithin-at c.args.state.now.words rows c.args.row c.requires.may.holding.is_open.writes within), (c.requires.may.holding.is_open.is_open, λ h r. (within, refl)));
       stays = refl;
     }
 
@@ -65,5 +76,29 @@ returns-else-written-clause-order c =
     let rows = c.args.state.now.frames.writes.rows in
     let within : c.args.row < length rows = omega (arith, c.if-row-len.true, c.len.ensures.len) in
     let mask : (write_at rows c.args.row).mask ≢ whole = λ e. c.if-written.false (ap (λ (r : Row). r.mask) (sym (write_at_of rows c.args.row c.row-written.result c.row-written.ensures.row)) ∙ e) in
-    sym (cond-true (nat_lt c.args.row (length rows)) (row_store (write_at rows c.args.row) c.args.row) Free (lt-ltb c.args.row (length rows) within)
-    ∙ cond-false ((write_at rows c.args.row).mask == whole) (Store c.args.row _) (BackLoad c.args.row) (ne_eqb (write_at rows c.args.row).mask whole mask))
+    sym (cond-true (nat_lt c.args.row (length rows)) (row_store c.args.taking (write_at rows c.args.row) c.args.row) (stored_stage c.args.taking) (lt-ltb c.args.row (length rows) within)
+    ∙ cond-false ((write_at rows c.args.row).mask == whole) (Store c.args.taking c.args.row _) (BackLoad c.args.taking c.args.row) (ne_eqb (write_at rows c.args.row).mask whole mask))
+
+pub returns-in-Mode-clause-proceeds : goal.returns-in-Mode-clause-proceeds
+returns-in-Mode-clause-proceeds c =
+    let s = c.args.state.now in
+    let row = c.args.row in
+    let new = c.go_irrevocable.new.state in
+    let gone = c.go_irrevocable.ensures in
+    let stored : row ≡ length s.frames.writes.rows = omega (arith, c.if-row-len.false, c.len.ensures.len, c.requires.may.far) in
+    let holding = subst (λ (t : Taking). IsHolding s t (2 * row)) c.in-Mode.is c.requires.may.holding in
+    let enters = mode_entered s new row stored c.requires.may.bounds.even c.in-Mode.room (2 * row) holding (record { frames = gone.frames; log = gone.log; others = gone.others }) in
+    subst (λ (t : Taking). Enters (in_stores s t row) (call_of (aims.Take t)) c.go_irrevocable.result (core_held new)) (sym c.in-Mode.is)
+    (subst (λ (r : Replied). Enters (in_stores s (takings.Mode c.in-Mode.room) row) (Mode c.in-Mode.room) r (core_held new)) (sym gone.reply) enters)
+
+pub returns-in-Begin-clause-proceeds : goal.returns-in-Begin-clause-proceeds
+returns-in-Begin-clause-proceeds c =
+    let s = c.args.state.now in
+    let row = c.args.row in
+    let new = c.go_irrevocable-in-Begin.new.state in
+    let gone = c.go_irrevocable-in-Begin.ensures in
+    let stored : row ≡ length s.frames.writes.rows = omega (arith, c.if-row-len.false, c.len.ensures.len, c.requires.may.far) in
+    let holding = subst (λ (t : Taking). IsHolding s t (2 * row)) c.in-Begin.is c.requires.may.holding in
+    let enters = begin_entered s new row stored c.requires.may.bounds.even c.in-Begin.props c.in-Begin.room (2 * row) holding (record { frames = gone.frames; log = gone.log; others = gone.others }) in
+    subst (λ (t : Taking). Enters (in_stores s t row) (call_of (aims.Take t)) c.go_irrevocable-in-Begin.result (core_held new)) (sym c.in-Begin.is)
+    (subst (λ (r : Replied). Enters (in_stores s (takings.Begin c.in-Begin.props c.in-Begin.room) row) (Begin c.in-Begin.props c.in-Begin.room) r (core_held new)) (sym gone.reply) enters)

@@ -4,7 +4,8 @@ use Rattle.write_set.specs.declared.row.Row.{Row}
 use Rattle.write_set.specs.Rows.{overlay, AreRows}
 use Rattle.norec_core.specs.Copies.{source_in}
 use Rattle.norec_core.specs.Core.{is_inside}
-use Rattle.norec_engine.specs.View.{rows_before}
+use Rattle.norec_core.specs.declared.phase.Phase.TheVariants.{Idle}
+use Rattle.norec_data.specs.View.{core, rows_before}
 use Rattle.norec_engine.specs.InPhases.{AreFrames}
 use Rattle.norec_core.specs.Proceeds.{arena_copied, writes_copied}
 use Rattle.norec_core.specs.Rows.{AllWritesWithin}
@@ -68,10 +69,11 @@ returns-clause-proceeds c log =
     rw c.deliver.ensures.frame (record {
       meets = λ m mem agrees. (λ i. state_over (c.deliver.ensures.rows i) (blocks i) (c.deliver.ensures.arena i) (c.deliver.ensures.actions i) m) ∙ (all m mem (Agrees-drop m s.entry s.log.rows agrees)).0;
       reply_is = λ m mem agrees. (all m mem agrees).1;
-      stays = refl;
+      stays = ap (λ (n : ℕ). record (core (record s { arena = c.deliver.new.state.arena; frames = c.deliver.new.state.frames }) Idle) { room = n }) c.deliver.ensures.room_left;
       writes = λ m mem agrees. c.deliver.ensures.rows ∙ ap (writes_copied before k k.pair) (got m mem agrees);
       arena = λ m mem agrees. c.deliver.ensures.arena ∙ ap (arena_copied s.arena k k.pair) (got m mem agrees);
       free = refl;
+      revocable = refl;
       unfreed = refl;
       still = λ other o. ap is_inside blocks ∙ o;
       blocks = blocks;

@@ -10,11 +10,11 @@ use Rattle.itm_types.specs.Slices.{with_slice, AreBytes}
 use Rattle.write_set.specs.Rows.{lookup}
 use Rattle.norec_core.specs.Copies.{target_refusal, chunks_in, direction_of, WritesShared}
 use Rattle.norec_core.specs.Rows.{range_pieces, reserved_all, put_chunks}
-use Rattle.norec_engine.specs.View.{rows_before}
+use Rattle.norec_data.specs.View.{rows_before}
 use Rattle.norec_engine.specs.InPhases.{reserved_for}
 use Rattle.norec_core.specs.Proceeds.{writes_copied, arena_copied}
 use Rattle.norec_core.proofs.Writings.{all_reserved}
-use Rattle.norec_engine.proofs.Copies.{accepted_sides, arena_within}
+use Rattle.norec_core.proofs.CopyRefusals.{accepted_sides, arena_within}
 use Rattle.norec_engine.proofs.AcceptedCopies.{target_within, reserved_shared, may_put_shared, writes_shared, arena_shared}
 use Rattle.norec_engine.proofs.copy.deliver.Goals as goal
 

@@ -4,13 +4,13 @@ use Rattle.itm_types.specs.Memory.{bytes_of}
 use Rattle.word_pieces.proofs.Lists.{length-slice}
 use Rattle.write_set.specs.Rows.{overlay}
 use Rattle.write_set.proofs.Overlays.{length-overlay}
-use Rattle.norec_engine.specs.declared.data.Data.{Data}
+use Rattle.norec_data.specs.declared.data.Data.{Data}
 use Rattle.norec_core.specs.declared.phase.Phase.{Phase}
 use Rattle.norec_core.specs.declared.phase.Reading.{Reading}
 use Rattle.norec_core.specs.Copies.{chunks_in, direction_of}
 use Rattle.norec_core.specs.Order.{chunk_reading, load_among, load_chunks}
 use Rattle.norec_core.specs.Accesses.{parts}
-use Rattle.norec_engine.specs.View.{rows_before}
+use Rattle.norec_data.specs.View.{rows_before}
 use Rattle.norec_engine.specs.InPhases.{IsReading}
 use Rattle.norec_engine.proofs.AcceptedCopies.{source_within}
 use Rattle.norec_core.proofs.CopyChunks.{chunk_there}

@@ -1,6 +1,6 @@
 use Rattle.std.proofs.Common.{◌≡◌, ◌-◌, length, drop}
 use Rattle.norec_core.specs.Copies.{chunks_in}
-use Rattle.norec_engine.specs.View.{rows_before}
+use Rattle.norec_data.specs.View.{rows_before}
 use Rattle.norec_engine.specs.Between.{MayCopy}
 use Rattle.norec_core.specs.Order.{load_chunks}
 use Rattle.norec_engine.proofs.copy.next_chunk.Given as goal

@@ -1,4 +1,4 @@
-use Rattle.std.proofs.Common.{◌≡◌, ℕ, ◌%◌, List, All, length, IsSome, false, ap, sym, subst, ◌∙◌, arith}
+use Rattle.std.proofs.Common.{◌≡◌, ℕ, ◌%◌, List, All, length, IsSome, false, refl, ap, sym, subst, ◌∙◌, arith}
 use Rattle.std.proofs.lemmas.List.{length-replicate}
 use Rattle.std.proofs.lemmas.List.Elements.{All-from_recursion}
 use Rattle.itm_types.specs.declared.access.WriteHint.{WriteHint}
@@ -6,9 +6,9 @@ use Rattle.itm_types.specs.declared.call.Call.TheVariants.{Fill}
 use Rattle.itm_types.specs.declared.call.Reply.TheVariants.{Done}
 use Rattle.norec_core.specs.declared.answer.Answer.TheVariants.{Reply}
 use Rattle.norec_core.specs.declared.phase.Phase.TheVariants.{Idle}
-use Rattle.norec_engine.specs.declared.turn.Turn.TheVariants.{End}
+use Rattle.norec_data.specs.declared.turn.Turn.TheVariants.{End}
 use Rattle.norec_core.specs.Core.{came}
-use Rattle.norec_engine.specs.View.{core}
+use Rattle.norec_data.specs.View.{core}
 use Rattle.norec_engine.specs.Between.{IsSoundTurn}
 use Rattle.norec_core.specs.Proceeds.{Replies}
 use Rattle.word_pieces.specs.declared.piece.Piece.{Piece}
@@ -21,6 +21,10 @@ use Rattle.norec_engine.proofs.Fills.{none_filled, some_filled, filled_sound, fi
 use Rattle.norec_core.proofs.Writings.{all_reserved}
 use Rattle.norec_engine.proofs.fill.fill.Goals.{then-size-gt0+in_ok-set_all+in_ok-reserve_range, else-size-gt0}
 use Rattle.norec_engine.proofs.fill.fill.Goals as goal
+
+pub returns-in-Some-clause-proceeds : goal.returns-in-Some-clause-proceeds
+returns-in-Some-clause-proceeds c hint =
+    c.refuse.ensures.proceeds (Fill hint c.args.to c.args.byte c.args.size) c.args.to c.args.size refl (sym c.access_refusal.ensures.value ∙ c.in-Some.is)
 
 pub put_range-requires-clause-room : goal.put_range-requires-clause-room
 put_range-requires-clause-room c =
@@ -46,7 +50,7 @@ filled_turn c =
           let made = w.in_ok-reserve_range.ensures.rows ∙ (λ i. reserved_all s.frames.writes.rows (range_pieces to (chunks_of (w.new.ensures.direction i) (w.new.ensures.size i)))) in
           let is = some_filled s to byte size w.reserve_range.new.frames.writes.rows w.deref.result.now w.put_range.new.frames accepted made
           (w.deref.ensures.value ∙ w.in_ok-set_all.ensures) w.put_range.ensures.rows (w.put_range.ensures.blocks ∙ w.reserve_range.ensures.blocks)
-          (w.put_range.ensures.size ∙ w.reserve_range.ensures.size) (w.put_range.ensures.actions ∙ w.reserve_range.ensures.actions) in
+          (w.put_range.ensures.size ∙ w.reserve_range.ensures.size) (w.put_range.ensures.actions ∙ w.reserve_range.ensures.actions) (w.put_range.ensures.room ∙ w.reserve_range.ensures.room) in
           let sound = c.requires.sound in
           rw w.state-is (filled_sound s to byte size w.put_range.new.frames w.set_all.new.buffer sound is, fill_replies s to byte size w.put_range.new.frames w.set_all.new.buffer sound is))
       | else-size-gt0 w ↦ (

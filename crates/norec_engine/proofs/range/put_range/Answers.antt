@@ -12,7 +12,7 @@ use Rattle.norec_core.proofs.Writings.{some_words}
 use Rattle.norec_engine.proofs.range.put_range.Goals as goal
 
 pub loop-number-init : goal.loop-number-init
-loop-number-init c = record { rows = refl; words = refl; others = λ word may. may; blocks = refl; size = refl; actions = refl }
+loop-number-init c = record { rows = refl; words = refl; others = λ word may. may; blocks = refl; size = refl; actions = refl; room = refl }
 
 pub put_all-requires-clause-room : goal.put_all-requires-clause-room
 put_all-requires-clause-room c =
@@ -53,6 +53,7 @@ loop-number-preserved c =
       blocks = c.put_all.ensures.blocks ∙ i.blocks;
       size = c.put_all.ensures.size ∙ i.size;
       actions = c.put_all.ensures.actions ∙ i.actions;
+      room = c.put_all.ensures.room ∙ i.room;
     }
 
 pub returns-clause-rows : goal.returns-clause-rows

@@ -23,6 +23,7 @@ loop-number-init c = record {
   blocks = refl;
   size = refl;
   actions = refl;
+  room = refl;
 }
 
 pub reserve_all-requires : goal.reserve_all-requires
@@ -54,6 +55,9 @@ returns-then-is_err-clause-blocks c = ap (λ (n : Nest). n.blocks) c.cut.ensures
 pub returns-then-is_err-clause-size : goal.returns-then-is_err-clause-size
 returns-then-is_err-clause-size c = ap (λ (n : Nest). n.size) c.cut.ensures.new ∙ (c.reserve_all.ensures.size ∙ c.loop-number.invariant.size)
 
+pub returns-then-is_err-clause-room : goal.returns-then-is_err-clause-room
+returns-then-is_err-clause-room c = ap (λ (n : Nest). n.room) c.cut.ensures.new ∙ (c.reserve_all.ensures.room ∙ c.loop-number.invariant.room)
+
 pub returns-then-is_err-clause-actions : goal.returns-then-is_err-clause-actions
 returns-then-is_err-clause-actions c = ap (λ (n : Nest). n.actions) c.cut.ensures.new ∙ (c.reserve_all.ensures.actions ∙ c.loop-number.invariant.actions)
 
@@ -79,6 +83,7 @@ loop-number-preserved c =
       blocks = c.reserve_all.ensures.blocks ∙ i.blocks;
       size = c.reserve_all.ensures.size ∙ i.size;
       actions = c.reserve_all.ensures.actions ∙ i.actions;
+      room = c.reserve_all.ensures.room ∙ i.room;
     }
 
 pub returns-clause-rows : goal.returns-clause-rows

@@ -12,4 +12,5 @@ invariant-loop-number l = record {
   blocks : l.frames.blocks ≡ l.fn.frames.blocks;
   size : l.frames.size ≡ l.fn.frames.size;
   actions : l.frames.actions ≡ l.fn.frames.actions;
+  room : l.frames.room ≡ l.fn.frames.room;
 }

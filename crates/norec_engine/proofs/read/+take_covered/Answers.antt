@@ -6,7 +6,7 @@ use Rattle.write_set.specs.Rows.{overlay}
 use Rattle.norec_core.specs.declared.phase.Reading.{Reading}
 use Rattle.norec_core.specs.Order.{load_among}
 use Rattle.norec_core.specs.Accesses.{parts, count}
-use Rattle.norec_engine.specs.View.{rows_before}
+use Rattle.norec_data.specs.View.{rows_before}
 use Rattle.norec_engine.specs.InPhases.{IsReading}
 use Rattle.norec_core.specs.Rows.{is_covered}
 use Rattle.norec_core.proofs.Readings.{load_ends, load_here, load_next, none_left, some_left, part_is, length-part_of, passed_next, total_left}

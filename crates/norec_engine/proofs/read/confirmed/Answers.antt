@@ -11,7 +11,7 @@ use Rattle.norec_core.specs.Rows.{AllWithin}
 use Rattle.norec_core.specs.declared.phase.Phase.TheVariants.{Confirm}
 use Rattle.norec_core.specs.Proceeds.{Settles}
 use Rattle.norec_core.specs.Accesses.{count, parts}
-use Rattle.norec_engine.specs.View.{core, rows_before}
+use Rattle.norec_data.specs.View.{core, rows_before}
 use Rattle.norec_core.specs.Order.{load_stage}
 use Rattle.norec_core.proofs.Overlays.{AllWithin-push, Agrees-last, Agrees-front, index_of}
 use Rattle.norec_core.proofs.Readings.{none_left, part_is, length-part_of, passed_next, total_left}
@@ -102,12 +102,12 @@ returns-in-Some-clause-joins c =
     let word = ap (λ (x : Piece). x.word) (part_is r p (sym c.piece.ensures.value ∙ c.in-Some.is)) in
     let settles : Settles (core s (Confirm r c.args.value)) c.args.seen = record { load = refl; same = c.if-seen-state.true ∙ sym phase.2; even = omega (arith, c.requires.sound.bounds.even, c.if-seen-state.true) } in
     record {
-      log = λ o. inr (
+      log = λ o. inr (inl (
         settles,
         after_log result new ∙ (stays.log (sym (after_open result new) ∙ o) ∙ (c.add.ensures.rows ∙ ap (λ (n : ℕ). s.log.rows ++ record { word = n; value = c.args.value } ∷ []) word)),
         after_snapshot result new ∙ (stays.snapshot ∙ sym c.if-seen-state.true),
         sym c.if-seen-state.true,
-      );
+      ));
       begins = λ closed o. absurd (let yes = phase.0.is_open in cc);
       snapshot = λ o. inl (after_snapshot result new ∙ stays.snapshot);
     }

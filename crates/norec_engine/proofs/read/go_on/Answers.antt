@@ -6,7 +6,7 @@ use Rattle.word_pieces.specs.Pieces.{count_of, gathered}
 use Rattle.write_set.specs.declared.row.Row.{Row}
 use Rattle.write_set.specs.Rows.{overlay}
 use Rattle.write_set.proofs.Overlays.{length-overlay}
-use Rattle.norec_engine.specs.declared.data.Data.{Data}
+use Rattle.norec_data.specs.declared.data.Data.{Data}
 use Rattle.norec_core.specs.declared.phase.Aim.TheVariants as aims
 use Rattle.norec_core.specs.declared.phase.Phase.TheVariants.{Idle}
 use Rattle.norec_core.specs.declared.phase.Purpose.{Purpose}
@@ -23,9 +23,10 @@ use Rattle.norec_core.proofs.CopyChunks.{chunk_there}
 use Rattle.norec_core.specs.Order.{load_chunks, load_past}
 use Rattle.norec_core.specs.Stands.{state_over}
 use Rattle.norec_core.specs.Accesses.{count, passed, passed_for, total, total_for}
-use Rattle.norec_engine.specs.View.{call_for, core, rows_before}
+use Rattle.norec_data.specs.View.{call_for, core, rows_before}
 use Rattle.norec_engine.specs.InPhases.{IsFor, IsReading}
-use Rattle.norec_engine.specs.Between.{between, in_copy, logged, Turns}
+use Rattle.norec_engine.specs.Between.{between, in_copy, logged}
+use Rattle.norec_data.specs.Turns.{Turns}
 use Rattle.norec_engine.proofs.Loads.{open_gathering, load_sound, load_proceeds}
 use Rattle.norec_core.proofs.Machines.{reads}
 use Rattle.norec_core.proofs.Overlays.{Agrees-drop}
@@ -118,6 +119,7 @@ returns-in-Value-clause-proceeds c log =
       writes = λ m mem agrees. sym before;
       arena = λ m mem agrees. refl;
       free = refl;
+      revocable = refl;
       unfreed = refl;
       blocks = refl;
       actions = refl;

@@ -1,14 +1,17 @@
-use Rattle.std.proofs.Common.{◌≡◌, ◌==◌, ◌+◌, List, arith, refl, sym, ap, subst, ◌∙◌, eq-eqb, take, ◌∷◌, [], ◌++◌}
+use Rattle.std.proofs.Common.{◌≡◌, ◌==◌, ◌+◌, Bool, Some, List, arith, refl, sym, ap, subst, ◌∙◌, eq-eqb, take, ◌∷◌, [], ◌++◌}
 use Rattle.std.proofs.lemmas.Bool.{cond-true, cond-false, ne_eqb}
 use Rattle.std.proofs.lemmas.List.{take_more}
 use Rattle.std.proofs.lemmas.Option.{get_or_from_slice_get}
 use Rattle.itm_types.specs.declared.row.LogRow.{LogRow}
 use Rattle.norec_core.specs.declared.phase.Phase.TheVariants.{Idle, RoundRow}
 use Rattle.norec_core.specs.Core.{handed}
+use Rattle.norec_core.specs.Proceeds.{ConflictsIn}
 use Rattle.norec_core.specs.Rows.{row_at}
-use Rattle.norec_engine.specs.View.{core}
-use Rattle.norec_engine.specs.Between.{in_rows, Turns}
-use Rattle.norec_engine.proofs.Ended.{core_ended, ended_undone}
+use Rattle.norec_data.specs.View.{core}
+use Rattle.norec_engine.specs.Between.{in_rows}
+use Rattle.norec_data.specs.Turns.{Turns}
+use Rattle.norec_engine.proofs.Ended.{ended_undone}
+use Rattle.norec_data.proofs.Ended.{core_ended}
 use Rattle.norec_engine.proofs.rounds.row_seen.Goals as goal
 
 pub returns-then-logged-seen-clause-proceeds : goal.returns-then-logged-seen-clause-proceeds
@@ -32,7 +35,8 @@ returns-else-logged-seen-clause-proceeds c =
     let log = c.args.state.now.log.rows in
     let logged = c.row-logged.result in
     let here : row_at log c.args.row ≡ logged = get_or_from_slice_get log c.args.row logged _ c.row-logged.ensures in
-    record {
+    let s = c.args.state.now in
+    subst (λ (b : Bool). ConflictsIn b (handed (core s (RoundRow c.args.aim c.args.row)) c.args.seen) c.roll_back.new.state.clock (Some logged.word) (core c.roll_back.new.state Idle)) (sym c.requires.sound.in_phase.0.is_open.is_open) (record {
       is_open = c.requires.sound.in_phase.0.is_open.is_open;
       clock_is = c.roll_back.ensures.ended.clock;
       later = omega (arith, c.requires.sound.in_phase.0.later, c.roll_back.ensures.ended.clock);
@@ -51,8 +55,8 @@ returns-else-logged-seen-clause-proceeds c =
       stays = core_ended _ _ _ _ c.roll_back.ensures.ended;
       undone =
           ended_undone (handed (core c.args.state.now (RoundRow c.args.aim c.args.row)) c.args.seen) (core c.roll_back.new.state Idle) Idle 0 c.args.state.now.snapshot
-          c.requires.sound.in_phase.0.is_open.frames c.roll_back.ensures.restored c.requires.sound.in_phase.0.is_open.is_open (core_ended _ _ _ _ c.roll_back.ensures.ended);
-    }
+          c.requires.sound.in_phase.0.is_open.frames c.roll_back.ensures.restored refl c.requires.sound.in_phase.0.is_open.is_open (core_ended _ _ _ _ c.roll_back.ensures.ended);
+    })
 
 pub returns-else-logged-seen-clause-order : goal.returns-else-logged-seen-clause-order
 returns-else-logged-seen-clause-order c =

@@ -4,7 +4,7 @@ use Rattle.itm_types.specs.declared.row.LogRow.{LogRow}
 use Rattle.write_set.specs.declared.row.Row.{Row}
 use Rattle.norec_core.specs.Rows.{row_at, write_at, value_into}
 use Rattle.norec_core.proofs.Overlays.{AllWithin-at, AllWritesWithin-at, write_at_of}
-use Rattle.norec_engine.specs.Between.{counted}
+use Rattle.norec_data.specs.Turns.{counted}
 use Rattle.norec_engine.proofs.Phases.{store_row, stores_as, loads_as}
 use Rattle.norec_engine.proofs.steps.step_of.Goals as goal
 use Rattle.norec_engine.proofs.steps.step_of.Goals.{in-Some, in-None}
@@ -24,7 +24,7 @@ overflow_add-result-in-BackLoad c =
 pub overflow_add-result-in-Store : goal.overflow_add-result-in-Store
 overflow_add-result-in-Store c =
     let s = rw c.in-Store.is at c.requires.sound in
-    let facts = store_row (counted c.args.state.now) c.in-Store.row c.in-Store.got s.in_phase in
+    let facts = store_row (counted c.args.state.now) _ c.in-Store.row c.in-Store.got s.in_phase in
     let written = write_at_of c.args.state.now.frames.writes.rows c.in-Store.row c.row-written-in-Store.result c.row-written-in-Store.ensures.row in
     omega (arith, AllWritesWithin-at c.args.state.now.words c.args.state.now.frames.writes.rows c.in-Store.row facts.0.writes facts.1, ap (λ (r : Row). r.word) written, s.bounds.small)
 

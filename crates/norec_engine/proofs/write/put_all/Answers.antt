@@ -8,7 +8,7 @@ use Rattle.norec_core.proofs.Writings.{put_all_more, some_words}
 use Rattle.norec_engine.proofs.write.put_all.Goals as goal
 
 pub loop-piece-init : goal.loop-piece-init
-loop-piece-init c = record { rows = refl; others = λ word may. may; words = refl; blocks = refl; size = refl; actions = refl }
+loop-piece-init c = record { rows = refl; others = λ word may. may; words = refl; blocks = refl; size = refl; actions = refl; room = refl }
 
 pub put-requires : goal.put-requires
 put-requires c = record {
@@ -30,6 +30,7 @@ loop-piece-preserved c =
       blocks = ap (λ (n : Nest). n.blocks) c.put.ensures.new ∙ i.blocks;
       size = ap (λ (n : Nest). n.size) c.put.ensures.new ∙ i.size;
       actions = ap (λ (n : Nest). n.actions) c.put.ensures.new ∙ i.actions;
+      room = ap (λ (n : Nest). n.room) c.put.ensures.new ∙ i.room;
     }
 
 pub returns-clause-rows : goal.returns-clause-rows

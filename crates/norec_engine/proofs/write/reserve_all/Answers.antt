@@ -20,6 +20,7 @@ loop-piece-init c = record {
   blocks = refl;
   size = refl;
   actions = refl;
+  room = refl;
 }
 
 pub reserve-requires : goal.reserve-requires
@@ -60,6 +61,11 @@ returns-then-is_err-clause-size c =
     let same = on_err c.reserve.result c.reserve.ensures.err (sym c.is_err.ensures.value ∙ c.if-is_err.true) in
     ap (λ (n : Nest). n.size) c.cut.ensures.new ∙ (ap (λ (n : Nest). n.size) same ∙ c.loop-piece.invariant.size)
 
+pub returns-then-is_err-clause-room : goal.returns-then-is_err-clause-room
+returns-then-is_err-clause-room c =
+    let same = on_err c.reserve.result c.reserve.ensures.err (sym c.is_err.ensures.value ∙ c.if-is_err.true) in
+    ap (λ (n : Nest). n.room) c.cut.ensures.new ∙ (ap (λ (n : Nest). n.room) same ∙ c.loop-piece.invariant.room)
+
 pub returns-then-is_err-clause-actions : goal.returns-then-is_err-clause-actions
 returns-then-is_err-clause-actions c =
     let same = on_err c.reserve.result c.reserve.ensures.err (sym c.is_err.ensures.value ∙ c.if-is_err.true) in
@@ -82,6 +88,7 @@ loop-piece-preserved c =
       blocks = ap (λ (n : Nest). n.blocks) ok ∙ i.blocks;
       size = ap (λ (n : Nest). n.size) ok ∙ i.size;
       actions = ap (λ (n : Nest). n.actions) ok ∙ i.actions;
+      room = ap (λ (n : Nest). n.room) ok ∙ i.room;
     }
 
 pub returns-clause-rows : goal.returns-clause-rows

@@ -1,9 +1,10 @@
-use Rattle.std.proofs.Common.{◌≡◌, ℕ, ◌+◌, ◌*◌, ◌<◌, ◌≤◌, List, length, IsSome, All, refl, sym, ap, subst, ◌∙◌, arith, rules}
+use Rattle.std.proofs.Common.{◌≡◌, ℕ, ◌+◌, ◌*◌, ◌<◌, ◌≤◌, List, length, Some, IsSome, All, refl, sym, ap, subst, ◌∙◌, arith, rules}
 use Rattle.word_pieces.specs.declared.piece.Piece.{Piece}
 use Rattle.write_set.specs.declared.row.Row.{Row}
 use Rattle.write_set.specs.Rows.{lookup, overlay, AreRows}
-use Rattle.norec_engine.specs.View.{in_block}
-use Rattle.norec_engine.specs.InPhases.{AreFrames, IsBounded}
+use Rattle.norec_data.specs.View.{in_block}
+use Rattle.norec_engine.specs.InPhases.{AreFrames}
+use Rattle.norec_data.specs.Bounds.{IsBounded}
 use Rattle.norec_core.specs.Stands.{is_some_row, state_over}
 use Rattle.norec_core.specs.Core.{is_inside}
 use Rattle.nest_frames.specs.Nest.{rows_of}
@@ -17,7 +18,13 @@ use Rattle.word_pieces.specs.Pieces.{pieces_of}
 use Rattle.word_pieces.proofs.Covers.{words_of-pieces_of}
 use Rattle.itm_types.specs.Slices.{AreBytes}
 use Rattle.norec_core.proofs.Writings.{AllFitIn, either_way, all_reserved, some_pieces, bytes_of-put_all, fit_pieces, AllWritesWithin-put_all, AllWritesWithin-reserved_all, AreRows-put_all, AreRows-reserved_all}
+use Rattle.itm_types.specs.declared.call.Call.TheVariants.{Write}
 use Rattle.norec_engine.proofs.write.write.Goals as goal
+
+pub returns-in-Some-clause-proceeds : goal.returns-in-Some-clause-proceeds
+returns-in-Some-clause-proceeds c =
+    c.refuse.ensures.proceeds (Write c.args.hint c.args.at c.args.value.now) c.args.at c.from.result
+    (ap (λ (n : ℕ). Some (c.args.at, n)) (sym (c.from.ensures ∙ c.size.ensures.value))) (sym c.access_refusal.ensures.value ∙ c.in-Some.is)
 
 pub returns-in_err-reserve_all-clause-starves : goal.returns-in_err-reserve_all-clause-starves
 returns-in_err-reserve_all-clause-starves c =
@@ -106,6 +113,7 @@ returns-clause-proceeds c =
       writes = λ m mem agrees. rows;
       arena = λ m mem agrees. refl;
       free = refl;
+      revocable = refl;
       unfreed = refl;
       still = λ other o. ap is_inside blocks ∙ o;
       blocks = blocks;

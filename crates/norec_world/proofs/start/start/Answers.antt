@@ -1,4 +1,4 @@
-use Rattle.std.proofs.Common.{◌≡◌, ℕ, true, refl, replicate, length, ◌∙◌, ap, subst}
+use Rattle.std.proofs.Common.{◌≡◌, ℕ, true, refl, replicate, length, ◌∙◌, ap, subst, sym}
 use Rattle.norec_world.proofs.Common.{Core, RunsFrom, active_of, bytes_of, first_of, is_ready, opening, prior_of}
 use Rattle.norec_world.proofs.RunOthers.{fresh_runs, laid_first}
 use Rattle.norec_world.proofs.TryChains.{starts_between}
@@ -17,6 +17,7 @@ returns-in_default-clause-first g c =
       retries_are = c.work.ensures.worked.retries ∙ c.new-actor.ensures.parts.1;
       patience_is = c.work.ensures.worked.limit.1 ∙ ap (λ (e : Core). e.patience) engine;
       limit = c.work.ensures.worked.limit.0 ∙ ap (λ (e : Core). e.max_commits) engine;
+      seen = c.work.ensures.worked.clock ∙ (ap (λ (e : Core). e.clock) engine ∙ sym c.requires.clock);
     }
 
 pub returns-in_default-clause-ended : goal.returns-in_default-clause-ended

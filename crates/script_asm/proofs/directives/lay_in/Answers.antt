@@ -1,5 +1,5 @@
 use Rattle.std.proofs.Common.{◌≡◌, ◌+◌, true, false, leb, length, sym, ap, arith}
-use Rattle.script_asm.specs.Operands.{decoded}
+use Rattle.script_fields.specs.Operands.{decoded}
 use Rattle.script_asm.proofs.LaidBytes.{length-decoded, decoded_is, lies_beyond, left_within, adds_bytes}
 use Rattle.std.proofs.lemmas.Bool.{leb-true}
 use Rattle.script_asm.proofs.directives.lay_in.Goals as goal
@@ -7,7 +7,7 @@ use Rattle.script_asm.proofs.directives.lay_in.Goals as goal
 pub returns-then-not-fits : goal.returns-then-not-fits
 returns-then-not-fits c =
     let beyond : leb (c.args.at + length (decoded c.args.digits.now)) c.in-Some.opening.size ≡ false = rw (length-decoded c.args.digits.now c.requires) at (sym c.if-not-fits.ensures) in
-    lies_beyond c.args.state.now c.args.line c.args.at (decoded c.args.digits.now) c.in-Some.opening c.in-Some.is beyond
+    rw c.fault-then-not-fits.ensures (lies_beyond c.args.state.now c.args.line c.args.at (decoded c.args.digits.now) c.in-Some.opening c.in-Some.is beyond)
 
 pub returns-in_default-decode : goal.returns-in_default-decode
 returns-in_default-decode c =

@@ -1,4 +1,4 @@
-use Rattle.std.proofs.Common.{◌≡◌, length}
+use Rattle.std.proofs.Common.{◌≡◌, false, length}
 use Rattle.itm_model.specs.Machine.{undone}
 use Rattle.itm_model.proofs.plain.Plain.back_all.Given as goal
 
@@ -6,6 +6,7 @@ abbrev pub invariant-loop-self : goal.invariant-loop-self
 invariant-loop-self l = record {
   undone : undone l.self.state ≡ undone l.fn.self.state;
   before : l.self.before ≡ l.fn.self.before;
+  revocable : l.self.state.irrevocable ≡ false;
 }
 
 abbrev pub decreases-loop-self : goal.decreases-loop-self

@@ -4,7 +4,7 @@ use Rattle.itm_model.specs.Undoable.{Undoable}
 use Rattle.itm_model.specs.Machine.{closed}
 use Rattle.itm_model.specs.Undoing.{AreUnder}
 use Rattle.itm_model.proofs.OpenBlocks.{under_last, AreUnder-more}
-use Rattle.itm_model.proofs.OpenBlocks.{actions_stay, closed_is, state_of}
+use Rattle.itm_model.proofs.OpenBlocks.{actions_stay, mode_stay, closed_is, state_of}
 use Rattle.itm_model.proofs.plain.Plain.close.Goals as goal
 
 pub returns-else-is_empty-clause-closed : goal.returns-else-is_empty-clause-closed
@@ -15,8 +15,8 @@ returns-else-is_empty-clause-closed c =
     let e : p.marks.items ≡ rest ++ mark ∷ [] = c.in-Some.ensures.items in
     let under = under_last (length p.journal.items) (length p.logs.items) rest mark (subst (λ (t : List Mark). AreUnder (length p.journal.items) (length p.logs.items) (reverse t)) e c.self.invariant.under) in
     let around : 0 < length rest = grind (arith, c.is_empty.ensures, c.if-is_empty.false) in
-    closed_is p.journal.items p.memory.items p.arena.items p.logs.items rest mark p.actions p.actions p.wrote under.1 under.2 (actions_stay rest p.actions around)
-    ∙ (ap (λ (t : List Mark). closed (state_of p.journal.items p.memory.items p.arena.items p.logs.items t p.actions p.wrote)) (sym e)
+    closed_is p.irrevocable p.irrevocable p.journal.items p.memory.items p.arena.items p.logs.items rest mark p.actions.actions p.actions.actions p.wrote under.1 under.2 (actions_stay rest p.actions.actions around) (mode_stay rest p.irrevocable around)
+    ∙ (ap (λ (t : List Mark). closed (state_of p.irrevocable p.journal.items p.memory.items p.arena.items p.logs.items t p.actions.actions p.wrote)) (sym e)
     ∙ ap (λ (u : Undoable). closed u.state) c.self.view_is)
 
 pub invariant_of-self-else-is_empty : goal.invariant_of-self-else-is_empty

@@ -15,6 +15,6 @@ returns-clause-ok c =
     let fits : c.args.to + length new ≤ length a = search (rules, len) in
     let put : c.replace.new.bytes.items ≡ with_slice a c.args.to new = c.replace.ensures ∙ ap (with_slice a c.args.to) (c.range_at.ensures ∙ ap (λ t. slice t c.args.from c.args.size) c.deref.ensures.value) in
     let long : length c.replace.new.bytes.items ≡ length a = ap (length {A = ℕ}) put ∙ length-with_slice a c.args.to new fits in
-    let blocks = blocks_long p.journal.items p.memory.items a c.replace.new.bytes.items p.logs.items (reverse p.marks.items) long in
-    (λ i. record { memory = p.memory.items; arena = put i; blocks = blocks i; actions = p.actions; wrote = p.wrote })
+    let blocks = blocks_long p.irrevocable p.journal.items p.memory.items a c.replace.new.bytes.items p.logs.items (reverse p.marks.items) long in
+    (λ i. record { memory = p.memory.items; arena = put i; blocks = blocks i; actions = p.actions.actions; wrote = p.wrote; irrevocable = p.irrevocable })
     ∙ ap (λ (u : Undoable). saved_in_arena u.state c.args.to (slice u.state.memory c.args.from c.args.size)) c.self.view_is

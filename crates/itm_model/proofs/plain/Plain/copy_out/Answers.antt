@@ -8,7 +8,7 @@ use Rattle.itm_model.proofs.Overwrites.{IsWritten, is_written}
 use Rattle.itm_model.proofs.plain.Plain.copy_out.Goals as goal
 use Rattle.itm_model.proofs.plain.Plain.copy_out.Goals.{then-self, else-self}
 
-done : (c : goal.After-self-1) → IsWritten c.self.inside.journal.items c.self.inside.memory.items c.self.inside.arena.items c.self.inside.logs.items c.self.inside.marks.items c.self.inside.actions c.self.inside.wrote c.args.to (slice c.self.inside.arena.items c.args.from c.args.size) c.keep.new.logs.items c.replace.new.bytes.items c.if-self.self
+done : (c : goal.After-self-1) → IsWritten c.self.inside.journal.items c.self.inside.memory.items c.self.inside.arena.items c.self.inside.logs.items c.self.inside.marks.items c.self.inside.actions.actions c.self.inside.wrote c.self.inside.irrevocable c.args.to (slice c.self.inside.arena.items c.args.from c.args.size) c.keep.new.logs.items c.replace.new.bytes.items c.if-self.self
 done c =
     let p = c.self.inside in
     let m = p.memory.items in
@@ -21,7 +21,7 @@ done c =
     let within : AreWithin (length m) j' = subst (λ (t : List ℕ). AreWithin (length t) j') c.deref.ensures.value c.in_ok-keep.ensures.within in
     let wrote : c.if-self.self ≡ (p.wrote || nat_lt 0 (length new)) =
     elim c.if-self.branch [ then-self w ↦ search (rules, len) | else-self w ↦ search (rules, len) ] in
-    is_written j m p.arena.items p.logs.items p.marks.items p.actions p.wrote c.args.to new j' c.replace.new.bytes.items c.if-self.self
+    is_written j m p.arena.items p.logs.items p.marks.items p.actions.actions p.wrote p.irrevocable c.args.to new j' c.replace.new.bytes.items c.if-self.self
     c.self.invariant fits kept c.in_ok-keep.ensures.longer within (c.replace.ensures ∙ ap (with_slice m c.args.to) (c.range_at.ensures ∙ ap (λ t. slice t c.args.from c.args.size) c.deref-2.ensures.value)) wrote
 
 pub invariant_of-self-2 : goal.invariant_of-self-2

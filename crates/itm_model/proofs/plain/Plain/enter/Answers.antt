@@ -1,24 +1,35 @@
-use Rattle.std.proofs.Common.{◌≡◌, ◌<◌, nat_lt, length, ap, sym, ◌∙◌, arith}
+use Rattle.std.proofs.Common.{nat_lt, length, ap, sym, ◌∙◌, arith}
 use Rattle.std.proofs.lemmas.Bool.{cond-true, lt-ltb}
 use Rattle.itm_model.specs.State.{Block}
 use Rattle.itm_model.specs.Undoable.{Undoable}
-use Rattle.itm_model.specs.Undoing.{blocks_of}
-use Rattle.itm_model.proofs.OpenBlocks.{length-blocks_of}
+use Rattle.itm_model.proofs.OpenBlocks.{one_open}
 use Rattle.itm_model.proofs.plain.Plain.enter.Goals as goal
 
--- a block is open already
-opens : (c : goal.In_ok-push) → 0 < length c.args.self.now.state.blocks
-opens c =
+pub returns-then-props-clause-outermost : goal.returns-then-props-clause-outermost
+returns-then-props-clause-outermost c =
     let p = c.self.inside in
-    let blocks = length-blocks_of p.journal.items p.memory.items p.arena.items p.logs.items p.marks.items in
-    let view : length (blocks_of p.journal.items p.memory.items p.arena.items p.logs.items p.marks.items) ≡ length c.args.self.now.state.blocks = ap (λ (u : Undoable). length u.state.blocks) c.self.view_is in
-    grind (arith, c.is_empty.ensures, c.if-is_empty.false, blocks, view)
+    let opens = one_open p.irrevocable p.journal.items p.memory.items p.arena.items p.logs.items p.marks.items p.actions.actions p.wrote _ (ap (λ (u : Undoable). u.state) c.self.view_is) (grind (arith, c.is_empty.ensures, c.if-is_empty.false)) in
+    λ none. absurd (omega (arith, opens, ap (length {A = Block}) none))
 
-pub returns-clause-outermost : goal.returns-clause-outermost
-returns-clause-outermost c = λ none. absurd (omega (arith, opens c, ap (length {A = Block}) none))
+pub returns-else-props-clause-outermost : goal.returns-else-props-clause-outermost
+returns-else-props-clause-outermost c =
+    let p = c.self.inside in
+    let opens = one_open p.irrevocable p.journal.items p.memory.items p.arena.items p.logs.items p.marks.items p.actions.actions p.wrote _ (ap (λ (u : Undoable). u.state) c.self.view_is) (grind (arith, c.is_empty.ensures, c.if-is_empty.false)) in
+    λ none. absurd (omega (arith, opens, ap (length {A = Block}) none))
 
-pub returns-clause-before : goal.returns-clause-before
-returns-clause-before c =
+pub returns-then-props-clause-before : goal.returns-then-props-clause-before
+returns-then-props-clause-before c =
+    let p = c.self.inside in
+    let opens = one_open p.irrevocable p.journal.items p.memory.items p.arena.items p.logs.items p.marks.items p.actions.actions p.wrote _ (ap (λ (u : Undoable). u.state) c.self.view_is) (grind (arith, c.is_empty.ensures, c.if-is_empty.false)) in
     let u = c.args.self.now in
     let blocks = length u.state.blocks in
-    ap (λ (v : Undoable). v.before) c.self.view_is ∙ sym (cond-true (nat_lt 0 blocks) u.before u.state.memory (lt-ltb 0 blocks (opens c)))
+    c.go_irrevocable.ensures.before
+    ∙ (ap (λ (v : Undoable). v.before) c.self.view_is ∙ sym (cond-true (nat_lt 0 blocks) u.before u.state.memory (lt-ltb 0 blocks opens)))
+
+pub returns-else-props-clause-before : goal.returns-else-props-clause-before
+returns-else-props-clause-before c =
+    let p = c.self.inside in
+    let opens = one_open p.irrevocable p.journal.items p.memory.items p.arena.items p.logs.items p.marks.items p.actions.actions p.wrote _ (ap (λ (u : Undoable). u.state) c.self.view_is) (grind (arith, c.is_empty.ensures, c.if-is_empty.false)) in
+    let u = c.args.self.now in
+    let blocks = length u.state.blocks in
+    ap (λ (v : Undoable). v.before) c.self.view_is ∙ sym (cond-true (nat_lt 0 blocks) u.before u.state.memory (lt-ltb 0 blocks opens))

@@ -1,9 +1,8 @@
-use Rattle.std.proofs.Common.{List, ℕ, length, reverse, subst, ap, ◌∙◌, arith}
+use Rattle.std.proofs.Common.{List, ℕ, length, reverse, subst, ap, sym, ◌∙◌, arith}
 use Rattle.itm_model.specs.Undoable.{Undoable}
 use Rattle.itm_model.specs.Machine.{logged}
 use Rattle.itm_model.specs.Undoing.{AreWithin, Logged}
-use Rattle.itm_model.proofs.OpenBlocks.{AreUnder-more}
-use Rattle.itm_model.proofs.OpenBlocks.{logged_is}
+use Rattle.itm_model.proofs.OpenBlocks.{AreUnder-more, logged_is, logged_nothing}
 use Rattle.itm_model.proofs.plain.Plain.log.Goals as goal
 
 pub invariant_of-self-2 : goal.invariant_of-self-2
@@ -19,6 +18,14 @@ pub returns-clause-ok : goal.returns-clause-ok
 returns-clause-ok c =
     let p = c.self.inside in
     let all : Logged p.arena.items c.args.place c.args.size p.logs.items c.keep.new.logs.items = subst (λ (t : List ℕ). Logged t c.args.place c.args.size p.logs.items c.keep.new.logs.items) c.deref.ensures.value c.in_ok-keep.ensures.ok in
-    let blocks = logged_is p.journal.items p.memory.items p.arena.items p.logs.items c.keep.new.logs.items (reverse p.marks.items) (length p.journal.items) c.args.place c.args.size c.self.invariant.under all in
-    (λ i. record { memory = p.memory.items; arena = p.arena.items; blocks = blocks i; actions = p.actions; wrote = p.wrote })
+    let blocks = logged_is p.irrevocable p.journal.items p.memory.items p.arena.items p.logs.items c.keep.new.logs.items (reverse p.marks.items) (length p.journal.items) c.args.place c.args.size c.self.invariant.under all in
+    (λ i. record { memory = p.memory.items; arena = p.arena.items; blocks = blocks i; actions = p.actions.actions; wrote = p.wrote; irrevocable = p.irrevocable })
     ∙ ap (λ (u : Undoable). logged u.state c.args.place c.args.size) c.self.view_is
+
+pub returns-then-self-clause-ok : goal.returns-then-self-clause-ok
+returns-then-self-clause-ok c =
+    let p = c.self.inside in
+    let blocks = logged_nothing p.irrevocable p.journal.items p.memory.items p.arena.items p.logs.items (reverse p.marks.items) c.args.place c.args.size c.if-self.true in
+    ap (λ (u : Undoable). u.state) (sym c.self.view_is)
+    ∙ ((λ i. record { memory = p.memory.items; arena = p.arena.items; blocks = blocks i; actions = p.actions.actions; wrote = p.wrote; irrevocable = p.irrevocable })
+    ∙ ap (λ (u : Undoable). logged u.state c.args.place c.args.size) c.self.view_is)

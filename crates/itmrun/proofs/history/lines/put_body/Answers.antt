@@ -16,6 +16,10 @@ pub returns-in-Commit-clause-grows : goal.returns-in-Commit-clause-grows
 unfolding body_text
 returns-in-Commit-clause-grows g c = rw c.in-Commit.is c.put-in-Commit.ensures.grows
 
+pub returns-in-Mode-clause-grows : goal.returns-in-Mode-clause-grows
+unfolding body_text
+returns-in-Mode-clause-grows g c = rw c.in-Mode.is c.put-in-Mode.ensures.grows
+
 pub returns-in-InTransaction-clause-grows : goal.returns-in-InTransaction-clause-grows
 unfolding body_text
 returns-in-InTransaction-clause-grows g c = rw c.in-InTransaction.is c.put-in-InTransaction.ensures.grows

@@ -20,4 +20,4 @@ pub returns-clause-none : goal.returns-clause-none
 returns-clause-none c e =
     let f = c.self.inside in
     subst (λ (v : Nest). (v.writes ≡ unwritten) × (v.actions.commits ≡ []) × (v.actions.undos ≡ [])) c.self.view_is
-    (no_frames f.writes f.undo.olds f.actions f.moments.items c.self.invariant (ap (λ (v : Nest). v.blocks) c.self.view_is ∙ e))
+    (no_frames f.writes f.undo.olds f.actions.actions f.moments.items c.self.invariant (ap (λ (v : Nest). v.blocks) c.self.view_is ∙ e))

@@ -1,6 +1,7 @@
 use Rattle.std.proofs.Common.{true, sym, ap, ◌∙◌, rules, tests}
 use Rattle.std.proofs.lemmas.Iterator.{YieldsList-from_slice}
 use Rattle.std.proofs.lemmas.Iterator.Search.{any_from_yields_List}
+use Rattle.itm_types.specs.declared.call.Props.{Props}
 use Rattle.nest_frames.specs.declared.frames.Moment.{Moment}
 use Rattle.nest_frames.specs.Nest.{Nest, is_kept}
 use Rattle.nest_frames.proofs.OpenBlocks.{any_of}
@@ -11,5 +12,5 @@ returns-then-outer c =
     let f = c.self.inside in
     let found = any_from_yields_List (λ (m : Moment). m.props.no_abort) _ _ c.any.result c.any.ensures.ran (YieldsList-from_slice f.moments.items cc) (λ x b q k. search (rules, tests)) in
     found
-    ∙ (any_of f.writes f.undo.olds f.moments.items
+    ∙ (any_of (λ (p : Props). p.no_abort) f.writes f.undo.olds f.moments.items
     ∙ (ap (λ (v : Nest). is_kept v.blocks true) c.self.view_is ∙ sym (ap (is_kept c.args.self.now.blocks) c.if-outer.true)))

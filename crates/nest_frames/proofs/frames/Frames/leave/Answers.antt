@@ -11,9 +11,9 @@ blocks_are : (c : goal.After-forget_mark-else-is_empty) → frames_of c.forget_m
 blocks_are c =
     let f = c.self.inside in
     let rest = c.pop.new.self.items in
-    let h = moment_popped f.writes f.undo.olds f.actions f.moments.items rest _ c.in-Some.closed c.self.invariant c.pop.ensures.items c.in-Some.is in
+    let h = moment_popped f.writes f.undo.olds f.actions.actions f.moments.items rest _ c.in-Some.closed c.self.invariant c.pop.ensures.items c.in-Some.is in
     ap (λ (u : Undo). frames_of c.forget_mark.new.self u.olds rest) c.forget_mark-else-is_empty.ensures.log
-    ∙ (frames_closed f.writes c.forget_mark.new.self f.undo.olds f.actions f.moments.items rest c.in-Some.closed h c.forget_mark.ensures.marks
+    ∙ (frames_closed f.writes c.forget_mark.new.self f.undo.olds f.actions.actions f.moments.items rest c.in-Some.closed h c.forget_mark.ensures.marks
     ∙ ap (λ (v : Nest). closed v.blocks) c.self.view_is)
 
 -- the block that closes is not the outermost one
@@ -24,10 +24,10 @@ pub invariant_of-self-else-is_empty : goal.invariant_of-self-else-is_empty
 invariant_of-self-else-is_empty c =
     let f = c.self.inside in
     let rest = c.pop.new.self.items in
-    let h = moment_popped f.writes f.undo.olds f.actions f.moments.items rest _ c.in-Some.closed c.self.invariant c.pop.ensures.items c.in-Some.is in
+    let h = moment_popped f.writes f.undo.olds f.actions.actions f.moments.items rest _ c.in-Some.closed c.self.invariant c.pop.ensures.items c.in-Some.is in
     let inner = ap (λ (w : Written). w.inner) c.forget_mark.ensures.new in
-    subst (λ (u : Undo). IsSound c.forget_mark.new.self u.olds f.actions rest) (sym c.forget_mark-else-is_empty.ensures.log)
-    (IsSound-closed f.writes c.forget_mark.new.self f.undo.olds f.actions f.moments.items rest c.in-Some.closed h inner (not_alone c))
+    subst (λ (u : Undo). IsSound c.forget_mark.new.self u.olds f.actions.actions rest) (sym c.forget_mark-else-is_empty.ensures.log)
+    (IsSound-closed f.writes c.forget_mark.new.self f.undo.olds f.actions.actions f.moments.items rest c.in-Some.closed h inner (not_alone c))
 
 pub returns-else-is_empty-clause-blocks : goal.returns-else-is_empty-clause-blocks
 returns-else-is_empty-clause-blocks c = blocks_are c
@@ -36,7 +36,7 @@ returns-else-is_empty-clause-blocks c = blocks_are c
 two_open : (c : goal.After-forget_mark-else-is_empty) → 1 < length c.args.self.now.blocks
 two_open c =
     let f = c.self.inside in
-    let h = moment_popped f.writes f.undo.olds f.actions f.moments.items c.pop.new.self.items _ c.in-Some.closed c.self.invariant c.pop.ensures.items c.in-Some.is in
+    let h = moment_popped f.writes f.undo.olds f.actions.actions f.moments.items c.pop.new.self.items _ c.in-Some.closed c.self.invariant c.pop.ensures.items c.in-Some.is in
     let blocks = ap (λ (v : Nest). length v.blocks) c.self.view_is in
     omega (arith, h.count, not_alone c, blocks, length-frames_of f.writes f.undo.olds f.moments.items)
 

@@ -7,4 +7,4 @@ pub returns-clause-begun : goal.returns-clause-begun
 returns-clause-begun c =
     let f = c.self.inside in
     subst (λ (v : Nest). v.writes.inner.rows ≡ length (rows_of v.blocks)) c.self.view_is
-    (inner-at_begin f.writes f.undo.olds f.actions f.moments.items c.self.invariant c.len.ensures.marks)
+    (inner-at_begin f.writes f.undo.olds f.actions.actions f.moments.items c.self.invariant c.len.ensures.marks)

@@ -12,7 +12,7 @@ invariant_of-self-2 c =
     let blocks = ap (λ (v : Nest). length v.blocks) c.self.view_is in
     let some : 0 < length f.moments.items = omega (arith, c.requires.open, blocks, length-frames_of f.writes f.undo.olds f.moments.items) in
     let longer : length f.undo.olds ≤ length c.log.new.self.olds = omega (arith, ap (length {A = Old}) c.in_ok-log.ensures.ok, length-append f.undo.olds new) in
-    IsSound-logged f.writes f.undo.olds c.log.new.self.olds f.actions f.moments.items c.self.invariant longer some
+    IsSound-logged f.writes f.undo.olds c.log.new.self.olds f.actions.actions f.moments.items c.self.invariant longer some
 
 -- the blocks as the call leaves them
 blocks_are : (c : goal.In_ok-log)
@@ -21,7 +21,7 @@ blocks_are c =
     let f = c.self.inside in
     let new = found c.args.arena.now c.args.place c.args.size in
     ap (λ (os : List Old). frames_of f.writes os f.moments.items) c.in_ok-log.ensures.ok
-    ∙ (frames_logged f.writes f.undo.olds new f.actions f.moments.items c.self.invariant ∙ ap (λ (v : Nest). logged v.blocks new) c.self.view_is)
+    ∙ (frames_logged f.writes f.undo.olds new f.actions.actions f.moments.items c.self.invariant ∙ ap (λ (v : Nest). logged v.blocks new) c.self.view_is)
 
 pub returns-clause-ok : goal.returns-clause-ok
 returns-clause-ok c = (λ i. record {
@@ -29,6 +29,7 @@ returns-clause-ok c = (λ i. record {
   size = (c.in_ok-log.ensures.size ∙ ap (λ (v : Nest). v.size) c.self.view_is) i;
   blocks = blocks_are c i;
   actions = (c.self.view_is i).actions;
+  room = (c.self.view_is i).room;
 })
 
 pub returns-clause-kept : goal.returns-clause-kept

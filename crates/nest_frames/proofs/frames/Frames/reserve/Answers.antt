@@ -10,7 +10,7 @@ use Rattle.nest_frames.proofs.frames.Frames.reserve.Goals as goal
 pub returns-clause-ok : goal.returns-clause-ok
 returns-clause-ok c =
     let f = c.self.inside in
-    nest_written f.writes c.reserve.new.self _ f.undo.olds f.undo.size f.actions f.moments.items c.self.invariant c.reserve.ensures.marks c.in_ok-reserve.ensures.ok
+    nest_written f.writes c.reserve.new.self _ f.undo.olds f.undo.size f.actions.room f.actions.actions f.moments.items c.self.invariant c.reserve.ensures.marks c.in_ok-reserve.ensures.ok
     ∙ ap (λ (v : Nest). record v { writes = reserve v.writes c.args.word }) c.self.view_is
 
 pub returns-in_err-reserve-clause-has_row : goal.returns-in_err-reserve-clause-has_row
@@ -20,5 +20,5 @@ returns-in_err-reserve-clause-has_row c row none =
     let some = subst (λ (v : Nest). 0 < length v.blocks) (sym c.self.view_is) c.requires in
     let here = subst (λ (v : Nest). IsSome (lookup word v.writes.rows)) (sym c.self.view_is) row in
     let without = subst (λ (v : Nest). lookup word (rows_of v.blocks) ≡ None) (sym c.self.view_is) none in
-    let new : IsNew f.writes word = IsNew-at_begin f.writes f.undo.olds f.actions f.moments.items word c.self.invariant some without in
+    let new : IsNew f.writes word = IsNew-at_begin f.writes f.undo.olds f.actions.actions f.moments.items word c.self.invariant some without in
     absurd (false≢true (c.in_err-reserve.ensures.has_row here new))

@@ -10,13 +10,14 @@ returns-after-was_open c =
     let phase = c.self.inside.phase in
     let new = c.roll_back.new.state in
     let free = is_free phase c.in_default.not-BackLoad c.in_default.not-Store c.in_default.not-Free in
-    rw (← c.self.view_is) (record {
+    let invariant = rw c.if-self.false at c.self.invariant in
+    rw (← c.self.view_is) (rw c.if-self.false (record {
       undone =
           (elim c.if-was_open.branch [
             | then-was_open w ↦ w.result-is ∙ ap (λ (b : Bool). if b then Done else Nothing) (sym w.if-was_open.true ∙ c.is_open-was_open.ensures)
             | else-was_open w ↦ w.result-is ∙ ap (λ (b : Bool). if b then Done else Nothing) (sym w.if-was_open.false ∙ c.is_open-was_open.ensures)
           ]) ∙ sym (told_left s phase free);
       after = after_left s new phase free c.roll_back.ensures.ended;
-      rolled_back = λ holds. undone_of_left s new phase c.self.invariant.in_phase free c.roll_back.ensures.ended c.roll_back.ensures.restored;
+      rolled_back = λ holds. undone_of_left s new phase invariant.in_phase free c.roll_back.ensures.ended c.roll_back.ensures.restored;
       unregistered = λ holds. c.roll_back.ensures.none;
-    })
+    }))

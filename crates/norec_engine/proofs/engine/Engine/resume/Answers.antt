@@ -1,5 +1,9 @@
-use Rattle.norec_engine.proofs.Counts.{counts_after}
+use Rattle.std.proofs.Common.{rules}
+use Rattle.norec_engine.proofs.Settled.{counts_in, settled_in}
 use Rattle.norec_engine.proofs.engine.Engine.resume.Goals as goal
 
 pub returns-clause-count : goal.returns-clause-count
-returns-clause-count c = counts_after c.turned-turn.result c.turned-turn.new.state _ _ c.turned-turn.ensures.sound c.take.ensures.state c.take.ensures.phase
+returns-clause-count c = counts_in c.take.new.irrevocable c.take.new.state c.take.new.phase (search rules)
+
+pub returns-clause-settled : goal.returns-clause-settled
+returns-clause-settled c = settled_in c.take.new.irrevocable c.take.new.state c.take.new.phase (search rules)

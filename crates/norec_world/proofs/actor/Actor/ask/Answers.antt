@@ -1,20 +1,72 @@
-use Rattle.std.proofs.Common.{◌≡◌, ◌+◌, ◌<◌, ◌≤◌, ◌-◌, Bool, true, false, refl, sym, ap, subst, ◌∙◌, is_err, OnOk, vec_capacity, arith}
+use Rattle.std.proofs.Common.{◌≡◌, ◌+◌, ◌<◌, ◌≤◌, ◌-◌, Bool, true, false, Option, None, Some, refl, sym, ap, subst, ◌∙◌, IfOk, OnOk, vec_capacity, arith, rules}
+use Rattle.itm_types.specs.declared.call.Call.{Call}
+use Rattle.itm_types.specs.declared.call.Props.{Props}
 use Rattle.itm_types.specs.Calls.{is_abort, registered_by}
 use Rattle.user_actions.specs.Actions.{total}
-use Rattle.norec_core.specs.Core.{came}
-use Rattle.norec_world.proofs.ActionRoom.{called_acting, places_for}
-use Rattle.norec_world.proofs.Common.{in_transaction}
+use Rattle.norec_core.specs.Core.{Core, came}
+use Rattle.norec_world.specs.ActionRoom.{MayRunOn}
+use Rattle.norec_world.proofs.ActionRoom.{IsServed, asked_inside, called_acting, places_for, starves_begin}
+use Rattle.norec_world.proofs.Common.{Actor, Attempt, Begin, Rows, in_transaction, same_Some}
+use Rattle.norec_world.proofs.actor.Actor.ask.Goals.{After-call-in_default-2}
 use Rattle.norec_world.proofs.actor.Actor.ask.Goals as goal
 
-pub returns-in_ok-reserve_actions-in_default-2-clause-acts : goal.returns-in_ok-reserve_actions-in_default-2-clause-acts
-returns-in_ok-reserve_actions-in_default-2-clause-acts g c =
+pub returns-in_ok-next-in-Begin-clause-asked : goal.returns-in_ok-next-in-Begin-clause-asked
+returns-in_ok-next-in-Begin-clause-asked g c = record {
+  same = search rules;
+  again = c.args.self.now.again;
+  proceeds = search rules;
+  at_once = search rules;
+  stays = search rules;
+  within = search rules;
+  settled = search rules;
+  kept = search rules;
+  in_call = record {
+    asks = search rules;
+    begins = search rules;
+    inside = search rules;
+    opens = search rules;
+    props = λ row props room e is.
+        (let same : c.in_ok-attempt-in-Begin.attempt ≡ row = same_Some _ _ e in
+        let both : Begin c.in-Begin.props c.in-Begin.room ≡ Begin props room = sym c.in-Begin.is ∙ is in
+        let p : c.in-Begin.props ≡ props = cc in
+        ap (λ (x : Attempt). x.props) (sym same) ∙ (ap (λ (x : Attempt). x.props) c.in_ok-attempt-in-Begin.ensures ∙ p));
+    room = search rules;
+  };
+}
+
+pub returns-in_default-clause-grows : goal.returns-in_default-clause-grows
+returns-in_default-clause-grows g c = starves_begin c.args.self.now.engine c.args.call.now c.requires.settled c.call.result c.call.ensures.starves
+
+served : (g : _) (c : After-call-in_default-2 g) → IsServed c.call-in_default-2.result c.args.self.now.engine c.args.call.now c.call-in_default-2.new.self
+served g c =
+    let e = c.call-in_default-2.ensures in
+    subst (λ (x : Core). IsServed c.call-in_default-2.result x c.args.call.now c.call-in_default-2.new.self) (ap (λ (x : Actor g.row.P.Denot). x.engine) c.reserve_ahead.ensures.actor)
+    (record { proceeds = e.proceeds; at_once = e.at_once; stays = e.stays; order = e.order; ends = e.ends; tries = e.tries; asks = e.asks; settled = e.settled; held = e.held })
+
+pub returns-in_ok-reserve_ahead-in_default-2-clause-acts : goal.returns-in_ok-reserve_ahead-in_default-2-clause-acts
+returns-in_ok-reserve_ahead-in_default-2-clause-acts g c =
     let a = c.args.self.now in
     let acts = c.requires.acts in
     let made = c.in_ok-reserve_actions-in_default-2.ensures in
-    called_acting c.args.recorded.now
-    (record a { spare = c.reserve-in_default-2.new.self; end_room = c.reserve_actions.new.end_room; cancel_room = c.reserve_actions.new.cancel_room; engine = c.call-in_default-2.new.self }) (came a.engine c.args.call.now false) a.engine c.args.call.now false (in_transaction a.engine) refl c.requires.kept.row refl
-    (record { end_room = made.end_empty; cancel_room = made.cancel_empty }) acts.all
-    (λ row e. places_for c.args.call.now (total a.engine.actions) (vec_capacity a.end_room) (vec_capacity c.reserve_actions.new.end_room) (acts.places row e) made.kept (λ more. (let m = made.end more in let n = c.actions-actions.ensures.total in omega arith)))
-    (λ row e abort. (let m = made.cancel abort in let n = c.actions-actions.ensures.total in omega arith)) acts.pending
+    let ahead = c.reserve_ahead.ensures in
+    let e = served g c in
+    let new : Actor g.row.P.Denot = record a { spare = c.reserve_ahead.new.self.spare; end_room = c.reserve_ahead.new.self.end_room; cancel_room = c.reserve_ahead.new.self.cancel_room } in
+    subst (λ (r : Rows). IfOk c.call-in_default-2.result (MayRunOn r (record c.reserve_ahead.new.self { engine = c.call-in_default-2.new.self }) c.args.call.now)) (sym ahead.rows)
+    (subst (λ (x : Actor g.row.P.Denot). IfOk c.call-in_default-2.result (MayRunOn c.args.recorded.now (record x { engine = c.call-in_default-2.new.self }) c.args.call.now)) (sym ahead.actor)
+    (called_acting c.args.recorded.now (record new { engine = c.call-in_default-2.new.self }) (came a.engine c.args.call.now false) a.engine c.args.call.now false (in_transaction a.engine) refl c.requires.kept.row refl
+    (record { end_room = ahead.empty.1; cancel_room = ahead.empty.2 }) acts.all
+    (λ row f. (let l = places_for c.args.call.now (total a.engine.actions) (vec_capacity a.end_room) (vec_capacity c.reserve_actions.new.end_room) (acts.places row f) made.kept (λ more. (let m = made.end more in let n = c.actions-actions.ensures.total in omega arith)) in
+    let k = ahead.kept.1 in omega arith))
+    (λ row f abort. (let m = made.cancel abort in let n = c.actions-actions.ensures.total in let k = ahead.kept.2 in omega arith)) acts.pending
     (λ shut. (let inside = c.is_open-2.ensures in let tested = c.if-not-is_open-2.false in absurd (cc)))
-    c.call-in_default-2.result c.call-in_default-2.ensures.proceeds c.call-in_default-2.ensures.order c.call-in_default-2.ensures.asks
+    c.call-in_default-2.result e.proceeds e.order e.asks))
+
+pub returns-in_ok-reserve_ahead-in_default-2-clause-told : goal.returns-in_ok-reserve_ahead-in_default-2-clause-told
+returns-in_ok-reserve_ahead-in_default-2-clause-told g c =
+    let actor = c.reserve_ahead.ensures.actor in
+    let rows = c.reserve_ahead.ensures.rows in
+    asked_inside c.args.memory.now.clock c.args.recorded.now c.reserve_ahead.new.recorded c.args.self.now (record c.reserve_ahead.new.self { engine = c.call-in_default-2.new.self }) c.args.call.now
+    (let inside = c.is_open-2.ensures in let tested = c.if-not-is_open-2.false in cc)
+    (ap (λ (x : Actor g.row.P.Denot). x.pending) actor) (ap (λ (x : Actor g.row.P.Denot). x.again) actor) (ap (λ (x : Actor g.row.P.Denot). x.player) actor) (ap (λ (x : Actor g.row.P.Denot). x.nth) actor) (ap (λ (x : Actor g.row.P.Denot). x.thread) actor)
+    (rows ∙ (λ i. record c.args.recorded.now { room = ap (λ (x : Rows). x.room) (sym rows) i }))
+    c.call-in_default-2.result (served g c)

@@ -3,7 +3,8 @@ use Rattle.std.proofs.Common.{◌≡◌, ◌/◌, ℕ, true, refl, sym, ap, subs
 use Rattle.norec_world.proofs.Common.{Core, IsTied, Rows, Starves, StatusIs, StopsAt, Waits, after_undoing, in_transaction}
 use Rattle.norec_world.specs.declared.attempt.Outcome.TheVariants as outcomes
 use Rattle.norec_world.proofs.OthersAttempts.{others_twice}
-use Rattle.norec_world.proofs.SoundSteps.{call_falls, call_taken, calling}
+use Rattle.norec_world.proofs.SoundSteps.{call_falls, call_taken, calling, rests}
+use Rattle.norec_world.proofs.TiedEngines.{idle_still}
 use Rattle.norec_world.proofs.Taken.{due}
 use Rattle.norec_world.proofs.Worked.{call_worked, finish_worked, starve_worked}
 use Rattle.norec_world.proofs.actor.Actor.call_next.Goals as goal
@@ -54,13 +55,14 @@ returns-in-Err-clause-worked g c =
       counts = (starved.same.0 ∙ u.same.nth, starved.again ∙ u.again, starved.pending ∙ u.pending);
       engine = starved.engine ∙ ap after_undoing u.engine;
       room = c.ask.new.recorded.room;
-      stops = λ o. (let o' : in_transaction c.ask.new.self.engine ≡ true = ap in_transaction u.engine ∙ o in
+      stops = λ o revocable. (let o' : in_transaction c.ask.new.self.engine ≡ true = ap in_transaction u.engine ∙ o in
           subst (λ (e : Core). StopsAt c.args.self.now.thread (record c.args.recorded.now { room = c.ask.new.recorded.room }) (e.snapshot / 2) outcomes.NoMemory c.starve.new.self.engine.actions.ran c.starve.new.recorded) u.engine
           (subst (λ (x : Rows). StopsAt c.args.self.now.thread x (c.ask.new.self.engine.snapshot / 2) outcomes.NoMemory c.starve.new.self.engine.actions.ran c.starve.new.recorded) roomy
-          (subst (λ (n : ℕ). StopsAt n c.ask.new.recorded (c.ask.new.self.engine.snapshot / 2) outcomes.NoMemory c.starve.new.self.engine.actions.ran c.starve.new.recorded) u.same.thread (starved.row o'))));
+          (subst (λ (n : ℕ). StopsAt n c.ask.new.recorded (c.ask.new.self.engine.snapshot / 2) outcomes.NoMemory c.starve.new.self.engine.actions.ran c.starve.new.recorded) u.same.thread (starved.row o' (ap (λ (e : Core). e.irrevocable) u.engine ∙ revocable)))));
       stays = λ o. starved.none (ap in_transaction u.engine ∙ o) ∙ roomy;
+      held = λ i. (starved.held (ap (λ (e : Core). e.irrevocable) u.engine ∙ i)).0 ∙ roomy;
     } in
     starve_worked g.met.P.Player.laws c.requires.sound c.requires.ready c.starve.new.recorded c.starve.new.self
-    (record { tied = starved.tied c.args.memory.now (subst (IsTied c.args.memory.now) (sym u.engine) c.requires.sound.tied); kept = starved.kept; acts = starved.acts; status = subst (StatusIs g.P.Player c.starve.new.recorded c.starve.new.self) (sym starved.status) tt })
-    s (others_twice c.args.self.now c.ask.new.self c.starve.new.self c.args.recorded.now c.ask.new.recorded c.starve.new.recorded c.ask.ensures.others starved.others) starved.closed
+    (record { tied = starved.tied c.args.memory.now (subst (IsTied c.args.memory.now) (sym u.engine) c.requires.sound.tied); kept = starved.kept; acts = starved.acts; status = subst (StatusIs g.P.Player c.starve.new.recorded c.starve.new.self) (sym starved.status) (idle_still c.args.self.now.engine c.starve.new.self.engine s.engine (rests c.requires.sound c.requires.ready).idle) })
+    s (others_twice c.args.self.now c.ask.new.self c.starve.new.self c.args.recorded.now c.ask.new.recorded c.starve.new.recorded c.ask.ensures.others starved.others) (λ revocable. starved.closed (ap (λ (e : Core). e.irrevocable) u.engine ∙ revocable))
     (starved.holds ∙ ap (λ (e : Core). e.holds) u.engine) (starved.limit.0 ∙ ap (λ (e : Core). e.max_commits) u.engine, starved.limit.1 ∙ ap (λ (e : Core). e.patience) u.engine)

@@ -1,21 +1,76 @@
-use Rattle.norec_world.proofs.OthersAttempts.{others_ended, retried_counts, retried_is}
+use Rattle.norec_world.proofs.OthersAttempts.{others_stopped, retried_counts, retried_is}
 use Rattle.norec_world.specs.Sound.{IsDeep}
-use Rattle.std.proofs.Common.{◌≡◌, ◌/◌, length, ap, ◌∙◌, refl, sym, subst, Bool, true, None}
-use Rattle.norec_world.proofs.Common.{Core, Actor, AnswerFits, Busy, Conflict, Full, GaveUp, HasRow, IsSettledBy, Records, in_transaction, whole, with_ended}
+use Rattle.std.proofs.Common.{◌≡◌, ◌/◌, length, ap, ◌∙◌, refl, sym, subst, Bool, true, false, None, [], is_some}
+use Rattle.norec_world.proofs.Common.{Core, Actor, AnswerFits, Attempt, Busy, Conflict, Ended, Full, GaveUp, HasRow, IsAnswered, IsSettledBy, KeepsOthers, Records, Rows, StopsIf, in_transaction, retried, whole, with_ended}
 use Rattle.norec_world.specs.declared.attempt.Outcome.TheVariants as outcomes
-use Rattle.norec_world.proofs.PlayerLaws.{after_try, after_end}
+use Rattle.norec_world.proofs.PlayerLaws.{after_try, ends_inside, ends_outside, settled_as}
+use Rattle.norec_world.proofs.actor.Actor.settle.Goals.{then-is_none, else-is_none, then-is_none-2, else-is_none-2}
 use Rattle.norec_world.proofs.actor.Actor.settle.Goals as goal
 
-pub returns-in-Conflict-clause-settled : goal.returns-in-Conflict-clause-settled
-returns-in-Conflict-clause-settled g c was d =
+pub returns-after-is_none-clause-settled : goal.returns-after-is_none-clause-settled
+returns-after-is_none-clause-settled g c was d =
     let a = c.args.self.now in
+    let r = c.args.recorded.now in
     let fits : AnswerFits was (g.P.Player.depth a.player) (in_transaction a.engine) (length a.engine.blocks) c.args.call (Conflict c.in-Conflict.clock c.in-Conflict.word) = subst (AnswerFits was (g.P.Player.depth a.player) (in_transaction a.engine) (length a.engine.blocks) c.args.call) c.in-Conflict.is d.fits in
-    subst (IsSettledBy g.P.Player was c.stop.new.self a) (sym c.retry.ensures)
-    (after_try g.P.Player g.met.P.Player.laws c.args.recorded.now c.stop.new.self a c.args.call
-    was d c.stop.new.spare a.pending (d.in_call.inside fits.0) c.restart.new.self
-    (ap g.P.Player.depth c.restart.ensures ∙ d.nested.begun fits.0)
-    (ap g.P.Player.calls_left c.restart.ensures ∙ sym (ap (λ (b : Bool). whole g.P.Player b a.player) fits.0))
-    fits.1 c.stop.ensures.gone)
+    elim c.if-is_none.branch [
+      | then-is_none w ↦
+          (let none : is_some a.pending ≡ false = sym (ap (is_some {T = Attempt}) c.take.ensures.value) ∙ w.if-is_none.ensures in
+          let inside : was ≡ true = ends_inside was a.pending c.args.call d.in_call.begins fits.0 none in
+          settled_as g.P.Player c.retry.ensures w.self-is w.recorded-is
+          (after_try g.P.Player g.met.P.Player.laws r w.stop.new.self a c.args.call was d w.stop.new.spare c.take.new.self c.take.ensures.after w.restart.new.self
+          (ap g.P.Player.depth w.restart.ensures ∙ d.nested.begun inside)
+          (ap g.P.Player.calls_left w.restart.ensures ∙ sym (ap (λ (b : Bool). whole g.P.Player b a.player) inside)) fits.1 w.stop.ensures.gone))
+      | else-is_none w ↦
+          (let some : is_some a.pending ≡ true = sym (ap (is_some {T = Attempt}) c.take.ensures.value) ∙ w.if-is_none.ensures in
+          let shut : was ≡ false = ends_outside was a.pending d.in_call.inside some in
+          settled_as g.P.Player c.retry.ensures w.self-is w.recorded-is
+          (after_try g.P.Player g.met.P.Player.laws r r a c.args.call was d a.end_room c.take.new.self c.take.ensures.after a.player
+          (subst (λ (b : Bool). IsDeep b (g.P.Player.depth a.player)) shut d.nested.deep)
+          (sym (ap (λ (b : Bool). whole g.P.Player b a.player) shut)) fits.1 (subst (λ (b : Bool). HasRow b r a.thread) shut d.kept.row)))
+    ]
+
+pub returns-after-is_none-clause-others : goal.returns-after-is_none-clause-others
+returns-after-is_none-clause-others g c was d =
+    let a = c.args.self.now in
+    let r = c.args.recorded.now in
+    let fits : AnswerFits was (g.P.Player.depth a.player) (in_transaction a.engine) (length a.engine.blocks) c.args.call (Conflict c.in-Conflict.clock c.in-Conflict.word) = subst (AnswerFits was (g.P.Player.depth a.player) (in_transaction a.engine) (length a.engine.blocks) c.args.call) c.in-Conflict.is d.fits in
+    let thread : c.retry.new.self.thread ≡ c.if-is_none.self.thread = retried_is (λ (x : Actor g.row.P.Denot). x.thread) c.retry.ensures refl refl in
+    let pending : c.retry.new.self.pending ≡ c.if-is_none.self.pending = retried_is (λ (x : Actor g.row.P.Denot). x.pending) c.retry.ensures refl refl in
+    elim c.if-is_none.branch [
+      | then-is_none w ↦
+          (let none : is_some a.pending ≡ false = sym (ap (is_some {T = Attempt}) c.take.ensures.value) ∙ w.if-is_none.ensures in
+          let inside : was ≡ true = ends_inside was a.pending c.args.call d.in_call.begins fits.0 none in
+          others_stopped a c.retry.new.self r c.if-is_none.recorded was (w.snapshot-at.result / 2) outcomes.Conflict w.due.result.now d.kept.row (thread ∙ ap (λ (x : Actor g.row.P.Denot). x.thread) w.self-is)
+          (pending ∙ (ap (λ (x : Actor g.row.P.Denot). x.pending) w.self-is ∙ c.take.ensures.after))
+          (subst (λ (b : Bool). StopsIf b a.thread r (w.snapshot-at.result / 2) outcomes.Conflict w.due.result.now c.if-is_none.recorded) (sym inside) (λ row e. w.recorded-is ∙ w.stop.ensures.stops row e)))
+      | else-is_none w ↦
+          (let some : is_some a.pending ≡ true = sym (ap (is_some {T = Attempt}) c.take.ensures.value) ∙ w.if-is_none.ensures in
+          let shut : was ≡ false = ends_outside was a.pending d.in_call.inside some in
+          others_stopped a c.retry.new.self r c.if-is_none.recorded was 0 outcomes.Conflict [] d.kept.row (thread ∙ ap (λ (x : Actor g.row.P.Denot). x.thread) w.self-is)
+          (pending ∙ (ap (λ (x : Actor g.row.P.Denot). x.pending) w.self-is ∙ c.take.ensures.after))
+          (subst (λ (b : Bool). StopsIf b a.thread r 0 outcomes.Conflict [] c.if-is_none.recorded) (sym shut) w.recorded-is))
+    ]
+
+pub returns-after-is_none-2-clause-others : goal.returns-after-is_none-2-clause-others
+returns-after-is_none-2-clause-others g c was d =
+    let a = c.args.self.now in
+    let r = c.args.recorded.now in
+    let fits : AnswerFits was (g.P.Player.depth a.player) (in_transaction a.engine) (length a.engine.blocks) c.args.call (Full c.in-Full.at) = subst (AnswerFits was (g.P.Player.depth a.player) (in_transaction a.engine) (length a.engine.blocks) c.args.call) c.in-Full.is d.fits in
+    let last : Actor g.row.P.Denot = record c.if-is_none-2.self { status = Ended GaveUp } in
+    elim c.if-is_none-2.branch [
+      | then-is_none-2 w ↦
+          (let none : is_some a.pending ≡ false = sym (ap (is_some {T = Attempt}) c.take-in-Full.ensures.value) ∙ w.if-is_none-2.ensures in
+          let inside : was ≡ true = ends_inside was a.pending c.args.call d.in_call.begins fits.0 none in
+          others_stopped a last r c.if-is_none-2.recorded was c.in-Full.at outcomes.Full w.due-then-is_none-2.result.now d.kept.row (ap (λ (x : Actor g.row.P.Denot). x.thread) w.self-is)
+          (ap (λ (x : Actor g.row.P.Denot). x.pending) w.self-is ∙ c.take-in-Full.ensures.after)
+          (subst (λ (b : Bool). StopsIf b a.thread r c.in-Full.at outcomes.Full w.due-then-is_none-2.result.now c.if-is_none-2.recorded) (sym inside) (λ row e. w.recorded-is ∙ w.stop-then-is_none-2.ensures.stops row e)))
+      | else-is_none-2 w ↦
+          (let some : is_some a.pending ≡ true = sym (ap (is_some {T = Attempt}) c.take-in-Full.ensures.value) ∙ w.if-is_none-2.ensures in
+          let shut : was ≡ false = ends_outside was a.pending d.in_call.inside some in
+          others_stopped a last r c.if-is_none-2.recorded was 0 outcomes.Full [] d.kept.row (ap (λ (x : Actor g.row.P.Denot). x.thread) w.self-is)
+          (ap (λ (x : Actor g.row.P.Denot). x.pending) w.self-is ∙ c.take-in-Full.ensures.after)
+          (subst (λ (b : Bool). StopsIf b a.thread r 0 outcomes.Full [] c.if-is_none-2.recorded) (sym shut) w.recorded-is))
+    ]
 
 pub returns-in-Busy-clause-settled : goal.returns-in-Busy-clause-settled
 returns-in-Busy-clause-settled g c was d =
@@ -28,41 +83,6 @@ returns-in-Busy-clause-settled g c was d =
     (subst (λ (b : Bool). IsDeep b (g.P.Player.depth a.player)) fits.0 d.nested.deep)
     (sym (ap (λ (b : Bool). whole g.P.Player b a.player) fits.0))
     fits.1 (subst (λ (b : Bool). HasRow b r a.thread) fits.0 d.kept.row))
-
-pub returns-in-Full-clause-settled : goal.returns-in-Full-clause-settled
-returns-in-Full-clause-settled g c was d =
-    let a = c.args.self.now in
-    after_end g.P.Player g.met.P.Player.laws c.args.recorded.now c.stop-in-Full.new.self a c.args.call
-    was GaveUp a.player c.stop-in-Full.new.spare a.pending d.kept (subst (AnswerFits was (g.P.Player.depth a.player) (in_transaction a.engine) (length a.engine.blocks) c.args.call) c.in-Full.is d.fits).1 c.stop-in-Full.ensures.gone
-
-pub returns-in-Conflict-clause-others : goal.returns-in-Conflict-clause-others
-returns-in-Conflict-clause-others g c was d =
-    let a = c.args.self.now in
-    let r = c.args.recorded.now in
-    let fits : AnswerFits was (g.P.Player.depth a.player) (in_transaction a.engine) (length a.engine.blocks) c.args.call (Conflict c.in-Conflict.clock c.in-Conflict.word) = subst (AnswerFits was (g.P.Player.depth a.player) (in_transaction a.engine) (length a.engine.blocks) c.args.call) c.in-Conflict.is d.fits in
-    let h : HasRow true r a.thread = subst (λ (b : Bool). HasRow b r a.thread) fits.0 d.kept.row in
-    others_ended a c.retry.new.self r c.stop.new.self h.0 _ h.1 refl (retried_is (λ (x : _). x.thread) c.retry.ensures refl refl) (retried_is (λ (x : _). x.pending) c.retry.ensures refl refl) (c.stop.ensures.stops h.0 h.1)
-
-pub returns-in-Full-clause-others : goal.returns-in-Full-clause-others
-returns-in-Full-clause-others g c was d =
-    let a = c.args.self.now in
-    let r = c.args.recorded.now in
-    let fits : AnswerFits was (g.P.Player.depth a.player) (in_transaction a.engine) (length a.engine.blocks) c.args.call (Full c.in-Full.at) = subst (AnswerFits was (g.P.Player.depth a.player) (in_transaction a.engine) (length a.engine.blocks) c.args.call) c.in-Full.is d.fits in
-    let h : HasRow true r a.thread = subst (λ (b : Bool). HasRow b r a.thread) fits.0 d.kept.row in
-    others_ended a _ r c.stop-in-Full.new.self h.0 _ h.1 refl refl refl (c.stop-in-Full.ensures.stops h.0 h.1)
-
-pub returns-in-Conflict-clause-records : goal.returns-in-Conflict-clause-records
-returns-in-Conflict-clause-records g c was d =
-    let a = c.args.self.now in
-    let engine : a.engine ≡ c.retry.new.self.engine = sym (retried_is (λ (x : Actor g.row.P.Denot). x.engine) c.retry.ensures refl refl) in
-    let snapshot : c.snapshot-at.result ≡ c.retry.new.self.engine.snapshot = c.snapshot-at.ensures ∙ ap (λ (x : Core). x.snapshot) engine in
-    let ran : c.due.result.now ≡ c.retry.new.self.engine.actions.ran = c.due.ensures ∙ ap (λ (x : Core). x.actions.ran) engine in
-    subst (Records g.P.Player was c.args.recorded.now c.stop.new.self a c.retry.new.self c.args.call) (sym c.in-Conflict.is) (
-      λ row e. c.stop.ensures.stops row e ∙ (λ i. with_ended a.thread (record row { at = snapshot i / 2; ran = ran i; outcome = outcomes.Conflict }) c.args.recorded.now),
-      retried_is (λ (x : Actor g.row.P.Denot). x.player) c.retry.ensures refl refl ∙ c.restart.ensures,
-      retried_counts a c.restart.new.self c.stop.new.spare a.pending c.retry.ensures,
-      retried_is (λ (x : Actor g.row.P.Denot). x.pending) c.retry.ensures refl refl,
-    )
 
 pub returns-in-Busy-clause-records : goal.returns-in-Busy-clause-records
 returns-in-Busy-clause-records g c was d =

@@ -14,7 +14,7 @@ stepped : (g : _) (c : After-resume-next g) → IsStepping g.P.Player c.args.mem
 stepped g c =
     let e = c.resume-next.ensures in
     stepping c.requires.sound (sym c.in-Waits.ensures.value) c.apply-seen.ensures.found c.apply-seen.ensures.cells c.apply-seen.ensures.fit
-    (record { proceeds = e.proceeds; joins = e.joins; order = e.order; ends = e.ends; tries = e.tries; snapshot = e.snapshot; log = e.log; asks = e.asks; settled = e.settled }) e.count
+    (record { proceeds = e.proceeds; joins = e.joins; order = e.order; ends = e.ends; tries = e.tries; snapshot = e.snapshot; log = e.log; asks = e.asks; settled = e.settled; held = e.held }) e.count
 
 pub proceed-requires : goal.proceed-requires
 proceed-requires g c = record {

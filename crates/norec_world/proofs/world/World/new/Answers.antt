@@ -1,10 +1,10 @@
-use Rattle.std.proofs.Common.{rules, arith, ◌≡◌, ◌/◌, ℕ, length, replicate, List, slice_get, sym, ap, subst, ◌∙◌}
-use Rattle.norec_world.proofs.Common.{AreFrom, AreOfActors, HasStarted, IsBetween, RunsFrom, World, bytes_of, first_of, opening, words_of}
+use Rattle.std.proofs.Common.{rules, arith, ◌≡◌, ◌/◌, ℕ, length, replicate, List, slice_get, refl, sym, ap, subst, ◌∙◌}
+use Rattle.norec_world.proofs.Common.{Finished, AreFrom, AreOfActors, HasStarted, IsBetween, RunsFrom, World, bytes_of, first_of, opening, words_of}
 use Rattle.norec_world.proofs.WordLists.{words_of-bytes_of}
 use Rattle.norec_world.proofs.RunOthers.{laid_first, world_opaque}
 use Rattle.norec_world.proofs.CommitCounts.{commits_first}
 use Rattle.norec_world.proofs.SoleEvents.{sole_first}
-use Rattle.norec_world.proofs.SoundOthers.{there_is}
+use Rattle.norec_world.proofs.IdleEngines.{ended_still, idle_started}
 use Rattle.norec_world.proofs.world.World.new.Goals as goal
 
 pub invariant_of-result : goal.invariant_of-result
@@ -12,11 +12,12 @@ invariant_of-result g c = let w : World g.row.P.Denot = record { opening = c.in_
     let commits = commits_first g.P.Player w c.in_ok-actors.ensures.sound c.new-memory.ensures.clock c.in_ok-actors.ensures.none.0 c.in_ok-actors.ensures.first in record {
       actors = search rules;
       long = search rules;
-      sole = λ one a e.
+      sole = λ one p a player e.
           (let players : c.in_ok-opening.opening.items ≡ c.args.players.items = search rules in
-          let player = there_is c.in_ok-opening.opening.items 0 (omega (arith, one)) in
-          sole_first g.P.Player w c.in_ok-actors.ensures.sound commits c.new-memory.ensures.clock c.in_ok-actors.ensures.none.0 a e (c.in_ok-actors.ensures.first 0 a e).between
-          (c.in_ok-actors.ensures.starts 0 player.0 a (ap (λ (xs : List g.row.P.Denot). slice_get xs 0) (sym players) ∙ player.1) e).finishes);
+          let starts = c.in_ok-actors.ensures.starts 0 p a (ap (λ (xs : List g.row.P.Denot). slice_get xs 0) (sym players) ∙ player) e in
+          let first = c.in_ok-actors.ensures.first 0 a e in
+          sole_first g.P.Player w c.in_ok-actors.ensures.sound c.new-memory.ensures.clock c.in_ok-actors.ensures.none.0 (first_of p c.args.setup.arena) a e first.between first.seen
+          (λ end. (starts.finishes end, idle_started g.P.Player starts (refl, refl) (ended_still a.status Finished end))));
       commits = commits;
       running = record {
         laid = laid_first c.new-base.result c.new-memory.result c.start_all.new.recorded (search rules) c.new-memory.ensures.fit c.new-memory.ensures.clock c.in_ok-actors.ensures.none.0;

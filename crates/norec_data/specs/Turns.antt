@@ -1,0 +1,77 @@
+-- A turn: what comes of an event, before it is counted.
+use Rattle.std.specs.Prelude.{◌≡◌, ℕ, ◌+◌, true, List, [], Option}
+use Rattle.user_actions.specs.Actions.{Actions}
+use Rattle.write_set.specs.Marks.{unwritten}
+use Rattle.norec_core.specs.declared.phase.Phase.{Phase}
+use Rattle.norec_core.specs.declared.phase.Phase.TheVariants as at
+use Rattle.norec_core.specs.declared.answer.Answer.{Answer}
+use Rattle.norec_core.specs.declared.answer.Answer.TheVariants.{Reply}
+use Rattle.norec_core.specs.declared.answer.Next.{Next}
+use Rattle.norec_core.specs.declared.answer.Next.TheVariants.{Step as Asks, Answer as Answers}
+use Rattle.norec_core.specs.Core.{Core}
+use Rattle.norec_core.specs.Endings.{IsEnding}
+use Rattle.norec_core.specs.Proceeds.{Proceeds}
+use Rattle.norec_data.specs.declared.data.Data.{Data}
+use Rattle.norec_data.specs.declared.turn.Turn.{Turn}
+use Rattle.norec_data.specs.declared.turn.Turn.TheVariants.{Wait, End, Enter}
+use Rattle.norec_data.specs.View.{core, core_held, in_block, step_of}
+
+abbrev pub next_of : Turn → Data → Next
+next_of (Wait phase) d = Asks (step_of d phase)
+next_of (End a) d = Answers a
+next_of (Enter r) d = Answers (Reply r)
+
+abbrev pub counted : Data → Data
+counted d = record d { spent = d.spent + 1 }
+
+abbrev pub data_after : Turn → Data → Data
+data_after (Wait phase) d = counted d
+data_after (End a) d = d
+data_after (Enter r) d = d
+
+abbrev pub phase_after : Turn → Phase
+phase_after (Wait phase) = phase
+phase_after (End a) = at.Idle
+phase_after (Enter r) = at.Idle
+
+abbrev pub core_after : Turn → Data → Core
+core_after (Wait phase) d = core (counted d) phase
+core_after (End a) d = core d at.Idle
+core_after (Enter r) d = core_held d
+
+abbrev pub IsWaiting : Phase → Type 0
+IsWaiting at.Idle = ⊥
+IsWaiting _ = Unit {0}
+
+abbrev pub Asked : Turn → Type 0
+Asked (Wait phase) = IsWaiting phase
+Asked (End a) = Unit {0}
+Asked (Enter r) = Unit {0}
+
+abbrev pub Turns : Core → Turn → Data → Type 0
+Turns mid turn d = Proceeds mid (next_of turn d) (core_after turn d)
+
+-- if the turn ends the call, it does so by this end
+abbrev pub TurnEndsSo : Option Answer → Turn → Type 0
+TurnEndsSo end (Wait phase) = Unit {0}
+TurnEndsSo end (End a) = IsEnding end a
+TurnEndsSo end (Enter r) = IsEnding end (Reply r)
+
+-- no transaction opens, and the log and the snapshot stay, unless it ended
+pub record Stays (old new : Data) : Type 0 where
+  pub opens : in_block new ≡ true → in_block old ≡ true
+  pub log : in_block new ≡ true → new.log.rows ≡ old.log.rows
+  pub snapshot : new.snapshot ≡ old.snapshot
+
+-- the transaction is over, with this arena and these actions, and all else as before
+pub record IsEnded (old : Data) (left : List ℕ) (actions : Actions) (new : Data) : Type 0 where
+  pub frames : new.frames ≡ record { writes = unwritten; size = old.frames.size; blocks = []; actions = actions; room = old.frames.room }
+  pub log : new.log.rows ≡ []
+  pub words : new.words ≡ old.words
+  pub limits : new.limits ≡ old.limits
+  pub arena : new.arena ≡ left
+  pub snapshot : new.snapshot ≡ old.snapshot
+  pub clock : new.clock ≡ old.clock
+  pub tries : new.tries ≡ old.tries
+  pub spent : new.spent ≡ old.spent
+  pub entry : new.entry ≡ old.entry

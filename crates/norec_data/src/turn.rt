@@ -1,0 +1,13 @@
+//! What an event leads to.
+
+use itm_types::Reply;
+use norec_core::{Answer, Phase};
+
+/// What comes of an event: another step, or the answer.
+#[derive(Drop)]
+pub enum Turn {
+    Wait(Phase),
+    End(Answer),
+    /// The answer of a call that has made the transaction irrevocable.
+    Enter(Reply),
+}

@@ -1,0 +1,6 @@
+use Rattle.std.proofs.Common.{rules}
+use Rattle.norec_engine.proofs.Settled.{settled_in}
+use Rattle.norec_engine.proofs.engine.Engine.call.Goals as goal
+
+pub returns-clause-settled : goal.returns-clause-settled
+returns-clause-settled c = settled_in c.take.new.irrevocable c.take.new.state c.take.new.phase (search rules)

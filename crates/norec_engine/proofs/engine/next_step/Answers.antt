@@ -1,0 +1,15 @@
+use Rattle.std.proofs.Common.{arith, rules}
+use Rattle.norec_data.specs.Turns.{counted}
+use Rattle.norec_engine.proofs.Counts.{fits}
+use Rattle.norec_engine.proofs.HeldCounts.{held_fits}
+use Rattle.norec_engine.proofs.engine.next_step.Goals as goal
+
+pub returns-then-irrevocable-clause-few : goal.returns-then-irrevocable-clause-few
+returns-then-irrevocable-clause-few c =
+    let sound = rw c.if-irrevocable.true at c.requires.sound in
+    omega (arith, held_fits (counted c.args.state.now) c.args.phase sound c.requires.waits)
+
+pub returns-else-irrevocable-clause-few : goal.returns-else-irrevocable-clause-few
+returns-else-irrevocable-clause-few c =
+    let sound = rw c.if-irrevocable.false at c.requires.sound in
+    omega (arith, fits (counted c.args.state.now) c.args.phase sound c.requires.waits (omega arith) (search rules))

@@ -1,0 +1,11 @@
+pub mod PartCopies
+pub mod KeptStates
+pub mod HeldReplies
+pub mod HeldBlocks
+pub mod PlacedPieces
+pub mod HeldAccesses
+pub mod HeldDone
+pub mod HeldCopies
+pub mod ChunkPhases
+pub mod LoadedPieces
+pub mod SameDatum

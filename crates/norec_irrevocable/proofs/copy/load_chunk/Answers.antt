@@ -1,0 +1,77 @@
+use Rattle.std.proofs.Common.{◌≡◌, ℕ, suc, ◌+◌, ◌-◌, List, [], ◌++◌, drop, refl, sym, ap, subst, ◌∙◌}
+use Rattle.itm_types.specs.declared.call.Call.TheVariants.{Copy}
+use Rattle.itm_types.specs.declared.call.Reply.TheVariants.{Done}
+use Rattle.itm_model.specs.State.{State}
+use Rattle.itm_model.specs.Machine.{target_written}
+use Rattle.word_pieces.specs.Pieces.{gathered, pieces_of}
+use Rattle.norec_core.specs.declared.phase.Reading.{Reading}
+use Rattle.norec_core.specs.declared.phase.Phase.TheVariants.{Load}
+use Rattle.norec_core.specs.Copies.{chunks_in}
+use Rattle.norec_core.specs.Held.{ComesTo}
+use Rattle.norec_core.specs.Order.{chunk_from, chunk_reading}
+use Rattle.norec_core.specs.Parts.{copied_each}
+use Rattle.norec_data.specs.declared.data.Data.{Data}
+use Rattle.norec_data.specs.declared.turn.Turn.TheVariants.{Wait}
+use Rattle.norec_data.specs.Bounds.{IsHeld}
+use Rattle.norec_data.specs.Turns.{counted, next_of}
+use Rattle.norec_irrevocable.specs.Outcomes.{held_after, in_call, kept, ComesBy, HeldTurns, IsSoundAfter}
+use Rattle.norec_irrevocable.specs.Phases.{MayCopy}
+use Rattle.norec_irrevocable.proofs.ChunkPhases.{chunk_ends, chunk_loads, load_asks, load_comes_next, load_sound, no_loads}
+use Rattle.norec_irrevocable.proofs.HeldCopies.{chunk_comes, copies_end}
+use Rattle.norec_irrevocable.proofs.HeldDone.{copy_done}
+use Rattle.norec_irrevocable.proofs.copy.load_chunk.Goals as goal
+
+pub returns-in_default-clause-proceeds : goal.returns-in_default-clause-proceeds
+returns-in_default-clause-proceeds c = λ bytes. copy_done c.args.state.now c.requires.held.is_open c.args.copying bytes c.requires.may.served
+
+pub returns-in_default-clause-comes : goal.returns-in_default-clause-comes
+returns-in_default-clause-comes c = λ m mem.
+    (let k = c.args.copying in
+    (sym (copies_end (kept c.args.state.now m) k c.args.number (no_loads k c.args.number _ (sym c.chunk_reading.ensures.value ∙ c.in_default.is))), refl))
+
+pub returns-in_default-clause-order : goal.returns-in_default-clause-order
+returns-in_default-clause-order c = (let k = c.args.copying in chunk_ends k c.args.number (no_loads k c.args.number _ (sym c.chunk_reading.ensures.value ∙ c.in_default.is)))
+
+-- nothing is gathered yet
+abbrev start : goal.After-state-1 → Data
+start c = record c.args.state.now { gathered = c.new-state.result }
+
+held_start : (c : goal.After-state-1) → IsHeld (start c)
+held_start c = (let h = c.requires.held in record { bounds = h.bounds; is_open = h.is_open; log = h.log; writes = h.writes; settled = h.settled; free = h.free; tries = h.tries })
+
+may_start : (c : goal.After-state-1) → MayCopy (start c) c.args.copying c.args.number
+may_start c = record { served = c.requires.may.served; spent = c.requires.may.spent }
+
+pub returns-clause-sound : goal.returns-clause-sound
+returns-clause-sound c =
+    let k = c.args.copying in
+    let loads = chunk_loads k c.args.number _ c.in-Some.reading (sym c.chunk_reading.ensures.value ∙ c.in-Some.is) in
+    subst (λ (r : Reading). IsSoundAfter (Wait (Load r)) (start c)) (sym loads.2)
+    (load_sound (start c) k c.args.number loads.0 loads.1 c.requires.shared (held_start c) (may_start c) c.new-state.ensures, tt)
+
+pub returns-clause-proceeds : goal.returns-clause-proceeds
+returns-clause-proceeds c =
+    let k = c.args.copying in
+    let loads = chunk_loads k c.args.number _ c.in-Some.reading (sym c.chunk_reading.ensures.value ∙ c.in-Some.is) in
+    subst (λ (r : Reading). (bytes : List ℕ) → HeldTurns (in_call c.args.state.now (Copy k) bytes) (Wait (Load r)) (start c)) (sym loads.2)
+    (load_asks (start c) k c.args.number loads.0 loads.1 c.requires.shared (held_start c) c.requires.may.served c.new-state.ensures)
+
+pub returns-clause-comes : goal.returns-clause-comes
+returns-clause-comes c =
+    let k = c.args.copying in
+    let s = c.args.state.now in
+    let n = c.args.number in
+    let loads = chunk_loads k n _ c.in-Some.reading (sym c.chunk_reading.ensures.value ∙ c.in-Some.is) in
+    let chunk = loads.0 in
+    subst (λ (r : Reading). ComesBy s (λ m. copied_each (kept s m) k (drop n (chunks_in k))) (λ m. Done) (Wait (Load r)) (start c)) (sym loads.2)
+    (λ m mem. (
+      ap (λ (bytes : List ℕ). copied_each (target_written (kept s m) k.pair (k.to + (k.from + chunk.at - k.from)) (bytes ++ gathered m (pieces_of (k.from + chunk.at) chunk.size))) k (drop (suc n) (chunks_in k))) c.new-state.ensures
+          ∙ chunk_comes s k c.requires.may.served n chunk loads.1 c.requires.shared m mem,
+      refl,
+    ))
+
+pub returns-clause-order : goal.returns-clause-order
+returns-clause-order c =
+    let k = c.args.copying in
+    let loads = chunk_loads k c.args.number _ c.in-Some.reading (sym c.chunk_reading.ensures.value ∙ c.in-Some.is) in
+    subst (λ (r : Reading). Load r ≡ chunk_from k c.args.number) (sym loads.2) (load_comes_next (start c) k c.args.number loads.0 loads.1 c.requires.shared)

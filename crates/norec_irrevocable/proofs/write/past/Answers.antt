@@ -1,0 +1,73 @@
+use Rattle.std.proofs.Common.{◌≡◌, ℕ, suc, ◌+◌, ◌*◌, ◌%◌, ◌≤◌, List, drop, take, length, Some, slice_get, refl, sym, ap, subst, ◌∙◌, add-one, arith}
+use Rattle.itm_types.specs.declared.call.Reply.TheVariants.{Done}
+use Rattle.itm_types.specs.Access.{size_of}
+use Rattle.itm_model.specs.State.{State}
+use Rattle.word_pieces.specs.declared.chunk.Chunk.{Chunk}
+use Rattle.word_pieces.specs.declared.chunk.Direction.TheVariants.{Up}
+use Rattle.word_pieces.specs.Chunks.{chunks_of}
+use Rattle.word_pieces.specs.Pieces.{count_of}
+use Rattle.norec_core.specs.declared.phase.Target.{Target}
+use Rattle.norec_core.specs.Copies.{chunks_in}
+use Rattle.norec_core.specs.Held.{ComesTo, rest_of}
+use Rattle.norec_core.specs.Parts.{copied_each, filled_each}
+use Rattle.norec_core.proofs.CopyChunks.{chunk_there}
+use Rattle.norec_core.proofs.Readings.{words_in-next}
+use Rattle.norec_data.specs.Turns.{next_of}
+use Rattle.norec_irrevocable.specs.Outcomes.{held_after, kept}
+use Rattle.norec_irrevocable.proofs.ChunkPhases.{few_chunks, steps_placed}
+use Rattle.norec_irrevocable.proofs.HeldDone.{write_done}
+use Rattle.norec_irrevocable.proofs.write.past.Goals as goal
+
+pub overflow_add-number : goal.overflow_add-number
+overflow_add-number c =
+    let target = rw c.in-Fill.is at c.requires.placed.target in
+    let there = (chunk_there Up c.in-Fill.size c.in-Fill.number target.2 target.3).0 in
+    omega (arith, there, target.0, c.requires.held.bounds.small)
+
+pub fill_on-requires-clause-may : goal.fill_on-requires-clause-may
+fill_on-requires-clause-may c =
+    let w = c.args.writing in
+    let target = rw c.in-Fill.is at c.requires.placed.target in
+    let spent = rw c.in-Fill.is at c.requires.placed.spent in
+    let next = words_in-next c.in-Fill.to (chunks_of Up c.in-Fill.size) c.in-Fill.number target.2 target.3 in
+    let same : count_of w.at w.size ≡ count_of (c.in-Fill.to + (target.2).at) (target.2).size = (λ i. count_of (target.4 i) (target.5 i)) in
+    record { within = target.0; spent = omega (arith, spent, next, same) }
+
+pub overflow_add-number-in-Chunk : goal.overflow_add-number-in-Chunk
+overflow_add-number-in-Chunk c =
+    let target = rw c.in-Chunk.is at c.requires.placed.target in
+    omega (arith, few_chunks c.args.state.now c.in-Chunk.copying c.in-Chunk.number (target.0).chunk (target.0).served c.requires.held.bounds.small (target.0).is)
+
+pub chunk_on-requires-clause-may : goal.chunk_on-requires-clause-may
+chunk_on-requires-clause-may c =
+    let w = c.args.writing in
+    let k = c.in-Chunk.copying in
+    let target = rw c.in-Chunk.is at c.requires.placed.target in
+    let spent = rw c.in-Chunk.is at c.requires.placed.spent in
+    let chunk = (target.0).chunk in
+    let next = steps_placed k c.in-Chunk.number chunk (target.0).is k.pair target.1 in
+    let same : count_of w.at w.size ≡ count_of (k.to + chunk.at) chunk.size = (λ i. count_of ((target.0).start_is i) ((target.0).size_is i)) in
+    record { served = (target.0).served; spent = omega (arith, spent, next, same) }
+
+pub returns-in-Value-clause-proceeds : goal.returns-in-Value-clause-proceeds
+returns-in-Value-clause-proceeds c =
+    let s = c.args.state.now in
+    let w = c.args.writing in
+    let target = rw c.in-Value.is at c.requires.placed.target in
+    let size : w.size ≡ size_of s.value.width = target.1 ∙ ap size_of target.0 in
+    rw c.in-Value.is (λ bytes. write_done s c.requires.held.is_open c.in-Value.hint s.value w.at bytes (omega (arith, c.requires.placed.within, size)))
+
+pub returns-in-Fill-clause-comes : goal.returns-in-Fill-clause-comes
+returns-in-Fill-clause-comes c = λ m mem.
+    (let s = c.args.state.now in
+    let n = c.in-Fill.number in
+    let cs = chunks_of Up c.in-Fill.size in
+    subst (λ (x : State). ComesTo x Done (next_of c.fill_on.result c.fill_on.new.state) (held_after c.fill_on.result c.fill_on.new.state) m)
+    (ap (λ (x : ℕ). filled_each (kept s m) c.in-Fill.to (c.in-Fill.byte % 256) (drop x cs)) (add-one n) ∙ sym (ap (λ (t : Target). rest_of t (kept s m)) c.in-Fill.is)) (c.fill_on.ensures.comes m mem))
+
+pub returns-in-Chunk-clause-comes : goal.returns-in-Chunk-clause-comes
+returns-in-Chunk-clause-comes c = λ m mem.
+    (let s = c.args.state.now in
+    let k = c.in-Chunk.copying in
+    subst (λ (x : State). ComesTo x Done (next_of c.chunk_on.result c.chunk_on.new.state) (held_after c.chunk_on.result c.chunk_on.new.state) m)
+    (ap (λ (x : ℕ). copied_each (kept s m) k (drop x (chunks_in k))) (add-one c.in-Chunk.number) ∙ sym (ap (λ (t : Target). rest_of t (kept s m)) c.in-Chunk.is)) (c.chunk_on.ensures.comes m mem))

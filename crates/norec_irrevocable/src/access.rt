@@ -1,0 +1,47 @@
+//! The pieces of an access that writes.
+
+ghost use Rattle.std.specs.Prelude.{◌≡◌, ◌<◌, ◌≤◌, ◌+◌, IfSome, IfNone, false, length, None, Some};
+ghost use Rattle.itm_types.specs.Slices.{AreBytes};
+ghost use Rattle.word_pieces.specs.Pieces.{count_of};
+ghost use Rattle.norec_core.specs.Order.{place_from};
+ghost use Rattle.norec_data.specs.Turns.{Stays};
+ghost use Rattle.norec_irrevocable.specs.Phases.{IsNext};
+
+use itm_types::{MAX_MEMORY, Value};
+use norec_core::{Phase, Writing};
+use word_pieces::piece_at;
+
+/// What the access waits for at its piece, if there are as many: a piece of a whole word is stored at once, and of
+/// another one the word is loaded first.
+pub(crate) fn next_place(writing: Writing) -> Option<Phase>
+    requires place { writing.at + writing.size ≤ MAX_MEMORY }
+    requires small { writing.size ≤ 32 }
+    ensures some { IfSome result (IsNext writing) }
+    ensures none { IfNone result ((past : Phase) → place_from past writing ≡ past) }
+    ensures past { IfNone result (count_of writing.at writing.size ≤ writing.number) }
+{
+    let piece = piece_at(writing.at, writing.size, writing.number)?;
+    Some(if piece.mask() == u64::MAX {
+        Phase::Place(writing, None)
+    } else {
+        Phase::Fetch(writing)
+    })
+}
+
+/// These bytes as a value.
+pub(crate) fn value_of(bytes: &[u8]) -> Value
+    requires { length bytes.now ≤ 32 }
+    ensures items { result.items ≡ bytes.now }
+    ensures fit { AreBytes bytes.now }
+{
+    let mut value = Value::new();
+    match value.try_extend_from_slice(bytes) {
+        Ok(()) => value,
+        Err(_) => unreachable!(),
+    }
+}
+
+/// Each of these is a byte, whatever they are.
+pub(crate) fn are_bytes(_bytes: &[u8])
+    ensures { AreBytes _bytes.now }
+{}

@@ -1,0 +1,130 @@
+//! Copies: each chunk is read and written before the next one.
+
+ghost use Rattle.std.specs.Prelude.{◌≡◌, ℕ, List, drop, length, ◌+◌, ◌≤◌, ◌<◌, true, None, false};
+ghost use Rattle.itm_types.specs.declared.call.Reply.TheVariants.{Done};
+ghost use Rattle.itm_types.specs.declared.limits.TheConstants.{MAX_OPEN_BLOCKS};
+ghost use Rattle.itm_types.specs.Slices.{slice};
+ghost use Rattle.itm_model.specs.Machine.{after, reply, written};
+ghost use Rattle.norec_core.specs.Copies.{chunks_in, is_out};
+ghost use Rattle.norec_core.specs.Core.{came, handed};
+ghost use Rattle.norec_core.specs.Held.{answers, leaves};
+ghost use Rattle.norec_core.specs.Order.{chunk_from, place_from, stage_after, stage_at};
+ghost use Rattle.norec_core.specs.Parts.{copied_each};
+ghost use Rattle.norec_data.specs.Bounds.{IsHeld};
+ghost use Rattle.norec_data.specs.Turns.{phase_after, Stays};
+ghost use Rattle.norec_data.specs.View.{core_held, held};
+ghost use Rattle.norec_irrevocable.specs.Outcomes.{in_call, kept, ComesBy, HeldTurns, IsSoundAfter};
+ghost use Rattle.norec_irrevocable.specs.Phases.{steps_before, IsServed, MayCopy, MayStore};
+
+use crate::access::{are_bytes, value_of};
+use crate::write::start;
+use itm_types::{Call, CopyPair, Copying, Reply, Value};
+use norec_core::{Phase, Target, Writing};
+use norec_data::{Data, Turn, chunk_reading, chunks, copy_refusal};
+
+/// A copy comes.
+pub(crate) fn copy(state: &mut Data, copying: Copying) -> Turn
+    requires held { IsHeld state.old }
+    ensures sound { IsSoundAfter result state.new }
+    ensures proceeds { HeldTurns (came (core_held state.old) (Call.Copy copying) false) result state.new }
+    ensures comes { ComesBy state.old (λ m. after MAX_OPEN_BLOCKS (kept state.old m) (Call.Copy copying))
+        (λ m. reply MAX_OPEN_BLOCKS (kept state.old m) (Call.Copy copying)) result state.new }
+    ensures stays { Stays state.old state.new }
+    ensures order { phase_after result ≡ stage_at (core_held state.old) (Call.Copy copying) false }
+{
+    let refused = copy_refusal(state, copying);
+    state.come();
+    match refused {
+        Some(why) => Turn::Enter(Reply::Refused(why)),
+        None => chunk_on(state, copying, 0),
+    }
+}
+
+/// The chunk of this number comes, or the copy is done.
+pub(crate) fn chunk_on(state: &mut Data, copying: Copying, number: u32) -> Turn
+    requires held { IsHeld state.old }
+    requires may { MayCopy state.old copying number }
+    ensures sound { IsSoundAfter result state.new }
+    ensures proceeds { (bytes : List ℕ) → HeldTurns (in_call state.old (Call.Copy copying) bytes) result state.new }
+    ensures comes { ComesBy state.old (λ m. copied_each (kept state.old m) copying (drop number (chunks_in copying))) (λ m. Done) result state.new }
+    ensures stays { Stays state.old state.new }
+    ensures order { phase_after result ≡ chunk_from copying number }
+{
+    match copying.pair {
+        CopyPair::Out(_) => send_chunk(state, copying, number),
+        CopyPair::In(_) | CopyPair::Within(_, _) => load_chunk(state, copying, number),
+    }
+}
+
+/// The same of a copy out of the arena.
+fn send_chunk(state: &mut Data, copying: Copying, number: u32) -> Turn
+    requires held { IsHeld state.old }
+    requires out { is_out copying.pair ≡ true }
+    requires may { MayCopy state.old copying number }
+    ensures sound { IsSoundAfter result state.new }
+    ensures proceeds { (bytes : List ℕ) → HeldTurns (in_call state.old (Call.Copy copying) bytes) result state.new }
+    ensures comes { ComesBy state.old (λ m. copied_each (kept state.old m) copying (drop number (chunks_in copying))) (λ m. Done) result state.new }
+    ensures stays { Stays state.old state.new }
+    ensures order { phase_after result ≡ chunk_from copying number }
+{
+    let Some(chunk) = chunks(copying).get(number) else {
+        return Turn::Enter(Reply::Done);
+    };
+    let _bytes = state.arena.size();
+    let first = (copying.from + chunk.at) as usize;
+    let end = first + usize::from(chunk.size);
+    state.gathered = value_of(&state.arena.bytes()[first..end]);
+    store_chunk(state, copying, number, chunk.at, chunk.size)
+}
+
+/// And of one that reads shared memory.
+fn load_chunk(state: &mut Data, copying: Copying, number: u32) -> Turn
+    requires held { IsHeld state.old }
+    requires shared { is_out copying.pair ≡ false }
+    requires may { MayCopy state.old copying number }
+    ensures sound { IsSoundAfter result state.new }
+    ensures proceeds { (bytes : List ℕ) → HeldTurns (in_call state.old (Call.Copy copying) bytes) result state.new }
+    ensures comes { ComesBy state.old (λ m. copied_each (kept state.old m) copying (drop number (chunks_in copying))) (λ m. Done) result state.new }
+    ensures stays { Stays state.old state.new }
+    ensures order { phase_after result ≡ chunk_from copying number }
+{
+    let Some(reading) = chunk_reading(copying, number) else {
+        return Turn::Enter(Reply::Done);
+    };
+    state.gathered = Value::new();
+    Turn::Wait(Phase::Load(reading))
+}
+
+/// The bytes of a chunk, so far from the first of the copy, are gathered: they are written.
+pub(crate) fn store_chunk(
+    state: &mut Data,
+    copying: Copying,
+    number: u32,
+    at: u64,
+    size: u8,
+) -> Turn
+    requires held { IsHeld state.old }
+    requires may { MayStore state.old copying number at size }
+    ensures sound { IsSoundAfter result state.new }
+    ensures proceeds { HeldTurns (in_call state.old (Call.Copy copying) state.old.gathered.items) result state.new }
+    ensures comes { ComesBy state.old (λ m. copied_each (written (kept state.old m) (copying.to + at) state.old.gathered.items) copying (drop (number + 1) (chunks_in copying)))
+        (λ m. Done) result state.new }
+    ensures same { state.new ≡ state.old }
+    ensures order { (past : Phase) → phase_after result ≡ place_from past (record {
+      target = Target.Chunk copying number;
+      at = copying.to + at;
+      size = size;
+      number = 0;
+    }) }
+{
+    are_bytes(&state.gathered);
+    start(
+        state,
+        Writing {
+            target: Target::Chunk { copying, number },
+            at: copying.to + at,
+            size,
+            number: 0,
+        },
+    )
+}

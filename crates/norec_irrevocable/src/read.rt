@@ -1,0 +1,104 @@
+//! Reads, and chunks of a copy's source.
+
+ghost use Rattle.std.specs.Prelude.{◌≡◌, ℕ, List, ◌-◌, ◌+◌, ◌≤◌, ◌<◌, false};
+ghost use Rattle.itm_types.specs.declared.limits.TheConstants.{MAX_OPEN_BLOCKS};
+ghost use Rattle.itm_model.specs.Machine.{after, reply};
+ghost use Rattle.norec_core.specs.Core.{came, handed};
+ghost use Rattle.norec_core.specs.Held.{answered, answers, leaves, reading as reading_of};
+ghost use Rattle.norec_core.specs.Order.{read_past, stage_after, stage_at};
+ghost use Rattle.norec_core.specs.OwnAccesses.{access_saved};
+ghost use Rattle.norec_data.specs.Bounds.{IsHeld};
+ghost use Rattle.norec_data.specs.Turns.{phase_after, Stays};
+ghost use Rattle.norec_data.specs.View.{call_for, core_held, held};
+ghost use Rattle.norec_irrevocable.specs.Outcomes.{in_call, kept, ComesBy, HeldTurns, IsSoundAfter, Steps};
+ghost use Rattle.norec_irrevocable.specs.Phases.{HasLoaded, IsSoundHeld};
+
+use crate::copy::{chunk_on, store_chunk};
+use itm_types::{Call, CopyPair, ReadHint, Reply, Value, Width};
+use norec_core::{Phase, Purpose, Reading};
+use norec_data::{Data, Turn, access_refusal};
+use std::mem;
+
+/// A read comes.
+pub(crate) fn read(state: &mut Data, hint: ReadHint, width: Width, at: u64) -> Turn
+    requires held { IsHeld state.old }
+    ensures sound { IsSoundAfter result state.new }
+    ensures proceeds { HeldTurns (came (core_held state.old) (Call.Read hint width at) false) result state.new }
+    ensures comes { ComesBy state.old (λ m. after MAX_OPEN_BLOCKS (kept state.old m) (Call.Read hint width at))
+        (λ m. reply MAX_OPEN_BLOCKS (kept state.old m) (Call.Read hint width at)) result state.new }
+    ensures stays { Stays state.old state.new }
+    ensures order { phase_after result ≡ stage_at (core_held state.old) (Call.Read hint width at) false }
+{
+    let refused = access_refusal(state, at, u64::from(width.size()));
+    state.come();
+    if let Some(why) = refused {
+        return Turn::Enter(Reply::Refused(why));
+    }
+    state.gathered = Value::new();
+    Turn::Wait(Phase::Load(Reading {
+        purpose: Purpose::Value { hint, width },
+        at,
+        size: width.size(),
+        number: 0,
+    }))
+}
+
+/// The word of a piece was loaded.
+pub(crate) fn loaded(state: &mut Data, reading: Reading, seen: u64) -> Turn
+    requires sound { IsSoundHeld state.old (Phase.Load reading) }
+    ensures sound { IsSoundAfter result state.new }
+    ensures proceeds { HeldTurns (handed (held state.old (Phase.Load reading)) seen) result state.new }
+    ensures steps { Steps state.old (Phase.Load reading) seen result state.new }
+    ensures stays { Stays state.old state.new }
+    ensures order { phase_after result ≡ stage_after (held state.old (Phase.Load reading)) seen }
+{
+    let Some(piece) = reading.piece() else {
+        unreachable!();
+    };
+    piece.gather(seen, &mut state.gathered);
+    let next = reading.next();
+    if next.piece().is_some() {
+        Turn::Wait(Phase::Load(next))
+    } else {
+        whole(state, reading)
+    }
+}
+
+/// The access is read whole: its bytes are answered, or are a chunk of a copy's source.
+fn whole(state: &mut Data, reading: Reading) -> Turn
+    requires held { IsHeld state.old }
+    requires loaded { HasLoaded state.old reading }
+    ensures sound { IsSoundAfter result state.new }
+    ensures proceeds { HeldTurns (record (in_call state.old (call_for reading.purpose reading.at) state.old.gathered.items) {
+      arena = access_saved reading.purpose reading.at state.old.arena state.old.gathered.items;
+    }) result state.new }
+    ensures comes { ComesBy state.old (λ m. reading_of reading.purpose reading (kept state.old m) state.old.gathered.items)
+        (λ m. answered reading.purpose state.old.gathered.items) result state.new }
+    ensures stays { Stays state.old state.new }
+    ensures order { phase_after result ≡ read_past reading.purpose }
+{
+    match reading.purpose {
+        Purpose::Value { .. } => {
+            let bytes = mem::replace(&mut state.gathered, Value::new());
+            Turn::Enter(Reply::Bytes(bytes))
+        }
+        Purpose::Chunk { copying, number } => match copying.pair {
+            CopyPair::In(_) => {
+                let _bytes = state.arena.size();
+                let start = (copying.to + (reading.at - copying.from)) as usize;
+                state.arena.put(start, &state.gathered);
+                chunk_on(state, copying, number + 1)
+            }
+            CopyPair::Out(_) => unreachable!(),
+            CopyPair::Within(_, _) => {
+                store_chunk(
+                    state,
+                    copying,
+                    number,
+                    reading.at - copying.from,
+                    reading.size,
+                )
+            }
+        },
+    }
+}

@@ -1,0 +1,127 @@
+//! Writes: each piece is one store, and before it one load where it is a part of its word.
+
+ghost use Rattle.std.specs.Prelude.{◌≡◌, ℕ, List, ◌+◌, ◌≤◌, ◌<◌, false};
+ghost use Rattle.itm_types.specs.declared.call.Reply.TheVariants.{Done};
+ghost use Rattle.itm_types.specs.declared.limits.TheConstants.{MAX_OPEN_BLOCKS};
+ghost use Rattle.itm_model.specs.Machine.{after, reply};
+ghost use Rattle.word_pieces.specs.Pieces.{pieces_of, written};
+ghost use Rattle.norec_core.specs.Core.{came, handed};
+ghost use Rattle.norec_core.specs.Held.{answers, leaves, rest_of};
+ghost use Rattle.norec_core.specs.Order.{place_from, placed_past, stage_after, stage_at};
+ghost use Rattle.norec_core.specs.OwnAccesses.{written_by};
+ghost use Rattle.norec_data.specs.Bounds.{IsHeld};
+ghost use Rattle.norec_data.specs.Turns.{phase_after, Stays};
+ghost use Rattle.norec_data.specs.View.{core_held, held, placed_for};
+ghost use Rattle.norec_irrevocable.specs.Outcomes.{in_call, kept, ComesBy, HeldTurns, IsSoundAfter, Steps};
+ghost use Rattle.norec_irrevocable.specs.Phases.{HasPlaced, IsSoundHeld, MayPlace};
+
+use crate::access::{are_bytes, next_place, value_of};
+use crate::copy::chunk_on;
+use crate::fill::fill_on;
+use itm_types::{Call, Datum, Reply, WriteHint};
+use norec_core::{Phase, Target, Writing};
+use norec_data::{Data, Turn, access_refusal};
+
+/// A write comes.
+pub(crate) fn write(state: &mut Data, hint: WriteHint, at: u64, value: &Datum) -> Turn
+    requires held { IsHeld state.old }
+    ensures sound { IsSoundAfter result state.new }
+    ensures proceeds { HeldTurns (came (core_held state.old) (Call.Write hint at value.now) false) result state.new }
+    ensures comes { ComesBy state.old (λ m. after MAX_OPEN_BLOCKS (kept state.old m) (Call.Write hint at value.now))
+        (λ m. reply MAX_OPEN_BLOCKS (kept state.old m) (Call.Write hint at value.now)) result state.new }
+    ensures stays { Stays state.old state.new }
+    ensures order { phase_after result ≡ stage_at (core_held state.old) (Call.Write hint at value.now) false }
+{
+    let refused = access_refusal(state, at, u64::from(value.width.size()));
+    state.come();
+    if let Some(why) = refused {
+        return Turn::Enter(Reply::Refused(why));
+    }
+    state.value = Datum::new(value.width, &value.bytes);
+    state.gathered = value_of(&value.bytes);
+    start(
+        state,
+        Writing {
+            target: Target::Value {
+                hint,
+                width: value.width,
+            },
+            at,
+            size: value.width.size(),
+            number: 0,
+        },
+    )
+}
+
+/// The bytes that are gathered are written: the first piece comes.
+pub(crate) fn start(state: &mut Data, writing: Writing) -> Turn
+    requires held { IsHeld state.old }
+    requires may { MayPlace state.old writing }
+    ensures sound { IsSoundAfter result state.new }
+    ensures proceeds { (bytes : List ℕ) → written_by writing.target writing.at writing.size state.old.arena bytes ≡ state.old.gathered.items
+        → HeldTurns (in_call state.old (placed_for state.old writing.target writing.at) bytes) result state.new }
+    ensures comes { ComesBy state.old (λ m. rest_of writing.target (kept state.old (written m (pieces_of writing.at writing.size) state.old.gathered.items)))
+        (λ m. Done) result state.new }
+    ensures same { state.new ≡ state.old }
+    ensures order { (past : Phase) → phase_after result ≡ place_from past writing }
+{
+    match next_place(writing) {
+        Some(phase) => Turn::Wait(phase),
+        None => unreachable!(),
+    }
+}
+
+/// The word of a piece was loaded, to be stored with the piece's bytes.
+pub(crate) fn fetched(state: &mut Data, writing: Writing, seen: u64) -> Turn
+    requires sound { IsSoundHeld state.old (Phase.Fetch writing) }
+    ensures sound { IsSoundAfter result state.new }
+    ensures proceeds { HeldTurns (handed (held state.old (Phase.Fetch writing)) seen) result state.new }
+    ensures steps { Steps state.old (Phase.Fetch writing) seen result state.new }
+    ensures stays { Stays state.old state.new }
+    ensures order { phase_after result ≡ stage_after (held state.old (Phase.Fetch writing)) seen }
+{
+    Turn::Wait(Phase::Place(writing, Some(seen)))
+}
+
+/// A piece was stored.
+pub(crate) fn placed(state: &mut Data, writing: Writing, got: Option<u64>) -> Turn
+    requires sound { IsSoundHeld state.old (Phase.Place writing got) }
+    ensures sound { IsSoundAfter result state.new }
+    ensures proceeds { HeldTurns (handed (held state.old (Phase.Place writing got)) 0) result state.new }
+    ensures steps { Steps state.old (Phase.Place writing got) 0 result state.new }
+    ensures stays { Stays state.old state.new }
+    ensures order { phase_after result ≡ stage_after (held state.old (Phase.Place writing got)) 0 }
+{
+    are_bytes(&state.gathered);
+    let next = Writing {
+        number: writing.number + 1,
+        ..writing
+    };
+    match next_place(next) {
+        Some(phase) => Turn::Wait(phase),
+        None => past(state, writing),
+    }
+}
+
+/// The access is written whole: the call is done, or its next chunk comes.
+fn past(state: &mut Data, writing: Writing) -> Turn
+    requires held { IsHeld state.old }
+    requires placed { HasPlaced state.old writing }
+    ensures sound { IsSoundAfter result state.new }
+    ensures proceeds { (bytes : List ℕ) → HeldTurns (in_call state.old (placed_for state.old writing.target writing.at) bytes) result state.new }
+    ensures comes { ComesBy state.old (λ m. rest_of writing.target (kept state.old m)) (λ m. Done) result state.new }
+    ensures stays { Stays state.old state.new }
+    ensures order { phase_after result ≡ placed_past writing.target }
+{
+    match writing.target {
+        Target::Value { .. } => Turn::Enter(Reply::Done),
+        Target::Fill {
+            hint,
+            to,
+            byte,
+            size,
+            number,
+        } => fill_on(state, hint, to, byte, size, number + 1),
+        Target::Chunk { copying, number } => chunk_on(state, copying, number + 1),
+    }
+}

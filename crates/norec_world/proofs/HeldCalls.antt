@@ -1,0 +1,119 @@
+-- What a call comes to in an irrevocable transaction, by the plain state that the attempt's calls alone lead to.
+use Rattle.std.proofs.Common.{◌≡◌, ◌≢◌, ℕ, suc, ◌+◌, ◌/◌, ◌<◌, ◌&&◌, ◌||◌, Bool, true, false, not, nat_lt, List, [], ◌∷◌, length, map, Option, None, Some, IsSome, is_some, if◌then◌else◌, slice_get, refl, sym, true≢false, ap, subst, ◌∙◌, arith}
+use Rattle.std.proofs.lemmas.Bool.{ltb-true}
+use Rattle.itm_types.specs.declared.call.Call.TheVariants.{Mode}
+use Rattle.itm_model.specs.Machine.{or_else, reply_unless, unless}
+use Rattle.nest_frames.specs.Nest.{Frame, made_irrevocable, stays_revocable}
+use Rattle.user_actions.specs.Actions.{Actions, committed as run_commits}
+use Rattle.norec_core.proofs.Machines.{commits}
+use Rattle.norec_core.specs.Core.{goes, may_go}
+use Rattle.norec_core.specs.Held.{ComesTo}
+use Rattle.norec_core.specs.Proceeds.{WantsClock, blocks_after}
+use Rattle.norec_core.specs.Stands.{is_some_row, state_in, state_kept}
+use Rattle.norec_engine.proofs.IrrevocableEntries.{begin_enters, mode_enters}
+use Rattle.norec_world.proofs.Common.{Answers, Attempt, Begin, Call, Cells, Code, Commit, Committed, Core, Done, Enters, Got, MAX_OPEN_BLOCKS, Next, Outside, Replied, Row, Rows, State, Store, active_of, after, alone, both_ways, bytes_at, bytes_of, in_transaction, is_inside, is_open, reply, stands_for, state_over, takes_clock}
+
+-- the attempt's calls alone on the memory of its position lead to an open block, and the call comes to what the plain machine makes of it then
+pub record HasHeld (base : List ℕ) (cells cells' : Cells) (r : Rows) (thread : ℕ) (mid new : Core) (call : Call) (what : Next) : Type 0 where
+  pub still_open : mid.irrevocable ≡ true → (row : Attempt) → active_of thread r.active ≡ Some row → is_open (alone MAX_OPEN_BLOCKS (bytes_at base r.ended (cells.clock / 2)) row) ≡ true
+  pub ran : mid.irrevocable ≡ true → (row : Attempt) → active_of thread r.active ≡ Some row → row.ran ≡ (alone MAX_OPEN_BLOCKS (bytes_at base r.ended (cells.clock / 2)) row).actions.ran
+  pub comes : mid.irrevocable ≡ true → (row : Attempt) → active_of thread r.active ≡ Some row
+      → ComesTo (after MAX_OPEN_BLOCKS (alone MAX_OPEN_BLOCKS (bytes_at base r.ended (cells.clock / 2)) row) call) (reply MAX_OPEN_BLOCKS (alone MAX_OPEN_BLOCKS (bytes_at base r.ended (cells.clock / 2)) row) call) what new cells'.words
+  pub commits : mid.irrevocable ≡ true → (row : Attempt) → active_of thread r.active ≡ Some row → (at : ℕ) (wrote : Bool) → what ≡ Answers (Committed at wrote)
+      → after MAX_OPEN_BLOCKS (alone MAX_OPEN_BLOCKS (bytes_at base r.ended (cells.clock / 2)) row) call ≡ after MAX_OPEN_BLOCKS (stands_for mid cells'.words) Commit
+  pub shut : in_transaction mid ≡ false → mid.irrevocable ≡ false
+  pub got : mid.irrevocable ≡ true → (word value : ℕ) → new.waits ≡ Some (Store (suc word) value) → Got new.got (slice_get cells'.words word)
+
+-- what an engine stands for has its actions and its arena
+pub stands_actions : (c : Core) (m : List ℕ) → (stands_for c m).actions ≡ c.actions
+stands_actions c m = by_mode c.irrevocable
+  where
+    by_mode : (b : Bool) → (state_in b c.writes c.blocks c.arena c.actions m).actions ≡ c.actions
+    by_mode true = refl
+    by_mode false = refl
+
+pub stands_arena : (c : Core) (m : List ℕ) → (stands_for c m).arena ≡ c.arena
+stands_arena c m = by_mode c.irrevocable
+  where
+    by_mode : (b : Bool) → (state_in b c.writes c.blocks c.arena c.actions m).arena ≡ c.arena
+    by_mode true = refl
+    by_mode false = refl
+
+-- what a commit makes of the plain state that the calls before it lead to, once its stores are done
+pub record CommitsTo (cells : Cells) (new : Core) (call : Call) (wrote : Bool) (s : State) : Type 0 where
+  pub closes : is_open (after MAX_OPEN_BLOCKS s call) ≡ false
+  pub wrote_is : wrote ≡ (after MAX_OPEN_BLOCKS s call).wrote
+  pub arena_is : new.arena ≡ (after MAX_OPEN_BLOCKS s call).arena
+  pub actions_is : new.actions ≡ (after MAX_OPEN_BLOCKS s call).actions
+  pub memory_is : wrote ≡ true → bytes_of cells.words ≡ (after MAX_OPEN_BLOCKS s call).memory
+
+-- an open block's commit is answered so
+pub commit_reply : (s : State) → is_open s ≡ true → Done ≡ reply MAX_OPEN_BLOCKS s Commit
+commit_reply s o = sym (ap (λ (b : Bool). reply_unless (or_else (unless b Outside) None) Done) o)
+
+-- the commit of an irrevocable transaction
+pub commits_kept : (mid : Core) (m : List ℕ) → mid.irrevocable ≡ true → length mid.blocks ≡ 1
+    → after MAX_OPEN_BLOCKS (stands_for mid m) Commit ≡ record { memory = bytes_of m; arena = mid.arena; blocks = []; actions = run_commits mid.actions; wrote = true; irrevocable = false }
+commits_kept mid m held one =
+    ap (λ (b : Bool). after MAX_OPEN_BLOCKS (state_in b mid.writes mid.blocks mid.arena mid.actions m) Commit) held ∙ by_blocks mid.blocks one
+  where
+    by_blocks : (blocks : List Frame) → length blocks ≡ 1 → after MAX_OPEN_BLOCKS (state_kept blocks mid.arena mid.actions m) Commit ≡ record { memory = bytes_of m; arena = mid.arena; blocks = []; actions = run_commits mid.actions; wrote = true; irrevocable = false }
+    by_blocks [] o = absurd (cc)
+    by_blocks (b ∷ []) o = refl
+    by_blocks (b ∷ p ∷ bs) o = absurd (omega (arith, o))
+
+-- and of one that is not
+pub commits_over : (mid : Core) (m : List ℕ) → mid.irrevocable ≡ false → length mid.blocks ≡ 1 → is_open (after MAX_OPEN_BLOCKS (stands_for mid m) Commit) ≡ false
+commits_over mid m revocable one =
+    ap (λ (b : Bool). is_open (after MAX_OPEN_BLOCKS (state_in b mid.writes mid.blocks mid.arena mid.actions m) Commit)) revocable ∙ ap is_open (commits mid.writes mid.blocks mid.arena mid.actions m one)
+
+-- ## A call that wants the clock
+
+both_true : (x y : Bool) → (x && y) ≡ true → (x ≡ true) × (y ≡ true)
+both_true true y e = (refl, e)
+both_true false y e = absurd (cc)
+
+no_true : (x : Bool) → not x ≡ true → x ≡ false
+no_true true e = absurd (cc)
+no_true false e = refl
+
+-- the room is told under this condition
+told_under : (b : Bool) (room : ℕ) → is_some (if b then Some room else None) ≡ true → b ≡ true
+told_under true room e = refl
+told_under false room e = absurd (cc)
+
+some_rows : (rows : List Row) → rows ≢ [] → is_some_row rows ≡ true
+some_rows [] n = absurd (n refl)
+some_rows (x ∷ xs) n = refl
+
+module _ (mid : Core) (m : List ℕ) (revocable : mid.irrevocable ≡ false) (inside : in_transaction mid ≡ true) where
+  over_it : (call : Call) → takes_clock (after MAX_OPEN_BLOCKS (state_over mid.writes mid.blocks mid.arena mid.actions m) call) ≡ true → takes_clock (after MAX_OPEN_BLOCKS (stands_for mid m) call) ≡ true
+  over_it call e = ap (λ (b : Bool). takes_clock (after MAX_OPEN_BLOCKS (state_in b mid.writes mid.blocks mid.arena mid.actions m) call)) revocable ∙ e
+
+  -- takes it where it is served
+  pub wants_taking : (call : Call) → WantsClock mid (Some call) → takes_clock (after MAX_OPEN_BLOCKS (stands_for mid m) call) ≡ true
+  wants_taking Commit w = over_it Commit (ap takes_clock (commits mid.writes mid.blocks mid.arena mid.actions m w.0) ∙ some_rows mid.writes w.1)
+  wants_taking (Mode room) w =
+      let all = told_under (in_transaction mid && not (stays_revocable mid.blocks) && not mid.irrevocable) room w in
+      let free = no_true (stays_revocable mid.blocks) (both_true (in_transaction mid) _ (both_true (in_transaction mid && not (stays_revocable mid.blocks)) _ all).0).1 in
+      over_it (Mode room) (ap takes_clock (sym (mode_enters mid.writes mid.blocks mid.arena mid.actions m room inside free).0))
+  wants_taking (Begin props room) w =
+      let all = told_under (props.goes_irrevocable && may_go mid.blocks props && nat_lt (length mid.blocks) MAX_OPEN_BLOCKS && not mid.irrevocable) room w in
+      let served = both_true (props.goes_irrevocable && may_go mid.blocks props) _ (both_true (props.goes_irrevocable && may_go mid.blocks props && nat_lt (length mid.blocks) MAX_OPEN_BLOCKS) _ all).0 in
+      let may = both_true props.goes_irrevocable _ served.0 in
+      over_it (Begin props room) (ap takes_clock (sym (begin_enters mid.writes mid.blocks mid.arena mid.actions m props room inside may.0 may.1 (ltb-true (length mid.blocks) MAX_OPEN_BLOCKS served.1)).0))
+  wants_taking call w = absurd (let f : false ≡ true = w in cc)
+
+-- one that makes the transaction irrevocable leaves it open
+pub enters_open : (mid new : Core) (call : Call) (r : Replied) → in_transaction mid ≡ true → Enters mid call r new → in_transaction new ≡ true
+enters_open mid new call r inside g = ap (λ (c : Core). is_inside c.blocks) g.stays ∙ (inside_all (blocks_after mid call r) ∙ by_call call r g.goes)
+  where
+    inside_all : (blocks : List Frame) → is_inside (map made_irrevocable blocks) ≡ is_inside blocks
+    inside_all [] = refl
+    inside_all (b ∷ bs) = refl
+
+    by_call : (call : Call) (r : Replied) → IsSome (goes mid call) → is_inside (blocks_after mid call r) ≡ true
+    by_call (Begin props room) (Code n) w = refl
+    by_call (Begin props room) r w = inside
+    by_call (Mode room) r w = inside
+    by_call call r w = absurd (let f : false ≡ true = w in cc)

@@ -1,0 +1,131 @@
+//! The lines of a section: instructions, and blocks and groups that begin and end.
+
+ghost use Rattle.std.specs.Prelude.{◌≡◌};
+ghost use Rattle.script_asm.specs.Groups.{innermost};
+ghost use Rattle.script_asm.specs.Blocks.{counted, begins, ends, ends_block, turns_group, ends_group, run_code, repeats, repeated};
+ghost use Rattle.script_asm.specs.Wants.{Steps};
+
+use crate::groups::Group;
+use crate::instruction::Instruction;
+use crate::state::State;
+use crate::stop::{Stop, fault};
+use script_fields::AsmKind;
+
+#[tactic(auto, using(crate::proofs::KeptLines::code_kept))]
+fn push_code(state: &mut State, line: usize, instruction: Instruction) -> Result<(), Stop>
+    ensures { Steps result state.old state.new (counted state.old line instruction) }
+{
+    if state.threads.is_full() {
+        return fault(line, AsmKind::TooLong);
+    }
+    match state.threads.push(instruction) {
+        Ok(()) => Ok(()),
+        Err(_) => Err(Stop::Memory),
+    }
+}
+
+/// An instruction that begins a block or a group.
+fn begin(state: &mut State, line: usize, instruction: Instruction, group: Group) -> Result<(), Stop>
+    ensures { Steps result state.old state.new (begins state.old line instruction group) }
+{
+    if state.levels.is_full() {
+        return fault(line, AsmKind::TooLong);
+    }
+    push_code(state, line, instruction)?;
+    match state.levels.push(line, group) {
+        Ok(()) => Ok(()),
+        Err(_) => Err(Stop::Memory),
+    }
+}
+
+/// An instruction that ends what is innermost.
+fn end(state: &mut State, line: usize, instruction: Instruction) -> Result<(), Stop>
+    ensures { Steps result state.old state.new (ends state.old line instruction) }
+{
+    push_code(state, line, instruction)?;
+    state.levels.pop();
+    Ok(())
+}
+
+fn end_block(state: &mut State, line: usize) -> Result<(), Stop>
+    ensures { Steps result state.old state.new (ends_block state.old line (innermost state.old.levels)) }
+{
+    match state.levels.innermost() {
+        Some(Group::Block) => end(state, line, Instruction::Commit),
+        _ => fault(line, AsmKind::Unbalanced),
+    }
+}
+
+fn turn_group(state: &mut State, line: usize) -> Result<(), Stop>
+    ensures { Steps result state.old state.new (turns_group state.old line (innermost state.old.levels)) }
+{
+    match state.levels.innermost() {
+        Some(Group::First) => {
+            push_code(state, line, Instruction::Else)?;
+            state.levels.turn();
+            Ok(())
+        }
+        _ => fault(line, AsmKind::Unbalanced),
+    }
+}
+
+fn end_group(state: &mut State, line: usize) -> Result<(), Stop>
+    ensures { Steps result state.old state.new (ends_group state.old line (innermost state.old.levels)) }
+{
+    match state.levels.innermost() {
+        Some(Group::First) => end(state, line, Instruction::EndIf),
+        Some(Group::Second) => end(state, line, Instruction::EndIf),
+        _ => fault(line, AsmKind::Unbalanced),
+    }
+}
+
+/// One more line of a thread's code.
+#[tactic(auto, unfolding(crate::specs::Blocks::run_code))]
+pub fn run_code(state: &mut State, line: usize, instruction: Instruction) -> Result<(), Stop>
+    ensures { Steps result state.old state.new (run_code state.old line instruction) }
+{
+    match instruction {
+        Instruction::Begin { .. } => begin(state, line, instruction, Group::Block),
+        Instruction::IfNotZero { .. } => begin(state, line, instruction, Group::First),
+        Instruction::Else => turn_group(state, line),
+        Instruction::EndIf => end_group(state, line),
+        Instruction::Commit => end_block(state, line),
+        _ => push_code(state, line, instruction),
+    }
+}
+
+/// Lines begin that stand so many times.
+pub fn begin_repeat(state: &mut State, line: usize, times: usize) -> Result<(), Stop>
+    ensures { Steps result state.old state.new (repeats state.old line times) }
+{
+    if state.levels.is_full() {
+        return fault(line, AsmKind::TooLong);
+    }
+    let start = state.threads.code_len();
+    match state.levels.push(line, Group::Repeat { start, times }) {
+        Ok(()) => Ok(()),
+        Err(_) => Err(Stop::Memory),
+    }
+}
+
+/// They end: their code stands so many times in place of once.
+#[tactic(auto, unfolding(crate::specs::Blocks::repeated))]
+pub fn end_repeat(state: &mut State, line: usize) -> Result<(), Stop>
+    ensures { Steps result state.old state.new (repeated state.old line (innermost state.old.levels)) }
+{
+    match state.levels.innermost() {
+        Some(Group::Repeat { start, times }) => {
+            if state.threads.exceeds(start, times) {
+                return fault(line, AsmKind::TooLong);
+            }
+            match state.threads.repeat(start, times) {
+                Ok(()) => {
+                    state.levels.pop();
+                    Ok(())
+                }
+                Err(_) => Err(Stop::Memory),
+            }
+        }
+        _ => fault(line, AsmKind::Unbalanced),
+    }
+}

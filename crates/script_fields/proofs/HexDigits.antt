@@ -1,0 +1,50 @@
+-- The bytes that hexadecimal digits say.
+use Rattle.std.proofs.Common.{◌≡◌, ℕ, ◌-◌, ◌*◌, ◌/◌, ◌%◌, ◌≤◌, Bool, true, false, eqb, not, ◌&&◌, List, [], ◌++◌, length, drop, replicate, Result, Ok, Err, refl, sym, ap, ◌∙◌, arith}
+use Rattle.std.specs.Prelude.{MatchResult}
+use Rattle.std.specs.List.{list_all}
+use Rattle.std.specs.Result.{result_unwrap_or}
+use Rattle.std.proofs.lemmas.Bool.{eqb-true}
+use Rattle.std.proofs.lemmas.List.{drop-replicate}
+use Rattle.std.proofs.lemmas.List.Sums.{AllPass-from_list_all}
+use Rattle.hex.specs.declared.error.FromHexError.{FromHexError}
+use Rattle.hex.specs.Hex.{IsBytes, decode_of, decode_sized, is_hex_digit}
+use Rattle.hex.proofs.HexLemmas.{decode_of-digits, decode_of-ok, decode_sized-twice}
+use Rattle.script_fields.specs.Operands.{is_hex, decoded, literal_of}
+
+and_true : (a b : Bool) → (a && b) ≡ true → (a ≡ true) × (b ≡ true)
+and_true true b h = (refl, h)
+and_true false b h = absurd cc
+
+-- digits are decoded to bytes, two digits for each byte
+pub decode_of-hex : (f : List ℕ) → is_hex f ≡ true → (decode_of f ≡ Ok (decoded f)) × (length f ≡ 2 * length (decoded f)) × IsBytes (decoded f)
+decode_of-hex f h =
+    let a = and_true (not (eqb (length f) 0)) (eqb (length f % 2) 0 && list_all is_hex_digit f) h in
+    let b = and_true (eqb (length f % 2) 0) (list_all is_hex_digit f) a.1 in
+    let even : length f % 2 ≡ 0 = eqb-true (length f % 2) 0 b.0 in
+    let d = decode_of-digits f even (AllPass-from_list_all is_hex_digit f b.1) in
+    let same : decode_of f ≡ Ok (decoded f) = d.1 ∙ ap (λ (bytes : List ℕ). Ok bytes) (sym (ap (λ (r : Result (List ℕ) FromHexError). result_unwrap_or r []) d.1)) in
+    let ok = decode_of-ok f (decoded f) same in
+    (same, ok.2, ok.3)
+
+-- two digits for each byte
+pub length-decoded : (f : List ℕ) → is_hex f ≡ true → length f / 2 ≡ length (decoded f)
+length-decoded f h = omega (arith, (decode_of-hex f h).1)
+
+pub decoded_is : (f bytes : List ℕ) → decode_of f ≡ Ok bytes → decoded f ≡ bytes
+decoded_is f bytes e = ap (λ (r : Result (List ℕ) FromHexError). result_unwrap_or r []) e
+
+-- what was decoded into room for just these bytes
+pub decoded_into : (f old new : List ℕ) (r : Result (Unit {0}) FromHexError) → is_hex f ≡ true → length old ≡ length f / 2
+    → MatchResult (decode_sized f (length old)) (λ bytes. (r ≡ Ok tt) × (new ≡ bytes)) (λ e. r ≡ Err e) → new ≡ decoded f
+decoded_into f old new r h e m =
+    let twice : length f ≡ 2 * length old = omega (arith, (decode_of-hex f h).1) in
+    let sized : decode_sized f (length old) ≡ Ok (decoded f) = decode_sized-twice f (length old) twice ∙ (decode_of-hex f h).0 in
+    (rw sized at m).1
+
+-- the bytes, and the zeros that were left after them
+pub literal_is : (f new rest : List ℕ) → is_hex f ≡ true → length f ≤ 64 → new ≡ decoded f → rest ≡ drop (length f / 2) (replicate 32 0)
+    → record { bytes = new ++ rest; count = length f / 2 } ≡ literal_of (decoded f)
+literal_is f new rest h few e z =
+    let n = length-decoded f h in
+    let zeros : rest ≡ replicate (32 - length (decoded f)) 0 = z ∙ drop-replicate (length f / 2) 32 0 ∙ ap (λ (k : ℕ). replicate (32 - k) 0) n in
+    rw (e, zeros, n) refl

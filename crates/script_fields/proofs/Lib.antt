@@ -1,0 +1,11 @@
+pub mod FirstLines
+pub mod Digits
+pub mod FieldLookup
+pub mod HexDigits
+pub mod NamedProperties
+pub mod SpelledNumbers
+pub mod SpelledFields
+pub mod SpelledOperands
+pub mod SpelledShapes
+pub mod OnLiterals
+pub mod Worked

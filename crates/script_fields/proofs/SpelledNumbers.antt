@@ -1,0 +1,86 @@
+-- Numbers that are written are read as they were, and what is read as a number was written so.
+use Rattle.std.proofs.Common.{◌≡◌, ◌≢◌, ℕ, zero, suc, ◌^◌, ◌<◌, ◌≤◌, Bool, true, false, cond, ltb, leb, eqb, not, ◌&&◌, List, length, get_or, Some, None, Ok, Err, refl, ap, ◌∙◌, arith, rules, lit<, inl, inr}
+use Rattle.std.specs.Prelude.{decimal}
+use Rattle.std.specs.List.{list_all}
+use Rattle.std.proofs.lemmas.Bool.{ne_eqb, lt-ltb, le-leb, leb-true, ltb-true, and_parts}
+use Rattle.std.proofs.lemmas.Fmt.{digits_decimal, digits_value-decimal, first_decimal, decimal_nonempty, decimal_digit}
+use Rattle.std.proofs.lemmas.List.Elements.{All-weaker}
+use Rattle.std.proofs.lemmas.List.Sums.{AllPass-from_list_all, list_all-from_AllPass}
+use Rattle.std.proofs.lemmas.Str.Parse.{IsNumeralModel, numerals_by_fold}
+use Rattle.script_fields.specs.declared.fault.AsmKind.TheVariants as kinds
+use Rattle.script_fields.specs.Text.{IsField, is_field_byte}
+use Rattle.script_fields.specs.Operands.{value_after, value_of, in_range, is_number, is_digit, number, within, function}
+use Rattle.script_fields.proofs.FirstLines.{chosen}
+
+own : IsNumeralModel (λ ds. list_all is_digit ds ≡ true) (value_after 0)
+own = numerals_by_fold _ (search rules) value_after (search rules)
+
+pub digits_again : (n : ℕ) → n < 2 ^ 64 → list_all is_digit (decimal n) ≡ true
+digits_again n h = digits_decimal own n h
+
+no_zero_front : (n : ℕ) → 0 < n → n < 2 ^ 64 → get_or (decimal n) 0 0 ≢ 48
+no_zero_front n p h e = omega (arith, first_decimal n p h)
+
+front_again : (n : ℕ) → n < 2 ^ 64 → (eqb (get_or (decimal n) 0 0) 48 && ltb 1 (length (decimal n))) ≡ false
+front_again zero h = rw (decimal_digit 0 (lit< tt)) refl
+front_again (suc n) h = ap (λ (t : Bool). t && ltb 1 (length (decimal (suc n)))) (ne_eqb _ 48 (no_zero_front (suc n) (omega arith) h))
+
+-- a number's digits are read as the number
+pub number_again : (n : ℕ) → n < 2 ^ 64 → number (decimal n) ≡ Ok n
+unfolding number value_of
+number_again n h =
+    let some : eqb (length (decimal n)) 0 ≡ false = ne_eqb _ 0 (λ e. omega (arith, decimal_nonempty n h)) in
+    let digits = digits_again n h in
+    let front : (eqb (get_or (decimal n) 0 0) 48 && ltb 1 (length (decimal n))) ≡ false = front_again n h in
+    rw (some, front, digits, digits_value-decimal own n h, lt-ltb n (2 ^ 64) h) refl
+
+-- a number between the two is left as it is
+pub within_again : (low high n : ℕ) → low ≤ n → n ≤ high → within low high n ≡ Ok n
+within_again low high n l h = rw (le-leb low n l, le-leb n high h) refl
+
+pub function_again : (n : ℕ) → n < 2 ^ 32 → function (decimal n) ≡ Ok n
+unfolding function
+function_again n h = rw (number_again n (omega arith)) (within_again 0 4294967295 n (omega arith) (omega arith))
+
+-- ## Fields
+
+-- what passes the first test passes the second
+pub list_all-weaker : (p q : ℕ → Bool) → ((b : ℕ) → p b ≡ true → q b ≡ true) → (bs : List ℕ) → list_all p bs ≡ true → list_all q bs ≡ true
+list_all-weaker p q f bs h = list_all-from_AllPass q bs (All-weaker (λ (b : ℕ). p b ≡ true) (λ (b : ℕ). q b ≡ true) f bs (AllPass-from_list_all p bs h))
+
+-- a visible byte that is not `;`
+pub field_byte : (b : ℕ) → 33 ≤ b → b ≤ 126 → b ≢ 59 → is_field_byte b ≡ true
+field_byte b low high not = rw (le-leb 33 b low, le-leb b 126 high, ne_eqb b 59 not) refl
+
+digit_byte : (b : ℕ) → is_digit b ≡ true → is_field_byte b ≡ true
+digit_byte b h =
+    let parts = and_parts (leb 48 b) (leb b 57) h in
+    let low = leb-true 48 b parts.0 in
+    let high = leb-true b 57 parts.1 in
+    field_byte b (omega arith) (omega arith) (λ e. omega arith)
+
+pub decimal_field : (n : ℕ) → n < 2 ^ 64 → IsField (decimal n)
+decimal_field n h = (decimal_nonempty n h, list_all-weaker is_digit is_field_byte digit_byte (decimal n) (digits_again n h))
+
+-- ## What is read
+
+value_below : (v n : ℕ) → in_range (cond (ltb v (2 ^ 64)) (Some v) None) ≡ Ok n → n < 2 ^ 64
+value_below v n e =
+    elim (chosen (ltb v (2 ^ 64)) (Some v) None (cond (ltb v (2 ^ 64)) (Some v) None) refl) [
+      | inl fits ↦
+          let same : in_range (Some v) ≡ Ok n = ap in_range fits.1 ∙ e in
+          let is : v ≡ n = cc in
+          omega (arith, ltb-true _ _ fits.0)
+      | inr big ↦
+          let none : in_range None ≡ Ok n = ap in_range big.1 ∙ e in
+          absurd cc
+    ]
+
+-- what is read as a number has at most 64 bits
+pub number_form : (f : List ℕ) (n : ℕ) → number f ≡ Ok n → n < 2 ^ 64
+unfolding number value_of
+number_form f n e =
+    elim (chosen (is_number f) (in_range (cond (ltb (value_after 0 f) (2 ^ 64)) (Some (value_after 0 f)) None)) (Err kinds.Operand) (Ok n) e) [
+      | inl good ↦ value_below (value_after 0 f) n good.1
+      | inr bad ↦ absurd cc
+    ]

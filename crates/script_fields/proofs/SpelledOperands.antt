@@ -1,0 +1,252 @@
+-- Operands that are written are read as they were.
+use Rattle.std.proofs.Common.{◌≡◌, ℕ, suc, ◌-◌, ◌*◌, ◌/◌, ◌%◌, ◌^◌, ◌<◌, ◌≤◌, Bool, true, false, eqb, leb, ltb, List, [], ◌∷◌, ◌++◌, length, take, replicate, Option, Some, None, Result, Ok, Err, refl, sym, ap, subst, ◌∙◌, arith, lit<, inl, inr}
+use Rattle.std.specs.Prelude.{decimal, slice_index}
+use Rattle.std.specs.List.{list_all}
+use Rattle.std.proofs.lemmas.Bool.{ne_eqb, eq-eqb, leb-true, le-ltb, ltb-false, and_parts, eqb-false, not-true, cases_Bool}
+use Rattle.std.proofs.lemmas.Fmt.{decimal_nonempty}
+use Rattle.std.proofs.lemmas.List.{length-take, length-append, length-replicate}
+use Rattle.std.proofs.lemmas.List.Elements.{All-get_or}
+use Rattle.std.proofs.lemmas.List.Sums.{AllPass-from_list_all}
+use Rattle.std.proofs.Math.Seq.{take-append_seam}
+use Rattle.hex.specs.Hex.{IsBytes, encode_lower, encode_with, lower_digits, is_hex_digit}
+use Rattle.hex.proofs.HexLemmas.{decode_of-encode_lower, length-encode_with}
+use Rattle.itm_types.specs.declared.call.Props.{Props}
+use Rattle.itm_types.specs.declared.limits.TheConstants.{MAX_MEMORY}
+use Rattle.script_fields.specs.declared.fault.AsmKind.{AsmKind}
+use Rattle.script_fields.specs.declared.fault.AsmKind.TheVariants as kinds
+use Rattle.script_fields.specs.declared.literal.Literal.{Literal}
+use Rattle.script_fields.specs.declared.place.Place.{Place}
+use Rattle.script_fields.specs.declared.place.Place.TheVariants as places
+use Rattle.script_fields.specs.declared.register.Register.{Register}
+use Rattle.script_fields.specs.declared.register.Register.TheVariants.{R0, R1, R2, R3, R4, R5, R6, R7, R8, R9, R10, R11, R12, R13, R14, R15}
+use Rattle.script_fields.specs.Text.{IsField, is_field_byte}
+use Rattle.script_fields.specs.Registers.{register_name}
+use Rattle.script_fields.specs.Properties.{props_text}
+use Rattle.script_fields.specs.Operands.{is_digit, number, named, register, or_number, place, is_hex, decoded, digits_to, digits, literal_of, literal, property, props, scope, mode, no_transaction}
+use Rattle.script_fields.specs.Spelling.{IsPlace, IsLiteral, place_text, said_bytes, literal_text, scope_text, mode_text, no_transaction_text}
+use Rattle.script_fields.proofs.HexDigits.{decode_of-hex, decoded_is}
+use Rattle.script_fields.proofs.SpelledNumbers.{number_again, number_form, digits_again, decimal_field}
+
+-- ## Registers
+
+named_again : (r : Register) → named (register_name r) ≡ Some r
+unfolding named
+named_again R0 = refl
+named_again R1 = refl
+named_again R2 = refl
+named_again R3 = refl
+named_again R4 = refl
+named_again R5 = refl
+named_again R6 = refl
+named_again R7 = refl
+named_again R8 = refl
+named_again R9 = refl
+named_again R10 = refl
+named_again R11 = refl
+named_again R12 = refl
+named_again R13 = refl
+named_again R14 = refl
+named_again R15 = refl
+
+-- a register's name is read as the register
+pub register_again : (r : Register) → register (register_name r) ≡ Ok r
+register_again r = rw (named_again r) refl
+
+pub register_field : (r : Register) → IsField (register_name r)
+register_field R0 = (lit< tt, refl)
+register_field R1 = (lit< tt, refl)
+register_field R2 = (lit< tt, refl)
+register_field R3 = (lit< tt, refl)
+register_field R4 = (lit< tt, refl)
+register_field R5 = (lit< tt, refl)
+register_field R6 = (lit< tt, refl)
+register_field R7 = (lit< tt, refl)
+register_field R8 = (lit< tt, refl)
+register_field R9 = (lit< tt, refl)
+register_field R10 = (lit< tt, refl)
+register_field R11 = (lit< tt, refl)
+register_field R12 = (lit< tt, refl)
+register_field R13 = (lit< tt, refl)
+register_field R14 = (lit< tt, refl)
+register_field R15 = (lit< tt, refl)
+
+-- ## Places
+
+-- a name begins with `r`
+unnamed : (c : ℕ) (cs : List ℕ) → eqb 114 c ≡ false → named (c ∷ cs) ≡ None
+unfolding named
+unnamed c cs h = rw h refl
+
+digits_unnamed : (f : List ℕ) → 0 < length f → list_all is_digit f ≡ true → named f ≡ None
+digits_unnamed [] some h = absurd (omega arith)
+digits_unnamed (c ∷ cs) some h =
+    let first = and_parts (is_digit c) (list_all is_digit cs) h in
+    let high = leb-true c 57 (and_parts (leb 48 c) (leb c 57) first.0).1 in
+    unnamed c cs (ne_eqb 114 c (λ e. omega arith))
+
+-- a place that is written is read as the place
+pub place_again : (p : Place) → IsPlace p → place (place_text p) ≡ Ok p
+unfolding place
+place_again (places.Register r) h = rw (named_again r) refl
+place_again (places.Number n) h = rw (digits_unnamed (decimal n) (decimal_nonempty n h) (digits_again n h), number_again n h) refl
+
+pub place_field : (p : Place) → IsPlace p → IsField (place_text p)
+place_field (places.Register r) h = register_field r
+place_field (places.Number n) h = decimal_field n h
+
+-- ## Bytes
+
+encoded_all : (p : ℕ → Bool) → list_all p lower_digits ≡ true → (bytes : List ℕ) → IsBytes bytes → list_all p (encode_lower bytes) ≡ true
+unfolding encode_with
+encoded_all p t [] h = refl
+encoded_all p t (b ∷ rest) h =
+    let all = AllPass-from_list_all p lower_digits t in
+    let small : b < 256 = h 0 in
+    let high : p (slice_index lower_digits (b / 16)) ≡ true = All-get_or (λ (c : ℕ). p c ≡ true) lower_digits (b / 16) 0 (omega arith) all in
+    let low : p (slice_index lower_digits (b % 16)) ≡ true = All-get_or (λ (c : ℕ). p c ≡ true) lower_digits (b % 16) 0 (omega arith) all in
+    let more = encoded_all p t rest (λ (i : ℕ). h (suc i)) in
+    rw (high, low) more
+
+hex_again : (bytes : List ℕ) → IsBytes bytes → 1 ≤ length bytes → is_hex (encode_lower bytes) ≡ true
+hex_again bytes h some =
+    let twice = length-encode_with lower_digits bytes in
+    let long : eqb (length (encode_lower bytes)) 0 ≡ false = ne_eqb _ 0 (λ e. omega arith) in
+    let even : eqb (length (encode_lower bytes) % 2) 0 ≡ true = eq-eqb _ 0 (omega arith) in
+    rw (long, even) (encoded_all is_hex_digit refl bytes h)
+
+digits_to_again : (most : ℕ) (bytes : List ℕ) → IsBytes bytes → 1 ≤ length bytes → 2 * length bytes ≤ most → digits_to most (encode_lower bytes) ≡ Ok bytes
+digits_to_again most bytes h some few =
+    let hex = hex_again bytes h some in
+    let twice = length-encode_with lower_digits bytes in
+    let fits : ltb most (length (encode_lower bytes)) ≡ false = le-ltb most _ (omega arith) in
+    rw (hex, fits) (ap (λ (bs : List ℕ). Ok bs) (decoded_is _ _ (decode_of-encode_lower bytes h)))
+
+-- bytes for the memory that are written are read as they were
+pub digits_again_hex : (bytes : List ℕ) → IsBytes bytes → 1 ≤ length bytes → length bytes ≤ MAX_MEMORY → digits (encode_lower bytes) ≡ Ok bytes
+unfolding digits
+digits_again_hex bytes h some few = digits_to_again (2 * MAX_MEMORY) bytes h some (omega arith)
+
+abbrev made : List ℕ → ℕ → Literal
+made bytes count = record { bytes = bytes; count = count }
+
+literal_is : (l : Literal) → IsLiteral l → literal_of (said_bytes l) ≡ l
+literal_is l h =
+    let count : length (said_bytes l) ≡ l.count = omega (arith, length-take l.count l.bytes, h.high, h.room) in
+    let bytes : said_bytes l ++ replicate (32 - length (said_bytes l)) 0 ≡ l.bytes = ap (λ (n : ℕ). said_bytes l ++ replicate (32 - n) 0) count ∙ sym h.zeros in
+    ap (λ (bs : List ℕ). made bs (length (said_bytes l))) bytes ∙ ap (made l.bytes) count
+
+-- bytes for a register that are written are read as they were
+pub literal_again : (l : Literal) → IsLiteral l → literal (literal_text l) ≡ Ok l
+unfolding literal
+literal_again l h =
+    let count : length (said_bytes l) ≡ l.count = omega (arith, length-take l.count l.bytes, h.high, h.room) in
+    rw (digits_to_again 64 (said_bytes l) h.bytes (omega (arith, count, h.low)) (omega (arith, count, h.high))) (ap (λ (k : Literal). Ok k) (literal_is l h))
+
+pub hex_field : (bytes : List ℕ) → IsBytes bytes → 1 ≤ length bytes → IsField (encode_lower bytes)
+hex_field bytes h some = (omega (arith, length-encode_with lower_digits bytes), encoded_all is_field_byte refl bytes h)
+
+pub literal_field : (l : Literal) → IsLiteral l → IsField (literal_text l)
+literal_field l h = hex_field (said_bytes l) h.bytes (omega (arith, length-take l.count l.bytes, h.low, h.high, h.room))
+
+-- ## Words
+
+made_again : (abort irrevocable goes : Bool) → props (props_text (record { no_abort = abort; no_irrevocable = irrevocable; goes_irrevocable = goes })) ≡ Ok (record { no_abort = abort; no_irrevocable = irrevocable; goes_irrevocable = goes })
+unfolding props property
+made_again false false false = refl
+made_again false false true = refl
+made_again false true false = refl
+made_again false true true = refl
+made_again true false false = refl
+made_again true false true = refl
+made_again true true false = refl
+made_again true true true = refl
+
+-- properties that are written are read as they were
+pub props_again : (p : Props) → props (props_text p) ≡ Ok p
+props_again p = made_again p.no_abort p.no_irrevocable p.goes_irrevocable
+
+made_field : (abort irrevocable goes : Bool) → IsField (props_text (record { no_abort = abort; no_irrevocable = irrevocable; goes_irrevocable = goes }))
+made_field false false false = (lit< tt, refl)
+made_field false false true = (lit< tt, refl)
+made_field false true false = (lit< tt, refl)
+made_field false true true = (lit< tt, refl)
+made_field true false false = (lit< tt, refl)
+made_field true false true = (lit< tt, refl)
+made_field true true false = (lit< tt, refl)
+made_field true true true = (lit< tt, refl)
+
+pub props_field : (p : Props) → IsField (props_text p)
+props_field p = made_field p.no_abort p.no_irrevocable p.goes_irrevocable
+
+pub scope_again : (outer : Bool) → scope (scope_text outer) ≡ Ok outer
+unfolding scope
+scope_again false = refl
+scope_again true = refl
+
+pub scope_field : (outer : Bool) → IsField (scope_text outer)
+scope_field false = (lit< tt, refl)
+scope_field true = (lit< tt, refl)
+
+pub mode_again : mode mode_text ≡ Ok tt
+unfolding mode
+mode_again = refl
+
+pub mode_field : IsField mode_text
+mode_field = (lit< tt, refl)
+
+pub no_transaction_again : no_transaction no_transaction_text ≡ Ok tt
+unfolding no_transaction
+no_transaction_again = refl
+
+pub no_transaction_field : IsField no_transaction_text
+no_transaction_field = (lit< tt, refl)
+
+-- ## What is read
+
+number_place : (f : List ℕ) (p : Place) (r : Result ℕ AsmKind) → ((n : ℕ) → r ≡ Ok n → n < 2 ^ 64) → or_number None r ≡ Ok p → IsPlace p
+number_place f (places.Register s) r h e = tt
+number_place f (places.Number n) (Ok m) h e = let is : m ≡ n = cc in subst (λ (k : ℕ). k < 2 ^ 64) is (h m refl)
+number_place f (places.Number n) (Err k) h e = absurd cc
+
+some_place : (p : Place) (o : Option Register) (f : List ℕ) → or_number o (number f) ≡ Ok p → IsPlace p
+some_place (places.Register s) o f e = tt
+some_place (places.Number n) (Some s) f e = absurd cc
+some_place (places.Number n) None f e = number_place f (places.Number n) (number f) (number_form f) e
+
+-- what is read as a place is one that a script can say
+pub place_form : (f : List ℕ) (p : Place) → place f ≡ Ok p → IsPlace p
+unfolding place
+place_form f p e = some_place p (named f) f e
+
+few_bytes : (bytes : List ℕ) → IsBytes bytes → 1 ≤ length bytes → length bytes ≤ 32 → IsLiteral (literal_of bytes)
+few_bytes bytes h some few =
+    let zeros = replicate (32 - length bytes) 0 in
+    let said : take (length bytes) (bytes ++ zeros) ≡ bytes = take-append_seam bytes zeros in
+    record {
+      low = some;
+      high = few;
+      room = omega (arith, length-append bytes zeros, length-replicate {A = ℕ} (32 - length bytes) 0);
+      zeros = ap (λ (l : List ℕ). l ++ zeros) (sym said);
+      bytes = subst IsBytes (sym said) h;
+    }
+
+digits_form : (f : List ℕ) → is_hex f ≡ true → length f ≤ 64 → IsLiteral (literal_of (decoded f))
+digits_form f hex few =
+    let d = decode_of-hex f hex in
+    let some : length f ≡ 0 → ⊥ = eqb-false (length f) 0 (not-true _ (and_parts _ _ hex).0) in
+    few_bytes (decoded f) d.2 (omega (arith, d.1, some)) (omega (arith, d.1))
+
+-- what is read as bytes for a register is what a script can say for one
+pub literal_form : (f : List ℕ) (l : Literal) → literal f ≡ Ok l → IsLiteral l
+unfolding literal
+literal_form f l e =
+    elim (cases_Bool (is_hex f)) [
+      | inr bad ↦ let no : Err kinds.Operand ≡ Ok l = rw bad at e in absurd cc
+      | inl hex ↦ elim (cases_Bool (ltb 64 (length f))) [
+        | inl long ↦ let no : Err kinds.Range ≡ Ok l = rw (hex, long) at e in absurd cc
+        | inr short ↦
+            let is : Ok (literal_of (decoded f)) ≡ Ok l = rw (hex, short) at e in
+            let same : literal_of (decoded f) ≡ l = cc in
+            subst IsLiteral same (digits_form f hex (ltb-false _ _ short))
+      ]
+    ]

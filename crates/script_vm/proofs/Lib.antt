@@ -1,0 +1,5 @@
+pub mod Examples
+pub mod CancelExamples
+pub mod Padding
+pub mod LowBytes
+pub mod KeptBlocks

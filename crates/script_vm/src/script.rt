@@ -1,0 +1,227 @@
+//! A thread of a program makes its calls.
+
+ghost use Rattle.std.specs.Prelude.{◌≡◌, ◌+◌, ◌<◌, ◌≤◌, length, IfOk};
+
+use crate::blocks::OpenBlocks;
+use crate::calls::call_at;
+use crate::ends::past_block;
+use crate::registers::Registers;
+use crate::start::Start;
+use crate::work::settle;
+use itm_types::{Call, Reply};
+use script_asm::{Instruction, MAX_INSTRUCTIONS, Program, Register};
+use std::alloc::{AllocError, Global};
+use std::marker::Model;
+use tx_player::Player;
+
+/// The thread of a program. Between calls it stands at its next call, or at its end.
+#[derive(Drop)]
+pub struct Script<'p> {
+    rest: &'p [Instruction],
+    registers: Registers,
+    blocks: OpenBlocks<'p>,
+}
+
+impl<'p> Model for Script<'p> {
+    ghost use Rattle.std.specs.Prelude.{◌+◌, ◌≤◌, length};
+    ghost use Rattle.script_asm.specs.declared.limits.TheConstants.{MAX_INSTRUCTIONS};
+    ghost use Rattle.script_vm.specs.Threads.{Thread};
+
+    ghost Value = { Thread };
+
+    ghost view = { λ s. record { rest = s.rest.now; registers = s.registers; blocks = s.blocks } };
+
+    ghost invariant = { λ s. length s.blocks + length s.rest.now ≤ MAX_INSTRUCTIONS };
+}
+
+impl<'p> Script<'p> {
+    ghost use Rattle.std.specs.Prelude.{◌≡◌, ◌+◌, ◌<◌, ◌≤◌, [], false, true, length, slice_index_or, IfOk};
+    ghost use Rattle.script_asm.specs.Listing.{threads_of};
+    ghost use Rattle.script_vm.specs.Threads.{opening, goes_on, begun, ended, cancelled, took, told};
+
+    /// A thread of the program before its first call. No method takes memory after this.
+    pub fn new(alloc: Global, program: &'p Program, thread: usize) -> Result<Self, AllocError>
+        requires { thread < length (threads_of program.now) }
+        ensures { IfOk result (λ s. s ≡ opening (slice_index_or (threads_of program.now) thread [])) }
+    {
+        Script::of_code(alloc, program.code(thread))
+    }
+
+    /// The thread of this code before its first call.
+    pub(crate) fn of_code(alloc: Global, code: &'p [Instruction]) -> Result<Self, AllocError>
+        requires { length code.now ≤ MAX_INSTRUCTIONS }
+        ensures { IfOk result (λ s. s ≡ opening code.now) }
+    {
+        let blocks = OpenBlocks::new(alloc)?;
+        let mut registers = Registers::new();
+        let rest = settle(code, &mut registers);
+        Ok(Script {
+            rest,
+            registers,
+            blocks,
+        })
+    }
+
+    /// Goes on at this code.
+    fn go_on(&mut self, more: &'p [Instruction])
+        requires { length self.old.blocks + length more.now ≤ MAX_INSTRUCTIONS }
+        ensures { self.new ≡ goes_on self.old self.old.registers more.now }
+    {
+        self.rest = settle(more, &mut self.registers);
+    }
+
+    /// Takes the reply to a begin.
+    fn take_begun(&mut self, code: Register, more: &'p [Instruction], reply: &Reply)
+        requires { length self.old.blocks + length more.now < MAX_INSTRUCTIONS }
+        ensures { self.new ≡ begun self.old code more.now reply.now }
+    {
+        match reply {
+            Reply::Code(n) => {
+                let start = Start::new(self.rest, &self.registers, code);
+                self.rest = more;
+                self.blocks.open(start);
+                self.registers.put_number(code, u64::from(*n));
+                self.go_on(more);
+            }
+            Reply::Refused(_) => self.go_on(past_block(1, more)),
+            Reply::Done | Reply::Bytes(_) => self.go_on(more),
+        }
+    }
+
+    /// Takes the reply to a commit.
+    fn take_ended(&mut self, more: &'p [Instruction], reply: &Reply)
+        requires { length self.old.blocks + length more.now < MAX_INSTRUCTIONS }
+        ensures { self.new ≡ ended self.old more.now reply.now }
+    {
+        if let Reply::Done = reply {
+            self.blocks.close();
+            self.go_on(more);
+        } else {
+            self.go_on(more);
+        }
+    }
+
+    /// Takes the reply to an abort of the innermost block.
+    fn take_inner(&mut self, more: &'p [Instruction], reply: &Reply)
+        requires { length self.old.blocks + length more.now < MAX_INSTRUCTIONS }
+        ensures { self.new ≡ cancelled self.old false more.now reply.now }
+    {
+        if let Reply::Code(n) = reply {
+            if let Some(start) = self.blocks.innermost() {
+                start.cancel(&mut self.registers, *n);
+                self.blocks.close();
+                self.go_on(past_block(1, more));
+                return;
+            }
+        }
+        self.go_on(more);
+    }
+
+    /// Takes the reply to an abort of all blocks.
+    fn take_outer(&mut self, more: &'p [Instruction], reply: &Reply)
+        requires { length self.old.blocks + length more.now < MAX_INSTRUCTIONS }
+        ensures { self.new ≡ cancelled self.old true more.now reply.now }
+    {
+        if let Reply::Code(n) = reply {
+            if let Some(start) = self.blocks.outermost() {
+                start.cancel(&mut self.registers, *n);
+                let rest = past_block(self.blocks.len(), more);
+                self.blocks.close_all();
+                self.go_on(rest);
+                return;
+            }
+        }
+        self.go_on(more);
+    }
+
+    /// Takes the reply to a read or a load.
+    fn take_read(&mut self, to: Register, more: &'p [Instruction], reply: &Reply)
+        requires { length self.old.blocks + length more.now < MAX_INSTRUCTIONS }
+        ensures { self.new ≡ took self.old to more.now reply.now }
+    {
+        if let Reply::Bytes(value) = reply {
+            self.registers.put_bytes(to, value.as_slice());
+        }
+        self.go_on(more);
+    }
+
+    /// Takes the reply to the question whether a transaction is open.
+    fn take_told(&mut self, to: Register, more: &'p [Instruction], reply: &Reply)
+        requires { length self.old.blocks + length more.now < MAX_INSTRUCTIONS }
+        ensures { self.new ≡ told self.old to more.now reply.now }
+    {
+        if let Reply::Code(n) = reply {
+            self.registers.put_number(to, u64::from(*n));
+        }
+        self.go_on(more);
+    }
+}
+
+impl<'p> Player for Script<'p> {
+    ghost use Rattle.script_vm.specs.Threads.{next_call, answered, restarted, calls_left, depth_of};
+    ghost use Rattle.script_vm.specs.ThreadLaws.{thread_laws};
+
+    ghost next_call = { next_call };
+
+    ghost answered = { answered };
+
+    ghost restarted = { restarted };
+
+    ghost calls_left = { calls_left };
+
+    ghost depth = { depth_of };
+
+    fn next(&self) -> Option<Call> {
+        call_at(self.rest, self.blocks.len(), &self.registers)
+    }
+
+    fn answer(&mut self, reply: &Reply) {
+        let Some((first, more)) = self.rest.split_first() else {
+            return;
+        };
+        match *first {
+            Instruction::Set { .. }
+            | Instruction::Bytes { .. }
+            | Instruction::Move { .. }
+            | Instruction::Compute { .. }
+            | Instruction::IfNotZero { .. }
+            | Instruction::Else
+            | Instruction::EndIf => {}
+            Instruction::Load { to, .. } | Instruction::Read { to, .. } => {
+                self.take_read(to, more, reply);
+            }
+            Instruction::Begin { code, .. } => self.take_begun(code, more, reply),
+            Instruction::Commit => self.take_ended(more, reply),
+            Instruction::Abort { outer: false } => self.take_inner(more, reply),
+            Instruction::Abort { outer: true } => self.take_outer(more, reply),
+            Instruction::InTransaction { to } => self.take_told(to, more, reply),
+            Instruction::Save { .. }
+            | Instruction::Mode
+            | Instruction::CommitAction { .. }
+            | Instruction::UndoAction { .. }
+            | Instruction::Write { .. }
+            | Instruction::Log { .. }
+            | Instruction::LogBytes { .. }
+            | Instruction::Copy { .. }
+            | Instruction::Fill { .. } => self.go_on(more),
+        }
+    }
+
+    fn restart(&mut self) {
+        if let Some(start) = self.blocks.outermost() {
+            start.take_back(&mut self.registers);
+            self.rest = start.rest();
+            self.blocks.close_all();
+        }
+    }
+
+    fn copy(&self) -> Result<Self, AllocError> {
+        Ok(Script {
+            rest: self.rest,
+            registers: self.registers,
+            blocks: self.blocks.copy()?,
+        })
+    }
+
+    ghost laws = { thread_laws };
+}

@@ -1,0 +1,15 @@
+-- What a player's parts have to do with one another.
+use Rattle.std.specs.Prelude.{◌≡◌, ℕ, ◌<◌, Option, Some, if◌then◌else◌}
+use Rattle.itm_types.specs.declared.call.Call.{Call}
+use Rattle.itm_types.specs.declared.call.Reply.{Reply}
+use Rattle.tx_player.specs.Depth.{depth_after, opens}
+
+-- the laws of a player with this next call, with these steps forth and back, this bound and this depth
+pub record Laws {P : Type 0} (next_call : P → Option Call) (answered : P → Reply → P) (restarted : P → P) (calls_left : P → ℕ) (depth : P → ℕ) : Type 0 where
+  -- each reply brings it nearer to its end
+  pub nearer : (p : P) (c : Call) (r : Reply) → next_call p ≡ Some c → calls_left (answered p r) < calls_left p
+  -- its depth is that of its calls and their replies
+  pub nests : (p : P) (c : Call) (r : Reply) → next_call p ≡ Some c → depth (answered p r) ≡ depth_after (depth p) c r
+  -- while a block is open, it goes back to where it called the begin of the outermost one
+  pub restarts : (p : P) (c : Call) (r : Reply) → next_call p ≡ Some c → 0 < depth_after (depth p) c r
+      → restarted (answered p r) ≡ (if opens (depth p) c r then p else restarted p)

@@ -1,0 +1,45 @@
+//! What a thread's code has to offer to whatever runs its transactions.
+
+use itm_types::{Call, Reply};
+use std::alloc::AllocError;
+
+/// Makes the calls of one thread, one at a time, and learns the reply to each.
+pub trait Player: Drop {
+    ghost use Rattle.std.specs.Prelude.{◌≡◌, ℕ, IfOk, Option};
+    ghost use Rattle.itm_types.specs.declared.call.Call.{Call};
+    ghost use Rattle.itm_types.specs.declared.call.Reply.{Reply};
+    ghost use Rattle.tx_player.specs.Laws.{Laws};
+
+    /// The call that comes next, or that there is none.
+    ghost next_call: { Self → Option Call };
+
+    /// The player once its call has this reply.
+    ghost answered: { Self → Reply → Self };
+
+    /// While a block is open: the player as it called the accepted begin of the outermost one.
+    ghost restarted: { Self → Self };
+
+    /// A bound on the calls that are still to come.
+    ghost calls_left: { Self → ℕ };
+
+    /// How many blocks it has open.
+    ghost depth: { Self → ℕ };
+
+    /// The next call, or `None` where the player has ended.
+    fn next(&self) -> Option<Call>
+        ensures { result ≡ next_call self.now };
+
+    /// Takes the reply to its call.
+    fn answer(&mut self, reply: &Reply)
+        ensures { self.new ≡ answered self.old reply.now };
+
+    /// While a block is open: goes back to where it called the accepted begin of the outermost one.
+    fn restart(&mut self)
+        ensures { self.new ≡ restarted self.old };
+
+    /// An equal player.
+    fn copy(&self) -> Result<Self, AllocError>
+        ensures { IfOk result (λ p. p ≡ self.now) };
+
+    ghost laws: { Laws next_call answered restarted calls_left depth };
+}

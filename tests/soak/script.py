@@ -1,0 +1,73 @@
+"""What a script says."""
+
+from entries import BEGIN, COMMIT
+
+ANY = float("inf")
+
+
+def fields_of(text):
+    """Of each line that says something its fields."""
+    return list(filter(None, (line.split(";")[0].split() for line in text.split("\n"))))
+
+
+def expanded(lines):
+    """A thread's instructions, those of a `.rept` group as often as it says."""
+    groups = [(1, [])]
+    for name, *operands in lines:
+        if name == ".rept":
+            groups.append((int(operands[0]), []))
+        elif name == ".endr":
+            times, group = groups.pop()
+            groups[-1][1].extend(times * group)
+        else:
+            groups[-1][1].append((name, *operands))
+    return groups[0][1]
+
+
+class Code:
+    """A thread's instructions, and where their groups end: of a begin its commit, of an `ifnz` its `else`, or its
+    `endif` where it has none, and of an `else` its `endif`."""
+
+    def __init__(self, lines):
+        self.lines, self.ends, begun = expanded(lines), {}, []
+        for number, (name, *_) in enumerate(self.lines):
+            if name in ("else", "endif", COMMIT):
+                self.ends[begun.pop()] = number
+            if name in ("ifnz", "else", BEGIN):
+                begun.append(number)
+
+
+class Script:
+    """The fields of a script that has no fault."""
+
+    def __init__(self, text):
+        self.arena, self.patience, self.retries, self.commits = 0, 8, 100, (1 << 62) - 1
+        self.items, codes = [], []
+        for name, *operands in fields_of(text):
+            if name == ".thread":
+                codes.append((int(operands[0]) if operands else 1, []))
+            elif codes:
+                codes[-1][1].append((name, *operands))
+            else:
+                self.directive(name, operands)
+        self.codes = [code for count, lines in codes for code in count * [Code(lines)]]
+        self.schedule()
+
+    def directive(self, name, operands):
+        if name == ".memory":
+            self.opening = bytearray(int(operands[0]))
+        elif name == ".init":
+            at, data = int(operands[0]), bytes.fromhex(operands[1])
+            self.opening[at : at + len(data)] = data
+        elif name == ".schedule":
+            self.items += operands
+        else:
+            setattr(self, name[1:], int(operands[0]))
+
+    def schedule(self):
+        threads = range(len(self.codes))
+        items = [item.replace("!", "x").split("x") for item in self.items or [f"{t}!" for t in threads]]
+        # the steps that each thread has at most, ANY where it has to run to its end
+        self.steps = [sum(int(k) if k else ANY for t, k in items if int(t) == thread) for thread in threads]
+        # where each thread runs to its end before the next one begins: their order
+        self.turns = None if any(k for _, k in items) else [int(t) for t, _ in items]
