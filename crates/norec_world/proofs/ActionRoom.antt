@@ -1,5 +1,5 @@
 -- What an engine gives for a call leaves room for the actions that have run.
-use Rattle.std.proofs.Common.{◌≡◌, ℕ, ◌+◌, ◌<◌, ◌≤◌, Bool, true, false, true≢false, List, [], length, is_some, Result, Ok, Err, IfOk, OnOk, OnErr, Some, None, refl, sym, ap, subst, ◌∙◌, inl, inr, arith, vec_capacity}
+use Rattle.std.proofs.Common.{◌≡◌, ℕ, ◌+◌, ◌<◌, ◌≤◌, Bool, true, false, true≢false, [], length, is_some, Result, Ok, Err, IfOk, OnOk, OnErr, Some, None, refl, sym, ap, subst, ◌∙◌, inl, inr, arith, vec_capacity}
 use Rattle.itm_types.specs.Calls.{is_abort, registered_by}
 use Rattle.norec_core.specs.Core.{came, goes}
 use Rattle.norec_core.specs.Copies.{copy_refusal}
@@ -16,8 +16,8 @@ use Rattle.user_actions.specs.Actions.{total}
 use Rattle.norec_core.specs.declared.answer.Next.{Next}
 use Rattle.norec_core.specs.declared.answer.Next.TheVariants.{Step as Asks, Answer as Answers}
 use Rattle.norec_core.proofs.ActionCounts.{begins_empty, goes_on, open_reply, registers, reply_same}
-use Rattle.norec_world.specs.ActionRoom.{IsActing, IsEmpty, MayRun, MayRunOn, NoCancel, StartsEmpty}
-use Rattle.norec_world.proofs.Common.{Actor, Answer, Attempt, Call, Core, Ends, HasRow, Proceeds, RepliesTo, Rows, Step, active_of, cases_Bool, in_transaction, is_begin, is_inside, none_inside, with_changed}
+use Rattle.norec_world.specs.ActionRoom.{IsActing, IsEmpty, MayRunOn, NoCancel, StartsEmpty}
+use Rattle.norec_world.proofs.Common.{Actor, Answer, Attempt, Call, Core, Ends, HasRow, Proceeds, Rows, Step, active_of, cases_Bool, in_transaction, is_begin, is_inside, none_inside, with_changed}
 use Rattle.norec_world.proofs.LaterActions.{first_here}
 
 cancels_register_none : (call : Call) → is_abort call ≡ true → registers call ≡ 0

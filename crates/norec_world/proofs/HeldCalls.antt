@@ -1,17 +1,17 @@
 -- What a call comes to in an irrevocable transaction, by the plain state that the attempt's calls alone lead to.
-use Rattle.std.proofs.Common.{◌≡◌, ◌≢◌, ℕ, suc, ◌+◌, ◌/◌, ◌<◌, ◌&&◌, ◌||◌, Bool, true, false, not, nat_lt, List, [], ◌∷◌, length, map, Option, None, Some, IsSome, is_some, if◌then◌else◌, slice_get, refl, sym, true≢false, ap, subst, ◌∙◌, arith}
+use Rattle.std.proofs.Common.{◌≡◌, ◌≢◌, ℕ, suc, ◌/◌, ◌&&◌, Bool, true, false, not, nat_lt, List, [], ◌∷◌, length, map, None, Some, IsSome, is_some, if◌then◌else◌, slice_get, refl, sym, ap, ◌∙◌, arith}
 use Rattle.std.proofs.lemmas.Bool.{ltb-true}
 use Rattle.itm_types.specs.declared.call.Call.TheVariants.{Mode}
 use Rattle.itm_model.specs.Machine.{or_else, reply_unless, unless}
 use Rattle.nest_frames.specs.Nest.{Frame, made_irrevocable, stays_revocable}
-use Rattle.user_actions.specs.Actions.{Actions, committed as run_commits}
+use Rattle.user_actions.specs.Actions.{committed as run_commits}
 use Rattle.norec_core.proofs.Machines.{commits}
 use Rattle.norec_core.specs.Core.{goes, may_go}
 use Rattle.norec_core.specs.Held.{ComesTo}
 use Rattle.norec_core.specs.Proceeds.{WantsClock, blocks_after}
 use Rattle.norec_core.specs.Stands.{is_some_row, state_in, state_kept}
 use Rattle.norec_engine.proofs.IrrevocableEntries.{begin_enters, mode_enters}
-use Rattle.norec_world.proofs.Common.{Answers, Attempt, Begin, Call, Cells, Code, Commit, Committed, Core, Done, Enters, Got, MAX_OPEN_BLOCKS, Next, Outside, Replied, Row, Rows, State, Store, active_of, after, alone, both_ways, bytes_at, bytes_of, in_transaction, is_inside, is_open, reply, stands_for, state_over, takes_clock}
+use Rattle.norec_world.proofs.Common.{Answers, Attempt, Begin, Call, Cells, Code, Commit, Committed, Core, Done, Enters, Got, MAX_OPEN_BLOCKS, Next, Outside, Replied, Row, Rows, State, Store, active_of, after, alone, bytes_at, bytes_of, in_transaction, is_inside, is_open, reply, stands_for, state_over, takes_clock}
 
 -- the attempt's calls alone on the memory of its position lead to an open block, and the call comes to what the plain machine makes of it then
 pub record HasHeld (base : List ℕ) (cells cells' : Cells) (r : Rows) (thread : ℕ) (mid new : Core) (call : Call) (what : Next) : Type 0 where

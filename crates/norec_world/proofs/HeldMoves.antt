@@ -1,5 +1,5 @@
 -- An irrevocable attempt over a call that comes, and over a step.
-use Rattle.std.proofs.Common.{◌≡◌, ◌⊎◌, inl, inr, ℕ, zero, suc, ◌+◌, ◌/◌, ◌<◌, ◌≤◌, ◌==◌, Bool, true, false, List, length, nat_lt, Option, None, Some, if◌then◌else◌, slice_get, slice_index, refl, sym, true≢false, ap, subst, ◌∙◌, arith}
+use Rattle.std.proofs.Common.{◌≡◌, ◌⊎◌, inl, inr, ℕ, zero, suc, ◌+◌, ◌/◌, Bool, true, false, List, Option, None, Some, if◌then◌else◌, slice_get, slice_index, refl, sym, ap, subst, ◌∙◌, arith}
 use Rattle.norec_core.specs.Held.{ComesTo, IsFound, answers, leaves, leaves_in, memory_after}
 use Rattle.norec_core.specs.OwnAccesses.{got_in}
 use Rattle.norec_core.specs.Order.{asked_from, stage_from}
@@ -7,7 +7,7 @@ use Rattle.norec_core.specs.declared.phase.Aim.{Aim}
 use Rattle.norec_core.specs.declared.phase.Phase.{Phase}
 use Rattle.norec_core.specs.declared.phase.Phase.TheVariants as at
 use Rattle.norec_world.proofs.ClockHolders.{freed_by, is_free}
-use Rattle.norec_world.proofs.Common.{Actor, Answer, Answers, Asks, AsksFor, Attempt, Call, Cas, Cells, Commit, Committed, Core, Got, IsHeld, IsLawful, IsMemory, IsTied, Load, MAX_OPEN_BLOCKS, Next, Proceeds, Replied, Rows, Rules, RunsFrom, StandsIn, State, Step, Store, active_of, after, alone, asked, both_ways, bytes_at, cases_Bool, cells_after, false_from_ne_true, found, handed_is, handed_to, in_transaction, is_inside, is_open, reply, rests, slice_get-get_or, stands_for, word_loaded, write_at}
+use Rattle.norec_world.proofs.Common.{Actor, Answers, Asks, AsksFor, Attempt, Call, Cas, Cells, Commit, Committed, Core, Got, IsHeld, IsLawful, IsTied, Load, MAX_OPEN_BLOCKS, Next, Proceeds, Replied, Rows, Rules, StandsIn, State, Step, Store, active_of, after, alone, both_ways, bytes_at, cells_after, false_from_ne_true, found, handed_to, in_transaction, is_inside, reply, rests, slice_get-get_or, stands_for, word_loaded, write_at}
 use Rattle.norec_world.proofs.HeldCalls.{HasHeld}
 use Rattle.norec_world.proofs.SoundSteps.{IsCalling, IsStepping, active_same, ended_same, mid, mid_step, same, waits, went}
 use Rattle.norec_world.proofs.SoundSteps as steps

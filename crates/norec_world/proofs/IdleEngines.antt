@@ -1,8 +1,8 @@
 -- An engine between two calls.
-use Rattle.std.proofs.Common.{◌≡◌, ◌⊎◌, inl, inr, ℕ, zero, suc, Bool, true, false, Option, None, Some, refl, sym, ap, subst, ◌∙◌, if◌then◌else◌}
-use Rattle.norec_world.proofs.Common.{Acts, Actor, Answer, Answers, Asks, Busy, Call, Cells, Committed, Conflict, ConflictsIn, Core, End, Ends, Enters, Full, HasStarted, IsEvent, Next, Proceeds, Ready, Replied, Replies, RepliesHeld, RepliesTo, Reply, Rows, Rules, Status, Tells, after_undoing, came, ending_of, in_transaction, is_waiting, reply_cases, rests, Waits}
+use Rattle.std.proofs.Common.{◌≡◌, ℕ, zero, suc, Bool, true, false, Some, refl, sym, ap, subst, ◌∙◌, if◌then◌else◌}
+use Rattle.norec_world.proofs.Common.{Acts, Actor, Answer, Answers, Asks, Call, Cells, Core, End, Ends, HasStarted, IsEvent, Next, Proceeds, Ready, Rows, Rules, Status, Tells, after_undoing, ending_of, in_transaction, is_waiting, rests, Waits}
 use Rattle.norec_core.specs.declared.phase.Phase.TheVariants.{Idle}
-use Rattle.norec_core.specs.Core.{handed, rolled_back}
+use Rattle.norec_core.specs.Core.{rolled_back}
 use Rattle.norec_world.specs.LocalWork.{ActsOn, TakesIn, calls, finishes, starves}
 use Rattle.norec_world.specs.Sole.{IsIdle}
 

@@ -2,7 +2,7 @@
 use Rattle.std.proofs.Common.{◌≡◌, ℕ, ◌/◌, ◌<◌, ◌≤◌, Bool, true, false, if◌then◌else◌, List, [], ◌∷◌, ◌++◌, map, Option, None, Some, refl, sym, true≢false, ap, subst, ◌∙◌, arith}
 use Rattle.itm_types.specs.declared.row.LogRow.{LogRow}
 use Rattle.nest_frames.specs.Nest.{Frame}
-use Rattle.norec_world.proofs.Common.{Agrees, Agrees-drop, AsksFor, Attempt, Begin, Beginning, Between, Call, Code, Core, Enters, Entry, IsAlone, IsInTry, IsMemory, MAX_OPEN_BLOCKS, Obeys, Props, ReadsFrom, Replied, Replies, Rules, State, Step, after, begin_code, begins_at, bytes_of, handed_is, handed_to, in_transaction, is_inside, is_open, Refusal, none_inside, opened, player_then, recoded, reply, stands_for, state_over, state_then}
+use Rattle.norec_world.proofs.Common.{Agrees, Agrees-drop, AsksFor, Attempt, Begin, Between, Call, Code, Core, Enters, Entry, IsAlone, IsInTry, IsMemory, MAX_OPEN_BLOCKS, Obeys, Props, ReadsFrom, Replied, Replies, Rules, State, Step, after, begin_code, begins_at, bytes_of, handed_is, handed_to, in_transaction, is_inside, is_open, Refusal, none_inside, opened, player_then, recoded, reply, stands_for, state_over, state_then}
 use Rattle.write_set.specs.Rows.{overlay}
 use Rattle.nest_frames.specs.Nest.{made_irrevocable}
 use Rattle.itm_model.specs.Machine.{after_unless, or_else, refusal, reply_unless, unless}

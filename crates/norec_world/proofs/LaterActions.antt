@@ -1,11 +1,11 @@
 -- The actions that have run in an actor's attempt, as its engine goes on.
 use Rattle.user_actions.specs.Actions.{total}
-use Rattle.std.proofs.Common.{◌≡◌, ◌≤◌, length, arith, ℕ, Bool, true, false, if◌then◌else◌, List, [], ◌∷◌, ◌++◌, Some, None, refl, sym, ap, ◌∙◌}
+use Rattle.std.proofs.Common.{◌≡◌, ◌≤◌, length, arith, ℕ, Bool, true, false, if◌then◌else◌, List, ◌++◌, Some, None, refl, sym, ap, ◌∙◌}
 use Rattle.itm_types.specs.declared.call.Ran.{Ran}
 use Rattle.norec_core.specs.declared.answer.Undone.TheVariants.{Done, Held, Nothing}
-use Rattle.norec_core.proofs.ActionCounts.{RunsOn, given_up_actions, given_up_on, goes_on, undone_actions}
+use Rattle.norec_core.proofs.ActionCounts.{given_up_actions, given_up_on, goes_on, undone_actions}
 use Rattle.norec_world.specs.Opacity.{IsBeginningOf}
-use Rattle.norec_world.proofs.Common.{Attempt, Call, Core, HasRow, Next, Proceeds, Rows, State, active_of, after_undoing, in_transaction, stands_for, state_over}
+use Rattle.norec_world.proofs.Common.{Attempt, Call, Core, HasRow, Next, Proceeds, Rows, active_of, after_undoing, in_transaction, stands_for, state_over}
 use Rattle.norec_core.specs.Stands.{state_in}
 use Rattle.itm_model.specs.Machine.{undone}
 

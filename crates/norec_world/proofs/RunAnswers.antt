@@ -1,7 +1,7 @@
 -- An actor's run, once an answer is recorded.
-use Rattle.std.proofs.Common.{◌≡◌, ℕ, ◌+◌, ◌/◌, ◌%◌, ◌≤◌, Bool, true, false, List, [], ◌∷◌, ◌++◌, Option, Some, refl, sym, true≢false, ap, subst, ◌∙◌, arith, inl, inr}
+use Rattle.std.proofs.Common.{◌≡◌, ℕ, ◌/◌, ◌%◌, ◌≤◌, Bool, true, List, [], ◌∷◌, ◌++◌, Option, Some, refl, sym, true≢false, ap, subst, ◌∙◌, arith, inl, inr}
 use Rattle.norec_world.proofs.Common.{Actor, Agrees, Answers, Attempt, Between, Call, Cells, Core, Enters, IsBeforeTry, IsInTry, IsMemory, IsRun, IsRunOf, IsTied, IsTryAt, LeadsTo, MAX_OPEN_BLOCKS, Obeys, RecordsReply, Replied, RepliesHeld, RepliesTo, Reply, Rows, Rules, State, Status, active_of, after_try, alone, begins_at, bytes_at, bytes_of, in_transaction, is_open, of_thread, recoded, reply_cases, run_after, stands_for, words_at}
-use Rattle.norec_world.proofs.ActiveRows.{changed_here, row_is_of}
+use Rattle.norec_world.proofs.ActiveRows.{changed_here}
 use Rattle.norec_world.proofs.TryEnds.{unfreed_to}
 use Rattle.norec_world.proofs.RunLists.{of_thread_own, run_more, run_still}
 use Rattle.norec_world.proofs.Seen.{HasSeen, memory_at, same_at}

@@ -1,7 +1,7 @@
 -- An actor's run between two tries: calls outside a transaction, and begins.
 use Rattle.std.proofs.Common.{◌≡◌, ◌⊎◌, ℕ, zero, suc, ◌/◌, ◌<◌, ◌≤◌, Bool, true, false, if◌then◌else◌, List, [], Option, None, Some, refl, sym, true≢false, ap, subst, ◌∙◌, arith, is_none, is_some, inl, inr}
 use Rattle.user_actions.specs.Actions.{Actions}
-use Rattle.norec_world.proofs.Common.{Actor, Agrees, Agrees-drop, Answer, Attempt, Begin, Beginning, Between, Busy, Call, Cells, Committed, Conflict, ConflictsIn, Core, CountsTry, Done, Enters, Full, IsBeforeTry, IsInTry, IsMemory, IsRun, LeadsTo, MAX_OPEN_BLOCKS, Obeys, Props, Ready, Refusal, Replied, Replies, RepliesHeld, RepliesTo, Reply, Row, Rows, Rules, State, active_of, after, after_unless, alone, backed, begin_of, begin_within, begins_at, bytes_at, cond-true, ending_of, in_transaction, is_inside, none_inside, opened, outside, recoded, refusal, reply, reply_cases, same_Some, stands_for, state_over, state_then, with_opened, words_at}
+use Rattle.norec_world.proofs.Common.{Actor, Agrees, Agrees-drop, Answer, Attempt, Begin, Beginning, Between, Busy, Call, Cells, Committed, Conflict, ConflictsIn, Core, CountsTry, Done, Enters, Full, IsBeforeTry, IsInTry, IsMemory, IsRun, LeadsTo, MAX_OPEN_BLOCKS, Obeys, Props, Ready, Refusal, Replied, Replies, RepliesHeld, RepliesTo, Reply, Row, Rows, Rules, State, active_of, after, after_unless, alone, backed, begin_of, begin_within, begins_at, bytes_at, cond-true, ending_of, in_transaction, is_inside, opened, outside, recoded, refusal, reply, reply_cases, same_Some, stands_for, state_over, state_then, with_opened, words_at}
 use Rattle.itm_model.specs.Machine.{answer, in_arena, irrevocable_from, or_else, pushed, reply_unless, unless}
 use Rattle.itm_types.specs.declared.call.Refusal.TheVariants.{NoIrrevocable}
 use Rattle.norec_core.specs.Core.{may_go}

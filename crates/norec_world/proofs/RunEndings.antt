@@ -1,6 +1,6 @@
 -- An actor's run, once its attempt has ended.
-use Rattle.std.proofs.Common.{◌≡◌, ℕ, ◌+◌, ◌*◌, ◌/◌, ◌%◌, ◌≤◌, Bool, true, false, if◌then◌else◌, List, [], ◌∷◌, ◌++◌, map, Option, Some, refl, sym, true≢false, ap, subst, ◌∙◌, arith, inl, inr, length}
-use Rattle.norec_world.proofs.Common.{Actor, Agrees, Agrees-drop, Answers, Attempt, Between, Call, Cells, Code, Commit, Committed, Conflict, ConflictsIn, Core, Done, EndsAs, Enters, Entry, Full, Next, IsInTry, IsMemory, IsRun, LacksClock, MAX_OPEN_BLOCKS, Obeys, Outcome, Replied, Replies, RepliesHeld, RecordsReply, RepliesTo, Reply, Rows, Rules, State, StopsAt, active_of, after, after_try, alone, answered_all, backed, begin_code, bytes_at, bytes_of, cases_Bool, ending_of, false_from_ne_true, follows, in_transaction, is_done, is_open, opened, recoded, reply_cases, stands_for, state_then, takes_clock, words_at, words_of}
+use Rattle.std.proofs.Common.{◌≡◌, ℕ, ◌/◌, ◌≤◌, Bool, true, false, if◌then◌else◌, List, [], ◌∷◌, ◌++◌, map, Option, Some, refl, sym, true≢false, ap, subst, ◌∙◌, arith, inl, inr}
+use Rattle.norec_world.proofs.Common.{Actor, Agrees, Agrees-drop, Answers, Attempt, Between, Call, Cells, Code, Commit, Committed, Conflict, ConflictsIn, Core, Done, EndsAs, Entry, Full, Next, IsMemory, IsRun, LacksClock, MAX_OPEN_BLOCKS, Obeys, Outcome, Replied, Replies, RecordsReply, RepliesTo, Reply, Rows, Rules, State, StopsAt, after, after_try, alone, answered_all, backed, begin_code, bytes_at, bytes_of, cases_Bool, ending_of, false_from_ne_true, follows, in_transaction, is_done, is_open, opened, recoded, reply_cases, stands_for, state_then, takes_clock, words_at, words_of}
 use Rattle.itm_model.specs.Machine.{undone, reply as plainly}
 use Rattle.itm_types.specs.declared.call.Call.TheVariants.{Abort}
 use Rattle.itm_types.specs.declared.call.Ran.{Ran}
@@ -8,7 +8,7 @@ use Rattle.user_actions.specs.Actions.{Actions}
 use Rattle.norec_core.proofs.AnsweredEngines.{told_plainly}
 use Rattle.norec_core.specs.Held.{ComesTo}
 use Rattle.norec_core.specs.Proceeds.{Conflicts, WantsClock}
-use Rattle.norec_core.specs.Stands.{state_in, state_over}
+use Rattle.norec_core.specs.Stands.{state_in}
 use Rattle.norec_world.specs.Attempts.{ClosedBy}
 use Rattle.norec_world.specs.Opacity.{ran_of}
 use Rattle.norec_world.specs.declared.attempt.Outcome.TheVariants as outcomes

@@ -1,7 +1,6 @@
 -- An actor's run with one attempt more, and over more commits.
-use Rattle.norec_world.specs.Opacity.{ran_of}
 use Rattle.std.proofs.Common.{inl, inr, ◌≡◌, ℕ, ◌≤◌, ◌==◌, Bool, if◌then◌else◌, List, [], ◌∷◌, ◌++◌, Option, None, Some, refl, sym, ap, subst, ◌∙◌, arith, eq-eqb}
-use Rattle.norec_world.proofs.Common.{alone, Attempt, Beginning, Between, IsOpaque, IsRunOf, IsTryAt, MAX_OPEN_BLOCKS, Rules, after_try, begins_at, cases_Bool, of_thread, run_after}
+use Rattle.norec_world.proofs.Common.{Attempt, Beginning, Between, IsOpaque, IsRunOf, IsTryAt, MAX_OPEN_BLOCKS, Rules, after_try, begins_at, cases_Bool, of_thread, run_after}
 
 -- ## The attempts of one actor
 

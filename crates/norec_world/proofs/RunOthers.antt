@@ -1,11 +1,10 @@
 -- The actors' runs: one's event leaves the others', and together they are the headline.
 use Rattle.std.proofs.Common.{◌≡◌, ◌≢◌, inl, inr, ℕ, ◌+◌, ◌/◌, ◌%◌, ◌<◌, ◌≤◌, ◌==◌, Bool, true, false, List, [], ◌∷◌, ◌++◌, length, length-set, replicate, None, Some, slice_get, slice_set, refl, sym, ap, subst, ◌∙◌, arith, eqb-true, nat_lt}
-use Rattle.norec_world.proofs.Common.{Actor, Agrees, AllFit, AllOf, AreActors, AreFrom, AreLaid, AreOfActors, AreOpaque, AreOpen, AreRunning, Attempt, Between, Cells, ChangesOwn, ClocksOn, Core, Got, HasRead, HasRow, IsHeld, IsMemory, IsRunOf, IsTied, IsTryAt, IsWorld, KeepsOthers, MAX_OPEN_BLOCKS, NoMemory, Obeys, Ready, Rows, Rules, RunsFrom, StandsIn, State, World, active_of, alone, append-nil, attempts_of, backed, begins_at, bytes_at, bytes_of, cases_Bool, count_at, count_committed, ending_of, first_of, in_transaction, is_open, le-ltb, ne_eqb, of_thread, one_where, opened, opening, run_after, state_then, words_at, words_of, write_at, slice_get_within}
+use Rattle.norec_world.proofs.Common.{Actor, Agrees, AllFit, AllOf, AreActors, AreFrom, AreLaid, AreOfActors, AreOpaque, AreOpen, AreRunning, Attempt, Between, Cells, ChangesOwn, ClocksOn, Core, Got, HasRead, HasRow, IsHeld, IsMemory, IsRunOf, IsTied, IsTryAt, IsWorld, KeepsOthers, MAX_OPEN_BLOCKS, Obeys, Ready, Rows, Rules, RunsFrom, StandsIn, State, World, active_of, alone, append-nil, attempts_of, backed, begins_at, bytes_at, bytes_of, cases_Bool, count_at, count_committed, first_of, in_transaction, is_open, le-ltb, ne_eqb, of_thread, one_where, opened, opening, run_after, state_then, words_at, words_of, write_at, slice_get_within}
 use Rattle.norec_world.specs.declared.attempt.Outcome.TheVariants as outcomes
 use Rattle.norec_world.proofs.WordLists.{words_of-bytes_of}
 use Rattle.norec_world.specs.Runs.{StillRuns}
 use Rattle.norec_world.proofs.SoundOthers.{first_found, set_place, there_is, are_open, held_apart, odd_held, row_unfinished, row_open}
-use Rattle.norec_world.proofs.Solos.{stands_open}
 use Rattle.norec_world.proofs.InTries.{try_moved}
 use Rattle.norec_world.proofs.TryOutcomes.{IsMadeAlone, alone_led, made_held, made_so, stands_led, try_stops}
 use Rattle.norec_world.proofs.HeldCalls.{stands_actions}

@@ -1,6 +1,6 @@
 -- A value or a call was taken in, and what the engine gave is recorded: the actor's run goes on, and the words are still those that the commits left.
 use Rattle.std.proofs.Common.{◌≡◌, ◌⊎◌, ℕ, suc, ◌+◌, ◌/◌, ◌≤◌, ◌==◌, Bool, true, false, List, [], ◌∷◌, ◌++◌, Option, None, Some, refl, sym, true≢false, ap, subst, ◌∙◌, arith, eq-eqb, append-nil, inl, inr}
-use Rattle.norec_world.proofs.Common.{Actor, Agrees, Answer, Answers, AreCounted, AreLaid, Asks, Attempt, Between, Busy, Call, Cells, Committed, Conflict, ConflictsIn, Core, Done, Ends, Enters, Full, IsDone, IsHeld, IsMemory, IsRun, Loaded, MAX_OPEN_BLOCKS, Next, NoMemory, Obeys, RecordsReply, Replied, Replies, RepliesHeld, RepliesTo, Reply, Rows, Rules, Sees, StandsIn, State, Step, Tells, Waits, active_of, after, alone, backed, bytes_at, bytes_of, committed_at, cond-true, ending_of, in_transaction, is_open, memory_left, opened, reply_cases, rests, same_Some, stands_for, words_at}
+use Rattle.norec_world.proofs.Common.{Actor, Agrees, Answer, Answers, AreCounted, AreLaid, Asks, Attempt, Between, Busy, Call, Cells, Committed, Conflict, ConflictsIn, Core, Done, Ends, Enters, Full, IsDone, IsHeld, IsRun, Loaded, MAX_OPEN_BLOCKS, Next, NoMemory, Obeys, RecordsReply, Replied, Replies, RepliesHeld, RepliesTo, Reply, Rows, Rules, Sees, StandsIn, State, Step, Tells, Waits, active_of, after, alone, backed, bytes_at, committed_at, cond-true, ending_of, in_transaction, is_open, memory_left, opened, reply_cases, rests, same_Some, stands_for, words_at}
 use Rattle.norec_world.specs.declared.attempt.Outcome.TheVariants as outcomes
 use Rattle.norec_world.proofs.InTries.{try_asks}
 use Rattle.norec_world.proofs.Laid.{laid_more, laid_on}
@@ -13,7 +13,7 @@ use Rattle.norec_world.proofs.ActiveRows.{changed_here}
 use Rattle.norec_world.proofs.Solos.{stands_open, state_snoc}
 use Rattle.user_actions.specs.Actions.{Actions}
 use Rattle.norec_world.proofs.RunBegins.{begin_holds, shut_runs}
-use Rattle.norec_world.proofs.Seen.{HasSeen, memory_at}
+use Rattle.norec_world.proofs.Seen.{HasSeen}
 use Rattle.norec_world.proofs.Taken.{HasAnswered, HasTaken, answered, still_going, clock_grows}
 use Rattle.norec_world.proofs.TryEnds.{not_starved, unfreed_to, begun_or_not}
 

@@ -1,7 +1,7 @@
 -- What a world with one actor shows is what its player does alone.
 use Rattle.std.proofs.Common.{◌≡◌, ◌⊎◌, inl, inr, ℕ, zero, suc, ◌/◌, ◌%◌, ◌≤◌, Bool, true, false, ◌&&◌, ◌==◌, nat_le, if◌then◌else◌, List, [], ◌∷◌, ◌++◌, length, map, replicate, Option, None, Some, slice_get, refl, sym, ap, subst, ◌∙◌, arith, append-nil, le-leb}
 use Rattle.std.proofs.lemmas.Bool.{and_left, and_right, lt-leb}
-use Rattle.norec_world.proofs.Common.{Actor, AreOfActors, AreOpaque, AreUnfinished, Attempt, Between, Call, End, EndsAs, EndsWith, Entry, Finished, GaveUp, IsAlone, IsBeforeTry, IsFirstTry, IsOnWay, IsRunOf, IsSole, IsWorld, MAX_OPEN_BLOCKS, NoMemory, Obeys, Outcome, Row, Rules, ShowsAlone, StandsIn, StandsSole, State, Step, World, active_of, after, alone, answers, answers_within, attempts_of, begin_code, begin_of, begin_within, both_ways, bytes_at, bytes_of, committed_at, cond-false, cond-true, current_of, ending_at, ending_of, first_of, in_transaction, is_open, map-append, of_thread, opened, option_and_then, pair_of, player_then, reply, row_of, run_after, same_Some, solo_within, stands_for, state_then, takes_clock, stopped, with_all, with_first, words_at}
+use Rattle.norec_world.proofs.Common.{Actor, AreOfActors, AreOpaque, AreUnfinished, Attempt, Between, Call, End, EndsAs, EndsWith, Finished, GaveUp, IsAlone, IsBeforeTry, IsFirstTry, IsOnWay, IsRunOf, IsSole, IsWorld, MAX_OPEN_BLOCKS, NoMemory, Obeys, Outcome, Row, Rules, ShowsAlone, StandsIn, StandsSole, State, Step, World, active_of, after, alone, answers, answers_within, attempts_of, begin_code, begin_of, begin_within, both_ways, bytes_at, bytes_of, committed_at, cond-false, cond-true, current_of, ending_at, ending_of, first_of, in_transaction, is_open, of_thread, opened, option_and_then, pair_of, player_then, reply, row_of, run_after, same_Some, solo_within, stands_for, state_then, takes_clock, stopped, with_all, with_first, words_at}
 use Rattle.norec_world.proofs.RunBegins.{led_before}
 use Rattle.itm_types.specs.declared.call.Reply.{Reply}
 use Rattle.norec_world.specs.declared.attempt.Outcome.TheVariants as outcomes

@@ -1,11 +1,11 @@
 -- The calls of an attempt before the first one that takes the clock.
-use Rattle.std.proofs.Common.{◌≡◌, ℕ, ◌+◌, ◌<◌, ◌%◌, Bool, true, false, not, ◌&&◌, ◌||◌, nat_lt, if◌then◌else◌, List, [], ◌∷◌, ◌++◌, length, map, replicate, Option, None, Some, refl, sym, ap, subst, ◌∙◌, arith}
+use Rattle.std.proofs.Common.{◌≡◌, ℕ, ◌%◌, Bool, true, false, not, ◌&&◌, ◌||◌, nat_lt, if◌then◌else◌, List, [], ◌∷◌, ◌++◌, length, map, replicate, Option, None, Some, refl, sym, ap, subst, ◌∙◌}
 use Rattle.std.proofs.lemmas.Bool.{or_left, or_parts}
 use Rattle.std.specs.Option.{option_map}
-use Rattle.norec_world.proofs.Common.{Begin, Block, Call, Commit, Entry, IsAlone, Outcome, Props, Refusal, Rules, State, after, after_unless, append-nil, false_from_ne_true, is_open, opened, outside, pair_of, refusal, reply, state_then, takes_clock, turn}
+use Rattle.norec_world.proofs.Common.{Begin, Block, Call, Commit, Entry, IsAlone, Props, Refusal, Rules, State, after, after_unless, append-nil, false_from_ne_true, is_open, opened, outside, pair_of, refusal, state_then, takes_clock}
 use Rattle.itm_types.specs.declared.call.Reply.{Reply}
 use Rattle.itm_types.specs.declared.call.Refusal.TheVariants.{IsIrrevocable, NoAbort}
-use Rattle.itm_types.specs.declared.call.Call.TheVariants.{Abort, Copy, Fill, Log, LogBytes, Mode, UndoAction, Write}
+use Rattle.itm_types.specs.declared.call.Call.TheVariants.{Abort, Copy, Fill, Mode, UndoAction, Write}
 use Rattle.itm_types.specs.declared.copy.CopyPair.{CopyPair}
 use Rattle.itm_types.specs.declared.copy.CopyPair.TheVariants.{Out, In, Within}
 use Rattle.itm_types.specs.declared.call.ActionKind.TheVariants as kinds

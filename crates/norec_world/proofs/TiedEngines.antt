@@ -1,6 +1,6 @@
 -- The engine and the cells, over one event: the engine's data stay as the cells have them.
 use Rattle.std.proofs.Common.{◌≡◌, ◌⊎◌, inl, inr, ◌&&◌, not, List, [], ◌∷◌, map, None, IsSome, ℕ, zero, suc, ◌+◌, ◌*◌, ◌/◌, ◌%◌, ◌<◌, ◌≤◌, ◌==◌, Bool, true, false, length, Option, Some, slice_index, refl, sym, ap, subst, ◌∙◌, arith, if◌then◌else◌, eqb-true, length-set}
-use Rattle.norec_world.proofs.Common.{AllFit, Answer, AnswerFits, Answers, Asks, Begin, Busy, Call, Cas, Cells, Code, Commit, Committed, Conflict, ConflictsIn, Core, Ends, Enters, Full, HoldsOn, IsLawful, IsTied, Load, Next, Proceeds, Replied, Replies, RepliesHeld, RepliesTo, Reply, StaysOn, Step, Store, after_undoing, both_ways, came, cells_after, cond-false, cond-true, cond_both, found, handed_to, in_transaction, is_begin, is_inside, none_inside, reply_cases, rests, word_loaded}
+use Rattle.norec_world.proofs.Common.{AllFit, Answer, AnswerFits, Answers, Asks, Begin, Busy, Call, Cas, Cells, Code, Commit, Committed, Conflict, ConflictsIn, Core, Ends, Enters, Full, HoldsOn, IsLawful, IsTied, Load, Next, Proceeds, Replied, Replies, RepliesHeld, RepliesTo, Reply, Step, Store, after_undoing, both_ways, came, cells_after, cond-false, cond-true, cond_both, found, handed_to, in_transaction, is_begin, is_inside, none_inside, reply_cases, rests, word_loaded}
 use Rattle.itm_types.specs.Calls.{is_abort}
 use Rattle.itm_types.specs.declared.call.Call.TheVariants.{Mode}
 use Rattle.nest_frames.specs.Nest.{Frame, made_irrevocable, stays_revocable}

@@ -4,7 +4,7 @@ use Rattle.std.proofs.Common.{true≢false, inl, inr, ◌≡◌, ℕ, ◌+◌, �
 use Rattle.nest_frames.specs.Nest.{Frame}
 use Rattle.norec_world.proofs.PlayerLaws.{deep_of}
 use Rattle.norec_world.proofs.Cancels.{cancels}
-use Rattle.norec_world.proofs.Common.{Actor, Agrees, Answer, Attempt, Begin, ClosedBy, Entry, RecordsReply, Busy, Call, Cells, Committed, Code, Conflict, ConflictsIn, Core, CountsTry, Enters, End, Ended, EndsAt, Full, GoesOnAfter, HasRow, IsBetween, IsMemory, IsReady, IsSettledBy, IsTied, IsTold, MAX_OPEN_BLOCKS, Opens, Outcome, Prior, Props, Ready, Records, Replied, Replies, RepliesHeld, RepliesTo, Reply, RestsAs, Rows, Rules, State, Status, Tries, TriesAgain, Agrees-drop, active_of, begins, between, cases_Bool, cond-false, cond-true, current_of, ending_of, in_transaction, is_begin, is_done, is_inside, none_inside, outrun, over, prior_of, recoded, reply as replied, reply_cases, runs, shut_out, stands_for, turned_away, with_opened}
+use Rattle.norec_world.proofs.Common.{Actor, Agrees, Answer, Attempt, Begin, ClosedBy, Entry, RecordsReply, Busy, Call, Cells, Committed, Code, Conflict, ConflictsIn, Core, CountsTry, Enters, End, Ended, EndsAt, Full, GoesOnAfter, HasRow, IsBetween, IsMemory, IsReady, IsSettledBy, IsTied, IsTold, MAX_OPEN_BLOCKS, Opens, Outcome, Prior, Props, Ready, Records, Replied, Replies, RepliesHeld, RepliesTo, Reply, RestsAs, Rows, Rules, Status, Tries, TriesAgain, Agrees-drop, active_of, begins, between, cases_Bool, cond-false, cond-true, current_of, ending_of, in_transaction, is_begin, is_done, is_inside, none_inside, outrun, over, prior_of, recoded, reply as replied, reply_cases, runs, shut_out, stands_for, turned_away, with_opened}
 use Rattle.itm_types.specs.declared.call.Reply.TheVariants as replies
 use Rattle.itm_model.specs.Machine.{or_else, reply_unless, unless}
 use Rattle.itm_types.specs.declared.call.Refusal.TheVariants.{NoIrrevocable}

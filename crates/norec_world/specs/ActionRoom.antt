@@ -1,6 +1,5 @@
 -- The actions of an actor's transaction: which of them have run, and the room for those that are to run.
-use Rattle.std.specs.Prelude.{◌≡◌, ℕ, ◌+◌, ◌<◌, ◌≤◌, Bool, true, false, [], length, is_some, Option, None, Some, vec_capacity}
-use Rattle.itm_types.specs.declared.call.Ran.{Ran}
+use Rattle.std.specs.Prelude.{◌≡◌, ◌<◌, ◌≤◌, true, false, [], length, is_some, None, Some, vec_capacity}
 use Rattle.itm_types.specs.Calls.{is_abort, registered_by}
 use Rattle.user_actions.specs.Actions.{total}
 use Rattle.norec_core.specs.Core.{in_transaction}

@@ -85,13 +85,6 @@ fn beside_a_reader(rt: HostRuntime) -> Result<(), Fail> {
 #[test]
 fn by_the_arena(rt: HostRuntime) -> Result<(), Fail> {
     let alloc = rt.alloc();
-    let made = [
-        copy(TO_ARENA, 0, 2, 4),
-        fill(0, 255, 2),
-        copy(FROM_ARENA, 6, 1, 2),
-        fill(8, 0x155, 8),
-        fill(3, 9, 0),
-    ];
     let calls = vec![in alloc;
         goes(),
         copy(TO_ARENA, 0, 2, 4),
@@ -109,13 +102,12 @@ fn by_the_arena(rt: HostRuntime) -> Result<(), Fail> {
     assert_eq!(rt; world.run_out(alloc, 0), 9);
     let attempts = world.attempts();
     assert_eq!(rt; attempts.len(), 1);
-    let [first, second, third, fourth, fifth] = made;
     let calls = [
-        done(first),
-        done(second),
-        done(third),
-        done(fourth),
-        done(fifth),
+        done(copy(TO_ARENA, 0, 2, 4)),
+        done(fill(0, 255, 2)),
+        done(copy(FROM_ARENA, 6, 1, 2)),
+        done(fill(8, 0x155, 8)),
+        done(fill(3, 9, 0)),
         done(Call::Commit),
     ];
     let told = first_try(Outcome::Committed, 0, &calls, &[]);

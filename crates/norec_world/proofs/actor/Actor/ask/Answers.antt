@@ -1,7 +1,4 @@
-use Rattle.std.proofs.Common.{◌≡◌, ◌+◌, ◌<◌, ◌≤◌, ◌-◌, Bool, true, false, Option, None, Some, refl, sym, ap, subst, ◌∙◌, IfOk, OnOk, vec_capacity, arith, rules}
-use Rattle.itm_types.specs.declared.call.Call.{Call}
-use Rattle.itm_types.specs.declared.call.Props.{Props}
-use Rattle.itm_types.specs.Calls.{is_abort, registered_by}
+use Rattle.std.proofs.Common.{◌≡◌, false, refl, sym, ap, subst, ◌∙◌, IfOk, vec_capacity, arith, rules}
 use Rattle.user_actions.specs.Actions.{total}
 use Rattle.norec_core.specs.Core.{Core, came}
 use Rattle.norec_world.specs.ActionRoom.{MayRunOn}

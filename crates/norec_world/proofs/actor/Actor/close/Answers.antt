@@ -1,8 +1,6 @@
 use Rattle.norec_world.proofs.Common.{Attempt, Rows, active_of, with_ended}
-use Rattle.std.proofs.Common.{◌≡◌, ◌++◌, ◌∷◌, [], List, Some, length, refl, sym, ap, subst, ◌∙◌, arith}
+use Rattle.std.proofs.Common.{◌≡◌, ◌++◌, ◌∷◌, [], List, Some, length, refl, sym, ap, ◌∙◌, arith}
 use Rattle.itm_types.specs.declared.call.Ran.{Ran}
-use Rattle.user_actions.specs.Actions.{total}
-use Rattle.norec_world.specs.Opacity.{IsBeginningOf}
 use Rattle.norec_world.proofs.ActiveRows.{changed_here, row_from}
 use Rattle.norec_world.proofs.RecordedRows.{ended_changed}
 use Rattle.norec_world.proofs.actor.Actor.close.Goals as goal

@@ -1,4 +1,4 @@
-use Rattle.std.proofs.Common.{◌≡◌, ◌++◌, ◌≤◌, ◌/◌, Bool, List, false, true, length, refl, sym, ap, subst, ◌∙◌, arith, rules}
+use Rattle.std.proofs.Common.{◌≡◌, ◌++◌, ◌/◌, List, length, sym, ap, subst, ◌∙◌, arith, rules}
 use Rattle.itm_types.specs.declared.call.Ran.{Ran}
 use Rattle.norec_world.proofs.Common.{IsTied, in_transaction}
 use Rattle.norec_world.specs.declared.attempt.Outcome.TheVariants.{NoMemory}

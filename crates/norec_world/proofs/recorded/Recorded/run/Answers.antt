@@ -1,4 +1,4 @@
-use Rattle.std.proofs.Common.{refl, ap, ◌∙◌, drop, take}
+use Rattle.std.proofs.Common.{refl, ap, ◌∙◌, drop}
 use Rattle.norec_world.proofs.Common.{Rows, is_of, with_changed}
 use Rattle.norec_world.proofs.ActiveRows.{IsFirstAt, place_first, place_none, row_at_place, put_from, put_rows, same_rows}
 use Rattle.norec_world.proofs.recorded.Recorded.run.Goals as goal

@@ -1,4 +1,4 @@
-use Rattle.std.proofs.Common.{rules, arith, ◌≡◌, ◌/◌, ℕ, length, replicate, List, slice_get, refl, sym, ap, subst, ◌∙◌}
+use Rattle.std.proofs.Common.{rules, ◌≡◌, ◌/◌, ℕ, length, replicate, List, slice_get, refl, sym, ap, subst, ◌∙◌}
 use Rattle.norec_world.proofs.Common.{Finished, AreFrom, AreOfActors, HasStarted, IsBetween, RunsFrom, World, bytes_of, first_of, opening, words_of}
 use Rattle.norec_world.proofs.WordLists.{words_of-bytes_of}
 use Rattle.norec_world.proofs.RunOthers.{laid_first, world_opaque}
