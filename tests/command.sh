@@ -54,7 +54,7 @@ run --version x
 check 'version' 1
 run --loud sched -
 check 'a flag' 1
-for command in asm threads check; do
+for command in threads check; do
     run "$command" x
     check "$command" 1
 done
@@ -62,6 +62,10 @@ done
 want_line 'itmrun: reading failed'
 run sched "$work/absent"
 check 'a file that is not there' 5
+run asm "$work/absent"
+check 'a script that is not there' 5
+run asm "$work"
+check 'a folder to be printed' 5
 run sched "$work"
 check 'a folder' 5
 run sched ''
@@ -82,7 +86,7 @@ cp "$work/input" "$work/-x"
 status=$?
 check 'a file whose name begins with a dash' 0
 
-# each example gives its history
+# each example gives its history, and so does its printed text, which is printed as itself
 for script in "$root"/examples/*.itm; do
     cp "${script%.itm}.history" "$work/want_output"
     if [ -f "${script%.itm}.errors" ]; then
@@ -94,7 +98,52 @@ for script in "$root"/examples/*.itm; do
     fi
     run sched "$script"
     check "$(basename "$script")" "$wanted"
+    run asm "$script"
+    cp "$work/output" "$work/input"
+    run sched -
+    check "$(basename "$script") printed" "$wanted"
+    cp "$work/input" "$work/want_output"
+    : >"$work/want_errors"
+    run asm -
+    check "$(basename "$script") printed again" 0
 done
+
+# a script whose text was written by hand
+: >"$work/want_errors"
+cat >"$work/input" <<'END'
+; counts
+.commits 5
+.memory 16
+.init 3 AbCd
+.schedule 0x3 1!
+.thread 2
+.rept 2
+	set  r1 1
+.endr
+_ITM_beginTransaction r0 pr_hasNoIrrevocable+pr_hasNoAbort
+_ITM_WU8 0 r1
+_ITM_commitTransaction
+.thread 1
+END
+cat >"$work/want_output" <<'END'
+.memory 16
+.arena 0
+.patience 8
+.retries 100
+.commits 5
+.init 3 abcd
+.schedule 0x3
+.schedule 1!
+.thread 2
+set r1 1
+set r1 1
+_ITM_beginTransaction r0 pr_hasNoAbort+pr_hasNoIrrevocable
+_ITM_WU8 0 r1
+_ITM_commitTransaction
+.thread
+END
+run asm -
+check 'a script that is printed' 0
 
 # threads that give up: one that waits for a commit that stands still, and all but the first of those that may commit
 cat >"$work/input" <<'END'
@@ -245,16 +294,24 @@ want_line 'itmrun: line 2: misplaced'
 printf '.memory 8\n.rept 2\n' >"$work/input"
 run sched -
 check 'a script that is refused' 2
+run asm -
+check 'a script that is not printed' 2
 
 want_line 'itmrun: writing failed'
 : >"$work/output"
 "$program" sched "$root/examples/counter.itm" >&- 2>"$work/errors"
 status=$?
 check 'closed output' 5
+"$program" asm "$root/examples/counter.itm" >&- 2>"$work/errors"
+status=$?
+check 'closed output of asm' 5
 if [ -w /dev/full ]; then
     "$program" sched "$root/examples/counter.itm" >/dev/full 2>"$work/errors"
     status=$?
     check 'full output' 5
+    "$program" asm "$root/examples/counter.itm" >/dev/full 2>"$work/errors"
+    status=$?
+    check 'full output of asm' 5
 fi
 
 echo "$passed passed, $failed failed"

@@ -10,3 +10,4 @@ pub mod ReadPrograms
 pub mod ScheduleItems
 pub mod ProgramPages
 pub mod WrittenWorlds
+pub mod PrintedTexts

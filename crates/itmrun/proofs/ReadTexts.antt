@@ -6,8 +6,8 @@ use Rattle.std.proofs.lemmas.Bool.{cases_lt, lt-ltb}
 use Rattle.std.proofs.lemmas.List.{length-append, length-take}
 use Rattle.std.proofs.lemmas.Grind.{common_steps}
 use Rattle.script_fields.specs.declared.fault.AsmFault.{AsmFault}
-use Rattle.script_asm.specs.declared.limits.TheConstants.{MAX_TEXT}
-use Rattle.script_asm.specs.Listing.{Listing}
+use Rattle.script_program.specs.declared.limits.TheConstants.{MAX_TEXT}
+use Rattle.script_program.specs.Listing.{Listing}
 use Rattle.script_asm.specs.Assembly.{program_of}
 use Rattle.itmrun.specs.Input.{IsFront}
 

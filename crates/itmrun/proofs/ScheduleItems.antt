@@ -8,9 +8,9 @@ use Rattle.norec_world.specs.declared.fault.WorldFault.TheVariants.{Ended}
 use Rattle.norec_world.specs.declared.attempt.End.{End}
 use Rattle.norec_world.specs.World.{World, SameOpening, ending_at}
 use Rattle.norec_world.specs.WorldEvents.{Goes, Leads, Takes}
-use Rattle.script_asm.specs.declared.schedule.Item.{Item}
-use Rattle.script_asm.specs.declared.schedule.Item.TheVariants.{Take, Out}
-use Rattle.script_asm.specs.declared.instruction.Instruction.{Instruction}
+use Rattle.script_program.specs.declared.schedule.Item.{Item}
+use Rattle.script_program.specs.declared.schedule.Item.TheVariants.{Take, Out}
+use Rattle.script_program.specs.declared.instruction.Instruction.{Instruction}
 use Rattle.script_vm.specs.Threads.{Thread, opening, depth_of, thread_rules}
 use Rattle.itmrun.specs.Scheduled.{ItemLeads, ItemsLead, each_out, endings_of}
 

@@ -10,10 +10,10 @@ use Rattle.itm_types.specs.declared.access.Width.TheVariants.{U8}
 use Rattle.norec_world.specs.declared.attempt.End.TheVariants.{GaveUp}
 use Rattle.script_fields.specs.declared.register.Register.TheVariants.{R0, R1, R2}
 use Rattle.script_fields.specs.declared.place.Place.TheVariants.{Number}
-use Rattle.script_asm.specs.declared.instruction.Instruction.{Instruction}
-use Rattle.script_asm.specs.declared.instruction.Operation.TheVariants.{Add}
-use Rattle.script_asm.specs.declared.instruction.Instruction.TheVariants as code
-use Rattle.script_asm.specs.Listing.{Listing, bytes_of, codes_of}
+use Rattle.script_program.specs.declared.instruction.Instruction.{Instruction}
+use Rattle.script_program.specs.declared.instruction.Operation.TheVariants.{Add}
+use Rattle.script_program.specs.declared.instruction.Instruction.TheVariants as code
+use Rattle.script_program.specs.Listing.{Listing, bytes_of, codes_of}
 use Rattle.script_vm.specs.Registers.{datum}
 use Rattle.itmrun.specs.Histories.{history_text, first_lines, attempt_lines, head_line, try_text, props_end, arena_line, call_line, body_text, reply_text, last_line}
 use Rattle.itmrun.specs.Pages.{solo_of, page}

@@ -2,7 +2,7 @@
 use Rattle.std.proofs.Common.{◌≡◌, ℕ, Bool, true, false, List, length, Option, Ok, subst}
 use Rattle.norec_world.specs.declared.attempt.End.{End}
 use Rattle.norec_world.specs.World.{World}
-use Rattle.script_asm.specs.Listing.{Listing, threads_of}
+use Rattle.script_program.specs.Listing.{Listing, threads_of}
 use Rattle.script_vm.specs.Threads.{Thread}
 use Rattle.itmrun.specs.Spelling.{Grows}
 use Rattle.itmrun.specs.Histories.{history_text}

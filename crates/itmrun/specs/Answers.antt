@@ -7,9 +7,10 @@ use Rattle.norec_world.specs.declared.attempt.End.TheVariants.{Finished, GaveUp,
 use Rattle.norec_world.specs.World.{World}
 use Rattle.script_fields.specs.declared.fault.AsmFault.{AsmFault}
 use Rattle.script_fields.specs.Faults.{kind_text}
-use Rattle.script_asm.specs.Listing.{Listing, threads_of}
+use Rattle.script_program.specs.Listing.{Listing, threads_of}
 use Rattle.itmrun.specs.declared.finish.Finish.{Finish}
 use Rattle.itmrun.specs.declared.finish.Finish.TheVariants as ends
+use Rattle.script_print.specs.Printing.{printed}
 use Rattle.script_vm.specs.Threads.{Thread}
 use Rattle.itmrun.specs.Spelling.{IsCut}
 use Rattle.itmrun.specs.Histories.{history_text}
@@ -23,6 +24,7 @@ Reads (Err (ends.Refused f)) read = read ≡ Err f
 Reads (Err ends.NoMemory) read = Unit {0}
 Reads (Err ends.Reading) read = Unit {0}
 Reads (Err (ends.Ran endings)) read = ⊥
+Reads (Err ends.Printed) read = ⊥
 Reads (Err ends.Writing) read = ⊥
 
 -- ## A script that is run
@@ -40,10 +42,34 @@ Begun (Err f) old new = ⊥
 -- what the writer got, by how the run ended and by what the script says
 abbrev pub Runs : Finish → Result Listing AsmFault → Option (List ℕ) → Option (List ℕ) → Type 0
 Runs (ends.Ran endings) read old new = Told read endings.items old new
+Runs ends.Printed read old new = ⊥
 Runs (ends.Refused f) read old new = (read ≡ Err f) × Keeps old new
 Runs ends.NoMemory read old new = Keeps old new
 Runs ends.Reading read old new = Keeps old new
 Runs ends.Writing read old new = Begun read old new
+
+-- ## A script that is printed
+
+-- the text of the program is written
+abbrev pub TextTold : Result Listing AsmFault → Option (List ℕ) → Option (List ℕ) → Type 0
+TextTold (Ok p) old new = Appends old new (printed p)
+TextTold (Err f) old new = ⊥
+
+-- a beginning of it is
+abbrev pub TextBegun : Result Listing AsmFault → Option (List ℕ) → Option (List ℕ) → Type 0
+TextBegun (Ok p) old new = (n : ℕ) × Appends old new (take n (printed p))
+TextBegun (Err f) old new = ⊥
+
+-- what the writer got, by how that ended and by what the script says
+abbrev pub Prints : Finish → Result Listing AsmFault → Option (List ℕ) → Option (List ℕ) → Type 0
+Prints (ends.Ran endings) read old new = ⊥
+Prints ends.Printed read old new = TextTold read old new
+Prints (ends.Refused f) read old new = (read ≡ Err f) × Keeps old new
+Prints ends.NoMemory read old new = Keeps old new
+Prints ends.Reading read old new = Keeps old new
+Prints ends.Writing read old new = TextBegun read old new
+
+-- ## What is said of that
 
 -- the thread gave up or found no memory
 abbrev pub fell_short : Option End → Bool
@@ -54,6 +80,7 @@ fell_short (Some NoMemory) = true
 
 abbrev pub status_of : Finish → ℕ
 status_of (ends.Ran endings) = if list_any fell_short endings.items then 4 else 0
+status_of ends.Printed = 0
 status_of (ends.Refused f) = 2
 status_of ends.NoMemory = 4
 status_of ends.Reading = 5
@@ -78,6 +105,7 @@ ending_lines thread (ending ∷ endings) = ending_line thread ending ++ ending_l
 -- what is said of it on the error writer
 unfoldable pub error_text : Finish → List ℕ
 error_text (ends.Ran endings) = ending_lines 0 endings.items
+error_text ends.Printed = codes ""
 error_text (ends.Refused f) = codes "itmrun: line " ++ decimal f.line ++ codes ": " ++ kind_text f.kind ++ codes "\n"
 error_text ends.NoMemory = codes "itmrun: no memory\n"
 error_text ends.Reading = codes "itmrun: reading failed\n"
@@ -92,3 +120,8 @@ Says finish status old new =
 abbrev pub Answers : ℕ → Result Listing AsmFault → Option (List ℕ) → Option (List ℕ) → Option (List ℕ) → Option (List ℕ) → Type 0
 Answers status read old new errors_old errors_new =
     (finish : Finish) × Runs finish read old new × Says finish status errors_old errors_new
+
+-- and so did the printing of a script
+abbrev pub PrintAnswers : ℕ → Result Listing AsmFault → Option (List ℕ) → Option (List ℕ) → Option (List ℕ) → Option (List ℕ) → Type 0
+PrintAnswers status read old new errors_old errors_new =
+    (finish : Finish) × Prints finish read old new × Says finish status errors_old errors_new

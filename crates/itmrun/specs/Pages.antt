@@ -9,7 +9,7 @@ use Rattle.norec_world.specs.SoFar.{IsSoFar}
 use Rattle.norec_world.specs.Commits.{CommitsInOrder}
 use Rattle.norec_world.specs.Opaque.{AreOpaque}
 use Rattle.norec_world.specs.World.{World, attempts_of, ending_at, memory_of}
-use Rattle.script_asm.specs.Listing.{Listing, opening_of, threads_of}
+use Rattle.script_program.specs.Listing.{Listing, opening_of, threads_of}
 use Rattle.script_vm.specs.Threads.{Thread, opening, thread_rules}
 use Rattle.itmrun.specs.Histories.{History}
 use Rattle.itmrun.specs.Scheduled.{Leaves}

@@ -10,9 +10,9 @@ use Rattle.norec_world.specs.Opaque.{AreOpaque}
 use Rattle.norec_world.specs.Tries.{IsBetween}
 use Rattle.norec_world.specs.Starts.{IsNew}
 use Rattle.norec_world.specs.WorldEvents.{Leads, Takes}
-use Rattle.script_asm.specs.declared.schedule.Item.{Item}
-use Rattle.script_asm.specs.declared.schedule.Item.TheVariants.{Take, Out}
-use Rattle.script_asm.specs.Listing.{Listing, opening_of, threads_of}
+use Rattle.script_program.specs.declared.schedule.Item.{Item}
+use Rattle.script_program.specs.declared.schedule.Item.TheVariants.{Take, Out}
+use Rattle.script_program.specs.Listing.{Listing, opening_of, threads_of}
 use Rattle.script_vm.specs.Threads.{Thread, opening, thread_rules}
 
 -- the players of its threads, by number

@@ -1,5 +1,6 @@
 //! The program's words.
 
+use crate::asm::asm;
 use crate::history::{Piece, put_pieces};
 use crate::sched::sched;
 use clap::error::ErrorKind;
@@ -16,6 +17,15 @@ enum WordsFault {
     Usage,
     /// Memory was refused.
     Memory,
+}
+
+/// What is done with a script.
+#[derive(Clone, Copy)]
+enum Task {
+    /// The canonical script of its program is written.
+    Asm,
+    /// Its schedule is run, and the history is written.
+    Sched,
 }
 
 /// Says a line on the error writer; where that fails, nothing more can be said.
@@ -50,8 +60,8 @@ fn command_line<'a>(alloc: Global) -> Result<Command<'a>, std::alloc::AllocError
         .arg(file)
 }
 
-/// The file of `sched FILE`. The other commands are not there yet.
-fn file_of<'a>(alloc: Global, words: &'a [String]) -> Result<&'a str, WordsFault> {
+/// The task and the file of `asm FILE` or `sched FILE`. The other commands are not there yet.
+fn order_of<'a>(alloc: Global, words: &'a [String]) -> Result<(Task, &'a str), WordsFault> {
     let line = command_line(alloc).map_err(|_| WordsFault::Memory)?;
     let matches = match line.try_get_matches_from(words) {
         Ok(matches) => matches,
@@ -61,19 +71,24 @@ fn file_of<'a>(alloc: Global, words: &'a [String]) -> Result<&'a str, WordsFault
         },
     };
     match (matches.get_str("command"), matches.get_str("file")) {
-        (Some("sched"), Some(file)) => Ok(file),
+        (Some("asm"), Some(file)) => Ok((Task::Asm, file)),
+        (Some("sched"), Some(file)) => Ok((Task::Sched, file)),
         _ => Err(WordsFault::Usage),
     }
 }
 
-/// Runs the script of a reader, its history to standard output.
-fn run_script<T: Print + AllocGlobal, R: Read, E: Write>(
+/// Does the task with the script of a reader, and writes to standard output.
+fn do_task<T: Print + AllocGlobal, R: Read, E: Write>(
     rt: &T,
+    task: Task,
     reader: &mut R,
     errors: &mut E,
 ) -> u8 {
     match BufWriter::new(rt.alloc(), io::writer(rt)) {
-        Ok(mut writer) => sched(rt.alloc(), reader, &mut writer, errors),
+        Ok(mut writer) => match task {
+            Task::Asm => asm(rt.alloc(), reader, &mut writer, errors),
+            Task::Sched => sched(rt.alloc(), reader, &mut writer, errors),
+        },
         Err(_) => say(errors, b"itmrun: no memory\n", 4),
     }
 }
@@ -81,14 +96,14 @@ fn run_script<T: Print + AllocGlobal, R: Read, E: Write>(
 /// Does what the program's words say, and answers its status.
 pub fn run<T: Env + Files + Input + Print + AllocGlobal, E: Write>(rt: &T, errors: &mut E) -> u8 {
     let words = words_of(rt);
-    let file = match &words {
-        Ok(words) => file_of(rt.alloc(), words),
+    let order = match &words {
+        Ok(words) => order_of(rt.alloc(), words),
         Err(fault) => Err(*fault),
     };
-    match file {
-        Ok("-") => run_script(rt, &mut rt.reader(), errors),
-        Ok(path) => match fs::open(rt, path) {
-            Ok(mut file) => run_script(rt, &mut file, errors),
+    match order {
+        Ok((task, "-")) => do_task(rt, task, &mut rt.reader(), errors),
+        Ok((task, path)) => match fs::open(rt, path) {
+            Ok(mut file) => do_task(rt, task, &mut file, errors),
             Err(_) => say(errors, b"itmrun: reading failed\n", 5),
         },
         Err(WordsFault::Usage) => say(

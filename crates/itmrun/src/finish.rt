@@ -1,4 +1,4 @@
-//! How a run of a script ended, and what is said of that.
+//! How a run or a printing of a script ended, and what is said of that.
 
 ghost use Rattle.std.specs.Prelude.{◌≡◌};
 ghost use Rattle.std.specs.List.{list_any};
@@ -16,11 +16,13 @@ use std::io::Write;
 /// How the threads of a program stand, by number; `None` for one that has not ended.
 pub type Endings = ArrayVec<Option<End>, MAX_ACTORS>;
 
-/// How a run of a script ended.
+/// How a run of a script ended, or its printing.
 #[derive(Drop)]
 pub enum Finish {
     /// Its schedule was run, and the history is written.
     Ran(Endings),
+    /// The text of its program is written.
+    Printed,
     /// The script is no program.
     Refused(AsmFault),
     /// Memory was refused before the run.
@@ -69,13 +71,14 @@ fn put_endings<E: Write>(errors: &mut E, endings: &[Option<End>]) -> io::Result<
     Ok(())
 }
 
-/// Writes what is to be said of how a run ended.
+/// Writes what is to be said of how that ended.
 #[tactic(auto, unfolding(crate::specs::Answers::error_text), using(crate::proofs::TextPieces::put_as))]
 pub fn write_error<E: Write>(errors: &mut E, finish: &Finish) -> io::Result<()>
     ensures { Puts (E.contents errors.old) (E.contents errors.new) result (error_text finish.now) }
 {
     match finish {
         Finish::Ran(endings) => put_endings(errors, endings.as_slice()),
+        Finish::Printed => Ok(()),
         Finish::Refused(fault) => put_pieces(
             errors,
             &[
@@ -117,6 +120,7 @@ pub fn status(finish: &Finish) -> u8
                 0
             }
         }
+        Finish::Printed => 0,
         Finish::Refused(_) => 2,
         Finish::NoMemory => 4,
         Finish::Reading | Finish::Writing => 5,

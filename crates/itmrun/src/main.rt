@@ -1,7 +1,10 @@
-//! The program `itmrun`: scripts of transactional calls, run to histories.
+//! The program `itmrun`: scripts of transactional calls, run to histories, or printed.
 #![tactic(auto)]
 
+mod asm;
 mod command;
+#[cfg(test)]
+mod fakes;
 mod finish;
 mod history;
 mod input;

@@ -7,7 +7,8 @@ ghost use Rattle.itmrun.specs.Answers.{Reads};
 
 use crate::finish::Finish;
 use crate::input::{InputFault, read_up_to};
-use script_asm::{AsmKind, MAX_TEXT, Program, assemble};
+use script_asm::{AsmKind, assemble};
+use script_program::{MAX_TEXT, Program};
 use std::alloc::Global;
 use std::io::Read;
 

@@ -2,15 +2,15 @@
 
 ghost use Rattle.std.specs.Prelude.{◌≡◌, ◌<◌, ◌≤◌, All, IfOk, length, vec_len};
 ghost use Rattle.norec_world.specs.World.{World};
-ghost use Rattle.script_asm.specs.declared.schedule.Item.TheVariants.{Take};
-ghost use Rattle.script_asm.specs.Sizes.{IsSize};
-ghost use Rattle.script_asm.specs.Listing.{opening_of, thread_of};
+ghost use Rattle.script_program.specs.declared.schedule.Item.TheVariants.{Take};
+ghost use Rattle.script_program.specs.Sizes.{IsSize};
+ghost use Rattle.script_program.specs.Listing.{opening_of, thread_of};
 ghost use Rattle.itmrun.specs.Scheduled.{Begins, ItemLeads, ItemsLead, Leaves, each_out, endings_of, players_of};
 
 use crate::finish::Endings;
 use itm_types::MAX_ACTORS;
 use norec_world::{Bytes, Setup, World, WorldFault};
-use script_asm::{Item, Program};
+use script_program::{Item, Program};
 use script_vm::Script;
 use std::alloc::{AllocError, Global};
 

@@ -17,7 +17,7 @@ use crate::history::{Stream, put_history};
 use crate::programs::read_program;
 use crate::running::{endings, run_program};
 use norec_world::World;
-use script_asm::{MAX_TEXT, Program};
+use script_program::{MAX_TEXT, Program};
 use script_vm::Script;
 use std::alloc::Global;
 use std::io::{Read, Write};

@@ -2,25 +2,25 @@
 use Rattle.std.proofs.Common.{◌≡◌, ℕ, ◌+◌, ◌<◌, ◌≤◌, inl, inr, Bool, true, false, cond, leb, List, [], ◌∷◌, ◌++◌, length, Option, Some, None, Result, Ok, refl, ap, arith, length-append}
 use Rattle.std.proofs.lemmas.Bool.{lt-ltb, le-ltb, lt-leb}
 use Rattle.itm_types.specs.declared.limits.TheConstants.{MAX_ACTORS}
-use Rattle.script_asm.specs.declared.limits.TheConstants.{MAX_ITEMS, MAX_INSTRUCTIONS, MAX_LEVELS}
+use Rattle.script_program.specs.declared.limits.TheConstants.{MAX_ITEMS, MAX_INSTRUCTIONS, MAX_LEVELS}
 use Rattle.script_asm.specs.declared.words.Word.TheVariants as words
 use Rattle.script_fields.specs.declared.fault.AsmKind.TheVariants as kinds
 use Rattle.script_fields.specs.declared.fault.AsmFault.{AsmFault}
-use Rattle.script_asm.specs.declared.instruction.Instruction.{Instruction}
+use Rattle.script_program.specs.declared.instruction.Instruction.{Instruction}
 use Rattle.script_asm.specs.declared.groups.Group.{Group}
 use Rattle.script_asm.specs.declared.groups.Group.TheVariants as groups
-use Rattle.script_asm.specs.declared.schedule.Item.{Item}
+use Rattle.script_program.specs.declared.schedule.Item.{Item}
 use Rattle.script_asm.specs.declared.state.State.{State}
-use Rattle.script_asm.specs.Listing.{Shared, Placed, Part}
-use Rattle.script_asm.specs.Sections.{Sections, thread_total, instruction_total, begun, expanded}
-use Rattle.script_asm.specs.Schedules.{planned}
+use Rattle.script_program.specs.Listing.{Shared, Placed, Part}
+use Rattle.script_program.specs.Sections.{Sections, thread_total, instruction_total, begun, expanded}
+use Rattle.script_program.specs.Schedules.{planned}
 use Rattle.script_asm.specs.Readings.{◌>>=◌, fault}
 use Rattle.script_asm.specs.Directives.{threaded}
 use Rattle.script_asm.specs.Blocks.{counted, opened, begins, repeated, without_innermost}
 use Rattle.script_asm.specs.Assembly.{obeyed}
 use Rattle.script_asm.specs.Wants.{Adds, init_count, kept}
 use Rattle.script_asm.specs.Items.{schedule_of}
-use Rattle.script_asm.proofs.AddedSections.{code_more}
+use Rattle.script_program.proofs.AddedSections.{code_more}
 use Rattle.script_asm.proofs.LineItems.{some_items}
 
 -- ## Directives

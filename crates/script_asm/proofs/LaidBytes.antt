@@ -9,7 +9,7 @@ use Rattle.hex.specs.Hex.{decode_of, is_hex_digit}
 use Rattle.hex.proofs.HexLemmas.{decode_of-digits, decode_of-ok}
 use Rattle.script_fields.specs.declared.fault.AsmKind.TheVariants as kinds
 use Rattle.script_asm.specs.declared.state.State.{State}
-use Rattle.script_asm.specs.Listing.{Shared}
+use Rattle.script_program.specs.Listing.{Shared}
 use Rattle.script_fields.specs.Operands.{is_hex, decoded}
 use Rattle.script_asm.specs.Readings.{fault}
 use Rattle.script_asm.specs.Directives.{laid_in}

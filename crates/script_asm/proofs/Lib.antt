@@ -1,7 +1,4 @@
-pub mod Repeats
 pub mod TurnedGroups
-pub mod AddedSections
-pub mod StrayItems
 pub mod LineItems
 pub mod KeptLines
 pub mod OnLiterals

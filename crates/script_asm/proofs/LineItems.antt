@@ -2,7 +2,7 @@
 use Rattle.std.proofs.Common.{◌≡◌, ℕ, ◌+◌, ◌<◌, List, [], ◌∷◌, length, Option, Some, None, Result, Ok, Err, refl, sym, ap, ◌∙◌, arith}
 use Rattle.script_fields.specs.declared.fault.AsmKind.{AsmKind}
 use Rattle.script_fields.specs.declared.fault.AsmKind.TheVariants as kinds
-use Rattle.script_asm.specs.declared.schedule.Item.{Item}
+use Rattle.script_program.specs.declared.schedule.Item.{Item}
 use Rattle.script_fields.specs.Operands.{both, ◌>>=◌}
 use Rattle.script_asm.specs.Items.{item_of, items_of, items_in, with_item, schedule_of}
 

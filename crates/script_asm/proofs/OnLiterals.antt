@@ -2,8 +2,8 @@
 use Rattle.std.specs.Prelude.{⊤}
 use Rattle.itm_types.specs.Entries.{entry_of}
 use Rattle.script_fields.proofs.OnLiterals.{fields_on_literals}
-use Rattle.script_asm.specs.Listing.{bytes_of, codes_of}
-use Rattle.script_asm.specs.Sections.{thread_total, instruction_total, expanded}
+use Rattle.script_program.specs.Listing.{bytes_of, codes_of}
+use Rattle.script_program.specs.Sections.{thread_total, instruction_total, expanded}
 use Rattle.script_asm.specs.Words.{word_of}
 use Rattle.script_asm.specs.Items.{events, item_of, schedule_of}
 use Rattle.script_asm.specs.Code.{control_code, entry_code, instruction_of}

@@ -7,13 +7,13 @@ use Rattle.script_fields.specs.declared.fault.AsmKind.TheVariants as kinds
 use Rattle.script_fields.specs.declared.fault.AsmFault.{AsmFault}
 use Rattle.script_fields.specs.Text.{fields, without_comment, is_allowed}
 use Rattle.script_fields.specs.Shapes.{none, size_of, limit_of, init_of, count_of}
-use Rattle.script_asm.specs.declared.limits.TheConstants.{MAX_TEXT, MAX_REPEATS}
+use Rattle.script_program.specs.declared.limits.TheConstants.{MAX_TEXT, MAX_REPEATS}
 use Rattle.script_asm.specs.declared.words.Word.{Word}
 use Rattle.script_asm.specs.declared.words.Word.TheVariants as words
 use Rattle.script_asm.specs.declared.state.State.{State}
-use Rattle.script_asm.specs.Listing.{Listing, Shared, limits_of, arena_of}
-use Rattle.script_asm.specs.Sections.{parts_of, thread_total}
-use Rattle.script_asm.specs.Schedules.{stray_of}
+use Rattle.script_program.specs.Listing.{Listing, Shared, limits_of, arena_of}
+use Rattle.script_program.specs.Sections.{parts_of, thread_total}
+use Rattle.script_program.specs.Schedules.{stray_of}
 use Rattle.script_asm.specs.Groups.{innermost, innermost_line}
 use Rattle.script_asm.specs.Words.{word_of}
 use Rattle.script_asm.specs.Items.{schedule_of}

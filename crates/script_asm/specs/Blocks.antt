@@ -2,14 +2,14 @@
 use Rattle.std.specs.Prelude.{ℕ, nat_lt, nat_le, [], ◌∷◌, ◌++◌, length, Option, Some, Result, Ok, if◌then◌else◌}
 use Rattle.script_fields.specs.declared.fault.AsmKind.TheVariants as kinds
 use Rattle.script_fields.specs.declared.fault.AsmFault.{AsmFault}
-use Rattle.script_asm.specs.declared.limits.TheConstants.{MAX_INSTRUCTIONS, MAX_LEVELS}
-use Rattle.script_asm.specs.declared.instruction.Instruction.{Instruction}
-use Rattle.script_asm.specs.declared.instruction.Instruction.TheVariants as code
+use Rattle.script_program.specs.declared.limits.TheConstants.{MAX_INSTRUCTIONS, MAX_LEVELS}
+use Rattle.script_program.specs.declared.instruction.Instruction.{Instruction}
+use Rattle.script_program.specs.declared.instruction.Instruction.TheVariants as code
 use Rattle.script_asm.specs.declared.groups.Group.{Group}
 use Rattle.script_asm.specs.declared.groups.Group.TheVariants as groups
 use Rattle.script_asm.specs.declared.state.State.{State}
 use Rattle.script_asm.specs.Groups.{innermost, outer, second_part}
-use Rattle.script_asm.specs.Sections.{instruction_total, expanded}
+use Rattle.script_program.specs.Sections.{instruction_total, expanded}
 use Rattle.script_asm.specs.Readings.{fault, ◌>>=◌}
 
 -- one more instruction: at most 65,536 in all sections

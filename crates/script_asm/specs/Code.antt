@@ -7,8 +7,8 @@ use Rattle.itm_types.specs.declared.entry.Entry.TheVariants as entries
 use Rattle.script_fields.specs.declared.fault.AsmKind.{AsmKind}
 use Rattle.script_fields.specs.Operands.{◌>>=◌}
 use Rattle.script_fields.specs.Shapes.{none, one_register, two_registers, three_registers, register_number, register_literal, register_props, register_place, place_register, one_place, two_places, three_places, abort_scope, only_mode, commit_action, undo_action}
-use Rattle.script_asm.specs.declared.instruction.Instruction.{Instruction}
-use Rattle.script_asm.specs.declared.instruction.Instruction.TheVariants as code
+use Rattle.script_program.specs.declared.instruction.Instruction.{Instruction}
+use Rattle.script_program.specs.declared.instruction.Instruction.TheVariants as code
 use Rattle.script_asm.specs.declared.words.Mnemonic.{Mnemonic}
 use Rattle.script_asm.specs.declared.words.Mnemonic.TheVariants as mnemonics
 

@@ -3,12 +3,12 @@ use Rattle.std.specs.Prelude.{ℕ, ◌+◌, nat_lt, nat_le, List, [], ◌∷◌,
 use Rattle.itm_types.specs.declared.limits.TheConstants.{MAX_ACTORS}
 use Rattle.script_fields.specs.declared.fault.AsmKind.TheVariants as kinds
 use Rattle.script_fields.specs.declared.fault.AsmFault.{AsmFault}
-use Rattle.script_asm.specs.declared.limits.TheConstants.{MAX_ITEMS}
-use Rattle.script_asm.specs.declared.schedule.Item.{Item}
+use Rattle.script_program.specs.declared.limits.TheConstants.{MAX_ITEMS}
+use Rattle.script_program.specs.declared.schedule.Item.{Item}
 use Rattle.script_asm.specs.declared.state.State.{State}
-use Rattle.script_asm.specs.Listing.{Shared}
-use Rattle.script_asm.specs.Sections.{thread_total, begun}
-use Rattle.script_asm.specs.Schedules.{planned}
+use Rattle.script_program.specs.Listing.{Shared}
+use Rattle.script_program.specs.Sections.{thread_total, begun}
+use Rattle.script_program.specs.Schedules.{planned}
 use Rattle.script_asm.specs.Readings.{fault}
 
 -- bytes are laid into the memory where they lie within it

@@ -2,9 +2,9 @@
 use Rattle.std.specs.Prelude.{ℕ, ◌+◌, ◌-◌, ◌==◌, Bool, List, [], ◌∷◌, length, take, drop, min, slice_index, position, Option, Some, None, Result, Ok, Err, if◌then◌else◌}
 use Rattle.script_fields.specs.declared.fault.AsmKind.{AsmKind}
 use Rattle.script_fields.specs.declared.fault.AsmKind.TheVariants as kinds
-use Rattle.script_asm.specs.declared.limits.TheConstants.{MAX_EVENTS}
-use Rattle.script_asm.specs.declared.schedule.Item.{Item}
-use Rattle.script_asm.specs.declared.schedule.Item.TheVariants.{Take, Out}
+use Rattle.script_program.specs.declared.limits.TheConstants.{MAX_EVENTS}
+use Rattle.script_program.specs.declared.schedule.Item.{Item}
+use Rattle.script_program.specs.declared.schedule.Item.TheVariants.{Take, Out}
 use Rattle.script_fields.specs.Operands.{◌>>=◌, both, number, within}
 
 abbrev pub is_times : ℕ → Bool

@@ -1,8 +1,3 @@
-pub mod Sizes
-pub mod Instructions
-pub mod Listing
-pub mod Sections
-pub mod Schedules
 pub mod Groups
 pub mod Readings
 pub mod Words

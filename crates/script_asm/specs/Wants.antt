@@ -6,8 +6,8 @@ use Rattle.script_fields.specs.declared.fault.AsmFault.{AsmFault}
 use Rattle.script_asm.specs.declared.state.State.{State}
 use Rattle.script_asm.specs.declared.stop.Stop.{Stop}
 use Rattle.script_asm.specs.declared.stop.Stop.TheVariants as stops
-use Rattle.script_asm.specs.Listing.{Listing, Shared}
-use Rattle.script_asm.specs.Sections.{instruction_total}
+use Rattle.script_program.specs.Listing.{Listing, Shared}
+use Rattle.script_program.specs.Sections.{instruction_total}
 use Rattle.script_asm.specs.Assembly.{meaning, lines_say, initial, program_of}
 
 abbrev pub init_count : Option Shared → ℕ

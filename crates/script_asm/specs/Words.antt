@@ -3,8 +3,8 @@ use Rattle.std.specs.Prelude.{ℕ, List, [], ◌∷◌, Option, Some, None, code
 use Rattle.itm_types.specs.declared.entry.Entry.{Entry}
 use Rattle.itm_types.specs.Entries.{entry_of}
 use Rattle.script_fields.specs.Names.{lookup}
-use Rattle.script_asm.specs.declared.instruction.Operation.TheVariants as operations
-use Rattle.script_asm.specs.declared.instruction.ArenaWidth.TheVariants as widths
+use Rattle.script_program.specs.declared.instruction.Operation.TheVariants as operations
+use Rattle.script_program.specs.declared.instruction.ArenaWidth.TheVariants as widths
 use Rattle.script_asm.specs.declared.words.Word.{Word}
 use Rattle.script_asm.specs.declared.words.Word.TheVariants as words
 use Rattle.script_asm.specs.declared.words.Mnemonic.TheVariants as mnemonics

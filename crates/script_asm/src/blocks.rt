@@ -6,10 +6,10 @@ ghost use Rattle.script_asm.specs.Blocks.{counted, begins, ends, ends_block, tur
 ghost use Rattle.script_asm.specs.Wants.{Steps};
 
 use crate::groups::Group;
-use crate::instruction::Instruction;
 use crate::state::State;
 use crate::stop::{Stop, fault};
 use script_fields::AsmKind;
+use script_program::Instruction;
 
 #[tactic(auto, using(crate::proofs::KeptLines::code_kept))]
 fn push_code(state: &mut State, line: usize, instruction: Instruction) -> Result<(), Stop>

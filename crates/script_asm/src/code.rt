@@ -4,7 +4,6 @@ ghost use Rattle.std.specs.Prelude.{◌≡◌};
 ghost use Rattle.script_fields.specs.Text.{fields};
 ghost use Rattle.script_asm.specs.Code.{control_code, entry_code, instruction_of};
 
-use crate::instruction::Instruction;
 use crate::words::Mnemonic;
 use itm_types::{Control, Entry};
 use script_fields::{
@@ -12,6 +11,7 @@ use script_fields::{
     place_register, register_literal, register_number, register_place, register_props,
     three_places, three_registers, two_places, two_registers, undo_action,
 };
+use script_program::Instruction;
 
 #[tactic(auto, unfolding(crate::specs::Code::control_code))]
 fn control_code(control: Control, rest: &[u8]) -> Result<Instruction, AsmKind>

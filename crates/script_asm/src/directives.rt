@@ -9,12 +9,11 @@ ghost use Rattle.script_asm.specs.Assembly.{obeyed};
 ghost use Rattle.script_asm.specs.Wants.{Steps};
 
 use crate::items::{add_items, count_items};
-use crate::limits::MAX_ITEMS;
-use crate::opening::{Opening, Size};
 use crate::state::State;
 use crate::stop::{Stop, fault};
 use itm_types::{MAX_ARENA, MAX_COMMITS, MAX_PATIENCE, MAX_RETRIES};
 use script_fields::{AsmKind, init_of, limit_of, size_of};
+use script_program::{MAX_ITEMS, Opening, Size};
 use std::alloc::Global;
 
 /// The size of shared memory.

@@ -3,7 +3,7 @@
 ghost use Rattle.std.specs.Prelude.{◌≡◌, ◌<◌, [], ◌∷◌, length, nat_le, OnOk};
 ghost use Rattle.script_asm.specs.Groups.{innermost, innermost_line, outer, second_part};
 
-use crate::limits::MAX_LEVELS;
+use script_program::MAX_LEVELS;
 use std::alloc::{AllocError, Global};
 use std::marker::Model;
 
@@ -36,7 +36,7 @@ pub struct Groups {
 impl Model for Groups {
     ghost use Rattle.std.specs.Prelude.{◌≤◌, List, length, reverse};
     ghost use Rattle.script_asm.specs.declared.groups.Beginning.{Beginning};
-    ghost use Rattle.script_asm.specs.declared.limits.TheConstants.{MAX_LEVELS};
+    ghost use Rattle.script_program.specs.declared.limits.TheConstants.{MAX_LEVELS};
 
     ghost Value = { List Beginning };
 

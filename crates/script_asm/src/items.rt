@@ -2,12 +2,11 @@
 
 ghost use Rattle.std.specs.Prelude.{◌≡◌, Ok, Err, IfErr, IfOk, OnOk, length, position};
 ghost use Rattle.script_fields.specs.Text.{fields};
-ghost use Rattle.script_asm.specs.Schedules.{planned};
+ghost use Rattle.script_program.specs.Schedules.{planned};
 ghost use Rattle.script_asm.specs.Items.{is_times, thread_number, events, item_of, items_in, schedule_of};
 
-use crate::limits::MAX_EVENTS;
-use crate::schedule::{Item, Plan};
 use script_fields::{AsmKind, both, first_field, number, within};
+use script_program::{Item, MAX_EVENTS, Plan};
 use std::alloc::AllocError;
 
 fn times_at(field: &[u8]) -> Option<usize>

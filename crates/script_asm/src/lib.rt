@@ -38,27 +38,16 @@ mod blocks;
 mod code;
 mod directives;
 mod groups;
-mod instruction;
 mod items;
-mod limits;
 mod obeying;
-mod opening;
-mod program;
 mod reading;
-mod schedule;
 mod standing;
 mod state;
 mod stop;
-mod threads;
 mod whole;
 mod words;
 
-pub use instruction::{ArenaWidth, Instruction, Operation};
-pub use limits::{MAX_INSTRUCTIONS, MAX_TEXT, largest};
-pub use opening::Size;
-pub use program::Program;
-pub use schedule::Item;
-pub use script_fields::{AsmFault, AsmKind, Literal, Place, Register};
+pub use script_fields::{AsmFault, AsmKind};
 pub use whole::assemble;
 
 #[cfg(test)]

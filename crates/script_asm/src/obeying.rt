@@ -13,12 +13,12 @@ use crate::code::instruction_of;
 use crate::directives::{
     read_arena, read_commits, read_init, read_memory, read_patience, read_retries, read_schedule,
 };
-use crate::limits::MAX_REPEATS;
 use crate::state::State;
 use crate::stop::{Stop, fault};
 use crate::words::{Mnemonic, Word};
 use itm_types::MAX_ACTORS;
 use script_fields::{AsmKind, count_of, limit_of, no_field};
+use script_program::MAX_REPEATS;
 use std::alloc::Global;
 
 /// A section begins, where nothing is open.

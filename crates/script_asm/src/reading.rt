@@ -5,12 +5,12 @@ ghost use Rattle.script_asm.specs.Assembly.{meaning, end_of};
 ghost use Rattle.script_asm.specs.Wants.{Steps};
 
 use crate::obeying::obey;
-use crate::program::Program;
 use crate::standing::may_stand;
 use crate::state::State;
 use crate::stop::{Stop, fault};
 use crate::words::word_of;
 use script_fields::{AsmFault, AsmKind, code_part, first_field, has_allowed};
+use script_program::Program;
 use std::alloc::Global;
 
 /// Reads one more line.

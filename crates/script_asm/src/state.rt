@@ -1,10 +1,7 @@
 //! What has been read of a script.
 
 use crate::groups::Groups;
-use crate::limits::SaidLimits;
-use crate::opening::Opening;
-use crate::schedule::Plan;
-use crate::threads::Threads;
+use script_program::{Opening, Plan, SaidLimits, Threads};
 
 /// What the lines so far say.
 #[derive(Drop)]

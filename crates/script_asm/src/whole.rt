@@ -7,14 +7,11 @@ ghost use Rattle.script_asm.specs.Wants.{Gives, RunsOut, IsAnswer};
 ghost use Rattle.script_asm.specs.declared.stop.Stop.TheVariants.{Memory};
 
 use crate::groups::Groups;
-use crate::limits::{MAX_TEXT, SaidLimits};
-use crate::program::Program;
 use crate::reading::{finish, read_line};
-use crate::schedule::Plan;
 use crate::state::State;
 use crate::stop::Stop;
-use crate::threads::Threads;
 use script_fields::{AsmFault, AsmKind, first_line};
+use script_program::{MAX_TEXT, Plan, Program, SaidLimits, Threads};
 use std::alloc::Global;
 
 /// What the lines say, one after the other; `number` is the line that was read last.

@@ -3,9 +3,9 @@
 ghost use Rattle.std.specs.Prelude.{◌≡◌};
 ghost use Rattle.script_asm.specs.Words.{word_of};
 
-use crate::instruction::{ArenaWidth, Operation};
 use itm_types::{Entry, entry_of};
 use script_fields::lookup;
+use script_program::{ArenaWidth, Operation};
 
 /// What the first field of a line is.
 #[derive(Clone, Copy)]

@@ -8,8 +8,8 @@ use Rattle.itm_types.specs.declared.call.Reply.{Reply}
 use Rattle.itm_types.specs.declared.call.Reply.TheVariants.{Done, Code, Refused}
 use Rattle.script_fields.specs.declared.register.Register.TheVariants.{R0, R1, R2, R3, R4}
 use Rattle.script_fields.specs.declared.place.Place.TheVariants as place
-use Rattle.script_asm.specs.declared.instruction.Instruction.{Instruction}
-use Rattle.script_asm.specs.declared.instruction.Instruction.TheVariants as code
+use Rattle.script_program.specs.declared.instruction.Instruction.{Instruction}
+use Rattle.script_program.specs.declared.instruction.Instruction.TheVariants as code
 use Rattle.script_vm.specs.Registers.{datum}
 use Rattle.script_vm.specs.Threads.{Thread, opening, next_call, depth_of}
 use Rattle.script_vm.proofs.Examples.{plain, played, value_of}

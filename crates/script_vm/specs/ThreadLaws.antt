@@ -10,8 +10,8 @@ use Rattle.itm_types.specs.declared.call.Props.{Props}
 use Rattle.tx_player.specs.Depth.{depth_after, opens}
 use Rattle.tx_player.specs.Rules.{Obeys}
 use Rattle.script_fields.specs.declared.register.Register.{Register}
-use Rattle.script_asm.specs.declared.instruction.Instruction.{Instruction}
-use Rattle.script_asm.specs.declared.instruction.Instruction.TheVariants as code
+use Rattle.script_program.specs.declared.instruction.Instruction.{Instruction}
+use Rattle.script_program.specs.declared.instruction.Instruction.TheVariants as code
 use Rattle.script_vm.specs.declared.stage.Stage.{Stage}
 use Rattle.script_vm.specs.declared.stage.Stage.TheVariants.{Runs, ToEnd}
 use Rattle.script_vm.specs.Registers.{bytes_at, number_at, with_bytes, with_number, of_bytes}

@@ -7,9 +7,9 @@ use Rattle.itm_types.specs.declared.call.Reply.{Reply}
 use Rattle.itm_types.specs.declared.call.Reply.TheVariants.{Done, Bytes, Code, Refused}
 use Rattle.script_fields.specs.declared.register.Register.{Register}
 use Rattle.script_fields.specs.declared.register.Register.TheVariants.{R0}
-use Rattle.script_asm.specs.declared.instruction.Instruction.{Instruction}
-use Rattle.script_asm.specs.declared.instruction.Instruction.TheVariants as code
-use Rattle.script_asm.specs.Instructions.{width_of}
+use Rattle.script_program.specs.declared.instruction.Instruction.{Instruction}
+use Rattle.script_program.specs.declared.instruction.Instruction.TheVariants as code
+use Rattle.script_program.specs.Instructions.{width_of}
 use Rattle.script_vm.specs.Registers.{place_of, with_bytes, with_number, of_bytes, zeros, datum}
 use Rattle.script_vm.specs.Work.{settled}
 use Rattle.tx_player.specs.Rules.{Rules}

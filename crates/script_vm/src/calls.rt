@@ -6,7 +6,7 @@ ghost use Rattle.script_vm.specs.Threads.{control_call, arena_call, value_call, 
 use crate::ends::room;
 use crate::registers::Registers;
 use itm_types::{Action, Call, Copying};
-use script_asm::{Instruction, MAX_INSTRUCTIONS};
+use script_program::{Instruction, MAX_INSTRUCTIONS};
 
 /// A call about blocks, transactions and actions, with so many blocks open and this code after it.
 fn control_call(

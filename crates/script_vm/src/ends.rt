@@ -3,7 +3,7 @@
 ghost use Rattle.std.specs.Prelude.{◌≡◌, ◌+◌, ◌^◌, ◌<◌, ◌≤◌, length};
 ghost use Rattle.script_vm.specs.Threads.{open_past, room, past_block};
 
-use script_asm::{Instruction, MAX_INSTRUCTIONS};
+use script_program::{Instruction, MAX_INSTRUCTIONS};
 
 /// How many of so many blocks are still to be closed once an instruction is passed over.
 fn open_past(instruction: &Instruction, left: usize) -> usize

@@ -5,7 +5,7 @@ ghost use Rattle.script_fields.specs.Registers.{index_of};
 ghost use Rattle.script_vm.specs.Registers.{zeros, bytes_at, number_at, place_of, datum, of_bytes, with_bytes, with_number};
 
 use itm_types::{Datum, Width};
-use script_asm::{Place, Register};
+use script_fields::{Place, Register};
 use std::marker::Model;
 
 /// The 16 registers, of 32 bytes each.

@@ -9,7 +9,8 @@ use crate::registers::Registers;
 use crate::start::Start;
 use crate::work::settle;
 use itm_types::{Call, Reply};
-use script_asm::{Instruction, MAX_INSTRUCTIONS, Program, Register};
+use script_fields::Register;
+use script_program::{Instruction, MAX_INSTRUCTIONS, Program};
 use std::alloc::{AllocError, Global};
 use std::marker::Model;
 use tx_player::Player;
@@ -24,7 +25,7 @@ pub struct Script<'p> {
 
 impl<'p> Model for Script<'p> {
     ghost use Rattle.std.specs.Prelude.{◌+◌, ◌≤◌, length};
-    ghost use Rattle.script_asm.specs.declared.limits.TheConstants.{MAX_INSTRUCTIONS};
+    ghost use Rattle.script_program.specs.declared.limits.TheConstants.{MAX_INSTRUCTIONS};
     ghost use Rattle.script_vm.specs.Threads.{Thread};
 
     ghost Value = { Thread };
@@ -36,7 +37,7 @@ impl<'p> Model for Script<'p> {
 
 impl<'p> Script<'p> {
     ghost use Rattle.std.specs.Prelude.{◌≡◌, ◌+◌, ◌<◌, ◌≤◌, [], false, true, length, slice_index_or, IfOk};
-    ghost use Rattle.script_asm.specs.Listing.{threads_of};
+    ghost use Rattle.script_program.specs.Listing.{threads_of};
     ghost use Rattle.script_vm.specs.Threads.{opening, goes_on, begun, ended, cancelled, took, told};
 
     /// A thread of the program before its first call. No method takes memory after this.

@@ -2,7 +2,7 @@
 
 ghost use Rattle.std.specs.Prelude.{◌≡◌, ◌^◌, ◌<◌, ◌≤◌, ◌+◌};
 
-use script_asm::Instruction;
+use script_program::Instruction;
 
 /// What happens to the next instruction of local work.
 #[derive(Clone, Copy)]

@@ -4,7 +4,8 @@ ghost use Rattle.std.specs.Prelude.{◌≡◌, ◌≤◌, length};
 ghost use Rattle.script_vm.specs.Registers.{with_number};
 
 use crate::registers::Registers;
-use script_asm::{Instruction, MAX_INSTRUCTIONS, Register};
+use script_fields::Register;
+use script_program::{Instruction, MAX_INSTRUCTIONS};
 use std::marker::Model;
 
 /// The code and the registers as a block's begin was called, and the begin's register.
@@ -17,7 +18,7 @@ pub struct Start<'p> {
 
 impl<'p> Model for Start<'p> {
     ghost use Rattle.std.specs.Prelude.{◌≤◌, length};
-    ghost use Rattle.script_asm.specs.declared.limits.TheConstants.{MAX_INSTRUCTIONS};
+    ghost use Rattle.script_program.specs.declared.limits.TheConstants.{MAX_INSTRUCTIONS};
     ghost use Rattle.script_vm.specs.Threads.{Block};
 
     ghost Value = { Block };

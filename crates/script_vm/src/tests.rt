@@ -1,6 +1,7 @@
 use super::*;
 use itm_types::{Call, Props, Reply, Width};
-use script_asm::{Instruction, Operation, Place, Register};
+use script_fields::{Place, Register};
+use script_program::{Instruction, Operation};
 use std::test::*;
 
 const PLAIN: Props = Props {

@@ -1,12 +1,12 @@
 //! What a thread does between its calls.
 
 ghost use Rattle.std.specs.Prelude.{◌≡◌, ◌≤◌, List, ◌∷◌, length, IfNone, IfSome};
-ghost use Rattle.script_asm.specs.declared.instruction.Instruction.{Instruction};
+ghost use Rattle.script_program.specs.declared.instruction.Instruction.{Instruction};
 ghost use Rattle.script_vm.specs.Work.{computed, chosen_by, worked, settled, groups_in};
 
 use crate::registers::Registers;
 use crate::stage::Stage;
-use script_asm::{Instruction, MAX_INSTRUCTIONS, Operation};
+use script_program::{Instruction, MAX_INSTRUCTIONS, Operation};
 
 /// What is worked out from two numbers.
 fn computed(operation: Operation, left: u64, right: u64) -> u64

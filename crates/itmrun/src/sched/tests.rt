@@ -9,9 +9,8 @@ mod schedules;
 mod threads;
 
 use super::*;
+use crate::fakes::{Comment, Meagre};
 use script_asm::assemble;
-use std::alloc::AllocError;
-use std::io;
 use std::process::Abort;
 use std::test::*;
 
@@ -116,28 +115,6 @@ fn refused_scripts(rt: HostRuntime) -> Result<(), Fail> {
     Ok(())
 }
 
-/// Gives so many bytes of a comment, fails once, and then is at its end.
-#[derive(Drop)]
-struct Comment {
-    left: usize,
-    failed: bool,
-}
-
-impl Read for Comment {
-    fn read(&mut self, buf: &mut [u8]) -> io::Result<usize> {
-        if self.left == 0 && !self.failed {
-            self.failed = true;
-            return Err(io::ErrorKind::Other.into());
-        }
-        let n = buf.len().min(self.left);
-        for byte in buf.iter_mut() {
-            *byte = b';';
-        }
-        self.left -= n;
-        Ok(n)
-    }
-}
-
 /// A read that fails, and a text of which no more is read than makes it too long.
 #[test]
 fn failing_reads(rt: HostRuntime) {
@@ -155,44 +132,6 @@ fn failing_reads(rt: HostRuntime) {
         assert_eq!(rt; answer.status, status);
         assert!(rt; answer.output.is_empty());
         assert_eq!(rt; answer.errors.as_slice(), line);
-    }
-}
-
-/// Takes at most `most` bytes a write, so many writes. The write after them fails or takes nothing, and only that one;
-/// so does a flush in its place.
-#[derive(Drop)]
-struct Meagre {
-    taken: Vec<u8>,
-    writes: usize,
-    most: usize,
-    fails: bool,
-}
-
-impl Write for Meagre {
-    fn write(&mut self, buf: &[u8]) -> io::Result<usize> {
-        if self.writes == 0 {
-            self.writes = usize::MAX;
-            return if self.fails {
-                Err(io::ErrorKind::Other.into())
-            } else {
-                Ok(0)
-            };
-        }
-        let n = buf.len().min(self.most);
-        let (front, _) = buf.split_at(n);
-        self.taken
-            .extend_from_slice(front)
-            .map_err(AllocError::from)?;
-        self.writes -= 1;
-        Ok(n)
-    }
-
-    fn flush(&mut self) -> io::Result<()> {
-        if self.writes == 0 && self.fails {
-            self.writes = usize::MAX;
-            return Err(io::ErrorKind::Other.into());
-        }
-        Ok(())
     }
 }
 

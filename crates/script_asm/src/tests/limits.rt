@@ -1,7 +1,8 @@
 //! As much as may be, and one more.
 
 use super::{joined, refused, repeated};
-use crate::{AsmKind, Item, Program, assemble};
+use crate::{AsmKind, assemble};
+use script_program::{Item, Program};
 use std::alloc::{AllocError, Global};
 use std::process::Abort;
 use std::test::Fail;

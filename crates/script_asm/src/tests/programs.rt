@@ -2,10 +2,10 @@
 
 ghost use Rattle.std.specs.Prelude.{◌<◌};
 
-use crate::{
-    ArenaWidth, AsmFault, AsmKind, Instruction, Item, Operation, Place, Program, Register, assemble,
-};
+use crate::{AsmFault, AsmKind, assemble};
 use itm_types::{Limits, Props, ReadHint, Width, WriteHint};
+use script_fields::{Place, Register};
+use script_program::{ArenaWidth, Instruction, Item, Operation, Program};
 use std::process::Abort;
 use std::test::Fail;
 

@@ -1,6 +1,6 @@
 use Rattle.std.proofs.Common.{◌≡◌, Err, Result}
 use Rattle.script_fields.specs.declared.fault.AsmFault.{AsmFault}
-use Rattle.script_asm.specs.Listing.{Listing}
+use Rattle.script_program.specs.Listing.{Listing}
 use Rattle.itmrun.specs.declared.finish.Finish.TheVariants as ends
 use Rattle.itmrun.specs.Answers.{Reads}
 use Rattle.itmrun.proofs.ReadTexts.{cut, unread}

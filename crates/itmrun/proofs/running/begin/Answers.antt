@@ -1,6 +1,6 @@
 use Rattle.std.proofs.Common.{◌≡◌, List, All, subst, sym}
 use Rattle.std.proofs.lemmas.List.Elements.{All-from_recursion}
-use Rattle.script_asm.specs.Listing.{threads_of}
+use Rattle.script_program.specs.Listing.{threads_of}
 use Rattle.script_vm.specs.Threads.{Thread, depth_of}
 use Rattle.itmrun.specs.Scheduled.{players_of}
 use Rattle.itmrun.proofs.ScheduleItems.{outside}

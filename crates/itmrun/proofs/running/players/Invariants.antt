@@ -1,5 +1,5 @@
 use Rattle.std.proofs.Common.{◌≡◌, map, take}
-use Rattle.script_asm.specs.Listing.{threads_of}
+use Rattle.script_program.specs.Listing.{threads_of}
 use Rattle.script_vm.specs.Threads.{opening}
 use Rattle.itmrun.proofs.running.players.Given as goal
 

@@ -1,6 +1,6 @@
 use Rattle.std.proofs.Common.{◌≡◌, length}
 use Rattle.script_fields.specs.Text.{fields}
-use Rattle.script_asm.specs.Schedules.{planned}
+use Rattle.script_program.specs.Schedules.{planned}
 use Rattle.script_asm.specs.Items.{items_in}
 use Rattle.script_asm.proofs.items.add_items.Given as goal
 

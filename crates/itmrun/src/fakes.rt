@@ -1,0 +1,65 @@
+//! Readers and writers that fail.
+
+use std::alloc::AllocError;
+use std::io;
+use std::io::{Read, Write};
+
+/// Gives so many bytes of a comment, fails once, and then is at its end.
+#[derive(Drop)]
+pub struct Comment {
+    pub left: usize,
+    pub failed: bool,
+}
+
+impl Read for Comment {
+    fn read(&mut self, buf: &mut [u8]) -> io::Result<usize> {
+        if self.left == 0 && !self.failed {
+            self.failed = true;
+            return Err(io::ErrorKind::Other.into());
+        }
+        let n = buf.len().min(self.left);
+        for byte in buf.iter_mut() {
+            *byte = b';';
+        }
+        self.left -= n;
+        Ok(n)
+    }
+}
+
+/// Takes at most `most` bytes a write, so many writes. The write after them fails or takes nothing, and only that one;
+/// so does a flush in its place.
+#[derive(Drop)]
+pub struct Meagre {
+    pub taken: Vec<u8>,
+    pub writes: usize,
+    pub most: usize,
+    pub fails: bool,
+}
+
+impl Write for Meagre {
+    fn write(&mut self, buf: &[u8]) -> io::Result<usize> {
+        if self.writes == 0 {
+            self.writes = usize::MAX;
+            return if self.fails {
+                Err(io::ErrorKind::Other.into())
+            } else {
+                Ok(0)
+            };
+        }
+        let n = buf.len().min(self.most);
+        let (front, _) = buf.split_at(n);
+        self.taken
+            .extend_from_slice(front)
+            .map_err(AllocError::from)?;
+        self.writes -= 1;
+        Ok(n)
+    }
+
+    fn flush(&mut self) -> io::Result<()> {
+        if self.writes == 0 && self.fails {
+            self.writes = usize::MAX;
+            return Err(io::ErrorKind::Other.into());
+        }
+        Ok(())
+    }
+}

@@ -1,6 +1,0 @@
-use Rattle.std.proofs.Common.{◌≡◌}
-use Rattle.script_asm.specs.Sections.{expanded}
-use Rattle.script_asm.proofs.threads.Threads.repeat.Given as goal
-
-abbrev pub invariant-loop-count : goal.invariant-loop-count
-invariant-loop-count l = l.self ≡ expanded l.initial.self l.start l.count

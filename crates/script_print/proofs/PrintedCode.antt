@@ -1,0 +1,129 @@
+-- The lines of a section's code say its code.
+use Rattle.std.proofs.Common.{◌≡◌, ℕ, ◌+◌, ◌<◌, ◌≤◌, true, ltb, List, [], ◌∷◌, ◌++◌, length, map, Option, Some, None, Ok, refl, sym, ap, ◌∙◌, arith, append_assoc, length-append, inl, inr}
+use Rattle.std.specs.List.{AllByRecursion}
+use Rattle.std.proofs.lemmas.Bool.{lt-leb, ltb-true}
+use Rattle.std.proofs.lemmas.List.{length-map, append-nil}
+use Rattle.script_fields.proofs.FirstLines.{chosen}
+use Rattle.script_asm.specs.declared.groups.Beginning.{Beginning}
+use Rattle.script_asm.specs.declared.groups.Group.{Group}
+use Rattle.script_asm.specs.declared.groups.Group.TheVariants as groups
+use Rattle.script_program.specs.declared.instruction.Instruction.{Instruction}
+use Rattle.script_program.specs.declared.instruction.Instruction.TheVariants as code
+use Rattle.script_program.specs.declared.limits.TheConstants.{MAX_INSTRUCTIONS, MAX_LEVELS}
+use Rattle.script_asm.specs.declared.state.State.{State}
+use Rattle.script_program.specs.Sections.{instruction_total}
+use Rattle.script_asm.specs.Readings.{◌>>=◌}
+use Rattle.script_asm.specs.Standing.{has_begun, code_may_stand}
+use Rattle.script_asm.specs.Blocks.{counted, opened, run_code}
+use Rattle.script_print.specs.Printing.{instruction_fields}
+use Rattle.script_print.proofs.Printable.{IsSaid, pushed, turned, group_ended, block_ended, open_after, then_after, open_after_all}
+use Rattle.script_print.proofs.PrintedInstructions.{mnemonic_of, stands, instruction_again}
+use Rattle.script_print.proofs.PrintedLines.{all_said, said_next}
+
+-- what is open, without the lines in which it began
+abbrev pub groups_of : List Beginning → List Group
+groups_of levels = map (λ b. b.group) levels
+
+-- more code in the section that is read, and what is open after it
+abbrev pub with_code : State → List Instruction → List Beginning → State
+with_code s is levels = record s { threads = record s.threads { code = s.threads.code ++ is }; levels = levels }
+
+-- ## One instruction
+
+-- the instruction's line is well, and leaves this open
+abbrev Leaves : State → ℕ → Instruction → List Group → Type 0
+Leaves s n i hs = (levels : List Beginning) × (groups_of levels ≡ hs) × (stands s n i ≡ Ok (with_code s (i ∷ []) levels))
+
+-- one that begins and ends nothing
+plain : (s : State) (n : ℕ) (i : Instruction) (hs : List Group) → code_may_stand s (mnemonic_of i) ≡ true → run_code s n i ≡ counted s n i
+    → instruction_total s.threads < MAX_INSTRUCTIONS → Some (groups_of s.levels) ≡ Some hs → Leaves s n i hs
+plain s n i hs may run few after = (s.levels, cc, rw (may, run, lt-leb MAX_INSTRUCTIONS (instruction_total s.threads) few) refl)
+
+-- one that begins a block or a group
+begins_one : (s : State) (n : ℕ) (i : Instruction) (g : Group) (hs : List Group) → code_may_stand s (mnemonic_of i) ≡ true → run_code s n i ≡ (counted s n i >>= λ t. opened t n g)
+    → instruction_total s.threads < MAX_INSTRUCTIONS → pushed (groups_of s.levels) g ≡ Some hs → Leaves s n i hs
+begins_one s n i g hs may run few after =
+    elim (chosen (ltb (length (groups_of s.levels)) MAX_LEVELS) (Some (g ∷ groups_of s.levels)) None (Some hs) after) [
+      | inl room ↦
+          let low : length s.levels < MAX_LEVELS = omega (arith, ltb-true _ _ room.0, length-map s.levels (λ (b : Beginning). b.group)) in
+          let is : g ∷ groups_of s.levels ≡ hs = cc in
+          (record { line = n; group = g } ∷ s.levels, is, rw (may, run, lt-leb MAX_INSTRUCTIONS (instruction_total s.threads) few, lt-leb MAX_LEVELS (length s.levels) low) refl)
+      | inr full ↦ absurd cc
+    ]
+
+-- the state with these beginnings
+abbrev at_levels : State → List Beginning → State
+at_levels s levels = record s { levels = levels }
+
+abbrev begun_at : ℕ → Group → List Beginning → List Beginning
+begun_at line g more = record { line = line; group = g } ∷ more
+
+else_in : (s : State) (n line : ℕ) (g : Group) (more : List Beginning) (hs : List Group) → has_begun s ≡ true → instruction_total s.threads < MAX_INSTRUCTIONS → turned (g ∷ groups_of more) ≡ Some hs
+    → Leaves (at_levels s (begun_at line g more)) n code.Else hs
+unfolding run_code
+else_in s n line groups.First more hs begun few after = (begun_at line groups.Second more, cc, rw (begun, lt-leb MAX_INSTRUCTIONS (instruction_total s.threads) few) refl)
+else_in s n line groups.Second more hs begun few after = absurd cc
+else_in s n line groups.Block more hs begun few after = absurd cc
+else_in s n line (groups.Repeat start times) more hs begun few after = absurd cc
+
+end_in : (s : State) (n line : ℕ) (g : Group) (more : List Beginning) (hs : List Group) → has_begun s ≡ true → instruction_total s.threads < MAX_INSTRUCTIONS → group_ended (g ∷ groups_of more) ≡ Some hs
+    → Leaves (at_levels s (begun_at line g more)) n code.EndIf hs
+unfolding run_code
+end_in s n line groups.First more hs begun few after = (more, cc, rw (begun, lt-leb MAX_INSTRUCTIONS (instruction_total s.threads) few) refl)
+end_in s n line groups.Second more hs begun few after = (more, cc, rw (begun, lt-leb MAX_INSTRUCTIONS (instruction_total s.threads) few) refl)
+end_in s n line groups.Block more hs begun few after = absurd cc
+end_in s n line (groups.Repeat start times) more hs begun few after = absurd cc
+
+commit_in : (s : State) (n line : ℕ) (g : Group) (more : List Beginning) (hs : List Group) → has_begun s ≡ true → instruction_total s.threads < MAX_INSTRUCTIONS → block_ended (g ∷ groups_of more) ≡ Some hs
+    → Leaves (at_levels s (begun_at line g more)) n code.Commit hs
+unfolding run_code
+commit_in s n line groups.Block more hs begun few after = (more, cc, rw (begun, lt-leb MAX_INSTRUCTIONS (instruction_total s.threads) few) refl)
+commit_in s n line groups.First more hs begun few after = absurd cc
+commit_in s n line groups.Second more hs begun few after = absurd cc
+commit_in s n line (groups.Repeat start times) more hs begun few after = absurd cc
+
+else_leaves : (s : State) (n : ℕ) (levels : List Beginning) (hs : List Group) → has_begun s ≡ true → instruction_total s.threads < MAX_INSTRUCTIONS → turned (groups_of levels) ≡ Some hs → Leaves (at_levels s levels) n code.Else hs
+else_leaves s n [] hs begun few after = absurd cc
+else_leaves s n (b ∷ more) hs begun few after = else_in s n b.line b.group more hs begun few after
+
+end_leaves : (s : State) (n : ℕ) (levels : List Beginning) (hs : List Group) → has_begun s ≡ true → instruction_total s.threads < MAX_INSTRUCTIONS → group_ended (groups_of levels) ≡ Some hs → Leaves (at_levels s levels) n code.EndIf hs
+end_leaves s n [] hs begun few after = absurd cc
+end_leaves s n (b ∷ more) hs begun few after = end_in s n b.line b.group more hs begun few after
+
+commit_leaves : (s : State) (n : ℕ) (levels : List Beginning) (hs : List Group) → has_begun s ≡ true → instruction_total s.threads < MAX_INSTRUCTIONS → block_ended (groups_of levels) ≡ Some hs → Leaves (at_levels s levels) n code.Commit hs
+commit_leaves s n [] hs begun few after = absurd cc
+commit_leaves s n (b ∷ more) hs begun few after = commit_in s n b.line b.group more hs begun few after
+
+leaves : (s : State) (n : ℕ) (i : Instruction) (hs : List Group) → has_begun s ≡ true → instruction_total s.threads < MAX_INSTRUCTIONS → open_after (groups_of s.levels) i ≡ Some hs → Leaves s n i hs
+unfolding run_code
+leaves s n (code.Begin props to) hs begun few after = begins_one s n (code.Begin props to) groups.Block hs begun refl few after
+leaves s n (code.IfNotZero register) hs begun few after = begins_one s n (code.IfNotZero register) groups.First hs begun refl few after
+leaves s n code.Else hs begun few after = else_leaves s n s.levels hs begun few after
+leaves s n code.EndIf hs begun few after = end_leaves s n s.levels hs begun few after
+leaves s n code.Commit hs begun few after = commit_leaves s n s.levels hs begun few after
+leaves s n i hs begun few after = plain s n i hs begun refl few after
+
+-- ## All the code
+
+then_some : (o : Option (List Group)) (f : List Group → Option (List Group)) (hs : List Group) → then_after o f ≡ Some hs → (gs : List Group) × (o ≡ Some gs) × (f gs ≡ Some hs)
+then_some None f hs e = absurd cc
+then_some (Some gs) f hs e = (gs, refl, e)
+
+one_more : (s : State) (i : Instruction) (levels : List Beginning) → instruction_total (with_code s (i ∷ []) levels).threads ≡ instruction_total s.threads + 1
+unfolding instruction_total
+one_more s i levels = omega (arith, length-append s.threads.code (i ∷ []))
+
+code_ended : (s : State) → s ≡ with_code s [] s.levels
+code_ended s = ap (λ (l : List Instruction). record s { threads = record s.threads { code = l } }) (sym (append-nil s.threads.code))
+
+pub code_said : (is : List Instruction) (s : State) (n : ℕ) (hs : List Group) → has_begun s ≡ true → instruction_total s.threads + length is ≤ MAX_INSTRUCTIONS
+    → open_after_all (groups_of s.levels) is ≡ Some hs → AllByRecursion IsSaid is
+    → (levels : List Beginning) × (groups_of levels ≡ hs) × (all_said s n (map instruction_fields is) ≡ Ok (with_code s is levels))
+code_said [] s n hs begun few after h = (s.levels, cc, ap (λ (t : State). Ok t) (code_ended s))
+code_said (i ∷ is) s n hs begun few after h =
+    let first = then_some (open_after (groups_of s.levels) i) (λ gs. open_after_all gs is) hs after in
+    let one = leaves s n i first.0 begun (omega arith) first.1 in
+    let t = with_code s (i ∷ []) one.0 in
+    let rest = code_said is t (n + 1) hs begun (omega (arith, one_more s i one.0)) (ap (λ gs. open_after_all gs is) one.1 ∙ first.2) h.1 in
+    let all : with_code t is rest.0 ≡ with_code s (i ∷ is) rest.0 = ap (λ (l : List Instruction). record s { threads = record s.threads { code = l }; levels = rest.0 }) (append_assoc s.threads.code (i ∷ []) is) in
+    (rest.0, rest.1, said_next (instruction_fields i) (map instruction_fields is) s t n (instruction_again s n i h.0 ∙ one.2) ∙ rest.2 ∙ ap (λ (u : State). Ok u) all)

@@ -1,0 +1,7 @@
+use Rattle.std.proofs.Common.{◌≡◌, ◌∷◌, ◌++◌, map, take}
+use Rattle.script_fields.specs.Text.{joined}
+use Rattle.script_print.specs.Fields.{field_text}
+use Rattle.script_print.proofs.line.put_line.Given as goal
+
+abbrev pub invariant-loop-field : goal.invariant-loop-field
+invariant-loop-field l = l.text.items ≡ l.fn.text.items ++ joined (l.word ∷ map field_text (take l.field-index l.fields))

@@ -1,0 +1,7 @@
+use Rattle.std.proofs.Common.{◌≡◌, ◌++◌, map, take}
+use Rattle.script_print.specs.Fields.{lines_text}
+use Rattle.script_print.specs.Printing.{item_fields}
+use Rattle.script_print.proofs.whole.put_items.Given as goal
+
+abbrev pub invariant-loop-item : goal.invariant-loop-item
+invariant-loop-item l = l.text.items ≡ l.fn.text.items ++ lines_text (map item_fields (take l.item-index l.items))

@@ -1,0 +1,6 @@
+use Rattle.std.proofs.Common.{◌≡◌}
+use Rattle.script_program.specs.Sections.{expanded}
+use Rattle.script_program.proofs.threads.Threads.repeat.Given as goal
+
+abbrev pub invariant-loop-count : goal.invariant-loop-count
+invariant-loop-count l = l.self ≡ expanded l.initial.self l.start l.count

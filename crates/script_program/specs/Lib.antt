@@ -1,0 +1,5 @@
+pub mod Sizes
+pub mod Instructions
+pub mod Listing
+pub mod Sections
+pub mod Schedules

@@ -1,0 +1,229 @@
+//! The threads of a script: sections of code, each for one thread or for several.
+
+ghost use Rattle.std.specs.Prelude.{◌≡◌, ◌+◌, ◌-◌, ◌<◌, ◌≤◌, [], ◌∷◌, ◌++◌, Some, OnErr, OnOk, length, nat_le, nat_lt, slice_get, slice_range, take};
+ghost use Rattle.script_program.specs.Listing.{codes_of};
+ghost use Rattle.script_program.specs.Sections.{parts_of, thread_total, instruction_total, begun, expanded};
+
+use crate::instruction::Instruction;
+use crate::limits::MAX_INSTRUCTIONS;
+use itm_types::MAX_ACTORS;
+use std::alloc::{AllocError, Global};
+use std::marker::Model;
+use std::mem;
+
+/// The code of so many threads.
+#[derive(Drop)]
+struct Section {
+    count: usize,
+    code: Vec<Instruction>,
+}
+
+impl Model for Section {
+    ghost use Rattle.std.specs.Prelude.{◌≤◌, length};
+    ghost use Rattle.script_program.specs.Listing.{Part};
+    ghost use Rattle.script_program.specs.declared.limits.TheConstants.{MAX_INSTRUCTIONS};
+
+    ghost Value = { Part };
+
+    ghost view = { λ s. record { count = s.count; code = s.code.items } };
+
+    ghost invariant = { λ s. length s.code.items ≤ MAX_INSTRUCTIONS };
+}
+
+/// The sections of a script: those that have ended, and the one that is read.
+#[derive(Drop)]
+pub struct Threads {
+    ended: Vec<Section>,
+    count: usize,
+    code: Vec<Instruction>,
+    threads: usize,
+    instructions: usize,
+}
+
+impl Model for Threads {
+    ghost use Rattle.std.specs.Prelude.{◌≡◌, ◌≤◌};
+    ghost use Rattle.itm_types.specs.declared.limits.TheConstants.{MAX_ACTORS};
+    ghost use Rattle.script_program.specs.declared.limits.TheConstants.{MAX_INSTRUCTIONS};
+    ghost use Rattle.script_program.specs.Sections.{Sections, thread_total, instruction_total};
+
+    ghost Value = { Sections };
+
+    ghost view = { λ t. record { ended = t.ended.items; count = t.count; code = t.code.items } };
+
+    ghost invariant = { λ t. (t.threads ≡ thread_total (record { ended = t.ended.items; count = t.count; code = t.code.items }))
+        × (t.instructions ≡ instruction_total (record { ended = t.ended.items; count = t.count; code = t.code.items }))
+        × (t.threads ≤ MAX_ACTORS) × (t.instructions ≤ MAX_INSTRUCTIONS) };
+}
+
+impl Threads {
+    /// No section has begun. Takes no memory.
+    #[tactic(auto, unfolding(crate::specs::Sections::thread_total, crate::specs::Sections::instruction_total))]
+    pub fn new(alloc: Global) -> Self
+        ensures { result ≡ record { ended = []; count = 0; code = [] } }
+    {
+        Threads {
+            ended: Vec::new(alloc),
+            count: 0,
+            code: Vec::new(alloc),
+            threads: 0,
+            instructions: 0,
+        }
+    }
+
+    /// Whether a section has begun.
+    pub fn has_begun(&self) -> bool
+        ensures { result ≡ nat_lt 0 self.now.count }
+    {
+        0 < self.count
+    }
+
+    /// How many threads there are.
+    pub fn count(&self) -> usize
+        ensures value { result ≡ thread_total self.now }
+        ensures few { result ≤ MAX_ACTORS }
+    {
+        self.threads
+    }
+
+    /// Whether there are as many instructions as may be.
+    pub fn is_full(&self) -> bool
+        ensures { result ≡ nat_le MAX_INSTRUCTIONS (instruction_total self.now) }
+    {
+        MAX_INSTRUCTIONS <= self.instructions
+    }
+
+    /// The section of so many threads begins.
+    #[tactic(auto, unfolding(crate::specs::Sections::thread_total, crate::specs::Sections::instruction_total), using(crate::proofs::AddedSections::threads_more, crate::proofs::AddedSections::code_more))]
+    pub fn begin(&mut self, alloc: Global, count: usize) -> Result<(), AllocError>
+        requires { thread_total self.old + count ≤ MAX_ACTORS }
+        ensures ok { OnOk result (self.new ≡ begun self.old count) }
+        ensures refused { OnErr result (0 < self.old.count) }
+    {
+        if 0 < self.count {
+            let code = mem::replace(&mut self.code, Vec::new(alloc));
+            let section = Section {
+                count: self.count,
+                code,
+            };
+            if let Err(failed) = self.ended.push(section) {
+                let Section { code, .. } = failed.value;
+                self.code = code;
+                return Err(AllocError);
+            }
+        }
+        self.count = count;
+        self.threads += count;
+        Ok(())
+    }
+
+    /// One more line of the code that is read.
+    #[tactic(auto, unfolding(crate::specs::Sections::thread_total, crate::specs::Sections::instruction_total))]
+    pub fn push(&mut self, instruction: Instruction) -> Result<(), AllocError>
+        requires { instruction_total self.old < MAX_INSTRUCTIONS }
+        ensures { OnOk result (self.new ≡ record self.old { code = self.old.code ++ instruction ∷ [] }) }
+    {
+        match self.code.push(instruction) {
+            Ok(()) => {
+                self.instructions += 1;
+                Ok(())
+            }
+            Err(_) => Err(AllocError),
+        }
+    }
+
+    /// How many instructions the code that is read has.
+    pub fn code_len(&self) -> usize
+        ensures { result ≡ length self.now.code }
+    {
+        self.code.len()
+    }
+
+    /// Whether there would be more instructions than may be, if those of the code that is read from a place on stood
+    /// so many times.
+    #[tactic(auto, unfolding(crate::specs::Sections::instruction_total))]
+    pub fn exceeds(&self, start: usize, times: usize) -> bool
+        ensures { result ≡ nat_lt MAX_INSTRUCTIONS (instruction_total (expanded self.now start times)) }
+    {
+        let group = self.code.len().saturating_sub(start);
+        let others = self.instructions - group;
+        MAX_INSTRUCTIONS - others < group.saturating_mul(times)
+    }
+
+    /// The code that is read ends before a place.
+    #[tactic(auto, unfolding(crate::specs::Sections::thread_total, crate::specs::Sections::instruction_total))]
+    fn cut(&mut self, start: usize)
+        ensures { self.new ≡ record self.old { code = take start self.old.code } }
+    {
+        let group = self.code.len().saturating_sub(start);
+        self.code.truncate(start);
+        self.instructions -= group;
+    }
+
+    /// What stands between two places of the code that is read stands after its end too.
+    #[tactic(auto, unfolding(crate::specs::Sections::thread_total, crate::specs::Sections::instruction_total))]
+    fn append(&mut self, start: usize, end: usize) -> Result<(), AllocError>
+        requires order { start ≤ end }
+        requires within { end ≤ length self.old.code }
+        requires room { instruction_total self.old + (end - start) ≤ MAX_INSTRUCTIONS }
+        ensures { OnOk result (self.new ≡ record self.old { code = self.old.code ++ slice_range self.old.code start end }) }
+    {
+        self.code.extend_from_within(start..end)?;
+        self.instructions += end - start;
+        Ok(())
+    }
+
+    /// The code that is read, from a place on, stands so many times in place of once.
+    #[tactic(auto, unfolding(crate::specs::Sections::expanded), using(crate::proofs::Repeats::nothing, crate::proofs::Repeats::once))]
+    pub fn repeat(&mut self, start: usize, times: usize) -> Result<(), AllocError>
+        requires { instruction_total (expanded self.old start times) ≤ MAX_INSTRUCTIONS }
+        ensures ok { OnOk result (self.new ≡ expanded self.old start times) }
+        ensures refused { OnErr result (length self.old.code < length (expanded self.old start times).code) }
+    {
+        if times == 0 {
+            self.cut(start);
+            return Ok(());
+        }
+        let end = self.code_len();
+        if end <= start {
+            return Ok(());
+        }
+        for count in 1..times {
+            self.append(start, end)?;
+        }
+        Ok(())
+    }
+
+    /// How many sections there are.
+    pub fn sections(&self) -> usize
+        ensures { result ≡ length (parts_of self.now) }
+    {
+        self.ended.len() + 1
+    }
+
+    /// A section: how many threads it is for, and its code. Sections are counted from 0.
+    pub fn section(&self, index: usize) -> (usize, &[Instruction])
+        requires { index < length (parts_of self.now) }
+        ensures { slice_get (parts_of self.now) index ≡ Some (record { count = result.0; code = result.1.now }) }
+    {
+        match self.ended.get(index) {
+            Some(section) => (section.count, &section.code),
+            None => (self.count, &self.code),
+        }
+    }
+
+    /// The code of a thread.
+    pub fn code(&self, thread: usize) -> &[Instruction]
+        requires { thread < thread_total self.now }
+        ensures value { slice_get (codes_of (parts_of self.now)) thread ≡ Some result.now }
+        ensures few { length result.now ≤ MAX_INSTRUCTIONS }
+    {
+        let mut left = thread;
+        for section in &self.ended {
+            if left < section.count {
+                return &section.code;
+            }
+            left -= section.count;
+        }
+        &self.code
+    }
+}
