@@ -15,6 +15,8 @@
 # - that the final clock and bytes are those of all commits, or with an odd clock those of one that holds it as well;
 # - that no thread took more steps than the schedule gives it, which threads gave up, and the exit status.
 #
+# Each script is printed by `itmrun asm` too: the print has to be printed as itself, and to be run as the script was.
+#
 # ITMRUN=PROGRAM takes another built program than this tree's. The exit status is 0 where every history was right. At
 # the first one that was not, the script and what came of it are kept, and the status is 1.
 

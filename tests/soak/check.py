@@ -1,4 +1,5 @@
-"""Runs scripts through `itmrun sched` and checks each history, with nothing of the program's own code.
+"""Runs scripts through `itmrun sched` and checks each history, with nothing of the program's own code; and prints each
+script by `itmrun asm`, whose print has to be run as the script was.
 
 check.py PROGRAM FOLDER COUNT SEED: random scripts.
 check.py PROGRAM FOLDER FILE: the script in FILE.
@@ -248,6 +249,22 @@ class Check:
         return self.counts
 
 
+def made(program, command, script):
+    """What the program makes of a script."""
+    return subprocess.run([program, command, "-"], input=script, capture_output=True, timeout=60)
+
+
+def printed(program, script, run):
+    """The script is printed, its print is printed as itself, and is run as it was."""
+    text = made(program, "asm", script)
+    expect((text.returncode, text.stderr) == (0, b""), "it is not printed:", text.stderr)
+    again = made(program, "asm", text.stdout)
+    expect(again.stdout == text.stdout, "its print is printed in another way")
+    other = made(program, "sched", text.stdout)
+    ends = (run.stdout, run.stderr, run.returncode)
+    expect((other.stdout, other.stderr, other.returncode) == ends, "its print is run in another way")
+
+
 def main(program, folder, what, seed=None):
     if seed is None:
         texts = [pathlib.Path(what).read_bytes().decode("latin-1")]
@@ -257,9 +274,10 @@ def main(program, folder, what, seed=None):
     for number, text in enumerate(texts):
         written = {"script.itm": text.encode("latin-1")}
         try:
-            run = subprocess.run([program, "sched", "-"], input=written["script.itm"], capture_output=True, timeout=60)
+            run = made(program, "sched", written["script.itm"])
             written.update({"history": run.stdout, "errors": run.stderr})
             counts += Check(text).run(run.stdout, run.stderr, run.returncode)
+            printed(program, written["script.itm"], run)
         except (Wrong, UnicodeDecodeError, subprocess.TimeoutExpired) as wrong:
             for name, data in written.items():
                 pathlib.Path(folder, name).write_bytes(data)
