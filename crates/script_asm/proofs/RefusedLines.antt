@@ -1,10 +1,11 @@
 -- Which line memory is refused to.
-use Rattle.std.proofs.Common.{◌≡◌, ℕ, zero, suc, ◌+◌, List, [], ◌∷◌, ◌++◌, length, take, drop, Some, Result, Ok, Err, refl, sym, ap, ◌∙◌, arith}
+use Rattle.std.proofs.Common.{◌≡◌, ℕ, zero, suc, ◌+◌, ◌≤◌, List, [], ◌∷◌, ◌++◌, length, take, drop, Some, Result, Ok, Err, refl, sym, ap, ◌∙◌, arith}
 use Rattle.std.specs.Prelude.{slice_get}
 use Rattle.std.specs.Str.Lines.{lines}
 use Rattle.std.proofs.lemmas.List.{length-drop, length-take, take-take, drop-take, take-append-drop, drop-drop}
 use Rattle.std.proofs.Math.Seq.{drop-nil}
 use Rattle.script_fields.specs.declared.fault.AsmFault.{AsmFault}
+use Rattle.script_program.specs.declared.limits.TheConstants.{MAX_TEXT}
 use Rattle.script_asm.specs.declared.state.State.{State}
 use Rattle.script_asm.specs.Readings.{◌>>=◌}
 use Rattle.script_asm.specs.Assembly.{meaning, lines_say, initial}
@@ -49,5 +50,5 @@ read_on text k s t y more e d m =
     ap (lines_say initial 1) (next_take (lines text) k y more d) ∙ said_then initial 1 (take k (lines text)) y
     ∙ ap (λ (r : Result State AsmFault). r >>= λ u. meaning u (1 + length (take k (lines text))) y) e ∙ ap (λ (n : ℕ). meaning s n y) place ∙ m
 
-pub runs_out : (text : List ℕ) (k : ℕ) (s : State) (y : List ℕ) (more : List (List ℕ)) → lines_say initial 1 (take k (lines text)) ≡ Ok s → drop k (lines text) ≡ y ∷ more → Adds s (meaning s (k + 1) y) → RunsOut text (k + 1)
-runs_out text k s y more e d a = (k, s, y, refl, e, next_get (lines text) k y more d, a)
+pub runs_out : (text : List ℕ) (k : ℕ) (s : State) (y : List ℕ) (more : List (List ℕ)) → length text ≤ MAX_TEXT → lines_say initial 1 (take k (lines text)) ≡ Ok s → drop k (lines text) ≡ y ∷ more → Adds s (meaning s (k + 1) y) → RunsOut text (k + 1)
+runs_out text k s y more fits e d a = (fits, k, s, y, refl, e, next_get (lines text) k y more d, a)

@@ -184,3 +184,9 @@ in_parts : program_of (script (line (codes "ifnz r1") ++ line (codes ".rept 2") 
     ≡ Ok (listing 8 (part 1 (code.IfNotZero R1 ∷ set_to 1 ∷ set_to 1 ∷ code.Else ∷ code.IfNotZero R2 ∷ code.EndIf ∷ code.EndIf ∷ []) ∷ []))
 unfolding on_literals
 in_parts = refl
+
+-- in a later section a group has that section's code
+repeats_later : program_of (line (codes ".memory 8") ++ line (codes ".thread") ++ line (codes "set r0 1") ++ line (codes "set r0 2") ++ line (codes ".thread") ++ line (codes ".rept 2") ++ line (codes "set r0 3") ++ codes ".endr")
+    ≡ Ok (listing 8 (part 1 (set_to 1 ∷ set_to 2 ∷ []) ∷ part 1 (set_to 3 ∷ set_to 3 ∷ []) ∷ []))
+unfolding on_literals
+repeats_later = refl

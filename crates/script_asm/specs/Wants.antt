@@ -1,8 +1,9 @@
 -- Want of memory: when it may be told, and in which line.
-use Rattle.std.specs.Prelude.{◌≡◌, ◌⊎◌, ℕ, ◌+◌, ◌<◌, List, length, take, slice_get, Option, Some, None, Result, Ok, Err}
+use Rattle.std.specs.Prelude.{◌≡◌, ◌⊎◌, ℕ, ◌+◌, ◌<◌, ◌≤◌, List, length, take, slice_get, Option, Some, None, Result, Ok, Err}
 use Rattle.std.specs.Str.Lines.{lines}
 use Rattle.script_fields.specs.declared.fault.AsmKind.TheVariants as kinds
 use Rattle.script_fields.specs.declared.fault.AsmFault.{AsmFault}
+use Rattle.script_program.specs.declared.limits.TheConstants.{MAX_TEXT}
 use Rattle.script_asm.specs.declared.state.State.{State}
 use Rattle.script_asm.specs.declared.stop.Stop.{Stop}
 use Rattle.script_asm.specs.declared.stop.Stop.TheVariants as stops
@@ -41,10 +42,10 @@ Steps (Ok _) old new read = read ≡ Ok new
 Steps (Err stops.Memory) old new read = Adds old read
 Steps (Err (stops.Fault f)) old new read = read ≡ Err f
 
--- memory was refused to line n: those before it are well, and it is well and leaves more
+-- memory was refused to line n of a text that is not too large: those before it are well, and it is well and leaves more
 abbrev pub RunsOut : List ℕ → ℕ → Type 0
 RunsOut text n =
-    (k : ℕ) × (s : State) × (line : List ℕ) × (n ≡ k + 1) × (lines_say initial 1 (take k (lines text)) ≡ Ok s)
+    (length text ≤ MAX_TEXT) × (k : ℕ) × (s : State) × (line : List ℕ) × (n ≡ k + 1) × (lines_say initial 1 (take k (lines text)) ≡ Ok s)
     × (slice_get (lines text) k ≡ Some line) × Adds s (meaning s n line)
 
 -- the answer for a text: its program, its first fault, or the line that memory was refused to

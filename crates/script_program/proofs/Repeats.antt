@@ -71,6 +71,16 @@ once_more t start count h k =
     ∙ ap (λ (l : List Instruction). take start t.code ++ l) (rw add-one (repeat_more count d)) in
     ap (λ (l : List Instruction). record t { code = l }) code
 
+-- as much of it as there was before is what there was
+pub cut_back : (t : Sections) (start count : ℕ) → 1 ≤ count → record (expanded t start count) { code = take (length t.code) (expanded t start count).code } ≡ t
+unfolding expanded
+cut_back t start zero k = absurd (omega arith)
+cut_back t start (suc n) k =
+    let d : List Instruction = drop start t.code in
+    let more : List Instruction = repeat n d in
+    let whole : take start t.code ++ (d ++ more) ≡ t.code ++ more = sym (append_assoc (take start t.code) d more) ∙ ap (λ (l : List Instruction). l ++ more) (take-append-drop start t.code) in
+    ap (λ (l : List Instruction). record t { code = l }) (ap (take (length t.code)) whole ∙ take-append_seam t.code more)
+
 -- how much code that is
 pub expanded_length : (t : Sections) (start times : ℕ) → start ≤ length t.code → length (expanded t start times).code ≡ start + times * (length t.code - start)
 unfolding expanded

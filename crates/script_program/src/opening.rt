@@ -1,6 +1,6 @@
 //! The size of shared memory, and the bytes that it has as the threads begin.
 
-ghost use Rattle.std.specs.Prelude.{◌≡◌, ◌+◌, ◌≤◌, [], ◌∷◌, ◌++◌, length, nat_le, vec_len, OnOk};
+ghost use Rattle.std.specs.Prelude.{◌≡◌, ◌+◌, ◌≤◌, [], ◌∷◌, ◌++◌, length, nat_le, vec_len, OnErr, OnOk};
 ghost use Rattle.script_program.specs.Sizes.{IsSize};
 ghost use Rattle.script_program.specs.Listing.{bytes_of};
 
@@ -130,8 +130,9 @@ impl Opening {
     /// Lays bytes from a place on over what is there.
     pub fn add(&mut self, at: usize, bytes: Vec<u8>) -> Result<(), AllocError>
         requires { at + vec_len bytes ≤ self.old.size }
-        ensures { OnOk result
+        ensures ok { OnOk result
             (self.new ≡ record self.old { inits = self.old.inits ++ record { at = at; bytes = bytes.items } ∷ [] }) }
+        ensures refused { OnErr result (self.new ≡ self.old) }
     {
         self.inits.push(Init { at, bytes })?;
         Ok(())

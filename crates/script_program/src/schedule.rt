@@ -1,6 +1,6 @@
 //! Which thread takes the next events.
 
-ghost use Rattle.std.specs.Prelude.{◌≡◌, ◌<◌, [], ◌∷◌, ◌++◌, All, IfNone, OnOk, length};
+ghost use Rattle.std.specs.Prelude.{◌≡◌, ◌<◌, [], ◌∷◌, ◌++◌, All, IfNone, OnErr, OnOk, length};
 ghost use Rattle.script_program.specs.Listing.{thread_of};
 ghost use Rattle.script_program.specs.Schedules.{stray_of};
 
@@ -66,8 +66,9 @@ impl Plan {
 
     /// One more item, which stands in the line.
     pub fn push(&mut self, line: usize, item: Item) -> Result<(), AllocError>
-        ensures { OnOk result
+        ensures ok { OnOk result
             (self.new ≡ record { items = self.old.items ++ item ∷ []; lines = self.old.lines ++ line ∷ [] }) }
+        ensures refused { OnErr result (self.new ≡ self.old) }
     {
         self.lines.push(line)?;
         if self.items.push(item).is_err() {

@@ -97,7 +97,7 @@ impl Threads {
     pub fn begin(&mut self, alloc: Global, count: usize) -> Result<(), AllocError>
         requires { thread_total self.old + count ≤ MAX_ACTORS }
         ensures ok { OnOk result (self.new ≡ begun self.old count) }
-        ensures refused { OnErr result (0 < self.old.count) }
+        ensures refused { OnErr result ((0 < self.old.count) × (self.new ≡ self.old)) }
     {
         if 0 < self.count {
             let code = mem::replace(&mut self.code, Vec::new(alloc));
@@ -120,7 +120,8 @@ impl Threads {
     #[tactic(auto, unfolding(crate::specs::Sections::thread_total, crate::specs::Sections::instruction_total))]
     pub fn push(&mut self, instruction: Instruction) -> Result<(), AllocError>
         requires { instruction_total self.old < MAX_INSTRUCTIONS }
-        ensures { OnOk result (self.new ≡ record self.old { code = self.old.code ++ instruction ∷ [] }) }
+        ensures ok { OnOk result (self.new ≡ record self.old { code = self.old.code ++ instruction ∷ [] }) }
+        ensures refused { OnErr result (self.new ≡ self.old) }
     {
         match self.code.push(instruction) {
             Ok(()) => {
@@ -165,7 +166,8 @@ impl Threads {
         requires order { start ≤ end }
         requires within { end ≤ length self.old.code }
         requires room { instruction_total self.old + (end - start) ≤ MAX_INSTRUCTIONS }
-        ensures { OnOk result (self.new ≡ record self.old { code = self.old.code ++ slice_range self.old.code start end }) }
+        ensures ok { OnOk result (self.new ≡ record self.old { code = self.old.code ++ slice_range self.old.code start end }) }
+        ensures refused { OnErr result (self.new ≡ self.old) }
     {
         self.code.extend_from_within(start..end)?;
         self.instructions += end - start;
@@ -177,7 +179,8 @@ impl Threads {
     pub fn repeat(&mut self, start: usize, times: usize) -> Result<(), AllocError>
         requires { instruction_total (expanded self.old start times) ≤ MAX_INSTRUCTIONS }
         ensures ok { OnOk result (self.new ≡ expanded self.old start times) }
-        ensures refused { OnErr result (length self.old.code < length (expanded self.old start times).code) }
+        ensures refused { OnErr result ((length self.old.code < length (expanded self.old start times).code)
+            × (self.new ≡ self.old)) }
     {
         if times == 0 {
             self.cut(start);
@@ -188,7 +191,13 @@ impl Threads {
             return Ok(());
         }
         for count in 1..times {
-            self.append(start, end)?;
+            match self.append(start, end) {
+                Ok(()) => {}
+                Err(failed) => {
+                    self.cut(end);
+                    return Err(failed);
+                }
+            }
         }
         Ok(())
     }

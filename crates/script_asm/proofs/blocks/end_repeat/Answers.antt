@@ -8,4 +8,4 @@ use Rattle.script_asm.proofs.blocks.end_repeat.Goals as goal
 pub returns-in-Err : goal.returns-in-Err
 returns-in-Err c =
     let is : innermost c.args.state.now.levels ≡ Some (groups.Repeat c.in-Some-Repeat.start c.in-Some-Repeat.times) = cc in
-    repeats_kept c.args.state.now c.args.line c.in-Some-Repeat.start c.in-Some-Repeat.times (innermost c.args.state.now.levels) is (ltb-false _ _ (sym c.if-exceeds.ensures)) c.in-Err.ensures.refused
+    repeats_kept c.args.state.now c.args.line c.in-Some-Repeat.start c.in-Some-Repeat.times (innermost c.args.state.now.levels) is (ltb-false _ _ (sym c.if-exceeds.ensures)) c.in-Err.ensures.refused.0

@@ -22,7 +22,7 @@ add-requires c =
 pub returns-in-Ok-add : goal.returns-in-Ok-add
 returns-in-Ok-add c =
     let within : leb (c.args.at + length (decoded c.args.digits.now)) c.in-Some.opening.size ≡ true = rw (length-decoded c.args.digits.now c.requires) at (sym c.if-not-fits.ensures) in
-    left_within c.args.state.now c.args.line c.args.at (decoded c.args.digits.now) c.in-Ok.bytes.items c.in-Some.opening c.add.new.self c.in-Some.is within (decoded_is c.args.digits.now c.in-Ok.bytes.items c.in-Ok.ensures.ok) c.in-Ok-add.ensures
+    left_within c.args.state.now c.args.line c.args.at (decoded c.args.digits.now) c.in-Ok.bytes.items c.in-Some.opening c.add.new.self c.in-Some.is within (decoded_is c.args.digits.now c.in-Ok.bytes.items c.in-Ok.ensures.ok) c.in-Ok-add.ensures.ok
 
 pub returns-in-Err : goal.returns-in-Err
 returns-in-Err c =

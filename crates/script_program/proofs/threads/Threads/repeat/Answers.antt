@@ -1,7 +1,7 @@
-use Rattle.std.proofs.Common.{rules, ℕ, ◌≡◌, ◌+◌, ◌-◌, ◌<◌, ◌≤◌, ◌++◌, length, arith, ap, sym, ◌∙◌, subst}
+use Rattle.std.proofs.Common.{ℕ, ◌≡◌, ◌+◌, ◌-◌, ◌<◌, ◌≤◌, ◌++◌, length, take, arith, ap, sym, ◌∙◌, subst}
 use Rattle.std.specs.List.{slice_range}
 use Rattle.script_program.specs.Sections.{Sections, instruction_total, expanded}
-use Rattle.script_program.proofs.Repeats.{room, within, longer, once_more}
+use Rattle.script_program.proofs.Repeats.{room, within, longer, once_more, cut_back}
 use Rattle.script_program.proofs.threads.Threads.repeat.Goals as goal
 
 pub append-requires-clause-within : goal.append-requires-clause-within
@@ -19,11 +19,19 @@ append-requires-clause-room c =
     room s start c.loop-count.count c.args.times c.code_len-end.result c.code_len-end.ensures (omega arith) (omega arith) c.requires in
     subst (λ (t : Sections). instruction_total t + (c.code_len-end.result - start) ≤ 65536) (sym c.loop-count.invariant) here
 
-pub returns-in_err-append-clause-refused : goal.returns-in_err-append-clause-refused
-returns-in_err-append-clause-refused c =
-    let more : length c.args.self.now.code < length (expanded c.args.self.now c.args.start c.args.times).code =
-    longer c.args.self.now c.args.start c.args.times c.code_len-end.result c.code_len-end.ensures (omega arith) (omega arith) in
-    search rules
+-- what stands up to an end
+abbrev up_to : Sections → ℕ → Sections
+up_to t end = record t { code = take end t.code }
+
+pub returns-in-Err-clause-refused : goal.returns-in-Err-clause-refused
+returns-in-Err-clause-refused c =
+    let s : Sections = c.args.self.now in
+    let start = c.args.start in
+    let end = c.code_len-end.result in
+    let more : length s.code < length (expanded s start c.args.times).code = longer s start c.args.times end c.code_len-end.ensures (omega arith) (omega arith) in
+    let cut : c.cut-in-Err.new.self ≡ up_to c.append.new.self end = c.cut-in-Err.ensures in
+    let same : c.append.new.self ≡ expanded s start c.loop-count.count = c.in-Err.ensures.refused ∙ c.loop-count.invariant in
+    (more, cut ∙ ap (λ (t : Sections). up_to t end) same ∙ ap (up_to (expanded s start c.loop-count.count)) c.code_len-end.ensures ∙ cut_back s start c.loop-count.count (omega arith))
 
 -- one more of what stands from a place to an end
 abbrev next : ℕ → Sections → ℕ → Sections
@@ -33,7 +41,7 @@ pub loop-count-preserved : goal.loop-count-preserved
 loop-count-preserved c =
     let s : Sections = c.args.self.now in
     let start = c.args.start in
-    let now : c.append.new.self ≡ next start c.loop-count.self c.code_len-end.result = c.in_ok-append.ensures {u = tt} in
+    let now : c.append.new.self ≡ next start c.loop-count.self c.code_len-end.result = c.in-Ok.ensures.ok in
     now ∙ ap (next start c.loop-count.self) c.code_len-end.ensures
     ∙ ap (λ (t : Sections). next start t (length s.code)) c.loop-count.invariant
     ∙ once_more s start c.loop-count.count (omega arith) (omega arith)
