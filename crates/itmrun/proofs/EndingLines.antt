@@ -4,10 +4,10 @@ use Rattle.std.proofs.lemmas.List.{length-take, take-append-drop, take_more}
 use Rattle.std.proofs.lemmas.Grind.{common_steps}
 use Rattle.std.specs.Io.KnownBytes.{Appends}
 use Rattle.std.proofs.KnownBytes.{Appends-nil, Appends-trans}
-use Rattle.norec_world.specs.declared.attempt.End.{End}
-use Rattle.itmrun.specs.Spelling.{IsCut}
+use Rattle.norec_world.specs.declared.ending.End.{End}
+use Rattle.tx_history.specs.Spelling.{IsCut}
 use Rattle.itmrun.specs.Answers.{ending_line, ending_lines}
-use Rattle.itmrun.proofs.TextPieces.{cut_short}
+use Rattle.tx_history.proofs.TextPieces.{cut_short}
 
 lines_append : (thread : ℕ) (xs ys : List (Option End)) → ending_lines thread (xs ++ ys) ≡ ending_lines thread xs ++ ending_lines (thread + length xs) ys
 lines_append thread [] ys = ap (λ (n : ℕ). ending_lines n ys) (omega arith)

@@ -1,9 +1,6 @@
 pub mod Worked
 pub mod WorkedPages
-pub mod WorkedLines
 pub mod WorkedRuns
-pub mod TextPieces
-pub mod AppendedTexts
 pub mod EndingLines
 pub mod ReadTexts
 pub mod ReadPrograms

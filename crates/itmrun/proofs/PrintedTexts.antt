@@ -2,7 +2,7 @@
 use Rattle.std.proofs.Common.{◌≡◌, ℕ, Bool, true, false, List, Option, Ok, subst}
 use Rattle.script_program.specs.Listing.{Listing}
 use Rattle.script_print.specs.Printing.{printed}
-use Rattle.itmrun.specs.Spelling.{Grows}
+use Rattle.tx_history.specs.Spelling.{Grows}
 use Rattle.itmrun.specs.Answers.{TextTold, TextBegun}
 
 grew_so : (text written : List ℕ) (failed t : Bool) (o n : Option (List ℕ)) → Grows false o failed n written → written ≡ text → failed ≡ t → Grows false o t n text

@@ -3,11 +3,11 @@ use Rattle.std.proofs.Common.{◌≡◌, inl, inr, ℕ, zero, suc, ◌+◌, ◌*
 use Rattle.std.specs.Prelude.{slice_index_or}
 use Rattle.std.proofs.lemmas.List.{length-map}
 use Rattle.itm_types.specs.declared.limits.TheConstants.{MAX_OPEN_BLOCKS}
-use Rattle.norec_world.specs.declared.attempt.Attempt.{Attempt}
-use Rattle.norec_world.specs.declared.attempt.End.{End}
-use Rattle.norec_world.specs.declared.attempt.End.TheVariants.{Finished, GaveUp, NoMemory}
-use Rattle.norec_world.specs.declared.attempt.Outcome.{Outcome}
-use Rattle.norec_world.specs.declared.attempt.Outcome.TheVariants as outcomes
+use Rattle.tx_attempts.specs.declared.attempt.Attempt.{Attempt}
+use Rattle.norec_world.specs.declared.ending.End.{End}
+use Rattle.norec_world.specs.declared.ending.End.TheVariants.{Finished, GaveUp, NoMemory}
+use Rattle.tx_attempts.specs.declared.attempt.Outcome.{Outcome}
+use Rattle.tx_attempts.specs.declared.attempt.Outcome.TheVariants as outcomes
 use Rattle.norec_world.specs.Solo.{Solo, one_if, solo}
 use Rattle.norec_world.specs.SoFar.{IsSoFar}
 use Rattle.norec_world.specs.Commits.{CommitsInOrder}
@@ -18,6 +18,7 @@ use Rattle.script_program.specs.Listing.{Listing, opening_of, threads_of}
 use Rattle.script_vm.specs.Threads.{Thread, opening, thread_rules}
 use Rattle.itmrun.specs.Scheduled.{Leaves, schedule_of, players_of}
 use Rattle.itmrun.specs.Pages.{first_thread, solo_of, page, IsOf, IsWorldOf, history_of}
+use Rattle.world_histories.proofs.LegalWorlds.{legal_world}
 use Rattle.itmrun.proofs.ScheduleItems.{items_keep}
 
 first_is : (threads : List (List Instruction)) (x : Thread) → map opening threads ≡ x ∷ [] → x ≡ opening (slice_index_or threads 0 [])
@@ -90,6 +91,7 @@ world_of_run p w leaves commits opaque shown = record {
   base = (began_as p w leaves).base;
   commits = commits;
   opaque = opaque;
+  legal = legal_world thread_rules w commits opaque;
   alone = λ one.
       let began = began_as p w leaves in
       let a = shown (ap (λ (l : List Thread). length l) began.players ∙ length-map (threads_of p) opening ∙ one) in

@@ -3,7 +3,8 @@ use Rattle.std.proofs.Common.{◌≡◌, List, ℕ, ◌++◌, Ok, refl}
 use Rattle.std.specs.Prelude.{codes}
 use Rattle.script_asm.specs.Assembly.{program_of}
 use Rattle.script_asm.proofs.OnLiterals.{on_literals}
-use Rattle.itmrun.proofs.WorkedPages.{line, counter, empty_block, beyond, laid_in, one_commit}
+use Rattle.tx_history.proofs.WorkedLines.{line}
+use Rattle.itmrun.proofs.WorkedPages.{counter, empty_block, beyond, laid_in, one_commit}
 use Rattle.itmrun.proofs.WorkedRuns.{lost_update}
 
 -- a script of one thread with this code

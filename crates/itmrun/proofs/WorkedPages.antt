@@ -7,7 +7,7 @@ use Rattle.itm_types.specs.declared.access.ReadHint.TheVariants.{R}
 use Rattle.itm_types.specs.declared.limits.TheConstants.{MAX_COMMITS}
 use Rattle.itm_types.specs.declared.access.WriteHint.TheVariants.{W}
 use Rattle.itm_types.specs.declared.access.Width.TheVariants.{U8}
-use Rattle.norec_world.specs.declared.attempt.End.TheVariants.{GaveUp}
+use Rattle.norec_world.specs.declared.ending.End.TheVariants.{GaveUp}
 use Rattle.script_fields.specs.declared.register.Register.TheVariants.{R0, R1, R2}
 use Rattle.script_fields.specs.declared.place.Place.TheVariants.{Number}
 use Rattle.script_program.specs.declared.instruction.Instruction.{Instruction}
@@ -15,11 +15,9 @@ use Rattle.script_program.specs.declared.instruction.Operation.TheVariants.{Add}
 use Rattle.script_program.specs.declared.instruction.Instruction.TheVariants as code
 use Rattle.script_program.specs.Listing.{Listing, bytes_of, codes_of}
 use Rattle.script_vm.specs.Registers.{datum}
-use Rattle.itmrun.specs.Histories.{history_text, first_lines, attempt_lines, head_line, try_text, props_end, arena_line, call_line, body_text, reply_text, last_line}
+use Rattle.tx_history.specs.Histories.{history_text, first_lines, attempt_lines, head_line, try_text, props_end, arena_line, call_line, body_text, reply_text, last_line}
+use Rattle.tx_history.proofs.WorkedLines.{line}
 use Rattle.itmrun.specs.Pages.{solo_of, page}
-
-abbrev pub line : List ℕ → List ℕ
-line t = t ++ 10 ∷ []
 
 -- a program of so many threads with one code, of which a script says nothing else but the memory
 abbrev pub listing : ℕ → ℕ → List Instruction → Listing

@@ -3,13 +3,14 @@ use Rattle.std.proofs.Common.{◌≡◌, [], ◌∷◌, ◌++◌, true, false, N
 use Rattle.std.specs.Prelude.{codes}
 use Rattle.std.specs.List.{list_any}
 use Rattle.std.proofs.lemmas.Fmt.{decimal_digit}
-use Rattle.norec_world.specs.declared.attempt.End.TheVariants.{Finished, GaveUp, NoMemory}
+use Rattle.norec_world.specs.declared.ending.End.TheVariants.{Finished, GaveUp, NoMemory}
 use Rattle.script_program.specs.declared.schedule.Item.TheVariants.{Take, Out}
 use Rattle.script_program.specs.Listing.{Listing, codes_of}
 use Rattle.script_vm.specs.Threads.{opening}
 use Rattle.itmrun.specs.Scheduled.{players_of, schedule_of}
 use Rattle.itmrun.specs.Answers.{fell_short, thread_line, ending_line, ending_lines}
-use Rattle.itmrun.proofs.WorkedPages.{line, counter_code, listing}
+use Rattle.tx_history.proofs.WorkedLines.{line}
+use Rattle.itmrun.proofs.WorkedPages.{counter_code, listing}
 
 -- ## Schedules
 

@@ -1,11 +1,11 @@
 -- What was written of a program's world.
 use Rattle.std.proofs.Common.{◌≡◌, ℕ, Bool, true, false, List, length, Option, Ok, subst}
-use Rattle.norec_world.specs.declared.attempt.End.{End}
+use Rattle.norec_world.specs.declared.ending.End.{End}
 use Rattle.norec_world.specs.World.{World}
 use Rattle.script_program.specs.Listing.{Listing, threads_of}
 use Rattle.script_vm.specs.Threads.{Thread}
-use Rattle.itmrun.specs.Spelling.{Grows}
-use Rattle.itmrun.specs.Histories.{history_text}
+use Rattle.tx_history.specs.Spelling.{Grows}
+use Rattle.tx_history.specs.Histories.{history_text}
 use Rattle.itmrun.specs.Scheduled.{endings_of}
 use Rattle.itmrun.specs.Pages.{IsWorldOf, history_of}
 use Rattle.itmrun.specs.Answers.{Told, Begun}

@@ -2,8 +2,8 @@
 use Rattle.std.specs.Prelude.{◌≡◌, ◌⊎◌, ℕ, ◌+◌, Bool, true, false, List, [], ◌∷◌, ◌++◌, length, take, decimal, codes, Option, None, Some, Result, Ok, Err, if◌then◌else◌}
 use Rattle.std.specs.List.{list_any}
 use Rattle.std.specs.Io.KnownBytes.{Appends, Keeps}
-use Rattle.norec_world.specs.declared.attempt.End.{End}
-use Rattle.norec_world.specs.declared.attempt.End.TheVariants.{Finished, GaveUp, NoMemory}
+use Rattle.norec_world.specs.declared.ending.End.{End}
+use Rattle.norec_world.specs.declared.ending.End.TheVariants.{Finished, GaveUp, NoMemory}
 use Rattle.norec_world.specs.World.{World}
 use Rattle.script_fields.specs.declared.fault.AsmFault.{AsmFault}
 use Rattle.script_fields.specs.Faults.{kind_text}
@@ -12,8 +12,8 @@ use Rattle.itmrun.specs.declared.finish.Finish.{Finish}
 use Rattle.itmrun.specs.declared.finish.Finish.TheVariants as ends
 use Rattle.script_print.specs.Printing.{printed}
 use Rattle.script_vm.specs.Threads.{Thread}
-use Rattle.itmrun.specs.Spelling.{IsCut}
-use Rattle.itmrun.specs.Histories.{history_text}
+use Rattle.tx_history.specs.Spelling.{IsCut}
+use Rattle.tx_history.specs.Histories.{history_text}
 use Rattle.itmrun.specs.Scheduled.{endings_of}
 use Rattle.itmrun.specs.Pages.{IsWorldOf, history_of}
 

@@ -1,5 +1,3 @@
-pub mod Spelling
-pub mod Histories
 pub mod Input
 pub mod Scheduled
 pub mod Pages

@@ -1,9 +1,9 @@
 -- What is told of a run, and the page of a program: what its first thread does alone on the memory that the program begins with.
 use Rattle.std.specs.Prelude.{◌≡◌, ◌⊎◌, ℕ, ◌+◌, ◌*◌, ◌/◌, ◌%◌, List, [], length, replicate, slice_index_or, Option, None, Some}
 use Rattle.itm_types.specs.declared.limits.TheConstants.{MAX_OPEN_BLOCKS}
-use Rattle.norec_world.specs.declared.attempt.End.{End}
-use Rattle.norec_world.specs.declared.attempt.End.TheVariants.{Finished, GaveUp, NoMemory}
-use Rattle.norec_world.specs.declared.attempt.Outcome.TheVariants as outcomes
+use Rattle.norec_world.specs.declared.ending.End.{End}
+use Rattle.norec_world.specs.declared.ending.End.TheVariants.{Finished, GaveUp, NoMemory}
+use Rattle.tx_attempts.specs.declared.attempt.Outcome.TheVariants as outcomes
 use Rattle.norec_world.specs.Solo.{Solo, one_if, solo}
 use Rattle.norec_world.specs.SoFar.{IsSoFar}
 use Rattle.norec_world.specs.Commits.{CommitsInOrder}
@@ -11,7 +11,8 @@ use Rattle.norec_world.specs.Opaque.{AreOpaque}
 use Rattle.norec_world.specs.World.{World, attempts_of, ending_at, memory_of}
 use Rattle.script_program.specs.Listing.{Listing, opening_of, threads_of}
 use Rattle.script_vm.specs.Threads.{Thread, opening, thread_rules}
-use Rattle.itmrun.specs.Histories.{History}
+use Rattle.tx_history.specs.declared.history.History.{History}
+use Rattle.tx_history.specs.Legal.{IsLegal}
 use Rattle.itmrun.specs.Scheduled.{Leaves}
 
 abbrev pub first_thread : Listing → Thread
@@ -42,10 +43,11 @@ IsOf p None h = (h.memory ≡ opening_of p) × (memory : List ℕ)
 abbrev pub history_of : World Thread → History
 history_of w = record { memory = w.base; attempts = attempts_of w; clock = w.cells.clock; bytes = memory_of w }
 
--- The schedule leads to this world, which began with the program's memory, whose commits are in order and whose attempts are opaque; and where the program has one thread, what is told of it is what that one does alone.
+-- The schedule leads to this world, which began with the program's memory, whose commits are in order and whose attempts are opaque, and of which a legal history is told; and where the program has one thread, what is told of it is what that one does alone.
 pub record IsWorldOf (p : Listing) (w : World Thread) : Type 0 where
   pub leaves : Leaves p w
   pub base : w.base ≡ opening_of p
   pub commits : CommitsInOrder w
   pub opaque : AreOpaque thread_rules w
+  pub legal : IsLegal (history_of w)
   pub alone : length (threads_of p) ≡ 1 → IsOf p (ending_at w 0) (history_of w)

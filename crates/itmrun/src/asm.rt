@@ -2,17 +2,17 @@
 
 ghost use Rattle.std.specs.Prelude.{◌≡◌, ◌+◌, ℕ, List, IfSome, Ok, false};
 ghost use Rattle.script_asm.specs.Assembly.{program_of};
-ghost use Rattle.itmrun.specs.Spelling.{Grows};
+ghost use Rattle.tx_history.specs.Spelling.{Grows};
 ghost use Rattle.itmrun.specs.Input.{IsFront};
 ghost use Rattle.itmrun.specs.Answers.{Prints, PrintAnswers};
 
 use crate::finish::{Finish, status, write_error};
-use crate::history::{Piece, Stream};
 use crate::programs::read_program;
 use script_print::print;
 use script_program::{MAX_TEXT, Program};
 use std::alloc::Global;
 use std::io::{Read, Write};
+use tx_history::{Piece, Stream};
 
 /// Writes a whole text.
 fn put_text<W: Write>(stream: &mut Stream<'_, W>, text: &[u8])
@@ -31,6 +31,7 @@ fn write_text<W: Write>(writer: &mut W, text: &[u8]) -> bool
     let mut stream = Stream {
         writer,
         failed: false,
+        error: None,
     };
     put_text(&mut stream, text);
     stream.failed

@@ -1,7 +1,6 @@
 //! The program's words.
 
 use crate::asm::asm;
-use crate::history::{Piece, put_pieces};
 use crate::sched::sched;
 use clap::error::ErrorKind;
 use clap::{Arg, ArgAction, Command};
@@ -9,6 +8,7 @@ use std::alloc::Global;
 use std::io::{BufWriter, Read, Write};
 use std::rt::{Env, Files};
 use std::{env, fs, io};
+use tx_history::{Piece, put_pieces};
 
 /// Why the program's words say nothing that can be done.
 #[derive(Clone, Copy)]

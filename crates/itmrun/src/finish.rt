@@ -2,16 +2,16 @@
 
 ghost use Rattle.std.specs.Prelude.{◌≡◌};
 ghost use Rattle.std.specs.List.{list_any};
-ghost use Rattle.itmrun.specs.Spelling.{Puts};
+ghost use Rattle.tx_history.specs.Spelling.{Puts};
 ghost use Rattle.itmrun.specs.Answers.{thread_line, ending_line, ending_lines, error_text, fell_short, status_of};
 
-use crate::history::{Piece, put_pieces};
 use arrayvec::ArrayVec;
 use itm_types::MAX_ACTORS;
 use norec_world::End;
 use script_asm::AsmFault;
 use std::io;
 use std::io::Write;
+use tx_history::{Piece, put_pieces};
 
 /// How the threads of a program stand, by number; `None` for one that has not ended.
 pub type Endings = ArrayVec<Option<End>, MAX_ACTORS>;
@@ -34,7 +34,7 @@ pub enum Finish {
 }
 
 /// Writes a line on a thread.
-#[tactic(auto, unfolding(crate::specs::Answers::thread_line), using(crate::proofs::TextPieces::put_as))]
+#[tactic(auto, unfolding(crate::specs::Answers::thread_line), using(tx_history::proofs::TextPieces::put_as))]
 fn put_thread<E: Write>(errors: &mut E, thread: usize, words: &[u8]) -> io::Result<()>
     ensures { Puts (E.contents errors.old) (E.contents errors.new) result (thread_line thread words.now) }
 {
@@ -72,7 +72,7 @@ fn put_endings<E: Write>(errors: &mut E, endings: &[Option<End>]) -> io::Result<
 }
 
 /// Writes what is to be said of how that ended.
-#[tactic(auto, unfolding(crate::specs::Answers::error_text), using(crate::proofs::TextPieces::put_as))]
+#[tactic(auto, unfolding(crate::specs::Answers::error_text), using(tx_history::proofs::TextPieces::put_as))]
 pub fn write_error<E: Write>(errors: &mut E, finish: &Finish) -> io::Result<()>
     ensures { Puts (E.contents errors.old) (E.contents errors.new) result (error_text finish.now) }
 {

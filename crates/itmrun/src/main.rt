@@ -6,7 +6,6 @@ mod command;
 #[cfg(test)]
 mod fakes;
 mod finish;
-mod history;
 mod input;
 mod programs;
 mod running;

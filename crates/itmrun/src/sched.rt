@@ -1,19 +1,18 @@
 //! Scripts that are run, and what they are answered.
 
 ghost use Rattle.std.specs.Prelude.{◌≡◌, ◌+◌, ℕ, List, IfSome, Ok, false, length};
-ghost use Rattle.itmrun.specs.Spelling.{Grows};
+ghost use Rattle.tx_history.specs.Spelling.{Grows};
 ghost use Rattle.script_asm.specs.Assembly.{program_of};
 ghost use Rattle.norec_world.specs.World.{ShowsAlone};
 ghost use Rattle.norec_world.specs.Commits.{CommitsInOrder};
 ghost use Rattle.norec_world.specs.Opaque.{AreOpaque};
 ghost use Rattle.script_vm.specs.Threads.{thread_rules};
-ghost use Rattle.itmrun.specs.Histories.{history_text};
+ghost use Rattle.tx_history.specs.Histories.{history_text};
 ghost use Rattle.itmrun.specs.Pages.{history_of};
 ghost use Rattle.itmrun.specs.Input.{IsFront};
 ghost use Rattle.itmrun.specs.Answers.{Runs, Answers};
 
 use crate::finish::{Finish, status, write_error};
-use crate::history::{Stream, put_history};
 use crate::programs::read_program;
 use crate::running::{endings, run_program};
 use norec_world::World;
@@ -21,6 +20,7 @@ use script_program::{MAX_TEXT, Program};
 use script_vm::Script;
 use std::alloc::Global;
 use std::io::{Read, Write};
+use tx_history::{Stream, put_history};
 
 /// Writes the history of a world; answers whether that failed.
 fn write_world<W: Write>(writer: &mut W, world: &World<Script<'_>>) -> bool
@@ -33,6 +33,7 @@ fn write_world<W: Write>(writer: &mut W, world: &World<Script<'_>>) -> bool
     let mut stream = Stream {
         writer,
         failed: false,
+        error: None,
     };
     put_history(
         &mut stream,

@@ -2,8 +2,9 @@
 use Rattle.std.proofs.Common.{◌≡◌, inl, inr, ℕ, ◌+◌, ◌*◌, ◌/◌, ◌%◌, ◌≤◌, ◌==◌, ◌&&◌, Bool, true, false, nat_lt, List, [], ◌∷◌, ◌++◌, Some, slice_get, slice_set, refl, sym, ap, subst, ◌∙◌, arith, eq-eqb, lt-ltb}
 use Rattle.std.proofs.lemmas.Bool.{cases_order}
 use Rattle.norec_world.proofs.Common.{Actor, AreActors, AreCounted, Attempt, Cells, CommitsInOrder, EndsAt, IsEvent, IsFirst, Outcome, Prior, Rows, Rules, Tries, World, begins, between, both_ways, count_at, count_committed, false_from_ne_true, is_at, is_committed, le-ltb, ne_eqb, one_where, outrun, over, prior_of, runs, shut_out, turned_away}
-use Rattle.norec_world.specs.declared.attempt.Outcome.TheVariants as outcomes
+use Rattle.tx_attempts.specs.declared.attempt.Outcome.TheVariants as outcomes
 use Rattle.norec_world.specs.Commits.{HasLimits}
+use Rattle.norec_world.specs.Rows.{AreEnded}
 use Rattle.norec_world.proofs.SoundOthers.{held_after, held_apart, odd_or_even, one_after, set_place}
 
 -- ## Counts
@@ -68,6 +69,23 @@ module _ {P : Type 0} where
       by_outcome outcomes.Unfinished e at = absurd at
       by_outcome o e at = counted_other clock clock' p.ended r.ended t.row' (ap is_committed e) t.ended at.0 c
 
+-- ## Ends
+
+ended_more : (xs : List Attempt) (a : Attempt) → (a.outcome ≡ outcomes.Unfinished → ⊥) → AreEnded xs → AreEnded (xs ++ a ∷ [])
+ended_more [] a e all = (e, tt)
+ended_more (x ∷ xs) a e all = (all.0, ended_more xs a e all.1)
+
+module _ {P : Type 0} where
+  -- what an event adds has ended
+  ended_after : (clock clock' : ℕ) (p : Prior) (r : Rows) (a : Actor P) → Tries clock p clock' r a → AreEnded p.ended → AreEnded r.ended
+  ended_after clock clock' p r a (over t) all = subst AreEnded (sym t.ended) (ended_more p.ended t.row' (λ e. subst (EndsAt p.max_commits clock clock' t.row'.at) e t.at) all)
+  ended_after clock clock' p r a (between t) all = subst AreEnded (sym t.ended) all
+  ended_after clock clock' p r a (begins t) all = subst AreEnded (sym t.ended) all
+  ended_after clock clock' p r a (runs t) all = subst AreEnded (sym t.ended) all
+  ended_after clock clock' p r a (turned_away t) all = subst AreEnded (sym t.ended) all
+  ended_after clock clock' p r a (outrun t) all = subst AreEnded (sym t.ended) all
+  ended_after clock clock' p r a (shut_out t) all = subst AreEnded (sym t.ended) all
+
 -- ## An event
 
 module _ {P : Type 0} (rules : Rules P) (w : World P) (c : CommitsInOrder w) (i : ℕ) (got new : Actor P) (here : slice_get w.actors i ≡ Some got) (cells' : Cells) (r' : Rows) (events : ℕ)
@@ -85,6 +103,7 @@ module _ {P : Type 0} (rules : Rules P) (w : World P) (c : CommitsInOrder w) (i 
   pub commits_after : CommitsInOrder after
   commits_after = record {
     counted = counted_after w.cells.clock cells'.clock (prior_of w.attempts got) r' new event.tries c.counted;
+    ended = ended_after w.cells.clock cells'.clock (prior_of w.attempts got) r' new event.tries c.ended;
     few = (let l = (c.limits i got here).max_commits in subst (λ (n : ℕ). cells'.clock ≤ 2 * n) l (event.clocks.capped (subst (λ (n : ℕ). w.cells.clock ≤ 2 * n) (sym l) c.few)));
     held = held_after w.cells cells' w.actors i got new here event.clocks c.one odd_of c.held;
     free = free_after;
@@ -114,6 +133,7 @@ module _ {P : Type 0} (rules : Rules P) (w : World P)
       all = ap count_committed none ∙ ap (λ (n : ℕ). n / 2) (sym zero_clock);
       each = λ position. ap (count_at position) none ∙ (sym (ap one_where (le-ltb position 0 (omega arith))) ∙ ap (λ (n : ℕ). one_where (nat_lt position (n / 2))) (sym zero_clock));
     };
+    ended = subst AreEnded (sym none) tt;
     few = omega (arith, zero_clock);
     held = λ odd. absurd (omega (arith, zero_clock));
     free = λ even place a e. free_one place a e;

@@ -33,10 +33,11 @@ pub use Rattle.norec_core.specs.declared.answer.Next.TheVariants.{Answer as Answ
 pub use Rattle.norec_core.specs.declared.answer.Next.{Next}
 pub use Rattle.norec_world.specs.Actors.{AreActors}
 pub use Rattle.norec_world.specs.Alone.{IsAlone, player_then, state_then}
-pub use Rattle.norec_world.specs.Attempts.{ClosedBy, alone, committed_at, is_at, is_committed, memory_left, of_thread, pair_of}
+pub use Rattle.tx_attempts.specs.Attempts.{ClosedBy, alone, committed_at, is_at, is_committed, memory_left, of_thread, pair_of}
 pub use Rattle.norec_world.specs.Cells.{AreWords, Cells, cells_after, found, words_of}
 pub use Rattle.norec_world.specs.ClockHolder.{ClocksOn, HoldsOn}
-pub use Rattle.norec_world.specs.Commits.{AreCounted, CommitsInOrder, count_at, count_committed, one_where}
+pub use Rattle.norec_world.specs.Commits.{AreCounted, CommitsInOrder}
+pub use Rattle.tx_attempts.specs.Counts.{count_at, count_committed, one_where}
 pub use Rattle.norec_world.specs.Events.{IsEvent}
 pub use Rattle.norec_world.specs.Invariant.{AreRunning, IsWorld}
 pub use Rattle.norec_world.specs.LocalWork.{Acts, Starves, Works}
@@ -62,12 +63,12 @@ pub use Rattle.norec_world.specs.WorldEvents.{ActorGoes, Goes, HasRead, Leads, T
 pub use Rattle.norec_world.specs.declared.actor.Actor.{Actor}
 pub use Rattle.norec_world.specs.declared.actor.Status.TheVariants.{Ended, Ready, Waits}
 pub use Rattle.norec_world.specs.declared.actor.Status.{Status}
-pub use Rattle.norec_world.specs.declared.attempt.Attempt.{Attempt}
-pub use Rattle.norec_world.specs.declared.attempt.End.TheVariants.{Finished, GaveUp, NoMemory}
-pub use Rattle.norec_world.specs.declared.attempt.End.{End}
-pub use Rattle.norec_world.specs.declared.attempt.Entry.{Entry}
-pub use Rattle.norec_world.specs.declared.attempt.Outcome.TheVariants.{Unfinished}
-pub use Rattle.norec_world.specs.declared.attempt.Outcome.{Outcome}
+pub use Rattle.tx_attempts.specs.declared.attempt.Attempt.{Attempt}
+pub use Rattle.norec_world.specs.declared.ending.End.TheVariants.{Finished, GaveUp, NoMemory}
+pub use Rattle.norec_world.specs.declared.ending.End.{End}
+pub use Rattle.tx_attempts.specs.declared.attempt.Entry.{Entry}
+pub use Rattle.tx_attempts.specs.declared.attempt.Outcome.TheVariants.{Unfinished}
+pub use Rattle.tx_attempts.specs.declared.attempt.Outcome.{Outcome}
 pub use Rattle.norec_world.specs.declared.fault.WorldFault.{WorldFault}
 pub use Rattle.norec_world.specs.declared.schedule.Passes.{Passes}
 pub use Rattle.tx_player.specs.Depth.{depth_after, opens}

@@ -8,9 +8,9 @@ use Rattle.norec_world.proofs.Common.{Attempt, Begin, Between, Call, Commit, Don
 use Rattle.itm_types.specs.declared.call.Reply.{Reply}
 use Rattle.itm_types.specs.declared.call.Call.TheVariants.{Abort, Load, Log, Mode, Save}
 use Rattle.itm_types.specs.declared.call.Reply.TheVariants.{Bytes, Code}
-use Rattle.norec_world.specs.declared.attempt.Outcome.TheVariants.{Cancelled, Committed, Conflict, Full, ReadOnly}
+use Rattle.tx_attempts.specs.declared.attempt.Outcome.TheVariants.{Cancelled, Committed, Conflict, Full, ReadOnly}
 use Rattle.norec_world.specs.declared.fault.WorldFault.TheVariants as faults
-use Rattle.norec_world.specs.Attempts.{ByAbort, memory_after}
+use Rattle.tx_attempts.specs.Attempts.{ByAbort, memory_after}
 use Rattle.norec_world.specs.Plan.{Plan, next_call, restarted, calls_left, depth}
 use Rattle.norec_world.specs.Plan as plans
 use Rattle.norec_world.specs.Solo.{solo}
@@ -112,7 +112,7 @@ abbrev commit_pair : List (Call × Reply)
 commit_pair = (Commit, Done) ∷ []
 
 lost_is_opaque : IsOpaque counter_rules 1 (record { step = 1; got = 0 }) lost 2 (memory 0)
-lost_is_opaque = record { no_older = omega arith; no_newer = omega arith; beginning = (commit_pair, refl); whole = λ e. absurd (cc); ends = refl; closed = tt; ran = refl; full = λ f. absurd (cc) }
+lost_is_opaque = record { no_older = omega arith; no_newer = omega arith; beginning = (commit_pair, refl); whole = λ e. absurd (cc); ends = (refl, refl); closed = tt; ran = refl; full = λ f. absurd (cc) }
 
 retried_is_opaque : IsOpaque counter_rules 1 (record { step = 1; got = 0 }) retried 2 (memory 1)
 retried_is_opaque = record { no_older = omega arith; no_newer = omega arith; beginning = ([], refl); whole = λ e. refl; ends = (refl, refl); closed = (read 1 ∷ write 2 ∷ [], refl); ran = refl; full = λ f. absurd (cc) }
@@ -126,7 +126,7 @@ abbrev refused : Attempt
 refused = record { thread = 0; nth = 1; began = 0; at = 0; props = plain; arena = []; calls = read 0 ∷ write 1 ∷ []; ran = []; outcome = Full }
 
 refused_is_opaque : IsOpaque counter_rules 1 (record { step = 1; got = 0 }) refused 0 (replicate 8 0)
-refused_is_opaque = record { no_older = omega arith; no_newer = omega arith; beginning = (commit_pair, refl); whole = λ e. absurd (cc); ends = refl; closed = tt; ran = refl; full = λ f. record { call = Commit; rest = []; answers_are = refl; revocable = refl; takes = refl } }
+refused_is_opaque = record { no_older = omega arith; no_newer = omega arith; beginning = (commit_pair, refl); whole = λ e. absurd (cc); ends = (refl, refl); closed = tt; ran = refl; full = λ f. record { call = Commit; rest = []; answers_are = refl; revocable = refl; takes = refl } }
 
 -- the player alone does the same where no writer may commit
 refused_alone : solo counter_rules 1 0 0 fresh.player (replicate 8 0) [] ≡ record { attempts = refused ∷ []; memory = replicate 8 0; commits = 0; held = false; ending = GaveUp }

@@ -16,6 +16,7 @@ use Rattle.norec_world.proofs.Common.{Answers, Attempt, Begin, Call, Cells, Code
 -- the attempt's calls alone on the memory of its position lead to an open block, and the call comes to what the plain machine makes of it then
 pub record HasHeld (base : List ℕ) (cells cells' : Cells) (r : Rows) (thread : ℕ) (mid new : Core) (call : Call) (what : Next) : Type 0 where
   pub still_open : mid.irrevocable ≡ true → (row : Attempt) → active_of thread r.active ≡ Some row → is_open (alone MAX_OPEN_BLOCKS (bytes_at base r.ended (cells.clock / 2)) row) ≡ true
+  pub mode : mid.irrevocable ≡ true → (row : Attempt) → active_of thread r.active ≡ Some row → (alone MAX_OPEN_BLOCKS (bytes_at base r.ended (cells.clock / 2)) row).irrevocable ≡ true
   pub ran : mid.irrevocable ≡ true → (row : Attempt) → active_of thread r.active ≡ Some row → row.ran ≡ (alone MAX_OPEN_BLOCKS (bytes_at base r.ended (cells.clock / 2)) row).actions.ran
   pub comes : mid.irrevocable ≡ true → (row : Attempt) → active_of thread r.active ≡ Some row
       → ComesTo (after MAX_OPEN_BLOCKS (alone MAX_OPEN_BLOCKS (bytes_at base r.ended (cells.clock / 2)) row) call) (reply MAX_OPEN_BLOCKS (alone MAX_OPEN_BLOCKS (bytes_at base r.ended (cells.clock / 2)) row) call) what new cells'.words
@@ -29,6 +30,13 @@ pub stands_actions : (c : Core) (m : List ℕ) → (stands_for c m).actions ≡ 
 stands_actions c m = by_mode c.irrevocable
   where
     by_mode : (b : Bool) → (state_in b c.writes c.blocks c.arena c.actions m).actions ≡ c.actions
+    by_mode true = refl
+    by_mode false = refl
+
+pub stands_mode : (c : Core) (m : List ℕ) → (stands_for c m).irrevocable ≡ c.irrevocable
+stands_mode c m = by_mode c.irrevocable
+  where
+    by_mode : (b : Bool) → (state_in b c.writes c.blocks c.arena c.actions m).irrevocable ≡ b
     by_mode true = refl
     by_mode false = refl
 

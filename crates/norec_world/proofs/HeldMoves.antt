@@ -40,6 +40,7 @@ module _ {P : Type 0} {rules : Rules P} {cells : Cells} {r0 r : Rows} {old a : A
   pub call_held : HasHeld base cells cells r a.thread (mid m) a.engine call what
   call_held = record {
     still_open = λ i row f. (held_then i row f).still_open;
+    mode = λ i row f. (held_then i row f).mode;
     ran = λ i row f. (held_then i row f).ran;
     comes = λ i row f.
         subst (λ (s : State). ComesTo (after MAX_OPEN_BLOCKS s call) (reply MAX_OPEN_BLOCKS s call) what a.engine cells.words) (stands_then i row f)
@@ -171,6 +172,7 @@ module _ {P : Type 0} {rules : Rules P} {cells : Cells} {r : Rows} {old : Actor 
   pub step_held : HasHeld base cells cells' r old.thread (mid_step m) new call what
   step_held = record {
     still_open = λ i row f. (held (was i) row f).still_open;
+    mode = λ i row f. (held (was i) row f).mode;
     ran = λ i row f. (held (was i) row f).ran;
     comes = λ i row f. comes_to (was i) row f;
     commits = λ i row f at wrote is. commits_to (was i) row f at wrote is;

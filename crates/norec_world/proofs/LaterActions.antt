@@ -4,7 +4,7 @@ use Rattle.std.proofs.Common.{◌≡◌, ◌≤◌, length, arith, ℕ, Bool, tr
 use Rattle.itm_types.specs.declared.call.Ran.{Ran}
 use Rattle.norec_core.specs.declared.answer.Undone.TheVariants.{Done, Held, Nothing}
 use Rattle.norec_core.proofs.ActionCounts.{given_up_actions, given_up_on, goes_on, undone_actions}
-use Rattle.norec_world.specs.Opacity.{IsBeginningOf}
+use Rattle.tx_attempts.specs.Beginnings.{IsBeginningOf}
 use Rattle.norec_world.proofs.Common.{Attempt, Call, Core, HasRow, Next, Proceeds, Rows, active_of, after_undoing, in_transaction, stands_for, state_over}
 use Rattle.norec_core.specs.Stands.{state_in}
 use Rattle.itm_model.specs.Machine.{undone}

@@ -3,8 +3,8 @@ use Rattle.norec_world.proofs.LaterActions.{given_up_as}
 use Rattle.std.proofs.Common.{◌≡◌, ℕ, ◌/◌, ◌≤◌, ◌&&◌, Bool, true, false, not, List, [], ◌∷◌, ◌++◌, Some, refl, sym, true≢false, ap, subst, ◌∙◌, arith, None, inl, inr}
 use Rattle.std.proofs.lemmas.Bool.{and_right, not_from_true}
 use Rattle.norec_world.proofs.Common.{Actor, Agrees, Answer, AreCounted, AreLaid, Attempt, Begin, Between, Call, Cells, Commit, Core, Ended, HasRow, IsBeforeTry, IsDone, IsHeld, IsInTry, IsRun, IsRunOf, IsSound, IsTold, LeadsTo, MAX_OPEN_BLOCKS, Next, Obeys, Props, Ready, Reply, Rows, Rules, RunsFrom, Sees, Starves, Status, Step, Tells, active_of, asked_pending, begins_again, begins_at, bytes_at, cases_Bool, cond-false, cond-true, ending_of, found, handed_is, handed_to, in_transaction, is_inside, of_thread, run_after, words_at, RecordsReply}
-use Rattle.norec_world.specs.declared.attempt.Outcome.TheVariants as outcomes
-use Rattle.norec_world.specs.declared.attempt.End.TheVariants as ends
+use Rattle.tx_attempts.specs.declared.attempt.Outcome.TheVariants as outcomes
+use Rattle.norec_world.specs.declared.ending.End.TheVariants as ends
 use Rattle.norec_world.proofs.ActiveRows.{changed_here, row_from}
 use Rattle.norec_core.specs.Core.{may_go, rolled_back}
 use Rattle.norec_core.specs.Proceeds.{IsSettled}
@@ -172,7 +172,7 @@ module _ {P : Type 0} {rules : Rules P} (laws : Obeys rules) {cells : Cells} {r0
     starve_run true o =
         let here : IsRun rules first base (cells.clock / 2) roomy old = record { run = runs.runs.run; inside = runs.runs.inside; between = λ x. absurd (true≢false (sym o ∙ x)) } in
         (stop_run laws r1 old last Commit still_seen here (cells.clock / 2) (let l : cells.clock / 2 ≤ cells.clock / 2 = omega arith in l)
-        (bytes_stay laid more ended) o (old.engine.snapshot / 2) outcomes.NoMemory last.engine.actions.ran refl (λ x y. y) s.same.thread (s.stops o revocable)
+        (bytes_stay laid more ended) o (old.engine.snapshot / 2) outcomes.NoMemory last.engine.actions.ran refl (λ x y i. (y, i)) s.same.thread (s.stops o revocable)
         (runs.runs.inside o).4.began still_seen.late (runs.sees.logged o) revocable (given_up_as old.engine last.engine (words_at base r1.ended (old.engine.snapshot / 2)) (free ∙ revocable) revocable s.engine) (λ f. absurd (cc))).0
 
     -- its transaction is rolled back
@@ -294,7 +294,7 @@ held_told memory words r r' a told held row f = by_open (in_transaction a.engine
     by_open true o =
         let was = row_from r r' a.thread (reading (a.engine.snapshot / 2)) (λ x. refl) (told.moves o) row f in
         let h = held was.0 was.1 in
-        subst (λ (x : Attempt). IsHeld memory words x a.engine) (sym was.2) (record { still_open = h.still_open; ran = h.ran; stands = h.stands; got = h.got })
+        subst (λ (x : Attempt). IsHeld memory words x a.engine) (sym was.2) (record { still_open = h.still_open; mode = h.mode; ran = h.ran; stands = h.stands; got = h.got })
     by_open false o = held row (ap (λ (x : Rows). active_of a.thread x.active) (sym (told.stays o)) ∙ f)
 
 -- it goes on, or is answered

@@ -9,12 +9,12 @@ use Rattle.norec_core.proofs.AnsweredEngines.{told_plainly}
 use Rattle.norec_core.specs.Held.{ComesTo}
 use Rattle.norec_core.specs.Proceeds.{Conflicts, WantsClock}
 use Rattle.norec_core.specs.Stands.{state_in}
-use Rattle.norec_world.specs.Attempts.{ClosedBy}
+use Rattle.tx_attempts.specs.Attempts.{ClosedBy}
 use Rattle.norec_world.specs.Opacity.{ran_of}
-use Rattle.norec_world.specs.declared.attempt.Outcome.TheVariants as outcomes
+use Rattle.tx_attempts.specs.declared.attempt.Outcome.TheVariants as outcomes
 use Rattle.norec_world.proofs.ActiveRows.{row_is_of}
 use Rattle.norec_world.proofs.Cancels.{cancelled, cancels}
-use Rattle.norec_world.proofs.HeldCalls.{CommitsTo, HasHeld, commit_reply, commits_kept, commits_over, enters_open, stands_actions, stands_arena, wants_taking}
+use Rattle.norec_world.proofs.HeldCalls.{CommitsTo, HasHeld, commit_reply, commits_kept, commits_over, enters_open, stands_actions, stands_arena, stands_mode, wants_taking}
 use Rattle.norec_world.proofs.RunAnswers.{RunOf, ended_run, now_at, position_bytes, position_fits}
 use Rattle.norec_world.proofs.Seen.{HasSeen, memory_at, same_at}
 use Rattle.norec_world.proofs.Solos.{player_snoc, stands_open}
@@ -248,7 +248,7 @@ module _ {P : Type 0} {rules : Rules P} (laws : Obeys rules) {first : Between P}
   revocable_of held never = false_from_ne_true mid.irrevocable (λ i. never _ _ (held.comes i (run.inside inside).1 (run.inside inside).3))
 
   -- the memory of its position agrees with its log
-  module _ (k : ℕ) (outcome : Outcome) (ran : List Ran) (undone : is_done outcome ≡ false) (ends : (x : State) → is_open x ≡ true → EndsAs outcome x) (thread : last.thread ≡ a.thread) (stops : StopsAt a.thread r k outcome ran r1)
+  module _ (k : ℕ) (outcome : Outcome) (ran : List Ran) (undone : is_done outcome ≡ false) (ends : (x : State) → is_open x ≡ true → x.irrevocable ≡ false → EndsAs outcome x) (thread : last.thread ≡ a.thread) (stops : StopsAt a.thread r k outcome ran r1)
       (older : (run.inside inside).1.began ≤ k) (newer : k ≤ cells.clock / 2) (agrees : Agrees (words_at base r.ended k) mid.log) (revocable : mid.irrevocable ≡ false) where
     words_same : words_at base r1.ended k ≡ words_at base r.ended k
     words_same = ap words_of (still k newer)
@@ -278,7 +278,7 @@ module _ {P : Type 0} {rules : Rules P} (laws : Obeys rules) {first : Between P}
         let t = run.inside inside in
         ended_run laws r1 a last call seen run n' later still inside (record t.1 { at = k; ran = ran; outcome = outcome }) (row_is_of a.thread r.active t.1 t.3) stop_ended thread
         (try_stops laws t.4 n' (bytes_at base r1.ended) k outcome ran undone stop_made
-        (subst (EndsAs outcome) stop_stands (ends (stands_for mid (words_at base r1.ended k)) (stands_open rules laws mid (words_at base r1.ended k) inside))) older (omega (arith, newer, later)) (ran_is ∙ ap (ran_of outcome) stop_stands) full)
+        (subst (EndsAs outcome) stop_stands (ends (stands_for mid (words_at base r1.ended k)) (stands_open rules laws mid (words_at base r1.ended k) inside) (stands_mode mid (words_at base r1.ended k) ∙ revocable))) older (omega (arith, newer, later)) (ran_is ∙ ap (ran_of outcome) stop_stands) full)
 
     -- the plain state that it leaves
     stop_left : alone MAX_OPEN_BLOCKS (bytes_at base r1.ended k) (record (run.inside inside).1 { at = k; ran = ran; outcome = outcome }) ≡ stands_for mid (words_at base r1.ended k)
@@ -301,8 +301,8 @@ module _ {P : Type 0} {rules : Rules P} (laws : Obeys rules) {first : Between P}
         let words : List ℕ = words_at base r1.ended k in
         let undone_is = conflicts.undone words (subst (IsMemory mid.words) (sym (ap words_of (still k (omega arith)))) (memory_at seen k (omega arith))) in
         let ran_is : last.engine.actions.ran ≡ (undone (stands_for mid words)).actions.ran = ap (λ (c : Core). c.actions.ran) m.settled.engine ∙ (ap (λ (x : Actions). x.ran) (sym (stands_actions a.engine words)) ∙ ap (λ (x : State). x.actions.ran) undone_is) in
-        let over = stop_run k outcomes.Conflict last.engine.actions.ran refl (λ x o. o) m.settled.thread m.told.0 (omega arith) (omega arith) agrees revocable ran_is (λ f. absurd (cc)) in
-        let state = stop_left k outcomes.Conflict last.engine.actions.ran refl (λ x o. o) m.settled.thread m.told.0 (omega arith) (omega arith) agrees revocable in
+        let over = stop_run k outcomes.Conflict last.engine.actions.ran refl (λ x o i. (o, i)) m.settled.thread m.told.0 (omega arith) (omega arith) agrees revocable ran_is (λ f. absurd (cc)) in
+        let state = stop_left k outcomes.Conflict last.engine.actions.ran refl (λ x o i. (o, i)) m.settled.thread m.told.0 (omega arith) (omega arith) agrees revocable in
         let player : rules.restarted (answered_all rules.answered (rules.answered t.4.start.player (begin_code t.0.again)) (map (λ (x : Entry). x.reply) t.1.calls)) ≡ last.player = ap rules.restarted (sym t.4.player) ∙ sym m.told.1 in
         let left : State = alone MAX_OPEN_BLOCKS (bytes_at base r1.ended k) (record t.1 { at = k; ran = last.engine.actions.ran; outcome = outcomes.Conflict }) in
         let arena : (undone left).arena ≡ last.engine.arena =
@@ -333,11 +333,11 @@ module _ {P : Type 0} {rules : Rules P} (laws : Obeys rules) {first : Between P}
         let agrees = subst (λ (k : ℕ). Agrees (words_at base r.ended k) mid.log) (sym m.ends.at_is) (seen.still inside) in
         let words : List ℕ = words_at base r1.ended at in
         let mem : IsMemory mid.words words = subst (IsMemory mid.words) (sym (ap words_of (still at newer))) (memory_at seen at newer) in
-        let stands = stop_stands at outcomes.Full last.engine.actions.ran refl (λ x o. o) m.settled.thread m.told.0 older newer agrees revocable in
-        let made = stop_made at outcomes.Full last.engine.actions.ran refl (λ x o. o) m.settled.thread m.told.0 older newer agrees revocable in
+        let stands = stop_stands at outcomes.Full last.engine.actions.ran refl (λ x o i. (o, i)) m.settled.thread m.told.0 older newer agrees revocable in
+        let made = stop_made at outcomes.Full last.engine.actions.ran refl (λ x o i. (o, i)) m.settled.thread m.told.0 older newer agrees revocable in
         let takes = wants_taking mid words revocable inside call (subst (WantsClock mid) m.taken.doing m.ends.wants) in
         record {
-          run = (stop_run at outcomes.Full last.engine.actions.ran refl (λ x o. o) m.settled.thread m.told.0 older newer agrees revocable
+          run = (stop_run at outcomes.Full last.engine.actions.ran refl (λ x o i. (o, i)) m.settled.thread m.told.0 older newer agrees revocable
               (ap (λ (c : Core). c.actions.ran) m.settled.engine ∙ ran_back words mem)
               (λ f. lacks_clock laws t.4 (bytes_at base r1.ended at) call (plainly MAX_OPEN_BLOCKS (led (bytes_at base r1.ended at)) call) made m.answered.in_call.asks refl
               (ap (λ (s : State). s.irrevocable) (sym stands) ∙ ap (λ (b : Bool). (state_in b mid.writes mid.blocks mid.arena mid.actions words).irrevocable) revocable)

@@ -1,13 +1,14 @@
 -- The actors' runs: one's event leaves the others', and together they are the headline.
 use Rattle.std.proofs.Common.{◌≡◌, ◌≢◌, inl, inr, ℕ, ◌+◌, ◌/◌, ◌%◌, ◌<◌, ◌≤◌, ◌==◌, Bool, true, false, List, [], ◌∷◌, ◌++◌, length, length-set, replicate, None, Some, slice_get, slice_set, refl, sym, ap, subst, ◌∙◌, arith, eqb-true, nat_lt}
-use Rattle.norec_world.proofs.Common.{Actor, Agrees, AllFit, AllOf, AreActors, AreFrom, AreLaid, AreOfActors, AreOpaque, AreOpen, AreRunning, Attempt, Between, Cells, ChangesOwn, ClocksOn, Core, Got, HasRead, HasRow, IsHeld, IsMemory, IsRunOf, IsTied, IsTryAt, IsWorld, KeepsOthers, MAX_OPEN_BLOCKS, Obeys, Ready, Rows, Rules, RunsFrom, StandsIn, State, World, active_of, alone, append-nil, attempts_of, backed, begins_at, bytes_at, bytes_of, cases_Bool, count_at, count_committed, first_of, in_transaction, is_open, le-ltb, ne_eqb, of_thread, one_where, opened, opening, run_after, state_then, words_at, words_of, write_at, slice_get_within}
-use Rattle.norec_world.specs.declared.attempt.Outcome.TheVariants as outcomes
+use Rattle.norec_world.proofs.Common.{Actor, Agrees, AllFit, AllOf, AreActors, AreFrom, AreLaid, AreOfActors, AreOpaque, AreOpen, AreRunning, Attempt, Between, Cells, ChangesOwn, ClocksOn, Core, Got, HasRead, HasRow, IsHeld, IsMemory, IsRunOf, IsTied, IsTryAt, IsWorld, KeepsOthers, MAX_OPEN_BLOCKS, Obeys, Ready, Rows, Rules, RunsFrom, StandsIn, State, World, active_of, alone, append-nil, attempts_of, backed, begins_at, bytes_at, bytes_of, cases_Bool, count_at, count_committed, first_of, in_transaction, is_open, le-ltb, ne_eqb, of_thread, one_where, opened, opening, run_after, same_Some, state_then, words_at, words_of, write_at, slice_get_within}
+use Rattle.tx_attempts.specs.declared.attempt.Outcome.TheVariants as outcomes
 use Rattle.norec_world.proofs.WordLists.{words_of-bytes_of}
 use Rattle.norec_world.specs.Runs.{StillRuns}
 use Rattle.norec_world.proofs.SoundOthers.{first_found, set_place, there_is, are_open, held_apart, odd_held, row_unfinished, row_open}
 use Rattle.norec_world.proofs.InTries.{try_moved}
 use Rattle.norec_world.proofs.TryOutcomes.{IsMadeAlone, alone_led, made_held, made_so, stands_led, try_stops}
-use Rattle.norec_world.proofs.HeldCalls.{stands_actions}
+use Rattle.norec_world.proofs.HeldCalls.{stands_actions, stands_mode}
+use Rattle.itm_types.proofs.Words.{length-bytes_of}
 use Rattle.user_actions.specs.Actions.{Actions}
 use Rattle.norec_world.proofs.Memories.{bytes_still, bytes_stay}
 use Rattle.norec_world.proofs.RunLists.{of_thread_more, run_still, run_more}
@@ -127,6 +128,7 @@ module _ {P : Type 0} (rules : Rules P) (laws : Obeys rules) where
     open_parts : (place : ℕ) (p : P) (a : Actor P) (e : slice_get w.opening place ≡ Some p) (f : slice_get w.actors place ≡ Some a) (o : in_transaction a.engine ≡ true)
         → let t = (running.each place p a e f).runs.inside o in let k : ℕ = a.engine.snapshot / 2 in
         IsMadeAlone rules t.0 t.4.start t.1 (bytes_at w.base (attempts_of w) k) × (a.engine.actions.ran ≡ (state_then MAX_OPEN_BLOCKS (opened (bytes_at w.base (attempts_of w) k) t.4.start.arena t.4.start.props) t.1.calls).actions.ran)
+        × ((state_then MAX_OPEN_BLOCKS (opened (bytes_at w.base (attempts_of w) k) t.4.start.arena t.4.start.props) t.1.calls).irrevocable ≡ a.engine.irrevocable)
     open_parts place p a e f o = elim (cases_Bool a.engine.irrevocable) [ inl i ↦ held_so i | inr r ↦ open_so r ]
       where
         x : RunsFrom rules (first_of p w.arena) w.base w.cells w.attempts a
@@ -152,15 +154,18 @@ module _ {P : Type 0} (rules : Rules P) (laws : Obeys rules) where
 
         open_so : a.engine.irrevocable ≡ false → IsMadeAlone rules (x.runs.inside o).0 (x.runs.inside o).4.start (x.runs.inside o).1 (bytes_at w.base (attempts_of w) (a.engine.snapshot / 2))
             × (a.engine.actions.ran ≡ (state_then MAX_OPEN_BLOCKS (opened (bytes_at w.base (attempts_of w) (a.engine.snapshot / 2)) (x.runs.inside o).4.start.arena (x.runs.inside o).4.start.props) (x.runs.inside o).1.calls).actions.ran)
+            × ((state_then MAX_OPEN_BLOCKS (opened (bytes_at w.base (attempts_of w) (a.engine.snapshot / 2)) (x.runs.inside o).4.start.arena (x.runs.inside o).4.start.props) (x.runs.inside o).1.calls).irrevocable ≡ a.engine.irrevocable)
         open_so r =
             let m : List ℕ = words_at w.base (attempts_of w) (a.engine.snapshot / 2) in
             let stands = stands_led laws (x.runs.inside o).4 (bytes_at w.base (attempts_of w) (a.engine.snapshot / 2)) m r o memory same agrees in (
               made_so laws (x.runs.inside o).4 (bytes_at w.base (attempts_of w) (a.engine.snapshot / 2)) m r o memory same agrees,
               ap (λ (y : Actions). y.ran) (sym (stands_actions a.engine m)) ∙ ap (λ (y : State). y.actions.ran) stands,
+              ap (λ (y : State). y.irrevocable) (sym stands) ∙ stands_mode a.engine m,
             )
 
         held_so : a.engine.irrevocable ≡ true → IsMadeAlone rules (x.runs.inside o).0 (x.runs.inside o).4.start (x.runs.inside o).1 (bytes_at w.base (attempts_of w) (a.engine.snapshot / 2))
             × (a.engine.actions.ran ≡ (state_then MAX_OPEN_BLOCKS (opened (bytes_at w.base (attempts_of w) (a.engine.snapshot / 2)) (x.runs.inside o).4.start.arena (x.runs.inside o).4.start.props) (x.runs.inside o).1.calls).actions.ran)
+            × ((state_then MAX_OPEN_BLOCKS (opened (bytes_at w.base (attempts_of w) (a.engine.snapshot / 2)) (x.runs.inside o).4.start.arena (x.runs.inside o).4.start.props) (x.runs.inside o).1.calls).irrevocable ≡ a.engine.irrevocable)
         held_so i =
             let t = x.runs.inside o in
             let h = x.held i t.1 t.3 in
@@ -171,6 +176,7 @@ module _ {P : Type 0} (rules : Rules P) (laws : Obeys rules) where
             let shown : bytes_at w.base (attempts_of w) (a.engine.snapshot / 2) ≡ bytes_at w.base w.attempts.ended (w.cells.clock / 2) = ap (bytes_at w.base (attempts_of w)) half ∙ shown_still (w.cells.clock / 2) top in (
               made_held laws t.4 (bytes_at w.base (attempts_of w) (a.engine.snapshot / 2)) i (fits.0 ∙ sym tied.words, fits.1) (running.laid.memories.same (w.cells.clock / 2) top ∙ sym shown) (ap (λ (bytes : List ℕ). is_open (alone MAX_OPEN_BLOCKS bytes t.1)) shown ∙ h.still_open),
               sym t.4.ran ∙ (h.ran ∙ (ap (λ (bytes : List ℕ). (alone MAX_OPEN_BLOCKS bytes t.1).actions.ran) (sym shown) ∙ ap (λ (y : State). y.actions.ran) (alone_led laws t.4 (bytes_at w.base (attempts_of w) (a.engine.snapshot / 2))))),
+              ap (λ (y : State). y.irrevocable) (sym (alone_led laws t.4 (bytes_at w.base (attempts_of w) (a.engine.snapshot / 2)))) ∙ (ap (λ (bytes : List ℕ). (alone MAX_OPEN_BLOCKS bytes t.1).irrevocable) shown ∙ (h.mode ∙ sym i)),
             )
 
     of_actor : (place : ℕ) (p : P) (a : Actor P) → slice_get w.opening place ≡ Some p → slice_get w.actors place ≡ Some a
@@ -208,6 +214,36 @@ module _ {P : Type 0} (rules : Rules P) (laws : Obeys rules) where
               subst (IsRunOf rules MAX_OPEN_BLOCKS (w.cells.clock / 2) (bytes_at w.base (attempts_of w)) (Some (first_of p w.arena))) (sym rows) on.0)
         ])
 
+    player_at : (place : ℕ) (a : Actor P) → slice_get w.actors place ≡ Some a → (p : P) × (slice_get w.opening place ≡ Some p)
+    player_at place a e = there_is w.opening place (omega (arith, long, slice_get_within w.actors place a e))
+
+    -- an open attempt's player alone is irrevocable where its engine is
+    mode_of : (place : ℕ) (a : Actor P) (row : Attempt) → slice_get w.actors place ≡ Some a → active_of place w.attempts.active ≡ Some row
+        → (alone MAX_OPEN_BLOCKS (bytes_at w.base (attempts_of w) row.at) row).irrevocable ≡ a.engine.irrevocable
+    mode_of place a row e some =
+        let here = player_at place a e in
+        let own = sound.each place a e in
+        let mine : active_of a.thread w.attempts.active ≡ Some row = ap (λ (t : ℕ). active_of t w.attempts.active) own.thread ∙ some in
+        let o = row_open (in_transaction a.engine) w.attempts a.thread row own.sound.kept.row mine in
+        let x = running.each place here.0 a here.1 e in
+        let t = x.runs.inside o in
+        let same : t.1 ≡ row = same_Some _ _ (sym t.3 ∙ mine) in
+        ap (λ (j : ℕ). (alone MAX_OPEN_BLOCKS (bytes_at w.base (attempts_of w) j) row).irrevocable) (x.reads o row mine)
+        ∙ (ap (λ (y : Attempt). (alone MAX_OPEN_BLOCKS (bytes_at w.base (attempts_of w) (a.engine.snapshot / 2)) y).irrevocable) (sym same)
+        ∙ (ap (λ (y : State). y.irrevocable) (alone_led laws t.4 (bytes_at w.base (attempts_of w) (a.engine.snapshot / 2))) ∙ (open_parts place here.0 a here.1 e o).2))
+
+    -- who holds the clock has an open attempt, at the last position
+    held_row : (place : ℕ) (a : Actor P) → slice_get w.actors place ≡ Some a → a.engine.holds ≡ true → (row : Attempt) × (active_of place w.attempts.active ≡ Some row) × (row.at ≡ w.cells.clock / 2)
+    held_row place a e h =
+        let here = player_at place a e in
+        let own = sound.each place a e in
+        let tied = own.sound.tied in
+        let holder = tied.settled.holder h in
+        let x = running.each place here.0 a here.1 e in
+        let t = x.runs.inside holder.0 in
+        let half : a.engine.snapshot / 2 ≡ w.cells.clock / 2 = omega (arith, tied.holder h, holder.1, tied.settled.even) in
+        (t.1, ap (λ (k : ℕ). active_of k w.attempts.active) (sym own.thread) ∙ t.3, x.reads holder.0 t.1 t.3 ∙ half)
+
     pub are_opaque : AreOpaque rules w
     are_opaque = record {
       runs = λ place p e. (let here = there_is w.actors place (omega (arith, long, slice_get_within w.opening place p e)) in of_actor place p here.0 e here.1);
@@ -218,6 +254,12 @@ module _ {P : Type 0} (rules : Rules P) (laws : Obeys rules) where
           let own = sound.each place a e in
           let mine : active_of a.thread w.attempts.active ≡ Some row = ap (λ (t : ℕ). active_of t w.attempts.active) own.thread ∙ some in
           (running.each place here.0 a here.1 e).reads (row_open (in_transaction a.engine) w.attempts a.thread row own.sound.kept.row mine) row mine);
+      each = long;
+      open_rows = open_rows;
+      modes = mode_of;
+      irrevocable = λ place a e i. ((sound.each place a e).sound.tied.settled.irrevocable i).0;
+      holder = held_row;
+      size = omega (arith, length-bytes_of w.cells.words, length-bytes_of (words_of w.base), (running.laid.memories.fits 0 (omega arith)).0, ap (length {A = ℕ}) (running.laid.memories.same 0 (omega arith)));
       free = λ even.
           (let top : w.cells.clock / 2 ≤ w.cells.clock / 2 = omega arith in
           ap bytes_of (running.laid.free even) ∙ (running.laid.memories.same (w.cells.clock / 2) top ∙ sym (shown_still (w.cells.clock / 2) top)));

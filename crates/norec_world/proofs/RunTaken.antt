@@ -1,13 +1,13 @@
 -- A value or a call was taken in, and what the engine gave is recorded: the actor's run goes on, and the words are still those that the commits left.
 use Rattle.std.proofs.Common.{◌≡◌, ◌⊎◌, ℕ, suc, ◌+◌, ◌/◌, ◌≤◌, ◌==◌, Bool, true, false, List, [], ◌∷◌, ◌++◌, Option, None, Some, refl, sym, true≢false, ap, subst, ◌∙◌, arith, eq-eqb, append-nil, inl, inr}
 use Rattle.norec_world.proofs.Common.{Actor, Agrees, Answer, Answers, AreCounted, AreLaid, Asks, Attempt, Between, Busy, Call, Cells, Committed, Conflict, ConflictsIn, Core, Done, Ends, Enters, Full, IsDone, IsHeld, IsRun, Loaded, MAX_OPEN_BLOCKS, Next, NoMemory, Obeys, RecordsReply, Replied, Replies, RepliesHeld, RepliesTo, Reply, Rows, Rules, Sees, StandsIn, State, Step, Tells, Waits, active_of, after, alone, backed, bytes_at, committed_at, cond-true, ending_of, in_transaction, is_open, memory_left, opened, reply_cases, rests, same_Some, stands_for, words_at}
-use Rattle.norec_world.specs.declared.attempt.Outcome.TheVariants as outcomes
+use Rattle.tx_attempts.specs.declared.attempt.Outcome.TheVariants as outcomes
 use Rattle.norec_world.proofs.InTries.{try_asks}
 use Rattle.norec_world.proofs.Laid.{laid_more, laid_on}
 use Rattle.norec_world.proofs.Memories.{bytes_stay, found_later, none_next}
 use Rattle.norec_world.proofs.RunAnswers.{before_on, held_position, position_bytes, position_fits, reply_runs}
 use Rattle.norec_world.proofs.RunEndings.{cancel_runs, commit_ended, commit_memory, commit_runs, conflict_runs, full_runs}
-use Rattle.norec_world.proofs.HeldCalls.{HasHeld, stands_actions}
+use Rattle.norec_world.proofs.HeldCalls.{HasHeld, stands_actions, stands_mode}
 use Rattle.norec_world.proofs.TryOutcomes.{alone_led, stands_led}
 use Rattle.norec_world.proofs.ActiveRows.{changed_here}
 use Rattle.norec_world.proofs.Solos.{stands_open, state_snoc}
@@ -84,6 +84,7 @@ module _ {P : Type 0} {rules : Rules P} (laws : Obeys rules) {first : Between P}
             (let before : mid.irrevocable ≡ true = sym (ap (λ (c : Core). c.irrevocable) g.stays) ∙ irrevocable in
             subst (λ (k : ℕ). IsHeld (bytes_at base r.ended k) cells'.words row a.engine) (sym half) (record {
               still_open = held.still_open before row active;
+              mode = held.mode before row active;
               ran = held.ran before row active;
               stands = subst (λ (w : Option Step). StandsIn w a.engine.doing a.engine cells'.words (alone MAX_OPEN_BLOCKS (bytes_at base r.ended (cells.clock / 2)) row)) (sym (ap (λ (c : Core). c.waits) g.stays))
                   (subst (λ (o : Option Call). StandsIn (Some step) o a.engine cells'.words (alone MAX_OPEN_BLOCKS (bytes_at base r.ended (cells.clock / 2)) row)) (sym (ap (λ (c : Core). c.doing) g.stays ∙ t.doing)) (held.comes before row active));
@@ -181,9 +182,10 @@ module _ {P : Type 0} {rules : Rules P} (laws : Obeys rules) {first : Between P}
     -- ### In an irrevocable transaction
 
     -- it goes on with its calls alone, as the words stand
-    stands_held : (memory : List ℕ) (row : Attempt) → in_transaction a.engine ≡ true → stands_for a.engine cells'.words ≡ alone MAX_OPEN_BLOCKS memory row → row.ran ≡ a.engine.actions.ran → a.engine.waits ≡ None → IsHeld memory cells'.words row a.engine
-    stands_held memory row inside stands ran waits = record {
+    stands_held : (memory : List ℕ) (row : Attempt) → in_transaction a.engine ≡ true → a.engine.irrevocable ≡ true → stands_for a.engine cells'.words ≡ alone MAX_OPEN_BLOCKS memory row → row.ran ≡ a.engine.actions.ran → a.engine.waits ≡ None → IsHeld memory cells'.words row a.engine
+    stands_held memory row inside irrevocable stands ran waits = record {
       still_open = ap is_open (sym stands) ∙ stands_open rules laws a.engine cells'.words inside;
+      mode = ap (λ (s : State). s.irrevocable) (sym stands) ∙ (stands_mode a.engine cells'.words ∙ irrevocable);
       ran = ran ∙ (ap (λ (x : Actions). x.ran) (sym (stands_actions a.engine cells'.words)) ∙ ap (λ (s : State). s.actions.ran) stands);
       stands = subst (λ (w : Option Step). StandsIn w a.engine.doing a.engine cells'.words (alone MAX_OPEN_BLOCKS memory row)) (sym waits) stands;
       got = λ word value e. absurd (let none = sym waits ∙ e in cc);
@@ -232,13 +234,13 @@ module _ {P : Type 0} {rules : Rules P} (laws : Obeys rules) {first : Between P}
             let memory : bytes_at base r.ended (cells.clock / 2) ≡ bytes_at base r1.ended (cells'.clock / 2) = λ i. bytes_at base (sym (ap (λ (x : Rows). x.ended) told.0) i) (sym half i) in
             subst (λ (x : Attempt). IsHeld (bytes_at base r1.ended (cells'.clock / 2)) cells'.words x a.engine) same
             (subst (λ (bytes : List ℕ). IsHeld bytes cells'.words (with_call t.1) a.engine) memory
-            (stands_held (bytes_at base r.ended (cells.clock / 2)) (with_call t.1) inside (s ∙ sym (state_snoc MAX_OPEN_BLOCKS (opened (bytes_at base r.ended (cells.clock / 2)) t.1.arena t.1.props) t.1.calls (record { call = call; reply = reply })))
+            (stands_held (bytes_at base r.ended (cells.clock / 2)) (with_call t.1) inside now (s ∙ sym (state_snoc MAX_OPEN_BLOCKS (opened (bytes_at base r.ended (cells.clock / 2)) t.1.arena t.1.props) t.1.calls (record { call = call; reply = reply })))
             (ap (λ (c : Core). c.actions.ran) m.settled.engine) idle))
         by_answer false (Reply reply) m held now inside idle =
             let half = m.taken.moves.keeps (unfreed_to mid a.engine mid.doing reply m.ends) in
             let s = begin_holds laws r1 a last call seen run (held.shut m.taken.was_is) reply m (ap in_transaction m.settled.engine ∙ inside) now row active in
             let memory : bytes_at base r.ended (cells.clock / 2) ≡ bytes_at base r1.ended (cells'.clock / 2) = λ i. bytes_at base (sym (open_ended false (Reply reply) m inside) i) (sym half i) in
-            subst (λ (bytes : List ℕ). IsHeld bytes cells'.words row a.engine) memory (stands_held (bytes_at base r.ended (cells.clock / 2)) row inside s.0 s.1 idle)
+            subst (λ (bytes : List ℕ). IsHeld bytes cells'.words row a.engine) memory (stands_held (bytes_at base r.ended (cells.clock / 2)) row inside now s.0 s.1 idle)
         by_answer b answer m held now inside idle = absurd (true≢false (sym inside ∙ m.answered.fits.1))
 
     answers_on : (answer : Answer) → HasAnswered rules was cells cells' r r1 mid a last call answer → HasHeld base cells cells' r a.thread mid a.engine call (Answers answer) → HasRun rules first base cells' r1 last

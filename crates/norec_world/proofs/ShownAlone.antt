@@ -4,7 +4,7 @@ use Rattle.std.proofs.lemmas.Bool.{and_left, and_right, lt-leb}
 use Rattle.norec_world.proofs.Common.{Actor, AreOfActors, AreOpaque, AreUnfinished, Attempt, Between, Call, End, EndsAs, EndsWith, Finished, GaveUp, IsAlone, IsBeforeTry, IsFirstTry, IsOnWay, IsRunOf, IsSole, IsWorld, MAX_OPEN_BLOCKS, NoMemory, Obeys, Outcome, Row, Rules, ShowsAlone, StandsIn, StandsSole, State, Step, World, active_of, after, alone, answers, answers_within, attempts_of, begin_code, begin_of, begin_within, both_ways, bytes_at, bytes_of, committed_at, cond-false, cond-true, current_of, ending_at, ending_of, first_of, in_transaction, is_open, of_thread, opened, option_and_then, pair_of, player_then, reply, row_of, run_after, same_Some, solo_within, stands_for, state_then, takes_clock, stopped, with_all, with_first, words_at}
 use Rattle.norec_world.proofs.RunBegins.{led_before}
 use Rattle.itm_types.specs.declared.call.Reply.{Reply}
-use Rattle.norec_world.specs.declared.attempt.Outcome.TheVariants as outcomes
+use Rattle.tx_attempts.specs.declared.attempt.Outcome.TheVariants as outcomes
 use Rattle.norec_world.specs.SoFar.{IsBegun, IsSoFar, IsAll}
 use Rattle.norec_world.specs.World.{DoneBy, memory_of}
 use Rattle.norec_world.proofs.Solos.{begins_alone, gets_none, full_block, kept_out, open_block, no_block}
@@ -182,7 +182,7 @@ module _ {P : Type 0} (rules : Rules P) (laws : Obeys rules) (w : World P) (kept
         rests_even (row ∷ []) x GaveUp
         (full_block rules laws MAX_OPEN_BLOCKS w.max_commits 0 x.before y.start y.comes row.calls lacks.call (reply MAX_OPEN_BLOCKS (alone MAX_OPEN_BLOCKS (bytes_at w.base (attempts_of w) row.at) row) lacks.call) lacks.rest
         (sym (same_answers rules laws w.max_commits w.base (attempts_of w) (w.cells.clock / 2) x.before row y x.memory first_here at_here) ∙ lacks.answers_are) alone_here
-        (ap is_open (sym state_here) ∙ subst (λ (k : Outcome). EndsAs k (alone MAX_OPEN_BLOCKS (bytes_at w.base (attempts_of w) row.at) row)) o y.opaque.ends)
+        (ap is_open (sym state_here) ∙ (subst (λ (k : Outcome). EndsAs k (alone MAX_OPEN_BLOCKS (bytes_at w.base (attempts_of w) row.at) row)) o y.opaque.ends).0)
         (ap (λ (s : State). s.irrevocable) (sym state_here) ∙ lacks.revocable) (ap (λ (s : State). takes_clock (after MAX_OPEN_BLOCKS s lacks.call)) (sym state_here) ∙ lacks.takes)
         (le-leb w.max_commits x.before.commits (omega arith))
         ∙ ap (λ (r : Attempt). with_first r (stopped rules MAX_OPEN_BLOCKS w.max_commits 0 x.before GaveUp)) (row_here outcomes.Full (sym o))) is z

@@ -1,7 +1,7 @@
 -- An actor that has its world to itself goes on so over an event.
 use Rattle.std.proofs.Common.{◌≡◌, inl, inr, ℕ, ◌+◌, ◌/◌, ◌%◌, ◌≤◌, true, false, nat_lt, if◌then◌else◌, List, [], ◌∷◌, ◌++◌, Option, None, Some, slice_get, slice_set, length, length-set, refl, sym, ap, subst, ◌∙◌, arith, eq-eqb}
 use Rattle.norec_world.proofs.Common.{Actor, AreActors, AreOfActors, AreRunning, AreSole, Attempt, Beginning, Between, Cells, CommitsInOrder, Continues, End, Ended, EndsAt, EndsWith, Finished, GaveUp, GoesOnAfter, IsBetween, IsEvent, IsFirstTry, IsOnWay, IsRunOf, IsSole, IsWorld, MAX_OPEN_BLOCKS, NoMemory, Outcome, Props, Rows, Rules, StandsSole, Tries, World, active_of, after_try, begin_of, begins, begins_at, between, bytes_at, current_of, ending_of, false_from_ne_true, first_of, is_committed, is_done, of_thread, one_if, outrun, over, prior_of, run_after, runs, shut_out, slice_get-set_same, turned_away, slice_get_within, same_Some, both_ways, in_transaction}
-use Rattle.norec_world.specs.declared.attempt.Outcome.TheVariants as outcomes
+use Rattle.tx_attempts.specs.declared.attempt.Outcome.TheVariants as outcomes
 use Rattle.norec_world.proofs.SoundOthers.{odd_or_even, row_shut}
 use Rattle.norec_world.proofs.TryEnds.{none_again}
 use Rattle.norec_world.specs.Tries.{EndsIt}

@@ -14,8 +14,8 @@ use Rattle.itm_types.specs.declared.copy.CopyPair.{CopyPair}
 use Rattle.itm_types.specs.declared.copy.CopyPair.TheVariants.{Out, In, Within}
 use Rattle.itm_types.specs.Slices.{with_slice}
 use Rattle.norec_world.specs.Solo.{aborts}
-use Rattle.norec_world.specs.declared.attempt.Outcome.TheVariants as outcomes
-use Rattle.norec_world.specs.Attempts.{replies_of}
+use Rattle.tx_attempts.specs.declared.attempt.Outcome.TheVariants as outcomes
+use Rattle.tx_attempts.specs.Attempts.{replies_of}
 use Rattle.norec_world.proofs.Solos.{aborts_snoc, ended_block}
 use Rattle.norec_world.proofs.TakingCalls.{in_open}
 use Rattle.itm_model.specs.State.{Saved}

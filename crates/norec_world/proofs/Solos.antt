@@ -4,7 +4,7 @@ use Rattle.std.proofs.Common.{◌≡◌, ℕ, zero, suc, ◌+◌, ◌<◌, ◌�
 use Rattle.norec_world.proofs.Common.{Begin, Beginning, Call, Core, Entry, Finished, GaveUp, IsAlone, Obeys, Progress, Props, Rules, Solo, State, Unfinished, Refusal, after, after_unless, answers, both_ways, false_from_ne_true, is_inside, takes_clock, answers_within, begin_code, begin_of, begin_within, cond-false, cond-true, ended_as, in_transaction, is_open, one_if, opened, outside, pair_of, player_then, refusal, reply, row_of, same_Some, solo_within, stands_for, state_then, stopped, turn, with_first}
 use Rattle.itm_types.specs.declared.call.Reply.{Reply}
 use Rattle.itm_model.specs.Runs.{state_after}
-use Rattle.norec_world.specs.declared.attempt.Outcome.TheVariants.{Full}
+use Rattle.tx_attempts.specs.declared.attempt.Outcome.TheVariants.{Full}
 use Rattle.itm_types.specs.Calls.{is_abort}
 use Rattle.norec_world.specs.Solo.{entry_of, player_after, passed, before_taking, block_then, limited_then, within_limit, left_open, begun_then, aborts}
 use Rattle.norec_world.specs.Opacity.{stays_outside}

@@ -3,8 +3,8 @@ use Rattle.norec_world.proofs.LaterActions.{given_up_later}
 use Rattle.itm_types.specs.declared.call.Ran.{Ran}
 use Rattle.std.proofs.Common.{List, ◌++◌, ◌≡◌, ℕ, ◌/◌, ◌%◌, ◌≤◌, ◌==◌, if◌then◌else◌, Bool, true, false, [], Option, None, Some, refl, sym, ap, subst, ◌∙◌, arith}
 use Rattle.norec_world.proofs.Common.{Actor, Answer, Answers, Asks, Attempt, Begin, BeginsAt, Busy, Call, Cells, Committed, Conflict, Core, Ended, Full, HasRow, IsAtOnce, IsDone, IsSound, IsTold, Next, Opens, Prior, Props, Ready, Reply, Rows, Rules, Starves, Status, Step, Tells, Tries, Waits, active_of, asked_pending, begins, ending_of, cond-true, false_from_ne_true, found, handed_is, in_transaction, none-some, none_inside, prior_of}
-use Rattle.norec_world.specs.declared.attempt.Outcome.TheVariants as outcomes
-use Rattle.norec_world.specs.declared.attempt.End.TheVariants as ends
+use Rattle.tx_attempts.specs.declared.attempt.Outcome.TheVariants as outcomes
+use Rattle.norec_world.specs.declared.ending.End.TheVariants as ends
 use Rattle.norec_world.proofs.TiedEngines.{limit_same, snapshot_still}
 use Rattle.norec_core.proofs.KeptFields.{IsHanded}
 use Rattle.norec_core.specs.Core.{may_go}

@@ -3,7 +3,7 @@
 use Rattle.itm_types.specs.declared.call.Ran.{Ran}
 use Rattle.std.proofs.Common.{◌≡◌, ℕ, ◌+◌, ◌/◌, Bool, true, false, nat_lt, List, [], ◌∷◌, ◌++◌, append_assoc, Option, None, Some, refl, sym, ap, subst, ◌∙◌, arith, zero, suc}
 use Rattle.norec_world.proofs.Common.{Actor, Attempt, Cells, Continues, EndsAt, Entry, GoesOnAfter, IsBetween, IsFirst, IsSound, NoMemory, Outcome, Prior, Ready, Rows, Rules, Tries, TriesAgain, active_of, begins, between, current_of, ending_in, ending_of, in_transaction, outrun, over, prior_of, runs, shut_out, turned_away, none-some}
-use Rattle.norec_world.specs.declared.attempt.Outcome.TheVariants as outcomes
+use Rattle.tx_attempts.specs.declared.attempt.Outcome.TheVariants as outcomes
 use Rattle.norec_world.proofs.SoundSteps.{rests}
 use Rattle.norec_world.proofs.TryEnds.{stays}
 use Rattle.norec_world.proofs.Taken.{still_going}

@@ -11,8 +11,8 @@ use Rattle.itm_types.specs.declared.call.Refusal.TheVariants.{NoIrrevocable}
 use Rattle.norec_core.specs.Core.{goes, may_go}
 use Rattle.norec_core.specs.Proceeds.{Conflicts, IsBegin, IsLost, IsSettled, WantsClock, blocks_after}
 use Rattle.norec_core.specs.Stands.{state_in}
-use Rattle.norec_world.specs.declared.attempt.Outcome.TheVariants as outcomes
-use Rattle.norec_world.specs.declared.attempt.End.TheVariants as ends
+use Rattle.tx_attempts.specs.declared.attempt.Outcome.TheVariants as outcomes
+use Rattle.norec_world.specs.declared.ending.End.TheVariants as ends
 use Rattle.norec_world.proofs.Taken.{HasAnswered, still_going}
 use Rattle.norec_world.proofs.ActiveRows.{changed_here, opened_here}
 use Rattle.norec_world.proofs.RecordedRows.{row_none, was_open}

@@ -3,7 +3,7 @@ use Rattle.std.proofs.Common.{◌≡◌, ℕ, ◌<◌, ◌≤◌, Bool, true, fa
 use Rattle.norec_world.proofs.Common.{Agrees, Attempt, Beginning, Between, Call, ClosedBy, Core, EndsAs, Entry, IsAlone, IsInTry, IsMemory, IsTryAt, LacksClock, MAX_OPEN_BLOCKS, Obeys, Outcome, Props, ReadsFrom, Replied, Rules, State, after, alone, answers, answers_within, begin_code, bytes_of, in_transaction, is_done, is_open, map-append, opened, pair_of, player_then, reply, stands_for, state_then, takes_clock, turn}
 use Rattle.itm_types.specs.declared.call.Ran.{Ran}
 use Rattle.norec_world.specs.Opacity.{ran_of}
-use Rattle.norec_world.specs.declared.attempt.Outcome.TheVariants as outcomes
+use Rattle.tx_attempts.specs.declared.attempt.Outcome.TheVariants as outcomes
 use Rattle.norec_world.proofs.InTries.{agree_reads, alone_more}
 use Rattle.norec_world.proofs.Solos.{begins_alone, state_snoc, stands_open, gets_none}
 use Rattle.norec_world.proofs.TryEnds.{not_closed}

@@ -6,11 +6,11 @@ use Rattle.norec_core.specs.Core.{in_transaction}
 use Rattle.itm_types.specs.declared.call.Call.{Call}
 use Rattle.norec_core.specs.declared.answer.Next.{Next}
 use Rattle.norec_core.specs.declared.answer.Next.TheVariants.{Step, Answer}
-use Rattle.norec_world.specs.declared.attempt.Attempt.{Attempt}
+use Rattle.tx_attempts.specs.declared.attempt.Attempt.{Attempt}
 use Rattle.norec_world.specs.declared.actor.Actor.{Actor}
 use Rattle.norec_world.specs.declared.actor.Status.{Status}
 use Rattle.norec_world.specs.declared.actor.Status.TheVariants.{Ready, Waits, Ended}
-use Rattle.norec_world.specs.Opacity.{IsBeginningOf}
+use Rattle.tx_attempts.specs.Beginnings.{IsBeginningOf}
 use Rattle.norec_world.specs.Rows.{Rows, active_of}
 
 -- the call in progress is no cancel, and registers nothing

@@ -4,7 +4,7 @@ use Rattle.itm_types.specs.declared.call.Reply.{Reply}
 use Rattle.itm_model.specs.State.{State}
 use Rattle.itm_model.specs.Machine.{after, reply}
 use Rattle.itm_model.specs.Runs.{turn, state_after}
-use Rattle.norec_world.specs.declared.attempt.Entry.{Entry}
+use Rattle.tx_attempts.specs.declared.attempt.Entry.{Entry}
 use Rattle.norec_world.specs.Opacity.{answered_all}
 use Rattle.tx_player.specs.Rules.{Rules}
 

@@ -1,23 +1,10 @@
 -- The commits of a world, as its attempts and its clock count them.
-use Rattle.std.specs.Prelude.{◌≡◌, ℕ, ◌+◌, ◌*◌, ◌/◌, ◌%◌, ◌≤◌, Bool, true, false, nat_lt, List, [], ◌∷◌, Some, slice_get}
-use Rattle.norec_world.specs.declared.attempt.Attempt.{Attempt}
+use Rattle.std.specs.Prelude.{◌≡◌, ℕ, ◌*◌, ◌/◌, ◌%◌, ◌≤◌, true, false, nat_lt, List, Some, slice_get}
+use Rattle.tx_attempts.specs.declared.attempt.Attempt.{Attempt}
 use Rattle.norec_world.specs.declared.actor.Actor.{Actor}
-use Rattle.norec_world.specs.Attempts.{is_committed, is_at}
+use Rattle.tx_attempts.specs.Counts.{one_where, count_at, count_committed}
+use Rattle.norec_world.specs.Rows.{AreEnded}
 use Rattle.norec_world.specs.World.{World}
-
-abbrev pub one_where : Bool → ℕ
-one_where true = 1
-one_where false = 0
-
--- how many committed at this position
-abbrev pub count_at : ℕ → List Attempt → ℕ
-count_at position [] = 0
-count_at position (a ∷ rest) = one_where (is_at position a) + count_at position rest
-
--- how many committed
-abbrev pub count_committed : List Attempt → ℕ
-count_committed [] = 0
-count_committed (a ∷ rest) = one_where (is_committed a.outcome) + count_committed rest
 
 -- as many committed as half the clock says, each position below that once
 pub record AreCounted (clock : ℕ) (attempts : List Attempt) : Type 0 where
@@ -33,6 +20,7 @@ pub record HasLimits {P : Type 0} (w : World P) (a : Actor P) : Type 0 where
 -- the committed attempts, the clock and its holder go together
 pub record CommitsInOrder {P : Type 0} (w : World P) : Type 0 where
   pub counted : AreCounted w.cells.clock w.attempts.ended
+  pub ended : AreEnded w.attempts.ended
   pub few : w.cells.clock ≤ 2 * w.max_commits  -- no more than may
   pub held : w.cells.clock % 2 ≡ 1 → (place : ℕ) × (a : Actor P) × (slice_get w.actors place ≡ Some a) × (a.engine.holds ≡ true)  -- an odd clock is held
   pub free : w.cells.clock % 2 ≡ 0 → (place : ℕ) (a : Actor P) → slice_get w.actors place ≡ Some a → a.engine.holds ≡ false  -- an even one is not

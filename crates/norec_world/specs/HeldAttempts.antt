@@ -10,8 +10,8 @@ use Rattle.norec_core.specs.Core.{Core}
 use Rattle.norec_core.specs.Held.{answers, leaves}
 use Rattle.norec_core.specs.Proceeds.{Got}
 use Rattle.norec_core.specs.Stands.{stands_for}
-use Rattle.norec_world.specs.declared.attempt.Attempt.{Attempt}
-use Rattle.norec_world.specs.Attempts.{alone}
+use Rattle.tx_attempts.specs.declared.attempt.Attempt.{Attempt}
+use Rattle.tx_attempts.specs.Attempts.{alone}
 
 -- Between two calls the words are those of the plain state. While a call waits for a step, they are such that it leaves what it leaves of the plain state, and gets its reply.
 abbrev pub StandsIn : Option Step → Option Call → Core → List ℕ → State → Type 0
@@ -22,6 +22,7 @@ StandsIn (Some step) (Some call) e words s = (leaves e words ≡ after MAX_OPEN_
 -- the attempt's calls alone on this memory lead where the engine and the words stand
 pub record IsHeld (memory words : List ℕ) (row : Attempt) (e : Core) : Type 0 where
   pub still_open : is_open (alone MAX_OPEN_BLOCKS memory row) ≡ true
+  pub mode : (alone MAX_OPEN_BLOCKS memory row).irrevocable ≡ true
   pub ran : row.ran ≡ (alone MAX_OPEN_BLOCKS memory row).actions.ran
   pub stands : StandsIn e.waits e.doing e words (alone MAX_OPEN_BLOCKS memory row)
   pub got : (word value : ℕ) → e.waits ≡ Some (Store (suc word) value) → Got e.got (slice_get words word)  -- what it loaded of the word that it stores next

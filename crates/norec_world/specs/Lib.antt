@@ -1,4 +1,3 @@
-pub mod Attempts
 pub mod Opacity
 pub mod Cells
 pub mod Rows

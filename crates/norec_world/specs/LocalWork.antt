@@ -9,9 +9,9 @@ use Rattle.norec_core.specs.Undoing.{after_undoing}
 use Rattle.itm_types.specs.Calls.{is_abort, is_begin, registered_by}
 use Rattle.user_actions.specs.Actions.{total}
 use Rattle.norec_core.specs.Core.{in_transaction}
-use Rattle.norec_world.specs.declared.attempt.Attempt.{Attempt}
-use Rattle.norec_world.specs.declared.attempt.Outcome.TheVariants as outcomes
-use Rattle.norec_world.specs.declared.attempt.End.TheVariants.{Finished, NoMemory}
+use Rattle.tx_attempts.specs.declared.attempt.Attempt.{Attempt}
+use Rattle.tx_attempts.specs.declared.attempt.Outcome.TheVariants as outcomes
+use Rattle.norec_world.specs.declared.ending.End.TheVariants.{Finished, NoMemory}
 use Rattle.norec_world.specs.declared.actor.Actor.{Actor}
 use Rattle.norec_world.specs.declared.actor.Status.TheVariants.{Ready, Waits, Ended}
 use Rattle.norec_world.specs.Cells.{Cells, found}

@@ -10,20 +10,21 @@ use Rattle.itm_types.specs.declared.call.Reply.TheVariants.{Code}
 use Rattle.itm_model.specs.State.{State}
 use Rattle.itm_model.specs.Machine.{outside, undone, is_open, refusal, reply, after}
 use Rattle.itm_model.specs.Runs.{answers}
-use Rattle.norec_world.specs.declared.attempt.Outcome.{Outcome}
-use Rattle.norec_world.specs.declared.attempt.Outcome.TheVariants.{Committed, ReadOnly, Cancelled, Conflict, Full, NoMemory, Unfinished}
-use Rattle.norec_world.specs.declared.attempt.Attempt.{Attempt}
-use Rattle.norec_world.specs.Attempts.{ClosedBy, alone, pairs_of, replies_of}
+use Rattle.tx_attempts.specs.declared.attempt.Outcome.{Outcome}
+use Rattle.tx_attempts.specs.declared.attempt.Outcome.TheVariants.{Committed, ReadOnly, Cancelled, Conflict, Full, NoMemory, Unfinished}
+use Rattle.tx_attempts.specs.declared.attempt.Attempt.{Attempt}
+use Rattle.tx_attempts.specs.Attempts.{ClosedBy, alone, pairs_of, replies_of}
+use Rattle.tx_attempts.specs.Beginnings.{IsBeginningOf}
 use Rattle.tx_player.specs.Rules.{Rules}
 
--- how an attempt ended, by the plain state after its calls: whether its block has ended, and whether it wrote
+-- how an attempt ended, by the plain state after its calls: whether its block has ended, and whether it wrote; none is given up once it is irrevocable
 abbrev pub EndsAs : Outcome → State → Type 0
 EndsAs Committed s = (is_open s ≡ false) × (s.wrote ≡ true)
 EndsAs ReadOnly s = (is_open s ≡ false) × (s.wrote ≡ false)
 EndsAs Cancelled s = (is_open s ≡ false) × (s.wrote ≡ false)
-EndsAs Conflict s = is_open s ≡ true
-EndsAs Full s = is_open s ≡ true
-EndsAs NoMemory s = is_open s ≡ true
+EndsAs Conflict s = (is_open s ≡ true) × (s.irrevocable ≡ false)
+EndsAs Full s = (is_open s ≡ true) × (s.irrevocable ≡ false)
+EndsAs NoMemory s = (is_open s ≡ true) × (s.irrevocable ≡ false)
 EndsAs Unfinished s = is_open s ≡ true
 
 -- the actions that have run once an attempt ended so, by the plain state after its calls: one that was given up is rolled back
@@ -39,9 +40,6 @@ ran_of Unfinished s = s.actions.ran
 -- the call that leads here takes the clock: it commits what the transaction wrote, or makes it irrevocable
 abbrev pub takes_clock : State → Bool
 takes_clock s = s.irrevocable || (not (is_open s) && s.wrote)
-
-abbrev pub IsBeginningOf : {A : Type 0} → List A → List A → Type 0
-IsBeginningOf {A} xs ys = (rest : List A) × (xs ++ rest ≡ ys)
 
 -- what the outermost begin of a try is answered: entered, or entered again
 abbrev pub begin_code : Bool → Reply

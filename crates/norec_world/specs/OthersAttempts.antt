@@ -1,6 +1,6 @@
 -- One actor's work leaves the others' attempts and room.
 use Rattle.std.specs.Prelude.{◌≡◌, ℕ, ◌+◌, ◌<◌, ◌≤◌, List, [], ◌∷◌, ◌++◌, Option, None, Some}
-use Rattle.norec_world.specs.declared.attempt.Attempt.{Attempt}
+use Rattle.tx_attempts.specs.declared.attempt.Attempt.{Attempt}
 use Rattle.norec_world.specs.declared.actor.Actor.{Actor}
 use Rattle.itm_types.specs.declared.limits.TheConstants.{MAX_ACTORS}
 use Rattle.norec_world.specs.Rows.{Rows, active_of, AreFrom}

@@ -1,7 +1,7 @@
 -- The rows of attempts: those that have ended, and the open ones.
 use Rattle.std.specs.Prelude.{◌≡◌, ℕ, ◌+◌, ◌-◌, ◌<◌, ◌≤◌, ◌==◌, Bool, nat_lt, if◌then◌else◌, List, [], ◌∷◌, ◌++◌, take, drop, find, Option, vec_len, vec_capacity}
-use Rattle.norec_world.specs.declared.attempt.Attempt.{Attempt}
-use Rattle.norec_world.specs.declared.attempt.Outcome.TheVariants.{Unfinished}
+use Rattle.tx_attempts.specs.declared.attempt.Attempt.{Attempt}
+use Rattle.tx_attempts.specs.declared.attempt.Outcome.TheVariants.{Unfinished}
 use Rattle.norec_world.specs.declared.recorded.Recorded.TheInside.{Inside}
 
 pub record Rows : Type 0 where
@@ -60,6 +60,11 @@ AreFrom thread (a ∷ rest) = (thread ≤ a.thread) × AreFrom (a.thread + 1) re
 abbrev pub AreUnfinished : List Attempt → Type 0
 AreUnfinished [] = Unit {0}
 AreUnfinished (a ∷ rest) = (a.outcome ≡ Unfinished) × AreUnfinished rest
+
+-- each of them has ended
+abbrev pub AreEnded : List Attempt → Type 0
+AreEnded [] = Unit {0}
+AreEnded (a ∷ rest) = (a.outcome ≡ Unfinished → ⊥) × AreEnded rest
 
 -- open attempts: at most one of each actor, by actor
 pub record AreOpen (active : List Attempt) : Type 0 where

@@ -7,10 +7,10 @@ use Rattle.itm_types.specs.declared.call.Call.{Call}
 use Rattle.itm_model.specs.Machine.{opened, outside, reply, after}
 use Rattle.norec_core.specs.Core.{Core, in_transaction, may_go}
 use Rattle.norec_core.specs.Stands.{stands_for}
-use Rattle.norec_world.specs.declared.attempt.Attempt.{Attempt}
-use Rattle.norec_world.specs.declared.attempt.End.TheVariants.{GaveUp, NoMemory}
+use Rattle.tx_attempts.specs.declared.attempt.Attempt.{Attempt}
+use Rattle.norec_world.specs.declared.ending.End.TheVariants.{GaveUp, NoMemory}
 use Rattle.norec_world.specs.declared.actor.Actor.{Actor}
-use Rattle.norec_world.specs.Attempts.{of_thread}
+use Rattle.tx_attempts.specs.Attempts.{of_thread}
 use Rattle.norec_world.specs.Alone.{state_then, player_then, IsAlone}
 use Rattle.norec_world.specs.Opacity.{Beginning, Between, begin_code, begin_of, after_try, stays_outside, IsRunOf}
 use Rattle.norec_world.specs.Cells.{Cells}

@@ -1,13 +1,13 @@
 -- The attempts of an actor that has its world to itself, between two events. No contract above cites it.
 use Rattle.std.specs.Prelude.{◌≡◌, ◌⊎◌, ℕ, ◌+◌, ◌≤◌, ◌/◌, true, false, List, [], ◌∷◌, ◌++◌, Option, None, Some}
 use Rattle.norec_core.specs.Core.{Core}
-use Rattle.norec_world.specs.declared.attempt.Attempt.{Attempt}
-use Rattle.norec_world.specs.declared.attempt.Outcome.{Outcome}
-use Rattle.norec_world.specs.declared.attempt.Outcome.TheVariants as outcomes
-use Rattle.norec_world.specs.declared.attempt.End.{End}
-use Rattle.norec_world.specs.declared.attempt.End.TheVariants.{Finished, GaveUp, NoMemory}
+use Rattle.tx_attempts.specs.declared.attempt.Attempt.{Attempt}
+use Rattle.tx_attempts.specs.declared.attempt.Outcome.{Outcome}
+use Rattle.tx_attempts.specs.declared.attempt.Outcome.TheVariants as outcomes
+use Rattle.norec_world.specs.declared.ending.End.{End}
+use Rattle.norec_world.specs.declared.ending.End.TheVariants.{Finished, GaveUp, NoMemory}
 use Rattle.norec_world.specs.declared.actor.Actor.{Actor}
-use Rattle.norec_world.specs.Attempts.{is_committed, of_thread}
+use Rattle.tx_attempts.specs.Attempts.{is_committed, of_thread}
 use Rattle.norec_world.specs.Memories.{bytes_at}
 use Rattle.norec_world.specs.Opacity.{Beginning, Between}
 use Rattle.norec_world.specs.Runs.{begins_at, run_after}

@@ -1,16 +1,16 @@
 -- What an event, or the local work of an actor, does to the try that the actor makes of its block.
 use Rattle.std.specs.Prelude.{◌≡◌, ℕ, ◌+◌, ◌*◌, ◌/◌, ◌%◌, ◌<◌, ◌≤◌, Bool, true, false, nat_lt, List, [], ◌∷◌, ◌++◌, Option, None, Some}
 use Rattle.norec_core.specs.Core.{may_go}
-use Rattle.norec_world.specs.declared.attempt.Attempt.{Attempt}
+use Rattle.tx_attempts.specs.declared.attempt.Attempt.{Attempt}
 use Rattle.itm_types.specs.declared.call.Ran.{Ran}
-use Rattle.norec_world.specs.declared.attempt.Entry.{Entry}
-use Rattle.norec_world.specs.declared.attempt.Outcome.{Outcome}
-use Rattle.norec_world.specs.declared.attempt.Outcome.TheVariants.{Committed, ReadOnly, Cancelled, Conflict, Full, NoMemory, Unfinished}
-use Rattle.norec_world.specs.declared.attempt.End.{End}
-use Rattle.norec_world.specs.declared.attempt.End.TheVariants as ends
+use Rattle.tx_attempts.specs.declared.attempt.Entry.{Entry}
+use Rattle.tx_attempts.specs.declared.attempt.Outcome.{Outcome}
+use Rattle.tx_attempts.specs.declared.attempt.Outcome.TheVariants.{Committed, ReadOnly, Cancelled, Conflict, Full, NoMemory, Unfinished}
+use Rattle.norec_world.specs.declared.ending.End.{End}
+use Rattle.norec_world.specs.declared.ending.End.TheVariants as ends
 use Rattle.norec_world.specs.declared.actor.Actor.{Actor}
 use Rattle.norec_world.specs.declared.actor.Status.TheVariants.{Ended}
-use Rattle.norec_world.specs.Attempts.{ClosedBy}
+use Rattle.tx_attempts.specs.Attempts.{ClosedBy}
 use Rattle.norec_world.specs.Rows.{Rows, active_of}
 use Rattle.norec_world.specs.Status.{ending_of}
 

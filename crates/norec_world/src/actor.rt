@@ -2,7 +2,7 @@
 
 ghost use Rattle.norec_core.specs.Core.{in_transaction};
 
-use crate::attempt::{Attempt, End, Entry};
+use crate::ending::End;
 use crate::memory::Memory;
 use crate::recorded::Recorded;
 use itm_types::{Call, Ran, Step};
@@ -10,6 +10,7 @@ use norec_core::Next;
 use norec_engine::Engine;
 use std::alloc::Global;
 use std::mem;
+use tx_attempts::{Attempt, Entry};
 use tx_player::Player;
 
 /// What an actor does next.

@@ -2,9 +2,8 @@
 #![tactic(auto)]
 
 mod actor;
-mod attempt;
+mod ending;
 mod fault;
-mod lists;
 mod memory;
 mod recorded;
 mod schedule;
@@ -15,9 +14,9 @@ mod tests;
 mod work;
 mod world;
 
-pub use attempt::{Attempt, End, Entry, Outcome};
+pub use ending::End;
 pub use fault::WorldFault;
-pub use lists::{Bytes, Calls, RanActions};
 pub use schedule::Passes;
 pub use setup::Setup;
+pub use tx_attempts::{Attempt, Bytes, Calls, Entry, Outcome, RanActions};
 pub use world::World;

@@ -1,15 +1,15 @@
 //! The attempts so far.
 
 ghost use Rattle.std.specs.Prelude.{◌≡◌, ◌==◌, ◌+◌, ◌-◌, ◌<◌, ◌≤◌, ◌++◌, ◌∷◌, [], List, length, position, insert, nat_lt, Some, None, is_some, IfSome, IfOk, OnErr, vec_len, vec_capacity};
-ghost use Rattle.norec_world.specs.declared.attempt.Attempt.{Attempt};
-ghost use Rattle.norec_world.specs.Opacity.{IsBeginningOf};
+ghost use Rattle.tx_attempts.specs.declared.attempt.Attempt.{Attempt};
+ghost use Rattle.tx_attempts.specs.Beginnings.{IsBeginningOf};
 ghost use Rattle.norec_world.specs.Records.{StopsAt};
 ghost use Rattle.norec_world.specs.Rows.{Rows, AreFrom, all_of, active_of, is_of, with_changed, with_opened, with_ended};
 
-use crate::attempt::{Attempt, Entry, Outcome};
 use itm_types::Ran;
 use std::alloc::{AllocError, Global};
 use std::marker::Model;
+use tx_attempts::{Attempt, Entry, Outcome};
 
 /// The attempts that have ended, in the order in which they did, and then the open ones by actor.
 #[derive(Drop)]

@@ -1,7 +1,7 @@
 //! What a world begins with.
 
-use crate::lists::Bytes;
 use itm_types::Limits;
+use tx_attempts::Bytes;
 
 /// What a world begins with, beside its players.
 #[derive(Debug, Drop)]

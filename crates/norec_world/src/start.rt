@@ -16,7 +16,7 @@ ghost use Rattle.norec_world.specs.Opaque.{first_of};
 ghost use Rattle.norec_world.specs.declared.actor.Actor.{Actor};
 
 use crate::actor::Actor;
-use crate::attempt::End;
+use crate::ending::End;
 use crate::memory::Memory;
 use crate::recorded::Recorded;
 use itm_types::{Limits, MAX_ACTORS, MAX_WORDS};

@@ -1,18 +1,18 @@
 //! The local work of an actor: what it does between two operations.
 
 ghost use Rattle.std.specs.Prelude.{◌≡◌, ◌⊎◌, ◌^◌, ◌+◌, ◌/◌, ◌<◌, ◌≤◌, ◌++◌, ◌∷◌, ℕ, Bool, true, false, [], if◌then◌else◌, Some, None, IfOk, OnOk, OnErr, is_some, length, unwrap_or, vec_capacity};
-ghost use Rattle.norec_world.specs.declared.attempt.Attempt.{Attempt};
+ghost use Rattle.tx_attempts.specs.declared.attempt.Attempt.{Attempt};
 ghost use Rattle.itm_types.specs.Calls.{is_abort, registered_by};
 ghost use Rattle.norec_core.specs.Core.{in_transaction};
 
 use crate::actor::{Actor, Status};
-use crate::attempt::{Attempt, End, Entry, Outcome};
-use crate::lists::{Bytes, Calls, RanActions};
+use crate::ending::End;
 use crate::memory::Memory;
 use crate::recorded::Recorded;
 use itm_types::{Call, MAX_ACTORS, MAX_RETRIES, Props, Ran, Reply};
 use norec_core::{Answer, Next, Undone};
 use std::alloc::{AllocError, Global};
+use tx_attempts::{Attempt, Bytes, Calls, Entry, Outcome, RanActions};
 use tx_player::Player;
 
 impl<P: Player> Actor<P> {

@@ -4,9 +4,8 @@ ghost use Rattle.std.specs.Prelude.{◌≡◌, ℕ, ◌%◌, ◌<◌, ◌≤◌,
 ghost use Rattle.norec_world.specs.World.{told};
 
 use crate::actor::Actor;
-use crate::attempt::{Attempt, End};
+use crate::ending::End;
 use crate::fault::WorldFault;
-use crate::lists::Bytes;
 use crate::memory::Memory;
 use crate::recorded::Recorded;
 use crate::setup::Setup;
@@ -14,6 +13,7 @@ use crate::start::{Terms, start_all};
 use itm_types::{MAX_ACTORS, MAX_ARENA, MAX_COMMITS, MAX_MEMORY, MAX_PATIENCE, MAX_RETRIES, Step};
 use std::alloc::{AllocError, Global};
 use std::marker::Model;
+use tx_attempts::{Attempt, Bytes};
 use tx_player::Player;
 
 /// Actors over one memory, each with a player and an engine. They take events one at a time: an actor's next load,

@@ -9,10 +9,10 @@ use Rattle.norec_core.specs.declared.answer.Answer.{Answer}
 use Rattle.norec_core.specs.declared.answer.Answer.TheVariants.{Reply, Committed, Conflict, Busy, Full}
 use Rattle.norec_core.specs.declared.answer.Next.{Next}
 use Rattle.norec_core.specs.declared.answer.Next.TheVariants.{Step as Steps, Answer as Answers}
-use Rattle.norec_world.specs.declared.attempt.Attempt.{Attempt}
-use Rattle.norec_world.specs.declared.attempt.Outcome.{Outcome}
-use Rattle.norec_world.specs.declared.attempt.Outcome.TheVariants as outcomes
-use Rattle.norec_world.specs.declared.attempt.End.TheVariants.{GaveUp}
+use Rattle.tx_attempts.specs.declared.attempt.Attempt.{Attempt}
+use Rattle.tx_attempts.specs.declared.attempt.Outcome.{Outcome}
+use Rattle.tx_attempts.specs.declared.attempt.Outcome.TheVariants as outcomes
+use Rattle.norec_world.specs.declared.ending.End.TheVariants.{GaveUp}
 use Rattle.norec_world.specs.declared.actor.Actor.{Actor}
 use Rattle.norec_world.specs.declared.actor.Status.{Status}
 use Rattle.norec_world.specs.declared.actor.Status.TheVariants.{Ready, Ended}

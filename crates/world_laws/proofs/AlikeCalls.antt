@@ -10,7 +10,7 @@ use Rattle.norec_core.specs.Stands.{SeesOne}
 use Rattle.norec_core.specs.Moves.{IsCalled, IsResumed}
 use Rattle.norec_core.specs.declared.answer.Next.TheVariants.{Step as Steps}
 use Rattle.norec_core.proofs.OneOutcome.{called_once, resumed_once, sees_still}
-use Rattle.norec_world.specs.declared.attempt.Outcome.TheVariants as outcomes
+use Rattle.tx_attempts.specs.declared.attempt.Outcome.TheVariants as outcomes
 use Rattle.norec_world.specs.LocalWork.{TakesIn, Calls}
 use Rattle.world_laws.specs.Alike.{SameRows, SameParts}
 use Rattle.world_laws.proofs.AlikeAnswers.{told_same, told_alike, Counts, IsGroundedNext}

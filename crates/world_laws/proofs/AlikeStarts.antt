@@ -2,7 +2,7 @@
 use Rattle.std.proofs.Common.{◌≡◌, ℕ, zero, suc, ◌/◌, Bool, true, false, List, [], ◌∷◌, ◌++◌, length, replicate, Some, slice_get, refl, sym, ap, subst, ◌∙◌, arith}
 use Rattle.norec_world.proofs.Common.{Acts, Answer, Answers, Busy, Committed, Conflict, Core, Ends, Full, IsAtOnce, Next, Opens, Proceeds, Records, Reply, Rows, Rules, SameOpening, Tells, World, begins_again, came, ending_of, in_transaction, option_and_then, words_of}
 use Rattle.norec_world.specs.declared.actor.Actor.{Actor}
-use Rattle.norec_world.specs.declared.attempt.Attempt.{Attempt}
+use Rattle.tx_attempts.specs.declared.attempt.Attempt.{Attempt}
 use Rattle.world_laws.specs.Alike.{AreAlike, HasAttempt}
 use Rattle.norec_core.specs.Core.{opening}
 use Rattle.norec_core.specs.declared.answer.Next.TheVariants.{Step as Steps}

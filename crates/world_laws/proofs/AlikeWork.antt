@@ -4,8 +4,8 @@ use Rattle.std.proofs.lemmas.Bool.{cases_lt}
 use Rattle.norec_world.proofs.Common.{Acts, Cells, IsEvent, Rows, Rules, active_of, ending_of, in_transaction, is_ready}
 use Rattle.norec_world.specs.declared.actor.Actor.{Actor}
 use Rattle.norec_world.specs.declared.actor.Status.TheVariants.{Ended, Ready}
-use Rattle.norec_world.specs.declared.attempt.Attempt.{Attempt}
-use Rattle.norec_world.specs.declared.attempt.End.TheVariants.{Finished, NoMemory}
+use Rattle.tx_attempts.specs.declared.attempt.Attempt.{Attempt}
+use Rattle.norec_world.specs.declared.ending.End.TheVariants.{Finished, NoMemory}
 use Rattle.world_laws.specs.Alike.{AreAlike, HasAttempt}
 use Rattle.norec_core.specs.Stands.{SeesOne}
 use Rattle.norec_world.specs.LocalWork.{Finishes, calls, finishes, starves, ActsOn, Works}

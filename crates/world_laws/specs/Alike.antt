@@ -3,7 +3,7 @@ use Rattle.std.specs.Prelude.{◌≡◌, true, false, None, Some}
 use Rattle.itm_types.specs.declared.call.Call.{Call}
 use Rattle.itm_types.specs.declared.step.Step.{Step}
 use Rattle.norec_core.specs.Core.{in_transaction}
-use Rattle.norec_world.specs.declared.attempt.Attempt.{Attempt}
+use Rattle.tx_attempts.specs.declared.attempt.Attempt.{Attempt}
 use Rattle.norec_world.specs.declared.actor.Actor.{Actor}
 use Rattle.norec_world.specs.declared.actor.Status.TheVariants.{Waits}
 use Rattle.norec_world.specs.Rows.{Rows, active_of}

@@ -1,7 +1,7 @@
 use Rattle.std.proofs.Common.{◌≡◌, ◌⊎◌, inl, inr, List, [], ◌∷◌, ◌++◌, refl, sym, ◌∙◌}
 use Rattle.itm_types.specs.declared.limits.TheConstants.{MAX_OPEN_BLOCKS}
 use Rattle.itm_model.specs.Runs.{answers}
-use Rattle.norec_world.specs.Opacity.{IsBeginningOf}
+use Rattle.tx_attempts.specs.Beginnings.{IsBeginningOf}
 use Rattle.world_laws.proofs.isolation.Goals as goal
 
 -- of two beginnings of one list the one is a beginning of the other

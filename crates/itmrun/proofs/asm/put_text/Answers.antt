@@ -1,5 +1,5 @@
 use Rattle.std.proofs.Common.{append-nil}
-use Rattle.itmrun.proofs.AppendedTexts.{grows_as, grows_end}
+use Rattle.tx_history.proofs.AppendedTexts.{grows_as, grows_end}
 use Rattle.itmrun.proofs.asm.put_text.Goals as goal
 
 pub returns-clause-grows : goal.returns-clause-grows

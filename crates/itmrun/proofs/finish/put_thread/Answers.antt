@@ -1,6 +1,6 @@
 use Rattle.std.proofs.Common.{append_assoc, append-nil}
 use Rattle.itmrun.specs.Answers.{thread_line}
-use Rattle.itmrun.proofs.TextPieces.{put_as}
+use Rattle.tx_history.proofs.TextPieces.{put_as}
 use Rattle.itmrun.proofs.finish.put_thread.Goals as goal
 
 pub returns : goal.returns

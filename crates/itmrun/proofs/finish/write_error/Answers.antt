@@ -1,7 +1,7 @@
 use Rattle.std.proofs.Common.{◌≡◌, append_assoc}
 use Rattle.script_fields.specs.Faults.{kind_text}
 use Rattle.itmrun.specs.Answers.{error_text}
-use Rattle.itmrun.proofs.TextPieces.{put_as}
+use Rattle.tx_history.proofs.TextPieces.{put_as}
 use Rattle.itmrun.proofs.finish.write_error.Goals as goal
 
 pub returns-in-Ran : goal.returns-in-Ran

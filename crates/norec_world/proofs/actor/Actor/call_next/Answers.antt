@@ -1,7 +1,7 @@
 use Rattle.norec_world.specs.ActionRoom.{MayRunOn}
 use Rattle.std.proofs.Common.{◌≡◌, ◌/◌, ℕ, true, refl, sym, ap, subst, ◌∙◌}
 use Rattle.norec_world.proofs.Common.{Core, IsTied, Rows, Starves, StatusIs, StopsAt, Waits, after_undoing, in_transaction}
-use Rattle.norec_world.specs.declared.attempt.Outcome.TheVariants as outcomes
+use Rattle.tx_attempts.specs.declared.attempt.Outcome.TheVariants as outcomes
 use Rattle.norec_world.proofs.OthersAttempts.{others_twice}
 use Rattle.norec_world.proofs.SoundSteps.{call_falls, call_taken, calling, rests}
 use Rattle.norec_world.proofs.TiedEngines.{idle_still}

@@ -1,5 +1,5 @@
 use Rattle.itm_types.specs.declared.call.Ran.{Ran}
-use Rattle.norec_world.specs.declared.attempt.Outcome.TheVariants as outcomes
+use Rattle.tx_attempts.specs.declared.attempt.Outcome.TheVariants as outcomes
 use Rattle.std.proofs.Common.{List, if◌then◌else◌, ◌≡◌, Bool, true, length, refl, sym, ap, subst, ◌∙◌, ◌++◌, ◌∷◌, []}
 use Rattle.norec_world.proofs.Common.{Actor, Committed, Done, HasRow, IsAnswered, IsSettledBy, Outcome, depth_after, with_ended}
 use Rattle.norec_world.proofs.OthersAttempts.{others_ended}

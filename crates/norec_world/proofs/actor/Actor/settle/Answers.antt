@@ -2,7 +2,7 @@ use Rattle.norec_world.proofs.OthersAttempts.{others_stopped, retried_counts, re
 use Rattle.norec_world.specs.Sound.{IsDeep}
 use Rattle.std.proofs.Common.{◌≡◌, ◌/◌, length, ap, ◌∙◌, refl, sym, subst, Bool, true, false, None, [], is_some}
 use Rattle.norec_world.proofs.Common.{Actor, AnswerFits, Attempt, Busy, Conflict, Ended, Full, GaveUp, HasRow, IsSettledBy, Records, StopsIf, in_transaction, whole}
-use Rattle.norec_world.specs.declared.attempt.Outcome.TheVariants as outcomes
+use Rattle.tx_attempts.specs.declared.attempt.Outcome.TheVariants as outcomes
 use Rattle.norec_world.proofs.PlayerLaws.{after_try, ends_inside, ends_outside, settled_as}
 use Rattle.norec_world.proofs.actor.Actor.settle.Goals.{then-is_none, else-is_none, then-is_none-2, else-is_none-2}
 use Rattle.norec_world.proofs.actor.Actor.settle.Goals as goal

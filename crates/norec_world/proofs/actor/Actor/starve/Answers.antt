@@ -1,7 +1,7 @@
 use Rattle.std.proofs.Common.{◌≡◌, ◌++◌, ◌/◌, List, length, sym, ap, subst, ◌∙◌, arith, rules}
 use Rattle.itm_types.specs.declared.call.Ran.{Ran}
 use Rattle.norec_world.proofs.Common.{IsTied, in_transaction}
-use Rattle.norec_world.specs.declared.attempt.Outcome.TheVariants.{NoMemory}
+use Rattle.tx_attempts.specs.declared.attempt.Outcome.TheVariants.{NoMemory}
 use Rattle.norec_world.proofs.LaterActions.{given_up_free, given_up_later, given_up_most}
 use Rattle.norec_world.proofs.OthersAttempts.{others_starved}
 use Rattle.norec_world.proofs.TiedEngines.{tied_undone}

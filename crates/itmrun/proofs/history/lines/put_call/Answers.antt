@@ -1,8 +1,0 @@
-use Rattle.itmrun.specs.Histories.{call_line}
-use Rattle.itmrun.proofs.AppendedTexts.{grows_then}
-use Rattle.itmrun.proofs.history.lines.put_call.Goals as goal
-
-pub returns-clause-grows : goal.returns-clause-grows
-unfolding call_line
-returns-clause-grows g c =
-    grows_then _ _ _ _ _ _ _ _ (grows_then _ _ _ _ _ _ _ _ (grows_then _ _ _ _ _ _ _ _ (grows_then _ _ _ _ _ _ _ _ c.put.ensures.grows c.put_body.ensures.grows) c.put-2.ensures.grows) c.put_reply.ensures.grows) c.put-3.ensures.grows

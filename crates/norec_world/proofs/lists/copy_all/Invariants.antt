@@ -1,8 +1,0 @@
-use Rattle.std.proofs.Common.{◌≡◌, ◌++◌, take, vec_capacity}
-use Rattle.norec_world.proofs.lists.copy_all.Given as goal
-
-abbrev pub invariant-loop-action : goal.invariant-loop-action
-invariant-loop-action l = record {
-  ran : l.ran.items ≡ l.fn.ran.items ++ take l.action-index l.more;
-  capacity : vec_capacity l.ran ≡ vec_capacity l.fn.ran;
-}

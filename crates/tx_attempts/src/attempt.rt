@@ -1,0 +1,52 @@
+//! What the tries of transactions did.
+
+use crate::lists::{Bytes, Calls, RanActions};
+use itm_types::{Call, Props, Reply};
+
+/// How an attempt stands.
+#[derive(Clone, Copy, Debug, PartialEq, Eq)]
+pub enum Outcome {
+    /// It wrote and committed, at its position.
+    Committed,
+    /// It committed and wrote nothing.
+    ReadOnly,
+    /// Its block was cancelled.
+    Cancelled,
+    /// A logged word had changed, or no validation round was left.
+    Conflict,
+    /// As many writers as may be had committed.
+    Full,
+    /// Memory was refused to it.
+    NoMemory,
+    /// It has not ended.
+    Unfinished,
+}
+
+/// A call with its reply.
+#[derive(Debug, Drop, PartialEq, Eq)]
+pub struct Entry {
+    pub call: Call,
+    pub reply: Reply,
+}
+
+/// One try of an outermost block, from its accepted begin on.
+#[derive(Debug, Drop)]
+pub struct Attempt {
+    /// The actor.
+    pub thread: u8,
+    /// Which try of its block it is, counted from 1, those that never got past the begin too.
+    pub nth: u32,
+    /// How many writers had committed when its begin was called.
+    pub began: u64,
+    /// Half the snapshot: it saw the memory that so many first commits leave.
+    pub at: u64,
+    /// The properties of the block.
+    pub props: Props,
+    /// The actor's arena at the begin.
+    pub arena: Bytes,
+    /// The calls that have a reply, after the begin.
+    pub calls: Calls,
+    /// The actions that have run, in order: undo actions of what was rolled back, and commit actions once it has committed.
+    pub ran: RanActions,
+    pub outcome: Outcome,
+}

@@ -1,0 +1,8 @@
+//! What the tries of transactions did: the records of which histories are made.
+#![tactic(auto)]
+
+mod attempt;
+mod lists;
+
+pub use attempt::{Attempt, Entry, Outcome};
+pub use lists::{Attempts, Bytes, Calls, RanActions};

@@ -1,0 +1,220 @@
+//! Lists that contracts compare by what stands in them.
+
+ghost use Rattle.std.specs.Prelude.{◌≡◌, ◌<◌, ◌≤◌, ◌+◌, ◌∷◌, [], ◌++◌, length, vec_capacity, IfOk, OnErr};
+ghost use Rattle.tx_attempts.specs.Beginnings.{IsBeginningOf};
+
+use crate::attempt::{Attempt, Entry};
+use itm_types::Ran;
+use std::alloc::{AllocError, Global};
+use std::marker::Model;
+use std::mem;
+
+/// Bytes, in order.
+#[derive(Debug, Drop)]
+pub struct Bytes {
+    items: Vec<u8>,
+}
+
+impl Model for Bytes {
+    ghost use Rattle.std.specs.Prelude.{List, ℕ};
+
+    ghost Value = { List ℕ };
+
+    ghost view = { λ b. b.items.items };
+}
+
+impl Bytes {
+    /// These bytes. Takes no memory.
+    pub fn new(items: Vec<u8>) -> Self
+        ensures { result ≡ items.items }
+    {
+        Bytes { items }
+    }
+
+    pub fn as_slice(&self) -> &[u8]
+        ensures { result.now ≡ self.now }
+    {
+        &self.items
+    }
+
+    /// The bytes, given back. Takes no memory.
+    pub fn into_vec(self) -> Vec<u8>
+        ensures { result.items ≡ self }
+    {
+        self.items
+    }
+}
+
+/// Calls with their replies, in order.
+#[derive(Debug, Drop)]
+pub struct Calls {
+    items: Vec<Entry>,
+}
+
+impl Model for Calls {
+    ghost use Rattle.std.specs.Prelude.{List};
+    ghost use Rattle.tx_attempts.specs.declared.attempt.Entry.{Entry};
+
+    ghost Value = { List Entry };
+
+    ghost view = { λ c. c.items.items };
+}
+
+impl Calls {
+    /// No calls. Takes no memory.
+    pub fn new(alloc: Global) -> Self
+        ensures { result ≡ [] }
+    {
+        Calls {
+            items: Vec::new(alloc),
+        }
+    }
+
+    /// These calls. Takes no memory.
+    pub fn from_vec(items: Vec<Entry>) -> Self
+        ensures { result ≡ items.items }
+    {
+        Calls { items }
+    }
+
+    /// No calls, with room for so many.
+    pub fn with_room(alloc: Global, room: usize) -> Result<Self, AllocError>
+        ensures none { IfOk result (λ calls. calls ≡ []) }
+        ensures short { OnErr result (0 < room) }
+    {
+        let mut items = Vec::new(alloc);
+        items.reserve(room)?;
+        Ok(Calls { items })
+    }
+
+    /// Makes room for so many more.
+    pub fn reserve(&mut self, more: usize) -> Result<(), AllocError>
+        ensures same { self.new ≡ self.old }
+        ensures short { OnErr result (0 < more) }
+    {
+        self.items.reserve(more)?;
+        Ok(())
+    }
+
+    pub fn as_slice(&self) -> &[Entry]
+        ensures { result.now ≡ self.now }
+    {
+        &self.items
+    }
+
+    /// One more. Contracts see calls as a list, so the room for it is told of `spare`, to which the calls move over
+    /// where their own room is used up.
+    pub fn push(&mut self, spare: &mut Vec<Entry>, entry: Entry)
+        requires empty { spare.old.items ≡ [] }
+        requires room { length self.old < vec_capacity spare.old }
+        ensures added { self.new ≡ self.old ++ entry ∷ [] }
+        ensures empty { spare.new.items ≡ [] }
+    {
+        if self.items.len() == self.items.capacity() {
+            let _ = spare.append(&mut self.items);
+            mem::swap(spare, &mut self.items);
+        }
+        self.items.push_reserved(entry);
+    }
+}
+
+/// Attempts, in order.
+#[derive(Debug, Drop)]
+pub struct Attempts {
+    items: Vec<Attempt>,
+}
+
+impl Model for Attempts {
+    ghost use Rattle.std.specs.Prelude.{List};
+    ghost use Rattle.tx_attempts.specs.declared.attempt.Attempt.{Attempt};
+
+    ghost Value = { List Attempt };
+
+    ghost view = { λ a. a.items.items };
+}
+
+impl Attempts {
+    /// These attempts. Takes no memory.
+    pub fn new(items: Vec<Attempt>) -> Self
+        ensures { result ≡ items.items }
+    {
+        Attempts { items }
+    }
+
+    pub fn as_slice(&self) -> &[Attempt]
+        ensures { result.now ≡ self.now }
+    {
+        &self.items
+    }
+
+    /// The attempts, given back. Takes no memory.
+    pub fn into_vec(self) -> Vec<Attempt>
+        ensures { result.items ≡ self }
+    {
+        self.items
+    }
+}
+
+/// Actions that have run, in order.
+#[derive(Debug, Drop)]
+pub struct RanActions {
+    items: Vec<Ran>,
+}
+
+impl Model for RanActions {
+    ghost use Rattle.std.specs.Prelude.{List};
+    ghost use Rattle.itm_types.specs.declared.call.Ran.{Ran};
+
+    ghost Value = { List Ran };
+
+    ghost view = { λ r. r.items.items };
+}
+
+impl RanActions {
+    /// No actions. Takes no memory.
+    pub fn new(alloc: Global) -> Self
+        ensures { result ≡ [] }
+    {
+        RanActions {
+            items: Vec::new(alloc),
+        }
+    }
+
+    /// These actions. Takes no memory.
+    pub fn from_vec(items: Vec<Ran>) -> Self
+        ensures { result ≡ items.items }
+    {
+        RanActions { items }
+    }
+
+    pub fn as_slice(&self) -> &[Ran]
+        ensures { result.now ≡ self.now }
+    {
+        &self.items
+    }
+
+    /// All of these, of which the first ones are there already. There is room for them in `spare`, to which they move.
+    pub fn grow(&mut self, spare: &mut Vec<Ran>, all: &[Ran])
+        requires first { IsBeginningOf self.old all.now }
+        requires empty { spare.old.items ≡ [] }
+        requires room { length self.old < length all.now → length all.now ≤ vec_capacity spare.old }
+        ensures all { self.new ≡ all.now }
+        ensures empty { spare.new.items ≡ [] }
+    {
+        if self.items.len() < all.len() {
+            copy_all(spare, all);
+            mem::swap(spare, &mut self.items);
+            spare.clear();
+        }
+    }
+}
+
+/// Puts copies of these behind what is there.
+fn copy_all(ran: &mut Vec<Ran>, more: &[Ran])
+    requires room { length ran.old.items + length more.now ≤ vec_capacity ran.old }
+    ensures { ran.new.items ≡ ran.old.items ++ more.now }
+{
+    for action in more {
+        ran.push_reserved(*action);
+    }
+}

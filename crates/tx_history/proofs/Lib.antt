@@ -1,0 +1,3 @@
+pub mod TextPieces
+pub mod AppendedTexts
+pub mod WorkedLines

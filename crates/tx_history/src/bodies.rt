@@ -1,0 +1,168 @@
+//! What was called, and what was answered.
+
+ghost use Rattle.std.specs.Prelude.{◌≡◌};
+ghost use Rattle.tx_history.specs.Spelling.{Grows};
+ghost use Rattle.tx_history.specs.Histories.{copy_text, fill_text, commit_action_text, undo_action_text, body_text, reply_text};
+
+use crate::pieces::Piece;
+use crate::stream::Stream;
+use itm_types::{Action, Call, Copying, Entry as Function, Reply, WriteHint, name_of};
+use script_fields::{props_text, scope_text};
+use std::io::Write;
+
+/// A copy: where it writes, where it reads, and how many bytes.
+#[tactic(auto, unfolding(crate::specs::Histories::copy_text), using(crate::proofs::AppendedTexts::grows_as))]
+fn put_copy<W: Write>(stream: &mut Stream<'_, W>, copying: Copying)
+    ensures same { stream.new.writer.ghost_name ≡ stream.old.writer.ghost_name }
+    ensures grows { Grows stream.old.failed (W.contents stream.old.writer.now) stream.new.failed
+        (W.contents stream.new.writer.now) (copy_text copying) }
+{
+    let function = Function::Copy {
+        moves: copying.moves,
+        pair: copying.pair,
+    };
+    stream.put(&[
+        Piece::Text(name_of(function).as_bytes()),
+        Piece::Text(b" "),
+        Piece::Number(copying.to),
+        Piece::Text(b" "),
+        Piece::Number(copying.from),
+        Piece::Text(b" "),
+        Piece::Number(copying.size),
+    ]);
+}
+
+/// A fill: where it writes, the byte that it sets, and how many.
+#[tactic(auto, unfolding(crate::specs::Histories::fill_text), using(crate::proofs::AppendedTexts::grows_as))]
+fn put_fill<W: Write>(stream: &mut Stream<'_, W>, hint: WriteHint, to: u64, byte: u64, size: u64)
+    ensures same { stream.new.writer.ghost_name ≡ stream.old.writer.ghost_name }
+    ensures grows { Grows stream.old.failed (W.contents stream.old.writer.now) stream.new.failed
+        (W.contents stream.new.writer.now) (fill_text hint to byte size) }
+{
+    stream.put(&[
+        Piece::Text(name_of(Function::Fill(hint)).as_bytes()),
+        Piece::Text(b" "),
+        Piece::Number(to),
+        Piece::Text(b" "),
+        Piece::Number(byte % 256),
+        Piece::Text(b" "),
+        Piece::Number(size),
+    ]);
+}
+
+/// An action that runs once the transaction has committed.
+#[tactic(auto, unfolding(crate::specs::Histories::commit_action_text), using(crate::proofs::AppendedTexts::grows_as))]
+fn put_commit_action<W: Write>(stream: &mut Stream<'_, W>, action: Action)
+    ensures same { stream.new.writer.ghost_name ≡ stream.old.writer.ghost_name }
+    ensures grows { Grows stream.old.failed (W.contents stream.old.writer.now) stream.new.failed
+        (W.contents stream.new.writer.now) (commit_action_text action) }
+{
+    stream.put(&[
+        Piece::Text(b"_ITM_addUserCommitAction "),
+        Piece::Number(u64::from(action.fun)),
+        Piece::Text(b" _ITM_noTransactionId "),
+        Piece::Number(action.arg),
+    ]);
+}
+
+/// An action that runs where its block is rolled back.
+#[tactic(auto, unfolding(crate::specs::Histories::undo_action_text), using(crate::proofs::AppendedTexts::grows_as))]
+fn put_undo_action<W: Write>(stream: &mut Stream<'_, W>, action: Action)
+    ensures same { stream.new.writer.ghost_name ≡ stream.old.writer.ghost_name }
+    ensures grows { Grows stream.old.failed (W.contents stream.old.writer.now) stream.new.failed
+        (W.contents stream.new.writer.now) (undo_action_text action) }
+{
+    stream.put(&[
+        Piece::Text(b"_ITM_addUserUndoAction "),
+        Piece::Number(u64::from(action.fun)),
+        Piece::Text(b" "),
+        Piece::Number(action.arg),
+    ]);
+}
+
+#[tactic(auto, unfolding(crate::specs::Histories::body_text), using(crate::proofs::AppendedTexts::grows_as))]
+pub fn put_body<W: Write>(stream: &mut Stream<'_, W>, call: &Call)
+    ensures same { stream.new.writer.ghost_name ≡ stream.old.writer.ghost_name }
+    ensures grows { Grows stream.old.failed (W.contents stream.old.writer.now) stream.new.failed
+        (W.contents stream.new.writer.now) (body_text call.now) }
+{
+    match call {
+        Call::Begin { props, .. } => stream.put(&[
+            Piece::Text(b"_ITM_beginTransaction "),
+            Piece::Text(props_text(*props).as_bytes()),
+        ]),
+        Call::Commit => stream.put(&[Piece::Text(b"_ITM_commitTransaction")]),
+        Call::Abort { outer } => stream.put(&[
+            Piece::Text(b"_ITM_abortTransaction "),
+            Piece::Text(scope_text(*outer).as_bytes()),
+        ]),
+        Call::Mode { .. } => stream.put(&[Piece::Text(
+            b"_ITM_changeTransactionMode modeSerialIrrevocable",
+        )]),
+        Call::InTransaction => stream.put(&[Piece::Text(b"_ITM_inTransaction")]),
+        Call::Read { hint, width, at } => stream.put(&[
+            Piece::Text(name_of(Function::Read(*hint, *width)).as_bytes()),
+            Piece::Text(b" "),
+            Piece::Number(*at),
+        ]),
+        Call::Write { hint, at, value } => stream.put(&[
+            Piece::Text(name_of(Function::Write(*hint, value.width)).as_bytes()),
+            Piece::Text(b" "),
+            Piece::Number(*at),
+            Piece::Text(b" "),
+            Piece::Hex(value.bytes.as_slice()),
+        ]),
+        Call::Log { width, at } => stream.put(&[
+            Piece::Text(name_of(Function::Log(*width)).as_bytes()),
+            Piece::Text(b" "),
+            Piece::Number(*at),
+        ]),
+        Call::LogBytes { at, size } => stream.put(&[
+            Piece::Text(name_of(Function::LogBytes).as_bytes()),
+            Piece::Text(b" "),
+            Piece::Number(*at),
+            Piece::Text(b" "),
+            Piece::Number(*size),
+        ]),
+        Call::Copy(copying) => put_copy(stream, *copying),
+        Call::Fill {
+            hint,
+            to,
+            byte,
+            size,
+        } => put_fill(stream, *hint, *to, *byte, *size),
+        Call::CommitAction(action) => put_commit_action(stream, *action),
+        Call::UndoAction(action) => put_undo_action(stream, *action),
+        Call::Load { width, at } => stream.put(&[
+            Piece::Text(b"ld"),
+            Piece::Number(u64::from(width.size())),
+            Piece::Text(b" "),
+            Piece::Number(*at),
+        ]),
+        Call::Save { at, value } => stream.put(&[
+            Piece::Text(b"st"),
+            Piece::Number(u64::from(value.width.size())),
+            Piece::Text(b" "),
+            Piece::Number(*at),
+            Piece::Text(b" "),
+            Piece::Hex(value.bytes.as_slice()),
+        ]),
+    }
+}
+
+#[tactic(auto, unfolding(crate::specs::Histories::reply_text), using(crate::proofs::AppendedTexts::grows_as))]
+pub fn put_reply<W: Write>(stream: &mut Stream<'_, W>, reply: &Reply)
+    ensures same { stream.new.writer.ghost_name ≡ stream.old.writer.ghost_name }
+    ensures grows { Grows stream.old.failed (W.contents stream.old.writer.now) stream.new.failed
+        (W.contents stream.new.writer.now) (reply_text reply.now) }
+{
+    match reply {
+        Reply::Done => stream.put(&[Piece::Text(b"ok")]),
+        Reply::Bytes(bytes) => stream.put(&[Piece::Hex(bytes.as_slice())]),
+        Reply::Code(n) => stream.put(&[Piece::Text(b"code "), Piece::Number(u64::from(*n))]),
+        Reply::Refused(refusal) => stream.put(&[
+            Piece::Text(b"refused "),
+            Piece::Number(u64::from(refusal.number())),
+        ]),
+    }
+}

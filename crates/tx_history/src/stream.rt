@@ -1,0 +1,46 @@
+//! A text that is written as it comes, and that stops at the first write that failed.
+
+ghost use Rattle.std.specs.Prelude.{◌≡◌, [], false, flat_map};
+ghost use Rattle.tx_history.specs.Spelling.{Grows, spelled};
+
+use crate::pieces::{Piece, put_pieces};
+use std::io;
+use std::io::Write;
+
+/// A writer that is given no more once a write has failed.
+#[derive(Drop)]
+pub struct Stream<'a, W: Write> {
+    pub writer: &'a mut W,
+    pub failed: bool,
+    /// Why it failed.
+    pub error: Option<io::Error>,
+}
+
+impl<W: Write> Stream<'_, W> {
+    /// Writes the pieces one after the other.
+    #[tactic(auto, using(crate::proofs::TextPieces::remembered))]
+    pub fn put(&mut self, pieces: &[Piece<'_>])
+        ensures same { self.new.writer.ghost_name ≡ self.old.writer.ghost_name }
+        ensures grows { Grows self.old.failed (W.contents self.old.writer.now) self.new.failed
+            (W.contents self.new.writer.now) (flat_map spelled pieces.now) }
+    {
+        if !self.failed {
+            let put = put_pieces(self.writer, pieces);
+            self.failed = put.is_err();
+            self.error = put.err();
+        }
+    }
+
+    /// Hands on what the writer holds back.
+    pub fn flush(&mut self)
+        ensures same { self.new.writer.ghost_name ≡ self.old.writer.ghost_name }
+        ensures grows { Grows self.old.failed (W.contents self.old.writer.now) self.new.failed
+            (W.contents self.new.writer.now) [] }
+    {
+        if !self.failed {
+            let flushed = self.writer.flush();
+            self.failed = flushed.is_err();
+            self.error = flushed.err();
+        }
+    }
+}

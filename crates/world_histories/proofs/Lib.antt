@@ -1,0 +1,5 @@
+pub mod Unwritten
+pub mod AloneCalls
+pub mod AloneRuns
+pub mod Holders
+pub mod LegalWorlds
