@@ -25,9 +25,10 @@ impl<W: Write> Stream<'_, W> {
             (W.contents self.new.writer.now) (flat_map spelled pieces.now) }
     {
         if !self.failed {
-            let put = put_pieces(self.writer, pieces);
-            self.failed = put.is_err();
-            self.error = put.err();
+            if let Err(error) = put_pieces(self.writer, pieces) {
+                self.failed = true;
+                self.error = Some(error);
+            }
         }
     }
 
@@ -38,9 +39,10 @@ impl<W: Write> Stream<'_, W> {
             (W.contents self.new.writer.now) [] }
     {
         if !self.failed {
-            let flushed = self.writer.flush();
-            self.failed = flushed.is_err();
-            self.error = flushed.err();
+            if let Err(error) = self.writer.flush() {
+                self.failed = true;
+                self.error = Some(error);
+            }
         }
     }
 }
