@@ -1,14 +1,15 @@
 //! The lines of copies, fills and actions, which no script makes.
 
 use crate::attempts::{put_all_ran, put_call};
+use crate::rows::{Row, write_row};
 use crate::stream::Stream;
 use itm_types::{
-    Action, ActionKind, Call, CopyPair, Copying, Ran, Refusal, Reply, SharedSide, WriteHint,
+    Action, ActionKind, Call, CopyPair, Copying, Props, Ran, Refusal, Reply, SharedSide, WriteHint,
 };
 use std::alloc::Global;
 use std::process::Abort;
 use std::test::Fail;
-use tx_attempts::Entry;
+use tx_attempts::{Attempt, Bytes, Calls, Entry, Outcome, RanActions};
 
 /// This call with this reply has this line.
 fn expect(rt: &impl Abort, alloc: Global, call: Call, reply: Reply, line: &[u8]) {
@@ -132,6 +133,30 @@ fn actions(rt: HostRuntime) -> Result<(), Fail> {
     assert!(rt; !stream.failed);
     let lines =
         b"ran undo 3 0\nran undo 2 18446744073709551615\nran commit 9 0\nran commit 4294967295 10\n";
+    assert_eq!(rt; text.as_slice(), lines.as_slice());
+    Ok(())
+}
+
+/// The parts of a history, one after the other.
+#[test]
+fn rows(rt: HostRuntime) -> Result<(), Fail> {
+    let alloc = rt.alloc();
+    let tried = Attempt {
+        thread: 1,
+        nth: 2,
+        began: 0,
+        at: 3,
+        props: Props::default(),
+        arena: Bytes::new(Vec::new(alloc)),
+        calls: Calls::new(alloc),
+        ran: RanActions::new(alloc),
+        outcome: Outcome::ReadOnly,
+    };
+    let mut text = Vec::new(alloc);
+    write_row(&mut text, &Row::Start(&[0, 255]))?;
+    write_row(&mut text, &Row::Tried(&tried))?;
+    write_row(&mut text, &Row::Last(6, &[1]))?;
+    let lines = b"itm-history 1\nmemory 00ff\nattempt 1 2 3 readonly -\narena -\nend\nfinal 6 01\n";
     assert_eq!(rt; text.as_slice(), lines.as_slice());
     Ok(())
 }
