@@ -4,5 +4,6 @@ mod Examples
 mod IrrevocableExamples
 mod JournalRollbacks
 mod KeptLogs
+mod LaidBytes
 mod OpenBlocks
 mod Overwrites

@@ -1,9 +1,9 @@
 //! What was overwritten, so that it can be put back.
 
-ghost use Rattle.std.specs.Prelude.{◌≡◌, ◌≤◌, ◌<◌, ◌+◌, IsOk, OnOk, OnErr, length, drop, take, vec_len, vec_capacity};
+ghost use Rattle.std.specs.Prelude.{◌≡◌, ◌≤◌, ◌<◌, ◌+◌, ◌↔◌, IsTrue, IsOk, OnOk, OnErr, length, drop, take, vec_len, vec_capacity};
 ghost use Rattle.itm_model.specs.Undoing.{put_back, AreWithin, Restores, Logged};
 
-use crate::bytes::{WIDEST, part_at, replace};
+use crate::bytes::{WIDEST, part_at, range_at, replace};
 use itm_types::{Props, Value};
 use std::alloc::AllocError;
 use user_actions::ActionMark;
@@ -87,4 +87,31 @@ fn keep_part(bytes: &[u8], logs: &mut Vec<Old>, start: usize, size: usize)
         place: start as u64,
         bytes: kept,
     });
+}
+
+/// Copies to `base`, where it is what stands once the journal is put back, what stands at each place of the journal.
+pub(crate) fn lay(memory: &[u8], journal: &[Old], base: &mut Vec<u8>)
+    requires within { AreWithin (length memory.now) journal.now }
+    requires base { base.old.items ≡ put_back journal.now memory.now }
+    ensures { base.new.items ≡ memory.now }
+{
+    for old in journal {
+        let size = old.bytes.len() as u64;
+        replace(base, old.place, range_at(memory, old.place, size));
+    }
+}
+
+/// Whether `base`, which is what stands once the journal is put back, is the memory.
+pub(crate) fn is_laid(memory: &[u8], journal: &[Old], base: &[u8]) -> bool
+    requires within { AreWithin (length memory.now) journal.now }
+    requires base { base.now ≡ put_back journal.now memory.now }
+    ensures { IsTrue result ↔ (memory.now ≡ base.now) }
+{
+    for old in journal {
+        let size = old.bytes.len() as u64;
+        if range_at(memory, old.place, size) != range_at(base, old.place, size) {
+            return false;
+        }
+    }
+    true
 }

@@ -357,6 +357,7 @@ impl Plain {
 }
 
 mod actions;
+mod bases;
 mod copies;
 mod irrevocable;
 mod refusals;

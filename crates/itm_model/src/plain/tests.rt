@@ -6,6 +6,7 @@ use std::alloc::{AllocError, Global};
 use std::test::Fail;
 
 mod actions;
+mod bases;
 mod copies;
 mod irrevocable;
 mod nested;
