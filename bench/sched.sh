@@ -21,38 +21,7 @@ trap 'rm -rf "$work"' EXIT
 "$program" sched "$root/examples/counter.itm" >/dev/null || exit 1
 program=$root/crates/itmrun/out/itmrun
 
-# blocks COUNT PLACE: a thread's code
-blocks() {
-    awk -v count="$1" -v at="$2" 'BEGIN {
-        print "set r1 1"
-        for (i = 0; i < count; i++)
-            print "_ITM_beginTransaction r0 -\n_ITM_RU8 r2 " at "\nadd r2 r2 r1\n_ITM_WU8 " at " r2\n_ITM_commitTransaction"
-    }'
-}
-
-# side_by_side THREADS WORDS EVENTS
-side_by_side() {
-    count=$(($3 / $1 / 6 + 1))
-    printf '.memory 256\n.retries 10000\n'
-    awk -v threads="$1" -v turns="$(($3 / $1 / 2))" 'BEGIN {
-        for (i = 0; i < turns; i++) {
-            printf ".schedule"
-            for (t = 0; t < threads; t++) printf " " t "x2"
-            print ""
-        }
-    }'
-    if [ "$2" = one ]; then
-        echo ".thread $1"
-        blocks "$count" 0
-    else
-        thread=0
-        while [ "$thread" -lt "$1" ]; do
-            echo .thread
-            blocks "$count" $((8 * thread))
-            thread=$((thread + 1))
-        done
-    fi
-}
+. "$root/bench/scripts.sh"
 
 # run EVENTS: $work/script so often that it takes a while; sets runs and the nanoseconds of them all
 run() {

@@ -11,3 +11,4 @@ pub mod WorkedOperandFaults
 pub mod WorkedLimits
 pub mod LaidBytes
 pub mod RefusedLines
+pub mod UsualWords

@@ -1,9 +1,11 @@
 //! The words of the language: first fields.
 
-ghost use Rattle.std.specs.Prelude.{◌≡◌};
+ghost use Rattle.std.specs.Prelude.{◌≡◌, IfSome, Some};
+ghost use Rattle.script_asm.specs.declared.words.Word.TheVariants as words;
+ghost use Rattle.script_asm.specs.declared.words.Mnemonic.TheVariants as mnemonics;
 ghost use Rattle.script_asm.specs.Words.{word_of};
 
-use itm_types::{Entry, entry_of};
+use itm_types::{Control, Entry, ReadHint, Width, WriteHint, entry_of};
 use script_fields::lookup;
 use script_program::{ArenaWidth, Operation};
 
@@ -70,11 +72,33 @@ const WORDS: [(&[u8], Word); 28] = [
     (b"endif", Word::Code(Mnemonic::EndIf)),
 ];
 
+/// The entry point of a first field, where it is one of those of most blocks. They are compared first, since each table is
+/// searched from its beginning.
+#[tactic(auto, using(crate::proofs::UsualWords::reads, crate::proofs::UsualWords::writes))]
+fn usual_entry(field: &[u8]) -> Option<Entry>
+    ensures { IfSome result (λ e. word_of field.now ≡ Some (words.Code (mnemonics.Entry e))) }
+{
+    if field == b"_ITM_RU8".as_slice() {
+        Some(Entry::Read(ReadHint::R, Width::U8))
+    } else if field == b"_ITM_WU8".as_slice() {
+        Some(Entry::Write(WriteHint::W, Width::U8))
+    } else if field == b"_ITM_beginTransaction".as_slice() {
+        Some(Entry::Control(Control::BeginTransaction))
+    } else if field == b"_ITM_commitTransaction".as_slice() {
+        Some(Entry::Control(Control::CommitTransaction))
+    } else {
+        None
+    }
+}
+
 /// The word that a first field is.
 #[tactic(auto, unfolding(crate::specs::Words::word_of))]
 pub fn word_of(field: &[u8]) -> Option<Word>
     ensures { result ≡ word_of field.now }
 {
+    if let Some(entry) = usual_entry(field) {
+        return Some(Word::Code(Mnemonic::Entry(entry)));
+    }
     if let Some(word) = lookup(&WORDS, field) {
         return Some(word);
     }

@@ -26,35 +26,29 @@ fn outcome_name(outcome: Outcome) -> &'static [u8]
     }
 }
 
-#[tactic(auto, unfolding(crate::specs::Histories::try_text), using(crate::proofs::AppendedTexts::grows_as))]
 fn put_try<W: Write>(stream: &mut Stream<'_, W>, attempt: &Attempt)
     ensures same { stream.new.writer.ghost_name ≡ stream.old.writer.ghost_name }
     ensures grows { Grows stream.old.failed (W.contents stream.old.writer.now) stream.new.failed
         (W.contents stream.new.writer.now) (try_text attempt.now) }
 {
-    stream.put(&[
-        Piece::Text(b"attempt "),
-        Piece::Number(u64::from(attempt.thread)),
-        Piece::Text(b" "),
-        Piece::Number(u64::from(attempt.nth)),
-        Piece::Text(b" "),
-        Piece::Number(attempt.at),
-        Piece::Text(b" "),
-        Piece::Text(outcome_name(attempt.outcome)),
-    ]);
+    stream.text(b"attempt ");
+    stream.number(u64::from(attempt.thread));
+    stream.text(b" ");
+    stream.number(u64::from(attempt.nth));
+    stream.text(b" ");
+    stream.number(attempt.at);
+    stream.text(b" ");
+    stream.text(outcome_name(attempt.outcome));
 }
 
-#[tactic(auto, unfolding(crate::specs::Histories::props_end), using(crate::proofs::AppendedTexts::grows_as))]
 fn put_props<W: Write>(stream: &mut Stream<'_, W>, props: Props)
     ensures same { stream.new.writer.ghost_name ≡ stream.old.writer.ghost_name }
     ensures grows { Grows stream.old.failed (W.contents stream.old.writer.now) stream.new.failed
         (W.contents stream.new.writer.now) (props_end props) }
 {
-    stream.put(&[
-        Piece::Text(b" "),
-        Piece::Text(props_text(props).as_bytes()),
-        Piece::Text(b"\n"),
-    ]);
+    stream.text(b" ");
+    stream.text(props_text(props).as_bytes());
+    stream.text(b"\n");
 }
 
 fn put_head<W: Write>(stream: &mut Stream<'_, W>, attempt: &Attempt)
@@ -73,7 +67,7 @@ fn put_arena<W: Write>(stream: &mut Stream<'_, W>, bytes: &[u8])
         (W.contents stream.new.writer.now) (arena_line bytes.now) }
 {
     if bytes.is_empty() {
-        stream.put(&[Piece::Text(b"arena -\n")]);
+        stream.text(b"arena -\n");
     } else {
         stream.put(&[
             Piece::Text(b"arena "),
@@ -88,11 +82,11 @@ pub fn put_call<W: Write>(stream: &mut Stream<'_, W>, entry: &Entry)
     ensures grows { Grows stream.old.failed (W.contents stream.old.writer.now) stream.new.failed
         (W.contents stream.new.writer.now) (call_line entry.now) }
 {
-    stream.put(&[Piece::Text(b"call ")]);
+    stream.text(b"call ");
     put_body(stream, &entry.call);
-    stream.put(&[Piece::Text(b" = ")]);
+    stream.text(b" = ");
     put_reply(stream, &entry.reply);
-    stream.put(&[Piece::Text(b"\n")]);
+    stream.text(b"\n");
 }
 
 #[tactic(auto, using(crate::proofs::AppendedTexts::grows_none, crate::proofs::AppendedTexts::grows_call))]
@@ -153,7 +147,7 @@ pub fn put_attempt<W: Write>(stream: &mut Stream<'_, W>, attempt: &Attempt)
     put_arena(stream, attempt.arena.as_slice());
     put_calls(stream, attempt.calls.as_slice());
     put_all_ran(stream, attempt.ran.as_slice());
-    stream.put(&[Piece::Text(b"end\n")]);
+    stream.text(b"end\n");
 }
 
 #[tactic(auto, using(crate::proofs::AppendedTexts::grows_no_attempt, crate::proofs::AppendedTexts::grows_attempt))]

@@ -1,14 +1,40 @@
 //! What was called, and what was answered.
 
-ghost use Rattle.std.specs.Prelude.{◌≡◌};
+ghost use Rattle.std.specs.Prelude.{◌≡◌, ◌++◌, codes, decimal};
+ghost use Rattle.hex.specs.Hex.{encode_lower};
+ghost use Rattle.itm_types.specs.Names.{name_of};
+ghost use Rattle.itm_types.specs.declared.entry.Entry.{Entry};
 ghost use Rattle.tx_history.specs.Spelling.{Grows};
 ghost use Rattle.tx_history.specs.Histories.{copy_text, fill_text, commit_action_text, undo_action_text, body_text, reply_text};
 
 use crate::pieces::Piece;
 use crate::stream::Stream;
-use itm_types::{Action, Call, Copying, Entry as Function, Reply, WriteHint, name_of};
+use itm_types::{Action, Call, Copying, Datum, Entry as Function, Reply, WriteHint, name_of};
 use script_fields::{props_text, scope_text};
 use std::io::Write;
+
+/// An entry point, and the first byte that it is called for.
+fn put_at<W: Write>(stream: &mut Stream<'_, W>, function: Function, at: u64)
+    ensures same { stream.new.writer.ghost_name ≡ stream.old.writer.ghost_name }
+    ensures grows { Grows stream.old.failed (W.contents stream.old.writer.now) stream.new.failed
+        (W.contents stream.new.writer.now) (name_of function ++ codes " " ++ decimal at) }
+{
+    stream.text(name_of(function).as_bytes());
+    stream.text(b" ");
+    stream.number(at);
+}
+
+/// A write: the first byte that is written, and what is written.
+fn put_write<W: Write>(stream: &mut Stream<'_, W>, hint: WriteHint, at: u64, value: &Datum)
+    ensures same { stream.new.writer.ghost_name ≡ stream.old.writer.ghost_name }
+    ensures grows { Grows stream.old.failed (W.contents stream.old.writer.now) stream.new.failed
+        (W.contents stream.new.writer.now)
+        (name_of (Entry.Write hint value.now.width) ++ codes " " ++ decimal at ++ codes " " ++ encode_lower value.now.bytes.items) }
+{
+    put_at(stream, Function::Write(hint, value.width), at);
+    stream.text(b" ");
+    stream.hex(value.bytes.as_slice());
+}
 
 /// A copy: where it writes, where it reads, and how many bytes.
 #[tactic(auto, unfolding(crate::specs::Histories::copy_text), using(crate::proofs::AppendedTexts::grows_as))]
@@ -91,7 +117,7 @@ pub fn put_body<W: Write>(stream: &mut Stream<'_, W>, call: &Call)
             Piece::Text(b"_ITM_beginTransaction "),
             Piece::Text(props_text(*props).as_bytes()),
         ]),
-        Call::Commit => stream.put(&[Piece::Text(b"_ITM_commitTransaction")]),
+        Call::Commit => stream.text(b"_ITM_commitTransaction"),
         Call::Abort { outer } => stream.put(&[
             Piece::Text(b"_ITM_abortTransaction "),
             Piece::Text(scope_text(*outer).as_bytes()),
@@ -100,23 +126,9 @@ pub fn put_body<W: Write>(stream: &mut Stream<'_, W>, call: &Call)
             b"_ITM_changeTransactionMode modeSerialIrrevocable",
         )]),
         Call::InTransaction => stream.put(&[Piece::Text(b"_ITM_inTransaction")]),
-        Call::Read { hint, width, at } => stream.put(&[
-            Piece::Text(name_of(Function::Read(*hint, *width)).as_bytes()),
-            Piece::Text(b" "),
-            Piece::Number(*at),
-        ]),
-        Call::Write { hint, at, value } => stream.put(&[
-            Piece::Text(name_of(Function::Write(*hint, value.width)).as_bytes()),
-            Piece::Text(b" "),
-            Piece::Number(*at),
-            Piece::Text(b" "),
-            Piece::Hex(value.bytes.as_slice()),
-        ]),
-        Call::Log { width, at } => stream.put(&[
-            Piece::Text(name_of(Function::Log(*width)).as_bytes()),
-            Piece::Text(b" "),
-            Piece::Number(*at),
-        ]),
+        Call::Read { hint, width, at } => put_at(stream, Function::Read(*hint, *width), *at),
+        Call::Write { hint, at, value } => put_write(stream, *hint, *at, value),
+        Call::Log { width, at } => put_at(stream, Function::Log(*width), *at),
         Call::LogBytes { at, size } => stream.put(&[
             Piece::Text(name_of(Function::LogBytes).as_bytes()),
             Piece::Text(b" "),
@@ -157,8 +169,8 @@ pub fn put_reply<W: Write>(stream: &mut Stream<'_, W>, reply: &Reply)
         (W.contents stream.new.writer.now) (reply_text reply.now) }
 {
     match reply {
-        Reply::Done => stream.put(&[Piece::Text(b"ok")]),
-        Reply::Bytes(bytes) => stream.put(&[Piece::Hex(bytes.as_slice())]),
+        Reply::Done => stream.text(b"ok"),
+        Reply::Bytes(bytes) => stream.hex(bytes.as_slice()),
         Reply::Code(n) => stream.put(&[Piece::Text(b"code "), Piece::Number(u64::from(*n))]),
         Reply::Refused(refusal) => stream.put(&[
             Piece::Text(b"refused "),

@@ -20,6 +20,7 @@ pub enum Piece<'a> {
 }
 
 /// Writes the bytes. Where a write fails, what the writer took is a beginning of them.
+#[inline(always)]
 #[tactic(auto, using(crate::proofs::TextPieces::starts, crate::proofs::TextPieces::grown, crate::proofs::TextPieces::stays, crate::proofs::TextPieces::whole))]
 pub fn put_bytes<W: Write>(writer: &mut W, bytes: &[u8]) -> io::Result<()>
     ensures { Puts (W.contents writer.old) (W.contents writer.new) result bytes.now }
@@ -36,7 +37,8 @@ pub fn put_bytes<W: Write>(writer: &mut W, bytes: &[u8]) -> io::Result<()>
     Ok(())
 }
 
-fn put_number<W: Write>(writer: &mut W, n: u64) -> io::Result<()>
+/// Writes the number in decimal digits.
+pub fn put_number<W: Write>(writer: &mut W, n: u64) -> io::Result<()>
     ensures { Puts (W.contents writer.old) (W.contents writer.new) result (decimal n) }
 {
     let mut buffer = Buffer::new();
@@ -55,8 +57,9 @@ fn put_chunk<W: Write>(writer: &mut W, chunk: &[u8]) -> io::Result<()>
     put_bytes(writer, digits)
 }
 
+/// Writes the bytes, each in two hexadecimal digits.
 #[tactic(auto, using(crate::proofs::TextPieces::hex_starts, crate::proofs::TextPieces::hex_grown, crate::proofs::TextPieces::hex_stays, crate::proofs::TextPieces::hex_whole))]
-fn put_hex<W: Write>(writer: &mut W, bytes: &[u8]) -> io::Result<()>
+pub fn put_hex<W: Write>(writer: &mut W, bytes: &[u8]) -> io::Result<()>
     ensures { Puts (W.contents writer.old) (W.contents writer.new) result (encode_lower bytes.now) }
 {
     let mut at = 0;

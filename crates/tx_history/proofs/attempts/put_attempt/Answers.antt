@@ -8,4 +8,4 @@ returns-clause-grows g c =
     let written_arena = rw c.as_slice.ensures at c.put_arena.ensures.grows in
     let written_calls = rw c.as_slice-2.ensures at c.put_calls.ensures.grows in
     let written_ran = rw c.as_slice-3.ensures at c.put_all_ran.ensures.grows in
-    grows_then _ _ _ _ _ _ _ _ (grows_then _ _ _ _ _ _ _ _ (grows_then _ _ _ _ _ _ _ _ (grows_then _ _ _ _ _ _ _ _ c.put_head.ensures.grows written_arena) written_calls) written_ran) c.put.ensures.grows
+    grows_then _ _ _ _ _ _ _ _ (grows_then _ _ _ _ _ _ _ _ (grows_then _ _ _ _ _ _ _ _ (grows_then _ _ _ _ _ _ _ _ c.put_head.ensures.grows written_arena) written_calls) written_ran) c.text.ensures.grows

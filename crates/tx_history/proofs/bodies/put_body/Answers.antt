@@ -14,7 +14,7 @@ returns-in-Abort-clause-grows g c = rw c.in-Abort.is (grows_as _ _ _ _ _ _ c.put
 
 pub returns-in-Commit-clause-grows : goal.returns-in-Commit-clause-grows
 unfolding body_text
-returns-in-Commit-clause-grows g c = rw c.in-Commit.is c.put-in-Commit.ensures.grows
+returns-in-Commit-clause-grows g c = rw c.in-Commit.is c.text.ensures.grows
 
 pub returns-in-Mode-clause-grows : goal.returns-in-Mode-clause-grows
 unfolding body_text
