@@ -1,0 +1,29 @@
+-- Lines that are at fault.
+use Rattle.std.proofs.Common.{◌≡◌, ℕ, ◌<◌, Result, Ok, Err, refl, ap, ◌∙◌, subst, sym}
+use Rattle.script_fields.specs.declared.fault.AsmKind.{AsmKind}
+use Rattle.script_fields.specs.declared.fault.AsmKind.TheVariants as operands
+use Rattle.history_reader.specs.declared.fault.ReadKind.{ReadKind}
+use Rattle.history_reader.specs.declared.fault.ReadKind.TheVariants as kinds
+use Rattle.history_reader.specs.declared.state.State.{State}
+use Rattle.history_reader.specs.Faults.{line_kind, told}
+use Rattle.history_reader.specs.Reading.{Steps}
+
+stops_at : (amount : State → ℕ) (k : AsmKind) (new : State) → Steps amount (Err (line_kind k)) new (told (Err k))
+stops_at amount operands.Character new = refl
+stops_at amount operands.Unknown new = refl
+stops_at amount operands.Operand new = refl
+stops_at amount operands.Range new = refl
+stops_at amount operands.Misplaced new = refl
+stops_at amount operands.Unbalanced new = refl
+stops_at amount operands.TooLong new = refl
+stops_at amount operands.Memory new = refl
+
+-- a line that is at fault stops the reading
+pub stops : (amount : State → ℕ) (k : AsmKind) (kind : ReadKind) (new : State) (read : Result State AsmKind) → kind ≡ line_kind k → read ≡ Err k → Steps amount (Err kind) new (told read)
+stops amount k kind new read is e =
+    subst (λ (j : ReadKind). Steps amount (Err j) new (told read)) (sym is) (subst (λ (r : Result State AsmKind). Steps amount (Err (line_kind k)) new (told r)) (sym e) (stops_at amount k new))
+
+-- memory was refused to a line that leaves something to be kept
+pub adds : (amount : State → ℕ) (kind : ReadKind) (new t : State) (read : Result State AsmKind) → kind ≡ kinds.Memory → read ≡ Ok t → 0 < amount t → Steps amount (Err kind) new (told read)
+adds amount kind new t read is e some =
+    subst (λ (j : ReadKind). Steps amount (Err j) new (told read)) (sym is) (t, ap told e, some)

@@ -1,0 +1,17 @@
+pub mod Values
+pub mod Faults
+pub mod ReadLines
+pub mod ExactFields
+pub mod ExactBytes
+pub mod ExactCalls
+pub mod ExactEntries
+pub mod ExactHeads
+pub mod ExactLines
+pub mod ExactStates
+pub mod ExactSteps
+pub mod ExactTexts
+pub mod AgainFields
+pub mod AgainCalls
+pub mod AgainSpelled
+pub mod AgainLines
+pub mod AgainTexts

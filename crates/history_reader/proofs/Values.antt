@@ -1,0 +1,69 @@
+-- Digits as bytes, and values of a width.
+use Rattle.std.proofs.Common.{rules, ◌≡◌, ℕ, ◌*◌, ◌<◌, ◌/◌, ◌%◌, ◌≤◌, Bool, true, false, cond, eqb, not, ◌&&◌, ◌||◌, leb, List, [], ◌++◌, length, take, replicate, Result, Ok, Err, refl, sym, ap, ◌∙◌, arith, inl, inr}
+use Rattle.std.specs.List.{list_all}
+use Rattle.std.proofs.lemmas.Bool.{and_parts, eqb-false, not-true, or_cases, leb-true, le-leb, lt-leb}
+use Rattle.std.proofs.lemmas.List.{take-append-le}
+use Rattle.std.proofs.lemmas.Grind.{common_steps}
+use mathlib.Core.HLevel.{is_prop→PathP}
+use native.Mathlib.Nat.{ℕ_set}
+use Rattle.std.specs.Prelude.{MatchResult}
+use Rattle.hex.specs.declared.error.FromHexError.{FromHexError}
+use Rattle.hex.specs.Hex.{is_hex_digit, decode_sized}
+use Rattle.itm_types.specs.declared.access.Width.{Width}
+use Rattle.itm_types.specs.declared.datum.Datum.{Datum}
+use Rattle.itm_types.specs.Access.{size_of}
+use Rattle.script_fields.specs.declared.fault.AsmKind.{AsmKind}
+use Rattle.script_fields.specs.Operands.{◌>>=◌, decoded, is_hex}
+use Rattle.script_fields.proofs.HexDigits.{decode_of-hex, decoded_into}
+use Rattle.script_fields.proofs.SpelledNumbers.{list_all-weaker}
+use Rattle.history_reader.specs.Digits.{is_lower_digit, is_lower_hex, low, datum_of, datum, sized}
+
+-- values of one type that have the same bytes are the same
+pub same_datum : (d e : Datum) → d.width ≡ e.width → d.bytes.items ≡ e.bytes.items → d ≡ e
+same_datum d e w b = λ i. record {
+  width = w i;
+  bytes = record { items = b i };
+  sized = is_prop→PathP (λ j. length (b j) ≡ size_of (w j)) (λ j. ℕ_set (length (b j)) (size_of (w j))) d.sized e.sized i;
+}
+
+whole : (n : ℕ) (bytes : List ℕ) → length bytes ≡ n → take n bytes ≡ bytes
+whole n bytes h = grind (arith, common_steps)
+
+-- bytes that are as many as the type has are the value's
+pub low_is : (n : ℕ) (bytes : List ℕ) → length bytes ≡ n → low n bytes ≡ bytes
+low_is n bytes h = take-append-le n bytes (replicate n 0) (omega arith) ∙ whole n bytes h
+
+-- ## Digits in lower case
+
+lower_is : (b : ℕ) → is_lower_digit b ≡ true → is_hex_digit b ≡ true
+lower_is b h =
+    elim (or_cases (leb 48 b && leb b 57) (leb 97 b && leb b 102) h) [
+      | inl d ↦
+          let p = and_parts (leb 48 b) (leb b 57) d in
+          rw (lt-leb 65 b (omega (arith, leb-true b 57 p.1)), lt-leb 97 b (omega (arith, leb-true b 57 p.1)), p.0, p.1) refl
+      | inr d ↦
+          let p = and_parts (leb 97 b) (leb b 102) d in
+          rw (le-leb 65 b (omega (arith, leb-true 97 b p.0)), lt-leb b 70 (omega (arith, leb-true 97 b p.0)), p.0, p.1) refl
+    ]
+
+pub hex_is : (f : List ℕ) → is_lower_hex f ≡ true → is_hex f ≡ true
+hex_is f h =
+    let a = and_parts (not (eqb (length f) 0)) (eqb (length f % 2) 0 && list_all is_lower_digit f) h in
+    let b = and_parts (eqb (length f % 2) 0) (list_all is_lower_digit f) a.1 in
+    rw (a.0, b.0) (list_all-weaker is_lower_digit is_hex_digit lower_is f b.1)
+
+pub length-said : (f : List ℕ) → is_lower_hex f ≡ true → length f ≡ 2 * length (decoded f)
+length-said f h = (decode_of-hex f (hex_is f h)).1
+
+-- what was decoded into room for just these bytes
+pub said_into : (n : ℕ) (f old new : List ℕ) (r : Result (Unit {0}) FromHexError) → is_lower_hex f ≡ true → length f / 2 ≡ n → length old ≡ n
+    → MatchResult (decode_sized f (length old)) (λ bytes. (r ≡ Ok tt) × (new ≡ bytes)) (λ e. r ≡ Err e) → new ≡ decoded f
+said_into n f old new r h e o m = decoded_into f old new r (hex_is f h) (omega arith) m
+
+-- they are some
+pub some_said : (f : List ℕ) → is_lower_hex f ≡ true → 0 < length (decoded f)
+some_said f h =
+    let a = and_parts (not (eqb (length f) 0)) (eqb (length f % 2) 0 && list_all is_lower_digit f) h in
+    let some = eqb-false (length f) 0 (not-true _ a.0) in
+    let twice = length-said f h in
+    omega arith

@@ -1,0 +1,11 @@
+pub mod Faults
+pub mod Fields
+pub mod Digits
+pub mod Numbers
+pub mod Words
+pub mod Replies
+pub mod Calls
+pub mod Lines
+pub mod Reading
+pub mod Tellable
+pub mod LineFields

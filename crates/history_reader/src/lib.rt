@@ -1,0 +1,22 @@
+//! Reads the text of a history: of the texts that histories are written as, each gives its history, and every other
+//! text has a first line that is at fault.
+#![tactic(auto)]
+
+mod body;
+mod digits;
+mod fault;
+mod fields;
+mod kept;
+mod lines;
+mod numbers;
+mod operands;
+mod reply;
+mod state;
+#[cfg(test)]
+mod tests;
+mod verb;
+mod whole;
+mod words;
+
+pub use fault::{ReadFault, ReadKind};
+pub use whole::read;

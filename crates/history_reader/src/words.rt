@@ -1,0 +1,159 @@
+//! Fields that are one of a few words.
+
+ghost use Rattle.std.specs.Prelude.{◌≡◌};
+ghost use Rattle.script_fields.specs.Operands.{exactly, scope, mode, no_transaction};
+ghost use Rattle.history_reader.specs.Words.{outcome, kind, block_props};
+
+use itm_types::{ActionKind, Props};
+use script_fields::{AsmKind, lookup};
+use tx_attempts::Outcome;
+
+/// How an attempt stands, by name.
+const OUTCOMES: [(&[u8], Outcome); 7] = [
+    (b"committed", Outcome::Committed),
+    (b"readonly", Outcome::ReadOnly),
+    (b"cancelled", Outcome::Cancelled),
+    (b"conflict", Outcome::Conflict),
+    (b"full", Outcome::Full),
+    (b"nomemory", Outcome::NoMemory),
+    (b"unfinished", Outcome::Unfinished),
+];
+
+/// When actions run, by name.
+const KINDS: [(&[u8], ActionKind); 2] = [
+    (b"commit", ActionKind::Commit),
+    (b"undo", ActionKind::Undo),
+];
+
+/// The properties of a block, as they are written: each name once, and in order.
+const PROPS: [(&[u8], Props); 8] = [
+    (
+        b"-",
+        Props {
+            no_abort: false,
+            no_irrevocable: false,
+            goes_irrevocable: false,
+        },
+    ),
+    (
+        b"pr_hasNoAbort",
+        Props {
+            no_abort: true,
+            no_irrevocable: false,
+            goes_irrevocable: false,
+        },
+    ),
+    (
+        b"pr_hasNoIrrevocable",
+        Props {
+            no_abort: false,
+            no_irrevocable: true,
+            goes_irrevocable: false,
+        },
+    ),
+    (
+        b"pr_doesGoIrrevocable",
+        Props {
+            no_abort: false,
+            no_irrevocable: false,
+            goes_irrevocable: true,
+        },
+    ),
+    (
+        b"pr_hasNoAbort+pr_hasNoIrrevocable",
+        Props {
+            no_abort: true,
+            no_irrevocable: true,
+            goes_irrevocable: false,
+        },
+    ),
+    (
+        b"pr_hasNoAbort+pr_doesGoIrrevocable",
+        Props {
+            no_abort: true,
+            no_irrevocable: false,
+            goes_irrevocable: true,
+        },
+    ),
+    (
+        b"pr_hasNoIrrevocable+pr_doesGoIrrevocable",
+        Props {
+            no_abort: false,
+            no_irrevocable: true,
+            goes_irrevocable: true,
+        },
+    ),
+    (
+        b"pr_hasNoAbort+pr_hasNoIrrevocable+pr_doesGoIrrevocable",
+        Props {
+            no_abort: true,
+            no_irrevocable: true,
+            goes_irrevocable: true,
+        },
+    ),
+];
+
+/// How an attempt stands.
+#[tactic(auto, unfolding(crate::specs::Words::outcome))]
+pub fn outcome(field: &[u8]) -> Result<Outcome, AsmKind>
+    ensures { result ≡ outcome field.now }
+{
+    lookup(&OUTCOMES, field).ok_or(AsmKind::Operand)
+}
+
+/// When an action ran.
+#[tactic(auto, unfolding(crate::specs::Words::kind))]
+pub fn kind(field: &[u8]) -> Result<ActionKind, AsmKind>
+    ensures { result ≡ kind field.now }
+{
+    lookup(&KINDS, field).ok_or(AsmKind::Operand)
+}
+
+/// The properties of a block.
+#[tactic(auto, unfolding(crate::specs::Words::block_props))]
+pub fn block_props(field: &[u8]) -> Result<Props, AsmKind>
+    ensures { result ≡ block_props field.now }
+{
+    lookup(&PROPS, field).ok_or(AsmKind::Operand)
+}
+
+/// This text and no other.
+pub fn exactly(text: &[u8], field: &[u8]) -> Result<(), AsmKind>
+    ensures { result ≡ exactly text.now field.now }
+{
+    if field == text {
+        Ok(())
+    } else {
+        Err(AsmKind::Operand)
+    }
+}
+
+/// The scope of an abort: whether all blocks that are open are cancelled.
+#[tactic(auto, unfolding(script_fields::specs::Operands::scope))]
+pub fn scope(field: &[u8]) -> Result<bool, AsmKind>
+    ensures { result ≡ scope field.now }
+{
+    if field == b"userAbort".as_slice() {
+        Ok(false)
+    } else if field == b"userAbort+outerAbort".as_slice() {
+        Ok(true)
+    } else {
+        Err(AsmKind::Operand)
+    }
+}
+
+/// The one mode that a transaction can be changed to.
+#[tactic(auto, unfolding(script_fields::specs::Operands::mode))]
+pub fn mode(field: &[u8]) -> Result<(), AsmKind>
+    ensures { result ≡ mode field.now }
+{
+    exactly(b"modeSerialIrrevocable", field)
+}
+
+/// The word for an action that is bound to no transaction.
+#[tactic(auto, unfolding(script_fields::specs::Operands::no_transaction))]
+pub fn no_transaction(field: &[u8]) -> Result<(), AsmKind>
+    ensures { result ≡ no_transaction field.now }
+{
+    exactly(b"_ITM_noTransactionId", field)
+}
