@@ -1,0 +1,6 @@
+use Rattle.std.proofs.Common.{◌≡◌, drop}
+use Rattle.history_checker.specs.Verdicts.{is_waiting}
+use Rattle.history_checker.proofs.endings.is_waiting.Given as goal
+
+abbrev pub invariant-loop-attempt : goal.invariant-loop-attempt
+invariant-loop-attempt l = is_waiting l.count l.attempts ≡ is_waiting l.count (drop l.attempt-index l.attempts)

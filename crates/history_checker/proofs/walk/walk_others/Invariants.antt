@@ -1,0 +1,13 @@
+use Rattle.tx_history.specs.Legal.{memory_at}
+use Rattle.history_checker.specs.Tables.{IsRest}
+use Rattle.history_checker.proofs.Walks.{IsNext, left_of}
+use Rattle.history_checker.proofs.walk.walk_others.Given as goal
+
+abbrev pub invariant-loop-next : goal.invariant-loop-next
+invariant-loop-next l = record {
+  rest : IsRest (memory_at l.history l.position) l.walk.plain.state.memory l.walk.base.items;
+  next : IsNext l.history l.position l.walk.told.items l.next;
+}
+
+abbrev pub decreases-loop-next : goal.decreases-loop-next
+decreases-loop-next l = left_of l.next

@@ -1,0 +1,129 @@
+-- What is wrong with one attempt, replayed alone on a memory.
+use Rattle.std.specs.Prelude.{ℕ, suc, ◌-◌, Bool, true, false, not, ◌&&◌, ◌==◌, bytes_eq, if◌then◌else◌, List, [], ◌∷◌, length, take, Option, None, Some}
+use Rattle.std.specs.Cmp.Lexicographic.{pointwise}
+use Rattle.itm_types.specs.declared.limits.TheConstants.{MAX_OPEN_BLOCKS}
+use Rattle.itm_types.specs.declared.call.Call.{Call}
+use Rattle.itm_types.specs.declared.call.Call.TheVariants.{Begin, Commit, Abort, Mode, InTransaction, Read, Write, Log, LogBytes, Copy, Fill, CommitAction, UndoAction, Load, Save}
+use Rattle.itm_types.specs.declared.call.Reply.{Reply}
+use Rattle.itm_types.specs.declared.call.Reply.TheVariants.{Done, Bytes, Code, Refused}
+use Rattle.itm_model.specs.State.{State}
+use Rattle.itm_model.specs.Machine.{is_open, opened, reply, after}
+use Rattle.tx_attempts.specs.declared.attempt.Attempt.{Attempt}
+use Rattle.tx_attempts.specs.declared.attempt.Entry.{Entry}
+use Rattle.tx_attempts.specs.declared.attempt.Outcome.{Outcome}
+use Rattle.tx_attempts.specs.declared.attempt.Outcome.TheVariants.{Committed, ReadOnly, Cancelled, Conflict, Full, NoMemory, Unfinished}
+use Rattle.tx_attempts.specs.Attempts.{alone}
+use Rattle.tx_history.specs.Legal.{may_begin, state_at, ran_alone}
+use Rattle.history_checker.specs.declared.verdict.BadKind.{BadKind}
+use Rattle.history_checker.specs.declared.verdict.BadKind.TheVariants as kind
+use Rattle.history_checker.specs.declared.verdict.Fault.{Fault}
+use Rattle.history_checker.specs.Matches.{same_reply, same_ran}
+
+-- the first of two
+abbrev pub first_of : {A : Type 0} → Option A → Option A → Option A
+first_of None later = later
+first_of (Some a) later = Some a
+
+-- at the head of the attempt
+abbrev pub at_head : BadKind → Fault
+at_head k = record { call = None; kind = k }
+
+-- at one of its calls
+abbrev pub at_call : ℕ → BadKind → Fault
+at_call i k = record { call = Some i; kind = k }
+
+-- the first call, of which the first has this number, that stands after the end of the block or has another reply than the machine's
+abbrev pub calls_fault : State → ℕ → List Entry → Option Fault
+calls_fault s i [] = None
+calls_fault s i (e ∷ rest) =
+    if is_open s
+    then (if same_reply e.reply (reply MAX_OPEN_BLOCKS s e.call) then calls_fault (after MAX_OPEN_BLOCKS s e.call) (suc i) rest else Some (at_call i kind.Reply))
+    else Some (at_head kind.Shape)
+
+abbrev pub is_done : Reply → Bool
+is_done Done = true
+is_done (Bytes value) = false
+is_done (Code n) = false
+is_done (Refused refusal) = false
+
+abbrev pub is_cancelled : Reply → Bool
+is_cancelled Done = false
+is_cancelled (Bytes value) = false
+is_cancelled (Code n) = n == 24
+is_cancelled (Refused refusal) = false
+
+-- the call is a commit that was accepted
+abbrev pub is_commit_done : Call → Reply → Bool
+is_commit_done Commit r = is_done r
+is_commit_done (Begin props room) r = false
+is_commit_done (Abort outer) r = false
+is_commit_done (Mode room) r = false
+is_commit_done InTransaction r = false
+is_commit_done (Read hint width at) r = false
+is_commit_done (Write hint at value) r = false
+is_commit_done (Log width at) r = false
+is_commit_done (LogBytes at size) r = false
+is_commit_done (Copy c) r = false
+is_commit_done (Fill hint to byte size) r = false
+is_commit_done (CommitAction action) r = false
+is_commit_done (UndoAction action) r = false
+is_commit_done (Load width at) r = false
+is_commit_done (Save at value) r = false
+
+-- the call is an abort that was accepted
+abbrev pub is_abort_done : Call → Reply → Bool
+is_abort_done Commit r = false
+is_abort_done (Begin props room) r = false
+is_abort_done (Abort outer) r = is_cancelled r
+is_abort_done (Mode room) r = false
+is_abort_done InTransaction r = false
+is_abort_done (Read hint width at) r = false
+is_abort_done (Write hint at value) r = false
+is_abort_done (Log width at) r = false
+is_abort_done (LogBytes at size) r = false
+is_abort_done (Copy c) r = false
+is_abort_done (Fill hint to byte size) r = false
+is_abort_done (CommitAction action) r = false
+is_abort_done (UndoAction action) r = false
+is_abort_done (Load width at) r = false
+is_abort_done (Save at value) r = false
+
+-- the last of these calls passes a test
+abbrev pub last_is : (Entry → Bool) → List Entry → Bool
+last_is test [] = false
+last_is test (e ∷ []) = test e
+last_is test (e ∷ f ∷ rest) = last_is test (f ∷ rest)
+
+abbrev pub ends_by_commit : List Entry → Bool
+ends_by_commit calls = last_is (λ e. is_commit_done e.call e.reply) calls
+
+abbrev pub ends_by_abort : List Entry → Bool
+ends_by_abort calls = last_is (λ e. is_abort_done e.call e.reply) calls
+
+-- the transaction was irrevocable as its last call came
+abbrev pub came_irrevocable : List ℕ → Attempt → Bool
+came_irrevocable memory a = (state_at memory a (take (length a.calls - 1) a.calls)).irrevocable
+
+-- the machine's state after the calls fits the outcome
+abbrev pub fits : Outcome → List ℕ → Attempt → State → Bool
+fits Committed memory a s = not (is_open s) && ends_by_commit a.calls
+fits ReadOnly memory a s = (not (is_open s) && ends_by_commit a.calls) && (bytes_eq s.memory memory && not (came_irrevocable memory a))
+fits Cancelled memory a s = not (is_open s) && ends_by_abort a.calls
+fits Conflict memory a s = is_open s && not s.irrevocable
+fits Full memory a s = is_open s && not s.irrevocable
+fits NoMemory memory a s = is_open s && not s.irrevocable
+fits Unfinished memory a s = is_open s
+
+-- what is wrong at the end of an attempt, of which every reply is right
+abbrev pub end_fault : List ℕ → Attempt → State → Option Fault
+end_fault memory a s =
+    if fits a.outcome memory a s
+    then (if pointwise same_ran a.ran (ran_alone a.outcome s) then None else Some (at_head kind.Ran))
+    else Some (at_head kind.Shape)
+
+-- what is wrong with an attempt on this memory, if something is: the first fault in the order of its calls, and then at its end
+unfoldable pub fault_in : List ℕ → Attempt → Option Fault
+fault_in memory a =
+    if may_begin a.props
+    then first_of (calls_fault (opened memory a.arena a.props) 0 a.calls) (end_fault memory a (alone MAX_OPEN_BLOCKS memory a))
+    else Some (at_head kind.Shape)
