@@ -54,10 +54,10 @@ run --version x
 check 'version' 1
 run --loud sched -
 check 'a flag' 1
-for command in threads check; do
-    run "$command" x
-    check "$command" 1
-done
+run threads x
+check threads 1
+run check
+check 'check without a file' 1
 
 want_line 'itmrun: reading failed'
 run sched "$work/absent"
@@ -313,6 +313,8 @@ if [ -w /dev/full ]; then
     status=$?
     check 'full output of asm' 5
 fi
+
+. "$root/tests/histories.sh"
 
 echo "$passed passed, $failed failed"
 [ "$failed" = 0 ]

@@ -17,8 +17,13 @@
 #
 # Each script is printed by `itmrun asm` too: the print has to be printed as itself, and to be run as the script was.
 #
+# To `itmrun check` each history has to be legal. Four to six texts that are a change or two away from it, some of them
+# legal, have to be judged as tests/soak/verdict.py judges them, with the same line. From 500 scripts on, each verdict
+# and each fault of a text has to have come.
+#
 # ITMRUN=PROGRAM takes another built program than this tree's. The exit status is 0 where every history was right. At
-# the first one that was not, the script and what came of it are kept, and the status is 1.
+# the first one that was not, the script and what came of it are kept, with the changed history in `changed` where that
+# was judged in another way, and the status is 1.
 
 root=$(CDPATH= cd -- "$(dirname -- "$0")/.." && pwd) || exit 1
 program=${ITMRUN:-}

@@ -1,5 +1,6 @@
 """Runs scripts through `itmrun sched` and checks each history, with nothing of the program's own code; and prints each
-script by `itmrun asm`, whose print has to be run as the script was.
+script by `itmrun asm`, whose print has to be run as the script was. Has each history judged by `itmrun check`, and so
+some texts that are near to it.
 
 check.py PROGRAM FOLDER COUNT SEED: random scripts.
 check.py PROGRAM FOLDER FILE: the script in FILE.
@@ -16,8 +17,10 @@ import sys
 import generate
 import history
 import steps
+import verdict
 from entries import BEGIN, COPIES, FILLS
 from history import NUMBER, OUTCOMES, Wrong, expect
+from mutation import Mutator
 from plain import Machine, goes, spelled
 from player import Player
 from script import ANY, Script
@@ -28,7 +31,9 @@ COUNTED = [
     ["scripts", "attempts", "calls", *OUTCOMES, "odd clocks", "threads that gave up"],
     # a call outside a block, which is refused by 1, has no line
     ["nested blocks", "irrevocable", "copies", "fills", "actions run", *(f"refused {n}" for n in range(2, 9))],
+    ["changed histories", *verdict.EVERY],
 ]
+ENOUGH = 500  # scripts, after which every verdict has to have come
 
 
 def attempts_of(text):
@@ -265,6 +270,47 @@ def printed(program, script, run):
     expect((other.stdout, other.stderr, other.returncode) == ends, "its print is run in another way")
 
 
+def judged(program, text):
+    """The verdict of a text, which the program has to give."""
+    due = verdict.judge(text)
+    run = made(program, "check", text)
+    answer, wanted = (run.stdout, run.stderr, run.returncode), verdict.answer(due)
+    expect(answer == wanted, "check answers", answer, "and has to answer", wanted)
+    return due
+
+
+def tried(program, written, mutator):
+    """The counts of a script. Adds each text that is written for it to those that are kept where it fails."""
+    script = written["script.itm"]
+    run = made(program, "sched", script)
+    written.update({"history": run.stdout, "errors": run.stderr})
+    counts = Check(script.decode("latin-1")).run(run.stdout, run.stderr, run.returncode)
+    printed(program, script, run)
+    expect(judged(program, run.stdout) == verdict.LEGAL, "the history is not legal")
+    for changed in mutator.texts(run.stdout):
+        written["changed"] = changed
+        counts.update(["changed histories", judged(program, changed).kind])
+    return counts
+
+
+def kept(folder, written):
+    """Keeps these texts; their files."""
+    for name, data in written.items():
+        pathlib.Path(folder, name).write_bytes(data)
+    return ", ".join(f"{folder}/{name}" for name in written)
+
+
+def summary(counts):
+    """Prints the counts; the exit status."""
+    for names in COUNTED:
+        print(", ".join(f"{counts[name]} {name}" for name in names))
+    absent = [kind for kind in verdict.EVERY if not counts[kind]]
+    if not absent or counts["scripts"] < ENOUGH:
+        return 0
+    print("failed: no history was judged so:", ", ".join(absent))
+    return 1
+
+
 def main(program, folder, what, seed=None):
     if seed is None:
         texts = [pathlib.Path(what).read_bytes().decode("latin-1")]
@@ -274,18 +320,11 @@ def main(program, folder, what, seed=None):
     for number, text in enumerate(texts):
         written = {"script.itm": text.encode("latin-1")}
         try:
-            run = made(program, "sched", written["script.itm"])
-            written.update({"history": run.stdout, "errors": run.stderr})
-            counts += Check(text).run(run.stdout, run.stderr, run.returncode)
-            printed(program, written["script.itm"], run)
+            counts += tried(program, written, Mutator(seed, number))
         except (Wrong, UnicodeDecodeError, subprocess.TimeoutExpired) as wrong:
-            for name, data in written.items():
-                pathlib.Path(folder, name).write_bytes(data)
-            print(f"failed: script {number}: {wrong}\nkept: {folder}/script.itm")
+            print(f"failed: script {number}: {wrong}\nkept: {kept(folder, written)}")
             return 1
-    for names in COUNTED:
-        print(", ".join(f"{counts[name]} {name}" for name in names))
-    return 0
+    return summary(counts)
 
 
 if __name__ == "__main__":

@@ -8,3 +8,4 @@ pub mod ScheduleItems
 pub mod ProgramPages
 pub mod WrittenWorlds
 pub mod PrintedTexts
+pub mod JudgedHistories

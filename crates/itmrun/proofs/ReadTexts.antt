@@ -29,13 +29,27 @@ same_text text all e =
       | inr few ↦ ap program_of (e ∙ past (MAX_TEXT + 1) all (omega arith))
     ]
 
+-- what is so of some text that a reader gave, and of what is read of that text
+abbrev pub OfText : {A : Type 0} → (List ℕ → A) → Option (List ℕ) → (A → Type 0) → Type 0
+OfText f known P = (text : List ℕ) × IfSome known (λ all. text ≡ all) × P (f text)
+
 -- what is so of the program of the text that was read is so of the reader's text, where that is known
-pub cut : (known : Option (List ℕ)) (text : List ℕ) (P : Result Listing AsmFault → Type 0) → IfSome known (λ all. text ≡ take (MAX_TEXT + 1) all) → P (program_of text)
-    → (whole : List ℕ) × IfSome known (λ all. whole ≡ all) × P (program_of whole)
+pub cut : (known : Option (List ℕ)) (text : List ℕ) (P : Result Listing AsmFault → Type 0) → IfSome known (λ all. text ≡ take (MAX_TEXT + 1) all) → P (program_of text) → OfText program_of known P
 cut None text P e h = (text, tt, h)
 cut (Some all) text P e h = (all, refl, subst P (same_text text all e) h)
 
+-- a text that is no longer than its limit is the reader's whole text
+pub uncut : {A : Type 0} (f : List ℕ → A) (known : Option (List ℕ)) (text : List ℕ) (limit : ℕ) (P : A → Type 0) → IfSome known (λ all. text ≡ take (limit + 1) all) → length text ≤ limit → P (f text) → OfText f known P
+uncut f None text limit P e few h = (text, tt, h)
+uncut f (Some all) text limit P e few h =
+    let short : length all ≤ limit + 1 = omega (arith, length-take (limit + 1) all, ap length e) in
+    (all, refl, subst (λ (t : List ℕ). P (f t)) (e ∙ past (limit + 1) all short) h)
+
 -- what is so whatever the text says
-pub unread : (known : Option (List ℕ)) (P : Result Listing AsmFault → Type 0) → ((r : Result Listing AsmFault) → P r) → (whole : List ℕ) × IfSome known (λ all. whole ≡ all) × P (program_of whole)
-unread None P h = ([], tt, h (program_of []))
-unread (Some all) P h = (all, refl, h (program_of all))
+pub unread : {A : Type 0} (f : List ℕ → A) (known : Option (List ℕ)) (P : A → Type 0) → ((r : A) → P r) → OfText f known P
+unread f None P h = ([], tt, h (f []))
+unread f (Some all) P h = (all, refl, h (f all))
+
+-- what is so of what was read is so of the text
+pub of_read : {A : Type 0} (f : List ℕ → A) (known : Option (List ℕ)) (x : A) (P : A → Type 0) → OfText f known (λ r. r ≡ x) → P x → OfText f known P
+of_read f known x P (text, is, e) h = (text, is, subst P (sym e) h)

@@ -1,4 +1,4 @@
--- What a script is answered.
+-- What a script is answered, and what is said of each end.
 use Rattle.std.specs.Prelude.{◌≡◌, ◌⊎◌, ℕ, ◌+◌, Bool, true, false, List, [], ◌∷◌, ◌++◌, length, take, decimal, codes, Option, None, Some, Result, Ok, Err, if◌then◌else◌}
 use Rattle.std.specs.List.{list_any}
 use Rattle.std.specs.Io.KnownBytes.{Appends, Keeps}
@@ -8,6 +8,9 @@ use Rattle.norec_world.specs.World.{World}
 use Rattle.script_fields.specs.declared.fault.AsmFault.{AsmFault}
 use Rattle.script_fields.specs.Faults.{kind_text}
 use Rattle.script_program.specs.Listing.{Listing, threads_of}
+use Rattle.history_reader.specs.Faults.{kind_text as read_text}
+use Rattle.history_checker.specs.declared.verdict.Verdict.{Verdict}
+use Rattle.history_checker.specs.declared.verdict.Verdict.TheVariants.{Legal, Bad}
 use Rattle.itmrun.specs.declared.finish.Finish.{Finish}
 use Rattle.itmrun.specs.declared.finish.Finish.TheVariants as ends
 use Rattle.script_print.specs.Printing.{printed}
@@ -25,6 +28,8 @@ Reads (Err ends.NoMemory) read = Unit {0}
 Reads (Err ends.Reading) read = Unit {0}
 Reads (Err (ends.Ran endings)) read = ⊥
 Reads (Err ends.Printed) read = ⊥
+Reads (Err (ends.Judged v)) read = ⊥
+Reads (Err (ends.Unread f)) read = ⊥
 Reads (Err ends.Writing) read = ⊥
 
 -- ## A script that is run
@@ -43,6 +48,8 @@ Begun (Err f) old new = ⊥
 abbrev pub Runs : Finish → Result Listing AsmFault → Option (List ℕ) → Option (List ℕ) → Type 0
 Runs (ends.Ran endings) read old new = Told read endings.items old new
 Runs ends.Printed read old new = ⊥
+Runs (ends.Judged v) read old new = ⊥
+Runs (ends.Unread f) read old new = ⊥
 Runs (ends.Refused f) read old new = (read ≡ Err f) × Keeps old new
 Runs ends.NoMemory read old new = Keeps old new
 Runs ends.Reading read old new = Keeps old new
@@ -64,6 +71,8 @@ TextBegun (Err f) old new = ⊥
 abbrev pub Prints : Finish → Result Listing AsmFault → Option (List ℕ) → Option (List ℕ) → Type 0
 Prints (ends.Ran endings) read old new = ⊥
 Prints ends.Printed read old new = TextTold read old new
+Prints (ends.Judged v) read old new = ⊥
+Prints (ends.Unread f) read old new = ⊥
 Prints (ends.Refused f) read old new = (read ≡ Err f) × Keeps old new
 Prints ends.NoMemory read old new = Keeps old new
 Prints ends.Reading read old new = Keeps old new
@@ -78,10 +87,17 @@ fell_short (Some Finished) = false
 fell_short (Some GaveUp) = true
 fell_short (Some NoMemory) = true
 
+-- of a verdict
+abbrev pub verdict_status : Verdict → ℕ
+verdict_status Legal = 0
+verdict_status (Bad row kind) = 3
+
 abbrev pub status_of : Finish → ℕ
 status_of (ends.Ran endings) = if list_any fell_short endings.items then 4 else 0
 status_of ends.Printed = 0
+status_of (ends.Judged v) = verdict_status v
 status_of (ends.Refused f) = 2
+status_of (ends.Unread f) = 2
 status_of ends.NoMemory = 4
 status_of ends.Reading = 5
 status_of ends.Writing = 5
@@ -102,11 +118,17 @@ abbrev pub ending_lines : ℕ → List (Option End) → List ℕ
 ending_lines thread [] = []
 ending_lines thread (ending ∷ endings) = ending_line thread ending ++ ending_lines (thread + 1) endings
 
+-- the line on a text's fault
+unfoldable pub fault_line : ℕ → List ℕ → List ℕ
+fault_line line words = codes "itmrun: line " ++ decimal line ++ codes ": " ++ words ++ codes "\n"
+
 -- what is said of it on the error writer
 unfoldable pub error_text : Finish → List ℕ
 error_text (ends.Ran endings) = ending_lines 0 endings.items
 error_text ends.Printed = codes ""
-error_text (ends.Refused f) = codes "itmrun: line " ++ decimal f.line ++ codes ": " ++ kind_text f.kind ++ codes "\n"
+error_text (ends.Judged v) = codes ""
+error_text (ends.Refused f) = fault_line f.line (kind_text f.kind)
+error_text (ends.Unread f) = fault_line f.line (read_text f.kind)
 error_text ends.NoMemory = codes "itmrun: no memory\n"
 error_text ends.Reading = codes "itmrun: reading failed\n"
 error_text ends.Writing = codes "itmrun: writing failed\n"

@@ -1,6 +1,7 @@
 //! The program's words.
 
 use crate::asm::asm;
+use crate::check::check;
 use crate::sched::sched;
 use clap::error::ErrorKind;
 use clap::{Arg, ArgAction, Command};
@@ -19,13 +20,15 @@ enum WordsFault {
     Memory,
 }
 
-/// What is done with a script.
+/// What is done with a text.
 #[derive(Clone, Copy)]
 enum Task {
-    /// The canonical script of its program is written.
+    /// Of a script: the canonical script of its program is written.
     Asm,
-    /// Its schedule is run, and the history is written.
+    /// Of a script: its schedule is run, and the history is written.
     Sched,
+    /// Of a history: the verdict is written.
+    Check,
 }
 
 /// Says a line on the error writer; where that fails, nothing more can be said.
@@ -60,7 +63,7 @@ fn command_line<'a>(alloc: Global) -> Result<Command<'a>, std::alloc::AllocError
         .arg(file)
 }
 
-/// The task and the file of `asm FILE` or `sched FILE`. The other commands are not there yet.
+/// The task and the file of `asm FILE`, `sched FILE` or `check FILE`. The other command is not there yet.
 fn order_of<'a>(alloc: Global, words: &'a [String]) -> Result<(Task, &'a str), WordsFault> {
     let line = command_line(alloc).map_err(|_| WordsFault::Memory)?;
     let matches = match line.try_get_matches_from(words) {
@@ -73,11 +76,12 @@ fn order_of<'a>(alloc: Global, words: &'a [String]) -> Result<(Task, &'a str), W
     match (matches.get_str("command"), matches.get_str("file")) {
         (Some("asm"), Some(file)) => Ok((Task::Asm, file)),
         (Some("sched"), Some(file)) => Ok((Task::Sched, file)),
+        (Some("check"), Some(file)) => Ok((Task::Check, file)),
         _ => Err(WordsFault::Usage),
     }
 }
 
-/// Does the task with the script of a reader, and writes to standard output.
+/// Does the task with the text of a reader, and writes to standard output.
 fn do_task<T: Print + AllocGlobal, R: Read, E: Write>(
     rt: &T,
     task: Task,
@@ -88,6 +92,7 @@ fn do_task<T: Print + AllocGlobal, R: Read, E: Write>(
         Ok(mut writer) => match task {
             Task::Asm => asm(rt.alloc(), reader, &mut writer, errors),
             Task::Sched => sched(rt.alloc(), reader, &mut writer, errors),
+            Task::Check => check(rt.alloc(), reader, &mut writer, errors),
         },
         Err(_) => say(errors, b"itmrun: no memory\n", 4),
     }

@@ -1,11 +1,13 @@
-//! How a run or a printing of a script ended, and what is said of that.
+//! How a run or a printing of a script ended, or the judging of a history, and what is said of that.
 
 ghost use Rattle.std.specs.Prelude.{◌≡◌};
 ghost use Rattle.std.specs.List.{list_any};
 ghost use Rattle.tx_history.specs.Spelling.{Puts};
-ghost use Rattle.itmrun.specs.Answers.{thread_line, ending_line, ending_lines, error_text, fell_short, status_of};
+ghost use Rattle.itmrun.specs.Answers.{thread_line, ending_line, ending_lines, error_text, fault_line, fell_short, status_of, verdict_status};
 
 use arrayvec::ArrayVec;
+use history_checker::Verdict;
+use history_reader::ReadFault;
 use itm_types::MAX_ACTORS;
 use norec_world::End;
 use script_asm::AsmFault;
@@ -16,15 +18,19 @@ use tx_history::{Piece, put_pieces};
 /// How the threads of a program stand, by number; `None` for one that has not ended.
 pub type Endings = ArrayVec<Option<End>, MAX_ACTORS>;
 
-/// How a run of a script ended, or its printing.
+/// How a run of a script ended, or its printing, or the judging of a history.
 #[derive(Drop)]
 pub enum Finish {
     /// Its schedule was run, and the history is written.
     Ran(Endings),
     /// The text of its program is written.
     Printed,
+    /// The verdict on the history is written.
+    Judged(Verdict),
     /// The script is no program.
     Refused(AsmFault),
+    /// The text is no history.
+    Unread(ReadFault),
     /// Memory was refused before the run.
     NoMemory,
     /// A read failed.
@@ -71,6 +77,23 @@ fn put_endings<E: Write>(errors: &mut E, endings: &[Option<End>]) -> io::Result<
     Ok(())
 }
 
+/// Writes the line on a text's fault.
+#[tactic(auto, unfolding(crate::specs::Answers::fault_line), using(tx_history::proofs::TextPieces::put_as))]
+fn put_fault<E: Write>(errors: &mut E, line: usize, words: &[u8]) -> io::Result<()>
+    ensures { Puts (E.contents errors.old) (E.contents errors.new) result (fault_line line words.now) }
+{
+    put_pieces(
+        errors,
+        &[
+            Piece::Text(b"itmrun: line "),
+            Piece::Number(line as u64),
+            Piece::Text(b": "),
+            Piece::Text(words),
+            Piece::Text(b"\n"),
+        ],
+    )
+}
+
 /// Writes what is to be said of how that ended.
 #[tactic(auto, unfolding(crate::specs::Answers::error_text), using(tx_history::proofs::TextPieces::put_as))]
 pub fn write_error<E: Write>(errors: &mut E, finish: &Finish) -> io::Result<()>
@@ -78,17 +101,9 @@ pub fn write_error<E: Write>(errors: &mut E, finish: &Finish) -> io::Result<()>
 {
     match finish {
         Finish::Ran(endings) => put_endings(errors, endings.as_slice()),
-        Finish::Printed => Ok(()),
-        Finish::Refused(fault) => put_pieces(
-            errors,
-            &[
-                Piece::Text(b"itmrun: line "),
-                Piece::Number(fault.line as u64),
-                Piece::Text(b": "),
-                Piece::Text(fault.kind.text().as_bytes()),
-                Piece::Text(b"\n"),
-            ],
-        ),
+        Finish::Printed | Finish::Judged(_) => Ok(()),
+        Finish::Refused(fault) => put_fault(errors, fault.line, fault.kind.text().as_bytes()),
+        Finish::Unread(fault) => put_fault(errors, fault.line, fault.kind.text().as_bytes()),
         Finish::NoMemory => put_pieces(errors, &[Piece::Text(b"itmrun: no memory\n")]),
         Finish::Reading => put_pieces(errors, &[Piece::Text(b"itmrun: reading failed\n")]),
         Finish::Writing => put_pieces(errors, &[Piece::Text(b"itmrun: writing failed\n")]),
@@ -108,6 +123,16 @@ fn any_fell_short(endings: &[Option<End>]) -> bool
     endings.iter().any(fell_short)
 }
 
+/// The status of the program once a verdict is written.
+fn verdict_status(verdict: Verdict) -> u8
+    ensures { result ≡ verdict_status verdict }
+{
+    match verdict {
+        Verdict::Legal => 0,
+        Verdict::Bad { .. } => 3,
+    }
+}
+
 /// The status of the program.
 pub fn status(finish: &Finish) -> u8
     ensures { result ≡ status_of finish.now }
@@ -121,7 +146,8 @@ pub fn status(finish: &Finish) -> u8
             }
         }
         Finish::Printed => 0,
-        Finish::Refused(_) => 2,
+        Finish::Judged(verdict) => verdict_status(*verdict),
+        Finish::Refused(_) | Finish::Unread(_) => 2,
         Finish::NoMemory => 4,
         Finish::Reading | Finish::Writing => 5,
     }

@@ -1,7 +1,8 @@
-//! The program `itmrun`: scripts of transactional calls, run to histories, or printed.
+//! The program `itmrun`: scripts of transactional calls, run to histories, or printed; and histories, judged.
 #![tactic(auto)]
 
 mod asm;
+mod check;
 mod command;
 #[cfg(test)]
 mod fakes;

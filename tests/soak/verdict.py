@@ -1,0 +1,229 @@
+"""What a checker of histories has to answer to a text: whether it is a history and, if so, whether it is legal."""
+
+import collections
+import re
+
+from entries import (
+    ABORT, ASKS, BEGIN, COMMIT, COPIES, FILLS, INNER, LOADS, LOG_BYTES, LOGS, MODE, NO_ID, ON_COMMIT, ON_UNDO, OUTER,
+    READS, SERIAL, WRITTEN,
+)  # fmt: skip
+from history import OUTCOMES, SOME_PROPS, any_of
+from plain import WORD, Machine
+
+# what is wrong with a text that is no history, and with a history that is not legal
+FAULTS = HEADER, LINE, SIZE, CUT = "bad header", "bad line", "bad size", "cut"
+KINDS = POSITION, AT, REPLY, SHAPE, RAN, FINAL = "position", "at", "reply", "shape", "ran", "final"
+
+Verdict = collections.namedtuple("Verdict", "row kind")
+LEGAL = Verdict(0, "legal")
+EVERY = (LEGAL.kind, *KINDS, *FAULTS)
+
+Call = collections.namedtuple("Call", "row values reply")
+Attempt = collections.namedtuple("Attempt", "row at outcome props arena calls ran")
+History = collections.namedtuple("History", "memory attempts row clock final")
+
+
+class Found(Exception):
+    """The first thing that is wrong."""
+
+
+def need(holds, row, kind):
+    if not holds:
+        raise Found(Verdict(row, kind))
+
+
+# lines
+
+# of a field the pattern, the value, and whether a value is within its limits
+Form = collections.namedtuple("Form", "pattern value fits")
+
+
+def word(pattern):
+    return Form(pattern, str, lambda _: True)
+
+
+def number(least=0, most=(1 << 64) - 1):
+    # 21 digits show that a number is beyond every limit
+    return Form("0|[1-9][0-9]*", lambda digits: int(digits[:21]), lambda value: least <= value <= most)
+
+
+def data(least, most, step=1):
+    return Form("(?:[0-9a-f]{2})+", bytes.fromhex, lambda value: len(value) in range(least, most + 1, step))
+
+
+N, FUNCTION, WHOLE, PROPS = number(), number(most=(1 << 32) - 1), data(WORD, 65536, WORD), word(SOME_PROPS)
+OK, CODE, REFUSED = [word("ok")], [word("code"), number(most=255)], [word("refused"), number(1, 8)]
+
+# of each call its operands and its reply
+CALLS = {
+    BEGIN: ([PROPS], CODE),
+    COMMIT: ([], OK),
+    ABORT: ([word(any_of(map(re.escape, (INNER, OUTER))))], CODE),
+    MODE: ([word(SERIAL)], OK),
+    ASKS: ([], CODE),
+    ON_COMMIT: ([FUNCTION, word(NO_ID), N], OK),
+    ON_UNDO: ([FUNCTION, N], OK),
+    LOG_BYTES: ([N, N], OK),
+    **{name: ([N], [data(size, size)]) for name, size in {**READS, **LOADS}.items()},
+    **{name: ([N, data(size, size)], OK) for name, size in WRITTEN.items()},
+    **{name: ([N], OK) for name in LOGS},
+    **{name: ([N, N, N], OK) for name in COPIES},
+    **{name: ([N, number(most=255), N], OK) for name in FILLS},
+}
+
+# by their first word, the forms that the fields after it may have
+LINES = {
+    "memory": [[WHOLE]],
+    "attempt": [[number(most=31), number(1, 10001), N, word(any_of([*OUTCOMES, "nomemory"])), PROPS]],
+    "arena": [[word("-")], [data(1, 4096)]],
+    "ran": [[word("commit|undo"), FUNCTION, N]],
+    "end": [[]],
+    "final": [[N, WHOLE]],
+}
+
+
+def forms_of(start, fields):
+    """The forms that the fields of a line with this first word may have."""
+    if start != "call":
+        return LINES.get(start, [])
+    if not fields or fields[0] not in CALLS:
+        return []
+    operands, reply = CALLS[fields[0]]
+    return [[word(re.escape(fields[0])), *operands, word("="), *some] for some in (reply, REFUSED)]
+
+
+def has(fields, forms):
+    return len(fields) == len(forms) and all(re.fullmatch(it.pattern, field) for it, field in zip(forms, fields))
+
+
+class Reader:
+    """The lines of a text that are not read yet."""
+
+    def __init__(self, text):
+        # what stands after the last line feed is no line
+        *self.lines, self.rest = text.decode("latin-1").split("\n")
+        self.row = 0  # of the line that was read last
+
+    def line(self):
+        self.row += 1
+        need(self.row <= len(self.lines), self.row, CUT)
+        return self.lines[self.row - 1]
+
+    def next(self, *starts):
+        """The first word of the next line, which has to be one of these, and the values of its other fields."""
+        start, *fields = self.line().split(" ")
+        forms = next((it for it in forms_of(start, fields) if has(fields, it)), None)
+        need(start in starts and forms is not None, self.row, LINE)
+        values = [form.value(field) for form, field in zip(forms, fields)]
+        need(all(form.fits(value) for form, value in zip(forms, values)), self.row, SIZE)
+        return start, values
+
+    def attempt(self, at, outcome, props):
+        """The attempt whose head was read."""
+        row, calls, ran = self.row, [], []
+        arena = self.next("arena")[1][0]
+        start, values = self.next("call", "ran", "end")
+        while start == "call":
+            body, reply = self.lines[self.row - 1].split(" = ")
+            calls.append(Call(self.row, values[: body.count(" ")], reply))
+            start, values = self.next("call", "ran", "end")
+        while start == "ran":
+            ran.append(tuple(values))
+            start, values = self.next("ran", "end")
+        return Attempt(row, at, outcome, props, b"" if arena == "-" else arena, calls, ran)
+
+    def end(self):
+        need(self.row == len(self.lines), self.row + 1, LINE)
+        need(not self.rest, self.row + 1, CUT)
+
+
+def read(text):
+    reader, attempts = Reader(text), []
+    need(reader.line() == "itm-history 1", 1, HEADER)
+    memory = reader.next("memory")[1][0]
+    start, values = reader.next("attempt", "final")
+    while start == "attempt":
+        attempts.append(reader.attempt(*values[2:]))
+        start, values = reader.next("attempt", "final")
+    clock, final = values
+    need(len(final) == len(memory), reader.row, SIZE)
+    history = History(memory, attempts, reader.row, clock, final)
+    reader.end()
+    return history
+
+
+# verdicts
+
+
+def positions(committed, others):
+    """The committed attempts have to stand at as many positions from 0 on, and the others no later than at the end."""
+    taken = set()
+    for attempt in committed:
+        need(attempt.at < len(committed) and attempt.at not in taken, attempt.row, POSITION)
+        taken.add(attempt.at)
+    for attempt in others:
+        need(attempt.at <= len(committed), attempt.row, AT)
+
+
+def replay(attempt, memory):
+    """The plain machine that an attempt leaves which runs alone on these bytes, as the history tells it."""
+    machine = Machine(memory, attempt.arena)
+    need(not machine.refusal((BEGIN, attempt.props)), attempt.row, SHAPE)
+    machine.one((BEGIN, attempt.props))
+    for call in attempt.calls:
+        need(machine.blocks, attempt.row, SHAPE)
+        need(machine.one(call.values) == call.reply, call.row, REPLY)
+    need(has_shape(attempt.outcome, machine, memory), attempt.row, SHAPE)
+    if attempt.outcome in ("conflict", "full", "nomemory"):
+        machine.back_to_start()
+    need(attempt.ran == machine.ran, attempt.row, RAN)
+    return machine
+
+
+def has_shape(outcome, machine, memory):
+    """Whether an attempt that began on these bytes may have ended so where it stands."""
+    if machine.blocks:
+        return outcome == "unfinished" or outcome in ("conflict", "full", "nomemory") and not machine.irrevocable
+    if machine.cancelled:
+        return outcome == "cancelled"
+    return outcome == "committed" or outcome == "readonly" and machine.memory == memory and not machine.irrevocable
+
+
+def ends_well(history, memories, unfinished, irrevocable):
+    """Whether the final line may stand after attempts that left these memories; it is given where those stand that are
+    unfinished, and those of them that became irrevocable."""
+    done = len(memories) - 1
+    if history.clock == 2 * done:
+        return history.final == memories[done] and not irrevocable
+    return history.clock == 2 * done + 1 and done in unfinished and irrevocable in ([], [done])
+
+
+def check(history):
+    committed = [it for it in history.attempts if it.outcome == "committed"]
+    others = [it for it in history.attempts if it.outcome != "committed"]
+    positions(committed, others)
+    memories = [history.memory]
+    for attempt in sorted(committed, key=lambda it: it.at):
+        memories.append(bytes(replay(attempt, memories[attempt.at]).memory))
+    machines = [(it, replay(it, memories[it.at])) for it in others]
+    unfinished = [(it.at, machine.irrevocable) for it, machine in machines if it.outcome == "unfinished"]
+    irrevocable = [at for at, became in unfinished if became]
+    need(ends_well(history, memories, [at for at, _ in unfinished], irrevocable), history.row, FINAL)
+
+
+def judge(text):
+    """The verdict on a text."""
+    try:
+        check(read(text))
+    except Found as found:
+        return found.args[0]
+    return LEGAL
+
+
+def answer(verdict):
+    """The output, the errors and the status that tell a verdict."""
+    if verdict.kind in FAULTS:
+        return b"", f"itmrun: line {verdict.row}: {verdict.kind}\n".encode(), 2
+    if verdict == LEGAL:
+        return b"legal\n", b"", 0
+    return f"bad {verdict.row} {verdict.kind}\n".encode(), b"", 3
