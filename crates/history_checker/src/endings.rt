@@ -1,14 +1,13 @@
 //! What a history's end says, beside what its attempts told.
 
 ghost use Rattle.std.specs.Prelude.{◌≡◌, ◌+◌, ◌*◌, ◌≤◌, ◌==◌, ◌&&◌, not, None, length, map};
-ghost use Rattle.tx_attempts.specs.Counts.{one_where};
 ghost use Rattle.tx_history.specs.Legal.{is_unfinished, memory_at};
 ghost use Rattle.history_checker.specs.Verdicts.{ends_free, ends_held, final_verdict, is_waiting, others_fault};
 ghost use Rattle.history_checker.specs.Tables.{told_away, told_fault, told_holding, told_of};
 
 use crate::replays::Told;
 use crate::rows::head_row;
-use crate::tables::attempt_at;
+use crate::tables::{attempt_at, one_where};
 use crate::verdict::{BadKind, Spot, Verdict};
 use tx_attempts::{Attempt, Outcome};
 use tx_history::History;
@@ -41,13 +40,6 @@ fn is_waiting(attempts: &[Attempt], count: usize) -> bool
         }
     }
     false
-}
-
-fn one_where(yes: bool) -> usize
-    ensures value { result ≡ one_where yes }
-    ensures most { result ≤ 1 }
-{
-    if yes { 1 } else { 0 }
 }
 
 /// How many hold the clock.

@@ -53,7 +53,8 @@ pub(crate) fn is_committed(outcome: Outcome) -> bool
     matches!(outcome, Outcome::Committed)
 }
 
-fn one_where(yes: bool) -> usize
+/// One where it is so.
+pub(crate) fn one_where(yes: bool) -> usize
     ensures value { result ≡ one_where yes }
     ensures most { result ≤ 1 }
 {

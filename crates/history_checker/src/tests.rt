@@ -154,6 +154,45 @@ fn others(rt: HostRuntime) -> Result<(), Fail> {
     Ok(())
 }
 
+/// Beside a writer, one that reads a number and whose block stays open.
+#[test]
+fn open_blocks(rt: HostRuntime) -> Result<(), Fail> {
+    let alloc = rt.alloc();
+    for outcome in [
+        Outcome::Conflict,
+        Outcome::Full,
+        Outcome::NoMemory,
+        Outcome::Unfinished,
+    ] {
+        let mut calls = Vec::new(alloc);
+        calls.push(reads(1))?;
+        let other = attempt(alloc, outcome, 1, calls);
+        let verdict = told(alloc, writer(alloc, 0, 0)?, other, 2, 1)?;
+        assert_eq!(rt; verdict, Verdict::Legal);
+    }
+    Ok(())
+}
+
+/// No attempt, and then nothing may have changed; line 3 is the final one.
+#[test]
+fn nobody(rt: HostRuntime) -> Result<(), Fail> {
+    let alloc = rt.alloc();
+    for (clock, last, want) in [
+        (0, 0, Verdict::Legal),
+        (1, 0, bad(3, BadKind::Final)),
+        (0, 1, bad(3, BadKind::Final)),
+    ] {
+        let history = History {
+            memory: bytes(alloc, 0)?,
+            attempts: Attempts::new(Vec::new(alloc)),
+            clock,
+            bytes: bytes(alloc, last)?,
+        };
+        assert_eq!(rt; check(alloc, &history)?, want);
+    }
+    Ok(())
+}
+
 /// Beside a writer, one that becomes irrevocable, at line 9, and has not ended; 13 is the final line.
 #[test]
 fn irrevocable(rt: HostRuntime) -> Result<(), Fail> {

@@ -16,7 +16,7 @@ use std::alloc::{AllocError, Global};
 use tx_history::History;
 
 /// Whether the history is legal, or the first line of its text that is wrong. It costs what the history holds and what
-/// its calls touch.
+/// its calls touch; beside two copies of the memory it keeps what the calls of one attempt overwrite, each time anew.
 pub fn check(alloc: Global, history: &History) -> Result<Verdict, AllocError>
     requires some { WORD ≤ length history.now.memory }
     requires room { length history.now.memory ≤ MAX_MEMORY }
