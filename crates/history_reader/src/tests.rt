@@ -61,7 +61,7 @@ fn read_back(rt: HostRuntime) -> Result<(), Fail> {
 /// Each proper beginning is cut in its last line.
 #[test]
 fn beginnings(rt: HostRuntime) {
-    let mut line = 1;
+    let mut line = 1usize;
     for (length, byte) in TEXT.iter().enumerate() {
         let (part, _) = TEXT.split_at(length);
         let kind = ReadKind::Cut;
@@ -70,7 +70,7 @@ fn beginnings(rt: HostRuntime) {
             Some(ReadFault { line, kind })
         );
         if *byte == b'\n' {
-            line += 1;
+            line = line.saturating_add(1);
         }
     }
 }

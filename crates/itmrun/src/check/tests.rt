@@ -95,9 +95,11 @@ fn judged_histories(rt: HostRuntime) {
 /// A fault with its line, and nothing written.
 #[test]
 fn refused_texts(rt: HostRuntime) {
-    let (cut, _) = IN_TURN.split_at(IN_TURN.len() - 1);
     let rows: [(&[u8], &[u8]); 4] = [
-        (cut, b"itmrun: line 13: cut\n"),
+        (
+            b"itm-history 1\nmemory 0000000000000000\nfinal 0 0000000000000000",
+            b"itmrun: line 3: cut\n",
+        ),
         (b"", b"itmrun: line 1: cut\n"),
         (b".memory 8\n", b"itmrun: line 1: bad header\n"),
         (b"itm-history 1\nmemory 00\n", b"itmrun: line 2: bad size\n"),
@@ -142,8 +144,8 @@ fn failing_writes(rt: HostRuntime) {
         };
         let mut errors = Vec::new(rt.alloc());
         assert_eq!(rt; check(rt.alloc(), &mut reader, &mut writer, &mut errors), 5);
-        let (front, _) = verdict.split_at(writes);
-        assert_eq!(rt; writer.taken.as_slice(), front);
+        assert_eq!(rt; writer.taken.len(), writes);
+        assert!(rt; verdict.starts_with(&writer.taken));
         assert_eq!(rt; errors.as_slice(), b"itmrun: writing failed\n".as_slice());
     }
 }
