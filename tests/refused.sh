@@ -1,50 +1,64 @@
 #!/bin/sh
-# Each allocation of some transactions refused in turn: sh tests/refused.sh. Outside the gate; needs rt, which builds the
-# tests with no proof, in some two minutes.
+# Each allocation of some tests refused in turn: sh tests/refused.sh. Outside the gate; needs rt, which builds the tests
+# with no proof, in some minutes.
 #
-# A test that holds wherever memory is refused is made many times, in a copy: the first time allocation MOST is refused to
-# it, then the one before that, and so on, since it allocates one time more before it begins. The last line is
-# "N passed, M failed"; the exit status is 0 where none failed.
+# A function of crates/memory_tests that holds wherever memory is refused is called by many tests, in a copy: in the first
+# one allocation MOST is refused to it, in the next one the one before that, and so on, since each of them allocates one
+# time more before the call. In the first one nothing may be refused. The last line is "N passed, M failed"; the exit
+# status is 0 where none failed.
 set -e
 
-# no test here allocates so often
+# no function here allocates so often
 MOST=96
 
 top=$(CDPATH= cd -- "$(dirname -- "$0")/.." && pwd)
 work=$(mktemp -d)
 trap 'rm -rf "$work"' EXIT
 tar -C "$top" --exclude=./.git --exclude=./crates/*/out -cf - . | tar -C "$work" -xf -
-cd "$work/crates/norec_world"
+cd "$work/crates/memory_tests"
 
-# make MODULE TEST..: those tests of the module, each so many times
+# make NAME CALL: so many tests of this call, which answers whether nothing was refused
 make() {
-    file=$1
-    shift
-    sed -i '0,/^use/s//mod refused;\n\nuse/' "src/tests/$file.rt"
-    mkdir -p "src/tests/$file"
-    {
-        echo 'use std::alloc::{AllocError, Global};'
-        echo 'use std::test::Fail;'
-        echo 'fn take(alloc: Global, times: usize) -> Result<(), AllocError> {'
-        echo '    for _ in 0..times { let mut bytes: Vec<u8> = Vec::new(alloc); bytes.reserve(8)?; }'
+    i=0
+    while [ $i -lt $MOST ]; do
+        echo '#[test]'
+        echo "fn $1_$i(rt: HostRuntime) -> Result<(), Fail> {"
+        echo "    take(rt.alloc(), $i)?;"
+        echo "    let found = $2;"
+        echo "    assert!(rt; found || $i > 0, \"more than $MOST\");"
         echo '    Ok(())'
         echo '}'
-        for name in "$@"; do
-            i=0
-            while [ $i -lt $MOST ]; do
-                echo '#[test]'
-                echo "fn ${name}_$i(rt: HostRuntime) -> Result<(), Fail> { take(rt.alloc(), $i)?; super::expect_$name(&rt, rt.alloc()); Ok(()) }"
-                i=$((i + 1))
-            done
-        done
-    } >"src/tests/$file/refused.rt"
+        i=$((i + 1))
+    done
 }
 
-make irrevocable/memory outer_cancel mode every_call_in_room cancels_in_room beyond_room
+{
+    echo 'use super::{engine, frames, plain, worlds};'
+    echo 'use std::alloc::{AllocError, Global};'
+    echo 'use std::test::Fail;'
+    echo 'fn take(alloc: Global, times: usize) -> Result<(), AllocError> {'
+    echo '    for _ in 0..times { let mut bytes: Vec<u8> = Vec::new(alloc); bytes.reserve(8)?; }'
+    echo '    Ok(())'
+    echo '}'
+    for name in log read_and_write copies_and_fills beyond_room actions; do
+        make "engine_$name" "engine::expect_$name(&rt, rt.alloc())?"
+    done
+    make frames_blocks 'frames::expect_blocks(&rt, rt.alloc())?'
+    for name in calls begins; do
+        make "plain_$name" "plain::expect_$name(&rt, rt.alloc())?"
+    done
+    for name in outer_cancel inner_cancel mode every_call cancels; do
+        case=$(echo $name | tr a-z A-Z)
+        make "worlds_$name" "worlds::expect_case(&rt, rt.alloc(), &worlds::$case)"
+    done
+    make worlds_beyond_room 'worlds::expect_beyond_room(&rt, rt.alloc())'
+} >src/tests/refused.rt
+sed -i '0,/^mod /s//mod refused;\nmod /' src/tests.rt
+
 rt try --test --fail-alloc $MOST >out.txt 2>&1 || true
 grep -A 4 '::refused::.* \.\.\. FAILED' out.txt || true
 passed=$(grep -c '::refused::.* \.\.\. ok$' out.txt || true)
 failed=$(grep -c '::refused::.* \.\.\. FAILED$' out.txt || true)
-[ $((passed + failed)) -eq $((5 * MOST)) ] || { tail -20 out.txt; echo "not all were run" >&2; exit 1; }
+[ $((passed + failed)) -eq $((14 * MOST)) ] || { tail -20 out.txt; echo "not all were run" >&2; exit 1; }
 echo "$passed passed, $failed failed"
 [ "$failed" = 0 ]

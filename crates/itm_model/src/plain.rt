@@ -361,5 +361,3 @@ mod bases;
 mod copies;
 mod irrevocable;
 mod refusals;
-#[cfg(test)]
-mod tests;

@@ -4,6 +4,3 @@
 mod frames;
 
 pub use frames::Frames;
-
-#[cfg(test)]
-mod tests;

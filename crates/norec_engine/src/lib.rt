@@ -19,6 +19,3 @@ mod write;
 
 pub use engine::Engine;
 pub use norec_core::{Answer, Next, Undone};
-
-#[cfg(test)]
-mod tests;

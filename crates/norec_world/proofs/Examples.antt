@@ -11,8 +11,8 @@ use Rattle.itm_types.specs.declared.call.Reply.TheVariants.{Bytes, Code}
 use Rattle.tx_attempts.specs.declared.attempt.Outcome.TheVariants.{Cancelled, Committed, Conflict, Full, ReadOnly}
 use Rattle.norec_world.specs.declared.fault.WorldFault.TheVariants as faults
 use Rattle.tx_attempts.specs.Attempts.{ByAbort, memory_after}
-use Rattle.norec_world.specs.Plan.{Plan, next_call, restarted, calls_left, depth}
-use Rattle.norec_world.specs.Plan as plans
+use Rattle.norec_world.proofs.Plan.{Plan, next_call, restarted, calls_left, depth}
+use Rattle.norec_world.proofs.Plan as plans
 use Rattle.norec_world.specs.Solo.{solo}
 
 -- ## A player that adds one to the counter at place 0

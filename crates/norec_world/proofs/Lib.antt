@@ -1,4 +1,5 @@
 pub mod Common
+mod Plan
 mod Examples
 pub mod WordLists
 pub mod ActiveRows

@@ -10,8 +10,6 @@ pub mod Actors
 pub mod ClockHolder
 pub mod Status
 pub mod Sound
-pub mod Plan
-pub mod PlanLaws
 pub mod Alone
 pub mod Solo
 pub mod Records

@@ -9,8 +9,6 @@ mod recorded;
 mod schedule;
 mod setup;
 mod start;
-#[cfg(test)]
-mod tests;
 mod work;
 mod world;
 

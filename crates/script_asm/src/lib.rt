@@ -49,6 +49,3 @@ mod words;
 
 pub use script_fields::{AsmFault, AsmKind};
 pub use whole::assemble;
-
-#[cfg(test)]
-mod tests;

@@ -1,0 +1,9 @@
+//! Each function `expect_..` holds with ample memory, and wherever one allocation is refused; it answers whether none
+//! was. `tests/refused.sh` calls it with each of them refused in turn.
+
+mod engine;
+mod frames;
+mod plain;
+mod roomless;
+mod texts;
+mod worlds;

@@ -1,0 +1,117 @@
+//! A refusal leaves the open blocks as they were, and what was refused is served at the second time.
+
+use itm_types::{Action, ActionKind, Datum, MAX_OPEN_BLOCKS, Props, Ran, Width};
+use nest_frames::Frames;
+use std::alloc::{AllocError, Global};
+use std::process::Abort;
+use std::test::Fail;
+use undo_log::Arena;
+
+fn enter(rt: &impl Abort, frames: &mut Frames) {
+    assert!(rt; frames.depth() < MAX_OPEN_BLOCKS);
+    frames.enter(Props::default());
+}
+
+/// Writes the first byte of word 1.
+fn write(rt: &impl Abort, frames: &mut Frames, value: u64) -> Result<(), AllocError> {
+    assert!(rt; frames.depth() > 0);
+    frames.reserve(1)?;
+    frames.put(1, 0xff, value);
+    Ok(())
+}
+
+/// Logs byte 1 of the arena.
+fn log(rt: &impl Abort, frames: &mut Frames, arena: &Arena) -> Result<(), AllocError> {
+    assert!(rt; frames.depth() > 0 && arena.contains(1, 1));
+    assert!(rt; frames.size() == arena.size());
+    frames.log(arena, 1, 1)
+}
+
+fn store(rt: &impl Abort, arena: &mut Arena, byte: u8) {
+    assert!(rt; arena.contains(1, 1));
+    arena.store(1, &Datum::new(Width::U1, [byte].as_slice()));
+}
+
+/// Registers a function with no argument.
+fn register(
+    rt: &impl Abort,
+    frames: &mut Frames,
+    kind: ActionKind,
+    fun: u32,
+) -> Result<(), AllocError> {
+    assert!(rt; frames.depth() > 0);
+    frames.register(kind, Action { fun, arg: 0 })
+}
+
+/// In a block of this number a word is written, the arena logged, and an action of each kind registered.
+fn fill(
+    rt: &impl Abort,
+    frames: &mut Frames,
+    arena: &Arena,
+    number: u32,
+) -> Result<bool, AllocError> {
+    let mut found = true;
+    let rows = frames.len();
+    if write(rt, frames, u64::from(number)).is_err() {
+        found = false;
+        assert_eq!(rt; frames.len(), rows);
+        write(rt, frames, u64::from(number))?;
+    }
+    if log(rt, frames, arena).is_err() {
+        found = false;
+        log(rt, frames, arena)?;
+    }
+    for kind in [ActionKind::Undo, ActionKind::Commit] {
+        let actions = frames.actions();
+        if register(rt, frames, kind, number).is_err() {
+            found = false;
+            assert_eq!(rt; frames.actions(), actions);
+            register(rt, frames, kind, number)?;
+        }
+    }
+    Ok(found)
+}
+
+fn cancel(rt: &impl Abort, frames: &mut Frames, arena: &mut Arena) {
+    assert!(rt; frames.depth() > 0);
+    assert!(rt; frames.size() == arena.size());
+    frames.cancel(arena);
+}
+
+fn undone(fun: u32) -> Ran {
+    Ran {
+        kind: ActionKind::Undo,
+        action: Action { fun, arg: 0 },
+    }
+}
+
+pub(super) fn expect_blocks(rt: &impl Abort, alloc: Global) -> Result<bool, AllocError> {
+    let mut arena = match Arena::new(alloc, 2) {
+        Ok(arena) => arena,
+        Err(_) => Arena::new(alloc, 2)?,
+    };
+    let mut frames = Frames::new(alloc, 2);
+    let mut found = true;
+    for block in 0..3u8 {
+        enter(rt, &mut frames);
+        found &= fill(rt, &mut frames, &arena, u32::from(block))?;
+        store(rt, &mut arena, block + 1);
+    }
+    cancel(rt, &mut frames, &mut arena);
+    assert_eq!(rt; arena.bytes(), [0, 2].as_slice());
+    let row = frames.get(1).expect(rt, "a row");
+    assert_eq!(rt; row.value & 0xff, 1);
+    assert_eq!(rt; frames.due(), [undone(2)].as_slice());
+    cancel(rt, &mut frames, &mut arena);
+    cancel(rt, &mut frames, &mut arena);
+    assert_eq!(rt; arena.bytes(), [0, 0].as_slice());
+    assert_eq!(rt; frames.due(), [undone(2), undone(1), undone(0)].as_slice());
+    assert_eq!(rt; frames.len(), 0);
+    Ok(found)
+}
+
+#[test]
+fn blocks(rt: HostRuntime) -> Result<(), Fail> {
+    assert!(rt; expect_blocks(&rt, rt.alloc())?);
+    Ok(())
+}
