@@ -1,5 +1,5 @@
 -- Over an answer, no action that has run is lost, and there are no more actions in all than before, but for one that is registered.
-use Rattle.std.proofs.Common.{◌≡◌, ℕ, ◌+◌, ◌≤◌, Bool, true, false, if◌then◌else◌, List, [], ◌∷◌, ◌++◌, length, map, take, drop, reverse, Option, None, Some, IsSome, is_some, refl, sym, ap, subst, ◌⊎◌, inl, inr, ◌∙◌, arith, append-nil, append_assoc, length-append}
+use Rattle.std.proofs.Common.{◌≡◌, ℕ, ◌+◌, ◌≤◌, Bool, true, false, true≢false, if◌then◌else◌, List, [], ◌∷◌, ◌++◌, length, map, take, drop, reverse, refl, sym, ap, inl, inr, ◌∙◌, arith, append-nil, append_assoc, length-append}
 use Rattle.std.proofs.lemmas.List.{length-map, length-reverse, take-append-drop}
 use Rattle.itm_types.specs.declared.call.Call.{Call}
 use Rattle.itm_types.specs.declared.call.Call.TheVariants.{Begin, Commit, Abort, Log, LogBytes, CommitAction, UndoAction}
@@ -9,23 +9,19 @@ use Rattle.itm_types.specs.declared.call.Reply.{Reply as Replied}
 use Rattle.itm_types.specs.declared.call.Reply.TheVariants.{Done, Code}
 use Rattle.itm_types.specs.Calls.{is_abort, is_begin}
 use Rattle.user_actions.specs.Actions.{Actions, as_commit, as_undo, committed, cut_back, registered, total}
-use Rattle.nest_frames.specs.Nest.{Frame, actions_back, actions_cancelled, actions_closed, closed, logged, made_irrevocable}
+use Rattle.nest_frames.specs.Nest.{Frame, actions_back, actions_cancelled, actions_closed, closed, logged}
 use Rattle.std.proofs.lemmas.Bool.{cases_Bool}
 use Rattle.itm_types.specs.Access.{size_of}
 use Rattle.undo_log.specs.Rollback.{Old, found}
 use Rattle.norec_core.proofs.Blocks.{none_inside}
-use Rattle.norec_core.specs.declared.answer.Answer.{Answer}
-use Rattle.norec_core.specs.declared.answer.Answer.TheVariants.{Reply, Committed, Conflict, Busy, Full}
-use Rattle.norec_core.specs.Core.{Core, goes, in_transaction, is_inside, is_outermost, rolled_back}
+use Rattle.norec_core.specs.Core.{Core, in_transaction, is_inside, is_outermost, rolled_back}
 use Rattle.itm_model.specs.State.{State}
 use Rattle.itm_model.specs.Machine.{rolled_back as plainly_back, undone_from}
-use Rattle.norec_core.specs.declared.answer.Next.{Next}
-use Rattle.norec_core.specs.declared.answer.Next.TheVariants.{Step as Asks, Answer as Answers}
 use Rattle.norec_core.specs.declared.phase.Phase.TheVariants.{Idle}
 use Rattle.norec_core.specs.Stands.{block_over, blocks_over}
 use Rattle.norec_core.specs.Undoing.{after_undoing}
-use Rattle.norec_core.specs.Proceeds.{ConflictsIn, Ends, Enters, Proceeds, Replies, RepliesHeld, RepliesTo, actions_after, blocks_after}
-use Rattle.norec_core.proofs.ReplyCases.{reply_cases}
+use Rattle.norec_core.specs.Proceeds.{actions_after, blocks_after}
+use Rattle.norec_core.proofs.ReplyCases.{IsReplied}
 use Rattle.itm_types.specs.declared.call.ActionKind.TheVariants as kinds
 
 -- more of them have run, and there are at most so many more in all
@@ -44,7 +40,7 @@ both n a b c f g = record {
   most = (let x = f.most in let y = g.most in omega arith);
 }
 
-commits_run : (a : Actions) → RunsOn 0 a (committed a)
+pub commits_run : (a : Actions) → RunsOn 0 a (committed a)
 commits_run a = record {
   later = map as_commit a.commits;
   ran = refl;
@@ -60,7 +56,7 @@ cut_runs commits undos a =
     let c = sym (ap (length {A = Action}) (take-append-drop commits a.commits)) ∙ length-append (take commits a.commits) (drop commits a.commits) in
     record { later = gone; ran = refl; most = omega arith }
 
-all_run : (blocks : List Frame) (a : Actions) → RunsOn 0 a (actions_back blocks a)
+pub all_run : (blocks : List Frame) (a : Actions) → RunsOn 0 a (actions_back blocks a)
 all_run [] a = still 0 a
 all_run (b ∷ bs) a = both 0 a (cut_back b.commits b.undos a) (actions_back bs (cut_back b.commits b.undos a)) (cut_runs b.commits b.undos a) (all_run bs (cut_back b.commits b.undos a))
 
@@ -118,50 +114,6 @@ replied_on c (UndoAction action) Done o = undo_on c action c.irrevocable
 replied_on c (UndoAction action) r o = still 1 c.actions
 replied_on c call r o = still (registers call) c.actions
 
-more_room : (n k : ℕ) (a b : Actions) → n ≤ k → RunsOn n a b → RunsOn k a b
-more_room n k a b l f = record { later = f.later; ran = f.ran; most = (let x = f.most in omega arith) }
-
-pub to_actions : (n : ℕ) (a b c : Actions) → b ≡ c → RunsOn n a c → RunsOn n a b
-to_actions n a b c e f = record { later = f.later; ran = ap (λ (x : Actions). x.ran) e ∙ f.ran; most = (let x = f.most in let y = ap total e in omega arith) }
-
--- what is kept of undo actions in an irrevocable transaction
-no_undos : (n : ℕ) (a b : Actions) → RunsOn n a b → RunsOn n a (record b { undos = [] })
-no_undos n a b f = record { later = f.later; ran = f.ran; most = (let x = f.most in omega arith) }
-
-any_reply : (mid new : Core) (call : Call) (r : Replied) → in_transaction mid ≡ true → Replies mid call r new ⊎ Enters mid call r new ⊎ RepliesHeld mid call r new → RunsOn (registers call) mid.actions new.actions
-any_reply mid new call r o (inl g) = to_actions (registers call) mid.actions new.actions (actions_after mid call r) g.actions (replied_on mid call r o)
-any_reply mid new call r o (inr (inl g)) =
-    to_actions (registers call) mid.actions new.actions (record (actions_after mid call r) { undos = [] }) (ap (λ (c : Core). c.actions) g.stays)
-    (no_undos (registers call) mid.actions (actions_after mid call r) (replied_on mid call r o))
-any_reply mid new call r o (inr (inr g)) =
-    to_actions (registers call) mid.actions new.actions (actions_after mid call r) (ap (λ (c : Core). c.actions) g.stays) (replied_on mid call r o)
-
-by_reply : (mid new : Core) (call : Call) (r : Replied) (doing : Option Call) → doing ≡ Some call → in_transaction mid ≡ true → RepliesTo mid doing r new → RunsOn (registers call) mid.actions new.actions
-by_reply mid new call r None d o g = absurd (cc)
-by_reply mid new call r (Some other) d o g =
-    let same : other ≡ call = cc in
-    subst (λ (x : Call). RunsOn (registers x) mid.actions new.actions) same (any_reply mid new other r o (reply_cases mid other r new mid.holds mid.irrevocable g))
-
-conflict_on : (mid new : Core) (call : Call) (clock : ℕ) (word : Option ℕ) (inside : Bool) → ConflictsIn inside mid clock word new → RunsOn (registers call) mid.actions new.actions
-conflict_on mid new call clock word true g =
-    to_actions (registers call) mid.actions new.actions (actions_back mid.blocks mid.actions) (ap (λ (c : Core). c.actions) g.stays)
-    (more_room 0 (registers call) mid.actions (actions_back mid.blocks mid.actions) (omega arith) (all_run mid.blocks mid.actions))
-conflict_on mid new call clock word false g =
-    to_actions (registers call) mid.actions new.actions mid.actions (ap (λ (c : Core). c.actions) g.stays) (still (registers call) mid.actions)
-
--- any answer to a call that came within a transaction
-pub answered_on : (mid new : Core) (call : Call) (a : Answer) → mid.doing ≡ Some call → in_transaction mid ≡ true → Ends mid a new → RunsOn (registers call) mid.actions new.actions
-answered_on mid new call (Reply r) d o g = by_reply mid new call r mid.doing d o g
-answered_on mid new call (Committed at wrote) d o g =
-    to_actions (registers call) mid.actions new.actions (committed mid.actions) (ap (λ (c : Core). c.actions) g.stays)
-    (more_room 0 (registers call) mid.actions (committed mid.actions) (omega arith) (commits_run mid.actions))
-answered_on mid new call (Conflict clock word) d o g = conflict_on mid new call clock word (in_transaction mid) g
-answered_on mid new call (Busy clock) d o g =
-    to_actions (registers call) mid.actions new.actions mid.actions (ap (λ (c : Core). c.actions) g.stays) (still (registers call) mid.actions)
-answered_on mid new call (Full at) d o g =
-    to_actions (registers call) mid.actions new.actions (actions_back mid.blocks mid.actions) (ap (λ (c : Core). c.actions) g.stays)
-    (more_room 0 (registers call) mid.actions (actions_back mid.blocks mid.actions) (omega arith) (all_run mid.blocks mid.actions))
-
 -- a transaction that is given up
 pub given_up_on : (c : Core) → RunsOn 0 c.actions (rolled_back c).actions
 given_up_on c = all_run c.blocks c.actions
@@ -177,14 +129,8 @@ undo_same : (c : Core) (action : Action) (irrevocable : Bool) → (if irrevocabl
 undo_same c action true = refl
 undo_same c action false = refl
 
-none_goes : is_some {T = ℕ} None ≡ true → ⊥
-none_goes h = (let both : false ≡ true = h in absurd (cc))
-
-no_commit : (c : Core) (call : Call) → call ≡ Commit → IsSome (goes c call) → ⊥
-no_commit c call e g = subst (λ (x : Call). IsSome (goes c x) → ⊥) (sym e) none_goes g
-
 -- no other reply than that to a cancel runs actions where the transaction stays open
-pub ran_same : (c : Core) (call : Call) (r : Replied) → is_abort call ≡ false → in_transaction c ≡ true → ((r ≡ Done) → call ≡ Commit → is_outermost c.blocks ≡ false) → (actions_after c call r).ran ≡ c.actions.ran
+ran_same : (c : Core) (call : Call) (r : Replied) → is_abort call ≡ false → in_transaction c ≡ true → ((r ≡ Done) → call ≡ Commit → is_outermost c.blocks ≡ false) → (actions_after c call r).ran ≡ c.actions.ran
 ran_same c (Begin props room) (Code n) other o inner = ap (λ (b : Bool). (if b then c.actions else record c.actions { ran = [] }).ran) o
 ran_same c (Begin props room) r other o inner = refl
 ran_same c Commit Done other o inner = inner_closes c.blocks c.actions (inner refl refl)
@@ -201,33 +147,8 @@ closes [] i = refl
 closes (b ∷ []) i = absurd (cc)
 closes (b ∷ p ∷ bs) i = refl
 
-closes_inner : (mid new : Core) (call : Call) (r : Replied) → new.blocks ≡ blocks_after mid call r → in_transaction new ≡ true → (r ≡ Done) → call ≡ Commit → is_outermost mid.blocks ≡ false
-closes_inner mid new call r blocks now done commit = closes mid.blocks (sym (ap is_inside (blocks ∙ (λ i. blocks_after mid (commit i) (done i)))) ∙ now)
-
-inside_all : (blocks : List Frame) → is_inside (map made_irrevocable blocks) ≡ is_inside blocks
-inside_all [] = refl
-inside_all (b ∷ bs) = refl
-
-same_by : (mid new : Core) (call : Call) (r : Replied) → in_transaction mid ≡ true → is_abort call ≡ false → Replies mid call r new ⊎ Enters mid call r new ⊎ RepliesHeld mid call r new → new.actions.ran ≡ mid.actions.ran
-same_by mid new call r o other (inl g) =
-    ap (λ (a : Actions). a.ran) g.actions ∙ ran_same mid call r other o (closes_inner mid new call r g.blocks (g.still other o))
-same_by mid new call r o other (inr (inl g)) =
-    ap (λ (c : Core). c.actions.ran) g.stays ∙ ran_same mid call r other o (λ done commit. absurd (no_commit mid call commit g.goes))
-same_by mid new call r o other (inr (inr g)) =
-    ap (λ (c : Core). c.actions.ran) g.stays ∙ ran_same mid call r other o (closes_inner mid new call r (ap (λ (c : Core). c.blocks) g.stays) (g.still o))
-
-pub reply_same : (mid new : Core) (call : Call) (r : Replied) (doing : Option Call) → doing ≡ Some call → in_transaction mid ≡ true → is_abort call ≡ false → RepliesTo mid doing r new
-    → new.actions.ran ≡ mid.actions.ran
-reply_same mid new call r None d o other g = absurd (cc)
-reply_same mid new call r (Some it) d o other g =
-    let same : it ≡ call = cc in
-    same_by mid new it r o (ap is_abort same ∙ other) (reply_cases mid it r new mid.holds mid.irrevocable g)
-
--- ## Steps too
-
-pub goes_on : (mid new : Core) (call : Call) (what : Next) → mid.doing ≡ Some call → in_transaction mid ≡ true → Proceeds mid what new → RunsOn (registers call) mid.actions new.actions
-goes_on mid new call (Asks step) d o g = to_actions (registers call) mid.actions new.actions mid.actions (ap (λ (c : Core). c.actions) g.stays) (still (registers call) mid.actions)
-goes_on mid new call (Answers a) d o g = answered_on mid new call a d o g
+closes_inner : (mid : Core) (call : Call) (r : Replied) → is_inside (blocks_after mid call r) ≡ true → (r ≡ Done) → call ≡ Commit → is_outermost mid.blocks ≡ false
+closes_inner mid call r now done commit = closes mid.blocks (sym (λ i. is_inside (blocks_after mid (commit i) (done i))) ∙ now)
 
 -- ## A transaction that is given up
 
@@ -274,39 +195,27 @@ begun_none mid call r shut commits undos inside =
       | inr other ↦ absurd (let both : false ≡ true = sym (no_block mid call r (none_inside mid.blocks shut) other) ∙ inside in cc)
     ]
 
-no_more : (a : Actions) → total a ≡ 0 → total (record a { undos = [] }) ≡ 0
-no_more a e = omega (arith, e)
+-- ## What becomes of the actions over an answer to this call
 
-begins_by : (mid new : Core) (call : Call) (r : Replied) → in_transaction mid ≡ false → mid.actions.commits ≡ [] → mid.actions.undos ≡ []
-    → Replies mid call r new ⊎ Enters mid call r new ⊎ RepliesHeld mid call r new → in_transaction new ≡ true → total new.actions ≡ 0
-begins_by mid new call r shut commits undos (inl g) now = ap total g.actions ∙ begun_none mid call r shut commits undos (sym (ap is_inside g.blocks) ∙ now)
-begins_by mid new call r shut commits undos (inr (inl g)) now =
-    let inside = sym (inside_all (blocks_after mid call r)) ∙ (sym (ap (λ (c : Core). is_inside c.blocks) g.stays) ∙ now) in
-    ap (λ (c : Core). total c.actions) g.stays ∙ no_more (actions_after mid call r) (begun_none mid call r shut commits undos inside)
-begins_by mid new call r shut commits undos (inr (inr g)) now =
-    ap (λ (c : Core). total c.actions) g.stays ∙ begun_none mid call r shut commits undos (sym (ap (λ (c : Core). is_inside c.blocks) g.stays) ∙ now)
+pub record LeavesActions (mid : Core) (call : Call) (new : Core) : Type 0 where
+  pub runs : in_transaction mid ≡ true → RunsOn (registers call) mid.actions new.actions
+  pub same : in_transaction mid ≡ true → is_abort call ≡ false → in_transaction new ≡ true → new.actions.ran ≡ mid.actions.ran
+  pub begins : in_transaction mid ≡ false → mid.actions.commits ≡ [] → mid.actions.undos ≡ [] → in_transaction new ≡ true → total new.actions ≡ 0
 
-begins_to : (mid new : Core) (r : Replied) (doing : Option Call) → in_transaction mid ≡ false → mid.actions.commits ≡ [] → mid.actions.undos ≡ [] → RepliesTo mid doing r new → in_transaction new ≡ true → total new.actions ≡ 0
-begins_to mid new r None shut commits undos g now = absurd g
-begins_to mid new r (Some call) shut commits undos g now = begins_by mid new call r shut commits undos (reply_cases mid call r new mid.holds mid.irrevocable g) now
+-- a reply
+pub reply_leaves : (mid new : Core) (call : Call) (r : Replied) → IsReplied mid new call r → LeavesActions mid call new
+reply_leaves mid new call r g = record {
+  runs = λ o.
+      (let f = replied_on mid call r o in
+      record { later = f.later; ran = g.ran ∙ f.ran; most = (let x = f.most in let y = g.most in omega arith) });
+  same = λ o other now. g.ran ∙ ran_same mid call r other o (closes_inner mid call r (sym g.inside ∙ now));
+  begins = λ shut commits undos now. (let none = begun_none mid call r shut commits undos (sym g.inside ∙ now) in let most = g.most in omega arith);
+}
 
-ended_shut : (mid new : Core) → new.blocks ≡ [] → in_transaction new ≡ true → ⊥
-ended_shut mid new none now = (let both : false ≡ true = sym (ap is_inside none) ∙ now in cc)
-
-conflict_shuts : (mid new : Core) (clock : ℕ) (word : Option ℕ) (inside : Bool) → ConflictsIn inside mid clock word new → new.blocks ≡ []
-conflict_shuts mid new clock word true g = ap (λ (c : Core). c.blocks) g.stays
-conflict_shuts mid new clock word false g = ap (λ (c : Core). c.blocks) g.stays
-
--- what answers a call and leaves a transaction open is a reply
-pub open_reply : (mid new : Core) (a : Answer) → Ends mid a new → in_transaction new ≡ true → (r : Replied) × (a ≡ Reply r)
-open_reply mid new (Reply r) g now = (r, refl)
-open_reply mid new (Committed at wrote) g now = absurd (ended_shut mid new (ap (λ (c : Core). c.blocks) g.stays) now)
-open_reply mid new (Conflict clock word) g now = absurd (ended_shut mid new (conflict_shuts mid new clock word (in_transaction mid) g) now)
-open_reply mid new (Busy clock) g now = absurd (ended_shut mid new (ap (λ (c : Core). c.blocks) g.stays) now)
-open_reply mid new (Full at) g now = absurd (ended_shut mid new (ap (λ (c : Core). c.blocks) g.stays) now)
-
-pub begins_empty : (mid new : Core) (what : Next) → in_transaction mid ≡ false → mid.actions.commits ≡ [] → mid.actions.undos ≡ [] → Proceeds mid what new → in_transaction new ≡ true → total new.actions ≡ 0
-begins_empty mid new (Asks step) shut commits undos g now = absurd (let both : false ≡ true = sym shut ∙ (sym (ap in_transaction g.stays) ∙ now) in cc)
-begins_empty mid new (Answers a) shut commits undos g now =
-    let reply = open_reply mid new a g now in
-    begins_to mid new reply.0 mid.doing shut commits undos (subst (λ (x : Answer). Ends mid x new) reply.1 g) now
+-- the end of a transaction
+pub end_leaves : (mid new : Core) (call : Call) (actions : Actions) → new.actions ≡ actions → in_transaction new ≡ false → RunsOn 0 mid.actions actions → LeavesActions mid call new
+end_leaves mid new call actions is shut f = record {
+  runs = λ o. record { later = f.later; ran = ap (λ (a : Actions). a.ran) is ∙ f.ran; most = (let x = f.most in let y = ap total is in omega arith) };
+  same = λ o other now. absurd (true≢false (sym now ∙ shut));
+  begins = λ outside commits undos now. absurd (true≢false (sym now ∙ shut));
+}

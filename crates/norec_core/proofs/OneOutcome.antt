@@ -32,9 +32,6 @@ idle_of : (c : Core) (s : Phase) → asked_from c s ≡ None → s ≡ at.Idle
 idle_of c at.Idle e = refl
 idle_of c s e = absurd (cc)
 
-pub answered_waits : (mid : Core) (x : Answer) (new : Core) → Ends mid x new → new.waits ≡ None
-answered_waits mid x new e = (rests mid new x e).idle
-
 -- ## One outcome
 
 module _ (mid new new' : Core) (end : Option Answer)
@@ -179,7 +176,7 @@ module _ (mid new new' : Core) (end : Option Answer)
   -- a step is waited for by both or by neither
   not_both : (s : Step) (a : Answer) (c d : Core) → c.stage ≡ d.stage → c.waits ≡ asked c → d.waits ≡ asked d → AsksFor mid s c → Ends mid a d → ⊥
   not_both s a c d same x y g h =
-      let none : asked d ≡ None = sym y ∙ answered_waits mid a d h in
+      let none : asked d ≡ None = sym y ∙ (rests mid d a h).idle in
       let idle : c.stage ≡ at.Idle = same ∙ idle_of d d.stage none in
       let some : None ≡ Some s = ap (asked_from c) (sym idle) ∙ (sym x ∙ ap (λ (e : Core). e.waits) g.stays) in
       absurd (cc)

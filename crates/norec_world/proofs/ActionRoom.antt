@@ -15,9 +15,9 @@ use Rattle.itm_types.specs.declared.call.Ran.{Ran}
 use Rattle.user_actions.specs.Actions.{total}
 use Rattle.norec_core.specs.declared.answer.Next.{Next}
 use Rattle.norec_core.specs.declared.answer.Next.TheVariants.{Step as Asks, Answer as Answers}
-use Rattle.norec_core.proofs.ActionCounts.{begins_empty, goes_on, open_reply, registers, reply_same}
+use Rattle.norec_core.proofs.ActionCounts.{LeavesActions, registers}
 use Rattle.norec_world.specs.ActionRoom.{IsActing, IsEmpty, MayRunOn, NoCancel, StartsEmpty}
-use Rattle.norec_world.proofs.Common.{Actor, Answer, Attempt, Call, Core, Ends, HasRow, Proceeds, Rows, Step, active_of, cases_Bool, in_transaction, is_begin, is_inside, none_inside, with_changed}
+use Rattle.norec_world.proofs.Common.{Actor, Answer, Attempt, Call, Core, Ends, HasRow, Proceeds, Rows, Step, active_of, cases_Bool, in_transaction, is_begin, is_inside, none_inside, rests, with_changed}
 use Rattle.norec_world.proofs.LaterActions.{first_here}
 
 cancels_register_none : (call : Call) → is_abort call ≡ true → registers call ≡ 0
@@ -53,18 +53,18 @@ module _ {P : Type 0} (r : Rows) (a : Actor P) (mid : Core) (call : Call) (was :
       }
 
   module _ (answer : Answer) (g : Ends mid answer a.engine) (shut : in_transaction mid ≡ false → (mid.actions.commits ≡ []) × (mid.actions.undos ≡ [])) where
+    acts : LeavesActions mid call a.engine
+    acts = (rests mid a.engine answer g).acts call doing
+
     cancel_place : in_transaction a.engine ≡ true → (row : Attempt) → active_of a.thread r.active ≡ Some row → length row.ran < length a.engine.actions.ran → length a.engine.actions.ran ≤ vec_capacity a.cancel_room
     cancel_place now row e less = elim (cases_Bool (is_abort call)) [
       | inl abort ↦
           (let c = cancel row e abort in
-          let f = goes_on mid a.engine call (Answers answer) doing (was_open row e) g in
-          let m = f.most in
+          let m = (acts.runs (was_open row e)).most in
           let n = cancels_register_none call abort in
           omega arith)
       | inr other ↦
-          absurd (let reply = open_reply mid a.engine answer g now in
-          let same = reply_same mid a.engine call reply.0 mid.doing doing (was_open row e) other (subst (λ (x : Answer). Ends mid x a.engine) reply.1 g) in
-          let one = ap (length {A = Ran}) (all row e ∙ sym same) in
+          absurd (let one = ap (length {A = Ran}) (all row e ∙ sym (acts.same (was_open row e) other now)) in
           omega arith)
     ]
 
@@ -73,10 +73,10 @@ module _ {P : Type 0} (r : Rows) (a : Actor P) (mid : Core) (call : Call) (was :
     answered_acting = record {
       empty = empty;
       first = first_here r a.thread mid a.engine call (Answers answer) was o has doing g all;
-      places = λ row e. (let p = places row e in let m = (goes_on mid a.engine call (Answers answer) doing (was_open row e) g).most in omega arith);
+      places = λ row e. (let p = places row e in let m = (acts.runs (was_open row e)).most in omega arith);
       cancel_places = cancel_place;
       pending = pending;
-      anew = λ now none. (let x = shut_as was refl has none in begins_empty mid a.engine (Answers answer) x (shut x).0 (shut x).1 g now);
+      anew = λ now none. (let x = shut_as was refl has none in acts.begins x (shut x).0 (shut x).1 now);
     }
 
   -- whatever it gave

@@ -15,13 +15,13 @@ pub use Rattle.itm_types.specs.declared.call.Reply.{Reply as Replied}
 pub use Rattle.itm_types.specs.declared.limits.TheConstants.{MAX_OPEN_BLOCKS, MAX_ACTORS}
 pub use Rattle.itm_types.specs.declared.step.Step.TheVariants.{Cas, Load, Store}
 pub use Rattle.itm_types.specs.declared.step.Step.{Step}
-pub use Rattle.norec_core.proofs.AnsweredEngines.{rests}
-pub use Rattle.norec_core.proofs.Blocks.{none_inside}
+pub use Rattle.norec_core.proofs.AnsweredEngines.{frees, replied_outside, rests}
+pub use Rattle.norec_core.proofs.Blocks.{inside_all, none_inside}
 pub use Rattle.norec_core.proofs.KeptFields.{handed_is}
 pub use Rattle.norec_core.proofs.Overlays.{Agrees-drop}
 pub use Rattle.norec_core.specs.Core.{Core, came, handed_to, in_transaction, is_inside, opening, word_loaded}
 pub use Rattle.norec_core.specs.Moves.{IsResumed}
-pub use Rattle.norec_core.proofs.ReplyCases.{reply_cases}
+pub use Rattle.norec_core.proofs.ReplyCases.{replied_so, reply_cases}
 pub use Rattle.norec_core.specs.Order.{asked}
 pub use Rattle.norec_core.specs.Proceeds.{AsksFor, ConflictsIn, Ends, Enters, Got, IsAtOnce, IsLawful, IsWithin, Proceeds, Replies, RepliesBy, RepliesHeld, RepliesTo, StaysOn, backed, recoded}
 pub use Rattle.norec_core.specs.Rows.{write_at}

@@ -1,17 +1,17 @@
 -- What a call comes to in an irrevocable transaction, by the plain state that the attempt's calls alone lead to.
-use Rattle.std.proofs.Common.{◌≡◌, ◌≢◌, ℕ, suc, ◌/◌, ◌&&◌, Bool, true, false, not, nat_lt, List, [], ◌∷◌, length, map, None, Some, IsSome, is_some, if◌then◌else◌, slice_get, refl, sym, ap, ◌∙◌, arith}
+use Rattle.std.proofs.Common.{◌≡◌, ◌≢◌, ℕ, suc, ◌/◌, ◌&&◌, Bool, true, false, not, nat_lt, List, [], ◌∷◌, length, None, Some, is_some, if◌then◌else◌, slice_get, refl, sym, ap, ◌∙◌, arith}
 use Rattle.std.proofs.lemmas.Bool.{ltb-true}
 use Rattle.itm_types.specs.declared.call.Call.TheVariants.{Mode}
 use Rattle.itm_model.specs.Machine.{or_else, reply_unless, unless}
-use Rattle.nest_frames.specs.Nest.{Frame, made_irrevocable, stays_revocable}
+use Rattle.nest_frames.specs.Nest.{Frame, stays_revocable}
 use Rattle.user_actions.specs.Actions.{committed as run_commits}
 use Rattle.norec_core.proofs.Machines.{commits}
-use Rattle.norec_core.specs.Core.{goes, may_go}
+use Rattle.norec_core.specs.Core.{may_go}
 use Rattle.norec_core.specs.Held.{ComesTo}
-use Rattle.norec_core.specs.Proceeds.{WantsClock, blocks_after}
+use Rattle.norec_core.specs.Proceeds.{WantsClock}
 use Rattle.norec_core.specs.Stands.{is_some_row, state_in, state_kept}
 use Rattle.norec_engine.proofs.IrrevocableEntries.{begin_enters, mode_enters}
-use Rattle.norec_world.proofs.Common.{Answers, Attempt, Begin, Call, Cells, Code, Commit, Committed, Core, Done, Enters, Got, MAX_OPEN_BLOCKS, Next, Outside, Replied, Row, Rows, State, Store, active_of, after, alone, bytes_at, bytes_of, in_transaction, is_inside, is_open, reply, stands_for, state_over, takes_clock}
+use Rattle.norec_world.proofs.Common.{Answers, Attempt, Begin, Call, Cells, Commit, Committed, Core, Done, Got, MAX_OPEN_BLOCKS, Next, Outside, Row, Rows, State, Store, active_of, after, alone, bytes_at, bytes_of, in_transaction, is_open, reply, stands_for, state_over, takes_clock}
 
 -- the attempt's calls alone on the memory of its position lead to an open block, and the call comes to what the plain machine makes of it then
 pub record HasHeld (base : List ℕ) (cells cells' : Cells) (r : Rows) (thread : ℕ) (mid new : Core) (call : Call) (what : Next) : Type 0 where
@@ -111,17 +111,3 @@ module _ (mid : Core) (m : List ℕ) (revocable : mid.irrevocable ≡ false) (in
       let may = both_true props.goes_irrevocable _ served.0 in
       over_it (Begin props room) (ap takes_clock (sym (begin_enters mid.writes mid.blocks mid.arena mid.actions m props room inside may.0 may.1 (ltb-true (length mid.blocks) MAX_OPEN_BLOCKS served.1)).0))
   wants_taking call w = absurd (let f : false ≡ true = w in cc)
-
--- one that makes the transaction irrevocable leaves it open
-pub enters_open : (mid new : Core) (call : Call) (r : Replied) → in_transaction mid ≡ true → Enters mid call r new → in_transaction new ≡ true
-enters_open mid new call r inside g = ap (λ (c : Core). is_inside c.blocks) g.stays ∙ (inside_all (blocks_after mid call r) ∙ by_call call r g.goes)
-  where
-    inside_all : (blocks : List Frame) → is_inside (map made_irrevocable blocks) ≡ is_inside blocks
-    inside_all [] = refl
-    inside_all (b ∷ bs) = refl
-
-    by_call : (call : Call) (r : Replied) → IsSome (goes mid call) → is_inside (blocks_after mid call r) ≡ true
-    by_call (Begin props room) (Code n) w = refl
-    by_call (Begin props room) r w = inside
-    by_call (Mode room) r w = inside
-    by_call call r w = absurd (let f : false ≡ true = w in cc)

@@ -1,10 +1,8 @@
 -- The open attempt, as its calls go on.
-use Rattle.std.proofs.Common.{◌≡◌, ℕ, ◌/◌, ◌<◌, ◌≤◌, Bool, true, false, if◌then◌else◌, List, [], ◌∷◌, ◌++◌, map, Option, None, Some, refl, sym, true≢false, ap, subst, ◌∙◌, arith}
+use Rattle.std.proofs.Common.{◌≡◌, ℕ, ◌/◌, ◌<◌, ◌≤◌, Bool, true, false, if◌then◌else◌, List, [], ◌∷◌, ◌++◌, Option, None, Some, refl, sym, true≢false, ap, subst, ◌∙◌, arith}
 use Rattle.itm_types.specs.declared.row.LogRow.{LogRow}
-use Rattle.nest_frames.specs.Nest.{Frame}
-use Rattle.norec_world.proofs.Common.{Agrees, Agrees-drop, AsksFor, Attempt, Begin, Between, Call, Code, Core, Enters, Entry, IsAlone, IsInTry, IsMemory, MAX_OPEN_BLOCKS, Obeys, Props, ReadsFrom, Replied, Replies, Rules, State, Step, after, begin_code, begins_at, bytes_of, handed_is, handed_to, in_transaction, is_inside, is_open, Refusal, none_inside, opened, player_then, recoded, reply, stands_for, state_over, state_then}
+use Rattle.norec_world.proofs.Common.{Agrees, Agrees-drop, AsksFor, Attempt, Begin, Between, Call, Code, Core, Enters, Entry, IsAlone, IsInTry, IsMemory, MAX_OPEN_BLOCKS, Obeys, Props, ReadsFrom, Refusal, Replied, Replies, Rules, State, Step, after, begin_code, begins_at, bytes_of, handed_is, handed_to, in_transaction, inside_all, is_inside, is_open, none_inside, opened, player_then, recoded, reply, stands_for, state_over, state_then}
 use Rattle.write_set.specs.Rows.{overlay}
-use Rattle.nest_frames.specs.Nest.{made_irrevocable}
 use Rattle.itm_model.specs.Machine.{after_unless, or_else, refusal, reply_unless, unless}
 use Rattle.itm_types.specs.declared.call.Refusal.TheVariants.{NoIrrevocable}
 use Rattle.norec_core.specs.Core.{may_go}
@@ -55,10 +53,6 @@ pub begin_may : (mid : Core) (props : Props) (room : ℕ) (r : Replied) (m : Lis
 begin_may mid props room r m outside revocable opens e =
     served_may (may_go [] props) (begin_served mid props room r mid.again (refusal MAX_OPEN_BLOCKS (outside_of mid m) (Begin props room)) outside opens
     (e ∙ ap (λ (s : State). recoded (Begin props room) mid.again (reply MAX_OPEN_BLOCKS s (Begin props room))) (stands_outside mid outside revocable m))).0
-
-pub inside_all : (blocks : List Frame) → is_inside (map made_irrevocable blocks) ≡ is_inside blocks
-inside_all [] = refl
-inside_all (b ∷ bs) = refl
 
 module _ {P : Type 0} {rules : Rules P} (laws : Obeys rules) where
   -- a call that the player makes in its open block

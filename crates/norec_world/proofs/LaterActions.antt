@@ -3,7 +3,8 @@ use Rattle.user_actions.specs.Actions.{total}
 use Rattle.std.proofs.Common.{◌≡◌, ◌≤◌, length, arith, ℕ, Bool, true, false, if◌then◌else◌, List, ◌++◌, Some, None, refl, sym, ap, ◌∙◌}
 use Rattle.itm_types.specs.declared.call.Ran.{Ran}
 use Rattle.norec_core.specs.declared.answer.Undone.TheVariants.{Done, Held, Nothing}
-use Rattle.norec_core.proofs.ActionCounts.{given_up_actions, given_up_on, goes_on, undone_actions}
+use Rattle.norec_core.proofs.ActionCounts.{given_up_actions, given_up_on, undone_actions}
+use Rattle.norec_core.proofs.AnsweredEngines.{runs_on}
 use Rattle.tx_attempts.specs.Beginnings.{IsBeginningOf}
 use Rattle.norec_world.proofs.Common.{Attempt, Call, Core, HasRow, Next, Proceeds, Rows, active_of, after_undoing, in_transaction, stands_for, state_over}
 use Rattle.norec_core.specs.Stands.{state_in}
@@ -14,7 +15,7 @@ pub first_here : (r : Rows) (thread : ℕ) (mid new : Core) (call : Call) (what 
     → ((row : Attempt) → active_of thread r.active ≡ Some row → row.ran ≡ mid.actions.ran) → (row : Attempt) → active_of thread r.active ≡ Some row → IsBeginningOf row.ran new.actions.ran
 first_here r thread mid new call what false o none doing g all row e = absurd (let both : None ≡ Some row = sym none ∙ e in cc)
 first_here r thread mid new call what true o some doing g all row e =
-    let f = goes_on mid new call what doing o g in
+    let f = runs_on mid new call what doing o g in
     (f.later, ap (λ (ran : List Ran). ran ++ f.later) (all row e) ∙ sym f.ran)
 
 -- a transaction that is given up leaves those of the plain machine

@@ -1,11 +1,10 @@
 -- An actor's run, once an answer is recorded.
 use Rattle.std.proofs.Common.{◌≡◌, ℕ, ◌/◌, ◌%◌, ◌≤◌, Bool, true, List, [], ◌∷◌, ◌++◌, Option, Some, refl, sym, true≢false, ap, subst, ◌∙◌, arith, inl, inr}
-use Rattle.norec_world.proofs.Common.{Actor, Agrees, Answers, Attempt, Between, Call, Cells, Core, Enters, IsBeforeTry, IsInTry, IsMemory, IsRun, IsRunOf, IsTied, IsTryAt, LeadsTo, MAX_OPEN_BLOCKS, Obeys, RecordsReply, Replied, RepliesHeld, RepliesTo, Reply, Rows, Rules, State, Status, active_of, after_try, alone, begins_at, bytes_at, bytes_of, in_transaction, is_open, of_thread, recoded, reply_cases, run_after, stands_for, words_at}
+use Rattle.norec_world.proofs.Common.{Actor, Agrees, Answers, Attempt, Between, Call, Cells, Core, Enters, IsBeforeTry, IsInTry, IsMemory, IsRun, IsRunOf, IsTied, IsTryAt, LeadsTo, MAX_OPEN_BLOCKS, Obeys, RecordsReply, Replied, RepliesHeld, Reply, Rows, Rules, State, Status, active_of, after_try, alone, begins_at, bytes_at, bytes_of, in_transaction, is_open, of_thread, recoded, reply_cases, run_after, stands_for, words_at}
 use Rattle.norec_world.proofs.ActiveRows.{changed_here}
-use Rattle.norec_world.proofs.TryEnds.{unfreed_to}
 use Rattle.norec_world.proofs.RunLists.{of_thread_own, run_more, run_still}
 use Rattle.norec_world.proofs.Seen.{HasSeen, memory_at, same_at}
-use Rattle.norec_world.proofs.Taken.{HasAnswered}
+use Rattle.norec_world.proofs.Taken.{HasAnswered, half_same}
 use Rattle.norec_world.proofs.InTries.{try_holds, try_replies}
 use Rattle.norec_world.proofs.TryOutcomes.{alone_led, made_held, made_so, stands_led}
 use Rattle.norec_world.proofs.HeldCalls.{HasHeld}
@@ -60,7 +59,7 @@ module _ {P : Type 0} {rules : Rules P} (laws : Obeys rules) {first : Between P}
     with_call x = record x { calls = x.calls ++ record { call = call; reply = reply } ∷ []; ran = last.engine.actions.ran }
 
     half : cells'.clock / 2 ≡ cells.clock / 2
-    half = m.taken.moves.keeps (unfreed_to mid a.engine mid.doing reply m.ends)
+    half = half_same m refl
 
     abbrev Tried : Type 0
     Tried = IsInTry rules (words_at base r.ended (cells.clock / 2)) (run.inside m.taken.was_is).0 (record (run.inside m.taken.was_is).1 { calls = (run.inside m.taken.was_is).1.calls ++ record { call = call; reply = reply } ∷ []; ran = a.engine.actions.ran }) (rules.answered a.player reply) a.engine
@@ -92,7 +91,7 @@ module _ {P : Type 0} {rules : Rules P} (laws : Obeys rules) {first : Between P}
         ((held.comes g.irrevocable row active).1 ∙ (ap (λ (bytes : List ℕ). plainly MAX_OPEN_BLOCKS (alone MAX_OPEN_BLOCKS bytes row) call) (sym position_bytes) ∙ ap (λ (s : State). plainly MAX_OPEN_BLOCKS s call) alone_is))
 
     now_tried : Tried
-    now_tried = elim (reply_cases mid call reply a.engine mid.holds mid.irrevocable (subst (λ (o : Option Call). RepliesTo mid o reply a.engine) m.taken.doing m.ends)) [
+    now_tried = elim (reply_cases mid a.engine call reply m.taken.doing m.ends) [
       | inl g ↦ try_replies laws (run.inside m.taken.was_is).4 m.taken.was_is m.answered.in_call.asks began g (seen.fewer (ap in_transaction (sym m.settled.engine) ∙ opened) (ap (λ (c : Core). c.irrevocable) g.stays ∙ g.revocable))
       | inr (inl g) ↦ entered_try g
       | inr (inr g) ↦ held_try g

@@ -1,7 +1,7 @@
 -- An actor's run between two tries: calls outside a transaction, and begins.
 use Rattle.std.proofs.Common.{◌≡◌, ◌⊎◌, ℕ, zero, suc, ◌/◌, ◌<◌, ◌≤◌, Bool, true, false, if◌then◌else◌, List, [], Option, None, Some, refl, sym, true≢false, ap, subst, ◌∙◌, arith, is_none, is_some, inl, inr}
 use Rattle.user_actions.specs.Actions.{Actions}
-use Rattle.norec_world.proofs.Common.{Actor, Agrees, Agrees-drop, Answer, Attempt, Begin, Beginning, Between, Busy, Call, Cells, Committed, Conflict, ConflictsIn, Core, CountsTry, Done, Enters, Full, IsBeforeTry, IsInTry, IsMemory, IsRun, LeadsTo, MAX_OPEN_BLOCKS, Obeys, Props, Ready, Refusal, Replied, Replies, RepliesHeld, RepliesTo, Reply, Row, Rows, Rules, State, active_of, after, after_unless, alone, backed, begin_of, begin_within, begins_at, bytes_at, cond-true, ending_of, in_transaction, is_inside, opened, outside, recoded, refusal, reply, reply_cases, same_Some, stands_for, state_over, state_then, with_opened, words_at}
+use Rattle.norec_world.proofs.Common.{Actor, Agrees, Agrees-drop, Answer, Attempt, Begin, Beginning, Between, Busy, Call, Cells, Committed, Conflict, ConflictsIn, Core, CountsTry, Done, Enters, Full, IsBeforeTry, IsInTry, IsMemory, IsRun, LeadsTo, MAX_OPEN_BLOCKS, Obeys, Props, Ready, Refusal, Replied, Replies, RepliesHeld, Reply, Row, Rows, Rules, State, active_of, after, after_unless, alone, backed, begin_of, begin_within, begins_at, bytes_at, cond-true, ending_of, in_transaction, inside_all, is_inside, opened, outside, recoded, refusal, reply, reply_cases, same_Some, stands_for, state_over, state_then, with_opened, words_at}
 use Rattle.itm_model.specs.Machine.{answer, in_arena, irrevocable_from, or_else, pushed, reply_unless, unless}
 use Rattle.itm_types.specs.declared.call.Refusal.TheVariants.{NoIrrevocable}
 use Rattle.norec_core.specs.Core.{may_go}
@@ -13,10 +13,10 @@ use Rattle.norec_world.specs.Records.{again_after}
 use Rattle.norec_world.proofs.ActiveRows.{opened_here}
 use Rattle.norec_world.proofs.RunAnswers.{now_at, run_same}
 use Rattle.norec_world.proofs.Solos.{comes_past}
-use Rattle.norec_world.proofs.TryEnds.{none_pending, begin_call, next_try, begun_or_not, plain_reply, unfreed_to}
+use Rattle.norec_world.proofs.TryEnds.{none_pending, begin_call, next_try, begun_or_not, plain_reply}
 use Rattle.norec_world.proofs.Seen.{HasSeen, memory_at, same_at}
-use Rattle.norec_world.proofs.Taken.{HasAnswered, still_going}
-use Rattle.norec_world.proofs.InTries.{begin_leaves, begin_may, inside_all, held_served, stands_outside, try_begins, try_begins_held}
+use Rattle.norec_world.proofs.Taken.{HasAnswered, half_same, still_going}
+use Rattle.norec_world.proofs.InTries.{begin_leaves, begin_may, held_served, stands_outside, try_begins, try_begins_held}
 use Rattle.norec_world.proofs.HeldCalls.{stands_arena}
 
 module _ {P : Type 0} (rules : Rules P) (laws : Obeys rules) where
@@ -100,7 +100,7 @@ module _ {P : Type 0} {rules : Rules P} (laws : Obeys rules) {first : Between P}
 
   module _ (reply : Replied) (m : HasAnswered rules false cells cells' r r1 mid a last call (Reply reply)) where
     by_case : Replies mid call reply a.engine ⊎ Enters mid call reply a.engine ⊎ RepliesHeld mid call reply a.engine
-    by_case = reply_cases mid call reply a.engine mid.holds mid.irrevocable (subst (λ (o : Option Call). RepliesTo mid o reply a.engine) m.taken.doing m.ends)
+    by_case = reply_cases mid a.engine call reply m.taken.doing m.ends
 
     outside_runs : in_transaction last.engine ≡ false → r1.ended ≡ r.ended → IsRun rules first base (cells.clock / 2) r1 last
     outside_runs closed ended =
@@ -144,7 +144,7 @@ module _ {P : Type 0} {rules : Rules P} (laws : Obeys rules) {first : Between P}
     begin_runs row pending props room is opened rows =
         let now : in_transaction a.engine ≡ true = ap in_transaction (sym m.settled.engine) ∙ opened in
         let late = seen.opens m.taken.was_is now in
-        let half = m.taken.moves.keeps (unfreed_to mid a.engine mid.doing reply m.ends) in
+        let half = half_same m refl in
         let k_late : a.engine.snapshot / 2 ≤ cells.clock / 2 = (let reached = m.taken.tied.settled.reached in let late = m.taken.tied.late in omega arith) in
         let t = before m.taken.was_is m.answered.status in
         let k = t.2 in

@@ -1,6 +1,6 @@
 -- An actor's run, once its attempt has ended.
 use Rattle.std.proofs.Common.{◌≡◌, ℕ, ◌/◌, ◌≤◌, Bool, true, false, if◌then◌else◌, List, [], ◌∷◌, ◌++◌, map, Option, Some, refl, sym, true≢false, ap, subst, ◌∙◌, arith, inl, inr}
-use Rattle.norec_world.proofs.Common.{Actor, Agrees, Agrees-drop, Answers, Attempt, Between, Call, Cells, Code, Commit, Committed, Conflict, ConflictsIn, Core, Done, EndsAs, Entry, Full, Next, IsMemory, IsRun, LacksClock, MAX_OPEN_BLOCKS, Obeys, Outcome, Replied, Replies, RecordsReply, RepliesTo, Reply, Rows, Rules, State, StopsAt, after, after_try, alone, answered_all, backed, begin_code, bytes_at, bytes_of, cases_Bool, ending_of, false_from_ne_true, follows, in_transaction, is_done, is_open, opened, recoded, reply_cases, stands_for, state_then, takes_clock, words_at, words_of}
+use Rattle.norec_world.proofs.Common.{Actor, Agrees, Agrees-drop, Answers, Attempt, Between, Call, Cells, Code, Commit, Committed, Conflict, ConflictsIn, Core, Done, EndsAs, Entry, Full, Next, IsMemory, IsRun, LacksClock, MAX_OPEN_BLOCKS, Obeys, Outcome, Replied, Replies, RecordsReply, Reply, Rows, Rules, State, StopsAt, after, after_try, alone, answered_all, backed, begin_code, bytes_at, bytes_of, cases_Bool, ending_of, false_from_ne_true, follows, in_transaction, is_done, is_open, opened, recoded, stands_for, state_then, takes_clock, words_at, words_of}
 use Rattle.itm_model.specs.Machine.{undone, reply as plainly}
 use Rattle.itm_types.specs.declared.call.Call.TheVariants.{Abort}
 use Rattle.itm_types.specs.declared.call.Ran.{Ran}
@@ -14,12 +14,12 @@ use Rattle.norec_world.specs.Opacity.{ran_of}
 use Rattle.tx_attempts.specs.declared.attempt.Outcome.TheVariants as outcomes
 use Rattle.norec_world.proofs.ActiveRows.{row_is_of}
 use Rattle.norec_world.proofs.Cancels.{cancelled, cancels}
-use Rattle.norec_world.proofs.HeldCalls.{CommitsTo, HasHeld, commit_reply, commits_kept, commits_over, enters_open, stands_actions, stands_arena, stands_mode, wants_taking}
+use Rattle.norec_world.proofs.HeldCalls.{CommitsTo, HasHeld, commit_reply, commits_kept, commits_over, stands_actions, stands_arena, stands_mode, wants_taking}
 use Rattle.norec_world.proofs.RunAnswers.{RunOf, ended_run, now_at, position_bytes, position_fits}
 use Rattle.norec_world.proofs.Seen.{HasSeen, memory_at, same_at}
 use Rattle.norec_world.proofs.Solos.{player_snoc, stands_open}
 use Rattle.norec_world.proofs.Taken.{HasAnswered}
-use Rattle.norec_world.proofs.TryEnds.{none_pending, none_retried, next_try}
+use Rattle.norec_world.proofs.TryEnds.{none_pending, none_retried, next_try, plain_reply}
 use Rattle.norec_world.proofs.TryOutcomes.{IsMadeAlone, alone_led, closing_left, lacks_clock, made_held, made_so, stands_led, try_closes, try_stops}
 
 module _ {P : Type 0} {rules : Rules P} (laws : Obeys rules) {first : Between P} {base : List ℕ} {cells cells' : Cells} {r : Rows} (r1 : Rows) {mid : Core} (a last : Actor P) (call : Call)
@@ -168,11 +168,7 @@ module _ {P : Type 0} {rules : Rules P} (laws : Obeys rules) {first : Between P}
     closed = ap in_transaction (sym m.settled.engine) ∙ shut
 
     cancel_replies : Replies mid call reply a.engine
-    cancel_replies = elim (reply_cases mid call reply a.engine mid.holds mid.irrevocable (subst (λ (o : Option Call). RepliesTo mid o reply a.engine) m.taken.doing m.ends)) [
-      | inl g ↦ g
-      | inr (inl g) ↦ absurd (true≢false (sym (enters_open mid a.engine call reply inside g) ∙ closed))
-      | inr (inr g) ↦ absurd (true≢false (sym (g.still inside) ∙ closed))
-    ]
+    cancel_replies = plain_reply mid a.engine call reply m.taken.doing m.taken.tied.settled closed m.ends
 
     kept_nothing : (a.engine.log ≡ []) × (a.engine.writes ≡ [])
     kept_nothing = ((m.taken.tied.settled.closed closed).0, (m.taken.tied.settled.closed closed).1)

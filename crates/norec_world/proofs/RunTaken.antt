@@ -1,6 +1,6 @@
 -- A value or a call was taken in, and what the engine gave is recorded: the actor's run goes on, and the words are still those that the commits left.
-use Rattle.std.proofs.Common.{◌≡◌, ◌⊎◌, ℕ, suc, ◌+◌, ◌/◌, ◌≤◌, ◌==◌, Bool, true, false, List, [], ◌∷◌, ◌++◌, Option, None, Some, refl, sym, true≢false, ap, subst, ◌∙◌, arith, eq-eqb, append-nil, inl, inr}
-use Rattle.norec_world.proofs.Common.{Actor, Agrees, Answer, Answers, AreCounted, AreLaid, Asks, Attempt, Between, Busy, Call, Cells, Committed, Conflict, ConflictsIn, Core, Done, Ends, Enters, Full, IsDone, IsHeld, IsRun, Loaded, MAX_OPEN_BLOCKS, Next, NoMemory, Obeys, RecordsReply, Replied, Replies, RepliesHeld, RepliesTo, Reply, Rows, Rules, Sees, StandsIn, State, Step, Tells, Waits, active_of, after, alone, backed, bytes_at, committed_at, cond-true, ending_of, in_transaction, is_open, memory_left, opened, reply_cases, rests, same_Some, stands_for, words_at}
+use Rattle.std.proofs.Common.{◌≡◌, ℕ, suc, ◌+◌, ◌/◌, ◌≤◌, ◌==◌, Bool, true, false, List, [], ◌∷◌, ◌++◌, Option, None, Some, refl, sym, true≢false, ap, subst, ◌∙◌, arith, eq-eqb, append-nil, inl, inr}
+use Rattle.norec_world.proofs.Common.{Actor, Agrees, Answer, Answers, AreCounted, AreLaid, Asks, Attempt, Between, Busy, Call, Cells, Committed, Conflict, Core, Done, Full, IsDone, IsHeld, IsRun, Loaded, MAX_OPEN_BLOCKS, Next, NoMemory, Obeys, RecordsReply, Replied, Reply, Rows, Rules, Sees, StandsIn, State, Step, Tells, Waits, active_of, after, alone, backed, bytes_at, committed_at, cond-true, ending_of, frees, in_transaction, is_open, memory_left, opened, reply_cases, rests, same_Some, stands_for, words_at}
 use Rattle.tx_attempts.specs.declared.attempt.Outcome.TheVariants as outcomes
 use Rattle.norec_world.proofs.InTries.{try_asks}
 use Rattle.norec_world.proofs.Laid.{laid_more, laid_on}
@@ -14,32 +14,8 @@ use Rattle.norec_world.proofs.Solos.{stands_open, state_snoc}
 use Rattle.user_actions.specs.Actions.{Actions}
 use Rattle.norec_world.proofs.RunBegins.{begin_holds, shut_runs}
 use Rattle.norec_world.proofs.Seen.{HasSeen}
-use Rattle.norec_world.proofs.Taken.{HasAnswered, HasTaken, answered, still_going, clock_grows}
-use Rattle.norec_world.proofs.TryEnds.{not_starved, unfreed_to, begun_or_not}
-
--- an answer clears what was loaded since the clock
-no_fresh : (mid new : Core) (answer : Answer) → Ends mid answer new → new.fresh ≡ []
-no_fresh mid new (Reply reply) g = by_doing mid.doing g
-  where
-    by_case : (c : Call) → Replies mid c reply new ⊎ Enters mid c reply new ⊎ RepliesHeld mid c reply new → new.fresh ≡ []
-    by_case c (inl g) = ap (λ (c : Core). c.fresh) g.stays
-    by_case c (inr (inl g)) = ap (λ (c : Core). c.fresh) g.stays
-    by_case c (inr (inr g)) = ap (λ (c : Core). c.fresh) g.stays
-
-    by_doing : (o : Option Call) → RepliesTo mid o reply new → new.fresh ≡ []
-    by_doing None g = absurd g
-    by_doing (Some c) g = by_case c (reply_cases mid c reply new mid.holds mid.irrevocable g)
-no_fresh mid new (Conflict clock word) g = by_open (in_transaction mid) g
-  where
-    by_open : (b : Bool) → ConflictsIn b mid clock word new → new.fresh ≡ []
-    by_open true g = ap (λ (c : Core). c.fresh) g.stays
-    by_open false g = ap (λ (c : Core). c.fresh) g.stays
-no_fresh mid new answer g = ap (λ (c : Core). c.fresh) g.stays
-
--- nor was the clock freed, where it is no writer's commit
-unfreed_in : (b : Bool) (mid new : Core) (clock : ℕ) (word : Option ℕ) → ConflictsIn b mid clock word new → mid.freed ≡ false
-unfreed_in true mid new clock word g = g.unfreed
-unfreed_in false mid new clock word g = g.unfreed
+use Rattle.norec_world.proofs.Taken.{HasAnswered, HasTaken, answered, still_going, clock_grows, half_same, unfreed}
+use Rattle.norec_world.proofs.TryEnds.{not_starved, begun_or_not}
 
 module _ {P : Type 0} (rules : Rules P) (first : Between P) (base : List ℕ) where
   -- what is true of the actor then; the words are laid as soon as its attempts are counted
@@ -104,7 +80,7 @@ module _ {P : Type 0} {rules : Rules P} (laws : Obeys rules) {first : Between P}
     open_runs (Reply reply) m held = by_open (in_transaction last.engine) refl m.told
       where
         half : cells'.clock / 2 ≡ cells.clock / 2
-        half = m.taken.moves.keeps (unfreed_to mid a.engine mid.doing reply m.ends)
+        half = half_same m refl
 
         by_open : (now : Bool) → in_transaction last.engine ≡ now → RecordsReply rules true now r r1 a last call reply → IsRun rules first base (cells'.clock / 2) r1 last
         by_open true o told = to_now half (reply_runs laws r1 a last call seen run reply m held o told)
@@ -120,14 +96,11 @@ module _ {P : Type 0} {rules : Rules P} (laws : Obeys rules) {first : Between P}
 
     runs_on : (b : Bool) (answer : Answer) → HasAnswered rules b cells cells' r r1 mid a last call answer → HasHeld base cells cells' r a.thread mid a.engine call (Answers answer) → IsRun rules first base (cells'.clock / 2) r1 last
     runs_on true answer m held = open_runs answer m held
-    runs_on false answer m held = to_now (m.taken.moves.keeps (shut_unfreed answer m)) (shut_runs laws r1 a last call seen run (held.shut m.taken.was_is) answer m)
+    runs_on false answer m held = to_now (half_same m (shut_frees answer m)) (shut_runs laws r1 a last call seen run (held.shut m.taken.was_is) answer m)
       where
-        shut_unfreed : (answer : Answer) → HasAnswered rules false cells cells' r r1 mid a last call answer → mid.freed ≡ false
-        shut_unfreed (Reply reply) m = unfreed_to mid a.engine mid.doing reply m.ends
-        shut_unfreed (Conflict clock word) m = unfreed_in (in_transaction mid) mid a.engine clock word m.ends
-        shut_unfreed (Busy clock) m = m.ends.unfreed
-        shut_unfreed (Full at) m = m.ends.unfreed
-        shut_unfreed (Committed at wrote) m = absurd (let f : false ≡ true = m.answered.fits.0 in cc)
+        shut_frees : (answer : Answer) → HasAnswered rules false cells cells' r r1 mid a last call answer → frees answer ≡ false
+        shut_frees (Committed at wrote) m = absurd (let f : false ≡ true = m.answered.fits.0 in cc)
+        shut_frees answer m = refl
 
     -- an answer that leaves the transaction open ends no attempt
     pub open_ended : (b : Bool) (answer : Answer) → HasAnswered rules b cells cells' r r1 mid a last call answer → in_transaction a.engine ≡ true → r1.ended ≡ r.ended
@@ -140,7 +113,7 @@ module _ {P : Type 0} {rules : Rules P} (laws : Obeys rules) {first : Between P}
         let rest = rests mid a.engine answer m.ends in
         subst (Sees (words_at base r1.ended) cells') (sym m.settled.engine) (record {
           loaded = record {
-            fresh = λ even same f. subst (Agrees (words_at base r1.ended (cells'.clock / 2))) (sym (no_fresh mid a.engine answer m.ends)) tt;
+            fresh = λ even same f. subst (Agrees (words_at base r1.ended (cells'.clock / 2))) (sym rest.fresh) tt;
             held = λ h revocable. absurd (true≢false (sym h ∙ (rest.holds ∙ revocable)));
             got = λ h revocable. absurd (true≢false (sym h ∙ (rest.holds ∙ revocable)));
           };
@@ -172,12 +145,9 @@ module _ {P : Type 0} {rules : Rules P} (laws : Obeys rules) {first : Between P}
         ∙ (ap (λ (k : ℕ). (alone MAX_OPEN_BLOCKS (bytes_at base r1.ended k) row).memory) (sym position) ∙ left_so)))
 
     laid_answered : (b : Bool) (answer : Answer) → HasAnswered rules b cells cells' r r1 mid a last call answer → HasHeld base cells cells' r a.thread mid a.engine call (Answers answer) → AreCounted cells'.clock r1.ended → AreLaid base cells' r1
-    laid_answered b (Reply reply) m held = (let unfreed = unfreed_to mid a.engine mid.doing reply m.ends in laid_still r1 more ended (m.taken.moves.keeps unfreed) unfreed)
-    laid_answered b (Committed at false) m held = laid_still r1 more ended (m.taken.moves.keeps m.ends.freed) m.ends.freed
     laid_answered true (Committed at true) m held = laid_freed at m held
     laid_answered false (Committed at true) m held = absurd (let f : false ≡ true = m.answered.fits.0 in cc)
-    laid_answered b (Conflict clock word) m held = (let unfreed = unfreed_in (in_transaction mid) mid a.engine clock word m.ends in laid_still r1 more ended (m.taken.moves.keeps unfreed) unfreed)
-    laid_answered b answer m held = laid_still r1 more ended (m.taken.moves.keeps m.ends.unfreed) m.ends.unfreed
+    laid_answered b answer m held = laid_still r1 more ended (half_same m refl) (unfreed m refl)
 
     -- ### In an irrevocable transaction
 
@@ -194,7 +164,7 @@ module _ {P : Type 0} {rules : Rules P} (laws : Obeys rules) {first : Between P}
     -- a reply within it, or that of the call that made it so
     held_stands : (reply : Replied) (m : HasAnswered rules true cells cells' r r1 mid a last call (Reply reply)) → HasHeld base cells cells' r a.thread mid a.engine call (Answers (Reply reply)) → a.engine.irrevocable ≡ true
         → stands_for a.engine cells'.words ≡ after MAX_OPEN_BLOCKS (alone MAX_OPEN_BLOCKS (bytes_at base r.ended (cells.clock / 2)) (run.inside m.taken.was_is).1) call
-    held_stands reply m held irrevocable = elim (reply_cases mid call reply a.engine mid.holds mid.irrevocable (subst (λ (o : Option Call). RepliesTo mid o reply a.engine) m.taken.doing m.ends)) [
+    held_stands reply m held irrevocable = elim (reply_cases mid a.engine call reply m.taken.doing m.ends) [
       | inl g ↦ absurd (true≢false (sym irrevocable ∙ (ap (λ (c : Core). c.irrevocable) g.stays ∙ g.revocable)))
       | inr (inl g) ↦
           (let t = run.inside m.taken.was_is in
@@ -225,7 +195,7 @@ module _ {P : Type 0} {rules : Rules P} (laws : Obeys rules) {first : Between P}
             → IsHeld (bytes_at base r1.ended (cells'.clock / 2)) cells'.words row a.engine
         by_answer true (Reply reply) m held now inside idle =
             let t = run.inside m.taken.was_is in
-            let half = m.taken.moves.keeps (unfreed_to mid a.engine mid.doing reply m.ends) in
+            let half = half_same m refl in
             let told = subst (λ (o : Bool). RecordsReply rules true o r r1 a last call reply) (ap in_transaction m.settled.engine ∙ inside) m.told in
             let with_call : Attempt → Attempt = λ x. record x { calls = x.calls ++ record { call = call; reply = reply } ∷ []; ran = last.engine.actions.ran } in
             let here : active_of last.thread r1.active ≡ Some (with_call t.1) = ap (λ (k : ℕ). active_of k r1.active) m.settled.thread ∙ (ap (λ (x : Rows). active_of a.thread x.active) told.0 ∙ changed_here a.thread with_call r.active t.1 (λ x. refl) t.3) in
@@ -237,7 +207,7 @@ module _ {P : Type 0} {rules : Rules P} (laws : Obeys rules) {first : Between P}
             (stands_held (bytes_at base r.ended (cells.clock / 2)) (with_call t.1) inside now (s ∙ sym (state_snoc MAX_OPEN_BLOCKS (opened (bytes_at base r.ended (cells.clock / 2)) t.1.arena t.1.props) t.1.calls (record { call = call; reply = reply })))
             (ap (λ (c : Core). c.actions.ran) m.settled.engine) idle))
         by_answer false (Reply reply) m held now inside idle =
-            let half = m.taken.moves.keeps (unfreed_to mid a.engine mid.doing reply m.ends) in
+            let half = half_same m refl in
             let s = begin_holds laws r1 a last call seen run (held.shut m.taken.was_is) reply m (ap in_transaction m.settled.engine ∙ inside) now row active in
             let memory : bytes_at base r.ended (cells.clock / 2) ≡ bytes_at base r1.ended (cells'.clock / 2) = λ i. bytes_at base (sym (open_ended false (Reply reply) m inside) i) (sym half i) in
             subst (λ (bytes : List ℕ). IsHeld bytes cells'.words row a.engine) memory (stands_held (bytes_at base r.ended (cells.clock / 2)) row inside now s.0 s.1 idle)

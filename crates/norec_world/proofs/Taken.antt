@@ -1,7 +1,7 @@
 -- The moment that a step and a call of the player share: the engine has taken in a value or a call, and what it gave is recorded next.
 use Rattle.norec_world.specs.ActionRoom.{HasFirst, IsActing}
 use Rattle.std.proofs.Common.{◌≡◌, ◌≢◌, ◌⊎◌, None, ◌+◌, ◌*◌, ◌/◌, Bool, true, false, [], refl, ap, subst, ◌∙◌, sym, length, Some, ◌≤◌, inl, inr, arith, ℕ}
-use Rattle.norec_world.proofs.Common.{Actor, Answer, AnswerFits, Answers, Asks, BeginsAt, Call, asked, Cells, Core, Ended, Ends, HasRow, IsAnswered, IsAtOnce, IsDone, IsKept, IsNested, IsSettledBy, IsSound, IsTied, IsWithin, Next, Proceeds, Ready, Records, RestsAs, Rows, Rules, Status, StatusIs, Step, Tells, Waits, in_transaction, is_ready, rests, End, ending_of, cases_Bool}
+use Rattle.norec_world.proofs.Common.{Actor, Answer, AnswerFits, Answers, Asks, BeginsAt, Call, asked, Cells, Core, Ended, Ends, frees, HasRow, IsAnswered, IsAtOnce, IsDone, IsKept, IsNested, IsSettledBy, IsSound, IsTied, IsWithin, Next, Proceeds, Ready, Records, RestsAs, Rows, Rules, Status, StatusIs, Step, Tells, Waits, in_transaction, is_ready, rests, End, ending_of, cases_Bool}
 use Rattle.norec_world.specs.Sound.{IsDue, IsInCall, IsWaiting}
 use Rattle.norec_world.proofs.TiedEngines.{answer_fits}
 
@@ -86,6 +86,13 @@ module _ {P : Type 0} {rules : Rules P} {was : Bool} {cells cells' : Cells} {r :
         free = rest.holds;
         status = m.ready;
       }
+
+  -- no commit is done, unless a writer's is what is answered
+  pub unfreed : {r1 : Rows} {last : Actor P} {answer : Answer} → HasAnswered rules was cells cells' r r1 mid a last call answer → frees answer ≡ false → mid.freed ≡ false
+  unfreed {answer = answer} m none = (rests mid a.engine answer m.ends).freed ∙ none
+
+  pub half_same : {r1 : Rows} {last : Actor P} {answer : Answer} → HasAnswered rules was cells cells' r r1 mid a last call answer → frees answer ≡ false → cells'.clock / 2 ≡ cells.clock / 2
+  half_same m none = m.taken.moves.keeps (unfreed m none)
 
   pub due : {what : Next} → HasTaken rules was cells cells' r mid a call what → IsDue rules was r a call what
   due {what = Asks step} m = m.ready

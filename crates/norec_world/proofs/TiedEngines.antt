@@ -1,13 +1,11 @@
 -- The engine and the cells, over one event: the engine's data stay as the cells have them.
-use Rattle.std.proofs.Common.{◌≡◌, ◌⊎◌, inl, inr, ◌&&◌, not, List, [], ◌∷◌, map, None, IsSome, ℕ, zero, suc, ◌+◌, ◌*◌, ◌/◌, ◌%◌, ◌<◌, ◌≤◌, ◌==◌, Bool, true, false, length, Option, Some, slice_index, refl, sym, ap, subst, ◌∙◌, arith, if◌then◌else◌, eqb-true, length-set}
-use Rattle.norec_world.proofs.Common.{AllFit, Answer, AnswerFits, Answers, Asks, Begin, Busy, Call, Cas, Cells, Code, Commit, Committed, Conflict, ConflictsIn, Core, Ends, Enters, Full, HoldsOn, IsLawful, IsTied, Load, Next, Proceeds, Replied, Replies, RepliesHeld, RepliesTo, Reply, Step, Store, after_undoing, both_ways, came, cells_after, cond-false, cond-true, cond_both, found, handed_to, in_transaction, is_begin, is_inside, none_inside, reply_cases, rests, word_loaded}
-use Rattle.itm_types.specs.Calls.{is_abort}
+use Rattle.std.proofs.Common.{◌≡◌, ◌&&◌, not, List, [], None, IsSome, ℕ, zero, suc, ◌+◌, ◌*◌, ◌/◌, ◌%◌, ◌<◌, ◌≤◌, ◌==◌, Bool, true, false, length, Option, Some, slice_index, refl, sym, ap, subst, ◌∙◌, arith, if◌then◌else◌, eqb-true, length-set}
+use Rattle.norec_world.proofs.Common.{AllFit, Answer, AnswerFits, Answers, Asks, Begin, Busy, Call, Cas, Cells, Commit, Committed, Conflict, ConflictsIn, Core, Ends, Full, HoldsOn, IsLawful, IsTied, Load, Next, Proceeds, Reply, Step, Store, after_undoing, both_ways, came, cells_after, cond-false, cond-true, cond_both, found, handed_to, in_transaction, is_begin, none_inside, replied_so, reply_cases, rests, word_loaded}
 use Rattle.itm_types.specs.declared.call.Call.TheVariants.{Mode}
-use Rattle.nest_frames.specs.Nest.{Frame, made_irrevocable, stays_revocable}
-use Rattle.std.proofs.lemmas.List.{length-map}
-use Rattle.norec_core.specs.Core.{goes, rolled_back}
+use Rattle.nest_frames.specs.Nest.{Frame, stays_revocable}
+use Rattle.norec_core.specs.Core.{rolled_back}
 use Rattle.norec_core.specs.declared.phase.Phase.TheVariants.{Idle}
-use Rattle.norec_core.specs.Proceeds.{IsBegin, IsSettled, WantsClock, blocks_after}
+use Rattle.norec_core.specs.Proceeds.{IsBegin, IsSettled, WantsClock}
 use Rattle.norec_world.proofs.PlayerLaws.{reply_fits}
 
 -- ## What the operation asks and gives
@@ -41,31 +39,10 @@ loose {mid} words fit late free settled = record {
   settled = settled;
 }
 
--- over an answer the clock is held as before
-replied_holds : (mid new : Core) (call : Call) (r : Replied) → Replies mid call r new ⊎ Enters mid call r new ⊎ RepliesHeld mid call r new → new.holds ≡ mid.holds
-replied_holds mid new call r (inl g) = ap (λ (c : Core). c.holds) g.stays
-replied_holds mid new call r (inr (inl g)) = ap (λ (c : Core). c.holds) g.stays
-replied_holds mid new call r (inr (inr g)) = ap (λ (c : Core). c.holds) g.stays
-
-reply_holds : (mid new : Core) (r : Replied) (doing : Option Call) → RepliesTo mid doing r new → new.holds ≡ mid.holds
-reply_holds mid new r None g = absurd g
-reply_holds mid new r (Some call) g = replied_holds mid new call r (reply_cases mid call r new mid.holds mid.irrevocable g)
-
-conflict_holds : (mid new : Core) (clock : ℕ) (word : Option ℕ) (inside : Bool) → ConflictsIn inside mid clock word new → new.holds ≡ mid.holds
-conflict_holds mid new clock word true g = ap (λ (c : Core). c.holds) g.stays ∙ sym g.free
-conflict_holds mid new clock word false g = ap (λ (c : Core). c.holds) g.stays ∙ sym g.free
-
-pub holds_same : (mid new : Core) (a : Answer) → Ends mid a new → new.holds ≡ mid.holds
-holds_same mid new (Reply r) g = reply_holds mid new r mid.doing g
-holds_same mid new (Committed at wrote) g = ap (λ (c : Core). c.holds) g.stays ∙ sym g.free
-holds_same mid new (Conflict clock word) g = conflict_holds mid new clock word (in_transaction mid) g
-holds_same mid new (Busy clock) g = ap (λ (c : Core). c.holds) g.stays ∙ sym g.free
-holds_same mid new (Full at) g = ap (λ (c : Core). c.holds) g.stays ∙ sym g.free
-
 -- what the engine goes on to has the same words and the same clock, and holds it or not as before
 pub clock_same : (mid new : Core) (what : Next) → Proceeds mid what new → (new.words ≡ mid.words) × (new.clock ≡ mid.clock) × (new.holds ≡ mid.holds)
 clock_same mid new (Asks step) g = (ap (λ (c : Core). c.words) g.stays, ap (λ (c : Core). c.clock) g.stays, ap (λ (c : Core). c.holds) g.stays)
-clock_same mid new (Answers a) g = (let r = rests mid new a g in (r.words, r.clock, holds_same mid new a g))
+clock_same mid new (Answers a) g = (let r = rests mid new a g in (r.words, r.clock, r.held))
 
 -- the engine stays as the cells have it
 pub tied : (cells : Cells) (mid new : Core) (what : Next) → IsMid cells mid new → Proceeds mid what new → IsTied cells new
@@ -232,17 +209,6 @@ holds_handed cells e (Cas cell from to) t l = record {
 
 -- ## What the answer says
 
-inside_all : (blocks : List Frame) → is_inside (map made_irrevocable blocks) ≡ is_inside blocks
-inside_all [] = refl
-inside_all (b ∷ bs) = refl
-
--- a transaction that becomes irrevocable stays open
-goes_inside : (c : Core) (call : Call) (r : Replied) → IsSome (goes c call) → in_transaction c ≡ true → is_inside (blocks_after c call r) ≡ true
-goes_inside c (Begin props room) (Code n) g o = refl
-goes_inside c (Begin props room) r g o = o
-goes_inside c (Mode room) r g o = o
-goes_inside c call r g o = absurd (cc)
-
 goes_outside : (c : Core) (room : ℕ) (inside : Bool) → inside ≡ false → IsSome (if inside && not (stays_revocable c.blocks) && not c.irrevocable then Some room else None) → ⊥
 goes_outside c room true e g = absurd (cc)
 goes_outside c room false e g = absurd (cc)
@@ -260,24 +226,14 @@ begin_is (Some (Begin props room)) call d b = (let same : Begin props room ≡ c
 begin_is (Some other) call d b = absurd b
 
 module _ (mid new : Core) where
-  reply_answers : (call : Call) (r : Replied) → Replies mid call r new ⊎ Enters mid call r new ⊎ RepliesHeld mid call r new
-      → (length (blocks_after mid call r) ≡ length new.blocks) × (is_abort call ≡ false → in_transaction mid ≡ true → in_transaction new ≡ true)
-  reply_answers call r (inl g) = (sym (ap length g.blocks), g.still)
-  reply_answers call r (inr (inl g)) = (
-    sym (ap (λ (c : Core). length c.blocks) g.stays ∙ length-map (blocks_after mid call r) made_irrevocable),
-    λ other o. ap in_transaction g.stays ∙ (inside_all (blocks_after mid call r) ∙ goes_inside mid call r g.goes o),
-  )
-  reply_answers call r (inr (inr g)) = (sym (ap (λ (c : Core). length c.blocks) g.stays), λ other o. g.still o)
-
   conflict_fits : (call : Call) (clock : ℕ) (word : Option ℕ) (inside : Bool) → mid.doing ≡ Some call → ConflictsIn inside mid clock word new → (inside ≡ false → is_begin call ≡ true) × (in_transaction new ≡ false)
   conflict_fits call clock word true doing g = (λ shut. absurd (cc), ap in_transaction g.stays)
   conflict_fits call clock word false doing g = (λ shut. begin_is mid.doing call doing g.begins, ap in_transaction g.stays)
 
   pub answer_fits : (call : Call) (a : Answer) → mid.doing ≡ Some call → Ends mid a new → AnswerFits (in_transaction mid) (length mid.blocks) (in_transaction new) (length new.blocks) call a
   answer_fits call (Reply r) doing g =
-      let Told : Option Call → Type 0 = λ o. RepliesTo mid o r new in
-      let told = reply_answers call r (reply_cases mid call r new mid.holds mid.irrevocable (subst Told doing g)) in
-      (sym (reply_fits mid call r) ∙ told.0, told.1)
+      let told = replied_so mid new call r (reply_cases mid new call r doing g) in
+      (sym (reply_fits mid call r) ∙ told.deep, told.still)
   answer_fits call (Committed at wrote) doing g =
       let same : Some call ≡ Some Commit = sym doing ∙ g.doing in
       let is : call ≡ Commit = cc in

@@ -2,7 +2,7 @@
 use Rattle.norec_world.proofs.LaterActions.{given_up_later}
 use Rattle.itm_types.specs.declared.call.Ran.{Ran}
 use Rattle.std.proofs.Common.{List, ◌++◌, ◌≡◌, ℕ, ◌/◌, ◌%◌, ◌≤◌, ◌==◌, if◌then◌else◌, Bool, true, false, [], Option, None, Some, refl, sym, ap, subst, ◌∙◌, arith}
-use Rattle.norec_world.proofs.Common.{Actor, Answer, Answers, Asks, Attempt, Begin, BeginsAt, Busy, Call, Cells, Committed, Conflict, Core, Ended, Full, HasRow, IsAtOnce, IsDone, IsSound, IsTold, Next, Opens, Prior, Props, Ready, Reply, Rows, Rules, Starves, Status, Step, Tells, Tries, Waits, active_of, asked_pending, begins, ending_of, cond-true, false_from_ne_true, found, handed_is, in_transaction, none-some, none_inside, prior_of}
+use Rattle.norec_world.proofs.Common.{Actor, Answer, Answers, Asks, Attempt, Begin, BeginsAt, Busy, Call, Cells, Conflict, Core, Ended, Full, HasRow, IsDone, IsSound, IsTold, Next, Opens, Prior, Props, Ready, Reply, Rows, Rules, Starves, Status, Step, Tells, Tries, Waits, active_of, asked_pending, begins, ending_of, cond-true, false_from_ne_true, found, handed_is, in_transaction, none-some, prior_of, Replied, replied_outside}
 use Rattle.tx_attempts.specs.declared.attempt.Outcome.TheVariants as outcomes
 use Rattle.norec_world.specs.declared.ending.End.TheVariants as ends
 use Rattle.norec_world.proofs.TiedEngines.{limit_same, snapshot_still}
@@ -56,14 +56,6 @@ module _ {P : Type 0} (rules : Rules P)
 
 -- ## The call went to the engine
 
--- outside a transaction no call without a step ends one
-ends_shut : (c : Core) (call : Call) → ending_at (record c { blocks = [] }) call ≡ None
-ends_shut c (Begin props room) = refl
-ends_shut c call = refl
-
-ends_outside : (c : Core) (call : Call) → in_transaction c ≡ false → ending_at c call ≡ None
-ends_outside c call shut = (let none = none_inside c.blocks shut in (λ i. ending_at (record c { blocks = none i }) call) ∙ ends_shut c call)
-
 module _ {P : Type 0} {rules : Rules P} {cells : Cells} {r0 r : Rows} {old a : Actor P} {call : Call} {what : Next} (m : IsCalling rules cells r0 r old a call what) where
   -- an attempt that is to be opened then is one of this moment
   opens_now : (c : Call) → (row : Attempt) → asked_pending false cells.clock old c ≡ Some row → a.engine.arena ≡ old.engine.arena
@@ -81,8 +73,8 @@ module _ {P : Type 0} {rules : Rules P} {cells : Cells} {r0 r : Rows} {old a : A
       (λ shut row p. opens_now call row (ap (λ (b : Bool). asked_pending b cells.clock old call) (sym shut) ∙ (sym m.asks.pending ∙ p)) (ap (λ (c : Core). c.arena) t.proceeds.stays)) (λ x. absurd (cc)) (λ x. absurd (cc))
 
   -- it is answered at once
-  answer_tries : (answer : Answer) → what ≡ Answers answer → IsAtOnce (Answers answer) → {r1 : Rows} {last : Actor P} → HasAnswered rules (in_transaction old.engine) cells cells r r1 (mid m) a last call answer → Tries cells.clock (prior_of r0 old) cells.clock r1 last
-  answer_tries answer is soon {r1} {last} t = by_open (in_transaction old.engine) refl t
+  answer_tries : (answer : Answer) → what ≡ Answers answer → {r1 : Rows} {last : Actor P} → HasAnswered rules (in_transaction old.engine) cells cells r r1 (mid m) a last call answer → Tries cells.clock (prior_of r0 old) cells.clock r1 last
+  answer_tries answer is {r1} {last} t = by_open (in_transaction old.engine) refl t
     where
       limit : a.engine.max_commits ≡ old.engine.max_commits
       limit = (limit_same (mid m) a.engine what m.asks.called.proceeds).0
@@ -93,26 +85,22 @@ module _ {P : Type 0} {rules : Rules P} {cells : Cells} {r0 r : Rows} {old a : A
           subst (λ (p : Prior). Tries cells.clock p cells.clock r1 last)
           (λ i. record { ended = ended_same m i; active = active_same m i; pending = pending i; nth = m.asks.nth i; retries = m.asked.same.retries i; max_commits = limit i; seen = old.engine.clock })
           (open_tries old.engine.clock answer t)
-      by_open false e t = shut answer is soon t
+      by_open false e t =
+          let reply = replied_outside old.engine call answer e (subst (EndsSo (ending_at old.engine call)) is m.asks.called.ends) in
+          shut reply.0 (subst (HasAnswered rules false cells cells r r1 (mid m) a last call) reply.1 t)
         where
           closed : in_transaction a.engine ≡ false
           closed = false_from_ne_true (in_transaction a.engine) (λ o. absurd (let f : true ≡ false = sym (m.asked.stays.opens o) ∙ e in cc))
 
-          shut : (ans : Answer) → what ≡ Answers ans → IsAtOnce (Answers ans) → HasAnswered rules false cells cells r r1 (mid m) a last call ans → Tries cells.clock (prior_of r0 old) cells.clock r1 last
-          shut (Reply reply) is soon t =
+          shut : (reply : Replied) → HasAnswered rules false cells cells r r1 (mid m) a last call (Reply reply) → Tries cells.clock (prior_of r0 old) cells.clock r1 last
+          shut reply t =
               let outside : in_transaction last.engine ≡ false = ap in_transaction t.settled.engine ∙ closed in
               let same : r1 ≡ r = subst (λ (b : Bool). Opens b r a.pending (last.engine.snapshot / 2) r1) outside t.told.0 in
               stays_between cells.clock cells.clock r0 r1 old last (ap (λ (x : Rows). x.ended) same ∙ ended_same m) refl (sym (active_same m) ∙ t.answered.kept.row) (rests m.sound m.ready).nothing
               (is_between rules r r1 a last false t.settled cells.clock old.nth closed (t.told.4 ∙ t.answered.status) (t.told.3 ∙ m.asks.nth))
-          shut (Busy clock) is soon t = absurd soon
-          shut (Conflict clock word) is soon t = absurd soon
-          shut (Full at) is soon t =
-              let ends : EndsSo None (Answers (Full at)) = subst (λ (o : Option Answer). EndsSo o (Answers (Full at))) (ends_outside old.engine call e) (subst (EndsSo (ending_at old.engine call)) is m.asks.called.ends) in
-              absurd ends
-          shut (Committed at wrote) is soon t = absurd (let f : false ≡ true = t.answered.fits.0 in cc)
 
   pub call_tries : {r1 : Rows} {last : Actor P} → IsDone rules (in_transaction old.engine) r r1 a last call what → Tells rules (in_transaction old.engine) r r1 a last call what → Tries cells.clock (prior_of r0 old) cells.clock r1 last
-  call_tries done tells = recorded (λ x y. Tries cells.clock (prior_of r0 old) cells.clock x y) (call_taken m) done tells waits_tries (λ answer is t. answer_tries answer is (subst IsAtOnce is m.asked.at_once) t)
+  call_tries done tells = recorded (λ x y. Tries cells.clock (prior_of r0 old) cells.clock x y) (call_taken m) done tells waits_tries (λ answer is t. answer_tries answer is t)
 
 -- ## A step
 

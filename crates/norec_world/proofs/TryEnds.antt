@@ -4,7 +4,7 @@ use Rattle.std.proofs.Common.{true≢false, inl, inr, ◌≡◌, ℕ, ◌+◌, �
 use Rattle.nest_frames.specs.Nest.{Frame}
 use Rattle.norec_world.proofs.PlayerLaws.{deep_of}
 use Rattle.norec_world.proofs.Cancels.{cancels}
-use Rattle.norec_world.proofs.Common.{Actor, Agrees, Answer, Attempt, Begin, ClosedBy, Entry, RecordsReply, Busy, Call, Cells, Committed, Code, Conflict, ConflictsIn, Core, CountsTry, Enters, End, Ended, EndsAt, Full, GoesOnAfter, HasRow, IsBetween, IsMemory, IsReady, IsSettledBy, IsTied, IsTold, MAX_OPEN_BLOCKS, Opens, Outcome, Prior, Props, Ready, Records, Replied, Replies, RepliesHeld, RepliesTo, Reply, RestsAs, Rows, Rules, Status, Tries, TriesAgain, Agrees-drop, active_of, begins, between, cases_Bool, cond-false, cond-true, current_of, ending_of, in_transaction, is_begin, is_done, is_inside, none_inside, outrun, over, prior_of, recoded, reply as replied, reply_cases, runs, shut_out, stands_for, turned_away, with_opened}
+use Rattle.norec_world.proofs.Common.{Actor, Agrees, Agrees-drop, Answer, Attempt, Begin, Busy, Call, Cells, ClosedBy, Code, Committed, Conflict, ConflictsIn, Core, CountsTry, End, Ended, Ends, EndsAt, Entry, Full, GoesOnAfter, HasRow, IsBetween, IsMemory, IsReady, IsSettledBy, IsTied, IsTold, MAX_OPEN_BLOCKS, Opens, Outcome, Prior, Props, Ready, Records, RecordsReply, Replied, Replies, Reply, RestsAs, Rows, Rules, Status, Tries, TriesAgain, active_of, begins, between, cases_Bool, cond-false, cond-true, current_of, ending_of, in_transaction, is_begin, is_done, is_inside, none_inside, outrun, over, prior_of, recoded, reply as replied, reply_cases, runs, shut_out, stands_for, turned_away, with_opened}
 use Rattle.itm_types.specs.declared.call.Reply.TheVariants as replies
 use Rattle.itm_model.specs.Machine.{or_else, reply_unless, unless}
 use Rattle.itm_types.specs.declared.call.Refusal.TheVariants.{NoIrrevocable}
@@ -13,34 +13,22 @@ use Rattle.norec_core.specs.Proceeds.{Conflicts, IsBegin, IsLost, IsSettled, Wan
 use Rattle.norec_core.specs.Stands.{state_in}
 use Rattle.tx_attempts.specs.declared.attempt.Outcome.TheVariants as outcomes
 use Rattle.norec_world.specs.declared.ending.End.TheVariants as ends
-use Rattle.norec_world.proofs.Taken.{HasAnswered, still_going}
+use Rattle.norec_world.proofs.Taken.{HasAnswered, half_same, still_going}
 use Rattle.norec_world.proofs.ActiveRows.{changed_here, opened_here}
 use Rattle.norec_world.proofs.RecordedRows.{row_none, was_open}
 use Rattle.norec_world.proofs.SoundOthers.{row_open, row_shut}
-
-unfreed_by : (mid new : Core) (call : Call) (r : Replied) → Replies mid call r new ⊎ Enters mid call r new ⊎ RepliesHeld mid call r new → mid.freed ≡ false
-unfreed_by mid new call r (inl g) = g.unfreed
-unfreed_by mid new call r (inr (inl g)) = g.unfreed
-unfreed_by mid new call r (inr (inr g)) = g.unfreed
-
-pub unfreed_to : (mid new : Core) (o : Option Call) (r : Replied) → RepliesTo mid o r new → mid.freed ≡ false
-unfreed_to mid new None r g = absurd g
-unfreed_to mid new (Some call) r g = unfreed_by mid new call r (reply_cases mid call r new mid.holds mid.irrevocable g)
 
 -- an irrevocable transaction is open
 irrevocable_open : (e : Core) → IsSettled e → e.irrevocable ≡ true → in_transaction e ≡ true
 irrevocable_open e s i = (s.holder (s.irrevocable i).0).0
 
 -- a reply that leaves no transaction open is one of a transaction that is not irrevocable
-plain_by : (mid new : Core) (call : Call) (r : Replied) → IsSettled new → in_transaction new ≡ false → Replies mid call r new ⊎ Enters mid call r new ⊎ RepliesHeld mid call r new → Replies mid call r new
-plain_by mid new call r s shut (inl g) = g
-plain_by mid new call r s shut (inr (inl g)) = absurd (true≢false (sym (irrevocable_open new s (ap (λ (c : Core). c.irrevocable) g.stays)) ∙ shut))
-plain_by mid new call r s shut (inr (inr g)) = absurd (true≢false (sym (irrevocable_open new s (ap (λ (c : Core). c.irrevocable) g.stays ∙ g.irrevocable)) ∙ shut))
-
-pub plain_reply : (mid new : Core) (call : Call) (r : Replied) → mid.doing ≡ Some call → IsSettled new → in_transaction new ≡ false → RepliesTo mid mid.doing r new → Replies mid call r new
-plain_reply mid new call r doing s shut g =
-    let Told : Option Call → Type 0 = λ o. RepliesTo mid o r new in
-    plain_by mid new call r s shut (reply_cases mid call r new mid.holds mid.irrevocable (subst Told doing g))
+pub plain_reply : (mid new : Core) (call : Call) (r : Replied) → mid.doing ≡ Some call → IsSettled new → in_transaction new ≡ false → Ends mid (Reply r) new → Replies mid call r new
+plain_reply mid new call r doing s shut g = elim (reply_cases mid new call r doing g) [
+  | inl g ↦ g
+  | inr (inl g) ↦ absurd (true≢false (sym (irrevocable_open new s (ap (λ (c : Core). c.irrevocable) g.stays)) ∙ shut))
+  | inr (inr g) ↦ absurd (true≢false (sym (irrevocable_open new s (ap (λ (c : Core). c.irrevocable) g.stays ∙ g.irrevocable)) ∙ shut))
+]
 
 -- ## What stays as it is, and what ends with no call more
 
@@ -159,7 +147,7 @@ module _ {P : Type 0} {rules : Rules P} {cells cells' : Cells} {r r1 : Rows} {mi
   open_tries (Reply reply) m = by_open (in_transaction last.engine) refl m.told
     where
       half : cells'.clock / 2 ≡ cells.clock / 2
-      half = m.taken.moves.keeps (unfreed_to mid a.engine mid.doing reply m.ends)
+      half = half_same m refl
 
       by_open : (now : Bool) → in_transaction last.engine ≡ now → RecordsReply rules true now r r1 a last call reply → Tries cells.clock (record (prior_of r a) { seen = seen }) cells'.clock r1 last
       by_open true o told =
@@ -298,6 +286,14 @@ module _ {P : Type 0} {rules : Rules P} {cells cells' : Cells} {r r1 : Rows} {mi
           absurd (let f : false ≡ true = was_open false (in_transaction a.engine) (rules.depth a.player) (length a.engine.blocks) call reply m.answered.nested.deep (deep_of a.engine.blocks) (λ x. sym (m.answered.in_call.begins x) ∙ ap is_some p) m.answered.fits.0 now in cc)
       by_open false e (Some row) p told = inr (e, told, inr (begin_call call (sym (m.answered.in_call.begins refl) ∙ ap is_some p)))
 
+  -- the attempt that a begin is to open
+  begin_pending : {ans : Answer} → HasAnswered rules false cells cells' r r1 mid a last call ans → is_begin call ≡ true → (row : Attempt) × (a.pending ≡ Some row)
+  begin_pending m is = by_pending a.pending refl
+    where
+      by_pending : (p : Option Attempt) → a.pending ≡ p → (row : Attempt) × (a.pending ≡ Some row)
+      by_pending (Some row) p = (row, p)
+      by_pending None p = absurd (let f : false ≡ true = ap is_some (sym p) ∙ (m.answered.in_call.begins refl ∙ is) in cc)
+
   -- where a step was done, the begin was not refused; the engine had seen this clock before
   pub begin_tries : (seen : ℕ) → ((props : Props) (room : ℕ) → call ≡ Begin props room → may_go mid.blocks props ≡ true) → (ans : Answer) → ((clock : ℕ) (word : Option ℕ) → ans ≡ Conflict clock word → seen ≤ mid.snapshot)
       → HasAnswered rules false cells cells' r r1 mid a last call ans → Tries cells.clock (record (prior_of r a) { seen = seen }) cells'.clock r1 last
@@ -331,99 +327,93 @@ module _ {P : Type 0} {rules : Rules P} {cells cells' : Cells} {r r1 : Rows} {mi
   ]
     where
       half : cells'.clock / 2 ≡ cells.clock / 2
-      half = m.taken.moves.keeps (unfreed_to mid a.engine mid.doing reply m.ends)
+      half = half_same m refl
 
       refused : (props : Props) (room : ℕ) → call ≡ Begin props room → in_transaction a.engine ≡ false → ⊥
       refused props room is closed =
           let g : Replies mid (Begin props room) reply a.engine = subst (λ (c : Call). Replies mid c reply a.engine) is (plain_reply mid a.engine call reply m.taken.doing m.taken.tied.settled closed m.ends) in
           begin_opens mid a.engine cells'.words props room reply g m.taken.was_is (may props room is) (sym m.taken.words, m.taken.tied.fit) (subst (Agrees cells'.words) (sym (m.taken.tied.settled.closed closed).0) tt) closed
-  begin_tries seen may (Busy clock) early m = by_pending a.pending refl
-    where
-      by_pending : (p : Option Attempt) → a.pending ≡ p → Tries cells.clock (record (prior_of r a) { seen = seen }) cells'.clock r1 last
-      by_pending None p = absurd (let b = call_begins call (subst IsBegin m.taken.doing m.ends.begins) in let f : false ≡ true = ap is_some (sym p) ∙ (m.answered.in_call.begins refl ∙ b) in cc)
-      by_pending (Some row) p =
-          let out = m.taken.outside refl m.ends.free in
-          turned_away (record {
-            none = m.answered.kept.row;
-            row = row;
-            was = p;
-            ended = ap (λ (x : Rows). x.ended) m.told.0;
-            odd = elim out.1 [
-              | inl loaded ↦ ap (λ (n : ℕ). n % 2) (sym loaded ∙ sym m.ends.clock_is) ∙ m.ends.odd
-              | inr soon ↦ absurd soon
-            ];
-            same = out.0;
-            after = tries_again rules r r1 a last false m.settled cells'.clock m.answered.fits.1 m.answered.status m.told.2;
-          })
-  begin_tries seen may (Conflict clock word) early m = by_pending a.pending refl
-    where
-      g : IsLost mid clock word a.engine
-      g = subst (λ (b : Bool). ConflictsIn b mid clock word a.engine) m.taken.was_is m.ends
-
-      by_pending : (p : Option Attempt) → a.pending ≡ p → Tries cells.clock (record (prior_of r a) { seen = seen }) cells'.clock r1 last
-      by_pending None p = absurd (let f : false ≡ true = ap is_some (sym p) ∙ (m.answered.in_call.begins refl ∙ m.answered.fits.0 refl) in cc)
-      by_pending (Some row) p =
-          let out = m.taken.outside refl g.free in
-          outrun (record {
-            none = m.answered.kept.row;
-            row = row;
-            was = p;
-            ended = ap (λ (x : Rows). x.ended) m.told.0;
-            moved = elim out.1 [
-              | inl loaded ↦ omega (arith, early clock word refl, g.later, g.clock_is, loaded, out.0)
-              | inr soon ↦ absurd soon
-            ];
-            same = out.0;
-            after = tries_again rules r r1 a last false m.settled cells'.clock m.answered.fits.1 m.answered.status m.told.2;
-          })
-  begin_tries seen may (Full at) early m = by_pending a.pending refl
-    where
-      by_pending : (p : Option Attempt) → a.pending ≡ p → Tries cells.clock (record (prior_of r a) { seen = seen }) cells'.clock r1 last
-      by_pending None p = absurd (let f : false ≡ true = ap is_some (sym p) ∙ (m.answered.in_call.begins refl ∙ m.answered.fits.0 refl) in cc)
-      by_pending (Some row) p =
-          let out = m.taken.outside refl m.ends.free in
-          let b = begin_call call (m.answered.fits.0 refl) in
-          let wants : IsSome (goes mid (Begin b.0 b.1)) = subst (λ (o : Option Call). WantsClock mid o) (m.taken.doing ∙ ap (λ (x : Call). Some x) b.2) m.ends.wants in
-          shut_out (record {
-            none = m.answered.kept.row;
-            row = row;
-            was = p;
-            ended = ap (λ (x : Rows). x.ended) m.told.0;
-            goes = ap (λ (x : Props). x.goes_irrevocable) (m.answered.in_call.props row b.0 b.1 p b.2) ∙ goes_by b.1 b.0.goes_irrevocable (may_go mid.blocks b.0) (nat_lt (length mid.blocks) MAX_OPEN_BLOCKS) (not mid.irrevocable) wants;
-            may = ap (may_go []) (m.answered.in_call.props row b.0 b.1 p b.2)
-                ∙ (sym (ap (λ (bs : List Frame). may_go bs b.0) (none_inside mid.blocks m.taken.was_is)) ∙ may_by b.1 b.0.goes_irrevocable (may_go mid.blocks b.0) (nat_lt (length mid.blocks) MAX_OPEN_BLOCKS) (not mid.irrevocable) wants);
-            full = omega (arith, m.ends.full, m.ends.at_is, ap (λ (c : Core). c.max_commits) m.ends.stays, reached cells' a.engine m.taken.tied, out.0);
-            same = out.0;
-            after = record { none = none_active rules r r1 a last false m.settled m.answered.fits.1; status = m.told.1 };
-          })
+  begin_tries seen may (Busy clock) early m =
+      let pending = begin_pending m (call_begins call (subst IsBegin m.taken.doing m.ends.begins)) in
+      let out = m.taken.outside refl m.ends.free in
+      turned_away (record {
+        none = m.answered.kept.row;
+        row = pending.0;
+        was = pending.1;
+        ended = ap (λ (x : Rows). x.ended) m.told.0;
+        odd = elim out.1 [
+          | inl loaded ↦ ap (λ (n : ℕ). n % 2) (sym loaded ∙ sym m.ends.clock_is) ∙ m.ends.odd
+          | inr soon ↦ absurd soon
+        ];
+        same = out.0;
+        after = tries_again rules r r1 a last false m.settled cells'.clock m.answered.fits.1 m.answered.status m.told.2;
+      })
+  begin_tries seen may (Conflict clock word) early m =
+      let g : IsLost mid clock word a.engine = subst (λ (b : Bool). ConflictsIn b mid clock word a.engine) m.taken.was_is m.ends in
+      let pending = begin_pending m (m.answered.fits.0 refl) in
+      let out = m.taken.outside refl g.free in
+      outrun (record {
+        none = m.answered.kept.row;
+        row = pending.0;
+        was = pending.1;
+        ended = ap (λ (x : Rows). x.ended) m.told.0;
+        moved = elim out.1 [
+          | inl loaded ↦ omega (arith, early clock word refl, g.later, g.clock_is, loaded, out.0)
+          | inr soon ↦ absurd soon
+        ];
+        same = out.0;
+        after = tries_again rules r r1 a last false m.settled cells'.clock m.answered.fits.1 m.answered.status m.told.2;
+      })
+  begin_tries seen may (Full at) early m =
+      let pending = begin_pending m (m.answered.fits.0 refl) in
+      let out = m.taken.outside refl m.ends.free in
+      let b = begin_call call (m.answered.fits.0 refl) in
+      let props = m.answered.in_call.props pending.0 b.0 b.1 pending.1 b.2 in
+      let wants : IsSome (goes mid (Begin b.0 b.1)) = subst (λ (o : Option Call). WantsClock mid o) (m.taken.doing ∙ ap (λ (x : Call). Some x) b.2) m.ends.wants in
+      shut_out (record {
+        none = m.answered.kept.row;
+        row = pending.0;
+        was = pending.1;
+        ended = ap (λ (x : Rows). x.ended) m.told.0;
+        goes = ap (λ (x : Props). x.goes_irrevocable) props ∙ goes_by b.1 b.0.goes_irrevocable (may_go mid.blocks b.0) (nat_lt (length mid.blocks) MAX_OPEN_BLOCKS) (not mid.irrevocable) wants;
+        may = ap (may_go []) props
+            ∙ (sym (ap (λ (bs : List Frame). may_go bs b.0) (none_inside mid.blocks m.taken.was_is)) ∙ may_by b.1 b.0.goes_irrevocable (may_go mid.blocks b.0) (nat_lt (length mid.blocks) MAX_OPEN_BLOCKS) (not mid.irrevocable) wants);
+        full = omega (arith, m.ends.full, m.ends.at_is, ap (λ (c : Core). c.max_commits) m.ends.stays, reached cells' a.engine m.taken.tied, out.0);
+        same = out.0;
+        after = record { none = none_active rules r r1 a last false m.settled m.answered.fits.1; status = m.told.1 };
+      })
   begin_tries seen may (Committed at wrote) early m = absurd (let f : false ≡ true = m.answered.fits.0 in cc)
 
 -- ## An answer ends no actor but one that gives up
+
+module _ {P : Type 0} (rules : Rules P) (r r1 : Rows) (a last : Actor P) (call : Call) where
+  counted_status : CountsTry a last → (last.status ≡ a.status) ⊎ (last.status ≡ Ended ends.GaveUp)
+  counted_status counts = elim (cases_Bool (nat_lt a.retries a.nth)) [ inl e ↦ inr (counts.status ∙ cond-true _ _ _ e) | inr e ↦ inl (counts.status ∙ cond-false _ _ _ e) ]
+
+  replied_status : (was now : Bool) (reply : Replied) → RecordsReply rules was now r r1 a last call reply → last.status ≡ a.status
+  replied_status true true reply told = told.4
+  replied_status true false reply told = told.4
+  replied_status false now reply told = told.4
+
+  pub told_status : (was : Bool) (ans : Answer) → Records rules was r r1 a last call ans → (last.status ≡ a.status) ⊎ (last.status ≡ Ended ends.GaveUp)
+  told_status was (Reply reply) told = inl (replied_status was (in_transaction last.engine) reply told)
+  told_status was (Committed at wrote) told = inl told.4
+  told_status was (Full at) told = inr told.1
+  told_status was ans told = counted_status told.2
 
 module _ {P : Type 0} (rules : Rules P) (r r1 : Rows) (a last : Actor P) (call : Call) (was : Bool) (ready : a.status ≡ Ready) where
   module _ (end : End) (other : end ≡ ends.GaveUp → ⊥) where
     gave_up_not : last.status ≡ Ended ends.GaveUp → ending_of last.status ≡ Some end → ⊥
     gave_up_not s e = other (let z : Some end ≡ Some ends.GaveUp = sym e ∙ ap ending_of s in cc)
 
-    tried_on : CountsTry a last → ending_of last.status ≡ Some end → ⊥
-    tried_on counts e = elim (one_try_more counts ready) [ inl last_one ↦ gave_up_not last_one.1 e | inr more ↦ still_going more.1 e ]
-
-    not_ended : (b : Bool) (ans : Answer) → Records rules b r r1 a last call ans → ending_of last.status ≡ Some end → ⊥
-    not_ended b (Reply reply) told e = still_going (status_of b (in_transaction last.engine) told ∙ ready) e
-      where
-        status_of : (b now : Bool) → RecordsReply rules b now r r1 a last call reply → last.status ≡ a.status
-        status_of true true told = told.4
-        status_of true false told = told.4
-        status_of false now told = told.4
-    not_ended b (Committed at wrote) told e = still_going (told.4 ∙ ready) e
-    not_ended b (Full at) told e = gave_up_not told.1 e
-    not_ended b answer told e = tried_on told.2 e
+    not_ended : (ans : Answer) → Records rules was r r1 a last call ans → ending_of last.status ≡ Some end → ⊥
+    not_ended ans told e = elim (told_status rules r r1 a last call was ans told) [ inl same ↦ still_going (same ∙ ready) e | inr s ↦ gave_up_not s e ]
 
   pub not_finished : (ans : Answer) → Records rules was r r1 a last call ans → ending_of last.status ≡ Some ends.Finished → ⊥
-  not_finished = not_ended ends.Finished (λ e. absurd (cc)) was
+  not_finished = not_ended ends.Finished (λ e. absurd (cc))
 
   pub not_starved : (ans : Answer) → Records rules was r r1 a last call ans → ending_of last.status ≡ Some ends.NoMemory → ⊥
-  not_starved = not_ended ends.NoMemory (λ e. absurd (cc)) was
+  not_starved = not_ended ends.NoMemory (λ e. absurd (cc))
 
 -- ## The open attempt is told where it reads
 

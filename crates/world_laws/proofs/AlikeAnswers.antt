@@ -1,4 +1,5 @@
 -- What comes of a call is recorded alike of two actors that are alike.
+use Rattle.norec_core.specs.Proceeds.{IsAtOnce}
 use Rattle.std.proofs.Common.{◌≡◌, ℕ, ◌+◌, ◌/◌, nat_lt, if◌then◌else◌, Bool, true, false, List, [], ◌∷◌, ◌++◌, Option, None, Some, refl, sym, ap, subst, ◌∙◌}
 use Rattle.itm_types.specs.declared.call.Ran.{Ran}
 use Rattle.itm_types.specs.declared.call.Reply.{Reply as Replied}
@@ -71,22 +72,6 @@ module _ (r s : Rows) (same : SameRows r s) where
 
 -- ## Answers
 
--- the try of a block came to nothing
-abbrev pub Counts : Answer → Type 0
-Counts (Reply r) = ⊥
-Counts (Committed at wrote) = ⊥
-Counts (Conflict clock word) = Unit {0}
-Counts (Busy clock) = Unit {0}
-Counts (Full at) = ⊥
-
--- a transaction has committed
-abbrev pub Closes : Answer → Type 0
-Closes (Reply r) = ⊥
-Closes (Committed at wrote) = Unit {0}
-Closes (Conflict clock word) = ⊥
-Closes (Busy clock) = ⊥
-Closes (Full at) = ⊥
-
 ready_none : (s : Status) → s ≡ Ready → ending_of s ≡ None
 ready_none s e = ap ending_of e
 
@@ -127,8 +112,8 @@ module _ {P : Type 0} (rules : Rules P) (r s : Rows) (same : SameRows r s) (a b 
   module _ (r' s' : Rows) (call : Call) where
     -- what an answer needs of what was recorded before
     pub record IsGrounded (was : Bool) (answer : Answer) : Type 0 where
-      pub retries : Counts answer → a.retries ≡ b.retries
-      pub inside : Closes answer → (row : Attempt) × (active_of a.thread r.active ≡ Some row)
+      pub retries : (IsAtOnce (Answers answer) → ⊥) → a.retries ≡ b.retries  -- none is counted at once
+      pub commits : (at : ℕ) (wrote : Bool) → answer ≡ Committed at wrote → was ≡ true
       pub opened : was ≡ true → (row : Attempt) × (active_of a.thread r.active ≡ Some row)
       pub begins : was ≡ false → in_transaction a'.engine ≡ true → (row : Attempt) × (a.pending ≡ Some row)
 
@@ -155,15 +140,15 @@ module _ {P : Type 0} (rules : Rules P) (r s : Rows) (same : SameRows r s) (a b 
           (x.2 ∙ ((λ i. again_after (in_transaction (engine i)) (pending i) (again i)) ∙ sym y.2)),
     )
     recorded_same was (Committed at wrote) k x y = (
-      ended_by_same r s same a.thread b.thread thread (k.inside tt).0 (k.inside tt).1 at at (if wrote then outcomes.Committed else outcomes.ReadOnly) call Done a'.engine.actions.ran b'.engine.actions.ran r' s' refl same_ran x.0 y.0,
+      ended_by_same r s same a.thread b.thread thread (k.opened (k.commits at wrote refl)).0 (k.opened (k.commits at wrote refl)).1 at at (if wrote then outcomes.Committed else outcomes.ReadOnly) call Done a'.engine.actions.ran b'.engine.actions.ran r' s' refl same_ran x.0 y.0,
       asked_again (x.4 ∙ ready) (y.4 ∙ ready') (x.1 ∙ ((λ i. rules.answered (player i) Done) ∙ sym y.1)) (x.3 ∙ sym y.3) (x.2 ∙ sym y.2),
     )
     recorded_same true (Conflict clock word) k x y = (
       stopped_same r s same a.thread b.thread thread (k.opened refl).0 (k.opened refl).1 (a'.engine.snapshot / 2) (b'.engine.snapshot / 2) outcomes.Conflict a'.engine.actions.ran b'.engine.actions.ran r' s' (ap (λ (c : Core). c.snapshot / 2) engine) same_ran x.0 y.0,
-      counted_same (k.retries tt) (x.1 ∙ (ap rules.restarted player ∙ sym y.1)) x.2 y.2,
+      counted_same (k.retries (λ soon. soon)) (x.1 ∙ (ap rules.restarted player ∙ sym y.1)) x.2 y.2,
     )
-    recorded_same false (Conflict clock word) k x y = (rows_same r s same r' s' x.0 y.0, counted_same (k.retries tt) (x.1 ∙ (player ∙ sym y.1)) x.2 y.2)
-    recorded_same was (Busy clock) k x y = (rows_same r s same r' s' x.0 y.0, counted_same (k.retries tt) (x.1 ∙ (player ∙ sym y.1)) x.2 y.2)
+    recorded_same false (Conflict clock word) k x y = (rows_same r s same r' s' x.0 y.0, counted_same (k.retries (λ soon. soon)) (x.1 ∙ (player ∙ sym y.1)) x.2 y.2)
+    recorded_same was (Busy clock) k x y = (rows_same r s same r' s' x.0 y.0, counted_same (k.retries (λ soon. soon)) (x.1 ∙ (player ∙ sym y.1)) x.2 y.2)
     recorded_same true (Full at) k x y = (
       stopped_same r s same a.thread b.thread thread (k.opened refl).0 (k.opened refl).1 at at outcomes.Full a'.engine.actions.ran b'.engine.actions.ran r' s' refl same_ran x.0 y.0,
       record { thread = thread'; status = x.1 ∙ sym y.1; parts = λ on. absurd (let z = sym on ∙ ap ending_of x.1 in cc) },

@@ -1,6 +1,6 @@
 -- Two actors that are alike are alike after a step, and after a call of their players.
 use Rattle.std.proofs.Common.{◌≡◌, ℕ, ◌/◌, Bool, true, false, [], Some, refl, sym, ap, subst, ◌∙◌}
-use Rattle.norec_world.proofs.Common.{Answer, Answers, Busy, Call, Cells, Committed, Conflict, Core, Full, IsAtOnce, Next, Proceeds, Reply, Rows, Rules, Step, Tells, asked_pending, begins_again, came, ending_of, found, in_transaction}
+use Rattle.norec_world.proofs.Common.{Answers, Call, Cells, Core, IsAtOnce, Next, Proceeds, Rows, Rules, Step, Tells, asked_pending, begins_again, came, ending_of, found, in_transaction}
 use Rattle.norec_world.specs.declared.actor.Actor.{Actor}
 use Rattle.norec_world.specs.declared.actor.Status.TheVariants.{Ready, Waits}
 use Rattle.world_laws.specs.Alike.{AreAlike, HasAttempt}
@@ -13,8 +13,8 @@ use Rattle.norec_core.proofs.OneOutcome.{called_once, resumed_once, sees_still}
 use Rattle.tx_attempts.specs.declared.attempt.Outcome.TheVariants as outcomes
 use Rattle.norec_world.specs.LocalWork.{TakesIn, Calls}
 use Rattle.world_laws.specs.Alike.{SameRows, SameParts}
-use Rattle.world_laws.proofs.AlikeAnswers.{told_same, told_alike, Counts, IsGroundedNext}
-use Rattle.world_laws.proofs.HeldAttempts.{handed_open, ends_inside, roomed, opens_none}
+use Rattle.world_laws.proofs.AlikeAnswers.{told_same, told_alike, IsGroundedNext}
+use Rattle.world_laws.proofs.HeldAttempts.{commits_inside, handed_open, roomed, opens_none}
 
 -- ## A step
 
@@ -51,7 +51,7 @@ module _ {P : Type 0} (rules : Rules P) (cells : Cells) (r s r' s' : Rows) (a b 
   grounded (Answers answer) g = record {
     retries = λ k. parts.retries;
     opened = λ o. held.inside o;
-    inside = λ k. held.inside (sym (handed_open a.engine a.engine.waits (found cells t.step)) ∙ ends_inside (handed a.engine (found cells t.step)) a'.engine answer k g);
+    commits = λ at wrote is. sym (handed_open a.engine a.engine.waits (found cells t.step)) ∙ commits_inside (handed a.engine (found cells t.step)) a'.engine answer at wrote is g;
     begins = λ shut o. (let h = held.begins t.call t.step t.waits shut in (h.0, h.1));
   }
 
@@ -81,14 +81,6 @@ pending_same false clock a b (requests.Begin props room) thread p = λ i. Some (
   outcome = outcomes.Unfinished;
 })
 pending_same false clock a b call thread p = p.pending
-
--- no try comes to nothing at once
-counts_none : (answer : Answer) → IsAtOnce (Answers answer) → Counts answer → ⊥
-counts_none (Reply r) x k = k
-counts_none (Committed at wrote) x k = k
-counts_none (Conflict clock word) x k = x
-counts_none (Busy clock) x k = x
-counts_none (Full at) x k = k
 
 module _ {P : Type 0} (rules : Rules P) (clock : ℕ) where
   module _ (r s r' s' : Rows) (a b a' b' : Actor P) (same : SameRows r s) (thread : a.thread ≡ b.thread) (parts : SameParts a b) (held : HasAttempt r a) (sees : SeesOne a.engine)
@@ -139,9 +131,9 @@ module _ {P : Type 0} (rules : Rules P) (clock : ℕ) where
         (f.same.thread ∙ (thread ∙ sym g.same.thread)) (f.same.retries ∙ (parts.retries ∙ sym g.same.retries)) f.same.nothing g.same.nothing r' s' f.call (in_transaction a.engine) what
     grounded_now (Steps step) x p = tt
     grounded_now (Answers answer) x p = record {
-      retries = λ k. absurd (counts_none answer x k);
+      retries = λ k. absurd (k x);
       opened = λ o. roomed rules clock r r' a a' held f o;
-      inside = λ k. roomed rules clock r r' a a' held f (ends_inside (came a.engine f.call (begins_again (in_transaction a.engine) a.again f.call)) f.asked.engine answer k p);
+      commits = λ at wrote is. commits_inside (came a.engine f.call (begins_again (in_transaction a.engine) a.again f.call)) f.asked.engine answer at wrote is p;
       begins = λ shut o. absurd (opens_none rules clock r r' a a' held f shut o);
     }
 

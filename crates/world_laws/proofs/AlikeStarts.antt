@@ -1,6 +1,7 @@
 -- Two worlds of equal beginning, before their first event, are the same.
+use Rattle.norec_core.specs.Endings.{EndsSo, ending_at}
 use Rattle.std.proofs.Common.{◌≡◌, ℕ, zero, suc, ◌/◌, Bool, true, false, List, [], ◌∷◌, ◌++◌, length, replicate, Some, slice_get, refl, sym, ap, subst, ◌∙◌, arith}
-use Rattle.norec_world.proofs.Common.{Acts, Answer, Answers, Busy, Committed, Conflict, Core, Ends, Full, IsAtOnce, Next, Opens, Proceeds, Records, Reply, Rows, Rules, SameOpening, Tells, World, begins_again, came, ending_of, in_transaction, option_and_then, words_of}
+use Rattle.norec_world.proofs.Common.{Acts, Answers, Core, Next, Opens, Records, Reply, Rows, Rules, SameOpening, Tells, World, ending_of, in_transaction, option_and_then, words_of, Replied, replied_outside}
 use Rattle.norec_world.specs.declared.actor.Actor.{Actor}
 use Rattle.tx_attempts.specs.declared.attempt.Attempt.{Attempt}
 use Rattle.world_laws.specs.Alike.{AreAlike, HasAttempt}
@@ -28,20 +29,16 @@ module _ {P : Type 0} (rules : Rules P) (clock : ℕ) (q : Rows) where
     still_shut : in_transaction a'.engine ≡ false
     still_shut = shut_of (in_transaction a'.engine) (λ o. both (in_transaction a.engine) (f.asks.called.stays.opens (sym (ap in_transaction f.engine) ∙ o)) shut)
 
-    records_anywhere : (was : Bool) → was ≡ false → (answer : Answer) → IsAtOnce (Answers answer) → Ends (came a.engine f.call (begins_again (in_transaction a.engine) a.again f.call)) answer f.asked.engine
-        → Records rules was f.rows r' f.asked a' f.call answer → Records rules was q q f.asked a' f.call answer
-    records_anywhere true e (Reply r) x g k = absurd (cc)
-    records_anywhere false e (Reply r) x g k = (subst (λ (b : Bool). Opens b q f.asked.pending (a'.engine.snapshot / 2) q) (sym still_shut) refl, k.1, k.2, k.3, k.4)
-    records_anywhere was e (Committed at wrote) x g k = absurd (both (in_transaction a.engine) g.is_open shut)
-    records_anywhere was e (Conflict at word) x g k = absurd x
-    records_anywhere was e (Busy at) x g k = absurd x
-    records_anywhere true e (Full at) x g k = absurd (cc)
-    records_anywhere false e (Full at) x g k = (refl, k.1, k.2, k.3, k.4, k.5)
+    replied_anywhere : (was : Bool) → was ≡ false → (reply : Replied) → Records rules was f.rows r' f.asked a' f.call (Reply reply) → Records rules was q q f.asked a' f.call (Reply reply)
+    replied_anywhere true e reply k = absurd (cc)
+    replied_anywhere false e reply k = (subst (λ (b : Bool). Opens b q f.asked.pending (a'.engine.snapshot / 2) q) (sym still_shut) refl, k.1, k.2, k.3, k.4)
 
-    tells_anywhere : (what : Next) → IsAtOnce what → Proceeds (came a.engine f.call (begins_again (in_transaction a.engine) a.again f.call)) what f.asked.engine
-        → Tells rules (in_transaction a.engine) f.rows r' f.asked a' f.call what → Tells rules (in_transaction a.engine) q q f.asked a' f.call what
-    tells_anywhere (Steps step) x g k = (k.0, refl)
-    tells_anywhere (Answers answer) x g k = records_anywhere (in_transaction a.engine) shut answer x g k
+    tells_anywhere : (what : Next) → EndsSo (ending_at a.engine f.call) what → Tells rules (in_transaction a.engine) f.rows r' f.asked a' f.call what → Tells rules (in_transaction a.engine) q q f.asked a' f.call what
+    tells_anywhere (Steps step) e k = (k.0, refl)
+    tells_anywhere (Answers answer) e k =
+        let reply = replied_outside a.engine f.call answer shut e in
+        subst (Records rules (in_transaction a.engine) q q f.asked a' f.call) (sym reply.1)
+        (replied_anywhere (in_transaction a.engine) shut reply.0 (subst (Records rules (in_transaction a.engine) f.rows r' f.asked a' f.call) reply.1 k))
 
     calls_anywhere : Calls rules clock q a q a'
     calls_anywhere = record {
@@ -52,7 +49,7 @@ module _ {P : Type 0} (rules : Rules P) (clock : ℕ) (q : Rows) where
       asked = f.asked;
       asks = record { pending = f.asks.pending; again = f.asks.again; player = f.asks.player; nth = f.asks.nth; thread = f.asks.thread; rows_are = refl; called = f.asks.called };
       ready = f.ready;
-      tells = tells_anywhere f.what f.asks.called.at_once f.asks.called.proceeds f.tells;
+      tells = tells_anywhere f.what f.asks.called.ends f.tells;
       engine = f.engine;
       same = f.same;
     }

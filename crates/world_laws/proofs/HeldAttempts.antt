@@ -1,11 +1,10 @@
 -- Within a transaction the actor has an open attempt, over a step and over a call.
 use Rattle.std.proofs.Common.{◌≡◌, ℕ, ◌+◌, ◌/◌, nat_lt, not, is_none, length, ◌==◌, ◌&&◌, ◌*◌, ◌⊎◌, nat_le, if◌then◌else◌, Bool, true, false, List, [], ◌∷◌, Option, None, Some, inl, inr, refl, sym, ap, subst, ◌∙◌, eq-eqb}
 use Rattle.std.proofs.lemmas.Bool.{cases_Bool}
-use Rattle.norec_world.proofs.Common.{Answer, Answers, Busy, Call, Cells, Committed, Conflict, ConflictsIn, Core, Ends, Full, IsTold, Next, Opens, Proceeds, Records, Reply, Rows, Rules, Step, Tells, active_of, asked_pending, begins_again, came, found, handed_is, handed_to, in_transaction, is_inside, with_changed, RecordsReply, none_inside}
+use Rattle.norec_world.proofs.Common.{Answer, Answers, Call, Cells, Committed, Core, Ends, IsTold, Next, Opens, Proceeds, Records, Reply, Replied, Rows, Rules, Step, Tells, active_of, rests, asked_pending, begins_again, came, found, handed_is, handed_to, in_transaction, is_inside, with_changed, RecordsReply, none_inside}
 use Rattle.norec_world.specs.declared.actor.Actor.{Actor}
-use Rattle.norec_world.specs.declared.actor.Status.TheVariants.{Ended, Ready, Waits}
+use Rattle.norec_world.specs.declared.actor.Status.TheVariants.{Ready, Waits}
 use Rattle.tx_attempts.specs.declared.attempt.Attempt.{Attempt}
-use Rattle.norec_world.specs.declared.ending.End.TheVariants.{GaveUp}
 use Rattle.world_laws.specs.Alike.{HasAttempt}
 use Rattle.nest_frames.specs.Nest.{Frame, stays_revocable}
 use Rattle.itm_types.specs.declared.call.Call.TheVariants as calls
@@ -13,15 +12,14 @@ use Rattle.itm_types.specs.Access.{size_of}
 use Rattle.norec_core.specs.Core.{handed, is_outermost}
 use Rattle.norec_core.specs.Copies.{copy_refusal}
 use Rattle.norec_core.specs.Order.{asked, asked_from, copying_stage, commit_stage, fill_from, going_stage, place_from, placed_in, read_stage, stage_at, value_reading, value_writing}
-use Rattle.norec_core.specs.Proceeds.{IsBegin}
+use Rattle.norec_core.specs.Proceeds.{Commits, IsBegin}
 use Rattle.norec_core.specs.declared.answer.Next.TheVariants.{Step as Steps}
 use Rattle.norec_core.specs.declared.phase.Phase.TheVariants as at
 use Rattle.norec_core.specs.declared.phase.Taking.TheVariants as takings
 use Rattle.norec_world.specs.Rows.{with_one}
-use Rattle.norec_world.specs.Records.{CountsTry}
 use Rattle.norec_world.specs.LocalWork.{TakesIn, Calls}
 use Rattle.norec_world.proofs.ActiveRows.{changed_here}
-use Rattle.world_laws.proofs.AlikeAnswers.{Closes}
+use Rattle.norec_world.proofs.TryEnds.{told_status}
 
 both : (n : Bool) → n ≡ true → n ≡ false → ⊥
 both n t f = absurd (cc)
@@ -32,16 +30,8 @@ pub handed_open : (e : Core) (o : Option Step) (n : ℕ) → in_transaction (han
 handed_open e None n = refl
 handed_open e (Some step) n = ap is_inside (handed_is e step n).keeps.blocks
 
-pub ends_inside : (mid new : Core) (a : Answer) → Closes a → Ends mid a new → in_transaction mid ≡ true
-ends_inside mid new (Reply r) k g = absurd k
-ends_inside mid new (Committed at wrote) k g = g.is_open
-ends_inside mid new (Conflict clock word) k g = absurd k
-ends_inside mid new (Busy clock) k g = absurd k
-ends_inside mid new (Full at) k g = absurd k
-
-conflicted : (mid new : Core) (clock : ℕ) (word : Option ℕ) (inside : Bool) → ConflictsIn inside mid clock word new → in_transaction new ≡ false
-conflicted mid new clock word true g = ap in_transaction g.stays
-conflicted mid new clock word false g = ap in_transaction g.stays
+pub commits_inside : (mid new : Core) (a : Answer) (at : ℕ) (wrote : Bool) → a ≡ Committed at wrote → Ends mid a new → in_transaction mid ≡ true
+commits_inside mid new a at wrote is g = (let c : Commits mid at wrote new = subst (λ (x : Answer). Ends mid x new) is g in c.is_open)
 
 -- outside a transaction only a begin asks for a step
 idle_outside : (c : Core) (call : Call) (again : Bool) → in_transaction c ≡ false → (stage_at c call again ≡ at.Idle) ⊎ IsBegin (Some call)
@@ -97,37 +87,25 @@ told_in thread o r at r' e t h = changed_in thread (λ row. record row { at = at
 -- ## Answers
 
 module _ {P : Type 0} (rules : Rules P) (r r' : Rows) (a a' : Actor P) (call : Call) where
+  replied_in : (was : Bool) (reply : Replied) → Records rules was r r' a a' call (Reply reply)
+      → (was ≡ true → HasRowIn r a.thread) → (was ≡ false → in_transaction a'.engine ≡ true → (row : Attempt) × (a.pending ≡ Some row) × (row.thread ≡ a.thread))
+      → in_transaction a'.engine ≡ true → HasRowIn r' a.thread
+  replied_in true reply x inside begins o = changed_in a.thread _ r r' (λ y. refl) (subst (λ (now : Bool). RecordsReply rules true now r r' a a' call reply) o x).0 (inside refl)
+  replied_in false reply x inside begins o =
+      let k = begins refl o in
+      opened_in a.thread r r' a.pending (a'.engine.snapshot / 2) k.0 k.1 k.2 (subst (λ (b : Bool). Opens b r a.pending (a'.engine.snapshot / 2) r') o x.0)
+
+  -- only a reply leaves the transaction open
   recorded_in : (mid : Core) (was : Bool) (answer : Answer) → Records rules was r r' a a' call answer → Ends mid answer a'.engine
       → (was ≡ true → HasRowIn r a.thread) → (was ≡ false → in_transaction a'.engine ≡ true → (row : Attempt) × (a.pending ≡ Some row) × (row.thread ≡ a.thread))
       → in_transaction a'.engine ≡ true → HasRowIn r' a.thread
-  recorded_in mid true (Reply reply) x g inside begins o = changed_in a.thread _ r r' (λ y. refl) (subst (λ (now : Bool). RecordsReply rules true now r r' a a' call reply) o x).0 (inside refl)
-  recorded_in mid false (Reply reply) x g inside begins o =
-      let k = begins refl o in
-      opened_in a.thread r r' a.pending (a'.engine.snapshot / 2) k.0 k.1 k.2 (subst (λ (b : Bool). Opens b r a.pending (a'.engine.snapshot / 2) r') o x.0)
-  recorded_in mid was (Committed at wrote) x g inside begins o = absurd (both (in_transaction a'.engine) o (ap in_transaction g.stays))
-  recorded_in mid was (Conflict clock word) x g inside begins o = absurd (both (in_transaction a'.engine) o (conflicted mid a'.engine clock word (in_transaction mid) g))
-  recorded_in mid was (Busy clock) x g inside begins o = absurd (both (in_transaction a'.engine) o (ap in_transaction g.stays))
-  recorded_in mid was (Full at) x g inside begins o = absurd (both (in_transaction a'.engine) o (ap in_transaction g.stays))
-
-  counted_waits : (c : Call) (s : Step) → a.status ≡ Ready → CountsTry a a' → a'.status ≡ Waits c s → ⊥
-  counted_waits c s ready k w = by_last (nat_lt a.retries a.nth) k.status
-    where
-      by_last : (b : Bool) → a'.status ≡ (if b then Ended GaveUp else a.status) → ⊥
-      by_last true e = absurd (let z = sym w ∙ e in cc)
-      by_last false e = absurd (let z = sym w ∙ (e ∙ ready) in cc)
+  recorded_in mid was answer x g inside begins o =
+      let reply = (rests mid a'.engine answer g).replies o in
+      replied_in was reply.0 (subst (Records rules was r r' a a' call) reply.1 x) inside begins o
 
   -- who was answered does not wait
   recorded_waits : (was : Bool) (answer : Answer) (c : Call) (s : Step) → a.status ≡ Ready → Records rules was r r' a a' call answer → a'.status ≡ Waits c s → ⊥
-  recorded_waits was (Reply reply) c s ready x w = absurd (let z = sym w ∙ (status_of was (in_transaction a'.engine) x ∙ ready) in cc)
-    where
-      status_of : (was now : Bool) → RecordsReply rules was now r r' a a' call reply → a'.status ≡ a.status
-      status_of true true x = x.4
-      status_of true false x = x.4
-      status_of false now x = x.4
-  recorded_waits was (Committed at wrote) c s ready x w = absurd (let z = sym w ∙ (x.4 ∙ ready) in cc)
-  recorded_waits was (Conflict clock word) c s ready x w = counted_waits c s ready x.2 w
-  recorded_waits was (Busy clock) c s ready x w = counted_waits c s ready x.2 w
-  recorded_waits was (Full at) c s ready x w = absurd (let z = sym w ∙ x.1 in cc)
+  recorded_waits was answer c s ready x w = elim (told_status rules r r' a a' call was answer x) [ inl same ↦ absurd (let z = sym w ∙ (same ∙ ready) in cc) | inr over ↦ absurd (let z = sym w ∙ over in cc) ]
 
 -- ## A step
 
