@@ -1,18 +1,18 @@
 -- Worked cases of copies and fills, computed.
-use Rattle.std.proofs.Common.{◌≡◌, ℕ, ◌+◌, Bool, List, [], ◌∷◌, ◌++◌, true, false, map, refl, replicate}
+use Rattle.std.proofs.Common.{◌≡◌, ℕ, ◌+◌, Bool, List, [], ◌∷◌, true, false, map, refl, replicate}
 use Rattle.itm_types.specs.declared.access.WriteHint.TheVariants.{W}
-use Rattle.itm_types.specs.declared.copy.SharedSide.TheVariants.{T, TaR, TaW}
+use Rattle.itm_types.specs.declared.copy.SharedSide.TheVariants.{T}
 use Rattle.itm_types.specs.declared.copy.CopyPair.{CopyPair}
 use Rattle.itm_types.specs.declared.copy.CopyPair.TheVariants.{Out, In, Within}
-use Rattle.itm_types.specs.declared.call.Refusal.TheVariants.{Outside, OutOfRange, OutOfArena, Overlap}
+use Rattle.itm_types.specs.declared.call.Refusal.TheVariants.{OutOfRange, OutOfArena, Overlap}
 use Rattle.itm_types.specs.declared.call.Call.{Call}
 use Rattle.itm_types.specs.declared.call.Call.TheVariants.{Begin, Abort, Write, Copy, Fill}
-use Rattle.itm_types.specs.declared.call.Reply.TheVariants.{Done, Code, Refused}
+use Rattle.itm_types.specs.declared.call.Reply.TheVariants.{Done, Refused}
 use Rattle.itm_model.specs.State.{State}
-use Rattle.itm_model.specs.Machine.{after, opened, outside}
-use Rattle.itm_model.specs.Undoable.{Undoable, before_after, takes_memory}
+use Rattle.itm_model.specs.Machine.{after, opened}
+use Rattle.itm_model.specs.Undoable.{takes_memory}
 use Rattle.itm_model.specs.Runs.{replies, state_after}
-use Rattle.itm_model.proofs.Examples.{plain, eight, start_with, byte}
+use Rattle.itm_model.proofs.Examples.{plain, start_with, byte}
 
 abbrev copy : Bool → CopyPair → ℕ → ℕ → ℕ → Call
 copy moves pair to from size = Copy (record { moves = moves; pair = pair; to = to; from = from; size = size })
@@ -38,26 +38,6 @@ overlap_memory : (state_after 16 count_up (memmove 3 0 4 ∷ memmove 8 11 4 ∷ 
     ≡ 0 ∷ 1 ∷ 2 ∷ 0 ∷ 1 ∷ 2 ∷ 3 ∷ 7 ∷ 11 ∷ 12 ∷ 13 ∷ 14 ∷ 12 ∷ 13 ∷ 14 ∷ 15 ∷ []
 overlap_memory = refl
 
--- a refused copy leaves no mark
-overlap_unchanged : map (after 16 count_up) (memcpy 3 0 4 ∷ memcpy 0 3 4 ∷ memcpy 5 5 1 ∷ []) ≡ replicate 3 count_up
-overlap_unchanged = refl
-
--- one common byte at either end is refused, and ranges that only touch are not
-touching_replies : replies 16 count_up (memcpy 7 4 4 ∷ memcpy 1 4 4 ∷ memcpy 8 4 4 ∷ memcpy 0 4 4 ∷ []) ≡ Refused Overlap ∷ Refused Overlap ∷ Done ∷ Done ∷ []
-touching_replies = refl
-
-touching_memory : (state_after 16 count_up (memcpy 8 4 4 ∷ memcpy 0 4 4 ∷ [])).memory
-    ≡ 4 ∷ 5 ∷ 6 ∷ 7 ∷ 4 ∷ 5 ∷ 6 ∷ 7 ∷ 4 ∷ 5 ∷ 6 ∷ 7 ∷ 12 ∷ 13 ∷ 14 ∷ 15 ∷ []
-touching_memory = refl
-
--- a move to the same place writes what stands there
-same_place : after 16 count_up (memmove 2 2 5) ≡ record count_up { wrote = true }
-same_place = refl
-
--- what a compiler says of the two sides changes nothing
-sides : map (λ (pair : CopyPair). after 16 count_up (copy true pair 3 0 4)) (Within TaR TaW ∷ Within TaW TaR ∷ []) ≡ replicate 2 (after 16 count_up (memmove 3 0 4))
-sides = refl
-
 -- ## Copies between the memory and the arena, and a fill
 
 abbrev to_and_fro : List Call
@@ -72,43 +52,23 @@ to_and_fro_memory = refl
 to_and_fro_arena : (state_after 16 by_elevens to_and_fro).arena ≡ 22 ∷ 33 ∷ 44 ∷ 55 ∷ []
 to_and_fro_arena = refl
 
--- the same places of the memory and of the arena are no common bytes
-apart_replies : replies 16 by_elevens (copy false (In T) 0 0 4 ∷ copy false (Out T) 1 0 4 ∷ []) ≡ Done ∷ Done ∷ []
-apart_replies = refl
-
--- a copy to the arena leaves the memory, and whether it was written to
-copied_in : after 16 by_elevens (copy false (In T) 1 5 2) ≡ record by_elevens { arena = 0 ∷ 55 ∷ 66 ∷ 0 ∷ [] }
-copied_in = refl
-
 -- ## A fill takes the low eight bits of its byte
 
 low_bits : (state_after 16 count_up (Fill W 1 (256 + 7) 3 ∷ Fill W 15 255 1 ∷ Fill W 8 256 2 ∷ [])).memory
     ≡ 0 ∷ 7 ∷ 7 ∷ 7 ∷ 4 ∷ 5 ∷ 6 ∷ 7 ∷ 0 ∷ 0 ∷ 10 ∷ 11 ∷ 12 ∷ 13 ∷ 14 ∷ 255 ∷ []
 low_bits = refl
 
--- ## Of no bytes: served up to the very end, with no mark, and refused past it
+-- ## Of no bytes: served up to the very end, with no mark
 
 abbrev of_nothing : List Call
 of_nothing =
     memcpy 8 8 0 ∷ memcpy 3 3 0 ∷ memmove 0 8 0 ∷ Fill W 8 9 0
     ∷ copy false (In T) 4 8 0 ∷ copy false (Out T) 8 4 0 ∷ []
 
-of_nothing_replies : replies 16 (start_with 8 4) of_nothing ≡ replicate 6 Done
-of_nothing_replies = refl
-
 of_nothing_unchanged : map (after 16 (start_with 8 4)) of_nothing ≡ replicate 6 (start_with 8 4)
 of_nothing_unchanged = refl
 
-past_the_end : replies 16 (start_with 8 4) (memcpy 9 8 0 ∷ memmove 8 9 0 ∷ Fill W 9 9 0 ∷ copy false (In T) 5 8 0 ∷ copy false (Out T) 8 5 0 ∷ [])
-    ≡ Refused OutOfRange ∷ Refused OutOfRange ∷ Refused OutOfRange ∷ Refused OutOfArena ∷ Refused OutOfArena ∷ []
-past_the_end = refl
-
--- the last byte is within, and one byte more is not
-last_bytes : replies 16 (start_with 8 4) (memcpy 4 0 4 ∷ memcpy 5 0 4 ∷ memcpy 0 5 4 ∷ Fill W 0 1 8 ∷ Fill W 0 1 9 ∷ copy false (In T) 0 4 4 ∷ copy false (Out T) 4 1 4 ∷ [])
-    ≡ Done ∷ Refused OutOfRange ∷ Refused OutOfRange ∷ Done ∷ Refused OutOfRange ∷ Done ∷ Refused OutOfArena ∷ []
-last_bytes = refl
-
--- ## Of more than one fault: outside a transaction, then what is written, then what is read, then what they have in common
+-- ## Of more than one fault: what is written, then what is read, then what they have in common
 
 abbrev faults : List Call
 faults =
@@ -120,9 +80,6 @@ faults_replies : replies 16 (start_with 8 4) faults
     ∷ Refused OutOfRange ∷ Refused OutOfRange ∷ Refused OutOfRange ∷ Refused Overlap ∷ []
 faults_replies = refl
 
-faults_outside : replies 16 (outside (eight 0) (replicate 4 0)) (faults ++ memcpy 0 0 0 ∷ Fill W 0 0 0 ∷ Fill W 9 0 0 ∷ []) ≡ replicate 11 (Refused Outside)
-faults_outside = refl
-
 -- ## A cancel gives the memory back what copies and a fill overwrote, and leaves in the arena what was copied there
 
 abbrev copies_cancelled : List Call
@@ -130,20 +87,11 @@ copies_cancelled =
     Write W 0 (byte 9) ∷ Begin plain 0 ∷ memmove 1 0 6 ∷ copy false (In T) 0 1 2 ∷ copy false (Out T) 7 2 1
     ∷ Fill W 4 255 4 ∷ Abort false ∷ []
 
-copies_cancelled_replies : replies 16 by_elevens copies_cancelled ≡ Done ∷ Code 5 ∷ Done ∷ Done ∷ Done ∷ Done ∷ Code 24 ∷ []
-copies_cancelled_replies = refl
-
 copies_cancelled_state : state_after 16 by_elevens copies_cancelled ≡ record (after 16 by_elevens (Write W 0 (byte 9))) { arena = 9 ∷ 11 ∷ 0 ∷ 0 ∷ [] }
 copies_cancelled_state = refl
 
--- ## The memory that a copy or a fill can be refused, and the bytes that the transaction goes back to
+-- ## The memory that a copy or a fill can be refused
 
 copies_take_memory : map takes_memory (memcpy 0 8 1 ∷ memmove 0 8 0 ∷ copy false (In T) 0 0 1 ∷ copy true (Out T) 0 0 0 ∷ Fill W 0 0 1 ∷ Fill W 0 0 0 ∷ [])
-    ≡ true ∷ false ∷ true ∷ false ∷ true ∷ false ∷ []
+    ≡ true ∷ false ∷ false ∷ false ∷ true ∷ false ∷ []
 copies_take_memory = refl
-
-abbrev rewritten : Undoable
-rewritten = record { state = opened (eight 2) (eight 4) plain; before = eight 1 }
-
-befores : map (before_after 16 rewritten) (memmove 0 1 4 ∷ copy false (In T) 0 1 4 ∷ copy false (Out T) 0 1 4 ∷ Fill W 0 7 8 ∷ Fill W 0 7 9 ∷ []) ≡ replicate 5 (eight 1)
-befores = refl

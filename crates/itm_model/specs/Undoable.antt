@@ -1,8 +1,10 @@
 -- The plain machine's state, and the memory that it can go back to.
-use Rattle.std.specs.Prelude.{ℕ, Bool, true, false, nat_lt, if◌then◌else◌, List, Option, None, Some}
+use Rattle.std.specs.Prelude.{ℕ, Bool, true, false, ◌&&◌, nat_lt, if◌then◌else◌, List, Option, None, Some}
 use Rattle.itm_types.specs.declared.call.Refusal.{Refusal}
 use Rattle.itm_types.specs.declared.call.Call.{Call}
 use Rattle.itm_types.specs.declared.call.Call.TheVariants.{Begin, Commit, Abort, Mode, InTransaction, Read, Write, Log, LogBytes, Copy, Fill, CommitAction, UndoAction, Load, Save}
+use Rattle.itm_types.specs.declared.copy.CopyPair.{CopyPair}
+use Rattle.itm_types.specs.declared.copy.CopyPair.TheVariants.{Out, In, Within}
 use Rattle.itm_model.specs.State.{State}
 use Rattle.itm_model.specs.Machine.{is_open, refusal}
 
@@ -35,7 +37,13 @@ before_unless (Some refusal) old new = old
 abbrev pub before_after : ℕ → Undoable → Call → List ℕ
 before_after deepest u call = before_unless (refusal deepest u.state call) u.before (before_next u call)
 
--- can memory be refused to the call: a log, a copy or a fill of no bytes takes none
+-- it writes shared bytes
+abbrev pub copies_shared : CopyPair → Bool
+copies_shared (Out to) = true
+copies_shared (In from) = false
+copies_shared (Within from to) = true
+
+-- can memory be refused to the call: a log or a fill of no bytes takes none, and neither does a copy that writes no shared byte
 abbrev pub takes_memory : Call → Bool
 takes_memory (Begin props room) = true
 takes_memory Commit = false
@@ -46,7 +54,7 @@ takes_memory (Read hint width at) = false
 takes_memory (Write hint at value) = true
 takes_memory (Log width at) = true
 takes_memory (LogBytes at size) = nat_lt 0 size
-takes_memory (Copy c) = nat_lt 0 c.size
+takes_memory (Copy c) = copies_shared c.pair && nat_lt 0 c.size
 takes_memory (Fill hint to byte size) = nat_lt 0 size
 takes_memory (CommitAction action) = true
 takes_memory (UndoAction action) = true

@@ -1,6 +1,7 @@
 //! Copies and fills.
 
-ghost use Rattle.std.specs.Prelude.{◌≡◌, IsTrue, IsOk, OnOk, OnErr, None, replicate};
+ghost use Rattle.std.specs.Prelude.{◌≡◌, ◌&&◌, false, nat_lt, IsTrue, IsOk, OnOk, OnErr, None, replicate};
+ghost use Rattle.itm_model.specs.Undoable.{copies_shared};
 ghost use Rattle.itm_types.specs.Slices.{slice};
 ghost use Rattle.itm_model.specs.Machine.{copied, copy_ranges, saved_in_arena, written};
 ghost use Rattle.itm_model.specs.Places.{in_range};
@@ -17,7 +18,7 @@ impl Plain {
         requires { copy_ranges self.old.state copying.now ≡ None }
         ensures ok { OnOk result (self.new.state ≡ copied self.old.state copying.now) }
         ensures before { OnOk result (self.new.before ≡ self.old.before) }
-        ensures none { copying.now.size ≡ 0 → IsOk result }
+        ensures none { (copies_shared copying.now.pair && nat_lt 0 copying.now.size) ≡ false → IsOk result }
         ensures err { OnErr result (self.new ≡ self.old) }
     {
         let Copying { to, from, size, .. } = *copying;
