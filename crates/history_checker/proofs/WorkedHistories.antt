@@ -5,7 +5,7 @@ use Rattle.itm_types.specs.declared.access.ReadHint.TheVariants.{R}
 use Rattle.itm_types.specs.declared.access.WriteHint.TheVariants.{W}
 use Rattle.itm_types.specs.declared.call.Action.{Action}
 use Rattle.itm_types.specs.declared.call.Call.{Call}
-use Rattle.itm_types.specs.declared.call.Call.TheVariants.{Commit, Abort, Mode, Read, Write, CommitAction, UndoAction}
+use Rattle.itm_types.specs.declared.call.Call.TheVariants.{Commit, Abort, Mode, Read, Write, UndoAction}
 use Rattle.itm_types.specs.declared.call.Props.{Props}
 use Rattle.itm_types.specs.declared.call.Ran.{Ran}
 use Rattle.itm_types.specs.declared.call.Reply.{Reply}
@@ -51,9 +51,6 @@ action fun = record { fun = fun; arg = 7 }
 abbrev pub on_undo : ℕ → Entry
 on_undo fun = answered (UndoAction (action fun)) Done
 
-abbrev pub on_commit : ℕ → Entry
-on_commit fun = answered (CommitAction (action fun)) Done
-
 -- ## Attempts
 
 abbrev pub plain : Props
@@ -65,10 +62,6 @@ attempt outcome at calls = record { thread = 0; nth = 1; began = 0; at = at; pro
 -- after which these actions had run
 abbrev pub attempt_ran : Outcome → List Entry → List Ran → Attempt
 attempt_ran outcome calls ran = record (attempt outcome 0 calls) { ran = ran }
-
--- with these properties
-abbrev pub attempt_with : Props → Outcome → ℕ → List Entry → Attempt
-attempt_with props outcome at calls = record (attempt outcome at calls) { props = props }
 
 -- the one committed at this position, that writes one more than it reads
 abbrev pub writer : ℕ → Attempt

@@ -1,16 +1,14 @@
 -- Worked cases of actions, computed.
 use Rattle.std.proofs.Common.{◌≡◌, ◌+◌, ℕ, List, [], ◌∷◌, ◌++◌, true, false, map, refl, replicate}
 use Rattle.itm_types.specs.declared.call.Action.{Action}
-use Rattle.itm_types.specs.declared.call.Refusal.TheVariants.{Outside}
 use Rattle.itm_types.specs.declared.call.Call.{Call}
 use Rattle.itm_types.specs.declared.call.Call.TheVariants.{Begin, Commit, Abort, CommitAction, UndoAction}
 use Rattle.itm_types.specs.declared.call.Ran.{Ran}
-use Rattle.itm_types.specs.declared.call.Reply.TheVariants.{Done, Code, Refused}
 use Rattle.user_actions.specs.Actions.{as_commit, as_undo}
 use Rattle.itm_model.specs.State.{State}
-use Rattle.itm_model.specs.Machine.{after, opened, outside}
-use Rattle.itm_model.specs.Undoable.{Undoable, before_after, takes_memory}
-use Rattle.itm_model.specs.Runs.{replies, state_after}
+use Rattle.itm_model.specs.Machine.{after, outside}
+use Rattle.itm_model.specs.Undoable.{takes_memory}
+use Rattle.itm_model.specs.Runs.{state_after}
 use Rattle.itm_model.proofs.Examples.{plain, eight, start_with}
 
 abbrev action : ℕ → Action
@@ -35,9 +33,6 @@ ended ran = record (outside (eight 0) []) { actions = record { commits = []; und
 abbrev three : List Call
 three = on_undo 1 ∷ Begin plain 0 ∷ on_undo 2 ∷ on_commit 9 ∷ Begin plain 0 ∷ on_undo 3 ∷ []
 
-three_replies : replies 16 start (three ++ Abort true ∷ []) ≡ Done ∷ Code 5 ∷ Done ∷ Done ∷ Code 5 ∷ Done ∷ Code 24 ∷ []
-three_replies = refl
-
 three_registered : (state_after 16 start three).actions
     ≡ record { commits = action 9 ∷ []; undos = action 1 ∷ action 2 ∷ action 3 ∷ []; ran = [] }
 three_registered = refl
@@ -46,21 +41,9 @@ three_registered = refl
 three_cancelled : state_after 16 start (three ++ Abort true ∷ []) ≡ ended (map as_undo (action 3 ∷ action 2 ∷ action 1 ∷ []))
 three_cancelled = refl
 
--- each is cancelled alone
-three_in_turn : state_after 16 start (three ++ replicate 3 (Abort false)) ≡ ended (map as_undo (action 3 ∷ action 2 ∷ action 1 ∷ []))
-three_in_turn = refl
-
 -- all commit: with the outermost one the commit action runs, and no undo action does
 three_committed : state_after 16 start (three ++ replicate 3 Commit) ≡ ended (as_commit (action 9) ∷ [])
 three_committed = refl
-
--- a commit of an inner block runs none, and its actions go to the block around it
-inner_commits : (state_after 16 start (three ++ replicate 2 Commit)).actions ≡ (state_after 16 start three).actions
-inner_commits = refl
-
--- so they go back with that
-inner_commits_undone : state_after 16 start (three ++ Commit ∷ Commit ∷ Abort false ∷ []) ≡ ended (map as_undo (action 3 ∷ action 2 ∷ action 1 ∷ []))
-inner_commits_undone = refl
 
 -- ## A cancelled block's undo actions run, and its commit actions never do; those of the block around it stay
 
@@ -74,39 +57,18 @@ inner_cancelled_actions = refl
 inner_cancelled_commit : state_after 16 start (inner_cancelled ++ Commit ∷ []) ≡ ended (as_undo (action 2) ∷ as_commit (action 1) ∷ [])
 inner_cancelled_commit = refl
 
--- what the block around it registers later comes to its end
-inner_cancelled_more : state_after 16 start (inner_cancelled ++ on_commit 5 ∷ Commit ∷ [])
-    ≡ ended (as_undo (action 2) ∷ as_commit (action 1) ∷ as_commit (action 5) ∷ [])
-inner_cancelled_more = refl
-
 -- ## Commit actions run in the order in which they were registered, in whichever block
 
 in_order : state_after 16 start (on_commit 1 ∷ Begin plain 0 ∷ on_commit 2 ∷ on_commit 3 ∷ Commit ∷ on_commit 4 ∷ Commit ∷ [])
     ≡ ended (map as_commit (action 1 ∷ action 2 ∷ action 3 ∷ action 4 ∷ []))
 in_order = refl
 
--- one action that is registered twice runs twice
-twice : state_after 16 start (on_undo 1 ∷ on_undo 1 ∷ Abort false ∷ []) ≡ ended (map as_undo (action 1 ∷ action 1 ∷ []))
-twice = refl
-
--- ## With no block open none is registered, and an outermost begin starts with none
-
-no_action_outside : replies 16 (ended (as_commit (action 9) ∷ [])) (on_commit 1 ∷ on_undo 1 ∷ []) ≡ Refused Outside ∷ Refused Outside ∷ []
-no_action_outside = refl
-
-outside_unchanged : map (after 16 (ended (as_commit (action 9) ∷ []))) (on_commit 1 ∷ on_undo 1 ∷ []) ≡ replicate 2 (ended (as_commit (action 9) ∷ []))
-outside_unchanged = refl
+-- ## An outermost begin starts with none
 
 begun_anew : after 16 (ended (as_commit (action 9) ∷ [])) (Begin plain 0) ≡ start
 begun_anew = refl
 
--- ## Memory can be refused to a registration, and it leaves the bytes that the transaction goes back to
+-- ## Memory can be refused to a registration
 
 register_takes_memory : map takes_memory (on_commit 1 ∷ on_undo 1 ∷ []) ≡ true ∷ true ∷ []
 register_takes_memory = refl
-
-abbrev rewritten : Undoable
-rewritten = record { state = opened (eight 2) [] plain; before = eight 1 }
-
-befores : map (before_after 16 rewritten) (on_commit 1 ∷ on_undo 1 ∷ []) ≡ replicate 2 (eight 1)
-befores = refl

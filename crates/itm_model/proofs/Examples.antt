@@ -2,11 +2,11 @@
 use Rattle.std.proofs.Common.{◌≡◌, ℕ, zero, suc, List, [], ◌∷◌, ◌++◌, Option, None, Some, true, false, map, refl, replicate}
 use Rattle.arrayvec.specs.ArrayVec.{ArrayVec}
 use Rattle.itm_types.specs.declared.access.Width.TheVariants.{U1, U2, U4, U8}
-use Rattle.itm_types.specs.declared.access.ReadHint.TheVariants.{R, RaR, RaW}
+use Rattle.itm_types.specs.declared.access.ReadHint.TheVariants.{R, RaR}
 use Rattle.itm_types.specs.declared.access.WriteHint.TheVariants.{W}
 use Rattle.itm_types.specs.declared.datum.Datum.{Datum}
 use Rattle.itm_types.specs.declared.call.Props.{Props}
-use Rattle.itm_types.specs.declared.call.Refusal.TheVariants.{Outside, OutOfRange, OutOfArena, NoAbort, TooDeep}
+use Rattle.itm_types.specs.declared.call.Refusal.TheVariants.{Outside, OutOfArena, NoAbort, TooDeep}
 use Rattle.itm_types.specs.declared.call.Call.{Call}
 use Rattle.itm_types.specs.declared.call.Call.TheVariants.{Begin, Commit, Abort, InTransaction, Read, Write, Log, LogBytes, Load, Save}
 use Rattle.itm_types.specs.declared.call.Reply.{Reply}
@@ -46,48 +46,17 @@ counter_replies = refl
 counter_state : state_after 1 (start 8) counter ≡ record (outside (eight 1) []) { wrote = true }
 counter_state = refl
 
--- ## An empty block writes nothing and leaves the bytes
-
-empty_block_replies : replies 1 (start 8) (Commit ∷ []) ≡ Done ∷ []
-empty_block_replies = refl
-
-empty_block_state : state_after 1 (start 8) (Commit ∷ []) ≡ outside (eight 0) []
-empty_block_state = refl
-
 -- ## Whether a transaction is open is told in and outside of one
 
 inquiries : replies 1 (outside (eight 0) []) (InTransaction ∷ Begin plain 2 ∷ InTransaction ∷ Commit ∷ InTransaction ∷ []) ≡ Code 0 ∷ Code 5 ∷ Code 1 ∷ Done ∷ Code 0 ∷ []
 inquiries = refl
 
--- ## The arena is read and written with a block open and with none
-
-arena_replies : replies 1 (outside (eight 0) (eight 0)) (Save 0 (word 5) ∷ Begin plain 2 ∷ Save 1 (word 6) ∷ Load U8 0 ∷ Commit ∷ Load U8 0 ∷ [])
-    ≡ Done ∷ Code 5 ∷ Refused OutOfArena ∷ Bytes (value 5) ∷ Done ∷ Bytes (value 5) ∷ []
-arena_replies = refl
-
--- ## A read at the end of the memory is refused and changes nothing; the write after it is served
-
-abbrev boundary : List Call
-boundary = Read R U8 8 ∷ Write W 0 (word 5) ∷ Commit ∷ []
-
-boundary_replies : replies 1 (start 8) boundary ≡ Refused OutOfRange ∷ Done ∷ Done ∷ []
-boundary_replies = refl
+-- ## A read at the end of the memory is refused and changes nothing
 
 boundary_unchanged : after 1 (start 8) (Read R U8 8) ≡ start 8
 boundary_unchanged = refl
 
-boundary_state : state_after 1 (start 8) boundary ≡ record (outside (eight 5) []) { wrote = true }
-boundary_state = refl
-
--- the last word is within
-last_word : replies 1 (opened (eight 3 ++ eight 4) [] plain) (Read R U8 8 ∷ Read R U8 16 ∷ []) ≡ Bytes (value 4) ∷ Refused OutOfRange ∷ []
-last_word = refl
-
--- a refused write leaves no mark either
-refused_write : state_after 1 (start 8) (Write W 8 (word 5) ∷ []) ≡ start 8
-refused_write = refl
-
--- ## Places inside words: a write over the end of a word, and a read of it and of bytes around it
+-- ## Places inside words: a write over the end of a word
 
 abbrev counted_bytes : List ℕ
 counted_bytes = 0x00 ∷ 0x11 ∷ 0x22 ∷ 0x33 ∷ 0x44 ∷ 0x55 ∷ 0x66 ∷ 0x77 ∷ 0x88 ∷ 0x99 ∷ 0xaa ∷ 0xbb ∷ 0xcc ∷ 0xdd ∷ 0xee ∷ 0xff ∷ []
@@ -95,58 +64,25 @@ counted_bytes = 0x00 ∷ 0x11 ∷ 0x22 ∷ 0x33 ∷ 0x44 ∷ 0x55 ∷ 0x66 ∷ 0
 abbrev over_the_end : List Call
 over_the_end = Write W 6 (record { width = U4; bytes = record { items = 0xdd ∷ 0xcc ∷ 0xbb ∷ 0xaa ∷ [] }; sized = refl }) ∷ Read RaR U8 4 ∷ Commit ∷ []
 
-over_the_end_replies : replies 1 (opened counted_bytes [] plain) over_the_end ≡ Done ∷ Bytes (record { items = 0x44 ∷ 0x55 ∷ 0xdd ∷ 0xcc ∷ 0xbb ∷ 0xaa ∷ 0xaa ∷ 0xbb ∷ [] }) ∷ Done ∷ []
-over_the_end_replies = refl
-
 over_the_end_bytes : (state_after 1 (opened counted_bytes [] plain) over_the_end).memory
     ≡ 0x00 ∷ 0x11 ∷ 0x22 ∷ 0x33 ∷ 0x44 ∷ 0x55 ∷ 0xdd ∷ 0xcc ∷ 0xbb ∷ 0xaa ∷ 0xaa ∷ 0xbb ∷ 0xcc ∷ 0xdd ∷ 0xee ∷ 0xff ∷ []
 over_the_end_bytes = refl
 
--- the last byte is within, and one byte more is not
-last_bytes : replies 1 (start 16) (Read R U8 8 ∷ Read R U8 9 ∷ Read R U1 15 ∷ Read R U1 16 ∷ []) ≡ Bytes (value 0) ∷ Refused OutOfRange ∷ Bytes (record { items = 0 ∷ [] }) ∷ Refused OutOfRange ∷ []
-last_bytes = refl
-
--- ## Hints that are not true: a read after a read and a read after a write that were none
-false_hints : replies 1 (opened counted_bytes [] plain)
-    (Write W 1 (record { width = U2; bytes = record { items = 0xaa ∷ 0xbb ∷ [] }; sized = refl }) ∷ Read RaW U4 0 ∷ Read RaR U2 8 ∷ Commit ∷ [])
-    ≡ Done ∷ Bytes (record { items = 0x00 ∷ 0xaa ∷ 0xbb ∷ 0x33 ∷ [] }) ∷ Bytes (record { items = 0x88 ∷ 0x99 ∷ [] }) ∷ Done ∷ []
-false_hints = refl
-
--- ## A write replaces its own word alone
-
-other_words : (state_after 1 (opened (eight 3 ++ eight 4 ++ eight 5) [] plain) (Write W 8 (word 9) ∷ [])).memory ≡ eight 3 ++ eight 9 ++ eight 5
-other_words = refl
-
--- ## A begin inside a block, where one block may be open and where two may
-
-nested_refused : replies 1 (start 8) (Begin plain 0 ∷ Commit ∷ []) ≡ Refused TooDeep ∷ Done ∷ []
-nested_refused = refl
-
-nested_refused_unchanged : after 1 (start 8) (Begin plain 0) ≡ start 8
-nested_refused_unchanged = refl
+-- ## A begin inside a block, where two may be open
 
 abbrev nested : List Call
 nested = Write W 0 (word 1) ∷ Begin plain 0 ∷ Write W 0 (word 2) ∷ Read R U8 0 ∷ Commit ∷ Commit ∷ Commit ∷ []
-
-nested_replies : replies 2 (start 8) nested ≡ Done ∷ Code 5 ∷ Done ∷ Bytes (value 2) ∷ Done ∷ Done ∷ Refused Outside ∷ []
-nested_replies = refl
 
 nested_state : state_after 2 (start 8) nested ≡ record (outside (eight 2) []) { wrote = true }
 nested_state = refl
 
 -- ## A rollback gives back the memory as at the block's begin, and whether it was written to
 
-rollback : undone (after 1 (start 8) (Write W 0 (word 1))) ≡ outside (eight 0) []
-rollback = refl
-
 abbrev inner : State
 inner = state_after 2 (start 8) (Write W 0 (word 1) ∷ Begin plain 0 ∷ Write W 0 (word 2) ∷ [])
 
 rollback_inner : back inner ≡ after 2 (start 8) (Write W 0 (word 1))
 rollback_inner = refl
-
-rollback_all : undone inner ≡ outside (eight 0) []
-rollback_all = refl
 
 -- an inner block that closed goes back with the outer one
 rollback_closed : undone (after 2 inner Commit) ≡ outside (eight 0) []
@@ -177,19 +113,12 @@ inner_cancel_replies : replies 16 (start_with 16 4) (inner_cancel ++ Read R U1 0
     ∷ one_byte 17 ∷ one_byte 0 ∷ one_byte 7 ∷ one_byte 5 ∷ Done ∷ []
 inner_cancel_replies = refl
 
-inner_cancel_memory : cancelled.memory ≡ 17 ∷ replicate 15 0
-inner_cancel_memory = refl
-
 inner_cancel_arena : cancelled.arena ≡ 0 ∷ 5 ∷ 7 ∷ 0 ∷ []
 inner_cancel_arena = refl
 
 -- the outer block goes on as if there had been no inner one, but for the arena
 inner_cancel_blocks : cancelled.blocks ≡ (after 16 (start_with 16 4) (Write W 0 (byte 17))).blocks
 inner_cancel_blocks = refl
-
--- what the outer block wrote before it stays written
-inner_cancel_wrote : cancelled.wrote ≡ true
-inner_cancel_wrote = refl
 
 -- ## All blocks are cancelled: the memory and the logged bytes are as at the outermost begin
 
@@ -201,14 +130,6 @@ outer_cancel =
 outer_cancel_state : state_after 16 (start_with 8 4) outer_cancel ≡ outside (eight 0) (0 ∷ 0 ∷ 0 ∷ 4 ∷ [])
 outer_cancel_state = refl
 
-outer_cancel_replies : replies 16 (start_with 8 4) (outer_cancel ++ InTransaction ∷ Abort true ∷ Begin plain 0 ∷ [])
-    ≡ Done ∷ Done ∷ Done ∷ Code 5 ∷ Done ∷ Done ∷ Done ∷ Code 5 ∷ Done ∷ Done ∷ Done ∷ Code 24 ∷ Code 0 ∷ Refused Outside ∷ Code 5 ∷ []
-outer_cancel_replies = refl
-
--- the outermost block alone is cancelled by either abort
-sole_cancel : map (after 16 (after 16 (start 8) (Write W 0 (byte 1)))) (Abort false ∷ Abort true ∷ []) ≡ outside (eight 0) [] ∷ outside (eight 0) [] ∷ []
-sole_cancel = refl
-
 -- ## A block that closes inside another hands on what it kept, and what the other kept itself is older
 
 abbrev handing_on : List Call
@@ -219,20 +140,10 @@ handed_on : (state_after 16 (start_with 8 4) handing_on).blocks
     ≡ record { props = plain; saved = Some (record { memory = eight 0; wrote = false; commits = 0; undos = 0; kept = Some 0 ∷ Some 0 ∷ None ∷ None ∷ [] }) } ∷ []
 handed_on = refl
 
-handed_on_cancel : (state_after 16 (start_with 8 4) (handing_on ++ Abort false ∷ [])).arena ≡ 0 ∷ 0 ∷ 4 ∷ 0 ∷ []
-handed_on_cancel = refl
-
 -- the parent's own value of the byte wins
 parents_win : (state_after 16 (opened (eight 0) (10 ∷ 20 ∷ []) plain) (Log U1 0 ∷ Save 0 (byte 1) ∷ Begin plain 0 ∷ Log U2 0 ∷ Commit ∷ [])).blocks
     ≡ record { props = plain; saved = Some (record { memory = eight 0; wrote = false; commits = 0; undos = 0; kept = Some 10 ∷ Some 20 ∷ [] }) } ∷ []
 parents_win = refl
-
--- a closed block hands on to the block around it alone
-handed_on_once : (state_after 16 (start_with 8 1) (Begin plain 0 ∷ Begin plain 0 ∷ Log U1 0 ∷ Commit ∷ [])).blocks
-    ≡ record { props = plain; saved = Some (record { memory = eight 0; wrote = false; commits = 0; undos = 0; kept = Some 0 ∷ [] }) }
-    ∷ record { props = plain; saved = Some (record { memory = eight 0; wrote = false; commits = 0; undos = 0; kept = None ∷ [] }) }
-    ∷ []
-handed_on_once = refl
 
 -- ## A cancelled block hands nothing on: what the arena has later stays
 
@@ -244,30 +155,15 @@ nothing_handed_on = refl
 abbrev unabortable : Props
 unabortable = record plain { no_abort = true }
 
--- the innermost block is such a one
-no_abort_innermost : replies 16 (start 8) (Begin unabortable 0 ∷ Abort false ∷ Abort true ∷ Commit ∷ Abort false ∷ [])
-    ≡ Code 5 ∷ Refused NoAbort ∷ Refused NoAbort ∷ Done ∷ Code 24 ∷ []
-no_abort_innermost = refl
-
--- one around it is
+-- one around the innermost block is such a one
 no_abort_around : replies 16 (opened (eight 0) [] unabortable) (Begin plain 0 ∷ Begin plain 0 ∷ Abort true ∷ Abort false ∷ Abort false ∷ Abort false ∷ Commit ∷ [])
     ≡ Code 5 ∷ Code 5 ∷ Refused NoAbort ∷ Code 24 ∷ Code 24 ∷ Refused NoAbort ∷ Done ∷ []
 no_abort_around = refl
-
-no_abort_unchanged : map (after 16 (opened (eight 0) [] unabortable)) (Abort false ∷ Abort true ∷ []) ≡ opened (eight 0) [] unabortable ∷ opened (eight 0) [] unabortable ∷ []
-no_abort_unchanged = refl
 
 -- ## Sixteen blocks may be open, and no seventeenth
 
 too_deep : replies 16 (outside (eight 0) []) (replicate 17 (Begin plain 0)) ≡ replicate 16 (Code 5) ++ Refused TooDeep ∷ []
 too_deep = refl
-
-too_deep_unchanged : state_after 16 (outside (eight 0) []) (replicate 17 (Begin plain 0)) ≡ state_after 16 (outside (eight 0) []) (replicate 16 (Begin plain 0))
-too_deep_unchanged = refl
-
--- one that closes makes room for another
-room_again : replies 16 (state_after 16 (outside (eight 0) []) (replicate 16 (Begin plain 0))) (Commit ∷ Begin plain 0 ∷ Begin plain 0 ∷ []) ≡ Done ∷ Code 5 ∷ Refused TooDeep ∷ []
-room_again = refl
 
 -- ## Logs at the arena's end: of no bytes within it, and none past it
 
@@ -275,18 +171,11 @@ logs_at_the_end : replies 16 (start_with 8 4) (LogBytes 0 4 ∷ LogBytes 1 3 ∷
     ≡ Done ∷ Done ∷ Done ∷ Refused OutOfArena ∷ Refused OutOfArena ∷ Refused OutOfArena ∷ Done ∷ Refused OutOfArena ∷ Refused OutOfArena ∷ []
 logs_at_the_end = refl
 
--- a log of no bytes keeps none
-empty_log : map (after 16 (start_with 8 4)) (LogBytes 0 0 ∷ LogBytes 4 0 ∷ []) ≡ start_with 8 4 ∷ start_with 8 4 ∷ []
-empty_log = refl
-
 -- ## Of more than one fault: outside a transaction, then a block that is not to be cancelled, then a range
 
 no_log_outside : replies 16 (outside (eight 0) (eight 0)) (Log U1 0 ∷ Log U1 8 ∷ LogBytes 0 0 ∷ LogBytes 9 0 ∷ Abort false ∷ Abort true ∷ Load U1 8 ∷ [])
     ≡ Refused Outside ∷ Refused Outside ∷ Refused Outside ∷ Refused Outside ∷ Refused Outside ∷ Refused Outside ∷ Refused OutOfArena ∷ []
 no_log_outside = refl
-
-ranges_in_any_block : replies 16 (opened (eight 0) [] unabortable) (Log U1 0 ∷ Read R U1 8 ∷ Abort false ∷ []) ≡ Refused OutOfArena ∷ Refused OutOfRange ∷ Refused NoAbort ∷ []
-ranges_in_any_block = refl
 
 -- ## What was overwritten comes back, the newest first
 
@@ -314,11 +203,11 @@ marked_blocks = refl
 abbrev committed : Undoable
 committed = record { state = outside (eight 2) []; before = eight 1 }
 
-abbrev begun : Undoable
-begun = record { state = opened (eight 2) [] plain; before = eight 1 }
-
 befores : map (before_after 2 committed) (Begin plain 0 ∷ Write W 0 (word 3) ∷ Save 0 (word 3) ∷ []) ≡ eight 2 ∷ eight 1 ∷ eight 1 ∷ []
 befores = refl
+
+abbrev begun : Undoable
+begun = record { state = opened (eight 2) [] plain; before = eight 1 }
 
 befores_open : map (before_after 2 begun) (Begin plain 0 ∷ Write W 0 (word 3) ∷ Commit ∷ Abort false ∷ Abort true ∷ LogBytes 0 0 ∷ []) ≡ replicate 6 (eight 1)
 befores_open = refl
@@ -327,15 +216,7 @@ befores_open = refl
 log_takes_memory : map takes_memory (Log U1 0 ∷ LogBytes 0 1 ∷ LogBytes 0 0 ∷ Abort true ∷ Commit ∷ []) ≡ true ∷ true ∷ false ∷ false ∷ false ∷ []
 log_takes_memory = refl
 
--- ## Outside a transaction only a begin is served, and it starts anew
-
-outside_replies : replies 1 (outside (eight 3) []) (Read R U8 0 ∷ Write W 0 (word 1) ∷ Commit ∷ Begin plain 0 ∷ Read R U8 0 ∷ [])
-    ≡ Refused Outside ∷ Refused Outside ∷ Refused Outside ∷ Code 5 ∷ Bytes (value 3) ∷ []
-outside_replies = refl
-
--- of two faults the first one decides
-outside_first : replies 1 (outside (eight 3) []) (Read R U8 9 ∷ []) ≡ Refused Outside ∷ []
-outside_first = refl
+-- ## An outermost begin starts anew
 
 begun_anew : after 1 (state_after 1 (start 8) counter) (Begin plain 0) ≡ opened (eight 1) [] plain
 begun_anew = refl

@@ -7,10 +7,10 @@ use Rattle.itm_types.specs.declared.call.Action.{Action}
 use Rattle.itm_types.specs.declared.call.Props.{Props}
 use Rattle.itm_types.specs.declared.call.Refusal.TheVariants.{Outside, NoAbort, IsIrrevocable, NoIrrevocable, TooDeep}
 use Rattle.itm_types.specs.declared.call.Call.{Call}
-use Rattle.itm_types.specs.declared.call.Call.TheVariants.{Begin, Commit, Abort, Mode, InTransaction, Read, Write, Log, LogBytes, CommitAction, UndoAction, Save}
+use Rattle.itm_types.specs.declared.call.Call.TheVariants.{Begin, Commit, Abort, Mode, InTransaction, Read, Write, Log, LogBytes, CommitAction, UndoAction}
 use Rattle.itm_types.specs.declared.call.Ran.{Ran}
 use Rattle.itm_types.specs.declared.call.Reply.TheVariants.{Done, Bytes, Code, Refused}
-use Rattle.user_actions.specs.Actions.{as_commit, as_undo, no_actions}
+use Rattle.user_actions.specs.Actions.{as_commit, no_actions}
 use Rattle.itm_model.specs.State.{Block, State}
 use Rattle.itm_model.specs.Machine.{after, back, opened, outside, undone}
 use Rattle.itm_model.specs.Undoable.{Undoable, before_after, takes_memory}
@@ -76,41 +76,13 @@ becomes = refl
 ends : state_after 16 start (Mode 3 ∷ Write W 0 (byte 7) ∷ Commit ∷ []) ≡ ended 7 []
 ends = refl
 
-begins_retryable : after 16 (ended 0 []) (Begin plain 0) ≡ start
-begins_retryable = refl
-
--- it counts as one that wrote though it wrote nothing
-wrote_nothing : (state_after 16 start (Mode 0 ∷ Commit ∷ [])).wrote ≡ true
-wrote_nothing = refl
-
--- a second time changes nothing
-twice : map (λ (room : ℕ). after 16 (irrevocable (plain ∷ [])) (Mode room)) (0 ∷ 9 ∷ []) ≡ replicate 2 (irrevocable (plain ∷ []))
-twice = refl
-
 -- ## With all open blocks it does, and an inner commit leaves it on
-
-all_blocks : state_after 16 start (Begin plain 0 ∷ Begin plain 0 ∷ Mode 0 ∷ []) ≡ irrevocable (plain ∷ plain ∷ plain ∷ [])
-all_blocks = refl
 
 inner_commits : replies 16 start (Begin plain 0 ∷ Mode 0 ∷ Commit ∷ InTransaction ∷ Abort false ∷ Commit ∷ Commit ∷ [])
     ≡ Code 5 ∷ Done ∷ Done ∷ Code 2 ∷ Refused IsIrrevocable ∷ Done ∷ Refused Outside ∷ []
 inner_commits = refl
 
-inner_commits_state : state_after 16 start (Begin plain 0 ∷ Mode 0 ∷ Commit ∷ []) ≡ irrevocable (plain ∷ [])
-inner_commits_state = refl
-
--- blocks that open later go back to nothing either, and may have any property that does not make it irrevocable
-later_blocks : state_after 16 start (Mode 0 ∷ Begin plain 0 ∷ Begin revocable 0 ∷ []) ≡ irrevocable (revocable ∷ plain ∷ plain ∷ [])
-later_blocks = refl
-
 -- ## It is not cancelled, and no block of it is
-
-no_abort : replies 16 start (Mode 0 ∷ Abort false ∷ Abort true ∷ Begin plain 0 ∷ Abort false ∷ Abort true ∷ [])
-    ≡ Done ∷ Refused IsIrrevocable ∷ Refused IsIrrevocable ∷ Code 5 ∷ Refused IsIrrevocable ∷ Refused IsIrrevocable ∷ []
-no_abort = refl
-
-no_abort_unchanged : map (after 16 (irrevocable (plain ∷ plain ∷ []))) (Abort false ∷ Abort true ∷ []) ≡ replicate 2 (irrevocable (plain ∷ plain ∷ []))
-no_abort_unchanged = refl
 
 not_rolled_back : map (λ (f : State → State). f (irrevocable (plain ∷ plain ∷ []))) (back ∷ undone ∷ []) ≡ replicate 2 (irrevocable (plain ∷ plain ∷ []))
 not_rolled_back = refl
@@ -120,23 +92,8 @@ no_abort_first : replies 16 (opened (eight 0) [] unabortable) (Mode 0 ∷ Abort 
     ≡ Done ∷ Refused NoAbort ∷ Code 5 ∷ Refused IsIrrevocable ∷ Refused NoAbort ∷ []
 no_abort_first = refl
 
--- ## It does not become so outside of a transaction, or in a block that keeps it from it
+-- ## It does not become so in a block that keeps it from it, in an irrevocable transaction too
 
-mode_outside : replies 16 idle (Mode 0 ∷ InTransaction ∷ []) ≡ Refused Outside ∷ Code 0 ∷ []
-mode_outside = refl
-
-mode_outside_unchanged : after 16 idle (Mode 0) ≡ idle
-mode_outside_unchanged = refl
-
--- the innermost block is such a one, or one around it
-kept_revocable : replies 16 start (Begin revocable 0 ∷ Mode 0 ∷ Begin plain 0 ∷ Mode 0 ∷ InTransaction ∷ Commit ∷ Commit ∷ Mode 0 ∷ InTransaction ∷ [])
-    ≡ Code 5 ∷ Refused NoIrrevocable ∷ Code 5 ∷ Refused NoIrrevocable ∷ Code 1 ∷ Done ∷ Done ∷ Done ∷ Code 2 ∷ []
-kept_revocable = refl
-
-kept_revocable_unchanged : after 16 (opened (eight 0) [] revocable) (Mode 0) ≡ opened (eight 0) [] revocable
-kept_revocable_unchanged = refl
-
--- in an irrevocable transaction too
 irrevocable_already : replies 16 start (Mode 0 ∷ Begin revocable 0 ∷ Mode 0 ∷ Begin going 0 ∷ Commit ∷ Mode 0 ∷ [])
     ≡ Done ∷ Code 5 ∷ Refused NoIrrevocable ∷ Refused NoIrrevocable ∷ Done ∷ Done ∷ []
 irrevocable_already = refl
@@ -146,59 +103,22 @@ irrevocable_already = refl
 outermost_goes : after 16 idle (Begin going 0) ≡ irrevocable (going ∷ [])
 outermost_goes = refl
 
-opened_irrevocable : opened (eight 0) (0 ∷ 0 ∷ []) going ≡ irrevocable (going ∷ [])
-opened_irrevocable = refl
-
 inner_goes : state_after 16 start (Begin plain 0 ∷ on_undo 1 ∷ Begin going 0 ∷ []) ≡ irrevocable (going ∷ plain ∷ plain ∷ [])
 inner_goes = refl
 
-goes_replies : replies 16 start (Begin going 0 ∷ InTransaction ∷ Abort false ∷ Commit ∷ InTransaction ∷ Begin going 0 ∷ Commit ∷ Commit ∷ InTransaction ∷ [])
-    ≡ Code 5 ∷ Code 2 ∷ Refused IsIrrevocable ∷ Done ∷ Code 2 ∷ Code 5 ∷ Done ∷ Done ∷ Code 0 ∷ []
-goes_replies = refl
-
--- with both properties it is refused, in a transaction and outside of one, and in a block that keeps it from it
-goes_refused : map (λ (s : State). replies 16 s (Begin never 0 ∷ [])) (idle ∷ start ∷ irrevocable (plain ∷ []) ∷ []) ≡ replicate 3 (Refused NoIrrevocable ∷ [])
-goes_refused = refl
-
-goes_refused_around : replies 16 start (Begin revocable 0 ∷ Begin plain 0 ∷ Begin going 0 ∷ Begin plain 0 ∷ InTransaction ∷ [])
-    ≡ Code 5 ∷ Code 5 ∷ Refused NoIrrevocable ∷ Code 5 ∷ Code 1 ∷ []
-goes_refused_around = refl
-
-goes_refused_unchanged : map (λ (s : State). after 16 s (Begin never 0)) (idle ∷ start ∷ []) ≡ idle ∷ start ∷ []
-goes_refused_unchanged = refl
-
--- that is told before one block too many is
+-- that a block keeps it from that is told before one block too many is
 goes_refused_deep : replies 1 (opened (eight 0) [] revocable) (Begin going 0 ∷ Begin never 0 ∷ Begin plain 0 ∷ []) ≡ Refused NoIrrevocable ∷ Refused NoIrrevocable ∷ Refused TooDeep ∷ []
 goes_refused_deep = refl
-
-goes_too_deep : replies 1 start (Begin going 0 ∷ InTransaction ∷ []) ≡ Refused TooDeep ∷ Code 1 ∷ []
-goes_too_deep = refl
 
 -- ## Undo actions are dropped as it becomes irrevocable, and none is kept later; commit actions run
 
 abbrev acting : List Call
 acting = on_undo 1 ∷ on_commit 2 ∷ Begin plain 0 ∷ on_undo 3 ∷ on_commit 4 ∷ Mode 0 ∷ []
 
-acting_dropped : (state_after 16 start acting).actions ≡ record no_actions { commits = action 2 ∷ action 4 ∷ [] }
-acting_dropped = refl
-
-acting_more : (state_after 16 start (acting ++ on_undo 5 ∷ on_commit 6 ∷ [])).actions ≡ record no_actions { commits = action 2 ∷ action 4 ∷ action 6 ∷ [] }
-acting_more = refl
-
-acting_replies : replies 16 start (Mode 0 ∷ on_undo 5 ∷ on_commit 6 ∷ []) ≡ replicate 3 Done
-acting_replies = refl
-
 acting_ended : state_after 16 start (acting ++ on_undo 5 ∷ on_commit 6 ∷ Commit ∷ Commit ∷ []) ≡ ended 0 (map as_commit (action 2 ∷ action 4 ∷ action 6 ∷ []))
 acting_ended = refl
 
--- what came to run before stays
-ran_before : (state_after 16 start (Begin plain 0 ∷ on_undo 1 ∷ Abort false ∷ Mode 0 ∷ [])).actions ≡ record no_actions { ran = as_undo (action 1) ∷ [] }
-ran_before = refl
-
 -- ## A log is served and keeps nothing
-
-logs : replies 16 start (Log U1 0 ∷ Mode 0 ∷ Log U1 1 ∷ LogBytes 0 2 ∷ Save 0 (byte 9) ∷ []) ≡ replicate 5 Done
-logs = refl
 
 logs_keep_nothing : state_after 16 start (Log U1 0 ∷ Mode 0 ∷ Log U1 1 ∷ LogBytes 0 2 ∷ []) ≡ irrevocable (plain ∷ [])
 logs_keep_nothing = refl

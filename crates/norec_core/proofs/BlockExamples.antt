@@ -1,22 +1,18 @@
 -- Worked cases of blocks within one another, computed.
-use Rattle.std.proofs.Common.{◌≡◌, ℕ, zero, suc, List, [], ◌∷◌, true, false, None, Some, refl}
+use Rattle.std.proofs.Common.{◌≡◌, ℕ, List, [], ◌∷◌, true, false, None, Some, refl}
 use Rattle.itm_types.specs.declared.access.Width.TheVariants.{U2}
 use Rattle.itm_types.specs.declared.call.Call.TheVariants as calls
-use Rattle.itm_types.specs.declared.call.Refusal.TheVariants.{TooDeep, NoAbort}
+use Rattle.itm_types.specs.declared.call.Refusal.TheVariants.{NoAbort}
 use Rattle.itm_types.specs.declared.call.Reply.TheVariants.{Done, Code, Refused}
 use Rattle.undo_log.specs.Rollback.{Old}
 use Rattle.write_set.specs.declared.row.Row.{Row}
-use Rattle.user_actions.specs.Actions.{no_actions}
-use Rattle.nest_frames.specs.Nest.{Frame, begun}
-use Rattle.norec_core.specs.declared.answer.Answer.TheVariants.{Committed}
+use Rattle.nest_frames.specs.Nest.{Frame}
 use Rattle.norec_core.specs.declared.answer.Undone.TheVariants as undoings
-use Rattle.norec_core.specs.declared.phase.Taking.TheVariants as takings
-use Rattle.norec_core.specs.declared.phase.Phase.TheVariants.{Exchange, Store, Free}
 use Rattle.norec_core.specs.Core.{Core, ended, rolled_back}
 use Rattle.norec_core.specs.Proceeds.{writes_after, arena_after, blocks_after}
 use Rattle.norec_core.specs.Stands.{block_over, stands_for}
 use Rattle.norec_core.specs.Undoing.{undone_of, after_undoing}
-use Rattle.norec_core.proofs.Examples.{Asks, Ends, lines, no_props, inside, outside, logged, all_of, byte_of, begin, exchanges, stores}
+use Rattle.norec_core.proofs.Examples.{Ends, lines, no_props, inside, logged, all_of, byte_of, begin}
 
 -- ## Where they come
 
@@ -37,46 +33,17 @@ inner = block (byte_of 1 0xab ∷ []) (old 0 6 ∷ old 1 8 ∷ [])
 abbrev pub nested : Core
 nested = record (inside 8 4 (logged 0 7 ∷ []) (all_of 1 9 ∷ byte_of 2 0xcd ∷ [])) { blocks = inner ∷ outer ∷ []; arena = 1 ∷ 2 ∷ 3 ∷ [] }
 
--- so many blocks more
-abbrev deeper : ℕ → List Frame → List Frame
-deeper zero blocks = blocks
-deeper (suc n) blocks = begun no_props [] no_actions ∷ deeper n blocks
-
-abbrev deepest : Core
-deepest = record nested { blocks = deeper 14 nested.blocks }
-
 -- ## No step is taken
-
-nested_begin : lines nested begin [] ≡ Ends None ∷ []
-nested_begin = refl
-
-one_begin_too_many : lines deepest begin [] ≡ Ends None ∷ []
-one_begin_too_many = refl
 
 -- though there are rows to store
 inner_commit : lines nested calls.Commit [] ≡ Ends None ∷ []
 inner_commit = refl
 
-inner_cancel : lines nested (calls.Abort false) [] ≡ Ends None ∷ []
-inner_cancel = refl
-
 outer_cancel : lines nested (calls.Abort true) [] ≡ Ends None ∷ []
 outer_cancel = refl
 
-cancel_outside : lines (outside 8) (calls.Abort true) [] ≡ Ends None ∷ []
-cancel_outside = refl
-
 log_inside : lines nested (calls.Log U2 1) [] ≡ Ends None ∷ []
 log_inside = refl
-
--- the outermost block's commit takes the clock and stores, whatever was logged
-outermost_commit : lines (record (inside 8 0 [] (all_of 1 9 ∷ [])) { blocks = outer ∷ [] }) calls.Commit (0 ∷ 0 ∷ 0 ∷ [])
-    ≡ Asks (Exchange takings.Commit) (exchanges 0 1)
-    ∷ Asks (Store takings.Commit 0 None) (stores 2 9)
-    ∷ Asks Free (stores 0 2)
-    ∷ Ends (Some (Committed 0 true))
-    ∷ []
-outermost_commit = refl
 
 -- ## What is left
 
@@ -84,18 +51,9 @@ outermost_commit = refl
 begin_opens : blocks_after nested begin (Code 5) ≡ block (all_of 1 9 ∷ byte_of 2 0xcd ∷ []) [] ∷ inner ∷ outer ∷ []
 begin_opens = refl
 
-refused_begin_opens_none : blocks_after nested begin (Refused TooDeep) ≡ inner ∷ outer ∷ []
-refused_begin_opens_none = refl
-
 -- the outer block has the inner one's logs, and goes back to the rows at its own begin
 inner_commit_closes : blocks_after nested calls.Commit Done ≡ block [] (old 0 5 ∷ old 0 6 ∷ old 1 8 ∷ []) ∷ []
 inner_commit_closes = refl
-
-inner_commit_keeps_rows : writes_after nested [] calls.Commit Done ≡ all_of 1 9 ∷ byte_of 2 0xcd ∷ []
-inner_commit_keeps_rows = refl
-
-inner_commit_keeps_arena : arena_after nested [] calls.Commit Done ≡ 1 ∷ 2 ∷ 3 ∷ []
-inner_commit_keeps_arena = refl
 
 -- the outer block is as it was
 inner_cancel_closes : blocks_after nested (calls.Abort false) (Code 24) ≡ outer ∷ []
@@ -106,9 +64,6 @@ inner_cancel_takes_rows = refl
 
 inner_cancel_puts_back : arena_after nested [] (calls.Abort false) (Code 24) ≡ 6 ∷ 8 ∷ 3 ∷ []
 inner_cancel_puts_back = refl
-
-outer_cancel_closes : blocks_after nested (calls.Abort true) (Code 24) ≡ []
-outer_cancel_closes = refl
 
 outer_cancel_takes_rows : writes_after nested [] (calls.Abort true) (Code 24) ≡ []
 outer_cancel_takes_rows = refl
@@ -155,9 +110,6 @@ held_arena = refl
 inner_over : (block_over inner (1 ∷ 2 ∷ 3 ∷ []) (0 ∷ 0 ∷ [])).saved
     ≡ Some (record { memory = 0 ∷ 0 ∷ 0 ∷ 0 ∷ 0 ∷ 0 ∷ 0 ∷ 0 ∷ 0 ∷ 0xab ∷ 0 ∷ 0 ∷ 0 ∷ 0 ∷ 0 ∷ 0 ∷ []; wrote = true; commits = 0; undos = 0; kept = Some 6 ∷ Some 8 ∷ None ∷ [] })
 inner_over = refl
-
-outer_over : (block_over outer (1 ∷ 2 ∷ 3 ∷ []) (7 ∷ [])).saved ≡ Some (record { memory = 7 ∷ 0 ∷ 0 ∷ 0 ∷ 0 ∷ 0 ∷ 0 ∷ 0 ∷ []; wrote = false; commits = 0; undos = 0; kept = Some 5 ∷ None ∷ None ∷ [] })
-outer_over = refl
 
 -- the memory has what both blocks have written
 stands_for_both : (stands_for nested (0 ∷ 0 ∷ 0 ∷ [])).memory

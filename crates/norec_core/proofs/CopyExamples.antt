@@ -4,7 +4,7 @@ use Rattle.itm_types.specs.declared.access.WriteHint.TheVariants.{W}
 use Rattle.itm_types.specs.declared.call.Call.TheVariants.{Copy, Fill}
 use Rattle.itm_types.specs.declared.call.Copying.{Copying}
 use Rattle.itm_types.specs.declared.call.Refusal.TheVariants.{Outside, OutOfRange, OutOfArena, Overlap}
-use Rattle.itm_types.specs.declared.call.Reply.TheVariants.{Done, Refused}
+use Rattle.itm_types.specs.declared.call.Reply.TheVariants.{Done}
 use Rattle.itm_types.specs.declared.copy.CopyPair.{CopyPair}
 use Rattle.itm_types.specs.declared.copy.CopyPair.TheVariants.{Out, In, Within}
 use Rattle.itm_types.specs.declared.copy.SharedSide.TheVariants.{T}
@@ -35,25 +35,12 @@ out_of_both = refl
 in_of_both : copy_refusal true 4 3 (copy (In T) 2 31 2) ≡ Some OutOfArena
 in_of_both = refl
 
-out_of_the_arena : copy_refusal true 4 3 (copy (Out T) 30 2 2) ≡ Some OutOfArena
-out_of_the_arena = refl
-
--- ranges up to the ends are taken, also empty ones
-up_to_the_ends : copy_refusal true 4 3 (copy (Out T) 30 1 2) ≡ None
-up_to_the_ends = refl
-
-none_at_the_ends : copy_refusal true 4 3 (copy (In T) 3 32 0) ≡ None
-none_at_the_ends = refl
-
 -- one common byte is refused, but not to a move
 one_common_byte : copy_refusal true 4 3 (copy (Within T T) 7 0 8) ≡ Some Overlap
 one_common_byte = refl
 
 touching : copy_refusal true 4 3 (copy (Within T T) 8 0 8) ≡ None
 touching = refl
-
-none_in_common : copy_refusal true 4 3 (copy (Within T T) 5 5 0) ≡ None
-none_in_common = refl
 
 moved_by_one : copy_refusal true 4 3 (move 7 0 8) ≡ None
 moved_by_one = refl
@@ -77,9 +64,6 @@ out_of_a_lower_place = refl
 words_of_40 : source_words (copy (In T) 0 4 40) ≡ 7
 words_of_40 = refl
 
-no_words : source_words (copy (In T) 0 4 0) ≡ 0
-no_words = refl
-
 -- ## What is written
 
 abbrev with_arena : List Row → Core
@@ -89,24 +73,12 @@ with_arena writes = record (inside 8 0 [] writes) { arena = 1 ∷ 2 ∷ 3 ∷ []
 fill_of_two_words : writes_after (with_arena []) [] (Fill W 6 0x1ab 4) Done ≡ row 0 0xffff000000000000 0xabab000000000000 ∷ row 1 0xffff 0xabab ∷ []
 fill_of_two_words = refl
 
-fill_of_no_bytes : writes_after (with_arena (all_of 1 9 ∷ [])) [] (Fill W 6 7 0) Done ≡ all_of 1 9 ∷ []
-fill_of_no_bytes = refl
-
-fill_refused : writes_after (with_arena (all_of 1 9 ∷ [])) [] (Fill W 31 7 2) (Refused OutOfRange) ≡ all_of 1 9 ∷ []
-fill_refused = refl
-
 copy_out : writes_after (with_arena (all_of 1 0 ∷ [])) [] (Copy (copy (Out T) 9 1 2)) Done ≡ all_of 1 0x30200 ∷ []
 copy_out = refl
-
-copy_out_leaves_the_arena : arena_after (with_arena []) [] (Copy (copy (Out T) 9 1 2)) Done ≡ 1 ∷ 2 ∷ 3 ∷ []
-copy_out_leaves_the_arena = refl
 
 -- the bytes are read as the transaction has them
 copy_in : arena_after (with_arena (byte_of 0 0xab ∷ [])) (0x706050403020100 ∷ []) (Copy (copy (In T) 0 1 2)) Done ≡ 0xab ∷ 2 ∷ 3 ∷ []
 copy_in = refl
-
-copy_in_writes_nothing : writes_after (with_arena (byte_of 0 0xab ∷ [])) (0x706050403020100 ∷ []) (Copy (copy (In T) 0 1 2)) Done ≡ byte_of 0 0xab ∷ []
-copy_in_writes_nothing = refl
 
 -- all of them as before the call, where the two places overlap too
 moved_upwards : writes_after (with_arena []) (0x706050403020100 ∷ 0 ∷ []) (Copy (move 1 0 8)) Done

@@ -1,7 +1,7 @@
 -- Worked cases of the step order, computed: what a call asks for, step by step, and how it ends. The clock is cell 0, and word w is cell w + 1.
 use Rattle.std.proofs.Common.{◌≡◌, ℕ, ◌*◌, List, [], ◌∷◌, true, false, Option, None, Some, refl}
-use Rattle.itm_types.specs.declared.access.Width.TheVariants.{U1, U8}
-use Rattle.itm_types.specs.declared.access.ReadHint.TheVariants.{R, RaW}
+use Rattle.itm_types.specs.declared.access.Width.TheVariants.{U8}
+use Rattle.itm_types.specs.declared.access.ReadHint.TheVariants.{R}
 use Rattle.itm_types.specs.declared.row.LogRow.{LogRow}
 use Rattle.itm_types.specs.declared.step.Step.{Step}
 use Rattle.itm_types.specs.declared.step.Step.TheVariants as steps
@@ -111,18 +111,7 @@ exchanges from to = Some (steps.Cas 0 from to)
 abbrev pub stores : ℕ → ℕ → Option Step
 stores cell value = Some (steps.Store cell value)
 
--- ## Inquiries
-
-inquiry_outside : lines (outside 8) calls.InTransaction [] ≡ Ends None ∷ []
-inquiry_outside = refl
-
 -- ## Begins
-
-even_clock : lines (outside 8) begin (6 ∷ []) ≡ Asks begins (loads 0) ∷ Ends None ∷ []
-even_clock = refl
-
-even_clock_snapshot : (engine_after (outside 8) begin (6 ∷ [])).snapshot ≡ 6
-even_clock_snapshot = refl
 
 -- while a writer holds the clock it is loaded again
 odd_clocks : lines (outside 3) begin (1 ∷ 3 ∷ 4 ∷ []) ≡ Asks begins (loads 0) ∷ Asks begins (loads 0) ∷ Asks begins (loads 0) ∷ Ends None ∷ []
@@ -135,24 +124,7 @@ odd_clocks_snapshot = refl
 busy : lines (outside 3) begin (1 ∷ 3 ∷ 5 ∷ []) ≡ Asks begins (loads 0) ∷ Asks begins (loads 0) ∷ Asks begins (loads 0) ∷ Ends (Some (Busy 5)) ∷ []
 busy = refl
 
-busy_at_once : lines (outside 1) begin (7 ∷ []) ≡ Asks begins (loads 0) ∷ Ends (Some (Busy 7)) ∷ []
-busy_at_once = refl
-
-begin_inside : lines (inside 8 0 [] []) begin [] ≡ Ends None ∷ []
-begin_inside = refl
-
 -- ## Reads
-
--- the word, and the clock that confirms it
-clean_read : lines (inside 8 0 [] []) (read 8) (7 ∷ 0 ∷ [])
-    ≡ Asks (Load (first 8)) (loads 2)
-    ∷ Asks (Confirm (first 8) 7) (loads 0)
-    ∷ Ends None
-    ∷ []
-clean_read = refl
-
-clean_read_log : (engine_after (inside 8 0 [] []) (read 8) (7 ∷ 0 ∷ [])).log ≡ logged 1 7 ∷ []
-clean_read_log = refl
 
 -- one word after the other
 two_words_read : lines (inside 8 6 [] []) (read 4) (7 ∷ 6 ∷ 9 ∷ 6 ∷ [])
@@ -166,13 +138,6 @@ two_words_read = refl
 
 two_words_log : (engine_after (inside 8 6 [] []) (read 4) (7 ∷ 6 ∷ 9 ∷ 6 ∷ [])).log ≡ logged 0 7 ∷ logged 1 9 ∷ []
 two_words_log = refl
-
--- a word that is read again is loaded again and logged again
-read_again : lines (inside 8 0 (logged 1 7 ∷ []) []) (read 8) (7 ∷ 0 ∷ []) ≡ Asks (Load (first 8)) (loads 2) ∷ Asks (Confirm (first 8) 7) (loads 0) ∷ Ends None ∷ []
-read_again = refl
-
-read_again_log : (engine_after (inside 8 0 (logged 1 7 ∷ []) []) (read 8) (7 ∷ 0 ∷ [])).log ≡ logged 1 7 ∷ logged 1 7 ∷ []
-read_again_log = refl
 
 -- the clock has moved on by a commit of another: the log is compared, and the word is loaded again and confirmed
 abbrev reader : Core
@@ -199,32 +164,13 @@ read_after_a_commit_log = refl
 read_after_a_commit_snapshot : (engine_after reader (read 8) after_a_commit).snapshot ≡ 2
 read_after_a_commit_snapshot = refl
 
--- what the write set has takes no step
-covered_read : lines (inside 8 0 [] (all_of 1 7 ∷ [])) (read 8) [] ≡ Ends None ∷ []
-covered_read = refl
-
-covered_byte : lines (inside 8 0 [] (byte_of 1 0xab ∷ [])) (calls.Read RaW U1 9) [] ≡ Ends None ∷ []
-covered_byte = refl
-
-second_word_covered : lines (inside 8 0 [] (all_of 1 7 ∷ [])) (read 4) (9 ∷ 0 ∷ []) ≡ Asks (Load (first 4)) (loads 1) ∷ Asks (Confirm (first 4) 9) (loads 0) ∷ Ends None ∷ []
-second_word_covered = refl
-
+-- what the write set has is not loaded
 first_word_covered : lines (inside 8 0 [] (all_of 0 7 ∷ [])) (read 4) (9 ∷ 0 ∷ []) ≡ Asks (Load (second 4)) (loads 2) ∷ Asks (Confirm (second 4) 9) (loads 0) ∷ Ends None ∷ []
 first_word_covered = refl
 
 -- a word of which it has one byte is loaded
 byte_covered : lines (inside 8 0 [] (byte_of 1 0xab ∷ [])) (read 8) (7 ∷ 0 ∷ []) ≡ Asks (Load (first 8)) (loads 2) ∷ Asks (Confirm (first 8) 7) (loads 0) ∷ Ends None ∷ []
 byte_covered = refl
-
--- a read that is refused takes none
-read_outside : lines (outside 8) (read 8) [] ≡ Ends None ∷ []
-read_outside = refl
-
-read_over_the_end : lines (inside 8 0 [] []) (read 25) [] ≡ Ends None ∷ []
-read_over_the_end = refl
-
-last_word_read : lines (inside 8 0 [] []) (read 24) (7 ∷ 0 ∷ []) ≡ Asks (Load (first 24)) (loads 4) ∷ Asks (Confirm (first 24) 7) (loads 0) ∷ Ends None ∷ []
-last_word_read = refl
 
 -- ## Commits
 
@@ -234,15 +180,6 @@ readonly_commit = refl
 
 commit_outside : lines (outside 8) calls.Commit [] ≡ Ends None ∷ []
 commit_outside = refl
-
--- the clock is taken, a whole word is stored, and the clock is freed
-clean_commit : lines (inside 8 0 (logged 0 7 ∷ []) (all_of 0 8 ∷ [])) calls.Commit (0 ∷ 0 ∷ 0 ∷ [])
-    ≡ Asks (Exchange takings.Commit) (exchanges 0 1)
-    ∷ Asks (Store takings.Commit 0 None) (stores 1 8)
-    ∷ Asks Free (stores 0 2)
-    ∷ Ends (Some (Committed 0 true))
-    ∷ []
-clean_commit = refl
 
 -- the rows in their order: of a part of a word the word is loaded first
 two_rows : lines (inside 8 4 [] (byte_of 2 0xab ∷ all_of 0 8 ∷ [])) calls.Commit (4 ∷ 0x111111 ∷ 0 ∷ 0 ∷ 0 ∷ [])
@@ -254,19 +191,6 @@ two_rows : lines (inside 8 4 [] (byte_of 2 0xab ∷ all_of 0 8 ∷ [])) calls.Co
     ∷ Ends (Some (Committed 2 true))
     ∷ []
 two_rows = refl
-
--- the exchange finds a commit of another: a round succeeds, and the clock is taken at what it found
-whole_word_after_a_round : lines (inside 8 0 (logged 0 7 ∷ []) (all_of 0 8 ∷ [])) calls.Commit (2 ∷ 2 ∷ 7 ∷ 2 ∷ 2 ∷ 0 ∷ 0 ∷ [])
-    ≡ Asks (Exchange takings.Commit) (exchanges 0 1)
-    ∷ Asks (RoundStart (aims.Take takings.Commit)) (loads 0)
-    ∷ Asks (RoundRow (aims.Take takings.Commit) 0) (loads 1)
-    ∷ Asks (RoundEnd (aims.Take takings.Commit)) (loads 0)
-    ∷ Asks (Exchange takings.Commit) (exchanges 2 3)
-    ∷ Asks (Store takings.Commit 0 None) (stores 1 8)
-    ∷ Asks Free (stores 0 4)
-    ∷ Ends (Some (Committed 1 true))
-    ∷ []
-whole_word_after_a_round = refl
 
 byte_after_a_round : lines (inside 8 0 (logged 0 7 ∷ []) (byte_of 1 0xab ∷ [])) calls.Commit (2 ∷ 2 ∷ 7 ∷ 2 ∷ 2 ∷ 0x111111 ∷ 0 ∷ 0 ∷ [])
     ≡ Asks (Exchange takings.Commit) (exchanges 0 1)
@@ -296,10 +220,6 @@ two_rounds : lines (inside 8 0 [] (all_of 0 8 ∷ [])) calls.Commit (2 ∷ 2 ∷
     ∷ []
 two_rounds = refl
 
--- four commits are done, as many as may be: there is no exchange
-full : lines (inside 8 8 [] (all_of 0 8 ∷ [])) calls.Commit [] ≡ Ends (Some (Full 4)) ∷ []
-full = refl
-
 -- the fourth is done by another while this one waits
 full_after_a_round : lines (inside 8 6 (logged 0 7 ∷ []) (all_of 0 8 ∷ [])) calls.Commit (8 ∷ 8 ∷ 7 ∷ 8 ∷ [])
     ≡ Asks (Exchange takings.Commit) (exchanges 6 7)
@@ -323,14 +243,6 @@ changed_word : lines (inside 8 0 (logged 0 7 ∷ logged 3 9 ∷ logged 1 5 ∷ [
     ∷ []
 changed_word = refl
 
-changed_word_at_a_commit : lines (inside 8 0 (logged 0 7 ∷ []) (all_of 0 8 ∷ [])) calls.Commit (2 ∷ 4 ∷ 8 ∷ [])
-    ≡ Asks (Exchange takings.Commit) (exchanges 0 1)
-    ∷ Asks (RoundStart (aims.Take takings.Commit)) (loads 0)
-    ∷ Asks (RoundRow (aims.Take takings.Commit) 0) (loads 1)
-    ∷ Ends (Some (Conflict 4 (Some 0)))
-    ∷ []
-changed_word_at_a_commit = refl
-
 -- a round that finds the clock odd is spent, and the next one begins with the clock
 odd_round : lines (inside 2 0 (logged 0 7 ∷ []) []) (read 8) (9 ∷ 1 ∷ 1 ∷ 2 ∷ 7 ∷ 2 ∷ 9 ∷ 2 ∷ [])
     ≡ Asks (Load (first 8)) (loads 2)
@@ -344,15 +256,6 @@ odd_round : lines (inside 2 0 (logged 0 7 ∷ []) []) (read 8) (9 ∷ 1 ∷ 1 �
     ∷ Ends None
     ∷ []
 odd_round = refl
-
-odd_rounds_alone : lines (inside 2 0 (logged 0 7 ∷ []) []) (read 8) (9 ∷ 1 ∷ 1 ∷ 1 ∷ [])
-    ≡ Asks (Load (first 8)) (loads 2)
-    ∷ Asks (Confirm (first 8) 9) (loads 0)
-    ∷ Asks (RoundStart (aims.Read (first 8))) (loads 0)
-    ∷ Asks (RoundStart (aims.Read (first 8))) (loads 0)
-    ∷ Ends (Some (Conflict 1 None))
-    ∷ []
-odd_rounds_alone = refl
 
 -- two rounds between whose clock loads another commits, and no third one
 patience_at_a_commit : lines (inside 2 0 (logged 0 7 ∷ []) (all_of 1 8 ∷ [])) calls.Commit (2 ∷ 2 ∷ 7 ∷ 4 ∷ 4 ∷ 7 ∷ 6 ∷ [])

@@ -5,10 +5,6 @@ pub mod OnLiterals
 pub mod WorkedTexts
 pub mod Worked
 pub mod WorkedFaults
-pub mod WorkedOrderFaults
-pub mod WorkedDirectiveFaults
-pub mod WorkedOperandFaults
-pub mod WorkedLimits
 pub mod LaidBytes
 pub mod RefusedLines
 pub mod UsualWords

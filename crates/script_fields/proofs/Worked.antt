@@ -4,7 +4,7 @@ use Rattle.std.specs.Prelude.{codes}
 use Rattle.std.specs.Str.Lines.{lines}
 use Rattle.script_fields.specs.declared.fault.AsmKind.TheVariants as kinds
 use Rattle.script_fields.specs.declared.place.Place.TheVariants as places
-use Rattle.script_fields.specs.declared.register.Register.TheVariants.{R0, R1, R2, R10, R15}
+use Rattle.script_fields.specs.declared.register.Register.TheVariants.{R0, R1, R2, R10}
 use Rattle.script_fields.specs.Text.{fields, without_comment}
 use Rattle.script_fields.specs.Operands.{number, register, place, literal, props, scope}
 use Rattle.script_fields.specs.Shapes.{none, two_registers, three_registers, register_number, register_literal, register_place, only_mode, commit_action, undo_action, size_of, limit_of, init_of, count_of}
@@ -33,10 +33,6 @@ comment = refl
 
 -- ## Numbers
 
-zero : number (codes "0") ≡ Ok 0
-unfolding fields_on_literals
-zero = refl
-
 largest : number (codes "18446744073709551615") ≡ Ok 18446744073709551615
 unfolding fields_on_literals
 largest = refl
@@ -49,39 +45,11 @@ leading : number (codes "01") ≡ Err kinds.Operand
 unfolding fields_on_literals
 leading = refl
 
-zeros : number (codes "00") ≡ Err kinds.Operand
-unfolding fields_on_literals
-zeros = refl
-
-signed : number (codes "+1") ≡ Err kinds.Operand
-unfolding fields_on_literals
-signed = refl
-
-grouped : number (codes "1_0") ≡ Err kinds.Operand
-unfolding fields_on_literals
-grouped = refl
-
-prefixed : number (codes "0x1") ≡ Err kinds.Operand
-unfolding fields_on_literals
-prefixed = refl
-
-no_digit : number (codes "x") ≡ Err kinds.Operand
-unfolding fields_on_literals
-no_digit = refl
-
 -- ## Registers and places
-
-first_register : register (codes "r0") ≡ Ok R0
-unfolding fields_on_literals
-first_register = refl
 
 tenth_register : register (codes "r10") ≡ Ok R10
 unfolding fields_on_literals
 tenth_register = refl
-
-last_register : register (codes "r15") ≡ Ok R15
-unfolding fields_on_literals
-last_register = refl
 
 no_register : register (codes "r16") ≡ Err kinds.Operand
 unfolding fields_on_literals
@@ -90,22 +58,6 @@ no_register = refl
 padded_register : register (codes "r01") ≡ Err kinds.Operand
 unfolding fields_on_literals
 padded_register = refl
-
-large_letter : register (codes "R1") ≡ Err kinds.Operand
-unfolding fields_on_literals
-large_letter = refl
-
-no_index : register (codes "r") ≡ Err kinds.Operand
-unfolding fields_on_literals
-no_index = refl
-
-longer : register (codes "r100") ≡ Err kinds.Operand
-unfolding fields_on_literals
-longer = refl
-
-place_number : place (codes "12") ≡ Ok (places.Number 12)
-unfolding fields_on_literals
-place_number = refl
 
 place_register : place (codes "r2") ≡ Ok (places.Register R2)
 unfolding fields_on_literals
@@ -121,14 +73,6 @@ place_beyond = refl
 
 -- ## Bytes
 
-two_bytes : literal (codes "0fA0") ≡ Ok (record { bytes = 15 ∷ 160 ∷ replicate 30 0; count = 2 })
-unfolding fields_on_literals
-two_bytes = refl
-
-all_bytes : literal (replicate 64 49) ≡ Ok (record { bytes = replicate 32 17; count = 32 })
-unfolding fields_on_literals
-all_bytes = refl
-
 -- zeros that the script says are told from those that fill the register
 kept_zeros : literal (codes "0100") ≡ Ok (record { bytes = 1 ∷ replicate 31 0; count = 2 })
 unfolding fields_on_literals
@@ -143,19 +87,11 @@ odd_digits : literal (replicate 65 49) ≡ Err kinds.Operand
 unfolding fields_on_literals
 odd_digits = refl
 
-no_hex : literal (codes "0g") ≡ Err kinds.Operand
-unfolding fields_on_literals
-no_hex = refl
-
 written : literal_text (record { bytes = 15 ∷ 160 ∷ replicate 30 0; count = 2 }) ≡ codes "0fa0"
 unfolding fields_on_literals
 written = refl
 
 -- ## Words
-
-no_properties : props (codes "-") ≡ Ok (record { no_abort = false; no_irrevocable = false; goes_irrevocable = false })
-unfolding fields_on_literals
-no_properties = refl
 
 any_order : props (codes "pr_doesGoIrrevocable+pr_hasNoAbort") ≡ Ok (record { no_abort = true; no_irrevocable = false; goes_irrevocable = true })
 unfolding fields_on_literals
@@ -168,14 +104,6 @@ twice = refl
 dash_and_more : props (codes "-+pr_hasNoAbort") ≡ Err kinds.Operand
 unfolding fields_on_literals
 dash_and_more = refl
-
-no_name : props (codes "pr_hasNoAbort+") ≡ Err kinds.Operand
-unfolding fields_on_literals
-no_name = refl
-
-other_property : props (codes "pr_instrumentedCode") ≡ Err kinds.Operand
-unfolding fields_on_literals
-other_property = refl
 
 outer_scope : scope (codes "userAbort+outerAbort") ≡ Ok true
 unfolding fields_on_literals
@@ -258,10 +186,6 @@ size : size_of (codes "65536" ∷ []) ≡ Ok 65536
 unfolding fields_on_literals
 size = refl
 
-no_word : size_of (codes "0" ∷ []) ≡ Err kinds.Range
-unfolding fields_on_literals
-no_word = refl
-
 half_word : size_of (codes "12" ∷ []) ≡ Err kinds.Range
 unfolding fields_on_literals
 half_word = refl
@@ -293,10 +217,6 @@ init_form = refl
 one_thread : count_of [] ≡ Ok 1
 unfolding fields_on_literals
 one_thread = refl
-
-threads : count_of (codes "7" ∷ []) ≡ Ok 7
-unfolding fields_on_literals
-threads = refl
 
 no_threads : count_of (codes "0" ∷ []) ≡ Err kinds.Range
 unfolding fields_on_literals
