@@ -8,18 +8,22 @@ use Rattle.norec_world.specs.declared.ending.End.{End}
 use Rattle.norec_world.specs.declared.ending.End.TheVariants.{Finished, GaveUp, NoMemory}
 use Rattle.tx_attempts.specs.declared.attempt.Outcome.{Outcome}
 use Rattle.tx_attempts.specs.declared.attempt.Outcome.TheVariants as outcomes
-use Rattle.norec_world.specs.Solo.{Solo, one_if, solo}
-use Rattle.norec_world.specs.SoFar.{IsSoFar}
+use Rattle.world_laws.specs.Solo.{Solo, one_if, solo}
+use Rattle.world_laws.specs.SoFar.{IsSoFar}
 use Rattle.norec_world.specs.Commits.{CommitsInOrder}
-use Rattle.norec_world.specs.Opaque.{AreOpaque}
-use Rattle.norec_world.specs.World.{World, ShowsAlone, DoneBy, attempts_of, ending_at, memory_of}
+use Rattle.norec_world.specs.Headline.{AreOpaque}
+use Rattle.norec_world.specs.Tied.{AreTied}
+use Rattle.norec_world.specs.World.{World, attempts_of, ending_at, memory_of, observed}
 use Rattle.script_program.specs.declared.instruction.Instruction.{Instruction}
 use Rattle.script_program.specs.Listing.{Listing, opening_of, threads_of}
 use Rattle.script_vm.specs.Threads.{Thread, opening, thread_rules}
 use Rattle.itmrun.specs.Scheduled.{Leaves, schedule_of, players_of}
 use Rattle.itmrun.specs.Pages.{first_thread, solo_of, page, IsOf, IsWorldOf, history_of}
 use Rattle.world_histories.proofs.LegalWorlds.{legal_world}
-use Rattle.itmrun.proofs.ScheduleItems.{items_keep}
+use Rattle.world_laws.specs.ShownAlone.{DoneBy}
+use Rattle.world_laws.proofs.LedAlone.{led_alone}
+use Rattle.script_vm.specs.ThreadLaws.{thread_laws}
+use Rattle.itmrun.proofs.ScheduleItems.{items_keep, items_led}
 
 first_is : (threads : List (List Instruction)) (x : Thread) → map opening threads ≡ x ∷ [] → x ≡ opening (slice_index_or threads 0 [])
 first_is [] x e = absurd cc
@@ -85,15 +89,19 @@ module _ (p : Listing) (w : World Thread) (began : BeganAs p w) (player : Thread
   of_ending (Some NoMemory) (inl part) = (began.base, inl (part.0, so_far (w.cells.clock / 2) (memory_of w) outcomes.NoMemory (attempts_of w) part.1))
   of_ending (Some NoMemory) (inr part) = (began.base, inr (part.0, (part.1.0, so_far (w.cells.clock / 2) part.1.0 outcomes.Unfinished (attempts_of w) part.1.1)))
 
-pub world_of_run : (p : Listing) (w : World Thread) → Leaves p w → CommitsInOrder w → AreOpaque thread_rules w → ShowsAlone thread_rules w → IsWorldOf p w
-world_of_run p w leaves commits opaque shown = record {
+pub world_of_run : (p : Listing) (w : World Thread) → Leaves p w → CommitsInOrder w → AreOpaque thread_rules (observed w) → AreTied thread_rules w → IsWorldOf p w
+world_of_run p w leaves commits opaque tied = record {
   leaves = leaves;
   base = (began_as p w leaves).base;
   commits = commits;
   opaque = opaque;
-  legal = legal_world thread_rules w commits opaque;
+  tied = tied;
+  legal = legal_world thread_rules w commits opaque tied;
   alone = λ one.
       let began = began_as p w leaves in
-      let a = shown (ap (λ (l : List Thread). length l) began.players ∙ length-map (threads_of p) opening ∙ one) in
+      let first = leaves.1 in
+      let led = items_led leaves.0 w (schedule_of p) leaves.2 in
+      let single : (players : List Thread) → players ≡ players_of p → length players ≡ 1 = λ players is. ap (λ (l : List Thread). length l) is ∙ length-map (threads_of p) opening ∙ one in
+      let a = led_alone thread_rules thread_laws led.0 led.1.0 leaves.0 w first.anew first.commits first.opaque first.tied led.1.1 (single leaves.0.opening first.players) (single w.opening began.players) in
       of_ending p w began a.0 (first_is (threads_of p) a.0 (sym began.players ∙ a.1)) (ending_at w 0) a.2;
 }

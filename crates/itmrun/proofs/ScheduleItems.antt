@@ -12,6 +12,7 @@ use Rattle.script_program.specs.declared.schedule.Item.{Item}
 use Rattle.script_program.specs.declared.schedule.Item.TheVariants.{Take, Out}
 use Rattle.script_program.specs.declared.instruction.Instruction.{Instruction}
 use Rattle.script_vm.specs.Threads.{Thread, opening, depth_of, thread_rules}
+use Rattle.world_laws.proofs.LedAlone.{takes_led}
 use Rattle.itmrun.specs.Scheduled.{ItemLeads, ItemsLead, each_out, endings_of}
 
 abbrev IsEvent : ℕ → World Thread → Result (Unit {0}) WorldFault → World Thread → Type 0
@@ -76,6 +77,18 @@ each_none w = refl
 
 pub each_more : (old between new : World Thread) (i : ℕ) → ItemsLead (each_out i) old between → ItemLeads (Out i) between new → ItemsLead (each_out (i + 1)) old new
 each_more old between new i l m = subst (λ (xs : List Item). ItemsLead xs old new) (sym (map-range_with_len_more Out 0 i i (omega arith))) (items_on old between new (each_out i) (Out i) l m)
+
+-- all of it is a schedule
+item_led : (old new : World Thread) (item : Item) → ItemLeads item old new → (schedule : List ℕ) × IsLed old schedule new
+item_led old new (Take thread count) l = (replicate count thread, l)
+item_led old new (Out thread) (n, t, ended) = (replicate n thread, takes_led thread_rules thread n old new t)
+
+pub items_led : (old new : World Thread) (items : List Item) → ItemsLead items old new → (schedule : List ℕ) × IsLed old schedule new
+items_led old new [] e = ([], ([], e))
+items_led old new (item ∷ items) (next, first, rest) =
+    let one = item_led old next item first in
+    let more = items_led next new items rest in
+    (one.0 ++ more.0, led_append old next new one.0 more.0 one.1 more.1)
 
 -- ## What stays
 

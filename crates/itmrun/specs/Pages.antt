@@ -4,11 +4,12 @@ use Rattle.itm_types.specs.declared.limits.TheConstants.{MAX_OPEN_BLOCKS}
 use Rattle.norec_world.specs.declared.ending.End.{End}
 use Rattle.norec_world.specs.declared.ending.End.TheVariants.{Finished, GaveUp, NoMemory}
 use Rattle.tx_attempts.specs.declared.attempt.Outcome.TheVariants as outcomes
-use Rattle.norec_world.specs.Solo.{Solo, one_if, solo}
-use Rattle.norec_world.specs.SoFar.{IsSoFar}
+use Rattle.world_laws.specs.Solo.{Solo, one_if, solo}
+use Rattle.world_laws.specs.SoFar.{IsSoFar}
 use Rattle.norec_world.specs.Commits.{CommitsInOrder}
-use Rattle.norec_world.specs.Opaque.{AreOpaque}
-use Rattle.norec_world.specs.World.{World, attempts_of, ending_at, memory_of}
+use Rattle.norec_world.specs.Headline.{AreOpaque}
+use Rattle.norec_world.specs.Tied.{AreTied}
+use Rattle.norec_world.specs.World.{World, attempts_of, ending_at, memory_of, observed}
 use Rattle.script_program.specs.Listing.{Listing, opening_of, threads_of}
 use Rattle.script_vm.specs.Threads.{Thread, opening, thread_rules}
 use Rattle.tx_history.specs.declared.history.History.{History}
@@ -48,6 +49,7 @@ pub record IsWorldOf (p : Listing) (w : World Thread) : Type 0 where
   pub leaves : Leaves p w
   pub base : w.base ≡ opening_of p
   pub commits : CommitsInOrder w
-  pub opaque : AreOpaque thread_rules w
+  pub opaque : AreOpaque thread_rules (observed w)
+  pub tied : AreTied thread_rules w
   pub legal : IsLegal (history_of w)
   pub alone : length (threads_of p) ≡ 1 → IsOf p (ending_at w 0) (history_of w)

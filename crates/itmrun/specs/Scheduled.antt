@@ -4,9 +4,10 @@ use Rattle.std.specs.List.{range_with_len}
 use Rattle.norec_world.specs.declared.ending.End.{End}
 use Rattle.norec_world.specs.declared.fault.WorldFault.{WorldFault}
 use Rattle.norec_world.specs.declared.actor.Actor.{Actor}
-use Rattle.norec_world.specs.World.{World, ending_at, memory_of}
+use Rattle.norec_world.specs.World.{World, ending_at, memory_of, observed}
 use Rattle.norec_world.specs.Commits.{CommitsInOrder}
-use Rattle.norec_world.specs.Opaque.{AreOpaque}
+use Rattle.norec_world.specs.Headline.{AreOpaque}
+use Rattle.norec_world.specs.Tied.{AreTied}
 use Rattle.norec_world.specs.Tries.{IsBetween}
 use Rattle.norec_world.specs.Starts.{IsNew}
 use Rattle.norec_world.specs.WorldEvents.{Leads, Takes}
@@ -31,7 +32,8 @@ pub record Begins (p : Listing) (w : World Thread) : Type 0 where
   pub anew : IsNew thread_rules w  -- before its first event, each thread having done its local work up to its first step
   pub first : (place : ℕ) (a : Actor Thread) → slice_get w.actors place ≡ Some a → IsBetween 0 1 w.attempts a  -- each is before its first try
   pub commits : CommitsInOrder w
-  pub opaque : AreOpaque thread_rules w
+  pub opaque : AreOpaque thread_rules (observed w)
+  pub tied : AreTied thread_rules w
 
 -- ## The schedule
 

@@ -3,9 +3,10 @@
 ghost use Rattle.std.specs.Prelude.{◌≡◌, ◌+◌, ℕ, List, IfSome, Ok, false, length};
 ghost use Rattle.tx_history.specs.Spelling.{Grows};
 ghost use Rattle.script_asm.specs.Assembly.{program_of};
-ghost use Rattle.norec_world.specs.World.{ShowsAlone};
+ghost use Rattle.norec_world.specs.World.{observed};
 ghost use Rattle.norec_world.specs.Commits.{CommitsInOrder};
-ghost use Rattle.norec_world.specs.Opaque.{AreOpaque};
+ghost use Rattle.norec_world.specs.Headline.{AreOpaque};
+ghost use Rattle.norec_world.specs.Tied.{AreTied};
 ghost use Rattle.script_vm.specs.Threads.{thread_rules};
 ghost use Rattle.tx_history.specs.Histories.{history_text};
 ghost use Rattle.itmrun.specs.Pages.{history_of};
@@ -27,8 +28,8 @@ fn write_world<W: Write>(writer: &mut W, world: &World<Script<'_>>) -> bool
     ensures text { Grows false (W.contents writer.old) result (W.contents writer.new)
         (history_text (history_of world.now)) }
     ensures commits { CommitsInOrder world.now }
-    ensures opaque { AreOpaque thread_rules world.now }
-    ensures alone { ShowsAlone thread_rules world.now }
+    ensures opaque { AreOpaque thread_rules (observed world.now) }
+    ensures tied { AreTied thread_rules world.now }
 {
     let mut stream = Stream {
         writer,

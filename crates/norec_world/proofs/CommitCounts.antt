@@ -1,7 +1,7 @@
 -- The commits stay in order over an event.
 use Rattle.std.proofs.Common.{◌≡◌, inl, inr, ℕ, ◌+◌, ◌*◌, ◌/◌, ◌%◌, ◌≤◌, ◌==◌, ◌&&◌, Bool, true, false, nat_lt, List, [], ◌∷◌, ◌++◌, Some, slice_get, slice_set, refl, sym, ap, subst, ◌∙◌, arith, eq-eqb, lt-ltb}
 use Rattle.std.proofs.lemmas.Bool.{cases_order}
-use Rattle.norec_world.proofs.Common.{Actor, AreActors, AreCounted, Attempt, Cells, CommitsInOrder, EndsAt, IsEvent, IsFirst, Outcome, Prior, Rows, Rules, Tries, World, begins, between, both_ways, count_at, count_committed, false_from_ne_true, is_at, is_committed, le-ltb, ne_eqb, one_where, outrun, over, prior_of, runs, shut_out, turned_away}
+use Rattle.norec_world.proofs.Common.{Actor, AreActors, AreCounted, AreUnfinished, Attempt, Cells, CommitsInOrder, EndsAt, IsEvent, IsFirst, Outcome, Prior, Rows, Rules, Tries, World, begins, between, both_ways, count_at, count_committed, false_from_ne_true, is_at, is_committed, le-ltb, ne_eqb, one_where, outrun, over, prior_of, runs, shut_out, turned_away}
 use Rattle.tx_attempts.specs.declared.attempt.Outcome.TheVariants as outcomes
 use Rattle.norec_world.specs.Commits.{HasLimits}
 use Rattle.norec_world.specs.Rows.{AreEnded}
@@ -9,13 +9,29 @@ use Rattle.norec_world.proofs.SoundOthers.{held_after, held_apart, odd_or_even, 
 
 -- ## Counts
 
-count_at_more : (position : ℕ) (xs : List Attempt) (a : Attempt) → count_at position (xs ++ a ∷ []) ≡ count_at position xs + one_where (is_at position a)
-count_at_more position [] a = (let e : one_where (is_at position a) + 0 ≡ 0 + one_where (is_at position a) = omega arith in e)
-count_at_more position (x ∷ xs) a = (let e = count_at_more position xs a in omega arith)
+pub count_at_both : (position : ℕ) (xs ys : List Attempt) → count_at position (xs ++ ys) ≡ count_at position xs + count_at position ys
+count_at_both position [] ys = (let e : count_at position ys ≡ 0 + count_at position ys = omega arith in e)
+count_at_both position (x ∷ xs) ys = (let e = count_at_both position xs ys in omega arith)
 
-count_committed_more : (xs : List Attempt) (a : Attempt) → count_committed (xs ++ a ∷ []) ≡ count_committed xs + one_where (is_committed a.outcome)
-count_committed_more [] a = (let e : one_where (is_committed a.outcome) + 0 ≡ 0 + one_where (is_committed a.outcome) = omega arith in e)
-count_committed_more (x ∷ xs) a = (let e = count_committed_more xs a in omega arith)
+pub count_committed_both : (xs ys : List Attempt) → count_committed (xs ++ ys) ≡ count_committed xs + count_committed ys
+count_committed_both [] ys = (let e : count_committed ys ≡ 0 + count_committed ys = omega arith in e)
+count_committed_both (x ∷ xs) ys = (let e = count_committed_both xs ys in omega arith)
+
+-- open attempts have not committed
+
+open_at : (position : ℕ) (xs : List Attempt) → AreUnfinished xs → count_at position xs ≡ 0
+open_at position [] u = refl
+open_at position (x ∷ xs) u = (let e = open_at position xs u.1 in let none : one_where (is_at position x) ≡ 0 = ap (λ (o : Outcome). one_where (is_committed o && (x.at == position))) u.0 in omega arith)
+
+open_committed : (xs : List Attempt) → AreUnfinished xs → count_committed xs ≡ 0
+open_committed [] u = refl
+open_committed (x ∷ xs) u = (let e = open_committed xs u.1 in let none : one_where (is_committed x.outcome) ≡ 0 = ap (λ (o : Outcome). one_where (is_committed o)) u.0 in omega arith)
+
+pub counted_both : (clock : ℕ) (xs ys : List Attempt) → AreUnfinished ys → AreCounted clock xs → AreCounted clock (xs ++ ys)
+counted_both clock xs ys u c = record {
+  all = omega (arith, count_committed_both xs ys, open_committed ys u, c.all);
+  each = λ position. omega (arith, count_at_both position xs ys, open_at position ys u, c.each position);
+}
 
 -- the clock of one more commit
 below_more : (position n : ℕ) → one_where (nat_lt position (n + 1)) ≡ one_where (nat_lt position n) + one_where (n == position)
@@ -34,10 +50,10 @@ counted_same clock clock' xs ys same half c = record {
 -- one that did not commit is not counted
 counted_other : (clock clock' : ℕ) (xs ys : List Attempt) (a : Attempt) → is_committed a.outcome ≡ false → ys ≡ xs ++ a ∷ [] → clock' / 2 ≡ clock / 2 → AreCounted clock xs → AreCounted clock' ys
 counted_other clock clock' xs ys a other is half c = record {
-  all = (let more = ap count_committed is ∙ count_committed_more xs a in let none : one_where (is_committed a.outcome) ≡ 0 = ap one_where other in let all = c.all in omega arith);
+  all = (let more = ap count_committed is ∙ count_committed_both xs (a ∷ []) in let none : one_where (is_committed a.outcome) ≡ 0 = ap one_where other in let all = c.all in omega arith);
   each = λ position.
       (let none : one_where (is_at position a) ≡ 0 = ap (λ (b : Bool). one_where (b && (a.at == position))) other in
-      omega (arith, ap (count_at position) is ∙ count_at_more position xs a, c.each position, ap (λ (n : ℕ). one_where (nat_lt position n)) half));
+      omega (arith, ap (count_at position) is ∙ count_at_both position xs (a ∷ []), c.each position, ap (λ (n : ℕ). one_where (nat_lt position n)) half));
 }
 
 -- one that did is
@@ -46,12 +62,12 @@ counted_one clock clock' xs ys a one is before now c =
     let was : clock / 2 ≡ a.at = omega arith in
     let half : clock' / 2 ≡ a.at + 1 = omega arith in
     record {
-      all = (let more = ap count_committed is ∙ count_committed_more xs a in let some : one_where (is_committed a.outcome) ≡ 1 = ap one_where one in let all = c.all in omega arith);
+      all = (let more = ap count_committed is ∙ count_committed_both xs (a ∷ []) in let some : one_where (is_committed a.outcome) ≡ 1 = ap one_where one in let all = c.all in omega arith);
       each = λ position.
           (let some : one_where (is_at position a) ≡ one_where (a.at == position) = ap (λ (b : Bool). one_where (b && (a.at == position))) one in
           let below_was : one_where (nat_lt position (clock / 2)) ≡ one_where (nat_lt position a.at) = ap (λ (n : ℕ). one_where (nat_lt position n)) was in
           let below : one_where (nat_lt position (clock' / 2)) ≡ one_where (nat_lt position (a.at + 1)) = ap (λ (n : ℕ). one_where (nat_lt position n)) half in
-          omega (arith, ap (count_at position) is ∙ count_at_more position xs a, c.each position, below_more position a.at));
+          omega (arith, ap (count_at position) is ∙ count_at_both position xs (a ∷ []), c.each position, below_more position a.at));
     }
 
 module _ {P : Type 0} where

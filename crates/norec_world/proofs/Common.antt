@@ -36,29 +36,28 @@ pub use Rattle.norec_world.specs.Alone.{IsAlone, player_then, state_then}
 pub use Rattle.tx_attempts.specs.Attempts.{ClosedBy, alone, committed_at, is_at, is_committed, memory_left, of_thread, pair_of}
 pub use Rattle.norec_world.specs.Cells.{AreWords, Cells, cells_after, found, words_of}
 pub use Rattle.norec_world.specs.ClockHolder.{ClocksOn, HoldsOn}
-pub use Rattle.norec_world.specs.Commits.{AreCounted, CommitsInOrder}
+pub use Rattle.norec_world.specs.Commits.{CommitsInOrder}
 pub use Rattle.tx_attempts.specs.Counts.{count_at, count_committed, one_where}
 pub use Rattle.norec_world.specs.Events.{IsEvent}
 pub use Rattle.norec_world.specs.Invariant.{AreRunning, IsWorld}
 pub use Rattle.norec_world.specs.LocalWork.{Acts, Starves, Works}
 pub use Rattle.norec_world.specs.LogAgreement.{AreLaid, Loaded, Sees}
-pub use Rattle.norec_world.specs.Memories.{bytes_at, words_at}
+pub use Rattle.norec_world.specs.Memories.{words_at}
 pub use Rattle.norec_world.specs.Moments.{HasWorked}
 pub use Rattle.norec_world.specs.Opacity.{Beginning, Between, EndsAs, IsOpaque, IsRunOf, IsTryAt, LacksClock, after_try, takes_clock, answered_all, begin_code, begin_of, begin_within, follows}
-pub use Rattle.norec_world.specs.Opaque.{AreOpaque, first_of}
+pub use Rattle.norec_world.specs.Headline.{AreCounted, AreOfActors, AreOpaque, bytes_at, first_of}
+pub use Rattle.norec_world.specs.Tied.{AreTied}
 pub use Rattle.norec_world.specs.OthersAttempts.{AllOf, ChangesOwn, KeepsOthers, count_pending}
 pub use Rattle.norec_world.specs.Records.{CountsTry, IsTold, Opens, Records, RecordsReply, StopsAt, StopsIf, Tells, asked_pending, begins_again}
-pub use Rattle.norec_world.specs.Rows.{AreFrom, AreOfActors, AreOpen, AreUnfinished, Rows, active_of, changed, is_of, with_changed, with_ended, with_opened, without}
+pub use Rattle.norec_world.specs.Rows.{AreFrom, AreOpen, AreUnfinished, Rows, active_of, changed, is_of, with_changed, with_ended, with_opened, without}
 pub use Rattle.norec_world.specs.HeldAttempts.{IsHeld, StandsIn}
 pub use Rattle.norec_world.specs.Runs.{IsBeforeTry, IsInTry, IsRun, LeadsTo, ReadsFrom, RunsFrom, begins_at, run_after}
-pub use Rattle.norec_world.specs.Sole.{AreSole, EndsWith, IsFirstTry, IsOnWay, IsSole, StandsSole}
-pub use Rattle.norec_world.specs.Solo.{Progress, Solo, ended_as, one_if, row_of, solo_within, stopped, with_all, with_first}
 pub use Rattle.norec_world.specs.Sound.{AnswerFits, BeginsAt, Falls, GoesOn, HasLess, HasRow, IsAnswered, IsDone, IsKept, IsNested, IsNoMore, IsReady, IsSettledBy, IsSound, IsTied, RestsAs, StatusIs, rank, retried, run_left, steps_left, whole}
 pub use Rattle.norec_world.specs.Starts.{HasStarted, IsFirst}
 pub use Rattle.norec_world.specs.Status.{ending_of, is_ready, is_waiting, waiting_step}
 pub use Rattle.norec_world.specs.Tries.{Continues, EndsAt, GoesOnAfter, IsBetween, Prior, Tries, TriesAgain, begins, between, current_of, is_done, outrun, over, prior_of, runs, shut_out, turned_away}
 pub use Rattle.norec_world.specs.Views.{world_of}
-pub use Rattle.norec_world.specs.World.{SameOpening, ShowsAlone, World, attempts_of, counted, ending_at, ending_in, told, waits_at}
+pub use Rattle.norec_world.specs.World.{SameOpening, observed, World, attempts_of, counted, ending_at, ending_in, told, waits_at}
 pub use Rattle.norec_world.specs.WorldEvents.{ActorGoes, Goes, HasRead, Leads, Takes, passes_of}
 pub use Rattle.norec_world.specs.declared.actor.Actor.{Actor}
 pub use Rattle.norec_world.specs.declared.actor.Status.TheVariants.{Ended, Ready, Waits}

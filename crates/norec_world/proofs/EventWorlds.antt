@@ -4,15 +4,14 @@ use Rattle.norec_world.proofs.Common.{Actor, ActorGoes, Cells, ClocksOn, Finishe
 use Rattle.norec_world.specs.Moments.{HasStepped}
 use Rattle.norec_world.proofs.ClockHolders.{clocks_still, clocks_twice}
 use Rattle.norec_world.proofs.CommitCounts.{commits_after}
+use Rattle.norec_world.proofs.Dates.{dated_after}
 use Rattle.norec_world.proofs.OthersAttempts.{others_twice}
-use Rattle.norec_world.proofs.RunOthers.{has_read, running_after, world_opaque}
-use Rattle.norec_world.proofs.ShownAlone.{shows_alone}
-use Rattle.norec_world.proofs.SoleEvents.{sole_still}
+use Rattle.norec_world.proofs.RunOthers.{has_read, running_after, world_opaque, world_tied}
 use Rattle.norec_world.proofs.SoundOthers.{actors_after}
 use Rattle.norec_world.proofs.Taken.{ready_of}
 use Rattle.norec_world.proofs.TryChains.{tries_then}
 use Rattle.norec_world.proofs.WorldEvents.{event_goes}
-use Rattle.norec_world.proofs.Worlds.{lawful_at, waiting_going, waiting_some}
+use Rattle.norec_world.proofs.Worlds.{lawful_at, waiting_there}
 use Rattle.norec_world.proofs.SoundSteps.{rests}
 
 -- ## A step and its local work are one event
@@ -64,7 +63,6 @@ module _ {P : Type 0} {rules : Rules P} (laws : Obeys rules) (w : World P) (kept
 
   pub world_after : IsWorld rules (record w { cells = cells'; actors = slice_set w.actors i a2; attempts = r2; events = events })
   world_after =
-      let going = waiting_going got.status (waiting_some got.status (subst IsSome (ap (option_and_then (λ (a : Actor P). waiting_step a.status)) here) waits)) in
       let actors = actors_after rules w.cells cells' w.attempts r2 w.actors kept.actors i got a2 here y.sound done (event_others x y) (event_clocks x y) in
       let commits = commits_after rules w kept.commits i got a2 here cells' r2 events event.0 in
       let running = running_after rules laws w kept i got a2 here cells' r2 events (event_others x y) (event_clocks x y)
@@ -74,7 +72,7 @@ module _ {P : Type 0} {rules : Rules P} (laws : Obeys rules) (w : World P) (kept
         long = length-set w.actors i a2 ∙ kept.long;
         commits = commits;
         running = running;
-        sole = sole_still rules w kept i got a2 here going cells' r2 events event.0 actors commits running;
+        dated = dated_after w kept i got a2 here cells' r2 events event.0 (waiting_there w i got here waits) commits.counted.all;
       }
 
   pub goes_after : events ≡ counted w.events 1
@@ -85,4 +83,4 @@ module _ {P : Type 0} {rules : Rules P} (laws : Obeys rules) (w : World P) (kept
       (λ a is.
       (let same : got ≡ a = (let found : Some got ≡ Some a = sym here ∙ is in cc) in
       subst (λ (z : Actor P). ActorGoes rules i w z after) same (a2, refl, event.0, done, event.1)))
-      kept'.commits (world_opaque rules laws after kept') (record { opening = refl; base = refl; arena = refl; patience = refl; max_commits = refl; retries = refl }) (length-set w.actors i a2) (shows_alone rules laws after kept')
+      kept'.commits (world_opaque rules laws after kept') (world_tied rules laws after kept') (record { opening = refl; base = refl; arena = refl; patience = refl; max_commits = refl; retries = refl }) (length-set w.actors i a2)

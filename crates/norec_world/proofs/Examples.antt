@@ -4,65 +4,65 @@ use Rattle.itm_types.specs.declared.access.Width.TheVariants.{U1, U2, U8}
 use Rattle.itm_types.specs.declared.access.ReadHint.TheVariants.{R}
 use Rattle.itm_types.specs.declared.access.WriteHint.TheVariants.{W}
 use Rattle.itm_types.specs.declared.datum.Datum.{Datum}
-use Rattle.norec_world.proofs.Common.{Attempt, Begin, Between, Call, Commit, Done, Entry, Finished, GaveUp, IsOpaque, IsRunOf, Props, Read, Rules, Unfinished, Write, after, alone, passes_of, takes_clock}
+use Rattle.norec_world.proofs.Common.{Attempt, Begin, Between, Call, Commit, Done, Entry, IsOpaque, IsRunOf, Props, Read, Rules, Write, after, alone, passes_of, takes_clock}
 use Rattle.itm_types.specs.declared.call.Reply.{Reply}
-use Rattle.itm_types.specs.declared.call.Call.TheVariants.{Abort, Load, Log, Mode, Save}
+use Rattle.itm_types.specs.declared.call.Call.TheVariants.{Abort, Load, Log, Save}
 use Rattle.itm_types.specs.declared.call.Reply.TheVariants.{Bytes, Code}
 use Rattle.tx_attempts.specs.declared.attempt.Outcome.TheVariants.{Cancelled, Committed, Conflict, Full, ReadOnly}
 use Rattle.norec_world.specs.declared.fault.WorldFault.TheVariants as faults
 use Rattle.tx_attempts.specs.Attempts.{ByAbort, memory_after}
+use Rattle.norec_world.specs.Dates.{AreDated, IsDated}
 use Rattle.norec_world.proofs.Plan.{Plan, next_call, restarted, calls_left, depth}
 use Rattle.norec_world.proofs.Plan as plans
-use Rattle.norec_world.specs.Solo.{solo}
 
 -- ## A player that adds one to the counter at place 0
 
-abbrev plain : Props
+abbrev pub plain : Props
 plain = record { no_abort = false; no_irrevocable = false; goes_irrevocable = false }
 
 -- a byte as a U8
-abbrev eight : ℕ → List ℕ
+abbrev pub eight : ℕ → List ℕ
 eight b = b ∷ 0 ∷ 0 ∷ 0 ∷ 0 ∷ 0 ∷ 0 ∷ 0 ∷ []
 
-abbrev word : ℕ → Datum
+abbrev pub word : ℕ → Datum
 word b = record { width = U8; bytes = record { items = eight b }; sized = refl }
 
-abbrev read : ℕ → Entry
+abbrev pub read : ℕ → Entry
 read b = record { call = Read R U8 0; reply = Bytes (record { items = eight b }) }
 
-abbrev write : ℕ → Entry
+abbrev pub write : ℕ → Entry
 write b = record { call = Write W 0 (word b); reply = Done }
 
-abbrev commit : Entry
+abbrev pub commit : Entry
 commit = record { call = Commit; reply = Done }
 
-record Counter : Type 0 where
-  step : ℕ
-  got : ℕ
+pub record Counter : Type 0 where
+  pub step : ℕ
+  pub got : ℕ
 
-abbrev first_byte : List ℕ → ℕ
+abbrev pub first_byte : List ℕ → ℕ
 first_byte [] = 0
 first_byte (b ∷ bs) = b
 
-abbrev call_at : ℕ → ℕ → Option Call
+abbrev pub call_at : ℕ → ℕ → Option Call
 call_at zero got = Some (Begin plain 3)
 call_at (suc zero) got = Some (Read R U8 0)
 call_at (suc (suc zero)) got = Some (Write W 0 (word (suc got)))
 call_at (suc (suc (suc zero))) got = Some Commit
 call_at (suc (suc (suc (suc n)))) got = None
 
-abbrev answered : Counter → Reply → Counter
+abbrev pub answered : Counter → Reply → Counter
 answered p (Bytes v) = record { step = suc p.step; got = first_byte v.items }
 answered p r = record { step = suc p.step; got = p.got }
 
-abbrev left_at : ℕ → ℕ
+abbrev pub left_at : ℕ → ℕ
 left_at zero = 4
 left_at (suc zero) = 3
 left_at (suc (suc zero)) = 2
 left_at (suc (suc (suc zero))) = 1
 left_at (suc (suc (suc (suc n)))) = 0
 
-abbrev counter_rules : Rules Counter
+abbrev pub counter_rules : Rules Counter
 counter_rules = record {
   next_call = λ p. call_at p.step p.got;
   answered = answered;
@@ -71,12 +71,12 @@ counter_rules = record {
   depth = λ p. 0;
 }
 
-abbrev fresh : Between Counter
+abbrev pub fresh : Between Counter
 fresh = record { player = record { step = 0; got = 0 }; arena = []; again = false; tries = 0 }
 
 -- ## One counter
 
-abbrev counter : Attempt
+abbrev pub counter : Attempt
 counter = record { thread = 0; nth = 1; began = 0; at = 0; props = plain; arena = []; calls = read 0 ∷ write 1 ∷ commit ∷ []; ran = []; outcome = Committed }
 
 counter_memory : memory_after 1 (replicate 8 0) (counter ∷ []) 1 ≡ 1 ∷ replicate 7 0
@@ -87,9 +87,6 @@ counter_is_opaque = record { no_older = omega arith; no_newer = omega arith; beg
 
 counter_run : IsRunOf counter_rules 1 1 (memory_after 1 (replicate 8 0) (counter ∷ [])) (Some fresh) (counter ∷ [])
 counter_run = ((refl, refl, omega arith, counter_is_opaque), tt)
-
-counter_alone : solo counter_rules 1 1 0 fresh.player (replicate 8 0) [] ≡ record { attempts = counter ∷ []; memory = 1 ∷ replicate 7 0; commits = 1; held = false; ending = Finished }
-counter_alone = refl
 
 -- ## The lost update: of two counters the first to begin is the last to commit. Its first try conflicts, and is opaque all the same.
 
@@ -120,17 +117,46 @@ retried_is_opaque = record { no_older = omega arith; no_newer = omega arith; beg
 lost_update_run : IsRunOf counter_rules 1 2 memory (Some fresh) (lost ∷ retried ∷ [])
 lost_update_run = ((refl, refl, omega arith, lost_is_opaque), ((refl, refl, omega arith, retried_is_opaque), tt))
 
+-- the other one ended first. Both first tries began before any commit, and the second one with that commit done, as the lost try ended
+other_dated : IsDated 1 [] other
+other_dated = record { later = omega arith; few = omega arith; after = omega arith; by_now = omega arith; at_once = λ e. refl }
+
+lost_dated : IsDated 1 (other ∷ []) lost
+lost_dated = record { later = omega arith; few = omega arith; after = omega arith; by_now = omega arith; at_once = λ e. refl }
+
+retried_dated : IsDated 1 (other ∷ lost ∷ []) retried
+retried_dated = record { later = omega arith; few = omega arith; after = omega arith; by_now = omega arith; at_once = λ e. refl }
+
+lost_update_dated : AreDated 1 [] (other ∷ lost ∷ retried ∷ [])
+lost_update_dated = (other_dated, (lost_dated, (retried_dated, tt)))
+
+-- it cannot have begun before that
+too_soon : IsDated 1 (other ∷ lost ∷ []) (record retried { began = 0 }) → ⊥
+too_soon d = (let l = d.after in absurd (omega arith))
+
+-- nor later, with one commit more
+too_late : IsDated 1 (other ∷ lost ∷ other ∷ []) (record retried { began = 2 }) → ⊥
+too_late d = (let e = d.at_once refl in absurd (omega arith))
+
+-- but where a try in between left no attempt
+after_a_try : IsDated 2 (other ∷ lost ∷ other ∷ []) (record retried { nth = 3; began = 2 })
+after_a_try = record { later = omega arith; few = omega arith; after = omega arith; by_now = omega arith; at_once = λ e. absurd (omega (arith, e)) }
+
+-- the lost try counts
+not_the_first : IsDated 1 (other ∷ lost ∷ []) (record retried { nth = 1 }) → ⊥
+not_the_first d = (let l = d.later in absurd (omega arith))
+
+-- a commit ends the block, so the next one begins with its first try
+next_block : IsDated 0 (other ∷ []) (record other { began = 1 })
+next_block = record { later = omega arith; few = omega arith; after = omega arith; by_now = omega arith; at_once = λ e. refl }
+
 -- ## Full: the counter's commit is refused, and full is told of nothing before it
 
-abbrev refused : Attempt
+abbrev pub refused : Attempt
 refused = record { thread = 0; nth = 1; began = 0; at = 0; props = plain; arena = []; calls = read 0 ∷ write 1 ∷ []; ran = []; outcome = Full }
 
 refused_is_opaque : IsOpaque counter_rules 1 (record { step = 1; got = 0 }) refused 0 (replicate 8 0)
 refused_is_opaque = record { no_older = omega arith; no_newer = omega arith; beginning = (commit_pair, refl); whole = λ e. absurd (cc); ends = (refl, refl); closed = tt; ran = refl; full = λ f. record { call = Commit; rest = []; answers_are = refl; revocable = refl; takes = refl } }
-
--- the player alone does the same where no writer may commit
-refused_alone : solo counter_rules 1 0 0 fresh.player (replicate 8 0) [] ≡ record { attempts = refused ∷ []; memory = replicate 8 0; commits = 0; held = false; ending = GaveUp }
-refused_alone = refl
 
 -- one that would still write is not full
 abbrev early : Attempt
@@ -148,35 +174,35 @@ too_early o =
 
 -- ## A block that logs a byte of its arena, saves that byte and the next one, writes, and is cancelled with the block in it. The next block begins with the logged byte as it was, and the other one as it was saved.
 
-abbrev plan_rules : Rules Plan
+abbrev pub plan_rules : Rules Plan
 plan_rules = record { next_call = next_call; answered = plans.answered; restarted = restarted; calls_left = calls_left; depth = depth }
 
-abbrev begin : Call
+abbrev pub begin : Call
 begin = Begin plain 3
 
-abbrev two : ℕ → ℕ → List ℕ
+abbrev pub two : ℕ → ℕ → List ℕ
 two a b = a ∷ b ∷ []
 
-abbrev save : Call
+abbrev pub save : Call
 save = Save 0 (record { width = U2; bytes = record { items = two 1 2 }; sized = refl })
 
-abbrev planned : Plan
+abbrev pub planned : Plan
 planned = record { calls = begin ∷ Log U1 0 ∷ begin ∷ save ∷ Write W 0 (word 7) ∷ Abort true ∷ begin ∷ Load U2 0 ∷ Commit ∷ []; at = 0; blocks = None }
 
 -- once the begin before this place is accepted
-abbrev planned_to : ℕ → Plan
+abbrev pub planned_to : ℕ → Plan
 planned_to at = record { calls = planned.calls; at = at; blocks = Some (record { begun = at - 1; within = 0 }) }
 
-abbrev in_block : List Entry
+abbrev pub in_block : List Entry
 in_block = record { call = Log U1 0; reply = Done } ∷ record { call = begin; reply = Code 5 } ∷ record { call = save; reply = Done } ∷ write 7 ∷ []
 
-abbrev cancelled : Attempt
+abbrev pub cancelled : Attempt
 cancelled = record { thread = 0; nth = 1; began = 0; at = 0; props = plain; arena = two 0 0; calls = in_block ++ record { call = Abort true; reply = Code 24 } ∷ []; ran = []; outcome = Cancelled }
 
-abbrev load : Entry
+abbrev pub load : Entry
 load = record { call = Load U2 0; reply = Bytes (record { items = two 0 2 }) }
 
-abbrev next : Attempt
+abbrev pub next : Attempt
 next = record { thread = 0; nth = 1; began = 0; at = 0; props = plain; arena = two 0 2; calls = load ∷ commit ∷ []; ran = []; outcome = ReadOnly }
 
 cancelled_is_opaque : IsOpaque plan_rules 2 (planned_to 1) cancelled 0 (replicate 8 0)
@@ -190,41 +216,6 @@ before_it = record { player = planned; arena = two 0 0; again = false; tries = 0
 
 cancelled_run : IsRunOf plan_rules 2 0 (memory_after 2 (replicate 8 0) (cancelled ∷ next ∷ [])) (Some before_it) (cancelled ∷ next ∷ [])
 cancelled_run = ((refl, refl, omega arith, cancelled_is_opaque), ((refl, refl, omega arith, next_is_opaque), tt))
-
--- the player alone does the same
-cancelled_alone : solo plan_rules 2 1 0 planned (replicate 8 0) (two 0 0) ≡ record { attempts = cancelled ∷ next ∷ []; memory = replicate 8 0; commits = 0; held = false; ending = Finished }
-cancelled_alone = refl
-
--- ## Irrevocable blocks
-
--- a block that writes, goes irrevocable and commits: where no writer may commit it ends before it goes
-abbrev turning : Plan
-turning = record { calls = begin ∷ Write W 0 (word 7) ∷ Mode 0 ∷ Commit ∷ []; at = 0; blocks = None }
-
-abbrev turned : Attempt
-turned = record { thread = 0; nth = 1; began = 0; at = 0; props = plain; arena = []; calls = write 7 ∷ record { call = Mode 0; reply = Done } ∷ commit ∷ []; ran = []; outcome = Committed }
-
-turned_alone : solo plan_rules 2 1 0 turning (replicate 8 0) [] ≡ record { attempts = turned ∷ []; memory = 7 ∷ replicate 7 0; commits = 1; held = false; ending = Finished }
-turned_alone = refl
-
-full_alone : solo plan_rules 2 0 0 turning (replicate 8 0) [] ≡ record { attempts = record turned { calls = write 7 ∷ []; outcome = Full } ∷ []; memory = replicate 8 0; commits = 0; held = false; ending = GaveUp }
-full_alone = refl
-
--- a block that begins irrevocable and is left open: what it wrote stays, and where no writer may commit it does not begin
-abbrev going : Props
-going = record { no_abort = false; no_irrevocable = false; goes_irrevocable = true }
-
-abbrev leaving : Plan
-leaving = record { calls = Begin going 0 ∷ Write W 0 (word 7) ∷ []; at = 0; blocks = None }
-
-abbrev left : Attempt
-left = record { thread = 0; nth = 1; began = 0; at = 0; props = going; arena = []; calls = write 7 ∷ []; ran = []; outcome = Unfinished }
-
-left_alone : solo plan_rules 2 1 0 leaving (replicate 8 0) [] ≡ record { attempts = left ∷ []; memory = 7 ∷ replicate 7 0; commits = 0; held = true; ending = Finished }
-left_alone = refl
-
-shut_out_alone : solo plan_rules 2 0 0 leaving (replicate 8 0) [] ≡ record { attempts = []; memory = replicate 8 0; commits = 0; held = false; ending = GaveUp }
-shut_out_alone = refl
 
 -- what ended by a commit was not cancelled
 not_cancelled : ByAbort (commit ∷ []) → ⊥

@@ -10,7 +10,7 @@ use Rattle.norec_core.specs.Stands.{state_in}
 use Rattle.norec_core.specs.Proceeds.{actions_after, blocks_after}
 use Rattle.user_actions.specs.Actions.{Actions}
 use Rattle.norec_core.proofs.AnsweredEngines.{told_plainly}
-use Rattle.norec_world.proofs.Solos.{alone_snoc, player_snoc, state_snoc, stands_open}
+use Rattle.norec_world.proofs.AloneCalls.{alone_snoc, player_snoc, state_snoc, stands_open}
 
 -- a memory that may have been read may have been read before too
 reads_less : (position : List ℕ) (b c : Bool) (log log' : List LogRow) (m : List ℕ) → b ≡ c → (b ≡ false → Agrees m log' → Agrees m log) → ReadsFrom b position log' m → ReadsFrom c position log m

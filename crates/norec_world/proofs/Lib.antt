@@ -1,6 +1,6 @@
 pub mod Common
-mod Plan
-mod Examples
+pub mod Plan
+pub mod Examples
 pub mod WordLists
 pub mod ActiveRows
 pub mod OthersAttempts
@@ -37,10 +37,6 @@ pub mod LessLeft
 pub mod Worked
 pub mod Worlds
 pub mod WorldEvents
-pub mod TakingCalls
-pub mod Solos
-pub mod SoleRuns
-pub mod SoleEvents
-pub mod IdleEngines
-pub mod ShownAlone
+pub mod AloneCalls
 pub mod EventWorlds
+pub mod Dates

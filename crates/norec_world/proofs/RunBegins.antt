@@ -12,7 +12,7 @@ use Rattle.itm_types.specs.declared.call.Call.TheVariants.{Load, Save}
 use Rattle.norec_world.specs.Records.{again_after}
 use Rattle.norec_world.proofs.ActiveRows.{opened_here}
 use Rattle.norec_world.proofs.RunAnswers.{now_at, run_same}
-use Rattle.norec_world.proofs.Solos.{comes_past}
+use Rattle.norec_world.proofs.AloneCalls.{comes_past}
 use Rattle.norec_world.proofs.TryEnds.{none_pending, begin_call, next_try, begun_or_not, plain_reply}
 use Rattle.norec_world.proofs.Seen.{HasSeen, memory_at, same_at}
 use Rattle.norec_world.proofs.Taken.{HasAnswered, half_same, still_going}
@@ -30,7 +30,7 @@ module _ {P : Type 0} (rules : Rules P) (laws : Obeys rules) where
   -- such a call, where it begins no block, leads on
   past_outside : (p : P) (arena : List ℕ) (c : Call) → rules.next_call p ≡ Some c → stays_outside MAX_OPEN_BLOCKS arena c ≡ true
       → comes_to p arena ≡ comes_to (told_outside p arena c) (after MAX_OPEN_BLOCKS (outside [] arena) c).arena
-  past_outside p arena c e nb = comes_past rules laws MAX_OPEN_BLOCKS 0 0 (rules.calls_left p) (record { player = p; arena = arena; memory = []; commits = 0 }) c e nb (omega arith)
+  past_outside p arena c e nb = comes_past rules laws MAX_OPEN_BLOCKS (rules.calls_left p) p arena c e nb (omega arith)
 
   -- a begin that the player calls is where it comes to
   pub begin_here : (p : P) (arena : List ℕ) (props : Props) (room : ℕ) → rules.next_call p ≡ Some (Begin props room) → may_go [] props ≡ true → comes_to p arena ≡ Some (record { player = p; arena = arena; props = props })

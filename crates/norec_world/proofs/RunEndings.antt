@@ -17,7 +17,7 @@ use Rattle.norec_world.proofs.Cancels.{cancelled, cancels}
 use Rattle.norec_world.proofs.HeldCalls.{CommitsTo, HasHeld, commit_reply, commits_kept, commits_over, stands_actions, stands_arena, stands_mode, wants_taking}
 use Rattle.norec_world.proofs.RunAnswers.{RunOf, ended_run, now_at, position_bytes, position_fits}
 use Rattle.norec_world.proofs.Seen.{HasSeen, memory_at, same_at}
-use Rattle.norec_world.proofs.Solos.{player_snoc, stands_open}
+use Rattle.norec_world.proofs.AloneCalls.{player_snoc, stands_open}
 use Rattle.norec_world.proofs.Taken.{HasAnswered}
 use Rattle.norec_world.proofs.TryEnds.{none_pending, none_retried, next_try, plain_reply}
 use Rattle.norec_world.proofs.TryOutcomes.{IsMadeAlone, alone_led, closing_left, lacks_clock, made_held, made_so, stands_led, try_closes, try_stops}

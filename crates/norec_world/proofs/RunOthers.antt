@@ -1,15 +1,18 @@
 -- The actors' runs: one's event leaves the others', and together they are the headline.
 use Rattle.std.proofs.Common.{◌≡◌, ◌≢◌, inl, inr, ℕ, ◌+◌, ◌/◌, ◌%◌, ◌<◌, ◌≤◌, ◌==◌, Bool, true, false, List, [], ◌∷◌, ◌++◌, length, length-set, replicate, None, Some, slice_get, slice_set, refl, sym, ap, subst, ◌∙◌, arith, eqb-true, nat_lt}
-use Rattle.norec_world.proofs.Common.{Actor, Agrees, AllFit, AllOf, AreActors, AreFrom, AreLaid, AreOfActors, AreOpaque, AreOpen, AreRunning, Attempt, Between, Cells, ChangesOwn, ClocksOn, Core, Got, HasRead, HasRow, IsHeld, IsMemory, IsRunOf, IsTied, IsTryAt, IsWorld, KeepsOthers, MAX_OPEN_BLOCKS, Obeys, Ready, Rows, Rules, RunsFrom, StandsIn, State, World, active_of, alone, append-nil, attempts_of, backed, begins_at, bytes_at, bytes_of, cases_Bool, count_at, count_committed, first_of, in_transaction, is_open, le-ltb, ne_eqb, of_thread, one_where, opened, opening, run_after, same_Some, state_then, words_at, words_of, write_at, slice_get_within}
+use Rattle.norec_world.proofs.Common.{Actor, Agrees, AllFit, AllOf, AreActors, AreFrom, AreLaid, AreOfActors, AreOpaque, AreOpen, AreRunning, AreTied, Attempt, Between, Cells, ChangesOwn, ClocksOn, Core, Got, HasRead, HasRow, IsHeld, IsMemory, IsRunOf, IsTied, IsTryAt, IsWorld, KeepsOthers, MAX_OPEN_BLOCKS, Obeys, Ready, Rows, Rules, RunsFrom, StandsIn, State, World, active_of, alone, append-nil, attempts_of, backed, observed, begins_at, bytes_at, bytes_of, cases_Bool, count_at, count_committed, first_of, in_transaction, is_open, le-ltb, ne_eqb, of_thread, one_where, opened, opening, run_after, same_Some, state_then, words_at, words_of, write_at, slice_get_within}
 use Rattle.tx_attempts.specs.declared.attempt.Outcome.TheVariants as outcomes
 use Rattle.norec_world.proofs.WordLists.{words_of-bytes_of}
 use Rattle.norec_world.specs.Runs.{StillRuns}
+use Rattle.norec_world.specs.Dates.{AreDated}
+use Rattle.norec_world.proofs.Dates.{all_dated}
 use Rattle.norec_world.proofs.SoundOthers.{first_found, set_place, there_is, are_open, held_apart, odd_held, row_unfinished, row_open}
 use Rattle.norec_world.proofs.InTries.{try_moved}
 use Rattle.norec_world.proofs.TryOutcomes.{IsMadeAlone, alone_led, made_held, made_so, stands_led, try_stops}
 use Rattle.norec_world.proofs.HeldCalls.{stands_actions, stands_mode}
 use Rattle.itm_types.proofs.Words.{length-bytes_of}
 use Rattle.user_actions.specs.Actions.{Actions}
+use Rattle.norec_world.proofs.CommitCounts.{counted_both}
 use Rattle.norec_world.proofs.Memories.{bytes_still, bytes_stay}
 use Rattle.norec_world.proofs.RunLists.{of_thread_more, run_still, run_more}
 use Rattle.norec_world.proofs.ActiveRows.{past_all}
@@ -244,25 +247,33 @@ module _ {P : Type 0} (rules : Rules P) (laws : Obeys rules) where
         let half : a.engine.snapshot / 2 ≡ w.cells.clock / 2 = omega (arith, tied.holder h, holder.1, tied.settled.even) in
         (t.1, ap (λ (k : ℕ). active_of k w.attempts.active) (sym own.thread) ∙ t.3, x.reads holder.0 t.1 t.3 ∙ half)
 
-    pub are_opaque : AreOpaque rules w
-    are_opaque = record {
+    pub are_opaque : AreDated w.retries [] (attempts_of w) → AreOpaque rules (observed w)
+    are_opaque dated = record {
       runs = λ place p e. (let here = there_is w.actors place (omega (arith, long, slice_get_within w.opening place p e)) in of_actor place p here.0 e here.1);
+      threads = subst (λ (n : ℕ). AreOfActors n (attempts_of w)) long (of_actors_both (length w.actors) w.attempts.ended w.attempts.active running.threads (of_actors_active (length w.actors) w.attempts.active sound.listed));
+      counted = counted_both w.cells.clock w.attempts.ended w.attempts.active open_rows.unfinished running.laid.counted;
+      dated = dated;
+      size = omega (arith, length-bytes_of w.cells.words, length-bytes_of (words_of w.base), (running.laid.memories.fits 0 (omega arith)).0, ap (length {A = ℕ}) (running.laid.memories.same 0 (omega arith)));
+      free = λ even.
+          (let top : w.cells.clock / 2 ≤ w.cells.clock / 2 = omega arith in
+          ap bytes_of (running.laid.free even) ∙ (running.laid.memories.same (w.cells.clock / 2) top ∙ sym (shown_still (w.cells.clock / 2) top)));
+    }
+
+    pub are_tied : AreTied rules w
+    are_tied = record {
       players = λ place p a e f. (running.each place p a e f).runs;
-      threads = of_actors_both (length w.actors) w.attempts.ended w.attempts.active running.threads (of_actors_active (length w.actors) w.attempts.active sound.listed);
       reads = λ place a row e some.
           (let here = there_is w.opening place (omega (arith, long, slice_get_within w.actors place a e)) in
           let own = sound.each place a e in
           let mine : active_of a.thread w.attempts.active ≡ Some row = ap (λ (t : ℕ). active_of t w.attempts.active) own.thread ∙ some in
           (running.each place here.0 a here.1 e).reads (row_open (in_transaction a.engine) w.attempts a.thread row own.sound.kept.row mine) row mine);
       each = long;
+      threads = λ place a e. (sound.each place a e).thread;
+      rows = λ place a e. subst (HasRow (in_transaction a.engine) w.attempts) (sound.each place a e).thread (sound.each place a e).sound.kept.row;
       open_rows = open_rows;
       modes = mode_of;
       irrevocable = λ place a e i. ((sound.each place a e).sound.tied.settled.irrevocable i).0;
       holder = held_row;
-      size = omega (arith, length-bytes_of w.cells.words, length-bytes_of (words_of w.base), (running.laid.memories.fits 0 (omega arith)).0, ap (length {A = ℕ}) (running.laid.memories.same 0 (omega arith)));
-      free = λ even.
-          (let top : w.cells.clock / 2 ≤ w.cells.clock / 2 = omega arith in
-          ap bytes_of (running.laid.free even) ∙ (running.laid.memories.same (w.cells.clock / 2) top ∙ sym (shown_still (w.cells.clock / 2) top)));
       held = λ place a e h r.
           (let l = slice_get_within w.actors place a e in
           let top : w.cells.clock / 2 ≤ w.cells.clock / 2 = omega arith in
@@ -276,8 +287,11 @@ module _ {P : Type 0} (rules : Rules P) (laws : Obeys rules) where
           subst (λ (bytes : List ℕ). StandsIn a.engine.waits a.engine.doing a.engine w.cells.words (alone MAX_OPEN_BLOCKS bytes row)) (sym (shown_still (w.cells.clock / 2) top)) ((running.each place here.0 a here.1 e).held i row mine).stands);
     }
 
-  pub world_opaque : (w : World P) → IsWorld rules w → AreOpaque rules w
-  world_opaque w kept = are_opaque w kept.actors (are_open rules w.cells w.attempts w.actors kept.actors kept.running.ordered) kept.long kept.running
+  pub world_opaque : (w : World P) → IsWorld rules w → AreOpaque rules (observed w)
+  world_opaque w kept = are_opaque w kept.actors (are_open rules w.cells w.attempts w.actors kept.actors kept.running.ordered) kept.long kept.running (all_dated w kept.actors kept.running.ordered kept.dated)
+
+  pub world_tied : (w : World P) → IsWorld rules w → AreTied rules w
+  world_tied w kept = are_tied w kept.actors (are_open rules w.cells w.attempts w.actors kept.actors kept.running.ordered) kept.long kept.running
 
   -- ## An actor's work in a world
 

@@ -10,7 +10,7 @@ use Rattle.norec_world.proofs.RunEndings.{cancel_runs, commit_ended, commit_memo
 use Rattle.norec_world.proofs.HeldCalls.{HasHeld, stands_actions, stands_mode}
 use Rattle.norec_world.proofs.TryOutcomes.{alone_led, stands_led}
 use Rattle.norec_world.proofs.ActiveRows.{changed_here}
-use Rattle.norec_world.proofs.Solos.{stands_open, state_snoc}
+use Rattle.norec_world.proofs.AloneCalls.{stands_open, state_snoc}
 use Rattle.user_actions.specs.Actions.{Actions}
 use Rattle.norec_world.proofs.RunBegins.{begin_holds, shut_runs}
 use Rattle.norec_world.proofs.Seen.{HasSeen}

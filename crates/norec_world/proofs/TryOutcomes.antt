@@ -5,7 +5,7 @@ use Rattle.itm_types.specs.declared.call.Ran.{Ran}
 use Rattle.norec_world.specs.Opacity.{ran_of}
 use Rattle.tx_attempts.specs.declared.attempt.Outcome.TheVariants as outcomes
 use Rattle.norec_world.proofs.InTries.{agree_reads, alone_more}
-use Rattle.norec_world.proofs.Solos.{begins_alone, state_snoc, stands_open, gets_none}
+use Rattle.norec_world.proofs.AloneCalls.{begins_alone, state_snoc, stands_open, gets_none}
 use Rattle.norec_world.proofs.TryEnds.{not_closed}
 
 -- over these bytes its calls are made alone, and lead to an open block
@@ -23,7 +23,7 @@ module _ {P : Type 0} {rules : Rules P} (laws : Obeys rules) where
       ∙ (ap (λ (rest : List (Call × Replied)). map pair_of xs ++ rest) (no_more (rules.calls_left p) (player_then rules.answered p xs) (state_then MAX_OPEN_BLOCKS s xs) shut) ∙ append-nil (map pair_of xs))
     where
       no_more : (k : ℕ) (q : P) (s : State) → is_open s ≡ false → answers_within rules.next_call rules.answered rules.calls_left MAX_OPEN_BLOCKS k q s (turn rules.next_call rules.answered rules.calls_left q s) ≡ []
-      no_more k q s shut = ap (λ (o : Bool). answers_within rules.next_call rules.answered rules.calls_left MAX_OPEN_BLOCKS k q s (if o then rules.next_call q else None)) shut ∙ gets_none rules laws MAX_OPEN_BLOCKS 0 0 k q s
+      no_more k q s shut = ap (λ (o : Bool). answers_within rules.next_call rules.answered rules.calls_left MAX_OPEN_BLOCKS k q s (if o then rules.next_call q else None)) shut ∙ gets_none rules laws MAX_OPEN_BLOCKS k q s
 
   -- its calls are the first of those that its player makes alone on the memory of its position, and all of them where its block has ended
   pub is_try : (n : ℕ) (memory : ℕ → List ℕ) (b : Between P) (start : Beginning P) (row : Attempt) → row.arena ≡ start.arena → row.props ≡ start.props → b.tries < row.nth → row.began ≤ row.at → row.at ≤ n

@@ -2,7 +2,7 @@
 use Rattle.std.proofs.Common.{inl, inr, ◌≡◌, ◌↔◌, ◌≤◌, zero, suc, ℕ, ◌+◌, ◌<◌, Bool, true, false, cond, length, take, get_or, arith, List, [], ◌∷◌, ◌++◌, count_by, IsTrue, Option, None, Some, Result, Ok, Err, IsSome, refl, sym, ap, subst, ◌∙◌, slice_get, min, if◌then◌else◌}
 use Rattle.std.proofs.lemmas.List.{take_more}
 use Rattle.std.proofs.lemmas.List.Sums.{sum_by-append}
-use Rattle.norec_world.proofs.Common.{Actor, ActorGoes, AreActors, AreOpaque, CommitsInOrder, End, Finished, Goes, HasLess, IsLawful, IsNoMore, Leads, Passes, Rules, SameOpening, ShowsAlone, Status, Step, Takes, Waits, World, WorldFault, cells_after, counted, ending_at, ending_of, in_transaction, is_ready, is_waiting, option_and_then, passes_of, run_left, steps_left, told, waiting_step, waits_at, whole, slice_get_within, cases_lt}
+use Rattle.norec_world.proofs.Common.{Actor, ActorGoes, AreActors, AreOpaque, AreTied, CommitsInOrder, End, Finished, Goes, HasLess, IsLawful, IsNoMore, Leads, Passes, Rules, SameOpening, Status, Step, Takes, Waits, World, WorldFault, cells_after, counted, ending_at, ending_of, in_transaction, observed, is_ready, is_waiting, option_and_then, passes_of, run_left, steps_left, told, waiting_step, waits_at, whole, slice_get_within, cases_lt}
 use Rattle.norec_world.specs.declared.fault.WorldFault.TheVariants as faults
 use Rattle.norec_world.specs.World.{is_event}
 use Rattle.std.specs.Option.{option_map, option_map_or}
@@ -28,7 +28,7 @@ module _ {P : Type 0} (rules : Rules P) (old new : World P) (actor : ℕ) (waits
     (lawful : (a : Actor P) (step : Step) → slice_get old.actors actor ≡ Some a → waiting_step a.status ≡ Some step → IsLawful a.engine step)
     (operation : (step : Step) → waits_at old actor ≡ Some step → new.cells ≡ cells_after old.cells step) (counts : new.events ≡ counted old.events 1)
     (event_of : (a : Actor P) → slice_get old.actors actor ≡ Some a → ActorGoes rules actor old a new)
-    (commits : CommitsInOrder new) (opaque : AreOpaque rules new) (same : SameOpening old new) (long : length new.actors ≡ length old.actors) (alone : ShowsAlone rules new) where
+    (commits : CommitsInOrder new) (opaque : AreOpaque rules (observed new)) (tied : AreTied rules new) (same : SameOpening old new) (long : length new.actors ≡ length old.actors) where
   no_fault : {A : Type 0} {fault : WorldFault} → told (ending_at new actor) ≡ Err fault → is_event (Err fault) ≡ false → A
   no_fault e none = absurd (let u = subst (λ (r : Result (Unit {0}) WorldFault). IsTrue (is_event r)) e (told_event (ending_at new actor)) in cc)
 
@@ -45,9 +45,9 @@ module _ {P : Type 0} (rules : Rules P) (old new : World P) (actor : ℕ) (waits
     event_of = λ a here taken. event_of a here;
     commits = commits;
     opaque = opaque;
+    tied = tied;
     opening = same;
     actors = long;
-    alone = alone;
   }
 
 -- ## Where the actor waits for no operation
@@ -67,8 +67,8 @@ waits_none : (s : Status) → is_waiting s ≡ false → waiting_step s ≡ None
 waits_none (Waits call step) e = absurd (cc)
 waits_none s e = refl
 
-module _ {P : Type 0} (rules : Rules P) (w : World P) (i : ℕ) (alone : ShowsAlone rules w)
-    (commits : CommitsInOrder w) (opaque : AreOpaque rules w) where
+module _ {P : Type 0} (rules : Rules P) (w : World P) (i : ℕ)
+    (commits : CommitsInOrder w) (opaque : AreOpaque rules (observed w)) (tied : AreTied rules w) where
   nothing_done : (result : Result (Unit {0}) WorldFault) → is_event result ≡ false → waits_at w i ≡ None
       → ((result ≡ Err faults.NoSuchActor) ↔ (length w.actors ≤ i)) → ((result ≡ Err faults.Ended) ↔ IsSome (ending_at w i)) → Goes rules i w result w
   nothing_done result none still no_such ended = record {
@@ -83,9 +83,9 @@ module _ {P : Type 0} (rules : Rules P) (w : World P) (i : ℕ) (alone : ShowsAl
     event_of = λ x is e. absurd (cc);
     commits = commits;
     opaque = opaque;
+    tied = tied;
     opening = record { opening = refl; base = refl; arena = refl; patience = refl; max_commits = refl; retries = refl };
     actors = refl;
-    alone = alone;
   }
 
   pub goes_nowhere : slice_get w.actors i ≡ None → Goes rules i w (Err faults.NoSuchActor) w

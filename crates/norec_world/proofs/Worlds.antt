@@ -46,3 +46,6 @@ pub waits_there : {P : Type 0} (w : World P) (actor : ℕ) → IsSome (waits_at 
 waits_there {P} w actor some =
     let here = there_is w.actors actor (within_some (λ (a : Actor P). waiting_step a.status) w.actors actor some) in
     (here.0, here.1, waiting_some here.0.status (subst IsSome (ap (option_and_then (λ (a : Actor P). waiting_step a.status)) here.1) some))
+
+pub waiting_there : {P : Type 0} (w : World P) (actor : ℕ) (a : Actor P) → slice_get w.actors actor ≡ Some a → IsSome (waits_at w actor) → is_waiting a.status ≡ true
+waiting_there {P} w actor a here some = waiting_some a.status (subst IsSome (ap (option_and_then (λ (x : Actor P). waiting_step x.status)) here) some)

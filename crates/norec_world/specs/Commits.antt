@@ -1,15 +1,9 @@
 -- The commits of a world, as its attempts and its clock count them.
-use Rattle.std.specs.Prelude.{◌≡◌, ℕ, ◌*◌, ◌/◌, ◌%◌, ◌≤◌, true, false, nat_lt, List, Some, slice_get}
-use Rattle.tx_attempts.specs.declared.attempt.Attempt.{Attempt}
+use Rattle.std.specs.Prelude.{◌≡◌, ℕ, ◌*◌, ◌%◌, ◌≤◌, true, false, Some, slice_get}
 use Rattle.norec_world.specs.declared.actor.Actor.{Actor}
-use Rattle.tx_attempts.specs.Counts.{one_where, count_at, count_committed}
+use Rattle.norec_world.specs.Headline.{AreCounted}
 use Rattle.norec_world.specs.Rows.{AreEnded}
 use Rattle.norec_world.specs.World.{World}
-
--- as many committed as half the clock says, each position below that once
-pub record AreCounted (clock : ℕ) (attempts : List Attempt) : Type 0 where
-  pub all : count_committed attempts ≡ clock / 2
-  pub each : (position : ℕ) → count_at position attempts ≡ one_where (nat_lt position (clock / 2))
 
 -- an actor has the limits of its world
 pub record HasLimits {P : Type 0} (w : World P) (a : Actor P) : Type 0 where

@@ -1,15 +1,33 @@
 -- What is true of a world between two events. No contract above cites it.
-use Rattle.std.specs.Prelude.{◌≡◌, ℕ, length, Some, slice_get}
+use Rattle.std.specs.Prelude.{◌≡◌, ℕ, [], length, None, Some, slice_get}
+use Rattle.tx_attempts.specs.declared.attempt.Attempt.{Attempt}
 use Rattle.norec_world.specs.declared.actor.Actor.{Actor}
-use Rattle.norec_world.specs.Rows.{AreFrom, AreOfActors}
+use Rattle.norec_world.specs.Rows.{Rows, AreFrom, active_of}
+use Rattle.norec_world.specs.Status.{ending_of}
+use Rattle.norec_world.specs.Dates.{IsDated, AreDated}
 use Rattle.norec_world.specs.Actors.{AreActors}
 use Rattle.norec_world.specs.Commits.{CommitsInOrder}
 use Rattle.norec_world.specs.LogAgreement.{AreLaid}
 use Rattle.norec_world.specs.Runs.{RunsFrom}
-use Rattle.norec_world.specs.Opaque.{first_of}
-use Rattle.norec_world.specs.Sole.{IsSole}
+use Rattle.norec_world.specs.Headline.{AreOfActors, first_of}
 use Rattle.norec_world.specs.World.{World}
 use Rattle.tx_player.specs.Rules.{Rules}
+
+-- the attempt is the actor's present try, and comes next after those that have ended
+pub record IsTry {P : Type 0} (retries : ℕ) (r : Rows) (a : Actor P) (row : Attempt) : Type 0 where
+  pub thread : row.thread ≡ a.thread
+  pub nth : row.nth ≡ a.nth
+  pub dated : IsDated retries r.ended row
+
+-- so is the actor's open one, or the one that is to be opened
+pub record IsDatedActor {P : Type 0} (retries : ℕ) (r : Rows) (a : Actor P) : Type 0 where
+  pub opened : (row : Attempt) → active_of a.thread r.active ≡ Some row → IsTry retries r a row
+  pub next : active_of a.thread r.active ≡ None → ending_of a.status ≡ None → (row : Attempt) → a.pending ≡ Some row → IsTry retries r a row
+
+-- each attempt comes next after those that ended before it
+pub record IsDatedWorld {P : Type 0} (w : World P) : Type 0 where
+  pub ended : AreDated w.retries [] w.attempts.ended
+  pub each : (place : ℕ) (a : Actor P) → slice_get w.actors place ≡ Some a → IsDatedActor w.retries w.attempts a
 
 module _ {P : Type 0} (rules : Rules P) where
   -- the headline, with what the actors have not recorded yet
@@ -22,6 +40,6 @@ module _ {P : Type 0} (rules : Rules P) where
   pub record IsWorld (w : World P) : Type 0 where
     pub actors : AreActors rules w.cells w.attempts w.actors
     pub long : length w.actors ≡ length w.opening
-    pub sole : length w.opening ≡ 1 → (p : P) (a : Actor P) → slice_get w.opening 0 ≡ Some p → slice_get w.actors 0 ≡ Some a → IsSole rules w.max_commits w.base (first_of p w.arena) w.cells.clock w.attempts a  -- where there is one actor
     pub commits : CommitsInOrder w
     pub running : AreRunning w
+    pub dated : IsDatedWorld w

@@ -11,11 +11,8 @@ pub mod ClockHolder
 pub mod Status
 pub mod Sound
 pub mod Alone
-pub mod Solo
 pub mod Records
 pub mod LocalWork
-pub mod SoFar
-pub mod Sole
 pub mod World
 pub mod Commits
 pub mod WorldEvents
@@ -23,7 +20,9 @@ pub mod Memories
 pub mod HeldAttempts
 pub mod LogAgreement
 pub mod Runs
-pub mod Opaque
+pub mod Dates
+pub mod Headline
+pub mod Tied
 pub mod Moments
 pub mod Invariant
 pub mod Views

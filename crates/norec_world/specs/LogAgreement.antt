@@ -6,7 +6,7 @@ use Rattle.norec_core.specs.Proceeds.{backed, Got}
 use Rattle.norec_core.specs.Rows.{write_at}
 use Rattle.norec_world.specs.Cells.{Cells}
 use Rattle.norec_world.specs.Rows.{Rows}
-use Rattle.norec_world.specs.Commits.{AreCounted}
+use Rattle.norec_world.specs.Headline.{AreCounted}
 use Rattle.norec_world.specs.Memories.{AreMemories, words_at}
 
 -- what it loaded since its last look at the clock is of the last memory, if the clock is still the same; as a write set is stored, the words are that memory with the rows that the holder has stored

@@ -1,16 +1,11 @@
 -- The memories that the commits left, as words.
 use Rattle.std.specs.Prelude.{◌≡◌, ℕ, ◌≤◌, List}
-use Rattle.itm_types.specs.declared.limits.TheConstants.{MAX_OPEN_BLOCKS}
 use Rattle.itm_types.specs.Memory.{bytes_of, IsMemory}
 use Rattle.tx_attempts.specs.declared.attempt.Attempt.{Attempt}
-use Rattle.tx_attempts.specs.Attempts.{memory_after}
+use Rattle.norec_world.specs.Headline.{bytes_at}
 use Rattle.norec_world.specs.Cells.{words_of}
 
--- the bytes that the first commits left
-abbrev pub bytes_at : List ℕ → List Attempt → ℕ → List ℕ
-bytes_at base attempts k = memory_after MAX_OPEN_BLOCKS base attempts k
-
--- and their words
+-- the words of the bytes that the first commits left
 abbrev pub words_at : List ℕ → List Attempt → ℕ → List ℕ
 words_at base attempts k = words_of (bytes_at base attempts k)
 

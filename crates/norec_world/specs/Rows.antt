@@ -1,5 +1,5 @@
 -- The rows of attempts: those that have ended, and the open ones.
-use Rattle.std.specs.Prelude.{◌≡◌, ℕ, ◌+◌, ◌-◌, ◌<◌, ◌≤◌, ◌==◌, Bool, nat_lt, if◌then◌else◌, List, [], ◌∷◌, ◌++◌, take, drop, find, Option, vec_len, vec_capacity}
+use Rattle.std.specs.Prelude.{◌≡◌, ℕ, ◌+◌, ◌-◌, ◌≤◌, ◌==◌, Bool, nat_lt, if◌then◌else◌, List, [], ◌∷◌, ◌++◌, take, drop, find, Option, vec_len, vec_capacity}
 use Rattle.tx_attempts.specs.declared.attempt.Attempt.{Attempt}
 use Rattle.tx_attempts.specs.declared.attempt.Outcome.TheVariants.{Unfinished}
 use Rattle.norec_world.specs.declared.recorded.Recorded.TheInside.{Inside}
@@ -45,11 +45,6 @@ with_opened a r = record r { active = with_one (λ b. nat_lt a.thread b.thread) 
 -- with the actor's open one ended, as this
 abbrev pub with_ended : ℕ → Attempt → Rows → Rows
 with_ended thread a r = record r { ended = r.ended ++ a ∷ []; active = without (is_of thread) r.active }
-
--- each is of one of so many actors
-abbrev pub AreOfActors : ℕ → List Attempt → Type 0
-AreOfActors actors [] = Unit {0}
-AreOfActors actors (a ∷ rest) = (a.thread < actors) × AreOfActors actors rest
 
 -- each is of an actor before that of the next ones
 abbrev pub AreFrom : ℕ → List Attempt → Type 0

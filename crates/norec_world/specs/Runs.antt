@@ -16,7 +16,8 @@ use Rattle.norec_world.specs.Opacity.{Beginning, Between, begin_code, begin_of, 
 use Rattle.norec_world.specs.Cells.{Cells}
 use Rattle.norec_world.specs.Rows.{Rows, active_of}
 use Rattle.norec_world.specs.Status.{ending_of}
-use Rattle.norec_world.specs.Memories.{bytes_at, words_at}
+use Rattle.norec_world.specs.Headline.{bytes_at}
+use Rattle.norec_world.specs.Memories.{words_at}
 use Rattle.norec_world.specs.LogAgreement.{Sees, AreLaid}
 use Rattle.norec_world.specs.HeldAttempts.{IsHeld}
 use Rattle.tx_player.specs.Rules.{Rules}

@@ -45,6 +45,7 @@ AreStarted {P} rules w = (place : ℕ) (p : P) (a : Actor P) → slice_get w.ope
 -- a world before its first event, to which no memory was refused
 pub record IsNew {P : Type 0} (rules : Rules P) (w : World P) : Type 0 where
   pub starts : AreStarted rules w
+  pub first : (place : ℕ) (a : Actor P) → slice_get w.actors place ≡ Some a → IsFirst w.cells.clock w.patience w.max_commits w.retries w.attempts a
   pub clock : w.cells.clock ≡ 0
   pub words : w.cells.words ≡ words_of w.base
   pub none : attempts_of w ≡ []

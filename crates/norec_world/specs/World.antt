@@ -1,10 +1,9 @@
 -- What contracts see of a world.
-use Rattle.std.specs.Prelude.{◌≡◌, ℕ, ◌+◌, ◌-◌, ◌^◌, min, Bool, true, false, List, [], ◌∷◌, length, Option, None, Some, Result, Ok, Err, slice_get, replicate, ◌/◌, ◌%◌}
+use Rattle.std.specs.Prelude.{◌≡◌, ℕ, ◌+◌, ◌-◌, ◌^◌, min, Bool, true, false, List, Option, None, Some, Result, Ok, Err, slice_get}
 use Rattle.std.specs.Option.{option_and_then}
 use Rattle.itm_types.specs.declared.step.Step.{Step}
 use Rattle.itm_types.specs.Memory.{bytes_of}
 use Rattle.tx_attempts.specs.declared.attempt.Attempt.{Attempt}
-use Rattle.tx_attempts.specs.declared.attempt.Outcome.TheVariants.{Unfinished}
 use Rattle.norec_world.specs.declared.ending.End.{End}
 use Rattle.norec_world.specs.declared.ending.End.TheVariants.{Finished, GaveUp, NoMemory}
 use Rattle.norec_world.specs.declared.fault.WorldFault.{WorldFault}
@@ -13,8 +12,7 @@ use Rattle.norec_world.specs.Rows.{Rows, all_of}
 use Rattle.norec_world.specs.declared.actor.Actor.{Actor}
 use Rattle.norec_world.specs.Cells.{Cells}
 use Rattle.norec_world.specs.Status.{ending_of, waiting_step}
-use Rattle.norec_world.specs.SoFar.{IsSoFar, HasEnded}
-use Rattle.tx_player.specs.Rules.{Rules}
+use Rattle.norec_world.specs.Headline.{Observed}
 
 pub record World (P : Type 0) : Type 0 where
   pub opening : List P  -- the players as they were handed in
@@ -49,6 +47,10 @@ attempts_of w = all_of w.attempts
 abbrev pub memory_of : {P : Type 0} → World P → List ℕ
 memory_of w = bytes_of w.cells.words
 
+-- what is seen of it from outside
+abbrev pub observed : {P : Type 0} → World P → Observed P
+observed w = record { players = w.opening; base = w.base; arena = w.arena; retries = w.retries; attempts = attempts_of w; clock = w.cells.clock; bytes = memory_of w }
+
 -- how one of these actors ended
 abbrev pub ending_in : {P : Type 0} → List (Actor P) → ℕ → Option End
 ending_in actors actor = option_and_then (λ a. ending_of a.status) (slice_get actors actor)
@@ -74,14 +76,3 @@ is_event (Err faults.NoMemory) = true
 -- the operation that comes next from the actor
 abbrev pub waits_at : {P : Type 0} → World P → ℕ → Option Step
 waits_at w actor = option_and_then (λ a. waiting_step a.status) (slice_get w.actors actor)
-
-module _ {P : Type 0} (rules : Rules P) where
-  -- What its player has done alone: a beginning before its end, where the memory is told only of an even clock; all of it at its end, or a beginning where memory was refused.
-  abbrev pub DoneBy : World P → P → Option End → Type 0
-  DoneBy w p None = (memory : List ℕ) × IsSoFar rules w.max_commits 0 p w.base (replicate w.arena 0) (w.cells.clock / 2) memory Unfinished (attempts_of w)
-      × (w.cells.clock % 2 ≡ 0 → memory_of w ≡ memory)
-  DoneBy w p (Some end) = HasEnded rules w.max_commits 0 p w.base (replicate w.arena 0) w.cells (attempts_of w) end
-
-  -- where there is one player, the world so far shows what that one has done alone
-  abbrev pub ShowsAlone : World P → Type 0
-  ShowsAlone w = length w.opening ≡ 1 → (p : P) × (w.opening ≡ p ∷ []) × DoneBy w p (ending_at w 0)

@@ -12,10 +12,11 @@ use Rattle.norec_world.specs.Cells.{cells_after}
 use Rattle.norec_world.specs.Status.{waiting_step, is_ready}
 use Rattle.norec_world.specs.Events.{IsEvent}
 use Rattle.norec_world.specs.Commits.{CommitsInOrder}
-use Rattle.norec_world.specs.Opaque.{AreOpaque}
+use Rattle.norec_world.specs.Headline.{AreOpaque}
+use Rattle.norec_world.specs.Tied.{AreTied}
 use Rattle.norec_world.specs.Rows.{Rows}
 use Rattle.norec_world.specs.Memories.{words_at}
-use Rattle.norec_world.specs.World.{World, SameOpening, ShowsAlone, ending_at, waits_at, told, is_event, counted}
+use Rattle.norec_world.specs.World.{World, observed, SameOpening, ending_at, waits_at, told, is_event, counted}
 use Rattle.tx_player.specs.Rules.{Rules}
 
 -- what a transaction has read is of one memory, which the first commits left
@@ -41,10 +42,10 @@ module _ {P : Type 0} (rules : Rules P) where
     -- its actor alone has changed, by this event, and waits for its next operation or has ended
     pub event_of : (a : Actor P) → slice_get old.actors actor ≡ Some a → IsTrue (is_event result) → ActorGoes actor old a new
     pub commits : CommitsInOrder new  -- the commits are in order
-    pub opaque : AreOpaque rules new  -- and the attempts opaque
+    pub opaque : AreOpaque rules (observed new)  -- and the attempts opaque
+    pub tied : AreTied rules new  -- which the engines and the words go with
     pub opening : SameOpening old new  -- the world keeps its beginning
     pub actors : length new.actors ≡ length old.actors  -- and its number of actors
-    pub alone : ShowsAlone rules new  -- its attempts, bytes and clock are still those of its player alone
 
   -- an entry of the schedule after the other, with these results, leads from the one world to the other
   abbrev pub Leads : World P → List ℕ → List (Result (Unit {0}) WorldFault) → World P → Type 0

@@ -20,9 +20,10 @@ pub struct Passes {
 
 impl<P: Player> World<P> {
     ghost use Rattle.norec_world.specs.declared.fault.WorldFault.{WorldFault};
-    ghost use Rattle.norec_world.specs.World.{counted, SameOpening};
+    ghost use Rattle.norec_world.specs.World.{observed, counted, SameOpening};
     ghost use Rattle.norec_world.specs.Commits.{CommitsInOrder};
-    ghost use Rattle.norec_world.specs.Opaque.{AreOpaque};
+    ghost use Rattle.norec_world.specs.Headline.{AreOpaque};
+    ghost use Rattle.norec_world.specs.Tied.{AreTied};
     ghost use Rattle.norec_world.specs.WorldEvents.{Leads, passes_of};
 
     /// An event for each entry in turn, passing over those that name no actor or one that has ended.
@@ -31,7 +32,8 @@ impl<P: Player> World<P> {
             × Leads P.Player self.old schedule.now results self.new × (result ≡ passes_of results) }
         ensures all { result.taken + result.passed + result.starved ≡ length schedule.now }
         ensures commits { CommitsInOrder self.new }
-        ensures opaque { AreOpaque P.Player self.new }
+        ensures opaque { AreOpaque P.Player (observed self.new) }
+        ensures tied { AreTied P.Player self.new }
         ensures counts { self.new.events ≡ counted self.old.events (result.taken + result.starved) }
         ensures opening { SameOpening self.old self.new }
         ensures actors { length self.new.actors ≡ length self.old.actors }

@@ -12,7 +12,7 @@ ghost use Rattle.norec_world.specs.World.{ending_in};
 ghost use Rattle.norec_core.specs.Core.{opening};
 ghost use Rattle.norec_world.specs.Starts.{IsFirst, HasStarted};
 ghost use Rattle.norec_world.specs.Runs.{RunsFrom};
-ghost use Rattle.norec_world.specs.Opaque.{first_of};
+ghost use Rattle.norec_world.specs.Headline.{first_of};
 ghost use Rattle.norec_world.specs.declared.actor.Actor.{Actor};
 
 use crate::actor::Actor;

@@ -43,7 +43,7 @@ impl<P: Player> Model for World<P> {
 }
 
 impl<P: Player> World<P> {
-    ghost use Rattle.norec_world.specs.World.{counted, ending_at, waits_at, memory_of, attempts_of, SameOpening, ShowsAlone};
+    ghost use Rattle.norec_world.specs.World.{observed, counted, ending_at, waits_at, memory_of, attempts_of, SameOpening};
     ghost use Rattle.std.specs.Prelude.{slice_get};
     ghost use Rattle.std.specs.Option.{option_map};
     ghost use Rattle.norec_world.specs.Status.{is_waiting};
@@ -53,7 +53,8 @@ impl<P: Player> World<P> {
     ghost use Rattle.norec_world.specs.Starts.{IsNew};
     ghost use Rattle.norec_world.specs.declared.actor.Actor.{Actor};
     ghost use Rattle.norec_world.specs.Commits.{CommitsInOrder};
-    ghost use Rattle.norec_world.specs.Opaque.{AreOpaque};
+    ghost use Rattle.norec_world.specs.Headline.{AreOpaque};
+    ghost use Rattle.norec_world.specs.Tied.{AreTied};
     ghost use Rattle.norec_world.specs.WorldEvents.{Goes, Takes};
     ghost use Rattle.norec_world.specs.Sound.{HasLess};
 
@@ -77,7 +78,8 @@ impl<P: Player> World<P> {
         ensures first { IfOk result (λ w. (place : ℕ) (a : Actor P) → slice_get w.actors place ≡ Some a
             → IsBetween 0 1 w.attempts a) }
         ensures commits { IfOk result (λ w. CommitsInOrder w) }
-        ensures opaque { IfOk result (AreOpaque P.Player) }
+        ensures opaque { IfOk result (λ w. AreOpaque P.Player (observed w)) }
+        ensures tied { IfOk result (AreTied P.Player) }
         ensures anew { IfOk result (IsNew P.Player) }
     {
         let opening = copies(alloc, &players)?;
@@ -104,7 +106,8 @@ impl<P: Player> World<P> {
     pub fn go(&mut self, alloc: Global, actor: u8) -> Result<(), WorldFault>
         ensures goes { Goes P.Player actor self.old result self.new }
         ensures commits { CommitsInOrder self.new }
-        ensures opaque { AreOpaque P.Player self.new }
+        ensures opaque { AreOpaque P.Player (observed self.new) }
+        ensures tied { AreTied P.Player self.new }
     {
         match self.waits(actor) {
             None => Err(WorldFault::NoSuchActor),
@@ -121,8 +124,8 @@ impl<P: Player> World<P> {
         ensures value { result ≡ option_map (λ a. is_waiting a.status) (slice_get self.now.actors actor) }
         ensures sound { AreActors P.Player self.now.cells self.now.attempts self.now.actors }
         ensures commits { CommitsInOrder self.now }
-        ensures opaque { AreOpaque P.Player self.now }
-        ensures alone { ShowsAlone P.Player self.now }
+        ensures opaque { AreOpaque P.Player (observed self.now) }
+        ensures tied { AreTied P.Player self.now }
     {
         Some(self.actors.get(actor as usize)?.waits())
     }
@@ -132,7 +135,8 @@ impl<P: Player> World<P> {
         ensures waits { result ≡ true → IsSome (waits_at self.now actor) }
         ensures ended { result ≡ false → actor < length self.now.actors → IsSome (ending_at self.now actor) }
         ensures commits { CommitsInOrder self.now }
-        ensures opaque { AreOpaque P.Player self.now }
+        ensures opaque { AreOpaque P.Player (observed self.now) }
+        ensures tied { AreTied P.Player self.now }
     {
         match self.waits(actor) {
             None => false,
@@ -160,7 +164,8 @@ impl<P: Player> World<P> {
         ensures no_such { length self.old.actors ≤ actor → (result ≡ 0) × (self.new ≡ self.old) }
         ensures ended { actor < length self.old.actors → IsSome (ending_at self.new actor) }
         ensures commits { CommitsInOrder self.new }
-        ensures opaque { AreOpaque P.Player self.new }
+        ensures opaque { AreOpaque P.Player (observed self.new) }
+        ensures tied { AreTied P.Player self.new }
         ensures took { (n : ℕ) × Takes P.Player actor n self.old self.new × (result ≡ counted 0 n) }
         ensures counts { self.new.events ≡ counted self.old.events result }
         ensures opening { SameOpening self.old self.new }
@@ -209,15 +214,13 @@ impl<P: Player> World<P> {
     }
 
     /// The attempts that have ended, in the order in which they did, and then the open ones by actor. Each position
-    /// below half the clock is that of one that committed. With a single player they are those of the player alone on
-    /// the memory that was handed in: all of them once its actor has ended, and the first ones before, or where the
-    /// actor found no memory.
+    /// below half the clock is that of one that committed.
     pub fn attempts(&self) -> &[Attempt]
         ensures value { result.now ≡ attempts_of self.now }
         ensures unfinished { AreOpen self.now.attempts.active }
         ensures commits { CommitsInOrder self.now }
-        ensures opaque { AreOpaque P.Player self.now }
-        ensures alone { ShowsAlone P.Player self.now }
+        ensures opaque { AreOpaque P.Player (observed self.now) }
+        ensures tied { AreTied P.Player self.now }
     {
         self.recorded.all()
     }
@@ -241,7 +244,8 @@ impl<P: Player> World<P> {
     pub fn events(&self) -> u64
         ensures value { result ≡ self.now.events }
         ensures commits { CommitsInOrder self.now }
-        ensures opaque { AreOpaque P.Player self.now }
+        ensures opaque { AreOpaque P.Player (observed self.now) }
+        ensures tied { AreTied P.Player self.now }
     {
         self.events
     }

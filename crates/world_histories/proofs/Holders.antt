@@ -16,27 +16,9 @@ use Rattle.norec_world.proofs.SoundOthers.{first_found}
 
 -- ## Counts of two lists
 
-pub count_at_both : (k : ℕ) (xs ys : List Attempt) → count_at k (xs ++ ys) ≡ count_at k xs + count_at k ys
-count_at_both k [] ys = (let e : count_at k ys ≡ 0 + count_at k ys = omega arith in e)
-count_at_both k (x ∷ xs) ys = (let e = count_at_both k xs ys in omega arith)
-
-pub count_committed_both : (xs ys : List Attempt) → count_committed (xs ++ ys) ≡ count_committed xs + count_committed ys
-count_committed_both [] ys = (let e : count_committed ys ≡ 0 + count_committed ys = omega arith in e)
-count_committed_both (x ∷ xs) ys = (let e = count_committed_both xs ys in omega arith)
-
 pub count_holding_both : (h : History) (xs ys : List Attempt) → count_holding h (xs ++ ys) ≡ count_holding h xs + count_holding h ys
 count_holding_both h [] ys = (let e : count_holding h ys ≡ 0 + count_holding h ys = omega arith in e)
 count_holding_both h (x ∷ xs) ys = (let e = count_holding_both h xs ys in omega arith)
-
--- ## Open attempts have not committed
-
-pub open_at : (k : ℕ) (xs : List Attempt) → AreUnfinished xs → count_at k xs ≡ 0
-open_at k [] u = refl
-open_at k (x ∷ xs) u = (let e = open_at k xs u.1 in let none : one_where (is_at k x) ≡ 0 = ap (λ (o : Outcome). one_where (is_committed o && (x.at == k))) u.0 in omega arith)
-
-pub open_committed : (xs : List Attempt) → AreUnfinished xs → count_committed xs ≡ 0
-open_committed [] u = refl
-open_committed (x ∷ xs) u = (let e = open_committed xs u.1 in let none : one_where (is_committed x.outcome) ≡ 0 = ap (λ (o : Outcome). one_where (is_committed o)) u.0 in omega arith)
 
 -- ## Ended attempts hold nothing
 

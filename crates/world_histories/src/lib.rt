@@ -2,16 +2,19 @@
 #![tactic(auto)]
 
 ghost use Rattle.norec_world.specs.Commits.{CommitsInOrder};
-ghost use Rattle.norec_world.specs.Opaque.{AreOpaque};
-ghost use Rattle.norec_world.specs.World.{World};
+ghost use Rattle.norec_world.specs.Headline.{AreOpaque};
+ghost use Rattle.norec_world.specs.Tied.{AreTied};
+ghost use Rattle.norec_world.specs.World.{World, observed};
 ghost use Rattle.tx_history.specs.Legal.{IsLegal};
 ghost use Rattle.world_histories.specs.Told.{told_of};
 
 use tx_player::Player;
 
-/// What is told of any world whose commits are in order and whose attempts are opaque is a legal history: by the plain
+/// What is told of any world whose commits are in order, whose attempts are opaque, and whose engines and words go with
+/// them, is a legal history: by the plain
 /// machine alone, its committed attempts run one after the other by position, and each other one runs alone on what so
 /// many first commits left. Does nothing.
 pub fn legal<P: Player>()
-    ensures { (w : World P) → CommitsInOrder w → AreOpaque P.Player w → IsLegal (told_of w) }
+    ensures { (w : World P) → CommitsInOrder w → AreOpaque P.Player (observed w) → AreTied P.Player w
+        → IsLegal (told_of w) }
 {}

@@ -1,3 +1,12 @@
+mod Examples
+mod TakingCalls
+mod Solos
+mod SoleRuns
+mod SoleEvents
+mod IdleEngines
+mod SoleWorlds
+mod ShownAlone
+pub mod LedAlone
 pub mod AlikeAnswers
 pub mod HeldAttempts
 pub mod AlikeCalls

@@ -7,6 +7,7 @@ ghost use Rattle.tx_attempts.specs.declared.attempt.Attempt.{Attempt};
 ghost use Rattle.tx_attempts.specs.Attempts.{pairs_of};
 ghost use Rattle.norec_world.specs.Opacity.{IsOpaque};
 ghost use Rattle.tx_attempts.specs.Beginnings.{IsBeginningOf};
+ghost use Rattle.world_laws.specs.ShownAlone.{OnePlayerShows, TakesLead};
 ghost use Rattle.world_laws.specs.ScheduleDecides.{BeginningDecides, EventDecides, EntriesDecide, RunDecides, SameShows, ScheduleDecides};
 
 use tx_player::Player;
@@ -31,4 +32,13 @@ pub fn decided<P: Player>()
     ensures ran_out { RunDecides P.Player }
     ensures shows { SameShows P.Player }
     ensures decided { ScheduleDecides P.Player }
+{}
+
+/// One player: a world that begins with a single player, and is led on by any schedule, shows what the player does
+/// alone on the memory that was handed in: all of it once its actor has ended, and a beginning of it before, or where
+/// the actor found no memory. An actor that is run out takes events in a row, which are entries of a schedule. Does
+/// nothing.
+pub fn one_player<P: Player>()
+    ensures shows { OnePlayerShows P.Player }
+    ensures took { TakesLead P.Player }
 {}

@@ -1,7 +1,6 @@
 use Rattle.std.proofs.Common.{subst}
-use Rattle.norec_world.proofs.Common.{AreOpaque, AreOpen, ShowsAlone, World, world_of}
-use Rattle.norec_world.proofs.ShownAlone.{shows_alone}
-use Rattle.norec_world.proofs.RunOthers.{world_opaque}
+use Rattle.norec_world.proofs.Common.{AreOpaque, AreOpen, AreTied, World, observed, world_of}
+use Rattle.norec_world.proofs.RunOthers.{world_opaque, world_tied}
 use Rattle.norec_world.proofs.SoundOthers.{are_open}
 use Rattle.norec_world.proofs.world.World.attempts.Goals as goal
 
@@ -12,9 +11,10 @@ returns-clause-unfinished g c =
 
 pub returns-clause-opaque : goal.returns-clause-opaque
 returns-clause-opaque g c =
-    subst (AreOpaque g.P.Player) c.self.view_is
+    subst (λ (w : World g.row.P.Denot). AreOpaque g.P.Player (observed w)) c.self.view_is
     (world_opaque g.P.Player g.met.P.Player.laws (world_of c.self.inside) c.self.invariant)
 
-pub returns-clause-alone : goal.returns-clause-alone
-returns-clause-alone g c =
-    subst (ShowsAlone g.P.Player) c.self.view_is (shows_alone g.P.Player g.met.P.Player.laws (world_of c.self.inside) c.self.invariant)
+pub returns-clause-tied : goal.returns-clause-tied
+returns-clause-tied g c =
+    subst (AreTied g.P.Player) c.self.view_is
+    (world_tied g.P.Player g.met.P.Player.laws (world_of c.self.inside) c.self.invariant)

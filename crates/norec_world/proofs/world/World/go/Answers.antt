@@ -6,15 +6,15 @@ use Rattle.norec_world.proofs.world.World.go.Goals as goal
 
 pub returns-in-None-clause-goes : goal.returns-in-None-clause-goes
 returns-in-None-clause-goes g c =
-    goes_nowhere g.P.Player c.args.self.now c.args.actor c.waits.ensures.alone
-    c.waits.ensures.commits c.waits.ensures.opaque
+    goes_nowhere g.P.Player c.args.self.now c.args.actor
+    c.waits.ensures.commits c.waits.ensures.opaque c.waits.ensures.tied
     (mapped_none (λ (a : Actor g.row.P.Denot). is_waiting a.status) (slice_get c.args.self.now.actors c.args.actor) (sym c.in-None.is ∙ c.waits.ensures.value))
 
 pub returns-in-Some-false-clause-goes : goal.returns-in-Some-false-clause-goes
 returns-in-Some-false-clause-goes g c =
     let found = mapped_some (λ (a : Actor g.row.P.Denot). is_waiting a.status) (slice_get c.args.self.now.actors c.args.actor) c.in-Some-false.field-0 (sym c.in-Some-false.is ∙ c.waits.ensures.value) in
-    goes_no_more g.P.Player c.args.self.now c.args.actor c.waits.ensures.alone
-    c.waits.ensures.commits c.waits.ensures.opaque
+    goes_no_more g.P.Player c.args.self.now c.args.actor
+    c.waits.ensures.commits c.waits.ensures.opaque c.waits.ensures.tied
     found.0 found.1 (found.2 ∙ c.in-Some-false.field-0-test) (c.waits.ensures.sound.each c.args.actor found.0 found.1).done
 
 pub event-goes_on-requires : goal.event-goes_on-requires

@@ -1,10 +1,9 @@
-use Rattle.std.proofs.Common.{rules, ◌≡◌, ◌/◌, ℕ, length, replicate, List, slice_get, refl, sym, ap, subst, ◌∙◌}
-use Rattle.norec_world.proofs.Common.{Finished, AreFrom, AreOfActors, HasStarted, IsBetween, RunsFrom, World, bytes_of, first_of, opening, words_of}
+use Rattle.std.proofs.Common.{rules, ◌≡◌, ◌/◌, ℕ, length, replicate, List, slice_get, sym, ap, subst, ◌∙◌}
+use Rattle.norec_world.proofs.Common.{AreFrom, AreOfActors, HasStarted, IsBetween, RunsFrom, World, bytes_of, first_of, opening, words_of}
 use Rattle.norec_world.proofs.WordLists.{words_of-bytes_of}
-use Rattle.norec_world.proofs.RunOthers.{laid_first, world_opaque}
+use Rattle.norec_world.proofs.RunOthers.{laid_first, world_opaque, world_tied}
 use Rattle.norec_world.proofs.CommitCounts.{commits_first}
-use Rattle.norec_world.proofs.SoleEvents.{sole_first}
-use Rattle.norec_world.proofs.IdleEngines.{ended_still, idle_started}
+use Rattle.norec_world.proofs.Dates.{dated_first}
 use Rattle.norec_world.proofs.world.World.new.Goals as goal
 
 pub invariant_of-result : goal.invariant_of-result
@@ -12,12 +11,6 @@ invariant_of-result g c = let w : World g.row.P.Denot = record { opening = c.in_
     let commits = commits_first g.P.Player w c.in_ok-actors.ensures.sound c.new-memory.ensures.clock c.in_ok-actors.ensures.none.0 c.in_ok-actors.ensures.first in record {
       actors = search rules;
       long = search rules;
-      sole = λ one p a player e.
-          (let players : c.in_ok-opening.opening.items ≡ c.args.players.items = search rules in
-          let starts = c.in_ok-actors.ensures.starts 0 p a (ap (λ (xs : List g.row.P.Denot). slice_get xs 0) (sym players) ∙ player) e in
-          let first = c.in_ok-actors.ensures.first 0 a e in
-          sole_first g.P.Player w c.in_ok-actors.ensures.sound c.new-memory.ensures.clock c.in_ok-actors.ensures.none.0 (first_of p c.args.setup.arena) a e first.between first.seen
-          (λ end. (starts.finishes end, idle_started g.P.Player starts (refl, refl) (ended_still a.status Finished end))));
       commits = commits;
       running = record {
         laid = laid_first c.new-base.result c.new-memory.result c.start_all.new.recorded (search rules) c.new-memory.ensures.fit c.new-memory.ensures.clock c.in_ok-actors.ensures.none.0;
@@ -29,6 +22,7 @@ invariant_of-result g c = let w : World g.row.P.Denot = record { opening = c.in_
             subst (λ (base : List ℕ). RunsFrom g.P.Player (first_of p c.args.setup.arena) base c.new-memory.result c.start_all.new.recorded a) (sym based)
             (c.in_ok-actors.ensures.runs place p a (ap (λ (xs : List g.row.P.Denot). slice_get xs place) (sym players) ∙ e) f));
       };
+      dated = dated_first w c.new-memory.ensures.clock c.in_ok-actors.ensures.none.0 (λ place a e. (c.in_ok-actors.ensures.first place a e).between);
     }
 
 pub returns-clause-first : goal.returns-clause-first
@@ -40,6 +34,9 @@ returns-clause-commits g c = (invariant_of-result g c).commits
 pub returns-clause-opaque : goal.returns-clause-opaque
 returns-clause-opaque g c = world_opaque g.P.Player g.met.P.Player.laws _ (invariant_of-result g c)
 
+pub returns-clause-tied : goal.returns-clause-tied
+returns-clause-tied g c = world_tied g.P.Player g.met.P.Player.laws _ (invariant_of-result g c)
+
 pub returns-clause-anew : goal.returns-clause-anew
 returns-clause-anew g c =
     let based : c.new-base.result ≡ bytes_of c.new-memory.result.words = search rules in
@@ -50,6 +47,9 @@ returns-clause-anew g c =
           let words : length c.new-memory.result.words ≡ length c.args.setup.bytes / 8 = search rules in
           subst (λ (n : ℕ). HasStarted g.P.Player c.new-memory.result.clock (opening n (replicate c.args.setup.arena 0) c.args.setup.limits.patience c.args.setup.limits.max_commits) c.args.setup.limits.retries place p a)
           (words ∙ ap (λ (b : List ℕ). length b / 8) (sym based)) (c.in_ok-actors.ensures.starts place p a (ap (λ (xs : List g.row.P.Denot). slice_get xs place) (sym players) ∙ e) f));
+      first = λ place a e.
+          (let is = c.in_ok-actors.ensures.first place a e in
+          is);
       clock = c.new-memory.ensures.clock;
       words = sym (ap words_of based ∙ words_of-bytes_of c.new-memory.result.words c.new-memory.ensures.fit);
       none = search rules;

@@ -22,6 +22,7 @@ loop-actor-preserved g c =
           ∙ ap (λ (p : Passes). counted c.args.self.now.events (p.taken + p.starved)) (sym is);
       commits = c.go.ensures.commits;
       opaque = c.go.ensures.opaque;
+      tied = c.go.ensures.tied;
       opening = opening_both _ _ _ before.opening goes.opening;
       actors = goes.actors ∙ before.actors;
     }

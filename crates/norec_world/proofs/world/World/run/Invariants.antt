@@ -1,5 +1,5 @@
 use Rattle.std.proofs.Common.{◌≡◌, ◌+◌, List, length, take, Result}
-use Rattle.norec_world.proofs.Common.{AreOpaque, CommitsInOrder, Leads, SameOpening, WorldFault, counted, passes_of}
+use Rattle.norec_world.proofs.Common.{AreOpaque, AreTied, CommitsInOrder, Leads, SameOpening, WorldFault, counted, observed, passes_of}
 use Rattle.norec_world.proofs.world.World.run.Given as goal
 
 abbrev pub invariant-loop-actor : goal.invariant-loop-actor
@@ -8,7 +8,8 @@ invariant-loop-actor g l = record {
   all : l.passes.taken + l.passes.passed + l.passes.starved ≡ l.actor-index;
   counts : l.self.events ≡ counted l.initial.self.events (l.passes.taken + l.passes.starved);
   commits : CommitsInOrder l.self;
-  opaque : AreOpaque g.P.Player l.self;
+  opaque : AreOpaque g.P.Player (observed l.self);
+  tied : AreTied g.P.Player l.self;
   opening : SameOpening l.initial.self l.self;
   actors : length l.self.actors ≡ length l.initial.self.actors;
 }

@@ -8,11 +8,11 @@ use Rattle.norec_world.specs.declared.ending.End.{End}
 use Rattle.norec_world.specs.declared.ending.End.TheVariants.{Finished, GaveUp, NoMemory}
 use Rattle.norec_world.specs.declared.actor.Actor.{Actor}
 use Rattle.tx_attempts.specs.Attempts.{is_committed, of_thread}
-use Rattle.norec_world.specs.Memories.{bytes_at}
+use Rattle.norec_world.specs.Headline.{bytes_at}
 use Rattle.norec_world.specs.Opacity.{Beginning, Between}
 use Rattle.norec_world.specs.Runs.{begins_at, run_after}
 use Rattle.norec_world.specs.Rows.{Rows, active_of}
-use Rattle.norec_world.specs.Solo.{one_if}
+use Rattle.world_laws.specs.Solo.{one_if}
 use Rattle.norec_world.specs.Status.{ending_of}
 use Rattle.norec_world.specs.Tries.{current_of, is_done}
 use Rattle.tx_player.specs.Rules.{Rules}

@@ -1,89 +1,16 @@
 -- A player that runs alone, block by block.
--- Its calls alone come first in what it gets.
-use Rattle.std.proofs.Common.{◌≡◌, ℕ, zero, suc, ◌+◌, ◌<◌, ◌≤◌, Bool, true, false, not, ◌&&◌, ◌||◌, nat_le, is_none, is_some, if◌then◌else◌, List, [], ◌∷◌, ◌++◌, length, map, Option, None, Some, refl, sym, ap, subst, ◌∙◌, arith, cond, lt-ltb}
-use Rattle.norec_world.proofs.Common.{Begin, Beginning, Call, Core, Entry, Finished, GaveUp, IsAlone, Obeys, Progress, Props, Rules, Solo, State, Unfinished, Refusal, after, after_unless, answers, both_ways, false_from_ne_true, is_inside, takes_clock, answers_within, begin_code, begin_of, begin_within, cond-false, cond-true, ended_as, in_transaction, is_open, one_if, opened, outside, pair_of, player_then, refusal, reply, row_of, same_Some, solo_within, stands_for, state_then, stopped, turn, with_first}
+use Rattle.std.proofs.Common.{◌≡◌, ℕ, zero, suc, ◌+◌, ◌<◌, ◌≤◌, Bool, true, false, not, ◌&&◌, ◌||◌, nat_le, is_none, if◌then◌else◌, List, [], ◌∷◌, ◌++◌, map, Option, None, Some, refl, sym, ap, subst, ◌∙◌, arith, cond}
+use Rattle.norec_world.proofs.Common.{Begin, Beginning, Call, Entry, IsAlone, Obeys, Props, Rules, State, Unfinished, after, answers, both_ways, false_from_ne_true, takes_clock, answers_within, begin_code, begin_of, begin_within, cond-false, cond-true, is_open, opened, outside, pair_of, player_then, refusal, reply, same_Some, state_then, turn}
+use Rattle.norec_world.specs.declared.ending.End.TheVariants.{Finished, GaveUp}
+use Rattle.world_laws.specs.Solo.{Progress, Solo, ended_as, one_if, row_of, solo_within, stopped, with_first}
 use Rattle.itm_types.specs.declared.call.Reply.{Reply}
 use Rattle.itm_model.specs.Runs.{state_after}
 use Rattle.tx_attempts.specs.declared.attempt.Outcome.TheVariants.{Full}
 use Rattle.itm_types.specs.Calls.{is_abort}
-use Rattle.norec_world.specs.Solo.{entry_of, player_after, passed, before_taking, block_then, limited_then, within_limit, left_open, begun_then, aborts}
-use Rattle.norec_world.specs.Opacity.{stays_outside}
-use Rattle.norec_world.proofs.TakingCalls.{goes_opened, marked_opened, marked_then, next_takes, none_takes}
-use Rattle.itm_model.specs.Machine.{effect}
+use Rattle.world_laws.specs.Solo.{entry_of, player_after, passed, before_taking, block_then, limited_then, within_limit, left_open, begun_then, aborts}
+use Rattle.norec_world.proofs.AloneCalls.{asked}
+use Rattle.world_laws.proofs.TakingCalls.{goes_opened, marked_opened, marked_then, next_takes, none_takes}
 use Rattle.std.proofs.lemmas.Bool.{and_from, and_left, and_right, or_from}
-use Rattle.norec_core.specs.Stands.{block_kept, state_in, state_kept}
-use Rattle.nest_frames.specs.Nest.{Frame}
-use Rattle.user_actions.specs.Actions.{Actions}
-use Rattle.norec_core.proofs.Machines.{open_is}
-
--- a call that is made in an open block is the player's next
-asked_if : (b : Bool) (o : Option Call) (c : Call) → cond b o None ≡ Some c → o ≡ Some c
-asked_if true o c e = e
-asked_if false o c e = absurd (cc)
-
-module _ {P : Type 0} (rules : Rules P) (laws : Obeys rules) (deepest : ℕ) where
-  pub asked : (p : P) (s : State) (c : Call) → turn rules.next_call rules.answered rules.calls_left p s ≡ Some c → rules.next_call p ≡ Some c
-  asked p s c e = asked_if (is_open s) (rules.next_call p) c e
-
-  abbrev gets : ℕ → P → State → Option Call → List (Call × Reply)
-  gets n p s o = answers_within rules.next_call rules.answered rules.calls_left deepest n p s o
-
-  -- so many calls suffice
-  enough : (n k : ℕ) (p : P) (s : State) (o : Option Call) → turn rules.next_call rules.answered rules.calls_left p s ≡ o → rules.calls_left p ≤ n → rules.calls_left p ≤ k → gets n p s o ≡ gets k p s o
-  enough zero zero p s o e a b = refl
-  enough zero (suc k) p s (Some c) e a b = (let l = laws.nearer p c (reply deepest s c) (asked p s c e) in absurd (omega arith))
-  enough (suc n) zero p s None e a b = refl
-  enough (suc n) zero p s (Some c) e a b = (let l = laws.nearer p c (reply deepest s c) (asked p s c e) in absurd (omega arith))
-  enough (suc n) (suc k) p s (Some c) e a b =
-      let r = reply deepest s c in
-      let l = laws.nearer p c r (asked p s c e) in
-      ap (λ (xs : List (Call × Reply)). (c, r) ∷ xs)
-      (enough n k (rules.answered p r) (after deepest s c) (turn rules.next_call rules.answered rules.calls_left (rules.answered p r) (after deepest s c)) refl (omega arith) (omega arith))
-  enough n k p s None e a b = refl
-
-  -- the calls made alone come first, and then what the player gets after them
-  pub begins_alone : (n : ℕ) (p : P) (s : State) (xs : List Entry) → rules.calls_left p ≤ n → IsAlone rules deepest p s xs
-      → gets n p s (turn rules.next_call rules.answered rules.calls_left p s)
-      ≡ map pair_of xs ++ gets n (player_then rules.answered p xs) (state_then deepest s xs) (turn rules.next_call rules.answered rules.calls_left (player_then rules.answered p xs) (state_then deepest s xs))
-  begins_alone n p s [] l h = refl
-  begins_alone zero p s (x ∷ xs) l h = (let k = laws.nearer p x.call x.reply (asked p s x.call h.0) in absurd (omega arith))
-  begins_alone (suc n) p s (x ∷ xs) l h =
-      let k = laws.nearer p x.call x.reply (asked p s x.call h.0) in
-      let q : P = rules.answered p x.reply in
-      let t : State = after deepest s x.call in
-      ap (gets (suc n) p s) h.0
-      ∙ (ap (λ (r : Reply). (x.call, r) ∷ gets n (rules.answered p r) t (turn rules.next_call rules.answered rules.calls_left (rules.answered p r) t)) (sym h.1)
-      ∙ (ap (λ (ys : List (Call × Reply)). pair_of x ∷ ys) (enough n (suc n) q t (turn rules.next_call rules.answered rules.calls_left q t) refl (omega arith) (omega arith))
-      ∙ ap (λ (ys : List (Call × Reply)). pair_of x ∷ ys) (begins_alone (suc n) q t xs (omega arith) h.2)))
-
--- ## One call more
-
-pub player_snoc : {P : Type 0} (answered : P → Reply → P) (p : P) (xs : List Entry) (x : Entry) → player_then answered p (xs ++ x ∷ []) ≡ answered (player_then answered p xs) x.reply
-player_snoc answered p [] x = refl
-player_snoc answered p (y ∷ ys) x = player_snoc answered (answered p y.reply) ys x
-
-pub state_snoc : (deepest : ℕ) (s : State) (xs : List Entry) (x : Entry) → state_then deepest s (xs ++ x ∷ []) ≡ after deepest (state_then deepest s xs) x.call
-state_snoc deepest s [] x = refl
-state_snoc deepest s (y ∷ ys) x = state_snoc deepest (after deepest s y.call) ys x
-
-kept_open : (blocks : List Frame) (arena : List ℕ) (actions : Actions) (m : List ℕ) → is_inside blocks ≡ true → is_open (state_kept blocks arena actions m) ≡ true
-kept_open [] arena actions m o = absurd (cc)
-kept_open (b ∷ bs) arena actions m o = lt-ltb 0 (length (map block_kept (b ∷ bs))) (omega arith)
-
-module _ {P : Type 0} (rules : Rules P) (laws : Obeys rules) where
-  pub alone_snoc : (deepest : ℕ) (p : P) (s : State) (xs : List Entry) (x : Entry) → IsAlone rules deepest p s xs
-      → turn rules.next_call rules.answered rules.calls_left (player_then rules.answered p xs) (state_then deepest s xs) ≡ Some x.call → x.reply ≡ reply deepest (state_then deepest s xs) x.call
-      → IsAlone rules deepest p s (xs ++ x ∷ [])
-  alone_snoc deepest p s [] x h t r = (t, r, tt)
-  alone_snoc deepest p s (y ∷ ys) x h t r = (h.0, h.1, alone_snoc deepest (rules.answered p y.reply) (after deepest s y.call) ys x h.2 t r)
-
-  -- an open engine stands for an open block
-  pub stands_open : (e : Core) (m : List ℕ) → in_transaction e ≡ true → is_open (stands_for e m) ≡ true
-  stands_open e m o = by_mode e.irrevocable
-    where
-      by_mode : (b : Bool) → is_open (state_in b e.writes e.blocks e.arena e.actions m) ≡ true
-      by_mode true = kept_open e.blocks e.arena e.actions m o
-      by_mode false = open_is e.writes e.blocks e.arena e.actions m ∙ o
 
 pub state_pairs : (deepest : ℕ) (s : State) (xs : List Entry) → state_after deepest s (map (λ (c : Call × Reply). c.0) (map pair_of xs)) ≡ state_then deepest s xs
 state_pairs deepest s [] = refl
@@ -134,24 +61,6 @@ module _ {P : Type 0} (rules : Rules P) (laws : Obeys rules) (deepest : ℕ) whe
 
   pub begin_found : (p : P) (arena : List ℕ) (start : Beginning P) → begin_of rules deepest p arena ≡ Some start → IsBeginning p start
   begin_found p arena start h = found (rules.calls_left p) p arena (rules.next_call p) start refl h
-
-  -- ## Bounds that suffice
-
-  comes_enough : (n k : ℕ) (p : P) (arena : List ℕ) (o : Option Call) → rules.next_call p ≡ o → rules.calls_left p ≤ n → rules.calls_left p ≤ k → comes n p arena o ≡ comes k p arena o
-  comes_enough zero zero p arena o e a c = refl
-  comes_enough zero (suc k) p arena (Some call) e a c = (let l = laws.nearer p call (reply deepest (outside [] arena) call) e in absurd (omega arith))
-  comes_enough (suc n) zero p arena (Some call) e a c = (let l = laws.nearer p call (reply deepest (outside [] arena) call) e in absurd (omega arith))
-  comes_enough (suc n) (suc k) p arena (Some (Begin props room)) e a c = (
-      let q : P = rules.answered p (reply deepest (outside [] arena) (Begin props room)) in
-      let l = laws.nearer p (Begin props room) (reply deepest (outside [] arena) (Begin props room)) e in
-      ap (cond (is_none (refusal deepest (outside [] arena) (Begin props room))) (Some (record { player = p; arena = arena; props = props })))
-      (comes_enough n k q arena (rules.next_call q) refl (omega arith) (omega arith)))
-  comes_enough (suc n) (suc k) p arena (Some call) e a c = (
-      let q : P = rules.answered p (reply deepest (outside [] arena) call) in
-      let l = laws.nearer p call (reply deepest (outside [] arena) call) e in
-      comes_enough n k q _ (rules.next_call q) refl (omega arith) (omega arith))
-  comes_enough (suc n) zero p arena None e a c = refl
-  comes_enough n k p arena None e a c = refl
 
   -- the calls left do not grow along what a player gets
   falls_along : (n : ℕ) (p : P) (s : State) (o : Option Call) → turn rules.next_call rules.answered rules.calls_left p s ≡ o
@@ -210,10 +119,6 @@ module _ {P : Type 0} (rules : Rules P) (laws : Obeys rules) (deepest : ℕ) whe
         same_from n k b (begin_of rules deepest b.player b.arena) refl (λ c l. solo_enough n k c (omega arith) (omega arith))
 
     -- ## One block
-
-    pub gets_none : (n : ℕ) (p : P) (s : State) → answers_within rules.next_call rules.answered rules.calls_left deepest n p s None ≡ []
-    gets_none zero p s = refl
-    gets_none (suc n) p s = refl
 
     pub player_pairs : (p : P) (xs : List Entry) → player_after rules deepest max_commits thread p (map pair_of xs) ≡ player_then rules.answered p xs
     player_pairs p [] = refl
@@ -341,35 +246,3 @@ module _ {P : Type 0} (rules : Rules P) (laws : Obeys rules) (deepest : ℕ) whe
     -- a player that comes to no block
     pub no_block : (b : Progress P) → begin_of rules deepest b.player b.arena ≡ None → goes (rules.calls_left b.player) b ≡ stopped rules deepest max_commits thread b Finished
     no_block b e = solo_enough (rules.calls_left b.player) (suc (rules.calls_left b.player)) b (omega arith) (omega arith) ∙ ap (begun_then rules deepest max_commits thread (goes (rules.calls_left b.player)) b) e
-
-    -- ## Calls between blocks
-
-    -- the player once such a call is answered
-    abbrev pub passing : Progress P → Call → Progress P
-    passing b c = record {
-      player = rules.answered b.player (reply deepest (outside [] b.arena) c);
-      arena = (after deepest (outside [] b.arena) c).arena;
-      memory = b.memory;
-      commits = b.commits;
-    }
-
-    -- a begin that is refused is passed over
-    steps_past : (n : ℕ) (b : Progress P) (c : Call) → stays_outside deepest b.arena c ≡ true
-        → comes (suc n) b.player b.arena (Some c) ≡ comes n (passing b c).player (passing b c).arena (rules.next_call (passing b c).player)
-    steps_past n b (Begin props room) e = past (refusal deepest (outside [] b.arena) (Begin props room)) refl e
-      where
-        past : (o : Option Refusal) → refusal deepest (outside [] b.arena) (Begin props room) ≡ o → is_some o ≡ true
-            → comes (suc n) b.player b.arena (Some (Begin props room)) ≡ comes n (passing b (Begin props room)).player (passing b (Begin props room)).arena (rules.next_call (passing b (Begin props room)).player)
-        past None is f = absurd (cc)
-        past (Some why) is f =
-            cond-false (is_none (refusal deepest (outside [] b.arena) (Begin props room))) _ _ (ap is_none is)
-            ∙ ap (λ (o : Option Refusal). comes n (passing b (Begin props room)).player (after_unless o (outside [] b.arena) (effect (outside [] b.arena) (Begin props room))).arena (rules.next_call (passing b (Begin props room)).player)) (sym is)
-    steps_past n b c e = refl
-
-    pub comes_past : (n : ℕ) (b : Progress P) (c : Call) → rules.next_call b.player ≡ Some c → stays_outside deepest b.arena c ≡ true → rules.calls_left b.player ≤ n
-        → comes n b.player b.arena (rules.next_call b.player) ≡ comes (rules.calls_left (passing b c).player) (passing b c).player (passing b c).arena (rules.next_call (passing b c).player)
-    comes_past zero b c e nb l = (let k = laws.nearer b.player c (reply deepest (outside [] b.arena) c) e in absurd (omega arith))
-    comes_past (suc n) b c e nb l =
-        let k = laws.nearer b.player c (reply deepest (outside [] b.arena) c) e in
-        ap (comes (suc n) b.player b.arena) e
-        ∙ (steps_past n b c nb ∙ comes_enough n (rules.calls_left (passing b c).player) (passing b c).player (passing b c).arena (rules.next_call (passing b c).player) refl (omega arith) (omega arith))

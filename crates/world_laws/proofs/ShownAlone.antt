@@ -1,21 +1,31 @@
 -- What a world with one actor shows is what its player does alone.
 use Rattle.std.proofs.Common.{◌≡◌, ◌⊎◌, inl, inr, ℕ, zero, suc, ◌/◌, ◌%◌, ◌≤◌, Bool, true, false, ◌&&◌, ◌==◌, nat_le, if◌then◌else◌, List, [], ◌∷◌, ◌++◌, length, map, replicate, Option, None, Some, slice_get, refl, sym, ap, subst, ◌∙◌, arith, append-nil, le-leb}
 use Rattle.std.proofs.lemmas.Bool.{and_left, and_right, lt-leb}
-use Rattle.norec_world.proofs.Common.{Actor, AreOfActors, AreOpaque, AreUnfinished, Attempt, Between, Call, End, EndsAs, EndsWith, Finished, GaveUp, IsAlone, IsBeforeTry, IsFirstTry, IsOnWay, IsRunOf, IsSole, IsWorld, MAX_OPEN_BLOCKS, NoMemory, Obeys, Outcome, Row, Rules, ShowsAlone, StandsIn, StandsSole, State, Step, World, active_of, after, alone, answers, answers_within, attempts_of, begin_code, begin_of, begin_within, both_ways, bytes_at, bytes_of, committed_at, cond-false, cond-true, current_of, ending_at, ending_of, first_of, in_transaction, is_open, of_thread, opened, option_and_then, pair_of, player_then, reply, row_of, run_after, same_Some, solo_within, stands_for, state_then, takes_clock, stopped, with_all, with_first, words_at}
+use Rattle.norec_world.proofs.Common.{AreOfActors, AreOpaque, AreTied, AreUnfinished, Attempt, Between, Call, EndsAs, IsAlone, IsBeforeTry, IsRunOf, MAX_OPEN_BLOCKS, Obeys, Outcome, Row, Rules, StandsIn, State, Step, World, active_of, after, alone, answers, answers_within, attempts_of, begin_code, begin_of, begin_within, both_ways, bytes_at, committed_at, cond-false, cond-true, current_of, ending_at, ending_of, observed, first_of, in_transaction, is_open, of_thread, opened, option_and_then, pair_of, player_then, reply, run_after, same_Some, stands_for, state_then, takes_clock, CommitsInOrder, HasRow}
+use Rattle.norec_world.specs.declared.actor.Actor.{Actor}
+use Rattle.norec_world.specs.declared.ending.End.{End}
+use Rattle.norec_world.specs.declared.ending.End.TheVariants.{Finished, GaveUp, NoMemory}
+use Rattle.world_laws.specs.Sole.{EndsWith, IsFirstTry, IsOnWay, IsSole, StandsSole}
+use Rattle.world_laws.specs.Solo.{row_of, solo_within, stopped, with_all, with_first}
+use Rattle.world_laws.specs.ShownAlone.{ShowsAlone}
 use Rattle.norec_world.proofs.RunBegins.{led_before}
 use Rattle.itm_types.specs.declared.call.Reply.{Reply}
 use Rattle.tx_attempts.specs.declared.attempt.Outcome.TheVariants as outcomes
-use Rattle.norec_world.specs.SoFar.{IsBegun, IsSoFar, IsAll}
-use Rattle.norec_world.specs.World.{DoneBy, memory_of}
-use Rattle.norec_world.proofs.Solos.{begins_alone, gets_none, full_block, kept_out, open_block, no_block}
+use Rattle.world_laws.specs.SoFar.{IsBegun, IsSoFar, IsAll}
+use Rattle.world_laws.specs.ShownAlone.{DoneBy}
+use Rattle.norec_world.specs.World.{memory_of}
+use Rattle.norec_world.proofs.AloneCalls.{begins_alone, gets_none}
+use Rattle.world_laws.proofs.Solos.{full_block, kept_out, open_block, no_block}
 use Rattle.norec_world.proofs.Memories.{bytes_still}
 use Rattle.norec_world.proofs.RunLists.{run_still}
-use Rattle.norec_world.proofs.RunOthers.{world_opaque, open_none, open_one}
-use Rattle.norec_world.proofs.SoleEvents.{of_thread_all, even_free, even_shut}
-use Rattle.norec_world.proofs.SoleRuns.{Arrives, IsNext, between, arrives, is_next, same_state, same_answers, same_row, made_alone}
-use Rattle.norec_world.proofs.SoundOthers.{are_open, odd_or_even, row_open, row_shut}
-use Rattle.norec_world.specs.Sole.{IsIdle, IsKeptOut}
-use Rattle.norec_world.specs.Solo.{left_open}
+use Rattle.norec_world.proofs.RunOthers.{open_none, open_one}
+use Rattle.world_laws.proofs.SoleEvents.{of_actors_first, of_thread_all}
+use Rattle.world_laws.proofs.SoleWorlds.{even_free, even_shut}
+use Rattle.world_laws.proofs.SoleWorlds.{HasSole}
+use Rattle.world_laws.proofs.SoleRuns.{Arrives, IsNext, between, arrives, is_next, same_state, same_answers, same_row, made_alone}
+use Rattle.norec_world.proofs.SoundOthers.{odd_or_even, row_open, row_shut}
+use Rattle.world_laws.specs.Sole.{IsIdle, IsKeptOut}
+use Rattle.world_laws.specs.Solo.{left_open}
 use Rattle.norec_core.specs.Stands.{state_in}
 use Rattle.nest_frames.specs.Nest.{Frame}
 use Rattle.user_actions.specs.Actions.{Actions}
@@ -34,11 +44,8 @@ mode_in : (b : Bool) (writes : List Row) (blocks : List Frame) (arena : List ℕ
 mode_in true writes blocks arena actions m = refl
 mode_in false writes blocks arena actions m = refl
 
-module _ {P : Type 0} (rules : Rules P) (laws : Obeys rules) (w : World P) (kept : IsWorld rules w)
+module _ {P : Type 0} (rules : Rules P) (laws : Obeys rules) (w : World P) (commits : CommitsInOrder w) (opaque : AreOpaque rules (observed w)) (tied : AreTied rules w)
     (p : P) (a : Actor P) (players : w.opening ≡ p ∷ []) (actors : w.actors ≡ a ∷ []) (sole : IsSole rules w.max_commits w.base (first_of p w.arena) w.cells.clock w.attempts a) where
-  opaque : AreOpaque rules w
-  opaque = world_opaque rules laws w kept
-
   -- it is the one actor
   player_here : slice_get w.opening 0 ≡ Some p
   player_here = ap (λ (l : List P). slice_get l 0) players
@@ -47,7 +54,7 @@ module _ {P : Type 0} (rules : Rules P) (laws : Obeys rules) (w : World P) (kept
   here = ap (λ (l : List (Actor P)). slice_get l 0) actors
 
   all_mine : AreOfActors 1 (attempts_of w)
-  all_mine = subst (λ (l : List (Actor P)). AreOfActors (length l) (attempts_of w)) actors opaque.threads
+  all_mine = subst (λ (l : List P). AreOfActors (length l) (attempts_of w)) players opaque.threads
 
   one : length w.actors ≡ 1
   one = ap (λ (l : List (Actor P)). length l) actors
@@ -55,19 +62,22 @@ module _ {P : Type 0} (rules : Rules P) (laws : Obeys rules) (w : World P) (kept
   -- ## Its open attempt
 
   own : a.thread ≡ 0
-  own = (kept.actors.each 0 a here).thread
+  own = tied.threads 0 a here
+
+  row_kept : HasRow (in_transaction a.engine) w.attempts a.thread
+  row_kept = subst (HasRow (in_transaction a.engine) w.attempts) (sym own) (tied.rows 0 a here)
 
   open_rows : of_thread 0 w.attempts.active ≡ w.attempts.active
   open_rows = of_thread_all w.attempts.active (of_actors_parts 1 w.attempts.ended w.attempts.active all_mine)
 
   active_none : active_of a.thread w.attempts.active ≡ None → w.attempts.active ≡ []
-  active_none e = sym open_rows ∙ open_none 0 0 w.attempts.active kept.running.ordered (ap (λ (t : ℕ). active_of t w.attempts.active) (sym own) ∙ e)
+  active_none e = sym open_rows ∙ open_none 0 0 w.attempts.active tied.open_rows.by_actor (ap (λ (t : ℕ). active_of t w.attempts.active) (sym own) ∙ e)
 
   active_one : (row : Attempt) → active_of a.thread w.attempts.active ≡ Some row → w.attempts.active ≡ row ∷ []
-  active_one row e = sym open_rows ∙ open_one 0 0 w.attempts.active row kept.running.ordered (ap (λ (t : ℕ). active_of t w.attempts.active) (sym own) ∙ e)
+  active_one row e = sym open_rows ∙ open_one 0 0 w.attempts.active row tied.open_rows.by_actor (ap (λ (t : ℕ). active_of t w.attempts.active) (sym own) ∙ e)
 
   unfinished : (row : Attempt) → w.attempts.active ≡ row ∷ [] → row.outcome ≡ outcomes.Unfinished
-  unfinished row e = (subst AreUnfinished e (are_open rules w.cells w.attempts w.actors kept.actors kept.running.ordered).unfinished).0
+  unfinished row e = (subst AreUnfinished e tied.open_rows.unfinished).0
 
   -- ## The player's blocks that are over
 
@@ -85,7 +95,7 @@ module _ {P : Type 0} (rules : Rules P) (laws : Obeys rules) (w : World P) (kept
       arrives rules laws w.max_commits w.base (attempts_of w) (w.cells.clock / 2) (record { player = p; arena = replicate w.arena 0; memory = w.base; commits = 0 }) sole.past tail (w.cells.clock / 2) refl
       (λ j l. ap (λ (xs : List Attempt). committed_at xs j) is)
       (subst (IsRunOf rules MAX_OPEN_BLOCKS (w.cells.clock / 2) (bytes_at w.base (attempts_of w)) (Some (first_of p w.arena))) (of_thread_all (attempts_of w) all_mine ∙ is) (opaque.runs 0 p player_here))
-      sole.commit (let few = kept.commits.few in omega arith)
+      sole.commit (let few = commits.few in omega arith)
 
   so_far : (tail : List Attempt) (x : Arrived tail) (outcome : Outcome) → (attempts_of w ≡ sole.past) ⊎ IsBegun rules w.max_commits 0 x.before sole.past outcome (attempts_of w) → So (w.cells.clock / 2) x.before.memory outcome
   so_far tail x outcome rows = record { before = x.before; past = sole.past; whole = x.whole; commits_are = sym x.commits; memory_is = refl; rows_are = rows }
@@ -111,17 +121,17 @@ module _ {P : Type 0} (rules : Rules P) (laws : Obeys rules) (w : World P) (kept
   led : (tail : List Attempt) (x : Arrived tail) → w.attempts.ended ≡ sole.past
       → place_now ≡ Some (between x.before)
   led tail x ended =
-      let run = opaque.players 0 p a player_here here in
+      let run = tied.players 0 p a player_here here in
       let rows : of_thread a.thread w.attempts.ended ≡ sole.past =
-      ap (λ (t : ℕ). of_thread t w.attempts.ended) own ∙ (of_thread_all w.attempts.ended (subst (λ (l : List (Actor P)). AreOfActors (length l) w.attempts.ended) actors kept.running.threads) ∙ ended) in
+      ap (λ (t : ℕ). of_thread t w.attempts.ended) own ∙ (of_thread_all w.attempts.ended (of_actors_first 1 w.attempts.ended w.attempts.active all_mine) ∙ ended) in
       let still = run_still rules (w.cells.clock / 2) (w.cells.clock / 2) (bytes_at w.base w.attempts.ended) (bytes_at w.base (attempts_of w)) (omega arith)
-      (λ k l. bytes_still w.base w.cells.clock w.attempts.ended kept.commits.counted w.attempts.active k l) (Some (first_of p w.arena)) (of_thread a.thread w.attempts.ended) run.run in
+      (λ k l. bytes_still w.base w.cells.clock w.attempts.ended commits.counted w.attempts.active k l) (Some (first_of p w.arena)) (of_thread a.thread w.attempts.ended) run.run in
       sym still.1 ∙ (ap (run_after rules (bytes_at w.base (attempts_of w)) (Some (first_of p w.arena))) rows ∙ x.led)
 
   -- the clock is odd where its engine is irrevocable
   odd_where : a.engine.irrevocable ≡ true → w.cells.clock % 2 ≡ 1
   odd_where e = elim (odd_or_even w.cells.clock) [
-    | inl even ↦ absurd (both_ways a.engine.holds (kept.commits.free even 0 a here) ((kept.actors.each 0 a here).sound.tied.settled.irrevocable e).0)
+    | inl even ↦ absurd (both_ways a.engine.holds (commits.free even 0 a here) (tied.irrevocable 0 a here e))
     | inr odd ↦ odd
   ]
 
@@ -164,7 +174,7 @@ module _ {P : Type 0} (rules : Rules P) (laws : Obeys rules) (w : World P) (kept
         let gets : answers rules.next_call rules.answered rules.calls_left MAX_OPEN_BLOCKS begun x.before.memory y.start.arena y.start.props ≡ map pair_of row.calls =
         begins_alone rules laws MAX_OPEN_BLOCKS (rules.calls_left begun) begun from row.calls (let l : rules.calls_left begun ≤ rules.calls_left begun = omega arith in l) alone_here
         ∙ (ap (λ (k : Option Call). map pair_of row.calls ++ answers_within rules.next_call rules.answered rules.calls_left MAX_OPEN_BLOCKS (rules.calls_left begun) q t k) (no_turn (is_open t) (rules.next_call q) none)
-        ∙ (ap (λ (l : List (Call × Reply)). map pair_of row.calls ++ l) (gets_none rules laws MAX_OPEN_BLOCKS 0 0 (rules.calls_left begun) q t) ∙ append-nil (map pair_of row.calls))) in
+        ∙ (ap (λ (l : List (Call × Reply)). map pair_of row.calls ++ l) (gets_none rules laws MAX_OPEN_BLOCKS (rules.calls_left begun) q t) ∙ append-nil (map pair_of row.calls))) in
         let open_then : is_open t ≡ true = ap is_open (sym state_here) ∙ subst (λ (k : Outcome). EndsAs k (alone MAX_OPEN_BLOCKS (bytes_at w.base (attempts_of w) row.at) row)) o y.opaque.ends in
         stops (row ∷ []) x Finished (if t.irrevocable then t.memory else x.before.memory) t.irrevocable
         (open_block rules laws MAX_OPEN_BLOCKS w.max_commits 0 x.before y.start y.comes row.calls gets alone_here open_then free
@@ -190,47 +200,28 @@ module _ {P : Type 0} (rules : Rules P) (laws : Obeys rules) (w : World P) (kept
     -- its engine, and the plain state after its calls
     module _ (some : active_of a.thread w.attempts.active ≡ Some row) where
       in_own : in_transaction a.engine ≡ true
-      in_own = row_open (in_transaction a.engine) w.attempts a.thread row (kept.actors.each 0 a here).sound.kept.row some
+      in_own = row_open (in_transaction a.engine) w.attempts a.thread row row_kept some
 
       placed : active_of 0 w.attempts.active ≡ Some row
       placed = ap (λ (t : ℕ). active_of t w.attempts.active) (sym own) ∙ some
 
       read_at : row.at ≡ a.engine.snapshot / 2
-      read_at = opaque.reads 0 a row here placed
+      read_at = tied.reads 0 a row here placed
 
       -- it is not irrevocable where its engine is not
       revocable_here : a.engine.irrevocable ≡ false → (state_then MAX_OPEN_BLOCKS from row.calls).irrevocable ≡ false
-      revocable_here e =
-          let r = kept.running.each 0 p a player_here here in
-          let t = r.runs.inside in_own in
-          let tied = (kept.actors.each 0 a here).sound.tied in
-          let k : ℕ = a.engine.snapshot / 2 in
-          let k_late : k ≤ w.cells.clock / 2 = (let reached = tied.settled.reached in let late = tied.late in omega arith) in
-          let fits = kept.running.laid.memories.fits k k_late in
-          let same : t.1 ≡ row = same_Some _ _ (sym t.3 ∙ some) in
-          let memory : List ℕ = words_at w.base w.attempts.ended k in
-          let stands = t.4.stands e memory (fits.0 ∙ sym tied.words, fits.1) (r.sees.logged in_own) in
-          let bytes : bytes_at w.base (attempts_of w) row.at ≡ bytes_of memory =
-          ap (bytes_at w.base (attempts_of w)) read_at ∙ (bytes_still w.base w.cells.clock w.attempts.ended kept.commits.counted w.attempts.active k k_late ∙ sym (kept.running.laid.memories.same k k_late)) in
-          let arena : row.arena ≡ t.4.start.arena = ap (λ (r : Attempt). r.arena) (sym same) ∙ t.4.arena in
-          let props : row.props ≡ t.4.start.props = ap (λ (r : Attempt). r.props) (sym same) ∙ t.4.props in
-          let led : alone MAX_OPEN_BLOCKS (bytes_at w.base (attempts_of w) row.at) row ≡ state_then MAX_OPEN_BLOCKS (opened (bytes_of memory) t.4.start.arena t.4.start.props) t.1.calls =
-          λ i. state_then MAX_OPEN_BLOCKS (opened (bytes i) (arena i) (props i)) (sym same i).calls in
-          ap (λ (s : State). s.irrevocable) (sym state_here ∙ (led ∙ sym stands)) ∙ (mode_in a.engine.irrevocable a.engine.writes a.engine.blocks a.engine.arena a.engine.actions memory ∙ e)
+      revocable_here e = ap (λ (s : State). s.irrevocable) (sym state_here) ∙ (tied.modes 0 a row here placed ∙ e)
 
       -- and where it is, it is what the words hold
       held_here : IsIdle a.engine → a.engine.irrevocable ≡ true → stands_for a.engine w.cells.words ≡ state_then MAX_OPEN_BLOCKS from row.calls
       held_here idle e =
           let n : w.cells.clock / 2 ≡ row.at = sym (at_here ∙ x.commits) in
-          subst (λ (o : Option Step). StandsIn o a.engine.doing a.engine w.cells.words (alone MAX_OPEN_BLOCKS (bytes_at w.base (attempts_of w) (w.cells.clock / 2)) row)) idle.0 (opaque.stored 0 a row here placed e)
+          subst (λ (o : Option Step). StandsIn o a.engine.doing a.engine w.cells.words (alone MAX_OPEN_BLOCKS (bytes_at w.base (attempts_of w) (w.cells.clock / 2)) row)) idle.0 (tied.stored 0 a row here placed e)
           ∙ (ap (λ (k : ℕ). alone MAX_OPEN_BLOCKS (bytes_at w.base (attempts_of w) k) row) n ∙ state_here)
 
       -- fewer have committed than may
       few_here : a.engine.irrevocable ≡ true → nat_le w.max_commits x.before.commits ≡ false
-      few_here e =
-          let sound = (kept.actors.each 0 a here).sound in
-          let few = (sound.tied.settled.holder (sound.tied.settled.irrevocable e).0).2 in
-          lt-leb w.max_commits x.before.commits (omega (arith, few, (kept.commits.limits 0 a here).max_commits, read_at, at_here))
+      few_here e = lt-leb w.max_commits x.before.commits (omega (arith, odd_where e, commits.few, x.commits))
 
       rests_idle : IsIdle a.engine → row.outcome ≡ outcomes.Unfinished → rules.next_call (player_then rules.answered begun row.calls) ≡ None → All Finished
       rests_idle idle o none = by_mode a.engine.irrevocable refl
@@ -245,14 +236,14 @@ module _ {P : Type 0} (rules : Rules P) (laws : Obeys rules) (w : World P) (kept
               rests_open o none (and_right t.irrevocable (nat_le w.max_commits x.before.commits) (few_here e)) (left ∙ sym (cond-true t.irrevocable t.memory x.before.memory mode)) (ap (λ (n : ℕ). n == 1) odd ∙ sym mode)
           by_mode false e =
               let t : State = state_then MAX_OPEN_BLOCKS from row.calls in
-              let even = even_free w kept.commits one a here (idle.1 ∙ e) in
+              let even = even_free w commits one a here (idle.1 ∙ e) in
               let mode = revocable_here e in
               rests_open o none (and_left t.irrevocable (nat_le w.max_commits x.before.commits) mode) (left_by (row ∷ []) x even ∙ sym (cond-false t.irrevocable t.memory x.before.memory mode)) (ap (λ (n : ℕ). n == 1) even ∙ sym mode)
 
     -- its player stands where its calls have led it
     stands_so : w.attempts.ended ≡ sole.past → active_of a.thread w.attempts.active ≡ Some row → a.player ≡ player_then rules.answered begun row.calls
     stands_so ended some =
-        let t = (opaque.players 0 p a player_here here).inside (row_open (in_transaction a.engine) w.attempts a.thread row (kept.actors.each 0 a here).sound.kept.row some) in
+        let t = (tied.players 0 p a player_here here).inside (row_open (in_transaction a.engine) w.attempts a.thread row row_kept some) in
         let place : t.0 ≡ between x.before = same_Some _ _ (sym t.2 ∙ led (row ∷ []) x ended) in
         let start : t.4.start ≡ y.start = same_Some _ _ (sym t.4.begins ∙ (ap (λ (b : Between P). begin_of rules MAX_OPEN_BLOCKS b.player b.arena) place ∙ y.comes)) in
         let same : t.1 ≡ row = same_Some _ _ (sym t.3 ∙ some) in
@@ -272,7 +263,7 @@ module _ {P : Type 0} (rules : Rules P) (laws : Obeys rules) (w : World P) (kept
   -- between two blocks its player makes no more calls
   rests : (x : Arrived []) → attempts_of w ≡ sole.past ++ [] → w.attempts.ended ≡ sole.past → ending_of a.status ≡ Some Finished → active_of a.thread w.attempts.active ≡ None → rules.next_call a.player ≡ None → w.cells.clock % 2 ≡ 0 → All Finished
   rests x is ended finished shut none z =
-      let t = (opaque.players 0 p a player_here here).between (row_shut (in_transaction a.engine) w.attempts a.thread (kept.actors.each 0 a here).sound.kept.row shut) (λ e. absurd (let both = sym finished ∙ e in cc)) (λ e. absurd (let both = sym finished ∙ e in cc)) in
+      let t = (tied.players 0 p a player_here here).between (row_shut (in_transaction a.engine) w.attempts a.thread row_kept shut) (λ e. absurd (let both = sym finished ∙ e in cc)) (λ e. absurd (let both = sym finished ∙ e in cc)) in
       rests_even [] x Finished (no_block rules laws MAX_OPEN_BLOCKS w.max_commits 0 x.before (none_comes t.0 x t.2 t.1 ended none)) is z
 
   module _ (ended : w.attempts.ended ≡ sole.past) where
@@ -299,7 +290,7 @@ module _ {P : Type 0} (rules : Rules P) (laws : Obeys rules) (w : World P) (kept
   finished s end none idle = by_open (active_of a.thread w.attempts.active) refl
     where
       by_open : (o : Option Attempt) → active_of a.thread w.attempts.active ≡ o → All Finished
-      by_open None e = rests (arrived [] (is_none s.ended e)) (is_none s.ended e) s.ended end e none (even_shut rules w kept.actors kept.commits one a here e)
+      by_open None e = rests (arrived [] (is_none s.ended e)) (is_none s.ended e) s.ended end e none (even_shut rules w tied commits one a here e)
       by_open (Some row) e =
           let is = is_some_row s.ended row e in
           let first = s.current row (ap (λ (o : Option Attempt). current_of o a.pending) e) in
@@ -326,12 +317,12 @@ module _ {P : Type 0} (rules : Rules P) (laws : Obeys rules) (w : World P) (kept
   done_by None e s = going s
   done_by (Some Finished) e s = finished s.0 e s.1 s.2
   done_by (Some GaveUp) e s =
-      let even = even_shut rules w kept.actors kept.commits one a here s.0 in
+      let even = even_shut rules w tied commits one a here s.0 in
       elim s.2 [
         | inl k ↦ kept_away k s.0 s.1 even
         | inr last ↦ (let is = last_is outcomes.Full s.0 last in refused last.row is last.first (arrived (last.row ∷ []) is) last.outcome_is s.1 even)
       ]
-  done_by (Some NoMemory) e (inl s) = starved (even_shut rules w kept.actors kept.commits one a here s.0) (elim s.1 [
+  done_by (Some NoMemory) e (inl s) = starved (even_shut rules w tied commits one a here s.0) (elim s.1 [
     | inl ended ↦ nothing_open ended outcomes.NoMemory s.0
     | inr last ↦ some_over outcomes.NoMemory last.row (last_is outcomes.NoMemory s.0 last) last.first last.outcome_is
   ])
@@ -344,11 +335,11 @@ module _ {P : Type 0} (rules : Rules P) (laws : Obeys rules) (w : World P) (kept
 -- ## A world
 
 module _ {P : Type 0} (rules : Rules P) (laws : Obeys rules) where
-  pub shows_alone : (w : World P) → IsWorld rules w → ShowsAlone rules w
-  shows_alone w kept one =
+  pub shows_alone : (w : World P) → CommitsInOrder w → AreOpaque rules (observed w) → AreTied rules w → HasSole rules w → ShowsAlone rules w
+  shows_alone w commits opaque tied sole one =
       let p = one_of w.opening one in
-      let a = one_of w.actors (kept.long ∙ one) in (
+      let a = one_of w.actors (tied.each ∙ one) in (
         p.0,
         p.1,
-        done_so rules laws w kept p.0 a.0 p.1 a.1 (kept.sole one p.0 a.0 (ap (λ (l : List P). slice_get l 0) p.1) (ap (λ (l : List (Actor P)). slice_get l 0) a.1)),
+        done_so rules laws w commits opaque tied p.0 a.0 p.1 a.1 (sole p.0 a.0 (ap (λ (l : List P). slice_get l 0) p.1) (ap (λ (l : List (Actor P)). slice_get l 0) a.1)),
       )

@@ -1,10 +1,14 @@
 -- An engine between two calls.
 use Rattle.std.proofs.Common.{◌≡◌, ℕ, zero, suc, Bool, true, false, Some, refl, sym, ap, subst, ◌∙◌, if◌then◌else◌}
-use Rattle.norec_world.proofs.Common.{Acts, Actor, Answer, Answers, Asks, Call, Cells, Core, End, Ends, HasStarted, IsEvent, Next, Proceeds, Ready, Rows, Rules, Status, Tells, after_undoing, ending_of, in_transaction, is_waiting, rests, Waits}
+use Rattle.norec_world.proofs.Common.{Acts, Answer, Answers, Asks, Call, Cells, Core, Ends, HasStarted, IsEvent, Next, Proceeds, Rows, Rules, Tells, after_undoing, ending_of, in_transaction, is_waiting, rests}
+use Rattle.norec_world.specs.declared.actor.Actor.{Actor}
+use Rattle.norec_world.specs.declared.actor.Status.{Status}
+use Rattle.norec_world.specs.declared.actor.Status.TheVariants.{Ready, Waits}
+use Rattle.norec_world.specs.declared.ending.End.{End}
 use Rattle.norec_core.specs.declared.phase.Phase.TheVariants.{Idle}
 use Rattle.norec_core.specs.Core.{rolled_back}
 use Rattle.norec_world.specs.LocalWork.{ActsOn, TakesIn, calls, finishes, starves}
-use Rattle.norec_world.specs.Sole.{IsIdle}
+use Rattle.world_laws.specs.Sole.{IsIdle}
 
 -- ## An answer
 

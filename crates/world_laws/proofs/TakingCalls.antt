@@ -11,7 +11,7 @@ use Rattle.itm_types.specs.declared.copy.CopyPair.TheVariants.{Out, In, Within}
 use Rattle.itm_types.specs.declared.call.ActionKind.TheVariants as kinds
 use Rattle.itm_model.specs.State.{Saved}
 use Rattle.itm_model.specs.Machine.{abort_for, back_from, closed, closed_in, closed_irrevocable, copied, effect, with_action, entered, irrevocable_from, keeps_any, keeps_innermost, made_irrevocable, needs_open, or_else, pushed, rolled_back, source_bytes, target_written, undone_from, unless, with_undo, written}
-use Rattle.norec_world.specs.Solo.{before_taking}
+use Rattle.world_laws.specs.Solo.{before_taking}
 
 -- ## Irrevocable states
 

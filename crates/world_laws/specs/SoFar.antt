@@ -11,7 +11,7 @@ use Rattle.norec_world.specs.declared.ending.End.{End}
 use Rattle.norec_world.specs.declared.ending.End.TheVariants.{Finished, GaveUp, NoMemory}
 use Rattle.norec_world.specs.Opacity.{Beginning, begin_code, begin_of}
 use Rattle.norec_world.specs.Alone.{IsAlone}
-use Rattle.norec_world.specs.Solo.{Progress, row_of, with_all, solo, solo_within}
+use Rattle.world_laws.specs.Solo.{Progress, row_of, with_all, solo, solo_within}
 use Rattle.norec_world.specs.Cells.{Cells}
 use Rattle.tx_player.specs.Rules.{Rules}
 

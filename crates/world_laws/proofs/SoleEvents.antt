@@ -1,13 +1,17 @@
 -- An actor that has its world to itself goes on so over an event.
-use Rattle.std.proofs.Common.{◌≡◌, inl, inr, ℕ, ◌+◌, ◌/◌, ◌%◌, ◌≤◌, true, false, nat_lt, if◌then◌else◌, List, [], ◌∷◌, ◌++◌, Option, None, Some, slice_get, slice_set, length, length-set, refl, sym, ap, subst, ◌∙◌, arith, eq-eqb}
-use Rattle.norec_world.proofs.Common.{Actor, AreActors, AreOfActors, AreRunning, AreSole, Attempt, Beginning, Between, Cells, CommitsInOrder, Continues, End, Ended, EndsAt, EndsWith, Finished, GaveUp, GoesOnAfter, IsBetween, IsEvent, IsFirstTry, IsOnWay, IsRunOf, IsSole, IsWorld, MAX_OPEN_BLOCKS, NoMemory, Outcome, Props, Rows, Rules, StandsSole, Tries, World, active_of, after_try, begin_of, begins, begins_at, between, bytes_at, current_of, ending_of, false_from_ne_true, first_of, is_committed, is_done, of_thread, one_if, outrun, over, prior_of, run_after, runs, shut_out, slice_get-set_same, turned_away, slice_get_within, same_Some, both_ways, in_transaction}
+use Rattle.std.proofs.Common.{◌≡◌, inl, inr, ℕ, ◌+◌, ◌/◌, ◌%◌, ◌≤◌, true, false, nat_lt, if◌then◌else◌, List, [], ◌∷◌, ◌++◌, Option, None, Some, refl, sym, ap, subst, ◌∙◌, arith, eq-eqb}
+use Rattle.norec_world.proofs.Common.{AreOfActors, Attempt, Beginning, Between, Continues, EndsAt, GoesOnAfter, IsBetween, IsRunOf, MAX_OPEN_BLOCKS, Outcome, Props, Rows, Rules, Tries, active_of, after_try, begin_of, begins, begins_at, between, bytes_at, current_of, ending_of, is_committed, is_done, of_thread, outrun, over, prior_of, run_after, runs, shut_out, turned_away, same_Some}
+use Rattle.norec_world.specs.declared.actor.Actor.{Actor}
+use Rattle.norec_world.specs.declared.actor.Status.TheVariants.{Ended}
+use Rattle.norec_world.specs.declared.ending.End.{End}
+use Rattle.norec_world.specs.declared.ending.End.TheVariants.{Finished, GaveUp, NoMemory}
+use Rattle.world_laws.specs.Sole.{AreSole, EndsWith, IsFirstTry, IsOnWay, IsSole, StandsSole}
+use Rattle.world_laws.specs.Solo.{one_if}
 use Rattle.tx_attempts.specs.declared.attempt.Outcome.TheVariants as outcomes
-use Rattle.norec_world.proofs.SoundOthers.{odd_or_even, row_shut}
 use Rattle.norec_world.proofs.TryEnds.{none_again}
 use Rattle.norec_world.specs.Tries.{EndsIt}
 use Rattle.norec_core.specs.Core.{may_go}
-use Rattle.norec_world.specs.Sole.{IsIdle, IsKeptOut}
-use Rattle.norec_world.proofs.IdleEngines.{ended_still, idle_event}
+use Rattle.world_laws.specs.Sole.{IsIdle, IsKeptOut}
 use Rattle.norec_world.proofs.RunLists.{try_begun}
 
 -- ## Lists of attempts
@@ -16,6 +20,10 @@ use Rattle.norec_world.proofs.RunLists.{try_begun}
 pub of_thread_all : (xs : List Attempt) → AreOfActors 1 xs → of_thread 0 xs ≡ xs
 of_thread_all [] f = refl
 of_thread_all (x ∷ xs) f = (λ i. if eq-eqb x.thread 0 (let own = f.0 in let zero : x.thread ≡ 0 = omega arith in zero) i then x ∷ of_thread 0 xs else of_thread 0 xs) ∙ ap (λ (l : List Attempt). x ∷ l) (of_thread_all xs f.1)
+
+pub of_actors_first : (n : ℕ) (xs ys : List Attempt) → AreOfActors n (xs ++ ys) → AreOfActors n xs
+of_actors_first n [] ys f = tt
+of_actors_first n (x ∷ xs) ys f = (f.0, of_actors_first n xs ys f.1)
 
 -- one attempt more
 sole_more : (n k : ℕ) (xs : List Attempt) (a : Attempt) → AreSole n xs k → IsFirstTry k a → a.at ≡ k → is_done a.outcome ≡ true → AreSole n (xs ++ a ∷ []) (k + one_if (is_committed a.outcome))
@@ -29,29 +37,6 @@ module _ {P : Type 0} (rules : Rules P) (n : ℕ) (memory : ℕ → List ℕ) wh
   last_early (Some b) [] a r = (try_begun rules n memory b a (begin_of rules MAX_OPEN_BLOCKS b.player b.arena) r.0).2.3.no_older
   last_early None (x ∷ xs) a r = absurd r
   last_early (Some b) (x ∷ xs) a r = last_early (after_try rules MAX_OPEN_BLOCKS memory b (begin_of rules MAX_OPEN_BLOCKS b.player b.arena) x) xs a r.1
-
--- ## The clock
-
--- it is odd only while the one actor holds it
-pub even_free : {P : Type 0} (w : World P) → CommitsInOrder w → length w.actors ≡ 1 → (a : Actor P) → slice_get w.actors 0 ≡ Some a → a.engine.holds ≡ false → w.cells.clock % 2 ≡ 0
-even_free {P} w c one a here free = elim (odd_or_even w.cells.clock) [
-  | inl even ↦ even
-  | inr odd ↦
-      (let h = c.held odd in
-      let l = slice_get_within w.actors h.0 h.1 h.2 in
-      let same : a ≡ h.1 = same_Some _ _ (sym here ∙ (ap (slice_get w.actors) (sym (omega arith)) ∙ h.2)) in
-      absurd (both_ways a.engine.holds free (ap (λ (x : Actor P). x.engine.holds) same ∙ h.3)))
-]
-
-module _ {P : Type 0} (rules : Rules P) where
-  -- without an open attempt it does not hold it
-  pub shut_free : (w : World P) → AreActors rules w.cells w.attempts w.actors → (a : Actor P) → slice_get w.actors 0 ≡ Some a → active_of a.thread w.attempts.active ≡ None → a.engine.holds ≡ false
-  shut_free w actors a here none =
-      let s = (actors.each 0 a here).sound in
-      false_from_ne_true a.engine.holds (λ h. both_ways (in_transaction a.engine) (row_shut (in_transaction a.engine) w.attempts a.thread s.kept.row none) (s.tied.settled.holder h).0)
-
-  pub even_shut : (w : World P) → AreActors rules w.cells w.attempts w.actors → CommitsInOrder w → length w.actors ≡ 1 → (a : Actor P) → slice_get w.actors 0 ≡ Some a → active_of a.thread w.attempts.active ≡ None → w.cells.clock % 2 ≡ 0
-  even_shut w actors c one a here none = even_free w c one a here (shut_free w actors a here none)
 
 -- ## The event
 
@@ -181,49 +166,3 @@ module _ {P : Type 0} (rules : Rules P) (max_commits : ℕ) (base : List ℕ) (b
     sole_after (outrun t) = absurd (let last = old.seen (free t.none) in let moved = t.moved in omega arith)
     sole_after (shut_out t) =
         goes_on (ap (λ (n : ℕ). n / 2) t.same) (stands_so GaveUp t.after.status (t.after.none, (let full = t.full in let same = t.same in omega arith), inl (is_kept_out t.row t.none t.was t.ended t.goes t.may)))
-
--- ## A world
-
-module _ {P : Type 0} (rules : Rules P) where
-  -- one that has just begun
-  pub sole_first : (w : World P) → AreActors rules w.cells w.attempts w.actors → w.cells.clock ≡ 0 → w.attempts.ended ≡ [] → (begin : Between P) (a : Actor P) → slice_get w.actors 0 ≡ Some a → IsBetween w.cells.clock 1 w.attempts a
-      → a.engine.clock ≡ w.cells.clock → (ending_of a.status ≡ Some Finished → (rules.next_call a.player ≡ None) × IsIdle a.engine) → IsSole rules w.max_commits w.base begin w.cells.clock w.attempts a
-  sole_first w actors zero_clock none begin a here b seen finishes = record {
-    past = [];
-    commit = ap (λ (n : ℕ). n / 2) (sym zero_clock);
-    stands = stands_between rules w.max_commits w.base begin w.cells.clock [] w.attempts a (actors.each 0 a here).thread none b finishes;
-    seen = λ f. seen;
-  }
-
-  -- its player's next block, where no attempt is open
-  to_begin_of : (w : World P) → IsWorld rules w → (p : P) (a : Actor P) → slice_get w.opening 0 ≡ Some p → slice_get w.actors 0 ≡ Some a → ending_of a.status ≡ None → (row : Attempt) → active_of a.thread w.attempts.active ≡ None → a.pending ≡ Some row → may_go [] row.props ≡ true
-      → IsToBegin rules w.max_commits w.base (first_of p w.arena) w.attempts a row
-  to_begin_of w kept p a player here going row none was may =
-      let shut = row_shut (in_transaction a.engine) w.attempts a.thread (kept.actors.each 0 a here).sound.kept.row none in
-      let t = (kept.running.each 0 p a player here).runs.between shut (λ e. absurd (let both = sym going ∙ e in cc)) (λ e. absurd (let both = sym going ∙ e in cc)) in
-      record { before = t.0; led = t.1; start = _; begins = (t.2.pending row was).4 may; props = refl }
-
-  -- and over an event
-  pub sole_still : (w : World P) → IsWorld rules w → (i : ℕ) (got new : Actor P) → slice_get w.actors i ≡ Some got → ending_of got.status ≡ None → (cells' : Cells) (r' : Rows) (events : ℕ)
-      → IsEvent rules w.cells w.attempts got cells' r' new → AreActors rules cells' r' (slice_set w.actors i new)
-      → CommitsInOrder (record w { cells = cells'; actors = slice_set w.actors i new; attempts = r'; events = events }) → AreRunning rules (record w { cells = cells'; actors = slice_set w.actors i new; attempts = r'; events = events })
-      → length w.opening ≡ 1 → (p : P) (a : Actor P) → slice_get w.opening 0 ≡ Some p → slice_get (slice_set w.actors i new) 0 ≡ Some a → IsSole rules w.max_commits w.base (first_of p w.arena) cells'.clock r' a
-  sole_still w kept i got new here going cells' r' events event actors commits running one p a player here' =
-      let within = slice_get_within w.actors i got here in
-      let first : i ≡ 0 = omega arith in
-      let was : slice_get w.actors 0 ≡ Some got = ap (slice_get w.actors) (sym first) ∙ here in
-      let placed : slice_get (slice_set w.actors i new) 0 ≡ Some new = ap (slice_get (slice_set w.actors i new)) (sym first) ∙ slice_get-set_same w.actors i new within in
-      let same : new ≡ a = (let z : Some new ≡ Some a = sym placed ∙ here' in cc) in
-      let mine = (actors.each 0 new placed).thread in
-      let still_one : length (slice_set w.actors i new) ≡ 1 = length-set w.actors i new ∙ (kept.long ∙ one) in
-      let sole = kept.sole one p got player was in
-      subst (IsSole rules w.max_commits w.base (first_of p w.arena) cells'.clock r') same
-      (sole_after rules w.max_commits w.base (first_of p w.arena) w.cells.clock cells'.clock w.attempts r' got new going sole (kept.actors.each 0 got was).thread mine (kept.commits.limits i got here).max_commits
-      (shut_free rules w kept.actors got was) (to_begin_of w kept p got player was going) (event.clocks.seen sole.seen)
-      (even_shut rules (record w { cells = cells'; actors = slice_set w.actors i new; attempts = r'; events = events }) actors commits still_one new placed)
-      (λ row ended.
-      (let run = (running.each 0 p new player placed).runs.run in
-      let rows : of_thread new.thread r'.ended ≡ w.attempts.ended ++ row ∷ [] = ap (λ (t : ℕ). of_thread t r'.ended) mine ∙ (of_thread_all r'.ended (subst (λ (n : ℕ). AreOfActors n r'.ended) still_one running.threads) ∙ ended) in
-      last_early rules (cells'.clock / 2) (bytes_at w.base r'.ended) (Some (first_of p w.arena)) w.attempts.ended row
-      (subst (IsRunOf rules MAX_OPEN_BLOCKS (cells'.clock / 2) (bytes_at w.base r'.ended) (Some (first_of p w.arena))) rows run)))
-      (λ e. (event.finishes e, idle_event rules event (ended_still new.status Finished e))) event.tries)

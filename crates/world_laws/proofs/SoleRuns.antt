@@ -4,7 +4,9 @@ use Rattle.std.proofs.Common.{◌≡◌, ℕ, suc, ◌+◌, ◌<◌, ◌≤◌, 
 use Rattle.std.proofs.Math.Nat.{add-zero}
 use Rattle.std.proofs.lemmas.Bool.{or_parts}
 use Rattle.std.proofs.lemmas.List.{append-nil, take-append-drop}
-use Rattle.norec_world.proofs.Common.{AreSole, Attempt, Begin, Beginning, Between, Block, Call, ClosedBy, Commit, EndsAs, Entry, IsAlone, IsFirstTry, IsOpaque, IsRunOf, MAX_OPEN_BLOCKS, Obeys, Outcome, Progress, Refusal, Rules, Solo, State, Write, after, after_try, after_unless, alone, answered_all, answers, answers_within, begin_code, begin_of, bytes_at, committed_at, ended_as, false_from_ne_true, follows, is_at, is_committed, is_done, is_open, memory_left, one_if, opened, outside, pair_of, player_then, Props, refusal, reply, row_of, run_after, solo_within, state_then, turn, with_all, with_first}
+use Rattle.norec_world.proofs.Common.{Attempt, Begin, Beginning, Between, Block, Call, ClosedBy, Commit, EndsAs, Entry, IsAlone, IsOpaque, IsRunOf, MAX_OPEN_BLOCKS, Obeys, Outcome, Refusal, Rules, State, Write, after, after_try, after_unless, alone, answered_all, answers, answers_within, begin_code, begin_of, bytes_at, committed_at, false_from_ne_true, follows, is_at, is_committed, is_done, is_open, memory_left, opened, outside, pair_of, player_then, Props, refusal, reply, run_after, state_then, turn}
+use Rattle.world_laws.specs.Sole.{AreSole, IsFirstTry}
+use Rattle.world_laws.specs.Solo.{Progress, Solo, ended_as, one_if, row_of, solo_within, with_all, with_first}
 use Rattle.itm_types.specs.declared.call.Reply.{Reply}
 use Rattle.itm_model.specs.Machine.{effect, back_from, closed_in, entered, handed, irrevocable_from, logged_in, made_irrevocable, pushed, rolled_back, with_action, source_bytes, target_written, undone_from, written}
 use Rattle.itm_types.specs.Access.{size_of}
@@ -13,11 +15,11 @@ use Rattle.itm_types.specs.declared.call.Call.TheVariants.{Abort, Log, LogBytes,
 use Rattle.itm_types.specs.declared.copy.CopyPair.{CopyPair}
 use Rattle.itm_types.specs.declared.copy.CopyPair.TheVariants.{Out, In, Within}
 use Rattle.itm_types.specs.Slices.{with_slice}
-use Rattle.norec_world.specs.Solo.{aborts}
+use Rattle.world_laws.specs.Solo.{aborts}
 use Rattle.tx_attempts.specs.declared.attempt.Outcome.TheVariants as outcomes
 use Rattle.tx_attempts.specs.Attempts.{replies_of}
-use Rattle.norec_world.proofs.Solos.{aborts_snoc, ended_block}
-use Rattle.norec_world.proofs.TakingCalls.{in_open}
+use Rattle.world_laws.proofs.Solos.{aborts_snoc, ended_block}
+use Rattle.world_laws.proofs.TakingCalls.{in_open}
 use Rattle.itm_model.specs.State.{Saved}
 use Rattle.std.specs.Option.{option_map}
 use Rattle.itm_types.specs.declared.call.ActionKind.TheVariants as kinds
