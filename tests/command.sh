@@ -86,28 +86,6 @@ cp "$work/input" "$work/-x"
 status=$?
 check 'a file whose name begins with a dash' 0
 
-# each example gives its history, and so does its printed text, which is printed as itself
-for script in "$root"/examples/*.itm; do
-    cp "${script%.itm}.history" "$work/want_output"
-    if [ -f "${script%.itm}.errors" ]; then
-        cp "${script%.itm}.errors" "$work/want_errors"
-        wanted=4
-    else
-        : >"$work/want_errors"
-        wanted=0
-    fi
-    run sched "$script"
-    check "$(basename "$script")" "$wanted"
-    run asm "$script"
-    cp "$work/output" "$work/input"
-    run sched -
-    check "$(basename "$script") printed" "$wanted"
-    cp "$work/input" "$work/want_output"
-    : >"$work/want_errors"
-    run asm -
-    check "$(basename "$script") printed again" 0
-done
-
 # a script whose text was written by hand
 : >"$work/want_errors"
 cat >"$work/input" <<'END'
@@ -314,7 +292,25 @@ if [ -w /dev/full ]; then
     check 'full output of asm' 5
 fi
 
+. "$root/tests/rows.sh"
 . "$root/tests/histories.sh"
+. "$root/tests/scripts.sh"
+
+# the tables, whose scripts are counted with the rest
+sh "$root/tests/tables.sh" >"$work/tables" 2>&1
+sed '$d' "$work/tables"
+last=$(tail -n 1 "$work/tables")
+case $last in
+*' passed, '*' failed')
+    passed=$((passed + ${last%% *}))
+    last=${last#*, }
+    failed=$((failed + ${last%% *}))
+    ;;
+*)
+    failed=$((failed + 1))
+    echo "failed: the tables: $last"
+    ;;
+esac
 
 echo "$passed passed, $failed failed"
 [ "$failed" = 0 ]

@@ -26,14 +26,6 @@ judge_each() {
     done
 }
 
-for history in "$root"/examples/*.history; do
-    cp "$history" "$work/input"
-    judge "$(basename "$history")" legal
-    echo legal >"$work/want_output"
-    run check "$history"
-    check "$(basename "$history") from its file" 0
-done
-
 # two that commit, one after the other
 cat >"$work/two_writers" <<'END'
 itm-history 1
@@ -52,6 +44,13 @@ final 4 0102000000000000
 END
 cp "$work/two_writers" "$work/input"
 judge 'two writers' legal
+sed '8s/committed/unfinished/;11s/.*/call _ITM_RU1 1 = 02/;13s/.*/final 2 0100000000000000/' "$work/two_writers" >"$work/input"
+judge 'what one that has not ended wrote is not in the memory' legal
+sed '3,12d' "$work/two_writers" >"$work/nobody"
+judge_each "$work/nobody" <<'END'
+3|final 0 0000000000000000|legal
+3|final 1 0000000000000000|bad 3 final
+END
 
 # verdicts
 judge_each "$work/two_writers" <<'END'
@@ -236,12 +235,18 @@ sed '9{h;d};10G' "$work/undone" >"$work/input"
 judge 'undo actions in the order of their registration' 'bad 3 ran'
 sed '3s/cancelled/conflict/;8d' "$work/undone" >"$work/input"
 judge 'undo actions after a conflict' legal
+sed '3s/cancelled/nomemory/;8d' "$work/undone" >"$work/input"
+judge 'undo actions of one that found no memory' legal
 sed '3s/cancelled/unfinished/;8d' "$work/undone" >"$work/input"
 judge 'undo actions of one that has not ended' 'bad 3 ran'
 sed '3s/cancelled/unfinished/;8,10d' "$work/undone" >"$work/input"
 judge 'one that has not ended' legal
 sed '3s/cancelled/full/;8s/+outerAbort//' "$work/undone" >"$work/input"
 judge 'undo actions of an inner cancel, and those that are left' legal
+
+# commit actions run in the order of their registration, and no undo action does
+sed '6s/.*/call _ITM_addUserCommitAction 2 _ITM_noTransactionId 0 = ok\n&\nran commit 7 0\nran commit 2 0/;5s/.*/call _ITM_addUserCommitAction 7 _ITM_noTransactionId 0 = ok\ncall _ITM_addUserUndoAction 3 0 = ok\n&/' "$work/two_writers" >"$work/input"
+judge 'commit actions' legal
 
 # irrevocable ones
 cat >"$work/holder" <<'END'
@@ -308,6 +313,8 @@ judge_each "$work/ended" <<'END'
 5|call _ITM_WU1 0 01 = ok|bad 3 shape
 3|attempt 0 1 0 committed -|bad 8 final
 END
+sed '3s/-/pr_hasNoIrrevocable+pr_doesGoIrrevocable/;5s/00$/01/' "$work/ended" >"$work/input"
+judge 'properties that are refused, and a wrong reply' 'bad 3 shape'
 sed '3s/readonly/committed/;8s/0/2/' "$work/ended" >"$work/input"
 judge 'one that committed and wrote nothing' legal
 
@@ -364,11 +371,14 @@ END
 cp "$work/input" "$work/three"
 judge 'the first position is judged first' 'bad 16 reply'
 judge_each "$work/three" <<'END'
+3|attempt 2 1 3 readonly -|bad 3 at
 16|call _ITM_RU1 0 = 00|bad 10 reply
 END
 sed '16s/01$/00/;10s/00$/01/' "$work/three" >"$work/one_left"
 cp "$work/one_left" "$work/input"
 judge 'the others come last' 'bad 5 reply'
+sed '20s/.*/attempt 3 1 0 readonly -\narena -\ncall _ITM_RU1 0 = 07\ncall _ITM_commitTransaction = ok\nend\n&/' "$work/one_left" >"$work/input"
+judge 'the others in the order of the text' 'bad 5 reply'
 judge_each "$work/one_left" <<'END'
 5|call _ITM_RU1 0 = 02|legal
 END

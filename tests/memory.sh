@@ -1,7 +1,7 @@
 #!/bin/sh
-# The worked scripts through `itmrun sched` with each growth of memory refused in turn: those in examples/ and in
-# tests/memory/, each with the history and the errors that it has to give where memory is ample. Outside the gate; needs
-# rt, which builds the program with no proof, and python3.
+# Scripts through `itmrun sched` with each growth of memory refused in turn: those in examples/, and those of tests/rows/
+# that tests/memory/rows.txt names. Each has the history and the errors that it has to give where memory is ample.
+# Outside the gate; needs rt, which builds the program with no proof, and python3.
 #
 #   sh tests/memory.sh [JOBS]     so many builds at a time, as many as there are processors where it is not said
 #

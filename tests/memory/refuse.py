@@ -123,7 +123,8 @@ def build(growth, runs, folder):
 class Sweep:
     def __init__(self, pool, jobs, folder):
         self.pool, self.jobs, self.folder = pool, jobs, folder
-        files = [*ROOT.glob("examples/*.itm"), *HERE.glob("*.itm")]
+        rows = (HERE / "rows.txt").read_text().split()
+        files = [*ROOT.glob("examples/*.itm"), *(ROOT / "tests/rows" / f"{it}.itm" for it in rows)]
         self.scripts = sorted(map(Script, files), key=lambda it: it.name)
         self.kinds = {it.name: {} for it in self.scripts}  # of each script the kind of answer by the growth refused
         self.runs = self.failed = 0
