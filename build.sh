@@ -12,7 +12,8 @@ crates=$here/crates
 out=$crates/itmrun/out
 work=$out/below
 
-# the libraries below the program, each with those that it names, a line each: first what most others wait for in turn
+# the libraries below the program, each with those that it names, a line each: first what most others wait for
+# in turn, and of those alike the longest
 libraries() {
     awk '{ sub(/:/, " "); row[NR] = $0; crates[$1] }
     END {
@@ -27,7 +28,10 @@ libraries() {
             }
             if (above > 1) print above, named
         }
-    }' "$here/crates.txt" | sort -k 1,1nr -k 2,2 | cut -d ' ' -f 2-
+    }' "$here/crates.txt" | while read -r height name named; do
+        lines=$(cd "$crates/$name" && find src specs proofs -type f -exec cat {} + 2>/dev/null | wc -l)
+        echo "$height $((lines)) $name $named"
+    done | sort -k 1,1nr -k 2,2nr | cut -d ' ' -f 3-
 }
 
 # are_in LIST WORD..: whether each word stands in the list
@@ -98,16 +102,20 @@ done <"$work/libraries"
 begun=$proved
 
 # a check takes a processor and up to 4 GB
-idle=${RT_JOBS:-$(awk -v most="$(nproc)" '/^MemAvailable:/ { n = int($2 / 4000000) } END { print n < 1 ? 1 : n < most ? n : most }' /proc/meminfo)}
+most=${RT_JOBS:-$(awk -v most="$(nproc)" '/^MemAvailable:/ { n = int($2 / 4000000) } END { print n < 1 ? 1 : n < most ? n : most }' /proc/meminfo)}
+idle=$most
 echo "itmrun: proving and building the program; from nothing that takes some ten minutes" >&2
 while [ "$count" -lt $((total - 1)) ]; do
+    first=
     set --
     while read -r name named; do
+        are_in "$proved" "$name" || first=${first:-$name}
         are_in "$begun" "$name" || ! are_in "$proved" $named || set -- "$@" "$name"
     done <"$work/libraries"
-    # those that can begin share the processors that are idle
-    while [ $# -gt 0 ] && [ "$idle" -gt 0 ]; do
+    # those that can begin share the processors that are idle; what most others wait for takes most of them anyway
+    while [ $# -gt 0 ] && { [ "$idle" -gt 0 ] || [ "$1" = "$first" ]; }; do
         jobs=$((idle > $# ? idle / $# : 1))
+        [ "$1" != "$first" ] || [ "$jobs" -eq "$most" ] || jobs=$((most - most / 4))
         prove "$1" "$jobs" &
         begun="$begun$1 " idle=$((idle - jobs))
         shift
