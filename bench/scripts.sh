@@ -32,3 +32,14 @@ side_by_side() {
         done
     fi
 }
+
+# reads BLOCKS READS WORDS: a thread's blocks of so many reads each, in turn of so many words
+reads() {
+    awk -v blocks="$1" -v reads="$2" -v words="$3" 'BEGIN {
+        for (b = 0; b < blocks; b++) {
+            print "_ITM_beginTransaction r0 -"
+            for (i = 0; i < reads; i++) print "_ITM_RU8 r1 " 8 * (i % words)
+            print "_ITM_commitTransaction"
+        }
+    }'
+}

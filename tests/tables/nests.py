@@ -5,7 +5,7 @@ from lists import KEPT, SIZES
 from table import COMMIT, Table
 
 WRITERS = 31  # threads of a script, of which each makes one run
-MEMORY, ARENA = bytes(range(1, 33)), 6
+MEMORY, ARENA = bytes(range(1, 41)), 6
 
 # Where the block is entered again, it does nothing.
 OPENER = ["ltu r5 r4 r0", "ifnz r5", "else"]
@@ -73,9 +73,10 @@ def cancel(table):
 
 
 def conflict_at_read(table):
-    """The read's load and the clock, which has changed; then a round: the clock and the first word, which has."""
+    """The load of a word that no block reads, and the clock, which has changed; then a round: the clock and the first
+    word, which has."""
     if table.lists.blocks:
-        table.loses(["_ITM_RU8 r2 16"], 4)
+        table.loses(["_ITM_RU8 r2 32"], 4)
 
 
 def conflict_at_commit(table):

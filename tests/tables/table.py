@@ -43,6 +43,7 @@ class Table:
         self.thread, self.commits = 0, 0
         self.gave_up = []
         self.events = 0  # that the thread has taken
+        self.logged = set()  # words that the open transaction has read from the memory
         self.opener, self.closer = [], []  # code that stands at each end of an outermost block
 
     # ## Calls
@@ -60,7 +61,7 @@ class Table:
         if reply != "code 5":
             self.code.append(COMMIT)  # a refused begin passes over its block
         elif before == 0:
-            self.calls, self.props, self.at = [], props, self.commits
+            self.calls, self.props, self.at, self.logged = [], props, self.commits, set()
             self.own = bytes(self.lists.arena)
             self.events += 2 if self.lists.irrevocable else 1
             self.code += self.opener
@@ -178,12 +179,14 @@ class Table:
     def steps_of_read(self, place, size):
         if self.lists.irrevocable:
             return len(words(place, size))
-        steps = 0
+        read = set()
         for word in range(place // 8, (place + size + 7) // 8):
             wanted = range(max(place, 8 * word), min(place + size, 8 * word + 8))
             if not self.lists.written.get(word, frozenset()).issuperset(wanted):
-                steps += 2
-        return steps
+                read.add(word)
+        new = read - self.logged
+        self.logged |= new
+        return 2 * len(new)
 
     def stores(self, place, size):
         """In an irrevocable transaction these bytes are stored."""

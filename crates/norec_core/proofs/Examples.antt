@@ -172,6 +172,16 @@ first_word_covered = refl
 byte_covered : lines (inside 8 0 [] (byte_of 1 0xab ∷ [])) (read 8) (7 ∷ 0 ∷ []) ≡ Asks (Load (first 8)) (loads 2) ∷ Asks (Confirm (first 8) 7) (loads 0) ∷ Ends None ∷ []
 byte_covered = refl
 
+-- a word that was read takes no step, also under a part that was written since; the piece in the next word does
+logged_word : lines (inside 8 0 (logged 0 7 ∷ []) []) (read 0) [] ≡ Ends None ∷ []
+logged_word = refl
+
+logged_under_a_part : lines (inside 8 0 (logged 1 7 ∷ []) (byte_of 1 0xab ∷ [])) (read 8) [] ≡ Ends None ∷ []
+logged_under_a_part = refl
+
+first_word_logged : lines (inside 8 0 (logged 0 7 ∷ []) []) (read 4) (9 ∷ 0 ∷ []) ≡ Asks (Load (second 4)) (loads 2) ∷ Asks (Confirm (second 4) 9) (loads 0) ∷ Ends None ∷ []
+first_word_logged = refl
+
 -- ## Commits
 
 -- one that wrote nothing, after three writers

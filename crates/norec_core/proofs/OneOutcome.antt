@@ -1,11 +1,9 @@
 -- What an engine gives, and what it is then, follow from what it was and what it is handed.
-use Rattle.std.proofs.Common.{◌≡◌, ℕ, zero, suc, ◌+◌, Bool, true, false, List, [], map, replicate, Option, None, Some, refl, sym, ap, subst, ◌∙◌, arith}
-use Rattle.std.proofs.lemmas.List.{length-replicate}
+use Rattle.std.proofs.Common.{◌≡◌, ℕ, ◌+◌, Bool, true, false, List, [], map, Option, None, Some, refl, sym, ap, subst, ◌∙◌}
 use Rattle.itm_types.specs.declared.call.Call.{Call}
 use Rattle.itm_types.specs.declared.call.Reply.{Reply as Replied}
 use Rattle.itm_types.specs.declared.step.Step.{Step}
-use Rattle.itm_types.specs.Memory.{IsMemory, AllFit, Agrees}
-use Rattle.norec_core.proofs.Overlays.{Agrees-drop}
+use Rattle.itm_types.specs.Memory.{IsMemory, Agrees}
 use Rattle.norec_core.specs.declared.answer.Answer.{Answer}
 use Rattle.norec_core.specs.declared.answer.Answer.TheVariants.{Reply, Committed, Conflict, Busy, Full}
 use Rattle.norec_core.specs.declared.answer.Next.{Next}
@@ -13,7 +11,6 @@ use Rattle.norec_core.specs.declared.answer.Next.TheVariants.{Step as Asks, Answ
 use Rattle.norec_core.specs.declared.phase.Phase.{Phase}
 use Rattle.norec_core.specs.declared.phase.Phase.TheVariants as at
 use Rattle.norec_core.specs.Core.{Core, came, handed, ended, finished, rolled_back, is_inside, in_transaction}
-use Rattle.norec_core.specs.Stands.{SeesOne}
 use Rattle.norec_core.specs.Order.{asked, asked_in, asked_from, tries_at, tries_after}
 use Rattle.norec_core.specs.Endings.{EndsSo, IsEnding, ending_at, ending_after}
 use Rattle.norec_core.specs.Proceeds.{Proceeds, AsksFor, ConflictsIn, Ends, RepliesBy, RepliesTo, writes_after, arena_after, arena_held, blocks_after, actions_after, room_left, IsSettled}
@@ -21,11 +18,6 @@ use Rattle.norec_core.specs.OwnAccesses.{gathered_at}
 use Rattle.nest_frames.specs.Nest.{made_irrevocable}
 use Rattle.norec_core.proofs.AnsweredEngines.{rests}
 use Rattle.norec_core.specs.Moves.{IsCalled, IsResumed}
-
--- a memory of so many words
-all_zero : (n : ℕ) → AllFit (replicate n 0)
-all_zero zero = tt
-all_zero (suc n) = (omega arith, all_zero n)
 
 -- who waits for a step is not idle
 idle_of : (c : Core) (s : Phase) → asked_from c s ≡ None → s ≡ at.Idle
@@ -37,7 +29,7 @@ idle_of c s e = absurd (cc)
 module _ (mid new new' : Core) (end : Option Answer)
     (stage : new.stage ≡ new'.stage) (tries : new.tries ≡ new'.tries) (snapshot : new.snapshot ≡ new'.snapshot)
     (both_open : in_transaction new ≡ true → in_transaction new' ≡ true → new.log ≡ new'.log) (settled : IsSettled new) (settled' : IsSettled new')
-    (asks : new.waits ≡ asked new) (asks' : new'.waits ≡ asked new') (sees : SeesOne new) (sees' : SeesOne new') where
+    (asks : new.waits ≡ asked new) (asks' : new'.waits ≡ asked new') where
   same_log : in_transaction new ≡ (in_transaction new') → new.log ≡ new'.log
   same_log same = by_open (in_transaction new) refl
     where
@@ -65,12 +57,9 @@ module _ (mid new new' : Core) (end : Option Answer)
   one_memory w w' = by_open (in_transaction new) (in_transaction new') refl refl
     where
       by_open : (a b : Bool) → in_transaction new ≡ a → in_transaction new' ≡ b → (m : List ℕ) × IsMemory mid.words m × Agrees m new.log × Agrees m new'.log
-      by_open true true a b = let s = sees a in (s.0, subst (λ (n : ℕ). IsMemory n s.0) w s.1, s.2, subst (Agrees s.0) (both_open a b) s.2)
-      by_open true false a b = let s = sees a in (s.0, subst (λ (n : ℕ). IsMemory n s.0) w s.1, s.2, subst (Agrees s.0) (sym (settled'.closed b).0) tt)
-      by_open false true a b = let s = sees' b in (s.0, subst (λ (n : ℕ). IsMemory n s.0) w' s.1, subst (Agrees s.0) (sym (settled.closed a).0) tt, s.2)
-      by_open false false a b =
-          let zeros : List ℕ = replicate mid.words 0 in
-          (zeros, (length-replicate mid.words 0, all_zero mid.words), subst (Agrees zeros) (sym (settled.closed a).0) tt, subst (Agrees zeros) (sym (settled'.closed b).0) tt)
+      by_open true true a b = let m = settled.agreed in (m.0, subst (λ (n : ℕ). IsMemory n m.0) w m.1, m.2, subst (Agrees m.0) (both_open a b) m.2)
+      by_open true false a b = let m = settled.agreed in (m.0, subst (λ (n : ℕ). IsMemory n m.0) w m.1, m.2, subst (Agrees m.0) (sym (settled'.closed b).0) tt)
+      by_open false other a b = let m = settled'.agreed in (m.0, subst (λ (n : ℕ). IsMemory n m.0) w' m.1, subst (Agrees m.0) (sym (settled.closed a).0) tt, m.2)
 
   replies_by : (holds irrevocable : Bool) (call : Call) (r r' : Replied) → RepliesBy holds irrevocable mid call r new → RepliesBy holds irrevocable mid call r' new' → (r ≡ r') × (new ≡ new')
   replies_by true false call r r' g g' =
@@ -118,12 +107,10 @@ module _ (mid new new' : Core) (end : Option Answer)
       let e = g.stays in
       let e' = g'.stays in
       let m = one_memory (ap (λ (c : Core). c.words) e) (ap (λ (c : Core). c.words) e') in
-      let own = Agrees-drop m.0 mid.entry new.log m.2 in
-      let own' = Agrees-drop m.0 mid.entry new'.log m.3 in
-      let one : r ≡ r' = g.reply_is m.0 m.1 own ∙ sym (g'.reply_is m.0 m.1 own') in
-      let writes : new.writes ≡ new'.writes = g.writes m.0 m.1 own ∙ (ap (writes_after mid m.0 call) one ∙ sym (g'.writes m.0 m.1 own')) in
+      let one : r ≡ r' = g.reply_is m.0 m.1 m.2 ∙ sym (g'.reply_is m.0 m.1 m.3) in
+      let writes : new.writes ≡ new'.writes = g.writes m.0 m.1 m.2 ∙ (ap (writes_after mid m.0 call) one ∙ sym (g'.writes m.0 m.1 m.3)) in
       let blocks : new.blocks ≡ new'.blocks = g.blocks ∙ (ap (blocks_after mid call) one ∙ sym g'.blocks) in
-      let arena : new.arena ≡ new'.arena = g.arena m.0 m.1 own ∙ (ap (arena_after mid m.0 call) one ∙ sym (g'.arena m.0 m.1 own')) in
+      let arena : new.arena ≡ new'.arena = g.arena m.0 m.1 m.2 ∙ (ap (arena_after mid m.0 call) one ∙ sym (g'.arena m.0 m.1 m.3)) in
       let actions : new.actions ≡ new'.actions = g.actions ∙ (ap (actions_after mid call) one ∙ sym g'.actions) in
       let log = same_log (ap is_inside blocks) in (
         one,
@@ -189,28 +176,16 @@ module _ (mid new new' : Core) (end : Option Answer)
 
 -- ## Calls
 
-words_same : (mid : Core) (what : Next) (new : Core) → Proceeds mid what new → new.words ≡ mid.words
-words_same mid (Asks step) new e = ap (λ (c : Core). c.words) e.stays
-words_same mid (Answers a) new e = (rests mid new a e).words
-
--- a call opens nothing and logs nothing
-pub sees_still : (old : Core) (call : Call) (again : Bool) (what : Next) (new : Core) → IsCalled old call again what new → SeesOne old → SeesOne new
-sees_still old call again what new f sees o =
-    let s = sees (f.stays.opens o) in
-    (s.0, subst (λ (n : ℕ). IsMemory n s.0) (sym (words_same (came old call again) what new f.proceeds)) s.1, subst (Agrees s.0) (sym (f.stays.log o)) s.2)
-
 -- a call came
-pub called_once : (old : Core) (call : Call) (again : Bool) (what what' : Next) (new new' : Core) → IsCalled old call again what new → IsCalled old call again what' new' → SeesOne old
-    → (what ≡ what') × (new ≡ new')
-called_once old call again what what' new new' f g sees =
+pub called_once : (old : Core) (call : Call) (again : Bool) (what what' : Next) (new new' : Core) → IsCalled old call again what new → IsCalled old call again what' new' → (what ≡ what') × (new ≡ new')
+called_once old call again what what' new new' f g =
     let stage : new.stage ≡ new'.stage = f.order ∙ sym g.order in
     one_outcome (came old call again) new new' (ending_at old call) stage (f.tries ∙ (ap tries_at stage ∙ sym g.tries)) (f.stays.snapshot ∙ sym g.stays.snapshot)
-    (λ o o'. f.stays.log o ∙ sym (g.stays.log o')) f.settled g.settled f.asks g.asks
-    (sees_still old call again what new f sees) (sees_still old call again what' new' g sees) what what' f.proceeds g.proceeds f.ends g.ends
+    (λ o o'. f.stays.log o ∙ sym (g.stays.log o')) f.settled g.settled f.asks g.asks what what' f.proceeds g.proceeds f.ends g.ends
 
 -- a value was handed in
-pub resumed_once : (old : Core) (seen : ℕ) (what what' : Next) (new new' : Core) → IsResumed old seen what new → IsResumed old seen what' new' → SeesOne new → SeesOne new' → (what ≡ what') × (new ≡ new')
-resumed_once old seen what what' new new' f g sees sees' =
+pub resumed_once : (old : Core) (seen : ℕ) (what what' : Next) (new new' : Core) → IsResumed old seen what new → IsResumed old seen what' new' → (what ≡ what') × (new ≡ new')
+resumed_once old seen what what' new new' f g =
     let stage : new.stage ≡ new'.stage = f.order ∙ sym g.order in
     one_outcome (handed old seen) new new' (ending_after old seen) stage (f.tries ∙ ((λ i. tries_after (stage i) old.tries) ∙ sym g.tries)) (f.snapshot ∙ sym g.snapshot)
-    (λ o o'. f.log o ∙ sym (g.log o')) f.settled g.settled f.asks g.asks sees sees' what what' f.proceeds g.proceeds f.ends g.ends
+    (λ o o'. f.log o ∙ sym (g.log o')) f.settled g.settled f.asks g.asks what what' f.proceeds g.proceeds f.ends g.ends

@@ -1,21 +1,19 @@
 -- What a call of an irrevocable transaction comes to. It has the memory to itself from call to call, so each step leaves what it will come to as it was.
-use Rattle.std.specs.Prelude.{◌≡◌, ℕ, suc, ◌+◌, ◌-◌, ◌/◌, ◌%◌, true, List, [], ◌∷◌, ◌++◌, drop, Option, None, Some, slice_get, slice_set}
+use Rattle.std.specs.Prelude.{◌≡◌, ℕ, suc, ◌+◌, ◌-◌, ◌%◌, true, List, ◌++◌, drop, Option, Some, slice_get, slice_set}
 use Rattle.itm_types.specs.declared.limits.TheConstants.{MAX_OPEN_BLOCKS}
 use Rattle.itm_types.specs.declared.call.Call.{Call}
 use Rattle.itm_types.specs.declared.call.Call.TheVariants.{Commit}
-use Rattle.itm_types.specs.declared.call.Copying.{Copying}
 use Rattle.itm_types.specs.declared.call.Reply.{Reply as Replied}
 use Rattle.itm_types.specs.declared.call.Reply.TheVariants.{Done}
 use Rattle.itm_types.specs.declared.step.Step.{Step}
-use Rattle.itm_types.specs.declared.step.Step.TheVariants.{Load, Store, Cas}
+use Rattle.itm_types.specs.declared.step.Step.TheVariants.{Load, Store}
 use Rattle.itm_types.specs.Memory.{bytes_of, IsMemory}
 use Rattle.word_pieces.specs.Chunks.{chunks_of}
 use Rattle.word_pieces.specs.declared.chunk.Direction.TheVariants.{Up}
 use Rattle.word_pieces.specs.Pieces.{gathered, pieces_of, written}
 use Rattle.itm_model.specs.Machine.{after, bytes_reply, reply, target_written}
 use Rattle.itm_model.specs.State.{State}
-use Rattle.norec_core.specs.declared.answer.Answer.{Answer as Answered}
-use Rattle.norec_core.specs.declared.answer.Answer.TheVariants.{Reply, Committed, Conflict, Busy, Full}
+use Rattle.norec_core.specs.declared.answer.Answer.TheVariants.{Reply, Committed}
 use Rattle.norec_core.specs.declared.answer.Next.{Next}
 use Rattle.norec_core.specs.declared.answer.Next.TheVariants.{Step as Asks, Answer as Answers}
 use Rattle.norec_core.specs.declared.phase.Phase.{Phase}

@@ -31,7 +31,7 @@ use Rattle.word_pieces.specs.declared.chunk.Direction.TheVariants.{Up}
 use Rattle.word_pieces.specs.Chunks.{chunks_of}
 use Rattle.word_pieces.specs.Masks.{mask_of, merge, whole}
 use Rattle.word_pieces.specs.Pieces.{count_of, piece_of, pieces_of, scattered}
-use Rattle.norec_core.specs.Rows.{row_at, write_at, value_into, is_covered}
+use Rattle.norec_core.specs.Rows.{row_at, write_at, value_into, is_had}
 use Rattle.itm_types.specs.declared.step.Step.{Step}
 use Rattle.itm_types.specs.declared.step.Step.TheVariants as steps
 use Rattle.norec_core.specs.Core.{Core, goes, in_transaction, is_outermost, may_go}
@@ -63,38 +63,38 @@ stored_stage (takings.Begin props room) = Idle
 abbrev pub store_stage : Taking → List Row → ℕ → Phase
 store_stage taking rows row = if nat_lt row (length rows) then row_store taking (write_at rows row) row else stored_stage taking
 
--- the first of these pieces, of which the next one is the access's, that the write set does not have, or what comes past them
-abbrev pub load_among : List Row → Phase → Reading → List Piece → Phase
-load_among writes past r [] = past
-load_among writes past r (p ∷ ps) = if is_covered writes p then load_among writes past (record r { number = suc r.number }) ps else Load r
+-- the first of these pieces, of which the next one is the access's, that is not to be had with no step, or what comes past them
+abbrev pub load_among : List Row → List LogRow → Phase → Reading → List Piece → Phase
+load_among writes log past r [] = past
+load_among writes log past r (p ∷ ps) = if is_had writes log p then load_among writes log past (record r { number = suc r.number }) ps else Load r
 
 -- a chunk of a copy's source, at its first piece
 abbrev pub chunk_reading : Copying → ℕ → Chunk → Reading
 chunk_reading k number c = record { purpose = for.Chunk k number; at = k.from + c.at; size = c.size; number = 0 }
 
 -- the same among these chunks of a copy's source, the first of which has this number
-abbrev pub load_chunks : List Row → Copying → ℕ → List Chunk → Phase
-load_chunks writes k number [] = Idle
-load_chunks writes k number (c ∷ cs) = load_among writes (load_chunks writes k (suc number) cs) (chunk_reading k number c) (pieces_of (k.from + c.at) c.size)
+abbrev pub load_chunks : List Row → List LogRow → Copying → ℕ → List Chunk → Phase
+load_chunks writes log k number [] = Idle
+load_chunks writes log k number (c ∷ cs) = load_among writes log (load_chunks writes log k (suc number) cs) (chunk_reading k number c) (pieces_of (k.from + c.at) c.size)
 
 -- and past the access that is made for this
-abbrev pub load_past : List Row → Purpose → Phase
-load_past writes (for.Value hint width) = Idle
-load_past writes (for.Chunk k number) = load_chunks writes k (suc number) (drop (suc number) (chunks_in k))
+abbrev pub load_past : List Row → List LogRow → Purpose → Phase
+load_past writes log (for.Value hint width) = Idle
+load_past writes log (for.Chunk k number) = load_chunks writes log k (suc number) (drop (suc number) (chunks_in k))
 
 -- the next piece that is loaded, from this one on
-abbrev pub load_stage : List Row → Reading → Phase
-load_stage writes r = load_among writes (load_past writes r.purpose) r (drop r.number (pieces_of r.at r.size))
+abbrev pub load_stage : List Row → List LogRow → Reading → Phase
+load_stage writes log r = load_among writes log (load_past writes log r.purpose) r (drop r.number (pieces_of r.at r.size))
 
 -- a read, at its first piece
 abbrev pub value_reading : ReadHint → Width → ℕ → Reading
 value_reading hint width at = record { purpose = for.Value hint width; at = at; size = size_of width; number = 0 }
 
 -- where a copy stands as it comes: one out of the arena loads nothing
-abbrev pub copy_stage : List Row → Copying → CopyPair → Phase
-copy_stage writes k (Out to) = Idle
-copy_stage writes k (In from) = load_chunks writes k 0 (chunks_in k)
-copy_stage writes k (Within from to) = load_chunks writes k 0 (chunks_in k)
+abbrev pub copy_stage : List Row → List LogRow → Copying → CopyPair → Phase
+copy_stage writes log k (Out to) = Idle
+copy_stage writes log k (In from) = load_chunks writes log k 0 (chunks_in k)
+copy_stage writes log k (Within from to) = load_chunks writes log k 0 (chunks_in k)
 
 -- ### In an irrevocable transaction
 
@@ -175,7 +175,7 @@ stage_from c Idle seen = Idle
 stage_from c (Begin b) seen = if seen % 2 == 0 then begin_stage c.max_commits b seen else again_stage c b
 stage_from c (Take b) seen = if seen == c.snapshot then Idle else again_stage c b
 stage_from c (Load r) seen = if c.irrevocable then read_from (read_past r.purpose) (record r { number = suc r.number }) else Confirm r seen
-stage_from c (Confirm r value) seen = if seen == c.snapshot then load_stage c.writes (record r { number = suc r.number }) else try_stage c.tries c.patience (aims.Read r)
+stage_from c (Confirm r value) seen = if seen == c.snapshot then load_stage c.writes (c.log ++ c.fresh) (record r { number = suc r.number }) else try_stage c.tries c.patience (aims.Read r)
 stage_from c (RoundStart aim) seen = if seen % 2 == 0 then row_stage (length c.log) aim 0 else try_stage c.tries c.patience aim
 stage_from c (RoundRow aim row) seen = if (row_at c.log row).value == seen then row_stage (length c.log) aim (row + 1) else Idle
 stage_from c (RoundEnd aim) seen = if seen == c.clock then aimed_stage c aim seen else try_stage c.tries c.patience aim
@@ -200,10 +200,10 @@ going_stage c (Some room) taking = exchange_stage c.max_commits c.snapshot takin
 
 -- a read, a copy and a fill that are served
 abbrev pub read_stage : Core → Reading → Phase
-read_stage c r = if c.irrevocable then read_from Idle r else load_stage c.writes r
+read_stage c r = if c.irrevocable then read_from Idle r else load_stage c.writes c.log r
 
 abbrev pub copying_stage : Core → Copying → Phase
-copying_stage c k = if c.irrevocable then chunk_from k 0 else copy_stage c.writes k k.pair
+copying_stage c k = if c.irrevocable then chunk_from k 0 else copy_stage c.writes c.log k k.pair
 
 -- a write and a fill take no step but in an irrevocable transaction
 abbrev pub placed_in : Core → Phase → Phase

@@ -29,11 +29,13 @@ use Rattle.norec_core.specs.declared.answer.Answer.TheVariants.{Reply, Committed
 use Rattle.norec_core.specs.declared.answer.Next.{Next}
 use Rattle.norec_core.specs.declared.answer.Next.TheVariants.{Step as Asks, Answer as Answers}
 use Rattle.write_set.specs.Rows.{overlay}
-use Rattle.norec_core.specs.Rows.{AreRoomy, write_at, reserved_all, put_all, put_range}
+use Rattle.norec_core.specs.Rows.{AreRoomy, write_at, reserved_all, put_all, put_range, IsLog}
 use Rattle.norec_core.specs.Copies.{copy_refusal, direction_of, source_in, source_words, words_in, words_read, words_written}
 use Rattle.norec_core.specs.OwnAccesses.{gathered_at}
 use Rattle.norec_core.specs.Core.{Core, goes, in_transaction, ended, finished, rolled_back}
 use Rattle.norec_core.specs.Stands.{stands_for}
+use Rattle.norec_core.specs.declared.phase.Phase.TheVariants.{Idle}
+use Rattle.norec_core.specs.Order.{load_stage, value_reading}
 
 -- ## Lawful steps
 
@@ -146,14 +148,10 @@ abbrev pub room_left : Core → Call → Replied → ℕ
 room_left c (CommitAction action) Done = c.room - 1
 room_left c _ r = c.room
 
--- the rows that the call in progress has logged itself
-abbrev pub own_rows : ℕ → List LogRow → List LogRow
-own_rows entry log = drop entry log
-
--- at a reply the engine is the plain machine's, over every memory that agrees with the log; the reply too, even over each that agrees with what the call itself has logged
+-- at a reply the engine is the plain machine's, over every memory that agrees with the log, and so is the reply
 pub record Replies (mid : Core) (call : Call) (r : Replied) (new : Core) : Type 0 where
   pub meets : (m : List ℕ) → IsMemory mid.words m → Agrees m new.log → stands_for new m ≡ after MAX_OPEN_BLOCKS (stands_for mid m) call
-  pub reply_is : (m : List ℕ) → IsMemory mid.words m → Agrees m (own_rows mid.entry new.log) → r ≡ recoded call mid.again (reply MAX_OPEN_BLOCKS (stands_for mid m) call)
+  pub reply_is : (m : List ℕ) → IsMemory mid.words m → Agrees m new.log → r ≡ recoded call mid.again (reply MAX_OPEN_BLOCKS (stands_for mid m) call)
   pub stays : new ≡ record mid {
     stage = new.stage;
     tries = new.tries;
@@ -171,8 +169,8 @@ pub record Replies (mid : Core) (call : Call) (r : Replied) (new : Core) : Type 
     room = room_left mid call r;
     gathered = [];
   }
-  pub writes : (m : List ℕ) → IsMemory mid.words m → Agrees m (own_rows mid.entry new.log) → new.writes ≡ writes_after mid m call r
-  pub arena : (m : List ℕ) → IsMemory mid.words m → Agrees m (own_rows mid.entry new.log) → new.arena ≡ arena_after mid m call r
+  pub writes : (m : List ℕ) → IsMemory mid.words m → Agrees m new.log → new.writes ≡ writes_after mid m call r
+  pub arena : (m : List ℕ) → IsMemory mid.words m → Agrees m new.log → new.arena ≡ arena_after mid m call r
   pub free : mid.holds ≡ false
   pub revocable : mid.irrevocable ≡ false
   pub unfreed : mid.freed ≡ false
@@ -374,9 +372,9 @@ IsAtOnce (Answers (Conflict clock word)) = ⊥
 IsAtOnce (Answers (Busy clock)) = ⊥
 IsAtOnce _ = Unit {0}
 
--- memory is asked for by a read, a write, a log, a copy, a fill, a registration or a call that makes the transaction irrevocable alone, by no refused one, by no write to words that the innermost block has given rows, and by no log, copy or fill of no bytes
+-- memory is asked for by a read, a write, a log, a copy, a fill, a registration or a call that makes the transaction irrevocable alone, by no refused one, by no read that takes no step, by no write to words that the innermost block has given rows, and by no log, copy or fill of no bytes
 abbrev pub MayStarveOpen : Core → Call → Type 0
-MayStarveOpen c (Read hint width at) = (in_transaction c ≡ true) × (at + size_of width ≤ 8 * c.words)
+MayStarveOpen c (Read hint width at) = (in_transaction c ≡ true) × (at + size_of width ≤ 8 * c.words) × (load_stage c.writes c.log (value_reading hint width at) ≢ Idle)
 MayStarveOpen c (Write hint at value) = (in_transaction c ≡ true) × (at + size_of value.width ≤ 8 * c.words) × (AreRoomy c.writes (rows_of c.blocks) (pieces_of at (size_of value.width)) → ⊥)
 MayStarveOpen c (Log width at) = (in_transaction c ≡ true) × (at + size_of width ≤ length c.arena)
 MayStarveOpen c (LogBytes at size) = (in_transaction c ≡ true) × (at + size ≤ length c.arena) × (0 < size)
@@ -430,6 +428,8 @@ IsWithin c = c.waits ≢ None → c.spent ≤ most c c.doing
 pub record IsSettled (c : Core) : Type 0 where
   pub closed : in_transaction c ≡ false → (c.log ≡ []) × (c.writes ≡ []) × (c.actions.commits ≡ []) × (c.actions.undos ≡ [])
   pub reached : c.snapshot ≤ c.clock
+  pub logged : IsLog c.words c.log
+  pub agreed : (m : List ℕ) × IsMemory c.words m × Agrees m c.log  -- so some memory agrees with the log
   pub inside : c.waits ≡ None → in_transaction c ≡ true → (c.clock ≡ c.snapshot) × (c.snapshot % 2 ≡ 0)
   pub unfreed : c.freed ≡ false
   pub even : c.snapshot % 2 ≡ 0

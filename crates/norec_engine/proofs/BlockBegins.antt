@@ -1,42 +1,33 @@
 -- Begins of blocks: refused ones, and those within a transaction.
-use Rattle.std.proofs.Common.{◌≡◌, ◌≢◌, ℕ, suc, ◌+◌, ◌<◌, ◌≤◌, ◌&&◌, ◌||◌, not, nat_lt, Bool, true, false, List, [], ◌∷◌, length, Option, None, Some, unwrap_or, if◌then◌else◌, refl, sym, ap, subst, ◌∙◌, arith}
+use Rattle.std.proofs.Common.{◌≡◌, ℕ, ◌<◌, ◌&&◌, ◌||◌, not, nat_lt, Bool, true, false, List, ◌∷◌, length, Option, None, Some, unwrap_or, if◌then◌else◌, refl, sym, ap, subst, ◌∙◌}
 use Rattle.std.proofs.lemmas.Bool.{cond-true, cond-false, lt-ltb}
 use Rattle.itm_types.specs.declared.limits.TheConstants.{MAX_OPEN_BLOCKS}
 use Rattle.itm_types.specs.declared.call.Call.TheVariants.{Begin}
 use Rattle.itm_types.specs.declared.call.Props.{Props}
 use Rattle.itm_types.specs.declared.call.Refusal.{Refusal}
 use Rattle.itm_types.specs.declared.call.Refusal.TheVariants.{NoIrrevocable, TooDeep}
-use Rattle.itm_types.specs.declared.call.Reply.{Reply as Replied}
 use Rattle.itm_types.specs.declared.call.Reply.TheVariants.{Code, Refused}
-use Rattle.itm_types.specs.declared.step.Step.TheVariants.{Load}
 use Rattle.user_actions.specs.Actions.{Actions}
 use Rattle.write_set.specs.Marks.{place_of}
-use Rattle.write_set.specs.Rows.{AreRows}
 use Rattle.write_set.specs.declared.row.Row.{Row}
-use Rattle.nest_frames.specs.Nest.{Frame, Nest, begun}
-use Rattle.itm_model.specs.State.{State}
-use Rattle.itm_model.specs.Machine.{after, after_unless, effect, entered, keeps_revocable, or_else, pushed, refusal, reply, reply_unless, unless}
+use Rattle.nest_frames.specs.Nest.{Frame, begun}
+use Rattle.itm_model.specs.Machine.{after_unless, effect, entered, or_else, pushed, refusal, reply, reply_unless, unless}
 use Rattle.norec_core.specs.declared.answer.Answer.TheVariants.{Reply}
 use Rattle.norec_core.specs.declared.phase.Aim.TheVariants as aims
-use Rattle.norec_core.specs.declared.phase.Opening.{Opening}
-use Rattle.norec_core.specs.declared.phase.Phase.{Phase}
 use Rattle.norec_core.specs.declared.phase.Phase.TheVariants as at
 use Rattle.norec_core.specs.declared.phase.Taking.TheVariants as takings
 use Rattle.norec_core.specs.Accesses.{begin_refusal}
-use Rattle.norec_core.specs.Core.{Core, came, is_inside, may_go}
+use Rattle.norec_core.specs.Core.{came, may_go}
 use Rattle.norec_core.specs.Endings.{IsEnding, going_ending, ending_at}
 use Rattle.norec_core.specs.Order.{going_stage, stage_at}
-use Rattle.norec_core.specs.Proceeds.{AsksFor, Replies, recoded}
-use Rattle.norec_core.specs.Rows.{AllWritesWithin}
-use Rattle.norec_core.specs.Stands.{blocks_over, state_over}
+use Rattle.norec_core.specs.Proceeds.{Replies, recoded}
+use Rattle.norec_core.specs.Stands.{state_over}
 use Rattle.norec_core.proofs.Blocks.{none_inside}
 use Rattle.norec_core.proofs.Machines.{open_is, refuses}
 use Rattle.norec_data.specs.declared.data.Data.{Data}
-use Rattle.norec_data.specs.declared.turn.Turn.TheVariants.{Wait, End}
-use Rattle.norec_data.specs.Turns.{counted}
 use Rattle.norec_data.specs.View.{core, in_block}
-use Rattle.norec_engine.specs.InPhases.{AreFrames, IsOpen, IsSound}
-use Rattle.norec_engine.specs.Between.{IsSoundTurn, MayExchange, between, moved}
+use Rattle.norec_engine.specs.InPhases.{IsSound}
+use Rattle.norec_engine.specs.Between.{between, moved}
 use Rattle.norec_engine.proofs.IrrevocableEntries.{begin_served, length-over, or_none, revocable_over}
 use Rattle.norec_engine.proofs.Refusals.{denied, stands}
 

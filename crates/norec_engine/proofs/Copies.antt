@@ -1,10 +1,9 @@
 -- What the plain machine does with copies, of the state that an engine stands for.
-use Rattle.std.proofs.Common.{◌≡◌, ℕ, ◌+◌, ◌*◌, ◌≤◌, Bool, true, false, nat_le, List, length, Option, Some, None, refl, sym, ap, ◌∙◌, arith}
-use Rattle.std.proofs.lemmas.Bool.{leb-true}
+use Rattle.std.proofs.Common.{◌≡◌, ℕ, ◌+◌, ◌*◌, ◌≤◌, Bool, true, false, List, length, Option, Some, None, refl, sym, ap, ◌∙◌, arith}
 use Rattle.itm_types.specs.declared.call.Call.TheVariants.{Copy}
 use Rattle.itm_types.specs.declared.call.Copying.{Copying}
 use Rattle.itm_types.specs.declared.call.Refusal.{Refusal}
-use Rattle.itm_types.specs.declared.call.Refusal.TheVariants.{Outside, OutOfRange, OutOfArena, Overlap}
+use Rattle.itm_types.specs.declared.call.Refusal.TheVariants.{Outside, Overlap}
 use Rattle.itm_types.specs.declared.call.Reply.TheVariants.{Done, Refused}
 use Rattle.itm_types.specs.declared.copy.CopyPair.{CopyPair}
 use Rattle.itm_types.specs.declared.copy.CopyPair.TheVariants.{Out, In, Within}
@@ -13,8 +12,8 @@ use Rattle.itm_types.specs.Memory.{bytes_of, IsMemory}
 use Rattle.itm_types.specs.Slices.{with_slice, AreBytes}
 use Rattle.itm_types.proofs.Words.{length-bytes_of}
 use Rattle.itm_model.specs.State.{State}
-use Rattle.itm_model.specs.Machine.{unless, or_else, is_clear, target_range, source_range, source_bytes, saved_in_arena, target_written, refusal, effect, after, after_unless, reply, reply_unless}
-use Rattle.word_pieces.proofs.Lists.{length-slice, length-with_slice}
+use Rattle.itm_model.specs.Machine.{unless, or_else, is_clear, source_bytes, saved_in_arena, target_written, refusal, effect, after, after_unless, reply, reply_unless}
+use Rattle.word_pieces.proofs.Lists.{length-with_slice}
 use Rattle.write_set.specs.declared.row.Row.{Row}
 use Rattle.write_set.specs.Rows.{overlay, AreRows}
 use Rattle.write_set.proofs.Overlays.{length-overlay}
@@ -23,7 +22,7 @@ use Rattle.nest_frames.specs.Nest.{Frame}
 use Rattle.norec_data.specs.declared.data.Data.{Data}
 use Rattle.norec_core.specs.declared.phase.Phase.TheVariants.{Idle}
 use Rattle.norec_core.specs.Core.{came, is_inside}
-use Rattle.norec_core.specs.Copies.{shared_refusal, arena_refusal, target_refusal, source_refusal, copy_refusal, direction_of, source_in}
+use Rattle.norec_core.specs.Copies.{target_refusal, copy_refusal, direction_of, source_in}
 use Rattle.norec_data.specs.View.{core, in_block}
 use Rattle.norec_engine.specs.InPhases.{IsSound}
 use Rattle.norec_core.specs.Proceeds.{Replies, writes_copied, arena_copied}

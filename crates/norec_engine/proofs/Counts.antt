@@ -1,5 +1,5 @@
 -- The steps of a call are within its most.
-use Rattle.std.proofs.Common.{◌≡◌, ◌≢◌, ℕ, ◌+◌, ◌-◌, ◌*◌, ◌^◌, ◌<◌, ◌≤◌, Bool, true, false, if◌then◌else◌, List, length, drop, refl, ap, arith, Some, None, sym, subst}
+use Rattle.std.proofs.Common.{◌≡◌, ◌≢◌, ℕ, ◌+◌, ◌-◌, ◌*◌, ◌^◌, ◌<◌, ◌≤◌, Bool, true, false, if◌then◌else◌, List, length, refl, ap, arith, Some, None, sym, subst}
 use Rattle.std.proofs.Math.Nat.{mul-le-mul_right}
 use Rattle.std.proofs.lemmas.Nat.{mul-le}
 use Rattle.itm_types.specs.declared.limits.TheConstants.{MAX_PATIENCE, MAX_WORDS}
@@ -49,13 +49,13 @@ few_for words bytes written writes own buffer (for.Chunk k n) at size f w small 
 
 module _ (d : Data) (r : Reading) (may : MayRead d r) where
   most_read : (c : Core) → c.irrevocable ≡ false → most c (Some (call_for r.purpose r.at)) ≡ 2 * total r + c.patience * (c.entry + total r + 4)
-  most_read c i = most_for d.words (length d.arena) d.written d.frames.writes (drop d.entry d.log.rows) d.buffer.items r.purpose r.at r.size may.reading.purpose c i
+  most_read c i = most_for d.words (length d.arena) d.written d.frames.writes d.log.rows d.buffer.items r.purpose r.at r.size may.reading.purpose c i
 
   few_read : d.words ≤ MAX_WORDS → total r ≤ 10240
-  few_read w = few_for d.words (length d.arena) d.written d.frames.writes (drop d.entry d.log.rows) d.buffer.items r.purpose r.at r.size may.reading.purpose w may.reading.small
+  few_read w = few_for d.words (length d.arena) d.written d.frames.writes d.log.rows d.buffer.items r.purpose r.at r.size may.reading.purpose w may.reading.small
 
   left : passed r < total r
-  left = total_left r.purpose r.number (count r) (among d r.purpose r.at r.size may.reading.purpose) may.some
+  left = total_left r.purpose r.number (count r) (among d r.purpose r.at r.size may.reading.purpose) may.missing.some
 
 -- and of one that takes the clock
 most_take : (c : Core) (taking : Taking) → in_transaction c ≡ true → most c (Some (call_of (aims.Take taking))) ≡ c.patience * (c.entry + 3) + 2 * length c.writes + 2
@@ -72,12 +72,12 @@ more t p k l h =
 -- a round is over: its steps are counted in full, whatever the clock is
 pub round_over : (d : Data) (aim : Aim) (clock : ℕ) → InRound d aim (length d.log.rows + 2) → d.spent ≤ first_of aim + d.tries * round_of aim (record d { clock = clock })
 round_over d (aims.Read r) clock round =
-    omega (arith, more d.tries d.tries (d.entry + total r + 4) round.tried (omega arith), round.spent, round.may.reading.grown, left d r round.may)
+    omega (arith, more d.tries d.tries (d.entry + total r + 4) round.tried (omega arith), round.spent, round.may.logging.grown, left d r round.may)
 round_over d (aims.Take taking) clock round = omega (arith, more d.tries d.tries (d.entry + 3) round.tried (omega arith), round.spent, round.may.grown)
 
 rounds : (d : Data) (aim : Aim) (steps : ℕ) → InRound d aim steps → steps ≤ length d.log.rows + 3 → d.spent ≤ most (core d (at.RoundStart aim)) (doing_of (at.RoundStart aim))
 rounds d (aims.Read r) steps round l =
-    omega (arith, most_read d r round.may (core d (at.RoundStart (aims.Read r))) refl, more d.tries d.limits.patience (d.entry + total r + 4) round.tried round.is_open.tries, round.spent, round.may.reading.grown, left d r round.may)
+    omega (arith, most_read d r round.may (core d (at.RoundStart (aims.Read r))) refl, more d.tries d.limits.patience (d.entry + total r + 4) round.tried round.is_open.tries, round.spent, round.may.logging.grown, left d r round.may)
 rounds d (aims.Take taking) steps round l =
     omega (arith, most_take (core d (at.RoundStart (aims.Take taking))) taking round.is_open.is_open, more d.tries d.limits.patience (d.entry + 3) round.tried round.is_open.tries, round.spent, round.may.grown)
 

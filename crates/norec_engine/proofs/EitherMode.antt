@@ -1,6 +1,5 @@
 -- A turn of either machine, as one of the engine's.
-use Rattle.std.proofs.Common.{◌≡◌, Bool, true, false, refl}
-use Rattle.norec_core.specs.Core.{Core}
+use Rattle.std.proofs.Common.{◌≡◌, true, false, refl}
 use Rattle.norec_core.specs.declared.phase.Phase.TheVariants.{Idle}
 use Rattle.norec_data.specs.declared.data.Data.{Data}
 use Rattle.norec_data.specs.declared.turn.Turn.{Turn}

@@ -1,5 +1,5 @@
 -- The steps of a call of an irrevocable transaction are within its most.
-use Rattle.std.proofs.Common.{◌≡◌, ◌≢◌, ℕ, zero, suc, ◌+◌, ◌*◌, ◌^◌, ◌<◌, ◌≤◌, Bool, true, false, List, [], ◌∷◌, length, take, Option, None, Some, slice_get, refl, sym, ap, subst, ◌∙◌, arith, add-one}
+use Rattle.std.proofs.Common.{◌≡◌, ◌≢◌, ℕ, zero, suc, ◌+◌, ◌*◌, ◌^◌, ◌<◌, ◌≤◌, Bool, true, false, List, [], ◌∷◌, take, None, Some, slice_get, refl, ap, ◌∙◌, arith}
 use Rattle.itm_types.specs.declared.limits.TheConstants.{MAX_WORDS}
 use Rattle.itm_types.specs.declared.call.Copying.{Copying}
 use Rattle.itm_types.specs.declared.copy.CopyPair.{CopyPair}
@@ -15,8 +15,6 @@ use Rattle.norec_core.specs.declared.phase.Purpose.{Purpose}
 use Rattle.norec_core.specs.declared.phase.Purpose.TheVariants as for
 use Rattle.norec_core.specs.declared.phase.Target.{Target}
 use Rattle.norec_core.specs.declared.phase.Target.TheVariants as into
-use Rattle.norec_core.specs.declared.phase.Reading.{Reading}
-use Rattle.norec_core.specs.declared.phase.Writing.{Writing}
 use Rattle.norec_core.specs.Accesses.{count}
 use Rattle.norec_core.specs.Copies.{chunks_in, direction_of, is_out, words_in, words_read, words_written, WritesShared}
 use Rattle.norec_core.specs.Core.{Core}
@@ -29,7 +27,7 @@ use Rattle.std.specs.List.{AllByRecursion}
 use Rattle.norec_data.specs.declared.data.Data.{Data}
 use Rattle.norec_data.specs.Turns.{IsWaiting}
 use Rattle.norec_data.specs.View.{call_for, doing_held, held, placed_for}
-use Rattle.norec_irrevocable.specs.Phases.{before_loads, before_places, copy_steps, placed_before, IsLoading, IsPlacing, IsSoundHeld, LoadsFor, PlacesFor}
+use Rattle.norec_irrevocable.specs.Phases.{before_loads, before_places, copy_steps, placed_before, IsSoundHeld, LoadsFor, PlacesFor}
 
 -- the words of the first chunks are some of all
 words_in-take : (place : ℕ) (cs : List Chunk) (n : ℕ) → words_in place (take n cs) ≤ words_in place cs

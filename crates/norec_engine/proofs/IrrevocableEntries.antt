@@ -1,23 +1,20 @@
 -- A transaction that becomes irrevocable meets the plain machine.
-use Rattle.std.proofs.Common.{◌≡◌, ℕ, suc, ◌+◌, ◌<◌, ◌≤◌, ◌%◌, ◌&&◌, ◌||◌, not, nat_lt, Bool, true, false, List, [], ◌∷◌, length, map, take, Option, None, Some, is_some, unwrap_or, if◌then◌else◌, refl, sym, ap, subst, ◌∙◌, arith}
-use Rattle.std.specs.List.{list_any}
-use Rattle.std.proofs.lemmas.Bool.{cond-true, cond-false, lt-ltb}
+use Rattle.std.proofs.Common.{◌≡◌, ℕ, suc, ◌<◌, ◌%◌, ◌&&◌, ◌||◌, not, nat_lt, Bool, true, false, List, [], ◌∷◌, length, map, take, Option, None, Some, is_some, unwrap_or, if◌then◌else◌, refl, sym, ap, ◌∙◌, arith}
+use Rattle.std.proofs.lemmas.Bool.{cond-true, lt-ltb}
 use Rattle.std.proofs.lemmas.List.{take_all}
 use Rattle.itm_types.specs.declared.limits.TheConstants.{MAX_OPEN_BLOCKS}
-use Rattle.itm_types.specs.declared.call.Call.{Call}
 use Rattle.itm_types.specs.declared.call.Call.TheVariants.{Begin, Mode}
 use Rattle.itm_types.specs.declared.call.Props.{Props}
 use Rattle.itm_types.specs.declared.call.Refusal.{Refusal}
 use Rattle.itm_types.specs.declared.call.Refusal.TheVariants.{Outside, NoIrrevocable, TooDeep}
-use Rattle.itm_types.specs.declared.call.Reply.{Reply as Replied}
 use Rattle.itm_types.specs.declared.call.Reply.TheVariants.{Done, Code, Refused}
-use Rattle.itm_types.specs.Memory.{bytes_of, IsMemory, Agrees}
+use Rattle.itm_types.specs.Memory.{bytes_of}
 use Rattle.user_actions.specs.Actions.{Actions}
 use Rattle.write_set.specs.declared.row.Row.{Row}
 use Rattle.write_set.specs.Rows.{overlay}
 use Rattle.nest_frames.specs.Nest.{Frame, begun, made_irrevocable, stays_revocable}
 use Rattle.itm_model.specs.State.{Block, State}
-use Rattle.itm_model.specs.Machine.{after, after_unless, answer, effect, entered, pushed, keeps_revocable, or_else, refusal, reply, reply_unless, unless, made_irrevocable as made_so}
+use Rattle.itm_model.specs.Machine.{after, after_unless, effect, entered, pushed, keeps_revocable, or_else, refusal, reply, reply_unless, unless, made_irrevocable as made_so}
 use Rattle.write_set.specs.Marks.{unwritten}
 use Rattle.norec_core.specs.declared.phase.Aim.TheVariants as aims
 use Rattle.norec_core.specs.declared.phase.Taking.{Taking}

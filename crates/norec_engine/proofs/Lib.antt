@@ -8,6 +8,7 @@ pub mod ReadingFields
 pub mod Sources
 pub mod Loads
 pub mod ReadyCopies
+pub mod ReadyReads
 pub mod Counts
 pub mod Fills
 pub mod IrrevocableEntries

@@ -23,7 +23,7 @@ use Rattle.norec_data.specs.declared.turn.Turn.TheVariants.{Wait}
 use Rattle.norec_core.specs.Copies.{chunks_in, direction_of, is_out, source_in}
 use Rattle.norec_core.specs.Order.{chunk_reading}
 use Rattle.norec_core.specs.Accesses.{passed, passed_for, total}
-use Rattle.norec_engine.specs.InPhases.{round_of, Aims, Wants, IsOpen, IsReading, MayRead}
+use Rattle.norec_engine.specs.InPhases.{round_of, Aims, Wants, IsOpen, IsMissing, IsReading, MayLog, MayRead}
 use Rattle.norec_data.specs.Bounds.{IsBounded}
 use Rattle.norec_data.specs.View.{core}
 use Rattle.norec_engine.specs.Between.{between, logged, MayCopy, IsSoundTurn}
@@ -35,6 +35,19 @@ use Rattle.norec_core.proofs.Readings.{passed_on}
 -- an engine with other bytes gathered is as open
 pub open_gathering : (d : Data) (g : ArrayVec ℕ) → IsOpen d → IsOpen (record d { gathered = g })
 open_gathering d g o = record { is_open = o.is_open; log = o.log; writes = o.writes; rows = o.rows; frames = o.frames; tries = o.tries }
+
+-- a piece further on that is not to be had may be loaded
+pub may_read : (d : Data) (r next : Reading) (g : ArrayVec ℕ) → next ≡ record r { number = next.number } → r.number ≤ next.number → MayLog d r
+    → IsReading (record d { gathered = g }) next → IsMissing (record d { gathered = g }) next → MayRead (record d { gathered = g }) next
+may_read d r next g is on may reading missing =
+    let later = passed_on r.purpose r.number next.number on in
+    let here : passed next ≡ passed_for r.purpose next.number = ap passed is in
+    let all : total next ≡ total r = ap total is in
+    record {
+      reading = reading;
+      logging = record { room = omega (arith, may.room, later, here, all); grown = omega (arith, may.grown, later, here) };
+      missing = missing;
+    }
 
 -- nothing is gathered but in an irrevocable transaction
 none_gathered : (first : Bool) → ◌≡◌ {A = List ℕ} [] (if first then [] else [])
@@ -67,14 +80,11 @@ module _ (d : Data) (r next : Reading) (is : next ≡ record r { number = next.n
             small = may.reading.small;
             purpose = may.reading.purpose;
             far = may.reading.far;
-            room = may.reading.room;
-            since = may.reading.since;
-            grown = may.reading.grown;
             has = may.reading.has;
             sized = may.reading.sized;
           };
-          some = may.some;
-          uncovered = may.uncovered;
+          logging = record { room = may.logging.room; grown = may.logging.grown };
+          missing = record { some = may.missing.some; unhad = may.missing.unhad };
         },
         settled,
         omega (arith, spent_so_far),
@@ -85,7 +95,7 @@ module _ (d : Data) (r next : Reading) (is : next ≡ record r { number = next.n
   at_next : (log : List LogRow) → Turns (logged (between d (aims.Read next)) log) (Wait (Load next)) d
   at_next log = record {
     lawful = (
-      (let within = word-pieces_of next.at next.size next.number d.words may.some may.reading.within in omega arith),
+      (let within = word-pieces_of next.at next.size next.number d.words may.missing.some may.reading.within in omega arith),
       (o.is_open, λ h r. absurd (cc)),
     );
     unfreed = refl;
@@ -123,12 +133,13 @@ starts_chunk d k n c g is empty may =
       small = within.1;
       purpose = record { copied = may.copied; chunk = c; is = is; at_is = refl; size_is = refl };
       far = omega arith;
-      room = omega (arith, may.room);
-      since = may.since;
-      grown = omega (arith, may.grown);
       has = λ m mem agrees. empty;
       sized = ap (length {A = ℕ}) empty;
     }
+
+-- and none of it is logged
+pub logs_chunk : (d : Data) (k : Copying) (n : ℕ) (c : Chunk) (g : ArrayVec ℕ) → MayCopy d k n → MayLog (record d { gathered = g }) (chunk_reading k n c)
+logs_chunk d k n c g may = record { room = omega (arith, may.room); grown = omega (arith, may.grown) }
 
 -- ## The whole source
 
@@ -165,13 +176,10 @@ aims_later d (aims.Read r) clock snapshot spent may = record {
     small = may.reading.small;
     purpose = may.reading.purpose;
     far = may.reading.far;
-    room = may.reading.room;
-    since = may.reading.since;
-    grown = may.reading.grown;
     has = may.reading.has;
     sized = may.reading.sized;
   };
-  some = may.some;
-  uncovered = may.uncovered;
+  logging = record { room = may.logging.room; grown = may.logging.grown };
+  missing = record { some = may.missing.some; unhad = may.missing.unhad };
 }
 aims_later d (aims.Take taking) clock snapshot spent may = record { wants = wants_later d taking clock snapshot spent may.wants; grown = may.grown }

@@ -17,9 +17,9 @@ use Rattle.itm_types.specs.Memory.{bytes_of}
 use Rattle.undo_log.specs.Rollback.{Old, found, kept_of}
 use Rattle.write_set.specs.Rows.{overlay}
 use Rattle.user_actions.specs.Actions.{registered, room_after}
-use Rattle.nest_frames.specs.Nest.{Frame, Nest, log_of, logged}
-use Rattle.itm_model.specs.State.{Block, State}
-use Rattle.itm_model.specs.Machine.{after, after_unless, effect, in_arena, logged as logs, logged_in, needs_open, or_else, refusal, reply, reply_unless, unless}
+use Rattle.nest_frames.specs.Nest.{Frame, log_of, logged}
+use Rattle.itm_model.specs.State.{Block}
+use Rattle.itm_model.specs.Machine.{after_unless, effect, logged as logs, logged_in, needs_open, or_else, refusal, reply_unless, unless}
 use Rattle.norec_core.specs.declared.phase.Phase.TheVariants.{Idle}
 use Rattle.norec_core.specs.Core.{came, is_inside}
 use Rattle.norec_core.specs.Proceeds.{Replies, room_left}

@@ -6,6 +6,7 @@ use Rattle.itm_types.specs.declared.call.Copying.{Copying}
 use Rattle.itm_types.specs.declared.call.Call.TheVariants.{Copy}
 use Rattle.itm_types.specs.declared.copy.CopyPair.{CopyPair}
 use Rattle.itm_types.specs.declared.copy.CopyPair.TheVariants.{Out, In, Within}
+use Rattle.itm_types.specs.declared.row.LogRow.{LogRow}
 use Rattle.write_set.specs.declared.row.Row.{Row}
 use Rattle.write_set.specs.Rows.{AreRows}
 use Rattle.norec_data.specs.declared.data.Data.{Data}
@@ -13,7 +14,7 @@ use Rattle.norec_core.specs.declared.phase.Phase.TheVariants.{Idle}
 use Rattle.norec_core.specs.Copies.{copy_refusal, target_refusal, chunks_in, direction_of, is_out, source_in, source_words}
 use Rattle.norec_core.specs.Core.{came, is_inside}
 use Rattle.norec_core.specs.Order.{copy_stage, load_chunks}
-use Rattle.norec_core.specs.Rows.{range_pieces, AllWithin, AllWritesWithin}
+use Rattle.norec_core.specs.Rows.{range_pieces, AllWritesWithin, IsLog}
 use Rattle.norec_data.specs.View.{in_block, core, rows_before}
 use Rattle.norec_engine.specs.InPhases.{reserved_for, AreFrames, IsOpen, IsServed, IsSound, MayPutFor}
 use Rattle.norec_data.specs.Bounds.{IsBounded}
@@ -66,7 +67,7 @@ module _ (s e : Data) (k : Copying) (sound : IsSound s Idle) (accepted : copy_re
       let idle = sound.in_phase.0 was_open in
       record {
         is_open = ap is_inside blocks ∙ was_open;
-        log = subst (AllWithin s.words) (sym log) idle.0.log;
+        log = subst (IsLog s.words) (sym log) idle.0.log;
         writes = subst (AllWritesWithin s.words) (sym rows) (within_for s.words (length s.arena) k k.pair s.frames.writes.rows (accepted_sides s.words (length s.arena) k taken).0 idle.0.writes);
         rows = subst AreRows (sym rows) (rows_for k k.pair s.frames.writes.rows idle.0.rows);
         frames = subst (AreFrames s.words) (sym blocks) idle.0.frames;
@@ -102,16 +103,15 @@ module _ (s e : Data) (k : Copying) (sound : IsSound s Idle) (accepted : copy_re
     settled = ready_settled;
     far = omega arith;
     room = omega (arith, room);
-    since = omega arith;
     grown = omega arith;
     spent = omega arith;
   }
 
 -- one that does not read the arena loads its first piece
-pub copy_stage_is : (rows : List Row) (k : Copying) (pair : CopyPair) → is_out pair ≡ false → copy_stage rows k pair ≡ load_chunks rows k 0 (chunks_in k)
-copy_stage_is rows k (Out to) e = absurd (cc)
-copy_stage_is rows k (In from) e = refl
-copy_stage_is rows k (Within from to) e = refl
+pub copy_stage_is : (rows : List Row) (log : List LogRow) (k : Copying) (pair : CopyPair) → is_out pair ≡ false → copy_stage rows log k pair ≡ load_chunks rows log k 0 (chunks_in k)
+copy_stage_is rows log k (Out to) e = absurd (cc)
+copy_stage_is rows log k (In from) e = refl
+copy_stage_is rows log k (Within from to) e = refl
 
 -- the buffer of one that does read it
 pub out_source : (pair : CopyPair) (arena memory : List ℕ) (place size : ℕ) → is_out pair ≡ true → source_in pair arena memory place size ≡ slice arena place size

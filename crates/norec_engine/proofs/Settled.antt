@@ -1,8 +1,11 @@
 -- What is true of an engine between two steps, in a transaction of either kind.
-use Rattle.std.proofs.Common.{◌≡◌, ℕ, ◌%◌, ◌/◌, ◌<◌, Bool, true, false, List, [], Option, None, Some, refl, sym, ap, ◌∙◌, arith}
+use Rattle.std.proofs.Common.{◌≡◌, ℕ, ◌/◌, ◌<◌, Bool, true, false, List, [], None, Some, refl, sym, subst, arith}
 use Rattle.norec_core.specs.declared.phase.Phase.{Phase}
 use Rattle.norec_core.specs.declared.phase.Phase.TheVariants as at
 use Rattle.norec_core.specs.Order.{snapshot_after}
+use Rattle.norec_core.specs.Rows.{IsLog}
+use Rattle.norec_core.proofs.Overlays.{agreed}
+use Rattle.itm_types.specs.declared.row.LogRow.{LogRow}
 use Rattle.norec_core.specs.Proceeds.{IsSettled, IsWithin}
 use Rattle.norec_data.specs.declared.data.Data.{Data}
 use Rattle.norec_data.specs.Bounds.{IsOutside}
@@ -42,8 +45,35 @@ holding d (at.Store taking row (Some word)) p h = (p.0.is_open.is_open, p.0.sett
 holding d at.Free p h = (p.is_open.is_open, p.settled, p.free)
 holding d phase p h = absurd (cc)
 
+-- the log of every phase
+open_log : (d : Data) (phase : Phase) → InPhase d phase → in_block d ≡ true → IsLog d.words d.log.rows
+open_log d at.Idle p o = (p.0 o).0.log
+open_log d (at.Begin b) p o = (let shut = p.0.is_open in absurd (cc))
+open_log d (at.Take b) p o = (let shut = p.0.is_open in absurd (cc))
+open_log d (at.Load r) p o = p.0.log
+open_log d (at.Confirm r value) p o = p.0.log
+open_log d (at.RoundStart aim) p o = p.is_open.log
+open_log d (at.RoundRow aim row) p o = p.0.is_open.log
+open_log d (at.RoundEnd aim) p o = p.0.is_open.log
+open_log d (at.Exchange taking) p o = p.0.log
+open_log d (at.BackLoad taking row) p o = p.0.is_open.log
+open_log d (at.Store taking row None) p o = p.0.is_open.log
+open_log d (at.Store taking row (Some word)) p o = p.0.is_open.log
+open_log d at.Free p o = p.is_open.log
+open_log d (at.Fetch w) p o = absurd p
+open_log d (at.Place w got) p o = absurd p
+
+empty_log : (words : ℕ) (log : List LogRow) → log ≡ [] → IsLog words log
+empty_log words log e = subst (IsLog words) (sym e) (record { within = tt; single = tt; fit = tt })
+
+log_in : (d : Data) (phase : Phase) → InPhase d phase → (b : Bool) → in_block d ≡ b → IsLog d.words d.log.rows
+log_in d phase p true o = open_log d phase p o
+log_in d phase p false o = empty_log d.words d.log.rows (outside d phase p o).log
+
 settled : (d : Data) (phase : Phase) → IsSound d phase → IsSettled (core d phase)
-settled d phase s = record {
+settled d phase s = (let log = log_in d phase s.in_phase (in_block d) refl in record {
+  logged = log;
+  agreed = agreed d.words d.log.rows log;
   closed = λ o. (let out = outside d phase s.in_phase o in (out.log, none_written d phase s.in_phase o, out.commits, out.undos));
   reached = s.reached;
   inside = λ w o. (still d phase s.in_phase w o, s.bounds.even);
@@ -52,10 +82,12 @@ settled d phase s = record {
   holder = λ h. holding d phase s.in_phase h;
   limit = s.bounds.commits;
   irrevocable = λ i. absurd (cc);
-}
+})
 
 held_settled : (d : Data) (phase : Phase) → IsSoundHeld d phase → IsSettled (held d phase)
-held_settled d phase s = (let h = s.held in record {
+held_settled d phase s = (let h = s.held in let log = empty_log d.words d.log.rows h.log in record {
+  logged = log;
+  agreed = agreed d.words d.log.rows log;
   closed = λ o. (let inside = h.is_open in absurd (cc));
   reached = omega (arith, h.settled);
   inside = λ w o. (h.settled, h.bounds.even);

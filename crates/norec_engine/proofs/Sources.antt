@@ -1,11 +1,13 @@
 -- What a read finds under rows that a copy's destination was given, and what a longer log leaves of a copy.
-use Rattle.std.proofs.Common.{◌≡◌, ℕ, zero, suc, ◌+◌, ◌*◌, ◌≤◌, true, List, [], ◌∷◌, length, take, drop, None, refl, sym, ap, ◌∙◌, arith}
+use Rattle.std.proofs.Common.{◌≡◌, ℕ, zero, suc, ◌+◌, ◌*◌, ◌≤◌, ◌||◌, Bool, true, false, List, [], ◌∷◌, length, take, Option, None, Some, refl, sym, ap, ◌∙◌, arith}
 use Rattle.std.proofs.lemmas.List.{take_all}
 use Rattle.itm_types.specs.declared.call.Copying.{Copying}
 use Rattle.itm_types.specs.declared.copy.CopyPair.{CopyPair}
 use Rattle.itm_types.specs.declared.copy.CopyPair.TheVariants.{Out, In, Within}
 use Rattle.itm_types.specs.declared.row.LogRow.{LogRow}
+use Rattle.itm_types.specs.LogRows.{value_of}
 use Rattle.itm_types.specs.Memory.{AllFit, Agrees}
+use Rattle.std.specs.Prelude.{is_some}
 use Rattle.word_pieces.specs.declared.piece.Piece.{Piece}
 use Rattle.word_pieces.specs.Pieces.{IsPiece}
 use Rattle.write_set.specs.declared.row.Row.{Row}
@@ -16,7 +18,7 @@ use Rattle.itm_types.specs.Slices.{AreBytes}
 use Rattle.norec_core.specs.Copies.{chunks_in, copy_refusal, direction_of, target_refusal}
 use Rattle.norec_core.specs.Proceeds.{arena_copied, writes_copied}
 use Rattle.word_pieces.proofs.Lists.{length-with_slice}
-use Rattle.norec_core.specs.Rows.{is_covered, range_pieces, AllWritesWithin}
+use Rattle.norec_core.specs.Rows.{is_covered, is_had, is_logged, range_pieces, AllWritesWithin}
 use Rattle.norec_data.specs.View.{rows_before}
 use Rattle.norec_engine.specs.InPhases.{reserved_for, HasCopied, FitsPurpose, IsFor}
 use Rattle.norec_data.specs.declared.data.Data.{Data}
@@ -39,23 +41,36 @@ overlay_for k (In from) m rows fit are = refl
 overlay_for k (Within from to) m rows fit are = overlay-reserved_all m rows (range_pieces k.to (chunks_in k)) fit are
 
 -- the rows that were there as the call came cover as much
-covered_purpose : (words bytes written : ℕ) (writes : Written) (own : List LogRow) (buffer : List ℕ) (what : Purpose) (at size : ℕ)
-    → FitsPurpose words bytes written writes own buffer what at size → (p : Piece) → IsPiece p → is_covered (take written writes.rows) p ≡ is_covered writes.rows p
-covered_purpose words bytes written writes own buffer (for.Value hint width) at size f p is =
+covered_purpose : (words bytes written : ℕ) (writes : Written) (log : List LogRow) (buffer : List ℕ) (what : Purpose) (at size : ℕ)
+    → FitsPurpose words bytes written writes log buffer what at size → (p : Piece) → IsPiece p → is_covered (take written writes.rows) p ≡ is_covered writes.rows p
+covered_purpose words bytes written writes log buffer (for.Value hint width) at size f p is =
     ap (λ (rows : List Row). is_covered rows p) (take_all written writes.rows (omega (arith, f.1)))
-covered_purpose words bytes written writes own buffer (for.Chunk k n) at size f p is =
+covered_purpose words bytes written writes log buffer (for.Chunk k n) at size f p is =
     sym (ap (λ (rows : List Row). is_covered rows p) f.copied.served.reserved ∙ covered_for k k.pair (take written writes.rows) p is)
 
-pub covered_before : (d : Data) (what : Purpose) (at size : ℕ) → IsFor d what at size → (p : Piece) → IsPiece p → is_covered (rows_before d) p ≡ is_covered d.frames.writes.rows p
-covered_before d what at size f = covered_purpose d.words (length d.arena) d.written d.frames.writes (drop d.entry d.log.rows) d.buffer.items what at size f
+-- so as much is to be had
+pub had_before : (d : Data) (what : Purpose) (at size : ℕ) → IsFor d what at size → (p : Piece) → IsPiece p → is_had (rows_before d) d.log.rows p ≡ is_had d.frames.writes.rows d.log.rows p
+had_before d what at size f p is = ap (λ (b : Bool). b || is_logged d.log.rows p.word) (covered_purpose d.words (length d.arena) d.written d.frames.writes d.log.rows d.buffer.items what at size f p is)
+
+no_value : (o : Option ℕ) → is_some o ≡ false → o ≡ None
+no_value None e = refl
+no_value (Some n) e = absurd (cc)
+
+right_false : (a b : Bool) → (a || b) ≡ false → b ≡ false
+right_false false b e = e
+right_false true b e = absurd (cc)
+
+-- the word of a piece that is not to be had has no row
+pub unlogged : (rows : List Row) (log : List LogRow) (p : Piece) → is_had rows log p ≡ false → value_of p.word log ≡ None
+unlogged rows log p e = no_value (value_of p.word log) (right_false (is_covered rows p) (is_logged log p.word) e)
 
 -- ## A longer log
 
-module _ (words bytes : ℕ) (writes : Written) (own more : List LogRow) (buffer : List ℕ) (less : (m : List ℕ) → Agrees m more → Agrees m own) where
-  copied_more : (before : List Row) (k : Copying) (chunks : ℕ) → HasCopied words bytes before writes own buffer k chunks → HasCopied words bytes before writes more buffer k chunks
+module _ (words bytes : ℕ) (writes : Written) (log more : List LogRow) (buffer : List ℕ) (less : (m : List ℕ) → Agrees m more → Agrees m log) where
+  copied_more : (before : List Row) (k : Copying) (chunks : ℕ) → HasCopied words bytes before writes log buffer k chunks → HasCopied words bytes before writes more buffer k chunks
   copied_more before k chunks h = record { served = h.served; shared = h.shared; has = λ m mem agrees. h.has m mem (less m agrees) }
 
-  pub purpose_more : (written : ℕ) (what : Purpose) (at size : ℕ) → FitsPurpose words bytes written writes own buffer what at size → FitsPurpose words bytes written writes more buffer what at size
+  pub purpose_more : (written : ℕ) (what : Purpose) (at size : ℕ) → FitsPurpose words bytes written writes log buffer what at size → FitsPurpose words bytes written writes more buffer what at size
   purpose_more written (for.Value hint width) at size f = f
   purpose_more written (for.Chunk k n) at size f = record { copied = copied_more (take written writes.rows) k n f.copied; chunk = f.chunk; is = f.is; at_is = f.at_is; size_is = f.size_is }
 

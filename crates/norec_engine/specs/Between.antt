@@ -6,6 +6,7 @@ use Rattle.norec_core.specs.declared.phase.Aim.TheVariants as aims
 use Rattle.norec_core.specs.declared.phase.Phase.TheVariants as at
 use Rattle.norec_core.specs.declared.phase.Reading.{Reading}
 use Rattle.norec_core.specs.declared.phase.Taking.{Taking}
+use Rattle.norec_core.specs.declared.phase.Purpose.{Purpose}
 use Rattle.norec_core.specs.declared.phase.Purpose.TheVariants as for
 use Rattle.itm_types.specs.declared.call.Copying.{Copying}
 use Rattle.norec_core.specs.Copies.{chunks_in, words_in, source_words}
@@ -17,10 +18,10 @@ use Rattle.itm_types.specs.declared.call.Reply.{Reply as Replied}
 use Rattle.itm_types.specs.declared.call.Reply.TheVariants.{Done, Code}
 use Rattle.nest_frames.specs.Nest.{Frame, Nest, begun}
 use Rattle.norec_core.specs.Core.{Core}
-use Rattle.norec_core.specs.Accesses.{passed}
+use Rattle.norec_core.specs.Accesses.{count, passed}
 use Rattle.norec_data.specs.View.{in_block, core}
 use Rattle.norec_data.specs.Turns.{counted, Asked}
-use Rattle.norec_engine.specs.InPhases.{round_of, first_of, IsOpen, Copied, HasSource, IsReading, MayTake, Aims, InRound, IsHolding, IsSound}
+use Rattle.norec_engine.specs.InPhases.{round_of, first_of, IsOpen, Copied, HasSource, IsReading, MayLog, MayTake, Aims, InRound, IsHolding, IsSound}
 use Rattle.norec_data.specs.Bounds.{IsBounded, IsHeld}
 
 abbrev pub IsSoundAfter : Turn → Data → Type 0
@@ -93,8 +94,22 @@ pub record MayGather (d : Data) (r : Reading) : Type 0 where
   pub bounds : IsBounded d.words d.limits d.snapshot d.frames.size d.arena
   pub is_open : IsOpen d
   pub reading : IsReading d r
+  pub logging : MayLog d r
   pub settled : d.clock ≡ d.snapshot
   pub spent : d.spent ≤ 2 * passed r + d.tries * round_of (aims.Read r) d
+
+-- the access is made for the value of a read
+abbrev pub IsValue : Purpose → Type 0
+IsValue (for.Value hint width) = Unit {0}
+IsValue (for.Chunk k number) = ⊥
+
+-- a read may be answered: its pieces are gathered
+pub record MayReply (d : Data) (r : Reading) : Type 0 where
+  pub bounds : IsBounded d.words d.limits d.snapshot d.frames.size d.arena
+  pub is_open : IsOpen d
+  pub value : IsValue r.purpose
+  pub whole : IsReading d (record r { number = count r })
+  pub settled : d.clock ≡ d.snapshot
 
 -- the next chunk of a copy's source may be taken
 pub record MayCopy (d : Data) (k : Copying) (chunks : ℕ) : Type 0 where
@@ -104,7 +119,6 @@ pub record MayCopy (d : Data) (k : Copying) (chunks : ℕ) : Type 0 where
   pub settled : d.clock ≡ d.snapshot
   pub far : chunks ≤ length (chunks_in k)
   pub room : source_words k - words_in k.from (take chunks (chunks_in k)) ≤ d.log.room
-  pub since : d.entry ≤ length d.log.rows
   pub grown : length d.log.rows ≤ d.entry + words_in k.from (take chunks (chunks_in k))
   pub spent : d.spent ≤ 2 * words_in k.from (take chunks (chunks_in k)) + d.tries * (d.entry + source_words k + 4)
 

@@ -26,11 +26,10 @@ use Rattle.word_pieces.specs.declared.chunk.Chunk.{Chunk}
 use Rattle.word_pieces.specs.Chunks.{chunks_written}
 use Rattle.norec_core.specs.Copies.{copy_refusal, chunks_in, source_in, is_out}
 use Rattle.norec_data.specs.declared.data.Data.{Data}
-use Rattle.norec_core.specs.Rows.{write_at, is_covered, reserved_all, range_pieces, AllWithin, AllWritesWithin}
+use Rattle.norec_core.specs.Rows.{write_at, is_had, reserved_all, range_pieces, AllWritesWithin, IsLog}
 use Rattle.write_set.specs.Marks.{Written, MayPut}
 use Rattle.write_set.specs.Rows.{overlay, AreRows}
 use Rattle.norec_core.specs.Core.{is_outermost, may_go}
-use Rattle.norec_core.specs.Proceeds.{own_rows}
 use Rattle.norec_core.specs.Accesses.{part, parts, count, total, passed}
 use Rattle.norec_data.specs.View.{rows_before, in_block}
 use Rattle.norec_data.specs.Bounds.{IsBounded, IsOutside}
@@ -53,7 +52,7 @@ AreFrames words (b ∷ p ∷ bs) = AllWritesWithin words b.rows × AreRows b.row
 -- a transaction is open, and its words lie within the memory
 pub record IsOpen (d : Data) : Type 0 where
   pub is_open : in_block d ≡ true
-  pub log : AllWithin d.words d.log.rows
+  pub log : IsLog d.words d.log.rows
   pub writes : AllWritesWithin d.words d.frames.writes.rows
   pub rows : AreRows d.frames.writes.rows
   pub frames : AreFrames d.words d.frames.blocks
@@ -79,15 +78,15 @@ pub record IsServed (words bytes : ℕ) (before : List Row) (writes : Written) (
   pub sized : length buffer ≡ k.size
 
 -- of a copy's source, so many chunks are in the buffer
-pub record HasCopied (words bytes : ℕ) (before : List Row) (writes : Written) (own : List LogRow) (buffer : List ℕ) (k : Copying) (chunks : ℕ) : Type 0 where
+pub record HasCopied (words bytes : ℕ) (before : List Row) (writes : Written) (log : List LogRow) (buffer : List ℕ) (k : Copying) (chunks : ℕ) : Type 0 where
   pub served : IsServed words bytes before writes buffer k
   pub shared : is_out k.pair ≡ false
-  pub has : (m : List ℕ) → IsMemory words m → Agrees m own
+  pub has : (m : List ℕ) → IsMemory words m → Agrees m log
       → buffer ≡ chunks_written (replicate k.size 0) 0 (take chunks (chunks_in k)) (slice (bytes_of (overlay m writes.rows)) k.from k.size)
 
 -- the access is the chunk of this number of a copy's source
-pub record IsChunk (words bytes : ℕ) (before : List Row) (writes : Written) (own : List LogRow) (buffer : List ℕ) (k : Copying) (number at size : ℕ) : Type 0 where
-  pub copied : HasCopied words bytes before writes own buffer k number
+pub record IsChunk (words bytes : ℕ) (before : List Row) (writes : Written) (log : List LogRow) (buffer : List ℕ) (k : Copying) (number at size : ℕ) : Type 0 where
+  pub copied : HasCopied words bytes before writes log buffer k number
   pub chunk : Chunk
   pub is : slice_get (chunks_in k) number ≡ Some chunk
   pub at_is : at ≡ k.from + chunk.at
@@ -95,37 +94,44 @@ pub record IsChunk (words bytes : ℕ) (before : List Row) (writes : Written) (o
 
 -- the access is what it is made for
 abbrev pub FitsPurpose : ℕ → ℕ → ℕ → Written → List LogRow → List ℕ → Purpose → ℕ → ℕ → Type 0
-FitsPurpose words bytes written writes own buffer (for.Value hint width) at size = (size ≡ size_of width) × (written ≡ length writes.rows)
-FitsPurpose words bytes written writes own buffer (for.Chunk k number) at size = IsChunk words bytes (take written writes.rows) writes own buffer k number at size
+FitsPurpose words bytes written writes log buffer (for.Value hint width) at size = (size ≡ size_of width) × (written ≡ length writes.rows)
+FitsPurpose words bytes written writes log buffer (for.Chunk k number) at size = IsChunk words bytes (take written writes.rows) writes log buffer k number at size
 
 abbrev pub IsFor : Data → Purpose → ℕ → ℕ → Type 0
-IsFor d purpose at size = FitsPurpose d.words (length d.arena) d.written d.frames.writes (own_rows d.entry d.log.rows) d.buffer.items purpose at size
+IsFor d purpose at size = FitsPurpose d.words (length d.arena) d.written d.frames.writes d.log.rows d.buffer.items purpose at size
 
 abbrev pub Copied : Data → Copying → ℕ → Type 0
-Copied d k chunks = HasCopied d.words (length d.arena) (rows_before d) d.frames.writes (own_rows d.entry d.log.rows) d.buffer.items k chunks
+Copied d k chunks = HasCopied d.words (length d.arena) (rows_before d) d.frames.writes d.log.rows d.buffer.items k chunks
 
 -- the buffer has a copy's whole source
 pub record HasSource (d : Data) (k : Copying) : Type 0 where
   pub served : IsServed d.words (length d.arena) (rows_before d) d.frames.writes d.buffer.items k
-  pub has : (m : List ℕ) → IsMemory d.words m → Agrees m (own_rows d.entry d.log.rows) → d.buffer.items ≡ source_in k.pair d.arena (bytes_of (overlay m d.frames.writes.rows)) k.from k.size
+  pub has : (m : List ℕ) → IsMemory d.words m → Agrees m d.log.rows → d.buffer.items ≡ source_in k.pair d.arena (bytes_of (overlay m d.frames.writes.rows)) k.from k.size
 
--- the pieces before this one are gathered, and there is room in the log for the others
+-- the pieces before this one are gathered
 pub record IsReading (d : Data) (r : Reading) : Type 0 where
   pub within : r.at + r.size ≤ 8 * d.words
   pub small : r.size ≤ 32
   pub purpose : IsFor d r.purpose r.at r.size
   pub far : r.number ≤ count r
-  pub room : total r - passed r ≤ d.log.room
-  pub since : d.entry ≤ length d.log.rows
-  pub grown : length d.log.rows ≤ d.entry + passed r
-  pub has : (m : List ℕ) → IsMemory d.words m → Agrees m (own_rows d.entry d.log.rows) → d.gathered.items ≡ gathered (overlay m d.frames.writes.rows) (take r.number (parts r))
+  pub has : (m : List ℕ) → IsMemory d.words m → Agrees m d.log.rows → d.gathered.items ≡ gathered (overlay m d.frames.writes.rows) (take r.number (parts r))
   pub sized : length d.gathered.items ≡ length (gathered [] (take r.number (parts r)))
 
--- the write set does not have all of this piece
+-- the rows that the call may log from this piece on have room, and so far it has logged no more than it has read
+pub record MayLog (d : Data) (r : Reading) : Type 0 where
+  pub room : total r - passed r ≤ d.log.room
+  pub grown : length d.log.rows ≤ d.entry + passed r
+
+-- this piece is not to be had with no step
+pub record IsMissing (d : Data) (r : Reading) : Type 0 where
+  pub some : r.number < count r
+  pub unhad : is_had d.frames.writes.rows d.log.rows (part r) ≡ false
+
+-- it may be loaded
 pub record MayRead (d : Data) (r : Reading) : Type 0 where
   pub reading : IsReading d r
-  pub some : r.number < count r
-  pub uncovered : is_covered d.frames.writes.rows (part r) ≡ false
+  pub logging : MayLog d r
+  pub missing : IsMissing d r
 
 -- a commit takes the clock where something is written, and any other call that makes the transaction irrevocable, with its room reserved
 abbrev pub Wants : Data → Taking → Type 0

@@ -19,7 +19,7 @@ mod refusals;
 use crate::copy::refusals::refuse_copy;
 use crate::fill::set_all;
 use crate::range::{put_range, reserve_range};
-use crate::read::{MOST_PIECES, take_covered};
+use crate::read::{MOST_PIECES, take_had};
 use itm_types::{Call, CopyPair, Copying, MAX_MEMORY, MAX_WORDS, Reply, Value};
 use nest_frames::Frames;
 use norec_core::{Answer, Phase, Purpose, Reading};
@@ -134,14 +134,14 @@ pub(crate) fn next_chunk(state: &mut Data, copying: Copying, number: u32) -> Tur
     ensures proceeds { (log : List LogRow) → Turns (logged (in_copy state.old copying) log) result state.new }
     ensures stays { Stays state.old state.new }
     ensures order { phase_after result
-        ≡ load_chunks (rows_before state.old) copying number (drop number (chunks_in copying)) }
+        ≡ load_chunks (rows_before state.old) state.old.log.rows copying number (drop number (chunks_in copying)) }
     ensures ends { TurnEndsSo None result }
     ensures tries { (core_after result state.new).tries ≡ tries_after (phase_after result) state.old.tries }
 {
     let mut number = number;
     while let Some(reading) = chunk_reading(copying, number) {
         state.gathered = Value::new();
-        if let Some(next) = take_covered(state, reading) {
+        if let Some(next) = take_had(state, reading) {
             return Turn::Wait(Phase::Load(next));
         }
         keep_chunk(state, copying, number, reading);

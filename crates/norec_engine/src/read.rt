@@ -1,16 +1,16 @@
 //! Reads, and copies of shared bytes: piece by piece upwards a word is loaded, and logged once the clock confirms that its value stood at the
-//! snapshot. A piece that the write set has takes no step.
+//! snapshot. A piece that the write set has, or whose word is logged, takes no step.
 
 ghost use Rattle.std.specs.Prelude.{◌≡◌, ◌<◌, ◌≤◌, ◌+◌, ◌*◌, nat_le, ℕ, false, true, IfOk, IfSome, OnOk, OnErr, List, IfNone, None, Some, drop, is_some, length, slice_get, slice_index};
-ghost use Rattle.itm_types.specs.Memory.{AllFit};
+ghost use Rattle.itm_types.specs.Memory.{AllFit, Agrees};
 ghost use Rattle.word_pieces.specs.Pieces.{IsPiece, part_of};
 ghost use Rattle.write_set.specs.Rows.{overlay, AreRows};
-ghost use Rattle.norec_core.specs.Rows.{is_covered};
+ghost use Rattle.norec_core.specs.Rows.{is_covered, is_had, is_logged};
 ghost use Rattle.itm_types.specs.Access.{size_of};
 ghost use Rattle.norec_core.specs.Accesses.{parts, count, passed};
 ghost use Rattle.norec_data.specs.View.{in_block, core, rows_before};
-ghost use Rattle.norec_engine.specs.InPhases.{IsSound, MayRead, IsOpen, IsReading, next_load};
-ghost use Rattle.norec_engine.specs.Between.{between, logged, IsSoundTurn, MayGather};
+ghost use Rattle.norec_engine.specs.InPhases.{IsSound, IsMissing, IsOpen, IsReading, next_load};
+ghost use Rattle.norec_engine.specs.Between.{between, logged, IsSoundTurn, MayGather, MayReply};
 ghost use Rattle.norec_data.specs.Turns.{core_after, phase_after, Turns, TurnEndsSo, Stays};
 ghost use Rattle.norec_core.specs.Core.{came, handed};
 ghost use Rattle.norec_core.specs.Order.{load_among, load_stage, log_after, snapshot_after, stage_after, stage_at, tries_after, tries_at};
@@ -53,20 +53,49 @@ pub(crate) fn read(
     if let Some(why) = access_refusal(state, at, u64::from(width.size())) {
         return Ok(refuse(state, why));
     }
-    state.log.reserve(MOST_PIECES)?;
+    state.gathered = Value::new();
+    state.written = state.frames.len();
+    let reading = Reading {
+        purpose: Purpose::Value { hint, width },
+        at,
+        size: width.size(),
+        number: 0,
+    };
+    match take_had(state, reading) {
+        Some(next) => {
+            state.log.reserve(MOST_PIECES)?;
+            start(state);
+            Ok(Turn::Wait(Phase::Load(next)))
+        }
+        None => {
+            start(state);
+            Ok(reply_gathered(state, reading))
+        }
+    }
+}
+
+/// A read comes, and has started no round.
+fn start(state: &mut Data)
+    ensures { state.new ≡ record state.old { spent = 0; entry = length state.old.log.rows; tries = 0 } }
+{
     state.come();
     state.tries = 0;
-    state.written = state.frames.len();
-    state.gathered = Value::new();
-    Ok(go_on(
-        state,
-        Reading {
-            purpose: Purpose::Value { hint, width },
-            at,
-            size: width.size(),
-            number: 0,
-        },
-    ))
+}
+
+/// A read has all its pieces, and is answered.
+fn reply_gathered(state: &mut Data, reading: Reading) -> Turn
+    requires may { MayReply state.old reading }
+    ensures sound { IsSoundTurn result state.new }
+    // whatever the log was before a row joined it
+    ensures proceeds { (log : List LogRow)
+        → Turns (logged (between state.old (Aim.Read reading)) log) result state.new }
+    ensures stays { Stays state.old state.new }
+    ensures order { phase_after result ≡ Phase.Idle }
+    ensures ends { TurnEndsSo None result }
+    ensures tries { (core_after result state.new).tries ≡ 0 }
+{
+    let bytes = mem::replace(&mut state.gathered, Value::new());
+    Turn::End(Answer::Reply(Reply::Bytes(bytes)))
 }
 
 /// The access goes on from this piece: with the next one that is loaded, or with what it was made for.
@@ -77,18 +106,15 @@ pub(crate) fn go_on(state: &mut Data, reading: Reading) -> Turn
     ensures proceeds { (log : List LogRow)
         → Turns (logged (between state.old (Aim.Read reading)) log) result state.new }
     ensures stays { Stays state.old state.new }
-    ensures order { phase_after result ≡ load_stage (rows_before state.old) reading }
+    ensures order { phase_after result ≡ load_stage (rows_before state.old) state.old.log.rows reading }
     ensures ends { TurnEndsSo None result }
     ensures tries { (core_after result state.new).tries ≡ tries_after (phase_after result) state.old.tries }
 {
-    if let Some(next) = take_covered(state, reading) {
+    if let Some(next) = take_had(state, reading) {
         return Turn::Wait(Phase::Load(next));
     }
     match reading.purpose {
-        Purpose::Value { .. } => {
-            let bytes = mem::replace(&mut state.gathered, Value::new());
-            Turn::End(Answer::Reply(Reply::Bytes(bytes)))
-        }
+        Purpose::Value { .. } => reply_gathered(state, reading),
         Purpose::Chunk { copying, number } => {
             keep_chunk(state, copying, number, reading);
             next_chunk(state, copying, number + 1)
@@ -96,24 +122,38 @@ pub(crate) fn go_on(state: &mut Data, reading: Reading) -> Turn
     }
 }
 
-/// The pieces from this one on are taken from the write set, up to one that it does not have, which is given.
-pub(crate) fn take_covered(state: &mut Data, reading: Reading) -> Option<Reading>
+/// The pieces from this one on are taken from the write set and the log, up to one that is not to be had, which is given.
+pub(crate) fn take_had(state: &mut Data, reading: Reading) -> Option<Reading>
     requires may { (state.old.words ≤ MAX_WORDS) × IsOpen state.old × IsReading state.old reading }
     ensures frame { state.new ≡ record state.old { gathered = state.new.gathered } }
-    ensures next { IfSome result (λ next. (next ≡ record reading { number = next.number }) × (reading.number ≤ next.number) × MayRead state.new next) }
+    ensures next { IfSome result (λ next. (next ≡ record reading { number = next.number }) × (reading.number ≤ next.number) × IsReading state.new next × IsMissing state.new next) }
     ensures whole { IfNone result (IsReading state.new (record reading { number = count reading })) }
     ensures order { (past : Phase) → next_load result past
-        ≡ load_among (rows_before state.old) past reading (drop reading.number (parts reading)) }
+        ≡ load_among (rows_before state.old) state.old.log.rows past reading (drop reading.number (parts reading)) }
 {
     let Some(piece) = reading.piece() else {
         return None;
     };
-    match covered(state, piece) {
+    match had(state, piece) {
         Some(value) => {
             piece.gather(value, &mut state.gathered);
-            take_covered(state, reading.next())
+            take_had(state, reading.next())
         }
         None => Some(reading),
+    }
+}
+
+/// A piece's word, where the piece is to be had with no step: the write set has all of it, or the word is logged.
+fn had(state: &Data, piece: Piece) -> Option<u64>
+    requires piece { IsPiece piece }
+    requires rows { AreRows state.now.frames.writes.rows }
+    ensures had { is_some result ≡ is_had state.now.frames.writes.rows state.now.log.rows piece }
+    ensures part { IfSome result (λ value. (m : List ℕ) → AllFit m → Agrees m state.now.log.rows → piece.word < length m
+        → part_of piece (slice_index (overlay m state.now.frames.writes.rows) piece.word) ≡ part_of piece value) }
+{
+    match covered(state, piece) {
+        Some(value) => Some(value),
+        None => logged_word(state, piece.word),
     }
 }
 
@@ -129,6 +169,15 @@ fn covered(state: &Data, piece: Piece) -> Option<u64>
         Some(row) if piece.is_within(row.mask) => Some(row.value),
         _ => None,
     }
+}
+
+/// A logged word with what the write set has of it.
+fn logged_word(state: &Data, word: u32) -> Option<u64>
+    ensures logged { is_some result ≡ is_logged state.now.log.rows word }
+    ensures word { IfSome result (λ value. (m : List ℕ) → Agrees m state.now.log.rows → slice_get (overlay m state.now.frames.writes.rows) word ≡ Some value) }
+{
+    let value = state.log.find(word)?;
+    Some(overlaid(state, word, value))
 }
 
 /// The loaded word with what the write set has of it.

@@ -155,18 +155,18 @@ pub record IsServed {E : Type 0} (result : Result Next E) (old : Core) (call : C
   pub settled : OnOk result (IsSettled new)
   pub held : old.irrevocable ≡ true → IfOk result (λ what. ComesHeld old call what new)
 
--- within a block, nothing else has changed
-pub asked_inside : {P E : Type 0} (clock : ℕ) (r r' : Rows) (old new : Actor P) (call : Call) → in_transaction old.engine ≡ true
-    → new.pending ≡ old.pending → new.again ≡ old.again → new.player ≡ old.player → new.nth ≡ old.nth → new.thread ≡ old.thread → r' ≡ record r { room = r'.room }
+-- nothing else has changed
+pub asked_served : {P E : Type 0} (clock : ℕ) (r r' : Rows) (old new : Actor P) (call : Call) → begins_again (in_transaction old.engine) old.again call ≡ false
+    → new.pending ≡ asked_pending (in_transaction old.engine) clock old call → new.again ≡ old.again → new.player ≡ old.player → new.nth ≡ old.nth → new.thread ≡ old.thread → r' ≡ record r { room = r'.room }
     → (result : Result Next E) → IsServed result old.engine call new.engine → IfOk result (AsksOf clock r r' old new call)
-asked_inside clock r r' old new call inside pending again player nth thread rows (Ok what) e = record {
-  pending = pending ∙ sym (ap (λ (b : Bool). asked_pending b clock old call) inside);
+asked_served clock r r' old new call first pending again player nth thread rows (Ok what) e = record {
+  pending = pending;
   again = again;
   player = player;
   nth = nth;
   thread = thread;
   rows_are = rows;
-  called = subst (λ (b : Bool). IsCalled old.engine call (begins_again b old.again call) what new.engine) (sym inside) (record {
+  called = subst (λ (b : Bool). IsCalled old.engine call b what new.engine) (sym first) (record {
     proceeds = e.proceeds;
     at_once = e.at_once;
     stays = e.stays;
@@ -178,7 +178,14 @@ asked_inside clock r r' old new call inside pending again player nth thread rows
     held = e.held;
   });
 }
-asked_inside clock r r' old new call inside pending again player nth thread rows (Err x) e = tt
+asked_served clock r r' old new call first pending again player nth thread rows (Err x) e = tt
+
+-- also within a block
+pub asked_inside : {P E : Type 0} (clock : ℕ) (r r' : Rows) (old new : Actor P) (call : Call) → in_transaction old.engine ≡ true
+    → new.pending ≡ old.pending → new.again ≡ old.again → new.player ≡ old.player → new.nth ≡ old.nth → new.thread ≡ old.thread → r' ≡ record r { room = r'.room }
+    → (result : Result Next E) → IsServed result old.engine call new.engine → IfOk result (AsksOf clock r r' old new call)
+asked_inside clock r r' old new call inside pending again player nth thread rows result e =
+    asked_served clock r r' old new call (ap (λ (b : Bool). begins_again b old.again call) inside) (pending ∙ sym (ap (λ (b : Bool). asked_pending b clock old call) inside)) again player nth thread rows result e
 
 -- outside one memory is wanted for a begin alone
 starves_open : (c : Core) (call : Call) → c.blocks ≡ [] → MayStarveOpen c call → is_begin call ≡ true

@@ -18,7 +18,6 @@ pub use Rattle.itm_types.specs.declared.step.Step.{Step}
 pub use Rattle.norec_core.proofs.AnsweredEngines.{frees, replied_outside, rests}
 pub use Rattle.norec_core.proofs.Blocks.{inside_all, none_inside}
 pub use Rattle.norec_core.proofs.KeptFields.{handed_is}
-pub use Rattle.norec_core.proofs.Overlays.{Agrees-drop}
 pub use Rattle.norec_core.specs.Core.{Core, came, handed_to, in_transaction, is_inside, opening, word_loaded}
 pub use Rattle.norec_core.specs.Moves.{IsResumed}
 pub use Rattle.norec_core.proofs.ReplyCases.{replied_so, reply_cases}

@@ -1,7 +1,7 @@
 -- The open attempt, as its calls go on.
 use Rattle.std.proofs.Common.{◌≡◌, ℕ, ◌/◌, ◌<◌, ◌≤◌, Bool, true, false, if◌then◌else◌, List, [], ◌∷◌, ◌++◌, Option, None, Some, refl, sym, true≢false, ap, subst, ◌∙◌, arith}
 use Rattle.itm_types.specs.declared.row.LogRow.{LogRow}
-use Rattle.norec_world.proofs.Common.{Agrees, Agrees-drop, AsksFor, Attempt, Begin, Between, Call, Code, Core, Enters, Entry, IsAlone, IsInTry, IsMemory, MAX_OPEN_BLOCKS, Obeys, Props, ReadsFrom, Refusal, Replied, Replies, Rules, State, Step, after, begin_code, begins_at, bytes_of, handed_is, handed_to, in_transaction, inside_all, is_inside, is_open, none_inside, opened, player_then, recoded, reply, stands_for, state_over, state_then}
+use Rattle.norec_world.proofs.Common.{Agrees, AsksFor, Attempt, Begin, Between, Call, Code, Core, Enters, Entry, IsAlone, IsInTry, IsMemory, MAX_OPEN_BLOCKS, Obeys, Props, ReadsFrom, Refusal, Replied, Replies, Rules, State, Step, after, begin_code, begins_at, bytes_of, handed_is, handed_to, in_transaction, inside_all, is_inside, is_open, none_inside, opened, player_then, recoded, reply, stands_for, state_over, state_then}
 use Rattle.write_set.specs.Rows.{overlay}
 use Rattle.itm_model.specs.Machine.{after_unless, or_else, refusal, reply_unless, unless}
 use Rattle.itm_types.specs.declared.call.Refusal.TheVariants.{NoIrrevocable}
@@ -150,7 +150,7 @@ module _ {P : Type 0} {rules : Rules P} (laws : Obeys rules) {position : List �
               let old = less m agrees in
               let stands = t.stands g.revocable m memory old in
               let replied : r ≡ reply MAX_OPEN_BLOCKS (state_then MAX_OPEN_BLOCKS (state m) row.calls) call =
-              g.reply_is m memory (Agrees-drop m mid.entry new.log agrees) ∙ (ap (λ (a : Bool). recoded call a (reply MAX_OPEN_BLOCKS (stands_for mid m) call)) t.anew
+              g.reply_is m memory agrees ∙ (ap (λ (a : Bool). recoded call a (reply MAX_OPEN_BLOCKS (stands_for mid m) call)) t.anew
               ∙ (told_plainly call (reply MAX_OPEN_BLOCKS (stands_for mid m) call) ∙ ap (λ (s : State). reply MAX_OPEN_BLOCKS s call) stands)) in
               alone_more laws begun p (state m) row.calls (record { call = call; reply = r }) (t.alone m memory (agree_reads position mid.irrevocable mid.log m g.revocable old)) (ap is_open (sym stands) ∙ stands_open rules laws mid m inside) t.player asks replied);
           stands = λ e m mem agrees.
@@ -208,7 +208,7 @@ module _ {P : Type 0} (rules : Rules P) (position : List ℕ) where
       served : (refusal MAX_OPEN_BLOCKS (outside_of mid words) (Begin props room) ≡ None) × (r ≡ begin_code b.again)
       served =
           begin_served mid props room r b.again (refusal MAX_OPEN_BLOCKS (outside_of mid words) (Begin props room)) outside (sym (ap is_inside g.blocks) ∙ opens)
-          (g.reply_is words mem (Agrees-drop words mid.entry new.log agrees) ∙ (λ i. recoded (Begin props room) (again i) (reply MAX_OPEN_BLOCKS (stands_outside mid outside revocable words i) (Begin props room))))
+          (g.reply_is words mem agrees ∙ (λ i. recoded (Begin props room) (again i) (reply MAX_OPEN_BLOCKS (stands_outside mid outside revocable words i) (Begin props room))))
 
       pub try_begins : (at : ℕ) → IsInTry rules position b (record row { at = at }) (rules.answered p r) new
       try_begins at = record {

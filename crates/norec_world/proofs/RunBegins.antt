@@ -1,7 +1,7 @@
 -- An actor's run between two tries: calls outside a transaction, and begins.
 use Rattle.std.proofs.Common.{◌≡◌, ◌⊎◌, ℕ, zero, suc, ◌/◌, ◌<◌, ◌≤◌, Bool, true, false, if◌then◌else◌, List, [], Option, None, Some, refl, sym, true≢false, ap, subst, ◌∙◌, arith, is_none, is_some, inl, inr}
 use Rattle.user_actions.specs.Actions.{Actions}
-use Rattle.norec_world.proofs.Common.{Actor, Agrees, Agrees-drop, Answer, Attempt, Begin, Beginning, Between, Busy, Call, Cells, Committed, Conflict, ConflictsIn, Core, CountsTry, Done, Enters, Full, IsBeforeTry, IsInTry, IsMemory, IsRun, LeadsTo, MAX_OPEN_BLOCKS, Obeys, Props, Ready, Refusal, Replied, Replies, RepliesHeld, Reply, Row, Rows, Rules, State, active_of, after, after_unless, alone, backed, begin_of, begin_within, begins_at, bytes_at, cond-true, ending_of, in_transaction, inside_all, is_inside, opened, outside, recoded, refusal, reply, reply_cases, same_Some, stands_for, state_over, state_then, with_opened, words_at}
+use Rattle.norec_world.proofs.Common.{Actor, Agrees, Answer, Attempt, Begin, Beginning, Between, Busy, Call, Cells, Committed, Conflict, ConflictsIn, Core, CountsTry, Done, Enters, Full, IsBeforeTry, IsInTry, IsMemory, IsRun, LeadsTo, MAX_OPEN_BLOCKS, Obeys, Props, Ready, Refusal, Replied, Replies, RepliesHeld, Reply, Row, Rows, Rules, State, active_of, after, after_unless, alone, backed, begin_of, begin_within, begins_at, bytes_at, cond-true, ending_of, in_transaction, inside_all, is_inside, opened, outside, recoded, refusal, reply, reply_cases, same_Some, stands_for, state_over, state_then, with_opened, words_at}
 use Rattle.itm_model.specs.Machine.{answer, in_arena, irrevocable_from, or_else, pushed, reply_unless, unless}
 use Rattle.itm_types.specs.declared.call.Refusal.TheVariants.{NoIrrevocable}
 use Rattle.norec_core.specs.Core.{may_go}
@@ -84,7 +84,7 @@ served_outside mid new c r m g shut closed mem agrees =
     let same = same_outside mid.writes mid.arena mid.actions m c in
     let stands = stands_outside mid shut g.revocable m in
     let so = plainly mid c mid.again r (refusal MAX_OPEN_BLOCKS (outside [] mid.arena) c) (sym (ap is_inside g.blocks) ∙ closed) refl
-    (g.reply_is m mem (Agrees-drop m mid.entry new.log agrees) ∙ (ap (λ (s : State). recoded c mid.again (reply MAX_OPEN_BLOCKS s c)) stands ∙ ap (recoded c mid.again) same.0)) in (
+    (g.reply_is m mem agrees ∙ (ap (λ (s : State). recoded c mid.again (reply MAX_OPEN_BLOCKS s c)) stands ∙ ap (recoded c mid.again) same.0)) in (
       so.0,
       so.1,
       sym (stands_arena new m) ∙ (ap (λ (s : State). s.arena) (g.meets m mem agrees) ∙ (ap (λ (s : State). (after MAX_OPEN_BLOCKS s c).arena) stands ∙ same.1)),
@@ -132,7 +132,7 @@ module _ {P : Type 0} {rules : Rules P} (laws : Obeys rules) {first : Between P}
           (let g' : Replies mid (Begin props room) reply a.engine = subst (λ (c : Call). Replies mid c reply a.engine) is g in
           let late : a.engine.snapshot / 2 ≤ cells.clock / 2 = (let half = m.taken.moves.keeps g.unfreed in let reached = m.taken.tied.settled.reached in let late = m.taken.tied.late in omega arith) in
           let words : List ℕ = words_at base r.ended (a.engine.snapshot / 2) in
-          begin_may mid props room reply words m.taken.was_is revocable (sym (ap is_inside g'.blocks) ∙ now) (g'.reply_is words (memory_at seen (a.engine.snapshot / 2) late) (Agrees-drop words mid.entry a.engine.log (seen.now now))))
+          begin_may mid props room reply words m.taken.was_is revocable (sym (ap is_inside g'.blocks) ∙ now) (g'.reply_is words (memory_at seen (a.engine.snapshot / 2) late) (seen.now now)))
       | inr (inl g) ↦
           (let g' : Enters mid (Begin props room) reply a.engine = subst (λ (c : Call). Enters mid c reply a.engine) is g in
           begin_may mid props room reply [] m.taken.was_is revocable (sym (inside_all (blocks_after mid (Begin props room) reply)) ∙ (sym (ap (λ (c : Core). is_inside c.blocks) g'.stays) ∙ now)) (g'.reply_is []))

@@ -1,6 +1,6 @@
 -- An actor's run, once its attempt has ended.
 use Rattle.std.proofs.Common.{◌≡◌, ℕ, ◌/◌, ◌≤◌, Bool, true, false, if◌then◌else◌, List, [], ◌∷◌, ◌++◌, map, Option, Some, refl, sym, true≢false, ap, subst, ◌∙◌, arith, inl, inr}
-use Rattle.norec_world.proofs.Common.{Actor, Agrees, Agrees-drop, Answers, Attempt, Between, Call, Cells, Code, Commit, Committed, Conflict, ConflictsIn, Core, Done, EndsAs, Entry, Full, Next, IsMemory, IsRun, LacksClock, MAX_OPEN_BLOCKS, Obeys, Outcome, Replied, Replies, RecordsReply, Reply, Rows, Rules, State, StopsAt, after, after_try, alone, answered_all, backed, begin_code, bytes_at, bytes_of, cases_Bool, ending_of, false_from_ne_true, follows, in_transaction, is_done, is_open, opened, recoded, stands_for, state_then, takes_clock, words_at, words_of}
+use Rattle.norec_world.proofs.Common.{Actor, Agrees, Answers, Attempt, Between, Call, Cells, Code, Commit, Committed, Conflict, ConflictsIn, Core, Done, EndsAs, Entry, Full, Next, IsMemory, IsRun, LacksClock, MAX_OPEN_BLOCKS, Obeys, Outcome, Replied, Replies, RecordsReply, Reply, Rows, Rules, State, StopsAt, after, after_try, alone, answered_all, backed, begin_code, bytes_at, bytes_of, cases_Bool, ending_of, false_from_ne_true, follows, in_transaction, is_done, is_open, opened, recoded, stands_for, state_then, takes_clock, words_at, words_of}
 use Rattle.itm_model.specs.Machine.{undone, reply as plainly}
 use Rattle.itm_types.specs.declared.call.Call.TheVariants.{Abort}
 use Rattle.itm_types.specs.declared.call.Ran.{Ran}
@@ -193,7 +193,7 @@ module _ {P : Type 0} {rules : Rules P} (laws : Obeys rules) {first : Between P}
 
     reply_plain : reply ≡ plainly MAX_OPEN_BLOCKS (led (bytes_at base r1.ended (a.engine.snapshot / 2))) call
     reply_plain =
-        cancel_replies.reply_is seen_words memory_seen (Agrees-drop seen_words mid.entry a.engine.log none_logged)
+        cancel_replies.reply_is seen_words memory_seen none_logged
         ∙ (ap (λ (w : Bool). recoded call w (plainly MAX_OPEN_BLOCKS (stands_for mid seen_words) call)) (run.inside inside).4.anew
         ∙ (told_plainly call (plainly MAX_OPEN_BLOCKS (stands_for mid seen_words) call) ∙ ap (λ (s : State). plainly MAX_OPEN_BLOCKS s call) stands))
 

@@ -3,9 +3,12 @@ use Rattle.std.proofs.Common.{◌≡◌, ◌&&◌, not, List, [], None, IsSome, 
 use Rattle.norec_world.proofs.Common.{AllFit, Answer, AnswerFits, Answers, Asks, Begin, Busy, Call, Cas, Cells, Commit, Committed, Conflict, ConflictsIn, Core, Ends, Full, HoldsOn, IsLawful, IsTied, Load, Next, Proceeds, Reply, Step, Store, after_undoing, both_ways, came, cells_after, cond-false, cond-true, cond_both, found, handed_to, in_transaction, is_begin, none_inside, replied_so, reply_cases, rests, word_loaded}
 use Rattle.itm_types.specs.declared.call.Call.TheVariants.{Mode}
 use Rattle.nest_frames.specs.Nest.{Frame, stays_revocable}
-use Rattle.norec_core.specs.Core.{rolled_back}
+use Rattle.itm_types.specs.declared.limits.TheConstants.{MAX_COMMITS}
+use Rattle.norec_core.specs.Core.{opening, rolled_back}
 use Rattle.norec_core.specs.declared.phase.Phase.TheVariants.{Idle}
 use Rattle.norec_core.specs.Proceeds.{IsBegin, IsSettled, WantsClock}
+use Rattle.norec_core.specs.Rows.{IsLog}
+use Rattle.norec_core.proofs.Overlays.{agreed}
 use Rattle.norec_world.proofs.PlayerLaws.{reply_fits}
 
 -- ## What the operation asks and gives
@@ -113,6 +116,25 @@ snapshot_still e new is = ap (λ (c : Core). c.snapshot) is ∙ cond_both e.hold
 pub idle_still : (e new : Core) → new ≡ after_undoing e → e.waits ≡ None → new.waits ≡ None
 idle_still e new is idle = ap (λ (c : Core). c.waits) is ∙ cond_both e.holds _ _ (λ (c : Core). c.waits ≡ None) (λ h. idle) (λ h. refl)
 
+-- a log of no rows
+log_of_none : (words : ℕ) → IsLog words []
+log_of_none words = record { within = tt; single = tt; fit = tt }
+
+-- an engine that has begun nothing
+pub opening_settled : (words : ℕ) (arena : List ℕ) (patience max_commits : ℕ) → max_commits ≤ MAX_COMMITS → IsSettled (opening words arena patience max_commits)
+opening_settled words arena patience max_commits few = record {
+  closed = λ o. (refl, refl, refl, refl);
+  reached = omega arith;
+  logged = log_of_none words;
+  agreed = agreed words [] (log_of_none words);
+  inside = λ w o. absurd (cc);
+  unfreed = refl;
+  even = refl;
+  holder = λ h. absurd (cc);
+  limit = few;
+  irrevocable = λ i. absurd (cc);
+}
+
 -- and it is left as the cells have it
 pub tied_undone : (cells : Cells) (e new : Core) → new ≡ after_undoing e → (e.holds ≡ false → (new.actions.commits ≡ []) × (new.actions.undos ≡ [])) → IsTied cells e → IsTied cells new
 tied_undone cells e new is unregistered t = by_holds e.holds refl
@@ -127,6 +149,8 @@ tied_undone cells e new is unregistered t = by_holds e.holds refl
         let snapshot = ap (λ (c : Core). c.snapshot) same in
         let limit = ap (λ (c : Core). c.max_commits) same in
         let s = t.settled in
+        let log : new.log ≡ [] = ap (λ (c : Core). c.log) same in
+        let empty = subst (IsLog new.words) (sym log) (log_of_none new.words) in
         record {
           words = ap (λ (c : Core). c.words) same ∙ t.words;
           fit = t.fit;
@@ -135,6 +159,8 @@ tied_undone cells e new is unregistered t = by_holds e.holds refl
           settled = record {
             closed = λ o. (ap (λ (c : Core). c.log) same, ap (λ (c : Core). c.writes) same, gone.0, gone.1);
             reached = (let l = s.reached in omega arith);
+            logged = empty;
+            agreed = agreed new.words new.log empty;
             inside = λ w o. absurd (both_ways (in_transaction new) shut o);
             unfreed = ap (λ (c : Core). c.freed) same;
             even = ap (λ (n : ℕ). n % 2) snapshot ∙ s.even;

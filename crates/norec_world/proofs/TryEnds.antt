@@ -4,7 +4,7 @@ use Rattle.std.proofs.Common.{true≢false, inl, inr, ◌≡◌, ℕ, ◌+◌, �
 use Rattle.nest_frames.specs.Nest.{Frame}
 use Rattle.norec_world.proofs.PlayerLaws.{deep_of}
 use Rattle.norec_world.proofs.Cancels.{cancels}
-use Rattle.norec_world.proofs.Common.{Actor, Agrees, Agrees-drop, Answer, Attempt, Begin, Busy, Call, Cells, ClosedBy, Code, Committed, Conflict, ConflictsIn, Core, CountsTry, End, Ended, Ends, EndsAt, Entry, Full, GoesOnAfter, HasRow, IsBetween, IsMemory, IsReady, IsSettledBy, IsTied, IsTold, MAX_OPEN_BLOCKS, Opens, Outcome, Prior, Props, Ready, Records, RecordsReply, Replied, Replies, Reply, RestsAs, Rows, Rules, Status, Tries, TriesAgain, active_of, begins, between, cases_Bool, cond-false, cond-true, current_of, ending_of, in_transaction, is_begin, is_done, is_inside, none_inside, outrun, over, prior_of, recoded, reply as replied, reply_cases, runs, shut_out, stands_for, turned_away, with_opened}
+use Rattle.norec_world.proofs.Common.{Actor, Agrees, Answer, Attempt, Begin, Busy, Call, Cells, ClosedBy, Code, Committed, Conflict, ConflictsIn, Core, CountsTry, End, Ended, Ends, EndsAt, Entry, Full, GoesOnAfter, HasRow, IsBetween, IsMemory, IsReady, IsSettledBy, IsTied, IsTold, MAX_OPEN_BLOCKS, Opens, Outcome, Prior, Props, Ready, Records, RecordsReply, Replied, Replies, Reply, RestsAs, Rows, Rules, Status, Tries, TriesAgain, active_of, begins, between, cases_Bool, cond-false, cond-true, current_of, ending_of, in_transaction, is_begin, is_done, is_inside, none_inside, outrun, over, prior_of, recoded, reply as replied, reply_cases, runs, shut_out, stands_for, turned_away, with_opened}
 use Rattle.itm_types.specs.declared.call.Reply.TheVariants as replies
 use Rattle.itm_model.specs.Machine.{or_else, reply_unless, unless}
 use Rattle.itm_types.specs.declared.call.Refusal.TheVariants.{NoIrrevocable}
@@ -247,7 +247,7 @@ code_opens mid props room false = refl
 
 pub begin_opens : (mid new : Core) (m : List ℕ) (props : Props) (room : ℕ) (told : Replied) → Replies mid (Begin props room) told new → in_transaction mid ≡ false → may_go mid.blocks props ≡ true → IsMemory mid.words m → Agrees m new.log → in_transaction new ≡ false → ⊥
 begin_opens mid new m props room told g outside may memory agrees closed =
-    let code = g.reply_is m memory (Agrees-drop m mid.entry new.log agrees) ∙ ap (recoded (Begin props room) mid.again) (opening_reply mid m props room g.revocable (none_inside mid.blocks outside) may) in
+    let code = g.reply_is m memory agrees ∙ ap (recoded (Begin props room) mid.again) (opening_reply mid m props room g.revocable (none_inside mid.blocks outside) may) in
     let opens : in_transaction new ≡ true = ap is_inside (g.blocks ∙ ap (blocks_after mid (Begin props room)) code) ∙ code_opens mid props room mid.again in
     true≢false (sym opens ∙ closed)
 

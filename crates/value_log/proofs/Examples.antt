@@ -1,7 +1,7 @@
 -- Worked cases of value logs, computed.
 use Rattle.std.proofs.Common.{◌≡◌, List, [], ◌∷◌, Some, None, refl}
 use Rattle.itm_types.specs.declared.row.LogRow.{LogRow}
-use Rattle.value_log.specs.Log.{value_of}
+use Rattle.itm_types.specs.LogRows.{value_of}
 
 -- words 4, 1, 4 and 0 were read
 abbrev rows : List LogRow

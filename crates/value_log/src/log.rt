@@ -1,41 +1,55 @@
 //! The value log.
 
-ghost use Rattle.std.specs.Prelude.{◌≡◌, ◌+◌, ◌<◌, ◌≤◌, ℕ, List, [], ◌∷◌, ◌++◌, IfSome, IsOk, OnOk, OnErr, Some, length, slice_get};
+ghost use Rattle.std.specs.Prelude.{◌≡◌, ◌+◌, ◌<◌, ◌≤◌, ℕ, List, [], ◌∷◌, ◌++◌, IfSome, IsOk, None, OnOk, OnErr, Some, length, slice_get, take};
+ghost use Rattle.itm_types.specs.LogRows.{value_of, AreSingle};
 ghost use Rattle.itm_types.specs.Memory.{Agrees};
-ghost use Rattle.value_log.specs.Log.{value_of};
 
-use itm_types::LogRow;
+use crate::index::Index;
+use itm_types::{LogRow, MAX_WORDS};
+use smallvec::SmallVec;
 use std::alloc::{AllocError, Global};
 use std::marker::Model;
 
-/// The words that a transaction has read from the memory, each with the value that it found, in the order of reading.
+/// So many rows stand in the log itself, and are looked through; a log with more has an index.
+pub const INLINE_ROWS: usize = 16;
+
+/// The words that a transaction has read from the memory, each with the value that it found, in the order of first
+/// reading. No word has two rows.
 #[derive(Debug, Drop)]
 pub struct ValueLog {
-    rows: Vec<LogRow>,
+    rows: SmallVec<LogRow, INLINE_ROWS>,
+    index: Index,
 }
 
 impl Model for ValueLog {
-    ghost use Rattle.std.specs.Prelude.{◌-◌, vec_len, vec_capacity};
+    ghost use Rattle.std.specs.Prelude.{◌-◌, length};
     ghost use Rattle.value_log.specs.Log.{Log};
+    ghost use Rattle.value_log.specs.Index.{IsKept};
 
     ghost Value = { Log };
 
-    ghost view = { λ l. record { rows = l.rows.items; room = vec_capacity l.rows - vec_len l.rows } };
+    ghost view = { λ l. record { rows = l.rows.items; room = l.rows.capacity - length l.rows.items } };
+
+    ghost invariant = { λ l. IsKept l.rows l.index.places.items };
 }
 
 impl ValueLog {
     /// The value log of a transaction that has read nothing. Takes no memory.
     pub fn new(alloc: Global) -> ValueLog
-        ensures { result ≡ record { rows = []; room = 0 } }
+        ensures { result ≡ record { rows = []; room = INLINE_ROWS } }
     {
         ValueLog {
-            rows: Vec::new(alloc),
+            rows: SmallVec::new(alloc),
+            index: Index::none(alloc),
         }
     }
 
     /// How many rows there are.
     pub fn len(&self) -> usize
-        ensures { result ≡ length self.now.rows }
+        ensures len { result ≡ length self.now.rows }
+
+        // Of every log: no two rows have one word.
+        ensures single { AreSingle self.now.rows }
     {
         self.rows.len()
     }
@@ -45,18 +59,21 @@ impl ValueLog {
         requires { place < length self.now.rows }
         ensures { slice_get self.now.rows place ≡ Some result }
     {
-        self.rows[place]
+        self.rows.as_slice()[place]
     }
 
-    /// The value of the word's first row, if it has one.
+    /// The value of the word's row, if it has one.
     pub fn find(&self, word: u32) -> Option<u64>
         ensures value { result ≡ value_of word self.now.rows }
 
         // In every memory that agrees with the log, the word has that value.
         ensures word { IfSome result (λ value. (m : List ℕ) → Agrees m self.now.rows → slice_get m word ≡ Some value) }
     {
-        let row = self.rows.iter().find(|row| row.word == word)?;
-        Some(row.value)
+        if self.index.is_none() {
+            scan(self.rows.as_slice(), word)
+        } else {
+            self.index.find(self.rows.as_slice(), word)
+        }
     }
 
     /// Makes room for so many more rows.
@@ -69,16 +86,36 @@ impl ValueLog {
         ensures kept { self.old.room ≤ self.new.room }
         ensures has_room { more ≤ self.old.room → IsOk result }
     {
+        if more <= self.rows.capacity() - self.rows.len() {
+            return Ok(());
+        }
+        if self.index.is_none() {
+            self.index = Index::of(*self.rows.allocator(), self.rows.as_slice())?;
+        }
         self.rows.reserve(more)
     }
 
-    /// Adds a row at the end, where there is room. Takes no memory.
+    /// Adds the row of a word that has none at the end, where there is room. Takes no memory.
     pub fn add(&mut self, row: LogRow)
         requires room { 0 < self.old.room }
+        requires word { row.word < MAX_WORDS }
+        requires first { value_of row.word self.old.rows ≡ None }
         ensures rows { self.new.rows ≡ self.old.rows ++ row ∷ [] }
         ensures room { self.new.room + 1 ≡ self.old.room }
+        ensures single { AreSingle self.new.rows }
     {
+        self.index.note(row.word, self.rows.len());
         self.rows.push_reserved(row);
+    }
+
+    /// Keeps the first rows, so many of them, and all room. Takes no memory.
+    pub fn cut(&mut self, len: usize)
+        ensures rows { self.new.rows ≡ take len self.old.rows }
+        ensures room { self.new.room + length self.new.rows ≡ self.old.room + length self.old.rows }
+    {
+        if len < self.rows.len() {
+            self.rows.truncate(len);
+        }
     }
 
     /// Forgets all that was read, and keeps its room. Takes no memory.
@@ -86,6 +123,14 @@ impl ValueLog {
         ensures rows { self.new.rows ≡ [] }
         ensures room { self.new.room ≡ self.old.room + length self.old.rows }
     {
-        self.rows.clear();
+        self.cut(0);
     }
+}
+
+/// The value of the word's row among these.
+fn scan(rows: &[LogRow], word: u32) -> Option<u64>
+    ensures { result ≡ value_of word rows.now }
+{
+    let row = rows.iter().find(|row| row.word == word)?;
+    Some(row.value)
 }

@@ -6,10 +6,9 @@ use Rattle.norec_world.specs.declared.actor.Status.TheVariants.{Ready, Waits}
 use Rattle.world_laws.specs.Alike.{AreAlike, HasAttempt}
 use Rattle.itm_types.specs.declared.call.Call.TheVariants as requests
 use Rattle.norec_core.specs.Core.{handed}
-use Rattle.norec_core.specs.Stands.{SeesOne}
 use Rattle.norec_core.specs.Moves.{IsCalled, IsResumed}
 use Rattle.norec_core.specs.declared.answer.Next.TheVariants.{Step as Steps}
-use Rattle.norec_core.proofs.OneOutcome.{called_once, resumed_once, sees_still}
+use Rattle.norec_core.proofs.OneOutcome.{called_once, resumed_once}
 use Rattle.tx_attempts.specs.declared.attempt.Outcome.TheVariants as outcomes
 use Rattle.norec_world.specs.LocalWork.{TakesIn, Calls}
 use Rattle.world_laws.specs.Alike.{SameRows, SameParts}
@@ -20,7 +19,7 @@ use Rattle.world_laws.proofs.HeldAttempts.{commits_inside, handed_open, roomed, 
 
 module _ {P : Type 0} (rules : Rules P) (cells : Cells) (r s r' s' : Rows) (a b a' b' : Actor P)
     (same : SameRows r s) (alike : AreAlike a b) (held : HasAttempt r a)
-    (t : TakesIn rules cells r a r' a') (u : TakesIn rules cells s b s' b') (sees : SeesOne a'.engine) (sees' : SeesOne b'.engine) where
+    (t : TakesIn rules cells r a r' a') (u : TakesIn rules cells s b s' b') where
   waiting : Waits t.call t.step ≡ Waits u.call u.step
   waiting = sym t.waits ∙ (alike.status ∙ u.waits)
 
@@ -37,7 +36,7 @@ module _ {P : Type 0} (rules : Rules P) (cells : Cells) (r s r' s' : Rows) (a b 
   resumed = subst (λ (x : Step). IsResumed a.engine (found cells x) u.what b'.engine) (sym step_same) (subst (λ (e : Core). IsResumed e (found cells u.step) u.what b'.engine) (sym parts.engine) u.resumed)
 
   one : (t.what ≡ u.what) × (a'.engine ≡ b'.engine)
-  one = resumed_once a.engine (found cells t.step) t.what u.what a'.engine b'.engine t.resumed resumed sees sees'
+  one = resumed_once a.engine (found cells t.step) t.what u.what a'.engine b'.engine t.resumed resumed
 
   tells : Tells rules (in_transaction a.engine) s u.rows (record b { engine = b'.engine; status = Ready }) b' t.call t.what
   tells = subst (λ (w : Next). Tells rules (in_transaction a.engine) s u.rows (record b { engine = b'.engine; status = Ready }) b' t.call w) (sym one.0)
@@ -83,7 +82,7 @@ pending_same false clock a b (requests.Begin props room) thread p = λ i. Some (
 pending_same false clock a b call thread p = p.pending
 
 module _ {P : Type 0} (rules : Rules P) (clock : ℕ) where
-  module _ (r s r' s' : Rows) (a b a' b' : Actor P) (same : SameRows r s) (thread : a.thread ≡ b.thread) (parts : SameParts a b) (held : HasAttempt r a) (sees : SeesOne a.engine)
+  module _ (r s r' s' : Rows) (a b a' b' : Actor P) (same : SameRows r s) (thread : a.thread ≡ b.thread) (parts : SameParts a b) (held : HasAttempt r a)
       (f : Calls rules clock r a r' a') (g : Calls rules clock s b s' b') where
     request_same : f.call ≡ g.call
     request_same = let e : Some f.call ≡ Some g.call = sym f.next_is ∙ (ap rules.next_call parts.player ∙ g.next_is) in cc
@@ -94,7 +93,7 @@ module _ {P : Type 0} (rules : Rules P) (clock : ℕ) where
         (subst (λ (e : Core). IsCalled e g.call (begins_again (in_transaction e) b.again g.call) g.what g.asked.engine) (sym parts.engine) g.asks.called))
 
     outcome : (f.what ≡ g.what) × (f.asked.engine ≡ g.asked.engine)
-    outcome = called_once a.engine f.call (begins_again (in_transaction a.engine) a.again f.call) f.what g.what f.asked.engine g.asked.engine f.asks.called called sees
+    outcome = called_once a.engine f.call (begins_again (in_transaction a.engine) a.again f.call) f.what g.what f.asked.engine g.asked.engine f.asks.called called
 
     rows_now : SameRows f.rows g.rows
     rows_now = record {
@@ -141,6 +140,3 @@ module _ {P : Type 0} (rules : Rules P) (clock : ℕ) where
     call_alike = told_alike rules f.rows g.rows rows_now f.asked g.asked a' b' thread_now player_now pending_now nth_now again_now f.ready g.ready engine_now
         (f.same.thread ∙ (thread ∙ sym g.same.thread)) (f.same.retries ∙ (parts.retries ∙ sym g.same.retries)) f.same.nothing g.same.nothing r' s' f.call (in_transaction a.engine) f.what
         (grounded_now f.what f.asks.called.at_once f.asks.called.proceeds) f.tells tells_now
-
-    pub sees_now : SeesOne a'.engine
-    sees_now = subst SeesOne (sym f.engine) (sees_still a.engine f.call (begins_again (in_transaction a.engine) a.again f.call) f.what f.asked.engine f.asks.called sees)

@@ -105,7 +105,6 @@ module _ {P : Type 0} (rules : Rules P) (clock words size patience max_commits r
           inside = λ o. absurd (both (in_transaction f.fresh.engine) o (shut_first a f));
           begins = λ c s w. absurd (let z = sym w ∙ f.ready in cc);
         };
-        sees = λ o. absurd (both (in_transaction f.fresh.engine) o (shut_first a f));
       }
 
 -- ## Worlds

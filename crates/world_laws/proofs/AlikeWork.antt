@@ -7,12 +7,11 @@ use Rattle.norec_world.specs.declared.actor.Status.TheVariants.{Ended, Ready}
 use Rattle.tx_attempts.specs.declared.attempt.Attempt.{Attempt}
 use Rattle.norec_world.specs.declared.ending.End.TheVariants.{Finished, NoMemory}
 use Rattle.world_laws.specs.Alike.{AreAlike, HasAttempt}
-use Rattle.norec_core.specs.Stands.{SeesOne}
 use Rattle.norec_world.specs.LocalWork.{Finishes, calls, finishes, starves, ActsOn, Works}
 use Rattle.world_laws.specs.Alike.{SameRows}
 use Rattle.world_laws.proofs.AlikeAnswers.{rows_same}
 use Rattle.world_laws.proofs.HeldAttempts.{step_held, call_held}
-use Rattle.world_laws.proofs.AlikeCalls.{step_alike, call_alike, sees_now}
+use Rattle.world_laws.proofs.AlikeCalls.{step_alike, call_alike}
 
 -- no memory was refused to it
 abbrev pub IsFed : {P : Type 0} → Actor P → Type 0
@@ -26,7 +25,6 @@ pub record GoAlike {P : Type 0} (r s : Rows) (a b : Actor P) : Type 0 where
   pub rows : SameRows r s
   pub alike : AreAlike a b
   pub held : HasAttempt r a
-  pub sees : SeesOne a.engine
 
 module _ {P : Type 0} (rules : Rules P) (clock : ℕ) where
   -- ## One act
@@ -45,15 +43,14 @@ module _ {P : Type 0} (rules : Rules P) (clock : ℕ) where
               (subst (λ (x : Rows). in_transaction a.engine ≡ true → (row : Attempt) × (active_of a.thread x.active ≡ Some row)) (sym f.rows) k.held.inside);
           begins = λ c x w. absurd (let z = sym ended ∙ w in cc);
         };
-        sees = subst (λ (x : Actor P). SeesOne x.engine) (sym f.actor) k.sees;
       }
 
   acts_alike : (r s r' s' : Rows) (a b a' b' : Actor P) → GoAlike r s a b → a.status ≡ Ready → Acts rules clock r a r' a' → Acts rules clock s b s' b' → IsFed a' → IsFed b'
       → GoAlike r' s' a' b'
   acts_alike r s r' s' a b a' b' k ready (calls f) (calls g) fed fed' =
       let parts = k.alike.parts (ap ending_of ready) in
-      let x = call_alike rules clock r s r' s' a b a' b' k.rows k.alike.thread parts k.held k.sees f g in
-      record { rows = x.0; alike = x.1; held = call_held rules clock r r' a a' k.held f; sees = sees_now rules clock r s r' s' a b a' b' k.rows k.alike.thread parts k.held k.sees f g }
+      let x = call_alike rules clock r s r' s' a b a' b' k.rows k.alike.thread parts k.held f g in
+      record { rows = x.0; alike = x.1; held = call_held rules clock r r' a a' k.held f }
   acts_alike r s r' s' a b a' b' k ready (calls f) (finishes g) fed fed' = absurd (let parts = k.alike.parts (ap ending_of ready) in let z : Some f.call ≡ None = sym f.next_is ∙ (ap rules.next_call parts.player ∙ g.none) in cc)
   acts_alike r s r' s' a b a' b' k ready (calls f) (starves g) fed fed' = absurd (fed' (ap ending_of g.status))
   acts_alike r s r' s' a b a' b' k ready (finishes f) (calls g) fed fed' = absurd (let parts = k.alike.parts (ap ending_of ready) in let z : None ≡ Some g.call = sym f.none ∙ (ap rules.next_call parts.player ∙ g.next_is) in cc)
@@ -106,8 +103,8 @@ module _ {P : Type 0} (rules : Rules P) (clock : ℕ) where
 module _ {P : Type 0} (rules : Rules P) (cells cells' : Cells) (r s r' s' : Rows) (a b a' b' : Actor P)
     (rows : SameRows r s) (alike : AreAlike a b) (held : HasAttempt r a)
     (e : IsEvent rules cells r a cells' r' a') (f : IsEvent rules cells s b cells' s' b') where
-  pub event_alike : SeesOne e.stepped.engine → SeesOne f.stepped.engine → is_ready a'.status ≡ false → is_ready b'.status ≡ false → IsFed a' → IsFed b' → GoAlike r' s' a' b'
-  event_alike sees sees' done done' fed fed' =
-      let x = step_alike rules cells r s e.rows f.rows a b e.stepped f.stepped rows alike held e.takes f.takes sees sees' in
+  pub event_alike : is_ready a'.status ≡ false → is_ready b'.status ≡ false → IsFed a' → IsFed b' → GoAlike r' s' a' b'
+  event_alike done done' fed fed' =
+      let x = step_alike rules cells r s e.rows f.rows a b e.stepped f.stepped rows alike held e.takes f.takes in
       work_alike rules cells'.clock e.rows f.rows r' s' e.stepped f.stepped a' b'
-      (record { rows = x.0; alike = x.1; held = step_held rules cells r e.rows a e.stepped held e.takes; sees = sees }) e.works f.works done done' fed fed'
+      (record { rows = x.0; alike = x.1; held = step_held rules cells r e.rows a e.stepped held e.takes }) e.works f.works done done' fed fed'

@@ -1,10 +1,9 @@
 -- Of two worlds that are the same, one event of the same actor makes two that are the same.
-use Rattle.std.proofs.Common.{◌≡◌, ◌⊎◌, ℕ, ◌/◌, Bool, true, false, IsTrue, List, Option, None, Some, Result, Ok, Err, IsSome, slice_get, slice_set, inl, inr, refl, sym, ap, subst, ◌∙◌, arith}
-use Rattle.norec_world.proofs.Common.{Cells, Goes, HasRead, IsEvent, Rows, Rules, SameOpening, Step, World, active_of, cells_after, counted, ending_at, ending_of, option_and_then, slice_get-set_same, told, waiting_step, waits_at, words_at}
+use Rattle.std.proofs.Common.{◌≡◌, ◌⊎◌, ℕ, Bool, true, false, IsTrue, List, Option, None, Some, Result, Ok, Err, IsSome, slice_get, slice_set, inl, inr, refl, sym, ap, subst, ◌∙◌, arith}
+use Rattle.norec_world.proofs.Common.{Cells, Goes, IsEvent, Rows, Rules, SameOpening, Step, World, active_of, cells_after, counted, ending_at, ending_of, option_and_then, slice_get-set_same, told, waiting_step, waits_at}
 use Rattle.norec_world.specs.declared.actor.Actor.{Actor}
 use Rattle.norec_world.specs.declared.actor.Status.{Status}
 use Rattle.world_laws.specs.Alike.{AreAlike, HasAttempt}
-use Rattle.norec_core.specs.Stands.{SeesOne}
 use Rattle.norec_world.specs.declared.fault.WorldFault.{WorldFault}
 use Rattle.norec_world.specs.declared.fault.WorldFault.TheVariants as faults
 use Rattle.norec_world.specs.World.{is_event}
@@ -47,10 +46,6 @@ module _ {P : Type 0} (v w : World P) (s : SameWorld v w) (actor : ℕ) where
 
   pub ending_same : ending_at v actor ≡ ending_at w actor
   ending_same = of_status ending_of
-
--- what was read is of one memory
-one_read : {P : Type 0} (base : List ℕ) (r : Rows) (a : Actor P) → HasRead base r a → SeesOne a.engine
-one_read base r a read o = let x = read o in (words_at base r.ended (a.engine.snapshot / 2), x.0, x.1)
 
 some_of : {A : Type 0} (o : Option A) → IsSome o → (x : A) × (o ≡ Some x)
 some_of None e = absurd (cc)
@@ -133,9 +128,9 @@ module _ {P : Type 0} (rules : Rules P) (actor : ℕ) (v w : World P) (s : SameW
         let b' : Actor P = y.0 in
         let there : slice_get v'.actors actor ≡ Some a' = set_here v v' here.0 a' here.1 x.1 in
         let there' : slice_get w'.actors actor ≡ Some b' = set_here w w' here'.0 b' here'.1 y.1 in
-        let other = on_same_cells here'.0 b' y.2 (one_read w.base y.2.rows y.2.stepped y.4) in
+        let other = on_same_cells here'.0 b' y.2 in
         let go : GoAlike v'.attempts w'.attempts a' b' = event_alike rules v.cells v'.cells v.attempts w.attempts v'.attempts w'.attempts here.0 here'.0 a' b' s.rows (s.actors actor here.0 here'.0 here.1 here'.1) (s.held actor here.0 here.1)
-        x.2 other.0 (one_read v.base x.2.rows x.2.stepped x.4) other.1 x.3 y.3 (not_starved v' result a' there (f.answer taken) fed) (not_starved w' result' b' there' (g.answer taken') fed') in
+        x.2 other x.3 y.3 (not_starved v' result a' there (f.answer taken) fed) (not_starved w' result' b' there' (g.answer taken') fed') in
         let tells : result ≡ result' = f.answer taken ∙ (ap told (ending_is v' a' there ∙ (ap ending_of go.alike.status ∙ sym (ending_is w' b' there'))) ∙ sym (g.answer taken')) in
         let mine : here.0.thread ≡ actor = s.places actor here.0 here.1 in
         let thread : a'.thread ≡ actor = x.2.others.thread ∙ mine in (
@@ -170,11 +165,8 @@ module _ {P : Type 0} (rules : Rules P) (actor : ℕ) (v w : World P) (s : SameW
         )
       where
         -- the other world's event, over the cells of this one
-        on_same_cells : (b b' : Actor P) (e : IsEvent rules w.cells w.attempts b w'.cells w'.attempts b') → SeesOne e.stepped.engine
-            → (d : IsEvent rules v.cells w.attempts b v'.cells w'.attempts b') × SeesOne d.stepped.engine
-        on_same_cells b b' e sees =
-            subst (λ (c : Cells). (d : IsEvent rules c w.attempts b v'.cells w'.attempts b') × SeesOne d.stepped.engine) (sym s.cells)
-            (subst (λ (c : Cells). (d : IsEvent rules w.cells w.attempts b c w'.attempts b') × SeesOne d.stepped.engine) (sym cells_same) (e, sees))
+        on_same_cells : (b b' : Actor P) → IsEvent rules w.cells w.attempts b w'.cells w'.attempts b' → IsEvent rules v.cells w.attempts b v'.cells w'.attempts b'
+        on_same_cells b b' e = subst (λ (c : Cells). IsEvent rules c w.attempts b v'.cells w'.attempts b') (sym s.cells) (subst (λ (c : Cells). IsEvent rules w.cells w.attempts b c w'.attempts b') (sym cells_same) e)
 
   pub goes_alike : (result ≡ Err faults.NoMemory → ⊥) → (result' ≡ Err faults.NoMemory → ⊥) → (result ≡ result') × SameWorld v' w'
   goes_alike fed fed' = by_event (is_event result) refl

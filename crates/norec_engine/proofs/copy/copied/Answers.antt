@@ -1,4 +1,4 @@
-use Rattle.std.proofs.Common.{ℕ, List, length, drop, refl, sym, ap, subst, ◌∙◌, arith}
+use Rattle.std.proofs.Common.{ℕ, List, length, refl, sym, ap, subst, ◌∙◌, arith}
 use Rattle.itm_types.specs.Memory.{bytes_of, IsMemory, Agrees}
 use Rattle.write_set.specs.declared.row.Row.{Row}
 use Rattle.write_set.specs.Rows.{overlay, AreRows}
@@ -11,7 +11,6 @@ use Rattle.norec_core.specs.Proceeds.{arena_copied, writes_copied}
 use Rattle.norec_core.specs.Rows.{AllWritesWithin}
 use Rattle.norec_core.specs.Stands.{state_over}
 use Rattle.norec_engine.proofs.Copies.{copies}
-use Rattle.norec_core.proofs.Overlays.{Agrees-drop}
 use Rattle.norec_engine.proofs.Sources.{rows_before-fit, copied_fits, overlay_for, length-arena_copied}
 use Rattle.norec_engine.proofs.copy.copied.Goals as goal
 
@@ -61,13 +60,13 @@ returns-clause-proceeds c log =
     let before : List Row = rows_before s in
     let blocks = c.deliver.ensures.blocks in
     let fits = rows_before-fit s.words s.written s.frames.writes.rows may.is_open.rows may.is_open.writes in
-    let got = λ (m : List ℕ) (mem : IsMemory s.words m) (agrees : Agrees m (drop s.entry s.log.rows)).
+    let got = λ (m : List ℕ) (mem : IsMemory s.words m) (agrees : Agrees m s.log.rows).
     may.source.has m mem agrees
     ∙ ap (λ (x : List ℕ). source_in k.pair s.arena (bytes_of x) k.from k.size) (ap (overlay m) served.reserved ∙ overlay_for k k.pair m before mem.1 fits.0) in
-    let all = λ (m : List ℕ) (mem : IsMemory s.words m) (agrees : Agrees m (drop s.entry s.log.rows)).
+    let all = λ (m : List ℕ) (mem : IsMemory s.words m) (agrees : Agrees m s.log.rows).
     copies before s.frames.blocks s.arena s.frames.actions m s.words k may.is_open.is_open mem fits.0 served.accepted s.buffer.items c.deliver.ensures.bytes (got m mem agrees) in
     rw c.deliver.ensures.frame (record {
-      meets = λ m mem agrees. (λ i. state_over (c.deliver.ensures.rows i) (blocks i) (c.deliver.ensures.arena i) (c.deliver.ensures.actions i) m) ∙ (all m mem (Agrees-drop m s.entry s.log.rows agrees)).0;
+      meets = λ m mem agrees. (λ i. state_over (c.deliver.ensures.rows i) (blocks i) (c.deliver.ensures.arena i) (c.deliver.ensures.actions i) m) ∙ (all m mem agrees).0;
       reply_is = λ m mem agrees. (all m mem agrees).1;
       stays = ap (λ (n : ℕ). record (core (record s { arena = c.deliver.new.state.arena; frames = c.deliver.new.state.frames }) Idle) { room = n }) c.deliver.ensures.room_left;
       writes = λ m mem agrees. c.deliver.ensures.rows ∙ ap (writes_copied before k k.pair) (got m mem agrees);

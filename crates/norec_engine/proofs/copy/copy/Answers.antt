@@ -94,7 +94,9 @@ returns-in-In c =
     ∙ (λ i. record (made.frame i) { spent = 0; entry = length e.log.rows; tries = 0; written = length s.frames.writes.rows }) in
     let rows : List Row = s.frames.writes.rows in
     let old : rows_before came_at ≡ rows = ap rows_before is ∙ before s e k sound accepted made.log made.blocks made.size made.actions made.room_left made.rows made.may_put in
-    let at : phase_after c.next_chunk.result ≡ load_chunks rows k 0 cs = c.next_chunk.ensures.order ∙ ap (λ (rs : List Row). load_chunks rs k 0 cs) old in
+    let log = s.log.rows in
+    let logs : came_at.log.rows ≡ log = ap (λ (d : Data). d.log.rows) is ∙ made.log in
+    let at : phase_after c.next_chunk.result ≡ load_chunks rows log k 0 cs = c.next_chunk.ensures.order ∙ (λ i. load_chunks (old i) (logs i) k 0 cs) in
     record {
       sound = c.next_chunk.ensures.sound;
       proceeds =
@@ -109,7 +111,7 @@ returns-in-In c =
       err_sound = tt;
       err = tt;
       starves = tt;
-      order = at ∙ (sym (copy_stage_is rows k k.pair shared) ∙ sym (cond-true (is_none (copy_refusal (in_block s) s.words (length s.arena) k)) _ _ (ap is_none accepted)));
+      order = at ∙ (sym (copy_stage_is rows log k k.pair shared) ∙ sym (cond-true (is_none (copy_refusal (in_block s) s.words (length s.arena) k)) _ _ (ap is_none accepted)));
       ends = c.next_chunk.ensures.ends;
-      tries = c.next_chunk.ensures.tries ∙ (ap (λ (x : Phase). tries_after x 0) at ∙ (starts_chunks rows k 0 cs ∙ sym (ap tries_at at)));
+      tries = c.next_chunk.ensures.tries ∙ (ap (λ (x : Phase). tries_after x 0) at ∙ (starts_chunks rows log k 0 cs ∙ sym (ap tries_at at)));
     }

@@ -14,12 +14,12 @@ use Rattle.norec_data.specs.View.{rows_before}
 use Rattle.norec_engine.specs.InPhases.{IsReading}
 use Rattle.norec_engine.proofs.AcceptedCopies.{source_within}
 use Rattle.norec_core.proofs.CopyChunks.{chunk_there}
-use Rattle.norec_engine.proofs.Loads.{open_gathering, load_sound, reading_of, no_reading, starts_chunk, whole_source}
+use Rattle.norec_engine.proofs.Loads.{open_gathering, load_sound, logs_chunk, may_read, reading_of, no_reading, starts_chunk, whole_source}
 use Rattle.norec_core.proofs.Readings.{none_drop, some_drop, some_count, words_in-next}
 use Rattle.norec_engine.proofs.copy.next_chunk.Goals as goal
 
-pub take_covered-requires : goal.take_covered-requires
-take_covered-requires c =
+pub take_had-requires : goal.take_had-requires
+take_had-requires c =
     let s = c.loop-reading.state in
     let k = c.args.copying in
     let n = c.loop-reading.number in
@@ -33,30 +33,34 @@ take_covered-requires c =
       );
     }
 
-pub returns-in-Some-take_covered-clause-sound : goal.returns-in-Some-take_covered-clause-sound
-returns-in-Some-take_covered-clause-sound c =
+pub returns-in-Some-take_had-clause-sound : goal.returns-in-Some-take_had-clause-sound
+returns-in-Some-take_had-clause-sound c =
     let s = c.loop-reading.state in
     let may = c.loop-reading.invariant.may in
     let k = c.args.copying in
     let n = c.loop-reading.number in
     let at = reading_of k n c.in-Some.reading (sym c.in-Some.is ∙ c.chunk_reading.ensures.value) in
-    let next = c.in-Some-take_covered.next in
-    let found = c.in-Some-take_covered.ensures.next in
+    let next = c.in-Some-take_had.next in
+    let found = c.in-Some-take_had.ensures.next in
     let same = found.0 ∙ ap (λ (r : Reading). record r { number = next.number }) at.2 in
-    rw c.take_covered.ensures.frame (load_sound _ (chunk_reading k n at.0) next same (omega arith) may.bounds (open_gathering s _ may.is_open) (rw (← c.take_covered.ensures.frame) found.2) may.settled (omega (arith, may.spent)))
+    let d : Data = record s { gathered = c.new-state.result } in
+    let read = may_read d (chunk_reading k n at.0) next c.take_had.new.state.gathered same (omega arith) (logs_chunk s k n at.0 c.new-state.result may) (rw (← c.take_had.ensures.frame) found.2) (rw (← c.take_had.ensures.frame) found.3) in
+    rw c.take_had.ensures.frame (load_sound _ (chunk_reading k n at.0) next same (omega arith) may.bounds (open_gathering s _ may.is_open) read may.settled (omega (arith, may.spent)))
 
-pub returns-in-Some-take_covered-clause-order : goal.returns-in-Some-take_covered-clause-order
-returns-in-Some-take_covered-clause-order c =
+pub returns-in-Some-take_had-clause-order : goal.returns-in-Some-take_had-clause-order
+returns-in-Some-take_had-clause-order c =
     let k = c.args.copying in
     let n = c.loop-reading.number in
     let before = rows_before c.args.state.now in
     let at = reading_of k n c.in-Some.reading (sym c.in-Some.is ∙ c.chunk_reading.ensures.value) in
     let rest = drop (suc n) (chunks_in k) in
-    let past : Phase = load_chunks before k (suc n) rest in
+    let log = c.args.state.now.log.rows in
+    let past : Phase = load_chunks before log k (suc n) rest in
     let rows = ap rows_before c.loop-reading.invariant.frame in
-    c.in-Some-take_covered.ensures.order past
-    ∙ ((λ i. load_among (rows i) past (at.2 i) (drop (at.2 i).number (parts (at.2 i))))
-    ∙ (sym (ap (load_chunks before k n) (some_drop (chunks_in k) n at.0 at.1)) ∙ sym c.loop-reading.invariant.order))
+    let logs = ap (λ (d : Data). d.log.rows) c.loop-reading.invariant.frame in
+    c.in-Some-take_had.ensures.order past
+    ∙ ((λ i. load_among (rows i) (logs i) past (at.2 i) (drop (at.2 i).number (parts (at.2 i))))
+    ∙ (sym (ap (load_chunks before log k n) (some_drop (chunks_in k) n at.0 at.1)) ∙ sym c.loop-reading.invariant.order))
 
 pub overflow_add-number : goal.overflow_add-number
 overflow_add-number c =
@@ -85,11 +89,13 @@ loop-reading-preserved c =
     let at = reading_of k n c.in-Some.reading (sym c.in-Some.is ∙ c.chunk_reading.ensures.value) in
     let there = some_count cs n at.0 at.1 in
     let more = words_in-next k.from cs n at.0 at.1 in
-    let past : Phase = load_chunks before k (n + 1) (drop (n + 1) cs) in
-    let next : load_chunks before k (suc n) (drop (suc n) cs) ≡ past = ap (λ (i : ℕ). load_chunks before k i (drop i cs)) (sym (add-one n)) in
+    let log = c.args.state.now.log.rows in
+    let past : Phase = load_chunks before log k (n + 1) (drop (n + 1) cs) in
+    let next : load_chunks before log k (suc n) (drop (suc n) cs) ≡ past = ap (λ (i : ℕ). load_chunks before log k i (drop i cs)) (sym (add-one n)) in
     let rows = ap rows_before c.loop-reading.invariant.frame in
+    let logs = ap (λ (d : Data). d.log.rows) c.loop-reading.invariant.frame in
     let kept = ap (λ (d : Data). d.gathered) c.keep_chunk.ensures.frame in
-    let frame = c.keep_chunk.ensures.frame ∙ (λ i. record (c.take_covered.ensures.frame i) { buffer = c.keep_chunk.new.state.buffer }) in
+    let frame = c.keep_chunk.ensures.frame ∙ (λ i. record (c.take_had.ensures.frame i) { buffer = c.keep_chunk.new.state.buffer }) in
     record {
       may = record {
         bounds = rw frame may.bounds;
@@ -98,18 +104,17 @@ loop-reading-preserved c =
         settled = rw frame may.settled;
         far = omega (arith, there);
         room = rw frame (omega (arith, may.room, more));
-        since = rw frame may.since;
         grown = rw frame (omega (arith, may.grown, more));
         spent = rw frame (omega (arith, may.spent, more));
       };
       frame =
-          frame ∙ ((λ i. record (c.loop-reading.invariant.frame i) { gathered = c.take_covered.new.state.gathered; buffer = c.keep_chunk.new.state.buffer })
+          frame ∙ ((λ i. record (c.loop-reading.invariant.frame i) { gathered = c.take_had.new.state.gathered; buffer = c.keep_chunk.new.state.buffer })
           ∙ (λ i. record c.args.state.now { gathered = sym kept i; buffer = c.keep_chunk.new.state.buffer }));
       order =
           c.loop-reading.invariant.order
-          ∙ (ap (load_chunks before k n) (some_drop cs n at.0 at.1)
-          ∙ ((λ i. load_among (sym rows i) (load_chunks before k (suc n) (drop (suc n) cs)) (sym at.2 i) (drop (sym at.2 i).number (parts (sym at.2 i))))
-          ∙ (sym (c.in_default-take_covered.ensures.order (load_chunks before k (suc n) (drop (suc n) cs))) ∙ next)));
+          ∙ (ap (load_chunks before log k n) (some_drop cs n at.0 at.1)
+          ∙ ((λ i. load_among (sym rows i) (sym logs i) (load_chunks before log k (suc n) (drop (suc n) cs)) (sym at.2 i) (drop (sym at.2 i).number (parts (sym at.2 i))))
+          ∙ (sym (c.in_default-take_had.ensures.order (load_chunks before log k (suc n) (drop (suc n) cs))) ∙ next)));
     }
 
 pub copied-requires : goal.copied-requires
@@ -144,4 +149,4 @@ returns-clause-order c =
     let n = c.loop-reading.number in
     let before = rows_before c.args.state.now in
     let none = no_reading k n (sym c.in_default.is ∙ c.chunk_reading.ensures.value) in
-    c.copied.ensures.order ∙ (sym (ap (load_chunks before k n) (none_drop (chunks_in k) n none)) ∙ sym c.loop-reading.invariant.order)
+    c.copied.ensures.order ∙ (sym (ap (load_chunks before c.args.state.now.log.rows k n) (none_drop (chunks_in k) n none)) ∙ sym c.loop-reading.invariant.order)

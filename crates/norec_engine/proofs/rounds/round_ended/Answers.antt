@@ -29,7 +29,7 @@ returns-in-Read-clause-sound c =
     let r = c.in-Read.reading in
     let round = sound.in_phase.0 in
     let o = round.is_open in
-    let left = total_left r.purpose r.number (count r) (among s r.purpose r.at r.size round.may.reading.purpose) round.may.some in
+    let left = total_left r.purpose r.number (count r) (among s r.purpose r.at r.size round.may.reading.purpose) round.may.missing.some in
     record {
       asked = tt;
       sound = record {
@@ -39,7 +39,7 @@ returns-in-Read-clause-sound c =
           record { is_open = o.is_open; log = o.log; writes = o.writes; rows = o.rows; frames = o.frames; tries = o.tries },
           aims_later s (aims.Read r) c.args.seen c.args.seen (s.spent + 1) round.may,
           refl,
-          omega (arith, left, round.spent, round.may.reading.grown, more s.tries s.tries (s.entry + total r + 4) round.tried (omega arith)),
+          omega (arith, left, round.spent, round.may.logging.grown, more s.tries s.tries (s.entry + total r + 4) round.tried (omega arith)),
         );
       };
     }

@@ -13,7 +13,7 @@ pub overflow_add-result-in-RoundRow : goal.overflow_add-result-in-RoundRow
 overflow_add-result-in-RoundRow c =
     let s = rw c.in-RoundRow.is at c.requires.sound in
     let logged : row_at c.args.state.now.log.rows c.in-RoundRow.row ≡ c.row-logged.result = get_or_from_slice_get c.args.state.now.log.rows c.in-RoundRow.row c.row-logged.result _ c.row-logged.ensures in
-    omega (arith, AllWithin-at c.args.state.now.words c.args.state.now.log.rows c.in-RoundRow.row s.in_phase.0.is_open.log s.in_phase.2, ap (λ (r : LogRow). r.word) logged, s.bounds.small)
+    omega (arith, AllWithin-at c.args.state.now.words c.args.state.now.log.rows c.in-RoundRow.row s.in_phase.0.is_open.log.within s.in_phase.2, ap (λ (r : LogRow). r.word) logged, s.bounds.small)
 
 pub overflow_add-result-in-BackLoad : goal.overflow_add-result-in-BackLoad
 overflow_add-result-in-BackLoad c =

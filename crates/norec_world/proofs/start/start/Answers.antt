@@ -1,8 +1,27 @@
-use Rattle.std.proofs.Common.{◌≡◌, ℕ, true, refl, replicate, length, ◌∙◌, ap, subst, sym}
+use Rattle.std.proofs.Common.{◌≡◌, ℕ, true, refl, replicate, length, ◌∙◌, ap, subst, sym, rules}
 use Rattle.norec_world.proofs.Common.{Core, RunsFrom, active_of, bytes_of, first_of, is_ready, opening, prior_of}
 use Rattle.norec_world.proofs.RunOthers.{fresh_runs, laid_first}
 use Rattle.norec_world.proofs.TryChains.{starts_between}
+use Rattle.norec_core.specs.Proceeds.{IsSettled}
+use Rattle.norec_world.proofs.TiedEngines.{opening_settled}
 use Rattle.norec_world.proofs.start.start.Goals as goal
+
+pub work-requires : goal.work-requires
+work-requires g c =
+    let engine : c.new-actor.result.engine ≡ opening (length c.args.memory.now.words) (replicate c.args.terms.arena 0) c.args.terms.limits.patience c.args.terms.limits.max_commits =
+    c.new-actor.ensures.parts.3 ∙ (c.new-engine.ensures ∙ (λ i. opening (c.words.ensures i) (c.in_ok-arena.ensures i) c.args.terms.limits.patience c.args.terms.limits.max_commits)) in
+    record {
+      tied = record {
+        words = ap (λ (e : Core). e.words) engine;
+        fit = c.requires.fit;
+        late = search rules;
+        holder = search rules;
+        settled = subst IsSettled (sym engine) (opening_settled (length c.args.memory.now.words) (replicate c.args.terms.arena 0) c.args.terms.limits.patience c.args.terms.limits.max_commits c.args.terms.commits);
+      };
+      kept = search rules;
+      acts = search rules;
+      status = search rules;
+    }
 
 pub returns-in_default-clause-first : goal.returns-in_default-clause-first
 returns-in_default-clause-first g c =

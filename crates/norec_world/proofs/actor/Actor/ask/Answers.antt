@@ -2,7 +2,7 @@ use Rattle.std.proofs.Common.{◌≡◌, false, refl, sym, ap, subst, ◌∙◌,
 use Rattle.user_actions.specs.Actions.{total}
 use Rattle.norec_core.specs.Core.{Core, came}
 use Rattle.norec_world.specs.ActionRoom.{MayRunOn}
-use Rattle.norec_world.proofs.ActionRoom.{IsServed, asked_inside, called_acting, places_for, starves_begin}
+use Rattle.norec_world.proofs.ActionRoom.{IsServed, asked_inside, asked_served, called_acting, places_for, starves_begin}
 use Rattle.norec_world.proofs.Common.{Actor, Attempt, Begin, Rows, in_transaction, same_Some}
 use Rattle.norec_world.proofs.actor.Actor.ask.Goals.{After-call-in_default-2}
 use Rattle.norec_world.proofs.actor.Actor.ask.Goals as goal
@@ -67,3 +67,10 @@ returns-in_ok-reserve_ahead-in_default-2-clause-told g c =
     (ap (λ (x : Actor g.row.P.Denot). x.pending) actor) (ap (λ (x : Actor g.row.P.Denot). x.again) actor) (ap (λ (x : Actor g.row.P.Denot). x.player) actor) (ap (λ (x : Actor g.row.P.Denot). x.nth) actor) (ap (λ (x : Actor g.row.P.Denot). x.thread) actor)
     (rows ∙ (λ i. record c.args.recorded.now { room = ap (λ (x : Rows). x.room) (sym rows) i }))
     c.call-in_default-2.result (served g c)
+
+pub returns-in_default-clause-told : goal.returns-in_default-clause-told
+returns-in_default-clause-told g c =
+    let e = c.call.ensures in
+    asked_served c.args.memory.now.clock c.args.recorded.now c.args.recorded.now c.args.self.now (record c.args.self.now { engine = c.call.new.self }) c.args.call.now
+    (search rules) (search rules) refl refl refl refl refl c.call.result
+    (record { proceeds = e.proceeds; at_once = e.at_once; stays = e.stays; order = e.order; ends = e.ends; tries = e.tries; asks = e.asks; settled = e.settled; held = e.held })

@@ -1,13 +1,22 @@
-use Rattle.std.proofs.Common.{◌≡◌, ◌==◌, option_map, find, rules, tests, sym, ap, ◌∙◌}
-use Rattle.std.proofs.lemmas.Iterator.{YieldsList-from_slice}
-use Rattle.std.proofs.lemmas.Iterator.Search.{find_from_yields_List}
+use Rattle.std.proofs.Common.{◌≡◌, ℕ, List, Option, None, Some, slice_get, sym, ap, ◌∙◌}
+use Rattle.std.specs.Prelude.{IfSome}
 use Rattle.itm_types.specs.declared.row.LogRow.{LogRow}
-use Rattle.value_log.proofs.Found.{value_stands}
+use Rattle.itm_types.specs.LogRows.{value_of}
+use Rattle.itm_types.specs.Memory.{Agrees}
+use Rattle.itm_types.proofs.LogRows.{value_stands}
+use Rattle.value_log.specs.Log.{Log}
 use Rattle.value_log.proofs.log.ValueLog.find.Goals as goal
 
-pub returns-clause-word : goal.returns-clause-word
-returns-clause-word c m agrees =
-    let rows = c.args.self.now.rows in
-    let found : option_map (λ b. b.now) c.find.result ≡ find (λ (r : LogRow). r.word == c.args.word) rows =
-    find_from_yields_List (λ (r : LogRow). r.word == c.args.word) _ _ c.find.result c.find.ensures.ran (YieldsList-from_slice rows (cc)) (λ x b q k. search (rules, tests)) in
-    value_stands m c.args.word c.in_ok-row.row.now.value rows agrees (ap (option_map (λ (r : LogRow). r.value)) (sym found) ∙ (λ i. option_map (λ (r : LogRow). r.value) (option_map (λ b. b.now) (c.in_ok-row.was i))))
+stands : (rows : List LogRow) (word : ℕ) (o : Option ℕ) → o ≡ value_of word rows → IfSome o (λ value. (m : List ℕ) → Agrees m rows → slice_get m word ≡ Some value)
+stands rows word None e = tt
+stands rows word (Some value) e = λ m agrees. value_stands m word value rows agrees (sym e)
+
+pub returns-then-is_none-clause-word : goal.returns-then-is_none-clause-word
+returns-then-is_none-clause-word c =
+    let rows = c.as_slice.ensures ∙ ap (λ (l : Log). l.rows) c.self.view_is in
+    stands c.args.self.now.rows c.args.word c.scan.result (c.scan.ensures ∙ ap (value_of c.args.word) rows)
+
+pub returns-else-is_none-clause-word : goal.returns-else-is_none-clause-word
+returns-else-is_none-clause-word c =
+    let rows = c.as_slice-else-is_none.ensures ∙ ap (λ (l : Log). l.rows) c.self.view_is in
+    stands c.args.self.now.rows c.args.word c.find.result (c.find.ensures ∙ ap (value_of c.args.word) rows)

@@ -8,11 +8,10 @@ use Rattle.norec_core.specs.Order.{load_among}
 use Rattle.norec_core.specs.Accesses.{parts, count}
 use Rattle.norec_data.specs.View.{rows_before}
 use Rattle.norec_engine.specs.InPhases.{IsReading}
-use Rattle.norec_core.specs.Rows.{is_covered}
-use Rattle.norec_core.proofs.Readings.{load_ends, load_here, load_next, none_left, some_left, part_is, length-part_of, passed_next, total_left}
-use Rattle.norec_engine.proofs.ReadingFields.{among}
-use Rattle.norec_engine.proofs.Sources.{covered_before}
-use Rattle.norec_engine.proofs.read.+take_covered.Goals as goal
+use Rattle.norec_core.specs.Rows.{is_had}
+use Rattle.norec_core.proofs.Readings.{load_ends, load_here, load_next, none_left, some_left, part_is, length-part_of}
+use Rattle.norec_engine.proofs.Sources.{had_before}
+use Rattle.norec_engine.proofs.read.+take_had.Goals as goal
 
 pub piece-requires-clause-place : goal.piece-requires-clause-place
 piece-requires-clause-place t c = omega (arith, c.requires.may.0, c.requires.may.2.within)
@@ -27,7 +26,7 @@ returns-in_default-clause-whole t c =
     subst (λ (n : ℕ). IsReading s (record r { number = n })) same reading
 
 pub returns-in_default-clause-order : goal.returns-in_default-clause-order
-returns-in_default-clause-order t c past = sym (load_ends (rows_before c.args.state.now) past c.args.reading (sym c.piece.ensures.value ∙ c.in_default.is))
+returns-in_default-clause-order t c past = sym (load_ends (rows_before c.args.state.now) c.args.state.now.log.rows past c.args.reading (sym c.piece.ensures.value ∙ c.in_default.is))
 
 pub gather-requires-clause-room : goal.gather-requires-clause-room
 gather-requires-clause-room t c =
@@ -36,8 +35,8 @@ gather-requires-clause-room t c =
     let most = c.in-Some.ensures.in_value in
     omega (arith, sized, before, most)
 
-pub take_covered-requires : goal.take_covered-requires
-take_covered-requires t c =
+pub take_had-requires : goal.take_had-requires
+take_had-requires t c =
     let s = c.args.state.now in
     let r = c.args.reading in
     let is_open = c.requires.may.1 in
@@ -45,9 +44,7 @@ take_covered-requires t c =
     let p = c.in-Some.piece in
     let left = some_left r p (sym c.piece.ensures.value ∙ c.in-Some.is) in
     let gone = c.gather.ensures in
-    let covered = c.in-Some-covered.ensures.part in
-    let on = passed_next r.purpose r.number in
-    let to_come = total_left r.purpose r.number (count r) (among s r.purpose r.at r.size reading.purpose) left in
+    let had = c.in-Some-had.ensures.part in
     let more = λ (m : List ℕ). c.in-Some.ensures.reads_on m in (
       rw c.next.ensures (omega (arith, left, c.decreases)),
       rw c.next.ensures (
@@ -58,12 +55,9 @@ take_covered-requires t c =
           small = reading.small;
           purpose = reading.purpose;
           far = omega (arith, left);
-          room = omega (arith, reading.room, on);
-          since = reading.since;
-          grown = omega (arith, reading.grown, on);
           has = λ m mem agrees.
               (let word = c.in-Some.ensures.in_memory s.words reading.within in
-              let same = covered m mem.1 (omega (arith, word, mem.0)) in
+              let same = had m mem.1 agrees (omega (arith, word, mem.0)) in
               gone ∙ ((λ i. reading.has m mem agrees i ++ sym same i) ∙ sym (more (overlay m s.frames.writes.rows))));
           sized =
               (let parts_are = more [] in
@@ -71,25 +65,25 @@ take_covered-requires t c =
               omega (
                 arith,
                 ap (length {A = ℕ}) gone,
-                length-append s.gathered.items (part_of p c.in-Some-covered.value),
+                length-append s.gathered.items (part_of p c.in-Some-had.value),
                 reading.sized,
                 ap (length {A = ℕ}) parts_are,
                 length-append (gathered [] (take r.number (parts r))) (part_of p (slice_index [] p.word)),
-                length-part_of p c.in-Some-covered.value in_word,
+                length-part_of p c.in-Some-had.value in_word,
                 length-part_of p (slice_index [] p.word) in_word,
               ));
         },
       ),
     )
 
-pub returns-in-Some-covered-clause-order : goal.returns-in-Some-covered-clause-order
-returns-in-Some-covered-clause-order t c past =
+pub returns-in-Some-had-clause-order : goal.returns-in-Some-had-clause-order
+returns-in-Some-had-clause-order t c past =
     let s = c.args.state.now in
     let r = c.args.reading in
     let is = sym c.piece.ensures.value ∙ c.in-Some.is in
-    let covered = covered_before s r.purpose r.at r.size c.requires.may.2.purpose c.in-Some.piece c.in-Some.ensures.piece ∙ sym c.in-Some-covered.ensures.covered in
-    c.take_covered.ensures.order past
-    ∙ (ap (λ (x : Reading). load_among (rows_before s) past x (drop x.number (parts x))) c.next.ensures ∙ sym (load_next (rows_before s) past r c.in-Some.piece is covered))
+    let had = had_before s r.purpose r.at r.size c.requires.may.2.purpose c.in-Some.piece c.in-Some.ensures.piece ∙ sym c.in-Some-had.ensures.had in
+    c.take_had.ensures.order past
+    ∙ (ap (λ (x : Reading). load_among (rows_before s) s.log.rows past x (drop x.number (parts x))) c.next.ensures ∙ sym (load_next (rows_before s) s.log.rows past r c.in-Some.piece is had))
 
 pub returns-in-None-clause-next : goal.returns-in-None-clause-next
 returns-in-None-clause-next t c =
@@ -100,10 +94,10 @@ returns-in-None-clause-next t c =
     let reading = c.requires.may.2 in (
       refl,
       omega arith,
+      record { within = reading.within; small = reading.small; purpose = reading.purpose; far = reading.far; has = reading.has; sized = reading.sized },
       record {
-        reading = record { within = reading.within; small = reading.small; purpose = reading.purpose; far = reading.far; room = reading.room; since = reading.since; grown = reading.grown; has = reading.has; sized = reading.sized };
         some = some_left r c.in-Some.piece is;
-        uncovered = ap (is_covered s.frames.writes.rows) (sym (part_is r c.in-Some.piece is)) ∙ sym c.in-None.ensures.covered;
+        unhad = ap (is_had s.frames.writes.rows s.log.rows) (sym (part_is r c.in-Some.piece is)) ∙ sym c.in-None.ensures.had;
       },
     )
 
@@ -111,5 +105,5 @@ pub returns-in-None-clause-order : goal.returns-in-None-clause-order
 returns-in-None-clause-order t c past =
     let s = c.args.state.now in
     let r = c.args.reading in
-    let covered = covered_before s r.purpose r.at r.size c.requires.may.2.purpose c.in-Some.piece c.in-Some.ensures.piece ∙ sym c.in-None.ensures.covered in
-    sym (load_here (rows_before s) past r c.in-Some.piece (sym c.piece.ensures.value ∙ c.in-Some.is) covered)
+    let unhad = had_before s r.purpose r.at r.size c.requires.may.2.purpose c.in-Some.piece c.in-Some.ensures.piece ∙ sym c.in-None.ensures.had in
+    sym (load_here (rows_before s) s.log.rows past r c.in-Some.piece (sym c.piece.ensures.value ∙ c.in-Some.is) unhad)

@@ -1,0 +1,6 @@
+use Rattle.std.proofs.Common.{◌-◌}
+use Rattle.norec_core.specs.Accesses.{count}
+use Rattle.norec_engine.proofs.read.+take_had.Given as goal
+
+abbrev pub decreases-take_had : goal.decreases-take_had
+decreases-take_had l = count l.reading - l.reading.number

@@ -1,0 +1,29 @@
+use Rattle.std.proofs.Common.{◌≡◌, List, ℕ, None, length, slice_set, sym, ap, subst, ◌∙◌}
+use Rattle.itm_types.specs.declared.row.LogRow.{LogRow}
+use Rattle.itm_types.specs.LogRows.{value_of, AreSingle}
+use Rattle.value_log.specs.Log.{Log}
+use Rattle.itm_types.proofs.LogRows.{single_push}
+use Rattle.value_log.specs.Index.{AllBelow, IsIndex}
+use Rattle.value_log.proofs.Indexed.{below_push, index_push, some_places, no_places}
+use Rattle.value_log.proofs.log.ValueLog.add.Goals as goal
+
+pub invariant_of-self : goal.invariant_of-self
+invariant_of-self c =
+    let kept = c.self.invariant in
+    let rows = c.self.inside.rows.items in
+    let places = c.self.inside.index.places.items in
+    let row = c.args.row in
+    let added = c.push_reserved.ensures.items in
+    let first = subst (λ (rs : List LogRow). value_of row.word rs ≡ None) (sym (ap (λ (l : Log). l.rows) c.self.view_is)) c.requires.first in
+    let noted = c.note.ensures ∙ ap (λ (n : ℕ). slice_set places row.word n) c.len.ensures.value in
+    record {
+      single = subst AreSingle (sym added) (single_push rows row kept.single first);
+      below = subst AllBelow (sym added) (below_push rows row kept.below c.requires.word);
+      inline = λ none. c.push_reserved.ensures.capacity ∙ kept.inline (no_places places row.word c.len.result (sym c.note.ensures ∙ none));
+      indexed = λ some.
+          (let was = kept.indexed (some_places places row.word c.len.result (λ none. some (c.note.ensures ∙ none))) in
+          subst (λ (ps : List ℕ). IsIndex ps c.push_reserved.new.self.items) (sym noted) (subst (IsIndex (slice_set places row.word (length rows))) (sym added) (index_push places rows row was c.requires.word first)));
+    }
+
+pub returns-clause-single : goal.returns-clause-single
+returns-clause-single c = subst AreSingle (sym c.push_reserved.ensures.items) (single_push c.self.inside.rows.items c.args.row c.self.invariant.single (subst (λ (rs : List LogRow). value_of c.args.row.word rs ≡ None) (sym (ap (λ (l : Log). l.rows) c.self.view_is)) c.requires.first))
