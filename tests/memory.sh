@@ -5,8 +5,8 @@
 #
 #   sh tests/memory.sh [JOBS]     so many builds at a time, as many as there are processors where it is not said
 #
-# A run ends with `itmrun: no memory` and nothing written, or with a whole history, in which the soak test's Python
-# scripts find nothing wrong, and one thread that found no memory, or as with ample memory. It takes some 20 minutes of
+# A run ends with `itmrun: no memory` and nothing written, or with the whole answer that the soak test's Python scripts
+# work out for one thread that finds no memory at one of its calls, or as with ample memory. It takes some 20 minutes of
 # processor time, five or more on four cores, and 2 GB for each build at a time. The last line is "N passed, M failed";
 # the exit status is 0 where none failed.
 

@@ -32,7 +32,8 @@ import tempfile
 HERE = pathlib.Path(__file__).resolve().parent
 ROOT = HERE.parent.parent
 sys.path.insert(0, str(HERE.parent / "soak"))
-import check
+from run import starved
+from script import Script as Program
 
 NAMES, TEXTS = 5, 8  # the lengths of a name and of a text
 MOST = 400  # no script here has so many growths
@@ -50,7 +51,8 @@ class Stop(Exception):
 
 
 class Script:
-    """A script, and its answer where memory is ample: the output, the errors and the status."""
+    """A script, its answer where memory is ample, which is the output, the errors and the status, and those that it may
+    have where a thread finds none."""
 
     def __init__(self, file):
         self.name, self.bytes = file.stem, file.read_bytes()
@@ -58,33 +60,15 @@ class Script:
         output, errors = (it.read_bytes() if it.exists() else b"" for it in (output, errors))
         self.has_fault = not output
         self.ample = output, errors, 2 if self.has_fault else 4 if errors else 0
+        self.starved = set() if self.has_fault else set(starved(Program(self.bytes.decode("latin-1"))))
 
     def kind(self, answer):
-        """What kind of answer it is where a growth was refused, and what is wrong with it."""
+        """What kind of answer it is where a growth was refused."""
         if answer == self.ample:
-            return AMPLE, None
+            return AMPLE
         if answer == NO_MEMORY:
-            return BEFORE, None
-        try:
-            check.Check(self.bytes.decode("latin-1")).run(*answer, starved=1)
-            self.compare(*answer)
-        except (check.Wrong, UnicodeDecodeError) as wrong:
-            return WRONG, wrong
-        return THREAD, None
-
-    def compare(self, output, errors, _):
-        """Whether the thread that found no memory did up to there what it does where memory is ample."""
-        lines = re.findall(check.TOLD, errors.decode())
-        thread = next(int(number) for number, told in lines if told == check.STARVED)
-        texts = (output.decode(), self.ample[0].decode())
-        mine, ample = ([it for it in check.attempts_of(text) if it.thread == thread] for text in texts)
-        place = sum(it.outcome != "nomemory" for it in mine)
-        check.expect(mine[:place] == ample[:place], "other attempts of thread", thread)
-        for starved in mine[place:]:
-            same = len(ample) > place and starved.nth == ample[place].nth
-            check.expect(same, "another last attempt of thread", thread)
-            calls = ample[place].calls[: len(starved.calls)]
-            check.expect(starved.calls == calls, "other calls in the last attempt of thread", thread)
+            return BEFORE
+        return THREAD if answer in self.starved else WRONG
 
 
 def write_case(folder, run):
@@ -131,11 +115,11 @@ class Sweep:
 
     def judge(self, growth, run, answer):
         """The kind of an answer."""
-        kind, wrong = run.script.kind(answer) if isinstance(answer, tuple) else (WRONG, "it did not end")
+        kind = run.script.kind(answer)
         self.runs += 1
         if kind == WRONG or growth == 0 and kind != AMPLE:
             place = f"growth {growth} refused" if growth else "ample memory"
-            self.fail(f"{case(run)}: {place}: {wrong or kind}\n{answer}")
+            self.fail(f"{case(run)}: {place}: {kind}\n{answer}")
         return kind
 
     def fail(self, what):

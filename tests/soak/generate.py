@@ -6,16 +6,26 @@ from instructions import Coder
 
 WORD = 8
 
+# of a script how many words its memory mostly has at most, the sizes of an arena, and how many words each thread mostly
+# uses, where these are not all: few, so that threads meet; or a part for each thread, so that rounds of validation find
+# nothing changed; or large parts, so that many words are read
+SHAPES = [
+    (12, [0, 1, 4, 8, 16, 40, 64], None),
+    (40, [0, 1, 4, 8, 16, 40, 64], range(2, 13)),
+    (160, [0, 64, 400, 1000], range(20, 80)),
+]
+
 
 class Maker:
     """The text of one script, the same one for the same seed and number."""
 
     def __init__(self, seed, number):
         self.random = random.Random(f"{seed} {number}")
-        self.size = WORD * (self.random.randint(1, 12) if not self.one_in(100) else self.random.choice([64, 512, 8192]))
-        self.arena = self.random.choice([0, 1, 4, 8, 16, 40, 64]) if not self.one_in(100) else 4096
-        hot = [WORD * self.random.randrange(self.size // WORD) for _ in range(2)]
-        self.coder = Coder(self.random, self.size, self.arena, hot)
+        most, arenas, self.parts = self.random.choices(SHAPES, [5, 4, 1])[0]
+        words = self.random.randint(1, most)
+        self.size = WORD * (words if not self.one_in(100) else self.random.choice([64, 512, 8192]))
+        self.arena = self.random.choice(arenas) if not self.one_in(100) else 4096
+        self.coder = Coder(self.random, self.size, self.arena)
 
     def one_in(self, number):
         return self.random.randrange(number) == 0
@@ -23,7 +33,9 @@ class Maker:
     def limits(self):
         """Lines that may stand anywhere before the first thread."""
         lines = [f".arena {self.arena}"] if self.arena or self.one_in(2) else []
-        lines += [f".patience {self.random.randint(1, 8)}"] if not self.one_in(20) else []
+        # a thread that is patient outlasts those that hold the clock, so that its rounds compare what it has read
+        patience = self.random.randint(9, 100) if self.one_in(3) else self.random.randint(1, 8)
+        lines += [f".patience {patience}"] if not self.one_in(20) else []
         lines += [f".retries {self.random.randint(0, 5)}"] if not self.one_in(20) else []
         return lines + ([f".commits {self.random.randint(1, 6)}"] if self.one_in(5) else [])
 
@@ -75,6 +87,9 @@ class Maker:
         while threads:
             alike = self.random.randint(1, threads) if self.one_in(3) else 1
             lines += [".thread" if alike == 1 and self.one_in(2) else f".thread {alike}"]
+            if self.parts:
+                first, words = self.random.randrange(0, self.size, WORD), self.random.choice(self.parts)
+                self.coder.use(range(first, min(first + WORD * words, self.size)))
             lines += self.coder.code(4 if threads < 4 else 3)
             threads -= alike
         wild = self.one_in(10)

@@ -7,6 +7,7 @@ from entries import (
 
 WORD, LAST = 8, (1 << 64) - 1
 WITHIN = [name for name, copy in COPIES.items() if not copy.reads_arena and not copy.writes_arena]
+INTO_ARENA = [name for name, copy in COPIES.items() if copy.writes_arena]
 
 # registers that hold places of the memory, a place of the arena and a size, so long as nothing else is put into them
 SHARED, OWN, SIZE = ("r5", "r6"), "r7", "r8"
@@ -14,9 +15,13 @@ KEPT, ALL = 5, 15  # registers for anything: most often the first ones, seldom a
 
 
 class Coder:
-    def __init__(self, random, size, arena, hot):
+    def __init__(self, random, size, arena):
         self.random, self.size, self.arena = random, size, arena
-        self.hot = hot  # most shared places are one of these, or threads would hardly meet
+        self.use(range(size))
+
+    def use(self, part):
+        """Most places are in this part of the shared memory from now on, and most of these one of two words."""
+        self.part, self.hot = part, self.random.choices(part[::WORD], k=2)
 
     def one_in(self, number):
         return self.random.randrange(number) == 0
@@ -29,21 +34,27 @@ class Coder:
     def register(self):
         return f"r{self.upto(ALL if self.one_in(12) else KEPT - 1)}"
 
-    def place_in(self, end, size):
+    def room_in(self, part, end, size):
+        """A place for so many bytes that are in this part of what ends there, or begin in it, if they can."""
+        lowest = min(part.start, end - size)
+        return self.random.randint(lowest, max(lowest, part.stop - size))
+
+    def place_in(self, part, end, size):
         """A place for so many bytes, which seldom leave what ends there, by a byte or by far."""
         if size > end or self.one_in(16):
             # the last two and some bytes more are no longer numbers of 64 bits
             return self.random.choice([max(end - size, 0) + 1, end, 1 << 63, LAST - 7, LAST])
-        return self.upto(end - size)
+        return self.room_in(part, end, size)
 
     def shared(self, size):
         if self.one_in(6):
             return self.random.choice(SHARED)
         hot = self.random.choice(self.hot)
-        return self.place_in(self.size, size) if self.one_in(3) or hot + size > self.size else hot
+        is_hot = hot + size <= self.size and not self.one_in(3)
+        return hot if is_hot else self.place_in(self.part, self.size, size)
 
     def own(self, size):
-        return OWN if self.one_in(8) else self.place_in(self.arena, size)
+        return OWN if self.one_in(8) else self.place_in(range(self.arena), self.arena, size)
 
     def size_upto(self, most):
         few = self.random.choice([0, 1, 2, 4, 8, 12, 33, 40, 64, 100])
@@ -100,11 +111,51 @@ class Coder:
     def near_copy(self):
         """A copy within the shared memory to a place near by, so that its ranges mostly overlap."""
         size = self.random.randint(1, min(self.size, 100))
-        to = self.upto(self.size - size)
+        to = self.room_in(self.part, self.size, size)
         source = min(max(0, to + self.random.randint(-12, 12)), self.size - size)
         may_overlap = not self.one_in(4)
         name = self.random.choice([it for it in WITHIN if COPIES[it].moves == may_overlap])
         return f"{name} {to} {source} {size}"
+
+    # accesses to the same bytes again and again
+
+    def touching(self, word, size):
+        """A place for so many bytes, of which some are in the word at this place."""
+        lowest, highest = max(0, word - size + 1), min(word + WORD - 1, self.size - size)
+        return self.random.randint(lowest, highest) if lowest <= highest else word
+
+    def read_at(self, word):
+        name, size = self.random.choice(list(READS.items()))
+        return f"{name} {self.register()} {self.touching(word, size)}"
+
+    def write_at(self, word):
+        name, size = self.random.choice([it for it in WRITES.items() if it[1] <= WORD or self.one_in(4)])
+        return f"{name} {self.touching(word, size)} {self.register()}"
+
+    def copy_at(self, word):
+        """A copy of bytes of this word and beside it. Chunks of a long one mostly meet inside a word."""
+        sizes = [size for size in (1, 5, 8, 16, 33, 35, 40, 57, 65, 71, 100, 150, 260, 390) if size <= self.size]
+        size = self.random.choice(sizes)
+        source = self.touching(word, size)
+        if size <= self.arena and self.one_in(2):
+            return f"{self.random.choice(INTO_ARENA)} {self.upto(self.arena - size)} {source} {size}"
+        to = self.room_in(self.part, self.size, size)
+        moves = abs(to - source) < size or self.one_in(2)
+        return f"{self.random.choice([it for it in WITHIN if COPIES[it].moves == moves])} {to} {source} {size}"
+
+    def accesses(self, word):
+        """Accesses to this word and beside it, most of them reads."""
+        makers = [self.read_at, self.write_at, self.copy_at]
+        lines = [make(word) for make in self.random.choices(makers, [6, 2, 3], k=self.random.randint(1, 4))]
+        # a word that is stored as it was: rounds of the others find nothing changed
+        return lines + ([f"_ITM_RU8 r1 {word}", f"_ITM_WU8 {word} r1"] if self.one_in(5) else [])
+
+    def again(self, inside):
+        """Accesses to one word before a block, in it, where it may be cancelled, and after it."""
+        word = self.random.choice(self.hot)
+        ends = self.random.choice([[], [f"{ABORT} {INNER}"], self.ends_early(inside + 1)])
+        block = [f"{BEGIN} {self.register()} {self.props()}", *self.accesses(word), *ends, COMMIT]
+        return [*self.accesses(word), *(block if self.one_in(2) else []), *self.accesses(word)]
 
     def fill(self):
         size = self.size_upto(self.size)
@@ -138,12 +189,15 @@ class Coder:
         return found
 
     def group(self, most, inside):
-        kind = self.random.choice(["ifnz", "rept", *(["block", "block", "kept", "kept"] if inside else [])])
+        in_block = ["block", "block", "kept", "kept", "again", "again"] if inside else []
+        kind = self.random.choice(["ifnz", "rept", *in_block])
         if kind == "ifnz":
             other = ["else", *self.lines(most // 2, inside)] if self.one_in(2) else []
             return [f"ifnz {self.register()}", *self.lines(most // 2, inside), *other, "endif"]
         if kind == "rept":
             return [f".rept {self.upto(3)}", *self.lines(most // 3, inside), ".endr"]
+        if kind == "again":
+            return self.again(inside)
         return self.block(most // 2, inside) if kind == "block" else self.kept()
 
     def kept(self):
@@ -172,6 +226,8 @@ class Coder:
             at = self.random.choice(self.hot)
             lines += [f"_ITM_RU8 r2 {at}", f"add r2 r2 {answer}", f"_ITM_WU8 {at} r2"]
         lines += self.lines(most, inside + 1)
+        if self.one_in(4):
+            lines += self.again(inside + 1)
         if self.one_in(3 if inside else 4):
             lines += self.ends_early(inside + 1) + self.lines(most // 2, inside + 1)
         return [*lines, COMMIT]
@@ -188,8 +244,9 @@ class Coder:
     def code(self, blocks):
         # registers differ from the start: a commit that stores what was there before disturbs nobody
         lines = [f"set r{n} {self.number()}" for n in range(KEPT)]
-        lines += [f"set {it} {self.place_in(self.size, WORD)}" for it in SHARED]
-        lines += [f"set {OWN} {self.place_in(self.arena, 1)}", f"set {SIZE} {self.upto(min(12, self.size))}"]
+        lines += [f"set {it} {self.place_in(self.part, self.size, WORD)}" for it in SHARED]
+        own, size = self.place_in(range(self.arena), self.arena, 1), self.upto(min(12, self.size))
+        lines += [f"set {OWN} {own}", f"set {SIZE} {size}"]
         for _ in range(self.random.randint(0 if self.one_in(9) else 1, blocks)):
             block = self.deep() if self.one_in(40) else self.block(9)
             lines += self.lines(2) + ([f".rept {self.upto(3)}", *block, ".endr"] if self.one_in(8) else block)

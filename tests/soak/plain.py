@@ -63,7 +63,6 @@ class Machine:
         self.written = {}  # the bytes written of each word, in the order of first writing
         self.irrevocable = self.cancelled = False
         self.commits, self.undos, self.ran = [], [], []  # actions
-        self.watch = lambda: None  # is called after each store of an irrevocable transaction
 
     def one(self, call):
         """The reply to a call, in the history's spelling."""
@@ -158,8 +157,6 @@ class Machine:
             if not self.irrevocable:
                 word = start // WORD
                 self.written[word] = self.written.get(word, frozenset()).union(range(start, stop))
-            else:
-                self.watch()
 
     def log(self, name, place, size=None):
         for at in range(place, place + (LOGS[name] if size is None else size)):

@@ -24,6 +24,11 @@ def expanded(lines):
     return groups[0][1]
 
 
+def item_of(thread, steps):
+    """A schedule's item; all steps up to the thread's end where it does not say how many."""
+    return int(thread), int(steps) if steps else ANY
+
+
 class Code:
     """A thread's instructions, and where their groups end: of a begin its commit, of an `ifnz` its `else`, or its
     `endif` where it has none, and of an `else` its `endif`."""
@@ -51,7 +56,8 @@ class Script:
             else:
                 self.directive(name, operands)
         self.codes = [code for count, lines in codes for code in count * [Code(lines)]]
-        self.schedule()
+        # the threads that take the next steps, and how many each
+        self.items = self.items or [(thread, ANY) for thread in range(len(self.codes))]
 
     def directive(self, name, operands):
         if name == ".memory":
@@ -60,14 +66,7 @@ class Script:
             at, data = int(operands[0]), bytes.fromhex(operands[1])
             self.opening[at : at + len(data)] = data
         elif name == ".schedule":
-            self.items += operands
+            self.items += [item_of(*item.replace("!", "x").split("x")) for item in operands]
         else:
             setattr(self, name[1:], int(operands[0]))
 
-    def schedule(self):
-        threads = range(len(self.codes))
-        items = [item.replace("!", "x").split("x") for item in self.items or [f"{t}!" for t in threads]]
-        # the steps that each thread has at most, ANY where it has to run to its end
-        self.steps = [sum(int(k) if k else ANY for t, k in items if int(t) == thread) for thread in threads]
-        # where each thread runs to its end before the next one begins: their order
-        self.turns = None if any(k for _, k in items) else [int(t) for t, _ in items]
