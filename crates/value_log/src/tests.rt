@@ -3,11 +3,15 @@ use itm_types::{LogRow, MAX_WORDS};
 use std::process::Abort;
 use std::test::Fail;
 
-/// Adds a row, for which there is to be room.
+/// Adds the row of a word that has none.
 fn add(rt: &impl Abort, log: &mut ValueLog, word: u32, value: u64) -> Result<(), Fail> {
+    assert!(rt; (word as usize) < MAX_WORDS);
     log.reserve(1)?;
     let len = log.len();
-    log.add(LogRow { word, value });
+    match log.find(word) {
+        None => log.add(LogRow { word, value }),
+        Some(_) => panic!(rt; "the word has a row"),
+    }
     assert_eq!(rt; log.len(), len + 1);
     assert_eq!(rt; log.row(len), LogRow { word, value });
     Ok(())
@@ -27,10 +31,7 @@ fn no_memory(rt: HostRuntime) -> Result<(), Fail> {
             }
             log.reserve(1)?;
         }
-        log.add(LogRow {
-            word: last - word,
-            value: u64::from(word),
-        });
+        add(&rt, &mut log, last - word, u64::from(word))?;
     }
     assert_eq!(rt; log.find(last - 39), Some(39));
     assert_eq!(rt; log.find(0), None);
