@@ -213,7 +213,7 @@ befores_open : map (before_after 2 begun) (Begin plain 0 ∷ Write W 0 (word 3) 
 befores_open = refl
 
 -- a log takes memory where it keeps bytes
-log_takes_memory : map takes_memory (Log U1 0 ∷ LogBytes 0 1 ∷ LogBytes 0 0 ∷ Abort true ∷ Commit ∷ []) ≡ true ∷ true ∷ false ∷ false ∷ false ∷ []
+log_takes_memory : map (takes_memory (outside [] [])) (Log U1 0 ∷ LogBytes 0 1 ∷ LogBytes 0 0 ∷ Abort true ∷ Commit ∷ []) ≡ true ∷ true ∷ false ∷ false ∷ false ∷ []
 log_takes_memory = refl
 
 -- ## An outermost begin starts anew

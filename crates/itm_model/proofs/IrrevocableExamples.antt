@@ -131,5 +131,5 @@ rewritten = record { state = state_after 16 (opened (eight 2) [] plain) (Write W
 mode_before : before_after 16 rewritten (Mode 0) ≡ eight 2
 mode_before = refl
 
-mode_takes_no_memory : map takes_memory (Mode 0 ∷ Mode 9 ∷ []) ≡ false ∷ false ∷ []
+mode_takes_no_memory : map (takes_memory (outside [] [])) (Mode 0 ∷ Mode 9 ∷ []) ≡ false ∷ false ∷ []
 mode_takes_no_memory = refl

@@ -1,5 +1,5 @@
 -- The plain machine's state, and the memory that it can go back to.
-use Rattle.std.specs.Prelude.{ℕ, Bool, true, false, ◌&&◌, nat_lt, if◌then◌else◌, List, Option, None, Some}
+use Rattle.std.specs.Prelude.{ℕ, Bool, true, false, ◌&&◌, not, nat_lt, if◌then◌else◌, List, Option, None, Some}
 use Rattle.itm_types.specs.declared.call.Refusal.{Refusal}
 use Rattle.itm_types.specs.declared.call.Call.{Call}
 use Rattle.itm_types.specs.declared.call.Call.TheVariants.{Begin, Commit, Abort, Mode, InTransaction, Read, Write, Log, LogBytes, Copy, Fill, CommitAction, UndoAction, Load, Save}
@@ -43,20 +43,20 @@ copies_shared (Out to) = true
 copies_shared (In from) = false
 copies_shared (Within from to) = true
 
--- can memory be refused to the call: a log or a fill of no bytes takes none, and neither does a copy that writes no shared byte
-abbrev pub takes_memory : Call → Bool
-takes_memory (Begin props room) = true
-takes_memory Commit = false
-takes_memory (Abort outer) = false
-takes_memory (Mode room) = false
-takes_memory InTransaction = false
-takes_memory (Read hint width at) = false
-takes_memory (Write hint at value) = true
-takes_memory (Log width at) = true
-takes_memory (LogBytes at size) = nat_lt 0 size
-takes_memory (Copy c) = copies_shared c.pair && nat_lt 0 c.size
-takes_memory (Fill hint to byte size) = nat_lt 0 size
-takes_memory (CommitAction action) = true
-takes_memory (UndoAction action) = true
-takes_memory (Load width at) = false
-takes_memory (Save at value) = false
+-- can memory be refused to the call: a log or a fill of no bytes takes none, and neither does a copy that writes no shared byte; in an irrevocable transaction a log and an undo action leave nothing
+abbrev pub takes_memory : State → Call → Bool
+takes_memory s (Begin props room) = true
+takes_memory s Commit = false
+takes_memory s (Abort outer) = false
+takes_memory s (Mode room) = false
+takes_memory s InTransaction = false
+takes_memory s (Read hint width at) = false
+takes_memory s (Write hint at value) = true
+takes_memory s (Log width at) = not s.irrevocable
+takes_memory s (LogBytes at size) = not s.irrevocable && nat_lt 0 size
+takes_memory s (Copy c) = copies_shared c.pair && nat_lt 0 c.size
+takes_memory s (Fill hint to byte size) = nat_lt 0 size
+takes_memory s (CommitAction action) = true
+takes_memory s (UndoAction action) = not s.irrevocable
+takes_memory s (Load width at) = false
+takes_memory s (Save at value) = false

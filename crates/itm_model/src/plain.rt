@@ -1,6 +1,6 @@
 //! The plain machine.
 
-ghost use Rattle.std.specs.Prelude.{◌≡◌, ◌≤◌, ◌-◌, ◌%◌, ◌&&◌, if◌then◌else◌, false, IsTrue, IsOk, IfOk, OnOk, OnErr, None, [], length};
+ghost use Rattle.std.specs.Prelude.{◌≡◌, ◌≤◌, ◌-◌, ◌%◌, ◌&&◌, if◌then◌else◌, false, true, IsTrue, IsOk, IfOk, OnOk, OnErr, None, [], length};
 ghost use Rattle.itm_model.specs.Machine.{after, answer, back, closed, effect, entered, is_open, logged, opened, outside, refusal, reply, saved_in_arena, undone, written};
 ghost use Rattle.itm_model.specs.Places.{in_range};
 ghost use Rattle.itm_model.specs.Undoable.{before_after, before_next, takes_memory};
@@ -88,8 +88,8 @@ impl Plain {
         ensures after { OnOk result (self.new.state ≡ after MAX_OPEN_BLOCKS self.old.state call.now) }
         ensures before { OnOk result (self.new.before ≡ before_after MAX_OPEN_BLOCKS self.old call.now) }
 
-        // Memory is refused only to a call that would be accepted: a begin, a write, a registration, or a log, a copy or a fill of some bytes.
-        ensures only_some { OnErr result (IsTrue (takes_memory call.now)) }
+        // Memory is refused only to a call that would be accepted: a begin, a write, a registration, or a log, a fill or a copy to shared memory of some bytes; to no log and no undo action of an irrevocable transaction.
+        ensures only_some { OnErr result (IsTrue (takes_memory self.old.state call.now)) }
         ensures only_accepted { OnErr result (refusal MAX_OPEN_BLOCKS self.old.state call.now ≡ None) }
         ensures err { OnErr result (self.new ≡ self.old) }
     {
@@ -206,7 +206,7 @@ impl Plain {
         ensures answer { IfOk result (λ r. r ≡ answer self.old.state call.now) }
         ensures effect { OnOk result (self.new.state ≡ effect self.old.state call.now) }
         ensures before { OnOk result (self.new.before ≡ before_next self.old call.now) }
-        ensures only_some { OnErr result (IsTrue (takes_memory call.now)) }
+        ensures only_some { OnErr result (IsTrue (takes_memory self.old.state call.now)) }
         ensures err { OnErr result (self.new ≡ self.old) }
     {
         match call {
@@ -337,6 +337,7 @@ impl Plain {
         ensures ok { OnOk result (self.new.state ≡ logged self.old.state place size) }
         ensures before { OnOk result (self.new.before ≡ self.old.before) }
         ensures none { size ≡ 0 → IsOk result }
+        ensures held { self.old.state.irrevocable ≡ true → IsOk result }
         ensures err { OnErr result (self.new ≡ self.old) }
     {
         if self.irrevocable {

@@ -1,6 +1,6 @@
 //! Actions that run at a transaction's end.
 
-ghost use Rattle.std.specs.Prelude.{◌≡◌, OnOk, OnErr};
+ghost use Rattle.std.specs.Prelude.{◌≡◌, IsOk, OnOk, OnErr, true};
 ghost use Rattle.itm_model.specs.Machine.{with_action, with_undo};
 
 use super::Plain;
@@ -36,6 +36,7 @@ impl Plain {
     pub(super) fn register_undo(&mut self, action: Action) -> Result<(), AllocError>
         ensures ok { OnOk result (self.new.state ≡ with_undo self.old.state action) }
         ensures before { OnOk result (self.new.before ≡ self.old.before) }
+        ensures held { self.old.state.irrevocable ≡ true → IsOk result }
         ensures err { OnErr result (self.new ≡ self.old) }
     {
         if self.irrevocable {
