@@ -98,7 +98,7 @@ module _ {P : Type 0} (rules : Rules P) (laws : Obeys rules) (w : World P) (comm
       sole.commit (let few = commits.few in omega arith)
 
   so_far : (tail : List Attempt) (x : Arrived tail) (outcome : Outcome) → (attempts_of w ≡ sole.past) ⊎ IsBegun rules w.max_commits 0 x.before sole.past outcome (attempts_of w) → So (w.cells.clock / 2) x.before.memory outcome
-  so_far tail x outcome rows = record { before = x.before; past = sole.past; whole = x.whole; commits_are = sym x.commits; memory_is = refl; rows_are = rows }
+  so_far tail x outcome rows = record { before = x.before; past = sole.past; whole = x.whole; commits_are = sym x.commits; memory_is = refl; left = x.memory ∙ ap (bytes_at w.base (attempts_of w)) x.commits; rows_are = rows }
 
   left_by : (tail : List Attempt) (x : Arrived tail) → w.cells.clock % 2 ≡ 0 → memory_of w ≡ x.before.memory
   left_by tail x z = opaque.free z ∙ (ap (bytes_at w.base (attempts_of w)) (sym x.commits) ∙ sym x.memory)

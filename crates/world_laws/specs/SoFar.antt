@@ -9,6 +9,7 @@ use Rattle.tx_attempts.specs.declared.attempt.Outcome.{Outcome}
 use Rattle.tx_attempts.specs.declared.attempt.Outcome.TheVariants as outcomes
 use Rattle.norec_world.specs.declared.ending.End.{End}
 use Rattle.norec_world.specs.declared.ending.End.TheVariants.{Finished, GaveUp, NoMemory}
+use Rattle.norec_world.specs.Headline.{bytes_at}
 use Rattle.norec_world.specs.Opacity.{Beginning, begin_code, begin_of}
 use Rattle.norec_world.specs.Alone.{IsAlone}
 use Rattle.world_laws.specs.Solo.{Progress, row_of, with_all, solo, solo_within}
@@ -31,6 +32,7 @@ module _ {P : Type 0} (rules : Rules P) (max_commits thread : ℕ) where
     pub whole : solo rules MAX_OPEN_BLOCKS max_commits thread p0 base arena ≡ with_all past (solo_within rules MAX_OPEN_BLOCKS max_commits thread (rules.calls_left before.player) before)
     pub commits_are : commits ≡ before.commits
     pub memory_is : memory ≡ before.memory
+    pub left : memory ≡ bytes_at base rows commits  -- what the commits of these rows left
     pub rows_are : (rows ≡ past) ⊎ IsBegun before past outcome rows
 
   -- all that it does: the clock is odd where its last transaction is irrevocable and has not ended
