@@ -6,7 +6,7 @@ use Rattle.std.specs.Io.KnownBytes.{Appends}
 use Rattle.std.proofs.KnownBytes.{Appends-nil, Appends-trans}
 use Rattle.norec_world.specs.declared.ending.End.{End}
 use Rattle.tx_history.specs.Spelling.{IsCut}
-use Rattle.itmrun.specs.Answers.{ending_line, ending_lines}
+use Rattle.itmrun.specs.Endings.{ending_line, ending_lines}
 use Rattle.tx_history.proofs.TextPieces.{cut_short}
 
 lines_append : (thread : ℕ) (xs ys : List (Option End)) → ending_lines thread (xs ++ ys) ≡ ending_lines thread xs ++ ending_lines (thread + length xs) ys

@@ -1,11 +1,6 @@
-pub mod Worked
 pub mod WorkedPages
 pub mod WorkedRuns
 pub mod EndingLines
-pub mod ReadTexts
-pub mod ReadPrograms
 pub mod ScheduleItems
 pub mod ProgramPages
 pub mod WrittenWorlds
-pub mod PrintedTexts
-pub mod JudgedHistories

@@ -5,17 +5,14 @@ use Rattle.std.specs.List.{list_any}
 use Rattle.std.proofs.lemmas.Fmt.{decimal_digit}
 use Rattle.norec_world.specs.declared.ending.End.TheVariants.{Finished, GaveUp, NoMemory}
 use Rattle.script_program.specs.declared.schedule.Item.TheVariants.{Take, Out}
-use Rattle.script_program.specs.Listing.{Listing, codes_of}
+use Rattle.script_program.specs.Listing.{codes_of}
 use Rattle.script_vm.specs.Threads.{opening}
 use Rattle.itmrun.specs.Scheduled.{players_of, schedule_of}
-use Rattle.itmrun.specs.Answers.{fell_short, thread_line, ending_line, ending_lines}
+use Rattle.itmrun.specs.Endings.{fell_short, thread_line, ending_line, ending_lines}
+use Rattle.text_commands.proofs.WorkedScripts.{counter_code, listing, lost_update}
 use Rattle.tx_history.proofs.WorkedLines.{line}
-use Rattle.itmrun.proofs.WorkedPages.{counter_code, listing}
 
 -- ## Schedules
-
-abbrev pub lost_update : Listing
-lost_update = record (listing 8 2 counter_code) { schedule = Take 0 3 ∷ Take 1 6 ∷ Out 0 ∷ [] }
 
 two_players : players_of lost_update ≡ opening counter_code ∷ opening counter_code ∷ []
 unfolding codes_of

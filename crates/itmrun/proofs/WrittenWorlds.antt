@@ -1,23 +1,28 @@
 -- What was written of a program's world.
-use Rattle.std.proofs.Common.{◌≡◌, ℕ, Bool, true, false, List, length, Option, Ok, subst}
+use Rattle.std.proofs.Common.{◌≡◌, ℕ, List, length, take, Option, Ok, Err, refl}
+use Rattle.std.specs.Io.KnownBytes.{Appends}
+use Rattle.arrayvec.specs.ArrayVec.{ArrayVec}
 use Rattle.norec_world.specs.declared.ending.End.{End}
 use Rattle.norec_world.specs.World.{World}
 use Rattle.script_program.specs.Listing.{Listing, threads_of}
 use Rattle.script_vm.specs.Threads.{Thread}
-use Rattle.tx_history.specs.Spelling.{Grows}
+use Rattle.text_commands.specs.declared.failure.Failure.TheVariants.{Writing}
+use Rattle.text_commands.specs.Answers.{Outputs}
 use Rattle.tx_history.specs.Histories.{history_text}
 use Rattle.itmrun.specs.Scheduled.{endings_of}
 use Rattle.itmrun.specs.Pages.{IsWorldOf, history_of}
-use Rattle.itmrun.specs.Answers.{Told, Begun}
+use Rattle.itmrun.specs.Running.{IsRun, running}
 
-module _ (p : Listing) (w : World Thread) (failed : Bool) (o n : Option (List ℕ)) (is : IsWorldOf p w) (grew : Grows false o failed n (history_text (history_of w))) where
-  grew_so : (t : Bool) → failed ≡ t → Grows false o t n (history_text (history_of w))
-  grew_so t e = subst (λ (t : Bool). Grows false o t n (history_text (history_of w))) e grew
+module _ (p : Listing) (w : World Thread) (o n : Option (List ℕ)) (is : IsWorldOf p w) where
+  run_of : (endings : ArrayVec (Option End)) → endings.items ≡ endings_of (length (threads_of p)) w → IsRun p endings (history_text (history_of w))
+  run_of endings stand = record { world = w; of_program = is; stand = stand; told = refl }
 
   -- the history
-  pub told : failed ≡ false → (endings : List (Option End)) → endings ≡ endings_of (length (threads_of p)) w → Told (Ok p) endings o n
-  told e endings stand = (w, is, stand, grew_so false e)
+  pub told : (endings : ArrayVec (Option End)) → endings.items ≡ endings_of (length (threads_of p)) w → Appends o n (history_text (history_of w)) → Outputs running (Ok endings) (Ok p) o n
+  told endings stand grew = (p, history_text (history_of w), refl, run_of endings stand, grew)
 
   -- a beginning of it
-  pub begun : failed ≡ true → Begun (Ok p) o n
-  begun e = let cut = grew_so true e in (w, cut.0, is, cut.1)
+  pub begun : (m : ℕ) × Appends o n (take m (history_text (history_of w))) → Outputs running (Err Writing) (Ok p) o n
+  begun grew =
+      let endings : ArrayVec (Option End) = record { items = endings_of (length (threads_of p)) w } in
+      (p, endings, history_text (history_of w), grew.0, refl, run_of endings refl, grew.1)

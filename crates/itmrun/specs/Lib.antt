@@ -1,5 +1,4 @@
-pub mod Input
 pub mod Scheduled
 pub mod Pages
-pub mod Answers
-pub mod Judging
+pub mod Endings
+pub mod Running

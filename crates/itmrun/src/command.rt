@@ -1,14 +1,13 @@
 //! The program's words.
 
-use crate::asm::asm;
-use crate::check::check;
 use crate::sched::sched;
 use clap::error::ErrorKind;
-use clap::{Arg, ArgAction, Command};
-use std::alloc::Global;
+use clap::{Arg, ArgAction, ArgMatches, Command};
+use std::alloc::{AllocError, Global};
 use std::io::{BufWriter, Read, Write};
 use std::rt::{Env, Files};
 use std::{env, fs, io};
+use text_commands::{asm, check};
 use tx_history::{Piece, put_pieces};
 
 /// Why the program's words say nothing that can be done.
@@ -48,37 +47,51 @@ fn words_of<R: Env + AllocGlobal>(rt: &R) -> Result<Vec<String>, WordsFault> {
     }
 }
 
-/// The two words that a command line has: a command and a file.
-fn command_line<'a>(alloc: Global) -> Result<Command<'a>, std::alloc::AllocError> {
-    let command = Arg::new(alloc, "command")
-        .required(true)
-        .action(ArgAction::Set);
-    let file = Arg::new(alloc, "file")
-        .required(true)
-        .action(ArgAction::Set);
+/// A place for one word, which has to be there.
+fn place<'a>(alloc: Global, name: &'a str) -> Arg<'a> {
+    Arg::new(alloc, name).required(true).action(ArgAction::Set)
+}
+
+/// The two places that a command line has: for a command and for a file.
+fn command_line<'a>(alloc: Global) -> Result<Command<'a>, AllocError> {
     Command::new(alloc, "itmrun")
         .disable_help_flag(true)
         .disable_version_flag(true)
-        .arg(command)?
-        .arg(file)
+        .arg(place(alloc, "command"))?
+        .arg(place(alloc, "file"))
 }
 
-/// The task and the file of `asm FILE`, `sched FILE` or `check FILE`. The other command is not there yet.
-fn order_of<'a>(alloc: Global, words: &'a [String]) -> Result<(Task, &'a str), WordsFault> {
+/// What stands in the places of a command line.
+fn places_of<'a>(alloc: Global, words: &'a [String]) -> Result<ArgMatches<'a>, WordsFault> {
     let line = command_line(alloc).map_err(|_| WordsFault::Memory)?;
-    let matches = match line.try_get_matches_from(words) {
-        Ok(matches) => matches,
-        Err(error) => match error.kind() {
-            ErrorKind::OutOfMemory => return Err(WordsFault::Memory),
-            _ => return Err(WordsFault::Usage),
-        },
-    };
-    match (matches.get_str("command"), matches.get_str("file")) {
-        (Some("asm"), Some(file)) => Ok((Task::Asm, file)),
-        (Some("sched"), Some(file)) => Ok((Task::Sched, file)),
-        (Some("check"), Some(file)) => Ok((Task::Check, file)),
+    line.try_get_matches_from(words)
+        .map_err(|error| fault_of(error.kind()))
+}
+
+/// Why the words are no command line.
+fn fault_of(kind: ErrorKind) -> WordsFault {
+    match kind {
+        ErrorKind::OutOfMemory => WordsFault::Memory,
+        _ => WordsFault::Usage,
+    }
+}
+
+/// What a command asks for. The other command is not there yet.
+fn task_of(command: &str) -> Result<Task, WordsFault> {
+    match command {
+        "asm" => Ok(Task::Asm),
+        "sched" => Ok(Task::Sched),
+        "check" => Ok(Task::Check),
         _ => Err(WordsFault::Usage),
     }
+}
+
+/// The task and the file of `asm FILE`, `sched FILE` or `check FILE`.
+fn order_of<'a>(alloc: Global, words: &'a [String]) -> Result<(Task, &'a str), WordsFault> {
+    let places = places_of(alloc, words)?;
+    let command = places.get_str("command").ok_or(WordsFault::Usage)?;
+    let file = places.get_str("file").ok_or(WordsFault::Usage)?;
+    Ok((task_of(command)?, file))
 }
 
 /// Does the task with the text of a reader, and writes to standard output.
@@ -98,19 +111,40 @@ fn do_task<T: Print + AllocGlobal, R: Read, E: Write>(
     }
 }
 
+/// Does the task with the text of a file, or of the input.
+fn do_file<T: Files + Input + Print + AllocGlobal, E: Write>(
+    rt: &T,
+    task: Task,
+    path: &str,
+    errors: &mut E,
+) -> u8 {
+    if path == "-" {
+        return do_task(rt, task, &mut rt.reader(), errors);
+    }
+    match fs::open(rt, path) {
+        Ok(mut file) => do_task(rt, task, &mut file, errors),
+        Err(_) => say(errors, b"itmrun: reading failed\n", 5),
+    }
+}
+
+/// Does what the words ask for, and answers the program's status.
+fn obey<T: Files + Input + Print + AllocGlobal, E: Write>(
+    rt: &T,
+    words: &[String],
+    errors: &mut E,
+) -> Result<u8, WordsFault> {
+    let (task, path) = order_of(rt.alloc(), words)?;
+    Ok(do_file(rt, task, path, errors))
+}
+
 /// Does what the program's words say, and answers its status.
 pub fn run<T: Env + Files + Input + Print + AllocGlobal, E: Write>(rt: &T, errors: &mut E) -> u8 {
-    let words = words_of(rt);
-    let order = match &words {
-        Ok(words) => order_of(rt.alloc(), words),
-        Err(fault) => Err(*fault),
+    let done = match words_of(rt) {
+        Ok(words) => obey(rt, &words, errors),
+        Err(fault) => Err(fault),
     };
-    match order {
-        Ok((task, "-")) => do_task(rt, task, &mut rt.reader(), errors),
-        Ok((task, path)) => match fs::open(rt, path) {
-            Ok(mut file) => do_task(rt, task, &mut file, errors),
-            Err(_) => say(errors, b"itmrun: reading failed\n", 5),
-        },
+    match done {
+        Ok(status) => status,
         Err(WordsFault::Usage) => say(
             errors,
             b"itmrun: usage: itmrun asm|sched|threads|check FILE\n",

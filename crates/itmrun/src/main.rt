@@ -1,16 +1,14 @@
 //! The program `itmrun`: scripts of transactional calls, run to histories, or printed; and histories, judged.
 #![tactic(auto)]
 
-mod asm;
-mod check;
 mod command;
+mod endings;
 #[cfg(test)]
 mod fakes;
-mod finish;
-mod input;
-mod programs;
 mod running;
 mod sched;
+#[cfg(test)]
+mod tests;
 
 use std::process::ExitCode;
 

@@ -7,7 +7,7 @@ ghost use Rattle.script_program.specs.Sizes.{IsSize};
 ghost use Rattle.script_program.specs.Listing.{opening_of, thread_of};
 ghost use Rattle.itmrun.specs.Scheduled.{Begins, ItemLeads, ItemsLead, Leaves, each_out, endings_of, players_of};
 
-use crate::finish::Endings;
+use crate::endings::Endings;
 use itm_types::MAX_ACTORS;
 use norec_world::{Bytes, Setup, World, WorldFault};
 use script_program::{Item, Program};

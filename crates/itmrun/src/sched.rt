@@ -1,7 +1,7 @@
 //! Scripts that are run, and what they are answered.
 
-ghost use Rattle.std.specs.Prelude.{◌≡◌, ◌+◌, ℕ, List, IfSome, Ok, false, length};
-ghost use Rattle.tx_history.specs.Spelling.{Grows};
+ghost use Rattle.std.specs.Prelude.{◌≡◌, ◌+◌, ℕ, List, IfErr, IfSome, Ok};
+ghost use Rattle.tx_history.specs.Spelling.{Writes};
 ghost use Rattle.script_asm.specs.Assembly.{program_of};
 ghost use Rattle.norec_world.specs.World.{observed};
 ghost use Rattle.norec_world.specs.Commits.{CommitsInOrder};
@@ -9,24 +9,27 @@ ghost use Rattle.norec_world.specs.Headline.{AreOpaque};
 ghost use Rattle.norec_world.specs.Tied.{AreTied};
 ghost use Rattle.script_vm.specs.Threads.{thread_rules};
 ghost use Rattle.tx_history.specs.Histories.{history_text};
+ghost use Rattle.text_commands.specs.declared.failure.Failure.TheVariants.{Writing};
+ghost use Rattle.text_commands.specs.Input.{IsFront};
+ghost use Rattle.text_commands.specs.Answers.{Answers, Outputs};
 ghost use Rattle.itmrun.specs.Pages.{history_of};
-ghost use Rattle.itmrun.specs.Input.{IsFront};
-ghost use Rattle.itmrun.specs.Answers.{Runs, Answers};
+ghost use Rattle.itmrun.specs.Running.{running};
 
-use crate::finish::{Finish, status, write_error};
-use crate::programs::read_program;
+use crate::endings::{Endings, tell_endings};
 use crate::running::{endings, run_program};
 use norec_world::World;
+use script_asm::AsmFault;
 use script_program::{MAX_TEXT, Program};
 use script_vm::Script;
 use std::alloc::Global;
 use std::io::{Read, Write};
+use text_commands::{Failure, read_program};
 use tx_history::{Stream, put_history};
 
-/// Writes the history of a world; answers whether that failed.
-fn write_world<W: Write>(writer: &mut W, world: &World<Script<'_>>) -> bool
-    ensures text { Grows false (W.contents writer.old) result (W.contents writer.new)
-        (history_text (history_of world.now)) }
+/// Writes the history of a world.
+fn write_world<W: Write>(writer: &mut W, world: &World<Script<'_>>) -> Result<(), Failure<AsmFault>>
+    ensures text { Writes (W.contents writer.old) (W.contents writer.new) result (history_text (history_of world.now)) }
+    ensures failure { IfErr result (λ failure. failure ≡ Writing) }
     ensures commits { CommitsInOrder world.now }
     ensures opaque { AreOpaque thread_rules (observed world.now) }
     ensures tied { AreTied thread_rules world.now }
@@ -43,33 +46,38 @@ fn write_world<W: Write>(writer: &mut W, world: &World<Script<'_>>) -> bool
         world.clock(),
         world.bytes(),
     );
-    stream.failed
+    if stream.failed {
+        Err(Failure::Writing)
+    } else {
+        Ok(())
+    }
 }
 
 /// Runs a program and writes its history.
-fn play<W: Write>(alloc: Global, program: &Program, writer: &mut W) -> Finish
-    ensures { Runs result (Ok program.now) (W.contents writer.old) (W.contents writer.new) }
+fn play<W: Write>(
+    alloc: Global,
+    program: &Program,
+    writer: &mut W,
+) -> Result<Endings, Failure<AsmFault>>
+    ensures { Outputs running result (Ok program.now) (W.contents writer.old) (W.contents writer.new) }
 {
-    let Ok(world) = run_program(alloc, program) else {
-        return Finish::NoMemory;
-    };
-    if write_world(writer, &world) {
-        Finish::Writing
-    } else {
-        Finish::Ran(endings(&world, program.threads()))
-    }
+    let world = run_program(alloc, program)?;
+    write_world(writer, &world)?;
+    Ok(endings(&world, program.threads()))
 }
 
 /// Reads a script, runs it and writes its history.
-fn run<R: Read, W: Write>(alloc: Global, reader: &mut R, writer: &mut W) -> Finish
-    ensures answer { (text : List ℕ) × IfSome (R.remaining reader.old) (λ all. text ≡ all)
-        × Runs result (program_of text) (W.contents writer.old) (W.contents writer.new) }
+fn run<R: Read, W: Write>(
+    alloc: Global,
+    reader: &mut R,
+    writer: &mut W,
+) -> Result<Endings, Failure<AsmFault>>
+    ensures output { (text : List ℕ) × IfSome (R.remaining reader.old) (λ all. text ≡ all)
+        × Outputs running result (program_of text) (W.contents writer.old) (W.contents writer.new) }
     ensures few { IsFront (R.remaining reader.old) (R.remaining reader.new) (MAX_TEXT + 1) }
 {
-    match read_program(alloc, reader) {
-        Ok(program) => play(alloc, &program, writer),
-        Err(finish) => finish,
-    }
+    let program = read_program(alloc, reader)?;
+    play(alloc, &program, writer)
 }
 
 /// Reads a script, runs its schedule, writes the history, and answers the status of the program: 0 where all went well,
@@ -83,15 +91,14 @@ pub fn sched<R: Read, W: Write, E: Write>(
     errors: &mut E,
 ) -> u8
     ensures answer { (text : List ℕ) × IfSome (R.remaining reader.old) (λ all. text ≡ all)
-        × Answers result (program_of text) (W.contents writer.old) (W.contents writer.new) (E.contents
+        × Answers running result (program_of text) (W.contents writer.old) (W.contents writer.new) (E.contents
         errors.old) (E.contents errors.new) }
     ensures few { IsFront (R.remaining reader.old) (R.remaining reader.new) (MAX_TEXT + 1) }
 {
-    let finish = run(alloc, reader, writer);
-    if write_error(errors, &finish).is_err() {
-        return 5;
+    match run(alloc, reader, writer) {
+        Ok(endings) => tell_endings(errors, endings.as_slice()),
+        Err(failure) => failure.tell(errors),
     }
-    status(&finish)
 }
 
 #[cfg(test)]

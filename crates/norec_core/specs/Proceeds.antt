@@ -372,7 +372,7 @@ IsAtOnce (Answers (Conflict clock word)) = ⊥
 IsAtOnce (Answers (Busy clock)) = ⊥
 IsAtOnce _ = Unit {0}
 
--- memory is asked for by a read, a write, a log, a copy, a fill, a registration or a call that makes the transaction irrevocable alone, by no refused one, by no read that takes no step, by no write to words that the innermost block has given rows, and by no log, copy or fill of no bytes
+-- memory is refused to a read, a write, a log, a copy, a fill, a registration or a call that makes the transaction irrevocable alone: to no refused one, to no read that takes no step, to no write to words that the innermost block has given rows, and to no log, copy or fill of no bytes
 abbrev pub MayStarveOpen : Core → Call → Type 0
 MayStarveOpen c (Read hint width at) = (in_transaction c ≡ true) × (at + size_of width ≤ 8 * c.words) × (load_stage c.writes c.log (value_reading hint width at) ≢ Idle)
 MayStarveOpen c (Write hint at value) = (in_transaction c ≡ true) × (at + size_of value.width ≤ 8 * c.words) × (AreRoomy c.writes (rows_of c.blocks) (pieces_of at (size_of value.width)) → ⊥)

@@ -1,0 +1,4 @@
+//! The commands that work on texts alone.
+
+mod asm;
+mod check;

@@ -1,0 +1,3 @@
+pub mod WorkedScripts
+pub mod ReadTexts
+pub mod WrittenTexts
