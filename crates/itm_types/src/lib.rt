@@ -13,6 +13,7 @@ mod limits;
 mod names;
 mod row;
 mod step;
+mod word;
 
 pub use access::{ReadHint, Value, Width, WriteHint};
 pub use call::{Action, ActionKind, Call, Copying, Props, Ran, Refusal, Reply};
@@ -28,6 +29,7 @@ pub use limits::{
 pub use names::{entry_of, name_of};
 pub use row::LogRow;
 pub use step::Step;
+pub use word::{get_word, put_word};
 
 #[cfg(test)]
 mod tests;

@@ -4,7 +4,7 @@ pub use Rattle.itm_model.specs.Runs.{answers, answers_within, turn}
 pub use Rattle.itm_model.specs.State.{Block, State}
 pub use Rattle.itm_types.proofs.Words.{slice_get-set_same}
 pub use Rattle.itm_types.specs.Calls.{is_begin}
-pub use Rattle.itm_types.specs.Memory.{Agrees, AllFit, IsMemory, bytes_of}
+pub use Rattle.itm_types.specs.Memory.{Agrees, AllFit, AreWords, IsMemory, bytes_of, words_of}
 pub use Rattle.itm_types.specs.declared.call.Call.TheVariants.{Begin, Commit, Read, Write}
 pub use Rattle.itm_types.specs.declared.call.Call.{Call}
 pub use Rattle.itm_types.specs.declared.call.Props.{Props}
@@ -33,7 +33,7 @@ pub use Rattle.norec_core.specs.declared.answer.Next.{Next}
 pub use Rattle.norec_world.specs.Actors.{AreActors}
 pub use Rattle.norec_world.specs.Alone.{IsAlone, player_then, state_then}
 pub use Rattle.tx_attempts.specs.Attempts.{ClosedBy, alone, committed_at, is_at, is_committed, memory_left, of_thread, pair_of}
-pub use Rattle.norec_world.specs.Cells.{AreWords, Cells, cells_after, found, words_of}
+pub use Rattle.norec_world.specs.Cells.{Cells, cells_after, found}
 pub use Rattle.norec_world.specs.ClockHolder.{ClocksOn, HoldsOn}
 pub use Rattle.norec_world.specs.Commits.{CommitsInOrder}
 pub use Rattle.tx_attempts.specs.Counts.{count_at, count_committed, one_where}

@@ -1,7 +1,6 @@
 pub mod Common
 pub mod Plan
 pub mod Examples
-pub mod WordLists
 pub mod ActiveRows
 pub mod OthersAttempts
 pub mod LaterActions

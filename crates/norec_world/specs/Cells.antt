@@ -1,26 +1,11 @@
 -- The shared cells: the sequence clock and the words of the memory.
-use Rattle.std.specs.Prelude.{◌≡◌, ℕ, zero, suc, ◌≤◌, ◌/◌, ◌==◌, if◌then◌else◌, List, [], ◌∷◌, length, take, drop, slice_set, slice_index}
-use Rattle.std.specs.Int.{w64, from_le_bytes}
+use Rattle.std.specs.Prelude.{◌≡◌, ℕ, zero, suc, ◌≤◌, ◌==◌, if◌then◌else◌, List, slice_set, slice_index}
 use Rattle.itm_types.specs.declared.step.Step.{Step}
 use Rattle.itm_types.specs.declared.step.Step.TheVariants.{Load, Store, Cas}
-use Rattle.itm_types.specs.Memory.{bytes_of, AllFit}
 
 pub record Cells : Type 0 where
   pub clock : ℕ
   pub words : List ℕ
-
--- so many words, from their bytes, the low one first
-abbrev pub words_from : ℕ → List ℕ → List ℕ
-words_from zero bytes = []
-words_from (suc n) bytes = from_le_bytes w64 (take 8 bytes) ∷ words_from n (drop 8 bytes)
-
-abbrev pub words_of : List ℕ → List ℕ
-words_of bytes = words_from (length bytes / 8) bytes
-
--- the bytes are whole words
-pub record AreWords (bytes : List ℕ) : Type 0 where
-  pub again : bytes_of (words_of bytes) ≡ bytes
-  pub fit : AllFit (words_of bytes)
 
 -- the cell is one of a memory of so many words
 abbrev pub IsCell : ℕ → Step → Type 0

@@ -1,9 +1,8 @@
 -- The memories that the commits left, as words.
 use Rattle.std.specs.Prelude.{◌≡◌, ℕ, ◌≤◌, List}
-use Rattle.itm_types.specs.Memory.{bytes_of, IsMemory}
+use Rattle.itm_types.specs.Memory.{bytes_of, words_of, IsMemory}
 use Rattle.tx_attempts.specs.declared.attempt.Attempt.{Attempt}
 use Rattle.norec_world.specs.Headline.{bytes_at}
-use Rattle.norec_world.specs.Cells.{words_of}
 
 -- the words of the bytes that the first commits left
 abbrev pub words_at : List ℕ → List Attempt → ℕ → List ℕ

@@ -8,7 +8,7 @@ use Rattle.norec_world.specs.Rows.{Rows}
 use Rattle.norec_world.specs.Status.{ending_of, is_ready}
 use Rattle.norec_world.specs.Tries.{IsBetween}
 use Rattle.norec_world.specs.LocalWork.{Works}
-use Rattle.norec_world.specs.Cells.{words_of}
+use Rattle.itm_types.specs.Memory.{words_of}
 use Rattle.norec_world.specs.World.{World, attempts_of, ending_at}
 use Rattle.tx_player.specs.Rules.{Rules}
 

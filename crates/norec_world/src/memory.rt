@@ -1,11 +1,10 @@
 //! The shared cells.
 
-ghost use Rattle.std.specs.Prelude.{◌≡◌, ◌+◌, ◌*◌, ◌/◌, ◌%◌, ◌<◌, ◌≤◌, ◌^◌, ◌++◌, length, take, drop, slice_set, slice_index};
-ghost use Rattle.std.specs.Int.{w64, to_le_bytes, from_le_bytes};
+ghost use Rattle.std.specs.Prelude.{◌≡◌, ◌/◌, ◌%◌, ◌<◌, ◌≤◌, length, slice_set, slice_index};
 ghost use Rattle.itm_types.specs.Memory.{bytes_of, AllFit};
 ghost use Rattle.norec_world.specs.Cells.{IsCell, found, cells_after};
 
-use itm_types::{MAX_WORDS, Step};
+use itm_types::{MAX_WORDS, Step, get_word, put_word};
 use std::marker::Model;
 
 /// The sequence clock and the shared memory, which has whole words of 8 bytes.
@@ -16,7 +15,8 @@ pub(crate) struct Memory {
 }
 
 impl Model for Memory {
-    ghost use Rattle.norec_world.specs.Cells.{Cells, words_of, AreWords};
+    ghost use Rattle.itm_types.specs.Memory.{AreWords, words_of};
+    ghost use Rattle.norec_world.specs.Cells.{Cells};
 
     ghost Value = { Cells };
 
@@ -106,21 +106,4 @@ impl Memory {
     {
         put_word(&mut self.bytes, word as usize * 8, value);
     }
-}
-
-/// The word that begins at this place.
-fn get_word(bytes: &[u8], at: usize) -> u64
-    requires { at + 8 ≤ length bytes.now }
-    ensures { result ≡ from_le_bytes w64 (take 8 (drop at bytes.now)) }
-{
-    let mut word = [0u8; 8];
-    word.copy_from_slice(&bytes[at..at + 8]);
-    u64::from_le_bytes(word)
-}
-
-fn put_word(bytes: &mut [u8], at: usize, word: u64)
-    requires { at + 8 ≤ length bytes.old }
-    ensures { bytes.new ≡ take at bytes.old ++ to_le_bytes w64 word ++ drop (at + 8) bytes.old }
-{
-    bytes[at..at + 8].copy_from_slice(&word.to_le_bytes());
 }

@@ -1,6 +1,6 @@
 use Rattle.std.proofs.Common.{arith, ◌≡◌, ◌<◌, ◌*◌, ◌/◌, length, take, drop, sym, ap, ◌∙◌, subst, ℕ, List, slice_index}
 use Rattle.norec_world.proofs.Common.{Cells, from_le_bytes, w64, words_of}
-use Rattle.norec_world.proofs.WordLists.{word_at, length-words_from}
+use Rattle.itm_types.proofs.WordLists.{word_at, length-words_from}
 use Rattle.norec_world.proofs.memory.Memory.word.Goals as goal
 
 pub get_word-requires : goal.get_word-requires
@@ -16,5 +16,5 @@ returns c =
     let n = length-words_from (length c.self.inside.bytes.items / 8) c.self.inside.bytes.items in
     let here : slice_index (words_of c.self.inside.bytes.items) c.args.word ≡ from_le_bytes w64 (take 8 (drop (c.args.word * 8) c.self.inside.bytes.items)) =
     word_at (length c.self.inside.bytes.items / 8) c.args.word c.self.inside.bytes.items (omega arith) in
-    c.get_word.ensures ∙ (ap (λ (b : List ℕ). from_le_bytes w64 (take 8 (drop (c.args.word * 8) b))) c.deref.ensures.value
+    c.get_word.ensures.value ∙ (ap (λ (b : List ℕ). from_le_bytes w64 (take 8 (drop (c.args.word * 8) b))) c.deref.ensures.value
     ∙ (sym here ∙ ap (λ (m : Cells). slice_index m.words c.args.word) c.self.view_is))

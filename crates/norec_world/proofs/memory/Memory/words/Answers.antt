@@ -1,7 +1,7 @@
 use Rattle.std.proofs.Common.{arith, ◌≡◌, ◌≤◌, ◌/◌, length, ap, ◌∙◌}
 use Rattle.norec_world.proofs.Common.{Cells, words_of}
 use Rattle.itm_types.specs.declared.limits.TheConstants.{MAX_WORDS}
-use Rattle.norec_world.proofs.WordLists.{length-words_from}
+use Rattle.itm_types.proofs.WordLists.{length-words_from}
 use Rattle.norec_world.proofs.memory.Memory.words.Goals as goal
 
 pub overflow_cast-result : goal.overflow_cast-result
