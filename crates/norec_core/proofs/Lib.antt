@@ -11,6 +11,7 @@ pub mod CopyChunks
 pub mod KeptFields
 pub mod AnsweredEngines
 pub mod Logs
+pub mod HeldStores
 pub mod Examples
 pub mod BlockExamples
 pub mod CopyExamples

@@ -83,6 +83,7 @@ pub(crate) fn exchanged(state: &mut Data, taking: Taking, seen: u64) -> Turn
 }
 
 /// The next row is stored, or the clock is freed.
+#[inline(always)]
 fn next_store(state: &mut Data, taking: Taking, row: usize) -> Turn
     requires may { InStores state.old taking row }
     ensures sound { IsSoundTurn result state.new }

@@ -186,6 +186,9 @@ impl Engine {
     }
 
     /// Gives the transaction up, with the call in progress. While the clock is held, nothing is changed.
+    ///
+    /// An exchange that was asked for counts as not holding: who made it, took the clock by it, and calls `abort` before
+    /// `resume` has handed its value in leaves the clock odd for ever, so a driver hands the value in first.
     pub fn abort(&mut self) -> Undone
         ensures undone { result ≡ undone_of self.old }
         ensures after { self.new ≡ after_undoing self.old }
@@ -316,6 +319,7 @@ impl Engine {
 }
 
 /// Takes a turn: the call goes on in its phase, or is over. A step that is asked for is counted.
+#[inline(always)]
 fn take(state: &mut Data, phase: &mut Phase, irrevocable: &mut bool, turn: Turn) -> Next
     requires sound { IsSoundWith irrevocable.old turn state.old }
     requires asked { Asked turn }
@@ -345,6 +349,7 @@ fn take(state: &mut Data, phase: &mut Phase, irrevocable: &mut bool, turn: Turn)
 }
 
 /// The step that the phase waits for. There are fewer in all than a count can tell.
+#[inline(always)]
 fn next_step(state: &Data, irrevocable: bool, phase: Phase) -> Step
     requires sound { IsSoundIn irrevocable (counted state.now) phase }
     requires waits { IsWaiting phase }

@@ -11,6 +11,7 @@ use norec_data::Data;
 use word_pieces::merge;
 
 /// The step that the phase waits for.
+#[inline(always)]
 pub(crate) fn step_of(state: &Data, phase: Phase) -> Step
     requires sound { IsSound (counted state.now) phase }
     ensures { result ≡ step_of state.now phase }

@@ -1,17 +1,16 @@
 -- What a call comes to in an irrevocable transaction, by the plain state that the attempt's calls alone lead to.
-use Rattle.std.proofs.Common.{◌≡◌, ◌≢◌, ℕ, suc, ◌/◌, ◌&&◌, Bool, true, false, not, nat_lt, List, [], ◌∷◌, length, None, Some, is_some, if◌then◌else◌, slice_get, refl, sym, ap, ◌∙◌, arith}
+use Rattle.std.proofs.Common.{◌≡◌, ◌≢◌, ℕ, suc, ◌/◌, ◌&&◌, Bool, true, false, not, nat_lt, List, [], ◌∷◌, length, None, Some, is_some, if◌then◌else◌, slice_get, refl, sym, ap, ◌∙◌}
 use Rattle.std.proofs.lemmas.Bool.{ltb-true}
 use Rattle.itm_types.specs.declared.call.Call.TheVariants.{Mode}
 use Rattle.itm_model.specs.Machine.{or_else, reply_unless, unless}
-use Rattle.nest_frames.specs.Nest.{Frame, stays_revocable}
-use Rattle.user_actions.specs.Actions.{committed as run_commits}
+use Rattle.nest_frames.specs.Nest.{stays_revocable}
 use Rattle.norec_core.proofs.Machines.{commits}
 use Rattle.norec_core.specs.Core.{may_go}
 use Rattle.norec_core.specs.Held.{ComesTo}
 use Rattle.norec_core.specs.Proceeds.{WantsClock}
-use Rattle.norec_core.specs.Stands.{is_some_row, state_in, state_kept}
+use Rattle.norec_core.specs.Stands.{is_some_row, state_in}
 use Rattle.norec_engine.proofs.IrrevocableEntries.{begin_enters, mode_enters}
-use Rattle.norec_world.proofs.Common.{Answers, Attempt, Begin, Call, Cells, Commit, Committed, Core, Done, Got, MAX_OPEN_BLOCKS, Next, Outside, Row, Rows, State, Store, active_of, after, alone, bytes_at, bytes_of, in_transaction, is_open, reply, stands_for, state_over, takes_clock}
+use Rattle.norec_world.proofs.Common.{Attempt, Begin, Call, Cells, Commit, Core, Done, Got, MAX_OPEN_BLOCKS, Next, Outside, Row, Rows, State, Store, active_of, after, alone, bytes_at, bytes_of, in_transaction, is_open, reply, stands_for, state_over, takes_clock}
 
 -- the attempt's calls alone on the memory of its position lead to an open block, and the call comes to what the plain machine makes of it then
 pub record HasHeld (base : List ℕ) (cells cells' : Cells) (r : Rows) (thread : ℕ) (mid new : Core) (call : Call) (what : Next) : Type 0 where
@@ -20,8 +19,6 @@ pub record HasHeld (base : List ℕ) (cells cells' : Cells) (r : Rows) (thread :
   pub ran : mid.irrevocable ≡ true → (row : Attempt) → active_of thread r.active ≡ Some row → row.ran ≡ (alone MAX_OPEN_BLOCKS (bytes_at base r.ended (cells.clock / 2)) row).actions.ran
   pub comes : mid.irrevocable ≡ true → (row : Attempt) → active_of thread r.active ≡ Some row
       → ComesTo (after MAX_OPEN_BLOCKS (alone MAX_OPEN_BLOCKS (bytes_at base r.ended (cells.clock / 2)) row) call) (reply MAX_OPEN_BLOCKS (alone MAX_OPEN_BLOCKS (bytes_at base r.ended (cells.clock / 2)) row) call) what new cells'.words
-  pub commits : mid.irrevocable ≡ true → (row : Attempt) → active_of thread r.active ≡ Some row → (at : ℕ) (wrote : Bool) → what ≡ Answers (Committed at wrote)
-      → after MAX_OPEN_BLOCKS (alone MAX_OPEN_BLOCKS (bytes_at base r.ended (cells.clock / 2)) row) call ≡ after MAX_OPEN_BLOCKS (stands_for mid cells'.words) Commit
   pub shut : in_transaction mid ≡ false → mid.irrevocable ≡ false
   pub got : mid.irrevocable ≡ true → (word value : ℕ) → new.waits ≡ Some (Store (suc word) value) → Got new.got (slice_get cells'.words word)
 
@@ -47,30 +44,19 @@ stands_arena c m = by_mode c.irrevocable
     by_mode true = refl
     by_mode false = refl
 
--- what a commit makes of the plain state that the calls before it lead to, once its stores are done
-pub record CommitsTo (cells : Cells) (new : Core) (call : Call) (wrote : Bool) (s : State) : Type 0 where
-  pub closes : is_open (after MAX_OPEN_BLOCKS s call) ≡ false
-  pub wrote_is : wrote ≡ (after MAX_OPEN_BLOCKS s call).wrote
-  pub arena_is : new.arena ≡ (after MAX_OPEN_BLOCKS s call).arena
-  pub actions_is : new.actions ≡ (after MAX_OPEN_BLOCKS s call).actions
-  pub memory_is : wrote ≡ true → bytes_of cells.words ≡ (after MAX_OPEN_BLOCKS s call).memory
+-- what a commit leaves is this plain state, once its stores are done
+pub record CommitsTo (cells : Cells) (new : Core) (wrote : Bool) (s : State) : Type 0 where
+  pub closes : is_open s ≡ false
+  pub wrote_is : wrote ≡ s.wrote
+  pub arena_is : new.arena ≡ s.arena
+  pub actions_is : new.actions ≡ s.actions
+  pub memory_is : wrote ≡ true → bytes_of cells.words ≡ s.memory
 
 -- an open block's commit is answered so
 pub commit_reply : (s : State) → is_open s ≡ true → Done ≡ reply MAX_OPEN_BLOCKS s Commit
 commit_reply s o = sym (ap (λ (b : Bool). reply_unless (or_else (unless b Outside) None) Done) o)
 
--- the commit of an irrevocable transaction
-pub commits_kept : (mid : Core) (m : List ℕ) → mid.irrevocable ≡ true → length mid.blocks ≡ 1
-    → after MAX_OPEN_BLOCKS (stands_for mid m) Commit ≡ record { memory = bytes_of m; arena = mid.arena; blocks = []; actions = run_commits mid.actions; wrote = true; irrevocable = false }
-commits_kept mid m held one =
-    ap (λ (b : Bool). after MAX_OPEN_BLOCKS (state_in b mid.writes mid.blocks mid.arena mid.actions m) Commit) held ∙ by_blocks mid.blocks one
-  where
-    by_blocks : (blocks : List Frame) → length blocks ≡ 1 → after MAX_OPEN_BLOCKS (state_kept blocks mid.arena mid.actions m) Commit ≡ record { memory = bytes_of m; arena = mid.arena; blocks = []; actions = run_commits mid.actions; wrote = true; irrevocable = false }
-    by_blocks [] o = absurd (cc)
-    by_blocks (b ∷ []) o = refl
-    by_blocks (b ∷ p ∷ bs) o = absurd (omega (arith, o))
-
--- and of one that is not
+-- the commit of a transaction that is not irrevocable
 pub commits_over : (mid : Core) (m : List ℕ) → mid.irrevocable ≡ false → length mid.blocks ≡ 1 → is_open (after MAX_OPEN_BLOCKS (stands_for mid m) Commit) ≡ false
 commits_over mid m revocable one =
     ap (λ (b : Bool). is_open (after MAX_OPEN_BLOCKS (state_in b mid.writes mid.blocks mid.arena mid.actions m) Commit)) revocable ∙ ap is_open (commits mid.writes mid.blocks mid.arena mid.actions m one)

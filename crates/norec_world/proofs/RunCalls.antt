@@ -13,7 +13,8 @@ use Rattle.norec_world.proofs.SoundSteps.{IsCalling, active_same, call_taken, en
 use Rattle.norec_world.proofs.Memories.{bytes_stay}
 use Rattle.norec_world.proofs.Laid.{laid_on, laid_same}
 use Rattle.norec_world.proofs.RunTaken.{runs_recorded}
-use Rattle.norec_world.proofs.HeldMoves.{call_held, shut_revocable, step_held}
+use Rattle.norec_world.proofs.HeldMoves.{call_held, step_held}
+use Rattle.norec_core.proofs.HeldStores.{shut_revocable}
 use Rattle.norec_world.proofs.Seen.{HasSeen, call_seen, step_seen}
 use Rattle.norec_world.proofs.Taken.{HasAnswered, recorded, now, still_going}
 use Rattle.norec_world.proofs.RunAnswers.{RunOf, before_on, now_at, run_same}

@@ -14,7 +14,7 @@ use Rattle.norec_world.specs.Opacity.{ran_of}
 use Rattle.tx_attempts.specs.declared.attempt.Outcome.TheVariants as outcomes
 use Rattle.norec_world.proofs.ActiveRows.{row_is_of}
 use Rattle.norec_world.proofs.Cancels.{cancelled, cancels}
-use Rattle.norec_world.proofs.HeldCalls.{CommitsTo, HasHeld, commit_reply, commits_kept, commits_over, stands_actions, stands_arena, stands_mode, wants_taking}
+use Rattle.norec_world.proofs.HeldCalls.{CommitsTo, HasHeld, commit_reply, commits_over, stands_actions, stands_arena, stands_mode, wants_taking}
 use Rattle.norec_world.proofs.RunAnswers.{RunOf, ended_run, now_at, position_bytes, position_fits}
 use Rattle.norec_world.proofs.Seen.{HasSeen, memory_at, same_at}
 use Rattle.norec_world.proofs.AloneCalls.{player_snoc, stands_open}
@@ -50,7 +50,7 @@ module _ {P : Type 0} {rules : Rules P} (laws : Obeys rules) {first : Between P}
     here_now w = (let x = m.taken.moves.frees (m.ends.freed ∙ w) in let is = m.ends.at_is in omega (arith, x.0))
 
     abbrev Parts : Type 0
-    Parts = CommitsTo cells' a.engine call wrote (led (bytes_at base r1.ended at)) × IsMadeAlone rules (run.inside inside).0 (run.inside inside).4.start (run.inside inside).1 (bytes_at base r1.ended at)
+    Parts = CommitsTo cells' a.engine wrote (after MAX_OPEN_BLOCKS (led (bytes_at base r1.ended at)) call) × IsMadeAlone rules (run.inside inside).0 (run.inside inside).4.start (run.inside inside).1 (bytes_at base r1.ended at)
 
     open_parts : mid.irrevocable ≡ false → Parts
     open_parts revocable =
@@ -59,13 +59,14 @@ module _ {P : Type 0} {rules : Rules P} (laws : Obeys rules) {first : Between P}
         let mem = memory_at seen at at_most in
         let stands = stands_led laws t (bytes_at base r1.ended at) words revocable inside mem bytes_same agrees in
         let state : after MAX_OPEN_BLOCKS (stands_for mid words) Commit ≡ after MAX_OPEN_BLOCKS (led (bytes_at base r1.ended at)) call = λ i. after MAX_OPEN_BLOCKS (stands i) (sym m.answered.fits.2 i) in (
-          record {
-            closes = ap is_open (sym state) ∙ commits_over mid words revocable m.ends.outermost;
-            wrote_is = m.ends.wrote_is words mem agrees ∙ ap (λ (s : State). s.wrote) state;
-            arena_is = m.ends.arena_is words ∙ ap (λ (s : State). s.arena) state;
-            actions_is = m.ends.actions_is words ∙ ap (λ (s : State). s.actions) state;
-            memory_is = λ w. ap bytes_of (seen.freed (m.ends.freed ∙ w) revocable ∙ ap (λ (k : ℕ). backed mid (words_at base r.ended k)) (sym (here_now w))) ∙ (m.ends.memory_is words mem agrees ∙ ap (λ (s : State). s.memory) state);
-          },
+          subst (CommitsTo cells' a.engine wrote) state
+              (record {
+                closes = commits_over mid words revocable m.ends.outermost;
+                wrote_is = m.ends.wrote_is words mem agrees;
+                arena_is = m.ends.arena_is words;
+                actions_is = m.ends.actions_is words;
+                memory_is = λ w. ap bytes_of (seen.freed (m.ends.freed ∙ w) revocable ∙ ap (λ (k : ℕ). backed mid (words_at base r.ended k)) (sym (here_now w))) ∙ m.ends.memory_is words mem agrees;
+              }),
           made_so laws t (bytes_at base r1.ended at) words revocable inside mem bytes_same agrees,
         )
 
@@ -76,15 +77,14 @@ module _ {P : Type 0} {rules : Rules P} (laws : Obeys rules) {first : Between P}
         let active = (run.inside inside).3 in
         let comes = held.comes irrevocable row active in
         let same : bytes_at base r1.ended at ≡ bytes_at base r.ended (cells.clock / 2) = still at at_most ∙ ap (bytes_at base r.ended) (here_now comes.1) in
-        let state : after MAX_OPEN_BLOCKS (led (bytes_at base r1.ended at)) call ≡ after MAX_OPEN_BLOCKS (stands_for mid cells'.words) Commit =
-        ap (λ (s : State). after MAX_OPEN_BLOCKS s call) (sym (alone_led laws t (bytes_at base r1.ended at)) ∙ ap (λ (bytes : List ℕ). alone MAX_OPEN_BLOCKS bytes row) same) ∙ held.commits irrevocable row active at wrote refl in
-        let kept = commits_kept mid cells'.words irrevocable m.ends.outermost in (
+        let state : alone MAX_OPEN_BLOCKS (bytes_at base r.ended (cells.clock / 2)) row ≡ led (bytes_at base r1.ended at) = ap (λ (bytes : List ℕ). alone MAX_OPEN_BLOCKS bytes row) (sym same) ∙ alone_led laws t (bytes_at base r1.ended at) in
+        let told = subst (λ (s : State). ComesTo (after MAX_OPEN_BLOCKS s call) (plainly MAX_OPEN_BLOCKS s call) (Answers (Committed at wrote)) a.engine cells'.words) state comes in (
           record {
-            closes = ap is_open (state ∙ kept);
-            wrote_is = comes.1 ∙ sym (ap (λ (s : State). s.wrote) (state ∙ kept));
-            arena_is = m.ends.arena_is cells'.words ∙ ap (λ (s : State). s.arena) (sym state);
-            actions_is = m.ends.actions_is cells'.words ∙ ap (λ (s : State). s.actions) (sym state);
-            memory_is = λ w. sym (ap (λ (s : State). s.memory) (state ∙ kept));
+            closes = told.5;
+            wrote_is = told.1 ∙ sym told.2;
+            arena_is = told.3;
+            actions_is = told.4;
+            memory_is = λ w. sym told.0;
           },
           made_held laws t (bytes_at base r1.ended at) irrevocable (position_fits laws r1 a last call seen run) (position_bytes laws r1 a last call seen run ∙ sym same)
               (ap (λ (bytes : List ℕ). is_open (alone MAX_OPEN_BLOCKS bytes row)) same ∙ held.still_open irrevocable row active),

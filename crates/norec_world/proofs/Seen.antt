@@ -1,24 +1,14 @@
 -- What an engine has seen of the memories that the commits left, over a step or a call.
-use Rattle.std.proofs.Common.{◌≡◌, ◌⊎◌, inl, inr, Option, None, [], take, ℕ, zero, suc, ◌+◌, ◌/◌, ◌%◌, ◌≤◌, ◌==◌, Bool, true, false, if◌then◌else◌, List, length, length-set, Some, refl, sym, ap, subst, ◌∙◌, arith, ◌<◌, slice_get, slice_set, slice_index, eqb-true}
+use Rattle.std.proofs.Common.{◌≡◌, inl, inr, [], take, ℕ, zero, suc, ◌+◌, ◌/◌, ◌%◌, ◌≤◌, ◌==◌, Bool, true, false, if◌then◌else◌, List, length, length-set, Some, refl, sym, ap, subst, ◌∙◌, arith, ◌<◌, slice_get, slice_set, slice_index, eqb-true}
 use Rattle.norec_world.proofs.Common.{Agrees, AreLaid, Call, Cas, Cells, Core, Got, IsLawful, IsMemory, IsTied, Load, Loaded, Rows, Sees, StaysOn, Step, Store, backed, both_ways, bytes_at, bytes_of, came, cells_after, cond-true, found, handed_is, handed_to, in_transaction, is_inside, slice_get-get_or, word_loaded, words_at, write_at}
 use Rattle.norec_core.specs.Proceeds.{Joins, Settles}
 use Rattle.norec_world.proofs.ClockHolders.{freed_by, is_free}
 use Rattle.norec_world.proofs.TiedEngines.{held_even}
 use Rattle.norec_core.proofs.Logs.{agrees_more}
 use Rattle.norec_core.proofs.Logs as logs
+use Rattle.norec_core.proofs.HeldStores.{got_now, got_or}
 use Rattle.norec_core.specs.OwnAccesses.{got_in}
-use Rattle.norec_core.specs.declared.phase.Phase.{Phase}
-use Rattle.norec_core.specs.declared.phase.Phase.TheVariants as at
 use Rattle.write_set.specs.Rows.{overlay}
-
--- what the holder keeps of a word that it loaded: that word, or nothing
-pub got_or : (stage : Phase) (seen : ℕ) → (got_in stage seen ≡ None) ⊎ (got_in stage seen ≡ Some seen)
-got_or (at.Load r) seen = inl refl
-got_or stage seen = inr refl
-
-pub got_now : {seen : ℕ} {word : Option ℕ} (got : Option ℕ) → (got ≡ None) ⊎ (got ≡ Some seen) → word ≡ Some seen → Got got word
-got_now {word = word} got (inl none) e = subst (λ (g : Option ℕ). Got g word) (sym none) tt
-got_now {word = word} got (inr some) e = subst (λ (g : Option ℕ). Got g word) (sym some) e
 
 module _ (memory : ℕ → List ℕ) (cells : Cells) (e : Core) (t : IsTied cells e) (free : cells.clock % 2 ≡ 0 → cells.words ≡ memory (cells.clock / 2)) (fits : IsMemory (length cells.words) (memory (cells.clock / 2))) where
   -- ## The value is handed in
