@@ -12,26 +12,27 @@ crates=$here/crates
 out=$crates/itmrun/out
 work=$out/below
 
-# the libraries below the program, each with those that it names, a line each: first what most others wait for
-# in turn, and of those alike the longest
+# the libraries below the program, each with those that it names, a line each: first what the longest chain of crates up
+# to the program begins with, by their lines
 libraries() {
-    awk '{ sub(/:/, " "); row[NR] = $0; crates[$1] }
+    while read -r name named; do
+        lines=$(cd "$crates/${name%:}" && find src specs proofs -type f -exec cat {} + 2>/dev/null | wc -l)
+        echo "$((lines)) ${name%:} $named"
+    done <"$here/crates.txt" | awk '{ row[NR] = $0; crates[$2] }
     END {
-        height["itmrun"] = 1
+        above["itmrun"] = 0
         for (n = NR; n > 0; n--) {
             last = split(row[n], it)
-            if (!(above = height[it[1]])) continue
-            named = it[1]
-            for (i = 2; i <= last; i++) if (it[i] in crates) {
+            if (!(it[2] in above)) continue
+            height = above[it[2]] + it[1]
+            named = it[2]
+            for (i = 3; i <= last; i++) if (it[i] in crates) {
                 named = named " " it[i]
-                if (height[it[i]] <= above) height[it[i]] = above + 1
+                if (above[it[i]] < height) above[it[i]] = height
             }
-            if (above > 1) print above, named
+            if (it[2] != "itmrun") print height, named
         }
-    }' "$here/crates.txt" | while read -r height name named; do
-        lines=$(cd "$crates/$name" && find src specs proofs -type f -exec cat {} + 2>/dev/null | wc -l)
-        echo "$height $((lines)) $name $named"
-    done | sort -k 1,1nr -k 2,2nr | cut -d ' ' -f 3-
+    }' | sort -k 1,1nr | cut -d ' ' -f 2-
 }
 
 # are_in LIST WORD..: whether each word stands in the list
@@ -112,7 +113,7 @@ while [ "$count" -lt $((total - 1)) ]; do
         are_in "$proved" "$name" || first=${first:-$name}
         are_in "$begun" "$name" || ! are_in "$proved" $named || set -- "$@" "$name"
     done <"$work/libraries"
-    # those that can begin share the processors that are idle; what most others wait for takes most of them anyway
+    # those that can begin share the processors that are idle; what the longest chain waits for takes most of them anyway
     while [ $# -gt 0 ] && { [ "$idle" -gt 0 ] || [ "$1" = "$first" ]; }; do
         jobs=$((idle > $# ? idle / $# : 1))
         [ "$1" != "$first" ] || [ "$jobs" -eq "$most" ] || jobs=$((most - most / 4))
