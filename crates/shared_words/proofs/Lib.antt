@@ -1,0 +1,9 @@
+pub mod ListPlaces
+pub mod StoredWords
+pub mod MetWords
+pub mod GoodSteps
+pub mod PassViews
+pub mod StepViews
+pub mod ViewsFit
+pub mod TableSteps
+pub mod LaidWords

@@ -1,0 +1,298 @@
+-- The first view, a view that is cut in two, two that are joined, and what the only view knows.
+use Rattle.std.proofs.Common.{◌≡◌, ℕ, eqb, zero, suc, ◌+◌, ◌-◌, ◌*◌, ◌<◌, ◌≤◌, ◌≢◌, ◌⊎◌, Bool, true, false, cond, List, [], ◌∷◌, ◌++◌, length, get_or, set, sym, refl, ap, ◌∙◌, subst, inl, inr, ⊎_elim, arith, ltb, lt_of_not-le}
+use mathlib.Core.Option.{some, some-injective}
+use mathlib.Core.Logic.{dite}
+use native.Mathlib.Decide.{ℕ_discrete, dec_le}
+use lib.ListN.{get_elem?}
+use borrow.Author.Tests.{ltb-true, ltb-false}
+use Rattle.std.proofs.lemmas.List.Sums.{sum_by_push, sum_by-append}
+use Rattle.shared_words.specs.declared.view.View.{View}
+use Rattle.itm_types.specs.Memory.{AllFit}
+use Rattle.shared_words.specs.Commits.{stored, after, StartsWith, AllMet}
+use Rattle.shared_words.proofs.MetWords.{all_both}
+use Rattle.shared_words.specs.Views.{opening, spent, cut_left, cut_right, both, longer, holders, times, placed, shares}
+use Rattle.shared_words.specs.Steps.{Joined}
+use Rattle.shared_words.specs.Good.{Fits, clock_of, Good, Ends}
+use Rattle.shared_words.proofs.ListPlaces.{at_snoc, set_else, weigh_set, weigh_le, weigh_alone, starts_le, starts_whole, comparable, same_from}
+use Rattle.shared_words.proofs.GoodSteps.{each_set, hold, share_of, at_place}
+
+Log : Type 0
+Log = List (List (ℕ × ℕ))
+
+only : (m : List ℕ) (j : ℕ) (u : View) → get_elem? (opening m ∷ []) j ≡ some u → Fits m [] [] 0 u
+only m zero u e = subst (λ (x : View). Fits m [] [] 0 x) (some-injective (opening m) u e) record {
+  base_is = λ _. refl;
+  begins = ([], refl);
+  shorter = ([], refl);
+  late = omega arith;
+  long = omega arith;
+  stands = λ _ _. tt;
+  positions = λ p l. absurd (omega arith);
+  holding = λ h. absurd (cc);
+  met = tt;
+  spent = λ z. (refl, refl);
+}
+only m (suc j) u e = absurd (cc)
+
+pub opens : (m : List ℕ) → AllFit m → Good (0 ∷ m) (opening m ∷ [])
+opens m fit = record {
+  base = m;
+  log = [];
+  pending = [];
+  cells_are = refl;
+  one = omega arith;
+  settled = λ _. refl;
+  each = only m;
+  placed_once = λ p l. absurd (omega arith);
+  placed_none = λ p l. refl;
+  whole = refl;
+  base_fits = fit;
+  log_fits = tt;
+  pending_fits = tt;
+}
+
+idle_weight : (b : Bool) → b ≡ false → cond {A = ℕ} b 1 0 ≡ 0
+idle_weight b e = ap (λ (x : Bool). cond {A = ℕ} x 1 0) e
+
+module _ (cells : List ℕ) (views : List View) (g : Good cells views) (id : ℕ) (v : View) (at : get_elem? views id ≡ some v) where
+  abbrev clock : ℕ
+  clock = clock_of g.log views
+
+  abbrev f : Fits g.base g.log g.pending clock v
+  f = g.each id v at
+
+  pub splits : 1 < v.share → Good cells (set views id (cut_left v) ++ cut_right v ∷ [])
+  splits room =
+      let mid : List View = set views id (cut_left v) in
+      let vs : List View = mid ++ cut_right v ∷ [] in
+      let h : holders mid + hold v ≡ holders views + hold v = weigh_set hold views id v (cut_left v) at in
+      let h' : holders vs ≡ holders mid + 0 = sum_by_push hold mid (cut_right v) in
+      let same : holders vs ≡ holders views = omega arith in
+      let c : clock ≡ clock_of g.log vs = ap (λ (n : ℕ). 2 * length g.log + n) (sym same) in
+      let s : shares mid + v.share ≡ shares views + (v.share - 1) = weigh_set share_of views id v (cut_left v) at in
+      let s' : shares vs ≡ shares mid + 1 = sum_by_push share_of mid (cut_right v) in
+      let pl : (p : ℕ) → placed p vs ≡ placed p views = λ p. (
+      let a : placed p mid + times p v.mine ≡ placed p views + times p v.mine = weigh_set (at_place p) views id v (cut_left v) at in
+      let b : placed p vs ≡ placed p mid + 0 = sum_by_push (at_place p) mid (cut_right v) in
+      omega arith) in
+      let one = g.one in
+      let whole = g.whole in
+      let left : Fits g.base g.log g.pending clock (cut_left v) = record {
+        base_is = λ l. f.base_is (omega arith);
+        begins = f.begins;
+        shorter = f.shorter;
+        late = f.late;
+        long = f.long;
+        stands = f.stands;
+        positions = f.positions;
+        holding = f.holding;
+        met = f.met;
+        spent = λ z. absurd (omega arith);
+      } in
+      let right : Fits g.base g.log g.pending clock (cut_right v) = record {
+        base_is = λ l. f.base_is (omega arith);
+        begins = f.begins;
+        shorter = (v.seen, refl);
+        late = f.late;
+        long = f.long;
+        stands = λ _ _. tt;
+        positions = λ p l. absurd (omega arith);
+        holding = λ h. absurd (cc);
+        met = tt;
+        spent = λ z. absurd (omega arith);
+      } in
+      record {
+        base = g.base;
+        log = g.log;
+        pending = g.pending;
+        cells_are = g.cells_are ∙ ap (λ (n : ℕ). n ∷ stored (after g.base g.log) g.pending) c;
+        one = omega arith;
+        settled = λ z. g.settled (sym same ∙ z);
+        each = subst (λ (n : ℕ). (j : ℕ) (u : View) → get_elem? vs j ≡ some u → Fits g.base g.log g.pending n u) c
+            (λ j u e. ⊎_elim (λ (t : get_elem? mid j ≡ some u). each_set (Fits g.base g.log g.pending clock) views id (cut_left v) left (λ i x _ q. g.each i x q) j u t)
+            (λ (t : cut_right v ≡ u). subst (Fits g.base g.log g.pending clock) t right) (at_snoc mid (cut_right v) u j e));
+        placed_once = λ p l. pl p ∙ g.placed_once p l;
+        placed_none = λ p l. pl p ∙ g.placed_none p l;
+        whole = omega arith;
+        base_fits = g.base_fits;
+        log_fits = g.log_fits;
+        pending_fits = g.pending_fits;
+      }
+
+  -- what may be told of a view at any load
+  pub settles : StartsWith v.seen v.shorter × ((p : ℕ) → times p v.mine ≤ 1)
+  settles = (
+    f.shorter,
+    λ p. (let l : times p v.mine ≤ placed p views = weigh_le (at_place p) views id v at in
+        dite (dec_le (length g.log) p) (λ (far : length g.log ≤ p). (let z = g.placed_none p far in let r : times p v.mine ≤ 1 = omega arith in r))
+        (λ (n : length g.log ≤ p → ⊥). (let near : p < length g.log = lt_of_not-le n in let z = g.placed_once p near in let r : times p v.mine ≤ 1 = omega arith in r))),
+  )
+
+  longest : v.share ≡ 128 → (p : ℕ) → placed p views ≡ times p v.mine
+  longest all p = weigh_alone share_of (at_place p) views id v (λ j a e z. ap (times p) ((g.each j a e).spent z).1) at (g.whole ∙ sym all)
+
+  seen_all : v.share ≡ 128 → (n : ℕ) → length g.log ≡ n → n ≤ length v.seen
+  seen_all all zero e = omega arith
+  seen_all all (suc n) e =
+      let p : placed n views ≡ 1 = g.placed_once n (omega arith) in
+      let q : placed n views ≡ times n v.mine = longest all n in
+      let r : n < length v.seen = f.positions n (omega arith) in
+      omega arith
+
+  pub closes : v.share ≡ 128 → v.holds ≡ false → (cells ≡ 2 * length v.seen ∷ after v.base v.seen) × ((p : ℕ) → p < length v.seen → times p v.mine ≡ 1) × ((p : ℕ) → length v.seen ≤ p → times p v.mine ≡ 0)
+  closes all idle =
+      let none : holders views ≡ 0 = weigh_alone share_of hold views id v (λ j a e z. idle_weight a.holds ((g.each j a e).spent z).0) at (g.whole ∙ sym all) ∙ idle_weight v.holds idle in
+      let is : g.log ≡ v.seen = starts_whole g.log v.seen f.begins (seen_all all (length g.log) refl) in
+      let b : v.base ≡ g.base = f.base_is (omega arith) in
+      let len : length g.log ≡ length v.seen = ap length is in
+      let c : clock ≡ 2 * length v.seen = omega arith in (
+        g.cells_are ∙ (ap (λ (p : List (ℕ × ℕ)). clock ∷ stored (after g.base g.log) p) (g.settled none) ∙ (λ i. c i ∷ after (sym b i) (is i))),
+        λ p l. sym (longest all p) ∙ g.placed_once p (omega arith),
+        λ p l. sym (longest all p) ∙ g.placed_none p (omega arith),
+      )
+
+  pub closes_met : v.share ≡ 128 → v.holds ≡ false → AllMet v.base (v.seen ++ [] ∷ []) v.met
+  closes_met all idle =
+      let none : holders views ≡ 0 = weigh_alone share_of hold views id v (λ j a e z. idle_weight a.holds ((g.each j a e).spent z).0) at (g.whole ∙ sym all) ∙ idle_weight v.holds idle in
+      let is : g.log ≡ v.seen = starts_whole g.log v.seen f.begins (seen_all all (length g.log) refl) in
+      let b : v.base ≡ g.base = f.base_is (omega arith) in
+      let none_left : g.pending ≡ [] = g.settled none in
+      let hist : g.log ++ g.pending ∷ [] ≡ v.seen ++ [] ∷ [] = λ i. is i ++ none_left i ∷ [] in
+      subst (λ (l : List ℕ). AllMet l (v.seen ++ [] ∷ []) v.met) (sym b) (subst (λ (l : List (List (ℕ × ℕ))). AllMet g.base l v.met) hist f.met)
+
+  module _ (other : ℕ) (u : View) (apart : other ≢ id) (there : get_elem? views other ≡ some u) where
+    abbrev f' : Fits g.base g.log g.pending clock u
+    f' = g.each other u there
+
+    abbrev Between : Bool → Type 0
+    Between b = StartsWith g.log (longer b v.seen u.seen) × StartsWith (longer b v.seen u.seen) (longer b u.seen v.seen) × (length v.seen ≤ length (longer b v.seen u.seen))
+        × (length u.seen ≤ length (longer b v.seen u.seen)) × (v.seen ≡ g.log → longer b v.seen u.seen ≡ g.log)
+
+    between : (b : Bool) → ltb (length v.seen) (length u.seen) ≡ b → Between b
+    between true e =
+        let less : length v.seen < length u.seen = ltb-true (length v.seen) (length u.seen) e in
+        let le : length u.seen ≤ length g.log = starts_le g.log u.seen f'.begins in
+        (f'.begins, comparable g.log v.seen u.seen f.begins f'.begins (omega arith), omega arith, omega arith, λ is. absurd (let len : length v.seen ≡ length g.log = ap length is in omega arith))
+    between false e =
+        let le : length u.seen ≤ length v.seen = ltb-false (length v.seen) (length u.seen) e in
+        (f.begins, comparable g.log u.seen v.seen f'.begins f.begins le, omega arith, le, λ is. is)
+
+    pub joins : u.holds ≡ false → 0 < v.share → Good cells (set (set views id (both v u)) other spent)
+    joins idle alive =
+        let w : View = both v u in
+        let mid : List View = set views id w in
+        let vs : List View = set mid other spent in
+        let there' : get_elem? mid other ≡ some u = set_else views id other w apart ∙ there in
+        let t = between (ltb (length v.seen) (length u.seen)) refl in
+        let h : holders mid + hold v ≡ holders views + hold v = weigh_set hold views id v w at in
+        let h' : holders vs + hold u ≡ holders mid + 0 = weigh_set hold mid other u spent there' in
+        let z : hold u ≡ 0 = idle_weight u.holds idle in
+        let same : holders vs ≡ holders views = omega arith in
+        let c : clock ≡ clock_of g.log vs = ap (λ (n : ℕ). 2 * length g.log + n) (sym same) in
+        let s : shares mid + v.share ≡ shares views + (v.share + u.share) = weigh_set share_of views id v w at in
+        let s' : shares vs + u.share ≡ shares mid + 0 = weigh_set share_of mid other u spent there' in
+        let sum : (p : ℕ) → times p w.mine ≡ times p v.mine + times p u.mine = λ p. sum_by-append (λ (q : ℕ). cond {A = ℕ} (eqb q p) 1 0) v.mine u.mine in
+        let pl : (p : ℕ) → placed p vs ≡ placed p views = λ p. (
+        let a : placed p mid + times p v.mine ≡ placed p views + times p w.mine = weigh_set (at_place p) views id v w at in
+        let b : placed p vs + times p u.mine ≡ placed p mid + 0 = weigh_set (at_place p) mid other u spent there' in
+        let q = sum p in
+        omega arith) in
+        let one = g.one in
+        let whole = g.whole in
+        let fits : Fits g.base g.log g.pending clock w = record {
+          base_is = λ _. f.base_is alive;
+          begins = t.0;
+          shorter = t.1;
+          late = f.late;
+          long = (let l = f.long in let m = t.2 in omega arith);
+          stands = f.stands;
+          positions = λ p l. (let q = sum p in let a = t.2 in let b = t.3 in dite (ℕ_discrete (times p v.mine) 0)
+              (λ (no : times p v.mine ≡ 0). (let x : p < length u.seen = f'.positions p (omega arith) in let r : p < length w.seen = omega arith in r))
+              (λ (yes : times p v.mine ≢ 0). (let x : p < length v.seen = f.positions p (omega arith) in let r : p < length w.seen = omega arith in r)));
+          met = all_both g.base (g.log ++ g.pending ∷ []) v.met u.met f.met f'.met;
+          holding = λ hv. (let k = f.holding hv in (t.4 k.0, k.1, k.2));
+          spent = λ none. absurd (omega arith);
+        } in
+        let gone : Fits g.base g.log g.pending clock spent = record {
+          base_is = λ l. absurd (omega arith);
+          begins = (g.log, refl);
+          shorter = ([], refl);
+          late = omega arith;
+          long = omega arith;
+          stands = λ _ _. tt;
+          positions = λ p l. absurd (omega arith);
+          holding = λ no. absurd (cc);
+          met = tt;
+          spent = λ _. (refl, refl);
+        } in
+        record {
+          base = g.base;
+          log = g.log;
+          pending = g.pending;
+          cells_are = g.cells_are ∙ ap (λ (n : ℕ). n ∷ stored (after g.base g.log) g.pending) c;
+          one = omega arith;
+          settled = λ none. g.settled (sym same ∙ none);
+          each = subst (λ (n : ℕ). (j : ℕ) (x : View) → get_elem? vs j ≡ some x → Fits g.base g.log g.pending n x) c
+              (each_set (Fits g.base g.log g.pending clock) mid other spent gone (λ j x _ e. each_set (Fits g.base g.log g.pending clock) views id w fits (λ i y _ q. g.each i y q) j x e));
+          placed_once = λ p l. pl p ∙ g.placed_once p l;
+          placed_none = λ p l. pl p ∙ g.placed_none p l;
+          whole = omega arith;
+          base_fits = g.base_fits;
+          log_fits = g.log_fits;
+          pending_fits = g.pending_fits;
+        }
+
+add-one' : (k : ℕ) → suc k ≡ k + 1
+add-one' k = omega arith
+
+read_there : (cells : List ℕ) (clock : ℕ) (words : List ℕ) → get_elem? cells 0 ≡ some clock → ((k : ℕ) → k < length words → get_elem? cells (k + 1) ≡ some (get_or words k 0)) → (k : ℕ) → k < length (clock ∷ words) → get_elem? cells k ≡ some (get_or (clock ∷ words) k 0)
+read_there cells clock words first rest zero l = first
+read_there cells clock words first rest (suc k) l = ap (get_elem? cells) (add-one' k) ∙ rest k (omega arith)
+
+-- cells that were read one by one
+pub read_off : (cells : List ℕ) (clock : ℕ) (words : List ℕ) → get_elem? cells 0 ≡ some clock → length words + 1 ≡ length cells → ((k : ℕ) → k < length words → get_elem? cells (k + 1) ≡ some (get_or words k 0)) → clock ∷ words ≡ cells
+read_off cells clock words first long rest =
+    same_from (clock ∷ words) cells (omega arith) (read_there cells clock words first rest)
+
+-- what the only view knows of cells that were read one by one
+pub ends_of : (cells : List ℕ) (views : List View) → Good cells views → (id : ℕ) (v : View) → get_elem? views id ≡ some v → v.share ≡ 128 → v.holds ≡ false
+    → (clock : ℕ) (words : List ℕ) → get_elem? cells 0 ≡ some clock → length words + 1 ≡ length cells → ((k : ℕ) → k < length words → get_elem? cells (k + 1) ≡ some (get_or words k 0)) → Ends v clock words
+ends_of cells views g id v at all idle clock words first long rest =
+    let t = closes cells views g id v at all idle in
+    let is : cells ≡ 2 * length v.seen ∷ after v.base v.seen = t.0 in
+    let first' : 2 * length v.seen ≡ clock = some-injective (2 * length v.seen) clock (sym (ap (λ (l : List ℕ). get_elem? l 0) is) ∙ first) in
+    let len : length cells ≡ length (2 * length v.seen ∷ after v.base v.seen) = ap length is in
+    record {
+      clock_is = sym first';
+      words_are = same_from words (after v.base v.seen) (omega arith)
+          (λ k l. sym (ap (λ (m : List ℕ). get_elem? m (suc k)) is) ∙ (ap (get_elem? cells) (add-one' k) ∙ rest k l));
+      met = closes_met cells views g id v at all idle;
+      mine = t.1;
+      no_other = t.2;
+    }
+
+one_of : (v u : View) (b : Bool) → StartsWith (longer b v.seen u.seen) (longer b u.seen v.seen)
+    → (StartsWith v.seen u.seen × (longer b v.seen u.seen ≡ v.seen)) ⊎ (StartsWith u.seen v.seen × (longer b v.seen u.seen ≡ u.seen))
+one_of v u true s = inr (s, refl)
+one_of v u false s = inl (s, refl)
+
+-- what a load after the join tells
+pub joined : (v u : View) → StartsWith (both v u).seen (both v u).shorter → ((p : ℕ) → times p (both v u).mine ≤ 1) → Joined v u (both v u)
+joined v u s once = record {
+  longer = one_of v u (ltb (length v.seen) (length u.seen)) s;
+  mine = refl;
+  apart = λ p l. (
+      let sum : times p (v.mine ++ u.mine) ≡ times p v.mine + times p u.mine = sum_by-append (λ (q : ℕ). cond {A = ℕ} (eqb q p) 1 0) v.mine u.mine in
+      let o : times p (v.mine ++ u.mine) ≤ 1 = once p in
+      let z : times p u.mine ≡ 0 = omega arith in
+      z);
+  base = refl;
+  clock = refl;
+  fresh = refl;
+  met = refl;
+  holds = refl;
+  done = refl;
+  steps = refl;
+  looks = refl;
+  share = refl;
+}

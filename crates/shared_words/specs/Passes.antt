@@ -1,0 +1,28 @@
+-- What a clause reads of words and passes.
+use Rattle.std.specs.Prelude.{◌≡◌, ◌≢◌, ◌⊎◌, ℕ, ◌+◌, ◌%◌, ◌<◌, length}
+use Rattle.itm_types.specs.Memory.{AllFit}
+use Rattle.shared_words.specs.Commits.{StoresFit, CommitsFit}
+use Rattle.shared_words.specs.declared.view.View.{View}
+use Rattle.shared_words.specs.declared.words.Words.{Words}
+use Rattle.shared_words.specs.declared.pass.Pass.{Pass}
+
+abbrev pub view_of : Pass → View
+view_of p = p.seat.me.0
+
+abbrev pub cells_of : Words → ℕ
+cells_of w = w.table.shared.table_id.words
+
+-- the view is of so many cells, and each value in it fits 64 bits
+pub record IsOver (cells : ℕ) (v : View) : Type 0 where
+  pub size : length v.base + 1 ≡ cells
+  pub base_fits : AllFit v.base
+  pub seen_fits : CommitsFit v.seen
+  pub done_fits : StoresFit v.done
+
+-- the pass is one of these words
+pub record Owns (w : Words) (p : Pass) : Type 0 where
+  pub same : p.seat.table_id ≡ w.table.shared.table_id
+  pub over : IsOver (cells_of w) (view_of p)
+
+abbrev pub IsWrongSize : ℕ → Type 0
+IsWrongSize n = (n ≡ 0) ⊎ (n % 8 ≢ 0) ⊎ (65536 < n)

@@ -1,0 +1,16 @@
+//! The sequence clock and the shared memory as atomic cells, which threads step through one operation at a time. Each
+//! thread has a pass, whose view says in contracts what the thread knows of the commits.
+#![tactic(auto)]
+
+mod bytes;
+mod fault;
+mod pass;
+mod rule;
+mod view;
+mod words;
+
+pub use fault::WordsFault;
+pub use pass::Pass;
+pub use rule::Core;
+pub use view::View;
+pub use words::{Closed, Words};

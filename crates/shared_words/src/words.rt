@@ -1,0 +1,185 @@
+//! The cells.
+
+ghost use Rattle.std.specs.Prelude.{◌≡◌, ◌+◌, ◌*◌, ◌<◌, ◌≤◌, false, [], length, IfOk, IfErr};
+ghost use Rattle.itm_types.specs.declared.limits.TheConstants.{MAX_MEMORY};
+
+use crate::bytes::words_of;
+use crate::fault::WordsFault;
+use crate::pass::Pass;
+use crate::rule::{Both, Core, Cut, Exchanges, Loads, Settles, Stores};
+use crate::view::View;
+use atomic_table::Table;
+use itm_types::{MAX_MEMORY, MAX_WORDS, Step, put_word};
+use std::alloc::{AllocError, Global};
+
+/// The sequence clock, which is cell 0, and the words of the memory, which follow it in order. Threads share it by `&`.
+#[derive(Drop)]
+pub struct Words {
+    table: Table<u8, View, Vec<u64>, Core, Global>,
+    size: usize,
+    ghost slotless: { table.shared.table_id.slots ≡ 0 },
+    ghost clocked: { 0 < table.shared.table_id.words },
+    ghost sized: { size + 8 ≡ 8 * table.shared.table_id.words },
+    ghost some: { 8 ≤ size },
+    ghost few: { size ≤ MAX_MEMORY },
+}
+
+/// What the words were when they were closed.
+#[derive(Clone, Copy, Debug, PartialEq, Eq)]
+pub struct Closed {
+    /// Twice the number of commits.
+    pub clock: u64,
+}
+
+impl Words {
+    ghost use Rattle.itm_types.specs.Memory.{bytes_of, AllFit};
+    ghost use Rattle.shared_words.specs.Passes.{IsWrongSize, Owns, view_of, cells_of};
+    ghost use Rattle.shared_words.specs.declared.fault.WordsFault.TheVariants.{Length};
+    ghost use Rattle.shared_words.specs.Views.{opening, cut_left, cut_right};
+    ghost use Rattle.shared_words.specs.Good.{Closes, EndsWith};
+    ghost use Rattle.shared_words.specs.Moves.{Moves};
+    ghost use Rattle.shared_words.specs.Steps.{Lawful, Turns, Joined, cell_of};
+
+    fn of_words(alloc: Global, words: &Vec<u64>) -> Result<(Words, Pass), AllocError>
+        requires fit { AllFit words.now.items }
+        requires some { 0 < length words.now.items }
+        requires few { length words.now.items ≤ MAX_WORDS }
+        ensures { IfOk result (λ r. Owns r.0 r.1 × (cells_of r.0 ≡ length words.now.items + 1) × (view_of r.1 ≡ opening words.now.items)) }
+    {
+        let mut cells = Vec::new(alloc);
+        cells.push(0)?;
+        cells.extend_from_slice(words.as_slice())?;
+        let (table, seat) = Table::of_words(alloc, cells.as_slice(), words)?;
+        let pass = Pass {
+            seat,
+            left: 127,
+            busy: false,
+        };
+        let size = 8 * words.len();
+        Ok((Words { table, size }, pass))
+    }
+
+    /// The words of these bytes, 8 to `MAX_MEMORY` of them in whole words, with the clock at 0, and the one pass that
+    /// there is. `Length` where the bytes are no such number, and `Memory` where memory was refused.
+    pub fn new(alloc: Global, bytes: &[u8]) -> Result<(Words, Pass), WordsFault>
+        ensures own { IfOk result (λ r. Owns r.0 r.1) }
+        ensures size { IfOk result (λ r. 8 * cells_of r.0 ≡ length bytes.now + 8) }
+        ensures first { IfOk result (λ r. view_of r.1 ≡ opening (view_of r.1).base) }
+        ensures bytes { IfOk result (λ r. bytes_of (view_of r.1).base ≡ bytes.now) }
+        ensures length { IfErr result (λ f. f ≡ Length → IsWrongSize (length bytes.now)) }
+        ensures wrong { IfErr result (λ f. IsWrongSize (length bytes.now) → f ≡ Length) }
+        ensures right { IfOk result (λ _. ¬ IsWrongSize (length bytes.now)) }
+    {
+        if bytes.len() == 0 || bytes.len() % 8 != 0 || bytes.len() > MAX_MEMORY {
+            return Err(WordsFault::Length);
+        }
+        let Ok(words) = words_of(alloc, bytes) else {
+            return Err(WordsFault::Memory);
+        };
+        let Ok(made) = Words::of_words(alloc, &words) else {
+            return Err(WordsFault::Memory);
+        };
+        Ok(made)
+    }
+
+    /// The size of the memory, in bytes.
+    pub fn size(&self) -> usize
+        ensures cells { result + 8 ≡ 8 * cells_of self.now }
+        ensures some { 8 ≤ result }
+        ensures few { result ≤ MAX_MEMORY }
+    {
+        self.size
+    }
+
+    /// One atomic operation on one cell: tells the value loaded, the value that a compare-exchange met, or 0 for a
+    /// store.
+    pub fn step(&self, pass: &mut Pass, step: Step) -> u64
+        requires own { Owns self.now pass.old }
+        requires cell { cell_of step < cells_of self.now }
+        requires lawful { Lawful (view_of pass.old) step }
+        ensures own { Owns self.now pass.new }
+        ensures turn { Turns (view_of pass.old) step result (view_of pass.new) }
+        ensures moves { Moves (view_of pass.old) step result (view_of pass.new) }
+    {
+        match step {
+            Step::Load(cell) => self
+                .table
+                .shared
+                .load::<Loads>(&mut pass.seat, cell as usize),
+            Step::Store(cell, new) => {
+                self.table
+                    .shared
+                    .store::<Stores>(&mut pass.seat, cell as usize, new);
+                if cell == 0 {
+                    pass.busy = false;
+                }
+                0
+            }
+            Step::Cas(cell, old, new) => {
+                let found = self
+                    .table
+                    .shared
+                    .compare_exchange::<Exchanges>(&mut pass.seat, cell as usize, old, new);
+                if found == old {
+                    pass.busy = true;
+                }
+                found
+            }
+        }
+    }
+
+    /// Cuts a new pass from this one, which has one split less. The new pass has seen what this one has, and holds
+    /// nothing.
+    pub fn split(&self, pass: &mut Pass) -> Pass
+        requires own { Owns self.now pass.old }
+        requires room { 1 < (view_of pass.old).share }
+        ensures own { Owns self.now pass.new × Owns self.now result }
+        ensures first { view_of pass.new ≡ cut_left (view_of pass.old) }
+        ensures second { view_of result ≡ cut_right (view_of pass.old) }
+    {
+        let seat = self.table.shared.split_seat::<Cut>(&mut pass.seat);
+        pass.left -= 1;
+        Pass {
+            seat,
+            left: 0,
+            busy: false,
+        }
+    }
+
+    /// Takes in another pass, which does not hold the clock: what it has seen, its positions and its share.
+    pub fn join(&self, pass: &mut Pass, other: Pass)
+        requires own { Owns self.now pass.old × Owns self.now other }
+        requires idle { (view_of other).holds ≡ false }
+        ensures own { Owns self.now pass.new }
+        ensures joined { Joined (view_of pass.old) (view_of other) (view_of pass.new) }
+    {
+        let Pass {
+            seat,
+            left,
+            busy: _,
+        } = other;
+        self.table.shared.join_seat::<Both>(&mut pass.seat, seat);
+        // a join tells nothing itself: this load tells how the two views lay to each other
+        self.table.shared.load::<Settles>(&mut pass.seat, 0);
+        pass.left += left + 1;
+    }
+
+    /// Gives the bytes of the memory, as many as `size` tells, and the clock, as the rule has them with this pass. With
+    /// the pass that has the whole share these are the bytes that all commits have left.
+    pub fn close(self, pass: Pass, bytes: &mut [u8]) -> Closed
+        requires own { Owns self pass }
+        requires size { length bytes.old + 8 ≡ 8 * cells_of self }
+        ensures cells { Closes (view_of pass) result.clock bytes.new }
+        ensures whole { (view_of pass).share ≡ 128 → (view_of pass).holds ≡ false → EndsWith (view_of pass) result.clock bytes.new }
+    {
+        let Words { table, size: _ } = self;
+        let closed = table.close_with(pass.seat);
+        let clock = closed.word(0);
+        let count = bytes.len() / 8;
+        for i in 0..count {
+            put_word(bytes, 8 * i, closed.word(i + 1));
+        }
+        closed.free();
+        Closed { clock }
+    }
+}
