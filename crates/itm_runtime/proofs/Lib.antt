@@ -1,0 +1,12 @@
+pub mod CallsInHand
+pub mod CallComes
+pub mod NextViews
+pub mod ValueHanded
+pub mod HeldSteps
+pub mod CallOver
+pub mod RoomLeft
+pub mod Tries
+pub mod LastLoads
+pub mod CallAnswers
+pub mod StepToStep
+pub mod ThreadUndone

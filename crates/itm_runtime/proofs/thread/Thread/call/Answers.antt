@@ -1,0 +1,20 @@
+use Rattle.std.proofs.Common.{false, subst}
+use Rattle.shared_words.specs.Passes.{view_of}
+use Rattle.itm_runtime.specs.Served.{Start, Served}
+use Rattle.itm_runtime.specs.Standing.{Standing, start_of}
+use Rattle.itm_runtime.proofs.StepToStep.{starts}
+use Rattle.itm_runtime.proofs.thread.Thread.call.Goals as goal
+
+pub drive-requires-clause-due : goal.drive-requires-clause-due
+drive-requires-clause-due c =
+    let r = c.in_ok-next.ensures in (
+      record { view = view_of c.self.inside.pass; engine = c.self.inside.engine; call = c.args.call.now; again = false },
+      starts (view_of c.self.inside.pass) c.self.inside.engine c.call.new.self c.args.call.now false c.self.invariant r.stays r.settled r.asks r.order r.tries r.count c.in_ok-next.next r.at_once r.proceeds r.held,
+    )
+
+pub returns-clause-served : goal.returns-clause-served
+returns-clause-served c =
+    let r = c.in_ok-next.ensures in
+    let s : Start = record { view = view_of c.self.inside.pass; engine = c.self.inside.engine; call = c.args.call.now; again = false } in
+    let d = starts (view_of c.self.inside.pass) c.self.inside.engine c.call.new.self c.args.call.now false c.self.invariant r.stays r.settled r.asks r.order r.tries r.count c.in_ok-next.next r.at_once r.proceeds r.held in
+    subst (λ (t : Standing). Served (start_of t c.args.call.now false) c.drive.result (view_of c.drive.new.pass) c.drive.new.engine) c.self.view_is (c.drive.ensures.served s d)

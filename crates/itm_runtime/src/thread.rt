@@ -1,0 +1,198 @@
+//! A thread that runs transactions.
+
+ghost use Rattle.std.specs.Prelude.{◌≡◌, ◌-◌, ◌<◌, ◌≤◌, false, true, [], IsOk, IfOk, IfErr, OnOk, OnErr};
+ghost use Rattle.norec_core.specs.Core.{opening, in_transaction};
+ghost use Rattle.norec_core.specs.Proceeds.{IsUndone, MayStarve};
+ghost use Rattle.norec_core.specs.Undoing.{after_undoing, undone_of};
+ghost use Rattle.shared_words.specs.Passes.{Owns, view_of, cells_of};
+ghost use Rattle.itm_runtime.specs.Ties.{Stands};
+ghost use Rattle.itm_runtime.specs.Served.{Served};
+ghost use Rattle.itm_runtime.specs.Standing.{start_of};
+
+use crate::drive::drive;
+use itm_types::{Call, Limits, MAX_COMMITS, MAX_PATIENCE, Props, Ran};
+use norec_core::{Answer, Undone};
+use norec_engine::Engine;
+use shared_words::{Pass, Words};
+use std::alloc::{AllocError, Global};
+use std::marker::Model;
+use undo_log::Arena;
+
+/// The transactions of one thread over shared words, one after the other.
+///
+/// Each call takes the atomic steps that it needs, and returns its answer. Between two calls the clock is held only
+/// where the transaction is irrevocable: a thread that is dropped then leaves it odd for ever, and no other one commits.
+#[derive(Drop)]
+pub struct Thread {
+    pass: Pass,
+    engine: Engine,
+}
+
+impl Model for Thread {
+    ghost use Rattle.itm_runtime.specs.Standing.{Standing};
+
+    ghost Value = { Standing };
+
+    ghost use Rattle.shared_words.specs.Passes.{view_of};
+    ghost use Rattle.itm_runtime.specs.Ties.{Stands};
+
+    ghost view = { λ t. record { pass = t.pass; engine = t.engine } };
+
+    ghost invariant = { λ t. Stands (view_of t.pass) t.engine };
+}
+
+impl Thread {
+    /// A thread outside a transaction, with its arena, over the words that own the pass.
+    pub fn new(alloc: Global, words: &Words, pass: Pass, arena: Arena, limits: Limits) -> Thread
+        requires own { Owns words.now pass }
+        requires idle { (view_of pass).holds ≡ false }
+        requires patience { (0 < limits.patience) × (limits.patience ≤ MAX_PATIENCE) }
+        requires commits { (0 < limits.max_commits) × (limits.max_commits ≤ MAX_COMMITS) }
+        ensures pass { result.pass ≡ pass }
+        ensures engine { result.engine ≡ opening (cells_of words.now - 1) arena limits.patience limits.max_commits }
+        ensures stands { Stands (view_of result.pass) result.engine }
+    {
+        let count = (words.size() / 8) as u32;
+        let engine = Engine::new(alloc, count, arena, limits);
+        Thread { pass, engine }
+    }
+
+    /// An outermost block begins, `again` where an earlier try of it got past its begin; inside a transaction this is
+    /// `call` (Intel TM ABI 1.1, section 5.10).
+    pub fn begin(
+        &mut self,
+        words: &Words,
+        props: Props,
+        room: u32,
+        again: bool,
+    ) -> Result<Answer, AllocError>
+        requires own { Owns words.now self.old.pass }
+        ensures own { Owns words.now self.new.pass }
+        ensures served { IfOk result (λ a. Served (start_of self.old (Call.Begin props room) again) a (view_of self.new.pass) self.new.engine) }
+        ensures stands { Stands (view_of self.new.pass) self.new.engine }
+        ensures err { OnErr result (self.new ≡ self.old) }
+        ensures starves { OnErr result (MayStarve self.old.engine (Call.Begin props room)) }
+    {
+        let next = self.engine.begin(props, room, again)?;
+        Ok(drive(words, &mut self.pass, &mut self.engine, next))
+    }
+
+    /// Any call of the interface.
+    pub fn call(&mut self, words: &Words, call: &Call) -> Result<Answer, AllocError>
+        requires own { Owns words.now self.old.pass }
+        ensures own { Owns words.now self.new.pass }
+        ensures served { IfOk result (λ a. Served (start_of self.old call.now false) a (view_of self.new.pass) self.new.engine) }
+        ensures stands { Stands (view_of self.new.pass) self.new.engine }
+        ensures err { OnErr result (self.new ≡ self.old) }
+        ensures starves { OnErr result (MayStarve self.old.engine call.now) }
+    {
+        let next = self.engine.call(call)?;
+        Ok(drive(words, &mut self.pass, &mut self.engine, next))
+    }
+
+    /// The innermost block ends; with the outermost one the transaction commits (section 5.12). Takes no memory.
+    pub fn commit(&mut self, words: &Words) -> Answer
+        requires own { Owns words.now self.old.pass }
+        ensures own { Owns words.now self.new.pass }
+        ensures served { Served (start_of self.old Call.Commit false) result (view_of self.new.pass) self.new.engine }
+        ensures stands { Stands (view_of self.new.pass) self.new.engine }
+    {
+        match self.call(words, &Call::Commit) {
+            Ok(answer) => answer,
+            Err(_) => unreachable!(),
+        }
+    }
+
+    /// The innermost block is cancelled, or with `outer` all that are open (section 5.13). Takes no memory.
+    pub fn cancel(&mut self, words: &Words, outer: bool) -> Answer
+        requires own { Owns words.now self.old.pass }
+        ensures own { Owns words.now self.new.pass }
+        ensures served { Served (start_of self.old (Call.Abort outer) false) result (view_of self.new.pass) self.new.engine }
+        ensures stands { Stands (view_of self.new.pass) self.new.engine }
+    {
+        match self.call(words, &Call::Abort { outer }) {
+            Ok(answer) => answer,
+            Err(_) => unreachable!(),
+        }
+    }
+
+    /// The transaction becomes irrevocable, with room for as many commit actions.
+    pub fn irrevocable(&mut self, words: &Words, room: u32) -> Result<Answer, AllocError>
+        requires own { Owns words.now self.old.pass }
+        ensures own { Owns words.now self.new.pass }
+        ensures served { IfOk result (λ a. Served (start_of self.old (Call.Mode room) false) a (view_of self.new.pass) self.new.engine) }
+        ensures stands { Stands (view_of self.new.pass) self.new.engine }
+        ensures err { OnErr result (self.new ≡ self.old) }
+        ensures starves { OnErr result (MayStarve self.old.engine (Call.Mode room)) }
+    {
+        self.call(words, &Call::Mode { room })
+    }
+
+    /// Gives the transaction up, where one is open: every open block is rolled back. While the clock is held, nothing is
+    /// changed. Takes no memory and no step.
+    pub fn abort(&mut self) -> Undone
+        ensures undone { result ≡ undone_of self.old.engine }
+        ensures pass { self.new.pass ≡ self.old.pass }
+        ensures engine { self.new.engine ≡ after_undoing self.old.engine }
+        ensures closed { self.old.engine.irrevocable ≡ false → in_transaction self.new.engine ≡ false }
+        ensures stands { Stands (view_of self.new.pass) self.new.engine }
+        ensures rolled_back { self.old.engine.irrevocable ≡ false → IsUndone self.old.engine self.new.engine }
+    {
+        self.engine.abort()
+    }
+
+    /// The even clock value at which the transaction reads, after its end the last one.
+    pub fn snapshot(&self) -> u64
+        ensures value { result ≡ self.now.engine.snapshot }
+        ensures stands { Stands (view_of self.now.pass) self.now.engine }
+    {
+        self.engine.snapshot()
+    }
+
+    /// The number of atomic steps of the last call.
+    pub fn spent(&self) -> u128
+        ensures { result ≡ self.now.engine.spent }
+    {
+        self.engine.spent()
+    }
+
+    /// The thread's private bytes.
+    pub fn arena(&self) -> &Arena
+        ensures { result.now ≡ self.now.engine.arena }
+    {
+        self.engine.arena()
+    }
+
+    /// The actions of the transaction that have come to run, in order. The begin of the next one forgets them.
+    pub fn due(&self) -> &[Ran]
+        ensures { result.now ≡ self.now.engine.actions.ran }
+    {
+        self.engine.due()
+    }
+
+    /// Forgets the actions that have come to run. Takes no memory.
+    pub fn clear_due(&mut self)
+        ensures pass { self.new.pass ≡ self.old.pass }
+        ensures engine { self.new.engine ≡ record self.old.engine { actions = record self.old.engine.actions { ran = [] } } }
+        ensures stands { Stands (view_of self.new.pass) self.new.engine }
+    {
+        self.engine.clear_due();
+    }
+
+    /// The pass and the arena. A transaction that is open is rolled back first; who wants the actions that are due by it
+    /// calls `abort` and reads `due` before. While the clock is held, the thread comes back as it was. Takes no memory.
+    pub fn into_parts(mut self) -> Result<(Pass, Arena), Thread>
+        ensures ok { self.engine.irrevocable ≡ false → IsOk result }
+        ensures held { IfErr result (λ t. t ≡ self) }
+        ensures still { OnErr result (self.engine.irrevocable ≡ true) }
+        ensures pass { IfOk result (λ r. r.0 ≡ self.pass) }
+        ensures idle { IfOk result (λ r. (view_of r.0).holds ≡ false) }
+        ensures arena { IfOk result (λ r. r.1 ≡ (after_undoing self.engine).arena) }
+    {
+        if let Undone::Held = self.engine.abort() {
+            return Err(self);
+        }
+        let Thread { pass, engine } = self;
+        Ok((pass, engine.into_arena()))
+    }
+}
