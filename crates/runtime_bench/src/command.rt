@@ -1,0 +1,135 @@
+//! The program's words.
+
+ghost use Rattle.std.specs.Prelude.{◌≡◌, ◌<◌, ◌≤◌, IfOk};
+
+use crate::fault::Fault;
+use crate::measure::{Outcome, is_right, measure};
+use crate::worker::Task;
+use crate::workload::{WORKLOADS, name_of, named};
+use clap::error::ErrorKind;
+use clap::{Arg, ArgAction, ArgMatches, Command};
+use itm_types::MAX_WORDS;
+use std::alloc::{AllocError, Global};
+use std::env;
+use std::num::nearest_u64_to_f64;
+use std::rt::{Clock, Env};
+use std::thread::Threads;
+
+/// How many commits a check makes.
+const COMMITS: u64 = 300;
+
+/// What is measured, how often at once, and for how long.
+#[derive(Drop)]
+struct Order {
+    task: Task,
+    threads: u8,
+    milliseconds: u64,
+    ghost some: { 0 < threads },
+    ghost few: { threads ≤ 8 },
+}
+
+/// A place for one word, which has to be there.
+fn place<'a>(alloc: Global, name: &'a str) -> Arg<'a> {
+    Arg::new(alloc, name).required(true).action(ArgAction::Set)
+}
+
+fn command_line<'a>(alloc: Global) -> Result<Command<'a>, AllocError> {
+    Command::new(alloc, "runtime_bench")
+        .disable_help_flag(true)
+        .disable_version_flag(true)
+        .arg(place(alloc, "workload"))?
+        .arg(place(alloc, "threads"))?
+        .arg(place(alloc, "size"))?
+        .arg(place(alloc, "milliseconds"))
+}
+
+fn fault_of(kind: ErrorKind) -> Fault {
+    match kind {
+        ErrorKind::OutOfMemory => Fault::Memory,
+        _ => Fault::Usage,
+    }
+}
+
+/// What stands in the places of the command line.
+fn places_of<'a>(alloc: Global, words: &'a [String]) -> Result<ArgMatches<'a>, Fault> {
+    let line = command_line(alloc)?;
+    line.try_get_matches_from(words)
+        .map_err(|error| fault_of(error.kind()))
+}
+
+fn order_of(alloc: Global, words: &[String]) -> Result<Order, Fault> {
+    let places = places_of(alloc, words)?;
+    let name = places.get_str("workload").ok_or(Fault::Usage)?;
+    let workload = named(name).ok_or(Fault::Usage)?;
+    let threads = places.get_one::<u8>("threads").ok_or(Fault::Usage)?;
+    let size = places.get_one::<u64>("size").ok_or(Fault::Usage)?;
+    let milliseconds = places.get_one("milliseconds").ok_or(Fault::Usage)?;
+    if threads == 0 || threads > 8 || size == 0 || size > MAX_WORDS as u64 {
+        return Err(Fault::Usage);
+    }
+    let task = Task {
+        workload,
+        size,
+        count: 0,
+    };
+    Ok(Order {
+        task,
+        threads,
+        milliseconds,
+    })
+}
+
+/// Prints what was measured.
+fn report<R: Print>(rt: &R, order: &Order, outcome: &Outcome) -> Result<(), Fault> {
+    let workload = name_of(order.task.workload);
+    let threads = order.threads;
+    let size = order.task.size;
+    let commits = outcome.tally.commits;
+    let attempts = outcome.tally.attempts;
+    let seconds = outcome.took.as_secs_f64();
+    let rate = nearest_u64_to_f64(commits) / seconds;
+    println!(rt; "{workload} {threads} {size} {commits} {attempts} {seconds:.3} {rate:.0}")?;
+    Ok(())
+}
+
+/// Measures what the words ask for.
+fn obey<R: Threads + Clock + AllocGlobal + Print + Sync>(
+    rt: &R,
+    words: &[String],
+) -> Result<(), Fault> {
+    let order = order_of(rt.alloc(), words)?;
+    let outcome = measure(rt, order.threads, &order.task, order.milliseconds)?;
+    if !is_right(&order.task, &outcome) {
+        return Err(Fault::Wrong);
+    }
+    report(rt, &order, &outcome)
+}
+
+/// Runs each workload for some commits on one thread, and prints what they came to.
+fn check<R: Threads + Clock + AllocGlobal + Print + Sync>(rt: &R) -> Result<(), Fault> {
+    for workload in WORKLOADS {
+        let task = Task {
+            workload,
+            size: 16,
+            count: COMMITS,
+        };
+        let outcome = measure(rt, 1, &task, 0)?;
+        let name = name_of(workload);
+        let commits = outcome.tally.commits;
+        let attempts = outcome.tally.attempts;
+        let clock = outcome.clock;
+        let sum = outcome.sum;
+        println!(rt; "{name}: {commits} commits in {attempts} attempts, clock {clock}, sum {sum}")?;
+    }
+    Ok(())
+}
+
+/// Does what the program's words say.
+pub fn run<R: Env + Threads + Clock + AllocGlobal + Print + Sync>(rt: &R) -> Result<(), Fault> {
+    let words: Vec<String> = env::args(rt)?.collect(rt.alloc())?;
+    if words.len() < 2 {
+        check(rt)
+    } else {
+        obey(rt, words.as_slice())
+    }
+}

@@ -1,0 +1,19 @@
+//! How many transactions a second threads run over shared words: `runtime_bench WORKLOAD THREADS SIZE MILLISECONDS`.
+//! With no words it runs some of each workload on one thread, and prints what they came to.
+#![tactic(auto)]
+
+mod command;
+mod crowd;
+mod fault;
+mod measure;
+mod worker;
+mod workload;
+
+use std::process::ExitCode;
+
+fn main(rt: HostRuntime) -> ExitCode {
+    match command::run(&rt) {
+        Ok(()) => ExitCode::SUCCESS,
+        Err(fault) => ExitCode::from(fault::tell(&rt, fault)),
+    }
+}

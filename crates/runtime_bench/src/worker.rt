@@ -1,0 +1,162 @@
+//! One thread, which runs transactions until it is told to stop.
+
+ghost use Rattle.std.specs.Prelude.{◌≡◌, ◌<◌, false, IfOk};
+ghost use Rattle.shared_words.specs.Passes.{Owns, view_of};
+
+use crate::fault::Fault;
+use crate::workload::{Block, Workload, work};
+use itm_runtime::Thread;
+use itm_types::{Limits, MAX_COMMITS, MAX_WORDS, Props};
+use norec_core::Answer;
+use shared_words::{Pass, Words};
+use std::alloc::{AllocError, Global};
+use std::hint::spin_loop;
+use std::sync::atomic::{AtomicBool, Ordering};
+use undo_log::Arena;
+
+const LIMITS: Limits = Limits {
+    patience: 8,
+    retries: 0,
+    max_commits: MAX_COMMITS,
+};
+
+/// What all threads do.
+#[derive(Clone, Copy)]
+pub struct Task {
+    pub workload: Workload,
+    /// How many words each transaction is about, or chooses among.
+    pub size: u64,
+    /// How many transactions each thread commits, or 0 where only the time ends them.
+    pub count: u64,
+}
+
+/// What threads did.
+#[derive(Clone, Copy)]
+pub struct Tally {
+    pub commits: u64,
+    pub attempts: u64,
+}
+
+/// A pass that has come back, and what was done with it.
+pub type Worked = Result<(Pass, Tally), Fault>;
+
+/// How an attempt ended.
+#[derive(Clone, Copy, PartialEq, Eq)]
+enum End {
+    Committed,
+    /// It began, and was rolled back.
+    RolledBack,
+    /// It did not begin.
+    Outside,
+}
+
+/// Tries a transaction once, `again` where an earlier try of it began.
+fn attempt(
+    words: &Words,
+    thread: &mut Thread,
+    block: &Block,
+    again: bool,
+) -> Result<End, AllocError>
+    requires own { Owns words.now thread.old.pass }
+    ensures own { Owns words.now thread.new.pass }
+{
+    let Answer::Reply(_) = thread.begin(words, Props::default(), 0, again)? else {
+        return Ok(End::Outside);
+    };
+    if !work(words, thread, block)? {
+        return Ok(End::RolledBack);
+    }
+    match thread.commit(words) {
+        Answer::Committed { .. } => Ok(End::Committed),
+        _ => Ok(End::RolledBack),
+    }
+}
+
+/// The number after this one in a row that looks random.
+fn next(number: u64) -> u64 {
+    let mut number = number;
+    number ^= number << 13;
+    number ^= number >> 7;
+    number ^= number << 17;
+    number
+}
+
+/// The transaction that comes after so many, and the random number after those that it took.
+fn draw(task: &Task, random: u64, done: u64) -> (Block, u64) {
+    let size = task.size.min(MAX_WORDS as u64);
+    let bound = match task.workload {
+        Workload::ReadOnly => MAX_WORDS as u64 - size + 1,
+        _ => size.max(1),
+    };
+    let first = next(random);
+    let second = next(first);
+    let block = Block {
+        workload: task.workload,
+        size,
+        first: first % bound,
+        second: second % bound,
+        value: done.wrapping_add(1),
+    };
+    (block, second)
+}
+
+/// Runs transactions until it is told to stop, or has committed as many as the task has.
+fn run(
+    words: &Words,
+    thread: &mut Thread,
+    task: &Task,
+    seed: u64,
+    stop: &AtomicBool,
+) -> Result<Tally, AllocError>
+    requires own { Owns words.now thread.old.pass }
+    ensures own { Owns words.now thread.new.pass }
+{
+    let mut tally = Tally {
+        commits: 0,
+        attempts: 0,
+    };
+    let (mut block, mut random) = draw(task, seed, 0);
+    let mut again = false;
+    for _ in 0..u64::MAX {
+        if stop.load(Ordering::SeqCst) || (task.count > 0 && tally.commits == task.count) {
+            break;
+        }
+        tally.attempts = tally.attempts.wrapping_add(1);
+        match attempt(words, thread, &block, again)? {
+            End::Committed => {
+                tally.commits = tally.commits.wrapping_add(1);
+                (block, random) = draw(task, random, tally.commits);
+                again = false;
+            }
+            End::RolledBack => {
+                again = true;
+                spin_loop();
+            }
+            End::Outside => spin_loop(),
+        }
+    }
+    Ok(tally)
+}
+
+/// One thread with this pass.
+pub fn serve(
+    alloc: Global,
+    words: &Words,
+    pass: Pass,
+    task: &Task,
+    seed: u64,
+    stop: &AtomicBool,
+) -> Worked
+    requires own { Owns words.now pass }
+    requires idle { (view_of pass).holds ≡ false }
+    ensures own { IfOk result (λ r. Owns words.now r.0) }
+    ensures idle { IfOk result (λ r. (view_of r.0).holds ≡ false) }
+{
+    let arena = Arena::new(alloc, 0)?;
+    let mut thread = Thread::new(alloc, words, pass, arena, LIMITS);
+    let tally = run(words, &mut thread, task, seed, stop)?;
+    match thread.into_parts() {
+        Ok((pass, _)) => Ok((pass, tally)),
+        Err(_) => Err(Fault::Held),
+    }
+}

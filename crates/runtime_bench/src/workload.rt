@@ -1,0 +1,172 @@
+//! What one transaction does.
+
+ghost use Rattle.std.specs.Prelude.{◌≡◌};
+ghost use Rattle.shared_words.specs.Passes.{Owns};
+
+use itm_runtime::Thread;
+use itm_types::{Call, Datum, MAX_WORDS, ReadHint, Reply, Width, WriteHint};
+use norec_core::Answer;
+use shared_words::Words;
+use std::alloc::AllocError;
+
+/// What each transaction does.
+#[derive(Clone, Copy, Debug, PartialEq, Eq)]
+pub enum Workload {
+    /// Adds 1 to word 0.
+    Counter,
+    /// Moves 1 between two random words of so many.
+    Transfer,
+    /// Reads so many words from a random one on.
+    ReadOnly,
+    /// Writes so many words, from word 0 on.
+    Writes,
+}
+
+/// Each of them.
+pub const WORKLOADS: [Workload; 4] = [
+    Workload::Counter,
+    Workload::Transfer,
+    Workload::ReadOnly,
+    Workload::Writes,
+];
+
+/// The word by which it is called.
+pub fn name_of(workload: Workload) -> &'static str {
+    match workload {
+        Workload::Counter => "counter",
+        Workload::Transfer => "transfer",
+        Workload::ReadOnly => "readonly",
+        Workload::Writes => "writes",
+    }
+}
+
+/// The workload of this name.
+pub fn named(name: &str) -> Option<Workload> {
+    match name {
+        "counter" => Some(Workload::Counter),
+        "transfer" => Some(Workload::Transfer),
+        "readonly" => Some(Workload::ReadOnly),
+        "writes" => Some(Workload::Writes),
+        _ => None,
+    }
+}
+
+/// One transaction: tried again, it does the same.
+#[derive(Clone, Copy)]
+pub struct Block {
+    pub workload: Workload,
+    /// How many words it is about.
+    pub size: u64,
+    /// Two random words.
+    pub first: u64,
+    pub second: u64,
+    /// What is written.
+    pub value: u64,
+}
+
+/// The place of a word.
+fn place_of(word: u64) -> u64 {
+    8 * (word % MAX_WORDS as u64)
+}
+
+/// The word of these bytes, the low one first.
+pub fn word_of(bytes: &[u8]) -> u64 {
+    match bytes {
+        [a, b, c, d, e, f, g, h] => u64::from_le_bytes([*a, *b, *c, *d, *e, *f, *g, *h]),
+        _ => 0,
+    }
+}
+
+/// The value of a word, where the transaction is still open.
+fn get(words: &Words, thread: &mut Thread, word: u64) -> Result<Option<u64>, AllocError>
+    requires own { Owns words.now thread.old.pass }
+    ensures own { Owns words.now thread.new.pass }
+{
+    let call = Call::Read {
+        hint: ReadHint::R,
+        width: Width::U8,
+        at: place_of(word),
+    };
+    match thread.call(words, &call)? {
+        Answer::Reply(Reply::Bytes(bytes)) => Ok(Some(word_of(bytes.as_slice()))),
+        _ => Ok(None),
+    }
+}
+
+/// Writes a word; whether the transaction is still open.
+fn put(words: &Words, thread: &mut Thread, word: u64, value: u64) -> Result<bool, AllocError>
+    requires own { Owns words.now thread.old.pass }
+    ensures own { Owns words.now thread.new.pass }
+{
+    let call = Call::Write {
+        hint: WriteHint::W,
+        at: place_of(word),
+        value: Datum::new(Width::U8, &value.to_le_bytes()),
+    };
+    match thread.call(words, &call)? {
+        Answer::Reply(_) => Ok(true),
+        _ => Ok(false),
+    }
+}
+
+/// Adds to a word; whether the transaction is still open.
+fn add(words: &Words, thread: &mut Thread, word: u64, more: u64) -> Result<bool, AllocError>
+    requires own { Owns words.now thread.old.pass }
+    ensures own { Owns words.now thread.new.pass }
+{
+    match get(words, thread, word)? {
+        Some(value) => put(words, thread, word, value.wrapping_add(more)),
+        None => Ok(false),
+    }
+}
+
+/// Moves 1 from the one word to the other; whether the transaction is still open.
+fn shift(words: &Words, thread: &mut Thread, from: u64, to: u64) -> Result<bool, AllocError>
+    requires own { Owns words.now thread.old.pass }
+    ensures own { Owns words.now thread.new.pass }
+{
+    if add(words, thread, from, u64::MAX)? {
+        add(words, thread, to, 1)
+    } else {
+        Ok(false)
+    }
+}
+
+/// Reads so many words; whether the transaction is still open.
+fn get_all(words: &Words, thread: &mut Thread, from: u64, size: u64) -> Result<bool, AllocError>
+    requires own { Owns words.now thread.old.pass }
+    ensures own { Owns words.now thread.new.pass }
+{
+    for number in 0..size {
+        if get(words, thread, from.wrapping_add(number))?.is_none() {
+            return Ok(false);
+        }
+    }
+    Ok(true)
+}
+
+/// Writes so many words; whether the transaction is still open.
+fn put_all(words: &Words, thread: &mut Thread, size: u64, value: u64) -> Result<bool, AllocError>
+    requires own { Owns words.now thread.old.pass }
+    ensures own { Owns words.now thread.new.pass }
+{
+    for word in 0..size {
+        if !put(words, thread, word, value)? {
+            return Ok(false);
+        }
+    }
+    Ok(true)
+}
+
+/// What stands between the begin and the commit; whether the transaction is still open.
+pub fn work(words: &Words, thread: &mut Thread, block: &Block) -> Result<bool, AllocError>
+    requires own { Owns words.now thread.old.pass }
+    ensures own { Owns words.now thread.new.pass }
+{
+    match block.workload {
+        Workload::Counter => add(words, thread, 0, 1),
+        Workload::Transfer => shift(words, thread, block.first, block.second),
+        Workload::ReadOnly => get_all(words, thread, block.first, block.size),
+        Workload::Writes => put_all(words, thread, block.size, block.value),
+    }
+}
