@@ -2,7 +2,7 @@
 
 use crate::{ReadFault, ReadKind, read};
 use std::test::Fail;
-use tx_history::{Stream, put_history};
+use tx_history::write_history;
 
 /// Each kind of line, of call and of reply.
 const TEXT: &[u8] = b"itm-history 1
@@ -41,19 +41,13 @@ final 1 0100000000000000
 fn read_back(rt: HostRuntime) -> Result<(), Fail> {
     let history = read(rt.alloc(), TEXT)?;
     let mut text = Vec::new(rt.alloc());
-    let mut stream = Stream {
-        writer: &mut text,
-        failed: false,
-        error: None,
-    };
-    put_history(
-        &mut stream,
+    write_history(
+        &mut text,
         history.memory.as_slice(),
         history.attempts.as_slice(),
         history.clock,
         history.bytes.as_slice(),
-    );
-    assert!(rt; !stream.failed);
+    )?;
     assert_eq!(rt; text.as_slice(), TEXT);
     Ok(())
 }

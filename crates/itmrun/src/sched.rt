@@ -22,9 +22,24 @@ use script_asm::AsmFault;
 use script_program::{MAX_TEXT, Program};
 use script_vm::Script;
 use std::alloc::Global;
+use std::io;
 use std::io::{Read, Write};
 use text_commands::{Failure, read_program};
-use tx_history::{Stream, put_history};
+use tx_history::write_history;
+
+/// Writes the history of a world, and hands on what the writer holds back.
+fn put_world<W: Write>(writer: &mut W, world: &World<Script<'_>>) -> io::Result<()>
+    ensures { Writes (W.contents writer.old) (W.contents writer.new) result (history_text (history_of world.now)) }
+{
+    write_history(
+        writer,
+        world.base(),
+        world.attempts(),
+        world.clock(),
+        world.bytes(),
+    )?;
+    writer.flush()
+}
 
 /// Writes the history of a world.
 fn write_world<W: Write>(writer: &mut W, world: &World<Script<'_>>) -> Result<(), Failure<AsmFault>>
@@ -34,23 +49,8 @@ fn write_world<W: Write>(writer: &mut W, world: &World<Script<'_>>) -> Result<()
     ensures opaque { AreOpaque thread_rules (observed world.now) }
     ensures tied { AreTied thread_rules world.now }
 {
-    let mut stream = Stream {
-        writer,
-        failed: false,
-        error: None,
-    };
-    put_history(
-        &mut stream,
-        world.base(),
-        world.attempts(),
-        world.clock(),
-        world.bytes(),
-    );
-    if stream.failed {
-        Err(Failure::Writing)
-    } else {
-        Ok(())
-    }
+    let _events = world.events();
+    put_world(writer, world).map_err(|_| Failure::Writing)
 }
 
 /// Runs a program and writes its history.

@@ -1,3 +1,4 @@
 pub mod TextPieces
+pub mod Pages
 pub mod AppendedTexts
 pub mod WorkedLines

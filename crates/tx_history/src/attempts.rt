@@ -1,7 +1,7 @@
 //! The lines of attempts.
 
 ghost use Rattle.std.specs.Prelude.{◌≡◌, flat_map};
-ghost use Rattle.tx_history.specs.Spelling.{Grows};
+ghost use Rattle.tx_history.specs.Spelling.{Grows, sheet};
 ghost use Rattle.tx_history.specs.Histories.{outcome_name, try_text, props_end, head_line, arena_line, call_line, kind_text, ran_line, attempt_lines};
 
 use crate::bodies::{put_body, put_reply};
@@ -28,8 +28,8 @@ fn outcome_name(outcome: Outcome) -> &'static [u8]
 
 fn put_try<W: Write>(stream: &mut Stream<'_, W>, attempt: &Attempt)
     ensures same { stream.new.writer.ghost_name ≡ stream.old.writer.ghost_name }
-    ensures grows { Grows stream.old.failed (W.contents stream.old.writer.now) stream.new.failed
-        (W.contents stream.new.writer.now) (try_text attempt.now) }
+    ensures grows { Grows (sheet W.contents stream.old) (sheet W.contents stream.new)
+        (try_text attempt.now) }
 {
     stream.text(b"attempt ");
     stream.number(u64::from(attempt.thread));
@@ -43,8 +43,8 @@ fn put_try<W: Write>(stream: &mut Stream<'_, W>, attempt: &Attempt)
 
 fn put_props<W: Write>(stream: &mut Stream<'_, W>, props: Props)
     ensures same { stream.new.writer.ghost_name ≡ stream.old.writer.ghost_name }
-    ensures grows { Grows stream.old.failed (W.contents stream.old.writer.now) stream.new.failed
-        (W.contents stream.new.writer.now) (props_end props) }
+    ensures grows { Grows (sheet W.contents stream.old) (sheet W.contents stream.new)
+        (props_end props) }
 {
     stream.text(b" ");
     stream.text(props_text(props).as_bytes());
@@ -53,18 +53,18 @@ fn put_props<W: Write>(stream: &mut Stream<'_, W>, props: Props)
 
 fn put_head<W: Write>(stream: &mut Stream<'_, W>, attempt: &Attempt)
     ensures same { stream.new.writer.ghost_name ≡ stream.old.writer.ghost_name }
-    ensures grows { Grows stream.old.failed (W.contents stream.old.writer.now) stream.new.failed
-        (W.contents stream.new.writer.now) (head_line attempt.now) }
+    ensures grows { Grows (sheet W.contents stream.old) (sheet W.contents stream.new)
+        (head_line attempt.now) }
 {
     put_try(stream, attempt);
     put_props(stream, attempt.props);
 }
 
-#[tactic(auto, unfolding(crate::specs::Histories::arena_line), using(crate::proofs::AppendedTexts::grows_as))]
+#[tactic(auto, unfolding(crate::specs::Histories::arena_line), using(crate::proofs::Pages::grows_as))]
 fn put_arena<W: Write>(stream: &mut Stream<'_, W>, bytes: &[u8])
     ensures same { stream.new.writer.ghost_name ≡ stream.old.writer.ghost_name }
-    ensures grows { Grows stream.old.failed (W.contents stream.old.writer.now) stream.new.failed
-        (W.contents stream.new.writer.now) (arena_line bytes.now) }
+    ensures grows { Grows (sheet W.contents stream.old) (sheet W.contents stream.new)
+        (arena_line bytes.now) }
 {
     if bytes.is_empty() {
         stream.text(b"arena -\n");
@@ -79,8 +79,8 @@ fn put_arena<W: Write>(stream: &mut Stream<'_, W>, bytes: &[u8])
 
 pub fn put_call<W: Write>(stream: &mut Stream<'_, W>, entry: &Entry)
     ensures same { stream.new.writer.ghost_name ≡ stream.old.writer.ghost_name }
-    ensures grows { Grows stream.old.failed (W.contents stream.old.writer.now) stream.new.failed
-        (W.contents stream.new.writer.now) (call_line entry.now) }
+    ensures grows { Grows (sheet W.contents stream.old) (sheet W.contents stream.new)
+        (call_line entry.now) }
 {
     stream.text(b"call ");
     put_body(stream, &entry.call);
@@ -92,8 +92,8 @@ pub fn put_call<W: Write>(stream: &mut Stream<'_, W>, entry: &Entry)
 #[tactic(auto, using(crate::proofs::AppendedTexts::grows_none, crate::proofs::AppendedTexts::grows_call))]
 fn put_calls<W: Write>(stream: &mut Stream<'_, W>, calls: &[Entry])
     ensures same { stream.new.writer.ghost_name ≡ stream.old.writer.ghost_name }
-    ensures grows { Grows stream.old.failed (W.contents stream.old.writer.now) stream.new.failed
-        (W.contents stream.new.writer.now) (flat_map call_line calls.now) }
+    ensures grows { Grows (sheet W.contents stream.old) (sheet W.contents stream.new)
+        (flat_map call_line calls.now) }
 {
     for entry in calls {
         put_call(stream, entry);
@@ -110,11 +110,11 @@ fn kind_text(kind: ActionKind) -> &'static [u8]
 }
 
 /// An action that has run.
-#[tactic(auto, unfolding(crate::specs::Histories::ran_line), using(crate::proofs::AppendedTexts::grows_as))]
+#[tactic(auto, unfolding(crate::specs::Histories::ran_line), using(crate::proofs::Pages::grows_as))]
 fn put_ran<W: Write>(stream: &mut Stream<'_, W>, ran: Ran)
     ensures same { stream.new.writer.ghost_name ≡ stream.old.writer.ghost_name }
-    ensures grows { Grows stream.old.failed (W.contents stream.old.writer.now) stream.new.failed
-        (W.contents stream.new.writer.now) (ran_line ran) }
+    ensures grows { Grows (sheet W.contents stream.old) (sheet W.contents stream.new)
+        (ran_line ran) }
 {
     stream.put(&[
         Piece::Text(b"ran "),
@@ -130,8 +130,8 @@ fn put_ran<W: Write>(stream: &mut Stream<'_, W>, ran: Ran)
 #[tactic(auto, using(crate::proofs::AppendedTexts::grows_no_ran, crate::proofs::AppendedTexts::grows_ran))]
 pub fn put_all_ran<W: Write>(stream: &mut Stream<'_, W>, all: &[Ran])
     ensures same { stream.new.writer.ghost_name ≡ stream.old.writer.ghost_name }
-    ensures grows { Grows stream.old.failed (W.contents stream.old.writer.now) stream.new.failed
-        (W.contents stream.new.writer.now) (flat_map ran_line all.now) }
+    ensures grows { Grows (sheet W.contents stream.old) (sheet W.contents stream.new)
+        (flat_map ran_line all.now) }
 {
     for ran in all {
         put_ran(stream, *ran);
@@ -140,8 +140,8 @@ pub fn put_all_ran<W: Write>(stream: &mut Stream<'_, W>, all: &[Ran])
 
 pub fn put_attempt<W: Write>(stream: &mut Stream<'_, W>, attempt: &Attempt)
     ensures same { stream.new.writer.ghost_name ≡ stream.old.writer.ghost_name }
-    ensures grows { Grows stream.old.failed (W.contents stream.old.writer.now) stream.new.failed
-        (W.contents stream.new.writer.now) (attempt_lines attempt.now) }
+    ensures grows { Grows (sheet W.contents stream.old) (sheet W.contents stream.new)
+        (attempt_lines attempt.now) }
 {
     put_head(stream, attempt);
     put_arena(stream, attempt.arena.as_slice());
@@ -153,8 +153,8 @@ pub fn put_attempt<W: Write>(stream: &mut Stream<'_, W>, attempt: &Attempt)
 #[tactic(auto, using(crate::proofs::AppendedTexts::grows_no_attempt, crate::proofs::AppendedTexts::grows_attempt))]
 pub fn put_attempts<W: Write>(stream: &mut Stream<'_, W>, attempts: &[Attempt])
     ensures same { stream.new.writer.ghost_name ≡ stream.old.writer.ghost_name }
-    ensures grows { Grows stream.old.failed (W.contents stream.old.writer.now) stream.new.failed
-        (W.contents stream.new.writer.now) (flat_map attempt_lines attempts.now) }
+    ensures grows { Grows (sheet W.contents stream.old) (sheet W.contents stream.new)
+        (flat_map attempt_lines attempts.now) }
 {
     for attempt in attempts {
         put_attempt(stream, attempt);

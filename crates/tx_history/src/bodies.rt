@@ -4,7 +4,7 @@ ghost use Rattle.std.specs.Prelude.{◌≡◌, ◌++◌, codes, decimal};
 ghost use Rattle.hex.specs.Hex.{encode_lower};
 ghost use Rattle.itm_types.specs.Names.{name_of};
 ghost use Rattle.itm_types.specs.declared.entry.Entry.{Entry};
-ghost use Rattle.tx_history.specs.Spelling.{Grows};
+ghost use Rattle.tx_history.specs.Spelling.{Grows, sheet};
 ghost use Rattle.tx_history.specs.Histories.{copy_text, fill_text, commit_action_text, undo_action_text, body_text, reply_text};
 
 use crate::pieces::Piece;
@@ -16,8 +16,8 @@ use std::io::Write;
 /// An entry point, and the first byte that it is called for.
 fn put_at<W: Write>(stream: &mut Stream<'_, W>, function: Function, at: u64)
     ensures same { stream.new.writer.ghost_name ≡ stream.old.writer.ghost_name }
-    ensures grows { Grows stream.old.failed (W.contents stream.old.writer.now) stream.new.failed
-        (W.contents stream.new.writer.now) (name_of function ++ codes " " ++ decimal at) }
+    ensures grows { Grows (sheet W.contents stream.old) (sheet W.contents stream.new)
+        (name_of function ++ codes " " ++ decimal at) }
 {
     stream.text(name_of(function).as_bytes());
     stream.text(b" ");
@@ -27,8 +27,7 @@ fn put_at<W: Write>(stream: &mut Stream<'_, W>, function: Function, at: u64)
 /// A write: the first byte that is written, and what is written.
 fn put_write<W: Write>(stream: &mut Stream<'_, W>, hint: WriteHint, at: u64, value: &Datum)
     ensures same { stream.new.writer.ghost_name ≡ stream.old.writer.ghost_name }
-    ensures grows { Grows stream.old.failed (W.contents stream.old.writer.now) stream.new.failed
-        (W.contents stream.new.writer.now)
+    ensures grows { Grows (sheet W.contents stream.old) (sheet W.contents stream.new)
         (name_of (Entry.Write hint value.now.width) ++ codes " " ++ decimal at ++ codes " " ++ encode_lower value.now.bytes.items) }
 {
     put_at(stream, Function::Write(hint, value.width), at);
@@ -37,11 +36,11 @@ fn put_write<W: Write>(stream: &mut Stream<'_, W>, hint: WriteHint, at: u64, val
 }
 
 /// A copy: where it writes, where it reads, and how many bytes.
-#[tactic(auto, unfolding(crate::specs::Histories::copy_text), using(crate::proofs::AppendedTexts::grows_as))]
+#[tactic(auto, unfolding(crate::specs::Histories::copy_text), using(crate::proofs::Pages::grows_as))]
 fn put_copy<W: Write>(stream: &mut Stream<'_, W>, copying: Copying)
     ensures same { stream.new.writer.ghost_name ≡ stream.old.writer.ghost_name }
-    ensures grows { Grows stream.old.failed (W.contents stream.old.writer.now) stream.new.failed
-        (W.contents stream.new.writer.now) (copy_text copying) }
+    ensures grows { Grows (sheet W.contents stream.old) (sheet W.contents stream.new)
+        (copy_text copying) }
 {
     let function = Function::Copy {
         moves: copying.moves,
@@ -59,11 +58,11 @@ fn put_copy<W: Write>(stream: &mut Stream<'_, W>, copying: Copying)
 }
 
 /// A fill: where it writes, the byte that it sets, and how many.
-#[tactic(auto, unfolding(crate::specs::Histories::fill_text), using(crate::proofs::AppendedTexts::grows_as))]
+#[tactic(auto, unfolding(crate::specs::Histories::fill_text), using(crate::proofs::Pages::grows_as))]
 fn put_fill<W: Write>(stream: &mut Stream<'_, W>, hint: WriteHint, to: u64, byte: u64, size: u64)
     ensures same { stream.new.writer.ghost_name ≡ stream.old.writer.ghost_name }
-    ensures grows { Grows stream.old.failed (W.contents stream.old.writer.now) stream.new.failed
-        (W.contents stream.new.writer.now) (fill_text hint to byte size) }
+    ensures grows { Grows (sheet W.contents stream.old) (sheet W.contents stream.new)
+        (fill_text hint to byte size) }
 {
     stream.put(&[
         Piece::Text(name_of(Function::Fill(hint)).as_bytes()),
@@ -77,11 +76,11 @@ fn put_fill<W: Write>(stream: &mut Stream<'_, W>, hint: WriteHint, to: u64, byte
 }
 
 /// An action that runs once the transaction has committed.
-#[tactic(auto, unfolding(crate::specs::Histories::commit_action_text), using(crate::proofs::AppendedTexts::grows_as))]
+#[tactic(auto, unfolding(crate::specs::Histories::commit_action_text), using(crate::proofs::Pages::grows_as))]
 fn put_commit_action<W: Write>(stream: &mut Stream<'_, W>, action: Action)
     ensures same { stream.new.writer.ghost_name ≡ stream.old.writer.ghost_name }
-    ensures grows { Grows stream.old.failed (W.contents stream.old.writer.now) stream.new.failed
-        (W.contents stream.new.writer.now) (commit_action_text action) }
+    ensures grows { Grows (sheet W.contents stream.old) (sheet W.contents stream.new)
+        (commit_action_text action) }
 {
     stream.put(&[
         Piece::Text(b"_ITM_addUserCommitAction "),
@@ -92,11 +91,11 @@ fn put_commit_action<W: Write>(stream: &mut Stream<'_, W>, action: Action)
 }
 
 /// An action that runs where its block is rolled back.
-#[tactic(auto, unfolding(crate::specs::Histories::undo_action_text), using(crate::proofs::AppendedTexts::grows_as))]
+#[tactic(auto, unfolding(crate::specs::Histories::undo_action_text), using(crate::proofs::Pages::grows_as))]
 fn put_undo_action<W: Write>(stream: &mut Stream<'_, W>, action: Action)
     ensures same { stream.new.writer.ghost_name ≡ stream.old.writer.ghost_name }
-    ensures grows { Grows stream.old.failed (W.contents stream.old.writer.now) stream.new.failed
-        (W.contents stream.new.writer.now) (undo_action_text action) }
+    ensures grows { Grows (sheet W.contents stream.old) (sheet W.contents stream.new)
+        (undo_action_text action) }
 {
     stream.put(&[
         Piece::Text(b"_ITM_addUserUndoAction "),
@@ -106,11 +105,11 @@ fn put_undo_action<W: Write>(stream: &mut Stream<'_, W>, action: Action)
     ]);
 }
 
-#[tactic(auto, unfolding(crate::specs::Histories::body_text), using(crate::proofs::AppendedTexts::grows_as))]
+#[tactic(auto, unfolding(crate::specs::Histories::body_text), using(crate::proofs::Pages::grows_as))]
 pub fn put_body<W: Write>(stream: &mut Stream<'_, W>, call: &Call)
     ensures same { stream.new.writer.ghost_name ≡ stream.old.writer.ghost_name }
-    ensures grows { Grows stream.old.failed (W.contents stream.old.writer.now) stream.new.failed
-        (W.contents stream.new.writer.now) (body_text call.now) }
+    ensures grows { Grows (sheet W.contents stream.old) (sheet W.contents stream.new)
+        (body_text call.now) }
 {
     match call {
         Call::Begin { props, .. } => stream.put(&[
@@ -162,11 +161,11 @@ pub fn put_body<W: Write>(stream: &mut Stream<'_, W>, call: &Call)
     }
 }
 
-#[tactic(auto, unfolding(crate::specs::Histories::reply_text), using(crate::proofs::AppendedTexts::grows_as))]
+#[tactic(auto, unfolding(crate::specs::Histories::reply_text), using(crate::proofs::Pages::grows_as))]
 pub fn put_reply<W: Write>(stream: &mut Stream<'_, W>, reply: &Reply)
     ensures same { stream.new.writer.ghost_name ≡ stream.old.writer.ghost_name }
-    ensures grows { Grows stream.old.failed (W.contents stream.old.writer.now) stream.new.failed
-        (W.contents stream.new.writer.now) (reply_text reply.now) }
+    ensures grows { Grows (sheet W.contents stream.old) (sheet W.contents stream.new)
+        (reply_text reply.now) }
 {
     match reply {
         Reply::Done => stream.text(b"ok"),

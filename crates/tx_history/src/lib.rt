@@ -12,5 +12,4 @@ mod tests;
 
 pub use history::History;
 pub use pieces::{Piece, put_pieces};
-pub use rows::{Row, put_history, write_row};
-pub use stream::Stream;
+pub use rows::{Row, write_history, write_row};

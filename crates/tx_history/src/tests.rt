@@ -14,13 +14,9 @@ use tx_attempts::{Attempt, Bytes, Calls, Entry, Outcome, RanActions};
 /// This call with this reply has this line.
 fn expect(rt: &impl Abort, alloc: Global, call: Call, reply: Reply, line: &[u8]) {
     let mut text = Vec::new(alloc);
-    let mut stream = Stream {
-        writer: &mut text,
-        failed: false,
-        error: None,
-    };
+    let mut stream = Stream::new(&mut text);
     put_call(&mut stream, &Entry { call, reply });
-    assert!(rt; !stream.failed);
+    assert!(rt; stream.close().is_ok());
     assert_eq!(rt; text.as_slice(), line);
 }
 
@@ -123,14 +119,10 @@ fn actions(rt: HostRuntime) -> Result<(), Fail> {
         action: Action { fun, arg },
     });
     let mut text = Vec::new(rt.alloc());
-    let mut stream = Stream {
-        writer: &mut text,
-        failed: false,
-        error: None,
-    };
+    let mut stream = Stream::new(&mut text);
     put_all_ran(&mut stream, &ran);
     put_all_ran(&mut stream, &[]);
-    assert!(rt; !stream.failed);
+    assert!(rt; stream.close().is_ok());
     let lines =
         b"ran undo 3 0\nran undo 2 18446744073709551615\nran commit 9 0\nran commit 4294967295 10\n";
     assert_eq!(rt; text.as_slice(), lines.as_slice());

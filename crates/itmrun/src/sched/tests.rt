@@ -151,7 +151,7 @@ fn fails_in_turn(
         let mut writer = Meagre {
             taken: Vec::new(alloc),
             writes,
-            most: usize::MAX,
+            most: 16,
             fails,
         };
         let mut errors = Vec::new(alloc);
@@ -201,7 +201,7 @@ fn meagre_writers(rt: HostRuntime) {
         (b"no script", 2, b"itmrun: "),
         (
             endings::TWO_GAVE_UP,
-            10,
+            9,
             b"itmrun: thread 0 gave up\nitmrun: ",
         ),
     ];

@@ -1,9 +1,9 @@
 use Rattle.std.proofs.Common.{◌≡◌}
 use Rattle.std.proofs.Common.{take}
 use Rattle.std.specs.List.{flat_map}
-use Rattle.tx_history.specs.Spelling.{Grows}
+use Rattle.tx_history.specs.Spelling.{Grows, sheet}
 use Rattle.tx_history.specs.Histories.{ran_line}
 use Rattle.tx_history.proofs.attempts.put_all_ran.Given as goal
 
 abbrev pub invariant-loop-ran : goal.invariant-loop-ran
-invariant-loop-ran g l = record { same : l.stream.writer.ghost_name ≡ l.fn.stream.writer.ghost_name; grows : Grows l.fn.stream.failed (g.W.Write.contents l.fn.stream.writer.now) l.stream.failed (g.W.Write.contents l.stream.writer.now) (flat_map ran_line (take l.ran-index l.all)) }
+invariant-loop-ran g l = record { same : l.stream.writer.ghost_name ≡ l.fn.stream.writer.ghost_name; grows : Grows (sheet g.W.Write.contents l.fn.stream) (sheet g.W.Write.contents l.stream) (flat_map ran_line (take l.ran-index l.all)) }

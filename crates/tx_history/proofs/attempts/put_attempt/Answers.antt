@@ -1,5 +1,5 @@
 use Rattle.tx_history.specs.Histories.{attempt_lines}
-use Rattle.tx_history.proofs.AppendedTexts.{grows_then}
+use Rattle.tx_history.proofs.Pages.{grows_then}
 use Rattle.tx_history.proofs.attempts.put_attempt.Goals as goal
 
 pub returns-clause-grows : goal.returns-clause-grows
@@ -8,4 +8,4 @@ returns-clause-grows g c =
     let written_arena = rw c.as_slice.ensures at c.put_arena.ensures.grows in
     let written_calls = rw c.as_slice-2.ensures at c.put_calls.ensures.grows in
     let written_ran = rw c.as_slice-3.ensures at c.put_all_ran.ensures.grows in
-    grows_then _ _ _ _ _ _ _ _ (grows_then _ _ _ _ _ _ _ _ (grows_then _ _ _ _ _ _ _ _ (grows_then _ _ _ _ _ _ _ _ c.put_head.ensures.grows written_arena) written_calls) written_ran) c.text.ensures.grows
+    grows_then _ _ _ _ _ (grows_then _ _ _ _ _ (grows_then _ _ _ _ _ (grows_then _ _ _ _ _ c.put_head.ensures.grows written_arena) written_calls) written_ran) c.text.ensures.grows

@@ -1,10 +1,11 @@
 use Rattle.std.specs.Prelude.{codes}
 use Rattle.tx_history.specs.Histories.{commit_action_text}
-use Rattle.tx_history.proofs.AppendedTexts.{grows_as, numbers_spelled}
+use Rattle.tx_history.proofs.AppendedTexts.{numbers_spelled}
+use Rattle.tx_history.proofs.Pages.{grows_as}
 use Rattle.tx_history.proofs.bodies.put_commit_action.Goals as goal
 
 pub returns-clause-grows : goal.returns-clause-grows
 unfolding commit_action_text
 returns-clause-grows g c =
-    grows_as _ _ _ _ _ _ c.put.ensures.grows
+    grows_as _ _ _ _ c.put.ensures.grows
     (numbers_spelled (codes "_ITM_addUserCommitAction ") (codes " _ITM_noTransactionId ") _ _ _ c.from.ensures)

@@ -1,7 +1,7 @@
-use Rattle.tx_history.proofs.AppendedTexts.{grows_then}
+use Rattle.tx_history.proofs.Pages.{grows_then}
 use Rattle.tx_history.proofs.bodies.put_write.Goals as goal
 
 pub returns-clause-grows : goal.returns-clause-grows
 returns-clause-grows g c =
     let value = rw c.as_slice.ensures.value at c.hex.ensures.grows in
-    grows_then _ _ _ _ _ _ _ _ (grows_then _ _ _ _ _ _ _ _ c.put_at.ensures.grows c.text.ensures.grows) value
+    grows_then _ _ _ _ _ (grows_then _ _ _ _ _ c.put_at.ensures.grows c.text.ensures.grows) value

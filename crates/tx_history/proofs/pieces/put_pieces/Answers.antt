@@ -1,8 +1,9 @@
-use Rattle.std.proofs.lemmas.Result.{err_from_is_err_and}
-use Rattle.tx_history.proofs.TextPieces.{pieces_stop}
+use Rattle.std.proofs.Common.{ap, sym, ◌∙◌}
+use Rattle.tx_history.proofs.Pages.{closes}
 use Rattle.tx_history.proofs.pieces.put_pieces.Goals as goal
 
-pub returns-in_err-put_piece : goal.returns-in_err-put_piece
-returns-in_err-put_piece g c =
-    let p = err_from_is_err_and c.from_residual.result c.from_residual.ensures.1 in
-    rw p.1 (pieces_stop _ _ _ c.args.pieces.now c.loop-piece.piece-index _ c.loop-piece-test.true c.loop-piece.invariant c.in_err-put_piece.ensures)
+pub returns : goal.returns
+returns g c =
+    let name = sym (c.close.ensures.same ∙ c.put.ensures.same ∙ c.new-stream.ensures.same) in
+    closes _ _ c.close.result _ _ _ _ c.put.ensures.grows c.close.ensures.grows c.new-stream.ensures.nothing.1 c.new-stream.ensures.nothing.0 c.close.ensures.told c.close.ensures.page
+    (ap g.W.Write.contents (sym c.new-stream.ensures.writer)) (ap g.W.Write.contents (c.writer-1.given.1 name))

@@ -1,0 +1,9 @@
+use Rattle.std.proofs.Common.{arith}
+use Rattle.std.proofs.lemmas.Grind.{common_steps}
+use Rattle.tx_history.specs.Histories.{copy_text}
+use Rattle.tx_history.proofs.Pages.{grows_as}
+use Rattle.tx_history.proofs.bodies.put_copy.Goals as goal
+
+pub returns-clause-grows : goal.returns-clause-grows
+unfolding copy_text
+returns-clause-grows g c = grows_as _ _ _ _ c.put.ensures.grows (grind (arith, common_steps, c.as_bytes.ensures.value, c.name_of.ensures))
