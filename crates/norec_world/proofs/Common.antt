@@ -31,7 +31,7 @@ pub use Rattle.norec_core.specs.declared.answer.Answer.{Answer}
 pub use Rattle.norec_core.specs.declared.answer.Next.TheVariants.{Answer as Answers, Step as Asks}
 pub use Rattle.norec_core.specs.declared.answer.Next.{Next}
 pub use Rattle.norec_world.specs.Actors.{AreActors}
-pub use Rattle.norec_world.specs.Alone.{IsAlone, player_then, state_then}
+pub use Rattle.tx_attempts.specs.Alone.{IsAlone, player_then, state_then}
 pub use Rattle.tx_attempts.specs.Attempts.{ClosedBy, alone, committed_at, is_at, is_committed, memory_left, of_thread, pair_of}
 pub use Rattle.norec_world.specs.Cells.{Cells, cells_after, found}
 pub use Rattle.norec_world.specs.ClockHolder.{ClocksOn, HoldsOn}
@@ -43,7 +43,7 @@ pub use Rattle.norec_world.specs.LocalWork.{Acts, Starves, Works}
 pub use Rattle.norec_world.specs.LogAgreement.{AreLaid, Loaded, Sees}
 pub use Rattle.norec_world.specs.Memories.{words_at}
 pub use Rattle.norec_world.specs.Moments.{HasWorked}
-pub use Rattle.norec_world.specs.Opacity.{Beginning, Between, EndsAs, IsOpaque, IsRunOf, IsTryAt, LacksClock, after_try, takes_clock, answered_all, begin_code, begin_of, begin_within, follows}
+pub use Rattle.tx_attempts.specs.Opacity.{Beginning, Between, EndsAs, IsOpaque, IsRunOf, IsTryAt, LacksClock, after_try, takes_clock, answered_all, begin_code, begin_of, begin_within, follows}
 pub use Rattle.norec_world.specs.Headline.{AreCounted, AreOfActors, AreOpaque, bytes_at, first_of}
 pub use Rattle.norec_world.specs.Tied.{AreTied}
 pub use Rattle.norec_world.specs.OthersAttempts.{AllOf, ChangesOwn, KeepsOthers, count_pending}

@@ -10,7 +10,8 @@ use Rattle.norec_core.specs.Stands.{state_in}
 use Rattle.norec_core.specs.Proceeds.{actions_after, blocks_after}
 use Rattle.user_actions.specs.Actions.{Actions}
 use Rattle.norec_core.proofs.AnsweredEngines.{told_plainly}
-use Rattle.norec_world.proofs.AloneCalls.{alone_snoc, player_snoc, state_snoc, stands_open}
+use Rattle.tx_attempts.proofs.AloneCalls.{alone_snoc, player_snoc, state_snoc}
+use Rattle.norec_world.proofs.OpenEngines.{stands_open}
 
 -- a memory that may have been read may have been read before too
 reads_less : (position : List ℕ) (b c : Bool) (log log' : List LogRow) (m : List ℕ) → b ≡ c → (b ≡ false → Agrees m log' → Agrees m log) → ReadsFrom b position log' m → ReadsFrom c position log m
@@ -152,7 +153,7 @@ module _ {P : Type 0} {rules : Rules P} (laws : Obeys rules) {position : List �
               let replied : r ≡ reply MAX_OPEN_BLOCKS (state_then MAX_OPEN_BLOCKS (state m) row.calls) call =
               g.reply_is m memory agrees ∙ (ap (λ (a : Bool). recoded call a (reply MAX_OPEN_BLOCKS (stands_for mid m) call)) t.anew
               ∙ (told_plainly call (reply MAX_OPEN_BLOCKS (stands_for mid m) call) ∙ ap (λ (s : State). reply MAX_OPEN_BLOCKS s call) stands)) in
-              alone_more laws begun p (state m) row.calls (record { call = call; reply = r }) (t.alone m memory (agree_reads position mid.irrevocable mid.log m g.revocable old)) (ap is_open (sym stands) ∙ stands_open rules laws mid m inside) t.player asks replied);
+              alone_more laws begun p (state m) row.calls (record { call = call; reply = r }) (t.alone m memory (agree_reads position mid.irrevocable mid.log m g.revocable old)) (ap is_open (sym stands) ∙ stands_open mid m inside) t.player asks replied);
           stands = λ e m mem agrees.
               (let memory : IsMemory mid.words m = subst (λ (n : ℕ). IsMemory n m) words mem in
               g.meets m memory agrees ∙ (ap (λ (s : State). after MAX_OPEN_BLOCKS s call) (t.stands g.revocable m memory (less m agrees)) ∙ sym (state_snoc MAX_OPEN_BLOCKS (state m) row.calls (record { call = call; reply = r }))));

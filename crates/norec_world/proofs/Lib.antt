@@ -36,6 +36,6 @@ pub mod LessLeft
 pub mod Worked
 pub mod Worlds
 pub mod WorldEvents
-pub mod AloneCalls
+pub mod OpenEngines
 pub mod EventWorlds
 pub mod Dates

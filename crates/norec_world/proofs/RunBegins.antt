@@ -6,13 +6,13 @@ use Rattle.itm_model.specs.Machine.{answer, in_arena, irrevocable_from, or_else,
 use Rattle.itm_types.specs.declared.call.Refusal.TheVariants.{NoIrrevocable}
 use Rattle.norec_core.specs.Core.{may_go}
 use Rattle.norec_core.specs.Proceeds.{IsLost, blocks_after}
-use Rattle.norec_world.specs.Opacity.{stays_outside}
+use Rattle.tx_attempts.specs.Opacity.{stays_outside}
 use Rattle.itm_types.specs.Access.{size_of}
 use Rattle.itm_types.specs.declared.call.Call.TheVariants.{Load, Save}
 use Rattle.norec_world.specs.Records.{again_after}
 use Rattle.norec_world.proofs.ActiveRows.{opened_here}
 use Rattle.norec_world.proofs.RunAnswers.{now_at, run_same}
-use Rattle.norec_world.proofs.AloneCalls.{comes_past}
+use Rattle.tx_attempts.proofs.AloneCalls.{comes_past}
 use Rattle.norec_world.proofs.TryEnds.{none_pending, begin_call, next_try, begun_or_not, plain_reply}
 use Rattle.norec_world.proofs.Seen.{HasSeen, memory_at, same_at}
 use Rattle.norec_world.proofs.Taken.{HasAnswered, half_same, still_going}

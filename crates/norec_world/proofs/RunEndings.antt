@@ -10,14 +10,15 @@ use Rattle.norec_core.specs.Held.{ComesTo}
 use Rattle.norec_core.specs.Proceeds.{Conflicts, WantsClock}
 use Rattle.norec_core.specs.Stands.{state_in}
 use Rattle.tx_attempts.specs.Attempts.{ClosedBy}
-use Rattle.norec_world.specs.Opacity.{ran_of}
+use Rattle.tx_attempts.specs.Opacity.{ran_of}
 use Rattle.tx_attempts.specs.declared.attempt.Outcome.TheVariants as outcomes
 use Rattle.norec_world.proofs.ActiveRows.{row_is_of}
 use Rattle.norec_world.proofs.Cancels.{cancelled, cancels}
 use Rattle.norec_world.proofs.HeldCalls.{CommitsTo, HasHeld, commit_reply, commits_over, stands_actions, stands_arena, stands_mode, wants_taking}
 use Rattle.norec_world.proofs.RunAnswers.{RunOf, ended_run, now_at, position_bytes, position_fits}
 use Rattle.norec_world.proofs.Seen.{HasSeen, memory_at, same_at}
-use Rattle.norec_world.proofs.AloneCalls.{player_snoc, stands_open}
+use Rattle.tx_attempts.proofs.AloneCalls.{player_snoc}
+use Rattle.norec_world.proofs.OpenEngines.{stands_open}
 use Rattle.norec_world.proofs.Taken.{HasAnswered}
 use Rattle.norec_world.proofs.TryEnds.{none_pending, none_retried, next_try, plain_reply}
 use Rattle.norec_world.proofs.TryOutcomes.{IsMadeAlone, alone_led, closing_left, lacks_clock, made_held, made_so, stands_led, try_closes, try_stops}
@@ -274,7 +275,7 @@ module _ {P : Type 0} {rules : Rules P} (laws : Obeys rules) {first : Between P}
         let t = run.inside inside in
         ended_run laws r1 a last call seen run n' later still inside (record t.1 { at = k; ran = ran; outcome = outcome }) (row_is_of a.thread r.active t.1 t.3) stop_ended thread
         (try_stops laws t.4 n' (bytes_at base r1.ended) k outcome ran undone stop_made
-        (subst (EndsAs outcome) stop_stands (ends (stands_for mid (words_at base r1.ended k)) (stands_open rules laws mid (words_at base r1.ended k) inside) (stands_mode mid (words_at base r1.ended k) ∙ revocable))) older (omega (arith, newer, later)) (ran_is ∙ ap (ran_of outcome) stop_stands) full)
+        (subst (EndsAs outcome) stop_stands (ends (stands_for mid (words_at base r1.ended k)) (stands_open mid (words_at base r1.ended k) inside) (stands_mode mid (words_at base r1.ended k) ∙ revocable))) older (omega (arith, newer, later)) (ran_is ∙ ap (ran_of outcome) stop_stands) full)
 
     -- the plain state that it leaves
     stop_left : alone MAX_OPEN_BLOCKS (bytes_at base r1.ended k) (record (run.inside inside).1 { at = k; ran = ran; outcome = outcome }) ≡ stands_for mid (words_at base r1.ended k)

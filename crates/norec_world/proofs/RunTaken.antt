@@ -10,7 +10,8 @@ use Rattle.norec_world.proofs.RunEndings.{cancel_runs, commit_ended, commit_memo
 use Rattle.norec_world.proofs.HeldCalls.{HasHeld, stands_actions, stands_mode}
 use Rattle.norec_world.proofs.TryOutcomes.{alone_led, stands_led}
 use Rattle.norec_world.proofs.ActiveRows.{changed_here}
-use Rattle.norec_world.proofs.AloneCalls.{stands_open, state_snoc}
+use Rattle.tx_attempts.proofs.AloneCalls.{state_snoc}
+use Rattle.norec_world.proofs.OpenEngines.{stands_open}
 use Rattle.user_actions.specs.Actions.{Actions}
 use Rattle.norec_world.proofs.RunBegins.{begin_holds, shut_runs}
 use Rattle.norec_world.proofs.Seen.{HasSeen}
@@ -154,7 +155,7 @@ module _ {P : Type 0} {rules : Rules P} (laws : Obeys rules) {first : Between P}
     -- it goes on with its calls alone, as the words stand
     stands_held : (memory : List ℕ) (row : Attempt) → in_transaction a.engine ≡ true → a.engine.irrevocable ≡ true → stands_for a.engine cells'.words ≡ alone MAX_OPEN_BLOCKS memory row → row.ran ≡ a.engine.actions.ran → a.engine.waits ≡ None → IsHeld memory cells'.words row a.engine
     stands_held memory row inside irrevocable stands ran waits = record {
-      still_open = ap is_open (sym stands) ∙ stands_open rules laws a.engine cells'.words inside;
+      still_open = ap is_open (sym stands) ∙ stands_open a.engine cells'.words inside;
       mode = ap (λ (s : State). s.irrevocable) (sym stands) ∙ (stands_mode a.engine cells'.words ∙ irrevocable);
       ran = ran ∙ (ap (λ (x : Actions). x.ran) (sym (stands_actions a.engine cells'.words)) ∙ ap (λ (s : State). s.actions.ran) stands);
       stands = subst (λ (w : Option Step). StandsIn w a.engine.doing a.engine cells'.words (alone MAX_OPEN_BLOCKS memory row)) (sym waits) stands;

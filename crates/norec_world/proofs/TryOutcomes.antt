@@ -2,10 +2,11 @@
 use Rattle.std.proofs.Common.{◌≡◌, ℕ, ◌<◌, ◌≤◌, Bool, true, false, if◌then◌else◌, List, [], ◌∷◌, ◌++◌, map, None, Some, refl, sym, ap, subst, ◌∙◌, arith, append-nil, append_assoc}
 use Rattle.norec_world.proofs.Common.{Agrees, Attempt, Beginning, Between, Call, ClosedBy, Core, EndsAs, Entry, IsAlone, IsInTry, IsMemory, IsTryAt, LacksClock, MAX_OPEN_BLOCKS, Obeys, Outcome, Props, ReadsFrom, Replied, Rules, State, after, alone, answers, answers_within, begin_code, bytes_of, in_transaction, is_done, is_open, map-append, opened, pair_of, player_then, reply, stands_for, state_then, takes_clock, turn}
 use Rattle.itm_types.specs.declared.call.Ran.{Ran}
-use Rattle.norec_world.specs.Opacity.{ran_of}
+use Rattle.tx_attempts.specs.Opacity.{ran_of}
 use Rattle.tx_attempts.specs.declared.attempt.Outcome.TheVariants as outcomes
 use Rattle.norec_world.proofs.InTries.{agree_reads, alone_more}
-use Rattle.norec_world.proofs.AloneCalls.{begins_alone, state_snoc, stands_open, gets_none}
+use Rattle.tx_attempts.proofs.AloneCalls.{begins_alone, state_snoc, gets_none}
+use Rattle.norec_world.proofs.OpenEngines.{stands_open}
 use Rattle.norec_world.proofs.TryEnds.{not_closed}
 
 -- over these bytes its calls are made alone, and lead to an open block
@@ -71,7 +72,7 @@ module _ {P : Type 0} {rules : Rules P} (laws : Obeys rules) where
       made_so = record {
         alone = subst (λ (bytes : List ℕ). IsAlone rules MAX_OPEN_BLOCKS (rules.answered t.start.player (begin_code b.again)) (opened bytes t.start.arena t.start.props) row.calls) same
             (t.alone m mem (agree_reads position e.irrevocable e.log m revocable agrees));
-        still_open = ap is_open (sym stands_led) ∙ stands_open rules laws e m inside;
+        still_open = ap is_open (sym stands_led) ∙ stands_open e m inside;
       }
 
     -- of an irrevocable one, over the memory of its position

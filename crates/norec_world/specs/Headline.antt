@@ -6,7 +6,7 @@ use Rattle.tx_attempts.specs.Attempts.{memory_after, of_thread}
 use Rattle.tx_attempts.specs.Counts.{one_where, count_at, count_committed}
 use Rattle.tx_player.specs.Rules.{Rules}
 use Rattle.norec_world.specs.Dates.{AreDated}
-use Rattle.norec_world.specs.Opacity.{Between, IsRunOf}
+use Rattle.tx_attempts.specs.Opacity.{Between, IsRunOf}
 
 -- the bytes that the first commits left, each run alone on those that the one before it left
 abbrev pub bytes_at : List ℕ → List Attempt → ℕ → List ℕ

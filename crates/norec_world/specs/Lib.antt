@@ -1,4 +1,3 @@
-pub mod Opacity
 pub mod Cells
 pub mod Rows
 pub mod ActionRoom
@@ -10,7 +9,6 @@ pub mod Actors
 pub mod ClockHolder
 pub mod Status
 pub mod Sound
-pub mod Alone
 pub mod Records
 pub mod LocalWork
 pub mod World

@@ -11,8 +11,8 @@ use Rattle.tx_attempts.specs.declared.attempt.Attempt.{Attempt}
 use Rattle.norec_world.specs.declared.ending.End.TheVariants.{GaveUp, NoMemory}
 use Rattle.norec_world.specs.declared.actor.Actor.{Actor}
 use Rattle.tx_attempts.specs.Attempts.{of_thread}
-use Rattle.norec_world.specs.Alone.{state_then, player_then, IsAlone}
-use Rattle.norec_world.specs.Opacity.{Beginning, Between, begin_code, begin_of, after_try, stays_outside, IsRunOf}
+use Rattle.tx_attempts.specs.Alone.{state_then, player_then, IsAlone}
+use Rattle.tx_attempts.specs.Opacity.{Beginning, Between, begin_code, begin_of, after_try, stays_outside, IsRunOf}
 use Rattle.norec_world.specs.Cells.{Cells}
 use Rattle.norec_world.specs.Rows.{Rows, active_of}
 use Rattle.norec_world.specs.Status.{ending_of}

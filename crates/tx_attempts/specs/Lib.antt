@@ -1,3 +1,5 @@
 pub mod Beginnings
 pub mod Attempts
 pub mod Counts
+pub mod Opacity
+pub mod Alone

@@ -11,7 +11,7 @@ use Rattle.tx_attempts.specs.declared.attempt.Attempt.{Attempt}
 use Rattle.tx_attempts.specs.Attempts.{of_thread}
 use Rattle.tx_history.specs.Legal.{IsAlone, may_begin}
 use Rattle.tx_player.specs.Rules.{Rules}
-use Rattle.norec_world.specs.Opacity.{Beginning, Between, IsRunOf, IsTryAt, after_try, begin_of, begin_within}
+use Rattle.tx_attempts.specs.Opacity.{Beginning, Between, IsRunOf, IsTryAt, after_try, begin_of, begin_within}
 use Rattle.norec_world.specs.Headline.{AreOfActors}
 use Rattle.world_histories.proofs.AloneCalls.{is_alone}
 

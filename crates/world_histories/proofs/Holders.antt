@@ -6,8 +6,8 @@ use Rattle.itm_types.specs.declared.limits.TheConstants.{MAX_OPEN_BLOCKS}
 use Rattle.tx_attempts.specs.declared.attempt.Attempt.{Attempt}
 use Rattle.tx_attempts.specs.declared.attempt.Outcome.{Outcome}
 use Rattle.tx_attempts.specs.declared.attempt.Outcome.TheVariants.{Committed, ReadOnly, Cancelled, Conflict, Full, NoMemory, Unfinished}
-use Rattle.tx_attempts.specs.Attempts.{alone, is_at, is_committed}
-use Rattle.tx_attempts.specs.Counts.{count_at, count_committed, one_where}
+use Rattle.tx_attempts.specs.Attempts.{alone}
+use Rattle.tx_attempts.specs.Counts.{one_where}
 use Rattle.tx_history.specs.declared.history.History.{History}
 use Rattle.tx_history.specs.Legal.{count_holding, is_holding, is_unfinished, memory_at}
 use Rattle.norec_world.specs.Rows.{AreEnded, AreFrom, AreUnfinished, active_of}

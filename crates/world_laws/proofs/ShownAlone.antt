@@ -14,7 +14,7 @@ use Rattle.tx_attempts.specs.declared.attempt.Outcome.TheVariants as outcomes
 use Rattle.world_laws.specs.SoFar.{IsBegun, IsSoFar, IsAll}
 use Rattle.world_laws.specs.ShownAlone.{DoneBy}
 use Rattle.norec_world.specs.World.{memory_of}
-use Rattle.norec_world.proofs.AloneCalls.{begins_alone, gets_none}
+use Rattle.tx_attempts.proofs.AloneCalls.{begins_alone, gets_none}
 use Rattle.world_laws.proofs.Solos.{full_block, kept_out, open_block, no_block}
 use Rattle.norec_world.proofs.Memories.{bytes_still}
 use Rattle.norec_world.proofs.RunLists.{run_still}

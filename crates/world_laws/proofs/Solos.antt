@@ -8,7 +8,7 @@ use Rattle.itm_model.specs.Runs.{state_after}
 use Rattle.tx_attempts.specs.declared.attempt.Outcome.TheVariants.{Full}
 use Rattle.itm_types.specs.Calls.{is_abort}
 use Rattle.world_laws.specs.Solo.{entry_of, player_after, passed, before_taking, block_then, limited_then, within_limit, left_open, begun_then, aborts}
-use Rattle.norec_world.proofs.AloneCalls.{asked}
+use Rattle.tx_attempts.proofs.AloneCalls.{asked}
 use Rattle.world_laws.proofs.TakingCalls.{goes_opened, marked_opened, marked_then, next_takes, none_takes}
 use Rattle.std.proofs.lemmas.Bool.{and_from, and_left, and_right, or_from}
 

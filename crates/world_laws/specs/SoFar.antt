@@ -10,8 +10,8 @@ use Rattle.tx_attempts.specs.declared.attempt.Outcome.TheVariants as outcomes
 use Rattle.norec_world.specs.declared.ending.End.{End}
 use Rattle.norec_world.specs.declared.ending.End.TheVariants.{Finished, GaveUp, NoMemory}
 use Rattle.norec_world.specs.Headline.{bytes_at}
-use Rattle.norec_world.specs.Opacity.{Beginning, begin_code, begin_of}
-use Rattle.norec_world.specs.Alone.{IsAlone}
+use Rattle.tx_attempts.specs.Opacity.{Beginning, begin_code, begin_of}
+use Rattle.tx_attempts.specs.Alone.{IsAlone}
 use Rattle.world_laws.specs.Solo.{Progress, row_of, with_all, solo, solo_within}
 use Rattle.norec_world.specs.Cells.{Cells}
 use Rattle.tx_player.specs.Rules.{Rules}

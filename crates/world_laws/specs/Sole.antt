@@ -9,7 +9,7 @@ use Rattle.norec_world.specs.declared.ending.End.TheVariants.{Finished, GaveUp, 
 use Rattle.norec_world.specs.declared.actor.Actor.{Actor}
 use Rattle.tx_attempts.specs.Attempts.{is_committed, of_thread}
 use Rattle.norec_world.specs.Headline.{bytes_at}
-use Rattle.norec_world.specs.Opacity.{Beginning, Between}
+use Rattle.tx_attempts.specs.Opacity.{Beginning, Between}
 use Rattle.norec_world.specs.Runs.{begins_at, run_after}
 use Rattle.norec_world.specs.Rows.{Rows, active_of}
 use Rattle.world_laws.specs.Solo.{one_if}

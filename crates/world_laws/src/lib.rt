@@ -5,7 +5,7 @@ ghost use Rattle.std.specs.Prelude.{◌≡◌, ◌⊎◌, ℕ, List};
 ghost use Rattle.itm_types.specs.declared.limits.TheConstants.{MAX_OPEN_BLOCKS};
 ghost use Rattle.tx_attempts.specs.declared.attempt.Attempt.{Attempt};
 ghost use Rattle.tx_attempts.specs.Attempts.{pairs_of};
-ghost use Rattle.norec_world.specs.Opacity.{IsOpaque};
+ghost use Rattle.tx_attempts.specs.Opacity.{IsOpaque};
 ghost use Rattle.tx_attempts.specs.Beginnings.{IsBeginningOf};
 ghost use Rattle.world_laws.specs.ShownAlone.{OnePlayerShows, TakesLead};
 ghost use Rattle.world_laws.specs.ScheduleDecides.{BeginningDecides, EventDecides, EntriesDecide, RunDecides, SameShows, ScheduleDecides};

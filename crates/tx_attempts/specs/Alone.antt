@@ -5,7 +5,7 @@ use Rattle.itm_model.specs.State.{State}
 use Rattle.itm_model.specs.Machine.{after, reply}
 use Rattle.itm_model.specs.Runs.{turn, state_after}
 use Rattle.tx_attempts.specs.declared.attempt.Entry.{Entry}
-use Rattle.norec_world.specs.Opacity.{answered_all}
+use Rattle.tx_attempts.specs.Opacity.{answered_all}
 use Rattle.tx_player.specs.Rules.{Rules}
 
 -- the plain state after the calls

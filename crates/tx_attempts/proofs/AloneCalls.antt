@@ -1,13 +1,18 @@
 -- A player that makes its calls alone, one by one: they come first in what it gets.
-use Rattle.std.proofs.Common.{◌≡◌, ℕ, zero, suc, ◌≤◌, Bool, true, false, is_none, is_some, List, [], ◌∷◌, ◌++◌, length, map, Option, None, Some, refl, sym, ap, ◌∙◌, arith, cond, lt-ltb}
-use Rattle.norec_world.proofs.Common.{Begin, Beginning, Call, Core, Entry, IsAlone, Obeys, Rules, State, Refusal, after, after_unless, is_inside, answers_within, begin_within, cond-false, in_transaction, is_open, outside, pair_of, player_then, refusal, reply, stands_for, state_then, turn}
+use Rattle.std.proofs.Common.{◌≡◌, ℕ, zero, suc, ◌≤◌, Bool, true, false, is_none, is_some, List, [], ◌∷◌, ◌++◌, map, Option, None, Some, refl, sym, ap, ◌∙◌, arith, cond}
+use Rattle.std.proofs.lemmas.Bool.{cond-false}
+use Rattle.itm_types.specs.declared.call.Call.{Call}
+use Rattle.itm_types.specs.declared.call.Call.TheVariants.{Begin}
+use Rattle.itm_types.specs.declared.call.Refusal.{Refusal}
 use Rattle.itm_types.specs.declared.call.Reply.{Reply}
-use Rattle.norec_world.specs.Opacity.{stays_outside}
-use Rattle.itm_model.specs.Machine.{effect}
-use Rattle.norec_core.specs.Stands.{block_kept, state_in, state_kept}
-use Rattle.nest_frames.specs.Nest.{Frame}
-use Rattle.user_actions.specs.Actions.{Actions}
-use Rattle.norec_core.proofs.Machines.{open_is}
+use Rattle.itm_model.specs.State.{State}
+use Rattle.itm_model.specs.Machine.{after, after_unless, effect, is_open, outside, refusal, reply}
+use Rattle.itm_model.specs.Runs.{answers_within, turn}
+use Rattle.tx_player.specs.Rules.{Obeys, Rules}
+use Rattle.tx_attempts.specs.declared.attempt.Entry.{Entry}
+use Rattle.tx_attempts.specs.Attempts.{pair_of}
+use Rattle.tx_attempts.specs.Alone.{IsAlone, player_then, state_then}
+use Rattle.tx_attempts.specs.Opacity.{Beginning, begin_within, stays_outside}
 
 -- a call that is made in an open block is the player's next
 asked_if : (b : Bool) (o : Option Call) (c : Call) → cond b o None ≡ Some c → o ≡ Some c
@@ -59,24 +64,12 @@ pub state_snoc : (deepest : ℕ) (s : State) (xs : List Entry) (x : Entry) → s
 state_snoc deepest s [] x = refl
 state_snoc deepest s (y ∷ ys) x = state_snoc deepest (after deepest s y.call) ys x
 
-kept_open : (blocks : List Frame) (arena : List ℕ) (actions : Actions) (m : List ℕ) → is_inside blocks ≡ true → is_open (state_kept blocks arena actions m) ≡ true
-kept_open [] arena actions m o = absurd (cc)
-kept_open (b ∷ bs) arena actions m o = lt-ltb 0 (length (map block_kept (b ∷ bs))) (omega arith)
-
 module _ {P : Type 0} (rules : Rules P) (laws : Obeys rules) where
   pub alone_snoc : (deepest : ℕ) (p : P) (s : State) (xs : List Entry) (x : Entry) → IsAlone rules deepest p s xs
       → turn rules.next_call rules.answered rules.calls_left (player_then rules.answered p xs) (state_then deepest s xs) ≡ Some x.call → x.reply ≡ reply deepest (state_then deepest s xs) x.call
       → IsAlone rules deepest p s (xs ++ x ∷ [])
   alone_snoc deepest p s [] x h t r = (t, r, tt)
   alone_snoc deepest p s (y ∷ ys) x h t r = (h.0, h.1, alone_snoc deepest (rules.answered p y.reply) (after deepest s y.call) ys x h.2 t r)
-
-  -- an open engine stands for an open block
-  pub stands_open : (e : Core) (m : List ℕ) → in_transaction e ≡ true → is_open (stands_for e m) ≡ true
-  stands_open e m o = by_mode e.irrevocable
-    where
-      by_mode : (b : Bool) → is_open (state_in b e.writes e.blocks e.arena e.actions m) ≡ true
-      by_mode true = kept_open e.blocks e.arena e.actions m o
-      by_mode false = open_is e.writes e.blocks e.arena e.actions m ∙ o
 
 module _ {P : Type 0} (rules : Rules P) (laws : Obeys rules) (deepest : ℕ) where
   abbrev comes : ℕ → P → List ℕ → Option Call → Option (Beginning P)
