@@ -1,0 +1,162 @@
+//! What the tests have in common.
+
+ghost use Rattle.std.specs.Prelude.{◌≡◌, ◌<◌, ◌≤◌, false, IfOk};
+ghost use Rattle.shared_words.specs.Passes.{Owns, view_of};
+
+use itm_runtime::Thread;
+use itm_types::{
+    Call, Datum, ENTERED, Limits, MAX_COMMITS, Props, ReadHint, Reply, Value, Width, WriteHint,
+};
+use norec_core::Answer;
+use shared_words::{Pass, Words};
+use std::alloc::{AllocError, Global};
+use std::process::Abort;
+use undo_log::Arena;
+
+/// A block with no property begins.
+pub(super) const BEGIN: Call = Call::Begin {
+    props: Props {
+        no_abort: false,
+        no_irrevocable: false,
+        goes_irrevocable: false,
+    },
+    room: 4,
+};
+
+/// A block begins whose transaction is irrevocable from the first.
+pub(super) const BEGIN_IRREVOCABLE: Call = Call::Begin {
+    props: Props {
+        no_abort: false,
+        no_irrevocable: false,
+        goes_irrevocable: true,
+    },
+    room: 4,
+};
+
+pub(super) const DONE: Answer = Answer::Reply(Reply::Done);
+
+/// A block was entered.
+pub(super) const IN: Answer = Answer::Reply(Reply::Code(ENTERED));
+
+/// A call, its answer, and the number of its steps.
+pub(super) type Row = (Call, Answer, u128);
+
+/// A thread of so much patience, with an arena of so many bytes.
+pub(super) fn thread(
+    alloc: Global,
+    words: &Words,
+    pass: Pass,
+    patience: u32,
+    arena: usize,
+) -> Result<Thread, AllocError>
+    requires own { Owns words.now pass }
+    requires idle { (view_of pass).holds ≡ false }
+    requires patience { (0 < patience) × (patience ≤ 8) }
+    requires arena { arena ≤ 64 }
+    ensures own { IfOk result (λ t. Owns words.now t.pass) }
+{
+    let limits = Limits {
+        patience,
+        retries: 0,
+        max_commits: MAX_COMMITS,
+    };
+    let arena = Arena::new(alloc, arena)?;
+    Ok(Thread::new(alloc, words, pass, arena, limits))
+}
+
+pub(super) fn read(at: u64) -> Call {
+    Call::Read {
+        hint: ReadHint::R,
+        width: Width::U8,
+        at,
+    }
+}
+
+pub(super) fn write(at: u64, value: u64) -> Call {
+    Call::Write {
+        hint: WriteHint::W,
+        at,
+        value: Datum::new(Width::U8, &value.to_le_bytes()),
+    }
+}
+
+pub(super) fn code(code: u32) -> Answer {
+    Answer::Reply(Reply::Code(code))
+}
+
+/// The reply of these bytes, 32 at most.
+pub(super) fn bytes(bytes: &[u8]) -> Answer {
+    let mut value = Value::new();
+    let _ = value.try_extend_from_slice(bytes);
+    Answer::Reply(Reply::Bytes(value))
+}
+
+/// The reply of a word.
+pub(super) fn word(value: u64) -> Answer {
+    bytes(&value.to_le_bytes())
+}
+
+/// The answer of the call, by the method that is there for it.
+fn serve(words: &Words, thread: &mut Thread, call: &Call) -> Result<Answer, AllocError>
+    requires own { Owns words.now thread.old.pass }
+    ensures own { Owns words.now thread.new.pass }
+{
+    match call {
+        Call::Begin { props, room } => thread.begin(words, *props, *room, false),
+        Call::Commit => Ok(thread.commit(words)),
+        Call::Abort { outer } => Ok(thread.cancel(words, *outer)),
+        Call::Mode { room } => thread.irrevocable(words, *room),
+        _ => thread.call(words, call),
+    }
+}
+
+/// The call is answered so, after as many steps.
+fn ask(rt: &impl Abort, words: &Words, thread: &mut Thread, row: &Row) -> Result<(), AllocError>
+    requires own { Owns words.now thread.old.pass }
+    ensures own { Owns words.now thread.new.pass }
+{
+    let (call, answer, spent) = row;
+    let given = serve(words, thread, call)?;
+    assert_eq!(rt; given, *answer, "{call:?}");
+    assert_eq!(rt; thread.spent(), *spent, "{call:?}");
+    Ok(())
+}
+
+/// The calls are answered so, one after the other.
+pub(super) fn walk(
+    rt: &impl Abort,
+    words: &Words,
+    thread: &mut Thread,
+    rows: &[Row],
+) -> Result<(), AllocError>
+    requires own { Owns words.now thread.old.pass }
+    ensures own { Owns words.now thread.new.pass }
+{
+    for row in rows {
+        ask(rt, words, thread, row)?;
+    }
+    Ok(())
+}
+
+/// The pass of a thread that does not hold the clock.
+pub(super) fn part(rt: &impl Abort, words: &Words, thread: Thread) -> Pass
+    requires own { Owns words.now thread.pass }
+    ensures own { Owns words.now result }
+    ensures idle { (view_of result).holds ≡ false }
+{
+    match thread.into_parts() {
+        Ok((pass, _)) => pass,
+        Err(_) => panic!(rt; "the clock is held"),
+    }
+}
+
+/// The thread as it was, since it holds the clock.
+pub(super) fn keep(rt: &impl Abort, words: &Words, thread: Thread) -> Thread
+    requires own { Owns words.now thread.pass }
+    ensures own { Owns words.now result.pass }
+{
+    match thread.into_parts() {
+        Ok(_) => panic!(rt; "the clock is not held"),
+        Err(thread) => thread,
+    }
+}

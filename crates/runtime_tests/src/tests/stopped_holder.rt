@@ -1,0 +1,219 @@
+//! Threads beside a commit that is stopped for ever while it holds the clock. Each of their calls still returns, within
+//! its steps.
+
+ghost use Rattle.std.specs.Prelude.{◌≡◌, ◌<◌, false, true};
+ghost use Rattle.shared_words.specs.Passes.{Owns, view_of, cells_of};
+ghost use Rattle.shared_words.specs.Steps.{Lawful, Turns, cell_of};
+
+use crate::tests::helpers::{
+    BEGIN, BEGIN_IRREVOCABLE, DONE, IN, Row, code, part, read, thread, walk, word, write,
+};
+use itm_types::{Call, Datum, Limits, MAX_COMMITS, Step, Width, WriteHint};
+use norec_core::{Answer, Next};
+use norec_engine::Engine;
+use shared_words::{Pass, Words};
+use std::alloc::{AllocError, Global};
+use std::process::Abort;
+use std::test::Fail;
+use undo_log::Arena;
+
+/// How often a call of the other thread tries.
+const PATIENCE: u32 = 3;
+
+/// The clock was odd at each try of a begin.
+const BUSY: Answer = Answer::Busy { clock: 1 };
+
+/// It was odd in each round of a call.
+const CONFLICT: Answer = Answer::Conflict {
+    clock: 1,
+    word: None,
+};
+
+// The steps of the commit, in order: of the second word only half is written.
+
+const TAKE: Step = Step::Cas(0, 0, 1);
+
+const FIRST: Step = Step::Store(1, 5);
+
+const LOAD: Step = Step::Load(2);
+
+const SECOND: Step = Step::Store(2, 6);
+
+const FREE: Step = Step::Store(0, 2);
+
+/// The step is made, and the engine asks for the next one.
+fn step(
+    rt: &impl Abort,
+    words: &Words,
+    pass: &mut Pass,
+    engine: &mut Engine,
+    made: Step,
+    next: &Next,
+)
+    requires own { Owns words.now pass.old }
+    requires cell { cell_of made < cells_of words.now }
+    requires lawful { Lawful (view_of pass.old) made }
+    ensures own { Owns words.now pass.new }
+    ensures turn { Turns (view_of pass.old) made 0 (view_of pass.new) }
+{
+    let seen = words.step(pass, made);
+    assert_eq!(rt; seen, 0);
+    assert!(rt; engine.waits());
+    assert!(rt; engine.fits(seen));
+    assert_eq!(rt; engine.resume(seen), *next);
+}
+
+/// A call comes, to which the engine gives this.
+fn ask(rt: &impl Abort, engine: &mut Engine, call: &Call, next: &Next) -> Result<(), AllocError> {
+    assert!(rt; !engine.waits());
+    assert_eq!(rt; engine.call(call)?, *next);
+    Ok(())
+}
+
+/// An engine that has written the first word and half of the second one, and is to take the clock.
+fn write_two(
+    rt: &impl Abort,
+    alloc: Global,
+    words: &Words,
+    pass: &mut Pass,
+) -> Result<Engine, AllocError>
+    requires own { Owns words.now pass.old }
+    requires idle { (view_of pass.old).holds ≡ false }
+    ensures own { Owns words.now pass.new }
+    ensures idle { (view_of pass.new).holds ≡ false }
+{
+    let limits = Limits {
+        patience: 8,
+        retries: 0,
+        max_commits: MAX_COMMITS,
+    };
+    let mut engine = Engine::new(alloc, 4, Arena::new(alloc, 0)?, limits);
+    ask(rt, &mut engine, &BEGIN, &Next::Step(Step::Load(0)))?;
+    let open = Next::Answer(IN);
+    step(rt, words, pass, &mut engine, Step::Load(0), &open);
+    let done = Next::Answer(DONE);
+    ask(rt, &mut engine, &write(0, 5), &done)?;
+    let half = Call::Write {
+        hint: WriteHint::W,
+        at: 8,
+        value: Datum::new(Width::U4, &[6, 0, 0, 0]),
+    };
+    ask(rt, &mut engine, &half, &done)?;
+    ask(rt, &mut engine, &Call::Commit, &Next::Step(TAKE))?;
+    Ok(engine)
+}
+
+/// The clock is taken, and so many steps more are made: all that are made while it is held are three.
+fn stop_after(rt: &impl Abort, words: &Words, pass: &mut Pass, engine: &mut Engine, steps: u32)
+    requires own { Owns words.now pass.old }
+    requires cells { 2 < cells_of words.now }
+    requires idle { (view_of pass.old).holds ≡ false }
+    ensures own { Owns words.now pass.new }
+{
+    step(rt, words, pass, engine, TAKE, &Next::Step(FIRST));
+    if steps == 0 {
+        return;
+    }
+    step(rt, words, pass, engine, FIRST, &Next::Step(LOAD));
+    if steps == 1 {
+        return;
+    }
+    step(rt, words, pass, engine, LOAD, &Next::Step(SECOND));
+    assert!(rt; !pass.idle());
+    if steps == 2 {
+        return;
+    }
+    step(rt, words, pass, engine, SECOND, &Next::Step(FREE));
+}
+
+/// A thread is answered so before the clock is taken, and so after the commit has stopped.
+fn beside(
+    rt: &impl Abort,
+    alloc: Global,
+    steps: u32,
+    before: &[Row],
+    after: &[Row],
+) -> Result<(), Fail> {
+    let (words, mut pass) = Words::new(alloc, &[0u8; 32])?;
+    let other = words.split(&mut pass);
+    let mut thread = thread(alloc, &words, other, PATIENCE, 0)?;
+    walk(rt, &words, &mut thread, before)?;
+    let mut engine = write_two(rt, alloc, &words, &mut pass)?;
+    stop_after(rt, &words, &mut pass, &mut engine, steps);
+    walk(rt, &words, &mut thread, after)?;
+    part(rt, &words, thread);
+    assert!(rt; !pass.idle());
+    Ok(())
+}
+
+#[test]
+fn begins(rt: HostRuntime) -> Result<(), Fail> {
+    for steps in 0..4 {
+        let after = [
+            (Call::InTransaction, code(0), 0),
+            (BEGIN, BUSY, 3),
+            (BEGIN_IRREVOCABLE, BUSY, 3),
+            (Call::InTransaction, code(0), 0),
+        ];
+        beside(&rt, rt.alloc(), steps, &[], &after)?;
+    }
+    Ok(())
+}
+
+#[test]
+fn reads(rt: HostRuntime) -> Result<(), Fail> {
+    for steps in 0..4 {
+        let before = [(BEGIN, IN, 1), (read(24), word(0), 2)];
+        let after = [
+            (read(24), word(0), 0),
+            // the word, the clock, and the clock in each round
+            (read(16), CONFLICT, 5),
+            (Call::InTransaction, code(0), 0),
+            (BEGIN, BUSY, 3),
+        ];
+        beside(&rt, rt.alloc(), steps, &before, &after)?;
+    }
+    Ok(())
+}
+
+#[test]
+fn commits_of_writers(rt: HostRuntime) -> Result<(), Fail> {
+    for steps in 0..4 {
+        let before = [(BEGIN, IN, 1), (read(24), word(0), 2)];
+        let after = [
+            (write(16, 1), DONE, 0),
+            // the exchange, and the clock in each round
+            (Call::Commit, CONFLICT, 4),
+            (Call::InTransaction, code(0), 0),
+        ];
+        beside(&rt, rt.alloc(), steps, &before, &after)?;
+    }
+    Ok(())
+}
+
+#[test]
+fn commits_of_readers(rt: HostRuntime) -> Result<(), Fail> {
+    for steps in 0..4 {
+        let before = [(BEGIN, IN, 1), (read(0), word(0), 2)];
+        let committed = Answer::Committed {
+            at: 0,
+            wrote: false,
+        };
+        let after = [(Call::Commit, committed, 0), (BEGIN, BUSY, 3)];
+        beside(&rt, rt.alloc(), steps, &before, &after)?;
+    }
+    Ok(())
+}
+
+#[test]
+fn modes(rt: HostRuntime) -> Result<(), Fail> {
+    for steps in 0..4 {
+        let before = [(BEGIN, IN, 1), (write(8, 1), DONE, 0)];
+        let after = [
+            (Call::Mode { room: 1 }, CONFLICT, 4),
+            (BEGIN_IRREVOCABLE, BUSY, 3),
+        ];
+        beside(&rt, rt.alloc(), steps, &before, &after)?;
+    }
+    Ok(())
+}
