@@ -12,12 +12,14 @@ use Rattle.norec_core.specs.Core.{Core}
 use Rattle.norec_core.specs.Endings.{IsEnding}
 use Rattle.norec_core.specs.Proceeds.{Proceeds}
 use Rattle.norec_data.specs.declared.data.Data.{Data}
+use Rattle.norec_data.specs.declared.pending.Pending.{Pending}
+use Rattle.norec_data.specs.declared.pending.Pending.TheVariants as waits
 use Rattle.norec_data.specs.declared.turn.Turn.{Turn}
 use Rattle.norec_data.specs.declared.turn.Turn.TheVariants.{Wait, End, Enter}
-use Rattle.norec_data.specs.View.{core, core_held, in_block, step_of}
+use Rattle.norec_data.specs.View.{core, core_held, in_block, phase_of, step_of}
 
 abbrev pub next_of : Turn → Data → Next
-next_of (Wait phase) d = Asks (step_of d phase)
+next_of (Wait p) d = Asks (step_of d (phase_of d p))
 next_of (End a) d = Answers a
 next_of (Enter r) d = Answers (Reply r)
 
@@ -25,26 +27,36 @@ abbrev pub counted : Data → Data
 counted d = record d { spent = d.spent + 1 }
 
 abbrev pub data_after : Turn → Data → Data
-data_after (Wait phase) d = counted d
+data_after (Wait p) d = counted d
 data_after (End a) d = d
 data_after (Enter r) d = d
 
-abbrev pub phase_after : Turn → Phase
-phase_after (Wait phase) = phase
-phase_after (End a) = at.Idle
-phase_after (Enter r) = at.Idle
+abbrev pub phase_after : Turn → Data → Phase
+phase_after (Wait p) d = phase_of d p
+phase_after (End a) d = at.Idle
+phase_after (Enter r) d = at.Idle
+
+abbrev pub pending_after : Turn → Pending
+pending_after (Wait p) = p
+pending_after (End a) = waits.Idle
+pending_after (Enter r) = waits.Idle
 
 abbrev pub core_after : Turn → Data → Core
-core_after (Wait phase) d = core (counted d) phase
+core_after (Wait p) d = core (counted d) (phase_of d p)
 core_after (End a) d = core d at.Idle
 core_after (Enter r) d = core_held d
 
-abbrev pub IsWaiting : Phase → Type 0
-IsWaiting at.Idle = ⊥
+-- a call is in progress
+abbrev pub IsOn : Phase → Type 0
+IsOn at.Idle = ⊥
+IsOn _ = Unit {0}
+
+abbrev pub IsWaiting : Pending → Type 0
+IsWaiting waits.Idle = ⊥
 IsWaiting _ = Unit {0}
 
 abbrev pub Asked : Turn → Type 0
-Asked (Wait phase) = IsWaiting phase
+Asked (Wait p) = IsWaiting p
 Asked (End a) = Unit {0}
 Asked (Enter r) = Unit {0}
 
@@ -53,7 +65,7 @@ Turns mid turn d = Proceeds mid (next_of turn d) (core_after turn d)
 
 -- if the turn ends the call, it does so by this end
 abbrev pub TurnEndsSo : Option Answer → Turn → Type 0
-TurnEndsSo end (Wait phase) = Unit {0}
+TurnEndsSo end (Wait p) = Unit {0}
 TurnEndsSo end (End a) = IsEnding end a
 TurnEndsSo end (Enter r) = IsEnding end (Reply r)
 

@@ -14,10 +14,41 @@ use Rattle.norec_core.specs.declared.phase.Purpose.{Purpose}
 use Rattle.norec_core.specs.declared.phase.Purpose.TheVariants as for
 use Rattle.norec_core.specs.declared.phase.Target.{Target}
 use Rattle.norec_core.specs.declared.phase.Target.TheVariants as into
+use Rattle.norec_core.specs.declared.phase.Reading.{Reading}
+use Rattle.norec_core.specs.declared.phase.Taking.{Taking}
+use Rattle.norec_data.specs.declared.pending.Cause.{Cause}
+use Rattle.norec_data.specs.declared.pending.Cause.TheVariants as causes
+use Rattle.norec_data.specs.declared.pending.Pending.{Pending}
+use Rattle.norec_data.specs.declared.pending.Pending.TheVariants as waits
 use Rattle.norec_data.specs.declared.data.Data.{Data}
 use Rattle.norec_core.specs.Core.{Core, is_inside}
 use Rattle.norec_core.specs.OwnAccesses.{word_of}
 use Rattle.norec_core.specs.Order.{step_in, asked_in}
+
+-- what a round is made for
+abbrev pub aim_for : Cause → Reading → Taking → Aim
+aim_for causes.Read r taking = aims.Read r
+aim_for causes.Take r taking = aims.Take taking
+
+abbrev pub aim_of : Data → Aim
+aim_of d = aim_for d.cause d.reading d.taking
+
+-- where the call in progress stands, by what it waits for and the fields
+abbrev pub phase_of : Data → Pending → Phase
+phase_of d waits.Idle = at.Idle
+phase_of d waits.Begin = at.Begin d.opening
+phase_of d waits.Take = at.Take d.opening
+phase_of d waits.Load = at.Load d.reading
+phase_of d (waits.Confirm value) = at.Confirm d.reading value
+phase_of d waits.RoundStart = at.RoundStart (aim_of d)
+phase_of d (waits.RoundRow row) = at.RoundRow (aim_of d) row
+phase_of d waits.RoundEnd = at.RoundEnd (aim_of d)
+phase_of d waits.Exchange = at.Exchange d.taking
+phase_of d (waits.BackLoad row) = at.BackLoad d.taking row
+phase_of d (waits.Store row) = at.Store d.taking row d.got
+phase_of d waits.Free = at.Free
+phase_of d waits.Fetch = at.Fetch d.writing
+phase_of d waits.Place = at.Place d.writing d.got
 
 -- the call that an access is made for
 abbrev pub call_for : Purpose → ℕ → Call

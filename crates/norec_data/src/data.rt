@@ -7,8 +7,10 @@ ghost use Rattle.norec_core.specs.Core.{is_outermost};
 ghost use Rattle.norec_data.specs.View.{in_block};
 ghost use Rattle.norec_data.specs.Turns.{IsEnded};
 
+use crate::pending::Cause;
 use itm_types::{Datum, Limits, Value};
 use nest_frames::Frames;
+use norec_core::{Opening, Reading, Taking, Writing};
 use undo_log::Arena;
 use value_log::ValueLog;
 
@@ -25,6 +27,18 @@ pub struct Data {
     /// The open blocks, with what they wrote and logged. Where one is open, a transaction is.
     pub frames: Frames,
     pub log: ValueLog,
+    /// The begin in progress.
+    pub opening: Opening,
+    /// The read in progress, or that of a chunk of a copy's source.
+    pub reading: Reading,
+    /// What the clock is to be taken for.
+    pub taking: Taking,
+    /// What the round in progress is made for.
+    pub cause: Cause,
+    /// The word that was loaded, into which the store in progress puts a part.
+    pub got: Option<u64>,
+    /// The write in progress, in an irrevocable transaction.
+    pub writing: Writing,
     /// The bytes that the access in progress has so far, or those that it writes.
     pub gathered: Value,
     /// The value of the write in progress, in an irrevocable transaction.

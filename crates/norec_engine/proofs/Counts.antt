@@ -22,10 +22,10 @@ use Rattle.norec_data.specs.declared.turn.Turn.{Turn}
 use Rattle.norec_data.specs.declared.data.Data.{Data}
 use Rattle.norec_core.specs.Proceeds.{most, IsWithin}
 use Rattle.norec_core.specs.Accesses.{count, total, total_for, passed}
-use Rattle.norec_data.specs.View.{core, call_for, call_of, doing_of, in_block, waits_of}
+use Rattle.norec_data.specs.View.{core, call_for, call_of, doing_of, in_block, phase_of, waits_of}
 use Rattle.norec_engine.specs.InPhases.{FitsPurpose, MayRead, first_of, round_of, IsHolding, IsSound, InRound}
 use Rattle.norec_engine.specs.Between.{IsSoundTurn}
-use Rattle.norec_data.specs.Turns.{core_after, counted, IsWaiting}
+use Rattle.norec_data.specs.Turns.{core_after, counted, IsOn}
 use Rattle.norec_data.specs.declared.turn.Turn.TheVariants.{Wait, End, Enter}
 use Rattle.norec_core.specs.declared.phase.Opening.{Opening}
 use Rattle.norec_core.specs.declared.phase.Taking.{Taking}
@@ -90,7 +90,7 @@ holds_within : (d : Data) (phase : Phase) (taking : Taking) (steps : ℕ) → Is
 holds_within d phase taking steps h l e = omega (arith, e, h.spent, mul-le-mul_right {m = d.tries} {n = d.limits.patience} (d.entry + 3) h.is_open.tries)
 
 -- what a waiting engine has asked for
-within : (d : Data) (phase : Phase) → IsSound d phase → IsWaiting phase → d.spent ≤ most (core d phase) (doing_of phase)
+within : (d : Data) (phase : Phase) → IsSound d phase → IsOn phase → d.spent ≤ most (core d phase) (doing_of phase)
 within d at.Idle s w = absurd w
 within d (at.Begin b) s w = omega (arith, most_begin d (at.Begin b) b s.in_phase.0.is_open, s.in_phase.2, s.in_phase.3, s.in_phase.0.tries)
 within d (at.Take b) s w = omega (arith, most_begin d (at.Take b) b s.in_phase.0.is_open, s.in_phase.5, s.in_phase.0.tries)
@@ -109,7 +109,7 @@ within d at.Free s w = holds_within d at.Free takings.Commit (2 * length d.frame
 within d (at.Fetch x) s w = absurd s.in_phase
 within d (at.Place x got) s w = absurd s.in_phase
 
-waiting : (d : Data) (phase : Phase) → waits_of d phase ≢ None → IsWaiting phase
+waiting : (d : Data) (phase : Phase) → waits_of d phase ≢ None → IsOn phase
 waiting d at.Idle n = n refl
 waiting d phase n = tt
 
@@ -128,7 +128,7 @@ take_few : (d : Data) (phase : Phase) (taking : Taking) → in_block d ≡ true 
 take_few d phase taking o l p w e h = few d.limits.patience (d.entry + 3) (length d.frames.writes.rows) d.spent p (omega arith) w (omega (arith, e, h))
 
 -- so the count fits
-fits_most : (d : Data) (phase : Phase) → IsSound d phase → IsWaiting phase → length d.frames.writes.rows < 2 ^ 64 → d.entry < 2 ^ 64 → d.spent ≤ most (core d phase) (doing_of phase) → d.spent < 2 ^ 128
+fits_most : (d : Data) (phase : Phase) → IsSound d phase → IsOn phase → length d.frames.writes.rows < 2 ^ 64 → d.entry < 2 ^ 64 → d.spent ≤ most (core d phase) (doing_of phase) → d.spent < 2 ^ 128
 fits_most d at.Idle s w m e h = absurd w
 fits_most d (at.Begin b) s w m e h = (let p = s.bounds.patient.1 in omega (arith, h, p, most_begin d (at.Begin b) b s.in_phase.0.is_open))
 fits_most d (at.Take b) s w m e h = (let p = s.bounds.patient.1 in omega (arith, h, p, most_begin d (at.Take b) b s.in_phase.0.is_open))
@@ -148,12 +148,12 @@ fits_most d at.Free s w m e h = take_few d at.Free takings.Commit s.in_phase.is_
 fits_most d (at.Fetch x) s w m e h = absurd s.in_phase
 fits_most d (at.Place x got) s w m e h = absurd s.in_phase
 
-pub fits : (d : Data) (phase : Phase) → IsSound d phase → IsWaiting phase → length d.frames.writes.rows < 2 ^ 64 → d.entry < 2 ^ 64 → d.spent < 2 ^ 128
+pub fits : (d : Data) (phase : Phase) → IsSound d phase → IsOn phase → length d.frames.writes.rows < 2 ^ 64 → d.entry < 2 ^ 64 → d.spent < 2 ^ 128
 fits d phase s w m e = fits_most d phase s w m e (within d phase s w)
 
 -- so it is after a turn
 turn_counts : (turn : Turn) (d : Data) → IsSoundTurn turn d → IsWithin (core_after turn d)
-turn_counts (Wait phase) d s = counts (counted d) phase s.sound
+turn_counts (Wait p) d s = counts (counted d) (phase_of d p) s.sound
 turn_counts (End a) d s = counts d at.Idle s.sound
 turn_counts (Enter r) d s = λ n. absurd (n refl)
 

@@ -15,7 +15,9 @@ use Rattle.norec_core.specs.declared.phase.Phase.TheVariants as at
 use Rattle.norec_core.specs.declared.phase.Taking.{Taking}
 use Rattle.norec_data.specs.declared.data.Data.{Data}
 use Rattle.norec_core.specs.Core.{Core, is_inside, in_transaction, ended, rolled_back}
-use Rattle.norec_data.specs.View.{core, in_block, holds_of, writes_of}
+use Rattle.norec_data.specs.declared.pending.Pending.{Pending}
+use Rattle.norec_data.specs.declared.pending.Pending.TheVariants as waits
+use Rattle.norec_data.specs.View.{core, in_block, holds_of, phase_of, writes_of}
 use Rattle.norec_data.proofs.Ended.{core_ended}
 use Rattle.norec_engine.specs.InPhases.{AreFrames, InPhase}
 use Rattle.norec_data.specs.Turns.{IsEnded}
@@ -59,11 +61,11 @@ free_holds at.Free f = absurd f
 free_holds phase f = refl
 
 -- such a phase, by what it is not
-pub is_free : (phase : Phase) → ((taking : Taking) (row : ℕ) → phase ≡ at.BackLoad taking row → ⊥) → ((taking : Taking) (row : ℕ) (got : Option ℕ) → phase ≡ at.Store taking row got → ⊥) → (phase ≡ at.Free → ⊥) → IsFree phase
-is_free (at.BackLoad taking row) f g h = f taking row refl
-is_free (at.Store taking row got) f g h = g taking row got refl
-is_free at.Free f g h = h refl
-is_free phase f g h = tt
+pub is_free : (d : Data) (p : Pending) → ((row : ℕ) → p ≡ waits.BackLoad row → ⊥) → ((row : ℕ) → p ≡ waits.Store row → ⊥) → (p ≡ waits.Free → ⊥) → IsFree (phase_of d p)
+is_free d (waits.BackLoad row) f g h = f row refl
+is_free d (waits.Store row) f g h = g row refl
+is_free d waits.Free f g h = h refl
+is_free d p f g h = tt
 
 -- the outermost block and those in it, of a transaction that is open; or there is none, and nothing is written
 open_frames : (d : Data) (phase : Phase) → InPhase d phase → in_block d ≡ true → AreFrames d.words d.frames.blocks

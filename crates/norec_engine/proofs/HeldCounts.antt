@@ -25,7 +25,7 @@ use Rattle.norec_core.proofs.Readings.{words_in-at}
 use Rattle.norec_irrevocable.proofs.ChunkPhases.{few_chunks}
 use Rattle.std.specs.List.{AllByRecursion}
 use Rattle.norec_data.specs.declared.data.Data.{Data}
-use Rattle.norec_data.specs.Turns.{IsWaiting}
+use Rattle.norec_data.specs.Turns.{IsOn}
 use Rattle.norec_data.specs.View.{call_for, doing_held, held, placed_for}
 use Rattle.norec_irrevocable.specs.Phases.{before_loads, before_places, copy_steps, placed_before, IsSoundHeld, LoadsFor, PlacesFor}
 
@@ -74,7 +74,7 @@ places_within d c (into.Chunk k n) at size i p =
     omega (arith, places_most k n chunk.chunk chunk.is k.pair p.1, same, many)
 
 -- what a waiting engine has asked for
-pub held_within : (d : Data) (phase : Phase) → IsSoundHeld d phase → IsWaiting phase → d.spent ≤ most (held d phase) (doing_held d phase)
+pub held_within : (d : Data) (phase : Phase) → IsSoundHeld d phase → IsOn phase → d.spent ≤ most (held d phase) (doing_held d phase)
 held_within d at.Idle s w = absurd w
 held_within d (at.Load r) s w = omega (arith, loads_within d (held d (at.Load r)) r.purpose r.at r.size refl s.in_phase.purpose, s.in_phase.spent, s.in_phase.some)
 held_within d (at.Fetch x) s w = omega (arith, places_within d (held d (at.Fetch x)) x.target x.at x.size refl s.in_phase.0.target, s.in_phase.0.spent, s.in_phase.0.some)
@@ -83,7 +83,7 @@ held_within d (at.Place x (Some word)) s w = omega (arith, places_within d (held
 held_within d at.Free s w = omega (arith, s.in_phase.1)
 held_within d phase s w = absurd s.in_phase
 
-waiting : (d : Data) (phase : Phase) → (held d phase).waits ≢ None → IsWaiting phase
+waiting : (d : Data) (phase : Phase) → (held d phase).waits ≢ None → IsOn phase
 waiting d at.Idle n = n refl
 waiting d phase n = tt
 
@@ -118,7 +118,7 @@ few_places d (into.Fill hint to byte size n) at count w p = (let there = (chunk_
 few_places d (into.Chunk k n) at size w p = omega (arith, few_placed k k.pair n, few_chunks d k n (p.0).chunk (p.0).served w (p.0).is)
 
 -- so the count fits
-pub held_fits : (d : Data) (phase : Phase) → IsSoundHeld d phase → IsWaiting phase → d.spent < 2 ^ 128
+pub held_fits : (d : Data) (phase : Phase) → IsSoundHeld d phase → IsOn phase → d.spent < 2 ^ 128
 held_fits d at.Idle s w = absurd w
 held_fits d (at.Load r) s w = omega (arith, few_loads d r.purpose r.at r.size s.held.bounds.small s.in_phase.purpose, few_words r.at r.size s.in_phase.small, s.in_phase.spent, s.in_phase.some)
 held_fits d (at.Fetch x) s w = omega (arith, few_places d x.target x.at x.size s.held.bounds.small s.in_phase.0.target, few_words x.at x.size s.in_phase.0.small, s.in_phase.0.spent, s.in_phase.0.some)

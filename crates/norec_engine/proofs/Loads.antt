@@ -13,6 +13,7 @@ use Rattle.word_pieces.proofs.Covers.{word-pieces_of}
 use Rattle.word_pieces.proofs.ChunkBytes.{all-written}
 use Rattle.word_pieces.specs.Chunks.{chunks_written}
 use Rattle.norec_data.specs.declared.data.Data.{Data}
+use Rattle.norec_data.specs.declared.pending.Pending.TheVariants as waits
 use Rattle.norec_core.specs.declared.phase.Aim.{Aim}
 use Rattle.norec_core.specs.declared.phase.Aim.TheVariants as aims
 use Rattle.norec_core.specs.declared.phase.Taking.{Taking}
@@ -66,7 +67,7 @@ module _ (d : Data) (r next : Reading) (is : next ≡ record r { number = next.n
       let rounds : d.tries * round_of (aims.Read next) d ≡ d.tries * round_of (aims.Read r) d = ap (λ (x : Reading). d.tries * (d.entry + total x + 4)) is in
       omega (arith, later, here, rounds, spent)
 
-  pub load_sound : IsSoundTurn (Wait (Load next)) d
+  pub load_sound : IsSoundTurn (Wait waits.Load) (record d { reading = next })
   load_sound = record {
     asked = tt;
     sound = record {
@@ -92,7 +93,7 @@ module _ (d : Data) (r next : Reading) (is : next ≡ record r { number = next.n
     };
   }
 
-  at_next : (log : List LogRow) → Turns (logged (between d (aims.Read next)) log) (Wait (Load next)) d
+  at_next : (log : List LogRow) → Turns (logged (between d (aims.Read next)) log) (Wait waits.Load) (record d { reading = next })
   at_next log = record {
     lawful = (
       (let within = word-pieces_of next.at next.size next.number d.words may.missing.some may.reading.within in omega arith),
@@ -102,10 +103,10 @@ module _ (d : Data) (r next : Reading) (is : next ≡ record r { number = next.n
     stays = ap (λ (g : List ℕ). record (logged (core (record d { spent = d.spent + 1 }) (Load next)) d.log.rows) { gathered = g }) (none_gathered (next.number == 0));
   }
 
-  pub load_proceeds : (log : List LogRow) → Turns (logged (between d (aims.Read r)) log) (Wait (Load next)) d
+  pub load_proceeds : (log : List LogRow) → Turns (logged (between d (aims.Read r)) log) (Wait waits.Load) (record d { reading = next })
   load_proceeds log =
       let same : between d (aims.Read next) ≡ between d (aims.Read r) = ap (λ (x : Reading). between d (aims.Read x)) is in
-      subst (λ c. Turns (logged c log) (Wait (Load next)) d) same (at_next log)
+      subst (λ c. Turns (logged c log) (Wait waits.Load) (record d { reading = next })) same (at_next log)
 
 -- ## A chunk of a copy's source
 

@@ -19,13 +19,13 @@ use Rattle.itm_types.specs.declared.call.Reply.TheVariants.{Done, Code}
 use Rattle.nest_frames.specs.Nest.{Frame, Nest, begun}
 use Rattle.norec_core.specs.Core.{Core}
 use Rattle.norec_core.specs.Accesses.{count, passed}
-use Rattle.norec_data.specs.View.{in_block, core}
+use Rattle.norec_data.specs.View.{in_block, core, phase_of}
 use Rattle.norec_data.specs.Turns.{counted, Asked}
 use Rattle.norec_engine.specs.InPhases.{round_of, first_of, IsOpen, Copied, HasSource, IsReading, MayLog, MayTake, Aims, InRound, IsHolding, IsSound}
 use Rattle.norec_data.specs.Bounds.{IsBounded, IsHeld}
 
 abbrev pub IsSoundAfter : Turn → Data → Type 0
-IsSoundAfter (Wait phase) d = IsSound (counted d) phase
+IsSoundAfter (Wait p) d = IsSound (counted d) (phase_of d p)
 IsSoundAfter (End a) d = IsSound d at.Idle
 IsSoundAfter (Enter r) d = IsHeld d
 

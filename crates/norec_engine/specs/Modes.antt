@@ -21,12 +21,12 @@ IsSoundIn true d phase = IsSoundHeld d phase
 
 -- whether its transaction is irrevocable after a turn
 abbrev pub mode_after : Bool → Turn → Bool
-mode_after irrevocable (Wait phase) = irrevocable
+mode_after irrevocable (Wait p) = irrevocable
 mode_after irrevocable (End a) = false
 mode_after irrevocable (Enter r) = true
 
 abbrev pub engine_after : Bool → Turn → Data → Core
-engine_after irrevocable turn d = engine_in (mode_after irrevocable turn) (data_after turn d) (phase_after turn)
+engine_after irrevocable turn d = engine_in (mode_after irrevocable turn) (data_after turn d) (phase_after turn d)
 
 abbrev pub IsSoundWith : Bool → Turn → Data → Type 0
-IsSoundWith irrevocable turn d = IsSoundIn (mode_after irrevocable turn) (data_after turn d) (phase_after turn)
+IsSoundWith irrevocable turn d = IsSoundIn (mode_after irrevocable turn) (data_after turn d) (phase_after turn d)

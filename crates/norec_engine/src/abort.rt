@@ -17,7 +17,7 @@ pub(crate) fn abort(state: &mut Data, outer: bool) -> Turn
     ensures sound { IsSoundTurn result state.new }
     ensures proceeds { Turns (came (core state.old Phase.Idle) (Call.Abort outer) false) result state.new }
     ensures stays { Stays state.old state.new }
-    ensures order { phase_after result ≡ Phase.Idle }
+    ensures order { phase_after result state.new ≡ Phase.Idle }
     ensures ends { TurnEndsSo None result }
     ensures tries { (core_after result state.new).tries ≡ 0 }
 {

@@ -22,7 +22,7 @@ pub(crate) fn refuse(state: &mut Data, why: Refusal) -> Turn
         → access_refusal (in_block state.old) state.old.words at size ≡ Some why
         → Turns (came (core state.old Phase.Idle) call false) result state.new }
     ensures stays { Stays state.old state.new }
-    ensures order { phase_after result ≡ Phase.Idle }
+    ensures order { phase_after result state.new ≡ Phase.Idle }
     ensures ends { TurnEndsSo None result }
     ensures tries { (core_after result state.new).tries ≡ 0 }
 {

@@ -17,7 +17,7 @@ use crate::commit::exchange;
 use itm_types::{Call, ENTERED, ENTERED_AGAIN, Props, Reply};
 use nest_frames::Frames;
 use norec_core::{Answer, Opening, Phase, Taking};
-use norec_data::{Data, Turn, begin_refusal};
+use norec_data::{Data, Pending, Turn, begin_refusal};
 use std::alloc::AllocError;
 
 /// A begin comes.
@@ -35,9 +35,9 @@ pub(crate) fn begin(
     ensures err { OnErr result (state.new ≡ state.old) }
     ensures starves { OnErr result (MayStarve (core state.old Phase.Idle) (Call.Begin props room)) }
     ensures order { IfOk result
-        (λ turn. phase_after turn ≡ stage_at (core state.old Phase.Idle) (Call.Begin props room) again) }
+        (λ turn. phase_after turn state.new ≡ stage_at (core state.old Phase.Idle) (Call.Begin props room) again) }
     ensures ends { IfOk result (TurnEndsSo (ending_at (core state.old Phase.Idle) (Call.Begin props room))) }
-    ensures tries { IfOk result (λ turn. (core_after turn state.new).tries ≡ tries_at (phase_after turn)) }
+    ensures tries { IfOk result (λ turn. (core_after turn state.new).tries ≡ tries_at (phase_after turn state.new)) }
 {
     if let Some(why) = begin_refusal(state, props) {
         state.come();
@@ -47,7 +47,8 @@ pub(crate) fn begin(
     state.come();
     if !state.is_open() {
         state.tries = 1;
-        Ok(Turn::Wait(Phase::Begin(Opening { props, room, again })))
+        state.opening = Opening { props, room, again };
+        Ok(Turn::Wait(Pending::Begin))
     } else if props.goes_irrevocable {
         state.tries = 0;
         Ok(exchange(state, Taking::Begin { props, room }))
@@ -71,19 +72,20 @@ fn reserve_room(frames: &mut Frames, props: Props, room: u32) -> Result<(), Allo
 }
 
 /// The clock was loaded for a begin.
-pub(crate) fn begin_seen(state: &mut Data, opening: Opening, seen: u64) -> Turn
-    requires sound { IsSound state.old (Phase.Begin opening) }
+pub(crate) fn begin_seen(state: &mut Data, seen: u64) -> Turn
+    requires sound { IsSound state.old (Phase.Begin state.old.opening) }
     requires fits { state.old.clock ≤ seen }
     ensures sound { IsSoundTurn result state.new }
-    ensures proceeds { Turns (handed (core state.old (Phase.Begin opening)) seen) result state.new }
-    ensures joins { Joins (core state.old (Phase.Begin opening)) seen (core_after result state.new) }
-    ensures order { phase_after result ≡ stage_after (core state.old (Phase.Begin opening)) seen }
-    ensures ends { TurnEndsSo (ending_after (core state.old (Phase.Begin opening)) seen) result }
-    ensures snapshot { state.new.snapshot ≡ snapshot_after (core state.old (Phase.Begin opening)) seen }
+    ensures proceeds { Turns (handed (core state.old (Phase.Begin state.old.opening)) seen) result state.new }
+    ensures joins { Joins (core state.old (Phase.Begin state.old.opening)) seen (core_after result state.new) }
+    ensures order { phase_after result state.new ≡ stage_after (core state.old (Phase.Begin state.old.opening)) seen }
+    ensures ends { TurnEndsSo (ending_after (core state.old (Phase.Begin state.old.opening)) seen) result }
+    ensures snapshot { state.new.snapshot ≡ snapshot_after (core state.old (Phase.Begin state.old.opening)) seen }
     ensures log { in_block state.new ≡ true
-        → state.new.log.rows ≡ log_after (core state.old (Phase.Begin opening)) seen }
-    ensures tries { (core_after result state.new).tries ≡ tries_after (phase_after result) state.old.tries }
+        → state.new.log.rows ≡ log_after (core state.old (Phase.Begin state.old.opening)) seen }
+    ensures tries { (core_after result state.new).tries ≡ tries_after (phase_after result state.new) state.old.tries }
 {
+    let opening = state.opening;
     state.clock = seen;
     if seen % 2 == 0 {
         state.snapshot = seen;
@@ -92,39 +94,40 @@ pub(crate) fn begin_seen(state: &mut Data, opening: Opening, seen: u64) -> Turn
         }
         let at = seen / 2;
         if at < state.limits.max_commits {
-            Turn::Wait(Phase::Take(opening))
+            Turn::Wait(Pending::Take)
         } else {
             Turn::End(Answer::Full { at })
         }
     } else if state.tries < state.limits.patience {
         state.tries += 1;
-        Turn::Wait(Phase::Begin(opening))
+        Turn::Wait(Pending::Begin)
     } else {
         Turn::End(Answer::Busy { clock: seen })
     }
 }
 
 /// The clock was taken for a begin that goes irrevocable, or another value was found in it.
-pub(crate) fn begin_taken(state: &mut Data, opening: Opening, seen: u64) -> Turn
-    requires sound { IsSound state.old (Phase.Take opening) }
+pub(crate) fn begin_taken(state: &mut Data, seen: u64) -> Turn
+    requires sound { IsSound state.old (Phase.Take state.old.opening) }
     requires fits { state.old.clock ≤ seen }
     ensures sound { IsSoundTurn result state.new }
-    ensures proceeds { Turns (handed (core state.old (Phase.Take opening)) seen) result state.new }
-    ensures joins { Joins (core state.old (Phase.Take opening)) seen (core_after result state.new) }
-    ensures order { phase_after result ≡ stage_after (core state.old (Phase.Take opening)) seen }
-    ensures ends { TurnEndsSo (ending_after (core state.old (Phase.Take opening)) seen) result }
-    ensures snapshot { state.new.snapshot ≡ snapshot_after (core state.old (Phase.Take opening)) seen }
+    ensures proceeds { Turns (handed (core state.old (Phase.Take state.old.opening)) seen) result state.new }
+    ensures joins { Joins (core state.old (Phase.Take state.old.opening)) seen (core_after result state.new) }
+    ensures order { phase_after result state.new ≡ stage_after (core state.old (Phase.Take state.old.opening)) seen }
+    ensures ends { TurnEndsSo (ending_after (core state.old (Phase.Take state.old.opening)) seen) result }
+    ensures snapshot { state.new.snapshot ≡ snapshot_after (core state.old (Phase.Take state.old.opening)) seen }
     ensures log { in_block state.new ≡ true
-        → state.new.log.rows ≡ log_after (core state.old (Phase.Take opening)) seen }
-    ensures tries { (core_after result state.new).tries ≡ tries_after (phase_after result) state.old.tries }
+        → state.new.log.rows ≡ log_after (core state.old (Phase.Take state.old.opening)) seen }
+    ensures tries { (core_after result state.new).tries ≡ tries_after (phase_after result state.new) state.old.tries }
 {
+    let opening = state.opening;
     state.clock = seen;
     if seen == state.snapshot {
         let reply = open(state, opening);
         Turn::Enter(reply)
     } else if state.tries < state.limits.patience {
         state.tries += 1;
-        Turn::Wait(Phase::Begin(opening))
+        Turn::Wait(Pending::Begin)
     } else {
         Turn::End(Answer::Conflict {
             clock: seen,

@@ -13,7 +13,7 @@ use crate::mode::go_irrevocable;
 use crate::rounds::try_round;
 use itm_types::{Call, Refusal, Reply};
 use norec_core::{Aim, Answer, Phase, Taking};
-use norec_data::{Data, Turn, finish, roll_back};
+use norec_data::{Cause, Data, Pending, Turn, finish, roll_back};
 
 /// A commit comes.
 pub(crate) fn commit(state: &mut Data) -> Turn
@@ -21,9 +21,9 @@ pub(crate) fn commit(state: &mut Data) -> Turn
     ensures sound { IsSoundTurn result state.new }
     ensures proceeds { Turns (came (core state.old Phase.Idle) Call.Commit false) result state.new }
     ensures stays { Stays state.old state.new }
-    ensures order { phase_after result ≡ stage_at (core state.old Phase.Idle) Call.Commit false }
+    ensures order { phase_after result state.new ≡ stage_at (core state.old Phase.Idle) Call.Commit false }
     ensures ends { TurnEndsSo (ending_at (core state.old Phase.Idle) Call.Commit) result }
-    ensures tries { (core_after result state.new).tries ≡ tries_at (phase_after result) }
+    ensures tries { (core_after result state.new).tries ≡ tries_at (phase_after result state.new) }
 {
     state.come();
     state.tries = 0;
@@ -50,13 +50,14 @@ pub(crate) fn exchange(state: &mut Data, taking: Taking) -> Turn
     // whatever the snapshot was before a round moved it
     ensures proceeds { (was : ℕ) → Turns (moved (between state.old (Aim.Take taking)) was) result state.new }
     ensures stays { Stays state.old state.new }
-    ensures order { phase_after result ≡ exchange_stage state.old.limits.max_commits state.old.snapshot taking }
+    ensures order { phase_after result state.new ≡ exchange_stage state.old.limits.max_commits state.old.snapshot taking }
     ensures ends { TurnEndsSo (Some (Answer.Full (state.old.snapshot / 2))) result }
-    ensures tries { (core_after result state.new).tries ≡ tries_after (phase_after result) state.old.tries }
+    ensures tries { (core_after result state.new).tries ≡ tries_after (phase_after result state.new) state.old.tries }
 {
     let at = state.snapshot / 2;
     if at < state.limits.max_commits {
-        Turn::Wait(Phase::Exchange(taking))
+        state.taking = taking;
+        Turn::Wait(Pending::Exchange)
     } else {
         roll_back(state);
         Turn::End(Answer::Full { at })
@@ -64,45 +65,46 @@ pub(crate) fn exchange(state: &mut Data, taking: Taking) -> Turn
 }
 
 /// The clock was taken, or another value was found in it.
-pub(crate) fn exchanged(state: &mut Data, taking: Taking, seen: u64) -> Turn
-    requires sound { IsSound state.old (Phase.Exchange taking) }
+pub(crate) fn exchanged(state: &mut Data, seen: u64) -> Turn
+    requires sound { IsSound state.old (Phase.Exchange state.old.taking) }
     requires fits { state.old.clock ≤ seen }
     ensures sound { IsSoundTurn result state.new }
-    ensures proceeds { Turns (handed (core state.old (Phase.Exchange taking)) seen) result state.new }
+    ensures proceeds { Turns (handed (core state.old (Phase.Exchange state.old.taking)) seen) result state.new }
     ensures stays { StaysBy result state.old state.new }
-    ensures order { phase_after result ≡ stage_after (core state.old (Phase.Exchange taking)) seen }
-    ensures ends { TurnEndsSo (ending_after (core state.old (Phase.Exchange taking)) seen) result }
-    ensures tries { (core_after result state.new).tries ≡ tries_after (phase_after result) state.old.tries }
+    ensures order { phase_after result state.new ≡ stage_after (core state.old (Phase.Exchange state.old.taking)) seen }
+    ensures ends { TurnEndsSo (ending_after (core state.old (Phase.Exchange state.old.taking)) seen) result }
+    ensures tries { (core_after result state.new).tries ≡ tries_after (phase_after result state.new) state.old.tries }
 {
     state.clock = seen;
     if seen == state.snapshot {
-        next_store(state, taking, 0)
+        next_store(state, 0)
     } else {
-        try_round(state, Aim::Take(taking))
+        try_round(state, Cause::Take)
     }
 }
 
 /// The next row is stored, or the clock is freed.
 #[inline(always)]
-fn next_store(state: &mut Data, taking: Taking, row: usize) -> Turn
-    requires may { InStores state.old taking row }
+fn next_store(state: &mut Data, row: usize) -> Turn
+    requires may { InStores state.old state.old.taking row }
     ensures sound { IsSoundTurn result state.new }
-    ensures proceeds { Turns (in_stores state.old taking row) result state.new }
+    ensures proceeds { Turns (in_stores state.old state.old.taking row) result state.new }
     ensures stays { StaysBy result state.old state.new }
-    ensures order { phase_after result ≡ store_stage taking state.old.frames.writes.rows row }
+    ensures order { phase_after result state.new ≡ store_stage state.old.taking state.old.frames.writes.rows row }
     ensures ends { TurnEndsSo None result }
-    ensures tries { (core_after result state.new).tries ≡ tries_after (phase_after result) state.old.tries }
+    ensures tries { (core_after result state.new).tries ≡ tries_after (phase_after result state.new) state.old.tries }
 {
     if row < state.frames.len() {
         let written = state.frames.row(row);
         if written.mask == u64::MAX {
-            Turn::Wait(Phase::Store(taking, row, None))
+            state.got = None;
+            Turn::Wait(Pending::Store(row))
         } else {
-            Turn::Wait(Phase::BackLoad(taking, row))
+            Turn::Wait(Pending::BackLoad(row))
         }
     } else {
-        match taking {
-            Taking::Commit => Turn::Wait(Phase::Free),
+        match state.taking {
+            Taking::Commit => Turn::Wait(Pending::Free),
             Taking::Mode { .. } => Turn::Enter(go_irrevocable(state, None)),
             Taking::Begin { props, .. } => Turn::Enter(go_irrevocable(state, Some(props))),
         }
@@ -110,30 +112,31 @@ fn next_store(state: &mut Data, taking: Taking, row: usize) -> Turn
 }
 
 /// The word of a row was loaded, to be stored with the row's part of it.
-pub(crate) fn back_loaded(state: &mut Data, taking: Taking, row: usize, seen: u64) -> Turn
-    requires sound { IsSound state.old (Phase.BackLoad taking row) }
+pub(crate) fn back_loaded(state: &mut Data, row: usize, seen: u64) -> Turn
+    requires sound { IsSound state.old (Phase.BackLoad state.old.taking row) }
     ensures sound { IsSoundTurn result state.new }
-    ensures proceeds { Turns (handed (core state.old (Phase.BackLoad taking row)) seen) result state.new }
+    ensures proceeds { Turns (handed (core state.old (Phase.BackLoad state.old.taking row)) seen) result state.new }
     ensures stays { Stays state.old state.new }
-    ensures order { phase_after result ≡ stage_after (core state.old (Phase.BackLoad taking row)) seen }
-    ensures ends { TurnEndsSo (ending_after (core state.old (Phase.BackLoad taking row)) seen) result }
-    ensures tries { (core_after result state.new).tries ≡ tries_after (phase_after result) state.old.tries }
+    ensures order { phase_after result state.new ≡ stage_after (core state.old (Phase.BackLoad state.old.taking row)) seen }
+    ensures ends { TurnEndsSo (ending_after (core state.old (Phase.BackLoad state.old.taking row)) seen) result }
+    ensures tries { (core_after result state.new).tries ≡ tries_after (phase_after result state.new) state.old.tries }
 {
-    Turn::Wait(Phase::Store(taking, row, Some(seen)))
+    state.got = Some(seen);
+    Turn::Wait(Pending::Store(row))
 }
 
 /// A row was stored.
-pub(crate) fn stored(state: &mut Data, taking: Taking, row: usize, got: Option<u64>) -> Turn
-    requires sound { IsSound state.old (Phase.Store taking row got) }
+pub(crate) fn stored(state: &mut Data, row: usize) -> Turn
+    requires sound { IsSound state.old (Phase.Store state.old.taking row state.old.got) }
     ensures sound { IsSoundTurn result state.new }
-    ensures proceeds { Turns (handed (core state.old (Phase.Store taking row got)) 0) result state.new }
+    ensures proceeds { Turns (handed (core state.old (Phase.Store state.old.taking row state.old.got)) 0) result state.new }
     ensures stays { StaysBy result state.old state.new }
-    ensures order { phase_after result ≡ stage_after (core state.old (Phase.Store taking row got)) 0 }
-    ensures ends { TurnEndsSo (ending_after (core state.old (Phase.Store taking row got)) 0) result }
-    ensures tries { (core_after result state.new).tries ≡ tries_after (phase_after result) state.old.tries }
+    ensures order { phase_after result state.new ≡ stage_after (core state.old (Phase.Store state.old.taking row state.old.got)) 0 }
+    ensures ends { TurnEndsSo (ending_after (core state.old (Phase.Store state.old.taking row state.old.got)) 0) result }
+    ensures tries { (core_after result state.new).tries ≡ tries_after (phase_after result state.new) state.old.tries }
 {
     let _rows = state.frames.len();
-    next_store(state, taking, row + 1)
+    next_store(state, row + 1)
 }
 
 /// The clock was freed.
@@ -142,9 +145,9 @@ pub(crate) fn freed(state: &mut Data) -> Turn
     ensures sound { IsSoundTurn result state.new }
     ensures proceeds { Turns (handed (core state.old Phase.Free) 0) result state.new }
     ensures stays { Stays state.old state.new }
-    ensures order { phase_after result ≡ stage_after (core state.old Phase.Free) 0 }
+    ensures order { phase_after result state.new ≡ stage_after (core state.old Phase.Free) 0 }
     ensures ends { TurnEndsSo (ending_after (core state.old Phase.Free) 0) result }
-    ensures tries { (core_after result state.new).tries ≡ tries_after (phase_after result) state.old.tries }
+    ensures tries { (core_after result state.new).tries ≡ tries_after (phase_after result state.new) state.old.tries }
 {
     let at = state.snapshot / 2;
     state.clock = state.snapshot + 2;

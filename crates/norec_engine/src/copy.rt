@@ -23,7 +23,7 @@ use crate::read::{MOST_PIECES, take_had};
 use itm_types::{Call, CopyPair, Copying, MAX_MEMORY, MAX_WORDS, Reply, Value};
 use nest_frames::Frames;
 use norec_core::{Answer, Phase, Purpose, Reading};
-use norec_data::{Data, Turn, chunk_reading, chunks, copy_refusal, direction};
+use norec_data::{Data, Pending, Turn, chunk_reading, chunks, copy_refusal, direction};
 use std::alloc::AllocError;
 use value_log::ValueLog;
 use word_pieces::{Chunks, Direction};
@@ -39,9 +39,9 @@ pub(crate) fn copy(state: &mut Data, copying: Copying) -> Result<Turn, AllocErro
     ensures err { OnErr result (core state.new Phase.Idle ≡ core state.old Phase.Idle) }
     ensures starves { OnErr result (MayStarve (core state.old Phase.Idle) (Call.Copy copying)) }
     ensures order { IfOk result
-        (λ turn. phase_after turn ≡ stage_at (core state.old Phase.Idle) (Call.Copy copying) false) }
+        (λ turn. phase_after turn state.new ≡ stage_at (core state.old Phase.Idle) (Call.Copy copying) false) }
     ensures ends { IfOk result (TurnEndsSo None) }
-    ensures tries { IfOk result (λ turn. (core_after turn state.new).tries ≡ tries_at (phase_after turn)) }
+    ensures tries { IfOk result (λ turn. (core_after turn state.new).tries ≡ tries_at (phase_after turn state.new)) }
 {
     if let Some(why) = copy_refusal(state, copying) {
         return Ok(refuse_copy(state, copying, why));
@@ -133,16 +133,17 @@ pub(crate) fn next_chunk(state: &mut Data, copying: Copying, number: u32) -> Tur
     // whatever the log was before a row joined it
     ensures proceeds { (log : List LogRow) → Turns (logged (in_copy state.old copying) log) result state.new }
     ensures stays { Stays state.old state.new }
-    ensures order { phase_after result
+    ensures order { phase_after result state.new
         ≡ load_chunks (rows_before state.old) state.old.log.rows copying number (drop number (chunks_in copying)) }
     ensures ends { TurnEndsSo None result }
-    ensures tries { (core_after result state.new).tries ≡ tries_after (phase_after result) state.old.tries }
+    ensures tries { (core_after result state.new).tries ≡ tries_after (phase_after result state.new) state.old.tries }
 {
     let mut number = number;
     while let Some(reading) = chunk_reading(copying, number) {
         state.gathered = Value::new();
         if let Some(next) = take_had(state, reading) {
-            return Turn::Wait(Phase::Load(next));
+            state.reading = next;
+            return Turn::Wait(Pending::Load);
         }
         keep_chunk(state, copying, number, reading);
         number += 1;
@@ -175,7 +176,7 @@ fn copied(state: &mut Data, copying: Copying) -> Turn
     ensures sound { IsSoundTurn result state.new }
     ensures proceeds { (log : List LogRow) → Turns (logged (in_copy state.old copying) log) result state.new }
     ensures stays { Stays state.old state.new }
-    ensures order { phase_after result ≡ Phase.Idle }
+    ensures order { phase_after result state.new ≡ Phase.Idle }
     ensures ends { TurnEndsSo None result }
     ensures tries { (core_after result state.new).tries ≡ 0 }
 {

@@ -7,11 +7,11 @@ ghost use Rattle.norec_core.specs.Order.{asked, log_after, snapshot_after, stage
 ghost use Rattle.norec_core.specs.Endings.{ending_at, ending_after, EndsSo};
 ghost use Rattle.norec_core.specs.Proceeds.{Proceeds, Joins, StaysOn, IsAtOnce, IsUndone, MayStarve, Fits, IsWithin, IsSettled};
 ghost use Rattle.norec_core.specs.Held.{ComesHeld, StepsHeld};
-ghost use Rattle.norec_data.specs.View.{in_block, core, waits_of, step_of as asked_step};
+ghost use Rattle.norec_data.specs.View.{in_block, core, phase_of, waits_of, step_of as asked_step};
 ghost use Rattle.norec_engine.specs.Modes.{mode_after, IsSoundIn, IsSoundWith};
 ghost use Rattle.norec_engine.specs.InPhases.{IsSound};
 ghost use Rattle.norec_engine.specs.Between.{IsSoundTurn};
-ghost use Rattle.norec_data.specs.Turns.{counted, core_after, phase_after, data_after, next_of, Asked, IsWaiting, Turns, TurnEndsSo, Stays};
+ghost use Rattle.norec_data.specs.Turns.{counted, core_after, pending_after, phase_after, data_after, next_of, Asked, IsWaiting, Turns, TurnEndsSo, Stays};
 ghost use Rattle.norec_core.specs.Undoing.{undone_of, after_undoing};
 
 use crate::abort::abort;
@@ -26,12 +26,12 @@ use crate::rounds::{round_ended, round_started, row_seen};
 use crate::steps::step_of;
 use crate::write::write;
 use itm_types::{
-    ActionKind, Call, Datum, Limits, MAX_COMMITS, MAX_PATIENCE, MAX_WORDS, Props, Ran, Step, Value,
-    Width,
+    ActionKind, Call, Datum, Limits, MAX_COMMITS, MAX_PATIENCE, MAX_WORDS, Props, Ran, ReadHint,
+    Step, Value, Width, WriteHint,
 };
 use nest_frames::Frames;
-use norec_core::{Answer, Next, Phase, Undone};
-use norec_data::{Data, Turn, roll_back};
+use norec_core::{Answer, Next, Opening, Phase, Purpose, Reading, Taking, Target, Undone, Writing};
+use norec_data::{Cause, Data, Pending, Turn, roll_back};
 use std::alloc::{AllocError, Global};
 use std::marker::Model;
 use undo_log::Arena;
@@ -44,7 +44,7 @@ use value_log::ValueLog;
 #[derive(Drop)]
 pub struct Engine {
     state: Data,
-    phase: Phase,
+    pending: Pending,
     /// The transaction is irrevocable: the clock is held from call to call.
     irrevocable: bool,
 }
@@ -55,10 +55,11 @@ impl Model for Engine {
     ghost Value = { Core };
 
     ghost use Rattle.norec_engine.specs.Modes.{engine_in, IsSoundIn};
+    ghost use Rattle.norec_data.specs.View.{phase_of};
 
-    ghost view = { λ e. engine_in e.irrevocable e.state e.phase };
+    ghost view = { λ e. engine_in e.irrevocable e.state (phase_of e.state e.pending) };
 
-    ghost invariant = { λ e. IsSoundIn e.irrevocable e.state e.phase };
+    ghost invariant = { λ e. IsSoundIn e.irrevocable e.state (phase_of e.state e.pending) };
 }
 
 impl Engine {
@@ -78,6 +79,32 @@ impl Engine {
                 snapshot: 0,
                 clock: 0,
                 log: ValueLog::new(alloc),
+                opening: Opening {
+                    props: Props::default(),
+                    room: 0,
+                    again: false,
+                },
+                reading: Reading {
+                    purpose: Purpose::Value {
+                        hint: ReadHint::R,
+                        width: Width::U1,
+                    },
+                    at: 0,
+                    size: 1,
+                    number: 0,
+                },
+                taking: Taking::Commit,
+                cause: Cause::Read,
+                got: None,
+                writing: Writing {
+                    target: Target::Value {
+                        hint: WriteHint::W,
+                        width: Width::U1,
+                    },
+                    at: 0,
+                    size: 1,
+                    number: 0,
+                },
                 gathered: Value::new(),
                 value: Datum::new(Width::U1, &[0]),
                 buffer: Vec::new(alloc),
@@ -86,7 +113,7 @@ impl Engine {
                 tries: 0,
                 spent: 0,
             },
-            phase: Phase::Idle,
+            pending: Pending::Idle,
             irrevocable: false,
         }
     }
@@ -117,7 +144,7 @@ impl Engine {
         };
         Ok(take(
             &mut self.state,
-            &mut self.phase,
+            &mut self.pending,
             &mut self.irrevocable,
             turn,
         ))
@@ -148,7 +175,7 @@ impl Engine {
         };
         Ok(take(
             &mut self.state,
-            &mut self.phase,
+            &mut self.pending,
             &mut self.irrevocable,
             turn,
         ))
@@ -173,13 +200,13 @@ impl Engine {
         ensures held { self.old.irrevocable ≡ true → StepsHeld self.old seen result self.new }
     {
         let turn = if self.irrevocable {
-            norec_irrevocable::resumed(&mut self.state, self.phase, seen)
+            norec_irrevocable::resumed(&mut self.state, self.pending, seen)
         } else {
-            turned(&mut self.state, self.phase, seen)
+            turned(&mut self.state, self.pending, seen)
         };
         take(
             &mut self.state,
-            &mut self.phase,
+            &mut self.pending,
             &mut self.irrevocable,
             turn,
         )
@@ -199,12 +226,12 @@ impl Engine {
         if self.irrevocable {
             return Undone::Held;
         }
-        match self.phase {
-            Phase::BackLoad(_, _) | Phase::Store(_, _, _) | Phase::Free => Undone::Held,
+        match self.pending {
+            Pending::BackLoad(_) | Pending::Store(_) | Pending::Free => Undone::Held,
             _ => {
                 let was_open = self.state.is_open();
                 roll_back(&mut self.state);
-                self.phase = Phase::Idle;
+                self.pending = Pending::Idle;
                 if was_open {
                     Undone::Done
                 } else {
@@ -218,8 +245,8 @@ impl Engine {
     pub fn waits(&self) -> bool
         ensures { result ≡ is_some self.now.waits }
     {
-        match self.phase {
-            Phase::Idle => false,
+        match self.pending {
+            Pending::Idle => false,
             _ => true,
         }
     }
@@ -228,15 +255,15 @@ impl Engine {
     pub fn fits(&self, seen: u64) -> bool
         ensures { IsTrue result ↔ Fits self.now seen }
     {
-        match self.phase {
-            Phase::Idle
-            | Phase::Load(_)
-            | Phase::RoundRow(_, _)
-            | Phase::BackLoad(_, _)
-            | Phase::Store(_, _, _)
-            | Phase::Fetch(_)
-            | Phase::Place(_, _)
-            | Phase::Free => true,
+        match self.pending {
+            Pending::Idle
+            | Pending::Load
+            | Pending::RoundRow(_)
+            | Pending::BackLoad(_)
+            | Pending::Store(_)
+            | Pending::Fetch
+            | Pending::Place
+            | Pending::Free => true,
             _ => self.state.clock <= seen,
         }
     }
@@ -279,7 +306,7 @@ impl Engine {
     {
         let Engine {
             state,
-            phase: _,
+            pending: _,
             irrevocable: _,
         } = self;
         state.arena
@@ -318,13 +345,13 @@ impl Engine {
     }
 }
 
-/// Takes a turn: the call goes on in its phase, or is over. A step that is asked for is counted.
+/// Takes a turn: the call goes on, or is over. A step that is asked for is counted.
 #[inline(always)]
-fn take(state: &mut Data, phase: &mut Phase, irrevocable: &mut bool, turn: Turn) -> Next
+fn take(state: &mut Data, pending: &mut Pending, irrevocable: &mut bool, turn: Turn) -> Next
     requires sound { IsSoundWith irrevocable.old turn state.old }
     requires asked { Asked turn }
     ensures state { state.new ≡ data_after turn state.old }
-    ensures phase { phase.new ≡ phase_after turn }
+    ensures pending { pending.new ≡ pending_after turn }
     ensures mode { irrevocable.new ≡ mode_after irrevocable.old turn }
     ensures next { result ≡ next_of turn state.old }
 {
@@ -332,68 +359,68 @@ fn take(state: &mut Data, phase: &mut Phase, irrevocable: &mut bool, turn: Turn)
         Turn::Wait(next) => {
             let step = next_step(state, *irrevocable, next);
             state.spent += 1;
-            *phase = next;
+            *pending = next;
             Next::Step(step)
         }
         Turn::End(answer) => {
-            *phase = Phase::Idle;
+            *pending = Pending::Idle;
             *irrevocable = false;
             Next::Answer(answer)
         }
         Turn::Enter(reply) => {
-            *phase = Phase::Idle;
+            *pending = Pending::Idle;
             *irrevocable = true;
             Next::Answer(Answer::Reply(reply))
         }
     }
 }
 
-/// The step that the phase waits for. There are fewer in all than a count can tell.
+/// The step that is waited for. There are fewer in all than a count can tell.
 #[inline(always)]
-fn next_step(state: &Data, irrevocable: bool, phase: Phase) -> Step
-    requires sound { IsSoundIn irrevocable (counted state.now) phase }
-    requires waits { IsWaiting phase }
-    ensures step { result ≡ asked_step state.now phase }
+fn next_step(state: &Data, irrevocable: bool, pending: Pending) -> Step
+    requires sound { IsSoundIn irrevocable (counted state.now) (phase_of state.now pending) }
+    requires waits { IsWaiting pending }
+    ensures step { result ≡ asked_step state.now (phase_of state.now pending) }
     ensures few { state.now.spent + 1 < 2 ^ 128 }
 {
     let _writes = state.frames.len();
     let _entry = state.entry;
     if irrevocable {
-        norec_irrevocable::step_of(state, phase)
+        norec_irrevocable::step_of(state, pending)
     } else {
-        step_of(state, phase)
+        step_of(state, pending)
     }
 }
 
-/// What comes of the step that the phase waits for.
-fn turned(state: &mut Data, phase: Phase, seen: u64) -> Turn
-    requires sound { IsSound state.old phase }
-    requires waits { IsSome (waits_of state.old phase) }
-    requires fits { Fits (core state.old phase) seen }
+/// What comes of the step that is waited for.
+fn turned(state: &mut Data, pending: Pending, seen: u64) -> Turn
+    requires sound { IsSound state.old (phase_of state.old pending) }
+    requires waits { IsSome (waits_of state.old (phase_of state.old pending)) }
+    requires fits { Fits (core state.old (phase_of state.old pending)) seen }
     ensures sound { IsSoundTurn result state.new }
-    ensures proceeds { Turns (handed (core state.old phase) seen) result state.new }
-    ensures joins { Joins (core state.old phase) seen (core_after result state.new) }
-    ensures order { phase_after result ≡ stage_after (core state.old phase) seen }
-    ensures ends { TurnEndsSo (ending_after (core state.old phase) seen) result }
-    ensures tries { (core_after result state.new).tries ≡ tries_after (phase_after result)
-        (core state.old phase).tries }
-    ensures snapshot { state.new.snapshot ≡ snapshot_after (core state.old phase) seen }
-    ensures log { in_block state.new ≡ true → state.new.log.rows ≡ log_after (core state.old phase) seen }
+    ensures proceeds { Turns (handed (core state.old (phase_of state.old pending)) seen) result state.new }
+    ensures joins { Joins (core state.old (phase_of state.old pending)) seen (core_after result state.new) }
+    ensures order { phase_after result state.new ≡ stage_after (core state.old (phase_of state.old pending)) seen }
+    ensures ends { TurnEndsSo (ending_after (core state.old (phase_of state.old pending)) seen) result }
+    ensures tries { (core_after result state.new).tries ≡ tries_after (phase_after result state.new)
+        (core state.old (phase_of state.old pending)).tries }
+    ensures snapshot { state.new.snapshot ≡ snapshot_after (core state.old (phase_of state.old pending)) seen }
+    ensures log { in_block state.new ≡ true → state.new.log.rows ≡ log_after (core state.old (phase_of state.old pending)) seen }
 {
-    match phase {
-        Phase::Idle => unreachable!(),
-        Phase::Begin(opening) => begin_seen(state, opening, seen),
-        Phase::Load(reading) => loaded(state, reading, seen),
-        Phase::Confirm(reading, value) => confirmed(state, reading, value, seen),
-        Phase::RoundStart(aim) => round_started(state, aim, seen),
-        Phase::RoundRow(aim, row) => row_seen(state, aim, row, seen),
-        Phase::RoundEnd(aim) => round_ended(state, aim, seen),
-        Phase::Take(opening) => begin_taken(state, opening, seen),
-        Phase::Exchange(taking) => exchanged(state, taking, seen),
-        Phase::BackLoad(taking, row) => back_loaded(state, taking, row, seen),
-        Phase::Store(taking, row, got) => stored(state, taking, row, got),
-        Phase::Free => freed(state),
-        Phase::Fetch(_) | Phase::Place(_, _) => unreachable!(),
+    match pending {
+        Pending::Idle => unreachable!(),
+        Pending::Begin => begin_seen(state, seen),
+        Pending::Load => loaded(state, seen),
+        Pending::Confirm(value) => confirmed(state, value, seen),
+        Pending::RoundStart => round_started(state, seen),
+        Pending::RoundRow(row) => row_seen(state, row, seen),
+        Pending::RoundEnd => round_ended(state, seen),
+        Pending::Take => begin_taken(state, seen),
+        Pending::Exchange => exchanged(state, seen),
+        Pending::BackLoad(row) => back_loaded(state, row, seen),
+        Pending::Store(row) => stored(state, row),
+        Pending::Free => freed(state),
+        Pending::Fetch | Pending::Place => unreachable!(),
     }
 }
 
@@ -406,9 +433,9 @@ fn called(state: &mut Data, call: &Call) -> Result<Turn, AllocError>
     ensures err_sound { OnErr result (IsSound state.new Phase.Idle) }
     ensures err { OnErr result (core state.new Phase.Idle ≡ core state.old Phase.Idle) }
     ensures starves { OnErr result (MayStarve (core state.old Phase.Idle) call.now) }
-    ensures order { IfOk result (λ turn. phase_after turn ≡ stage_at (core state.old Phase.Idle) call.now false) }
+    ensures order { IfOk result (λ turn. phase_after turn state.new ≡ stage_at (core state.old Phase.Idle) call.now false) }
     ensures ends { IfOk result (TurnEndsSo (ending_at (core state.old Phase.Idle) call.now)) }
-    ensures tries { IfOk result (λ turn. (core_after turn state.new).tries ≡ tries_at (phase_after turn)) }
+    ensures tries { IfOk result (λ turn. (core_after turn state.new).tries ≡ tries_at (phase_after turn state.new)) }
 {
     match call {
         Call::Begin { props, room } => begin(state, *props, *room, false),

@@ -27,7 +27,7 @@ pub(crate) fn fill(state: &mut Data, to: u64, byte: u64, size: u64) -> Result<Tu
     ensures err { OnErr result (core state.new Phase.Idle ≡ core state.old Phase.Idle) }
     ensures starves { OnErr result
         ((in_block state.old ≡ true) × (to + size ≤ 8 * state.old.words) × (0 < size)) }
-    ensures order { IfOk result (λ turn. phase_after turn ≡ Phase.Idle) }
+    ensures order { IfOk result (λ turn. phase_after turn state.new ≡ Phase.Idle) }
     ensures ends { IfOk result (TurnEndsSo None) }
     ensures tries { IfOk result (λ turn. (core_after turn state.new).tries ≡ 0) }
 {

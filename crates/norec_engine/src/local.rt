@@ -22,7 +22,7 @@ pub(crate) fn in_transaction(state: &mut Data) -> Turn
     ensures sound { IsSoundTurn result state.new }
     ensures proceeds { Turns (came (core state.old Phase.Idle) Call.InTransaction false) result state.new }
     ensures stays { Stays state.old state.new }
-    ensures order { phase_after result ≡ Phase.Idle }
+    ensures order { phase_after result state.new ≡ Phase.Idle }
     ensures ends { TurnEndsSo None result }
     ensures tries { (core_after result state.new).tries ≡ 0 }
 {
@@ -41,7 +41,7 @@ pub(crate) fn log(state: &mut Data, at: u64, size: u64) -> Result<Turn, AllocErr
     ensures err { OnErr result (state.new ≡ state.old) }
     ensures starves { OnErr result
         ((in_block state.old ≡ true) × (at + size ≤ length state.old.arena) × (0 < size)) }
-    ensures order { IfOk result (λ turn. phase_after turn ≡ Phase.Idle) }
+    ensures order { IfOk result (λ turn. phase_after turn state.new ≡ Phase.Idle) }
     ensures ends { IfOk result (TurnEndsSo None) }
     ensures tries { IfOk result (λ turn. (core_after turn state.new).tries ≡ 0) }
 {
@@ -71,7 +71,7 @@ pub(crate) fn register(
     ensures err { OnErr result (state.new ≡ state.old) }
     ensures starves { OnErr result
         ((in_block state.old ≡ true) × (kind ≡ ActionKind.Commit → state.old.frames.room ≡ 0)) }
-    ensures order { IfOk result (λ turn. phase_after turn ≡ Phase.Idle) }
+    ensures order { IfOk result (λ turn. phase_after turn state.new ≡ Phase.Idle) }
     ensures ends { IfOk result (TurnEndsSo None) }
     ensures tries { IfOk result (λ turn. (core_after turn state.new).tries ≡ 0) }
 {
@@ -91,7 +91,7 @@ pub(crate) fn load(state: &mut Data, width: Width, at: u64) -> Turn
     ensures sound { IsSoundTurn result state.new }
     ensures proceeds { Turns (came (core state.old Phase.Idle) (Call.Load width at) false) result state.new }
     ensures stays { Stays state.old state.new }
-    ensures order { phase_after result ≡ Phase.Idle }
+    ensures order { phase_after result state.new ≡ Phase.Idle }
     ensures ends { TurnEndsSo None result }
     ensures tries { (core_after result state.new).tries ≡ 0 }
 {
@@ -109,7 +109,7 @@ pub(crate) fn save(state: &mut Data, at: u64, value: &Datum) -> Turn
     ensures sound { IsSoundTurn result state.new }
     ensures proceeds { Turns (came (core state.old Phase.Idle) (Call.Save at value.now) false) result state.new }
     ensures stays { Stays state.old state.new }
-    ensures order { phase_after result ≡ Phase.Idle }
+    ensures order { phase_after result state.new ≡ Phase.Idle }
     ensures ends { TurnEndsSo None result }
     ensures tries { (core_after result state.new).tries ≡ 0 }
 {

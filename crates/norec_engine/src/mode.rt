@@ -28,9 +28,9 @@ pub(crate) fn mode(state: &mut Data, room: u32) -> Result<Turn, AllocError>
     ensures stays { OnOk result (Stays state.old state.new) }
     ensures err { OnErr result (state.new ≡ state.old) }
     ensures starves { OnErr result (MayStarve (core state.old Phase.Idle) (Call.Mode room)) }
-    ensures order { IfOk result (λ turn. phase_after turn ≡ stage_at (core state.old Phase.Idle) (Call.Mode room) false) }
+    ensures order { IfOk result (λ turn. phase_after turn state.new ≡ stage_at (core state.old Phase.Idle) (Call.Mode room) false) }
     ensures ends { IfOk result (TurnEndsSo (ending_at (core state.old Phase.Idle) (Call.Mode room))) }
-    ensures tries { IfOk result (λ turn. (core_after turn state.new).tries ≡ tries_at (phase_after turn)) }
+    ensures tries { IfOk result (λ turn. (core_after turn state.new).tries ≡ tries_at (phase_after turn state.new)) }
 {
     if let Some(why) = mode_refusal(state) {
         state.come();

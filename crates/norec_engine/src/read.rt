@@ -22,7 +22,7 @@ use crate::copy::{keep_chunk, next_chunk};
 use crate::rounds::try_round;
 use itm_types::{Call, LogRow, MAX_WORDS, ReadHint, Reply, Value, Width};
 use norec_core::{Aim, Answer, Phase, Purpose, Reading};
-use norec_data::{Data, Turn, access_refusal};
+use norec_data::{Cause, Data, Pending, Turn, access_refusal};
 use std::alloc::AllocError;
 use std::mem;
 use word_pieces::{Piece, merge};
@@ -46,9 +46,9 @@ pub(crate) fn read(
     ensures err { OnErr result (core state.new Phase.Idle ≡ core state.old Phase.Idle) }
     ensures starves { OnErr result (MayStarve (core state.old Phase.Idle) (Call.Read hint width at)) }
     ensures order { IfOk result
-        (λ turn. phase_after turn ≡ stage_at (core state.old Phase.Idle) (Call.Read hint width at) false) }
+        (λ turn. phase_after turn state.new ≡ stage_at (core state.old Phase.Idle) (Call.Read hint width at) false) }
     ensures ends { IfOk result (TurnEndsSo (ending_at (core state.old Phase.Idle) (Call.Read hint width at))) }
-    ensures tries { IfOk result (λ turn. (core_after turn state.new).tries ≡ tries_at (phase_after turn)) }
+    ensures tries { IfOk result (λ turn. (core_after turn state.new).tries ≡ tries_at (phase_after turn state.new)) }
 {
     if let Some(why) = access_refusal(state, at, u64::from(width.size())) {
         return Ok(refuse(state, why));
@@ -65,7 +65,8 @@ pub(crate) fn read(
         Some(next) => {
             state.log.reserve(MOST_PIECES)?;
             start(state);
-            Ok(Turn::Wait(Phase::Load(next)))
+            state.reading = next;
+            Ok(Turn::Wait(Pending::Load))
         }
         None => {
             start(state);
@@ -90,7 +91,7 @@ fn reply_gathered(state: &mut Data, reading: Reading) -> Turn
     ensures proceeds { (log : List LogRow)
         → Turns (logged (between state.old (Aim.Read reading)) log) result state.new }
     ensures stays { Stays state.old state.new }
-    ensures order { phase_after result ≡ Phase.Idle }
+    ensures order { phase_after result state.new ≡ Phase.Idle }
     ensures ends { TurnEndsSo None result }
     ensures tries { (core_after result state.new).tries ≡ 0 }
 {
@@ -106,12 +107,13 @@ pub(crate) fn go_on(state: &mut Data, reading: Reading) -> Turn
     ensures proceeds { (log : List LogRow)
         → Turns (logged (between state.old (Aim.Read reading)) log) result state.new }
     ensures stays { Stays state.old state.new }
-    ensures order { phase_after result ≡ load_stage (rows_before state.old) state.old.log.rows reading }
+    ensures order { phase_after result state.new ≡ load_stage (rows_before state.old) state.old.log.rows reading }
     ensures ends { TurnEndsSo None result }
-    ensures tries { (core_after result state.new).tries ≡ tries_after (phase_after result) state.old.tries }
+    ensures tries { (core_after result state.new).tries ≡ tries_after (phase_after result state.new) state.old.tries }
 {
     if let Some(next) = take_had(state, reading) {
-        return Turn::Wait(Phase::Load(next));
+        state.reading = next;
+        return Turn::Wait(Pending::Load);
     }
     match reading.purpose {
         Purpose::Value { .. } => reply_gathered(state, reading),
@@ -191,32 +193,33 @@ fn overlaid(state: &Data, word: u32, value: u64) -> u64
 }
 
 /// A word was loaded, to be confirmed.
-pub(crate) fn loaded(state: &mut Data, reading: Reading, seen: u64) -> Turn
-    requires sound { IsSound state.old (Phase.Load reading) }
+pub(crate) fn loaded(state: &mut Data, seen: u64) -> Turn
+    requires sound { IsSound state.old (Phase.Load state.old.reading) }
     ensures sound { IsSoundTurn result state.new }
-    ensures proceeds { Turns (handed (core state.old (Phase.Load reading)) seen) result state.new }
+    ensures proceeds { Turns (handed (core state.old (Phase.Load state.old.reading)) seen) result state.new }
     ensures stays { Stays state.old state.new }
-    ensures order { phase_after result ≡ stage_after (core state.old (Phase.Load reading)) seen }
-    ensures ends { TurnEndsSo (ending_after (core state.old (Phase.Load reading)) seen) result }
-    ensures tries { (core_after result state.new).tries ≡ tries_after (phase_after result) state.old.tries }
+    ensures order { phase_after result state.new ≡ stage_after (core state.old (Phase.Load state.old.reading)) seen }
+    ensures ends { TurnEndsSo (ending_after (core state.old (Phase.Load state.old.reading)) seen) result }
+    ensures tries { (core_after result state.new).tries ≡ tries_after (phase_after result state.new) state.old.tries }
 {
-    Turn::Wait(Phase::Confirm(reading, seen))
+    Turn::Wait(Pending::Confirm(seen))
 }
 
 /// The clock was loaded to confirm a word.
-pub(crate) fn confirmed(state: &mut Data, reading: Reading, value: u64, seen: u64) -> Turn
-    requires sound { IsSound state.old (Phase.Confirm reading value) }
+pub(crate) fn confirmed(state: &mut Data, value: u64, seen: u64) -> Turn
+    requires sound { IsSound state.old (Phase.Confirm state.old.reading value) }
     requires fits { state.old.clock ≤ seen }
     ensures sound { IsSoundTurn result state.new }
-    ensures proceeds { Turns (handed (core state.old (Phase.Confirm reading value)) seen) result state.new }
-    ensures joins { Joins (core state.old (Phase.Confirm reading value)) seen (core_after result state.new) }
-    ensures order { phase_after result ≡ stage_after (core state.old (Phase.Confirm reading value)) seen }
-    ensures ends { TurnEndsSo (ending_after (core state.old (Phase.Confirm reading value)) seen) result }
-    ensures snapshot { state.new.snapshot ≡ snapshot_after (core state.old (Phase.Confirm reading value)) seen }
+    ensures proceeds { Turns (handed (core state.old (Phase.Confirm state.old.reading value)) seen) result state.new }
+    ensures joins { Joins (core state.old (Phase.Confirm state.old.reading value)) seen (core_after result state.new) }
+    ensures order { phase_after result state.new ≡ stage_after (core state.old (Phase.Confirm state.old.reading value)) seen }
+    ensures ends { TurnEndsSo (ending_after (core state.old (Phase.Confirm state.old.reading value)) seen) result }
+    ensures snapshot { state.new.snapshot ≡ snapshot_after (core state.old (Phase.Confirm state.old.reading value)) seen }
     ensures log { in_block state.new ≡ true
-        → state.new.log.rows ≡ log_after (core state.old (Phase.Confirm reading value)) seen }
-    ensures tries { (core_after result state.new).tries ≡ tries_after (phase_after result) state.old.tries }
+        → state.new.log.rows ≡ log_after (core state.old (Phase.Confirm state.old.reading value)) seen }
+    ensures tries { (core_after result state.new).tries ≡ tries_after (phase_after result state.new) state.old.tries }
 {
+    let reading = state.reading;
     state.clock = seen;
     if seen == state.snapshot {
         let Some(piece) = reading.piece() else {
@@ -231,6 +234,6 @@ pub(crate) fn confirmed(state: &mut Data, reading: Reading, value: u64, seen: u6
         piece.gather(word, &mut state.gathered);
         go_on(state, reading.next())
     } else {
-        try_round(state, Aim::Read(reading))
+        try_round(state, Cause::Read)
     }
 }

@@ -39,9 +39,9 @@ pub(crate) fn write(
     ensures err { OnErr result (core state.new Phase.Idle ≡ core state.old Phase.Idle) }
     ensures starves { OnErr result (MayStarve (core state.old Phase.Idle) (Call.Write hint at value.now)) }
     ensures order { IfOk result
-        (λ turn. phase_after turn ≡ stage_at (core state.old Phase.Idle) (Call.Write hint at value.now) false) }
+        (λ turn. phase_after turn state.new ≡ stage_at (core state.old Phase.Idle) (Call.Write hint at value.now) false) }
     ensures ends { IfOk result (TurnEndsSo (ending_at (core state.old Phase.Idle) (Call.Write hint at value.now))) }
-    ensures tries { IfOk result (λ turn. (core_after turn state.new).tries ≡ tries_at (phase_after turn)) }
+    ensures tries { IfOk result (λ turn. (core_after turn state.new).tries ≡ tries_at (phase_after turn state.new)) }
 {
     if let Some(why) = access_refusal(state, at, u64::from(value.width.size())) {
         return Ok(refuse(state, why));

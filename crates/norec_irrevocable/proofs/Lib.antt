@@ -3,6 +3,7 @@ pub mod KeptStates
 pub mod HeldReplies
 pub mod HeldBlocks
 pub mod PlacedPieces
+pub mod NextPlaces
 pub mod HeldAccesses
 pub mod HeldDone
 pub mod HeldCopies

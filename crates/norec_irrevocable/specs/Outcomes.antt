@@ -15,18 +15,18 @@ use Rattle.norec_data.specs.declared.turn.Turn.{Turn}
 use Rattle.norec_data.specs.declared.turn.Turn.TheVariants.{Wait, End, Enter}
 use Rattle.norec_data.specs.Bounds.{IsHeld, IsOver}
 use Rattle.norec_data.specs.Turns.{counted, next_of, IsWaiting}
-use Rattle.norec_data.specs.View.{core, core_held, held}
+use Rattle.norec_data.specs.View.{core, core_held, held, phase_of}
 use Rattle.norec_irrevocable.specs.Phases.{IsSoundHeld}
 
 -- ## A turn
 
 abbrev pub held_after : Turn → Data → Core
-held_after (Wait phase) d = held (counted d) phase
+held_after (Wait p) d = held (counted d) (phase_of d p)
 held_after (End a) d = core d Idle
 held_after (Enter r) d = core_held d
 
 abbrev pub IsSoundAfter : Turn → Data → Type 0
-IsSoundAfter (Wait phase) d = IsSoundHeld (counted d) phase × IsWaiting phase
+IsSoundAfter (Wait p) d = IsSoundHeld (counted d) (phase_of d p) × IsWaiting p
 IsSoundAfter (End a) d = IsOver d
 IsSoundAfter (Enter r) d = IsHeld d
 

@@ -4,27 +4,32 @@ ghost use Rattle.std.specs.Prelude.{◌≡◌, ◌<◌, ◌≤◌, ◌+◌, IfSo
 ghost use Rattle.itm_types.specs.Slices.{AreBytes};
 ghost use Rattle.word_pieces.specs.Pieces.{count_of};
 ghost use Rattle.norec_core.specs.Order.{place_from};
+ghost use Rattle.norec_core.specs.declared.phase.Phase.{Phase};
 ghost use Rattle.norec_data.specs.Turns.{Stays};
+ghost use Rattle.norec_data.specs.declared.data.Data.{Data};
+ghost use Rattle.norec_data.specs.View.{phase_of};
 ghost use Rattle.norec_irrevocable.specs.Phases.{IsNext};
 
 use itm_types::{MAX_MEMORY, Value};
-use norec_core::{Phase, Writing};
+use norec_core::Writing;
+use norec_data::Pending;
 use word_pieces::piece_at;
 
 /// What the access waits for at its piece, if there are as many: a piece of a whole word is stored at once, and of
 /// another one the word is loaded first.
-pub(crate) fn next_place(writing: Writing) -> Option<Phase>
+pub(crate) fn next_place(writing: Writing) -> Option<Pending>
     requires place { writing.at + writing.size ≤ MAX_MEMORY }
     requires small { writing.size ≤ 32 }
-    ensures some { IfSome result (IsNext writing) }
+    ensures some { IfSome result (λ pending. (d : Data) → d.writing ≡ writing → d.got ≡ None
+        → IsNext writing (phase_of d pending)) }
     ensures none { IfNone result ((past : Phase) → place_from past writing ≡ past) }
     ensures past { IfNone result (count_of writing.at writing.size ≤ writing.number) }
 {
     let piece = piece_at(writing.at, writing.size, writing.number)?;
     Some(if piece.mask() == u64::MAX {
-        Phase::Place(writing, None)
+        Pending::Place
     } else {
-        Phase::Fetch(writing)
+        Pending::Fetch
     })
 }
 

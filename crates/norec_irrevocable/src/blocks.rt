@@ -14,8 +14,8 @@ ghost use Rattle.norec_irrevocable.specs.Outcomes.{kept, ComesBy, HeldTurns, IsS
 ghost use Rattle.norec_irrevocable.specs.Phases.{IsSoundHeld};
 
 use itm_types::{Call, ENTERED, Props, Refusal, Reply};
-use norec_core::{Answer, Phase};
-use norec_data::{Data, Turn, begin_refusal, finish, mode_refusal};
+use norec_core::Answer;
+use norec_data::{Data, Pending, Turn, begin_refusal, finish, mode_refusal};
 
 /// A block begins.
 pub(crate) fn begin(state: &mut Data, props: Props, room: u32) -> Turn
@@ -25,7 +25,7 @@ pub(crate) fn begin(state: &mut Data, props: Props, room: u32) -> Turn
     ensures comes { ComesBy state.old (λ m. after MAX_OPEN_BLOCKS (kept state.old m) (Call.Begin props room))
         (λ m. reply MAX_OPEN_BLOCKS (kept state.old m) (Call.Begin props room)) result state.new }
     ensures stays { Stays state.old state.new }
-    ensures order { phase_after result ≡ Idle }
+    ensures order { phase_after result state.new ≡ Idle }
 {
     let _room = room;
     let refused = begin_refusal(state, props);
@@ -47,11 +47,11 @@ pub(crate) fn commit(state: &mut Data) -> Turn
     ensures comes { ComesBy state.old (λ m. after MAX_OPEN_BLOCKS (kept state.old m) Call.Commit)
         (λ m. reply MAX_OPEN_BLOCKS (kept state.old m) Call.Commit) result state.new }
     ensures stays { Stays state.old state.new }
-    ensures order { phase_after result ≡ stage_at (core_held state.old) Call.Commit false }
+    ensures order { phase_after result state.new ≡ stage_at (core_held state.old) Call.Commit false }
 {
     state.come();
     if state.is_outermost() {
-        Turn::Wait(Phase::Free)
+        Turn::Wait(Pending::Free)
     } else {
         state.frames.leave();
         Turn::Enter(Reply::Done)
@@ -66,7 +66,7 @@ pub(crate) fn abort(state: &mut Data, outer: bool) -> Turn
     ensures comes { ComesBy state.old (λ m. after MAX_OPEN_BLOCKS (kept state.old m) (Call.Abort outer))
         (λ m. reply MAX_OPEN_BLOCKS (kept state.old m) (Call.Abort outer)) result state.new }
     ensures stays { Stays state.old state.new }
-    ensures order { phase_after result ≡ Idle }
+    ensures order { phase_after result state.new ≡ Idle }
 {
     let why = abort_refusal(state, outer);
     state.come();
@@ -92,7 +92,7 @@ pub(crate) fn mode(state: &mut Data, room: u32) -> Turn
     ensures comes { ComesBy state.old (λ m. after MAX_OPEN_BLOCKS (kept state.old m) (Call.Mode room))
         (λ m. reply MAX_OPEN_BLOCKS (kept state.old m) (Call.Mode room)) result state.new }
     ensures stays { Stays state.old state.new }
-    ensures order { phase_after result ≡ Idle }
+    ensures order { phase_after result state.new ≡ Idle }
 {
     let _room = room;
     let refused = mode_refusal(state);
@@ -110,7 +110,7 @@ pub(crate) fn freed(state: &mut Data) -> Turn
     ensures proceeds { HeldTurns (handed (held state.old Free) 0) result state.new }
     ensures steps { Steps state.old Free 0 result state.new }
     ensures stays { Stays state.old state.new }
-    ensures order { phase_after result ≡ Idle }
+    ensures order { phase_after result state.new ≡ Idle }
 {
     let at = state.snapshot / 2;
     state.clock = state.snapshot + 2;

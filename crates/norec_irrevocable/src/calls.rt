@@ -9,7 +9,7 @@ ghost use Rattle.norec_core.specs.Order.{snapshot_after, stage_after, stage_at};
 ghost use Rattle.norec_core.specs.Proceeds.{MayStarve};
 ghost use Rattle.norec_data.specs.Bounds.{IsHeld};
 ghost use Rattle.norec_data.specs.Turns.{phase_after, IsWaiting, Stays, TurnEndsSo};
-ghost use Rattle.norec_data.specs.View.{core_held, held};
+ghost use Rattle.norec_data.specs.View.{core_held, held, phase_of};
 ghost use Rattle.norec_irrevocable.specs.Outcomes.{kept, ComesBy, HeldTurns, IsSoundAfter, Steps};
 ghost use Rattle.norec_irrevocable.specs.Phases.{IsSoundHeld};
 
@@ -20,8 +20,7 @@ use crate::local::{accept_undo, in_transaction, load, log, register, save};
 use crate::read::{loaded, read};
 use crate::write::{fetched, placed, write};
 use itm_types::Call;
-use norec_core::Phase;
-use norec_data::{Data, Turn};
+use norec_data::{Data, Pending, Turn};
 use std::alloc::AllocError;
 
 /// A call comes.
@@ -34,7 +33,7 @@ pub fn called(state: &mut Data, call: &Call) -> Result<Turn, AllocError>
     ensures stays { OnOk result (Stays state.old state.new) }
     ensures err { OnErr result (state.new ≡ state.old) }
     ensures starves { OnErr result (MayStarve (core_held state.old) call.now) }
-    ensures order { IfOk result (λ turn. phase_after turn ≡ stage_at (core_held state.old) call.now false) }
+    ensures order { IfOk result (λ turn. phase_after turn state.new ≡ stage_at (core_held state.old) call.now false) }
     ensures ends { IfOk result (TurnEndsSo (ending_at (core_held state.old) call.now)) }
 {
     match call {
@@ -61,23 +60,23 @@ pub fn called(state: &mut Data, call: &Call) -> Result<Turn, AllocError>
     }
 }
 
-/// What comes of the step that the phase waits for.
-pub fn resumed(state: &mut Data, phase: Phase, seen: u64) -> Turn
-    requires sound { IsSoundHeld state.old phase }
-    requires waits { IsWaiting phase }
+/// What comes of the step that is waited for.
+pub fn resumed(state: &mut Data, pending: Pending, seen: u64) -> Turn
+    requires sound { IsSoundHeld state.old (phase_of state.old pending) }
+    requires waits { IsWaiting pending }
     ensures sound { IsSoundAfter result state.new }
-    ensures proceeds { HeldTurns (handed (held state.old phase) seen) result state.new }
-    ensures steps { Steps state.old phase seen result state.new }
+    ensures proceeds { HeldTurns (handed (held state.old (phase_of state.old pending)) seen) result state.new }
+    ensures steps { Steps state.old (phase_of state.old pending) seen result state.new }
     ensures stays { Stays state.old state.new }
-    ensures order { phase_after result ≡ stage_after (held state.old phase) seen }
-    ensures ends { TurnEndsSo (ending_after (held state.old phase) seen) result }
-    ensures snapshot { state.new.snapshot ≡ snapshot_after (held state.old phase) seen }
+    ensures order { phase_after result state.new ≡ stage_after (held state.old (phase_of state.old pending)) seen }
+    ensures ends { TurnEndsSo (ending_after (held state.old (phase_of state.old pending)) seen) result }
+    ensures snapshot { state.new.snapshot ≡ snapshot_after (held state.old (phase_of state.old pending)) seen }
 {
-    match phase {
-        Phase::Load(reading) => loaded(state, reading, seen),
-        Phase::Fetch(writing) => fetched(state, writing, seen),
-        Phase::Place(writing, got) => placed(state, writing, got),
-        Phase::Free => freed(state),
+    match pending {
+        Pending::Load => loaded(state, seen),
+        Pending::Fetch => fetched(state, seen),
+        Pending::Place => placed(state),
+        Pending::Free => freed(state),
         _ => unreachable!(),
     }
 }

@@ -10,6 +10,7 @@ ghost use Rattle.norec_core.specs.Core.{came, handed};
 ghost use Rattle.norec_core.specs.Held.{answers, leaves};
 ghost use Rattle.norec_core.specs.Order.{chunk_from, place_from, stage_after, stage_at};
 ghost use Rattle.norec_core.specs.Parts.{copied_each};
+ghost use Rattle.norec_core.specs.declared.phase.Phase.{Phase};
 ghost use Rattle.norec_data.specs.Bounds.{IsHeld};
 ghost use Rattle.norec_data.specs.Turns.{phase_after, Stays};
 ghost use Rattle.norec_data.specs.View.{core_held, held};
@@ -19,8 +20,8 @@ ghost use Rattle.norec_irrevocable.specs.Phases.{steps_before, IsServed, MayCopy
 use crate::access::{are_bytes, value_of};
 use crate::write::start;
 use itm_types::{Call, CopyPair, Copying, Reply, Value};
-use norec_core::{Phase, Target, Writing};
-use norec_data::{Data, Turn, chunk_reading, chunks, copy_refusal};
+use norec_core::{Target, Writing};
+use norec_data::{Data, Pending, Turn, chunk_reading, chunks, copy_refusal};
 
 /// A copy comes.
 pub(crate) fn copy(state: &mut Data, copying: Copying) -> Turn
@@ -30,7 +31,7 @@ pub(crate) fn copy(state: &mut Data, copying: Copying) -> Turn
     ensures comes { ComesBy state.old (λ m. after MAX_OPEN_BLOCKS (kept state.old m) (Call.Copy copying))
         (λ m. reply MAX_OPEN_BLOCKS (kept state.old m) (Call.Copy copying)) result state.new }
     ensures stays { Stays state.old state.new }
-    ensures order { phase_after result ≡ stage_at (core_held state.old) (Call.Copy copying) false }
+    ensures order { phase_after result state.new ≡ stage_at (core_held state.old) (Call.Copy copying) false }
 {
     let refused = copy_refusal(state, copying);
     state.come();
@@ -48,7 +49,7 @@ pub(crate) fn chunk_on(state: &mut Data, copying: Copying, number: u32) -> Turn
     ensures proceeds { (bytes : List ℕ) → HeldTurns (in_call state.old (Call.Copy copying) bytes) result state.new }
     ensures comes { ComesBy state.old (λ m. copied_each (kept state.old m) copying (drop number (chunks_in copying))) (λ m. Done) result state.new }
     ensures stays { Stays state.old state.new }
-    ensures order { phase_after result ≡ chunk_from copying number }
+    ensures order { phase_after result state.new ≡ chunk_from copying number }
 {
     match copying.pair {
         CopyPair::Out(_) => send_chunk(state, copying, number),
@@ -65,7 +66,7 @@ fn send_chunk(state: &mut Data, copying: Copying, number: u32) -> Turn
     ensures proceeds { (bytes : List ℕ) → HeldTurns (in_call state.old (Call.Copy copying) bytes) result state.new }
     ensures comes { ComesBy state.old (λ m. copied_each (kept state.old m) copying (drop number (chunks_in copying))) (λ m. Done) result state.new }
     ensures stays { Stays state.old state.new }
-    ensures order { phase_after result ≡ chunk_from copying number }
+    ensures order { phase_after result state.new ≡ chunk_from copying number }
 {
     let Some(chunk) = chunks(copying).get(number) else {
         return Turn::Enter(Reply::Done);
@@ -86,13 +87,14 @@ fn load_chunk(state: &mut Data, copying: Copying, number: u32) -> Turn
     ensures proceeds { (bytes : List ℕ) → HeldTurns (in_call state.old (Call.Copy copying) bytes) result state.new }
     ensures comes { ComesBy state.old (λ m. copied_each (kept state.old m) copying (drop number (chunks_in copying))) (λ m. Done) result state.new }
     ensures stays { Stays state.old state.new }
-    ensures order { phase_after result ≡ chunk_from copying number }
+    ensures order { phase_after result state.new ≡ chunk_from copying number }
 {
     let Some(reading) = chunk_reading(copying, number) else {
         return Turn::Enter(Reply::Done);
     };
     state.gathered = Value::new();
-    Turn::Wait(Phase::Load(reading))
+    state.reading = reading;
+    Turn::Wait(Pending::Load)
 }
 
 /// The bytes of a chunk, so far from the first of the copy, are gathered: they are written.
@@ -109,8 +111,8 @@ pub(crate) fn store_chunk(
     ensures proceeds { HeldTurns (in_call state.old (Call.Copy copying) state.old.gathered.items) result state.new }
     ensures comes { ComesBy state.old (λ m. copied_each (written (kept state.old m) (copying.to + at) state.old.gathered.items) copying (drop (number + 1) (chunks_in copying)))
         (λ m. Done) result state.new }
-    ensures same { state.new ≡ state.old }
-    ensures order { (past : Phase) → phase_after result ≡ place_from past (record {
+    ensures frame { state.new ≡ record state.old { writing = state.new.writing; got = state.new.got } }
+    ensures order { (past : Phase) → phase_after result state.new ≡ place_from past (record {
       target = Target.Chunk copying number;
       at = copying.to + at;
       size = size;

@@ -30,7 +30,7 @@ pub(crate) fn fill(state: &mut Data, hint: WriteHint, to: u64, byte: u64, size: 
     ensures comes { ComesBy state.old (λ m. after MAX_OPEN_BLOCKS (kept state.old m) (Call.Fill hint to byte size))
         (λ m. reply MAX_OPEN_BLOCKS (kept state.old m) (Call.Fill hint to byte size)) result state.new }
     ensures stays { Stays state.old state.new }
-    ensures order { phase_after result ≡ stage_at (core_held state.old) (Call.Fill hint to byte size) false }
+    ensures order { phase_after result state.new ≡ stage_at (core_held state.old) (Call.Fill hint to byte size) false }
 {
     let refused = access_refusal(state, to, size);
     state.come();
@@ -55,7 +55,7 @@ pub(crate) fn fill_on(
     ensures proceeds { (bytes : List ℕ) → HeldTurns (in_call state.old (Call.Fill hint to byte size) bytes) result state.new }
     ensures comes { ComesBy state.old (λ m. filled_each (kept state.old m) to (byte % 256) (drop number (chunks_of Up size))) (λ m. Done) result state.new }
     ensures stays { Stays state.old state.new }
-    ensures order { phase_after result ≡ fill_from hint to byte size number }
+    ensures order { phase_after result state.new ≡ fill_from hint to byte size number }
 {
     let Some(chunk) = Chunks::new(size as u32, Direction::Up).get(number) else {
         return Turn::Enter(Reply::Done);

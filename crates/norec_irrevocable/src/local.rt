@@ -24,7 +24,7 @@ pub(crate) fn in_transaction(state: &mut Data) -> Turn
     ensures comes { ComesBy state.old (λ m. after MAX_OPEN_BLOCKS (kept state.old m) Call.InTransaction)
         (λ m. reply MAX_OPEN_BLOCKS (kept state.old m) Call.InTransaction) result state.new }
     ensures stays { Stays state.old state.new }
-    ensures order { phase_after result ≡ Idle }
+    ensures order { phase_after result state.new ≡ Idle }
 {
     state.come();
     Turn::Enter(Reply::Code(IRREVOCABLE))
@@ -40,7 +40,7 @@ pub(crate) fn log(state: &mut Data, at: u64, size: u64) -> Turn
         → ComesBy state.old (λ m. after MAX_OPEN_BLOCKS (kept state.old m) call)
         (λ m. reply MAX_OPEN_BLOCKS (kept state.old m) call) result state.new }
     ensures stays { Stays state.old state.new }
-    ensures order { phase_after result ≡ Idle }
+    ensures order { phase_after result state.new ≡ Idle }
     ensures ends { TurnEndsSo None result }
 {
     state.come();
@@ -60,7 +60,7 @@ pub(crate) fn register(state: &mut Data, action: Action) -> Result<Turn, AllocEr
     ensures comes { IfOk result (λ turn. ComesBy state.old (λ m. after MAX_OPEN_BLOCKS (kept state.old m) (Call.CommitAction action))
         (λ m. reply MAX_OPEN_BLOCKS (kept state.old m) (Call.CommitAction action)) turn state.new) }
     ensures stays { OnOk result (Stays state.old state.new) }
-    ensures order { IfOk result (λ turn. phase_after turn ≡ Idle) }
+    ensures order { IfOk result (λ turn. phase_after turn state.new ≡ Idle) }
     ensures err { OnErr result (state.new ≡ state.old) }
     ensures starves { OnErr result (state.old.frames.room ≡ 0) }
 {
@@ -78,7 +78,7 @@ pub(crate) fn accept_undo(state: &mut Data, action: Action) -> Turn
     ensures comes { ComesBy state.old (λ m. after MAX_OPEN_BLOCKS (kept state.old m) (Call.UndoAction action))
         (λ m. reply MAX_OPEN_BLOCKS (kept state.old m) (Call.UndoAction action)) result state.new }
     ensures stays { Stays state.old state.new }
-    ensures order { phase_after result ≡ Idle }
+    ensures order { phase_after result state.new ≡ Idle }
 {
     let _action = action;
     state.come();
@@ -93,7 +93,7 @@ pub(crate) fn load(state: &mut Data, width: Width, at: u64) -> Turn
     ensures comes { ComesBy state.old (λ m. after MAX_OPEN_BLOCKS (kept state.old m) (Call.Load width at))
         (λ m. reply MAX_OPEN_BLOCKS (kept state.old m) (Call.Load width at)) result state.new }
     ensures stays { Stays state.old state.new }
-    ensures order { phase_after result ≡ Idle }
+    ensures order { phase_after result state.new ≡ Idle }
 {
     state.come();
     Turn::Enter(if state.arena.contains(at, u64::from(width.size())) {
@@ -111,7 +111,7 @@ pub(crate) fn save(state: &mut Data, at: u64, value: &Datum) -> Turn
     ensures comes { ComesBy state.old (λ m. after MAX_OPEN_BLOCKS (kept state.old m) (Call.Save at value.now))
         (λ m. reply MAX_OPEN_BLOCKS (kept state.old m) (Call.Save at value.now)) result state.new }
     ensures stays { Stays state.old state.new }
-    ensures order { phase_after result ≡ Idle }
+    ensures order { phase_after result state.new ≡ Idle }
 {
     state.come();
     if state.arena.contains(at, u64::from(value.width.size())) {

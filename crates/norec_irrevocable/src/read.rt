@@ -16,7 +16,7 @@ ghost use Rattle.norec_irrevocable.specs.Phases.{HasLoaded, IsSoundHeld};
 use crate::copy::{chunk_on, store_chunk};
 use itm_types::{Call, CopyPair, ReadHint, Reply, Value, Width};
 use norec_core::{Phase, Purpose, Reading};
-use norec_data::{Data, Turn, access_refusal};
+use norec_data::{Data, Pending, Turn, access_refusal};
 use std::mem;
 
 /// A read comes.
@@ -27,7 +27,7 @@ pub(crate) fn read(state: &mut Data, hint: ReadHint, width: Width, at: u64) -> T
     ensures comes { ComesBy state.old (λ m. after MAX_OPEN_BLOCKS (kept state.old m) (Call.Read hint width at))
         (λ m. reply MAX_OPEN_BLOCKS (kept state.old m) (Call.Read hint width at)) result state.new }
     ensures stays { Stays state.old state.new }
-    ensures order { phase_after result ≡ stage_at (core_held state.old) (Call.Read hint width at) false }
+    ensures order { phase_after result state.new ≡ stage_at (core_held state.old) (Call.Read hint width at) false }
 {
     let refused = access_refusal(state, at, u64::from(width.size()));
     state.come();
@@ -35,30 +35,33 @@ pub(crate) fn read(state: &mut Data, hint: ReadHint, width: Width, at: u64) -> T
         return Turn::Enter(Reply::Refused(why));
     }
     state.gathered = Value::new();
-    Turn::Wait(Phase::Load(Reading {
+    state.reading = Reading {
         purpose: Purpose::Value { hint, width },
         at,
         size: width.size(),
         number: 0,
-    }))
+    };
+    Turn::Wait(Pending::Load)
 }
 
 /// The word of a piece was loaded.
-pub(crate) fn loaded(state: &mut Data, reading: Reading, seen: u64) -> Turn
-    requires sound { IsSoundHeld state.old (Phase.Load reading) }
+pub(crate) fn loaded(state: &mut Data, seen: u64) -> Turn
+    requires sound { IsSoundHeld state.old (Phase.Load state.old.reading) }
     ensures sound { IsSoundAfter result state.new }
-    ensures proceeds { HeldTurns (handed (held state.old (Phase.Load reading)) seen) result state.new }
-    ensures steps { Steps state.old (Phase.Load reading) seen result state.new }
+    ensures proceeds { HeldTurns (handed (held state.old (Phase.Load state.old.reading)) seen) result state.new }
+    ensures steps { Steps state.old (Phase.Load state.old.reading) seen result state.new }
     ensures stays { Stays state.old state.new }
-    ensures order { phase_after result ≡ stage_after (held state.old (Phase.Load reading)) seen }
+    ensures order { phase_after result state.new ≡ stage_after (held state.old (Phase.Load state.old.reading)) seen }
 {
+    let reading = state.reading;
     let Some(piece) = reading.piece() else {
         unreachable!();
     };
     piece.gather(seen, &mut state.gathered);
     let next = reading.next();
     if next.piece().is_some() {
-        Turn::Wait(Phase::Load(next))
+        state.reading = next;
+        Turn::Wait(Pending::Load)
     } else {
         whole(state, reading)
     }
@@ -75,7 +78,7 @@ fn whole(state: &mut Data, reading: Reading) -> Turn
     ensures comes { ComesBy state.old (λ m. reading_of reading.purpose reading (kept state.old m) state.old.gathered.items)
         (λ m. answered reading.purpose state.old.gathered.items) result state.new }
     ensures stays { Stays state.old state.new }
-    ensures order { phase_after result ≡ read_past reading.purpose }
+    ensures order { phase_after result state.new ≡ read_past reading.purpose }
 {
     match reading.purpose {
         Purpose::Value { .. } => {

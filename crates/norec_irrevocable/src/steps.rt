@@ -1,37 +1,37 @@
-//! The step that a phase waits for.
+//! The step that is waited for.
 
 ghost use Rattle.std.specs.Prelude.{◌≡◌, ℕ, ◌+◌, ◌*◌, ◌≤◌, ◌<◌};
 ghost use Rattle.word_pieces.specs.Pieces.{count_of, IsPiece};
 ghost use Rattle.norec_core.specs.Order.{placed_piece};
 ghost use Rattle.norec_data.specs.Turns.{counted};
-ghost use Rattle.norec_data.specs.View.{held, step_of};
+ghost use Rattle.norec_data.specs.View.{held, phase_of, step_of};
 ghost use Rattle.norec_irrevocable.specs.Phases.{IsSoundHeld};
 ghost use Rattle.norec_data.specs.Turns.{IsWaiting};
 
 use itm_types::{MAX_MEMORY, Step};
-use norec_core::{Phase, Writing};
-use norec_data::Data;
+use norec_core::Writing;
+use norec_data::{Data, Pending};
 use word_pieces::{Piece, merge, piece_at};
 
-/// The step that the phase waits for, in an irrevocable transaction.
-pub fn step_of(state: &Data, phase: Phase) -> Step
-    requires sound { IsSoundHeld (counted state.now) phase }
-    requires waits { IsWaiting phase }
-    ensures { result ≡ step_of state.now phase }
+/// The step that is waited for, in an irrevocable transaction.
+pub fn step_of(state: &Data, pending: Pending) -> Step
+    requires sound { IsSoundHeld (counted state.now) (phase_of state.now pending) }
+    requires waits { IsWaiting pending }
+    ensures { result ≡ step_of state.now (phase_of state.now pending) }
 {
-    match phase {
-        Phase::Load(reading) => Step::Load(reading.word() + 1),
-        Phase::Fetch(writing) => Step::Load(piece(writing).word + 1),
-        Phase::Place(writing, got) => {
-            let piece = piece(writing);
+    match pending {
+        Pending::Load => Step::Load(state.reading.word() + 1),
+        Pending::Fetch => Step::Load(piece(state.writing).word + 1),
+        Pending::Place => {
+            let piece = piece(state.writing);
             let bytes = piece.scatter(&state.gathered);
-            let value = match got {
+            let value = match state.got {
                 Some(word) => merge(word, piece.mask(), bytes),
                 None => bytes,
             };
             Step::Store(piece.word + 1, value)
         }
-        Phase::Free => Step::Store(0, state.snapshot + 2),
+        Pending::Free => Step::Store(0, state.snapshot + 2),
         _ => unreachable!(),
     }
 }

@@ -20,7 +20,7 @@ use crate::copy::chunk_on;
 use crate::fill::fill_on;
 use itm_types::{Call, Datum, Reply, WriteHint};
 use norec_core::{Phase, Target, Writing};
-use norec_data::{Data, Turn, access_refusal};
+use norec_data::{Data, Pending, Turn, access_refusal};
 
 /// A write comes.
 pub(crate) fn write(state: &mut Data, hint: WriteHint, at: u64, value: &Datum) -> Turn
@@ -30,7 +30,7 @@ pub(crate) fn write(state: &mut Data, hint: WriteHint, at: u64, value: &Datum) -
     ensures comes { ComesBy state.old (λ m. after MAX_OPEN_BLOCKS (kept state.old m) (Call.Write hint at value.now))
         (λ m. reply MAX_OPEN_BLOCKS (kept state.old m) (Call.Write hint at value.now)) result state.new }
     ensures stays { Stays state.old state.new }
-    ensures order { phase_after result ≡ stage_at (core_held state.old) (Call.Write hint at value.now) false }
+    ensures order { phase_after result state.new ≡ stage_at (core_held state.old) (Call.Write hint at value.now) false }
 {
     let refused = access_refusal(state, at, u64::from(value.width.size()));
     state.come();
@@ -62,43 +62,53 @@ pub(crate) fn start(state: &mut Data, writing: Writing) -> Turn
         → HeldTurns (in_call state.old (placed_for state.old writing.target writing.at) bytes) result state.new }
     ensures comes { ComesBy state.old (λ m. rest_of writing.target (kept state.old (written m (pieces_of writing.at writing.size) state.old.gathered.items)))
         (λ m. Done) result state.new }
-    ensures same { state.new ≡ state.old }
-    ensures order { (past : Phase) → phase_after result ≡ place_from past writing }
+    ensures frame { state.new ≡ record state.old { writing = state.new.writing; got = state.new.got } }
+    ensures order { (past : Phase) → phase_after result state.new ≡ place_from past writing }
 {
     match next_place(writing) {
-        Some(phase) => Turn::Wait(phase),
+        Some(pending) => {
+            state.writing = writing;
+            state.got = None;
+            Turn::Wait(pending)
+        }
         None => unreachable!(),
     }
 }
 
 /// The word of a piece was loaded, to be stored with the piece's bytes.
-pub(crate) fn fetched(state: &mut Data, writing: Writing, seen: u64) -> Turn
-    requires sound { IsSoundHeld state.old (Phase.Fetch writing) }
+pub(crate) fn fetched(state: &mut Data, seen: u64) -> Turn
+    requires sound { IsSoundHeld state.old (Phase.Fetch state.old.writing) }
     ensures sound { IsSoundAfter result state.new }
-    ensures proceeds { HeldTurns (handed (held state.old (Phase.Fetch writing)) seen) result state.new }
-    ensures steps { Steps state.old (Phase.Fetch writing) seen result state.new }
+    ensures proceeds { HeldTurns (handed (held state.old (Phase.Fetch state.old.writing)) seen) result state.new }
+    ensures steps { Steps state.old (Phase.Fetch state.old.writing) seen result state.new }
     ensures stays { Stays state.old state.new }
-    ensures order { phase_after result ≡ stage_after (held state.old (Phase.Fetch writing)) seen }
+    ensures order { phase_after result state.new ≡ stage_after (held state.old (Phase.Fetch state.old.writing)) seen }
 {
-    Turn::Wait(Phase::Place(writing, Some(seen)))
+    state.got = Some(seen);
+    Turn::Wait(Pending::Place)
 }
 
 /// A piece was stored.
-pub(crate) fn placed(state: &mut Data, writing: Writing, got: Option<u64>) -> Turn
-    requires sound { IsSoundHeld state.old (Phase.Place writing got) }
+pub(crate) fn placed(state: &mut Data) -> Turn
+    requires sound { IsSoundHeld state.old (Phase.Place state.old.writing state.old.got) }
     ensures sound { IsSoundAfter result state.new }
-    ensures proceeds { HeldTurns (handed (held state.old (Phase.Place writing got)) 0) result state.new }
-    ensures steps { Steps state.old (Phase.Place writing got) 0 result state.new }
+    ensures proceeds { HeldTurns (handed (held state.old (Phase.Place state.old.writing state.old.got)) 0) result state.new }
+    ensures steps { Steps state.old (Phase.Place state.old.writing state.old.got) 0 result state.new }
     ensures stays { Stays state.old state.new }
-    ensures order { phase_after result ≡ stage_after (held state.old (Phase.Place writing got)) 0 }
+    ensures order { phase_after result state.new ≡ stage_after (held state.old (Phase.Place state.old.writing state.old.got)) 0 }
 {
     are_bytes(&state.gathered);
+    let writing = state.writing;
     let next = Writing {
         number: writing.number + 1,
         ..writing
     };
     match next_place(next) {
-        Some(phase) => Turn::Wait(phase),
+        Some(pending) => {
+            state.writing = next;
+            state.got = None;
+            Turn::Wait(pending)
+        }
         None => past(state, writing),
     }
 }
@@ -111,7 +121,7 @@ fn past(state: &mut Data, writing: Writing) -> Turn
     ensures proceeds { (bytes : List ℕ) → HeldTurns (in_call state.old (placed_for state.old writing.target writing.at) bytes) result state.new }
     ensures comes { ComesBy state.old (λ m. rest_of writing.target (kept state.old m)) (λ m. Done) result state.new }
     ensures stays { Stays state.old state.new }
-    ensures order { phase_after result ≡ placed_past writing.target }
+    ensures order { phase_after result state.new ≡ placed_past writing.target }
 {
     match writing.target {
         Target::Value { .. } => Turn::Enter(Reply::Done),

@@ -19,7 +19,7 @@ pub(super) fn refuse_copy(state: &mut Data, copying: Copying, why: Refusal) -> T
     ensures sound { IsSoundTurn result state.new }
     ensures proceeds { Turns (came (core state.old Phase.Idle) (Call.Copy copying) false) result state.new }
     ensures stays { Stays state.old state.new }
-    ensures order { phase_after result ≡ Phase.Idle }
+    ensures order { phase_after result state.new ≡ Phase.Idle }
     ensures ends { TurnEndsSo None result }
     ensures tries { (core_after result state.new).tries ≡ 0 }
 {

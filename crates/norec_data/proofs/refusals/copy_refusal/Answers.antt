@@ -1,4 +1,4 @@
-use Rattle.std.proofs.Common.{◌≡◌, Bool, true, Option, sym, ap, ◌∙◌, length}
+use Rattle.std.proofs.Common.{◌≡◌, Bool, true, sym, ap, ◌∙◌, length}
 use Rattle.std.specs.Option.{option_or}
 use Rattle.itm_types.specs.declared.call.Refusal.TheVariants.{Outside, Overlap}
 use Rattle.itm_model.specs.Machine.{is_clear, or_else, unless}

@@ -39,8 +39,8 @@ returns-then-written-clause-order c =
     let rows = c.args.state.now.frames.writes.rows in
     let within : c.args.row < length rows = omega (arith, c.if-row-len.true, c.len.ensures.len) in
     let mask : (write_at rows c.args.row).mask ≡ whole = ap (λ (r : Row). r.mask) (write_at_of rows c.args.row c.row-written.result c.row-written.ensures.row) ∙ c.if-written.true in
-    sym (cond-true (nat_lt c.args.row (length rows)) (row_store c.args.taking (write_at rows c.args.row) c.args.row) (stored_stage c.args.taking) (lt-ltb c.args.row (length rows) within)
-    ∙ cond-true ((write_at rows c.args.row).mask == whole) (Store c.args.taking c.args.row _) (BackLoad c.args.taking c.args.row) (eq-eqb (write_at rows c.args.row).mask whole mask))
+    sym (cond-true (nat_lt c.args.row (length rows)) (row_store c.args.state.now.taking (write_at rows c.args.row) c.args.row) (stored_stage c.args.state.now.taking) (lt-ltb c.args.row (length rows) within)
+    ∙ cond-true ((write_at rows c.args.row).mask == whole) (Store c.args.state.now.taking c.args.row _) (BackLoad c.args.state.now.taking c.args.row) (eq-eqb (write_at rows c.args.row).mask whole mask))
 
 pub returns-else-written-clause-sound : goal.returns-else-written-clause-sound
 returns-else-written-clause-sound c =
@@ -54,7 +54,7 @@ returns-else-written-clause-sound c =
         bounds = may.bounds;
         reached = omega (arith, hold.settled);
         in_phase = (
-          record { is_open = record { is_open = hold.is_open.is_open; log = hold.is_open.log; writes = hold.is_open.writes; rows = hold.is_open.rows; frames = hold.is_open.frames; tries = hold.is_open.tries }; wants = wants_later c.args.state.now c.args.taking c.args.state.now.clock c.args.state.now.snapshot (c.args.state.now.spent + 1) hold.wants; settled = hold.settled; free = hold.free; spent = omega (arith, hold.spent) },
+          record { is_open = record { is_open = hold.is_open.is_open; log = hold.is_open.log; writes = hold.is_open.writes; rows = hold.is_open.rows; frames = hold.is_open.frames; tries = hold.is_open.tries }; wants = wants_later c.args.state.now c.args.state.now.taking c.args.state.now.clock c.args.state.now.snapshot (c.args.state.now.spent + 1) hold.wants; settled = hold.settled; free = hold.free; spent = omega (arith, hold.spent) },
           within,
           λ e. c.if-written.false (ap (λ (r : Row). r.mask) (sym (write_at_of rows c.args.row c.row-written.result c.row-written.ensures.row)) ∙ e),
         );
@@ -76,8 +76,8 @@ returns-else-written-clause-order c =
     let rows = c.args.state.now.frames.writes.rows in
     let within : c.args.row < length rows = omega (arith, c.if-row-len.true, c.len.ensures.len) in
     let mask : (write_at rows c.args.row).mask ≢ whole = λ e. c.if-written.false (ap (λ (r : Row). r.mask) (sym (write_at_of rows c.args.row c.row-written.result c.row-written.ensures.row)) ∙ e) in
-    sym (cond-true (nat_lt c.args.row (length rows)) (row_store c.args.taking (write_at rows c.args.row) c.args.row) (stored_stage c.args.taking) (lt-ltb c.args.row (length rows) within)
-    ∙ cond-false ((write_at rows c.args.row).mask == whole) (Store c.args.taking c.args.row _) (BackLoad c.args.taking c.args.row) (ne_eqb (write_at rows c.args.row).mask whole mask))
+    sym (cond-true (nat_lt c.args.row (length rows)) (row_store c.args.state.now.taking (write_at rows c.args.row) c.args.row) (stored_stage c.args.state.now.taking) (lt-ltb c.args.row (length rows) within)
+    ∙ cond-false ((write_at rows c.args.row).mask == whole) (Store c.args.state.now.taking c.args.row _) (BackLoad c.args.state.now.taking c.args.row) (ne_eqb (write_at rows c.args.row).mask whole mask))
 
 pub returns-in-Mode-clause-proceeds : goal.returns-in-Mode-clause-proceeds
 returns-in-Mode-clause-proceeds c =

@@ -96,7 +96,7 @@ returns-in-In c =
     let old : rows_before came_at ≡ rows = ap rows_before is ∙ before s e k sound accepted made.log made.blocks made.size made.actions made.room_left made.rows made.may_put in
     let log = s.log.rows in
     let logs : came_at.log.rows ≡ log = ap (λ (d : Data). d.log.rows) is ∙ made.log in
-    let at : phase_after c.next_chunk.result ≡ load_chunks rows log k 0 cs = c.next_chunk.ensures.order ∙ (λ i. load_chunks (old i) (logs i) k 0 cs) in
+    let at : phase_after c.next_chunk.result c.next_chunk.new.state ≡ load_chunks rows log k 0 cs = c.next_chunk.ensures.order ∙ (λ i. load_chunks (old i) (logs i) k 0 cs) in
     record {
       sound = c.next_chunk.ensures.sound;
       proceeds =

@@ -22,12 +22,12 @@ use Rattle.norec_engine.proofs.Sources.{purpose_more, unlogged}
 use Rattle.norec_engine.proofs.read.confirmed.Goals as goal
 
 pub unreachable-requires : goal.unreachable-requires
-unreachable-requires c = (let none = none_left c.args.reading (sym c.piece.ensures.value ∙ c.in_default.is) in let some = c.requires.sound.in_phase.1.missing.some in absurd (omega arith))
+unreachable-requires c = (let none = none_left c.args.state.now.reading (sym c.piece.ensures.value ∙ c.in_default.is) in let some = c.requires.sound.in_phase.1.missing.some in absurd (omega arith))
 
 pub add-requires : goal.add-requires
 add-requires c =
     let s = c.args.state.now in
-    let r = c.args.reading in
+    let r = c.args.state.now.reading in
     let p = c.in-Some.piece in
     let phase = c.requires.sound.in_phase in
     let to_come = total_left r.purpose r.number (count r) (among s r.purpose r.at r.size phase.1.reading.purpose) phase.1.missing.some in
@@ -42,7 +42,7 @@ add-requires c =
 pub go_on-requires : goal.go_on-requires
 go_on-requires c =
     let s = c.args.state.now in
-    let r = c.args.reading in
+    let r = c.args.state.now.reading in
     let phase = c.requires.sound.in_phase in
     let reading = phase.1.reading in
     let p = c.in-Some.piece in
@@ -102,7 +102,7 @@ go_on-requires c =
 pub returns-in-Some-clause-joins : goal.returns-in-Some-clause-joins
 returns-in-Some-clause-joins c =
     let s = c.args.state.now in
-    let r = c.args.reading in
+    let r = c.args.state.now.reading in
     let phase = c.requires.sound.in_phase in
     let result = c.go_on.result in
     let new = c.go_on.new.state in
@@ -124,7 +124,7 @@ returns-in-Some-clause-joins c =
 pub returns-in-Some-clause-order : goal.returns-in-Some-clause-order
 returns-in-Some-clause-order c =
     let s = c.args.state.now in
-    let r = c.args.reading in
+    let r = c.args.state.now.reading in
     let word = ap (λ (x : Piece). x.word) (part_is r c.in-Some.piece (sym c.piece.ensures.value ∙ c.in-Some.is)) in
     let log = c.add.ensures.rows ∙ ap (λ (n : ℕ). s.log.rows ++ record { word = n; value = c.args.value } ∷ []) word in
     c.go_on.ensures.order ∙ ((λ i. load_stage (rows_before s) (log i) (c.next.ensures i)) ∙ (ap (λ (n : ℕ). load_stage (rows_before s) (s.log.rows ++ record { word = word_of r; value = c.args.value } ∷ []) (record r { number = n })) (add-one r.number)
@@ -133,6 +133,6 @@ returns-in-Some-clause-order c =
 pub returns-in-Some-clause-log : goal.returns-in-Some-clause-log
 returns-in-Some-clause-log c o =
     let s = c.args.state.now in
-    let word = ap (λ (x : Piece). x.word) (part_is c.args.reading c.in-Some.piece (sym c.piece.ensures.value ∙ c.in-Some.is)) in
+    let word = ap (λ (x : Piece). x.word) (part_is c.args.state.now.reading c.in-Some.piece (sym c.piece.ensures.value ∙ c.in-Some.is)) in
     c.go_on.ensures.stays.log o ∙ (c.add.ensures.rows ∙ (ap (λ (n : ℕ). s.log.rows ++ record { word = n; value = c.args.value } ∷ []) word
     ∙ sym (cond-true (c.args.seen == s.snapshot) _ _ (eq-eqb c.args.seen s.snapshot c.if-seen-state.true))))

@@ -17,6 +17,7 @@ use Rattle.norec_core.specs.Order.{load_among, load_stage, value_reading}
 use Rattle.norec_core.proofs.Writings.{either_way}
 use Rattle.norec_core.proofs.CopyChunks.{few_words}
 use Rattle.norec_data.specs.declared.data.Data.{Data}
+use Rattle.norec_data.specs.declared.pending.Pending.TheVariants as waits
 use Rattle.norec_data.specs.declared.turn.Turn.TheVariants.{Wait}
 use Rattle.norec_data.specs.Turns.{Turns}
 use Rattle.norec_data.specs.View.{in_block}
@@ -79,7 +80,7 @@ returns-in_ok-reserve-in-Some-take_had-clause-sound c =
       logging = record { room = omega (arith, words, few_words c.args.at (size_of width) small, c.in_ok-reserve-in-Some-take_had.ensures.ok); grown = omega arith };
       missing = ready_missing s hint width c.args.at sound may.0 within small g log rows next (subst (λ (d : Data). IsMissing d next) st found.3);
     } in
-    subst (IsSoundTurn (Wait (Load next))) (sym is)
+    subst (λ (d : Data). IsSoundTurn (Wait waits.Load) (record d { reading = next })) (sym is)
     (load_sound (ready s g log) first next on (omega arith) sound.bounds (ready_open s hint width c.args.at sound may.0 within small g log rows) read (settled s hint width c.args.at sound may.0 within small) (omega arith))
 
 pub returns-in_ok-reserve-in-Some-take_had-clause-order : goal.returns-in_ok-reserve-in-Some-take_had-clause-order

@@ -1,6 +1,9 @@
-use Rattle.std.proofs.Common.{◌+◌, refl, arith}
+use Rattle.std.proofs.Common.{◌+◌, ◌-◌, ◌*◌, ◌≤◌, length, refl, subst, arith}
+use Rattle.norec_data.specs.declared.pending.Cause.{Cause}
+use Rattle.norec_engine.specs.InPhases.{Aims, MayRead, first_of, round_of}
 use Rattle.norec_core.specs.declared.phase.Aim.TheVariants as aims
 use Rattle.norec_core.specs.Accesses.{count, total}
+use Rattle.norec_data.specs.View.{aim_for, aim_of}
 use Rattle.norec_engine.proofs.Counts.{more, round_over}
 use Rattle.norec_core.proofs.Readings.{total_left}
 use Rattle.norec_engine.proofs.ReadingFields.{among}
@@ -16,20 +19,22 @@ try_round-requires c =
       may = record {
         bounds = c.requires.sound.bounds;
         is_open = record { is_open = o.is_open; log = o.log; writes = o.writes; rows = o.rows; frames = o.frames; tries = o.tries };
-        may = aims_later s c.args.aim c.args.seen s.snapshot s.spent phase.0.may;
+        may = aims_later s (aim_of s) c.args.seen s.snapshot s.spent phase.0.may;
         later = omega (arith, phase.0.later, c.requires.fits);
-        spent = round_over s c.args.aim c.args.seen phase.0;
+        spent = round_over s (aim_of s) c.args.seen phase.0;
       };
     }
 
 pub returns-in-Read-clause-sound : goal.returns-in-Read-clause-sound
 returns-in-Read-clause-sound c =
     let s = c.args.state.now in
-    let sound = rw c.in-Read.is at c.requires.sound in
-    let r = c.in-Read.reading in
+    let sound = c.requires.sound in
+    let r = s.reading in
     let round = sound.in_phase.0 in
+    let may : MayRead s r = subst (λ (x : Cause). Aims s (aim_for x s.reading s.taking)) c.in-Read.is round.may in
+    let spent = subst (λ (x : Cause). s.spent ≤ first_of (aim_for x s.reading s.taking) + (s.tries - 1) * round_of (aim_for x s.reading s.taking) s + (length s.log.rows + 2)) c.in-Read.is round.spent in
     let o = round.is_open in
-    let left = total_left r.purpose r.number (count r) (among s r.purpose r.at r.size round.may.reading.purpose) round.may.missing.some in
+    let left = total_left r.purpose r.number (count r) (among s r.purpose r.at r.size may.reading.purpose) may.missing.some in
     record {
       asked = tt;
       sound = record {
@@ -37,9 +42,9 @@ returns-in-Read-clause-sound c =
         reached = omega arith;
         in_phase = (
           record { is_open = o.is_open; log = o.log; writes = o.writes; rows = o.rows; frames = o.frames; tries = o.tries },
-          aims_later s (aims.Read r) c.args.seen c.args.seen (s.spent + 1) round.may,
+          aims_later s (aims.Read r) c.args.seen c.args.seen (s.spent + 1) may,
           refl,
-          omega (arith, left, round.spent, round.may.logging.grown, more s.tries s.tries (s.entry + total r + 4) round.tried (omega arith)),
+          omega (arith, left, spent, may.logging.grown, more s.tries s.tries (s.entry + total r + 4) round.tried (omega arith)),
         );
       };
     }

@@ -7,7 +7,7 @@ use Rattle.norec_core.specs.declared.phase.Phase.TheVariants.{Idle, RoundRow}
 use Rattle.norec_core.specs.Core.{handed}
 use Rattle.norec_core.specs.Proceeds.{ConflictsIn}
 use Rattle.norec_core.specs.Rows.{row_at}
-use Rattle.norec_data.specs.View.{core}
+use Rattle.norec_data.specs.View.{aim_of, core}
 use Rattle.norec_engine.specs.Between.{in_rows}
 use Rattle.norec_data.specs.Turns.{Turns}
 use Rattle.norec_engine.proofs.Ended.{ended_undone}
@@ -22,7 +22,7 @@ returns-then-logged-seen-clause-proceeds c =
     let value = ap (λ (r : LogRow). r.value) here ∙ c.if-logged-seen.true in
     let seen : row_at log c.args.row ≡ record { word = (row_at log c.args.row).word; value = c.args.seen } = λ i. record { word = (row_at log c.args.row).word; value = value i } in
     let fresh = take_more log c.args.row (record { word = 0; value = 0 }) c.requires.sound.in_phase.2 ∙ ap (λ (r : LogRow). take c.args.row log ++ r ∷ []) seen in
-    subst (λ (rows : List LogRow). Turns (record (in_rows s c.args.aim (c.args.row + 1)) { fresh = rows }) c.next_row.result c.next_row.new.state) fresh c.next_row.ensures.proceeds
+    subst (λ (rows : List LogRow). Turns (record (in_rows s (aim_of c.args.state.now) (c.args.row + 1)) { fresh = rows }) c.next_row.result c.next_row.new.state) fresh c.next_row.ensures.proceeds
 
 pub returns-then-logged-seen-clause-order : goal.returns-then-logged-seen-clause-order
 returns-then-logged-seen-clause-order c =
@@ -36,7 +36,7 @@ returns-else-logged-seen-clause-proceeds c =
     let logged = c.row-logged.result in
     let here : row_at log c.args.row ≡ logged = get_or_from_slice_get log c.args.row logged _ c.row-logged.ensures in
     let s = c.args.state.now in
-    subst (λ (b : Bool). ConflictsIn b (handed (core s (RoundRow c.args.aim c.args.row)) c.args.seen) c.roll_back.new.state.clock (Some logged.word) (core c.roll_back.new.state Idle)) (sym c.requires.sound.in_phase.0.is_open.is_open) (record {
+    subst (λ (b : Bool). ConflictsIn b (handed (core s (RoundRow (aim_of c.args.state.now) c.args.row)) c.args.seen) c.roll_back.new.state.clock (Some logged.word) (core c.roll_back.new.state Idle)) (sym c.requires.sound.in_phase.0.is_open.is_open) (record {
       is_open = c.requires.sound.in_phase.0.is_open.is_open;
       clock_is = c.roll_back.ensures.ended.clock;
       later = omega (arith, c.requires.sound.in_phase.0.later, c.roll_back.ensures.ended.clock);
@@ -54,7 +54,7 @@ returns-else-logged-seen-clause-proceeds c =
       unfreed = refl;
       stays = core_ended _ _ _ _ c.roll_back.ensures.ended;
       undone =
-          ended_undone (handed (core c.args.state.now (RoundRow c.args.aim c.args.row)) c.args.seen) (core c.roll_back.new.state Idle) Idle 0 c.args.state.now.snapshot
+          ended_undone (handed (core c.args.state.now (RoundRow (aim_of c.args.state.now) c.args.row)) c.args.seen) (core c.roll_back.new.state Idle) Idle 0 c.args.state.now.snapshot
           c.requires.sound.in_phase.0.is_open.frames c.roll_back.ensures.restored refl c.requires.sound.in_phase.0.is_open.is_open (core_ended _ _ _ _ c.roll_back.ensures.ended);
     })
 

@@ -1,7 +1,7 @@
 use Rattle.std.proofs.Common.{Bool, None, arith, refl, subst, sym}
 use Rattle.norec_core.specs.Proceeds.{ConflictsIn}
 use Rattle.norec_core.specs.declared.phase.Phase.TheVariants.{Idle}
-use Rattle.norec_data.specs.View.{core}
+use Rattle.norec_data.specs.View.{aim_for, core}
 use Rattle.norec_engine.specs.Between.{between}
 use Rattle.norec_engine.proofs.Ended.{ended_undone}
 use Rattle.norec_data.proofs.Ended.{core_ended}
@@ -12,7 +12,7 @@ returns-else-state-clause-proceeds c =
     let s = c.args.state.now in
     let may = c.requires.may in
     let ended = core_ended _ _ _ _ c.roll_back.ensures.ended in
-    subst (λ (b : Bool). ConflictsIn b (between s c.args.aim) c.roll_back.new.state.clock None (core c.roll_back.new.state Idle)) (sym may.is_open.is_open) (record {
+    subst (λ (b : Bool). ConflictsIn b (between s (aim_for c.args.cause s.reading s.taking)) c.roll_back.new.state.clock None (core c.roll_back.new.state Idle)) (sym may.is_open.is_open) (record {
       is_open = may.is_open.is_open;
       clock_is = c.roll_back.ensures.ended.clock;
       later = omega (arith, may.later, c.roll_back.ensures.ended.clock);
@@ -20,5 +20,5 @@ returns-else-state-clause-proceeds c =
       free = refl;
       unfreed = refl;
       stays = ended;
-      undone = ended_undone (between s c.args.aim) (core c.roll_back.new.state Idle) Idle 0 s.snapshot may.is_open.frames c.roll_back.ensures.restored refl may.is_open.is_open ended;
+      undone = ended_undone (between s (aim_for c.args.cause s.reading s.taking)) (core c.roll_back.new.state Idle) Idle 0 s.snapshot may.is_open.frames c.roll_back.ensures.restored refl may.is_open.is_open ended;
     })

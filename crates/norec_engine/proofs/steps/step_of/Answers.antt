@@ -24,7 +24,7 @@ overflow_add-result-in-BackLoad c =
 pub overflow_add-result-in-Store : goal.overflow_add-result-in-Store
 overflow_add-result-in-Store c =
     let s = rw c.in-Store.is at c.requires.sound in
-    let facts = store_row (counted c.args.state.now) _ c.in-Store.row c.in-Store.got s.in_phase in
+    let facts = store_row (counted c.args.state.now) _ c.in-Store.row c.args.state.now.got s.in_phase in
     let written = write_at_of c.args.state.now.frames.writes.rows c.in-Store.row c.row-written-in-Store.result c.row-written-in-Store.ensures.row in
     omega (arith, AllWritesWithin-at c.args.state.now.words c.args.state.now.frames.writes.rows c.in-Store.row facts.0.writes facts.1, ap (λ (r : Row). r.word) written, s.bounds.small)
 
@@ -32,11 +32,11 @@ pub returns-in-BackLoad : goal.returns-in-BackLoad
 returns-in-BackLoad c =
     rw c.in-BackLoad.is (loads_as c.row-written.result (write_at c.args.state.now.frames.writes.rows c.in-BackLoad.row) (write_at_of c.args.state.now.frames.writes.rows c.in-BackLoad.row c.row-written.result c.row-written.ensures.row))
 
-pub returns-after-got : goal.returns-after-got
-returns-after-got c =
+pub returns-after-state : goal.returns-after-state
+returns-after-state c =
     let r = c.row-written-in-Store.result in
     let written = write_at_of c.args.state.now.frames.writes.rows c.in-Store.row r c.row-written-in-Store.ensures.row in
-    rw c.in-Store.is (elim c.match-got.branch [
-      | in-Some w ↦ stores_as r (write_at c.args.state.now.frames.writes.rows c.in-Store.row) written c.in-Store.got c.match-got.value (w.value-is ∙ w.merge-value.ensures.value ∙ ap (value_into r) (sym w.in-Some.is))
-      | in-None w ↦ stores_as r (write_at c.args.state.now.frames.writes.rows c.in-Store.row) written c.in-Store.got c.match-got.value (w.value-is ∙ ap (value_into r) (sym w.in-None.is))
+    rw c.in-Store.is (elim c.match-state.branch [
+      | in-Some w ↦ stores_as r (write_at c.args.state.now.frames.writes.rows c.in-Store.row) written c.args.state.now.got c.match-state.value (w.value-is ∙ w.merge-value.ensures.value ∙ ap (value_into r) (sym w.in-Some.is))
+      | in-None w ↦ stores_as r (write_at c.args.state.now.frames.writes.rows c.in-Store.row) written c.args.state.now.got c.match-state.value (w.value-is ∙ ap (value_into r) (sym w.in-None.is))
     ])

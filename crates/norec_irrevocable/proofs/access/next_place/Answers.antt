@@ -1,5 +1,6 @@
 use Rattle.word_pieces.specs.Masks.{mask_of, whole}
 use Rattle.std.proofs.Common.{◌≡◌, ◌≢◌, inl, inr, refl, sym, ◌∙◌}
+use Rattle.norec_core.specs.declared.phase.Phase.TheVariants.{Fetch, Place}
 use Rattle.norec_irrevocable.proofs.PlacedPieces.{mask_is, none_there, piece_there, place_ends, place_part, place_whole}
 use Rattle.norec_irrevocable.proofs.access.next_place.Goals as goal
 
@@ -12,14 +13,14 @@ returns-then-mask-clause-some c =
     let w = c.args.writing in
     let is = sym c.piece_at.ensures.value ∙ c.in_ok-piece.was in
     let whole = sym c.mask.ensures.value ∙ c.if-mask.true in
-    (λ past. place_whole w c.in_ok-piece.piece is past whole, (piece_there w.at w.size w.number c.in_ok-piece.piece is).0, inl (sym (mask_is w c.in_ok-piece.piece is) ∙ whole, refl))
+    (λ d e f. (λ past. (λ i. Place (e i) (f i)) ∙ place_whole w c.in_ok-piece.piece is past whole, (piece_there w.at w.size w.number c.in_ok-piece.piece is).0, inl (sym (mask_is w c.in_ok-piece.piece is) ∙ whole, λ i. Place (e i) (f i))))
 
 pub returns-else-mask-clause-some : goal.returns-else-mask-clause-some
 returns-else-mask-clause-some c =
     let w = c.args.writing in
     let is = sym c.piece_at.ensures.value ∙ c.in_ok-piece.was in
     let part : mask_of c.in_ok-piece.piece.first c.in_ok-piece.piece.count ≢ whole = λ e. c.if-mask.false (c.mask.ensures.value ∙ e) in
-    (λ past. place_part w c.in_ok-piece.piece is past part, (piece_there w.at w.size w.number c.in_ok-piece.piece is).0, inr (λ e. part (mask_is w c.in_ok-piece.piece is ∙ e), refl))
+    (λ d e f. (λ past. (λ i. Fetch (e i)) ∙ place_part w c.in_ok-piece.piece is past part, (piece_there w.at w.size w.number c.in_ok-piece.piece is).0, inr (λ x. part (mask_is w c.in_ok-piece.piece is ∙ x), λ i. Fetch (e i))))
 
 pub returns-in_err-piece-clause-past : goal.returns-in_err-piece-clause-past
 returns-in_err-piece-clause-past c =

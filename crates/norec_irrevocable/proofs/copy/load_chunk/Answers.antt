@@ -11,6 +11,7 @@ use Rattle.norec_core.specs.Held.{ComesTo}
 use Rattle.norec_core.specs.Order.{chunk_from, chunk_reading}
 use Rattle.norec_core.specs.Parts.{copied_each}
 use Rattle.norec_data.specs.declared.data.Data.{Data}
+use Rattle.norec_data.specs.declared.pending.Pending.TheVariants as waits
 use Rattle.norec_data.specs.declared.turn.Turn.TheVariants.{Wait}
 use Rattle.norec_data.specs.Bounds.{IsHeld}
 use Rattle.norec_data.specs.Turns.{counted, next_of}
@@ -33,28 +34,30 @@ pub returns-in_default-clause-order : goal.returns-in_default-clause-order
 returns-in_default-clause-order c = (let k = c.args.copying in chunk_ends k c.args.number (no_loads k c.args.number _ (sym c.chunk_reading.ensures.value ∙ c.in_default.is)))
 
 -- nothing is gathered yet
-abbrev start : goal.After-state-1 → Data
-start c = record c.args.state.now { gathered = c.new-state.result }
+abbrev start : goal.After-reading-2-1 → Reading → Data
+start c r = record c.args.state.now { gathered = c.new-state.result; reading = r }
 
-held_start : (c : goal.After-state-1) → IsHeld (start c)
-held_start c = (let h = c.requires.held in record { bounds = h.bounds; is_open = h.is_open; log = h.log; writes = h.writes; settled = h.settled; free = h.free; tries = h.tries })
+held_start : (c : goal.After-reading-2-1) (r : Reading) → IsHeld (start c r)
+held_start c r = (let h = c.requires.held in record { bounds = h.bounds; is_open = h.is_open; log = h.log; writes = h.writes; settled = h.settled; free = h.free; tries = h.tries })
 
-may_start : (c : goal.After-state-1) → MayCopy (start c) c.args.copying c.args.number
-may_start c = record { served = c.requires.may.served; spent = c.requires.may.spent }
+may_start : (c : goal.After-reading-2-1) (r : Reading) → MayCopy (start c r) c.args.copying c.args.number
+may_start c r = record { served = c.requires.may.served; spent = c.requires.may.spent }
 
 pub returns-clause-sound : goal.returns-clause-sound
 returns-clause-sound c =
     let k = c.args.copying in
     let loads = chunk_loads k c.args.number _ c.in-Some.reading (sym c.chunk_reading.ensures.value ∙ c.in-Some.is) in
-    subst (λ (r : Reading). IsSoundAfter (Wait (Load r)) (start c)) (sym loads.2)
-    (load_sound (start c) k c.args.number loads.0 loads.1 c.requires.shared (held_start c) (may_start c) c.new-state.ensures, tt)
+    let r : Reading = chunk_reading k c.args.number loads.0 in
+    subst (λ (x : Reading). IsSoundAfter (Wait waits.Load) (start c x)) (sym loads.2)
+    (load_sound (start c r) k c.args.number loads.0 loads.1 c.requires.shared (held_start c r) (may_start c r) c.new-state.ensures, tt)
 
 pub returns-clause-proceeds : goal.returns-clause-proceeds
 returns-clause-proceeds c =
     let k = c.args.copying in
     let loads = chunk_loads k c.args.number _ c.in-Some.reading (sym c.chunk_reading.ensures.value ∙ c.in-Some.is) in
-    subst (λ (r : Reading). (bytes : List ℕ) → HeldTurns (in_call c.args.state.now (Copy k) bytes) (Wait (Load r)) (start c)) (sym loads.2)
-    (load_asks (start c) k c.args.number loads.0 loads.1 c.requires.shared (held_start c) c.requires.may.served c.new-state.ensures)
+    let r : Reading = chunk_reading k c.args.number loads.0 in
+    subst (λ (x : Reading). (bytes : List ℕ) → HeldTurns (in_call c.args.state.now (Copy k) bytes) (Wait waits.Load) (start c x)) (sym loads.2)
+    (load_asks (start c r) k c.args.number loads.0 loads.1 c.requires.shared (held_start c r) c.requires.may.served c.new-state.ensures)
 
 pub returns-clause-comes : goal.returns-clause-comes
 returns-clause-comes c =
@@ -63,7 +66,7 @@ returns-clause-comes c =
     let n = c.args.number in
     let loads = chunk_loads k n _ c.in-Some.reading (sym c.chunk_reading.ensures.value ∙ c.in-Some.is) in
     let chunk = loads.0 in
-    subst (λ (r : Reading). ComesBy s (λ m. copied_each (kept s m) k (drop n (chunks_in k))) (λ m. Done) (Wait (Load r)) (start c)) (sym loads.2)
+    subst (λ (x : Reading). ComesBy s (λ m. copied_each (kept s m) k (drop n (chunks_in k))) (λ m. Done) (Wait waits.Load) (start c x)) (sym loads.2)
     (λ m mem. (
       ap (λ (bytes : List ℕ). copied_each (target_written (kept s m) k.pair (k.to + (k.from + chunk.at - k.from)) (bytes ++ gathered m (pieces_of (k.from + chunk.at) chunk.size))) k (drop (suc n) (chunks_in k))) c.new-state.ensures
           ∙ chunk_comes s k c.requires.may.served n chunk loads.1 c.requires.shared m mem,
@@ -74,4 +77,5 @@ pub returns-clause-order : goal.returns-clause-order
 returns-clause-order c =
     let k = c.args.copying in
     let loads = chunk_loads k c.args.number _ c.in-Some.reading (sym c.chunk_reading.ensures.value ∙ c.in-Some.is) in
-    subst (λ (r : Reading). Load r ≡ chunk_from k c.args.number) (sym loads.2) (load_comes_next (start c) k c.args.number loads.0 loads.1 c.requires.shared)
+    let r : Reading = chunk_reading k c.args.number loads.0 in
+    subst (λ (x : Reading). Load x ≡ chunk_from k c.args.number) (sym loads.2) (load_comes_next (start c r) k c.args.number loads.0 loads.1 c.requires.shared)

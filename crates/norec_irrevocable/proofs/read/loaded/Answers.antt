@@ -13,6 +13,7 @@ use Rattle.norec_core.specs.Held.{ComesTo, answered, reading as reading_of}
 use Rattle.norec_core.specs.Order.{read_from, read_past}
 use Rattle.norec_core.specs.OwnAccesses.{access_saved, word_of}
 use Rattle.norec_data.specs.declared.data.Data.{Data}
+use Rattle.norec_data.specs.declared.pending.Pending.TheVariants as waits
 use Rattle.norec_data.specs.declared.turn.Turn.TheVariants.{Wait}
 use Rattle.norec_data.specs.Bounds.{IsHeld}
 use Rattle.norec_data.specs.Turns.{counted, next_of, phase_after}
@@ -27,19 +28,19 @@ use Rattle.norec_irrevocable.proofs.read.loaded.Goals as goal
 
 pub unreachable-requires : goal.unreachable-requires
 unreachable-requires c =
-    let r = c.args.reading in
+    let r = c.args.state.now.reading in
     let past = none_there r.at r.size r.number (sym c.piece.ensures.value ∙ c.in_default.is) in
     absurd (omega (arith, past, c.requires.sound.in_phase.some))
 
-more : (c : goal.Then-is_some) → c.args.reading.number + 1 < count_of c.args.reading.at c.args.reading.size
+more : (c : goal.After-next-1) → c.args.state.now.reading.number + 1 < count_of c.args.state.now.reading.at c.args.state.now.reading.size
 more c =
-    let r = c.args.reading in
+    let r = c.args.state.now.reading in
     more_left r.at r.size (r.number + 1) c.piece-2.result (sym (c.piece-2.ensures.value ∙ ap (λ (x : Reading). slice_get (pieces_of x.at x.size) x.number) c.next-next.ensures)) (sym c.is_some.ensures ∙ c.if-is_some.true)
 
 pub whole-requires-clause-loaded : goal.whole-requires-clause-loaded
 whole-requires-clause-loaded c =
     let s = c.args.state.now in
-    let r = c.args.reading in
+    let r = c.args.state.now.reading in
     let loading = c.requires.sound.in_phase in
     let facts = rw c.in-Some.is at c.piece.ensures.reads_on in
     let is = rw c.in-Some.is at c.piece.ensures.piece in
@@ -55,13 +56,14 @@ whole-requires-clause-loaded c =
 pub returns-then-is_some-clause-sound : goal.returns-then-is_some-clause-sound
 returns-then-is_some-clause-sound c =
     let s = c.args.state.now in
-    let r = c.args.reading in
+    let r = c.args.state.now.reading in
     let h = c.requires.sound.held in
     let loading = c.requires.sound.in_phase in
     let facts = rw c.in-Some.is at c.piece.ensures.reads_on in
     let is = rw c.in-Some.is at c.piece.ensures.piece in
-    let e : Data = record s { gathered = c.gather.new.value } in
-    subst (λ (x : Reading). IsSoundAfter (Wait (Load x)) e) (sym c.next-next.ensures) (
+    let n : Reading = record r { number = r.number + 1 } in
+    let e : Data = record s { gathered = c.gather.new.value; reading = n } in
+    subst (λ (x : Reading). IsSoundAfter (Wait waits.Load) (record e { reading = x })) (sym c.next-next.ensures) (
       record {
         held = record { bounds = h.bounds; is_open = h.is_open; log = h.log; writes = h.writes; settled = h.settled; free = h.free; tries = h.tries };
         in_phase = record {
@@ -77,20 +79,20 @@ returns-then-is_some-clause-sound c =
     )
 
 -- the piece that was loaded
-this_part : (c : goal.Then-is_some) → part_of c.in-Some.piece c.args.seen ≡ part_of (part c.args.reading) c.args.seen
-this_part c = (let r = c.args.reading in ap (λ (p : Piece). part_of p c.args.seen) (piece_there r.at r.size r.number c.in-Some.piece (sym c.piece.ensures.value ∙ c.in-Some.is)).1)
+this_part : (c : goal.After-next-1) → part_of c.in-Some.piece c.args.seen ≡ part_of (part c.args.state.now.reading) c.args.seen
+this_part c = (let r = c.args.state.now.reading in ap (λ (p : Piece). part_of p c.args.seen) (piece_there r.at r.size r.number c.in-Some.piece (sym c.piece.ensures.value ∙ c.in-Some.is)).1)
 
 pub returns-then-is_some-clause-proceeds : goal.returns-then-is_some-clause-proceeds
 returns-then-is_some-clause-proceeds c =
     let s = c.args.state.now in
-    let r = c.args.reading in
+    let r = c.args.state.now.reading in
     let n = r.number in
-    let e : Data = record s { gathered = c.gather.new.value } in
+    let e : Data = record s { gathered = c.gather.new.value; reading = record r { number = n + 1 } } in
     let within = c.requires.sound.in_phase.within in
     let word = word-pieces_of r.at r.size (n + 1) s.words (more c) within in
     let unsaved = cond-false (suc n == count_of r.at r.size) (access_saved r.purpose r.at s.arena (s.gathered.items ++ part_of (part r) c.args.seen)) s.arena (ne_eqb (suc n) (count_of r.at r.size) (λ same. omega (arith, same, more c))) in
     let kept_on = cond-false (n + 1 == 0) [] (s.gathered.items ++ part_of (part r) c.args.seen) (ne_eqb (n + 1) 0 (λ z. omega (arith, z))) in
-    subst (λ (x : Reading). HeldTurns (handed (held s (Load r)) c.args.seen) (Wait (Load x)) e) (sym c.next-next.ensures)
+    subst (λ (x : Reading). HeldTurns (handed (held s (Load r)) c.args.seen) (Wait waits.Load) (record e { reading = x })) (sym c.next-next.ensures)
     (record {
       lawful = (omega (arith, word), (c.requires.sound.held.is_open, λ x y. absurd (cc)));
       unfreed = refl;
@@ -103,10 +105,10 @@ returns-then-is_some-clause-proceeds c =
 pub returns-then-is_some-clause-steps : goal.returns-then-is_some-clause-steps
 returns-then-is_some-clause-steps c =
     let s = c.args.state.now in
-    let r = c.args.reading in
+    let r = c.args.state.now.reading in
     let n = r.number in
-    let e : Data = record s { gathered = c.gather.new.value } in
-    subst (λ (x : Reading). Steps s (Load r) c.args.seen (Wait (Load x)) e) (sym c.next-next.ensures)
+    let e : Data = record s { gathered = c.gather.new.value; reading = record r { number = n + 1 } } in
+    subst (λ (x : Reading). Steps s (Load r) c.args.seen (Wait waits.Load) (record e { reading = x })) (sym c.next-next.ensures)
     (λ m mem found.
     (let is = piece_there r.at r.size n c.in-Some.piece (sym c.piece.ensures.value ∙ c.in-Some.is) in
     let there : slice_get m c.in-Some.piece.word ≡ Some c.args.seen = ap (λ (p : Piece). slice_get m p.word) is.1 ∙ found in
@@ -117,15 +119,15 @@ returns-then-is_some-clause-steps c =
 
 pub returns-then-is_some-clause-order : goal.returns-then-is_some-clause-order
 returns-then-is_some-clause-order c =
-    let r = c.args.reading in
+    let r = c.args.state.now.reading in
     subst (λ (x : Reading). Load x ≡ read_from (read_past r.purpose) (record r { number = suc r.number })) (sym (c.next-next.ensures ∙ ap (λ (m : ℕ). record r { number = m }) (add-one r.number)))
     (first_piece (read_past r.purpose) (record r { number = suc r.number }) (omega (arith, more c)))
 
 -- the last piece was loaded
-all_gathered : (c : goal.After-whole) → (m : List ℕ) → slice_get m (word_of c.args.reading) ≡ Some c.args.seen → c.gather.new.value.items ≡ c.args.state.now.gathered.items ++ gathered m (drop c.args.reading.number (pieces_of c.args.reading.at c.args.reading.size))
+all_gathered : (c : goal.After-whole) → (m : List ℕ) → slice_get m (word_of c.args.state.now.reading) ≡ Some c.args.seen → c.gather.new.value.items ≡ c.args.state.now.gathered.items ++ gathered m (drop c.args.state.now.reading.number (pieces_of c.args.state.now.reading.at c.args.state.now.reading.size))
 all_gathered c m found =
     let s = c.args.state.now in
-    let r = c.args.reading in
+    let r = c.args.state.now.reading in
     let left : count_of r.at r.size ≤ r.number + 1 = none_left r.at r.size (r.number + 1) c.piece-2.result (sym (c.piece-2.ensures.value ∙ ap (λ (x : Reading). slice_get (pieces_of x.at x.size) x.number) c.next-next.ensures)) (sym c.is_some.ensures ∙ c.if-is_some.false) in
     let this = sym c.piece.ensures.value ∙ c.in-Some.is in
     let there : slice_get m c.in-Some.piece.word ≡ Some c.args.seen = ap (λ (p : Piece). slice_get m p.word) (piece_there r.at r.size r.number c.in-Some.piece this).1 ∙ found in
@@ -134,7 +136,7 @@ all_gathered c m found =
 pub returns-else-is_some-clause-proceeds : goal.returns-else-is_some-clause-proceeds
 returns-else-is_some-clause-proceeds c =
     let s = c.args.state.now in
-    let r = c.args.reading in
+    let r = c.args.state.now.reading in
     let n = r.number in
     let e : Data = record s { gathered = c.gather.new.value } in
     let left : count_of r.at r.size ≤ r.number + 1 = none_left r.at r.size (r.number + 1) c.piece-2.result (sym (c.piece-2.ensures.value ∙ ap (λ (x : Reading). slice_get (pieces_of x.at x.size) x.number) c.next-next.ensures)) (sym c.is_some.ensures ∙ c.if-is_some.false) in
@@ -148,12 +150,12 @@ returns-else-is_some-clause-proceeds c =
 pub returns-else-is_some-clause-steps : goal.returns-else-is_some-clause-steps
 returns-else-is_some-clause-steps c = λ m mem found.
     (let s = c.args.state.now in
-    let r = c.args.reading in
+    let r = c.args.state.now.reading in
     let bytes = all_gathered c m found in
     subst (λ (b : List ℕ). ComesTo (reading_of r.purpose r (kept s m) b) (answered r.purpose b) (next_of c.whole.result c.whole.new.state) (held_after c.whole.result c.whole.new.state) m) bytes (c.whole.ensures.comes m mem))
 
 pub returns-else-is_some-clause-order : goal.returns-else-is_some-clause-order
 returns-else-is_some-clause-order c =
-    let r = c.args.reading in
+    let r = c.args.state.now.reading in
     let left : count_of r.at r.size ≤ r.number + 1 = none_left r.at r.size (r.number + 1) c.piece-2.result (sym (c.piece-2.ensures.value ∙ ap (λ (x : Reading). slice_get (pieces_of x.at x.size) x.number) c.next-next.ensures)) (sym c.is_some.ensures ∙ c.if-is_some.false) in
     c.whole.ensures.order ∙ sym (read_ends (read_past r.purpose) (record r { number = suc r.number }) (omega (arith, left)))

@@ -1,5 +1,6 @@
 use Rattle.std.proofs.Common.{Bool, sym, ap, ◌∙◌, if◌then◌else◌}
 use Rattle.norec_core.specs.declared.answer.Undone.TheVariants.{Nothing, Done}
+use Rattle.norec_data.specs.View.{phase_of}
 use Rattle.norec_engine.proofs.Ended.{is_free, after_left, undone_of_left, told_left}
 use Rattle.norec_engine.proofs.engine.Engine.abort.Goals.{then-was_open, else-was_open}
 use Rattle.norec_engine.proofs.engine.Engine.abort.Goals as goal
@@ -7,9 +8,9 @@ use Rattle.norec_engine.proofs.engine.Engine.abort.Goals as goal
 pub returns-after-was_open : goal.returns-after-was_open
 returns-after-was_open c =
     let s = c.self.inside.state in
-    let phase = c.self.inside.phase in
+    let phase = phase_of s c.self.inside.pending in
     let new = c.roll_back.new.state in
-    let free = is_free phase c.in_default.not-BackLoad c.in_default.not-Store c.in_default.not-Free in
+    let free = is_free s c.self.inside.pending c.in_default.not-BackLoad c.in_default.not-Store c.in_default.not-Free in
     let invariant = rw c.if-self.false at c.self.invariant in
     rw (← c.self.view_is) (rw c.if-self.false (record {
       undone =
