@@ -1,3 +1,4 @@
 pub mod View
 pub mod Bounds
+pub mod Ends
 pub mod Turns

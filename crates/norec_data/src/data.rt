@@ -8,7 +8,7 @@ ghost use Rattle.norec_data.specs.View.{in_block};
 ghost use Rattle.norec_data.specs.Turns.{IsEnded};
 
 use crate::pending::Cause;
-use itm_types::{Datum, Limits, Value};
+use itm_types::{Datum, Limits, Refusal, Value};
 use nest_frames::Frames;
 use norec_core::{Opening, Reading, Taking, Writing};
 use undo_log::Arena;
@@ -39,6 +39,10 @@ pub struct Data {
     pub got: Option<u64>,
     /// The write in progress, in an irrevocable transaction.
     pub writing: Writing,
+    /// Why the call that was refused last was so.
+    pub why: Refusal,
+    /// The word that had changed, where the last conflict was seen by one.
+    pub changed: Option<u32>,
     /// The bytes that the access in progress has so far, or those that it writes.
     pub gathered: Value,
     /// The value of the write in progress, in an irrevocable transaction.

@@ -3,12 +3,14 @@
 
 mod copies;
 mod data;
+mod end;
 mod pending;
 mod refusals;
 mod turn;
 
 pub use copies::{chunk_reading, chunks, direction};
 pub use data::{Data, finish, roll_back};
+pub use end::End;
 pub use pending::{Cause, Pending};
 pub use refusals::{access_refusal, begin_refusal, copy_refusal, mode_refusal};
 pub use turn::Turn;

@@ -1,14 +1,13 @@
 //! What an event leads to.
 
-use itm_types::Reply;
+use crate::end::End;
 use crate::pending::Pending;
-use norec_core::Answer;
 
-/// What comes of an event: another step, or the answer.
-#[derive(Drop)]
+/// What comes of an event: another step, or the end of the call.
+#[derive(Clone, Copy, Debug, PartialEq, Eq)]
 pub enum Turn {
     Wait(Pending),
-    End(Answer),
-    /// The answer of a call that has made the transaction irrevocable.
-    Enter(Reply),
+    End(End),
+    /// The end of a call that has made the transaction irrevocable.
+    Enter(End),
 }

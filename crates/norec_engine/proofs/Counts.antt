@@ -154,8 +154,8 @@ fits d phase s w m e = fits_most d phase s w m e (within d phase s w)
 -- so it is after a turn
 turn_counts : (turn : Turn) (d : Data) → IsSoundTurn turn d → IsWithin (core_after turn d)
 turn_counts (Wait p) d s = counts (counted d) (phase_of d p) s.sound
-turn_counts (End a) d s = counts d at.Idle s.sound
-turn_counts (Enter r) d s = λ n. absurd (n refl)
+turn_counts (End end) d s = counts d at.Idle s.sound
+turn_counts (Enter end) d s = λ n. absurd (n refl)
 
 pub counts_after : (turn : Turn) (d : Data) (new : Core) → IsSoundTurn turn d → new ≡ core_after turn d → IsWithin new
 counts_after turn d new s e = subst IsWithin (sym e) (turn_counts turn d s)

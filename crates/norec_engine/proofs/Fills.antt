@@ -21,6 +21,7 @@ use Rattle.nest_frames.specs.Nest.{Frame, Nest}
 use Rattle.norec_core.specs.declared.answer.Answer.TheVariants.{Reply}
 use Rattle.norec_data.specs.declared.data.Data.{Data}
 use Rattle.norec_core.specs.declared.phase.Phase.TheVariants.{Idle}
+use Rattle.norec_data.specs.declared.end.End.TheVariants as ends
 use Rattle.norec_data.specs.declared.turn.Turn.TheVariants.{End}
 use Rattle.norec_core.specs.Core.{came, is_inside}
 use Rattle.norec_core.specs.Accesses.{access_refusal}
@@ -103,7 +104,7 @@ some_filled d to byte size rows bytes frames accepted reserved are put blocks si
     }
 
 module _ (d : Data) (to byte size : ℕ) (frames : Nest) (buffer : Vec ℕ) (s : IsSound d Idle) (is : IsFilled d to byte size frames) where
-  pub filled_sound : IsSoundTurn (End (Reply Done)) (filled d frames buffer)
+  pub filled_sound : IsSoundTurn (End ends.Done) (filled d frames buffer)
   filled_sound =
       let bytes = bytes_set size byte in
       let may = served (in_block d) d.words to size is.accepted in

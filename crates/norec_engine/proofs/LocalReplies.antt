@@ -31,9 +31,9 @@ use Rattle.norec_engine.specs.InPhases.{AreFrames, IsSound}
 use Rattle.norec_engine.proofs.Cancels.{come}
 use Rattle.norec_engine.proofs.Refusals.{denied, stands}
 
--- between two calls, as one comes
-pub come_sound : (d : Data) → IsSound d Idle → IsSound (come d) Idle
-come_sound d s =
+-- between two calls, as one comes and is refused
+pub come_sound : (d : Data) (why : Refusal) → IsSound d Idle → IsSound (record (come d) { why = why }) Idle
+come_sound d why s =
     record {
       bounds = s.bounds;
       reached = s.reached;

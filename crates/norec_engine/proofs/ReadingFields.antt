@@ -28,15 +28,15 @@ among d what at size f = among_for d.words (length d.arena) d.written d.frames.w
 -- what a turn leaves, as callers see it
 pub after_log : (turn : Turn) (d : Data) → (core_after turn d).log ≡ d.log.rows
 after_log (Wait phase) d = refl
-after_log (End a) d = refl
-after_log (Enter r) d = refl
+after_log (End end) d = refl
+after_log (Enter end) d = refl
 
 pub after_open : (turn : Turn) (d : Data) → in_transaction (core_after turn d) ≡ in_block d
 after_open (Wait phase) d = refl
-after_open (End a) d = refl
-after_open (Enter r) d = refl
+after_open (End end) d = refl
+after_open (Enter end) d = refl
 
 pub after_snapshot : (turn : Turn) (d : Data) → (core_after turn d).snapshot ≡ d.snapshot
 after_snapshot (Wait phase) d = refl
-after_snapshot (End a) d = refl
-after_snapshot (Enter r) d = refl
+after_snapshot (End end) d = refl
+after_snapshot (Enter end) d = refl

@@ -10,12 +10,12 @@ use Rattle.norec_core.specs.declared.phase.Purpose.{Purpose}
 use Rattle.norec_core.specs.declared.phase.Purpose.TheVariants as for
 use Rattle.itm_types.specs.declared.call.Copying.{Copying}
 use Rattle.norec_core.specs.Copies.{chunks_in, words_in, source_words}
+use Rattle.norec_data.specs.declared.end.End.{End}
+use Rattle.norec_data.specs.declared.end.End.TheVariants as ends
 use Rattle.norec_data.specs.declared.turn.Turn.{Turn}
-use Rattle.norec_data.specs.declared.turn.Turn.TheVariants.{Wait, End, Enter}
+use Rattle.norec_data.specs.declared.turn.Turn.TheVariants.{Wait, End as Ends, Enter}
 use Rattle.norec_data.specs.declared.data.Data.{Data}
 use Rattle.itm_types.specs.declared.call.Props.{Props}
-use Rattle.itm_types.specs.declared.call.Reply.{Reply as Replied}
-use Rattle.itm_types.specs.declared.call.Reply.TheVariants.{Done, Code}
 use Rattle.nest_frames.specs.Nest.{Frame, Nest, begun}
 use Rattle.norec_core.specs.Core.{Core}
 use Rattle.norec_core.specs.Accesses.{count, passed}
@@ -26,8 +26,8 @@ use Rattle.norec_data.specs.Bounds.{IsBounded, IsHeld}
 
 abbrev pub IsSoundAfter : Turn → Data → Type 0
 IsSoundAfter (Wait p) d = IsSound (counted d) (phase_of d p)
-IsSoundAfter (End a) d = IsSound d at.Idle
-IsSoundAfter (Enter r) d = IsHeld d
+IsSoundAfter (Ends end) d = IsSound d at.Idle
+IsSoundAfter (Enter end) d = IsHeld d
 
 pub record IsSoundTurn (turn : Turn) (d : Data) : Type 0 where
   pub sound : IsSoundAfter turn d
@@ -40,9 +40,9 @@ abbrev pub blocks_with : Option Props → Nest → List Frame
 blocks_with None n = n.blocks
 blocks_with (Some props) n = begun props n.writes.rows n.actions ∷ n.blocks
 
-abbrev pub entry_reply : Option Props → Replied
-entry_reply None = Done
-entry_reply (Some props) = Code 5
+abbrev pub entry_end : Option Props → End
+entry_end None = ends.Done
+entry_end (Some props) = ends.Entered
 
 -- ## Between two steps
 
@@ -73,8 +73,8 @@ in_rows d aim row = record (core d (at.RoundRow aim row)) { waits = None; stage 
 -- the same, but that a transaction that becomes irrevocable needs no log
 abbrev pub log_left : Turn → List LogRow → List LogRow
 log_left (Wait phase) log = log
-log_left (End a) log = log
-log_left (Enter r) log = []
+log_left (Ends end) log = log
+log_left (Enter end) log = []
 
 pub record StaysBy (turn : Turn) (old new : Data) : Type 0 where
   pub opens : in_block new ≡ true → in_block old ≡ true

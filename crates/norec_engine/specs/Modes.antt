@@ -22,8 +22,8 @@ IsSoundIn true d phase = IsSoundHeld d phase
 -- whether its transaction is irrevocable after a turn
 abbrev pub mode_after : Bool → Turn → Bool
 mode_after irrevocable (Wait p) = irrevocable
-mode_after irrevocable (End a) = false
-mode_after irrevocable (Enter r) = true
+mode_after irrevocable (End end) = false
+mode_after irrevocable (Enter end) = true
 
 abbrev pub engine_after : Bool → Turn → Data → Core
 engine_after irrevocable turn d = engine_in (mode_after irrevocable turn) (data_after turn d) (phase_after turn d)

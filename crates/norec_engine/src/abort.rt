@@ -7,9 +7,9 @@ ghost use Rattle.norec_engine.specs.Between.{IsSoundTurn};
 ghost use Rattle.norec_data.specs.Turns.{core_after, phase_after, Turns, TurnEndsSo, Stays};
 ghost use Rattle.norec_core.specs.Core.{came};
 
-use itm_types::{CANCELLED, Call, Refusal, Reply};
-use norec_core::{Answer, Phase};
-use norec_data::{Data, Turn, roll_back};
+use itm_types::{Call, Refusal};
+use norec_core::Phase;
+use norec_data::{Data, End, Turn, roll_back};
 
 /// The innermost block, or with `outer` all of them, are to be cancelled.
 pub(crate) fn abort(state: &mut Data, outer: bool) -> Turn
@@ -18,20 +18,22 @@ pub(crate) fn abort(state: &mut Data, outer: bool) -> Turn
     ensures proceeds { Turns (came (core state.old Phase.Idle) (Call.Abort outer) false) result state.new }
     ensures stays { Stays state.old state.new }
     ensures order { phase_after result state.new ≡ Phase.Idle }
-    ensures ends { TurnEndsSo None result }
+    ensures ends { TurnEndsSo None result state.new }
     ensures tries { (core_after result state.new).tries ≡ 0 }
 {
     state.come();
     if !state.is_open() {
-        return Turn::End(Answer::Reply(Reply::Refused(Refusal::Outside)));
+        state.why = Refusal::Outside;
+        return Turn::End(End::Refused);
     }
     if state.frames.is_kept(outer) {
-        return Turn::End(Answer::Reply(Reply::Refused(Refusal::NoAbort)));
+        state.why = Refusal::NoAbort;
+        return Turn::End(End::Refused);
     }
     if outer || state.is_outermost() {
         roll_back(state);
     } else {
         state.frames.cancel(&mut state.arena);
     }
-    Turn::End(Answer::Reply(Reply::Code(CANCELLED)))
+    Turn::End(End::Cancelled)
 }

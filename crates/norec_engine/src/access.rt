@@ -10,9 +10,9 @@ ghost use Rattle.norec_engine.specs.Between.{IsSoundTurn};
 ghost use Rattle.norec_data.specs.Turns.{core_after, phase_after, Turns, TurnEndsSo, Stays};
 ghost use Rattle.norec_core.specs.Core.{came};
 
-use itm_types::{MAX_WORDS, Refusal, Reply};
-use norec_core::{Answer, Phase};
-use norec_data::{Data, Turn};
+use itm_types::{MAX_WORDS, Refusal};
+use norec_core::Phase;
+use norec_data::{Data, End, Turn};
 
 /// A read, a write or a fill is refused.
 pub(crate) fn refuse(state: &mut Data, why: Refusal) -> Turn
@@ -23,9 +23,10 @@ pub(crate) fn refuse(state: &mut Data, why: Refusal) -> Turn
         → Turns (came (core state.old Phase.Idle) call false) result state.new }
     ensures stays { Stays state.old state.new }
     ensures order { phase_after result state.new ≡ Phase.Idle }
-    ensures ends { TurnEndsSo None result }
+    ensures ends { TurnEndsSo None result state.new }
     ensures tries { (core_after result state.new).tries ≡ 0 }
 {
     state.come();
-    Turn::End(Answer::Reply(Reply::Refused(why)))
+    state.why = why;
+    Turn::End(End::Refused)
 }

@@ -7,6 +7,8 @@ ghost use Rattle.norec_data.specs.View.{in_block, core};
 ghost use Rattle.norec_engine.specs.InPhases.{IsSound};
 ghost use Rattle.norec_data.specs.Bounds.{IsOutside};
 ghost use Rattle.norec_engine.specs.Between.{IsSoundTurn};
+ghost use Rattle.norec_data.specs.Ends.{answer_of};
+ghost use Rattle.norec_data.specs.declared.data.Data.{Data};
 ghost use Rattle.norec_data.specs.Turns.{core_after, phase_after, Turns, TurnEndsSo, Stays};
 ghost use Rattle.norec_core.specs.Core.{came, handed, may_go};
 ghost use Rattle.norec_core.specs.Order.{log_after, snapshot_after, stage_after, stage_at, tries_after, tries_at};
@@ -14,10 +16,10 @@ ghost use Rattle.norec_core.specs.Endings.{ending_at, ending_after};
 ghost use Rattle.norec_core.specs.Proceeds.{Joins, MayStarve};
 
 use crate::commit::exchange;
-use itm_types::{Call, ENTERED, ENTERED_AGAIN, Props, Reply};
+use itm_types::{Call, Props, Reply};
 use nest_frames::Frames;
 use norec_core::{Answer, Opening, Phase, Taking};
-use norec_data::{Data, Pending, Turn, begin_refusal};
+use norec_data::{Data, End, Pending, Turn, begin_refusal};
 use std::alloc::AllocError;
 
 /// A begin comes.
@@ -36,12 +38,13 @@ pub(crate) fn begin(
     ensures starves { OnErr result (MayStarve (core state.old Phase.Idle) (Call.Begin props room)) }
     ensures order { IfOk result
         (λ turn. phase_after turn state.new ≡ stage_at (core state.old Phase.Idle) (Call.Begin props room) again) }
-    ensures ends { IfOk result (TurnEndsSo (ending_at (core state.old Phase.Idle) (Call.Begin props room))) }
+    ensures ends { IfOk result (λ turn. TurnEndsSo (ending_at (core state.old Phase.Idle) (Call.Begin props room)) turn state.new) }
     ensures tries { IfOk result (λ turn. (core_after turn state.new).tries ≡ tries_at (phase_after turn state.new)) }
 {
     if let Some(why) = begin_refusal(state, props) {
         state.come();
-        return Ok(Turn::End(Answer::Reply(Reply::Refused(why))));
+        state.why = why;
+        return Ok(Turn::End(End::Refused));
     }
     reserve_room(&mut state.frames, props, room)?;
     state.come();
@@ -54,7 +57,7 @@ pub(crate) fn begin(
         Ok(exchange(state, Taking::Begin { props, room }))
     } else {
         state.frames.enter(props);
-        Ok(Turn::End(Answer::Reply(Reply::Code(ENTERED))))
+        Ok(Turn::End(End::Entered))
     }
 }
 
@@ -79,7 +82,7 @@ pub(crate) fn begin_seen(state: &mut Data, seen: u64) -> Turn
     ensures proceeds { Turns (handed (core state.old (Phase.Begin state.old.opening)) seen) result state.new }
     ensures joins { Joins (core state.old (Phase.Begin state.old.opening)) seen (core_after result state.new) }
     ensures order { phase_after result state.new ≡ stage_after (core state.old (Phase.Begin state.old.opening)) seen }
-    ensures ends { TurnEndsSo (ending_after (core state.old (Phase.Begin state.old.opening)) seen) result }
+    ensures ends { TurnEndsSo (ending_after (core state.old (Phase.Begin state.old.opening)) seen) result state.new }
     ensures snapshot { state.new.snapshot ≡ snapshot_after (core state.old (Phase.Begin state.old.opening)) seen }
     ensures log { in_block state.new ≡ true
         → state.new.log.rows ≡ log_after (core state.old (Phase.Begin state.old.opening)) seen }
@@ -90,19 +93,19 @@ pub(crate) fn begin_seen(state: &mut Data, seen: u64) -> Turn
     if seen % 2 == 0 {
         state.snapshot = seen;
         if !opening.props.goes_irrevocable {
-            return Turn::End(Answer::Reply(open(state, opening)));
+            return Turn::End(open(state, opening));
         }
         let at = seen / 2;
         if at < state.limits.max_commits {
             Turn::Wait(Pending::Take)
         } else {
-            Turn::End(Answer::Full { at })
+            Turn::End(End::Full)
         }
     } else if state.tries < state.limits.patience {
         state.tries += 1;
         Turn::Wait(Pending::Begin)
     } else {
-        Turn::End(Answer::Busy { clock: seen })
+        Turn::End(End::Busy)
     }
 }
 
@@ -114,7 +117,7 @@ pub(crate) fn begin_taken(state: &mut Data, seen: u64) -> Turn
     ensures proceeds { Turns (handed (core state.old (Phase.Take state.old.opening)) seen) result state.new }
     ensures joins { Joins (core state.old (Phase.Take state.old.opening)) seen (core_after result state.new) }
     ensures order { phase_after result state.new ≡ stage_after (core state.old (Phase.Take state.old.opening)) seen }
-    ensures ends { TurnEndsSo (ending_after (core state.old (Phase.Take state.old.opening)) seen) result }
+    ensures ends { TurnEndsSo (ending_after (core state.old (Phase.Take state.old.opening)) seen) result state.new }
     ensures snapshot { state.new.snapshot ≡ snapshot_after (core state.old (Phase.Take state.old.opening)) seen }
     ensures log { in_block state.new ≡ true
         → state.new.log.rows ≡ log_after (core state.old (Phase.Take state.old.opening)) seen }
@@ -123,23 +126,20 @@ pub(crate) fn begin_taken(state: &mut Data, seen: u64) -> Turn
     let opening = state.opening;
     state.clock = seen;
     if seen == state.snapshot {
-        let reply = open(state, opening);
-        Turn::Enter(reply)
+        Turn::Enter(open(state, opening))
     } else if state.tries < state.limits.patience {
         state.tries += 1;
         Turn::Wait(Pending::Begin)
     } else {
-        Turn::End(Answer::Conflict {
-            clock: seen,
-            word: None,
-        })
+        state.changed = None;
+        Turn::End(End::Conflict)
     }
 }
 
 /// The outermost block begins.
-fn open(state: &mut Data, opening: Opening) -> Reply
+fn open(state: &mut Data, opening: Opening) -> End
     requires outside { IsOutside state.old }
-    ensures reply { result ≡ Reply.Code (if opening.again then 9 else 5) }
+    ensures reply { (d : Data) → answer_of d result ≡ Answer.Reply (Reply.Code (if opening.again then 9 else 5)) }
     ensures blocks { state.new.frames.blocks ≡ begun opening.props [] no_actions ∷ [] }
     ensures actions { state.new.frames.actions ≡ no_actions }
     ensures rows { state.new.frames.writes.rows ≡ [] }
@@ -148,9 +148,9 @@ fn open(state: &mut Data, opening: Opening) -> Reply
 {
     state.frames.clear_due();
     state.frames.enter(opening.props);
-    Reply::Code(if opening.again {
-        ENTERED_AGAIN
+    if opening.again {
+        End::EnteredAgain
     } else {
-        ENTERED
-    })
+        End::Entered
+    }
 }

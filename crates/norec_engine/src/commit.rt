@@ -11,9 +11,9 @@ ghost use Rattle.norec_core.specs.Order.{exchange_stage, stage_after, stage_at, 
 
 use crate::mode::go_irrevocable;
 use crate::rounds::try_round;
-use itm_types::{Call, Refusal, Reply};
+use itm_types::{Call, Refusal};
 use norec_core::{Aim, Answer, Phase, Taking};
-use norec_data::{Cause, Data, Pending, Turn, finish, roll_back};
+use norec_data::{Cause, Data, End, Pending, Turn, finish, roll_back};
 
 /// A commit comes.
 pub(crate) fn commit(state: &mut Data) -> Turn
@@ -22,22 +22,22 @@ pub(crate) fn commit(state: &mut Data) -> Turn
     ensures proceeds { Turns (came (core state.old Phase.Idle) Call.Commit false) result state.new }
     ensures stays { Stays state.old state.new }
     ensures order { phase_after result state.new ≡ stage_at (core state.old Phase.Idle) Call.Commit false }
-    ensures ends { TurnEndsSo (ending_at (core state.old Phase.Idle) Call.Commit) result }
+    ensures ends { TurnEndsSo (ending_at (core state.old Phase.Idle) Call.Commit) result state.new }
     ensures tries { (core_after result state.new).tries ≡ tries_at (phase_after result state.new) }
 {
     state.come();
     state.tries = 0;
     if !state.is_open() {
-        return Turn::End(Answer::Reply(Reply::Refused(Refusal::Outside)));
+        state.why = Refusal::Outside;
+        return Turn::End(End::Refused);
     }
     if !state.is_outermost() {
         state.frames.leave();
-        return Turn::End(Answer::Reply(Reply::Done));
+        return Turn::End(End::Done);
     }
     if state.frames.len() == 0 {
-        let at = state.snapshot / 2;
         finish(state);
-        Turn::End(Answer::Committed { at, wrote: false })
+        Turn::End(End::ReadOnly)
     } else {
         exchange(state, Taking::Commit)
     }
@@ -51,7 +51,7 @@ pub(crate) fn exchange(state: &mut Data, taking: Taking) -> Turn
     ensures proceeds { (was : ℕ) → Turns (moved (between state.old (Aim.Take taking)) was) result state.new }
     ensures stays { Stays state.old state.new }
     ensures order { phase_after result state.new ≡ exchange_stage state.old.limits.max_commits state.old.snapshot taking }
-    ensures ends { TurnEndsSo (Some (Answer.Full (state.old.snapshot / 2))) result }
+    ensures ends { TurnEndsSo (Some (Answer.Full (state.old.snapshot / 2))) result state.new }
     ensures tries { (core_after result state.new).tries ≡ tries_after (phase_after result state.new) state.old.tries }
 {
     let at = state.snapshot / 2;
@@ -60,7 +60,7 @@ pub(crate) fn exchange(state: &mut Data, taking: Taking) -> Turn
         Turn::Wait(Pending::Exchange)
     } else {
         roll_back(state);
-        Turn::End(Answer::Full { at })
+        Turn::End(End::Full)
     }
 }
 
@@ -72,7 +72,7 @@ pub(crate) fn exchanged(state: &mut Data, seen: u64) -> Turn
     ensures proceeds { Turns (handed (core state.old (Phase.Exchange state.old.taking)) seen) result state.new }
     ensures stays { StaysBy result state.old state.new }
     ensures order { phase_after result state.new ≡ stage_after (core state.old (Phase.Exchange state.old.taking)) seen }
-    ensures ends { TurnEndsSo (ending_after (core state.old (Phase.Exchange state.old.taking)) seen) result }
+    ensures ends { TurnEndsSo (ending_after (core state.old (Phase.Exchange state.old.taking)) seen) result state.new }
     ensures tries { (core_after result state.new).tries ≡ tries_after (phase_after result state.new) state.old.tries }
 {
     state.clock = seen;
@@ -91,7 +91,7 @@ fn next_store(state: &mut Data, row: usize) -> Turn
     ensures proceeds { Turns (in_stores state.old state.old.taking row) result state.new }
     ensures stays { StaysBy result state.old state.new }
     ensures order { phase_after result state.new ≡ store_stage state.old.taking state.old.frames.writes.rows row }
-    ensures ends { TurnEndsSo None result }
+    ensures ends { TurnEndsSo None result state.new }
     ensures tries { (core_after result state.new).tries ≡ tries_after (phase_after result state.new) state.old.tries }
 {
     if row < state.frames.len() {
@@ -118,7 +118,7 @@ pub(crate) fn back_loaded(state: &mut Data, row: usize, seen: u64) -> Turn
     ensures proceeds { Turns (handed (core state.old (Phase.BackLoad state.old.taking row)) seen) result state.new }
     ensures stays { Stays state.old state.new }
     ensures order { phase_after result state.new ≡ stage_after (core state.old (Phase.BackLoad state.old.taking row)) seen }
-    ensures ends { TurnEndsSo (ending_after (core state.old (Phase.BackLoad state.old.taking row)) seen) result }
+    ensures ends { TurnEndsSo (ending_after (core state.old (Phase.BackLoad state.old.taking row)) seen) result state.new }
     ensures tries { (core_after result state.new).tries ≡ tries_after (phase_after result state.new) state.old.tries }
 {
     state.got = Some(seen);
@@ -132,7 +132,7 @@ pub(crate) fn stored(state: &mut Data, row: usize) -> Turn
     ensures proceeds { Turns (handed (core state.old (Phase.Store state.old.taking row state.old.got)) 0) result state.new }
     ensures stays { StaysBy result state.old state.new }
     ensures order { phase_after result state.new ≡ stage_after (core state.old (Phase.Store state.old.taking row state.old.got)) 0 }
-    ensures ends { TurnEndsSo (ending_after (core state.old (Phase.Store state.old.taking row state.old.got)) 0) result }
+    ensures ends { TurnEndsSo (ending_after (core state.old (Phase.Store state.old.taking row state.old.got)) 0) result state.new }
     ensures tries { (core_after result state.new).tries ≡ tries_after (phase_after result state.new) state.old.tries }
 {
     let _rows = state.frames.len();
@@ -146,11 +146,10 @@ pub(crate) fn freed(state: &mut Data) -> Turn
     ensures proceeds { Turns (handed (core state.old Phase.Free) 0) result state.new }
     ensures stays { Stays state.old state.new }
     ensures order { phase_after result state.new ≡ stage_after (core state.old Phase.Free) 0 }
-    ensures ends { TurnEndsSo (ending_after (core state.old Phase.Free) 0) result }
+    ensures ends { TurnEndsSo (ending_after (core state.old Phase.Free) 0) result state.new }
     ensures tries { (core_after result state.new).tries ≡ tries_after (phase_after result state.new) state.old.tries }
 {
-    let at = state.snapshot / 2;
     state.clock = state.snapshot + 2;
     finish(state);
-    Turn::End(Answer::Committed { at, wrote: true })
+    Turn::End(End::Committed)
 }

@@ -20,10 +20,10 @@ use crate::copy::refusals::refuse_copy;
 use crate::fill::set_all;
 use crate::range::{put_range, reserve_range};
 use crate::read::{MOST_PIECES, take_had};
-use itm_types::{Call, CopyPair, Copying, MAX_MEMORY, MAX_WORDS, Reply, Value};
+use itm_types::{Call, CopyPair, Copying, MAX_MEMORY, MAX_WORDS, Value};
 use nest_frames::Frames;
-use norec_core::{Answer, Phase, Purpose, Reading};
-use norec_data::{Data, Pending, Turn, chunk_reading, chunks, copy_refusal, direction};
+use norec_core::{Phase, Purpose, Reading};
+use norec_data::{Data, End, Pending, Turn, chunk_reading, chunks, copy_refusal, direction};
 use std::alloc::AllocError;
 use value_log::ValueLog;
 use word_pieces::{Chunks, Direction};
@@ -40,7 +40,7 @@ pub(crate) fn copy(state: &mut Data, copying: Copying) -> Result<Turn, AllocErro
     ensures starves { OnErr result (MayStarve (core state.old Phase.Idle) (Call.Copy copying)) }
     ensures order { IfOk result
         (λ turn. phase_after turn state.new ≡ stage_at (core state.old Phase.Idle) (Call.Copy copying) false) }
-    ensures ends { IfOk result (TurnEndsSo None) }
+    ensures ends { IfOk result (λ turn. TurnEndsSo None turn state.new) }
     ensures tries { IfOk result (λ turn. (core_after turn state.new).tries ≡ tries_at (phase_after turn state.new)) }
 {
     if let Some(why) = copy_refusal(state, copying) {
@@ -135,7 +135,7 @@ pub(crate) fn next_chunk(state: &mut Data, copying: Copying, number: u32) -> Tur
     ensures stays { Stays state.old state.new }
     ensures order { phase_after result state.new
         ≡ load_chunks (rows_before state.old) state.old.log.rows copying number (drop number (chunks_in copying)) }
-    ensures ends { TurnEndsSo None result }
+    ensures ends { TurnEndsSo None result state.new }
     ensures tries { (core_after result state.new).tries ≡ tries_after (phase_after result state.new) state.old.tries }
 {
     let mut number = number;
@@ -177,11 +177,11 @@ fn copied(state: &mut Data, copying: Copying) -> Turn
     ensures proceeds { (log : List LogRow) → Turns (logged (in_copy state.old copying) log) result state.new }
     ensures stays { Stays state.old state.new }
     ensures order { phase_after result state.new ≡ Phase.Idle }
-    ensures ends { TurnEndsSo None result }
+    ensures ends { TurnEndsSo None result state.new }
     ensures tries { (core_after result state.new).tries ≡ 0 }
 {
     deliver(state, copying);
-    Turn::End(Answer::Reply(Reply::Done))
+    Turn::End(End::Done)
 }
 
 /// The buffer goes to the destination, which has room for it.

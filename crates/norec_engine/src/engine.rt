@@ -1,37 +1,27 @@
 //! One thread's transactions over shared cells that someone else steps on.
 
-ghost use Rattle.std.specs.Prelude.{◌≡◌, ◌≢◌, ◌+◌, ◌^◌, ◌<◌, ◌≤◌, IfOk, IsOk, OnOk, OnErr, IsSome, true, IsTrue, ◌↔◌, is_some, false, []};
+ghost use Rattle.std.specs.Prelude.{◌≡◌, ◌^◌, ◌<◌, ◌≤◌, IfOk, OnOk, OnErr, IsSome, true, IsTrue, ◌↔◌, is_some, false, []};
 ghost use Rattle.user_actions.specs.Actions.{total};
 ghost use Rattle.norec_core.specs.Core.{in_transaction, opening, came, handed, goes};
 ghost use Rattle.norec_core.specs.Order.{asked, log_after, snapshot_after, stage_after, stage_at, tries_after, tries_at};
 ghost use Rattle.norec_core.specs.Endings.{ending_at, ending_after, EndsSo};
 ghost use Rattle.norec_core.specs.Proceeds.{Proceeds, Joins, StaysOn, IsAtOnce, IsUndone, MayStarve, Fits, IsWithin, IsSettled};
 ghost use Rattle.norec_core.specs.Held.{ComesHeld, StepsHeld};
-ghost use Rattle.norec_data.specs.View.{in_block, core, phase_of, waits_of, step_of as asked_step};
-ghost use Rattle.norec_engine.specs.Modes.{mode_after, IsSoundIn, IsSoundWith};
-ghost use Rattle.norec_engine.specs.InPhases.{IsSound};
-ghost use Rattle.norec_engine.specs.Between.{IsSoundTurn};
-ghost use Rattle.norec_data.specs.Turns.{counted, core_after, pending_after, phase_after, data_after, next_of, Asked, IsWaiting, Turns, TurnEndsSo, Stays};
+ghost use Rattle.norec_data.specs.View.{phase_of};
+ghost use Rattle.norec_engine.specs.Modes.{IsSoundIn};
 ghost use Rattle.norec_core.specs.Undoing.{undone_of, after_undoing};
 
-use crate::abort::abort;
-use crate::begin::{begin, begin_seen, begin_taken};
-use crate::commit::{back_loaded, commit, exchanged, freed, stored};
-use crate::copy::copy;
-use crate::fill::fill;
-use crate::local::{in_transaction, load, log, register, save};
-use crate::mode::{goes, mode};
-use crate::read::{confirmed, loaded, read};
-use crate::rounds::{round_ended, round_started, row_seen};
-use crate::steps::step_of;
-use crate::write::write;
+use crate::begin::begin;
+use crate::calls::{called, turned};
+use crate::mode::goes;
+use crate::turns::take;
 use itm_types::{
-    ActionKind, Call, Datum, Limits, MAX_COMMITS, MAX_PATIENCE, MAX_WORDS, Props, Ran, ReadHint,
-    Step, Value, Width, WriteHint,
+    Call, Datum, Limits, MAX_COMMITS, MAX_PATIENCE, MAX_WORDS, Props, Ran, ReadHint, Refusal, Step,
+    Value, Width, WriteHint,
 };
 use nest_frames::Frames;
 use norec_core::{Answer, Next, Opening, Phase, Purpose, Reading, Taking, Target, Undone, Writing};
-use norec_data::{Cause, Data, Pending, Turn, roll_back};
+use norec_data::{Cause, Data, Pending, roll_back};
 use std::alloc::{AllocError, Global};
 use std::marker::Model;
 use undo_log::Arena;
@@ -105,6 +95,8 @@ impl Engine {
                     size: 1,
                     number: 0,
                 },
+                why: Refusal::Outside,
+                changed: None,
                 gathered: Value::new(),
                 value: Datum::new(Width::U1, &[0]),
                 buffer: Vec::new(alloc),
@@ -342,116 +334,5 @@ impl Engine {
         ensures { result ≡ self.now.spent }
     {
         self.state.spent
-    }
-}
-
-/// Takes a turn: the call goes on, or is over. A step that is asked for is counted.
-#[inline(always)]
-fn take(state: &mut Data, pending: &mut Pending, irrevocable: &mut bool, turn: Turn) -> Next
-    requires sound { IsSoundWith irrevocable.old turn state.old }
-    requires asked { Asked turn }
-    ensures state { state.new ≡ data_after turn state.old }
-    ensures pending { pending.new ≡ pending_after turn }
-    ensures mode { irrevocable.new ≡ mode_after irrevocable.old turn }
-    ensures next { result ≡ next_of turn state.old }
-{
-    match turn {
-        Turn::Wait(next) => {
-            let step = next_step(state, *irrevocable, next);
-            state.spent += 1;
-            *pending = next;
-            Next::Step(step)
-        }
-        Turn::End(answer) => {
-            *pending = Pending::Idle;
-            *irrevocable = false;
-            Next::Answer(answer)
-        }
-        Turn::Enter(reply) => {
-            *pending = Pending::Idle;
-            *irrevocable = true;
-            Next::Answer(Answer::Reply(reply))
-        }
-    }
-}
-
-/// The step that is waited for. There are fewer in all than a count can tell.
-#[inline(always)]
-fn next_step(state: &Data, irrevocable: bool, pending: Pending) -> Step
-    requires sound { IsSoundIn irrevocable (counted state.now) (phase_of state.now pending) }
-    requires waits { IsWaiting pending }
-    ensures step { result ≡ asked_step state.now (phase_of state.now pending) }
-    ensures few { state.now.spent + 1 < 2 ^ 128 }
-{
-    let _writes = state.frames.len();
-    let _entry = state.entry;
-    if irrevocable {
-        norec_irrevocable::step_of(state, pending)
-    } else {
-        step_of(state, pending)
-    }
-}
-
-/// What comes of the step that is waited for.
-fn turned(state: &mut Data, pending: Pending, seen: u64) -> Turn
-    requires sound { IsSound state.old (phase_of state.old pending) }
-    requires waits { IsSome (waits_of state.old (phase_of state.old pending)) }
-    requires fits { Fits (core state.old (phase_of state.old pending)) seen }
-    ensures sound { IsSoundTurn result state.new }
-    ensures proceeds { Turns (handed (core state.old (phase_of state.old pending)) seen) result state.new }
-    ensures joins { Joins (core state.old (phase_of state.old pending)) seen (core_after result state.new) }
-    ensures order { phase_after result state.new ≡ stage_after (core state.old (phase_of state.old pending)) seen }
-    ensures ends { TurnEndsSo (ending_after (core state.old (phase_of state.old pending)) seen) result }
-    ensures tries { (core_after result state.new).tries ≡ tries_after (phase_after result state.new)
-        (core state.old (phase_of state.old pending)).tries }
-    ensures snapshot { state.new.snapshot ≡ snapshot_after (core state.old (phase_of state.old pending)) seen }
-    ensures log { in_block state.new ≡ true → state.new.log.rows ≡ log_after (core state.old (phase_of state.old pending)) seen }
-{
-    match pending {
-        Pending::Idle => unreachable!(),
-        Pending::Begin => begin_seen(state, seen),
-        Pending::Load => loaded(state, seen),
-        Pending::Confirm(value) => confirmed(state, value, seen),
-        Pending::RoundStart => round_started(state, seen),
-        Pending::RoundRow(row) => row_seen(state, row, seen),
-        Pending::RoundEnd => round_ended(state, seen),
-        Pending::Take => begin_taken(state, seen),
-        Pending::Exchange => exchanged(state, seen),
-        Pending::BackLoad(row) => back_loaded(state, row, seen),
-        Pending::Store(row) => stored(state, row),
-        Pending::Free => freed(state),
-        Pending::Fetch | Pending::Place => unreachable!(),
-    }
-}
-
-/// What comes of a call.
-fn called(state: &mut Data, call: &Call) -> Result<Turn, AllocError>
-    requires sound { IsSound state.old Phase.Idle }
-    ensures sound { IfOk result (λ turn. IsSoundTurn turn state.new) }
-    ensures proceeds { IfOk result (λ turn. Turns (came (core state.old Phase.Idle) call.now false) turn state.new) }
-    ensures stays { OnOk result (Stays state.old state.new) }
-    ensures err_sound { OnErr result (IsSound state.new Phase.Idle) }
-    ensures err { OnErr result (core state.new Phase.Idle ≡ core state.old Phase.Idle) }
-    ensures starves { OnErr result (MayStarve (core state.old Phase.Idle) call.now) }
-    ensures order { IfOk result (λ turn. phase_after turn state.new ≡ stage_at (core state.old Phase.Idle) call.now false) }
-    ensures ends { IfOk result (TurnEndsSo (ending_at (core state.old Phase.Idle) call.now)) }
-    ensures tries { IfOk result (λ turn. (core_after turn state.new).tries ≡ tries_at (phase_after turn state.new)) }
-{
-    match call {
-        Call::Begin { props, room } => begin(state, *props, *room, false),
-        Call::Commit => Ok(commit(state)),
-        Call::Abort { outer } => Ok(abort(state, *outer)),
-        Call::Mode { room } => mode(state, *room),
-        Call::InTransaction => Ok(in_transaction(state)),
-        Call::Read { hint, width, at } => read(state, *hint, *width, *at),
-        Call::Write { hint, at, value } => write(state, *hint, *at, value),
-        Call::Log { width, at } => log(state, *at, u64::from(width.size())),
-        Call::LogBytes { at, size } => log(state, *at, *size),
-        Call::Copy(copying) => copy(state, *copying),
-        Call::Fill { to, byte, size, .. } => fill(state, *to, *byte, *size),
-        Call::CommitAction(action) => register(state, ActionKind::Commit, *action),
-        Call::UndoAction(action) => register(state, ActionKind::Undo, *action),
-        Call::Load { width, at } => Ok(load(state, *width, *at)),
-        Call::Save { at, value } => Ok(save(state, *at, value)),
     }
 }

@@ -10,9 +10,9 @@ ghost use Rattle.norec_core.specs.Core.{came};
 
 use crate::access::refuse;
 use crate::range::{put_range, reserve_range};
-use itm_types::{Call, Reply, WriteHint};
-use norec_core::{Answer, Phase};
-use norec_data::{Data, Turn, access_refusal};
+use itm_types::{Call, WriteHint};
+use norec_core::Phase;
+use norec_data::{Data, End, Turn, access_refusal};
 use std::alloc::AllocError;
 use word_pieces::{Chunks, Direction};
 
@@ -28,7 +28,7 @@ pub(crate) fn fill(state: &mut Data, to: u64, byte: u64, size: u64) -> Result<Tu
     ensures starves { OnErr result
         ((in_block state.old ≡ true) × (to + size ≤ 8 * state.old.words) × (0 < size)) }
     ensures order { IfOk result (λ turn. phase_after turn state.new ≡ Phase.Idle) }
-    ensures ends { IfOk result (TurnEndsSo None) }
+    ensures ends { IfOk result (λ turn. TurnEndsSo None turn state.new) }
     ensures tries { IfOk result (λ turn. (core_after turn state.new).tries ≡ 0) }
 {
     if let Some(why) = access_refusal(state, to, size) {
@@ -44,7 +44,7 @@ pub(crate) fn fill(state: &mut Data, to: u64, byte: u64, size: u64) -> Result<Tu
         put_range(&mut state.frames, to, Direction::Up, &state.buffer);
     }
     state.come();
-    Ok(Turn::End(Answer::Reply(Reply::Done)))
+    Ok(Turn::End(End::Done))
 }
 
 /// Makes the buffer so many bytes of this value.

@@ -5,6 +5,7 @@
 mod abort;
 mod access;
 mod begin;
+mod calls;
 mod commit;
 mod copy;
 mod engine;
@@ -15,6 +16,7 @@ mod range;
 mod read;
 mod rounds;
 mod steps;
+mod turns;
 mod write;
 
 pub use engine::Engine;

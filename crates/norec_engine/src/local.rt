@@ -6,14 +6,14 @@ ghost use Rattle.itm_types.specs.Calls.{logged_of, registered_by};
 ghost use Rattle.norec_data.specs.View.{in_block, core};
 ghost use Rattle.norec_engine.specs.InPhases.{IsSound};
 ghost use Rattle.norec_engine.specs.Between.{IsSoundTurn};
+ghost use Rattle.norec_data.specs.Ends.{answer_of};
+ghost use Rattle.norec_data.specs.declared.data.Data.{Data};
 ghost use Rattle.norec_data.specs.Turns.{core_after, phase_after, Turns, TurnEndsSo, Stays};
 ghost use Rattle.norec_core.specs.Core.{came};
 
-use itm_types::{
-    Action, ActionKind, Call, Datum, NO_TRANSACTION, RETRYABLE, Refusal, Reply, Width,
-};
+use itm_types::{Action, ActionKind, Call, Datum, Refusal, Reply, Width};
 use norec_core::{Answer, Phase};
-use norec_data::{Data, Turn};
+use norec_data::{Data, End, Turn};
 use std::alloc::AllocError;
 
 /// It is asked whether a transaction is open.
@@ -23,12 +23,12 @@ pub(crate) fn in_transaction(state: &mut Data) -> Turn
     ensures proceeds { Turns (came (core state.old Phase.Idle) Call.InTransaction false) result state.new }
     ensures stays { Stays state.old state.new }
     ensures order { phase_after result state.new ≡ Phase.Idle }
-    ensures ends { TurnEndsSo None result }
+    ensures ends { TurnEndsSo None result state.new }
     ensures tries { (core_after result state.new).tries ≡ 0 }
 {
-    let code = mode(state);
+    let end = mode(state);
     state.come();
-    Turn::End(Answer::Reply(Reply::Code(code)))
+    Turn::End(end)
 }
 
 /// So many bytes of the arena are kept for a rollback, as they are now.
@@ -42,19 +42,21 @@ pub(crate) fn log(state: &mut Data, at: u64, size: u64) -> Result<Turn, AllocErr
     ensures starves { OnErr result
         ((in_block state.old ≡ true) × (at + size ≤ length state.old.arena) × (0 < size)) }
     ensures order { IfOk result (λ turn. phase_after turn state.new ≡ Phase.Idle) }
-    ensures ends { IfOk result (TurnEndsSo None) }
+    ensures ends { IfOk result (λ turn. TurnEndsSo None turn state.new) }
     ensures tries { IfOk result (λ turn. (core_after turn state.new).tries ≡ 0) }
 {
-    let reply = if !state.is_open() {
-        Reply::Refused(Refusal::Outside)
+    let end = if !state.is_open() {
+        state.why = Refusal::Outside;
+        End::Refused
     } else if !state.arena.contains(at, size) {
-        Reply::Refused(Refusal::OutOfArena)
+        state.why = Refusal::OutOfArena;
+        End::Refused
     } else {
         state.frames.log(&state.arena, at, size)?;
-        Reply::Done
+        End::Done
     };
     state.come();
-    Ok(Turn::End(Answer::Reply(reply)))
+    Ok(Turn::End(end))
 }
 
 /// An action is registered.
@@ -72,17 +74,18 @@ pub(crate) fn register(
     ensures starves { OnErr result
         ((in_block state.old ≡ true) × (kind ≡ ActionKind.Commit → state.old.frames.room ≡ 0)) }
     ensures order { IfOk result (λ turn. phase_after turn state.new ≡ Phase.Idle) }
-    ensures ends { IfOk result (TurnEndsSo None) }
+    ensures ends { IfOk result (λ turn. TurnEndsSo None turn state.new) }
     ensures tries { IfOk result (λ turn. (core_after turn state.new).tries ≡ 0) }
 {
-    let reply = if state.is_open() {
+    let end = if state.is_open() {
         state.frames.register(kind, action)?;
-        Reply::Done
+        End::Done
     } else {
-        Reply::Refused(Refusal::Outside)
+        state.why = Refusal::Outside;
+        End::Refused
     };
     state.come();
-    Ok(Turn::End(Answer::Reply(reply)))
+    Ok(Turn::End(end))
 }
 
 /// Bytes of the arena are read.
@@ -92,14 +95,16 @@ pub(crate) fn load(state: &mut Data, width: Width, at: u64) -> Turn
     ensures proceeds { Turns (came (core state.old Phase.Idle) (Call.Load width at) false) result state.new }
     ensures stays { Stays state.old state.new }
     ensures order { phase_after result state.new ≡ Phase.Idle }
-    ensures ends { TurnEndsSo None result }
+    ensures ends { TurnEndsSo None result state.new }
     ensures tries { (core_after result state.new).tries ≡ 0 }
 {
     state.come();
     if state.arena.contains(at, u64::from(width.size())) {
-        Turn::End(Answer::Reply(Reply::Bytes(state.arena.load(at, width))))
+        state.gathered = state.arena.load(at, width);
+        Turn::End(End::Gathered)
     } else {
-        Turn::End(Answer::Reply(Reply::Refused(Refusal::OutOfArena)))
+        state.why = Refusal::OutOfArena;
+        Turn::End(End::Refused)
     }
 }
 
@@ -110,25 +115,26 @@ pub(crate) fn save(state: &mut Data, at: u64, value: &Datum) -> Turn
     ensures proceeds { Turns (came (core state.old Phase.Idle) (Call.Save at value.now) false) result state.new }
     ensures stays { Stays state.old state.new }
     ensures order { phase_after result state.new ≡ Phase.Idle }
-    ensures ends { TurnEndsSo None result }
+    ensures ends { TurnEndsSo None result state.new }
     ensures tries { (core_after result state.new).tries ≡ 0 }
 {
     state.come();
     if state.arena.contains(at, u64::from(value.width.size())) {
         state.arena.store(at, value);
-        Turn::End(Answer::Reply(Reply::Done))
+        Turn::End(End::Done)
     } else {
-        Turn::End(Answer::Reply(Reply::Refused(Refusal::OutOfArena)))
+        state.why = Refusal::OutOfArena;
+        Turn::End(End::Refused)
     }
 }
 
-/// Whether a transaction is open, as a code.
-fn mode(state: &Data) -> u32
-    ensures { result ≡ (if in_block state.now then 1 else 0) }
+/// Whether a transaction is open.
+fn mode(state: &Data) -> End
+    ensures { (d : Data) → answer_of d result ≡ Answer.Reply (Reply.Code (if in_block state.now then 1 else 0)) }
 {
     if state.is_open() {
-        RETRYABLE
+        End::Retryable
     } else {
-        NO_TRANSACTION
+        End::NoTransaction
     }
 }

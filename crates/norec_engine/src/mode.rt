@@ -11,13 +11,13 @@ ghost use Rattle.norec_core.specs.Endings.{ending_at};
 ghost use Rattle.norec_core.specs.Proceeds.{MayStarve};
 ghost use Rattle.norec_data.specs.View.{core, in_block};
 ghost use Rattle.norec_engine.specs.InPhases.{IsSound};
-ghost use Rattle.norec_engine.specs.Between.{blocks_with, entry_reply, IsSoundTurn};
+ghost use Rattle.norec_engine.specs.Between.{blocks_with, entry_end, IsSoundTurn};
 ghost use Rattle.norec_data.specs.Turns.{core_after, phase_after, Turns, TurnEndsSo, Stays};
 
 use crate::commit::exchange;
-use itm_types::{Call, ENTERED, MAX_OPEN_BLOCKS, Props, Reply};
-use norec_core::{Answer, Phase, Taking};
-use norec_data::{Data, Turn, begin_refusal, mode_refusal};
+use itm_types::{Call, MAX_OPEN_BLOCKS, Props};
+use norec_core::{Phase, Taking};
+use norec_data::{Data, End, Turn, begin_refusal, mode_refusal};
 use std::alloc::AllocError;
 
 /// The transaction is to become irrevocable.
@@ -29,12 +29,13 @@ pub(crate) fn mode(state: &mut Data, room: u32) -> Result<Turn, AllocError>
     ensures err { OnErr result (state.new ≡ state.old) }
     ensures starves { OnErr result (MayStarve (core state.old Phase.Idle) (Call.Mode room)) }
     ensures order { IfOk result (λ turn. phase_after turn state.new ≡ stage_at (core state.old Phase.Idle) (Call.Mode room) false) }
-    ensures ends { IfOk result (TurnEndsSo (ending_at (core state.old Phase.Idle) (Call.Mode room))) }
+    ensures ends { IfOk result (λ turn. TurnEndsSo (ending_at (core state.old Phase.Idle) (Call.Mode room)) turn state.new) }
     ensures tries { IfOk result (λ turn. (core_after turn state.new).tries ≡ tries_at (phase_after turn state.new)) }
 {
     if let Some(why) = mode_refusal(state) {
         state.come();
-        return Ok(Turn::End(Answer::Reply(Reply::Refused(why))));
+        state.why = why;
+        return Ok(Turn::End(End::Refused));
     }
     state.frames.reserve_actions(room as usize)?;
     state.come();
@@ -67,9 +68,9 @@ pub(crate) fn goes(state: &Data, call: &Call) -> Option<u32>
 
 /// The write set is stored: the transaction is irrevocable, and where a block of these properties goes irrevocable, it
 /// begins.
-pub(crate) fn go_irrevocable(state: &mut Data, props: Option<Props>) -> Reply
+pub(crate) fn go_irrevocable(state: &mut Data, props: Option<Props>) -> End
     requires few { IfSome props (λ _. length state.old.frames.blocks < MAX_OPEN_BLOCKS) }
-    ensures reply { result ≡ entry_reply props }
+    ensures end { result ≡ entry_end props }
     ensures frames { state.new.frames ≡ record {
       writes = unwritten;
       size = state.old.frames.size;
@@ -80,14 +81,14 @@ pub(crate) fn go_irrevocable(state: &mut Data, props: Option<Props>) -> Reply
     ensures log { state.new.log.rows ≡ [] }
     ensures others { state.new ≡ record state.old { frames = state.new.frames; log = state.new.log } }
 {
-    let reply = match props {
+    let end = match props {
         Some(props) => {
             state.frames.enter(props);
-            Reply::Code(ENTERED)
+            End::Entered
         }
-        None => Reply::Done,
+        None => End::Done,
     };
     state.frames.make_irrevocable();
     state.log.clear();
-    reply
+    end
 }

@@ -20,11 +20,10 @@ ghost use Rattle.norec_core.specs.Proceeds.{Joins, MayStarve};
 use crate::access::refuse;
 use crate::copy::{keep_chunk, next_chunk};
 use crate::rounds::try_round;
-use itm_types::{Call, LogRow, MAX_WORDS, ReadHint, Reply, Value, Width};
-use norec_core::{Aim, Answer, Phase, Purpose, Reading};
-use norec_data::{Cause, Data, Pending, Turn, access_refusal};
+use itm_types::{Call, LogRow, MAX_WORDS, ReadHint, Value, Width};
+use norec_core::{Aim, Phase, Purpose, Reading};
+use norec_data::{Cause, Data, End, Pending, Turn, access_refusal};
 use std::alloc::AllocError;
-use std::mem;
 use word_pieces::{Piece, merge};
 
 /// The words that one access touches at most.
@@ -47,7 +46,7 @@ pub(crate) fn read(
     ensures starves { OnErr result (MayStarve (core state.old Phase.Idle) (Call.Read hint width at)) }
     ensures order { IfOk result
         (λ turn. phase_after turn state.new ≡ stage_at (core state.old Phase.Idle) (Call.Read hint width at) false) }
-    ensures ends { IfOk result (TurnEndsSo (ending_at (core state.old Phase.Idle) (Call.Read hint width at))) }
+    ensures ends { IfOk result (λ turn. TurnEndsSo (ending_at (core state.old Phase.Idle) (Call.Read hint width at)) turn state.new) }
     ensures tries { IfOk result (λ turn. (core_after turn state.new).tries ≡ tries_at (phase_after turn state.new)) }
 {
     if let Some(why) = access_refusal(state, at, u64::from(width.size())) {
@@ -92,11 +91,10 @@ fn reply_gathered(state: &mut Data, reading: Reading) -> Turn
         → Turns (logged (between state.old (Aim.Read reading)) log) result state.new }
     ensures stays { Stays state.old state.new }
     ensures order { phase_after result state.new ≡ Phase.Idle }
-    ensures ends { TurnEndsSo None result }
+    ensures ends { TurnEndsSo None result state.new }
     ensures tries { (core_after result state.new).tries ≡ 0 }
 {
-    let bytes = mem::replace(&mut state.gathered, Value::new());
-    Turn::End(Answer::Reply(Reply::Bytes(bytes)))
+    Turn::End(End::Gathered)
 }
 
 /// The access goes on from this piece: with the next one that is loaded, or with what it was made for.
@@ -108,7 +106,7 @@ pub(crate) fn go_on(state: &mut Data, reading: Reading) -> Turn
         → Turns (logged (between state.old (Aim.Read reading)) log) result state.new }
     ensures stays { Stays state.old state.new }
     ensures order { phase_after result state.new ≡ load_stage (rows_before state.old) state.old.log.rows reading }
-    ensures ends { TurnEndsSo None result }
+    ensures ends { TurnEndsSo None result state.new }
     ensures tries { (core_after result state.new).tries ≡ tries_after (phase_after result state.new) state.old.tries }
 {
     if let Some(next) = take_had(state, reading) {
@@ -199,7 +197,7 @@ pub(crate) fn loaded(state: &mut Data, seen: u64) -> Turn
     ensures proceeds { Turns (handed (core state.old (Phase.Load state.old.reading)) seen) result state.new }
     ensures stays { Stays state.old state.new }
     ensures order { phase_after result state.new ≡ stage_after (core state.old (Phase.Load state.old.reading)) seen }
-    ensures ends { TurnEndsSo (ending_after (core state.old (Phase.Load state.old.reading)) seen) result }
+    ensures ends { TurnEndsSo (ending_after (core state.old (Phase.Load state.old.reading)) seen) result state.new }
     ensures tries { (core_after result state.new).tries ≡ tries_after (phase_after result state.new) state.old.tries }
 {
     Turn::Wait(Pending::Confirm(seen))
@@ -213,7 +211,7 @@ pub(crate) fn confirmed(state: &mut Data, value: u64, seen: u64) -> Turn
     ensures proceeds { Turns (handed (core state.old (Phase.Confirm state.old.reading value)) seen) result state.new }
     ensures joins { Joins (core state.old (Phase.Confirm state.old.reading value)) seen (core_after result state.new) }
     ensures order { phase_after result state.new ≡ stage_after (core state.old (Phase.Confirm state.old.reading value)) seen }
-    ensures ends { TurnEndsSo (ending_after (core state.old (Phase.Confirm state.old.reading value)) seen) result }
+    ensures ends { TurnEndsSo (ending_after (core state.old (Phase.Confirm state.old.reading value)) seen) result state.new }
     ensures snapshot { state.new.snapshot ≡ snapshot_after (core state.old (Phase.Confirm state.old.reading value)) seen }
     ensures log { in_block state.new ≡ true
         → state.new.log.rows ≡ log_after (core state.old (Phase.Confirm state.old.reading value)) seen }

@@ -12,7 +12,7 @@ ghost use Rattle.norec_core.specs.Proceeds.{Joins};
 
 use crate::commit::exchange;
 use norec_core::{Answer, Phase};
-use norec_data::{Cause, Data, Pending, Turn, roll_back};
+use norec_data::{Cause, Data, End, Pending, Turn, roll_back};
 
 /// A new round, if one is left.
 pub(crate) fn try_round(state: &mut Data, cause: Cause) -> Turn
@@ -22,7 +22,7 @@ pub(crate) fn try_round(state: &mut Data, cause: Cause) -> Turn
     ensures stays { Stays state.old state.new }
     ensures order { phase_after result state.new ≡ try_stage state.old.tries state.old.limits.patience
         (aim_for cause state.old.reading state.old.taking) }
-    ensures ends { TurnEndsSo (Some (Answer.Conflict state.old.clock None)) result }
+    ensures ends { TurnEndsSo (Some (Answer.Conflict state.old.clock None)) result state.new }
     ensures tries { (core_after result state.new).tries ≡ tries_after (phase_after result state.new) state.old.tries }
 {
     if state.tries < state.limits.patience {
@@ -31,10 +31,8 @@ pub(crate) fn try_round(state: &mut Data, cause: Cause) -> Turn
         Turn::Wait(Pending::RoundStart)
     } else {
         roll_back(state);
-        Turn::End(Answer::Conflict {
-            clock: state.clock,
-            word: None,
-        })
+        state.changed = None;
+        Turn::End(End::Conflict)
     }
 }
 
@@ -46,7 +44,7 @@ pub(crate) fn round_started(state: &mut Data, seen: u64) -> Turn
     ensures proceeds { Turns (handed (core state.old (Phase.RoundStart (aim_of state.old))) seen) result state.new }
     ensures stays { Stays state.old state.new }
     ensures order { phase_after result state.new ≡ stage_after (core state.old (Phase.RoundStart (aim_of state.old))) seen }
-    ensures ends { TurnEndsSo (ending_after (core state.old (Phase.RoundStart (aim_of state.old))) seen) result }
+    ensures ends { TurnEndsSo (ending_after (core state.old (Phase.RoundStart (aim_of state.old))) seen) result state.new }
     ensures tries { (core_after result state.new).tries ≡ tries_after (phase_after result state.new) state.old.tries }
 {
     state.clock = seen;
@@ -64,7 +62,7 @@ fn next_row(state: &mut Data, row: usize) -> Turn
     ensures proceeds { Turns (in_rows state.old (aim_of state.old) row) result state.new }
     ensures stays { Stays state.old state.new }
     ensures order { phase_after result state.new ≡ row_stage (length state.old.log.rows) (aim_of state.old) row }
-    ensures ends { (end : Option Answer) → TurnEndsSo end result }
+    ensures ends { (end : Option Answer) → TurnEndsSo end result state.new }
     ensures tries { (core_after result state.new).tries ≡ tries_after (phase_after result state.new) state.old.tries }
 {
     if row < state.log.len() {
@@ -81,7 +79,7 @@ pub(crate) fn row_seen(state: &mut Data, row: usize, seen: u64) -> Turn
     ensures proceeds { Turns (handed (core state.old (Phase.RoundRow (aim_of state.old) row)) seen) result state.new }
     ensures stays { Stays state.old state.new }
     ensures order { phase_after result state.new ≡ stage_after (core state.old (Phase.RoundRow (aim_of state.old) row)) seen }
-    ensures ends { TurnEndsSo (ending_after (core state.old (Phase.RoundRow (aim_of state.old) row)) seen) result }
+    ensures ends { TurnEndsSo (ending_after (core state.old (Phase.RoundRow (aim_of state.old) row)) seen) result state.new }
     ensures tries { (core_after result state.new).tries ≡ tries_after (phase_after result state.new) state.old.tries }
 {
     let _rows = state.log.len();
@@ -90,10 +88,8 @@ pub(crate) fn row_seen(state: &mut Data, row: usize, seen: u64) -> Turn
         next_row(state, row + 1)
     } else {
         roll_back(state);
-        Turn::End(Answer::Conflict {
-            clock: state.clock,
-            word: Some(logged.word),
-        })
+        state.changed = Some(logged.word);
+        Turn::End(End::Conflict)
     }
 }
 
@@ -105,7 +101,7 @@ pub(crate) fn round_ended(state: &mut Data, seen: u64) -> Turn
     ensures proceeds { Turns (handed (core state.old (Phase.RoundEnd (aim_of state.old))) seen) result state.new }
     ensures joins { Joins (core state.old (Phase.RoundEnd (aim_of state.old))) seen (core_after result state.new) }
     ensures order { phase_after result state.new ≡ stage_after (core state.old (Phase.RoundEnd (aim_of state.old))) seen }
-    ensures ends { TurnEndsSo (ending_after (core state.old (Phase.RoundEnd (aim_of state.old))) seen) result }
+    ensures ends { TurnEndsSo (ending_after (core state.old (Phase.RoundEnd (aim_of state.old))) seen) result state.new }
     ensures snapshot { state.new.snapshot ≡ snapshot_after (core state.old (Phase.RoundEnd (aim_of state.old))) seen }
     ensures log { in_block state.new ≡ true
         → state.new.log.rows ≡ log_after (core state.old (Phase.RoundEnd (aim_of state.old))) seen }

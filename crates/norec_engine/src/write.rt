@@ -16,10 +16,10 @@ ghost use Rattle.norec_core.specs.Endings.{ending_at};
 ghost use Rattle.norec_core.specs.Proceeds.{MayStarve};
 
 use crate::access::refuse;
-use itm_types::{Call, Datum, Reply, WriteHint};
+use itm_types::{Call, Datum, WriteHint};
 use nest_frames::Frames;
-use norec_core::{Answer, Phase};
-use norec_data::{Data, Turn, access_refusal};
+use norec_core::Phase;
+use norec_data::{Data, End, Turn, access_refusal};
 use std::alloc::AllocError;
 use word_pieces::{Piece, pieces};
 
@@ -40,7 +40,7 @@ pub(crate) fn write(
     ensures starves { OnErr result (MayStarve (core state.old Phase.Idle) (Call.Write hint at value.now)) }
     ensures order { IfOk result
         (λ turn. phase_after turn state.new ≡ stage_at (core state.old Phase.Idle) (Call.Write hint at value.now) false) }
-    ensures ends { IfOk result (TurnEndsSo (ending_at (core state.old Phase.Idle) (Call.Write hint at value.now))) }
+    ensures ends { IfOk result (λ turn. TurnEndsSo (ending_at (core state.old Phase.Idle) (Call.Write hint at value.now)) turn state.new) }
     ensures tries { IfOk result (λ turn. (core_after turn state.new).tries ≡ tries_at (phase_after turn state.new)) }
 {
     if let Some(why) = access_refusal(state, at, u64::from(value.width.size())) {
@@ -50,7 +50,7 @@ pub(crate) fn write(
     reserve_all(&mut state.frames, &pieces)?;
     put_all(&mut state.frames, &pieces, value.bytes.as_slice());
     state.come();
-    Ok(Turn::End(Answer::Reply(Reply::Done)))
+    Ok(Turn::End(End::Done))
 }
 
 /// Makes each piece's word ready to be written. Where memory is refused, none is given a row.

@@ -16,6 +16,7 @@ use Rattle.norec_core.specs.Accesses.{mode_refusal}
 use Rattle.norec_core.specs.Core.{Core, came, is_inside, may_go}
 use Rattle.norec_core.specs.Proceeds.{RepliesHeld}
 use Rattle.norec_data.specs.declared.data.Data.{Data}
+use Rattle.norec_data.specs.declared.end.End.TheVariants as ends
 use Rattle.norec_data.specs.declared.turn.Turn.TheVariants.{Enter}
 use Rattle.norec_data.specs.View.{core_held, in_block}
 use Rattle.norec_irrevocable.specs.Outcomes.{kept, ComesBy, HeldTurns}
@@ -43,7 +44,7 @@ module _ (d new : Data) (props : Props) (room : ℕ) (o : in_block d ≡ true) (
   abbrev mid : Core
   mid = came (core_held d) (Begin props room) false
 
-  pub begin_entered : HeldTurns mid (Enter (Code 5)) new
+  pub begin_entered : HeldTurns mid (Enter ends.Entered) new
   begin_entered = record {
     held = refl;
     irrevocable = refl;
@@ -60,7 +61,7 @@ module _ (d new : Data) (props : Props) (room : ℕ) (o : in_block d ≡ true) (
     still = λ is. ap is_inside has.blocks;
   }
 
-  pub begin_comes : ComesBy d (λ m. after MAX_OPEN_BLOCKS (kept d m) (Begin props room)) (λ m. reply MAX_OPEN_BLOCKS (kept d m) (Begin props room)) (Enter (Code 5)) new
+  pub begin_comes : ComesBy d (λ m. after MAX_OPEN_BLOCKS (kept d m) (Begin props room)) (λ m. reply MAX_OPEN_BLOCKS (kept d m) (Begin props room)) (Enter ends.Entered) new
   begin_comes m mem =
       let s : State = kept d m in
       let opens : effect s (Begin props room) ≡ pushed s props = cond-true _ (entered s props) _ (open_kept d.frames.blocks d.arena d.frames.actions m ∙ o) ∙ both_same props.goes_irrevocable (pushed s props) in (
@@ -88,14 +89,14 @@ module _ (d new : Data) (room : ℕ) (is : new ≡ record d { spent = 0; entry =
     still = λ o. o;
   }
 
-  comes : ComesBy d (λ m. after MAX_OPEN_BLOCKS (kept d m) (Mode room)) (λ m. reply MAX_OPEN_BLOCKS (kept d m) (Mode room)) (Enter Done) come
+  comes : ComesBy d (λ m. after MAX_OPEN_BLOCKS (kept d m) (Mode room)) (λ m. reply MAX_OPEN_BLOCKS (kept d m) (Mode room)) (Enter ends.Done) come
   comes m mem = (
     sym (ap (λ (r : Option Refusal). after_unless r (kept d m) (kept d m)) (mode_served m)),
     sym (ap (λ (r : Option Refusal). reply_unless r Done) (mode_served m)),
   )
 
-  pub mode_replies : HeldTurns (came (core_held d) (Mode room) false) (Enter Done) new
-  mode_replies = subst (λ (x : Data). HeldTurns (came (core_held d) (Mode room) false) (Enter Done) x) (sym is) replied
+  pub mode_replies : HeldTurns (came (core_held d) (Mode room) false) (Enter ends.Done) new
+  mode_replies = subst (λ (x : Data). HeldTurns (came (core_held d) (Mode room) false) (Enter ends.Done) x) (sym is) replied
 
-  pub mode_comes : ComesBy d (λ m. after MAX_OPEN_BLOCKS (kept d m) (Mode room)) (λ m. reply MAX_OPEN_BLOCKS (kept d m) (Mode room)) (Enter Done) new
-  mode_comes = subst (λ (x : Data). ComesBy d (λ m. after MAX_OPEN_BLOCKS (kept d m) (Mode room)) (λ m. reply MAX_OPEN_BLOCKS (kept d m) (Mode room)) (Enter Done) x) (sym is) comes
+  pub mode_comes : ComesBy d (λ m. after MAX_OPEN_BLOCKS (kept d m) (Mode room)) (λ m. reply MAX_OPEN_BLOCKS (kept d m) (Mode room)) (Enter ends.Done) new
+  mode_comes = subst (λ (x : Data). ComesBy d (λ m. after MAX_OPEN_BLOCKS (kept d m) (Mode room)) (λ m. reply MAX_OPEN_BLOCKS (kept d m) (Mode room)) (Enter ends.Done) x) (sym is) comes

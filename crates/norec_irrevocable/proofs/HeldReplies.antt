@@ -17,6 +17,7 @@ use Rattle.norec_core.specs.Proceeds.{RepliesHeld, actions_after, arena_held, bl
 use Rattle.norec_core.proofs.RefusedCalls.{actions_kept, blocks_kept}
 use Rattle.norec_data.specs.declared.data.Data.{Data}
 use Rattle.norec_data.specs.View.{core_held, in_block}
+use Rattle.norec_data.specs.declared.end.End.TheVariants as ends
 use Rattle.norec_data.specs.declared.turn.Turn.TheVariants.{Enter}
 use Rattle.norec_irrevocable.specs.Outcomes.{kept, ComesBy, HeldTurns}
 
@@ -95,9 +96,10 @@ module _ (d : Data) (call : Call) (why : Refusal) (refused : (m : List ℕ) → 
 -- of an engine that is left so
 module _ (d new : Data) (call : Call) (why : Refusal) (is : new ≡ record d { spent = 0; entry = length d.log.rows })
     (refused : (m : List ℕ) → IsMemory d.words m → refusal MAX_OPEN_BLOCKS (kept d m) call ≡ Some why) where
-  pub refuses : HeldTurns (came (core_held d) call false) (Enter (Refused why)) new
-  refuses = subst (λ (x : Data). HeldTurns (came (core_held d) call false) (Enter (Refused why)) x) (sym is) (denied d call why refused)
+  pub refuses : HeldTurns (came (core_held d) call false) (Enter ends.Refused) (record new { why = why })
+  refuses = subst (λ (x : Data). HeldTurns (came (core_held d) call false) (Enter ends.Refused) (record x { why = why })) (sym is) (denied d call why refused)
 
-  pub refuses_comes : ComesBy d (λ m. after MAX_OPEN_BLOCKS (kept d m) call) (λ m. reply MAX_OPEN_BLOCKS (kept d m) call) (Enter (Refused why)) new
+  pub refuses_comes : ComesBy d (λ m. after MAX_OPEN_BLOCKS (kept d m) call) (λ m. reply MAX_OPEN_BLOCKS (kept d m) call) (Enter ends.Refused) (record new { why = why })
   refuses_comes =
-      subst (λ (x : Data). ComesBy d (λ m. after MAX_OPEN_BLOCKS (kept d m) call) (λ m. reply MAX_OPEN_BLOCKS (kept d m) call) (Enter (Refused why)) x) (sym is) (denied_comes d call why refused)
+      subst (λ (x : Data). ComesBy d (λ m. after MAX_OPEN_BLOCKS (kept d m) call) (λ m. reply MAX_OPEN_BLOCKS (kept d m) call) (Enter ends.Refused) (record x { why = why })) (sym is)
+      (denied_comes d call why refused)

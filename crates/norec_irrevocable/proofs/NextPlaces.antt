@@ -20,10 +20,10 @@ pub places_later : (d new : Data) (target : Target) (start size : ℕ) → new.w
 places_later d new (into.Value hint width) start size w a g v l = (l.0 ∙ sym v, l.1)
 places_later d new (into.Fill hint to byte count number) start size w a g v l = (subst (λ (n : ℕ). to + count ≤ 8 * n) (sym w) l.0, g ∙ l.1, l.2, l.3, l.4, l.5)
 places_later d new (into.Chunk k number) start size w a g v l = (
-      record { served = (λ i. copy_refusal true (w i) (length (a i)) k) ∙ (l.0).served; chunk = (l.0).chunk; is = (l.0).is; start_is = (l.0).start_is; size_is = (l.0).size_is },
-      l.1,
-      g ∙ l.2 ∙ (λ i. chunk_source k k.pair start size (sym a i) (sym g i)),
-    )
+  record { served = (λ i. copy_refusal true (w i) (length (a i)) k) ∙ (l.0).served; chunk = (l.0).chunk; is = (l.0).is; start_is = (l.0).start_is; size_is = (l.0).size_is },
+  l.1,
+  g ∙ l.2 ∙ (λ i. chunk_source k k.pair start size (sym a i) (sym g i)),
+)
 
 -- it is sound to wait for the next piece
 pub next_sound : (e : Data) (w : Writing) (p : Pending) → IsHeld e → IsPlacing (counted e) w 1 → IsNext w (phase_of e p) → IsSoundAfter (Wait p) e

@@ -22,13 +22,13 @@ use Rattle.norec_irrevocable.specs.Phases.{IsSoundHeld}
 
 abbrev pub held_after : Turn → Data → Core
 held_after (Wait p) d = held (counted d) (phase_of d p)
-held_after (End a) d = core d Idle
-held_after (Enter r) d = core_held d
+held_after (End end) d = core d Idle
+held_after (Enter end) d = core_held d
 
 abbrev pub IsSoundAfter : Turn → Data → Type 0
 IsSoundAfter (Wait p) d = IsSoundHeld (counted d) (phase_of d p) × IsWaiting p
-IsSoundAfter (End a) d = IsOver d
-IsSoundAfter (Enter r) d = IsHeld d
+IsSoundAfter (End end) d = IsOver d
+IsSoundAfter (Enter end) d = IsHeld d
 
 abbrev pub HeldTurns : Core → Turn → Data → Type 0
 HeldTurns mid turn d = Proceeds mid (next_of turn d) (held_after turn d)

@@ -13,9 +13,8 @@ ghost use Rattle.norec_data.specs.View.{core_held, held};
 ghost use Rattle.norec_irrevocable.specs.Outcomes.{kept, ComesBy, HeldTurns, IsSoundAfter, Steps};
 ghost use Rattle.norec_irrevocable.specs.Phases.{IsSoundHeld};
 
-use itm_types::{Call, ENTERED, Props, Refusal, Reply};
-use norec_core::Answer;
-use norec_data::{Data, Pending, Turn, begin_refusal, finish, mode_refusal};
+use itm_types::{Call, Props, Refusal};
+use norec_data::{Data, End, Pending, Turn, begin_refusal, finish, mode_refusal};
 
 /// A block begins.
 pub(crate) fn begin(state: &mut Data, props: Props, room: u32) -> Turn
@@ -31,10 +30,13 @@ pub(crate) fn begin(state: &mut Data, props: Props, room: u32) -> Turn
     let refused = begin_refusal(state, props);
     state.come();
     match refused {
-        Some(why) => Turn::Enter(Reply::Refused(why)),
+        Some(why) => {
+            state.why = why;
+            Turn::Enter(End::Refused)
+        }
         None => {
             state.frames.enter(props);
-            Turn::Enter(Reply::Code(ENTERED))
+            Turn::Enter(End::Entered)
         }
     }
 }
@@ -54,7 +56,7 @@ pub(crate) fn commit(state: &mut Data) -> Turn
         Turn::Wait(Pending::Free)
     } else {
         state.frames.leave();
-        Turn::Enter(Reply::Done)
+        Turn::Enter(End::Done)
     }
 }
 
@@ -70,7 +72,8 @@ pub(crate) fn abort(state: &mut Data, outer: bool) -> Turn
 {
     let why = abort_refusal(state, outer);
     state.come();
-    Turn::Enter(Reply::Refused(why))
+    state.why = why;
+    Turn::Enter(End::Refused)
 }
 
 /// Why no block is cancelled.
@@ -98,8 +101,11 @@ pub(crate) fn mode(state: &mut Data, room: u32) -> Turn
     let refused = mode_refusal(state);
     state.come();
     match refused {
-        Some(why) => Turn::Enter(Reply::Refused(why)),
-        None => Turn::Enter(Reply::Done),
+        Some(why) => {
+            state.why = why;
+            Turn::Enter(End::Refused)
+        }
+        None => Turn::Enter(End::Done),
     }
 }
 
@@ -112,8 +118,7 @@ pub(crate) fn freed(state: &mut Data) -> Turn
     ensures stays { Stays state.old state.new }
     ensures order { phase_after result state.new ≡ Idle }
 {
-    let at = state.snapshot / 2;
     state.clock = state.snapshot + 2;
     finish(state);
-    Turn::End(Answer::Committed { at, wrote: true })
+    Turn::End(End::Committed)
 }

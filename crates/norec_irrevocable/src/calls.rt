@@ -34,7 +34,7 @@ pub fn called(state: &mut Data, call: &Call) -> Result<Turn, AllocError>
     ensures err { OnErr result (state.new ≡ state.old) }
     ensures starves { OnErr result (MayStarve (core_held state.old) call.now) }
     ensures order { IfOk result (λ turn. phase_after turn state.new ≡ stage_at (core_held state.old) call.now false) }
-    ensures ends { IfOk result (TurnEndsSo (ending_at (core_held state.old) call.now)) }
+    ensures ends { IfOk result (λ turn. TurnEndsSo (ending_at (core_held state.old) call.now) turn state.new) }
 {
     match call {
         Call::Begin { props, room } => Ok(begin(state, *props, *room)),
@@ -69,7 +69,7 @@ pub fn resumed(state: &mut Data, pending: Pending, seen: u64) -> Turn
     ensures steps { Steps state.old (phase_of state.old pending) seen result state.new }
     ensures stays { Stays state.old state.new }
     ensures order { phase_after result state.new ≡ stage_after (held state.old (phase_of state.old pending)) seen }
-    ensures ends { TurnEndsSo (ending_after (held state.old (phase_of state.old pending)) seen) result }
+    ensures ends { TurnEndsSo (ending_after (held state.old (phase_of state.old pending)) seen) result state.new }
     ensures snapshot { state.new.snapshot ≡ snapshot_after (held state.old (phase_of state.old pending)) seen }
 {
     match pending {

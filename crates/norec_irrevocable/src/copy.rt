@@ -19,9 +19,9 @@ ghost use Rattle.norec_irrevocable.specs.Phases.{steps_before, IsServed, MayCopy
 
 use crate::access::{are_bytes, value_of};
 use crate::write::start;
-use itm_types::{Call, CopyPair, Copying, Reply, Value};
+use itm_types::{Call, CopyPair, Copying, Value};
 use norec_core::{Target, Writing};
-use norec_data::{Data, Pending, Turn, chunk_reading, chunks, copy_refusal};
+use norec_data::{Data, End, Pending, Turn, chunk_reading, chunks, copy_refusal};
 
 /// A copy comes.
 pub(crate) fn copy(state: &mut Data, copying: Copying) -> Turn
@@ -36,7 +36,10 @@ pub(crate) fn copy(state: &mut Data, copying: Copying) -> Turn
     let refused = copy_refusal(state, copying);
     state.come();
     match refused {
-        Some(why) => Turn::Enter(Reply::Refused(why)),
+        Some(why) => {
+            state.why = why;
+            Turn::Enter(End::Refused)
+        }
         None => chunk_on(state, copying, 0),
     }
 }
@@ -69,7 +72,7 @@ fn send_chunk(state: &mut Data, copying: Copying, number: u32) -> Turn
     ensures order { phase_after result state.new ≡ chunk_from copying number }
 {
     let Some(chunk) = chunks(copying).get(number) else {
-        return Turn::Enter(Reply::Done);
+        return Turn::Enter(End::Done);
     };
     let _bytes = state.arena.size();
     let first = (copying.from + chunk.at) as usize;
@@ -90,7 +93,7 @@ fn load_chunk(state: &mut Data, copying: Copying, number: u32) -> Turn
     ensures order { phase_after result state.new ≡ chunk_from copying number }
 {
     let Some(reading) = chunk_reading(copying, number) else {
-        return Turn::Enter(Reply::Done);
+        return Turn::Enter(End::Done);
     };
     state.gathered = Value::new();
     state.reading = reading;

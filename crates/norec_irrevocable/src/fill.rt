@@ -17,9 +17,9 @@ ghost use Rattle.norec_irrevocable.specs.Phases.{MayFill};
 
 use crate::access::{are_bytes, value_of};
 use crate::write::start;
-use itm_types::{Call, Reply, Value, WriteHint};
+use itm_types::{Call, Value, WriteHint};
 use norec_core::{Target, Writing};
-use norec_data::{Data, Turn, access_refusal};
+use norec_data::{Data, End, Turn, access_refusal};
 use word_pieces::{Chunks, Direction};
 
 /// A fill comes.
@@ -35,7 +35,10 @@ pub(crate) fn fill(state: &mut Data, hint: WriteHint, to: u64, byte: u64, size: 
     let refused = access_refusal(state, to, size);
     state.come();
     match refused {
-        Some(why) => Turn::Enter(Reply::Refused(why)),
+        Some(why) => {
+            state.why = why;
+            Turn::Enter(End::Refused)
+        }
         None => fill_on(state, hint, to, byte, size, 0),
     }
 }
@@ -58,7 +61,7 @@ pub(crate) fn fill_on(
     ensures order { phase_after result state.new ≡ fill_from hint to byte size number }
 {
     let Some(chunk) = Chunks::new(size as u32, Direction::Up).get(number) else {
-        return Turn::Enter(Reply::Done);
+        return Turn::Enter(End::Done);
     };
     state.gathered = repeated((byte % 256) as u8, chunk.size);
     are_bytes(&state.gathered);

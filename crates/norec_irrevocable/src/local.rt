@@ -12,8 +12,8 @@ ghost use Rattle.norec_data.specs.Turns.{phase_after, Stays, TurnEndsSo};
 ghost use Rattle.norec_data.specs.View.{core_held};
 ghost use Rattle.norec_irrevocable.specs.Outcomes.{kept, ComesBy, HeldTurns, IsSoundAfter};
 
-use itm_types::{Action, ActionKind, Call, Datum, IRREVOCABLE, Refusal, Reply, Width};
-use norec_data::{Data, Turn};
+use itm_types::{Action, ActionKind, Call, Datum, Refusal, Width};
+use norec_data::{Data, End, Turn};
 use std::alloc::AllocError;
 
 /// It is asked whether a transaction is open.
@@ -27,7 +27,7 @@ pub(crate) fn in_transaction(state: &mut Data) -> Turn
     ensures order { phase_after result state.new ≡ Idle }
 {
     state.come();
-    Turn::Enter(Reply::Code(IRREVOCABLE))
+    Turn::Enter(End::Irrevocable)
 }
 
 /// Bytes of the arena are to be kept for a rollback, of which there is none.
@@ -41,14 +41,15 @@ pub(crate) fn log(state: &mut Data, at: u64, size: u64) -> Turn
         (λ m. reply MAX_OPEN_BLOCKS (kept state.old m) call) result state.new }
     ensures stays { Stays state.old state.new }
     ensures order { phase_after result state.new ≡ Idle }
-    ensures ends { TurnEndsSo None result }
+    ensures ends { TurnEndsSo None result state.new }
 {
     state.come();
-    Turn::Enter(if state.arena.contains(at, size) {
-        Reply::Done
+    if state.arena.contains(at, size) {
+        Turn::Enter(End::Done)
     } else {
-        Reply::Refused(Refusal::OutOfArena)
-    })
+        state.why = Refusal::OutOfArena;
+        Turn::Enter(End::Refused)
+    }
 }
 
 /// A commit action is registered. One for which there is room takes no memory.
@@ -67,7 +68,7 @@ pub(crate) fn register(state: &mut Data, action: Action) -> Result<Turn, AllocEr
     let _blocks = state.frames.depth();
     state.frames.register(ActionKind::Commit, action)?;
     state.come();
-    Ok(Turn::Enter(Reply::Done))
+    Ok(Turn::Enter(End::Done))
 }
 
 /// An undo action is accepted, and not kept: there is no rollback.
@@ -82,7 +83,7 @@ pub(crate) fn accept_undo(state: &mut Data, action: Action) -> Turn
 {
     let _action = action;
     state.come();
-    Turn::Enter(Reply::Done)
+    Turn::Enter(End::Done)
 }
 
 /// Bytes of the arena are read.
@@ -96,11 +97,13 @@ pub(crate) fn load(state: &mut Data, width: Width, at: u64) -> Turn
     ensures order { phase_after result state.new ≡ Idle }
 {
     state.come();
-    Turn::Enter(if state.arena.contains(at, u64::from(width.size())) {
-        Reply::Bytes(state.arena.load(at, width))
+    if state.arena.contains(at, u64::from(width.size())) {
+        state.gathered = state.arena.load(at, width);
+        Turn::Enter(End::Gathered)
     } else {
-        Reply::Refused(Refusal::OutOfArena)
-    })
+        state.why = Refusal::OutOfArena;
+        Turn::Enter(End::Refused)
+    }
 }
 
 /// Bytes of the arena are written.
@@ -116,8 +119,9 @@ pub(crate) fn save(state: &mut Data, at: u64, value: &Datum) -> Turn
     state.come();
     if state.arena.contains(at, u64::from(value.width.size())) {
         state.arena.store(at, value);
-        Turn::Enter(Reply::Done)
+        Turn::Enter(End::Done)
     } else {
-        Turn::Enter(Reply::Refused(Refusal::OutOfArena))
+        state.why = Refusal::OutOfArena;
+        Turn::Enter(End::Refused)
     }
 }

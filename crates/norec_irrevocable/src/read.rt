@@ -14,10 +14,9 @@ ghost use Rattle.norec_irrevocable.specs.Outcomes.{in_call, kept, ComesBy, HeldT
 ghost use Rattle.norec_irrevocable.specs.Phases.{HasLoaded, IsSoundHeld};
 
 use crate::copy::{chunk_on, store_chunk};
-use itm_types::{Call, CopyPair, ReadHint, Reply, Value, Width};
+use itm_types::{Call, CopyPair, ReadHint, Value, Width};
 use norec_core::{Phase, Purpose, Reading};
-use norec_data::{Data, Pending, Turn, access_refusal};
-use std::mem;
+use norec_data::{Data, End, Pending, Turn, access_refusal};
 
 /// A read comes.
 pub(crate) fn read(state: &mut Data, hint: ReadHint, width: Width, at: u64) -> Turn
@@ -32,7 +31,8 @@ pub(crate) fn read(state: &mut Data, hint: ReadHint, width: Width, at: u64) -> T
     let refused = access_refusal(state, at, u64::from(width.size()));
     state.come();
     if let Some(why) = refused {
-        return Turn::Enter(Reply::Refused(why));
+        state.why = why;
+        return Turn::Enter(End::Refused);
     }
     state.gathered = Value::new();
     state.reading = Reading {
@@ -81,10 +81,7 @@ fn whole(state: &mut Data, reading: Reading) -> Turn
     ensures order { phase_after result state.new ≡ read_past reading.purpose }
 {
     match reading.purpose {
-        Purpose::Value { .. } => {
-            let bytes = mem::replace(&mut state.gathered, Value::new());
-            Turn::Enter(Reply::Bytes(bytes))
-        }
+        Purpose::Value { .. } => Turn::Enter(End::Gathered),
         Purpose::Chunk { copying, number } => match copying.pair {
             CopyPair::In(_) => {
                 let _bytes = state.arena.size();

@@ -18,9 +18,9 @@ ghost use Rattle.norec_irrevocable.specs.Phases.{HasPlaced, IsSoundHeld, MayPlac
 use crate::access::{are_bytes, next_place, value_of};
 use crate::copy::chunk_on;
 use crate::fill::fill_on;
-use itm_types::{Call, Datum, Reply, WriteHint};
+use itm_types::{Call, Datum, WriteHint};
 use norec_core::{Phase, Target, Writing};
-use norec_data::{Data, Pending, Turn, access_refusal};
+use norec_data::{Data, End, Pending, Turn, access_refusal};
 
 /// A write comes.
 pub(crate) fn write(state: &mut Data, hint: WriteHint, at: u64, value: &Datum) -> Turn
@@ -35,7 +35,8 @@ pub(crate) fn write(state: &mut Data, hint: WriteHint, at: u64, value: &Datum) -
     let refused = access_refusal(state, at, u64::from(value.width.size()));
     state.come();
     if let Some(why) = refused {
-        return Turn::Enter(Reply::Refused(why));
+        state.why = why;
+        return Turn::Enter(End::Refused);
     }
     state.value = Datum::new(value.width, &value.bytes);
     state.gathered = value_of(&value.bytes);
@@ -124,7 +125,7 @@ fn past(state: &mut Data, writing: Writing) -> Turn
     ensures order { phase_after result state.new ≡ placed_past writing.target }
 {
     match writing.target {
-        Target::Value { .. } => Turn::Enter(Reply::Done),
+        Target::Value { .. } => Turn::Enter(End::Done),
         Target::Fill {
             hint,
             to,

@@ -8,9 +8,9 @@ ghost use Rattle.norec_engine.specs.InPhases.{IsSound};
 ghost use Rattle.norec_engine.specs.Between.{IsSoundTurn};
 ghost use Rattle.norec_data.specs.Turns.{core_after, phase_after, Turns, TurnEndsSo, Stays};
 
-use itm_types::{Call, Copying, Refusal, Reply};
-use norec_core::{Answer, Phase};
-use norec_data::{Data, Turn};
+use itm_types::{Call, Copying, Refusal};
+use norec_core::Phase;
+use norec_data::{Data, End, Turn};
 
 /// A copy is refused.
 pub(super) fn refuse_copy(state: &mut Data, copying: Copying, why: Refusal) -> Turn
@@ -20,9 +20,10 @@ pub(super) fn refuse_copy(state: &mut Data, copying: Copying, why: Refusal) -> T
     ensures proceeds { Turns (came (core state.old Phase.Idle) (Call.Copy copying) false) result state.new }
     ensures stays { Stays state.old state.new }
     ensures order { phase_after result state.new ≡ Phase.Idle }
-    ensures ends { TurnEndsSo None result }
+    ensures ends { TurnEndsSo None result state.new }
     ensures tries { (core_after result state.new).tries ≡ 0 }
 {
     state.come();
-    Turn::End(Answer::Reply(Reply::Refused(why)))
+    state.why = why;
+    Turn::End(End::Refused)
 }

@@ -17,7 +17,7 @@ returns-else-at-state-clause-proceeds c = λ was.
     let left = core_ended _ _ _ _ over.ended in
     record {
       wants = wants_clock s c.args.taking was may.is_open.is_open may.may.wants;
-      at_is = ap (λ n. n / 2) (sym over.ended.snapshot);
+      at_is = refl;
       full = omega (arith, c.if-at-state.false);
       free = refl;
       unfreed = refl;

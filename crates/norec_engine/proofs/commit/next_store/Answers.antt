@@ -1,6 +1,8 @@
 use Rattle.std.proofs.Common.{◌≡◌, ◌≢◌, ◌<◌, ◌+◌, ◌*◌, ◌==◌, nat_lt, length, arith, refl, sym, ap, subst, ◌∙◌, eq-eqb}
-use Rattle.itm_types.specs.declared.call.Call.TheVariants.{Begin, Mode}
-use Rattle.itm_types.specs.declared.call.Reply.{Reply as Replied}
+use Rattle.itm_types.specs.declared.call.Reply.TheVariants.{Done, Code}
+use Rattle.norec_data.specs.declared.end.End.{End}
+use Rattle.norec_data.specs.declared.turn.Turn.TheVariants.{Enter}
+use Rattle.norec_data.specs.Turns.{Turns}
 use Rattle.norec_core.specs.declared.phase.Aim.TheVariants as aims
 use Rattle.norec_core.specs.declared.phase.Taking.{Taking}
 use Rattle.norec_core.specs.declared.phase.Taking.TheVariants as takings
@@ -88,8 +90,8 @@ returns-in-Mode-clause-proceeds c =
     let stored : row ≡ length s.frames.writes.rows = omega (arith, c.if-row-len.false, c.len.ensures.len, c.requires.may.far) in
     let holding = subst (λ (t : Taking). IsHolding s t (2 * row)) c.in-Mode.is c.requires.may.holding in
     let enters = mode_entered s new row stored c.requires.may.bounds.even c.in-Mode.room (2 * row) holding (record { frames = gone.frames; log = gone.log; others = gone.others }) in
-    subst (λ (t : Taking). Enters (in_stores s t row) (call_of (aims.Take t)) c.go_irrevocable.result (core_held new)) (sym c.in-Mode.is)
-    (subst (λ (r : Replied). Enters (in_stores s (takings.Mode c.in-Mode.room) row) (Mode c.in-Mode.room) r (core_held new)) (sym gone.reply) enters)
+    subst (λ (end : End). Turns (in_stores s s.taking row) (Enter end) new) (sym gone.end)
+    (subst (λ (t : Taking). Enters (in_stores s t row) (call_of (aims.Take t)) Done (core_held new)) (sym c.in-Mode.is) enters)
 
 pub returns-in-Begin-clause-proceeds : goal.returns-in-Begin-clause-proceeds
 returns-in-Begin-clause-proceeds c =
@@ -100,5 +102,5 @@ returns-in-Begin-clause-proceeds c =
     let stored : row ≡ length s.frames.writes.rows = omega (arith, c.if-row-len.false, c.len.ensures.len, c.requires.may.far) in
     let holding = subst (λ (t : Taking). IsHolding s t (2 * row)) c.in-Begin.is c.requires.may.holding in
     let enters = begin_entered s new row stored c.requires.may.bounds.even c.in-Begin.props c.in-Begin.room (2 * row) holding (record { frames = gone.frames; log = gone.log; others = gone.others }) in
-    subst (λ (t : Taking). Enters (in_stores s t row) (call_of (aims.Take t)) c.go_irrevocable-in-Begin.result (core_held new)) (sym c.in-Begin.is)
-    (subst (λ (r : Replied). Enters (in_stores s (takings.Begin c.in-Begin.props c.in-Begin.room) row) (Begin c.in-Begin.props c.in-Begin.room) r (core_held new)) (sym gone.reply) enters)
+    subst (λ (end : End). Turns (in_stores s s.taking row) (Enter end) new) (sym gone.end)
+    (subst (λ (t : Taking). Enters (in_stores s t row) (call_of (aims.Take t)) (Code 5) (core_held new)) (sym c.in-Begin.is) enters)

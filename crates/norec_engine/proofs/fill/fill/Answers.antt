@@ -4,8 +4,8 @@ use Rattle.std.proofs.lemmas.List.Elements.{All-from_recursion}
 use Rattle.itm_types.specs.declared.access.WriteHint.{WriteHint}
 use Rattle.itm_types.specs.declared.call.Call.TheVariants.{Fill}
 use Rattle.itm_types.specs.declared.call.Reply.TheVariants.{Done}
-use Rattle.norec_core.specs.declared.answer.Answer.TheVariants.{Reply}
 use Rattle.norec_core.specs.declared.phase.Phase.TheVariants.{Idle}
+use Rattle.norec_data.specs.declared.end.End.TheVariants as ends
 use Rattle.norec_data.specs.declared.turn.Turn.TheVariants.{End}
 use Rattle.norec_core.specs.Core.{came}
 use Rattle.norec_data.specs.View.{core}
@@ -37,7 +37,7 @@ put_range-requires-clause-room c =
     (All-from_recursion (λ (p : Piece). IsSome (lookup p.word (reserved_all old ps))) ps (all_reserved old ps))
 
 -- the bytes are put, if there are some
-filled_turn : (c : goal.After-come) → IsSoundTurn (End (Reply Done)) c.come.new.self
+filled_turn : (c : goal.After-come) → IsSoundTurn (End ends.Done) c.come.new.self
     × ((hint : WriteHint) → Replies (came (core c.args.state.now Idle) (Fill hint c.args.to c.args.byte c.args.size) false) (Fill hint c.args.to c.args.byte c.args.size) Done (core c.come.new.self Idle))
 filled_turn c =
     let s = c.args.state.now in

@@ -3,12 +3,13 @@ use Rattle.itm_types.specs.declared.call.Call.{Call}
 use Rattle.itm_types.specs.declared.call.Reply.TheVariants.{Done}
 use Rattle.itm_types.specs.Calls.{registered_by}
 use Rattle.nest_frames.specs.Nest.{Nest}
-use Rattle.norec_core.specs.declared.answer.Answer.TheVariants.{Reply}
+use Rattle.itm_types.specs.declared.call.Refusal.TheVariants.{Outside}
 use Rattle.norec_core.specs.declared.phase.Phase.TheVariants.{Idle}
 use Rattle.norec_core.specs.Core.{came}
 use Rattle.norec_core.specs.Proceeds.{Replies}
 use Rattle.norec_data.specs.declared.data.Data.{Data}
 use Rattle.norec_data.specs.declared.turn.Turn.TheVariants.{End}
+use Rattle.norec_data.specs.Turns.{Turns}
 use Rattle.norec_data.specs.View.{core}
 use Rattle.norec_engine.specs.InPhases.{IsSound}
 use Rattle.norec_engine.specs.Between.{IsSoundTurn}
@@ -18,8 +19,8 @@ use Rattle.norec_engine.proofs.local.register.Goals.{then-is_open+in_ok-register
 use Rattle.norec_engine.proofs.local.register.Goals as goal
 
 -- the action is registered, or the call is refused
-registered_turn : (c : goal.After-come) → IsSoundTurn (End (Reply c.if-is_open.reply)) c.come.new.self
-    × ((call : Call) → registered_by call ≡ Some (c.args.kind, c.args.action) → Replies (came (core c.args.state.now Idle) call false) call c.if-is_open.reply (core c.come.new.self Idle))
+registered_turn : (c : goal.After-come) → IsSoundTurn (End c.if-is_open.end) c.come.new.self
+    × ((call : Call) → registered_by call ≡ Some (c.args.kind, c.args.action) → Turns (came (core c.args.state.now Idle) call false) (End c.if-is_open.end) c.come.new.self)
 registered_turn c =
     let s = c.args.state.now in
     let kind = c.args.kind in
@@ -29,14 +30,14 @@ registered_turn c =
       | then-is_open+in_ok-register w ↦ (
           let o = sym c.is_open.ensures ∙ w.if-is_open.true in
           let is : come (record s { frames = w.register.new.self }) ≡ with_action s kind action = ap (λ (frames : Nest). come (record s { frames = frames })) w.in_ok-register.ensures.ok in
-          rw w.reply-is (rw w.state-is (
+          rw w.end-is (rw w.state-is (
             record { asked = tt; sound = subst (λ (d : Data). IsSound d Idle) (sym is) (registered_sound s kind action o sound) },
             λ call by. subst (λ (d : Data). Replies (came (core s Idle) call false) call Done (core d Idle)) (sym is) (registered_replies s call kind action by o sound),
           )))
       | else-is_open w ↦ (
           let o = sym c.is_open.ensures ∙ w.if-is_open.false in
-          rw w.reply-is (rw w.state-is (
-            record { asked = tt; sound = come_sound s sound },
+          rw w.end-is (rw w.state-is (
+            record { asked = tt; sound = come_sound s Outside sound },
             λ call by. unregistered_replies s call kind action by o sound,
           )))
     ])

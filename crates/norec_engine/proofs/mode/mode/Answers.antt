@@ -1,7 +1,8 @@
-use Rattle.std.proofs.Common.{◌≡◌, ℕ, ◌&&◌, not, false, length, Option, None, Some, if◌then◌else◌, sym, ap, subst, ◌∙◌}
+use Rattle.std.proofs.Common.{◌≡◌, ℕ, ◌/◌, ◌&&◌, not, false, length, Option, None, Some, if◌then◌else◌, sym, ap, subst, ◌∙◌}
 use Rattle.itm_types.specs.declared.call.Reply.TheVariants.{Refused}
 use Rattle.nest_frames.specs.Nest.{Nest, stays_revocable}
-use Rattle.norec_core.specs.declared.answer.Answer.TheVariants.{Reply}
+use Rattle.norec_core.specs.declared.answer.Answer.{Answer}
+use Rattle.norec_core.specs.declared.answer.Answer.TheVariants.{Full, Reply}
 use Rattle.norec_core.specs.declared.phase.Aim.TheVariants as aims
 use Rattle.norec_core.specs.declared.phase.Phase.TheVariants.{Idle}
 use Rattle.norec_core.specs.declared.phase.Taking.TheVariants.{Mode}
@@ -9,7 +10,7 @@ use Rattle.norec_core.specs.Core.{Core}
 use Rattle.norec_core.specs.Endings.{IsEnding, going_ending}
 use Rattle.norec_core.specs.Order.{exchange_stage, going_stage}
 use Rattle.norec_data.specs.declared.data.Data.{Data}
-use Rattle.norec_data.specs.Turns.{Turns}
+use Rattle.norec_data.specs.Turns.{TurnEndsSo, Turns}
 use Rattle.norec_data.specs.View.{core, in_block}
 use Rattle.norec_engine.specs.Between.{between, moved}
 use Rattle.norec_engine.proofs.IrrevocableEntries.{mode_accepted, mode_came, mode_denied, no_room}
@@ -46,3 +47,12 @@ returns-clause-order c =
     c.exchange.ensures.order
     ∙ (ap (λ (d : Data). exchange_stage d.limits.max_commits d.snapshot (Mode c.args.room)) c.come-2.ensures
     ∙ (λ i. going_stage (core s Idle) (if (sym accepted.0 i) && not (sym accepted.1 i) && not false then Some c.args.room else None) (Mode c.args.room)))
+
+pub returns-clause-ends : goal.returns-clause-ends
+returns-clause-ends c =
+    let s = c.args.state.now in
+    let accepted = mode_accepted (in_block s) (stays_revocable s.frames.blocks) (sym c.in_default.ensures) in
+    subst (λ (so : Option Answer). TurnEndsSo so c.exchange.result c.exchange.new.state)
+    (ap (λ (d : Data). Some (Full (d.snapshot / 2))) c.come-2.ensures
+    ∙ (λ i. going_ending (core s Idle) (if (sym accepted.0 i) && not (sym accepted.1 i) && not false then Some c.args.room else None)))
+    c.exchange.ensures.ends

@@ -1,6 +1,5 @@
 use Rattle.std.proofs.Common.{◌≡◌, ℕ, ◌+◌, ◌*◌, ◌≤◌, List, length, refl, sym, ap, subst, ◌∙◌, arith}
 use Rattle.std.proofs.lemmas.List.{take_all}
-use Rattle.arrayvec.specs.ArrayVec.{ArrayVec}
 use Rattle.itm_types.specs.Memory.{bytes_of, IsMemory, Agrees}
 use Rattle.itm_types.specs.Access.{size_of}
 use Rattle.itm_types.specs.declared.call.Call.TheVariants.{Read}
@@ -29,8 +28,8 @@ use Rattle.norec_engine.specs.Between.{between, logged, IsValue, MayReply}
 use Rattle.norec_core.proofs.Machines.{reads}
 use Rattle.norec_engine.proofs.read.reply_gathered.Goals as goal
 
-module _ (s : Data) (r : Reading) (may : MayReply s r) (bytes : ArrayVec ℕ) (same : bytes ≡ s.gathered) (log : List LogRow) where
-  replies : (what : Purpose) → r.purpose ≡ what → IsValue what → Replies (logged (between s (aims.Read (record r { purpose = what }))) log) (call_for what r.at) (Bytes bytes) (core s Idle)
+module _ (s : Data) (r : Reading) (may : MayReply s r) (log : List LogRow) where
+  replies : (what : Purpose) → r.purpose ≡ what → IsValue what → Replies (logged (between s (aims.Read (record r { purpose = what }))) log) (call_for what r.at) (Bytes s.gathered) (core s Idle)
   replies (for.Value hint width) is value =
       let rows : List Row = s.frames.writes.rows in
       let whole = may.whole in
@@ -43,7 +42,7 @@ module _ (s : Data) (r : Reading) (may : MayReply s r) (bytes : ArrayVec ℕ) (s
       ∙ (gathered-pieces_of (overlay m rows) r.at r.size (omega (arith, size, whole.within)) ∙ ap (slice (bytes_of (overlay m rows)) r.at) f.0))) in
       let within : r.at + size_of width ≤ 8 * s.words = omega (arith, whole.within, f.0) in
       let all = λ (m : List ℕ) (mem : IsMemory s.words m) (agrees : Agrees m s.log.rows).
-      reads rows s.frames.blocks s.arena s.frames.actions m s.words hint width r.at may.is_open.is_open mem bytes.items within (ap (λ (v : ArrayVec ℕ). v.items) same ∙ got m mem agrees) in
+      reads rows s.frames.blocks s.arena s.frames.actions m s.words hint width r.at may.is_open.is_open mem s.gathered.items within (got m mem agrees) in
       record {
         meets = λ m mem agrees. (all m mem agrees).0 ∙ ap (λ (rs : List Row). after MAX_OPEN_BLOCKS (state_over rs s.frames.blocks s.arena s.frames.actions m) (Read hint width r.at)) (sym before);
         reply_is = λ m mem agrees. (all m mem agrees).1 ∙ ap (λ (rs : List Row). reply MAX_OPEN_BLOCKS (state_over rs s.frames.blocks s.arena s.frames.actions m) (Read hint width r.at)) (sym before);
@@ -64,4 +63,4 @@ pub returns-clause-proceeds : goal.returns-clause-proceeds
 returns-clause-proceeds c log =
     let s = c.args.state.now in
     let r = c.args.reading in
-    replies s r c.requires.may c.replace-bytes.result c.replace-bytes.ensures.value log r.purpose refl c.requires.may.value
+    replies s r c.requires.may log r.purpose refl c.requires.may.value

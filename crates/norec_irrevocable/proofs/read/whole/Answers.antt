@@ -88,7 +88,7 @@ returns-in-Value-clause-proceeds c =
     let s = c.args.state.now in
     let r = c.args.reading in
     let size = rw c.in-Value.is at c.requires.loaded.purpose in
-    rw c.replace-bytes.ensures.value (rw c.in-Value.is (read_done s c.requires.held.is_open c.in-Value.hint c.in-Value.width r.at s.gathered.items (omega (arith, c.requires.loaded.within, size))))
+    rw c.in-Value.is (read_done s c.requires.held.is_open c.in-Value.hint c.in-Value.width r.at s.gathered.items (omega (arith, c.requires.loaded.within, size)))
 
 pub returns-in-In-clause-comes : goal.returns-in-In-clause-comes
 returns-in-In-clause-comes c = λ m mem.

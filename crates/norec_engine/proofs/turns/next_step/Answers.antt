@@ -4,7 +4,7 @@ use Rattle.norec_data.specs.View.{phase_of}
 use Rattle.norec_data.proofs.CallsInProgress.{is_on}
 use Rattle.norec_engine.proofs.Counts.{fits}
 use Rattle.norec_engine.proofs.HeldCounts.{held_fits}
-use Rattle.norec_engine.proofs.engine.next_step.Goals as goal
+use Rattle.norec_engine.proofs.turns.next_step.Goals as goal
 
 pub returns-then-irrevocable-clause-few : goal.returns-then-irrevocable-clause-few
 returns-then-irrevocable-clause-few c =

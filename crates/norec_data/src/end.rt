@@ -1,0 +1,83 @@
+//! How a call ends.
+
+ghost use Rattle.std.specs.Prelude.{◌≡◌, []};
+ghost use Rattle.norec_data.specs.Ends.{answer_of, told};
+
+use crate::data::Data;
+use itm_types::{
+    CANCELLED, ENTERED, ENTERED_AGAIN, IRREVOCABLE, NO_TRANSACTION, RETRYABLE, Reply, Value,
+};
+use norec_core::Answer;
+use std::mem;
+
+/// How a call ended. With what is kept beside the phase it says the answer.
+#[derive(Clone, Copy, Debug, PartialEq, Eq)]
+pub enum End {
+    Done,
+    /// The bytes that are gathered.
+    Gathered,
+    /// A block began, for the first time.
+    Entered,
+    /// A block began again.
+    EnteredAgain,
+    /// Blocks were cancelled.
+    Cancelled,
+    /// No transaction is open.
+    NoTransaction,
+    /// A transaction is open that can be tried again.
+    Retryable,
+    /// A transaction is open that is irrevocable.
+    Irrevocable,
+    /// The call is refused, for the reason that is kept.
+    Refused,
+    /// The transaction committed at the snapshot, and wrote.
+    Committed,
+    /// It committed at the snapshot, and wrote nothing.
+    ReadOnly,
+    /// The transaction saw what is no longer so.
+    Conflict,
+    /// The clock was odd as often as it may.
+    Busy,
+    /// As many writers have committed as may.
+    Full,
+}
+
+impl End {
+    /// The answer. The bytes that it gives are no longer kept.
+    #[inline(always)]
+    pub fn answer(self, state: &mut Data) -> Answer
+        ensures answer { result ≡ answer_of state.old self }
+        ensures told { state.new ≡ told self state.old }
+    {
+        match self {
+            End::Done => Answer::Reply(Reply::Done),
+            End::Gathered => {
+                let bytes = mem::replace(&mut state.gathered, Value::new());
+                Answer::Reply(Reply::Bytes(bytes))
+            }
+            End::Entered => Answer::Reply(Reply::Code(ENTERED)),
+            End::EnteredAgain => Answer::Reply(Reply::Code(ENTERED_AGAIN)),
+            End::Cancelled => Answer::Reply(Reply::Code(CANCELLED)),
+            End::NoTransaction => Answer::Reply(Reply::Code(NO_TRANSACTION)),
+            End::Retryable => Answer::Reply(Reply::Code(RETRYABLE)),
+            End::Irrevocable => Answer::Reply(Reply::Code(IRREVOCABLE)),
+            End::Refused => Answer::Reply(Reply::Refused(state.why)),
+            End::Committed => Answer::Committed {
+                at: state.snapshot / 2,
+                wrote: true,
+            },
+            End::ReadOnly => Answer::Committed {
+                at: state.snapshot / 2,
+                wrote: false,
+            },
+            End::Conflict => Answer::Conflict {
+                clock: state.clock,
+                word: state.changed,
+            },
+            End::Busy => Answer::Busy { clock: state.clock },
+            End::Full => Answer::Full {
+                at: state.snapshot / 2,
+            },
+        }
+    }
+}

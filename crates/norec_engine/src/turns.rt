@@ -1,0 +1,63 @@
+//! Turns that are taken.
+
+ghost use Rattle.std.specs.Prelude.{◌≡◌, ◌+◌, ◌^◌, ◌<◌};
+ghost use Rattle.norec_data.specs.View.{phase_of, step_of as asked_step};
+ghost use Rattle.norec_data.specs.Turns.{counted, pending_after, data_after, next_of, Asked, IsWaiting};
+ghost use Rattle.norec_engine.specs.Modes.{mode_after, IsSoundIn, IsSoundWith};
+
+use crate::steps::step_of;
+use itm_types::Step;
+use norec_core::Next;
+use norec_data::{Data, Pending, Turn};
+
+/// Takes a turn: the call goes on, or is over. A step that is asked for is counted.
+#[inline(always)]
+pub(crate) fn take(
+    state: &mut Data,
+    pending: &mut Pending,
+    irrevocable: &mut bool,
+    turn: Turn,
+) -> Next
+    requires sound { IsSoundWith irrevocable.old turn state.old }
+    requires asked { Asked turn }
+    ensures state { state.new ≡ data_after turn state.old }
+    ensures pending { pending.new ≡ pending_after turn }
+    ensures mode { irrevocable.new ≡ mode_after irrevocable.old turn }
+    ensures next { result ≡ next_of turn state.old }
+{
+    match turn {
+        Turn::Wait(next) => {
+            let step = next_step(state, *irrevocable, next);
+            state.spent += 1;
+            *pending = next;
+            Next::Step(step)
+        }
+        Turn::End(end) => {
+            *pending = Pending::Idle;
+            *irrevocable = false;
+            Next::Answer(end.answer(state))
+        }
+        Turn::Enter(end) => {
+            *pending = Pending::Idle;
+            *irrevocable = true;
+            Next::Answer(end.answer(state))
+        }
+    }
+}
+
+/// The step that is waited for. There are fewer in all than a count can tell.
+#[inline(always)]
+fn next_step(state: &Data, irrevocable: bool, pending: Pending) -> Step
+    requires sound { IsSoundIn irrevocable (counted state.now) (phase_of state.now pending) }
+    requires waits { IsWaiting pending }
+    ensures step { result ≡ asked_step state.now (phase_of state.now pending) }
+    ensures few { state.now.spent + 1 < 2 ^ 128 }
+{
+    let _writes = state.frames.len();
+    let _entry = state.entry;
+    if irrevocable {
+        norec_irrevocable::step_of(state, pending)
+    } else {
+        step_of(state, pending)
+    }
+}
