@@ -9,8 +9,8 @@ ghost use Rattle.itm_runtime.specs.Ties.{Stands};
 ghost use Rattle.itm_runtime.specs.Served.{Served};
 ghost use Rattle.itm_runtime.specs.Standing.{start_of};
 
-use crate::drive::drive;
-use itm_types::{Call, Limits, MAX_COMMITS, MAX_PATIENCE, Props, Ran};
+use crate::drive::finish;
+use itm_types::{Call, Limits, MAX_COMMITS, MAX_PATIENCE, Props, Ran, Reply};
 use norec_core::{Answer, Undone};
 use norec_engine::Engine;
 use shared_words::{Pass, Words};
@@ -73,8 +73,10 @@ impl Thread {
         ensures err { OnErr result (self.new ≡ self.old) }
         ensures starves { OnErr result (MayStarve self.old.engine (Call.Begin props room)) }
     {
-        let next = self.engine.begin(props, room, again)?;
-        Ok(drive(words, &mut self.pass, &mut self.engine, next))
+        let mut answer = Answer::Reply(Reply::Done);
+        let first = self.engine.begin_into(props, room, again, &mut answer)?;
+        finish(words, &mut self.pass, &mut self.engine, first, &mut answer);
+        Ok(answer)
     }
 
     /// Any call of the interface.
@@ -86,8 +88,10 @@ impl Thread {
         ensures err { OnErr result (self.new ≡ self.old) }
         ensures starves { OnErr result (MayStarve self.old.engine call.now) }
     {
-        let next = self.engine.call(call)?;
-        Ok(drive(words, &mut self.pass, &mut self.engine, next))
+        let mut answer = Answer::Reply(Reply::Done);
+        let first = self.engine.call_into(call, &mut answer)?;
+        finish(words, &mut self.pass, &mut self.engine, first, &mut answer);
+        Ok(answer)
     }
 
     /// The innermost block ends; with the outermost one the transaction commits (section 5.12). Takes no memory.

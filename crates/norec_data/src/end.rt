@@ -1,6 +1,6 @@
 //! How a call ends.
 
-ghost use Rattle.std.specs.Prelude.{◌≡◌, []};
+ghost use Rattle.std.specs.Prelude.{◌≡◌, ◌/◌};
 ghost use Rattle.norec_data.specs.Ends.{answer_of, told};
 
 use crate::data::Data;
@@ -43,41 +43,50 @@ pub enum End {
 }
 
 impl End {
-    /// The answer. The bytes that it gives are no longer kept.
+    /// Tells the answer. The bytes that it gives are no longer kept.
     #[inline(always)]
-    pub fn answer(self, state: &mut Data) -> Answer
-        ensures answer { result ≡ answer_of state.old self }
+    pub fn tell(self, state: &mut Data, answer: &mut Answer)
+        ensures answer { answer.new ≡ answer_of state.old self }
         ensures told { state.new ≡ told self state.old }
     {
         match self {
-            End::Done => Answer::Reply(Reply::Done),
+            End::Done => *answer = Answer::Reply(Reply::Done),
             End::Gathered => {
                 let bytes = mem::replace(&mut state.gathered, Value::new());
-                Answer::Reply(Reply::Bytes(bytes))
+                *answer = Answer::Reply(Reply::Bytes(bytes));
             }
-            End::Entered => Answer::Reply(Reply::Code(ENTERED)),
-            End::EnteredAgain => Answer::Reply(Reply::Code(ENTERED_AGAIN)),
-            End::Cancelled => Answer::Reply(Reply::Code(CANCELLED)),
-            End::NoTransaction => Answer::Reply(Reply::Code(NO_TRANSACTION)),
-            End::Retryable => Answer::Reply(Reply::Code(RETRYABLE)),
-            End::Irrevocable => Answer::Reply(Reply::Code(IRREVOCABLE)),
-            End::Refused => Answer::Reply(Reply::Refused(state.why)),
-            End::Committed => Answer::Committed {
-                at: state.snapshot / 2,
-                wrote: true,
-            },
-            End::ReadOnly => Answer::Committed {
-                at: state.snapshot / 2,
-                wrote: false,
-            },
-            End::Conflict => Answer::Conflict {
-                clock: state.clock,
-                word: state.changed,
-            },
-            End::Busy => Answer::Busy { clock: state.clock },
-            End::Full => Answer::Full {
-                at: state.snapshot / 2,
-            },
+            End::Entered => *answer = Answer::Reply(Reply::Code(ENTERED)),
+            End::EnteredAgain => *answer = Answer::Reply(Reply::Code(ENTERED_AGAIN)),
+            End::Cancelled => *answer = Answer::Reply(Reply::Code(CANCELLED)),
+            End::NoTransaction => *answer = Answer::Reply(Reply::Code(NO_TRANSACTION)),
+            End::Retryable => *answer = Answer::Reply(Reply::Code(RETRYABLE)),
+            End::Irrevocable => *answer = Answer::Reply(Reply::Code(IRREVOCABLE)),
+            End::Refused => *answer = Answer::Reply(Reply::Refused(state.why)),
+            End::Committed => *answer = committed(state, true),
+            End::ReadOnly => *answer = committed(state, false),
+            End::Conflict => {
+                *answer = Answer::Conflict {
+                    clock: state.clock,
+                    word: state.changed,
+                }
+            }
+            End::Busy => *answer = Answer::Busy { clock: state.clock },
+            End::Full => {
+                *answer = Answer::Full {
+                    at: state.snapshot / 2,
+                }
+            }
         }
+    }
+}
+
+/// The transaction committed at its snapshot.
+#[inline(always)]
+fn committed(state: &Data, wrote: bool) -> Answer
+    ensures { result ≡ Answer.Committed (state.now.snapshot / 2) wrote }
+{
+    Answer::Committed {
+        at: state.snapshot / 2,
+        wrote,
     }
 }

@@ -10,6 +10,7 @@ ghost use Rattle.norec_core.specs.Held.{ComesHeld, StepsHeld};
 ghost use Rattle.norec_data.specs.View.{phase_of};
 ghost use Rattle.norec_engine.specs.Modes.{IsSoundIn};
 ghost use Rattle.norec_core.specs.Undoing.{undone_of, after_undoing};
+ghost use Rattle.norec_engine.specs.NextSteps.{next_in};
 
 use crate::begin::begin;
 use crate::calls::{called, turned};
@@ -20,7 +21,7 @@ use itm_types::{
     Value, Width, WriteHint,
 };
 use nest_frames::Frames;
-use norec_core::{Answer, Next, Opening, Phase, Purpose, Reading, Taking, Target, Undone, Writing};
+use norec_core::{Answer, Opening, Phase, Purpose, Reading, Taking, Target, Undone, Writing};
 use norec_data::{Cause, Data, Pending, roll_back};
 use std::alloc::{AllocError, Global};
 use std::marker::Model;
@@ -110,14 +111,21 @@ impl Engine {
         }
     }
 
-    /// An outermost block begins, `again` where an earlier try of it got past its begin; inside a transaction this is `call`.
-    pub fn begin(&mut self, props: Props, room: u32, again: bool) -> Result<Next, AllocError>
+    /// An outermost block begins, `again` where an earlier try of it got past its begin; inside a transaction this is
+    /// `call_into`. The step that it asks for first; where there is none, the call is over, and `answer` tells how.
+    pub fn begin_into(
+        &mut self,
+        props: Props,
+        room: u32,
+        again: bool,
+        answer: &mut Answer,
+    ) -> Result<Option<Step>, AllocError>
         requires idle { self.old.waits ≡ None }
-        ensures proceeds { IfOk result (λ next. Proceeds (came self.old (Call.Begin props room) again) next self.new) }
-        ensures at_once { IfOk result IsAtOnce }
+        ensures proceeds { IfOk result (λ step. Proceeds (came self.old (Call.Begin props room) again) (next_in step answer.new) self.new) }
+        ensures at_once { IfOk result (λ step. IsAtOnce (next_in step answer.new)) }
         ensures stays { OnOk result (StaysOn self.old self.new) }
         ensures order { OnOk result (self.new.stage ≡ stage_at self.old (Call.Begin props room) again) }
-        ensures ends { IfOk result (EndsSo (ending_at self.old (Call.Begin props room))) }
+        ensures ends { IfOk result (λ step. EndsSo (ending_at self.old (Call.Begin props room)) (next_in step answer.new)) }
         ensures tries { OnOk result (self.new.tries ≡ tries_at self.new.stage) }
         ensures asks { OnOk result (self.new.waits ≡ asked self.new) }
         ensures count { OnOk result (IsWithin self.new) }
@@ -127,7 +135,7 @@ impl Engine {
 
         // In an irrevocable transaction it comes to what the plain machine makes of it.
         ensures held { self.old.irrevocable ≡ true
-            → IfOk result (λ next. ComesHeld self.old (Call.Begin props room) next self.new) }
+            → IfOk result (λ step. ComesHeld self.old (Call.Begin props room) (next_in step answer.new) self.new) }
     {
         let turn = if self.irrevocable {
             norec_irrevocable::called(&mut self.state, &Call::Begin { props, room })?
@@ -139,17 +147,22 @@ impl Engine {
             &mut self.pending,
             &mut self.irrevocable,
             turn,
+            answer,
         ))
     }
 
-    /// A call comes.
-    pub fn call(&mut self, call: &Call) -> Result<Next, AllocError>
+    /// A call comes. The step that it asks for first; where there is none, the call is over, and `answer` tells how.
+    pub fn call_into(
+        &mut self,
+        call: &Call,
+        answer: &mut Answer,
+    ) -> Result<Option<Step>, AllocError>
         requires idle { self.old.waits ≡ None }
-        ensures proceeds { IfOk result (λ next. Proceeds (came self.old call.now false) next self.new) }
-        ensures at_once { IfOk result IsAtOnce }
+        ensures proceeds { IfOk result (λ step. Proceeds (came self.old call.now false) (next_in step answer.new) self.new) }
+        ensures at_once { IfOk result (λ step. IsAtOnce (next_in step answer.new)) }
         ensures stays { OnOk result (StaysOn self.old self.new) }
         ensures order { OnOk result (self.new.stage ≡ stage_at self.old call.now false) }
-        ensures ends { IfOk result (EndsSo (ending_at self.old call.now)) }
+        ensures ends { IfOk result (λ step. EndsSo (ending_at self.old call.now) (next_in step answer.new)) }
         ensures tries { OnOk result (self.new.tries ≡ tries_at self.new.stage) }
         ensures asks { OnOk result (self.new.waits ≡ asked self.new) }
         ensures count { OnOk result (IsWithin self.new) }
@@ -158,7 +171,7 @@ impl Engine {
         ensures starves { OnErr result (MayStarve self.old call.now) }
 
         // In an irrevocable transaction it comes to what the plain machine makes of it.
-        ensures held { self.old.irrevocable ≡ true → IfOk result (λ next. ComesHeld self.old call.now next self.new) }
+        ensures held { self.old.irrevocable ≡ true → IfOk result (λ step. ComesHeld self.old call.now (next_in step answer.new) self.new) }
     {
         let turn = if self.irrevocable {
             norec_irrevocable::called(&mut self.state, call)?
@@ -170,17 +183,19 @@ impl Engine {
             &mut self.pending,
             &mut self.irrevocable,
             turn,
+            answer,
         ))
     }
 
     /// The step that it waits for was done: `seen` is the value loaded, the value that an exchange found, or 0 after a store.
-    pub fn resume(&mut self, seen: u64) -> Next
+    /// The next step; where there is none, the call is over, and `answer` tells how.
+    pub fn resume_into(&mut self, seen: u64, answer: &mut Answer) -> Option<Step>
         requires waits { IsSome self.old.waits }
         requires fits { Fits self.old seen }
-        ensures proceeds { Proceeds (handed self.old seen) result self.new }
+        ensures proceeds { Proceeds (handed self.old seen) (next_in result answer.new) self.new }
         ensures joins { Joins self.old seen self.new }
         ensures order { self.new.stage ≡ stage_after self.old seen }
-        ensures ends { EndsSo (ending_after self.old seen) result }
+        ensures ends { EndsSo (ending_after self.old seen) (next_in result answer.new) }
         ensures tries { self.new.tries ≡ tries_after self.new.stage self.old.tries }
         ensures snapshot { self.new.snapshot ≡ snapshot_after self.old seen }
         ensures log { in_transaction self.new ≡ true → self.new.log ≡ log_after self.old seen }
@@ -189,7 +204,7 @@ impl Engine {
         ensures settled { IsSettled self.new }
 
         // In an irrevocable transaction it comes to what the call was to come to.
-        ensures held { self.old.irrevocable ≡ true → StepsHeld self.old seen result self.new }
+        ensures held { self.old.irrevocable ≡ true → StepsHeld self.old seen (next_in result answer.new) self.new }
     {
         let turn = if self.irrevocable {
             norec_irrevocable::resumed(&mut self.state, self.pending, seen)
@@ -201,6 +216,7 @@ impl Engine {
             &mut self.pending,
             &mut self.irrevocable,
             turn,
+            answer,
         )
     }
 

@@ -12,6 +12,7 @@ mod engine;
 mod fill;
 mod local;
 mod mode;
+mod next;
 mod range;
 mod read;
 mod rounds;

@@ -3,44 +3,48 @@
 ghost use Rattle.std.specs.Prelude.{◌≡◌, ◌+◌, ◌^◌, ◌<◌};
 ghost use Rattle.norec_data.specs.View.{phase_of, step_of as asked_step};
 ghost use Rattle.norec_data.specs.Turns.{counted, pending_after, data_after, next_of, Asked, IsWaiting};
+ghost use Rattle.norec_engine.specs.NextSteps.{next_in};
 ghost use Rattle.norec_engine.specs.Modes.{mode_after, IsSoundIn, IsSoundWith};
 
 use crate::steps::step_of;
 use itm_types::Step;
-use norec_core::Next;
+use norec_core::Answer;
 use norec_data::{Data, Pending, Turn};
 
-/// Takes a turn: the call goes on, or is over. A step that is asked for is counted.
+/// Takes a turn: the call goes on, by this step, which is counted, or is over, and `answer` tells how.
 #[inline(always)]
 pub(crate) fn take(
     state: &mut Data,
     pending: &mut Pending,
     irrevocable: &mut bool,
     turn: Turn,
-) -> Next
+    answer: &mut Answer,
+) -> Option<Step>
     requires sound { IsSoundWith irrevocable.old turn state.old }
     requires asked { Asked turn }
     ensures state { state.new ≡ data_after turn state.old }
     ensures pending { pending.new ≡ pending_after turn }
     ensures mode { irrevocable.new ≡ mode_after irrevocable.old turn }
-    ensures next { result ≡ next_of turn state.old }
+    ensures next { next_in result answer.new ≡ next_of turn state.old }
 {
     match turn {
         Turn::Wait(next) => {
             let step = next_step(state, *irrevocable, next);
             state.spent += 1;
             *pending = next;
-            Next::Step(step)
+            Some(step)
         }
         Turn::End(end) => {
             *pending = Pending::Idle;
             *irrevocable = false;
-            Next::Answer(end.answer(state))
+            end.tell(state, answer);
+            None
         }
         Turn::Enter(end) => {
             *pending = Pending::Idle;
             *irrevocable = true;
-            Next::Answer(end.answer(state))
+            end.tell(state, answer);
+            None
         }
     }
 }

@@ -1,20 +1,21 @@
 use Rattle.std.proofs.Common.{false, subst}
+use Rattle.norec_engine.specs.NextSteps.{next_in}
 use Rattle.shared_words.specs.Passes.{view_of}
 use Rattle.itm_runtime.specs.Served.{Start, Served}
 use Rattle.itm_runtime.specs.Standing.{Standing, start_of}
 use Rattle.itm_runtime.proofs.StepToStep.{starts}
 use Rattle.itm_runtime.proofs.thread.Thread.call.Goals as goal
 
-pub drive-requires-clause-due : goal.drive-requires-clause-due
-drive-requires-clause-due c =
-    let r = c.in_ok-next.ensures in (
+pub finish-requires-clause-due : goal.finish-requires-clause-due
+finish-requires-clause-due c =
+    let r = c.in_ok-first.ensures in (
       record { view = view_of c.self.inside.pass; engine = c.self.inside.engine; call = c.args.call.now; again = false },
-      starts (view_of c.self.inside.pass) c.self.inside.engine c.call.new.self c.args.call.now false c.self.invariant r.stays r.settled r.asks r.order r.tries r.count c.in_ok-next.next r.at_once r.proceeds r.held,
+      starts (view_of c.self.inside.pass) c.self.inside.engine c.call_into.new.self c.args.call.now false c.self.invariant r.stays r.settled r.asks r.order r.tries r.count (next_in c.in_ok-first.first c.call_into.new.answer) r.at_once r.proceeds r.held,
     )
 
 pub returns-clause-served : goal.returns-clause-served
 returns-clause-served c =
-    let r = c.in_ok-next.ensures in
+    let r = c.in_ok-first.ensures in
     let s : Start = record { view = view_of c.self.inside.pass; engine = c.self.inside.engine; call = c.args.call.now; again = false } in
-    let d = starts (view_of c.self.inside.pass) c.self.inside.engine c.call.new.self c.args.call.now false c.self.invariant r.stays r.settled r.asks r.order r.tries r.count c.in_ok-next.next r.at_once r.proceeds r.held in
-    subst (λ (t : Standing). Served (start_of t c.args.call.now false) c.drive.result (view_of c.drive.new.pass) c.drive.new.engine) c.self.view_is (c.drive.ensures.served s d)
+    let d = starts (view_of c.self.inside.pass) c.self.inside.engine c.call_into.new.self c.args.call.now false c.self.invariant r.stays r.settled r.asks r.order r.tries r.count (next_in c.in_ok-first.first c.call_into.new.answer) r.at_once r.proceeds r.held in
+    subst (λ (t : Standing). Served (start_of t c.args.call.now false) c.finish.new.answer (view_of c.finish.new.pass) c.finish.new.engine) c.self.view_is (c.finish.ensures.served s d)

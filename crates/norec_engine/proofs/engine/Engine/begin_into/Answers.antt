@@ -1,7 +1,7 @@
 use Rattle.std.proofs.Common.{rules}
 use Rattle.norec_data.specs.View.{phase_of}
 use Rattle.norec_engine.proofs.Settled.{settled_in}
-use Rattle.norec_engine.proofs.engine.Engine.begin.Goals as goal
+use Rattle.norec_engine.proofs.engine.Engine.begin_into.Goals as goal
 
 pub returns-clause-settled : goal.returns-clause-settled
 returns-clause-settled c = settled_in c.take.new.irrevocable c.take.new.state (phase_of c.take.new.state c.take.new.pending) (search rules)
