@@ -1,0 +1,4 @@
+pub mod RunLists
+pub mod Tries
+pub mod Begins
+pub mod PlainCalls

@@ -1,0 +1,3 @@
+//! What is said of players and the plain machine alone, for all who let a player make its calls: what its calls between two
+//! transactions lead to, and what becomes of its try.
+#![tactic(auto)]
