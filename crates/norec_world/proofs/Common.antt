@@ -8,7 +8,6 @@ pub use Rattle.itm_types.specs.Memory.{Agrees, AllFit, AreWords, IsMemory, bytes
 pub use Rattle.itm_types.specs.declared.call.Call.TheVariants.{Begin, Commit, Read, Write}
 pub use Rattle.itm_types.specs.declared.call.Call.{Call}
 pub use Rattle.itm_types.specs.declared.call.Props.{Props}
-pub use Rattle.itm_types.specs.declared.call.Refusal.TheVariants.{Outside}
 pub use Rattle.itm_types.specs.declared.call.Refusal.{Refusal}
 pub use Rattle.itm_types.specs.declared.call.Reply.TheVariants.{Code, Done, Refused}
 pub use Rattle.itm_types.specs.declared.call.Reply.{Reply as Replied}
@@ -50,11 +49,13 @@ pub use Rattle.norec_world.specs.OthersAttempts.{AllOf, ChangesOwn, KeepsOthers,
 pub use Rattle.norec_world.specs.Records.{CountsTry, IsTold, Opens, Records, RecordsReply, StopsAt, StopsIf, Tells, asked_pending, begins_again}
 pub use Rattle.norec_world.specs.Rows.{AreFrom, AreOpen, AreUnfinished, Rows, active_of, changed, is_of, with_changed, with_ended, with_opened, without}
 pub use Rattle.norec_world.specs.HeldAttempts.{IsHeld, StandsIn}
-pub use Rattle.norec_world.specs.Runs.{IsBeforeTry, IsInTry, IsRun, LeadsTo, ReadsFrom, RunsFrom, begins_at, run_after}
+pub use Rattle.norec_world.specs.Runs.{IsBeforeTry, IsInTry, IsRun, ReadsFrom, RunsFrom}
+pub use Rattle.tx_runs.specs.Outcomes.{is_done}
+pub use Rattle.tx_runs.specs.Runs.{LeadsTo, begins_at, run_after}
 pub use Rattle.norec_world.specs.Sound.{AnswerFits, BeginsAt, Falls, GoesOn, HasLess, HasRow, IsAnswered, IsDone, IsKept, IsNested, IsNoMore, IsReady, IsSettledBy, IsSound, IsTied, RestsAs, StatusIs, rank, retried, run_left, steps_left, whole}
 pub use Rattle.norec_world.specs.Starts.{HasStarted, IsFirst}
 pub use Rattle.norec_world.specs.Status.{ending_of, is_ready, is_waiting, waiting_step}
-pub use Rattle.norec_world.specs.Tries.{Continues, EndsAt, GoesOnAfter, IsBetween, Prior, Tries, TriesAgain, begins, between, current_of, is_done, outrun, over, prior_of, runs, shut_out, turned_away}
+pub use Rattle.norec_world.specs.Tries.{Continues, EndsAt, GoesOnAfter, IsBetween, Prior, Tries, TriesAgain, begins, between, current_of, outrun, over, prior_of, runs, shut_out, turned_away}
 pub use Rattle.norec_world.specs.Views.{world_of}
 pub use Rattle.norec_world.specs.World.{SameOpening, observed, World, attempts_of, counted, ending_at, ending_in, told, waits_at}
 pub use Rattle.norec_world.specs.WorldEvents.{ActorGoes, Goes, HasRead, Leads, Takes, passes_of}
@@ -72,7 +73,7 @@ pub use Rattle.norec_world.specs.declared.schedule.Passes.{Passes}
 pub use Rattle.tx_player.specs.Depth.{depth_after, opens}
 pub use Rattle.tx_player.specs.Rules.{Obeys, Rules}
 pub use Rattle.std.proofs.lemmas.Bool.{both_ways, cases_Bool, cases_eq, cases_lt, cond-false, cond-true, cond_both, eqb-false, false_from_ne_true, le-ltb, ne_eqb}
-pub use Rattle.std.proofs.lemmas.List.{append-nil, drop_at, get_or-drop, map-append}
+pub use Rattle.std.proofs.lemmas.List.{append-nil, drop_at, get_or-drop}
 pub use Rattle.std.proofs.lemmas.Option.{none-some, same_Some, slice_get-get_or, slice_get_past, slice_get_within}
 pub use Rattle.std.specs.Int.{from_le_bytes, to_le_bytes, w64}
 pub use Rattle.std.specs.List.{insert, remove, slice_index_or}

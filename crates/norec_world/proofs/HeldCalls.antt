@@ -2,7 +2,6 @@
 use Rattle.std.proofs.Common.{◌≡◌, ◌≢◌, ℕ, suc, ◌/◌, ◌&&◌, Bool, true, false, not, nat_lt, List, [], ◌∷◌, length, None, Some, is_some, if◌then◌else◌, slice_get, refl, sym, ap, ◌∙◌}
 use Rattle.std.proofs.lemmas.Bool.{ltb-true}
 use Rattle.itm_types.specs.declared.call.Call.TheVariants.{Mode}
-use Rattle.itm_model.specs.Machine.{or_else, reply_unless, unless}
 use Rattle.nest_frames.specs.Nest.{stays_revocable}
 use Rattle.norec_core.proofs.Machines.{commits}
 use Rattle.norec_core.specs.Core.{may_go}
@@ -10,7 +9,7 @@ use Rattle.norec_core.specs.Held.{ComesTo}
 use Rattle.norec_core.specs.Proceeds.{WantsClock}
 use Rattle.norec_core.specs.Stands.{is_some_row, state_in}
 use Rattle.norec_engine.proofs.IrrevocableEntries.{begin_enters, mode_enters}
-use Rattle.norec_world.proofs.Common.{Attempt, Begin, Call, Cells, Commit, Core, Done, Got, MAX_OPEN_BLOCKS, Next, Outside, Row, Rows, State, Store, active_of, after, alone, bytes_at, bytes_of, in_transaction, is_open, reply, stands_for, state_over, takes_clock}
+use Rattle.norec_world.proofs.Common.{Attempt, Begin, Call, Cells, Commit, Core, Got, MAX_OPEN_BLOCKS, Next, Row, Rows, State, Store, active_of, after, alone, bytes_at, bytes_of, in_transaction, is_open, reply, stands_for, state_over, takes_clock}
 
 -- the attempt's calls alone on the memory of its position lead to an open block, and the call comes to what the plain machine makes of it then
 pub record HasHeld (base : List ℕ) (cells cells' : Cells) (r : Rows) (thread : ℕ) (mid new : Core) (call : Call) (what : Next) : Type 0 where
@@ -51,10 +50,6 @@ pub record CommitsTo (cells : Cells) (new : Core) (wrote : Bool) (s : State) : T
   pub arena_is : new.arena ≡ s.arena
   pub actions_is : new.actions ≡ s.actions
   pub memory_is : wrote ≡ true → bytes_of cells.words ≡ s.memory
-
--- an open block's commit is answered so
-pub commit_reply : (s : State) → is_open s ≡ true → Done ≡ reply MAX_OPEN_BLOCKS s Commit
-commit_reply s o = sym (ap (λ (b : Bool). reply_unless (or_else (unless b Outside) None) Done) o)
 
 -- the commit of a transaction that is not irrevocable
 pub commits_over : (mid : Core) (m : List ℕ) → mid.irrevocable ≡ false → length mid.blocks ≡ 1 → is_open (after MAX_OPEN_BLOCKS (stands_for mid m) Commit) ≡ false

@@ -10,7 +10,8 @@ use Rattle.norec_core.specs.Stands.{state_in}
 use Rattle.norec_core.specs.Proceeds.{actions_after, blocks_after}
 use Rattle.user_actions.specs.Actions.{Actions}
 use Rattle.norec_core.proofs.AnsweredEngines.{told_plainly}
-use Rattle.tx_attempts.proofs.AloneCalls.{alone_snoc, player_snoc, state_snoc}
+use Rattle.tx_attempts.proofs.AloneCalls.{player_snoc, state_snoc}
+use Rattle.tx_runs.proofs.Tries.{alone_more}
 use Rattle.norec_world.proofs.OpenEngines.{stands_open}
 
 -- a memory that may have been read may have been read before too
@@ -54,13 +55,6 @@ pub begin_may : (mid : Core) (props : Props) (room : ℕ) (r : Replied) (m : Lis
 begin_may mid props room r m outside revocable opens e =
     served_may (may_go [] props) (begin_served mid props room r mid.again (refusal MAX_OPEN_BLOCKS (outside_of mid m) (Begin props room)) outside opens
     (e ∙ ap (λ (s : State). recoded (Begin props room) mid.again (reply MAX_OPEN_BLOCKS s (Begin props room))) (stands_outside mid outside revocable m))).0
-
-module _ {P : Type 0} {rules : Rules P} (laws : Obeys rules) where
-  -- a call that the player makes in its open block
-  pub alone_more : (p q : P) (s : State) (xs : List Entry) (x : Entry) → IsAlone rules MAX_OPEN_BLOCKS p s xs → is_open (state_then MAX_OPEN_BLOCKS s xs) ≡ true → q ≡ player_then rules.answered p xs → rules.next_call q ≡ Some x.call
-      → x.reply ≡ reply MAX_OPEN_BLOCKS (state_then MAX_OPEN_BLOCKS s xs) x.call → IsAlone rules MAX_OPEN_BLOCKS p s (xs ++ x ∷ [])
-  alone_more p q s xs x h opened is asks =
-      alone_snoc rules laws MAX_OPEN_BLOCKS p s xs x h (ap (λ (o : Bool). if o then rules.next_call (player_then rules.answered p xs) else None) opened ∙ (ap rules.next_call (sym is) ∙ asks))
 
 module _ {P : Type 0} {rules : Rules P} (laws : Obeys rules) {position : List ℕ} where
   -- ## A step

@@ -12,7 +12,6 @@ pub mod ClockHolders
 pub mod SoundOthers
 pub mod CommitCounts
 pub mod Memories
-pub mod RunLists
 pub mod InTries
 pub mod TryOutcomes
 pub mod HeldCalls

@@ -2,11 +2,12 @@
 use Rattle.std.proofs.Common.{◌≡◌, ℕ, ◌/◌, ◌%◌, ◌≤◌, Bool, true, List, [], ◌∷◌, ◌++◌, Option, Some, refl, sym, true≢false, ap, subst, ◌∙◌, arith, inl, inr}
 use Rattle.norec_world.proofs.Common.{Actor, Agrees, Answers, Attempt, Between, Call, Cells, Core, Enters, IsBeforeTry, IsInTry, IsMemory, IsRun, IsRunOf, IsTied, IsTryAt, LeadsTo, MAX_OPEN_BLOCKS, Obeys, RecordsReply, Replied, RepliesHeld, Reply, Rows, Rules, State, Status, active_of, after_try, alone, begins_at, bytes_at, bytes_of, in_transaction, is_open, of_thread, recoded, reply_cases, run_after, stands_for, words_at}
 use Rattle.norec_world.proofs.ActiveRows.{changed_here}
-use Rattle.norec_world.proofs.RunLists.{of_thread_own, run_more, run_still}
+use Rattle.tx_runs.proofs.RunLists.{of_thread_own, run_more, run_still}
 use Rattle.norec_world.proofs.Seen.{HasSeen, memory_at, same_at}
 use Rattle.norec_world.proofs.Taken.{HasAnswered, half_same}
 use Rattle.norec_world.proofs.InTries.{try_holds, try_replies}
-use Rattle.norec_world.proofs.TryOutcomes.{alone_led, made_held, made_so, stands_led}
+use Rattle.tx_runs.proofs.Tries.{alone_led}
+use Rattle.norec_world.proofs.TryOutcomes.{made_held, made_so, of_block, stands_led}
 use Rattle.norec_world.proofs.HeldCalls.{HasHeld}
 use Rattle.norec_core.proofs.AnsweredEngines.{told_plainly}
 use Rattle.itm_model.specs.Machine.{reply as plainly}
@@ -84,7 +85,7 @@ module _ {P : Type 0} {rules : Rules P} (laws : Obeys rules) {first : Between P}
         let t = (run.inside m.taken.was_is).4 in
         let row = (run.inside m.taken.was_is).1 in
         let active = (run.inside m.taken.was_is).3 in
-        let alone_is = alone_led laws t (bytes_of position) in
+        let alone_is = alone_led laws (of_block t) (bytes_of position) in
         let open_now : is_open (alone MAX_OPEN_BLOCKS (bytes_of position) row) ≡ true = ap (λ (bytes : List ℕ). is_open (alone MAX_OPEN_BLOCKS bytes row)) position_bytes ∙ held.still_open g.irrevocable row active in
         let made = made_held laws t (bytes_of position) g.irrevocable position_fits refl open_now in
         try_holds laws t m.taken.was_is m.answered.in_call.asks began (ap (λ (c : Core). c.words) g.stays) (ap (λ (c : Core). c.irrevocable) g.stays ∙ g.irrevocable) (ap (λ (c : Core). c.again) g.stays) made.alone made.still_open

@@ -1,8 +1,8 @@
 -- An actor's run between two tries: calls outside a transaction, and begins.
-use Rattle.std.proofs.Common.{◌≡◌, ◌⊎◌, ℕ, zero, suc, ◌/◌, ◌<◌, ◌≤◌, Bool, true, false, if◌then◌else◌, List, [], Option, None, Some, refl, sym, true≢false, ap, subst, ◌∙◌, arith, is_none, is_some, inl, inr}
+use Rattle.std.proofs.Common.{◌≡◌, ◌⊎◌, ℕ, suc, ◌/◌, ◌<◌, ◌≤◌, Bool, true, false, List, [], Option, None, Some, refl, sym, true≢false, ap, subst, ◌∙◌, arith, is_some, inl, inr}
 use Rattle.user_actions.specs.Actions.{Actions}
-use Rattle.norec_world.proofs.Common.{Actor, Agrees, Answer, Attempt, Begin, Beginning, Between, Busy, Call, Cells, Committed, Conflict, ConflictsIn, Core, CountsTry, Done, Enters, Full, IsBeforeTry, IsInTry, IsMemory, IsRun, LeadsTo, MAX_OPEN_BLOCKS, Obeys, Props, Ready, Refusal, Replied, Replies, RepliesHeld, Reply, Row, Rows, Rules, State, active_of, after, after_unless, alone, backed, begin_of, begin_within, begins_at, bytes_at, cond-true, ending_of, in_transaction, inside_all, is_inside, opened, outside, recoded, refusal, reply, reply_cases, same_Some, stands_for, state_over, state_then, with_opened, words_at}
-use Rattle.itm_model.specs.Machine.{answer, in_arena, irrevocable_from, or_else, pushed, reply_unless, unless}
+use Rattle.norec_world.proofs.Common.{Actor, Agrees, Answer, Attempt, Begin, Between, Busy, Call, Cells, Committed, Conflict, ConflictsIn, Core, CountsTry, Enters, Full, IsBeforeTry, IsInTry, IsMemory, IsRun, LeadsTo, MAX_OPEN_BLOCKS, Obeys, Props, Ready, Refusal, Replied, Replies, RepliesHeld, Reply, Row, Rows, Rules, State, active_of, after, alone, backed, begin_of, begins_at, bytes_at, ending_of, in_transaction, inside_all, is_inside, opened, outside, recoded, refusal, reply, reply_cases, same_Some, stands_for, state_over, state_then, with_opened, words_at}
+use Rattle.itm_model.specs.Machine.{answer, in_arena, or_else, reply_unless, unless}
 use Rattle.itm_types.specs.declared.call.Refusal.TheVariants.{NoIrrevocable}
 use Rattle.norec_core.specs.Core.{may_go}
 use Rattle.norec_core.specs.Proceeds.{IsLost, blocks_after}
@@ -12,52 +12,21 @@ use Rattle.itm_types.specs.declared.call.Call.TheVariants.{Load, Save}
 use Rattle.norec_world.specs.Records.{again_after}
 use Rattle.norec_world.proofs.ActiveRows.{opened_here}
 use Rattle.norec_world.proofs.RunAnswers.{now_at, run_same}
-use Rattle.tx_attempts.proofs.AloneCalls.{comes_past}
-use Rattle.norec_world.proofs.TryEnds.{none_pending, begin_call, next_try, begun_or_not, plain_reply}
+use Rattle.tx_runs.proofs.Begins.{led, opened_arena, same_arena}
+use Rattle.tx_runs.proofs.Tries.{begin_call}
+use Rattle.norec_world.proofs.TryEnds.{none_pending, next_try, begun_or_not, plain_reply}
 use Rattle.norec_world.proofs.Seen.{HasSeen, memory_at, same_at}
 use Rattle.norec_world.proofs.Taken.{HasAnswered, half_same, still_going}
 use Rattle.norec_world.proofs.InTries.{begin_leaves, begin_may, held_served, stands_outside, try_begins, try_begins_held}
 use Rattle.norec_world.proofs.HeldCalls.{stands_arena}
 
+-- a begin that may go is accepted outside a transaction
+pub may_begin : (arena : List ℕ) (props : Props) (room : ℕ) → may_go [] props ≡ true → refusal MAX_OPEN_BLOCKS (outside [] arena) (Begin props room) ≡ None
+may_begin arena props room may = ap (λ (b : Bool). or_else (or_else (unless b NoIrrevocable) None) None) may
+
 module _ {P : Type 0} (rules : Rules P) (laws : Obeys rules) where
-  abbrev comes_to : P → List ℕ → Option (Beginning P)
-  comes_to p arena = begin_of rules MAX_OPEN_BLOCKS p arena
-
-  -- the player after a call outside a transaction
-  abbrev told_outside : P → List ℕ → Call → P
-  told_outside p arena c = rules.answered p (reply MAX_OPEN_BLOCKS (outside [] arena) c)
-
-  -- such a call, where it begins no block, leads on
-  past_outside : (p : P) (arena : List ℕ) (c : Call) → rules.next_call p ≡ Some c → stays_outside MAX_OPEN_BLOCKS arena c ≡ true
-      → comes_to p arena ≡ comes_to (told_outside p arena c) (after MAX_OPEN_BLOCKS (outside [] arena) c).arena
-  past_outside p arena c e nb = comes_past rules laws MAX_OPEN_BLOCKS (rules.calls_left p) p arena c e nb (omega arith)
-
-  -- a begin that the player calls is where it comes to
-  pub begin_here : (p : P) (arena : List ℕ) (props : Props) (room : ℕ) → rules.next_call p ≡ Some (Begin props room) → may_go [] props ≡ true → comes_to p arena ≡ Some (record { player = p; arena = arena; props = props })
-  begin_here p arena props room e may = by_left (rules.calls_left p) refl
-    where
-      by_left : (n : ℕ) → rules.calls_left p ≡ n → begin_within rules MAX_OPEN_BLOCKS n p arena (rules.next_call p) ≡ Some (record { player = p; arena = arena; props = props })
-      by_left zero l = absurd (let k = laws.nearer p (Begin props room) Done e in omega arith)
-      by_left (suc n) l = ap (begin_within rules MAX_OPEN_BLOCKS (suc n) p arena) e ∙ cond-true (is_none (refusal MAX_OPEN_BLOCKS (outside [] arena) (Begin props room))) _ _ (ap (λ (b : Bool). is_none (or_else (or_else (unless b NoIrrevocable) None) None)) may)
-
-  -- where its calls have led, it comes to the same begin
-  pub led : (n : ℕ) (p : P) (arena : List ℕ) (q : P) (bytes : List ℕ) → LeadsTo rules n p arena q bytes → comes_to p arena ≡ comes_to q bytes
-  led zero p arena q bytes l = λ i. comes_to (sym l.0 i) (sym l.1 i)
-  led (suc n) p arena q bytes l = led n p arena l.0 l.1 l.3 ∙ (past_outside l.0 l.1 l.2 l.4 l.5 ∙ (λ i. comes_to (sym l.6 i) (sym l.7 i)))
-
-  pub led_before : {n : ℕ} {b : Between P} {a : Actor P} → IsBeforeTry rules n b a → begins_at rules b ≡ comes_to a.player a.engine.arena
-  led_before {b = b} {a = a} k = led k.calls b.player b.arena a.player a.engine.arena k.leads
-
-same_arena : (why : Option Refusal) (s t s' t' : State) → s.arena ≡ s'.arena → t.arena ≡ t'.arena → (after_unless why s t).arena ≡ (after_unless why s' t').arena
-same_arena None s t s' t' old new = new
-same_arena (Some refusal) s t s' t' old new = old
-
-opened_arena : (memory arena : List ℕ) (props : Props) → (opened memory arena props).arena ≡ arena
-opened_arena memory arena props = by_props props.goes_irrevocable
-  where
-    by_props : (b : Bool) → (if b then irrevocable_from (pushed (outside memory arena) props) else pushed (outside memory arena) props).arena ≡ arena
-    by_props true = refl
-    by_props false = refl
+  pub led_before : {n : ℕ} {b : Between P} {a : Actor P} → IsBeforeTry rules n b a → begins_at rules b ≡ begin_of rules MAX_OPEN_BLOCKS a.player a.engine.arena
+  led_before {b = b} {a = a} k = led rules laws k.calls b.player b.arena a.player a.engine.arena k.leads
 
 -- such a call is served with no memory
 same_outside : (writes : List Row) (arena : List ℕ) (actions : Actions) (m : List ℕ) (c : Call)

@@ -19,7 +19,8 @@ use Rattle.norec_world.proofs.Seen.{HasSeen, call_seen, step_seen}
 use Rattle.norec_world.proofs.Taken.{HasAnswered, recorded, now, still_going}
 use Rattle.norec_world.proofs.RunAnswers.{RunOf, before_on, now_at, run_same}
 use Rattle.norec_world.proofs.RunEndings.{stop_run}
-use Rattle.norec_world.proofs.RunBegins.{begin_here, led_before}
+use Rattle.tx_runs.proofs.Begins.{begin_here}
+use Rattle.norec_world.proofs.RunBegins.{led_before, may_begin}
 use Rattle.norec_world.proofs.InTries.{try_handed, try_told, try_kept}
 use Rattle.std.proofs.Math.Bool.{and-true}
 
@@ -55,7 +56,7 @@ module _ {P : Type 0} {rules : Rules P} (laws : Obeys rules) {cells : Cells} {r0
         ap (λ (x : Attempt). x.arena) (sym made),
         ap (λ (x : Attempt). x.calls) (sym made),
         ap (λ (x : Attempt). x.ran) (sym made),
-        λ may. led_before rules laws k ∙ (begin_here rules laws old.player old.engine.arena props room asks (subst (λ (x : Props). may_go [] x ≡ true) (sym same) may) ∙ (λ i. Some (record { player = (sym m.asks.player) i; arena = old.engine.arena; props = same i }))),
+        λ may. led_before rules laws k ∙ (begin_here rules laws old.player old.engine.arena props room asks (may_begin old.engine.arena props room (subst (λ (x : Props). may_go [] x ≡ true) (sym same) may)) ∙ (λ i. Some (record { player = (sym m.asks.player) i; arena = old.engine.arena; props = same i }))),
         (λ i. begins_again (o i) old.again (sym is i) && not (o i)) ∙ (and-true old.again ∙ k.again),
       )
   fresh_pending b k o c is row e = absurd (let z = sym (rests m.sound m.ready).nothing ∙ e in cc)

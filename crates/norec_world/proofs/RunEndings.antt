@@ -14,14 +14,16 @@ use Rattle.tx_attempts.specs.Opacity.{ran_of}
 use Rattle.tx_attempts.specs.declared.attempt.Outcome.TheVariants as outcomes
 use Rattle.norec_world.proofs.ActiveRows.{row_is_of}
 use Rattle.norec_world.proofs.Cancels.{cancelled, cancels}
-use Rattle.norec_world.proofs.HeldCalls.{CommitsTo, HasHeld, commit_reply, commits_over, stands_actions, stands_arena, stands_mode, wants_taking}
+use Rattle.norec_world.proofs.HeldCalls.{CommitsTo, HasHeld, commits_over, stands_actions, stands_arena, stands_mode, wants_taking}
 use Rattle.norec_world.proofs.RunAnswers.{RunOf, ended_run, now_at, position_bytes, position_fits}
 use Rattle.norec_world.proofs.Seen.{HasSeen, memory_at, same_at}
 use Rattle.tx_attempts.proofs.AloneCalls.{player_snoc}
 use Rattle.norec_world.proofs.OpenEngines.{stands_open}
 use Rattle.norec_world.proofs.Taken.{HasAnswered}
 use Rattle.norec_world.proofs.TryEnds.{none_pending, none_retried, next_try, plain_reply}
-use Rattle.norec_world.proofs.TryOutcomes.{IsMadeAlone, alone_led, closing_left, lacks_clock, made_held, made_so, stands_led, try_closes, try_stops}
+use Rattle.tx_runs.proofs.PlainCalls.{commit_reply}
+use Rattle.tx_runs.proofs.Tries.{IsMadeAlone, alone_led, closing_left, lacks_clock, try_closes, try_stops}
+use Rattle.norec_world.proofs.TryOutcomes.{made_held, made_so, of_block, stands_led}
 
 module _ {P : Type 0} {rules : Rules P} (laws : Obeys rules) {first : Between P} {base : List ℕ} {cells cells' : Cells} {r : Rows} (r1 : Rows) {mid : Core} (a last : Actor P) (call : Call)
     (seen : HasSeen base cells cells' r mid a.engine) (run : IsRun rules first base (cells.clock / 2) r (record a { engine = mid }))
@@ -78,7 +80,7 @@ module _ {P : Type 0} {rules : Rules P} (laws : Obeys rules) {first : Between P}
         let active = (run.inside inside).3 in
         let comes = held.comes irrevocable row active in
         let same : bytes_at base r1.ended at ≡ bytes_at base r.ended (cells.clock / 2) = still at at_most ∙ ap (bytes_at base r.ended) (here_now comes.1) in
-        let state : alone MAX_OPEN_BLOCKS (bytes_at base r.ended (cells.clock / 2)) row ≡ led (bytes_at base r1.ended at) = ap (λ (bytes : List ℕ). alone MAX_OPEN_BLOCKS bytes row) (sym same) ∙ alone_led laws t (bytes_at base r1.ended at) in
+        let state : alone MAX_OPEN_BLOCKS (bytes_at base r.ended (cells.clock / 2)) row ≡ led (bytes_at base r1.ended at) = ap (λ (bytes : List ℕ). alone MAX_OPEN_BLOCKS bytes row) (sym same) ∙ alone_led laws (of_block t) (bytes_at base r1.ended at) in
         let told = subst (λ (s : State). ComesTo (after MAX_OPEN_BLOCKS s call) (plainly MAX_OPEN_BLOCKS s call) (Answers (Committed at wrote)) a.engine cells'.words) state comes in (
           record {
             closes = told.5;
@@ -121,7 +123,7 @@ module _ {P : Type 0} {rules : Rules P} (laws : Obeys rules) {first : Between P}
 
     commit_left : alone MAX_OPEN_BLOCKS (bytes_at base r1.ended at) (record (run.inside inside).1 { calls = (run.inside inside).1.calls ++ record { call = call; reply = Done } ∷ []; at = at; ran = a.engine.actions.ran; outcome = if wrote then outcomes.Committed else outcomes.ReadOnly })
         ≡ after MAX_OPEN_BLOCKS (led (bytes_at base r1.ended at)) call
-    commit_left = closing_left laws (run.inside inside).4 (bytes_at base r1.ended at) call Done parts.1 m.answered.in_call.asks replied at (if wrote then outcomes.Committed else outcomes.ReadOnly) a.engine.actions.ran
+    commit_left = closing_left laws (of_block (run.inside inside).4) (bytes_at base r1.ended at) call Done parts.1 m.answered.in_call.asks replied at (if wrote then outcomes.Committed else outcomes.ReadOnly) a.engine.actions.ran
 
     -- what a writer leaves are the words as they are
     pub commit_memory : wrote ≡ true → (alone MAX_OPEN_BLOCKS (bytes_at base r1.ended at) (record (run.inside inside).1 { calls = (run.inside inside).1.calls ++ record { call = call; reply = Done } ∷ []; at = at; ran = a.engine.actions.ran; outcome = if wrote then outcomes.Committed else outcomes.ReadOnly })).memory ≡ bytes_of cells'.words
@@ -130,7 +132,7 @@ module _ {P : Type 0} {rules : Rules P} (laws : Obeys rules) {first : Between P}
     pub commit_runs : IsRun rules first base n' r1 last
     commit_runs =
         let t = run.inside inside in
-        let try = try_closes laws t.4 (bytes_at base r1.ended at) call Done parts.1 m.answered.in_call.asks replied
+        let try = try_closes laws (of_block t.4) (bytes_at base r1.ended at) call Done parts.1 m.answered.in_call.asks replied
         n' (bytes_at base r1.ended) at (if wrote then outcomes.Committed else outcomes.ReadOnly) a.engine.actions.ran refl (let e = t.4.began in let is = m.ends.at_is in omega arith) (omega (arith, at_most, later)) (ends_so wrote refl) (by_commit wrote) (ran_so wrote) (never_full wrote) in
         let over = ended_run laws r1 a last call seen run n' later still inside ended_row (row_is_of a.thread r.active t.1 t.3) commit_ended m.settled.thread try in
         let arena : (alone MAX_OPEN_BLOCKS (bytes_at base r1.ended at) ended_row).arena ≡ last.engine.arena = ap (λ (x : State). x.arena) commit_left ∙ (sym parts.0.arena_is ∙ ap (λ (c : Core). c.arena) (sym m.settled.engine)) in
@@ -208,7 +210,7 @@ module _ {P : Type 0} {rules : Rules P} (laws : Obeys rules) {first : Between P}
         let engine : last.engine.snapshot / 2 ≡ at_last = ap (λ (c : Core). c.snapshot / 2) m.settled.engine in
         let up = seen.up inside in
         let early = t.4.began in
-        let try = try_closes laws t.4 (bytes_at base r1.ended at_last) call reply made m.answered.in_call.asks reply_plain
+        let try = try_closes laws (of_block t.4) (bytes_at base r1.ended at_last) call reply made m.answered.in_call.asks reply_plain
         n' (bytes_at base r1.ended) at_last outcomes.Cancelled a.engine.actions.ran refl (omega arith) (omega (arith, newer, later))
         (subst (λ (s : State). (is_open (after MAX_OPEN_BLOCKS s call) ≡ false) × ((after MAX_OPEN_BLOCKS s call).wrote ≡ false)) stands ends)
         (t.1.calls, aborts.0, (λ i. t.1.calls ++ record { call = aborts.1 i; reply = aborts.2 i } ∷ []))
@@ -217,7 +219,7 @@ module _ {P : Type 0} {rules : Rules P} (laws : Obeys rules) {first : Between P}
         ap (λ (x : Rows). x.ended) (told.0 t.1 t.3) ∙ ap (λ (k : ℕ). r.ended ++ record t.1 { calls = t.1.calls ++ record { call = call; reply = reply } ∷ []; at = k; ran = last.engine.actions.ran; outcome = outcomes.Cancelled } ∷ []) engine
         ∙ ap (λ (x : List Ran). r.ended ++ record t.1 { calls = t.1.calls ++ record { call = call; reply = reply } ∷ []; at = at_last; ran = x; outcome = outcomes.Cancelled } ∷ []) (ap (λ (c : Core). c.actions.ran) m.settled.engine) in
         let over = ended_run laws r1 a last call seen run n' later still inside _ (row_is_of a.thread r.active t.1 t.3) rows m.settled.thread try in
-        let left = closing_left laws t.4 (bytes_at base r1.ended at_last) call reply made m.answered.in_call.asks reply_plain at_last outcomes.Cancelled a.engine.actions.ran in
+        let left = closing_left laws (of_block t.4) (bytes_at base r1.ended at_last) call reply made m.answered.in_call.asks reply_plain at_last outcomes.Cancelled a.engine.actions.ran in
         let arena : (alone MAX_OPEN_BLOCKS (bytes_at base r1.ended at_last) (record t.1 { calls = t.1.calls ++ record { call = call; reply = reply } ∷ []; at = at_last; ran = a.engine.actions.ran; outcome = outcomes.Cancelled })).arena ≡ last.engine.arena =
         ap (λ (x : State). x.arena) (left ∙ sym state) ∙ (stands_arena a.engine seen_words ∙ ap (λ (c : Core). c.arena) (sym m.settled.engine)) in
         let player : answered_all rules.answered (rules.answered t.4.start.player (begin_code t.0.again)) (map (λ (x : Entry). x.reply) (t.1.calls ++ record { call = call; reply = reply } ∷ [])) ≡ last.player =
@@ -274,12 +276,12 @@ module _ {P : Type 0} {rules : Rules P} (laws : Obeys rules) {first : Between P}
     stop_run ran_is full =
         let t = run.inside inside in
         ended_run laws r1 a last call seen run n' later still inside (record t.1 { at = k; ran = ran; outcome = outcome }) (row_is_of a.thread r.active t.1 t.3) stop_ended thread
-        (try_stops laws t.4 n' (bytes_at base r1.ended) k outcome ran undone stop_made
+        (try_stops laws (of_block t.4) n' (bytes_at base r1.ended) k outcome ran undone stop_made
         (subst (EndsAs outcome) stop_stands (ends (stands_for mid (words_at base r1.ended k)) (stands_open mid (words_at base r1.ended k) inside) (stands_mode mid (words_at base r1.ended k) ∙ revocable))) older (omega (arith, newer, later)) (ran_is ∙ ap (ran_of outcome) stop_stands) full)
 
     -- the plain state that it leaves
     stop_left : alone MAX_OPEN_BLOCKS (bytes_at base r1.ended k) (record (run.inside inside).1 { at = k; ran = ran; outcome = outcome }) ≡ stands_for mid (words_at base r1.ended k)
-    stop_left = alone_led laws (run.inside inside).4 (bytes_at base r1.ended k) ∙ sym stop_stands
+    stop_left = alone_led laws (of_block (run.inside inside).4) (bytes_at base r1.ended k) ∙ sym stop_stands
 
   -- in conflict: its player goes back to its begin
   module _ (clock : ℕ) (word : Option ℕ) (m : HasAnswered rules true cells cells' r r1 mid a last call (Conflict clock word)) (held : HasHeld base cells cells' r a.thread mid a.engine call (Answers (Conflict clock word))) where
@@ -336,7 +338,7 @@ module _ {P : Type 0} {rules : Rules P} (laws : Obeys rules) {first : Between P}
         record {
           run = (stop_run at outcomes.Full last.engine.actions.ran refl (λ x o i. (o, i)) m.settled.thread m.told.0 older newer agrees revocable
               (ap (λ (c : Core). c.actions.ran) m.settled.engine ∙ ran_back words mem)
-              (λ f. lacks_clock laws t.4 (bytes_at base r1.ended at) call (plainly MAX_OPEN_BLOCKS (led (bytes_at base r1.ended at)) call) made m.answered.in_call.asks refl
+              (λ f. lacks_clock laws (of_block t.4) (bytes_at base r1.ended at) call (plainly MAX_OPEN_BLOCKS (led (bytes_at base r1.ended at)) call) made m.answered.in_call.asks refl
               (ap (λ (s : State). s.irrevocable) (sym stands) ∙ ap (λ (b : Bool). (state_in b mid.writes mid.blocks mid.arena mid.actions words).irrevocable) revocable)
               (ap (λ (s : State). takes_clock (after MAX_OPEN_BLOCKS s call)) (sym stands) ∙ takes))).0;
           inside = λ o. absurd (true≢false (sym o ∙ (ap in_transaction m.settled.engine ∙ m.answered.fits.1)));

@@ -8,13 +8,14 @@ use Rattle.norec_world.specs.Dates.{AreDated}
 use Rattle.norec_world.proofs.Dates.{all_dated}
 use Rattle.norec_world.proofs.SoundOthers.{first_found, set_place, there_is, are_open, held_apart, odd_held, row_unfinished, row_open}
 use Rattle.norec_world.proofs.InTries.{try_moved}
-use Rattle.norec_world.proofs.TryOutcomes.{IsMadeAlone, alone_led, made_held, made_so, stands_led, try_stops}
+use Rattle.tx_runs.proofs.Tries.{IsMadeAlone, alone_led, try_stops}
+use Rattle.norec_world.proofs.TryOutcomes.{made_held, made_so, of_block, stands_led}
 use Rattle.norec_world.proofs.HeldCalls.{stands_actions, stands_mode}
 use Rattle.itm_types.proofs.Words.{length-bytes_of}
 use Rattle.user_actions.specs.Actions.{Actions}
 use Rattle.norec_world.proofs.CommitCounts.{counted_both}
 use Rattle.norec_world.proofs.Memories.{bytes_still, bytes_stay}
-use Rattle.norec_world.proofs.RunLists.{of_thread_more, run_still, run_more}
+use Rattle.tx_runs.proofs.RunLists.{of_thread_more, run_still, run_more}
 use Rattle.norec_world.proofs.ActiveRows.{past_all}
 
 -- ## The attempts of one thread
@@ -178,8 +179,8 @@ module _ {P : Type 0} (rules : Rules P) (laws : Obeys rules) where
             let fits = running.laid.memories.fits (w.cells.clock / 2) top in
             let shown : bytes_at w.base (attempts_of w) (a.engine.snapshot / 2) ≡ bytes_at w.base w.attempts.ended (w.cells.clock / 2) = ap (bytes_at w.base (attempts_of w)) half ∙ shown_still (w.cells.clock / 2) top in (
               made_held laws t.4 (bytes_at w.base (attempts_of w) (a.engine.snapshot / 2)) i (fits.0 ∙ sym tied.words, fits.1) (running.laid.memories.same (w.cells.clock / 2) top ∙ sym shown) (ap (λ (bytes : List ℕ). is_open (alone MAX_OPEN_BLOCKS bytes t.1)) shown ∙ h.still_open),
-              sym t.4.ran ∙ (h.ran ∙ (ap (λ (bytes : List ℕ). (alone MAX_OPEN_BLOCKS bytes t.1).actions.ran) (sym shown) ∙ ap (λ (y : State). y.actions.ran) (alone_led laws t.4 (bytes_at w.base (attempts_of w) (a.engine.snapshot / 2))))),
-              ap (λ (y : State). y.irrevocable) (sym (alone_led laws t.4 (bytes_at w.base (attempts_of w) (a.engine.snapshot / 2)))) ∙ (ap (λ (bytes : List ℕ). (alone MAX_OPEN_BLOCKS bytes t.1).irrevocable) shown ∙ (h.mode ∙ sym i)),
+              sym t.4.ran ∙ (h.ran ∙ (ap (λ (bytes : List ℕ). (alone MAX_OPEN_BLOCKS bytes t.1).actions.ran) (sym shown) ∙ ap (λ (y : State). y.actions.ran) (alone_led laws (of_block t.4) (bytes_at w.base (attempts_of w) (a.engine.snapshot / 2))))),
+              ap (λ (y : State). y.irrevocable) (sym (alone_led laws (of_block t.4) (bytes_at w.base (attempts_of w) (a.engine.snapshot / 2)))) ∙ (ap (λ (bytes : List ℕ). (alone MAX_OPEN_BLOCKS bytes t.1).irrevocable) shown ∙ (h.mode ∙ sym i)),
             )
 
     of_actor : (place : ℕ) (p : P) (a : Actor P) → slice_get w.opening place ≡ Some p → slice_get w.actors place ≡ Some a
@@ -201,7 +202,7 @@ module _ {P : Type 0} (rules : Rules P) (laws : Obeys rules) where
               let at : row.at ≡ k = x.reads o row t.3 in
               let early = t.4.began in
               let parts = open_parts place p a e f o in
-              let try = try_stops laws t.4 (w.cells.clock / 2) (bytes_at w.base (attempts_of w)) k outcomes.Unfinished a.engine.actions.ran refl parts.0 parts.0.still_open early k_late parts.1 (λ f. absurd (cc)) in
+              let try = try_stops laws (of_block t.4) (w.cells.clock / 2) (bytes_at w.base (attempts_of w)) k outcomes.Unfinished a.engine.actions.ran refl parts.0 parts.0.still_open early k_late parts.1 (λ f. absurd (cc)) in
               let as_it_is : record row { at = k; ran = a.engine.actions.ran; outcome = outcomes.Unfinished } ≡ row = λ i. record row { at = (sym at) i; ran = (sym t.4.ran) i; outcome = (sym unfinished) i } in
               let here : IsTryAt rules MAX_OPEN_BLOCKS (w.cells.clock / 2) (bytes_at w.base (attempts_of w)) t.0 (begins_at rules t.0) row =
               subst (λ (y : _). IsTryAt rules MAX_OPEN_BLOCKS (w.cells.clock / 2) (bytes_at w.base (attempts_of w)) t.0 y row) (sym t.4.begins)
@@ -233,7 +234,7 @@ module _ {P : Type 0} (rules : Rules P) (laws : Obeys rules) where
         let same : t.1 ≡ row = same_Some _ _ (sym t.3 ∙ mine) in
         ap (λ (j : ℕ). (alone MAX_OPEN_BLOCKS (bytes_at w.base (attempts_of w) j) row).irrevocable) (x.reads o row mine)
         ∙ (ap (λ (y : Attempt). (alone MAX_OPEN_BLOCKS (bytes_at w.base (attempts_of w) (a.engine.snapshot / 2)) y).irrevocable) (sym same)
-        ∙ (ap (λ (y : State). y.irrevocable) (alone_led laws t.4 (bytes_at w.base (attempts_of w) (a.engine.snapshot / 2))) ∙ (open_parts place here.0 a here.1 e o).2))
+        ∙ (ap (λ (y : State). y.irrevocable) (alone_led laws (of_block t.4) (bytes_at w.base (attempts_of w) (a.engine.snapshot / 2))) ∙ (open_parts place here.0 a here.1 e o).2))
 
     -- who holds the clock has an open attempt, at the last position
     held_row : (place : ℕ) (a : Actor P) → slice_get w.actors place ≡ Some a → a.engine.holds ≡ true → (row : Attempt) × (active_of place w.attempts.active ≡ Some row) × (row.at ≡ w.cells.clock / 2)

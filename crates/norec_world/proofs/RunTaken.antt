@@ -8,7 +8,8 @@ use Rattle.norec_world.proofs.Memories.{bytes_stay, found_later, none_next}
 use Rattle.norec_world.proofs.RunAnswers.{before_on, held_position, position_bytes, position_fits, reply_runs}
 use Rattle.norec_world.proofs.RunEndings.{cancel_runs, commit_ended, commit_memory, commit_runs, conflict_runs, full_runs}
 use Rattle.norec_world.proofs.HeldCalls.{HasHeld, stands_actions, stands_mode}
-use Rattle.norec_world.proofs.TryOutcomes.{alone_led, stands_led}
+use Rattle.tx_runs.proofs.Tries.{alone_led}
+use Rattle.norec_world.proofs.TryOutcomes.{of_block, stands_led}
 use Rattle.norec_world.proofs.ActiveRows.{changed_here}
 use Rattle.tx_attempts.proofs.AloneCalls.{state_snoc}
 use Rattle.norec_world.proofs.OpenEngines.{stands_open}
@@ -178,7 +179,7 @@ module _ {P : Type 0} {rules : Rules P} (laws : Obeys rules) {first : Between P}
           let words : cells'.words ≡ backed mid position = (seen.loaded g.unfreed).held g.held g.revocable ∙ ap (λ (n : ℕ). backed mid (words_at base r.ended n)) half in
           ap (stands_for a.engine) words
           ∙ (g.meets position fits agrees
-          ∙ ap (λ (s : State). after MAX_OPEN_BLOCKS s call) (stands_led laws t.4 (bytes_at base r.ended (cells.clock / 2)) position g.revocable m.taken.was_is fits bytes agrees ∙ sym (alone_led laws t.4 (bytes_at base r.ended (cells.clock / 2))))))
+          ∙ ap (λ (s : State). after MAX_OPEN_BLOCKS s call) (stands_led laws t.4 (bytes_at base r.ended (cells.clock / 2)) position g.revocable m.taken.was_is fits bytes agrees ∙ sym (alone_led laws (of_block t.4) (bytes_at base r.ended (cells.clock / 2))))))
       | inr (inr g) ↦ (held.comes g.irrevocable (run.inside m.taken.was_is).1 (run.inside m.taken.was_is).3).0
     ]
 

@@ -4,7 +4,7 @@ use Rattle.std.proofs.Common.{true≢false, inl, inr, ◌≡◌, ℕ, ◌+◌, �
 use Rattle.nest_frames.specs.Nest.{Frame}
 use Rattle.norec_world.proofs.PlayerLaws.{deep_of}
 use Rattle.norec_world.proofs.Cancels.{cancels}
-use Rattle.norec_world.proofs.Common.{Actor, Agrees, Answer, Attempt, Begin, Busy, Call, Cells, ClosedBy, Code, Committed, Conflict, ConflictsIn, Core, CountsTry, End, Ended, Ends, EndsAt, Entry, Full, GoesOnAfter, HasRow, IsBetween, IsMemory, IsReady, IsSettledBy, IsTied, IsTold, MAX_OPEN_BLOCKS, Opens, Outcome, Prior, Props, Ready, Records, RecordsReply, Replied, Replies, Reply, RestsAs, Rows, Rules, Status, Tries, TriesAgain, active_of, begins, between, cases_Bool, cond-false, cond-true, current_of, ending_of, in_transaction, is_begin, is_done, is_inside, none_inside, outrun, over, prior_of, recoded, reply as replied, reply_cases, runs, shut_out, stands_for, turned_away, with_opened}
+use Rattle.norec_world.proofs.Common.{Actor, Agrees, Answer, Attempt, Begin, Busy, Call, Cells, ClosedBy, Code, Committed, Conflict, ConflictsIn, Core, CountsTry, End, Ended, Ends, EndsAt, Full, GoesOnAfter, HasRow, IsBetween, IsMemory, IsReady, IsSettledBy, IsTied, IsTold, MAX_OPEN_BLOCKS, Opens, Outcome, Prior, Props, Ready, Records, RecordsReply, Replied, Replies, Reply, RestsAs, Rows, Rules, Status, Tries, TriesAgain, active_of, begins, between, cases_Bool, cond-false, cond-true, current_of, ending_of, in_transaction, is_begin, is_done, is_inside, none_inside, outrun, over, prior_of, recoded, reply as replied, reply_cases, runs, shut_out, stands_for, turned_away, with_opened}
 use Rattle.itm_types.specs.declared.call.Reply.TheVariants as replies
 use Rattle.itm_model.specs.Machine.{or_else, reply_unless, unless}
 use Rattle.itm_types.specs.declared.call.Refusal.TheVariants.{NoIrrevocable}
@@ -13,6 +13,7 @@ use Rattle.norec_core.specs.Proceeds.{Conflicts, IsBegin, IsLost, IsSettled, Wan
 use Rattle.norec_core.specs.Stands.{state_in}
 use Rattle.tx_attempts.specs.declared.attempt.Outcome.TheVariants as outcomes
 use Rattle.norec_world.specs.declared.ending.End.TheVariants as ends
+use Rattle.tx_runs.proofs.Tries.{begin_call, not_closed}
 use Rattle.norec_world.proofs.Taken.{HasAnswered, half_same, still_going}
 use Rattle.norec_world.proofs.ActiveRows.{changed_here, opened_here}
 use Rattle.norec_world.proofs.RecordedRows.{row_none, was_open}
@@ -59,16 +60,6 @@ module _ {P : Type 0} (clock clock' : ℕ) (r r' : Rows) (a a' : Actor P) (ended
       → (ending_of a'.status ≡ Some ends.GaveUp → ⊥) → (ending_of a'.status ≡ Some ends.NoMemory → a'.engine.irrevocable ≡ true) → Tries clock (prior_of r a) clock' r' a'
   stays true h nothing same nth opens goes_on fed = stays_open h.0 h.1 (same ∙ h.1) nth goes_on fed
   stays false h nothing same nth opens goes_on fed = stays_between h nothing (record { none = same ∙ h; tries = nth; opens = opens refl; goes_on = goes_on })
-
--- one whose block has not ended
-pub not_closed : (outcome : Outcome) → is_done outcome ≡ false → (calls : List Entry) → ClosedBy outcome calls
-not_closed outcomes.Committed e calls = absurd (cc)
-not_closed outcomes.ReadOnly e calls = absurd (cc)
-not_closed outcomes.Cancelled e calls = absurd (cc)
-not_closed outcomes.Conflict e calls = tt
-not_closed outcomes.Full e calls = tt
-not_closed outcomes.NoMemory e calls = tt
-not_closed outcomes.Unfinished e calls = tt
 
 -- the open attempt ends, and its block has not
 pub stops_try : {P : Type 0} (seen clock clock' : ℕ) (r r' : Rows) (a a' : Actor P) (row : Attempt) (at : ℕ) (outcome : Outcome) (ran : List Ran)
@@ -250,10 +241,6 @@ begin_opens mid new m props room told g outside may memory agrees closed =
     let code = g.reply_is m memory agrees ∙ ap (recoded (Begin props room) mid.again) (opening_reply mid m props room g.revocable (none_inside mid.blocks outside) may) in
     let opens : in_transaction new ≡ true = ap is_inside (g.blocks ∙ ap (blocks_after mid (Begin props room)) code) ∙ code_opens mid props room mid.again in
     true≢false (sym opens ∙ closed)
-
-pub begin_call : (call : Call) → is_begin call ≡ true → (props : Props) × (room : ℕ) × (call ≡ Begin props room)
-begin_call (Begin props room) e = (props, room, refl)
-begin_call call e = absurd (cc)
 
 -- a begin that goes irrevocable
 may_by : (room : ℕ) (goes may few revocable : Bool) → IsSome (if goes && may && few && revocable then Some room else None) → may ≡ true

@@ -1,68 +1,18 @@
--- The attempt is over, or is to be told as it stands.
-use Rattle.std.proofs.Common.{◌≡◌, ℕ, ◌<◌, ◌≤◌, Bool, true, false, if◌then◌else◌, List, [], ◌∷◌, ◌++◌, map, None, Some, refl, sym, ap, subst, ◌∙◌, arith, append-nil, append_assoc}
-use Rattle.norec_world.proofs.Common.{Agrees, Attempt, Beginning, Between, Call, ClosedBy, Core, EndsAs, Entry, IsAlone, IsInTry, IsMemory, IsTryAt, LacksClock, MAX_OPEN_BLOCKS, Obeys, Outcome, Props, ReadsFrom, Replied, Rules, State, after, alone, answers, answers_within, begin_code, bytes_of, in_transaction, is_done, is_open, map-append, opened, pair_of, player_then, reply, stands_for, state_then, takes_clock, turn}
-use Rattle.itm_types.specs.declared.call.Ran.{Ran}
-use Rattle.tx_attempts.specs.Opacity.{ran_of}
-use Rattle.tx_attempts.specs.declared.attempt.Outcome.TheVariants as outcomes
-use Rattle.norec_world.proofs.InTries.{agree_reads, alone_more}
-use Rattle.tx_attempts.proofs.AloneCalls.{begins_alone, state_snoc, gets_none}
+-- The calls of the open attempt are made alone, over the memory that it reads.
+use Rattle.std.proofs.Common.{◌≡◌, ℕ, Bool, true, false, List, refl, sym, ap, subst, ◌∙◌}
+use Rattle.norec_world.proofs.Common.{Agrees, Attempt, Between, Core, IsAlone, IsInTry, IsMemory, MAX_OPEN_BLOCKS, Obeys, ReadsFrom, Rules, alone, begin_code, bytes_of, in_transaction, is_open, opened, stands_for, state_then}
+use Rattle.tx_runs.specs.Runs.{IsOfBlock}
+use Rattle.tx_runs.proofs.Tries.{IsMadeAlone, alone_led}
+use Rattle.norec_world.proofs.InTries.{agree_reads}
 use Rattle.norec_world.proofs.OpenEngines.{stands_open}
-use Rattle.norec_world.proofs.TryEnds.{not_closed}
 
--- over these bytes its calls are made alone, and lead to an open block
-pub record IsMadeAlone {P : Type 0} (rules : Rules P) (b : Between P) (start : Beginning P) (row : Attempt) (memory : List ℕ) : Type 0 where
-  pub alone : IsAlone rules MAX_OPEN_BLOCKS (rules.answered start.player (begin_code b.again)) (opened memory start.arena start.props) row.calls
-  pub still_open : is_open (state_then MAX_OPEN_BLOCKS (opened memory start.arena start.props) row.calls) ≡ true
+module _ {P : Type 0} {rules : Rules P} {position : List ℕ} {b : Between P} {row : Attempt} {p : P} {e : Core} where
+  -- the open attempt is of the block that its player came to
+  abbrev pub of_block : IsInTry rules position b row p e → IsOfBlock rules b row p
+  of_block t = record { start = t.start; begins = t.begins; arena = t.arena; props = t.props; tries = t.tries; player = t.player }
 
 module _ {P : Type 0} {rules : Rules P} (laws : Obeys rules) where
-  -- calls made alone that end their block are all that the player makes
-  all_alone : (p : P) (memory : List ℕ) (arena : List ℕ) (props : Props) (xs : List Entry) → IsAlone rules MAX_OPEN_BLOCKS p (opened memory arena props) xs → is_open (state_then MAX_OPEN_BLOCKS (opened memory arena props) xs) ≡ false
-      → answers rules.next_call rules.answered rules.calls_left MAX_OPEN_BLOCKS p memory arena props ≡ map pair_of xs
-  all_alone p memory arena props xs h shut =
-      let s : State = opened memory arena props in
-      begins_alone rules laws MAX_OPEN_BLOCKS (rules.calls_left p) p s xs (omega arith) h
-      ∙ (ap (λ (rest : List (Call × Replied)). map pair_of xs ++ rest) (no_more (rules.calls_left p) (player_then rules.answered p xs) (state_then MAX_OPEN_BLOCKS s xs) shut) ∙ append-nil (map pair_of xs))
-    where
-      no_more : (k : ℕ) (q : P) (s : State) → is_open s ≡ false → answers_within rules.next_call rules.answered rules.calls_left MAX_OPEN_BLOCKS k q s (turn rules.next_call rules.answered rules.calls_left q s) ≡ []
-      no_more k q s shut = ap (λ (o : Bool). answers_within rules.next_call rules.answered rules.calls_left MAX_OPEN_BLOCKS k q s (if o then rules.next_call q else None)) shut ∙ gets_none rules laws MAX_OPEN_BLOCKS k q s
-
-  -- its calls are the first of those that its player makes alone on the memory of its position, and all of them where its block has ended
-  pub is_try : (n : ℕ) (memory : ℕ → List ℕ) (b : Between P) (start : Beginning P) (row : Attempt) → row.arena ≡ start.arena → row.props ≡ start.props → b.tries < row.nth → row.began ≤ row.at → row.at ≤ n
-      → IsAlone rules MAX_OPEN_BLOCKS (rules.answered start.player (begin_code b.again)) (opened (memory row.at) start.arena start.props) row.calls
-      → EndsAs row.outcome (state_then MAX_OPEN_BLOCKS (opened (memory row.at) start.arena start.props) row.calls)
-      → ClosedBy row.outcome row.calls → row.ran ≡ ran_of row.outcome (state_then MAX_OPEN_BLOCKS (opened (memory row.at) start.arena start.props) row.calls)
-      → (row.outcome ≡ outcomes.Full → LacksClock rules MAX_OPEN_BLOCKS (rules.answered start.player (begin_code b.again)) row (memory row.at))
-      → IsTryAt rules MAX_OPEN_BLOCKS n memory b (Some start) row
-  is_try n memory b start row arena props tries older newer h ends closed ran full =
-      let p : P = rules.answered start.player (begin_code b.again) in
-      let same : opened (memory row.at) row.arena row.props ≡ opened (memory row.at) start.arena start.props = λ i. opened (memory row.at) (arena i) (props i) in
-      let alone_so : IsAlone rules MAX_OPEN_BLOCKS p (opened (memory row.at) row.arena row.props) row.calls = subst (λ (s : State). IsAlone rules MAX_OPEN_BLOCKS p s row.calls) (sym same) h in (
-        arena,
-        props,
-        tries,
-        record {
-          no_older = older;
-          no_newer = newer;
-          beginning = (_, sym (begins_alone rules laws MAX_OPEN_BLOCKS (rules.calls_left p) p (opened (memory row.at) row.arena row.props) row.calls (omega arith) alone_so));
-          whole = λ closed. sym (all_alone p (memory row.at) row.arena row.props row.calls alone_so closed);
-          ends = subst (λ (x : State). EndsAs row.outcome (state_then MAX_OPEN_BLOCKS x row.calls)) (sym same) ends;
-          closed = closed;
-          ran = ran ∙ ap (λ (x : State). ran_of row.outcome (state_then MAX_OPEN_BLOCKS x row.calls)) (sym same);
-          full = full;
-        },
-      )
-
-  -- ## Over one memory
-
-  -- the state that its calls lead to
-  abbrev pub led_to : {position : List ℕ} {b : Between P} {row : Attempt} {p : P} {e : Core} → IsInTry rules position b row p e → List ℕ → State
-  led_to {row = row} t memory = state_then MAX_OPEN_BLOCKS (opened memory t.start.arena t.start.props) row.calls
-
   module _ {position : List ℕ} {b : Between P} {row : Attempt} {p : P} {e : Core} (t : IsInTry rules position b row p e) where
-    -- its calls alone, by its own fields
-    pub alone_led : (memory : List ℕ) → alone MAX_OPEN_BLOCKS memory row ≡ state_then MAX_OPEN_BLOCKS (opened memory t.start.arena t.start.props) row.calls
-    alone_led memory = λ i. state_then MAX_OPEN_BLOCKS (opened memory (t.arena i) (t.props i)) row.calls
-
     -- of one that is not irrevocable, over a memory that agrees with the log
     module _ (memory : List ℕ) (m : List ℕ) (revocable : e.irrevocable ≡ false) (inside : in_transaction e ≡ true) (mem : IsMemory e.words m) (same : bytes_of m ≡ memory) (agrees : Agrees m e.log) where
       pub stands_led : stands_for e m ≡ state_then MAX_OPEN_BLOCKS (opened memory t.start.arena t.start.props) row.calls
@@ -80,70 +30,5 @@ module _ {P : Type 0} {rules : Rules P} (laws : Obeys rules) where
     made_held memory held mem same still_open = record {
       alone = subst (λ (bytes : List ℕ). IsAlone rules MAX_OPEN_BLOCKS (rules.answered t.start.player (begin_code b.again)) (opened bytes t.start.arena t.start.props) row.calls) same
           (t.alone position mem (subst (λ (x : Bool). ReadsFrom x position e.log position) (sym held) refl));
-      still_open = ap is_open (sym (alone_led memory)) ∙ still_open;
+      still_open = ap is_open (sym (alone_led laws (of_block t) memory)) ∙ still_open;
     }
-
-    -- ## Without a commit
-
-    -- in conflict, full, for want of memory, or not ended yet
-    pub try_stops : (n : ℕ) (memories : ℕ → List ℕ) (k : ℕ) (outcome : Outcome) (ran : List Ran) → is_done outcome ≡ false → (made : IsMadeAlone rules b t.start row (memories k)) → EndsAs outcome (state_then MAX_OPEN_BLOCKS (opened (memories k) t.start.arena t.start.props) row.calls)
-        → row.began ≤ k → k ≤ n → ran ≡ ran_of outcome (state_then MAX_OPEN_BLOCKS (opened (memories k) t.start.arena t.start.props) row.calls)
-        → (outcome ≡ outcomes.Full → LacksClock rules MAX_OPEN_BLOCKS (rules.answered t.start.player (begin_code b.again)) row (memories k))
-        → IsTryAt rules MAX_OPEN_BLOCKS n memories b (Some t.start) (record row { at = k; ran = ran; outcome = outcome })
-    try_stops n memories k outcome ran undone made ends older newer ran_is full =
-        is_try n memories b t.start (record row { at = k; ran = ran; outcome = outcome }) t.arena t.props t.tries older newer made.alone ends (not_closed outcome undone row.calls) ran_is
-        (λ f. (let l = full f in record { call = l.call; rest = l.rest; answers_are = l.answers_are; revocable = l.revocable; takes = l.takes }))
-
-    -- ## One call more
-
-    module _ (memory : List ℕ) (call : Call) (r : Replied) (made : IsMadeAlone rules b t.start row memory) (asks : rules.next_call p ≡ Some call)
-        (replied : r ≡ reply MAX_OPEN_BLOCKS (state_then MAX_OPEN_BLOCKS (opened memory t.start.arena t.start.props) row.calls) call) where
-      abbrev pub last : Entry
-      last = record { call = call; reply = r }
-
-      abbrev pub by : P
-      by = rules.answered t.start.player (begin_code b.again)
-
-      abbrev pub from : State
-      from = opened memory t.start.arena t.start.props
-
-      pub closing_state : state_then MAX_OPEN_BLOCKS (opened memory t.start.arena t.start.props) (row.calls ++ record { call = call; reply = r } ∷ []) ≡ after MAX_OPEN_BLOCKS (state_then MAX_OPEN_BLOCKS (opened memory t.start.arena t.start.props) row.calls) call
-      closing_state = state_snoc MAX_OPEN_BLOCKS from row.calls last
-
-      closing_alone : IsAlone rules MAX_OPEN_BLOCKS (rules.answered t.start.player (begin_code b.again)) (opened memory t.start.arena t.start.props) (row.calls ++ record { call = call; reply = r } ∷ [])
-      closing_alone = alone_more laws by p from row.calls last made.alone made.still_open t.player asks replied
-
-      -- its last call ends its block: the state that it leaves is that of the call
-      pub try_closes : (n : ℕ) (memories : ℕ → List ℕ) (at : ℕ) (outcome : Outcome) (ran : List Ran) → memories at ≡ memory → row.began ≤ at → at ≤ n → EndsAs outcome (after MAX_OPEN_BLOCKS (state_then MAX_OPEN_BLOCKS (opened memory t.start.arena t.start.props) row.calls) call)
-          → ClosedBy outcome (row.calls ++ record { call = call; reply = r } ∷ []) → ran ≡ ran_of outcome (after MAX_OPEN_BLOCKS (state_then MAX_OPEN_BLOCKS (opened memory t.start.arena t.start.props) row.calls) call) → (outcome ≡ outcomes.Full → ⊥)
-          → IsTryAt rules MAX_OPEN_BLOCKS n memories b (Some t.start) (record row { calls = row.calls ++ record { call = call; reply = r } ∷ []; at = at; ran = ran; outcome = outcome })
-      try_closes n memories at outcome ran here older newer ends closed ran_is never =
-          let so : state_then MAX_OPEN_BLOCKS (opened (memories at) t.start.arena t.start.props) (row.calls ++ last ∷ []) ≡ after MAX_OPEN_BLOCKS (state_then MAX_OPEN_BLOCKS from row.calls) call =
-          ap (λ (bytes : List ℕ). state_then MAX_OPEN_BLOCKS (opened bytes t.start.arena t.start.props) (row.calls ++ last ∷ [])) here ∙ closing_state in
-          is_try n memories b t.start (record row { calls = row.calls ++ last ∷ []; at = at; ran = ran; outcome = outcome }) t.arena t.props t.tries older newer
-          (subst (λ (bytes : List ℕ). IsAlone rules MAX_OPEN_BLOCKS by (opened bytes t.start.arena t.start.props) (row.calls ++ last ∷ [])) (sym here) closing_alone)
-          (subst (EndsAs outcome) (sym so) ends) closed (ran_is ∙ ap (ran_of outcome) (sym so)) (λ f. absurd (never f))
-
-      pub closing_left : (at : ℕ) (outcome : Outcome) (ran : List Ran)
-          → alone MAX_OPEN_BLOCKS memory (record row { calls = row.calls ++ record { call = call; reply = r } ∷ []; at = at; ran = ran; outcome = outcome })
-          ≡ after MAX_OPEN_BLOCKS (state_then MAX_OPEN_BLOCKS (opened memory t.start.arena t.start.props) row.calls) call
-      closing_left at outcome ran = (λ i. state_then MAX_OPEN_BLOCKS (opened memory (t.arena i) (t.props i)) (row.calls ++ last ∷ [])) ∙ closing_state
-
-      -- it takes the clock, which is refused as full
-      pub lacks_clock : (state_then MAX_OPEN_BLOCKS (opened memory t.start.arena t.start.props) row.calls).irrevocable ≡ false → takes_clock (after MAX_OPEN_BLOCKS (state_then MAX_OPEN_BLOCKS (opened memory t.start.arena t.start.props) row.calls) call) ≡ true
-          → LacksClock rules MAX_OPEN_BLOCKS (rules.answered t.start.player (begin_code b.again)) row memory
-      lacks_clock revocable takes =
-          let here = alone_led memory in
-          let after_all : List (Call × Replied) = answers_within rules.next_call rules.answered rules.calls_left MAX_OPEN_BLOCKS (rules.calls_left by) (player_then rules.answered by (row.calls ++ last ∷ [])) (state_then MAX_OPEN_BLOCKS from (row.calls ++ last ∷ []))
-          (turn rules.next_call rules.answered rules.calls_left (player_then rules.answered by (row.calls ++ last ∷ [])) (state_then MAX_OPEN_BLOCKS from (row.calls ++ last ∷ []))) in
-          record {
-            call = call;
-            rest = after_all;
-            answers_are = (λ i. answers rules.next_call rules.answered rules.calls_left MAX_OPEN_BLOCKS by memory (t.arena i) (t.props i))
-                ∙ (begins_alone rules laws MAX_OPEN_BLOCKS (rules.calls_left by) by from (row.calls ++ last ∷ []) (let l : rules.calls_left by ≤ rules.calls_left by = omega arith in l) closing_alone
-                ∙ (ap (λ (xs : List (Call × Replied)). xs ++ after_all) (map-append pair_of row.calls (last ∷ []))
-                ∙ (append_assoc (map pair_of row.calls) ((call, r) ∷ []) after_all
-                ∙ ap (λ (x : Replied). map pair_of row.calls ++ (call, x) ∷ after_all) (replied ∙ ap (λ (x : State). reply MAX_OPEN_BLOCKS x call) (sym here)))));
-            revocable = ap (λ (x : State). x.irrevocable) here ∙ revocable;
-            takes = ap (λ (x : State). takes_clock (after MAX_OPEN_BLOCKS x call)) here ∙ takes;
-          }

@@ -1,10 +1,9 @@
 -- The run of an actor's player, as far as it has come.
-use Rattle.std.specs.Prelude.{◌≡◌, ℕ, zero, suc, ◌<◌, ◌≤◌, ◌/◌, Bool, true, false, List, [], ◌∷◌, Option, None, Some}
+use Rattle.std.specs.Prelude.{◌≡◌, ℕ, ◌<◌, ◌≤◌, ◌/◌, Bool, true, false, List, [], Some}
 use Rattle.itm_types.specs.declared.row.LogRow.{LogRow}
 use Rattle.itm_types.specs.Memory.{bytes_of, IsMemory, Agrees}
 use Rattle.itm_types.specs.declared.limits.TheConstants.{MAX_OPEN_BLOCKS}
-use Rattle.itm_types.specs.declared.call.Call.{Call}
-use Rattle.itm_model.specs.Machine.{opened, outside, reply, after}
+use Rattle.itm_model.specs.Machine.{opened}
 use Rattle.norec_core.specs.Core.{Core, in_transaction, may_go}
 use Rattle.norec_core.specs.Stands.{stands_for}
 use Rattle.tx_attempts.specs.declared.attempt.Attempt.{Attempt}
@@ -12,7 +11,8 @@ use Rattle.norec_world.specs.declared.ending.End.TheVariants.{GaveUp, NoMemory}
 use Rattle.norec_world.specs.declared.actor.Actor.{Actor}
 use Rattle.tx_attempts.specs.Attempts.{of_thread}
 use Rattle.tx_attempts.specs.Alone.{state_then, player_then, IsAlone}
-use Rattle.tx_attempts.specs.Opacity.{Beginning, Between, begin_code, begin_of, after_try, stays_outside, IsRunOf}
+use Rattle.tx_attempts.specs.Opacity.{Beginning, Between, begin_code, IsRunOf}
+use Rattle.tx_runs.specs.Runs.{LeadsTo, begins_at, run_after}
 use Rattle.norec_world.specs.Cells.{Cells}
 use Rattle.norec_world.specs.Rows.{Rows, active_of}
 use Rattle.norec_world.specs.Status.{ending_of}
@@ -28,20 +28,10 @@ ReadsFrom false position log m = Agrees m log
 ReadsFrom true position log m = m ≡ position
 
 module _ {P : Type 0} (rules : Rules P) where
-  -- where the player's blocks lead from here
-  abbrev pub begins_at : Between P → Option (Beginning P)
-  begins_at b = begin_of rules MAX_OPEN_BLOCKS b.player b.arena
-
-  -- between tries, once these attempts are over
-  abbrev pub run_after : (ℕ → List ℕ) → Option (Between P) → List Attempt → Option (Between P)
-  run_after memory b [] = b
-  run_after memory None (a ∷ rest) = None
-  run_after memory (Some b) (a ∷ rest) = run_after memory (after_try rules MAX_OPEN_BLOCKS memory b (begins_at b) a) rest
-
   -- the open attempt: its calls are those of its player alone, over every memory that it may have read; the words of its position are these
   pub record IsInTry (position : List ℕ) (b : Between P) (row : Attempt) (p : P) (e : Core) : Type 0 where
     pub start : Beginning P
-    pub begins : begins_at b ≡ Some start
+    pub begins : begins_at rules b ≡ Some start
     pub arena : row.arena ≡ start.arena
     pub props : row.props ≡ start.props
     pub tries : b.tries < row.nth
@@ -53,30 +43,23 @@ module _ {P : Type 0} (rules : Rules P) where
         → IsAlone rules MAX_OPEN_BLOCKS (rules.answered start.player (begin_code b.again)) (opened (bytes_of m) start.arena start.props) row.calls
     pub stands : e.irrevocable ≡ false → (m : List ℕ) → IsMemory e.words m → Agrees m e.log → stands_for e m ≡ state_then MAX_OPEN_BLOCKS (opened (bytes_of m) start.arena start.props) row.calls
 
-  -- so many calls outside a transaction, none of which begins a block, lead a player with its arena from here to there
-  abbrev pub LeadsTo : ℕ → P → List ℕ → P → List ℕ → Type 0
-  LeadsTo zero p arena q bytes = (q ≡ p) × (bytes ≡ arena)
-  LeadsTo (suc n) p arena q bytes =
-      (last : P) × (held : List ℕ) × (c : Call) × LeadsTo n p arena last held × (rules.next_call last ≡ Some c) × (stays_outside MAX_OPEN_BLOCKS held c ≡ true)
-      × (q ≡ rules.answered last (reply MAX_OPEN_BLOCKS (outside [] held) c)) × (bytes ≡ (after MAX_OPEN_BLOCKS (outside [] held) c).arena)
-
   -- before the next one, with so many commits done: the player has come as far as its calls outside a transaction led, and perhaps called its begin
   pub record IsBeforeTry (n : ℕ) (b : Between P) (a : Actor P) : Type 0 where
     pub calls : ℕ
-    pub leads : LeadsTo calls b.player b.arena a.player a.engine.arena
+    pub leads : LeadsTo rules calls b.player b.arena a.player a.engine.arena
     pub again : a.again ≡ b.again
     pub tries : b.tries < a.nth
     pub pending : (row : Attempt) → a.pending ≡ Some row
         → (row.began ≤ n) × (row.arena ≡ a.engine.arena) × (row.calls ≡ []) × (row.ran ≡ [])
-        × (may_go [] row.props ≡ true → begins_at b ≡ Some (record { player = a.player; arena = a.engine.arena; props = row.props })) × (a.engine.again ≡ b.again)
+        × (may_go [] row.props ≡ true → begins_at rules b ≡ Some (record { player = a.player; arena = a.engine.arena; props = row.props })) × (a.engine.again ≡ b.again)
 
   -- the actor's attempts are its player's run from here, over the memories of so many commits, and each saw what its player gets alone
   pub record IsRun (first : Between P) (base : List ℕ) (n : ℕ) (r : Rows) (a : Actor P) : Type 0 where
     pub run : IsRunOf rules MAX_OPEN_BLOCKS n (bytes_at base r.ended) (Some first) (of_thread a.thread r.ended)
-    pub inside : in_transaction a.engine ≡ true → (b : Between P) × (row : Attempt) × (run_after (bytes_at base r.ended) (Some first) (of_thread a.thread r.ended) ≡ Some b) × (active_of a.thread r.active ≡ Some row)
+    pub inside : in_transaction a.engine ≡ true → (b : Between P) × (row : Attempt) × (run_after rules (bytes_at base r.ended) (Some first) (of_thread a.thread r.ended) ≡ Some b) × (active_of a.thread r.active ≡ Some row)
         × IsInTry (words_at base r.ended n) b row a.player a.engine × (a.again ≡ true) × (row.nth ≡ a.nth)
     pub between : in_transaction a.engine ≡ false → (ending_of a.status ≡ Some GaveUp → ⊥) → (ending_of a.status ≡ Some NoMemory → ⊥)
-        → (b : Between P) × (run_after (bytes_at base r.ended) (Some first) (of_thread a.thread r.ended) ≡ Some b) × IsBeforeTry n b a
+        → (b : Between P) × (run_after rules (bytes_at base r.ended) (Some first) (of_thread a.thread r.ended) ≡ Some b) × IsBeforeTry n b a
 
   pub record RunsFrom (first : Between P) (base : List ℕ) (cells : Cells) (r : Rows) (a : Actor P) : Type 0 where
     pub runs : IsRun first base (cells.clock / 2) r a

@@ -36,16 +36,6 @@ EndsAt max_commits clock clock' at Full = (clock' / 2 ≡ clock / 2) × (2 * at 
 EndsAt max_commits clock clock' at NoMemory = (clock' / 2 ≡ clock / 2) × (2 * at ≤ clock')
 EndsAt max_commits clock clock' at Unfinished = ⊥
 
--- its block has ended: it committed, or was cancelled
-abbrev pub is_done : Outcome → Bool
-is_done Committed = true
-is_done ReadOnly = true
-is_done Cancelled = true
-is_done Conflict = false
-is_done Full = false
-is_done NoMemory = false
-is_done Unfinished = false
-
 -- the attempts and the tries of an actor before an event
 pub record Prior : Type 0 where
   pub ended : List Attempt  -- of all actors

@@ -17,7 +17,7 @@ use Rattle.norec_world.specs.World.{memory_of}
 use Rattle.tx_attempts.proofs.AloneCalls.{begins_alone, gets_none}
 use Rattle.world_laws.proofs.Solos.{full_block, kept_out, open_block, no_block}
 use Rattle.norec_world.proofs.Memories.{bytes_still}
-use Rattle.norec_world.proofs.RunLists.{run_still}
+use Rattle.tx_runs.proofs.RunLists.{run_still}
 use Rattle.norec_world.proofs.RunOthers.{open_none, open_one}
 use Rattle.world_laws.proofs.SoleEvents.{of_actors_first, of_thread_all}
 use Rattle.world_laws.proofs.SoleWorlds.{even_free, even_shut}

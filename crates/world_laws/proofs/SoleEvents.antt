@@ -12,7 +12,7 @@ use Rattle.norec_world.proofs.TryEnds.{none_again}
 use Rattle.norec_world.specs.Tries.{EndsIt}
 use Rattle.norec_core.specs.Core.{may_go}
 use Rattle.world_laws.specs.Sole.{IsIdle, IsKeptOut}
-use Rattle.norec_world.proofs.RunLists.{try_begun}
+use Rattle.tx_runs.proofs.RunLists.{try_begun}
 
 -- ## Lists of attempts
 

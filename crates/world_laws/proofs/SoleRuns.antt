@@ -24,7 +24,7 @@ use Rattle.itm_model.specs.State.{Saved}
 use Rattle.std.specs.Option.{option_map}
 use Rattle.itm_types.specs.declared.call.ActionKind.TheVariants as kinds
 use Rattle.itm_types.specs.Kept.{also_kept, nothing}
-use Rattle.norec_world.proofs.RunLists.{try_begun}
+use Rattle.tx_runs.proofs.RunLists.{try_begun}
 
 -- ## The calls of an attempt
 

@@ -10,11 +10,12 @@ use Rattle.norec_world.specs.declared.actor.Actor.{Actor}
 use Rattle.tx_attempts.specs.Attempts.{is_committed, of_thread}
 use Rattle.norec_world.specs.Headline.{bytes_at}
 use Rattle.tx_attempts.specs.Opacity.{Beginning, Between}
-use Rattle.norec_world.specs.Runs.{begins_at, run_after}
+use Rattle.tx_runs.specs.Runs.{begins_at, run_after}
 use Rattle.norec_world.specs.Rows.{Rows, active_of}
 use Rattle.world_laws.specs.Solo.{one_if}
 use Rattle.norec_world.specs.Status.{ending_of}
-use Rattle.norec_world.specs.Tries.{current_of, is_done}
+use Rattle.tx_runs.specs.Outcomes.{is_done}
+use Rattle.norec_world.specs.Tries.{current_of}
 use Rattle.tx_player.specs.Rules.{Rules}
 
 -- the first try of its block, begun when so many had committed
