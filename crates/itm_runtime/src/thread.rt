@@ -1,7 +1,8 @@
 //! A thread that runs transactions.
 
-ghost use Rattle.std.specs.Prelude.{◌≡◌, ◌-◌, ◌<◌, ◌≤◌, false, true, [], IsOk, IfOk, IfErr, OnOk, OnErr};
-ghost use Rattle.norec_core.specs.Core.{opening, in_transaction};
+ghost use Rattle.std.specs.Prelude.{◌≡◌, ◌-◌, ◌^◌, ◌<◌, ◌≤◌, false, true, [], IsOk, IfOk, IfErr, OnOk, OnErr};
+ghost use Rattle.norec_core.specs.Core.{opening, in_transaction, goes};
+ghost use Rattle.user_actions.specs.Actions.{total};
 ghost use Rattle.norec_core.specs.Proceeds.{IsUndone, MayStarve};
 ghost use Rattle.norec_core.specs.Undoing.{after_undoing, undone_of};
 ghost use Rattle.shared_words.specs.Passes.{Owns, view_of, cells_of};
@@ -143,6 +144,37 @@ impl Thread {
         ensures rolled_back { self.old.engine.irrevocable ≡ false → IsUndone self.old.engine self.new.engine }
     {
         self.engine.abort()
+    }
+
+    /// A transaction is open.
+    pub fn is_open(&self) -> bool
+        ensures { result ≡ in_transaction self.now.engine }
+    {
+        self.engine.is_open()
+    }
+
+    /// The transaction is irrevocable: the clock is held, from call to call.
+    pub fn is_irrevocable(&self) -> bool
+        ensures { result ≡ self.now.engine.irrevocable }
+    {
+        !self.pass.idle()
+    }
+
+    /// The room that the call asks for, where it is served and makes the transaction irrevocable.
+    pub fn goes(&self, call: &Call) -> Option<u32>
+        ensures { result ≡ goes self.now.engine call.now }
+    {
+        self.engine.goes(call)
+    }
+
+    /// How many actions there are in all: those that are registered, and those that have come to run. Takes no memory.
+    pub fn actions(&self) -> usize
+        ensures total { result ≡ total self.now.engine.actions }
+
+        // There are fewer than a count can tell.
+        ensures few { total self.now.engine.actions < 2 ^ 63 }
+    {
+        self.engine.actions()
     }
 
     /// The even clock value at which the transaction reads, after its end the last one.

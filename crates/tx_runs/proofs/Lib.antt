@@ -2,3 +2,4 @@ pub mod RunLists
 pub mod Tries
 pub mod Begins
 pub mod PlainCalls
+pub mod Players
