@@ -1,5 +1,5 @@
 //! What is said of players and the plain machine alone, for all who let a player make its calls: what its calls between two
-//! transactions lead to, and what becomes of its try.
+//! transactions lead to, what becomes of its try, and how they end.
 #![tactic(auto)]
 
 mod ending;

@@ -1,0 +1,130 @@
+-- A run over commits that were seen later, and with one attempt more.
+use Rattle.std.proofs.Common.{◌≡◌, ℕ, zero, suc, ◌+◌, ◌≤◌, Bool, true, false, if◌then◌else◌, List, [], ◌∷◌, ◌++◌, length, take, Some, refl, sym, ap, ◌∙◌, arith, length-append, append_assoc}
+use Rattle.itm_types.specs.declared.limits.TheConstants.{MAX_OPEN_BLOCKS}
+use Rattle.itm_types.specs.Memory.{bytes_of}
+use Rattle.shared_words.specs.declared.view.View.{View}
+use Rattle.shared_words.specs.Commits.{StartsWith, after, memory_at}
+use Rattle.itm_runtime.specs.Served.{Went}
+use Rattle.itm_runtime.specs.Ties.{memory_of}
+use Rattle.tx_attempts.specs.declared.attempt.Attempt.{Attempt}
+use Rattle.tx_attempts.specs.Attempts.{alone, is_committed}
+use Rattle.tx_attempts.specs.Opacity.{Between, IsTryAt, after_try}
+use Rattle.tx_player.specs.Rules.{Rules}
+use Rattle.tx_runs.specs.Runs.{begins_at}
+use Rattle.tx_runs.proofs.RunLists.{run_more, run_still}
+use Rattle.tx_attempts.specs.declared.attempt.Outcome.TheVariants.{Unfinished}
+use Rattle.tx_worker.specs.Positions.{AreLeft, AreOver, AreOwn, AreSince, IsLeft, bytes_at, known_after, known_by, positions}
+use Rattle.tx_worker.specs.Progress.{Course, HasRun, now_at}
+
+-- ## Memories
+
+-- w has the base of v, and has seen at least what v has
+pub record IsLater (v w : View) : Type 0 where
+  pub base : w.base ≡ v.base
+  pub grows : StartsWith w.seen v.seen
+
+pub later_of : (v w : View) → Went v w → IsLater v w
+later_of v w went = record { base = went.base; grows = went.grows }
+
+first : {A : Type 0} (xs ys : List A) (n : ℕ) → n ≤ length xs → take n (xs ++ ys) ≡ take n xs
+first xs ys zero l = refl
+first [] ys (suc n) l = absurd (omega arith)
+first {A} (x ∷ xs) ys (suc n) l = ap (λ (zs : List A). x ∷ zs) (first xs ys n (omega arith))
+
+pub memory_in : (v w : View) → IsLater v w → (k : ℕ) → k ≤ length v.seen → memory_of w k ≡ memory_of v k
+memory_in v w l k few = (λ i. memory_at (l.base i) (l.grows.1 i) k) ∙ ap (after v.base) (first v.seen l.grows.0 k few)
+
+pub bytes_in : (v w : View) → IsLater v w → (k : ℕ) → k ≤ length v.seen → bytes_at w k ≡ bytes_at v k
+bytes_in v w l k few = ap bytes_of (memory_in v w l k few)
+
+pub seen_in : (v w : View) → IsLater v w → length v.seen ≤ length w.seen
+seen_in v w l = (let n = ap length l.grows.1 ∙ length-append v.seen l.grows.0 in omega arith)
+
+pub left_in : (v w : View) → IsLater v w → (a : Attempt) → IsLeft v a → IsLeft w a
+left_in v w later a l =
+    let seen = l.seen in
+    let more = seen_in v w later in
+    let at : bytes_at w a.at ≡ bytes_at v a.at = bytes_in v w later a.at (omega arith) in
+    record {
+      seen = omega arith;
+      leaves = bytes_in v w later (suc a.at) (omega arith) ∙ (l.leaves ∙ ap (λ (m : List ℕ). (alone MAX_OPEN_BLOCKS m a).memory) (sym at));
+    }
+
+pub all_left_in : (v w : View) → IsLater v w → (xs : List Attempt) → AreLeft v xs → AreLeft w xs
+all_left_in v w later [] l = tt
+all_left_in v w later (x ∷ xs) l = (λ c. left_in v w later x (l.0 c), all_left_in v w later xs l.1)
+
+pub memory_later : (v w : View) → Went v w → (k : ℕ) → k ≤ length v.seen → memory_of w k ≡ memory_of v k
+memory_later v w went = memory_in v w (later_of v w went)
+
+pub bytes_later : (v w : View) → Went v w → (k : ℕ) → k ≤ length v.seen → bytes_at w k ≡ bytes_at v k
+bytes_later v w went = bytes_in v w (later_of v w went)
+
+pub seen_later : (v w : View) → Went v w → length v.seen ≤ length w.seen
+seen_later v w went = seen_in v w (later_of v w went)
+
+pub went_on : (u v w : View) → Went u v → Went v w → Went u w
+went_on u v w a b = record {
+  base = b.base ∙ a.base;
+  share = b.share ∙ a.share;
+  grows = (a.grows.0 ++ b.grows.0, b.grows.1 ∙ (ap (λ (h : _). h ++ b.grows.0) a.grows.1 ∙ append_assoc u.seen a.grows.0 b.grows.0));
+  looks = (let x = a.looks in let y = b.looks in omega arith);
+}
+
+-- ## One attempt more
+
+left_more : (v : View) (xs : List Attempt) (a : Attempt) → AreLeft v xs → (is_committed a.outcome ≡ true → IsLeft v a) → AreLeft v (xs ++ a ∷ [])
+left_more v [] a l h = (h, tt)
+left_more v (x ∷ xs) a l h = (l.0, left_more v xs a l.1 h)
+
+since_more : (known : ℕ) (xs : List Attempt) (a : Attempt) → AreSince known xs → a.began ≡ known_after known xs → AreSince known (xs ++ a ∷ [])
+since_more known [] a s e = (e, tt)
+since_more known (x ∷ xs) a s e = (s.0, since_more (known_by x) xs a s.1 e)
+
+pub known_more : (known : ℕ) (xs : List Attempt) (a : Attempt) → known_after known (xs ++ a ∷ []) ≡ known_by a
+known_more known [] a = refl
+known_more known (x ∷ xs) a = known_more (known_by x) xs a
+
+pub over_more : (xs : List Attempt) (a : Attempt) → AreOver xs → (a.outcome ≡ Unfinished → ⊥) → AreOver (xs ++ a ∷ [])
+over_more [] a o h = (h, tt)
+over_more (x ∷ xs) a o h = (o.0, over_more xs a o.1 h)
+
+own_more : (thread tries : ℕ) (xs : List Attempt) (a : Attempt) → AreOwn thread tries xs → a.thread ≡ thread → a.nth ≤ tries → AreOwn thread tries (xs ++ a ∷ [])
+own_more thread tries [] a o t n = (t, n, tt)
+own_more thread tries (x ∷ xs) a o t n = (o.0, o.1, own_more thread tries xs a o.2 t n)
+
+pub positions_more : (xs : List Attempt) (a : Attempt) → positions (xs ++ a ∷ []) ≡ positions xs ++ (if is_committed a.outcome then a.at ∷ [] else [])
+positions_more [] a = refl
+positions_more (x ∷ xs) a = by_outcome (is_committed x.outcome) (positions_more xs a)
+  where
+    by_outcome : (b : Bool) → positions (xs ++ a ∷ []) ≡ positions xs ++ (if is_committed a.outcome then a.at ∷ [] else []) → (if b then x.at ∷ positions (xs ++ a ∷ []) else positions (xs ++ a ∷ [])) ≡ (if b then x.at ∷ positions xs else positions xs) ++ (if is_committed a.outcome then a.at ∷ [] else [])
+    by_outcome true more = ap (λ (ps : List ℕ). x.at ∷ ps) more
+    by_outcome false more = more
+
+module _ {P : Type 0} (rules : Rules P) (c : Course P) where
+  -- over the commits of a later view
+  pub run_later : (v w : View) → Went v w → (xs : List Attempt) → HasRun rules c v xs → HasRun rules c w xs × (now_at rules c w xs ≡ now_at rules c v xs)
+  run_later v w went xs h =
+      let more = seen_later v w went in
+      let known = h.known in
+      let still = run_still rules (length v.seen) (length w.seen) (bytes_at v) (bytes_at w) more (bytes_later v w went) (Some c.first) xs h.run in (
+        record { went = went_on c.view v w h.went went; run = still.0; left = all_left_in v w (later_of v w went) xs h.left; since = h.since; known = omega arith; own = h.own },
+        still.1,
+      )
+
+  -- with one attempt more
+  pub run_with : (v : View) (xs : List Attempt) (b : Between P) (a : Attempt) → HasRun rules c v xs → now_at rules c v xs ≡ Some b → IsTryAt rules MAX_OPEN_BLOCKS (length v.seen) (bytes_at v) b (begins_at rules b) a
+      → (is_committed a.outcome ≡ true → IsLeft v a) → a.began ≡ known_after c.known xs → known_by a ≤ length v.seen → a.thread ≡ c.number → a.nth ≤ c.retries + 1
+      → HasRun rules c v (xs ++ a ∷ []) × (now_at rules c v (xs ++ a ∷ []) ≡ after_try rules MAX_OPEN_BLOCKS (bytes_at v) b (begins_at rules b) a)
+  run_with v xs b a h now try left began known thread nth =
+      let more = run_more rules (length v.seen) (bytes_at v) (Some c.first) xs b a h.run now try in (
+        record {
+          went = h.went;
+          run = more.0;
+          left = left_more v xs a h.left left;
+          since = since_more c.known xs a h.since began;
+          known = (let k = known_more c.known xs a in omega arith);
+          own = own_more c.number (c.retries + 1) xs a h.own thread nth;
+        },
+        more.1,
+      )

@@ -1,0 +1,52 @@
+-- Attempts among the commits that a pass has seen.
+use Rattle.std.specs.Prelude.{◌≡◌, ℕ, suc, ◌<◌, ◌≤◌, true, if◌then◌else◌, List, [], ◌∷◌, length}
+use Rattle.itm_types.specs.declared.limits.TheConstants.{MAX_OPEN_BLOCKS}
+use Rattle.itm_types.specs.Memory.{bytes_of}
+use Rattle.itm_runtime.specs.Ties.{memory_of}
+use Rattle.shared_words.specs.declared.view.View.{View}
+use Rattle.tx_attempts.specs.declared.attempt.Attempt.{Attempt}
+use Rattle.tx_attempts.specs.declared.attempt.Outcome.TheVariants.{Unfinished}
+use Rattle.tx_attempts.specs.Attempts.{alone, is_committed}
+
+-- the bytes after the first k commits that were seen
+abbrev pub bytes_at : View → ℕ → List ℕ
+bytes_at v k = bytes_of (memory_of v k)
+
+-- the positions of those that committed, in order
+abbrev pub positions : List Attempt → List ℕ
+positions [] = []
+positions (a ∷ rest) = if is_committed a.outcome then a.at ∷ positions rest else positions rest
+
+-- the commit at its position was seen, and takes the bytes before it to those that its attempt leaves alone on them
+pub record IsLeft (v : View) (a : Attempt) : Type 0 where
+  pub seen : a.at < length v.seen
+  pub leaves : bytes_at v (suc a.at) ≡ (alone MAX_OPEN_BLOCKS (bytes_at v a.at) a).memory
+
+-- so does each that committed
+abbrev pub AreLeft : View → List Attempt → Type 0
+AreLeft v [] = Unit {0}
+AreLeft v (a ∷ rest) = (is_committed a.outcome ≡ true → IsLeft v a) × AreLeft v rest
+
+-- how many commits a thread knows of by an attempt of its own
+abbrev pub known_by : Attempt → ℕ
+known_by a = if is_committed a.outcome then suc a.at else a.at
+
+-- each attempt began with the commits that the one before it told its thread of, the first one with so many
+abbrev pub AreSince : ℕ → List Attempt → Type 0
+AreSince known [] = Unit {0}
+AreSince known (a ∷ rest) = (a.began ≡ known) × AreSince (known_by a) rest
+
+-- and so many are known after them
+abbrev pub known_after : ℕ → List Attempt → ℕ
+known_after known [] = known
+known_after known (a ∷ rest) = known_after (known_by a) rest
+
+-- each is of this thread, and of at most so many tries
+abbrev pub AreOwn : ℕ → ℕ → List Attempt → Type 0
+AreOwn thread tries [] = Unit {0}
+AreOwn thread tries (a ∷ rest) = (a.thread ≡ thread) × (a.nth ≤ tries) × AreOwn thread tries rest
+
+-- none of them has not ended
+abbrev pub AreOver : List Attempt → Type 0
+AreOver [] = Unit {0}
+AreOver (a ∷ rest) = (a.outcome ≡ Unfinished → ⊥) × AreOver rest

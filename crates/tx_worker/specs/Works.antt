@@ -1,0 +1,88 @@
+-- What a thread's whole run leaves.
+use Rattle.std.specs.Prelude.{◌≡◌, ◌⊎◌, ℕ, ◌+◌, ◌/◌, ◌≤◌, ◌++◌, ◌∷◌, [], Bool, true, false, List, None, Some, Result, Ok, Err, length}
+use Rattle.itm_types.specs.declared.limits.TheConstants.{MAX_OPEN_BLOCKS}
+use Rattle.shared_words.specs.declared.pass.Pass.{Pass}
+use Rattle.shared_words.specs.declared.view.View.{View}
+use Rattle.shared_words.specs.declared.words.Words.{Words}
+use Rattle.shared_words.specs.Passes.{Owns, view_of}
+use Rattle.itm_runtime.specs.Standing.{Standing}
+use Rattle.itm_runtime.specs.Ties.{Stands}
+use Rattle.tx_attempts.specs.declared.attempt.Attempt.{Attempt}
+use Rattle.tx_attempts.specs.declared.attempt.Outcome.TheVariants.{Unfinished}
+use Rattle.tx_attempts.specs.Alone.{player_then}
+use Rattle.tx_attempts.specs.Attempts.{alone}
+use Rattle.tx_attempts.specs.Opacity.{Beginning, Between, begin_code}
+use Rattle.tx_runs.specs.declared.ending.End.{End}
+use Rattle.tx_runs.specs.declared.ending.End.TheVariants.{Finished, GaveUp, NoMemory}
+use Rattle.tx_runs.specs.Runs.{begins_at}
+use Rattle.tx_player.specs.Rules.{Rules}
+use Rattle.tx_worker.specs.declared.worked.Worked.{Worked}
+use Rattle.tx_worker.specs.Positions.{bytes_at, positions}
+use Rattle.tx_worker.specs.Progress.{Course, HasRun, now_at}
+
+-- the view at the end
+abbrev pub view_left : Result Pass Standing → View
+view_left (Ok pass) = view_of pass
+view_left (Err thread) = view_of thread.pass
+
+-- the words own the pass that comes back. It does not hold the clock, but for a thread whose transaction stays irrevocable
+abbrev pub IsBack : Words → Result Pass Standing → Type 0
+IsBack words (Ok pass) = Owns words pass × ((view_of pass).holds ≡ false)
+IsBack words (Err thread) = Owns words thread.pass × (thread.engine.irrevocable ≡ true) × Stands (view_of thread.pass) thread.engine
+
+abbrev pub is_held : Result Pass Standing → Bool
+is_held (Ok pass) = false
+is_held (Err thread) = true
+
+-- an attempt that did not end is irrevocable, by its calls alone, just where this says so
+abbrev pub AreHeld : View → Bool → List Attempt → Type 0
+AreHeld v held [] = Unit {0}
+AreHeld v held (a ∷ rest) = (a.outcome ≡ Unfinished → (alone MAX_OPEN_BLOCKS (bytes_at v a.at) a).irrevocable ≡ held) × AreHeld v held rest
+
+-- a player with its thread, as it begins
+abbrev pub course_of : {P : Type 0} → Standing → P → ℕ → ℕ → Course P
+course_of start player number retries = record {
+  view = view_of start.pass;
+  number = number;
+  retries = retries;
+  known = start.engine.snapshot / 2;
+  first = record { player = player; arena = start.engine.arena; again = false; tries = 0 };
+}
+
+module _ {P : Type 0} (rules : Rules P) where
+  -- the run is over, and its player comes to no further block
+  pub record IsOver (c : Course P) (v : View) (attempts : List Attempt) : Type 0 where
+    pub between : Between P
+    pub now_is : now_at rules c v attempts ≡ Some between
+    pub none : begins_at rules between ≡ None
+
+  -- or its player has no call left in the last attempt, whose block has not ended
+  pub record IsOverWithin (c : Course P) (v : View) (attempts : List Attempt) : Type 0 where
+    pub before : List Attempt
+    pub last : Attempt
+    pub attempts_are : attempts ≡ before ++ last ∷ []
+    pub unfinished : last.outcome ≡ Unfinished
+    pub between : Between P
+    pub now_is : now_at rules c v before ≡ Some between
+    pub start : Beginning P
+    pub begins : begins_at rules between ≡ Some start
+    pub none : rules.next_call (player_then rules.answered (rules.answered start.player (begin_code between.again)) last.calls) ≡ None
+
+  -- it finished where its player had no more calls; it gave up where the gate was shut, as many commits as may be were done, or it had looked at the clock as often as there are tries
+  abbrev pub EndsAs : Course P → ℕ → Bool → End → View → List Attempt → Type 0
+  EndsAs c max_commits shuts Finished v attempts = IsOver c v attempts ⊎ IsOverWithin c v attempts
+  EndsAs c max_commits shuts GaveUp v attempts = (shuts ≡ true) ⊎ (max_commits ≤ length v.seen) ⊎ (c.view.looks + (c.retries + 1) ≤ v.looks)
+  EndsAs c max_commits shuts NoMemory v attempts = Unit {0}
+
+  -- what a run of this course left
+  pub record IsFinished (words : Words) (c : Course P) (max_commits : ℕ) (shuts : Bool) (w : Worked) : Type 0 where
+    pub back : IsBack words w.pass
+    pub runs : HasRun rules c (view_left w.pass) w.attempts  -- its attempts are the player's run, each opaque over the commits that were seen
+    pub mine : (view_left w.pass).mine ≡ c.view.mine ++ positions w.attempts  -- just those that committed hold positions
+    pub held : AreHeld (view_left w.pass) (is_held w.pass) w.attempts
+    pub ends : EndsAs c max_commits shuts w.end (view_left w.pass) w.attempts
+
+  -- a player's run on a thread
+  pub record Works (words : Words) (start : Standing) (player : P) (number retries : ℕ) (shuts : Bool) (w : Worked) : Type 0 where
+    pub number_is : w.thread ≡ number
+    pub finished : IsFinished words (course_of start player number retries) start.engine.max_commits shuts w

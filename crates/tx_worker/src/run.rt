@@ -1,0 +1,60 @@
+//! A whole run.
+
+ghost use Rattle.std.specs.Prelude.{◌≡◌, ◌≤◌, false};
+ghost use Rattle.itm_types.specs.declared.limits.TheConstants.{MAX_RETRIES};
+ghost use Rattle.norec_core.specs.Core.{in_transaction};
+ghost use Rattle.shared_words.specs.Passes.{Owns, view_of};
+ghost use Rattle.itm_runtime.specs.Ties.{Stands};
+ghost use Rattle.tx_worker.specs.Works.{Works};
+
+use crate::gate::Gate;
+use crate::sink::ActionSink;
+use crate::worked::Worked;
+use crate::worker::Worker;
+use itm_runtime::Thread;
+use shared_words::Words;
+use std::alloc::Global;
+use tx_player::Player;
+
+/// Runs a player's transactions on a thread that has none open, up to its end: each call that it makes, and each block
+/// again from its begin, at most `retries` times, where it came to a conflict or found the clock held.
+///
+/// The gate is asked before each call, and told after it, but for those that come in an irrevocable transaction; where it
+/// shuts, the thread gives up as it stands, and no action runs. The sink is handed each action once its call is answered.
+/// `NoMemory` where memory was refused: the open transaction is rolled back then, but for an irrevocable one.
+pub fn work<P: Player, G: Gate, A: ActionSink>(
+    alloc: Global,
+    words: &Words,
+    thread: Thread,
+    player: P,
+    number: u8,
+    retries: u32,
+    gate: &G,
+    sink: &A,
+) -> Worked
+    requires own { Owns words.now thread.pass }
+    requires stands { Stands (view_of thread.pass) thread.engine }
+    requires outside { in_transaction thread.engine ≡ false }
+    requires depth { P.depth player ≡ 0 }
+    requires few { retries ≤ MAX_RETRIES }
+    ensures { Works P.Player words.now thread player number retries G.shuts result }
+{
+    let known = thread.snapshot() / 2;
+    let mut worker = Worker {
+        number,
+        retries,
+        player,
+        thread,
+        ended: Vec::new(alloc),
+        current: None,
+        nth: 1,
+        again: false,
+        known,
+        calls: 0,
+    };
+    loop {
+        if let Some(end) = worker.call_next(alloc, words, gate, sink) {
+            return worker.finish(end);
+        }
+    }
+}
