@@ -15,7 +15,8 @@ use Rattle.norec_world.specs.Rows.{AreUnfinished, active_of}
 use Rattle.norec_world.specs.World.{World, attempts_of, observed}
 use Rattle.norec_world.proofs.SoundOthers.{odd_or_even, there_is}
 use Rattle.world_histories.specs.Told.{told_of}
-use Rattle.world_histories.proofs.AloneRuns.{IsPlaced, of_run, of_threads}
+use Rattle.run_histories.proofs.AloneRuns.{IsPlaced, of_run}
+use Rattle.world_histories.proofs.EachThread.{of_threads}
 use Rattle.world_histories.proofs.Holders.{HeldBy, count_holding_both, each_open, ended_free, ended_there, irrevocable_of, is_unfinished_there, none_held, one_held, stands_among}
 
 of_actors_in : (n : ℕ) (xs ys : List Attempt) (row : Attempt) → AreOfActors n (xs ++ row ∷ ys) → row.thread < n

@@ -1,5 +1,3 @@
-pub mod Unwritten
-pub mod AloneCalls
-pub mod AloneRuns
+pub mod EachThread
 pub mod Holders
 pub mod LegalWorlds

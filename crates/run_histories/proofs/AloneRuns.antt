@@ -1,4 +1,4 @@
--- Every attempt of a world's runs is one alone on the memory of its position.
+-- Every attempt of a player's run is one alone on the memory of its position.
 use Rattle.std.proofs.Common.{◌≡◌, ℕ, zero, suc, ◌<◌, ◌≤◌, ◌==◌, Bool, true, false, not, ◌&&◌, ◌||◌, is_none, if◌then◌else◌, All, List, [], ◌∷◌, Option, None, Some, refl, sym, ap, subst, ◌∙◌, eq-eqb}
 use Rattle.std.proofs.lemmas.List.Elements.{All-nil, All-cons, All-head, All-tail}
 use Rattle.itm_types.specs.declared.limits.TheConstants.{MAX_OPEN_BLOCKS}
@@ -8,12 +8,10 @@ use Rattle.itm_types.specs.declared.call.Refusal.{Refusal}
 use Rattle.itm_types.specs.declared.call.Refusal.TheVariants.{NoIrrevocable}
 use Rattle.itm_model.specs.Machine.{after, or_else, outside, refusal, reply, unless}
 use Rattle.tx_attempts.specs.declared.attempt.Attempt.{Attempt}
-use Rattle.tx_attempts.specs.Attempts.{of_thread}
 use Rattle.tx_history.specs.Legal.{IsAlone, may_begin}
 use Rattle.tx_player.specs.Rules.{Rules}
 use Rattle.tx_attempts.specs.Opacity.{Beginning, Between, IsRunOf, IsTryAt, after_try, begin_of, begin_within}
-use Rattle.norec_world.specs.Headline.{AreOfActors}
-use Rattle.world_histories.proofs.AloneCalls.{is_alone}
+use Rattle.run_histories.proofs.AloneCalls.{is_alone}
 
 -- ## Begins
 
@@ -60,20 +58,3 @@ module _ {P : Type 0} (rules : Rules P) (n : ℕ) (memory : ℕ → List ℕ) wh
   of_run b [] h = All-nil IsPlaced
   of_run None (a ∷ rest) h = absurd h
   of_run (Some b) (a ∷ rest) h = All-cons IsPlaced a rest (of_try b _ a refl h.0) (of_run (after_try rules MAX_OPEN_BLOCKS memory b (begin_of rules MAX_OPEN_BLOCKS b.player b.arena) a) rest h.1)
-
--- ## All threads
-
--- what is so of each thread's attempts is so of all
-pub of_threads : (Q : Attempt → Type 0) (n : ℕ) (xs : List Attempt) → AreOfActors n xs → ((thread : ℕ) → thread < n → All Q (of_thread thread xs)) → All Q xs
-of_threads Q n [] of each = All-nil Q
-of_threads Q n (x ∷ xs) of each = All-cons Q x xs first (of_threads Q n xs of.1 later)
-  where
-    first : Q x
-    first = All-head Q x (of_thread x.thread xs) (subst (λ (b : Bool). All Q (if b then x ∷ of_thread x.thread xs else of_thread x.thread xs)) (eq-eqb x.thread x.thread refl) (each x.thread of.0))
-
-    without : (thread : ℕ) (b : Bool) → All Q (if b then x ∷ of_thread thread xs else of_thread thread xs) → All Q (of_thread thread xs)
-    without thread true h = All-tail Q x (of_thread thread xs) h
-    without thread false h = h
-
-    later : (thread : ℕ) → thread < n → All Q (of_thread thread xs)
-    later thread l = without thread (x.thread == thread) (each thread l)

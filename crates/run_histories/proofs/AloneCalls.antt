@@ -14,7 +14,7 @@ use Rattle.tx_attempts.specs.Attempts.{alone, pair_of}
 use Rattle.tx_history.specs.Legal.{EndsIn, IsAlone, may_begin, ran_alone}
 use Rattle.tx_player.specs.Rules.{Rules}
 use Rattle.tx_attempts.specs.Opacity.{EndsAs, IsOpaque, ran_of}
-use Rattle.world_histories.proofs.Unwritten.{AllInside, IsFixed, StandsOn, fixed_after, fixed_from, stands_after, stands_opened}
+use Rattle.run_histories.proofs.Unwritten.{AllInside, IsFixed, StandsOn, fixed_after, fixed_from, stands_after, stands_opened}
 
 -- the calls of entries
 abbrev calls_in : List Entry → List Call

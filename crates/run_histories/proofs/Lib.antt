@@ -1,0 +1,3 @@
+pub mod Unwritten
+pub mod AloneCalls
+pub mod AloneRuns

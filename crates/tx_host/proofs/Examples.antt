@@ -1,0 +1,51 @@
+-- Worked cases: attempts by thread, the lists of two workers, and how threads with no call end.
+use Rattle.std.proofs.Common.{◌≡◌, ℕ, false, List, [], ◌∷◌, refl, inl}
+use Rattle.itm_types.specs.declared.call.Props.{Props}
+use Rattle.tx_attempts.specs.declared.attempt.Attempt.{Attempt}
+use Rattle.tx_attempts.specs.declared.attempt.Outcome.TheVariants.{Conflict, ReadOnly}
+use Rattle.tx_runs.specs.declared.ending.End.TheVariants.{Finished, GaveUp}
+use Rattle.tx_host.specs.declared.join.Done.{Done}
+use Rattle.tx_host.specs.Courses.{EndsBy, first_of}
+use Rattle.tx_host.specs.Joins.{attempts_in, ends_in}
+use Rattle.tx_host.specs.Numbers.{Numbered}
+use Rattle.tx_host.specs.Reports.{by_number}
+
+-- the second try of a thread's block
+abbrev pub row : ℕ → Attempt
+row thread = record { thread = thread; nth = 2; began = 0; at = 0; props = record { no_abort = false; no_irrevocable = false; goes_irrevocable = false }; arena = []; calls = []; ran = []; outcome = ReadOnly }
+
+-- and the first one
+abbrev pub lost : ℕ → Attempt
+lost thread = record (row thread) { nth = 1; outcome = Conflict }
+
+stand_in_order : by_number 0 2 (lost 0 ∷ row 0 ∷ row 1 ∷ []) ≡ lost 0 ∷ row 0 ∷ row 1 ∷ []
+stand_in_order = refl
+
+-- of a list that mixes them another one comes
+brought_in_order : by_number 0 2 (lost 0 ∷ row 1 ∷ row 0 ∷ []) ≡ lost 0 ∷ row 0 ∷ row 1 ∷ []
+brought_in_order = refl
+
+-- and one without the attempts of a third thread
+others_left_out : by_number 0 2 (row 0 ∷ row 2 ∷ row 1 ∷ []) ≡ row 0 ∷ row 1 ∷ []
+others_left_out = refl
+
+-- ## Two workers
+
+abbrev pub both : List Done
+both = record { attempts = lost 0 ∷ row 0 ∷ []; end = Finished } ∷ record { attempts = lost 1 ∷ []; end = GaveUp } ∷ []
+
+all_attempts : attempts_in both ≡ lost 0 ∷ row 0 ∷ lost 1 ∷ []
+all_attempts = refl
+
+all_ends : ends_in both ≡ Finished ∷ GaveUp ∷ []
+all_ends = refl
+
+-- the members of a list are numbered from where the count begins
+three_numbers : Numbered (λ n x. x ≡ n) 4 (4 ∷ 5 ∷ 6 ∷ [])
+three_numbers = (refl, (refl, (refl, tt)))
+
+-- ## A thread with no code
+
+-- it is over at once, whatever the memories
+nothing_to_do : (memory : ℕ → List ℕ) → EndsBy memory (first_of 4 []) Finished []
+nothing_to_do memory = inl (record { between = first_of 4 []; now_is = refl; none = refl })

@@ -1,0 +1,11 @@
+pub mod Numbers
+pub mod Parts
+pub mod Courses
+pub mod WorkersDone
+pub mod JoinedWorkers
+pub mod PositionTotals
+pub mod CommitPositions
+pub mod ThreadAttempts
+pub mod LegalRuns
+pub mod WholeRun
+pub mod Examples

@@ -1,0 +1,54 @@
+-- A pass that gives a part to each worker.
+use Rattle.std.proofs.Common.{◌≡◌, ℕ, ◌+◌, ◌-◌, ◌<◌, false, List, replicate, sym, ap, subst, ◌∙◌, arith}
+use Rattle.itm_types.specs.declared.limits.Limits.{Limits}
+use Rattle.norec_core.specs.Core.{in_transaction, opening}
+use Rattle.shared_words.specs.declared.view.View.{View}
+use Rattle.shared_words.specs.declared.words.Words.{Words}
+use Rattle.shared_words.specs.declared.pass.Pass.{Pass}
+use Rattle.shared_words.specs.Passes.{view_of}
+use Rattle.shared_words.specs.Views.{cut_left, cut_right}
+use Rattle.script_program.specs.Listing.{Listing}
+use Rattle.script_vm.specs.Threads.{Thread, depth_of, opening as script_opening}
+use Rattle.itm_runtime.specs.Standing.{Standing}
+use Rattle.tx_host.specs.declared.start.Ready.{Ready}
+use Rattle.tx_host.specs.declared.start.WorksOn.{WorksOn}
+use Rattle.tx_host.specs.Starts.{IsFor, IsFresh, IsReady, code_of}
+
+module _ (s v w : View) (same : v ≡ record s { share = v.share }) (cut : w ≡ cut_left v) where
+  pub cut_same : w ≡ record s { share = w.share }
+  cut_same = cut ∙ (ap (λ (z : View). record z { share = v.share - 1 }) same ∙ ap (λ (n : ℕ). record s { share = n }) (sym (ap (λ (z : View). z.share) cut)))
+
+  pub cut_share : (n : ℕ) → 0 < v.share → v.share + n ≡ s.share → w.share + (n + 1) ≡ s.share
+  cut_share n more e = let now : w.share ≡ v.share - 1 = ap (λ (z : View). z.share) cut in omega arith
+
+-- a thread over a part that was cut is fresh
+pub is_fresh : (s v : View) (theirs : Pass) (p : Listing) (number : ℕ) (t : Standing) (player : Thread) → v ≡ record s { share = v.share } → view_of theirs ≡ cut_right v → t.pass ≡ theirs → (words : ℕ) (arena : List ℕ) (size : ℕ) (limits : Limits)
+    → t.engine ≡ opening words arena limits.patience limits.max_commits → arena ≡ replicate size 0 → size ≡ p.arena → limits ≡ p.limits → player ≡ script_opening (code_of p number) → IsFresh p s.base number t player
+is_fresh s v theirs p number t player same cut pass words arena size limits engine zeros sized within plays =
+    let now : view_of t.pass ≡ cut_right v = ap view_of pass ∙ cut in
+    record {
+      player_is = plays;
+      words = words;
+      engine_is = engine ∙ (λ i. opening words ((zeros ∙ ap (λ (n : ℕ). replicate n 0) sized) i) (within i).patience (within i).max_commits);
+      base_is = ap (λ (z : View). z.base) now ∙ ap (λ (z : View). z.base) same;
+      mine = ap (λ (z : View). z.mine) now;
+      share = ap (λ (z : View). z.share) now;
+    }
+
+-- who starts a worker on what is ready has its promise
+pub is_for : (words : Words) (base : List ℕ) (p : Listing) (n retries : ℕ) (r : Ready) (w : WorksOn) → IsReady words base p n r → retries ≡ p.limits.retries
+    → (w.words.now ≡ words) × (w.start.value ≡ r.thread) × (w.player.value ≡ r.player) × (w.number ≡ r.number) × (w.retries ≡ retries) → IsFor words base p n w
+is_for words base p n retries r w is few told = record {
+  words_are = told.0;
+  number_is = told.3 ∙ is.number_is;
+  retries_are = told.4 ∙ few;
+  fresh = subst (λ (q : Standing × Thread). IsFresh p base n q.0 q.1) (λ i. (sym told.1 i, sym told.2 i)) is.fresh;
+}
+
+-- before its first call it is outside a transaction
+pub is_outside : (base : List ℕ) (p : Listing) (n : ℕ) (t : Standing) (player : Thread) → IsFresh p base n t player → in_transaction t.engine ≡ false
+is_outside base p n t player fresh = ap in_transaction fresh.engine_is
+
+-- and its player has no block open
+pub is_flat : (base : List ℕ) (p : Listing) (n : ℕ) (t : Standing) (player : Thread) → IsFresh p base n t player → depth_of player ≡ 0
+is_flat base p n t player fresh = ap depth_of fresh.player_is

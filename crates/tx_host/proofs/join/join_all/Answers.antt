@@ -1,0 +1,45 @@
+use Rattle.std.proofs.Common.{rules, ◌≡◌, ℕ, ◌+◌, false, true≢false, length, vec_len, sym, subst, refl, ◌∙◌}
+use Rattle.std.specs.Vec.Iter.{into_iter_items}
+use Rattle.shared_words.specs.Passes.{view_of}
+use Rattle.script_program.specs.Listing.{Listing}
+use Rattle.tx_host.specs.declared.join.Done.{Done}
+use Rattle.tx_host.specs.Starts.{Promised}
+use Rattle.tx_host.specs.Joins.{Joins}
+use Rattle.tx_host.proofs.WorkersDone.{its_back, joined_left}
+use Rattle.tx_host.proofs.JoinedWorkers.{joins_more}
+use Rattle.tx_host.proofs.join.join_all.Goals as goal
+use Rattle.tx_host.proofs.join.join_all.Goals.{then-held, else-held}
+
+pub take_in-holds-requires-clause-back : goal.take_in-holds-requires-clause-back
+take_in-holds-requires-clause-back g c =
+    let rest = subst (Promised c.args.words.now (view_of c.args.pass).base c.args.program.now (vec_len c.loop-handle.all)) c.in-Some.ensures.steps.0 c.loop-handle.invariant.rest in
+    its_back c.args.words.now (view_of c.args.pass).base c.args.program.now (vec_len c.loop-handle.all) c.in-Some.handle.promise c.join-attempts.result rest.0 c.join-attempts.ensures
+
+pub loop-handle-preserved : goal.loop-handle-preserved
+loop-handle-preserved g c =
+    let old = c.loop-handle.invariant in
+    let n : ℕ = vec_len c.loop-handle.all in
+    let start = view_of c.args.pass in
+    let p : Listing = c.args.program.now in
+    let rest = subst (Promised c.args.words.now start.base p n) c.in-Some.ensures.steps.0 old.rest in
+    let many : length c.loop-handle.all.items ≡ n = search rules in
+    let pushed = c.push_reserved.ensures in
+    let done : Done = record { attempts = c.join-attempts.result.attempts; end = c.join-attempts.result.end } in
+    let taken = c.take_in-holds.ensures in
+    record {
+      own = taken.own;
+      idle = taken.idle;
+      joins = λ free.
+          (let both : (c.loop-handle.held ≡ false) × (c.take_in-holds.result ≡ false) =
+          elim c.if-held.branch [
+            | then-held w ↦ absurd (true≢false (sym w.if-held.true ∙ (sym w.held-is ∙ free)))
+            | else-held w ↦ (w.if-held.false, sym w.held-is ∙ free)
+          ] in
+          let more : Joins start p (n + 1) (view_of c.take_in-holds.new.pass) c.push_reserved.new.self.items =
+          subst (Joins start p (n + 1) (view_of c.take_in-holds.new.pass)) (sym pushed.items)
+          (joins_more c.args.words.now start.base p n c.in-Some.handle.promise c.join-attempts.result rest.0 c.join-attempts.ensures start (view_of c.loop-handle.pass) (view_of c.take_in-holds.new.pass) c.loop-handle.all.items done refl refl many (sym taken.held ∙ both.1) (old.joins both.0) (joined_left (view_of c.loop-handle.pass) (view_of c.take_in-holds.new.pass) c.join-attempts.result.pass (sym taken.held ∙ both.1) taken.joined)) in
+          subst (λ (m : ℕ). Joins start p m (view_of c.take_in-holds.new.pass) c.push_reserved.new.self.items) (sym pushed.len) more);
+      rest = subst (λ (m : ℕ). Promised c.args.words.now start.base p m (into_iter_items c.next.new.self)) (sym pushed.len) rest.1;
+      count = search rules;
+      room = search rules;
+    }

@@ -1,0 +1,16 @@
+use Rattle.std.proofs.Common.{◌≡◌, ◌+◌, ◌≤◌, false, vec_len, vec_capacity}
+use Rattle.std.specs.Vec.Iter.{into_iter_items, into_iter_len}
+use Rattle.shared_words.specs.Passes.{Owns, view_of}
+use Rattle.tx_host.specs.Starts.{Promised}
+use Rattle.tx_host.specs.Joins.{Joins}
+use Rattle.tx_host.proofs.join.join_all.Given as goal
+
+abbrev pub invariant-loop-handle : goal.invariant-loop-handle
+invariant-loop-handle g l = record {
+  own : Owns l.words l.pass;
+  idle : (view_of l.pass).holds ≡ false;
+  joins : l.held ≡ false → Joins (view_of l.fn.pass) l.fn.program (vec_len l.all) (view_of l.pass) l.all.items;
+  rest : Promised l.words (view_of l.fn.pass).base l.fn.program (vec_len l.all) (into_iter_items l.handle-iterator);
+  count : vec_len l.all + into_iter_len l.handle-iterator ≡ vec_len l.fn.handles;
+  room : vec_len l.fn.handles ≤ vec_capacity l.all;
+}

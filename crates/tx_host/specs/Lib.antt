@@ -1,0 +1,5 @@
+pub mod Numbers
+pub mod Courses
+pub mod Starts
+pub mod Joins
+pub mod Reports

@@ -1,0 +1,67 @@
+-- What is known of workers that are ready, and of those that were started.
+use Rattle.std.specs.Prelude.{◌≡◌, ℕ, ◌+◌, ◌≤◌, true, List, [], length, replicate, slice_index_or, Vec, vec_len}
+use Rattle.std.specs.declared.alloc.Global.{Global}
+use Rattle.std.specs.declared.thread.PromisedHandle.{PromisedHandle}
+use Rattle.norec_core.specs.Core.{opening}
+use Rattle.shared_words.specs.declared.view.View.{View}
+use Rattle.shared_words.specs.declared.words.Words.{Words}
+use Rattle.shared_words.specs.Passes.{Owns, view_of}
+use Rattle.script_program.specs.declared.instruction.Instruction.{Instruction}
+use Rattle.script_program.specs.Listing.{Listing, threads_of}
+use Rattle.script_vm.specs.Threads.{Thread, opening as script_opening}
+use Rattle.itm_runtime.specs.Standing.{Standing}
+use Rattle.itm_runtime.specs.Ties.{Stands}
+use Rattle.tx_worker.specs.declared.worked.Worked.{Worked}
+use Rattle.tx_host.specs.declared.start.Ready.{Ready}
+use Rattle.tx_host.specs.declared.start.Started.{Started}
+use Rattle.tx_host.specs.declared.start.WorksOn.{WorksOn}
+use Rattle.tx_host.specs.Numbers.{Numbered}
+
+abbrev pub code_of : Listing → ℕ → List Instruction
+code_of p number = slice_index_or (threads_of p) number []
+
+-- the thread of the program with this number, before its first call, on a fresh pass over this memory
+pub record IsFresh (p : Listing) (base : List ℕ) (number : ℕ) (t : Standing) (player : Thread) : Type 0 where
+  pub player_is : player ≡ script_opening (code_of p number)
+  pub words : ℕ
+  pub engine_is : t.engine ≡ opening words (replicate p.arena 0) p.limits.patience p.limits.max_commits
+  pub base_is : (view_of t.pass).base ≡ base
+  pub mine : (view_of t.pass).mine ≡ []
+  pub share : (view_of t.pass).share ≡ 1
+
+-- the promise is of the worker with this number
+pub record IsFor (words : Words) (base : List ℕ) (p : Listing) (number : ℕ) (w : WorksOn) : Type 0 where
+  pub words_are : w.words.now ≡ words
+  pub number_is : w.number ≡ number
+  pub retries_are : w.retries ≡ p.limits.retries
+  pub fresh : IsFresh p base number w.start.value w.player.value
+
+abbrev pub Handle : Type 0
+Handle = PromisedHandle Worked WorksOn
+
+-- the handles are those of the workers from this number on
+abbrev pub Promised : Words → List ℕ → Listing → ℕ → List Handle → Type 0
+Promised words base p n hs = Numbered (λ k h. IsFor words base p k h.promise) n hs
+
+-- what the worker with this number is to be given
+pub record IsReady (words : Words) (base : List ℕ) (p : Listing) (number : ℕ) (r : Ready) : Type 0 where
+  pub number_is : r.number ≡ number
+  pub own : Owns words r.thread.pass
+  pub stands : Stands (view_of r.thread.pass) r.thread.engine
+  pub fresh : IsFresh p base number r.thread r.player
+
+abbrev pub AllReady : Words → List ℕ → Listing → ℕ → List Ready → Type 0
+AllReady words base p n rs = Numbered (IsReady words base p) n rs
+
+-- there is one for each thread of the program, in order. The first pass gave a part to each, and else is as it was
+pub record Prepares (words : Words) (start : View) (p : Listing) (now : View) (all : Vec Ready Global) : Type 0 where
+  pub pass : now ≡ record start { share = now.share }
+  pub ready : AllReady words start.base p 0 all.items
+  pub count : vec_len all ≡ length (threads_of p)
+  pub share : now.share + length (threads_of p) ≡ start.share
+
+-- the workers were started in order
+pub record Starts (words : Words) (base : List ℕ) (p : Listing) (threads : ℕ) (s : Started) : Type 0 where
+  pub handles : Promised words base p 0 s.handles.items
+  pub few : vec_len s.handles ≤ threads
+  pub whole : s.whole ≡ true → vec_len s.handles ≡ threads

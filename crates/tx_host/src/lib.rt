@@ -1,0 +1,12 @@
+//! The scripts of a program on threads: each thread of the program has a worker of its own over shared words.
+#![tactic(auto)]
+
+mod gather;
+mod join;
+mod report;
+mod start;
+mod threads;
+mod workers;
+
+pub use report::{HostFault, Report};
+pub use threads::run_threads;

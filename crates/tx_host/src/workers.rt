@@ -1,0 +1,87 @@
+//! All workers of one run, in one scope.
+
+ghost use Rattle.std.specs.Prelude.{◌≡◌, false, IfOk};
+ghost use Rattle.shared_words.specs.Passes.{Owns, view_of};
+ghost use Rattle.tx_host.specs.Joins.{Gathers};
+
+use crate::join::{Done, Joined, join_all};
+use crate::report::HostFault;
+use crate::start::{Started, prepare, start_all};
+use script_program::Program;
+use shared_words::{Pass, Words};
+use std::alloc::Global;
+use std::snapshot::Snapshot;
+use std::sync::Wait;
+use std::thread;
+use std::thread::{Scope, Threads};
+use tx_worker::{ActionSink, Gate};
+
+/// Starts all workers, and joins those that started.
+fn start_and_join<'s, 'e: 's, R: Threads, G: Gate + Sync, A: ActionSink + Sync>(
+    rt: &R,
+    scope: &Scope<'s, &'e ()>,
+    alloc: Global,
+    words: &'e Words,
+    pass: Pass,
+    program: &'e Program,
+    gate: &'e G,
+    sink: &'e A,
+) -> Result<(Pass, Vec<Done>), HostFault>
+    requires own { Owns words.now pass }
+    requires idle { (view_of pass).holds ≡ false }
+    requires whole { (view_of pass).share ≡ 128 }
+    ensures own { IfOk result (λ r. Owns words.now r.0) }
+    ensures gathers { IfOk result (λ r. Gathers (view_of pass) program.now (view_of r.0) r.1.items) }
+{
+    let mut pass = pass;
+    let count = program.threads();
+    let Ok(room) = Vec::with_capacity(alloc, count) else {
+        return Err(HostFault::NoMemory);
+    };
+    let Ok(done) = Vec::with_capacity(alloc, count) else {
+        return Err(HostFault::NoMemory);
+    };
+    let Ok(all) = prepare(alloc, words, &mut pass, program) else {
+        return Err(HostFault::NoMemory);
+    };
+    let base = Snapshot::of(&pass);
+    let Started { handles, whole } = start_all(
+        scope, alloc, words, base, program, all, gate, sink, room,
+    );
+    let Joined { pass, all, held } = join_all(rt, words, pass, program, handles, done);
+    if !whole {
+        return Err(HostFault::NoThread);
+    }
+    if held {
+        return Err(HostFault::Held);
+    }
+    Ok((pass, all))
+}
+
+/// Runs each thread of the program, with a pass of its own. The pass that comes back has all parts again, and knows what
+/// all of them know.
+pub(crate) fn run_all<R: Threads + Wait, G: Gate + Sync, A: ActionSink + Sync>(
+    rt: &R,
+    alloc: Global,
+    words: &Words,
+    pass: Pass,
+    program: &Program,
+    gate: &G,
+    sink: &A,
+) -> Result<(Pass, Vec<Done>), HostFault>
+    requires own { Owns words.now pass }
+    requires idle { (view_of pass).holds ≡ false }
+    requires whole { (view_of pass).share ≡ 128 }
+    ensures own { IfOk result (λ r. Owns words.now r.0) }
+    ensures gathers { IfOk result (λ r. Gathers (view_of pass) program.now (view_of r.0) r.1.items) }
+{
+    thread::scope(
+        thread::scope_env(),
+        rt,
+        move |scope| -> Result<(Pass, Vec<Done>), HostFault>
+            requires { Owns words.now pass × ((view_of pass).holds ≡ false) × ((view_of pass).share ≡ 128) }
+            ensures { IfOk result (λ r. Owns words.entry.now r.0
+                × Gathers (view_of pass) program.entry.now (view_of r.0) r.1.items) }
+        { start_and_join(rt, scope, alloc, words, pass, program, gate, sink) },
+    )
+}
