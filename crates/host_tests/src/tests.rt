@@ -1,0 +1,4 @@
+mod gates;
+mod runs;
+mod sinks;
+mod texts;
