@@ -1,5 +1,5 @@
 -- The engine's fields as what its callers see, once a transaction is over.
-use Rattle.std.proofs.Common.{◌≡◌, ℕ, Bool, true, false, List, [], ◌∷◌, length, Option, None, Some, refl, sym, ap, ◌∙◌, if◌then◌else◌}
+use Rattle.std.proofs.Common.{◌≡◌, ℕ, Bool, true, false, List, [], ◌∷◌, length, None, Some, refl, sym, ap, ◌∙◌, if◌then◌else◌}
 use Rattle.itm_types.specs.Kept.{restored}
 use Rattle.itm_types.specs.Memory.{bytes_of}
 use Rattle.undo_log.specs.Rollback.{kept_of}
@@ -12,7 +12,6 @@ use Rattle.nest_frames.specs.Nest.{Frame, arena_back, arena_restored, actions_ba
 use Rattle.itm_model.specs.Machine.{undone, undone_from}
 use Rattle.norec_core.specs.declared.phase.Phase.{Phase}
 use Rattle.norec_core.specs.declared.phase.Phase.TheVariants as at
-use Rattle.norec_core.specs.declared.phase.Taking.{Taking}
 use Rattle.norec_data.specs.declared.data.Data.{Data}
 use Rattle.norec_core.specs.Core.{Core, is_inside, in_transaction, ended, rolled_back}
 use Rattle.norec_data.specs.declared.pending.Pending.{Pending}

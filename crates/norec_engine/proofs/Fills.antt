@@ -18,7 +18,6 @@ use Rattle.write_set.specs.declared.row.Row.{Row}
 use Rattle.write_set.specs.Rows.{AreRows}
 use Rattle.user_actions.specs.Actions.{Actions}
 use Rattle.nest_frames.specs.Nest.{Frame, Nest}
-use Rattle.norec_core.specs.declared.answer.Answer.TheVariants.{Reply}
 use Rattle.norec_data.specs.declared.data.Data.{Data}
 use Rattle.norec_core.specs.declared.phase.Phase.TheVariants.{Idle}
 use Rattle.norec_data.specs.declared.end.End.TheVariants as ends

@@ -190,6 +190,6 @@ pub record IsSound (d : Data) (phase : Phase) : Type 0 where
   pub in_phase : InPhase d phase
 
 -- the piece that is loaded next, or what comes past the access
-abbrev pub next_load : Option Reading → Phase → Phase
-next_load None past = past
-next_load (Some r) past = at.Load r
+abbrev pub next_load : Reading → Option ℕ → Phase → Phase
+next_load r None past = past
+next_load r (Some number) past = at.Load (record r { number = number })

@@ -141,8 +141,8 @@ pub(crate) fn next_chunk(state: &mut Data, copying: Copying, number: u32) -> Tur
     let mut number = number;
     while let Some(reading) = chunk_reading(copying, number) {
         state.gathered = Value::new();
-        if let Some(next) = take_had(state, reading) {
-            state.reading = next;
+        if let Some(number) = take_had(state, reading) {
+            state.reading = Reading { number, ..reading };
             return Turn::Wait(Pending::Load);
         }
         keep_chunk(state, copying, number, reading);

@@ -10,7 +10,7 @@ ghost use Rattle.itm_types.specs.Access.{size_of};
 ghost use Rattle.norec_core.specs.Accesses.{parts, count, passed};
 ghost use Rattle.norec_data.specs.View.{in_block, core, rows_before};
 ghost use Rattle.norec_engine.specs.InPhases.{IsSound, IsMissing, IsOpen, IsReading, next_load};
-ghost use Rattle.norec_engine.specs.Between.{between, logged, IsSoundTurn, MayGather, MayReply};
+ghost use Rattle.norec_engine.specs.Between.{between, logged, IsSoundTurn, IsValue, MayGather, MayReply};
 ghost use Rattle.norec_data.specs.Turns.{core_after, phase_after, Turns, TurnEndsSo, Stays};
 ghost use Rattle.norec_core.specs.Core.{came, handed};
 ghost use Rattle.norec_core.specs.Order.{load_among, load_stage, log_after, snapshot_after, stage_after, stage_at, tries_after, tries_at};
@@ -20,11 +20,11 @@ ghost use Rattle.norec_core.specs.Proceeds.{Joins, MayStarve};
 use crate::access::refuse;
 use crate::copy::{keep_chunk, next_chunk};
 use crate::rounds::try_round;
-use itm_types::{Call, LogRow, MAX_WORDS, ReadHint, Value, Width};
+use itm_types::{Call, LogRow, MAX_MEMORY, MAX_WORDS, ReadHint, Value, Width};
 use norec_core::{Aim, Phase, Purpose, Reading};
 use norec_data::{Cause, Data, End, Pending, Turn, access_refusal};
 use std::alloc::AllocError;
-use word_pieces::{Piece, merge};
+use word_pieces::{Piece, merge, piece_at};
 
 /// The words that one access touches at most.
 pub(crate) const MOST_PIECES: usize = 5;
@@ -61,10 +61,10 @@ pub(crate) fn read(
         number: 0,
     };
     match take_had(state, reading) {
-        Some(next) => {
+        Some(number) => {
             state.log.reserve(MOST_PIECES)?;
             start(state);
-            state.reading = next;
+            state.reading = Reading { number, ..reading };
             Ok(Turn::Wait(Pending::Load))
         }
         None => {
@@ -97,6 +97,44 @@ fn reply_gathered(state: &mut Data, reading: Reading) -> Turn
     Turn::End(End::Gathered)
 }
 
+/// The access goes on past the piece that was loaded. A value that has no further one is answered with no copy made of
+/// the reading.
+#[inline(always)]
+fn go_past(state: &mut Data) -> Turn
+    requires may { MayGather state.old (record state.old.reading { number = state.old.reading.number + 1 }) }
+    requires few { state.old.reading.number < 5 }
+    ensures sound { IsSoundTurn result state.new }
+    // whatever the log was before a row joined it
+    ensures proceeds { (log : List LogRow) → Turns
+        (logged (between state.old (Aim.Read (record state.old.reading { number = state.old.reading.number + 1 }))) log) result state.new }
+    ensures stays { Stays state.old state.new }
+    ensures order { phase_after result state.new ≡ load_stage (rows_before state.old) state.old.log.rows
+        (record state.old.reading { number = state.old.reading.number + 1 }) }
+    ensures ends { TurnEndsSo None result state.new }
+    ensures tries { (core_after result state.new).tries ≡ tries_after (phase_after result state.new) state.old.tries }
+{
+    let next = state.reading.next();
+    if is_whole(&state.reading) {
+        reply_gathered(state, next)
+    } else {
+        go_on(state, next)
+    }
+}
+
+/// The read is one of a value, and has no piece past this one.
+#[inline(always)]
+fn is_whole(reading: &Reading) -> bool
+    requires place { reading.now.at ≤ MAX_MEMORY }
+    requires small { reading.now.size ≤ 32 }
+    requires few { reading.now.number < 5 }
+    ensures whole { result ≡ true → IsValue reading.now.purpose × (count reading.now ≤ reading.now.number + 1) }
+{
+    match reading.purpose {
+        Purpose::Value { .. } => piece_at(reading.at, reading.size, reading.number + 1).is_none(),
+        Purpose::Chunk { .. } => false,
+    }
+}
+
 /// The access goes on from this piece: with the next one that is loaded, or with what it was made for.
 pub(crate) fn go_on(state: &mut Data, reading: Reading) -> Turn
     requires may { MayGather state.old reading }
@@ -109,8 +147,8 @@ pub(crate) fn go_on(state: &mut Data, reading: Reading) -> Turn
     ensures ends { TurnEndsSo None result state.new }
     ensures tries { (core_after result state.new).tries ≡ tries_after (phase_after result state.new) state.old.tries }
 {
-    if let Some(next) = take_had(state, reading) {
-        state.reading = next;
+    if let Some(number) = take_had(state, reading) {
+        state.reading = Reading { number, ..reading };
         return Turn::Wait(Pending::Load);
     }
     match reading.purpose {
@@ -122,13 +160,16 @@ pub(crate) fn go_on(state: &mut Data, reading: Reading) -> Turn
     }
 }
 
-/// The pieces from this one on are taken from the write set and the log, up to one that is not to be had, which is given.
-pub(crate) fn take_had(state: &mut Data, reading: Reading) -> Option<Reading>
+/// The pieces from this one on are taken from the write set and the log, up to one that is not to be had, whose
+/// number is given.
+#[cycle(take_had)]
+#[inline(always)]
+pub(crate) fn take_had(state: &mut Data, reading: Reading) -> Option<u8>
     requires may { (state.old.words ≤ MAX_WORDS) × IsOpen state.old × IsReading state.old reading }
     ensures frame { state.new ≡ record state.old { gathered = state.new.gathered } }
-    ensures next { IfSome result (λ next. (next ≡ record reading { number = next.number }) × (reading.number ≤ next.number) × IsReading state.new next × IsMissing state.new next) }
+    ensures next { IfSome result (λ number. (reading.number ≤ number) × IsReading state.new (record reading { number = number }) × IsMissing state.new (record reading { number = number })) }
     ensures whole { IfNone result (IsReading state.new (record reading { number = count reading })) }
-    ensures order { (past : Phase) → next_load result past
+    ensures order { (past : Phase) → next_load reading result past
         ≡ load_among (rows_before state.old) state.old.log.rows past reading (drop reading.number (parts reading)) }
 {
     let Some(piece) = reading.piece() else {
@@ -137,10 +178,24 @@ pub(crate) fn take_had(state: &mut Data, reading: Reading) -> Option<Reading>
     match had(state, piece) {
         Some(value) => {
             piece.gather(value, &mut state.gathered);
-            take_had(state, reading.next())
+            take_more(state, reading.next())
         }
-        None => Some(reading),
+        None => Some(reading.number),
     }
+}
+
+/// The same past the first piece.
+#[cycle(take_had)]
+#[inline(never)]
+fn take_more(state: &mut Data, reading: Reading) -> Option<u8>
+    requires may { (state.old.words ≤ MAX_WORDS) × IsOpen state.old × IsReading state.old reading }
+    ensures frame { state.new ≡ record state.old { gathered = state.new.gathered } }
+    ensures next { IfSome result (λ number. (reading.number ≤ number) × IsReading state.new (record reading { number = number }) × IsMissing state.new (record reading { number = number })) }
+    ensures whole { IfNone result (IsReading state.new (record reading { number = count reading })) }
+    ensures order { (past : Phase) → next_load reading result past
+        ≡ load_among (rows_before state.old) state.old.log.rows past reading (drop reading.number (parts reading)) }
+{
+    take_had(state, reading)
 }
 
 /// A piece's word, where the piece is to be had with no step: the write set has all of it, or the word is logged.
@@ -217,10 +272,9 @@ pub(crate) fn confirmed(state: &mut Data, value: u64, seen: u64) -> Turn
         → state.new.log.rows ≡ log_after (core state.old (Phase.Confirm state.old.reading value)) seen }
     ensures tries { (core_after result state.new).tries ≡ tries_after (phase_after result state.new) state.old.tries }
 {
-    let reading = state.reading;
     state.clock = seen;
     if seen == state.snapshot {
-        let Some(piece) = reading.piece() else {
+        let Some(piece) = state.reading.piece() else {
             unreachable!();
         };
         let row = LogRow {
@@ -230,7 +284,7 @@ pub(crate) fn confirmed(state: &mut Data, value: u64, seen: u64) -> Turn
         state.log.add(row);
         let word = overlaid(state, piece.word, value);
         piece.gather(word, &mut state.gathered);
-        go_on(state, reading.next())
+        go_past(state)
     } else {
         try_round(state, Cause::Read)
     }

@@ -1,7 +1,7 @@
 //! Writes: a value goes into the write set, piece by piece upwards, and no step is taken.
 
-ghost use Rattle.std.specs.Prelude.{◌≡◌, ◌<◌, ◌≤◌, ◌+◌, false, IfOk, OnOk, OnErr, All, length, map};
-ghost use Rattle.word_pieces.specs.Pieces.{IsPiece};
+ghost use Rattle.std.specs.Prelude.{◌≡◌, ◌<◌, ◌≤◌, ◌+◌, ◌∷◌, [], false, IfOk, OnOk, OnErr, All, length, map};
+ghost use Rattle.word_pieces.specs.Pieces.{IsPiece, pieces_of};
 ghost use Rattle.itm_types.specs.Slices.{AreBytes};
 ghost use Rattle.write_set.specs.Marks.{KeepsRoom, MayPut};
 ghost use Rattle.nest_frames.specs.Nest.{rows_of};
@@ -16,12 +16,12 @@ ghost use Rattle.norec_core.specs.Endings.{ending_at};
 ghost use Rattle.norec_core.specs.Proceeds.{MayStarve};
 
 use crate::access::refuse;
-use itm_types::{Call, Datum, WriteHint};
+use itm_types::{Call, Datum, MAX_MEMORY, WriteHint};
 use nest_frames::Frames;
 use norec_core::Phase;
 use norec_data::{Data, End, Turn, access_refusal};
 use std::alloc::AllocError;
-use word_pieces::{Piece, pieces};
+use word_pieces::{Piece, piece_at, pieces};
 
 /// A write comes.
 pub(crate) fn write(
@@ -46,11 +46,76 @@ pub(crate) fn write(
     if let Some(why) = access_refusal(state, at, u64::from(value.width.size())) {
         return Ok(refuse(state, why));
     }
-    let pieces = pieces(at, value.width.size());
-    reserve_all(&mut state.frames, &pieces)?;
-    put_all(&mut state.frames, &pieces, value.bytes.as_slice());
+    put_value(&mut state.frames, at, value.width.size(), &value.bytes)?;
     state.come();
     Ok(Turn::End(End::Done))
+}
+
+/// Puts a value of so many bytes in the write set. Where memory is refused, no word is given a row.
+#[inline(always)]
+fn put_value(frames: &mut Frames, at: u64, size: u8, bytes: &[u8]) -> Result<(), AllocError>
+    requires open { 0 < length frames.old.blocks }
+    requires range { at + size ≤ MAX_MEMORY }
+    requires small { size ≤ 32 }
+    requires bytes { size ≤ length bytes.now }
+    ensures rows { OnOk result (frames.new.writes.rows
+        ≡ put_all (reserved_all frames.old.writes.rows (pieces_of at size)) (pieces_of at size) bytes.now) }
+    ensures err { OnErr result (frames.new.writes.rows ≡ frames.old.writes.rows) }
+    ensures blocks { frames.new.blocks ≡ frames.old.blocks }
+    ensures size { frames.new.size ≡ frames.old.size }
+    ensures actions { frames.new.actions ≡ frames.old.actions }
+    ensures room { frames.new.room ≡ frames.old.room }
+    ensures grows { OnErr result (AreRoomy frames.old.writes.rows (rows_of frames.old.blocks) (pieces_of at size) → ⊥) }
+    ensures bytes { AreBytes bytes.now }
+{
+    match piece_at(at, size, 0) {
+        Some(piece) if piece.count == size => put_piece(frames, piece, bytes),
+        _ => put_pieces(frames, at, size, bytes),
+    }
+}
+
+/// The same for a value that lies in one word.
+#[inline(always)]
+fn put_piece(frames: &mut Frames, piece: Piece, bytes: &[u8]) -> Result<(), AllocError>
+    requires open { 0 < length frames.old.blocks }
+    requires piece { IsPiece piece }
+    requires bytes { piece.at + piece.count ≤ length bytes.now }
+    ensures rows { OnOk result (frames.new.writes.rows
+        ≡ put_all (reserved_all frames.old.writes.rows (piece ∷ [])) (piece ∷ []) bytes.now) }
+    ensures err { OnErr result (frames.new.writes.rows ≡ frames.old.writes.rows) }
+    ensures blocks { frames.new.blocks ≡ frames.old.blocks }
+    ensures size { frames.new.size ≡ frames.old.size }
+    ensures actions { frames.new.actions ≡ frames.old.actions }
+    ensures room { frames.new.room ≡ frames.old.room }
+    ensures grows { OnErr result (AreRoomy frames.old.writes.rows (rows_of frames.old.blocks) (piece ∷ []) → ⊥) }
+    ensures bytes { AreBytes bytes.now }
+{
+    frames.reserve(piece.word)?;
+    frames.put(piece.word, piece.mask(), piece.scatter(bytes));
+    Ok(())
+}
+
+/// The same, piece by piece.
+#[inline(never)]
+fn put_pieces(frames: &mut Frames, at: u64, size: u8, bytes: &[u8]) -> Result<(), AllocError>
+    requires open { 0 < length frames.old.blocks }
+    requires range { at + size ≤ MAX_MEMORY }
+    requires small { size ≤ 32 }
+    requires bytes { size ≤ length bytes.now }
+    ensures rows { OnOk result (frames.new.writes.rows
+        ≡ put_all (reserved_all frames.old.writes.rows (pieces_of at size)) (pieces_of at size) bytes.now) }
+    ensures err { OnErr result (frames.new.writes.rows ≡ frames.old.writes.rows) }
+    ensures blocks { frames.new.blocks ≡ frames.old.blocks }
+    ensures size { frames.new.size ≡ frames.old.size }
+    ensures actions { frames.new.actions ≡ frames.old.actions }
+    ensures room { frames.new.room ≡ frames.old.room }
+    ensures grows { OnErr result (AreRoomy frames.old.writes.rows (rows_of frames.old.blocks) (pieces_of at size) → ⊥) }
+    ensures bytes { AreBytes bytes.now }
+{
+    let pieces = pieces(at, size);
+    reserve_all(frames, &pieces)?;
+    put_all(frames, &pieces, bytes);
+    Ok(())
 }
 
 /// Makes each piece's word ready to be written. Where memory is refused, none is given a row.

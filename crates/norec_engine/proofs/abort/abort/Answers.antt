@@ -1,4 +1,4 @@
-use Rattle.std.proofs.Common.{◌≡◌, Bool, false, sym, ap, ◌∙◌, rules}
+use Rattle.std.proofs.Common.{◌≡◌, Bool, false, sym, ap, ◌∙◌}
 use Rattle.nest_frames.specs.Nest.{is_kept}
 use Rattle.norec_core.specs.Core.{is_outermost}
 use Rattle.norec_engine.proofs.Cancels.{kept_replies, cancelled_replies, cancelled_sound, all_replies, not_both}

@@ -1,4 +1,4 @@
-use Rattle.std.proofs.Common.{ℕ, ◌/◌, refl, sym, ap, ◌∙◌, arith}
+use Rattle.std.proofs.Common.{ℕ, refl, sym, ap, ◌∙◌, arith}
 use Rattle.norec_core.specs.Core.{rolled_back}
 use Rattle.norec_core.specs.declared.phase.Aim.TheVariants as aims
 use Rattle.norec_core.specs.declared.phase.Phase.TheVariants.{Idle}

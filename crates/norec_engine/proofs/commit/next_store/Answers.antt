@@ -5,7 +5,6 @@ use Rattle.norec_data.specs.declared.turn.Turn.TheVariants.{Enter}
 use Rattle.norec_data.specs.Turns.{Turns}
 use Rattle.norec_core.specs.declared.phase.Aim.TheVariants as aims
 use Rattle.norec_core.specs.declared.phase.Taking.{Taking}
-use Rattle.norec_core.specs.declared.phase.Taking.TheVariants as takings
 use Rattle.norec_core.specs.Proceeds.{Enters}
 use Rattle.norec_data.specs.View.{call_of, core_held}
 use Rattle.norec_engine.specs.InPhases.{IsHolding}

@@ -40,11 +40,11 @@ returns-in-Some-take_had-clause-sound c =
     let k = c.args.copying in
     let n = c.loop-reading.number in
     let at = reading_of k n c.in-Some.reading (sym c.in-Some.is ∙ c.chunk_reading.ensures.value) in
-    let next = c.in-Some-take_had.next in
+    let next : Reading = record c.in-Some.reading { number = c.in-Some-take_had.number } in
     let found = c.in-Some-take_had.ensures.next in
-    let same = found.0 ∙ ap (λ (r : Reading). record r { number = next.number }) at.2 in
+    let same : next ≡ record (chunk_reading k n at.0) { number = next.number } = ap (λ (r : Reading). record r { number = c.in-Some-take_had.number }) at.2 in
     let d : Data = record s { gathered = c.new-state.result } in
-    let read = may_read d (chunk_reading k n at.0) next c.take_had.new.state.gathered same (omega arith) (logs_chunk s k n at.0 c.new-state.result may) (rw (← c.take_had.ensures.frame) found.2) (rw (← c.take_had.ensures.frame) found.3) in
+    let read = may_read d (chunk_reading k n at.0) next c.take_had.new.state.gathered same (omega arith) (logs_chunk s k n at.0 c.new-state.result may) (rw (← c.take_had.ensures.frame) found.1) (rw (← c.take_had.ensures.frame) found.2) in
     rw c.take_had.ensures.frame (load_sound _ (chunk_reading k n at.0) next same (omega arith) may.bounds (open_gathering s _ may.is_open) read may.settled (omega (arith, may.spent)))
 
 pub returns-in-Some-take_had-clause-order : goal.returns-in-Some-take_had-clause-order

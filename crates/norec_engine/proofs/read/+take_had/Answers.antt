@@ -1,4 +1,4 @@
-use Rattle.std.proofs.Common.{◌≡◌, ℕ, List, [], ◌++◌, length, take, drop, refl, sym, ap, subst, ◌∙◌, arith}
+use Rattle.std.proofs.Common.{◌≡◌, ℕ, ◌+◌, Option, None, Some, List, [], ◌++◌, length, take, drop, refl, sym, ap, subst, ◌∙◌, arith}
 use Rattle.word_pieces.specs.Pieces.{gathered, part_of}
 use Rattle.std.specs.Prelude.{slice_index}
 use Rattle.std.proofs.lemmas.List.{length-append}
@@ -7,17 +7,26 @@ use Rattle.norec_core.specs.declared.phase.Reading.{Reading}
 use Rattle.norec_core.specs.Order.{load_among}
 use Rattle.norec_core.specs.Accesses.{parts, count}
 use Rattle.norec_data.specs.View.{rows_before}
-use Rattle.norec_engine.specs.InPhases.{IsReading}
+use Rattle.norec_core.specs.declared.phase.Phase.{Phase}
+use Rattle.norec_engine.specs.InPhases.{IsReading, next_load}
 use Rattle.norec_core.specs.Rows.{is_had}
 use Rattle.norec_core.proofs.Readings.{load_ends, load_here, load_next, none_left, some_left, part_is, length-part_of}
 use Rattle.norec_engine.proofs.Sources.{had_before}
 use Rattle.norec_engine.proofs.read.+take_had.Goals as goal
 
-pub piece-requires-clause-place : goal.piece-requires-clause-place
-piece-requires-clause-place t c = omega (arith, c.requires.may.0, c.requires.may.2.within)
+-- the piece that is loaded is one of the same access
+next_load_at : (r : Reading) (n : ℕ) (o : Option ℕ) (past : Phase) → next_load (record r { number = n }) o past ≡ next_load r o past
+next_load_at r n None past = refl
+next_load_at r n (Some number) past = refl
 
-pub returns-in_default-clause-whole : goal.returns-in_default-clause-whole
-returns-in_default-clause-whole t c =
+next_load_on : (r next : Reading) (n : ℕ) → next ≡ record r { number = n } → (o : Option ℕ) (past : Phase) → next_load next o past ≡ next_load r o past
+next_load_on r next n is o past = ap (λ (x : Reading). next_load x o past) is ∙ next_load_at r n o past
+
+pub take_had-piece-requires-clause-place : goal.take_had-piece-requires-clause-place
+take_had-piece-requires-clause-place t c = omega (arith, c.requires.may.0, c.requires.may.2.within)
+
+pub take_had-returns-in_default-clause-whole : goal.take_had-returns-in_default-clause-whole
+take_had-returns-in_default-clause-whole t c =
     let r = c.args.reading in
     let s = c.args.state.now in
     let reading = c.requires.may.2 in
@@ -25,18 +34,18 @@ returns-in_default-clause-whole t c =
     let same : r.number ≡ count r = omega (arith, all, reading.far) in
     subst (λ (n : ℕ). IsReading s (record r { number = n })) same reading
 
-pub returns-in_default-clause-order : goal.returns-in_default-clause-order
-returns-in_default-clause-order t c past = sym (load_ends (rows_before c.args.state.now) c.args.state.now.log.rows past c.args.reading (sym c.piece.ensures.value ∙ c.in_default.is))
+pub take_had-returns-in_default-clause-order : goal.take_had-returns-in_default-clause-order
+take_had-returns-in_default-clause-order t c past = sym (load_ends (rows_before c.args.state.now) c.args.state.now.log.rows past c.args.reading (sym c.piece.ensures.value ∙ c.in_default.is))
 
-pub gather-requires-clause-room : goal.gather-requires-clause-room
-gather-requires-clause-room t c =
+pub take_had-gather-requires-clause-room : goal.take_had-gather-requires-clause-room
+take_had-gather-requires-clause-room t c =
     let sized = c.requires.may.2.sized in
     let before = c.in-Some.ensures.before [] in
     let most = c.in-Some.ensures.in_value in
     omega (arith, sized, before, most)
 
-pub take_had-requires : goal.take_had-requires
-take_had-requires t c =
+pub take_had-take_more-requires : goal.take_had-take_more-requires
+take_had-take_more-requires t c =
     let s = c.args.state.now in
     let r = c.args.reading in
     let is_open = c.requires.may.1 in
@@ -76,23 +85,23 @@ take_had-requires t c =
       ),
     )
 
-pub returns-in-Some-had-clause-order : goal.returns-in-Some-had-clause-order
-returns-in-Some-had-clause-order t c past =
+pub take_had-returns-in-Some-had-clause-order : goal.take_had-returns-in-Some-had-clause-order
+take_had-returns-in-Some-had-clause-order t c past =
     let s = c.args.state.now in
     let r = c.args.reading in
     let is = sym c.piece.ensures.value ∙ c.in-Some.is in
     let had = had_before s r.purpose r.at r.size c.requires.may.2.purpose c.in-Some.piece c.in-Some.ensures.piece ∙ sym c.in-Some-had.ensures.had in
-    c.take_had.ensures.order past
-    ∙ (ap (λ (x : Reading). load_among (rows_before s) s.log.rows past x (drop x.number (parts x))) c.next.ensures ∙ sym (load_next (rows_before s) s.log.rows past r c.in-Some.piece is had))
+    sym (next_load_on r c.next.result (r.number + 1) c.next.ensures c.take_more.result past)
+    ∙ (c.take_more.ensures.order past
+    ∙ (ap (λ (x : Reading). load_among (rows_before s) s.log.rows past x (drop x.number (parts x))) c.next.ensures ∙ sym (load_next (rows_before s) s.log.rows past r c.in-Some.piece is had)))
 
-pub returns-in-None-clause-next : goal.returns-in-None-clause-next
-returns-in-None-clause-next t c =
+pub take_had-returns-in-None-clause-next : goal.take_had-returns-in-None-clause-next
+take_had-returns-in-None-clause-next t c =
     let s = c.args.state.now in
     let r = c.args.reading in
     let is = sym c.piece.ensures.value ∙ c.in-Some.is in
     let is_open = c.requires.may.1 in
     let reading = c.requires.may.2 in (
-      refl,
       omega arith,
       record { within = reading.within; small = reading.small; purpose = reading.purpose; far = reading.far; has = reading.has; sized = reading.sized },
       record {
@@ -101,8 +110,8 @@ returns-in-None-clause-next t c =
       },
     )
 
-pub returns-in-None-clause-order : goal.returns-in-None-clause-order
-returns-in-None-clause-order t c past =
+pub take_had-returns-in-None-clause-order : goal.take_had-returns-in-None-clause-order
+take_had-returns-in-None-clause-order t c past =
     let s = c.args.state.now in
     let r = c.args.reading in
     let unhad = had_before s r.purpose r.at r.size c.requires.may.2.purpose c.in-Some.piece c.in-Some.ensures.piece ∙ sym c.in-None.ensures.had in

@@ -1,4 +1,4 @@
-use Rattle.std.proofs.Common.{ℕ, ◌==◌, List, [], ◌∷◌, ◌++◌, length, take, refl, sym, ap, subst, ◌∙◌, arith, eq-eqb, add-one, inl, inr}
+use Rattle.std.proofs.Common.{ℕ, ◌+◌, ◌==◌, List, [], ◌∷◌, ◌++◌, length, take, refl, sym, ap, subst, ◌∙◌, arith, eq-eqb, add-one, inl, inr}
 use Rattle.std.proofs.lemmas.Bool.{cond-true}
 use Rattle.std.proofs.lemmas.List.{length-append}
 use Rattle.std.specs.Prelude.{slice_index}
@@ -39,8 +39,8 @@ add-requires c =
       first = unlogged s.frames.writes.rows s.log.rows p (ap (is_had s.frames.writes.rows s.log.rows) is ∙ phase.1.missing.unhad);
     }
 
-pub go_on-requires : goal.go_on-requires
-go_on-requires c =
+pub go_past-requires : goal.go_past-requires
+go_past-requires c =
     let s = c.args.state.now in
     let r = c.args.state.now.reading in
     let phase = c.requires.sound.in_phase in
@@ -55,7 +55,7 @@ go_on-requires c =
     let on = passed_next r.purpose r.number in
     let to_come = total_left r.purpose r.number (count r) (among s r.purpose r.at r.size reading.purpose) left in
     let joined = λ (m : List ℕ) (agrees : Agrees m c.add.new.self.rows). subst (Agrees m) added agrees in
-    rw c.next.ensures (record {
+    record {
       may = record {
         bounds = c.requires.sound.bounds;
         is_open = record {
@@ -97,16 +97,17 @@ go_on-requires c =
         settled = c.if-seen-state.true;
         spent = omega (arith, on, phase.3);
       };
-    })
+      few = c.in-Some.ensures.few;
+    }
 
 pub returns-in-Some-clause-joins : goal.returns-in-Some-clause-joins
 returns-in-Some-clause-joins c =
     let s = c.args.state.now in
     let r = c.args.state.now.reading in
     let phase = c.requires.sound.in_phase in
-    let result = c.go_on.result in
-    let new = c.go_on.new.state in
-    let stays = c.go_on.ensures.stays in
+    let result = c.go_past.result in
+    let new = c.go_past.new.state in
+    let stays = c.go_past.ensures.stays in
     let p = c.in-Some.piece in
     let word = ap (λ (x : Piece). x.word) (part_is r p (sym c.piece.ensures.value ∙ c.in-Some.is)) in
     let settles : Settles (core s (Confirm r c.args.value)) c.args.seen = record { load = refl; same = c.if-seen-state.true ∙ sym phase.2; even = omega (arith, c.requires.sound.bounds.even, c.if-seen-state.true) } in
@@ -127,12 +128,12 @@ returns-in-Some-clause-order c =
     let r = c.args.state.now.reading in
     let word = ap (λ (x : Piece). x.word) (part_is r c.in-Some.piece (sym c.piece.ensures.value ∙ c.in-Some.is)) in
     let log = c.add.ensures.rows ∙ ap (λ (n : ℕ). s.log.rows ++ record { word = n; value = c.args.value } ∷ []) word in
-    c.go_on.ensures.order ∙ ((λ i. load_stage (rows_before s) (log i) (c.next.ensures i)) ∙ (ap (λ (n : ℕ). load_stage (rows_before s) (s.log.rows ++ record { word = word_of r; value = c.args.value } ∷ []) (record r { number = n })) (add-one r.number)
+    c.go_past.ensures.order ∙ ((λ i. load_stage (rows_before s) (log i) (record r { number = r.number + 1 })) ∙ (ap (λ (n : ℕ). load_stage (rows_before s) (s.log.rows ++ record { word = word_of r; value = c.args.value } ∷ []) (record r { number = n })) (add-one r.number)
     ∙ sym (cond-true (c.args.seen == s.snapshot) _ _ (eq-eqb c.args.seen s.snapshot c.if-seen-state.true))))
 
 pub returns-in-Some-clause-log : goal.returns-in-Some-clause-log
 returns-in-Some-clause-log c o =
     let s = c.args.state.now in
     let word = ap (λ (x : Piece). x.word) (part_is c.args.state.now.reading c.in-Some.piece (sym c.piece.ensures.value ∙ c.in-Some.is)) in
-    c.go_on.ensures.stays.log o ∙ (c.add.ensures.rows ∙ (ap (λ (n : ℕ). s.log.rows ++ record { word = n; value = c.args.value } ∷ []) word
+    c.go_past.ensures.stays.log o ∙ (c.add.ensures.rows ∙ (ap (λ (n : ℕ). s.log.rows ++ record { word = n; value = c.args.value } ∷ []) word
     ∙ sym (cond-true (c.args.seen == s.snapshot) _ _ (eq-eqb c.args.seen s.snapshot c.if-seen-state.true))))

@@ -1,8 +1,9 @@
-use Rattle.std.proofs.Common.{◌≡◌, ℕ, ◌+◌, ◌*◌, length, take, drop, sym, ap, subst, ◌∙◌, arith, add-one}
+use Rattle.std.proofs.Common.{◌≡◌, ℕ, ◌+◌, ◌*◌, length, take, drop, refl, sym, ap, subst, ◌∙◌, arith, add-one}
 use Rattle.word_pieces.specs.Pieces.{count_of}
 use Rattle.norec_data.specs.declared.data.Data.{Data}
 use Rattle.norec_core.specs.declared.phase.Aim.TheVariants as aims
 use Rattle.norec_core.specs.declared.phase.Purpose.{Purpose}
+use Rattle.norec_core.specs.declared.phase.Reading.{Reading}
 use Rattle.norec_core.specs.Copies.{chunks_in, direction_of, source_words, words_in}
 use Rattle.norec_engine.proofs.AcceptedCopies.{source_within}
 use Rattle.norec_core.proofs.CopyChunks.{chunk_there}
@@ -27,16 +28,18 @@ returns-in-Some-clause-sound c =
     let s = c.args.state.now in
     let may = c.requires.may in
     let found = c.in-Some.ensures.next in
-    let read = may_read s c.args.reading c.in-Some.next c.take_had.new.state.gathered found.0 found.1 may.logging (rw (← c.take_had.ensures.frame) found.2) (rw (← c.take_had.ensures.frame) found.3) in
-    rw c.take_had.ensures.frame (load_sound (record s { gathered = c.take_had.new.state.gathered }) c.args.reading c.in-Some.next found.0 found.1 may.bounds (open_gathering s _ may.is_open) read may.settled may.spent)
+    let next : Reading = record c.args.reading { number = c.in-Some.number } in
+    let read = may_read s c.args.reading next c.take_had.new.state.gathered refl found.0 may.logging (rw (← c.take_had.ensures.frame) found.1) (rw (← c.take_had.ensures.frame) found.2) in
+    rw c.take_had.ensures.frame (load_sound (record s { gathered = c.take_had.new.state.gathered }) c.args.reading next refl found.0 may.bounds (open_gathering s _ may.is_open) read may.settled may.spent)
 
 pub returns-in-Some-clause-proceeds : goal.returns-in-Some-clause-proceeds
 returns-in-Some-clause-proceeds c log =
     let s = c.args.state.now in
     let may = c.requires.may in
     let found = c.in-Some.ensures.next in
-    let read = may_read s c.args.reading c.in-Some.next c.take_had.new.state.gathered found.0 found.1 may.logging (rw (← c.take_had.ensures.frame) found.2) (rw (← c.take_had.ensures.frame) found.3) in
-    rw c.take_had.ensures.frame (load_proceeds (record s { gathered = c.take_had.new.state.gathered }) c.args.reading c.in-Some.next found.0 found.1 may.bounds (open_gathering s _ may.is_open) read may.settled may.spent log)
+    let next : Reading = record c.args.reading { number = c.in-Some.number } in
+    let read = may_read s c.args.reading next c.take_had.new.state.gathered refl found.0 may.logging (rw (← c.take_had.ensures.frame) found.1) (rw (← c.take_had.ensures.frame) found.2) in
+    rw c.take_had.ensures.frame (load_proceeds (record s { gathered = c.take_had.new.state.gathered }) c.args.reading next refl found.0 may.bounds (open_gathering s _ may.is_open) read may.settled may.spent log)
 
 pub returns-in-Some-clause-order : goal.returns-in-Some-clause-order
 returns-in-Some-clause-order c = c.in-Some.ensures.order (load_past (rows_before c.args.state.now) c.args.state.now.log.rows c.args.reading.purpose)

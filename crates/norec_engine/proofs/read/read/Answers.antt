@@ -49,7 +49,7 @@ returns-in_err-reserve-in-Some-take_had-clause-starves c =
     let may = served (in_block s) s.words c.args.at c.from.result (sym c.in_default.ensures.value) in
     let first : Reading = value_reading c.args.hint c.args.width c.args.at in
     let accepted : (in_block s && nat_le (first.at + first.size) (8 * s.words)) ≡ true = (λ i. in_block s && nat_le (c.args.at + sym bytes i) (8 * s.words)) ∙ sym c.in_default.ensures.served in
-    let at : Load c.in-Some-take_had.next ≡ load_stage s.frames.writes.rows s.log.rows first =
+    let at : Load (record { purpose = for.Value c.args.hint c.args.width; at = c.args.at; size = c.size-2.result; number = c.in-Some-take_had.number }) ≡ load_stage s.frames.writes.rows s.log.rows first =
     c.in-Some-take_had.ensures.order Idle
     ∙ (stands s c.len-state.result (record { purpose = for.Value c.args.hint c.args.width; at = c.args.at; size = c.size-2.result; number = 0 }) first accepted c.len-state.ensures.len (λ i. record { purpose = for.Value c.args.hint c.args.width; at = c.args.at; size = c.size-2.ensures.value i; number = 0 }) Idle
     ∙ cond-true (in_block s && nat_le (first.at + first.size) (8 * s.words)) _ _ accepted) in
@@ -68,17 +68,17 @@ returns-in_ok-reserve-in-Some-take_had-clause-sound c =
     let g = c.take_had.new.state.gathered in
     let log : Log = c.reserve.new.self in
     let first : Reading = value_reading hint width c.args.at in
-    let next : Reading = c.in-Some-take_had.next in
+    let next : Reading = record { purpose = for.Value hint width; at = c.args.at; size = c.size-2.result; number = c.in-Some-take_had.number } in
     let found = c.in-Some-take_had.ensures.next in
     let st : c.take_had.new.state ≡ gathering s g = c.take_had.ensures.frame ∙ (λ i. record (gathering s g) { written = c.len-state.ensures.len i }) in
     let rows : log.rows ≡ s.log.rows = c.reserve.ensures.rows ∙ ap (λ (d : Data). d.log.rows) st in
     let is : c.start.new.state ≡ ready s g log = c.start.ensures ∙ (λ i. record (st i) { log = log; spent = 0; entry = length log.rows; tries = 0 }) in
-    let on : next ≡ record first { number = next.number } = found.0 ∙ (λ i. record { purpose = for.Value hint width; at = c.args.at; size = c.size-2.ensures.value i; number = next.number }) in
+    let on : next ≡ record first { number = next.number } = (λ i. record { purpose = for.Value hint width; at = c.args.at; size = c.size-2.ensures.value i; number = next.number }) in
     let words : total next ≡ count_of c.args.at (size_of width) = ap total on in
     let read : MayRead (ready s g log) next = record {
-      reading = ready_reading s hint width c.args.at sound may.0 within small g log rows next (subst (λ (d : Data). IsReading d next) st found.2);
+      reading = ready_reading s hint width c.args.at sound may.0 within small g log rows next (subst (λ (d : Data). IsReading d next) st found.1);
       logging = record { room = omega (arith, words, few_words c.args.at (size_of width) small, c.in_ok-reserve-in-Some-take_had.ensures.ok); grown = omega arith };
-      missing = ready_missing s hint width c.args.at sound may.0 within small g log rows next (subst (λ (d : Data). IsMissing d next) st found.3);
+      missing = ready_missing s hint width c.args.at sound may.0 within small g log rows next (subst (λ (d : Data). IsMissing d next) st found.2);
     } in
     subst (λ (d : Data). IsSoundTurn (Wait waits.Load) (record d { reading = next })) (sym is)
     (load_sound (ready s g log) first next on (omega arith) sound.bounds (ready_open s hint width c.args.at sound may.0 within small g log rows) read (settled s hint width c.args.at sound may.0 within small) (omega arith))

@@ -1,7 +1,6 @@
-use Rattle.std.proofs.Common.{◌≡◌, ℕ, ◌+◌, ◌*◌, ◌<◌, ◌≤◌, List, length, Some, IsSome, All, refl, sym, ap, subst, ◌∙◌, arith, rules}
-use Rattle.word_pieces.specs.declared.piece.Piece.{Piece}
+use Rattle.std.proofs.Common.{◌≡◌, ℕ, ◌+◌, ◌*◌, ◌<◌, ◌≤◌, List, length, Some, refl, sym, ap, subst, ◌∙◌, arith, rules}
 use Rattle.write_set.specs.declared.row.Row.{Row}
-use Rattle.write_set.specs.Rows.{lookup, overlay, AreRows}
+use Rattle.write_set.specs.Rows.{overlay, AreRows}
 use Rattle.norec_data.specs.View.{in_block}
 use Rattle.norec_engine.specs.InPhases.{AreFrames}
 use Rattle.norec_data.specs.Bounds.{IsBounded}
@@ -13,11 +12,10 @@ use Rattle.itm_types.specs.Access.{size_of}
 use Rattle.itm_types.specs.Memory.{bytes_of, IsMemory}
 use Rattle.norec_engine.proofs.Refusals.{served}
 use Rattle.norec_core.proofs.Machines.{writes, some_put, some_bytes}
-use Rattle.std.proofs.lemmas.List.Elements.{All-from_recursion}
 use Rattle.word_pieces.specs.Pieces.{pieces_of}
 use Rattle.word_pieces.proofs.Covers.{words_of-pieces_of}
 use Rattle.itm_types.specs.Slices.{AreBytes}
-use Rattle.norec_core.proofs.Writings.{AllFitIn, either_way, all_reserved, some_pieces, bytes_of-put_all, fit_pieces, AllWritesWithin-put_all, AllWritesWithin-reserved_all, AreRows-put_all, AreRows-reserved_all}
+use Rattle.norec_core.proofs.Writings.{AllFitIn, either_way, some_pieces, bytes_of-put_all, fit_pieces, AllWritesWithin-put_all, AllWritesWithin-reserved_all, AreRows-put_all, AreRows-reserved_all}
 use Rattle.itm_types.specs.declared.call.Call.TheVariants.{Write}
 use Rattle.norec_engine.proofs.write.write.Goals as goal
 
@@ -26,25 +24,16 @@ returns-in-Some-clause-proceeds c =
     c.refuse.ensures.proceeds (Write c.args.hint c.args.at c.args.value.now) c.args.at c.from.result
     (ap (λ (n : ℕ). Some (c.args.at, n)) (sym (c.from.ensures ∙ c.size.ensures.value))) (sym c.access_refusal.ensures.value ∙ c.in-Some.is)
 
-pub returns-in_err-reserve_all-clause-starves : goal.returns-in_err-reserve_all-clause-starves
-returns-in_err-reserve_all-clause-starves c =
+pub returns-in_err-put_value-clause-starves : goal.returns-in_err-put_value-clause-starves
+returns-in_err-put_value-clause-starves c =
     let s = c.args.state.now in
     let may = served (in_block s) s.words c.args.at c.from.result (sym c.in_default.ensures.value) in
     let size = size_of c.args.value.now.width in
-    let pieces_are : c.deref.result.now ≡ pieces_of c.args.at size = c.deref.ensures.0 ∙ (c.pieces-pieces.ensures.value ∙ ap (pieces_of c.args.at) c.size-2.ensures.value) in
     either_way c.from_residual.result (
       may.0,
       subst (λ (n : ℕ). c.args.at + n ≤ 8 * s.words) (c.from.ensures ∙ c.size.ensures.value) may.1,
-      λ roomy. c.in_err-reserve_all.ensures.grows (subst (AreRoomy s.frames.writes.rows (rows_of s.frames.blocks)) (sym pieces_are) roomy),
+      λ roomy. c.in_err-put_value.ensures.grows (subst (λ (n : ℕ). AreRoomy s.frames.writes.rows (rows_of s.frames.blocks) (pieces_of c.args.at n)) (sym c.size-2.ensures.value) roomy),
     )
-
-pub put_all-requires-clause-room : goal.put_all-requires-clause-room
-put_all-requires-clause-room c =
-    let s = c.args.state.now in
-    let ps = c.deref-2.result.now in
-    let same : c.reserve_all.new.frames.writes.rows ≡ reserved_all s.frames.writes.rows ps = c.in_ok-reserve_all.ensures.rows ∙ ap (reserved_all s.frames.writes.rows) (c.deref.ensures.0 ∙ sym c.deref-2.ensures.0) in
-    subst (λ (rows : List Row). All (λ (p : Piece). IsSome (lookup p.word rows)) ps) (sym same)
-    (All-from_recursion (λ (p : Piece). IsSome (lookup p.word (reserved_all s.frames.writes.rows ps))) ps (all_reserved s.frames.writes.rows ps))
 
 pub returns-clause-sound : goal.returns-clause-sound
 returns-clause-sound c =
@@ -55,18 +44,17 @@ returns-clause-sound c =
     let ps = pieces_of c.args.at (size_of w) in
     let sound = c.requires.sound in
     let idle = sound.in_phase.0 may.0 in
-    let pieces_are : c.pieces-pieces.result.items ≡ ps = c.pieces-pieces.ensures.value ∙ ap (pieces_of c.args.at) c.size-2.ensures.value in
-    let rows : c.put_all.new.frames.writes.rows ≡ put_all (reserved_all s.frames.writes.rows ps) ps bytes =
-    c.put_all.ensures.rows ∙ (λ i. put_all ((c.in_ok-reserve_all.ensures.rows ∙ ap (reserved_all s.frames.writes.rows) (c.deref.ensures.0 ∙ pieces_are)) i) ((c.deref-2.ensures.0 ∙ pieces_are) i) (c.as_slice.ensures.value i)) in
-    let blocks = c.put_all.ensures.blocks ∙ c.in_ok-reserve_all.ensures.blocks in
-    let actions = c.put_all.ensures.actions ∙ c.in_ok-reserve_all.ensures.actions in
+    let rows : c.put_value.new.frames.writes.rows ≡ put_all (reserved_all s.frames.writes.rows ps) ps bytes =
+    c.in_ok-put_value.ensures.rows ∙ (λ i. put_all (reserved_all s.frames.writes.rows (pieces_of c.args.at (c.size-2.ensures.value i))) (pieces_of c.args.at (c.size-2.ensures.value i)) (c.deref.ensures.0 i)) in
+    let blocks = c.put_value.ensures.blocks in
+    let actions = c.put_value.ensures.actions in
     let within : c.args.at + size_of w ≤ 8 * s.words = subst (λ (n : ℕ). c.args.at + n ≤ 8 * s.words) (c.from.ensures ∙ c.size.ensures.value) may.1 in
     let fit : AllFitIn s.words ps bytes = fit_pieces s.words c.args.at (size_of w) bytes within
-    (omega (arith, c.size.ensures.value, c.size.ensures.most)) (subst AreBytes c.as_slice.ensures.value c.put_all.ensures.bytes) in
+    (omega (arith, c.size.ensures.value, c.size.ensures.most)) (subst AreBytes c.deref.ensures.0 c.put_value.ensures.bytes) in
     rw c.come.ensures (record {
       asked = tt;
       sound = record {
-        bounds = subst (λ (n : ℕ). IsBounded s.words s.limits s.snapshot n s.arena) (sym (c.put_all.ensures.size ∙ c.in_ok-reserve_all.ensures.size)) sound.bounds;
+        bounds = subst (λ (n : ℕ). IsBounded s.words s.limits s.snapshot n s.arena) (sym c.put_value.ensures.size) sound.bounds;
         reached = sound.reached;
         in_phase = (
           λ o. (
@@ -94,20 +82,19 @@ returns-clause-proceeds c =
     let size = size_of value.width in
     let ps = pieces_of c.args.at size in
     let idle = c.requires.sound.in_phase.0 may.0 in
-    let pieces_are : c.pieces-pieces.result.items ≡ ps = c.pieces-pieces.ensures.value ∙ ap (pieces_of c.args.at) c.size-2.ensures.value in
-    let rows : c.put_all.new.frames.writes.rows ≡ put_all (reserved_all s.frames.writes.rows ps) ps bytes =
-    c.put_all.ensures.rows ∙ (λ i. put_all ((c.in_ok-reserve_all.ensures.rows ∙ ap (reserved_all s.frames.writes.rows) (c.deref.ensures.0 ∙ pieces_are)) i) ((c.deref-2.ensures.0 ∙ pieces_are) i) (c.as_slice.ensures.value i)) in
-    let blocks = c.put_all.ensures.blocks ∙ c.in_ok-reserve_all.ensures.blocks in
-    let actions = c.put_all.ensures.actions ∙ c.in_ok-reserve_all.ensures.actions in
+    let rows : c.put_value.new.frames.writes.rows ≡ put_all (reserved_all s.frames.writes.rows ps) ps bytes =
+    c.in_ok-put_value.ensures.rows ∙ (λ i. put_all (reserved_all s.frames.writes.rows (pieces_of c.args.at (c.size-2.ensures.value i))) (pieces_of c.args.at (c.size-2.ensures.value i)) (c.deref.ensures.0 i)) in
+    let blocks = c.put_value.ensures.blocks in
+    let actions = c.put_value.ensures.actions in
     let within : c.args.at + size ≤ 8 * s.words = subst (λ (n : ℕ). c.args.at + n ≤ 8 * s.words) (c.from.ensures ∙ c.size.ensures.value) may.1 in
     let some : 0 < length ps = some_pieces c.args.at size (some_bytes value.width) in
     let all = λ (m : List ℕ) (mem : IsMemory s.words m).
-    writes s.frames.writes.rows s.frames.blocks s.arena s.frames.actions m s.words c.args.hint value c.args.at may.0 mem c.put_all.new.frames.writes.rows within
+    writes s.frames.writes.rows s.frames.blocks s.arena s.frames.actions m s.words c.args.hint value c.args.at may.0 mem c.put_value.new.frames.writes.rows within
     (ap is_some_row rows ∙ some_put (reserved_all s.frames.writes.rows ps) ps bytes some)
     (ap (λ (xs : List Row). bytes_of (overlay m xs)) rows
-    ∙ bytes_of-put_all m s.frames.writes.rows c.args.at size bytes mem.1 idle.0.rows (omega (arith, within, mem.0)) (omega (arith, c.size.ensures.value, c.size.ensures.most)) (subst AreBytes c.as_slice.ensures.value c.put_all.ensures.bytes) value.sized) in
+    ∙ bytes_of-put_all m s.frames.writes.rows c.args.at size bytes mem.1 idle.0.rows (omega (arith, within, mem.0)) (omega (arith, c.size.ensures.value, c.size.ensures.most)) (subst AreBytes c.deref.ensures.0 c.put_value.ensures.bytes) value.sized) in
     rw c.come.ensures (record {
-      meets = λ m mem agrees. (λ i. state_over c.put_all.new.frames.writes.rows (blocks i) s.arena (actions i) m) ∙ (all m mem).0;
+      meets = λ m mem agrees. (λ i. state_over c.put_value.new.frames.writes.rows (blocks i) s.arena (actions i) m) ∙ (all m mem).0;
       reply_is = λ m mem agrees. (all m mem).1;
       stays = search rules;
       writes = λ m mem agrees. rows;
