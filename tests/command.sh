@@ -54,8 +54,6 @@ run --version x
 check 'version' 1
 run --loud sched -
 check 'a flag' 1
-run threads x
-check threads 1
 run check
 check 'check without a file' 1
 
@@ -295,6 +293,7 @@ fi
 . "$root/tests/rows.sh"
 . "$root/tests/histories.sh"
 . "$root/tests/scripts.sh"
+. "$root/tests/threads.sh"
 
 # the tables, whose scripts are counted with the rest
 sh "$root/tests/tables.sh" >"$work/tables" 2>&1

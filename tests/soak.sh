@@ -4,6 +4,7 @@
 #
 #   sh tests/soak.sh [COUNT [SEED]]     so many scripts, 3000 where it is not said, of a seed, 1 where it is not said
 #   sh tests/soak.sh FILE               the script in FILE, as one that failed
+#   sh tests/soak.sh threads ..         the same through `itmrun threads`
 #
 # The scripts have the whole language: every directive and instruction, every entry point with any place, blocks in
 # blocks, actions, irrevocable transactions, for up to 8 threads. Many read the same words again and again, by other
@@ -21,6 +22,12 @@
 # a change or two away from the history, some of them legal, have to be judged as verdict.py judges them, with the same
 # line. From 500 scripts on, each verdict and each fault of a text has to have come.
 #
+# On threads a run is never the same twice. So each answer of `threads` is followed through its script: the history has to
+# be legal to `check` and to verdict.py; each thread's tries have to be, one after the other, what its code does where it is
+# given these replies, from the registers and the bytes of its own that the try before left, with the numbers that tries may
+# have; and how each thread ended, the errors and the status have to fit. A script with one thread has the one answer that
+# run.py works out. These scripts are for up to 4 threads, each of which runs its code up to 40 times, so that they meet.
+#
 # ITMRUN=PROGRAM takes another built program than this tree's. The exit status is 0 where every answer was right. At
 # the first one that was not, the script is kept with what came of it and what had to come, and with the changed history
 # in `changed` where that was judged in another way, and the status is 1.
@@ -35,10 +42,15 @@ fi
 work=$(mktemp -d) || exit 1
 export PYTHONDONTWRITEBYTECODE=1
 
+soak=$root/tests/soak/check.py
+if [ "${1:-}" = threads ]; then
+    soak=$root/tests/soak/threads.py
+    shift
+fi
 if [ -f "${1:-}" ]; then
-    python3 "$root/tests/soak/check.py" "$program" "$work" "$1"
+    python3 "$soak" "$program" "$work" "$1"
 else
-    python3 "$root/tests/soak/check.py" "$program" "$work" "${1:-3000}" "${2:-1}"
+    python3 "$soak" "$program" "$work" "${1:-3000}" "${2:-1}"
 fi
 status=$?
 rmdir "$work" 2>/dev/null

@@ -9,13 +9,10 @@ Stops at the first one that fails, and leaves it in FOLDER with what the program
 """
 
 import collections
-import itertools
-import pathlib
-import subprocess
 import sys
 
-import generate
 import verdict
+from driver import compare, each, expect, judged, made, tell
 from entries import BEGIN, COPIES, FILLS
 from history import OUTCOMES
 from mutation import Mutator
@@ -31,29 +28,6 @@ COUNTED = [
     ["changed histories", *verdict.EVERY],
 ]
 ENOUGH = 500  # scripts, after which every verdict has to have come
-
-
-class Wrong(Exception):
-    pass
-
-
-def expect(holds, *words):
-    if not holds:
-        raise Wrong(" ".join(str(w) for w in words))
-
-
-def made(program, command, script):
-    """What the program makes of a script: the output, the errors and the exit status."""
-    run = subprocess.run([program, command, "-"], input=script, capture_output=True, timeout=60)
-    return run.stdout, run.stderr, run.returncode
-
-
-def compare(answer, due):
-    """The answer has to be the one that is due."""
-    lines = itertools.zip_longest(*(output.decode("latin-1").split("\n") for output, _, _ in (answer, due)))
-    for number, (line, wanted) in enumerate(lines, 1):
-        expect(line == wanted, "line", number, "of the history is", repr(line), "and has to be", repr(wanted))
-    expect(answer == due, "the errors and the status are", answer[1:], "and have to be", due[1:])
 
 
 def counted(run):
@@ -81,16 +55,8 @@ def printed(program, script, answer):
     expect(made(program, "sched", text) == answer, "its print is run in another way")
 
 
-def judged(program, text):
-    """The verdict of a text, which the program has to give."""
-    due = verdict.judge(text)
-    answer, wanted = made(program, "check", text), verdict.answer(due)
-    expect(answer == wanted, "check answers", answer, "and has to answer", wanted)
-    return due
-
-
 def tried(program, written, mutator):
-    """The counts of a script. Adds each text that is written for it to those that are kept where it fails."""
+    """The counts of a script."""
     script = written["script.itm"]
     run = Run(Script(script.decode("latin-1")))
     due, answer = run.answer(), made(program, "sched", script)
@@ -105,38 +71,16 @@ def tried(program, written, mutator):
     return counts
 
 
-def kept(folder, written):
-    """Keeps these texts; their files."""
-    for name, data in written.items():
-        pathlib.Path(folder, name).write_bytes(data)
-    return ", ".join(f"{folder}/{name}" for name in written)
-
-
-def summary(counts):
-    """Prints the counts; the exit status."""
-    for names in COUNTED:
-        print(", ".join(f"{counts[name]} {name}" for name in names))
+def main(program, folder, what, seed=None):
+    counts = each(lambda written, number: tried(program, written, Mutator(seed, number)), folder, what, seed)
+    if counts is None:
+        return 1
+    tell(counts, COUNTED)
     absent = [kind for kind in verdict.EVERY if not counts[kind]]
     if not absent or counts["scripts"] < ENOUGH:
         return 0
     print("failed: no history was judged so:", ", ".join(absent))
     return 1
-
-
-def main(program, folder, what, seed=None):
-    if seed is None:
-        texts = [pathlib.Path(what).read_bytes().decode("latin-1")]
-    else:
-        texts = (generate.Maker(seed, number).text() for number in range(int(what)))
-    counts = collections.Counter()
-    for number, text in enumerate(texts):
-        written = {"script.itm": text.encode("latin-1")}
-        try:
-            counts += tried(program, written, Mutator(seed, number))
-        except (Wrong, subprocess.TimeoutExpired) as wrong:
-            print(f"failed: script {number}: {wrong}\nkept: {kept(folder, written)}")
-            return 1
-    return summary(counts)
 
 
 if __name__ == "__main__":

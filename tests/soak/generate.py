@@ -1,4 +1,4 @@
-"""Random scripts for `itmrun sched`."""
+"""Random scripts for `itmrun`."""
 
 import random
 
@@ -17,10 +17,12 @@ SHAPES = [
 
 
 class Maker:
-    """The text of one script, the same one for the same seed and number."""
+    """The text of one script, the same one for the same seed, number and shape: how many threads it may have, and how
+    often at most each of them runs its code."""
 
-    def __init__(self, seed, number):
+    def __init__(self, seed, number, threads=(1, 2, 2, 3, 3, 4, 4, 5, 6, 7, 8), times=1):
         self.random = random.Random(f"{seed} {number}")
+        self.threads, self.times = threads, times
         most, arenas, self.parts = self.random.choices(SHAPES, [5, 4, 1])[0]
         words = self.random.randint(1, most)
         self.size = WORD * (words if not self.one_in(100) else self.random.choice([64, 512, 8192]))
@@ -81,8 +83,12 @@ class Maker:
         comment = self.random.choice(["", " ; a comment", ";", "\t;.thread 7 \x00\xff;"])
         return self.random.choice(["", " ", "\t"]) + line.replace(" ", space) + comment + self.random.choice(["", "\r"])
 
+    def again(self, code):
+        """A thread's code as often as it is run."""
+        return code if self.times == 1 else [f".rept {self.random.randint(1, self.times)}", *code, ".endr"]
+
     def text(self):
-        threads = self.random.choice([1, 2, 2, 3, 3, 4, 4, 5, 6, 7, 8])
+        threads = self.random.choice(self.threads)
         lines = self.head(threads)
         while threads:
             alike = self.random.randint(1, threads) if self.one_in(3) else 1
@@ -90,7 +96,7 @@ class Maker:
             if self.parts:
                 first, words = self.random.randrange(0, self.size, WORD), self.random.choice(self.parts)
                 self.coder.use(range(first, min(first + WORD * words, self.size)))
-            lines += self.coder.code(4 if threads < 4 else 3)
+            lines += self.again(self.coder.code(4 if threads < 4 else 3))
             threads -= alike
         wild = self.one_in(10)
         text = "".join(self.spaced(line, wild) + "\n" for line in lines)

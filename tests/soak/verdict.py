@@ -19,7 +19,7 @@ LEGAL = Verdict(0, "legal")
 EVERY = (LEGAL.kind, *KINDS, *FAULTS)
 
 Call = collections.namedtuple("Call", "row values reply")
-Attempt = collections.namedtuple("Attempt", "row at outcome props arena calls ran")
+Attempt = collections.namedtuple("Attempt", "row thread nth at outcome props arena calls ran")
 History = collections.namedtuple("History", "memory attempts row clock final")
 
 
@@ -118,7 +118,7 @@ class Reader:
         need(all(form.fits(value) for form, value in zip(forms, values)), self.row, SIZE)
         return start, values
 
-    def attempt(self, at, outcome, props):
+    def attempt(self, *head):
         """The attempt whose head was read."""
         row, calls, ran = self.row, [], []
         arena = self.next("arena")[1][0]
@@ -130,7 +130,7 @@ class Reader:
         while start == "ran":
             ran.append(tuple(values))
             start, values = self.next("ran", "end")
-        return Attempt(row, at, outcome, props, b"" if arena == "-" else arena, calls, ran)
+        return Attempt(row, *head, b"" if arena == "-" else arena, calls, ran)
 
     def end(self):
         need(self.row == len(self.lines), self.row + 1, LINE)
@@ -143,7 +143,7 @@ def read(text):
     memory = reader.next("memory")[1][0]
     start, values = reader.next("attempt", "final")
     while start == "attempt":
-        attempts.append(reader.attempt(*values[2:]))
+        attempts.append(reader.attempt(*values))
         start, values = reader.next("attempt", "final")
     clock, final = values
     need(len(final) == len(memory), reader.row, SIZE)
@@ -199,16 +199,19 @@ def ends_well(history, memories, unfinished, irrevocable):
 
 
 def check(history):
+    """The plain machines that its attempts leave, by their rows; if the history is legal."""
     committed = [it for it in history.attempts if it.outcome == "committed"]
     others = [it for it in history.attempts if it.outcome != "committed"]
     positions(committed, others)
-    memories = [history.memory]
+    memories, machines = [history.memory], {}
     for attempt in sorted(committed, key=lambda it: it.at):
-        memories.append(bytes(replay(attempt, memories[attempt.at]).memory))
-    machines = [(it, replay(it, memories[it.at])) for it in others]
-    unfinished = [(it.at, machine.irrevocable) for it, machine in machines if it.outcome == "unfinished"]
+        machines[attempt.row] = replay(attempt, memories[attempt.at])
+        memories.append(bytes(machines[attempt.row].memory))
+    machines.update((it.row, replay(it, memories[it.at])) for it in others)
+    unfinished = [(it.at, machines[it.row].irrevocable) for it in others if it.outcome == "unfinished"]
     irrevocable = [at for at, became in unfinished if became]
     need(ends_well(history, memories, [at for at, _ in unfinished], irrevocable), history.row, FINAL)
+    return machines
 
 
 def judge(text):

@@ -1,4 +1,6 @@
 mod gates;
+mod interleavings;
 mod runs;
 mod sinks;
 mod texts;
+mod told;

@@ -4,7 +4,7 @@ use Rattle.std.proofs.lemmas.List.{length-take, take-append-drop, take_more}
 use Rattle.std.proofs.lemmas.Grind.{common_steps}
 use Rattle.std.specs.Io.KnownBytes.{Appends}
 use Rattle.std.proofs.KnownBytes.{Appends-nil, Appends-trans}
-use Rattle.norec_world.specs.declared.ending.End.{End}
+use Rattle.tx_runs.specs.declared.ending.End.{End}
 use Rattle.tx_history.specs.Spelling.{IsCut}
 use Rattle.itmrun.specs.Endings.{ending_line, ending_lines}
 use Rattle.tx_history.proofs.TextPieces.{cut_short}

@@ -4,3 +4,4 @@ pub mod EndingLines
 pub mod ScheduleItems
 pub mod ProgramPages
 pub mod WrittenWorlds
+pub mod WrittenRuns

@@ -3,7 +3,7 @@ use Rattle.std.proofs.Common.{◌≡◌, ◌++◌, refl, arith}
 use Rattle.std.specs.Prelude.{codes}
 use Rattle.std.proofs.lemmas.Fmt.{decimal_digit}
 use Rattle.hex.specs.Hex.{encode_with}
-use Rattle.norec_world.specs.declared.ending.End.TheVariants.{GaveUp}
+use Rattle.tx_runs.specs.declared.ending.End.TheVariants.{GaveUp}
 use Rattle.script_program.specs.Listing.{bytes_of, codes_of}
 use Rattle.script_vm.specs.Registers.{datum}
 use Rattle.text_commands.proofs.WorkedScripts.{counter, empty_block, beyond, laid_in, one_commit}

@@ -2,7 +2,7 @@
 use Rattle.std.proofs.Common.{◌≡◌, ℕ, List, length, take, Option, Ok, Err, refl}
 use Rattle.std.specs.Io.KnownBytes.{Appends}
 use Rattle.arrayvec.specs.ArrayVec.{ArrayVec}
-use Rattle.norec_world.specs.declared.ending.End.{End}
+use Rattle.tx_runs.specs.declared.ending.End.{End}
 use Rattle.norec_world.specs.World.{World}
 use Rattle.script_program.specs.Listing.{Listing, threads_of}
 use Rattle.script_vm.specs.Threads.{Thread}

@@ -1,8 +1,8 @@
 -- What is told of a run, and the page of a program: what its first thread does alone on the memory that the program begins with.
 use Rattle.std.specs.Prelude.{◌≡◌, ◌⊎◌, ℕ, ◌+◌, ◌*◌, ◌/◌, ◌%◌, List, [], length, replicate, slice_index_or, Option, None, Some}
 use Rattle.itm_types.specs.declared.limits.TheConstants.{MAX_OPEN_BLOCKS}
-use Rattle.norec_world.specs.declared.ending.End.{End}
-use Rattle.norec_world.specs.declared.ending.End.TheVariants.{Finished, GaveUp, NoMemory}
+use Rattle.tx_runs.specs.declared.ending.End.{End}
+use Rattle.tx_runs.specs.declared.ending.End.TheVariants.{Finished, GaveUp, NoMemory}
 use Rattle.tx_attempts.specs.declared.attempt.Outcome.TheVariants as outcomes
 use Rattle.world_laws.specs.Solo.{Solo, one_if, solo}
 use Rattle.world_laws.specs.SoFar.{IsSoFar}

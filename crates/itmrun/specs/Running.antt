@@ -1,7 +1,7 @@
 -- The command that runs scripts.
 use Rattle.std.specs.Prelude.{◌≡◌, ℕ, List, length, Option}
 use Rattle.arrayvec.specs.ArrayVec.{ArrayVec}
-use Rattle.norec_world.specs.declared.ending.End.{End}
+use Rattle.tx_runs.specs.declared.ending.End.{End}
 use Rattle.norec_world.specs.World.{World}
 use Rattle.script_fields.specs.declared.fault.AsmFault.{AsmFault}
 use Rattle.script_program.specs.Listing.{Listing, threads_of}

@@ -1,7 +1,7 @@
 -- The run of a program: its players, the world that begins with them, and what its schedule makes of that world.
 use Rattle.std.specs.Prelude.{◌≡◌, ℕ, List, [], ◌∷◌, length, map, replicate, Option, Some, IsSome, Result, slice_get}
 use Rattle.std.specs.List.{range_with_len}
-use Rattle.norec_world.specs.declared.ending.End.{End}
+use Rattle.tx_runs.specs.declared.ending.End.{End}
 use Rattle.norec_world.specs.declared.fault.WorldFault.{WorldFault}
 use Rattle.norec_world.specs.declared.actor.Actor.{Actor}
 use Rattle.norec_world.specs.World.{World, ending_at, memory_of, observed}

@@ -1,11 +1,14 @@
 //! The program's words.
 
 use crate::sched::sched;
+use crate::threads::threads;
 use clap::error::ErrorKind;
 use clap::{Arg, ArgAction, ArgMatches, Command};
 use std::alloc::{AllocError, Global};
 use std::io::{BufWriter, Read, Write};
 use std::rt::{Env, Files};
+use std::sync::Wait;
+use std::thread::Threads;
 use std::{env, fs, io};
 use text_commands::{asm, check};
 use tx_history::{Piece, put_pieces};
@@ -26,6 +29,8 @@ enum Task {
     Asm,
     /// Of a script: its schedule is run, and the history is written.
     Sched,
+    /// Of a script: each of its threads is run on a thread of its own, and the history is written.
+    Threads,
     /// Of a history: the verdict is written.
     Check,
 }
@@ -76,17 +81,18 @@ fn fault_of(kind: ErrorKind) -> WordsFault {
     }
 }
 
-/// What a command asks for. The other command is not there yet.
+/// What a command asks for.
 fn task_of(command: &str) -> Result<Task, WordsFault> {
     match command {
         "asm" => Ok(Task::Asm),
         "sched" => Ok(Task::Sched),
+        "threads" => Ok(Task::Threads),
         "check" => Ok(Task::Check),
         _ => Err(WordsFault::Usage),
     }
 }
 
-/// The task and the file of `asm FILE`, `sched FILE` or `check FILE`.
+/// The task and the file of `asm FILE`, `sched FILE`, `threads FILE` or `check FILE`.
 fn order_of<'a>(alloc: Global, words: &'a [String]) -> Result<(Task, &'a str), WordsFault> {
     let places = places_of(alloc, words)?;
     let command = places.get_str("command").ok_or(WordsFault::Usage)?;
@@ -95,7 +101,7 @@ fn order_of<'a>(alloc: Global, words: &'a [String]) -> Result<(Task, &'a str), W
 }
 
 /// Does the task with the text of a reader, and writes to standard output.
-fn do_task<T: Print + AllocGlobal, R: Read, E: Write>(
+fn do_task<T: Print + AllocGlobal + Threads + Wait, R: Read, E: Write>(
     rt: &T,
     task: Task,
     reader: &mut R,
@@ -105,6 +111,7 @@ fn do_task<T: Print + AllocGlobal, R: Read, E: Write>(
         Ok(mut writer) => match task {
             Task::Asm => asm(rt.alloc(), reader, &mut writer, errors),
             Task::Sched => sched(rt.alloc(), reader, &mut writer, errors),
+            Task::Threads => threads(rt, rt.alloc(), reader, &mut writer, errors),
             Task::Check => check(rt.alloc(), reader, &mut writer, errors),
         },
         Err(_) => say(errors, b"itmrun: no memory\n", 4),
@@ -112,7 +119,7 @@ fn do_task<T: Print + AllocGlobal, R: Read, E: Write>(
 }
 
 /// Does the task with the text of a file, or of the input.
-fn do_file<T: Files + Input + Print + AllocGlobal, E: Write>(
+fn do_file<T: Files + Input + Print + AllocGlobal + Threads + Wait, E: Write>(
     rt: &T,
     task: Task,
     path: &str,
@@ -128,7 +135,7 @@ fn do_file<T: Files + Input + Print + AllocGlobal, E: Write>(
 }
 
 /// Does what the words ask for, and answers the program's status.
-fn obey<T: Files + Input + Print + AllocGlobal, E: Write>(
+fn obey<T: Files + Input + Print + AllocGlobal + Threads + Wait, E: Write>(
     rt: &T,
     words: &[String],
     errors: &mut E,
@@ -138,7 +145,10 @@ fn obey<T: Files + Input + Print + AllocGlobal, E: Write>(
 }
 
 /// Does what the program's words say, and answers its status.
-pub fn run<T: Env + Files + Input + Print + AllocGlobal, E: Write>(rt: &T, errors: &mut E) -> u8 {
+pub fn run<T: Env + Files + Input + Print + AllocGlobal + Threads + Wait, E: Write>(
+    rt: &T,
+    errors: &mut E,
+) -> u8 {
     let done = match words_of(rt) {
         Ok(words) => obey(rt, &words, errors),
         Err(fault) => Err(fault),

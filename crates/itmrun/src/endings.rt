@@ -8,11 +8,11 @@ ghost use Rattle.itmrun.specs.Endings.{thread_line, ending_line, ending_lines, e
 
 use arrayvec::ArrayVec;
 use itm_types::MAX_ACTORS;
-use norec_world::End;
 use std::io;
 use std::io::Write;
 use text_commands::status_after;
 use tx_history::{Piece, put_pieces};
+use tx_runs::End;
 
 /// How the threads of a program stand, by number; `None` for one that has not ended.
 pub type Endings = ArrayVec<Option<End>, MAX_ACTORS>;

@@ -9,6 +9,7 @@ mod running;
 mod sched;
 #[cfg(test)]
 mod tests;
+mod threads;
 
 use std::process::ExitCode;
 

@@ -50,9 +50,10 @@ pub use Rattle.norec_world.specs.Records.{CountsTry, IsTold, Opens, Records, Rec
 pub use Rattle.norec_world.specs.Rows.{AreFrom, AreOpen, AreUnfinished, Rows, active_of, changed, is_of, with_changed, with_ended, with_opened, without}
 pub use Rattle.norec_world.specs.HeldAttempts.{IsHeld, StandsIn}
 pub use Rattle.norec_world.specs.Runs.{IsBeforeTry, IsInTry, IsRun, ReadsFrom, RunsFrom}
+pub use Rattle.tx_runs.specs.Nesting.{IsNested, whole}
 pub use Rattle.tx_runs.specs.Outcomes.{is_done}
 pub use Rattle.tx_runs.specs.Runs.{LeadsTo, begins_at, run_after}
-pub use Rattle.norec_world.specs.Sound.{AnswerFits, BeginsAt, Falls, GoesOn, HasLess, HasRow, IsAnswered, IsDone, IsKept, IsNested, IsNoMore, IsReady, IsSettledBy, IsSound, IsTied, RestsAs, StatusIs, rank, retried, run_left, steps_left, whole}
+pub use Rattle.norec_world.specs.Sound.{AnswerFits, BeginsAt, Falls, GoesOn, HasLess, HasRow, IsAnswered, IsDone, IsKept, IsNoMore, IsReady, IsSettledBy, IsSound, IsTied, RestsAs, StatusIs, rank, retried, run_left, steps_left}
 pub use Rattle.norec_world.specs.Starts.{HasStarted, IsFirst}
 pub use Rattle.norec_world.specs.Status.{ending_of, is_ready, is_waiting, waiting_step}
 pub use Rattle.norec_world.specs.Tries.{Continues, EndsAt, GoesOnAfter, IsBetween, Prior, Tries, TriesAgain, begins, between, current_of, outrun, over, prior_of, runs, shut_out, turned_away}
@@ -63,8 +64,8 @@ pub use Rattle.norec_world.specs.declared.actor.Actor.{Actor}
 pub use Rattle.norec_world.specs.declared.actor.Status.TheVariants.{Ended, Ready, Waits}
 pub use Rattle.norec_world.specs.declared.actor.Status.{Status}
 pub use Rattle.tx_attempts.specs.declared.attempt.Attempt.{Attempt}
-pub use Rattle.norec_world.specs.declared.ending.End.TheVariants.{Finished, GaveUp, NoMemory}
-pub use Rattle.norec_world.specs.declared.ending.End.{End}
+pub use Rattle.tx_runs.specs.declared.ending.End.TheVariants.{Finished, GaveUp, NoMemory}
+pub use Rattle.tx_runs.specs.declared.ending.End.{End}
 pub use Rattle.tx_attempts.specs.declared.attempt.Entry.{Entry}
 pub use Rattle.tx_attempts.specs.declared.attempt.Outcome.TheVariants.{Unfinished}
 pub use Rattle.tx_attempts.specs.declared.attempt.Outcome.{Outcome}

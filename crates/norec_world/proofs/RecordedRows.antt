@@ -3,8 +3,8 @@ use Rattle.std.proofs.Common.{is_some, Option, inl, inr, None, Some, sym, subst,
 use Rattle.tx_player.specs.Depth.{is_code}
 use Rattle.norec_world.proofs.ActiveRows.{opened_here, changed_here}
 use Rattle.norec_world.proofs.Common.{Actor, Attempt, Call, HasRow, IsKept, Replied, Rows, Rules, Status, StatusIs, Unfinished, active_of, cases_Bool, changed, depth_after, in_transaction, is_begin, is_of, opens, with_changed, with_ended, with_opened, without}
-use Rattle.norec_world.specs.Sound.{IsDeep}
-use Rattle.norec_world.proofs.PlayerLaws.{opens_at_begin}
+use Rattle.tx_runs.specs.Nesting.{IsDeep}
+use Rattle.tx_runs.proofs.Players.{opens_at_begin}
 use Rattle.norec_world.proofs.SoundOthers.{status_as}
 
 -- none is open where none was, and none is now

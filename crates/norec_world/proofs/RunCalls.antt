@@ -4,7 +4,7 @@ use Rattle.std.proofs.Common.{◌≡◌, ℕ, ◌/◌, ◌≤◌, ◌&&◌, Bool
 use Rattle.std.proofs.lemmas.Bool.{and_right, not_from_true}
 use Rattle.norec_world.proofs.Common.{Actor, Agrees, Answer, AreCounted, AreLaid, Attempt, Begin, Between, Call, Cells, Commit, Core, Ended, HasRow, IsBeforeTry, IsDone, IsHeld, IsInTry, IsRun, IsRunOf, IsSound, IsTold, LeadsTo, MAX_OPEN_BLOCKS, Next, Obeys, Props, Ready, Reply, Rows, Rules, RunsFrom, Sees, Starves, Status, Step, Tells, active_of, asked_pending, begins_again, begins_at, bytes_at, cases_Bool, cond-false, cond-true, ending_of, found, handed_is, handed_to, in_transaction, is_inside, of_thread, run_after, words_at, RecordsReply}
 use Rattle.tx_attempts.specs.declared.attempt.Outcome.TheVariants as outcomes
-use Rattle.norec_world.specs.declared.ending.End.TheVariants as ends
+use Rattle.tx_runs.specs.declared.ending.End.TheVariants as ends
 use Rattle.norec_world.proofs.ActiveRows.{changed_here, row_from}
 use Rattle.norec_core.specs.Core.{may_go, rolled_back}
 use Rattle.norec_core.specs.Proceeds.{IsSettled}

@@ -4,7 +4,7 @@ use Rattle.itm_types.specs.declared.call.Ran.{Ran}
 use Rattle.std.proofs.Common.{List, ◌++◌, ◌≡◌, ℕ, ◌/◌, ◌%◌, ◌≤◌, ◌==◌, if◌then◌else◌, Bool, true, false, [], Option, None, Some, refl, sym, ap, subst, ◌∙◌, arith}
 use Rattle.norec_world.proofs.Common.{Actor, Answer, Answers, Asks, Attempt, Begin, BeginsAt, Busy, Call, Cells, Conflict, Core, Ended, Full, HasRow, IsDone, IsSound, IsTold, Next, Opens, Prior, Props, Ready, Reply, Rows, Rules, Starves, Status, Step, Tells, Tries, Waits, active_of, asked_pending, begins, ending_of, cond-true, false_from_ne_true, found, handed_is, in_transaction, none-some, prior_of, Replied, replied_outside}
 use Rattle.tx_attempts.specs.declared.attempt.Outcome.TheVariants as outcomes
-use Rattle.norec_world.specs.declared.ending.End.TheVariants as ends
+use Rattle.tx_runs.specs.declared.ending.End.TheVariants as ends
 use Rattle.norec_world.proofs.TiedEngines.{limit_same, snapshot_still}
 use Rattle.norec_core.proofs.KeptFields.{IsHanded}
 use Rattle.norec_core.specs.Core.{may_go}

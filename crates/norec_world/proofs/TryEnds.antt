@@ -12,7 +12,7 @@ use Rattle.norec_core.specs.Core.{goes, may_go}
 use Rattle.norec_core.specs.Proceeds.{Conflicts, IsBegin, IsLost, IsSettled, WantsClock, blocks_after}
 use Rattle.norec_core.specs.Stands.{state_in}
 use Rattle.tx_attempts.specs.declared.attempt.Outcome.TheVariants as outcomes
-use Rattle.norec_world.specs.declared.ending.End.TheVariants as ends
+use Rattle.tx_runs.specs.declared.ending.End.TheVariants as ends
 use Rattle.tx_runs.proofs.Tries.{begin_call, not_closed}
 use Rattle.norec_world.proofs.Taken.{HasAnswered, half_same, still_going}
 use Rattle.norec_world.proofs.ActiveRows.{changed_here, opened_here}

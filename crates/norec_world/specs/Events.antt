@@ -1,6 +1,6 @@
 -- One event of an actor: its step, with the local work that follows it.
 use Rattle.std.specs.Prelude.{◌≡◌, None, Some}
-use Rattle.norec_world.specs.declared.ending.End.TheVariants.{Finished}
+use Rattle.tx_runs.specs.declared.ending.End.TheVariants.{Finished}
 use Rattle.norec_world.specs.declared.actor.Actor.{Actor}
 use Rattle.norec_world.specs.Cells.{Cells}
 use Rattle.norec_world.specs.Rows.{Rows}

@@ -11,7 +11,7 @@ use Rattle.user_actions.specs.Actions.{total}
 use Rattle.norec_core.specs.Core.{in_transaction}
 use Rattle.tx_attempts.specs.declared.attempt.Attempt.{Attempt}
 use Rattle.tx_attempts.specs.declared.attempt.Outcome.TheVariants as outcomes
-use Rattle.norec_world.specs.declared.ending.End.TheVariants.{Finished, NoMemory}
+use Rattle.tx_runs.specs.declared.ending.End.TheVariants.{Finished, NoMemory}
 use Rattle.norec_world.specs.declared.actor.Actor.{Actor}
 use Rattle.norec_world.specs.declared.actor.Status.TheVariants.{Ready, Waits, Ended}
 use Rattle.norec_world.specs.Cells.{Cells, found}

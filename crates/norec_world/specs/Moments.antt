@@ -2,7 +2,7 @@
 use Rattle.std.specs.Prelude.{◌≡◌, true, false, None, Some}
 use Rattle.itm_types.specs.declared.step.Step.{Step}
 use Rattle.norec_core.specs.Core.{in_transaction}
-use Rattle.norec_world.specs.declared.ending.End.TheVariants.{Finished}
+use Rattle.tx_runs.specs.declared.ending.End.TheVariants.{Finished}
 use Rattle.norec_world.specs.declared.actor.Actor.{Actor}
 use Rattle.norec_world.specs.Cells.{Cells, cells_after}
 use Rattle.norec_world.specs.ClockHolder.{ClocksOn}

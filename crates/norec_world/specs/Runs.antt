@@ -7,7 +7,7 @@ use Rattle.itm_model.specs.Machine.{opened}
 use Rattle.norec_core.specs.Core.{Core, in_transaction, may_go}
 use Rattle.norec_core.specs.Stands.{stands_for}
 use Rattle.tx_attempts.specs.declared.attempt.Attempt.{Attempt}
-use Rattle.norec_world.specs.declared.ending.End.TheVariants.{GaveUp, NoMemory}
+use Rattle.tx_runs.specs.declared.ending.End.TheVariants.{GaveUp, NoMemory}
 use Rattle.norec_world.specs.declared.actor.Actor.{Actor}
 use Rattle.tx_attempts.specs.Attempts.{of_thread}
 use Rattle.tx_attempts.specs.Alone.{state_then, player_then, IsAlone}

@@ -19,7 +19,8 @@ use Rattle.norec_core.specs.declared.answer.Answer.{Answer}
 use Rattle.norec_core.specs.declared.answer.Answer.TheVariants.{Reply, Committed, Conflict, Busy, Full}
 use Rattle.tx_attempts.specs.declared.attempt.Attempt.{Attempt}
 use Rattle.tx_attempts.specs.declared.attempt.Outcome.TheVariants.{Unfinished}
-use Rattle.norec_world.specs.declared.ending.End.TheVariants.{GaveUp}
+use Rattle.tx_runs.specs.Nesting.{IsNested, whole}
+use Rattle.tx_runs.specs.declared.ending.End.TheVariants.{GaveUp}
 use Rattle.norec_world.specs.declared.actor.Actor.{Actor}
 use Rattle.norec_world.specs.declared.actor.Status.{Status}
 use Rattle.norec_world.specs.declared.actor.Status.TheVariants.{Ready, Waits, Ended}
@@ -79,13 +80,6 @@ module _ {P : Type 0} where
   abbrev pub tries_left : Actor P → ℕ
   tries_left a = a.retries + 1 - a.nth
 
--- ## The player
-
--- some blocks are open, or none
-abbrev pub IsDeep : Bool → ℕ → Type 0
-IsDeep true deep = 0 < deep
-IsDeep false deep = deep ≡ 0
-
 -- ## Answers
 
 -- what an answer leaves: the engine was open or not as the call came, with so many blocks, and now is as this says
@@ -97,12 +91,6 @@ AnswerFits was before now deep call (Busy clock) = (was ≡ false) × (now ≡ f
 AnswerFits was before now deep call (Full at) = (was ≡ false → is_begin call ≡ true) × (now ≡ false)
 
 module _ {P : Type 0} (rules : Rules P) where
-  -- the player has blocks open where the engine has, and can go back to where it began the outermost one
-  pub record IsNested (is_open : Bool) (p : P) : Type 0 where
-    pub deep : IsDeep is_open (rules.depth p)
-    pub begun : is_open ≡ true → rules.depth (rules.restarted p) ≡ 0
-    pub less : is_open ≡ true → rules.calls_left p < rules.calls_left (rules.restarted p)
-
   -- the call came from the player, and there is room for what comes of it
   pub record IsInCall (is_open : Bool) (r : Rows) (a : Actor P) (call : Call) : Type 0 where
     pub asks : rules.next_call a.player ≡ Some call
@@ -113,7 +101,7 @@ module _ {P : Type 0} (rules : Rules P) where
     pub room : (row : Attempt) → is_open ≡ true → active_of a.thread r.active ≡ Some row → length row.calls < vec_capacity a.spare
 
   pub record IsWaiting (r : Rows) (a : Actor P) (call : Call) (step : Step) : Type 0 where
-    pub nested : IsNested (in_transaction a.engine) a.player
+    pub nested : IsNested rules (in_transaction a.engine) a.player
     pub depth : rules.depth a.player ≡ length a.engine.blocks
     pub in_call : IsInCall (in_transaction a.engine) r a call
     pub doing : a.engine.doing ≡ Some call
@@ -124,7 +112,7 @@ module _ {P : Type 0} (rules : Rules P) where
     pub begun : in_transaction a.engine ≡ false → BeginsAt a.engine a.engine.stage
 
   pub record IsReady (a : Actor P) : Type 0 where
-    pub nested : IsNested (in_transaction a.engine) a.player
+    pub nested : IsNested rules (in_transaction a.engine) a.player
     pub depth : rules.depth a.player ≡ length a.engine.blocks  -- it has as many open as the engine
     pub idle : a.engine.waits ≡ None
     pub free : a.engine.holds ≡ a.engine.irrevocable  -- an irrevocable transaction alone holds the clock between two calls
@@ -144,26 +132,21 @@ module _ {P : Type 0} (rules : Rules P) where
 
   -- ## How much is left to do
 
-  -- the calls left where the block that is under way was begun, or is
-  abbrev pub whole : Bool → P → ℕ
-  whole true p = rules.calls_left (rules.restarted p)
-  whole false p = rules.calls_left p
-
   -- falls with each answer; k bounds the calls left
   abbrev pub rank : ℕ → Bool → Actor P → ℕ
-  rank k is_open a = (whole is_open a.player * (a.retries + 1) + tries_left a) * (k + 1) + rules.calls_left a.player
+  rank k is_open a = (whole rules is_open a.player * (a.retries + 1) + tries_left a) * (k + 1) + rules.calls_left a.player
 
   -- less is left to do
   pub record Falls (was now : Bool) (old new : Actor P) : Type 0 where
-    pub whole_falls : whole now new.player ≤ whole was old.player
-    pub rank_falls : (k : ℕ) → whole was old.player ≤ k → rank k now new < rank k was old
+    pub whole_falls : whole rules now new.player ≤ whole rules was old.player
+    pub rank_falls : (k : ℕ) → whole rules was old.player ≤ k → rank k now new < rank k was old
 
   -- ## Answers
 
   -- the call is answered, and nothing is recorded of that yet
   pub record IsAnswered (was : Bool) (r : Rows) (a : Actor P) (call : Call) (answer : Answer) : Type 0 where
     pub kept : IsKept was r a
-    pub nested : IsNested was a.player
+    pub nested : IsNested rules was a.player
     pub in_call : IsInCall was r a call
     pub fits : AnswerFits was (rules.depth a.player) (in_transaction a.engine) (length a.engine.blocks) call answer
     pub idle : a.engine.waits ≡ None
@@ -217,8 +200,8 @@ module _ {P : Type 0} (rules : Rules P) where
 
   -- no more is left to do than before
   pub record IsNoMore (old new : Actor P) : Type 0 where
-    pub whole_falls : whole (in_transaction new.engine) new.player ≤ whole (in_transaction old.engine) old.player
-    pub rank_falls : (k : ℕ) → whole (in_transaction old.engine) old.player ≤ k → rank k (in_transaction new.engine) new ≤ rank k (in_transaction old.engine) old
+    pub whole_falls : whole rules (in_transaction new.engine) new.player ≤ whole rules (in_transaction old.engine) old.player
+    pub rank_falls : (k : ℕ) → whole rules (in_transaction old.engine) old.player ≤ k → rank k (in_transaction new.engine) new ≤ rank k (in_transaction old.engine) old
 
   -- the same call goes on, with fewer steps left
   pub record GoesOn (old new : Actor P) : Type 0 where
@@ -252,4 +235,4 @@ module _ {P : Type 0} (rules : Rules P) where
   pub record HasLess (goes_on : Bool) (old new : Actor P) : Type 0 where
     pub on : goes_on ≡ true → (is_waiting new.status ≡ true) × (steps_left new.engine < steps_left old.engine)
     pub less : is_waiting new.status ≡ true → IsNoMore old new
-    pub over : goes_on ≡ false → (k : ℕ) → whole (in_transaction old.engine) old.player ≤ k → run_left k new < run_left k old
+    pub over : goes_on ≡ false → (k : ℕ) → whole rules (in_transaction old.engine) old.player ≤ k → run_left k new < run_left k old

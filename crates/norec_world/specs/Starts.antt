@@ -1,7 +1,7 @@
 -- Actors that have taken no step.
 use Rattle.std.specs.Prelude.{◌≡◌, ℕ, ◌/◌, false, [], length, replicate, slice_get, None, Some}
 use Rattle.norec_core.specs.Core.{Core, opening}
-use Rattle.norec_world.specs.declared.ending.End.TheVariants.{Finished, NoMemory}
+use Rattle.tx_runs.specs.declared.ending.End.TheVariants.{Finished, NoMemory}
 use Rattle.norec_world.specs.declared.actor.Status.TheVariants.{Ready}
 use Rattle.norec_world.specs.declared.actor.Actor.{Actor}
 use Rattle.norec_world.specs.Rows.{Rows}

@@ -1,7 +1,7 @@
 -- What an actor does next.
 use Rattle.std.specs.Prelude.{Bool, true, false, Option, None, Some}
 use Rattle.itm_types.specs.declared.step.Step.{Step}
-use Rattle.norec_world.specs.declared.ending.End.{End}
+use Rattle.tx_runs.specs.declared.ending.End.{End}
 use Rattle.norec_world.specs.declared.actor.Status.{Status}
 use Rattle.norec_world.specs.declared.actor.Status.TheVariants.{Ready, Waits, Ended}
 

@@ -2,7 +2,6 @@
 
 ghost use Rattle.norec_core.specs.Core.{in_transaction};
 
-use crate::ending::End;
 use crate::memory::Memory;
 use crate::recorded::Recorded;
 use itm_types::{Call, Ran, Step};
@@ -12,6 +11,7 @@ use std::alloc::Global;
 use std::mem;
 use tx_attempts::{Attempt, Entry};
 use tx_player::Player;
+use tx_runs::End;
 
 /// What an actor does next.
 #[derive(Drop)]

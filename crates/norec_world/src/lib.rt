@@ -2,7 +2,6 @@
 #![tactic(auto)]
 
 mod actor;
-mod ending;
 mod fault;
 mod memory;
 mod recorded;
@@ -12,9 +11,9 @@ mod start;
 mod work;
 mod world;
 
-pub use ending::End;
 pub use fault::WorldFault;
 pub use schedule::Passes;
 pub use setup::Setup;
 pub use tx_attempts::{Attempt, Bytes, Calls, Entry, Outcome, RanActions};
+pub use tx_runs::End;
 pub use world::World;

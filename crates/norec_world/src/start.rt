@@ -16,13 +16,13 @@ ghost use Rattle.norec_world.specs.Headline.{first_of};
 ghost use Rattle.norec_world.specs.declared.actor.Actor.{Actor};
 
 use crate::actor::Actor;
-use crate::ending::End;
 use crate::memory::Memory;
 use crate::recorded::Recorded;
 use itm_types::{Limits, MAX_ACTORS, MAX_WORDS};
 use norec_engine::Engine;
 use std::alloc::{AllocError, Global};
 use tx_player::Player;
+use tx_runs::End;
 use undo_log::Arena;
 
 /// What every actor begins with.

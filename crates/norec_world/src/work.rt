@@ -6,7 +6,6 @@ ghost use Rattle.itm_types.specs.Calls.{is_abort, registered_by};
 ghost use Rattle.norec_core.specs.Core.{in_transaction};
 
 use crate::actor::{Actor, Status};
-use crate::ending::End;
 use crate::memory::Memory;
 use crate::recorded::Recorded;
 use itm_types::{Call, MAX_ACTORS, MAX_RETRIES, Props, Ran, Reply};
@@ -14,6 +13,7 @@ use norec_core::{Answer, Next, Undone};
 use std::alloc::{AllocError, Global};
 use tx_attempts::{Attempt, Bytes, Calls, Entry, Outcome, RanActions};
 use tx_player::Player;
+use tx_runs::{End, ahead_of, outcome_of};
 
 impl<P: Player> Actor<P> {
     ghost use Rattle.norec_world.specs.Cells.{Cells};
@@ -86,7 +86,7 @@ impl<P: Player> Actor<P> {
         match call {
             Call::Begin { props, room } if !self.engine.is_open() => {
                 recorded.reserve(MAX_ACTORS)?;
-                let ahead = ahead(self.engine.goes(call));
+                let ahead = ahead_of(self.engine.goes(call));
                 let attempt = self.attempt(alloc, memory.clock(), *props, ahead)?;
                 self.spare.reserve(ahead)?;
                 self.end_room.reserve(ahead)?;
@@ -101,7 +101,7 @@ impl<P: Player> Actor<P> {
                 self.spare.reserve(calls.saturating_add(1))?;
                 let actions = self.engine.actions();
                 reserve_actions(call, actions, &mut self.end_room, &mut self.cancel_room)?;
-                let ahead = ahead(self.engine.goes(call));
+                let ahead = ahead_of(self.engine.goes(call));
                 self.reserve_ahead(recorded, calls, actions, ahead)?;
                 self.engine.call(call)
             }
@@ -384,24 +384,5 @@ fn reserve_actions(
         Call::CommitAction(_) | Call::UndoAction(_) => end_room.reserve(actions + 1),
         Call::Abort { .. } => cancel_room.reserve(actions),
         _ => Ok(()),
-    }
-}
-
-/// How many calls and actions are to come in a transaction that becomes irrevocable with this room.
-fn ahead(goes: Option<u32>) -> usize
-    ensures value { result ≡ unwrap_or goes 0 }
-    ensures few { result < 2 ^ 32 }
-{
-    goes.map_or(0, |room| room as usize)
-}
-
-/// How a transaction that committed ended.
-fn outcome_of(wrote: bool) -> Outcome
-    ensures { result ≡ (if wrote then Outcome.Committed else Outcome.ReadOnly) }
-{
-    if wrote {
-        Outcome::Committed
-    } else {
-        Outcome::ReadOnly
     }
 }

@@ -4,7 +4,6 @@ ghost use Rattle.std.specs.Prelude.{◌≡◌, ℕ, ◌%◌, ◌<◌, ◌≤◌,
 ghost use Rattle.norec_world.specs.World.{told};
 
 use crate::actor::Actor;
-use crate::ending::End;
 use crate::fault::WorldFault;
 use crate::memory::Memory;
 use crate::recorded::Recorded;
@@ -15,6 +14,7 @@ use std::alloc::{AllocError, Global};
 use std::marker::Model;
 use tx_attempts::{Attempt, Bytes};
 use tx_player::Player;
+use tx_runs::End;
 
 /// Actors over one memory, each with a player and an engine. They take events one at a time: an actor's next load,
 /// store or compare-exchange on a shared cell, and then all that it can do without another one.

@@ -1,5 +1,4 @@
-//! Tests of transactions over shared words: by turns on one thread, beside a commit that never ends, and on several
-//! threads at once.
+//! Tests of transactions over shared words: by turns on one thread, and beside a commit that never ends.
 #![tactic(auto)]
 
 #[cfg(test)]

@@ -3,6 +3,4 @@
 mod calls;
 mod helpers;
 mod stopped_holder;
-mod threads;
 mod turns;
-mod work;

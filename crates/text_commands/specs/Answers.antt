@@ -2,7 +2,7 @@
 use Rattle.std.specs.Prelude.{◌≡◌, ◌⊎◌, ℕ, List, take, Option, Result, Ok, Err}
 use Rattle.std.specs.Io.KnownBytes.{Appends, Keeps}
 use Rattle.text_commands.specs.declared.failure.Failure.{Failure}
-use Rattle.text_commands.specs.declared.failure.Failure.TheVariants.{Faulty, NoMemory, Reading, Writing}
+use Rattle.text_commands.specs.declared.failure.Failure.TheVariants.{Faulty, NoMemory, NoThread, Reading, Writing}
 use Rattle.text_commands.specs.Lines.{failure_line, failure_status}
 use Rattle.tx_history.specs.Spelling.{IsCut}
 
@@ -11,6 +11,7 @@ abbrev pub Reads : {A F : Type 0} → Result A (Failure F) → Result A F → Ty
 Reads (Ok a) read = read ≡ Ok a
 Reads (Err (Faulty f)) read = read ≡ Err f
 Reads (Err NoMemory) read = Unit {0}
+Reads (Err NoThread) read = ⊥
 Reads (Err Reading) read = Unit {0}
 Reads (Err Writing) read = ⊥
 
@@ -27,6 +28,7 @@ Outputs {A} {F} {T} c (Ok end) read old new = (a : A) × (text : List ℕ) × (r
 Outputs {A} {F} {T} c (Err Writing) read old new = (a : A) × (end : T) × (text : List ℕ) × (n : ℕ) × (read ≡ Ok a) × c.writes a end text × Appends old new (take n text)
 Outputs {A} {F} {T} c (Err (Faulty f)) read old new = (read ≡ Err f) × Keeps old new
 Outputs {A} {F} {T} c (Err NoMemory) read old new = Keeps old new
+Outputs {A} {F} {T} c (Err NoThread) read old new = Keeps old new
 Outputs {A} {F} {T} c (Err Reading) read old new = Keeps old new
 
 -- the errors got the lines, and the status is the one that is due; or, where writing them failed, they got a part of them, and it is 5

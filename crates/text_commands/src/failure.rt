@@ -19,6 +19,8 @@ pub enum Failure<F> {
     Faulty(F),
     /// Memory was refused.
     NoMemory,
+    /// A thread was refused.
+    NoThread,
     /// A read failed, or the text is longer than it may be.
     Reading,
     /// A write failed.
@@ -41,6 +43,7 @@ impl<F: Fault> Failure<F> {
         match self {
             Failure::Faulty(fault) => fault.put_line(errors),
             Failure::NoMemory => put_pieces(errors, &[Piece::Text(b"itmrun: no memory\n")]),
+            Failure::NoThread => put_pieces(errors, &[Piece::Text(b"itmrun: no thread\n")]),
             Failure::Reading => put_pieces(errors, &[Piece::Text(b"itmrun: reading failed\n")]),
             Failure::Writing => put_pieces(errors, &[Piece::Text(b"itmrun: writing failed\n")]),
         }
@@ -52,7 +55,7 @@ impl<F: Fault> Failure<F> {
     {
         match self {
             Failure::Faulty(_) => 2,
-            Failure::NoMemory => 4,
+            Failure::NoMemory | Failure::NoThread => 4,
             Failure::Reading | Failure::Writing => 5,
         }
     }

@@ -1,8 +1,9 @@
 -- What a worker that has stopped leaves.
-use Rattle.std.proofs.Common.{◌≡◌, ℕ, zero, suc, ◌/◌, Bool, true, false, List, [], ◌∷◌, ◌++◌, None, Some, Result, Ok, Err, IfOk, IfErr, OnErr, refl, sym, ap, subst, ◌∙◌, inl, inr}
+use Rattle.std.proofs.Common.{true≢false, ◌≡◌, ℕ, zero, suc, ◌/◌, Bool, true, false, List, [], ◌∷◌, ◌++◌, None, Some, Result, Ok, Err, IfOk, IfErr, OnErr, refl, sym, ap, subst, ◌∙◌, inl, inr}
 use Rattle.itm_types.specs.declared.limits.TheConstants.{MAX_OPEN_BLOCKS}
 use Rattle.itm_types.specs.declared.call.Call.TheVariants.{Commit}
 use Rattle.norec_core.specs.Core.{in_transaction}
+use Rattle.norec_core.proofs.HeldStores.{shut_revocable}
 use Rattle.shared_words.specs.declared.pass.Pass.{Pass}
 use Rattle.shared_words.specs.declared.view.View.{View}
 use Rattle.shared_words.specs.declared.words.Words.{Words}
@@ -24,7 +25,7 @@ use Rattle.tx_worker.specs.declared.worker.Worker.{Worker}
 use Rattle.tx_worker.specs.Positions.{AreOver, bytes_at, positions}
 use Rattle.tx_worker.specs.Progress.{Course, HasRun, IsRunning}
 use Rattle.tx_worker.specs.Tallies.{ending_as, row_of, tally_of}
-use Rattle.tx_worker.specs.Works.{AreHeld, EndsAs, IsBack, IsFinished, is_held, view_left}
+use Rattle.tx_worker.specs.Works.{AreHeld, EndsAs, EndsOpen, IsBack, IsFinished, is_held, view_left}
 use Rattle.tx_worker.specs.Workers.{Bounds, IsStopped, StopsAs, view_in}
 use Rattle.tx_worker.proofs.InsideStops.{unfinished_mode, unfinished_run}
 use Rattle.tx_worker.proofs.Working.{row_is}
@@ -61,12 +62,13 @@ last_held v held (x ∷ xs) a o is = (λ e. absurd (o.0 e), last_held v held xs 
 
 module _ {P : Type 0} {rules : Rules P} (laws : Obeys rules) {words : Words} {c : Course P} {b : Bounds} {shuts : Bool} {end : End} (w : Worker P) (k : IsStopped rules words c b shuts end w) (result : Worked) (end_is : result.end ≡ end) (of_thread : Parts words w.thread result.pass) where
   moved : (xs : List Attempt) → result.attempts ≡ xs → HasRun rules c (view_in w) xs → (view_in w).mine ≡ c.view.mine ++ positions xs → AreHeld (view_in w) w.thread.engine.irrevocable xs → EndsAs rules c b.max_commits shuts end (view_in w) xs
-      → IsFinished rules words c b.max_commits shuts result
-  moved xs is run mine held ended = record {
+      → (w.thread.engine.irrevocable ≡ true → EndsOpen xs) → IsFinished rules words c b.max_commits shuts result
+  moved xs is run mine held ended kept = record {
     back = of_thread.back;
     runs = subst (λ (x : View × List Attempt). HasRun rules c x.0 x.1) (λ i. (sym of_thread.view i, sym is i)) run;
     mine = ap (λ (v : View). v.mine) of_thread.view ∙ (mine ∙ ap (λ (ys : List Attempt). c.view.mine ++ positions ys) (sym is));
     held = subst (λ (x : View × Bool × List Attempt). AreHeld x.0 x.1 x.2) (λ i. (sym of_thread.view i, sym of_thread.held i, sym is i)) held;
+    kept = λ h. subst EndsOpen (sym is) (kept (sym of_thread.held ∙ h));
     ends = subst (λ (x : End × View × List Attempt). EndsAs rules c b.max_commits shuts x.0 x.1 x.2) (λ i. (sym end_is i, sym of_thread.view i, sym is i)) ended;
   }
 
@@ -88,7 +90,7 @@ module _ {P : Type 0} {rules : Rules P} (laws : Obeys rules) {words : Words} {c 
     over_so ends.NoMemory s = s
 
     pub finished_out : IsFinished rules words c b.max_commits shuts result
-    finished_out = moved w.ended.items is k.has_run k.mine (none_held (view_in w) w.thread.engine.irrevocable w.ended.items k.same.over) (over_so end k.stops)
+    finished_out = moved w.ended.items is k.has_run k.mine (none_held (view_in w) w.thread.engine.irrevocable w.ended.items k.same.over) (over_so end k.stops) (λ i. absurd (true≢false (sym i ∙ shut_revocable w.thread.engine k.same.stands.settled (k.outside none))))
 
   -- one is, and is told as it stands
   module _ (o : OpenAttempt) (some : w.current ≡ Some o) (is : result.attempts ≡ w.ended.items ++ ending_as outcomes.Unfinished (w.thread.engine.snapshot / 2) o.ran.items (row_of w.number w.nth o) ∷ []) where
@@ -129,4 +131,4 @@ module _ {P : Type 0} {rules : Rules P} (laws : Obeys rules) {words : Words} {c 
         let run = unfinished_run laws c (start_of w.thread Commit false) (tally_of w) running k.same.stands inside in
         let mode = unfinished_mode laws c (start_of w.thread Commit false) (tally_of w) running k.same.stands inside in
         moved (w.ended.items ++ told ∷ []) is (subst (λ (a : Attempt). HasRun rules c (view_in w) (w.ended.items ++ a ∷ [])) told_is run.0) (run.1 ∙ ap (λ (a : Attempt). c.view.mine ++ positions (w.ended.items ++ a ∷ [])) told_is)
-        (last_held (view_in w) w.thread.engine.irrevocable w.ended.items told k.same.over (ap (λ (a : Attempt). (alone MAX_OPEN_BLOCKS (bytes_at (view_in w) (w.thread.engine.snapshot / 2)) a).irrevocable) (sym the_row) ∙ mode)) (within_so end k.stops)
+        (last_held (view_in w) w.thread.engine.irrevocable w.ended.items told k.same.over (ap (λ (a : Attempt). (alone MAX_OPEN_BLOCKS (bytes_at (view_in w) (w.thread.engine.snapshot / 2)) a).irrevocable) (sym the_row) ∙ mode)) (within_so end k.stops) (λ i. (w.ended.items, told, refl, refl))

@@ -39,6 +39,10 @@ abbrev pub AreHeld : View → Bool → List Attempt → Type 0
 AreHeld v held [] = Unit {0}
 AreHeld v held (a ∷ rest) = (a.outcome ≡ Unfinished → (alone MAX_OPEN_BLOCKS (bytes_at v a.at) a).irrevocable ≡ held) × AreHeld v held rest
 
+-- the last attempt has not ended
+abbrev pub EndsOpen : List Attempt → Type 0
+EndsOpen attempts = (before : List Attempt) × (last : Attempt) × (attempts ≡ before ++ last ∷ []) × (last.outcome ≡ Unfinished)
+
 -- a player with its thread, as it begins
 abbrev pub course_of : {P : Type 0} → Standing → P → ℕ → ℕ → Course P
 course_of start player number retries = record {
@@ -80,6 +84,7 @@ module _ {P : Type 0} (rules : Rules P) where
     pub runs : HasRun rules c (view_left w.pass) w.attempts  -- its attempts are the player's run, each opaque over the commits that were seen
     pub mine : (view_left w.pass).mine ≡ c.view.mine ++ positions w.attempts  -- just those that committed hold positions
     pub held : AreHeld (view_left w.pass) (is_held w.pass) w.attempts
+    pub kept : is_held w.pass ≡ true → EndsOpen w.attempts  -- a thread that stays irrevocable tells the attempt that holds the clock
     pub ends : EndsAs c max_commits shuts w.end (view_left w.pass) w.attempts
 
   -- a player's run on a thread

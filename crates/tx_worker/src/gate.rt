@@ -16,7 +16,7 @@ pub trait Gate {
     fn at(&self, thread: u8, call: u64) -> Result<(), GateShut>
         ensures { OnErr result (shuts ≡ true) };
 
-    /// The call is answered, or memory was refused to it.
+    /// The call was made, or memory was refused to it.
     fn done(&self, thread: u8, call: u64);
 }
 

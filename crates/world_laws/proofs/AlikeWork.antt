@@ -5,7 +5,7 @@ use Rattle.norec_world.proofs.Common.{Acts, Cells, IsEvent, Rows, Rules, active_
 use Rattle.norec_world.specs.declared.actor.Actor.{Actor}
 use Rattle.norec_world.specs.declared.actor.Status.TheVariants.{Ended, Ready}
 use Rattle.tx_attempts.specs.declared.attempt.Attempt.{Attempt}
-use Rattle.norec_world.specs.declared.ending.End.TheVariants.{Finished, NoMemory}
+use Rattle.tx_runs.specs.declared.ending.End.TheVariants.{Finished, NoMemory}
 use Rattle.world_laws.specs.Alike.{AreAlike, HasAttempt}
 use Rattle.norec_world.specs.LocalWork.{Finishes, calls, finishes, starves, ActsOn, Works}
 use Rattle.world_laws.specs.Alike.{SameRows}

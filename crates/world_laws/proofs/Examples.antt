@@ -4,7 +4,7 @@ use Rattle.itm_types.specs.declared.access.WriteHint.TheVariants.{W}
 use Rattle.itm_types.specs.declared.call.Call.TheVariants.{Commit, Mode}
 use Rattle.tx_attempts.specs.declared.attempt.Outcome.TheVariants.{Committed, Full}
 use Rattle.norec_world.proofs.Common.{Attempt, Begin, Done, Props, Unfinished, Write}
-use Rattle.norec_world.specs.declared.ending.End.TheVariants.{Finished, GaveUp}
+use Rattle.tx_runs.specs.declared.ending.End.TheVariants.{Finished, GaveUp}
 use Rattle.norec_world.proofs.Plan.{Plan}
 use Rattle.norec_world.proofs.Examples.{begin, cancelled, commit, counter, counter_rules, fresh, next, plain, plan_rules, planned, refused, two, word, write}
 use Rattle.world_laws.specs.Solo.{solo}

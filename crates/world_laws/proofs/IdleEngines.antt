@@ -4,7 +4,7 @@ use Rattle.norec_world.proofs.Common.{Acts, Answer, Answers, Asks, Call, Cells, 
 use Rattle.norec_world.specs.declared.actor.Actor.{Actor}
 use Rattle.norec_world.specs.declared.actor.Status.{Status}
 use Rattle.norec_world.specs.declared.actor.Status.TheVariants.{Ready, Waits}
-use Rattle.norec_world.specs.declared.ending.End.{End}
+use Rattle.tx_runs.specs.declared.ending.End.{End}
 use Rattle.norec_core.specs.declared.phase.Phase.TheVariants.{Idle}
 use Rattle.norec_core.specs.Core.{rolled_back}
 use Rattle.norec_world.specs.LocalWork.{ActsOn, TakesIn, calls, finishes, starves}

@@ -3,8 +3,8 @@ use Rattle.std.proofs.Common.{◌≡◌, ◌⊎◌, inl, inr, ℕ, zero, suc, �
 use Rattle.std.proofs.lemmas.Bool.{and_left, and_right, lt-leb}
 use Rattle.norec_world.proofs.Common.{AreOfActors, AreOpaque, AreTied, AreUnfinished, Attempt, Between, Call, EndsAs, IsAlone, IsBeforeTry, IsRunOf, MAX_OPEN_BLOCKS, Obeys, Outcome, Row, Rules, StandsIn, State, Step, World, active_of, after, alone, answers, answers_within, attempts_of, begin_code, begin_of, begin_within, both_ways, bytes_at, committed_at, cond-false, cond-true, current_of, ending_at, ending_of, observed, first_of, in_transaction, is_open, of_thread, opened, option_and_then, pair_of, player_then, reply, run_after, same_Some, stands_for, state_then, takes_clock, CommitsInOrder, HasRow}
 use Rattle.norec_world.specs.declared.actor.Actor.{Actor}
-use Rattle.norec_world.specs.declared.ending.End.{End}
-use Rattle.norec_world.specs.declared.ending.End.TheVariants.{Finished, GaveUp, NoMemory}
+use Rattle.tx_runs.specs.declared.ending.End.{End}
+use Rattle.tx_runs.specs.declared.ending.End.TheVariants.{Finished, GaveUp, NoMemory}
 use Rattle.world_laws.specs.Sole.{EndsWith, IsFirstTry, IsOnWay, IsSole, StandsSole}
 use Rattle.world_laws.specs.Solo.{row_of, solo_within, stopped, with_all, with_first}
 use Rattle.world_laws.specs.ShownAlone.{ShowsAlone}

@@ -3,8 +3,8 @@ use Rattle.std.proofs.Common.{◌≡◌, inl, inr, ℕ, ◌+◌, ◌/◌, ◌%�
 use Rattle.norec_world.proofs.Common.{AreOfActors, Attempt, Beginning, Between, Continues, EndsAt, GoesOnAfter, IsBetween, IsRunOf, MAX_OPEN_BLOCKS, Outcome, Props, Rows, Rules, Tries, active_of, after_try, begin_of, begins, begins_at, between, bytes_at, current_of, ending_of, is_committed, is_done, of_thread, outrun, over, prior_of, run_after, runs, shut_out, turned_away, same_Some}
 use Rattle.norec_world.specs.declared.actor.Actor.{Actor}
 use Rattle.norec_world.specs.declared.actor.Status.TheVariants.{Ended}
-use Rattle.norec_world.specs.declared.ending.End.{End}
-use Rattle.norec_world.specs.declared.ending.End.TheVariants.{Finished, GaveUp, NoMemory}
+use Rattle.tx_runs.specs.declared.ending.End.{End}
+use Rattle.tx_runs.specs.declared.ending.End.TheVariants.{Finished, GaveUp, NoMemory}
 use Rattle.world_laws.specs.Sole.{AreSole, EndsWith, IsFirstTry, IsOnWay, IsSole, StandsSole}
 use Rattle.world_laws.specs.Solo.{one_if}
 use Rattle.tx_attempts.specs.declared.attempt.Outcome.TheVariants as outcomes

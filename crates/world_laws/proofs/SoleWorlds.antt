@@ -2,7 +2,7 @@
 use Rattle.std.proofs.Common.{Result, ◌<◌, ◌≡◌, inl, inr, ℕ, ◌/◌, ◌%◌, true, false, List, [], ◌∷◌, ◌++◌, None, Some, slice_get, slice_set, length, refl, sym, ap, subst, ◌∙◌, arith}
 use Rattle.norec_world.proofs.Common.{AreOfActors, Attempt, CommitsInOrder, IsEvent, IsRunOf, MAX_OPEN_BLOCKS, Rules, World, active_of, bytes_at, ending_of, false_from_ne_true, first_of, of_thread, slice_get-set_same, slice_get_within, same_Some, both_ways, in_transaction, AreTied, AreOpaque, SameOpening, Goes, HasRow, observed, attempts_of, is_waiting, cases_Bool, none-some}
 use Rattle.norec_world.specs.declared.actor.Actor.{Actor}
-use Rattle.norec_world.specs.declared.ending.End.TheVariants.{Finished}
+use Rattle.tx_runs.specs.declared.ending.End.TheVariants.{Finished}
 use Rattle.norec_world.specs.declared.fault.WorldFault.{WorldFault}
 use Rattle.world_laws.specs.Sole.{IsSole}
 use Rattle.norec_world.proofs.SoundOthers.{odd_or_even, row_shut}

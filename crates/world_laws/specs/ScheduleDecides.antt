@@ -1,6 +1,6 @@
 -- A schedule decides everything: nothing that a world does is left free, but where memory is refused.
 use Rattle.std.specs.Prelude.{◌≡◌, ℕ, List, Some, IsSome, Result, Err}
-use Rattle.norec_world.specs.declared.ending.End.TheVariants.{NoMemory as Starved}
+use Rattle.tx_runs.specs.declared.ending.End.TheVariants.{NoMemory as Starved}
 use Rattle.norec_world.specs.declared.fault.WorldFault.{WorldFault}
 use Rattle.norec_world.specs.declared.fault.WorldFault.TheVariants.{NoMemory}
 use Rattle.norec_world.specs.World.{World, SameOpening, ending_at}

@@ -1,7 +1,7 @@
 -- What a world with one player shows, by what that player does alone.
 use Rattle.std.specs.Prelude.{◌≡◌, ℕ, ◌/◌, ◌%◌, [], ◌∷◌, List, length, replicate, Option, None, Some, Result}
 use Rattle.tx_attempts.specs.declared.attempt.Outcome.TheVariants.{Unfinished}
-use Rattle.norec_world.specs.declared.ending.End.{End}
+use Rattle.tx_runs.specs.declared.ending.End.{End}
 use Rattle.norec_world.specs.World.{World, attempts_of, ending_at, memory_of, observed}
 use Rattle.world_laws.specs.SoFar.{IsSoFar, HasEnded}
 use Rattle.norec_world.specs.declared.fault.WorldFault.{WorldFault}

@@ -7,8 +7,8 @@ use Rattle.tx_attempts.specs.declared.attempt.Attempt.{Attempt}
 use Rattle.tx_attempts.specs.declared.attempt.Entry.{Entry}
 use Rattle.tx_attempts.specs.declared.attempt.Outcome.{Outcome}
 use Rattle.tx_attempts.specs.declared.attempt.Outcome.TheVariants as outcomes
-use Rattle.norec_world.specs.declared.ending.End.{End}
-use Rattle.norec_world.specs.declared.ending.End.TheVariants.{Finished, GaveUp, NoMemory}
+use Rattle.tx_runs.specs.declared.ending.End.{End}
+use Rattle.tx_runs.specs.declared.ending.End.TheVariants.{Finished, GaveUp, NoMemory}
 use Rattle.norec_world.specs.Headline.{bytes_at}
 use Rattle.tx_attempts.specs.Opacity.{Beginning, begin_code, begin_of}
 use Rattle.tx_attempts.specs.Alone.{IsAlone}

@@ -1,17 +1,27 @@
-//! Scripts as programs, and reports as texts.
+//! Scripts that are run, and reports as texts.
 
 use script_asm::assemble;
-use script_program::Program;
 use std::alloc::Global;
+use std::sync::Wait;
 use std::test::Fail;
+use std::thread::Threads;
 use tx_history::write_history;
-use tx_host::Report;
+use tx_host::{Report, run_threads};
+use tx_worker::{ActionSink, Gate};
 
-/// The program of a script that has no fault.
-pub(super) fn program_of(alloc: Global, script: &str) -> Result<Program, Fail> {
-    match assemble(alloc, script.as_bytes()) {
-        Ok(program) => Ok(program),
-        Err(_) => Err(Fail::new("no script")),
+/// The report of a script that has no fault.
+pub(super) fn report_of<R: Threads + Wait + AllocGlobal, G: Gate + Sync, A: ActionSink + Sync>(
+    rt: &R,
+    script: &str,
+    gate: &G,
+    sink: &A,
+) -> Result<Report, Fail> {
+    let Ok(program) = assemble(rt.alloc(), script.as_bytes()) else {
+        return Err(Fail::new("no script"));
+    };
+    match run_threads(rt, rt.alloc(), &program, gate, sink) {
+        Ok(report) => Ok(report),
+        Err(_) => Err(Fail::new("no report")),
     }
 }
 

@@ -1,16 +1,7 @@
 //! Scripts from their bytes to what is written, said and answered.
 
-mod barriers;
-mod copies;
-mod endings;
-mod irrevocable;
-mod nests;
-mod schedules;
-mod threads;
-
 use super::*;
 use crate::fakes::{Comment, Meagre};
-use script_asm::assemble;
 use std::process::Abort;
 use std::test::*;
 
@@ -35,6 +26,56 @@ end
 final 2 0100000000000000
 ";
 
+/// A reader finds the clock held, with one word of two stored, and gives up.
+const PARTIAL_WRITE_BACK: &[u8] = b".memory 16
+.patience 2
+.retries 0
+.schedule 1x1 0x3 1!
+.thread
+set r1 1
+_ITM_beginTransaction r0 -
+_ITM_WU8 0 r1
+_ITM_WU8 8 r1
+_ITM_commitTransaction
+.thread
+_ITM_beginTransaction r0 -
+_ITM_RU8 r1 0
+_ITM_commitTransaction
+";
+
+const PARTIAL_WRITE_BACK_HISTORY: &[u8] = b"itm-history 1
+memory 00000000000000000000000000000000
+attempt 1 1 0 conflict -
+arena -
+end
+attempt 0 1 0 unfinished -
+arena -
+call _ITM_WU8 0 0100000000000000 = ok
+call _ITM_WU8 8 0100000000000000 = ok
+end
+final 1 01000000000000000000000000000000
+";
+
+/// Of four threads the first and the last give up, in the order of the schedule the last but one first; their lines stand by number.
+const TWO_GAVE_UP: &[u8] = b".memory 8
+.commits 1
+.schedule 2! 3! 1! 0!
+.thread
+set r1 1
+_ITM_beginTransaction r0 -
+_ITM_WU8 0 r1
+_ITM_commitTransaction
+.thread
+_ITM_beginTransaction r0 -
+_ITM_RU8 r1 0
+_ITM_commitTransaction
+.thread 2
+set r1 1
+_ITM_beginTransaction r0 -
+_ITM_WU8 0 r1
+_ITM_commitTransaction
+";
+
 /// What a script is answered.
 #[derive(Drop)]
 struct Answer {
@@ -53,28 +94,6 @@ fn answer_to<R: Read>(alloc: Global, reader: &mut R) -> Answer {
         errors,
         status,
     }
-}
-
-/// A script, and what it has to be answered.
-#[derive(Clone, Copy)]
-struct Row<'a> {
-    script: &'a [u8],
-    history: &'a [u8],
-    errors: &'a [u8],
-    status: u8,
-    /// How many events its world has taken in the end.
-    events: u64,
-}
-
-fn expect(rt: &impl Abort, alloc: Global, row: Row<'_>) -> Result<(), Fail> {
-    let mut reader = row.script;
-    let answer = answer_to(alloc, &mut reader);
-    assert_eq!(rt; answer.output.as_slice(), row.history);
-    assert_eq!(rt; answer.errors.as_slice(), row.errors);
-    assert_eq!(rt; answer.status, row.status);
-    let program = assemble(alloc, row.script)?;
-    assert_eq!(rt; run_program(alloc, &program)?.events(), row.events);
-    Ok(())
 }
 
 /// One script of each kind of fault, with its line.
@@ -176,8 +195,8 @@ fn failing_writes(rt: HostRuntime) {
         fails_in_turn(
             &rt,
             rt.alloc(),
-            schedules::PARTIAL_WRITE_BACK,
-            schedules::PARTIAL_WRITE_BACK_HISTORY,
+            PARTIAL_WRITE_BACK,
+            PARTIAL_WRITE_BACK_HISTORY,
             fails,
             4,
         );
@@ -199,11 +218,7 @@ fn meagre_writers(rt: HostRuntime) {
     assert_eq!(rt; writer.taken.as_slice(), COUNTER_HISTORY);
     let rows: [(&[u8], usize, &[u8]); 2] = [
         (b"no script", 2, b"itmrun: "),
-        (
-            endings::TWO_GAVE_UP,
-            9,
-            b"itmrun: thread 0 gave up\nitmrun: ",
-        ),
+        (TWO_GAVE_UP, 9, b"itmrun: thread 0 gave up\nitmrun: "),
     ];
     for (script, writes, taken) in rows {
         let mut reader = script;

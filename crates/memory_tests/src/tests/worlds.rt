@@ -5,13 +5,14 @@ ghost use Rattle.script_vm.specs.Threads.{depth_of};
 
 use super::roomless::Roomless;
 use itm_types::{Action, ActionKind, Ran};
-use norec_world::{Attempt, Bytes, End, Outcome, Passes, Setup, World};
+use norec_world::{Attempt, Bytes, Outcome, Passes, Setup, World};
 use script_asm::{AsmKind, assemble};
 use script_program::Program;
 use script_vm::Script;
 use std::alloc::{AllocError, Global};
 use std::process::Abort;
 use tx_player::Player;
+use tx_runs::End;
 
 /// The program of a script, which has no fault; nothing where memory is refused.
 fn program(rt: &impl Abort, alloc: Global, text: &[u8]) -> Option<Program> {

@@ -4,7 +4,7 @@ use Rattle.std.proofs.Common.{List, if◌then◌else◌, ◌≡◌, Bool, true, 
 use Rattle.norec_world.proofs.Common.{Actor, Committed, Done, HasRow, IsAnswered, IsSettledBy, Outcome, depth_after, with_ended}
 use Rattle.norec_world.proofs.OthersAttempts.{others_ended}
 use Rattle.norec_world.proofs.PlayerLaws.{after_close, deep_of}
-use Rattle.norec_world.specs.Sound.{IsDeep}
+use Rattle.tx_runs.specs.Nesting.{IsDeep}
 use Rattle.norec_world.proofs.actor.Actor.committed.Goals as goal
 
 pub returns-clause-settled : goal.returns-clause-settled

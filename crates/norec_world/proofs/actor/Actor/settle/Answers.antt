@@ -1,5 +1,5 @@
 use Rattle.norec_world.proofs.OthersAttempts.{others_stopped, retried_counts, retried_is}
-use Rattle.norec_world.specs.Sound.{IsDeep}
+use Rattle.tx_runs.specs.Nesting.{IsDeep}
 use Rattle.std.proofs.Common.{◌≡◌, ◌/◌, length, ap, ◌∙◌, refl, sym, subst, Bool, true, false, None, [], is_some}
 use Rattle.norec_world.proofs.Common.{Actor, AnswerFits, Attempt, Busy, Conflict, Ended, Full, GaveUp, HasRow, IsSettledBy, Records, StopsIf, in_transaction, whole}
 use Rattle.tx_attempts.specs.declared.attempt.Outcome.TheVariants as outcomes
