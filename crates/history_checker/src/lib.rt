@@ -6,8 +6,6 @@ mod endings;
 mod replays;
 mod rows;
 mod tables;
-#[cfg(test)]
-mod tests;
 mod verdict;
 mod walk;
 mod whole;

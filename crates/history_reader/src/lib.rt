@@ -12,8 +12,6 @@ mod numbers;
 mod operands;
 mod reply;
 mod state;
-#[cfg(test)]
-mod tests;
 mod verb;
 mod whole;
 mod words;

@@ -1,9 +1,8 @@
 //! The program's words.
 
-use crate::sched::sched;
-use crate::threads::threads;
 use clap::error::ErrorKind;
 use clap::{Arg, ArgAction, ArgMatches, Command};
+use run_commands::{sched, threads};
 use std::alloc::{AllocError, Global};
 use std::io::{BufWriter, Read, Write};
 use std::rt::{Env, Files};

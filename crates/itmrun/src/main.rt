@@ -2,14 +2,6 @@
 #![tactic(auto)]
 
 mod command;
-mod endings;
-#[cfg(test)]
-mod fakes;
-mod running;
-mod sched;
-#[cfg(test)]
-mod tests;
-mod threads;
 
 use std::process::ExitCode;
 

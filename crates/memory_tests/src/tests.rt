@@ -3,6 +3,7 @@
 
 mod engine;
 mod frames;
+mod logs;
 mod plain;
 mod roomless;
 mod texts;

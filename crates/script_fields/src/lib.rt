@@ -45,6 +45,3 @@ pub use shapes::{
 };
 pub use text::{code_part, first_field, first_line, has_allowed};
 pub use words::scope_text;
-
-#[cfg(test)]
-mod tests;

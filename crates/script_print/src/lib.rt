@@ -13,6 +13,3 @@ mod section;
 mod whole;
 
 pub use whole::print;
-
-#[cfg(test)]
-mod tests;

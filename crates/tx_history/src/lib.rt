@@ -7,8 +7,6 @@ mod history;
 mod pieces;
 mod rows;
 mod stream;
-#[cfg(test)]
-mod tests;
 
 pub use history::History;
 pub use pieces::{Piece, put_pieces};

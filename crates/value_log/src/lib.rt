@@ -5,6 +5,3 @@ mod index;
 mod log;
 
 pub use log::ValueLog;
-
-#[cfg(test)]
-mod tests;

@@ -11,6 +11,3 @@ mod set;
 pub use mark::Mark;
 pub use row::Row;
 pub use set::WriteSet;
-
-#[cfg(test)]
-mod tests;

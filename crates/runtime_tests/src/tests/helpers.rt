@@ -84,16 +84,11 @@ pub(super) fn code(code: u32) -> Answer {
     Answer::Reply(Reply::Code(code))
 }
 
-/// The reply of these bytes, 32 at most.
-pub(super) fn bytes(bytes: &[u8]) -> Answer {
-    let mut value = Value::new();
-    let _ = value.try_extend_from_slice(bytes);
-    Answer::Reply(Reply::Bytes(value))
-}
-
 /// The reply of a word.
 pub(super) fn word(value: u64) -> Answer {
-    bytes(&value.to_le_bytes())
+    let mut bytes = Value::new();
+    let _ = bytes.try_extend_from_slice(&value.to_le_bytes());
+    Answer::Reply(Reply::Bytes(bytes))
 }
 
 /// The answer of the call, by the method that is there for it.

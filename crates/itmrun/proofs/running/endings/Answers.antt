@@ -1,9 +1,0 @@
-use Rattle.std.proofs.Common.{◌∙◌, arith}
-use Rattle.itmrun.proofs.ScheduleItems.{endings_more}
-use Rattle.itmrun.proofs.running.endings.Goals as goal
-
-pub loop-thread-preserved : goal.loop-thread-preserved
-loop-thread-preserved c = record {
-  items = c.push.ensures.items ∙ endings_more c.args.world.now c.loop-thread.thread c.loop-thread.endings.items c.ending.result c.loop-thread.invariant.items c.ending.ensures;
-  len = omega (arith, c.push.ensures.len, c.loop-thread.invariant.len);
-}

@@ -1,7 +1,0 @@
-use Rattle.std.proofs.Common.{◌≡◌, map, take}
-use Rattle.script_program.specs.Listing.{threads_of}
-use Rattle.script_vm.specs.Threads.{opening}
-use Rattle.itmrun.proofs.running.players.Given as goal
-
-abbrev pub invariant-loop-thread : goal.invariant-loop-thread
-invariant-loop-thread l = l.players.items ≡ map opening (take l.thread (threads_of l.program))

@@ -1,9 +1,0 @@
-use Rattle.std.proofs.Common.{◌≡◌, Some, map, take}
-use Rattle.arrayvec.specs.ArrayVec.{array_vec_len}
-use Rattle.itmrun.proofs.threads.endings.Given as goal
-
-abbrev pub invariant-loop-thread : goal.invariant-loop-thread
-invariant-loop-thread l = record {
-  items : l.endings.items ≡ map Some (take l.thread l.ends);
-  len : array_vec_len l.endings ≡ l.thread;
-}

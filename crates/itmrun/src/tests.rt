@@ -1,4 +1,0 @@
-//! The commands that work on texts alone.
-
-mod asm;
-mod check;

@@ -1,0 +1,107 @@
+-- What is told of a program's world is what its one thread does alone.
+use Rattle.std.proofs.Common.{◌≡◌, inl, inr, ℕ, zero, suc, ◌+◌, ◌*◌, ◌/◌, ◌%◌, ◌<◌, ◌==◌, List, [], ◌∷◌, length, map, replicate, Option, None, Some, refl, sym, ap, subst, ◌∙◌, arith}
+use Rattle.std.specs.Prelude.{slice_index_or}
+use Rattle.std.proofs.lemmas.List.{length-map}
+use Rattle.itm_types.specs.declared.limits.TheConstants.{MAX_OPEN_BLOCKS}
+use Rattle.tx_attempts.specs.declared.attempt.Attempt.{Attempt}
+use Rattle.tx_runs.specs.declared.ending.End.{End}
+use Rattle.tx_runs.specs.declared.ending.End.TheVariants.{Finished, GaveUp, NoMemory}
+use Rattle.tx_attempts.specs.declared.attempt.Outcome.{Outcome}
+use Rattle.tx_attempts.specs.declared.attempt.Outcome.TheVariants as outcomes
+use Rattle.world_laws.specs.Solo.{Solo, one_if, solo}
+use Rattle.world_laws.specs.SoFar.{IsSoFar}
+use Rattle.norec_world.specs.Commits.{CommitsInOrder}
+use Rattle.norec_world.specs.Headline.{AreOpaque}
+use Rattle.norec_world.specs.Tied.{AreTied}
+use Rattle.norec_world.specs.World.{World, attempts_of, ending_at, memory_of, observed}
+use Rattle.script_program.specs.declared.instruction.Instruction.{Instruction}
+use Rattle.script_program.specs.Listing.{Listing, opening_of, threads_of}
+use Rattle.script_vm.specs.Threads.{Thread, opening, thread_rules}
+use Rattle.run_commands.specs.Scheduled.{Leaves, schedule_of, players_of}
+use Rattle.run_commands.specs.Pages.{first_thread, solo_of, page, IsOf, IsWorldOf, history_of}
+use Rattle.world_histories.proofs.LegalWorlds.{legal_world}
+use Rattle.world_laws.specs.ShownAlone.{DoneBy}
+use Rattle.world_laws.proofs.LedAlone.{led_alone}
+use Rattle.script_vm.specs.ThreadLaws.{thread_laws}
+use Rattle.run_commands.proofs.ScheduleItems.{items_keep, items_led}
+
+first_is : (threads : List (List Instruction)) (x : Thread) → map opening threads ≡ x ∷ [] → x ≡ opening (slice_index_or threads 0 [])
+first_is [] x e = absurd cc
+first_is (t ∷ threads) x e = cc
+
+parity : (k : ℕ) → k < 2 → one_if (k == 1) ≡ k
+parity zero l = refl
+parity (suc zero) l = refl
+parity (suc (suc k)) l = absurd (omega arith)
+
+doubled : (n : ℕ) → n ≡ 2 * (n / 2) + one_if (n % 2 == 1)
+doubled n = omega (arith, parity (n % 2) (omega arith))
+
+-- the world began with the program's memory, limits and threads
+record BeganAs (p : Listing) (w : World Thread) : Type 0 where
+  pub players : w.opening ≡ players_of p
+  pub base : w.base ≡ opening_of p
+  pub arena : w.arena ≡ p.arena
+  pub limit : w.max_commits ≡ p.limits.max_commits
+
+began_as : (p : Listing) (w : World Thread) → Leaves p w → BeganAs p w
+began_as p w (first, begins, leads) =
+    let kept = items_keep first w (schedule_of p) leads in
+    record {
+      players = kept.opening.opening ∙ begins.players;
+      base = kept.opening.base ∙ begins.base;
+      arena = kept.opening.arena ∙ begins.arena;
+      limit = kept.opening.max_commits ∙ begins.limit;
+    }
+
+module _ (p : Listing) (w : World Thread) (began : BeganAs p w) (player : Thread) (player_is : player ≡ first_thread p) where
+  -- what the player does alone is what the program's thread does
+  alone_is : solo thread_rules MAX_OPEN_BLOCKS w.max_commits 0 player w.base (replicate w.arena 0) ≡ solo_of p
+  unfolding solo_of
+  alone_is = λ i. solo thread_rules MAX_OPEN_BLOCKS (began.limit i) 0 (player_is i) (began.base i) (replicate (began.arena i) 0)
+
+  so_far : (commits : ℕ) (memory : List ℕ) (outcome : Outcome) (rows : List Attempt)
+      → IsSoFar thread_rules w.max_commits 0 player w.base (replicate w.arena 0) commits memory outcome rows
+      → IsSoFar thread_rules p.limits.max_commits 0 (first_thread p) (opening_of p) (replicate p.arena 0) commits memory outcome rows
+  so_far commits memory outcome rows s =
+      subst (λ (n : ℕ). IsSoFar thread_rules p.limits.max_commits 0 (first_thread p) (opening_of p) (replicate n 0) commits memory outcome rows) began.arena
+      (subst (λ (base : List ℕ). IsSoFar thread_rules p.limits.max_commits 0 (first_thread p) base (replicate w.arena 0) commits memory outcome rows) began.base
+      (subst (λ (t : Thread). IsSoFar thread_rules p.limits.max_commits 0 t w.base (replicate w.arena 0) commits memory outcome rows) player_is
+      (subst (λ (n : ℕ). IsSoFar thread_rules n 0 player w.base (replicate w.arena 0) commits memory outcome rows) began.limit s)))
+
+  shows : (end : End) → solo_of p ≡ record { attempts = attempts_of w; memory = memory_of w; commits = w.cells.clock / 2; held = w.cells.clock % 2 == 1; ending = end }
+      → ((solo_of p).ending ≡ end) × (history_of w ≡ page p)
+  unfolding page
+  shows end all = (
+    ap (λ (s : Solo). s.ending) all,
+    (λ i. record {
+      memory = began.base i;
+      attempts = (ap (λ (s : Solo). s.attempts) (sym all)) i;
+      clock = (doubled w.cells.clock ∙ ap (λ (s : Solo). 2 * s.commits + one_if s.held) (sym all)) i;
+      bytes = (ap (λ (s : Solo). s.memory) (sym all)) i;
+    }),
+  )
+
+  of_ending : (ending : Option End) → DoneBy thread_rules w player ending → IsOf p ending (history_of w)
+  of_ending None (memory, part, told) = (began.base, memory, so_far (w.cells.clock / 2) memory outcomes.Unfinished (attempts_of w) part, told)
+  of_ending (Some Finished) all = shows Finished (sym alone_is ∙ all)
+  of_ending (Some GaveUp) all = shows GaveUp (sym alone_is ∙ all)
+  of_ending (Some NoMemory) (inl part) = (began.base, inl (part.0, so_far (w.cells.clock / 2) (memory_of w) outcomes.NoMemory (attempts_of w) part.1))
+  of_ending (Some NoMemory) (inr part) = (began.base, inr (part.0, (part.1.0, so_far (w.cells.clock / 2) part.1.0 outcomes.Unfinished (attempts_of w) part.1.1)))
+
+pub world_of_run : (p : Listing) (w : World Thread) → Leaves p w → CommitsInOrder w → AreOpaque thread_rules (observed w) → AreTied thread_rules w → IsWorldOf p w
+world_of_run p w leaves commits opaque tied = record {
+  leaves = leaves;
+  base = (began_as p w leaves).base;
+  commits = commits;
+  opaque = opaque;
+  tied = tied;
+  legal = legal_world thread_rules w commits opaque tied;
+  alone = λ one.
+      let began = began_as p w leaves in
+      let first = leaves.1 in
+      let led = items_led leaves.0 w (schedule_of p) leaves.2 in
+      let single : (players : List Thread) → players ≡ players_of p → length players ≡ 1 = λ players is. ap (λ (l : List Thread). length l) is ∙ length-map (threads_of p) opening ∙ one in
+      let a = led_alone thread_rules thread_laws led.0 led.1.0 leaves.0 w first.anew first.commits first.opaque first.tied led.1.1 (single leaves.0.opening first.players) (single w.opening began.players) in
+      of_ending p w began a.0 (first_is (threads_of p) a.0 (sym began.players ∙ a.1)) (ending_at w 0) a.2;
+}

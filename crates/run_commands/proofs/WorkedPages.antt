@@ -1,0 +1,87 @@
+-- Worked programs with the texts of their histories, by computation.
+use Rattle.std.proofs.Common.{◌≡◌, ◌++◌, refl, arith}
+use Rattle.std.specs.Prelude.{codes}
+use Rattle.std.proofs.lemmas.Fmt.{decimal_digit}
+use Rattle.hex.specs.Hex.{encode_with}
+use Rattle.tx_runs.specs.declared.ending.End.TheVariants.{GaveUp}
+use Rattle.script_program.specs.Listing.{bytes_of, codes_of}
+use Rattle.script_vm.specs.Registers.{datum}
+use Rattle.text_commands.proofs.WorkedScripts.{counter, empty_block, beyond, laid_in, one_commit}
+use Rattle.tx_history.specs.Histories.{history_text, first_lines, attempt_lines, head_line, try_text, props_end, arena_line, call_line, body_text, reply_text, last_line}
+use Rattle.tx_history.proofs.WorkedLines.{line}
+use Rattle.run_commands.specs.Pages.{solo_of, page}
+
+counter_page : history_text (page counter) ≡
+    line (codes "itm-history 1")
+    ++ line (codes "memory 0000000000000000")
+    ++ line (codes "attempt 0 1 0 committed -")
+    ++ line (codes "arena -")
+    ++ line (codes "call _ITM_RU8 0 = 0000000000000000")
+    ++ line (codes "call _ITM_WU8 0 0100000000000000 = ok")
+    ++ line (codes "call _ITM_commitTransaction = ok")
+    ++ line (codes "end")
+    ++ line (codes "final 2 0100000000000000")
+unfolding page solo_of bytes_of codes_of datum history_text first_lines attempt_lines head_line try_text props_end arena_line call_line body_text reply_text last_line encode_with
+counter_page = rw (decimal_digit 0 (omega arith), decimal_digit 1 (omega arith), decimal_digit 2 (omega arith)) refl
+
+empty_block_page : history_text (page empty_block) ≡
+    line (codes "itm-history 1")
+    ++ line (codes "memory 0000000000000000")
+    ++ line (codes "attempt 0 1 0 readonly -")
+    ++ line (codes "arena -")
+    ++ line (codes "call _ITM_commitTransaction = ok")
+    ++ line (codes "end")
+    ++ line (codes "final 0 0000000000000000")
+unfolding page solo_of bytes_of codes_of datum history_text first_lines attempt_lines head_line try_text props_end arena_line call_line body_text reply_text last_line encode_with
+empty_block_page = rw (decimal_digit 0 (omega arith), decimal_digit 1 (omega arith)) refl
+
+beyond_page : history_text (page beyond) ≡
+    line (codes "itm-history 1")
+    ++ line (codes "memory 0000000000000000")
+    ++ line (codes "attempt 0 1 0 committed -")
+    ++ line (codes "arena -")
+    ++ line (codes "call _ITM_RU8 8 = refused 2")
+    ++ line (codes "call _ITM_WU8 0 0500000000000000 = ok")
+    ++ line (codes "call _ITM_commitTransaction = ok")
+    ++ line (codes "end")
+    ++ line (codes "final 2 0500000000000000")
+unfolding page solo_of bytes_of codes_of datum history_text first_lines attempt_lines head_line try_text props_end arena_line call_line body_text reply_text last_line encode_with
+beyond_page = rw (decimal_digit 0 (omega arith), decimal_digit 1 (omega arith), decimal_digit 2 (omega arith), decimal_digit 8 (omega arith)) refl
+
+laid_in_page : history_text (page laid_in) ≡
+    line (codes "itm-history 1")
+    ++ line (codes "memory 000000000000a1b20000000000000000")
+    ++ line (codes "attempt 0 1 0 committed -")
+    ++ line (codes "arena -")
+    ++ line (codes "call _ITM_RU8 4 = 0000a1b200000000")
+    ++ line (codes "call _ITM_WU8 8 0000a1b200000000 = ok")
+    ++ line (codes "call _ITM_commitTransaction = ok")
+    ++ line (codes "end")
+    ++ line (codes "final 2 000000000000a1b20000a1b200000000")
+unfolding page solo_of bytes_of codes_of datum history_text first_lines attempt_lines head_line try_text props_end arena_line call_line body_text reply_text last_line encode_with
+laid_in_page = rw (decimal_digit 0 (omega arith), decimal_digit 1 (omega arith), decimal_digit 2 (omega arith), decimal_digit 4 (omega arith), decimal_digit 8 (omega arith)) refl
+
+one_commit_page : history_text (page one_commit) ≡
+    line (codes "itm-history 1")
+    ++ line (codes "memory 0000000000000000")
+    ++ line (codes "attempt 0 1 0 committed -")
+    ++ line (codes "arena -")
+    ++ line (codes "call _ITM_WU8 0 0100000000000000 = ok")
+    ++ line (codes "call _ITM_commitTransaction = ok")
+    ++ line (codes "end")
+    ++ line (codes "attempt 0 1 1 readonly -")
+    ++ line (codes "arena -")
+    ++ line (codes "call _ITM_RU8 0 = 0100000000000000")
+    ++ line (codes "call _ITM_commitTransaction = ok")
+    ++ line (codes "end")
+    ++ line (codes "attempt 0 1 1 full -")
+    ++ line (codes "arena -")
+    ++ line (codes "call _ITM_WU8 0 0100000000000000 = ok")
+    ++ line (codes "end")
+    ++ line (codes "final 2 0100000000000000")
+unfolding page solo_of bytes_of codes_of datum history_text first_lines attempt_lines head_line try_text props_end arena_line call_line body_text reply_text last_line encode_with
+one_commit_page = rw (decimal_digit 0 (omega arith), decimal_digit 1 (omega arith), decimal_digit 2 (omega arith)) refl
+
+one_commit_ending : (solo_of one_commit).ending ≡ GaveUp
+unfolding solo_of bytes_of codes_of datum
+one_commit_ending = refl

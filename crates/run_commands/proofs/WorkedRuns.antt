@@ -1,0 +1,38 @@
+-- Schedules of programs, and what is said of threads, by computation.
+use Rattle.std.proofs.Common.{◌≡◌, [], ◌∷◌, ◌++◌, true, false, None, Some, refl, arith}
+use Rattle.std.specs.Prelude.{codes}
+use Rattle.std.specs.List.{list_any}
+use Rattle.std.proofs.lemmas.Fmt.{decimal_digit}
+use Rattle.tx_runs.specs.declared.ending.End.TheVariants.{Finished, GaveUp, NoMemory}
+use Rattle.script_program.specs.declared.schedule.Item.TheVariants.{Take, Out}
+use Rattle.script_program.specs.Listing.{codes_of}
+use Rattle.script_vm.specs.Threads.{opening}
+use Rattle.run_commands.specs.Scheduled.{players_of, schedule_of}
+use Rattle.run_commands.specs.Endings.{fell_short, thread_line, ending_line, ending_lines}
+use Rattle.text_commands.proofs.WorkedScripts.{counter_code, listing, lost_update}
+use Rattle.tx_history.proofs.WorkedLines.{line}
+
+-- ## Schedules
+
+two_players : players_of lost_update ≡ opening counter_code ∷ opening counter_code ∷ []
+unfolding codes_of
+two_players = refl
+
+given_schedule : schedule_of lost_update ≡ Take 0 3 ∷ Take 1 6 ∷ Out 0 ∷ []
+given_schedule = refl
+
+each_in_turn : schedule_of (listing 8 3 counter_code) ≡ Out 0 ∷ Out 1 ∷ Out 2 ∷ []
+unfolding codes_of
+each_in_turn = refl
+
+-- ## Lines on threads
+
+two_lines : ending_lines 0 (Some GaveUp ∷ Some Finished ∷ None ∷ Some NoMemory ∷ []) ≡ line (codes "itmrun: thread 0 gave up") ++ line (codes "itmrun: thread 3 found no memory")
+unfolding ending_line thread_line
+two_lines = rw (decimal_digit 0 (omega arith), decimal_digit 3 (omega arith)) refl
+
+one_short : list_any fell_short (None ∷ Some Finished ∷ Some NoMemory ∷ []) ≡ true
+one_short = refl
+
+none_short : list_any fell_short (None ∷ Some Finished ∷ []) ≡ false
+none_short = refl

@@ -1,0 +1,8 @@
+use Rattle.std.proofs.Common.{append_assoc, append-nil}
+use Rattle.run_commands.specs.Endings.{thread_line}
+use Rattle.tx_history.proofs.TextPieces.{put_as}
+use Rattle.run_commands.proofs.endings.put_thread.Goals as goal
+
+pub returns : goal.returns
+unfolding thread_line
+returns g c = put_as _ _ _ _ _ c.put_pieces.ensures (simp (append_assoc, append-nil))

@@ -1,0 +1,55 @@
+-- What is told of a run, and the page of a program: what its first thread does alone on the memory that the program begins with.
+use Rattle.std.specs.Prelude.{◌≡◌, ◌⊎◌, ℕ, ◌+◌, ◌*◌, ◌/◌, ◌%◌, List, [], length, replicate, slice_index_or, Option, None, Some}
+use Rattle.itm_types.specs.declared.limits.TheConstants.{MAX_OPEN_BLOCKS}
+use Rattle.tx_runs.specs.declared.ending.End.{End}
+use Rattle.tx_runs.specs.declared.ending.End.TheVariants.{Finished, GaveUp, NoMemory}
+use Rattle.tx_attempts.specs.declared.attempt.Outcome.TheVariants as outcomes
+use Rattle.world_laws.specs.Solo.{Solo, one_if, solo}
+use Rattle.world_laws.specs.SoFar.{IsSoFar}
+use Rattle.norec_world.specs.Commits.{CommitsInOrder}
+use Rattle.norec_world.specs.Headline.{AreOpaque}
+use Rattle.norec_world.specs.Tied.{AreTied}
+use Rattle.norec_world.specs.World.{World, attempts_of, ending_at, memory_of, observed}
+use Rattle.script_program.specs.Listing.{Listing, opening_of, threads_of}
+use Rattle.script_vm.specs.Threads.{Thread, opening, thread_rules}
+use Rattle.tx_history.specs.declared.history.History.{History}
+use Rattle.tx_history.specs.Legal.{IsLegal}
+use Rattle.run_commands.specs.Scheduled.{Leaves}
+
+abbrev pub first_thread : Listing → Thread
+first_thread p = opening (slice_index_or (threads_of p) 0 [])
+
+-- all that the first thread does alone
+unfoldable pub solo_of : Listing → Solo
+solo_of p = solo thread_rules MAX_OPEN_BLOCKS p.limits.max_commits 0 (first_thread p) (opening_of p) (replicate p.arena 0)
+
+-- its history: the clock is odd where its last transaction is irrevocable and has not ended
+unfoldable pub page : Listing → History
+page p = record { memory = opening_of p; attempts = (solo_of p).attempts; clock = 2 * (solo_of p).commits + one_if (solo_of p).held; bytes = (solo_of p).memory }
+
+-- The history of a run after which the one thread stands so: the page, where it ran to its end; a beginning of what it does, with what the commits so far left, where it found no memory or has not ended; of an irrevocable transaction that found none, with what it stored over that.
+abbrev pub IsOf : Listing → Option End → History → Type 0
+IsOf p (Some Finished) h = ((solo_of p).ending ≡ Finished) × (h ≡ page p)
+IsOf p (Some GaveUp) h = ((solo_of p).ending ≡ GaveUp) × (h ≡ page p)
+IsOf p (Some NoMemory) h = (h.memory ≡ opening_of p)
+    × (((h.clock % 2 ≡ 0) × IsSoFar thread_rules p.limits.max_commits 0 (first_thread p) (opening_of p) (replicate p.arena 0) (h.clock / 2) h.bytes outcomes.NoMemory h.attempts)
+    ⊎ ((h.clock % 2 ≡ 1) × ((memory : List ℕ) × IsSoFar thread_rules p.limits.max_commits 0 (first_thread p) (opening_of p) (replicate p.arena 0) (h.clock / 2) memory outcomes.Unfinished h.attempts)))
+IsOf p None h = (h.memory ≡ opening_of p) × (memory : List ℕ)
+    × IsSoFar thread_rules p.limits.max_commits 0 (first_thread p) (opening_of p) (replicate p.arena 0) (h.clock / 2) memory outcomes.Unfinished h.attempts
+    × (h.clock % 2 ≡ 0 → h.bytes ≡ memory)
+
+-- ## The run of a program
+
+-- what is told of a world
+abbrev pub history_of : World Thread → History
+history_of w = record { memory = w.base; attempts = attempts_of w; clock = w.cells.clock; bytes = memory_of w }
+
+-- The schedule leads to this world, which began with the program's memory, whose commits are in order and whose attempts are opaque, and of which a legal history is told; and where the program has one thread, what is told of it is what that one does alone.
+pub record IsWorldOf (p : Listing) (w : World Thread) : Type 0 where
+  pub leaves : Leaves p w
+  pub base : w.base ≡ opening_of p
+  pub commits : CommitsInOrder w
+  pub opaque : AreOpaque thread_rules (observed w)
+  pub tied : AreTied thread_rules w
+  pub legal : IsLegal (history_of w)
+  pub alone : length (threads_of p) ≡ 1 → IsOf p (ending_at w 0) (history_of w)

@@ -1,0 +1,30 @@
+-- The command that runs scripts.
+use Rattle.std.specs.Prelude.{◌≡◌, ℕ, List, length, Option}
+use Rattle.arrayvec.specs.ArrayVec.{ArrayVec}
+use Rattle.tx_runs.specs.declared.ending.End.{End}
+use Rattle.norec_world.specs.World.{World}
+use Rattle.script_fields.specs.declared.fault.AsmFault.{AsmFault}
+use Rattle.script_program.specs.Listing.{Listing, threads_of}
+use Rattle.script_vm.specs.Threads.{Thread}
+use Rattle.text_commands.specs.Answers.{Command}
+use Rattle.text_commands.specs.Lines.{script_line}
+use Rattle.tx_history.specs.Histories.{history_text}
+use Rattle.run_commands.specs.Endings.{ending_lines, endings_status}
+use Rattle.run_commands.specs.Pages.{IsWorldOf, history_of}
+use Rattle.run_commands.specs.Scheduled.{endings_of}
+
+-- a run of the program, after which the threads stand so, and the text of its history
+pub record IsRun (p : Listing) (endings : ArrayVec (Option End)) (text : List ℕ) : Type 0 where
+  pub world : World Thread
+  pub of_program : IsWorldOf p world
+  pub stand : endings.items ≡ endings_of (length (threads_of p)) world
+  pub told : text ≡ history_text (history_of world)
+
+-- of a script the history of its program's run is written
+abbrev pub running : Command Listing AsmFault (ArrayVec (Option End))
+running = record {
+  writes = IsRun;
+  status = λ endings. endings_status endings.items;
+  says = λ endings. ending_lines 0 endings.items;
+  line = script_line;
+}

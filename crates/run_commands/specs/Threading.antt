@@ -1,0 +1,41 @@
+-- The command that runs scripts on threads of their own.
+use Rattle.std.specs.Prelude.{◌≡◌, ℕ, List, map, Option, Some}
+use Rattle.arrayvec.specs.ArrayVec.{ArrayVec}
+use Rattle.script_fields.specs.declared.fault.AsmFault.{AsmFault}
+use Rattle.script_program.specs.Listing.{Listing}
+use Rattle.text_commands.specs.Answers.{Command}
+use Rattle.text_commands.specs.Lines.{script_line}
+use Rattle.text_commands.specs.declared.failure.Failure.{Failure}
+use Rattle.text_commands.specs.declared.failure.Failure.TheVariants as failures
+use Rattle.tx_history.specs.Histories.{history_text}
+use Rattle.tx_host.specs.declared.report.HostFault.{HostFault}
+use Rattle.tx_host.specs.declared.report.HostFault.TheVariants as faults
+use Rattle.tx_host.specs.declared.report.Report.{Report}
+use Rattle.tx_host.specs.Reports.{Ran}
+use Rattle.tx_runs.specs.declared.ending.End.{End}
+use Rattle.run_commands.specs.Endings.{ending_lines, endings_status}
+
+-- a run of the program on threads, after which they stand so, and the text of its history
+pub record IsThreadedRun (p : Listing) (endings : ArrayVec (Option End)) (text : List ℕ) : Type 0 where
+  pub report : Report
+  pub ran : Ran p report
+  pub stand : endings.items ≡ map Some report.ends.items
+  pub told : text ≡ history_text report.history
+
+-- of a script the history of its program's run on threads is written
+abbrev pub threading : Command Listing AsmFault (ArrayVec (Option End))
+threading = record {
+  writes = IsThreadedRun;
+  status = λ endings. endings_status endings.items;
+  says = λ endings. ending_lines 0 endings.items;
+  line = script_line;
+}
+
+-- why there is no history
+abbrev pub failure_of : HostFault → Failure AsmFault
+failure_of faults.NoMemory = failures.NoMemory
+failure_of faults.NoThread = failures.NoThread
+failure_of faults.Held = failures.NoMemory
+
+abbrev pub IsFailure : Failure AsmFault → Type 0
+IsFailure failure = (fault : HostFault) × (failure ≡ failure_of fault)

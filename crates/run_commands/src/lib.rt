@@ -1,0 +1,10 @@
+//! The commands that run a script: by its schedule, and on threads. Each reads it, and writes the history of the run.
+#![tactic(auto)]
+
+mod by_schedule;
+mod endings;
+mod on_threads;
+mod running;
+
+pub use by_schedule::sched;
+pub use on_threads::threads;
