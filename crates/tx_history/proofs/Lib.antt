@@ -1,4 +1,5 @@
 pub mod TextPieces
-pub mod Pages
+pub mod PagedTexts
 pub mod AppendedTexts
+pub mod Streams
 pub mod WorkedLines

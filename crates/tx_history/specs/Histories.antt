@@ -23,8 +23,6 @@ use Rattle.tx_attempts.specs.declared.attempt.Outcome.TheVariants as outcomes
 use Rattle.tx_attempts.specs.declared.attempt.Entry.{Entry}
 use Rattle.tx_attempts.specs.declared.attempt.Attempt.{Attempt}
 use Rattle.tx_history.specs.declared.history.History.{History}
-use Rattle.tx_history.specs.declared.rows.Row.{Row}
-use Rattle.tx_history.specs.declared.rows.Row.TheVariants.{Start, Tried, Last}
 
 abbrev pub outcome_name : Outcome → List ℕ
 outcome_name outcomes.Committed = codes "committed"
@@ -112,9 +110,3 @@ last_line clock bytes = codes "final " ++ decimal clock ++ codes " " ++ encode_l
 -- the one spelling of a history
 unfoldable pub history_text : History → List ℕ
 history_text h = first_lines h.memory ++ flat_map attempt_lines h.attempts ++ last_line h.clock h.bytes
-
--- a part of it that is written at once
-unfoldable pub row_text : Row → List ℕ
-row_text (Start memory) = first_lines memory.now
-row_text (Tried attempt) = attempt_lines attempt.now
-row_text (Last clock bytes) = last_line clock bytes.now

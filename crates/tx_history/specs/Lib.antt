@@ -1,3 +1,4 @@
 pub mod Spelling
 pub mod Histories
+pub mod Streams
 pub mod Legal

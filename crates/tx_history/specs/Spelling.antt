@@ -4,7 +4,7 @@ use Rattle.std.specs.Io.KnownBytes.{Appends}
 use Rattle.hex.specs.Hex.{encode_lower}
 use Rattle.tx_history.specs.declared.pieces.Piece.{Piece}
 use Rattle.tx_history.specs.declared.pieces.Piece.TheVariants.{Text, Number, Hex}
-use Rattle.tx_history.specs.declared.stream.Stream.{Stream}
+use Rattle.tx_history.specs.declared.paging.Pages.{Pages}
 
 -- a beginning of the text is written, and not all of it
 abbrev pub IsCut : Option (List ℕ) → Option (List ℕ) → List ℕ → Type 0
@@ -20,13 +20,13 @@ abbrev pub Writes : {A E : Type 0} → Option (List ℕ) → Option (List ℕ) �
 Writes old new (Ok x) text = Appends old new text
 Writes old new (Err e) text = (n : ℕ) × Appends old new (take n text)
 
--- what a stream is to its callers: whether a write has failed, what its writer holds, and the page that is still to go there
+-- what is told of a text on its way: whether a write has failed, what its writer holds, and the page that is still to go there
 pub record Sheet : Type 0 where
   pub failed : Bool
   pub written : Option (List ℕ)
   pub page : List ℕ
 
-abbrev pub sheet : {W : Type 0} → (W → Option (List ℕ)) → Stream W → Sheet
+abbrev pub sheet : {W : Type 0} → (W → Option (List ℕ)) → Pages W → Sheet
 sheet contents s = record { failed = s.failed; written = contents s.writer.now; page = s.page.items }
 
 -- of these bytes so many went to the writer, and the page has the rest; where a write failed, not all went

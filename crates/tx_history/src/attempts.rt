@@ -1,14 +1,15 @@
 //! The lines of attempts.
 
 ghost use Rattle.std.specs.Prelude.{◌≡◌, flat_map};
-ghost use Rattle.tx_history.specs.Spelling.{Grows, sheet};
+ghost use Rattle.tx_history.specs.Spelling.{Grows, Puts, sheet};
 ghost use Rattle.tx_history.specs.Histories.{outcome_name, try_text, props_end, head_line, arena_line, call_line, kind_text, ran_line, attempt_lines};
 
 use crate::bodies::{put_body, put_reply};
+use crate::paging::Pages;
 use crate::pieces::Piece;
-use crate::stream::Stream;
 use itm_types::{ActionKind, Props, Ran};
 use script_fields::props_text;
+use std::io;
 use std::io::Write;
 use tx_attempts::{Attempt, Entry, Outcome};
 
@@ -26,50 +27,50 @@ fn outcome_name(outcome: Outcome) -> &'static [u8]
     }
 }
 
-fn put_try<W: Write>(stream: &mut Stream<'_, W>, attempt: &Attempt)
-    ensures same { stream.new.writer.ghost_name ≡ stream.old.writer.ghost_name }
-    ensures grows { Grows (sheet W.contents stream.old) (sheet W.contents stream.new)
+fn put_try<W: Write>(pages: &mut Pages<'_, W>, attempt: &Attempt)
+    ensures same { pages.new.writer.ghost_name ≡ pages.old.writer.ghost_name }
+    ensures grows { Grows (sheet W.contents pages.old) (sheet W.contents pages.new)
         (try_text attempt.now) }
 {
-    stream.text(b"attempt ");
-    stream.number(u64::from(attempt.thread));
-    stream.text(b" ");
-    stream.number(u64::from(attempt.nth));
-    stream.text(b" ");
-    stream.number(attempt.at);
-    stream.text(b" ");
-    stream.text(outcome_name(attempt.outcome));
+    pages.text(b"attempt ");
+    pages.number(u64::from(attempt.thread));
+    pages.text(b" ");
+    pages.number(u64::from(attempt.nth));
+    pages.text(b" ");
+    pages.number(attempt.at);
+    pages.text(b" ");
+    pages.text(outcome_name(attempt.outcome));
 }
 
-fn put_props<W: Write>(stream: &mut Stream<'_, W>, props: Props)
-    ensures same { stream.new.writer.ghost_name ≡ stream.old.writer.ghost_name }
-    ensures grows { Grows (sheet W.contents stream.old) (sheet W.contents stream.new)
+fn put_props<W: Write>(pages: &mut Pages<'_, W>, props: Props)
+    ensures same { pages.new.writer.ghost_name ≡ pages.old.writer.ghost_name }
+    ensures grows { Grows (sheet W.contents pages.old) (sheet W.contents pages.new)
         (props_end props) }
 {
-    stream.text(b" ");
-    stream.text(props_text(props).as_bytes());
-    stream.text(b"\n");
+    pages.text(b" ");
+    pages.text(props_text(props).as_bytes());
+    pages.text(b"\n");
 }
 
-fn put_head<W: Write>(stream: &mut Stream<'_, W>, attempt: &Attempt)
-    ensures same { stream.new.writer.ghost_name ≡ stream.old.writer.ghost_name }
-    ensures grows { Grows (sheet W.contents stream.old) (sheet W.contents stream.new)
+fn put_head<W: Write>(pages: &mut Pages<'_, W>, attempt: &Attempt)
+    ensures same { pages.new.writer.ghost_name ≡ pages.old.writer.ghost_name }
+    ensures grows { Grows (sheet W.contents pages.old) (sheet W.contents pages.new)
         (head_line attempt.now) }
 {
-    put_try(stream, attempt);
-    put_props(stream, attempt.props);
+    put_try(pages, attempt);
+    put_props(pages, attempt.props);
 }
 
-#[tactic(auto, unfolding(crate::specs::Histories::arena_line), using(crate::proofs::Pages::grows_as))]
-fn put_arena<W: Write>(stream: &mut Stream<'_, W>, bytes: &[u8])
-    ensures same { stream.new.writer.ghost_name ≡ stream.old.writer.ghost_name }
-    ensures grows { Grows (sheet W.contents stream.old) (sheet W.contents stream.new)
+#[tactic(auto, unfolding(crate::specs::Histories::arena_line), using(crate::proofs::PagedTexts::grows_as))]
+fn put_arena<W: Write>(pages: &mut Pages<'_, W>, bytes: &[u8])
+    ensures same { pages.new.writer.ghost_name ≡ pages.old.writer.ghost_name }
+    ensures grows { Grows (sheet W.contents pages.old) (sheet W.contents pages.new)
         (arena_line bytes.now) }
 {
     if bytes.is_empty() {
-        stream.text(b"arena -\n");
+        pages.text(b"arena -\n");
     } else {
-        stream.put(&[
+        pages.put(&[
             Piece::Text(b"arena "),
             Piece::Hex(bytes),
             Piece::Text(b"\n"),
@@ -77,26 +78,26 @@ fn put_arena<W: Write>(stream: &mut Stream<'_, W>, bytes: &[u8])
     }
 }
 
-pub fn put_call<W: Write>(stream: &mut Stream<'_, W>, entry: &Entry)
-    ensures same { stream.new.writer.ghost_name ≡ stream.old.writer.ghost_name }
-    ensures grows { Grows (sheet W.contents stream.old) (sheet W.contents stream.new)
+pub fn put_call<W: Write>(pages: &mut Pages<'_, W>, entry: &Entry)
+    ensures same { pages.new.writer.ghost_name ≡ pages.old.writer.ghost_name }
+    ensures grows { Grows (sheet W.contents pages.old) (sheet W.contents pages.new)
         (call_line entry.now) }
 {
-    stream.text(b"call ");
-    put_body(stream, &entry.call);
-    stream.text(b" = ");
-    put_reply(stream, &entry.reply);
-    stream.text(b"\n");
+    pages.text(b"call ");
+    put_body(pages, &entry.call);
+    pages.text(b" = ");
+    put_reply(pages, &entry.reply);
+    pages.text(b"\n");
 }
 
 #[tactic(auto, using(crate::proofs::AppendedTexts::grows_none, crate::proofs::AppendedTexts::grows_call))]
-fn put_calls<W: Write>(stream: &mut Stream<'_, W>, calls: &[Entry])
-    ensures same { stream.new.writer.ghost_name ≡ stream.old.writer.ghost_name }
-    ensures grows { Grows (sheet W.contents stream.old) (sheet W.contents stream.new)
+fn put_calls<W: Write>(pages: &mut Pages<'_, W>, calls: &[Entry])
+    ensures same { pages.new.writer.ghost_name ≡ pages.old.writer.ghost_name }
+    ensures grows { Grows (sheet W.contents pages.old) (sheet W.contents pages.new)
         (flat_map call_line calls.now) }
 {
     for entry in calls {
-        put_call(stream, entry);
+        put_call(pages, entry);
     }
 }
 
@@ -110,13 +111,13 @@ fn kind_text(kind: ActionKind) -> &'static [u8]
 }
 
 /// An action that has run.
-#[tactic(auto, unfolding(crate::specs::Histories::ran_line), using(crate::proofs::Pages::grows_as))]
-fn put_ran<W: Write>(stream: &mut Stream<'_, W>, ran: Ran)
-    ensures same { stream.new.writer.ghost_name ≡ stream.old.writer.ghost_name }
-    ensures grows { Grows (sheet W.contents stream.old) (sheet W.contents stream.new)
+#[tactic(auto, unfolding(crate::specs::Histories::ran_line), using(crate::proofs::PagedTexts::grows_as))]
+fn put_ran<W: Write>(pages: &mut Pages<'_, W>, ran: Ran)
+    ensures same { pages.new.writer.ghost_name ≡ pages.old.writer.ghost_name }
+    ensures grows { Grows (sheet W.contents pages.old) (sheet W.contents pages.new)
         (ran_line ran) }
 {
-    stream.put(&[
+    pages.put(&[
         Piece::Text(b"ran "),
         Piece::Text(kind_text(ran.kind)),
         Piece::Text(b" "),
@@ -128,35 +129,33 @@ fn put_ran<W: Write>(stream: &mut Stream<'_, W>, ran: Ran)
 }
 
 #[tactic(auto, using(crate::proofs::AppendedTexts::grows_no_ran, crate::proofs::AppendedTexts::grows_ran))]
-pub fn put_all_ran<W: Write>(stream: &mut Stream<'_, W>, all: &[Ran])
-    ensures same { stream.new.writer.ghost_name ≡ stream.old.writer.ghost_name }
-    ensures grows { Grows (sheet W.contents stream.old) (sheet W.contents stream.new)
+pub fn put_all_ran<W: Write>(pages: &mut Pages<'_, W>, all: &[Ran])
+    ensures same { pages.new.writer.ghost_name ≡ pages.old.writer.ghost_name }
+    ensures grows { Grows (sheet W.contents pages.old) (sheet W.contents pages.new)
         (flat_map ran_line all.now) }
 {
     for ran in all {
-        put_ran(stream, *ran);
+        put_ran(pages, *ran);
     }
 }
 
-pub fn put_attempt<W: Write>(stream: &mut Stream<'_, W>, attempt: &Attempt)
-    ensures same { stream.new.writer.ghost_name ≡ stream.old.writer.ghost_name }
-    ensures grows { Grows (sheet W.contents stream.old) (sheet W.contents stream.new)
+fn put_attempt<W: Write>(pages: &mut Pages<'_, W>, attempt: &Attempt)
+    ensures same { pages.new.writer.ghost_name ≡ pages.old.writer.ghost_name }
+    ensures grows { Grows (sheet W.contents pages.old) (sheet W.contents pages.new)
         (attempt_lines attempt.now) }
 {
-    put_head(stream, attempt);
-    put_arena(stream, attempt.arena.as_slice());
-    put_calls(stream, attempt.calls.as_slice());
-    put_all_ran(stream, attempt.ran.as_slice());
-    stream.text(b"end\n");
+    put_head(pages, attempt);
+    put_arena(pages, attempt.arena.as_slice());
+    put_calls(pages, attempt.calls.as_slice());
+    put_all_ran(pages, attempt.ran.as_slice());
+    pages.text(b"end\n");
 }
 
-#[tactic(auto, using(crate::proofs::AppendedTexts::grows_no_attempt, crate::proofs::AppendedTexts::grows_attempt))]
-pub fn put_attempts<W: Write>(stream: &mut Stream<'_, W>, attempts: &[Attempt])
-    ensures same { stream.new.writer.ghost_name ≡ stream.old.writer.ghost_name }
-    ensures grows { Grows (sheet W.contents stream.old) (sheet W.contents stream.new)
-        (flat_map attempt_lines attempts.now) }
+/// Writes the lines of an attempt. Where a write fails, what the writer took is a beginning of them.
+pub fn write_attempt<W: Write>(writer: &mut W, attempt: &Attempt) -> io::Result<()>
+    ensures { Puts (W.contents writer.old) (W.contents writer.new) result (attempt_lines attempt.now) }
 {
-    for attempt in attempts {
-        put_attempt(stream, attempt);
-    }
+    let mut pages = Pages::new(writer);
+    put_attempt(&mut pages, attempt);
+    pages.close()
 }

@@ -7,46 +7,46 @@ ghost use Rattle.itm_types.specs.declared.entry.Entry.{Entry};
 ghost use Rattle.tx_history.specs.Spelling.{Grows, sheet};
 ghost use Rattle.tx_history.specs.Histories.{copy_text, fill_text, commit_action_text, undo_action_text, body_text, reply_text};
 
+use crate::paging::Pages;
 use crate::pieces::Piece;
-use crate::stream::Stream;
 use itm_types::{Action, Call, Copying, Datum, Entry as Function, Reply, WriteHint, name_of};
 use script_fields::{props_text, scope_text};
 use std::io::Write;
 
 /// An entry point, and the first byte that it is called for.
-fn put_at<W: Write>(stream: &mut Stream<'_, W>, function: Function, at: u64)
-    ensures same { stream.new.writer.ghost_name ≡ stream.old.writer.ghost_name }
-    ensures grows { Grows (sheet W.contents stream.old) (sheet W.contents stream.new)
+fn put_at<W: Write>(pages: &mut Pages<'_, W>, function: Function, at: u64)
+    ensures same { pages.new.writer.ghost_name ≡ pages.old.writer.ghost_name }
+    ensures grows { Grows (sheet W.contents pages.old) (sheet W.contents pages.new)
         (name_of function ++ codes " " ++ decimal at) }
 {
-    stream.text(name_of(function).as_bytes());
-    stream.text(b" ");
-    stream.number(at);
+    pages.text(name_of(function).as_bytes());
+    pages.text(b" ");
+    pages.number(at);
 }
 
 /// A write: the first byte that is written, and what is written.
-fn put_write<W: Write>(stream: &mut Stream<'_, W>, hint: WriteHint, at: u64, value: &Datum)
-    ensures same { stream.new.writer.ghost_name ≡ stream.old.writer.ghost_name }
-    ensures grows { Grows (sheet W.contents stream.old) (sheet W.contents stream.new)
+fn put_write<W: Write>(pages: &mut Pages<'_, W>, hint: WriteHint, at: u64, value: &Datum)
+    ensures same { pages.new.writer.ghost_name ≡ pages.old.writer.ghost_name }
+    ensures grows { Grows (sheet W.contents pages.old) (sheet W.contents pages.new)
         (name_of (Entry.Write hint value.now.width) ++ codes " " ++ decimal at ++ codes " " ++ encode_lower value.now.bytes.items) }
 {
-    put_at(stream, Function::Write(hint, value.width), at);
-    stream.text(b" ");
-    stream.hex(value.bytes.as_slice());
+    put_at(pages, Function::Write(hint, value.width), at);
+    pages.text(b" ");
+    pages.hex(value.bytes.as_slice());
 }
 
 /// A copy: where it writes, where it reads, and how many bytes.
-#[tactic(auto, unfolding(crate::specs::Histories::copy_text), using(crate::proofs::Pages::grows_as))]
-fn put_copy<W: Write>(stream: &mut Stream<'_, W>, copying: Copying)
-    ensures same { stream.new.writer.ghost_name ≡ stream.old.writer.ghost_name }
-    ensures grows { Grows (sheet W.contents stream.old) (sheet W.contents stream.new)
+#[tactic(auto, unfolding(crate::specs::Histories::copy_text), using(crate::proofs::PagedTexts::grows_as))]
+fn put_copy<W: Write>(pages: &mut Pages<'_, W>, copying: Copying)
+    ensures same { pages.new.writer.ghost_name ≡ pages.old.writer.ghost_name }
+    ensures grows { Grows (sheet W.contents pages.old) (sheet W.contents pages.new)
         (copy_text copying) }
 {
     let function = Function::Copy {
         moves: copying.moves,
         pair: copying.pair,
     };
-    stream.put(&[
+    pages.put(&[
         Piece::Text(name_of(function).as_bytes()),
         Piece::Text(b" "),
         Piece::Number(copying.to),
@@ -58,13 +58,13 @@ fn put_copy<W: Write>(stream: &mut Stream<'_, W>, copying: Copying)
 }
 
 /// A fill: where it writes, the byte that it sets, and how many.
-#[tactic(auto, unfolding(crate::specs::Histories::fill_text), using(crate::proofs::Pages::grows_as))]
-fn put_fill<W: Write>(stream: &mut Stream<'_, W>, hint: WriteHint, to: u64, byte: u64, size: u64)
-    ensures same { stream.new.writer.ghost_name ≡ stream.old.writer.ghost_name }
-    ensures grows { Grows (sheet W.contents stream.old) (sheet W.contents stream.new)
+#[tactic(auto, unfolding(crate::specs::Histories::fill_text), using(crate::proofs::PagedTexts::grows_as))]
+fn put_fill<W: Write>(pages: &mut Pages<'_, W>, hint: WriteHint, to: u64, byte: u64, size: u64)
+    ensures same { pages.new.writer.ghost_name ≡ pages.old.writer.ghost_name }
+    ensures grows { Grows (sheet W.contents pages.old) (sheet W.contents pages.new)
         (fill_text hint to byte size) }
 {
-    stream.put(&[
+    pages.put(&[
         Piece::Text(name_of(Function::Fill(hint)).as_bytes()),
         Piece::Text(b" "),
         Piece::Number(to),
@@ -76,13 +76,13 @@ fn put_fill<W: Write>(stream: &mut Stream<'_, W>, hint: WriteHint, to: u64, byte
 }
 
 /// An action that runs once the transaction has committed.
-#[tactic(auto, unfolding(crate::specs::Histories::commit_action_text), using(crate::proofs::Pages::grows_as))]
-fn put_commit_action<W: Write>(stream: &mut Stream<'_, W>, action: Action)
-    ensures same { stream.new.writer.ghost_name ≡ stream.old.writer.ghost_name }
-    ensures grows { Grows (sheet W.contents stream.old) (sheet W.contents stream.new)
+#[tactic(auto, unfolding(crate::specs::Histories::commit_action_text), using(crate::proofs::PagedTexts::grows_as))]
+fn put_commit_action<W: Write>(pages: &mut Pages<'_, W>, action: Action)
+    ensures same { pages.new.writer.ghost_name ≡ pages.old.writer.ghost_name }
+    ensures grows { Grows (sheet W.contents pages.old) (sheet W.contents pages.new)
         (commit_action_text action) }
 {
-    stream.put(&[
+    pages.put(&[
         Piece::Text(b"_ITM_addUserCommitAction "),
         Piece::Number(u64::from(action.fun)),
         Piece::Text(b" _ITM_noTransactionId "),
@@ -91,13 +91,13 @@ fn put_commit_action<W: Write>(stream: &mut Stream<'_, W>, action: Action)
 }
 
 /// An action that runs where its block is rolled back.
-#[tactic(auto, unfolding(crate::specs::Histories::undo_action_text), using(crate::proofs::Pages::grows_as))]
-fn put_undo_action<W: Write>(stream: &mut Stream<'_, W>, action: Action)
-    ensures same { stream.new.writer.ghost_name ≡ stream.old.writer.ghost_name }
-    ensures grows { Grows (sheet W.contents stream.old) (sheet W.contents stream.new)
+#[tactic(auto, unfolding(crate::specs::Histories::undo_action_text), using(crate::proofs::PagedTexts::grows_as))]
+fn put_undo_action<W: Write>(pages: &mut Pages<'_, W>, action: Action)
+    ensures same { pages.new.writer.ghost_name ≡ pages.old.writer.ghost_name }
+    ensures grows { Grows (sheet W.contents pages.old) (sheet W.contents pages.new)
         (undo_action_text action) }
 {
-    stream.put(&[
+    pages.put(&[
         Piece::Text(b"_ITM_addUserUndoAction "),
         Piece::Number(u64::from(action.fun)),
         Piece::Text(b" "),
@@ -105,52 +105,52 @@ fn put_undo_action<W: Write>(stream: &mut Stream<'_, W>, action: Action)
     ]);
 }
 
-#[tactic(auto, unfolding(crate::specs::Histories::body_text), using(crate::proofs::Pages::grows_as))]
-pub fn put_body<W: Write>(stream: &mut Stream<'_, W>, call: &Call)
-    ensures same { stream.new.writer.ghost_name ≡ stream.old.writer.ghost_name }
-    ensures grows { Grows (sheet W.contents stream.old) (sheet W.contents stream.new)
+#[tactic(auto, unfolding(crate::specs::Histories::body_text), using(crate::proofs::PagedTexts::grows_as))]
+pub fn put_body<W: Write>(pages: &mut Pages<'_, W>, call: &Call)
+    ensures same { pages.new.writer.ghost_name ≡ pages.old.writer.ghost_name }
+    ensures grows { Grows (sheet W.contents pages.old) (sheet W.contents pages.new)
         (body_text call.now) }
 {
     match call {
-        Call::Begin { props, .. } => stream.put(&[
+        Call::Begin { props, .. } => pages.put(&[
             Piece::Text(b"_ITM_beginTransaction "),
             Piece::Text(props_text(*props).as_bytes()),
         ]),
-        Call::Commit => stream.text(b"_ITM_commitTransaction"),
-        Call::Abort { outer } => stream.put(&[
+        Call::Commit => pages.text(b"_ITM_commitTransaction"),
+        Call::Abort { outer } => pages.put(&[
             Piece::Text(b"_ITM_abortTransaction "),
             Piece::Text(scope_text(*outer).as_bytes()),
         ]),
-        Call::Mode { .. } => stream.put(&[Piece::Text(
+        Call::Mode { .. } => pages.put(&[Piece::Text(
             b"_ITM_changeTransactionMode modeSerialIrrevocable",
         )]),
-        Call::InTransaction => stream.put(&[Piece::Text(b"_ITM_inTransaction")]),
-        Call::Read { hint, width, at } => put_at(stream, Function::Read(*hint, *width), *at),
-        Call::Write { hint, at, value } => put_write(stream, *hint, *at, value),
-        Call::Log { width, at } => put_at(stream, Function::Log(*width), *at),
-        Call::LogBytes { at, size } => stream.put(&[
+        Call::InTransaction => pages.put(&[Piece::Text(b"_ITM_inTransaction")]),
+        Call::Read { hint, width, at } => put_at(pages, Function::Read(*hint, *width), *at),
+        Call::Write { hint, at, value } => put_write(pages, *hint, *at, value),
+        Call::Log { width, at } => put_at(pages, Function::Log(*width), *at),
+        Call::LogBytes { at, size } => pages.put(&[
             Piece::Text(name_of(Function::LogBytes).as_bytes()),
             Piece::Text(b" "),
             Piece::Number(*at),
             Piece::Text(b" "),
             Piece::Number(*size),
         ]),
-        Call::Copy(copying) => put_copy(stream, *copying),
+        Call::Copy(copying) => put_copy(pages, *copying),
         Call::Fill {
             hint,
             to,
             byte,
             size,
-        } => put_fill(stream, *hint, *to, *byte, *size),
-        Call::CommitAction(action) => put_commit_action(stream, *action),
-        Call::UndoAction(action) => put_undo_action(stream, *action),
-        Call::Load { width, at } => stream.put(&[
+        } => put_fill(pages, *hint, *to, *byte, *size),
+        Call::CommitAction(action) => put_commit_action(pages, *action),
+        Call::UndoAction(action) => put_undo_action(pages, *action),
+        Call::Load { width, at } => pages.put(&[
             Piece::Text(b"ld"),
             Piece::Number(u64::from(width.size())),
             Piece::Text(b" "),
             Piece::Number(*at),
         ]),
-        Call::Save { at, value } => stream.put(&[
+        Call::Save { at, value } => pages.put(&[
             Piece::Text(b"st"),
             Piece::Number(u64::from(value.width.size())),
             Piece::Text(b" "),
@@ -161,17 +161,17 @@ pub fn put_body<W: Write>(stream: &mut Stream<'_, W>, call: &Call)
     }
 }
 
-#[tactic(auto, unfolding(crate::specs::Histories::reply_text), using(crate::proofs::Pages::grows_as))]
-pub fn put_reply<W: Write>(stream: &mut Stream<'_, W>, reply: &Reply)
-    ensures same { stream.new.writer.ghost_name ≡ stream.old.writer.ghost_name }
-    ensures grows { Grows (sheet W.contents stream.old) (sheet W.contents stream.new)
+#[tactic(auto, unfolding(crate::specs::Histories::reply_text), using(crate::proofs::PagedTexts::grows_as))]
+pub fn put_reply<W: Write>(pages: &mut Pages<'_, W>, reply: &Reply)
+    ensures same { pages.new.writer.ghost_name ≡ pages.old.writer.ghost_name }
+    ensures grows { Grows (sheet W.contents pages.old) (sheet W.contents pages.new)
         (reply_text reply.now) }
 {
     match reply {
-        Reply::Done => stream.text(b"ok"),
-        Reply::Bytes(bytes) => stream.hex(bytes.as_slice()),
-        Reply::Code(n) => stream.put(&[Piece::Text(b"code "), Piece::Number(u64::from(*n))]),
-        Reply::Refused(refusal) => stream.put(&[
+        Reply::Done => pages.text(b"ok"),
+        Reply::Bytes(bytes) => pages.hex(bytes.as_slice()),
+        Reply::Code(n) => pages.put(&[Piece::Text(b"code "), Piece::Number(u64::from(*n))]),
+        Reply::Refused(refusal) => pages.put(&[
             Piece::Text(b"refused "),
             Piece::Number(u64::from(refusal.number())),
         ]),

@@ -4,10 +4,11 @@
 mod attempts;
 mod bodies;
 mod history;
+mod paging;
 mod pieces;
 mod rows;
 mod stream;
 
 pub use history::History;
 pub use pieces::{Piece, put_pieces};
-pub use rows::{Row, write_history, write_row};
+pub use stream::{Stream, write_history};

@@ -1,175 +1,119 @@
-//! A text that is written as it comes, and that stops at the first write that failed.
+//! A history that is written as its run goes.
 
-ghost use Rattle.std.specs.Prelude.{◌≡◌, ◌≤◌, [], false, length, flat_map, decimal, is_err};
-ghost use Rattle.hex.specs.Hex.{encode_lower};
-ghost use Rattle.tx_history.specs.Spelling.{Grows, sheet, spelled};
+ghost use Rattle.std.specs.Prelude.{◌≡◌, None};
+ghost use Rattle.std.specs.Result.{result_err};
+ghost use Rattle.tx_history.specs.Histories.{attempt_lines, first_lines, history_text, last_line};
+ghost use Rattle.tx_history.specs.Spelling.{Puts};
+ghost use Rattle.tx_history.specs.Streams.{Adds, lent, standing};
 
-use crate::pieces::{Piece, put_bytes};
-use arrayvec::ArrayVec;
-use itoa::Buffer;
+use crate::attempts::write_attempt;
+use crate::rows::{write_first, write_last};
 use std::io;
 use std::io::Write;
+use tx_attempts::Attempt;
 
-/// So many bytes at most stand on a page.
-const PAGE: usize = 512;
-
-/// A text on its way to a writer, which is given it page by page, and no more once a write has failed.
+/// A history on its way to a writer: its first lines, then those of each attempt, then the last one. Each call hands its
+/// lines to the writer at once, and takes no memory. Once a write has failed, what the writer took is a beginning of the
+/// lines and not all of them; each later call answers the same error and writes nothing.
 #[derive(Drop)]
-pub(crate) struct Stream<'a, W: Write> {
+pub struct Stream<'a, W: Write> {
     writer: &'a mut W,
-    page: ArrayVec<u8, PAGE>,
-    failed: bool,
-    /// Why it failed.
-    error: Option<io::Error>,
+    /// The error of the write that failed.
+    fault: Option<io::Error>,
 }
 
 impl<'a, W: Write> Stream<'a, W> {
-    /// A text of which nothing is written.
-    pub(crate) fn new(writer: &'a mut W) -> Self
-        ensures same { result.writer.ghost_name ≡ writer.entry.ghost_name }
-        ensures writer { result.writer.now ≡ writer.entry.now }
-        ensures nothing { (result.page.items ≡ []) × (result.failed ≡ false) }
+    /// A history of which nothing is written.
+    pub fn new(writer: &'a mut W) -> Self
+        ensures same { lent result ≡ writer.entry.ghost_name }
+        ensures nothing { standing W.contents result ≡ record { written = W.contents writer.old; fault = None } }
     {
         Stream {
             writer,
-            page: ArrayVec::new(),
-            failed: false,
-            error: None,
+            fault: None,
         }
     }
 
-    /// Gives the writer the page.
-    #[tactic(auto, using(crate::proofs::Pages::turned, crate::proofs::Pages::lost))]
-    fn turn(&mut self)
-        ensures same { self.new.writer.ghost_name ≡ self.old.writer.ghost_name }
-        ensures grows { Grows (sheet W.contents self.old) (sheet W.contents self.new) [] }
-        ensures page { self.new.page.items ≡ [] }
+    /// The error of the write that failed, if one has.
+    fn check(&self) -> io::Result<()>
+        ensures { result_err result ≡ self.now.fault }
     {
-        if !self.failed {
-            if let Err(error) = put_bytes(self.writer, self.page.as_slice()) {
-                self.failed = true;
-                self.error = Some(error);
-            }
-        }
-        self.page.clear();
-    }
-
-    /// Gives the writer the bytes, past the page, which is empty.
-    #[tactic(auto, using(crate::proofs::Pages::given, crate::proofs::Pages::lost))]
-    fn give(&mut self, text: &[u8])
-        requires page { self.old.page.items ≡ [] }
-        ensures same { self.new.writer.ghost_name ≡ self.old.writer.ghost_name }
-        ensures grows { Grows (sheet W.contents self.old) (sheet W.contents self.new) text.now }
-    {
-        if !self.failed {
-            if let Err(error) = put_bytes(self.writer, text) {
-                self.failed = true;
-                self.error = Some(error);
-            }
+        match self.fault {
+            Some(fault) => Err(fault),
+            None => Ok(()),
         }
     }
 
-    /// Writes the bytes, for which the page has no room.
-    #[cold]
-    #[inline(never)]
-    #[tactic(auto, using(crate::proofs::Pages::held, crate::proofs::Pages::grows_then))]
-    fn text_on_next(&mut self, text: &[u8])
-        ensures same { self.new.writer.ghost_name ≡ self.old.writer.ghost_name }
-        ensures grows { Grows (sheet W.contents self.old) (sheet W.contents self.new) text.now }
+    /// Writes the lines before the first attempt: the format's name, and the memory before the run.
+    #[tactic(auto, using(crate::proofs::Streams::adds_refused))]
+    pub fn open(&mut self, memory: &[u8]) -> io::Result<()>
+        ensures same { lent self.new ≡ lent self.old }
+        ensures adds { Adds (standing W.contents self.old) (standing W.contents self.new) (first_lines memory.now) }
+        ensures answer { (standing W.contents self.new).fault ≡ result_err result }
     {
-        self.turn();
-        match self.page.try_extend_from_slice(text) {
-            Ok(()) => {}
-            Err(_) => self.give(text),
-        }
+        self.check()?;
+        self.fault = write_first(self.writer, memory).err();
+        self.check()
     }
 
-    /// Writes the bytes. Its code stands where it is called, so that a text that is known there is copied with no loop.
-    #[inline(always)]
-    #[tactic(auto, using(crate::proofs::Pages::held))]
-    pub(crate) fn text(&mut self, text: &[u8])
-        ensures same { self.new.writer.ghost_name ≡ self.old.writer.ghost_name }
-        ensures grows { Grows (sheet W.contents self.old) (sheet W.contents self.new) text.now }
+    /// Writes the lines of an attempt.
+    #[tactic(auto, using(crate::proofs::Streams::adds_refused))]
+    pub fn attempt(&mut self, attempt: &Attempt) -> io::Result<()>
+        ensures same { lent self.new ≡ lent self.old }
+        ensures adds { Adds (standing W.contents self.old) (standing W.contents self.new) (attempt_lines attempt.now) }
+        ensures answer { (standing W.contents self.new).fault ≡ result_err result }
     {
-        if self.page.try_extend_from_slice(text).is_err() {
-            self.text_on_next(text);
-        }
+        self.check()?;
+        self.fault = write_attempt(self.writer, attempt).err();
+        self.check()
     }
 
-    /// Writes the number in decimal digits.
-    pub(crate) fn number(&mut self, n: u64)
-        ensures same { self.new.writer.ghost_name ≡ self.old.writer.ghost_name }
-        ensures grows { Grows (sheet W.contents self.old) (sheet W.contents self.new) (decimal n) }
+    /// Writes the last line: the clock, and the memory after the run.
+    #[tactic(auto, using(crate::proofs::Streams::adds_refused))]
+    pub fn finish(&mut self, clock: u64, bytes: &[u8]) -> io::Result<()>
+        ensures same { lent self.new ≡ lent self.old }
+        ensures adds { Adds (standing W.contents self.old) (standing W.contents self.new) (last_line clock bytes.now) }
+        ensures answer { (standing W.contents self.new).fault ≡ result_err result }
     {
-        let mut buffer = Buffer::new();
-        self.text(buffer.format(n).as_bytes());
+        self.check()?;
+        self.fault = write_last(self.writer, clock, bytes).err();
+        self.check()
     }
 
-    fn chunk(&mut self, chunk: &[u8])
-        requires { length chunk.now ≤ 32 }
-        ensures same { self.new.writer.ghost_name ≡ self.old.writer.ghost_name }
-        ensures grows { Grows (sheet W.contents self.old) (sheet W.contents self.new) (encode_lower chunk.now) }
+    /// Writes a whole history.
+    #[tactic(auto, using(crate::proofs::Streams::adds_first, crate::proofs::Streams::adds_after))]
+    fn whole(
+        &mut self,
+        memory: &[u8],
+        attempts: &[Attempt],
+        clock: u64,
+        bytes: &[u8],
+    ) -> io::Result<()>
+        ensures same { lent self.new ≡ lent self.old }
+        ensures adds { Adds (standing W.contents self.old) (standing W.contents self.new)
+            (history_text (record { memory = memory.now; attempts = attempts.now; clock = clock; bytes = bytes.now })) }
+        ensures answer { (standing W.contents self.new).fault ≡ result_err result }
     {
-        let mut buffer = [0u8; 64];
-        let (digits, _) = buffer.split_at_mut(2 * chunk.len());
-        let written = hex::encode_to_slice(chunk, digits);
-        let holds = written.is_ok();
-        prove!(holds);
-        self.text(digits);
+        self.open(memory)?;
+        for attempt in attempts {
+            self.attempt(attempt)?;
+        }
+        self.finish(clock, bytes)
     }
+}
 
-    /// Writes the bytes, each in two hexadecimal digits.
-    #[tactic(auto, using(crate::proofs::AppendedTexts::hex_starts, crate::proofs::AppendedTexts::hex_grown, crate::proofs::AppendedTexts::hex_whole))]
-    pub(crate) fn hex(&mut self, bytes: &[u8])
-        ensures same { self.new.writer.ghost_name ≡ self.old.writer.ghost_name }
-        ensures grows { Grows (sheet W.contents self.old) (sheet W.contents self.new) (encode_lower bytes.now) }
-    {
-        let mut at = 0;
-        while at < bytes.len() {
-            let (_, rest) = bytes.split_at(at);
-            let n = rest.len().min(32);
-            let (chunk, _) = rest.split_at(n);
-            self.chunk(chunk);
-            at += n;
-        }
-    }
-
-    fn piece(&mut self, piece: &Piece<'_>)
-        ensures same { self.new.writer.ghost_name ≡ self.old.writer.ghost_name }
-        ensures grows { Grows (sheet W.contents self.old) (sheet W.contents self.new) (spelled piece.now) }
-    {
-        match piece {
-            Piece::Text(text) => self.text(text),
-            Piece::Number(n) => self.number(*n),
-            Piece::Hex(bytes) => self.hex(bytes),
-        }
-    }
-
-    /// Writes the pieces one after the other.
-    #[tactic(auto, using(crate::proofs::AppendedTexts::grows_no_piece, crate::proofs::AppendedTexts::grows_piece))]
-    pub(crate) fn put(&mut self, pieces: &[Piece<'_>])
-        ensures same { self.new.writer.ghost_name ≡ self.old.writer.ghost_name }
-        ensures grows { Grows (sheet W.contents self.old) (sheet W.contents self.new) (flat_map spelled pieces.now) }
-    {
-        for piece in pieces {
-            self.piece(piece);
-        }
-    }
-
-    /// Gives the writer the last page. Where a write has failed, tells why.
-    pub(crate) fn close(&mut self) -> io::Result<()>
-        ensures same { self.new.writer.ghost_name ≡ self.old.writer.ghost_name }
-        ensures grows { Grows (sheet W.contents self.old) (sheet W.contents self.new) [] }
-        ensures page { self.new.page.items ≡ [] }
-        ensures told { is_err result ≡ self.new.failed }
-    {
-        self.turn();
-        if !self.failed {
-            return Ok(());
-        }
-        match self.error.take() {
-            Some(error) => Err(error),
-            None => Err(io::ErrorKind::Other.into()),
-        }
-    }
+/// Writes a whole history that is there: the memory before the run, the attempts, and the clock and the memory after it.
+/// Where a write fails, what the writer took is a beginning of it.
+pub fn write_history<W: Write>(
+    writer: &mut W,
+    memory: &[u8],
+    attempts: &[Attempt],
+    clock: u64,
+    bytes: &[u8],
+) -> io::Result<()>
+    ensures { Puts (W.contents writer.old) (W.contents writer.new) result
+        (history_text (record { memory = memory.now; attempts = attempts.now; clock = clock; bytes = bytes.now })) }
+{
+    let mut stream = Stream::new(writer);
+    stream.whole(memory, attempts, clock, bytes)
 }

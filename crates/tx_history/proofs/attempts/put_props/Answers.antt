@@ -1,5 +1,5 @@
 use Rattle.tx_history.specs.Histories.{props_end}
-use Rattle.tx_history.proofs.Pages.{grows_then}
+use Rattle.tx_history.proofs.PagedTexts.{grows_then}
 use Rattle.tx_history.proofs.attempts.put_props.Goals as goal
 
 pub returns-clause-grows : goal.returns-clause-grows

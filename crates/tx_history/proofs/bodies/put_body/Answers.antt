@@ -1,7 +1,7 @@
 use Rattle.std.proofs.Common.{arith}
 use Rattle.std.proofs.lemmas.Grind.{common_steps}
 use Rattle.tx_history.specs.Histories.{body_text}
-use Rattle.tx_history.proofs.Pages.{grows_as}
+use Rattle.tx_history.proofs.PagedTexts.{grows_as}
 use Rattle.tx_history.proofs.bodies.put_body.Goals as goal
 
 pub returns-in-Begin-clause-grows : goal.returns-in-Begin-clause-grows

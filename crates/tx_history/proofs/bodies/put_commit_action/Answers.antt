@@ -1,7 +1,7 @@
 use Rattle.std.specs.Prelude.{codes}
 use Rattle.tx_history.specs.Histories.{commit_action_text}
 use Rattle.tx_history.proofs.AppendedTexts.{numbers_spelled}
-use Rattle.tx_history.proofs.Pages.{grows_as}
+use Rattle.tx_history.proofs.PagedTexts.{grows_as}
 use Rattle.tx_history.proofs.bodies.put_commit_action.Goals as goal
 
 pub returns-clause-grows : goal.returns-clause-grows

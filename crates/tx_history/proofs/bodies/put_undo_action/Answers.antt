@@ -1,7 +1,7 @@
 use Rattle.std.proofs.Common.{arith}
 use Rattle.std.proofs.lemmas.Grind.{common_steps}
 use Rattle.tx_history.specs.Histories.{undo_action_text}
-use Rattle.tx_history.proofs.Pages.{grows_as}
+use Rattle.tx_history.proofs.PagedTexts.{grows_as}
 use Rattle.tx_history.proofs.bodies.put_undo_action.Goals as goal
 
 pub returns-clause-grows : goal.returns-clause-grows

@@ -1,4 +1,4 @@
-use Rattle.tx_history.proofs.Pages.{grows_then}
+use Rattle.tx_history.proofs.PagedTexts.{grows_then}
 use Rattle.tx_history.proofs.bodies.put_write.Goals as goal
 
 pub returns-clause-grows : goal.returns-clause-grows

@@ -71,7 +71,7 @@ told_by : {A E : Type 0} (w v : Option (List ℕ)) (r : Result A E) (text gone :
 told_by w v (Ok x) text gone p q = subst (Appends w v) (sym (append-nil gone) ∙ sym q) p
 told_by w v (Err e) text gone p q = (q.0, q.1, subst (Appends w v) q.2 p)
 
--- what a stream tells as it closes
+-- what is told as a text ends
 pub closes : {A E : Type 0} (w v : Option (List ℕ)) (r : Result A E) (a b c : Sheet) (text : List ℕ)
     → Grows a b text → Grows b c [] → a.failed ≡ false → a.page ≡ [] → is_err r ≡ c.failed → c.page ≡ [] → w ≡ a.written → v ≡ c.written → Puts w v r text
 closes w v r a b c text p q fresh empty told last first end =

@@ -1,0 +1,150 @@
+-- Texts that a stream writes, one after another.
+use Rattle.std.proofs.Common.{◌≡◌, refl, ℕ, ◌+◌, ◌<◌, ◌≤◌, List, [], ◌∷◌, ◌++◌, length, take, drop, Option, None, Some, Result, Ok, Err, sym, ap, ◌∙◌, subst, append-nil, append_assoc, arith}
+use Rattle.std.proofs.KnownBytes.{Appends-nil, Appends-trans, Appends-kept, Keeps-refl, Keeps-trans}
+use Rattle.std.proofs.lemmas.Grind.{common_steps, flat_map-append}
+use Rattle.std.proofs.lemmas.List.{length-append, take-append-drop, take-append-le}
+use Rattle.std.specs.Prelude.{get_or, flat_map}
+use Rattle.std.specs.Result.{result_err}
+use Rattle.std.specs.declared.io.Error.{Error}
+use Rattle.std.specs.Io.KnownBytes.{Appends}
+use Rattle.tx_attempts.specs.declared.attempt.Attempt.{Attempt}
+use Rattle.tx_history.specs.Histories.{attempt_lines, first_lines, last_line, history_text}
+use Rattle.tx_history.specs.Spelling.{Puts}
+use Rattle.tx_history.specs.Streams.{Adds, Leaves, Standing, lines_so_far}
+use Rattle.tx_history.proofs.TextPieces.{cut_short}
+
+leaves_nothing : (f : Option Error) (u : Option (List ℕ)) → Leaves f f u u []
+leaves_nothing None u = Appends-nil u
+leaves_nothing (Some e) u = (refl, Keeps-refl u)
+
+leaves_then : (f g h : Option Error) (u v w : Option (List ℕ)) (x y : List ℕ) → Leaves f g u v x → Leaves g h v w y → Leaves f h u w (x ++ y)
+leaves_then None None None u v w x y p q = Appends-trans u v w x y p q
+leaves_then None None (Some e) u v w x y p q = cut_short u v w x y [] (x ++ y) p q (ap (λ (l : List ℕ). x ++ l) (sym (append-nil y)))
+leaves_then None (Some e) None u v w x y p q = absurd q
+leaves_then None (Some e) (Some f) u v w x y p q = (
+  p.0,
+  omega (arith, p.1, length-append x y),
+  subst (Appends u w) (sym (take-append-le p.0 x y (omega (arith, p.1)))) (Appends-kept u v w _ p.2 q.1),
+)
+leaves_then (Some d) None h u v w x y p q = absurd p
+leaves_then (Some d) (Some e) None u v w x y p q = absurd q
+leaves_then (Some d) (Some e) (Some f) u v w x y p q = (q.0 ∙ p.0, Keeps-trans u v w p.1 q.1)
+
+leaves_lost : (f : Error) (u : Option (List ℕ)) (y : List ℕ) → Leaves (Some f) (Some f) u u y
+leaves_lost f u y = (refl, Keeps-refl u)
+
+-- nothing is written
+pub adds_nothing : (a : Standing) → Adds a a []
+unfolding Adds
+adds_nothing a = leaves_nothing a.fault a.written
+
+-- one text after another
+pub adds_then : (a b c : Standing) (x y : List ℕ) → Adds a b x → Adds b c y → Adds a c (x ++ y)
+unfolding Adds
+adds_then a b c x y p q = leaves_then a.fault b.fault c.fault a.written b.written c.written x y p q
+
+-- a stream that has failed loses each text
+pub adds_lost : (a : Standing) (e : Error) (y : List ℕ) → a.fault ≡ Some e → Adds a a y
+unfolding Adds
+adds_lost a e y failed = subst (λ (f : Option Error). Leaves f f a.written a.written y) (sym failed) (leaves_lost e a.written y)
+
+-- so does one that answers its fault before it writes
+pub adds_refused : {A : Type 0} (a : Standing) (r : Result A Error) (e : Error) (y : List ℕ) → result_err r ≡ a.fault → r ≡ Err e → Adds a a y
+adds_refused {A} a r e y told failed = adds_lost a e y (sym told ∙ ap (result_err {T = A} {E = Error}) failed)
+
+-- where a write has failed, what is written is a beginning of more too
+pub adds_failed : (a b : Standing) (e : Error) (x y : List ℕ) → Adds a b x → b.fault ≡ Some e → Adds a b (x ++ y)
+adds_failed a b e x y p failed = adds_then a b b x y p (adds_lost b e y failed)
+
+pub adds_as : (a b : Standing) (x y : List ℕ) → Adds a b x → x ≡ y → Adds a b y
+adds_as a b x y p e = subst (Adds a b) e p
+
+puts_as_told : {A : Type 0} (g : Option Error) (r : Result A Error) (u v : Option (List ℕ)) (x : List ℕ) → g ≡ result_err r → Puts u v r x → Leaves None g u v x
+puts_as_told g (Ok a) u v x e p = subst (λ (f : Option Error). Leaves None f u v x) (sym e) p
+puts_as_told g (Err f) u v x e p = subst (λ (h : Option Error). Leaves None h u v x) (sym e) p
+
+-- a stream that had not failed has written a text
+pub adds_put : {A : Type 0} (a b : Standing) (r : Result A Error) (x : List ℕ) → a.fault ≡ None → b.fault ≡ result_err r → Puts a.written b.written r x → Adds a b x
+unfolding Adds
+adds_put a b r x fresh told p = subst (λ (f : Option Error). Leaves f b.fault a.written b.written x) (sym fresh) (puts_as_told b.fault r a.written b.written x told p)
+
+told_as_put : {A : Type 0} (r : Result A Error) (u v : Option (List ℕ)) (x : List ℕ) → Leaves None (result_err r) u v x → Puts u v r x
+told_as_put (Ok a) u v x p = p
+told_as_put (Err f) u v x p = p
+
+-- what its caller tells of it
+pub put_added : {A : Type 0} (a b : Standing) (r : Result A Error) (x : List ℕ) → Adds a b x → a.fault ≡ None → b.fault ≡ result_err r → Puts a.written b.written r x
+unfolding Adds
+put_added a b r x p fresh told =
+    let from_none = subst (λ (f : Option Error). Leaves f b.fault a.written b.written x) fresh p in
+    told_as_put r a.written b.written x (subst (λ (f : Option Error). Leaves None f a.written b.written x) told from_none)
+
+-- one that was new then, as its writer has it afterwards
+pub put_through : {A : Type 0} (w v : Option (List ℕ)) (a b : Standing) (r : Result A Error) (x : List ℕ)
+    → Adds a b x → a ≡ record { written = w; fault = None } → b.fault ≡ result_err r → v ≡ b.written → Puts w v r x
+put_through w v a b r x p fresh told last =
+    let put = put_added a b r x p (ap (λ (s : Standing). s.fault) fresh) told in
+    subst (λ (u : Option (List ℕ)). Puts u v r x) (ap (λ (s : Standing). s.written) fresh) (subst (λ (u : Option (List ℕ)). Puts a.written u r x) (sym last) put)
+
+-- ## The lines of attempts, after what stands before them
+
+-- there is none yet
+pub adds_no_attempt : (a : Standing) (all : List Attempt) → Adds a a (flat_map attempt_lines (take 0 all))
+adds_no_attempt a all = adds_nothing a
+
+pub adds_first : (a b : Standing) (before : List ℕ) (all : List Attempt) → Adds a b before → Adds a b (before ++ flat_map attempt_lines (take 0 all))
+adds_first a b before all p = subst (Adds a b) (sym (append-nil before)) p
+
+more_lines : (before : List ℕ) (xs : List Attempt) (x : Attempt) → before ++ flat_map attempt_lines (xs ++ x ∷ []) ≡ (before ++ flat_map attempt_lines xs) ++ attempt_lines x
+more_lines before xs x = grind (arith, common_steps)
+
+-- one more has ended
+pub adds_ended : (a b c : Standing) (before : List ℕ) (xs : List Attempt) (x : Attempt)
+    → Adds a b (before ++ flat_map attempt_lines xs) → Adds b c (attempt_lines x) → Adds a c (before ++ flat_map attempt_lines (xs ++ x ∷ []))
+adds_ended a b c before xs x p q = subst (Adds a c) (sym (more_lines before xs x)) (adds_then a b c _ _ p q)
+
+next_taken : (xs : List Attempt) (i : ℕ) (d : Attempt) → i < length xs → take (i + 1) xs ≡ take i xs ++ get_or xs i d ∷ []
+next_taken xs i d h = grind (arith, common_steps)
+
+-- the next one of those that there are
+pub adds_after : (a b c : Standing) (before : List ℕ) (all : List Attempt) (i : ℕ) (d : Attempt)
+    → i < length all → Adds a b (before ++ flat_map attempt_lines (take i all)) → Adds b c (attempt_lines (get_or all i d)) → Adds a c (before ++ flat_map attempt_lines (take (i + 1) all))
+adds_after a b c before all i d h p q =
+    subst (λ (l : List Attempt). Adds a c (before ++ flat_map attempt_lines l)) (sym (next_taken all i d h)) (adds_ended a b c before (take i all) (get_or all i d) p q)
+
+pub adds_attempt : (a b c : Standing) (all : List Attempt) (i : ℕ) (d : Attempt)
+    → i < length all → Adds a b (flat_map attempt_lines (take i all)) → Adds b c (attempt_lines (get_or all i d)) → Adds a c (flat_map attempt_lines (take (i + 1) all))
+adds_attempt a b c all i d h p q = adds_after a b c [] all i d h p q
+
+-- ## A whole history
+
+all_taken : (i : ℕ) (xs : List Attempt) → length xs ≤ i → take i xs ≡ xs
+all_taken i xs h = grind (arith, common_steps)
+
+lines_split : (memory : List ℕ) (all : List Attempt) (i : ℕ) → lines_so_far memory all ≡ lines_so_far memory (take i all) ++ flat_map attempt_lines (drop i all)
+lines_split memory all i =
+    ap (lines_so_far memory) (sym (take-append-drop i all))
+    ∙ ap (λ (l : List ℕ). first_lines memory ++ l) (flat_map-append attempt_lines (take i all) (drop i all))
+    ∙ sym (append_assoc (first_lines memory) (flat_map attempt_lines (take i all)) (flat_map attempt_lines (drop i all)))
+
+whole_text : (memory : List ℕ) (all : List Attempt) (clock : ℕ) (bytes : List ℕ)
+    → history_text (record { memory = memory; attempts = all; clock = clock; bytes = bytes }) ≡ lines_so_far memory all ++ last_line clock bytes
+unfolding history_text
+whole_text memory all clock bytes = refl
+
+-- its last line is written after the others
+pub adds_whole : (a b c : Standing) (memory : List ℕ) (all : List Attempt) (clock : ℕ) (bytes : List ℕ)
+    → Adds a b (lines_so_far memory all) → Adds b c (last_line clock bytes) → Adds a c (history_text (record { memory = memory; attempts = all; clock = clock; bytes = bytes }))
+adds_whole a b c memory all clock bytes p q = adds_as a c _ _ (adds_then a b c _ _ p q) (sym (whole_text memory all clock bytes))
+
+pub adds_last : (a b c : Standing) (memory : List ℕ) (all : List Attempt) (i clock : ℕ) (bytes : List ℕ)
+    → length all ≤ i → Adds a b (lines_so_far memory (take i all)) → Adds b c (last_line clock bytes) → Adds a c (history_text (record { memory = memory; attempts = all; clock = clock; bytes = bytes }))
+adds_last a b c memory all i clock bytes h p q =
+    adds_whole a b c memory all clock bytes (subst (λ (l : List Attempt). Adds a b (lines_so_far memory l)) (all_taken i all h) p) q
+
+-- a write failed before all of it was written
+pub adds_stopped : (a b : Standing) (memory : List ℕ) (all : List Attempt) (i clock : ℕ) (bytes : List ℕ) (e : Error)
+    → Adds a b (lines_so_far memory (take i all)) → b.fault ≡ Some e → Adds a b (history_text (record { memory = memory; attempts = all; clock = clock; bytes = bytes }))
+adds_stopped a b memory all i clock bytes e p failed =
+    adds_as a b _ _ (adds_failed a b e _ _ (adds_failed a b e _ _ p failed) failed)
+    (ap (λ (l : List ℕ). l ++ last_line clock bytes) (sym (lines_split memory all i)) ∙ sym (whole_text memory all clock bytes))

@@ -1,0 +1,35 @@
+-- A history that is written as its run goes: how its stream stands, and what a text leaves of that.
+use Rattle.std.specs.Prelude.{◌≡◌, ℕ, List, ◌++◌, flat_map, Option, None, Some}
+use Rattle.std.specs.Io.KnownBytes.{Appends, Keeps}
+use Rattle.std.specs.declared.io.Error.{Error}
+use Rattle.tx_attempts.specs.declared.attempt.Attempt.{Attempt}
+use Rattle.tx_history.specs.declared.stream.Stream.{Stream}
+use Rattle.tx_history.specs.Spelling.{IsCut}
+use Rattle.tx_history.specs.Histories.{attempt_lines, first_lines}
+
+-- what a stream is to its callers: what its writer holds, and the error of the write that failed, where one has
+pub record Standing : Type 0 where
+  pub written : Option (List ℕ)
+  pub fault : Option Error
+
+abbrev pub standing : {W : Type 0} → (W → Option (List ℕ)) → Stream W → Standing
+standing contents s = record { written = contents s.writer.now; fault = s.fault }
+
+-- the reference through which it writes
+abbrev pub lent : {W : Type 0} → Stream W → ℕ
+lent s = s.writer.ghost_name
+
+-- by the fault before and the fault now: the text is written; a beginning of it is, and not all; or one had failed before, then it is the same one and nothing is written
+abbrev pub Leaves : Option Error → Option Error → Option (List ℕ) → Option (List ℕ) → List ℕ → Type 0
+Leaves None None old new text = Appends old new text
+Leaves None (Some fault) old new text = IsCut old new text
+Leaves (Some first) None old new text = ⊥
+Leaves (Some first) (Some fault) old new text = (fault ≡ first) × Keeps old new
+
+-- The text is written, and no write has failed; or a write has, and what is written is a beginning of the text and not all of it. A stream that had failed before stays as it was. So texts may follow one another: what two leave after one another is what the one text of both leaves.
+unfoldable pub Adds : Standing → Standing → List ℕ → Type 0
+Adds old new text = Leaves old.fault new.fault old.written new.written text
+
+-- a history so far: the lines before the first attempt, and those of the attempts that there are
+abbrev pub lines_so_far : List ℕ → List Attempt → List ℕ
+lines_so_far memory attempts = first_lines memory ++ flat_map attempt_lines attempts
