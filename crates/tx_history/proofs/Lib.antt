@@ -3,3 +3,4 @@ pub mod PagedTexts
 pub mod AppendedTexts
 pub mod Streams
 pub mod WorkedLines
+pub mod WorkedStreams

@@ -1,15 +1,15 @@
 -- Texts that a stream writes, one after another.
-use Rattle.std.proofs.Common.{◌≡◌, refl, ℕ, ◌+◌, ◌<◌, ◌≤◌, List, [], ◌∷◌, ◌++◌, length, take, drop, Option, None, Some, Result, Ok, Err, sym, ap, ◌∙◌, subst, append-nil, append_assoc, arith}
+use Rattle.std.proofs.Common.{◌≡◌, true≢false, refl, ℕ, ◌+◌, ◌<◌, ◌≤◌, List, [], ◌∷◌, ◌++◌, length, take, drop, Option, None, Some, Result, Ok, Err, sym, ap, ◌∙◌, subst, append-nil, append_assoc, arith}
 use Rattle.std.proofs.KnownBytes.{Appends-nil, Appends-trans, Appends-kept, Keeps-refl, Keeps-trans}
 use Rattle.std.proofs.lemmas.Grind.{common_steps, flat_map-append}
 use Rattle.std.proofs.lemmas.List.{length-append, take-append-drop, take-append-le}
-use Rattle.std.specs.Prelude.{get_or, flat_map}
+use Rattle.std.specs.Prelude.{IsErr, get_or, flat_map}
 use Rattle.std.specs.Result.{result_err}
 use Rattle.std.specs.declared.io.Error.{Error}
 use Rattle.std.specs.Io.KnownBytes.{Appends}
 use Rattle.tx_attempts.specs.declared.attempt.Attempt.{Attempt}
 use Rattle.tx_history.specs.Histories.{attempt_lines, first_lines, last_line, history_text}
-use Rattle.tx_history.specs.Spelling.{Puts}
+use Rattle.tx_history.specs.Spelling.{IsCut, Puts}
 use Rattle.tx_history.specs.Streams.{Adds, Leaves, Standing, lines_so_far}
 use Rattle.tx_history.proofs.TextPieces.{cut_short}
 
@@ -86,12 +86,19 @@ put_through w v a b r x p fresh told last =
     let put = put_added a b r x p (ap (λ (s : Standing). s.fault) fresh) told in
     subst (λ (u : Option (List ℕ)). Puts u v r x) (ap (λ (s : Standing). s.written) fresh) (subst (λ (u : Option (List ℕ)). Puts a.written u r x) (sym last) put)
 
+told_as_cut : {A E : Type 0} (r : Result A E) (u v : Option (List ℕ)) (x : List ℕ) → IsErr r → IsCut u v x → Puts u v r x
+told_as_cut (Ok a) u v x failed p = absurd (true≢false (sym failed))
+told_as_cut (Err e) u v x failed p = p
+
+-- one whose caller stops where a write has failed, and tells some error
+pub cut_through : {A E : Type 0} (w v : Option (List ℕ)) (a b : Standing) (r : Result A E) (e : Error) (x : List ℕ)
+    → Adds a b x → a ≡ record { written = w; fault = None } → b.fault ≡ Some e → v ≡ b.written → IsErr r → Puts w v r x
+cut_through w v a b r e x p fresh failed last told =
+    told_as_cut r w v x told (put_through {A = Unit {0}} w v a b (Err e) x p fresh failed last)
+
 -- ## The lines of attempts, after what stands before them
 
--- there is none yet
-pub adds_no_attempt : (a : Standing) (all : List Attempt) → Adds a a (flat_map attempt_lines (take 0 all))
-adds_no_attempt a all = adds_nothing a
-
+-- there is no attempt yet
 pub adds_first : (a b : Standing) (before : List ℕ) (all : List Attempt) → Adds a b before → Adds a b (before ++ flat_map attempt_lines (take 0 all))
 adds_first a b before all p = subst (Adds a b) (sym (append-nil before)) p
 

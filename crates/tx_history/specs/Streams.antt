@@ -7,13 +7,17 @@ use Rattle.tx_history.specs.declared.stream.Stream.{Stream}
 use Rattle.tx_history.specs.Spelling.{IsCut}
 use Rattle.tx_history.specs.Histories.{attempt_lines, first_lines}
 
--- what a stream is to its callers: what its writer holds, and the error of the write that failed, where one has
+-- the error of the write that failed, where one has
+abbrev pub fault_of : {W : Type 0} → Stream W → Option Error
+fault_of s = s.fault
+
+-- what a stream is to its callers: what its writer holds, and its fault
 pub record Standing : Type 0 where
   pub written : Option (List ℕ)
   pub fault : Option Error
 
 abbrev pub standing : {W : Type 0} → (W → Option (List ℕ)) → Stream W → Standing
-standing contents s = record { written = contents s.writer.now; fault = s.fault }
+standing contents s = record { written = contents s.writer.now; fault = fault_of s }
 
 -- the reference through which it writes
 abbrev pub lent : {W : Type 0} → Stream W → ℕ

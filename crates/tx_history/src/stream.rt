@@ -4,7 +4,7 @@ ghost use Rattle.std.specs.Prelude.{◌≡◌, None};
 ghost use Rattle.std.specs.Result.{result_err};
 ghost use Rattle.tx_history.specs.Histories.{attempt_lines, first_lines, history_text, last_line};
 ghost use Rattle.tx_history.specs.Spelling.{Puts};
-ghost use Rattle.tx_history.specs.Streams.{Adds, lent, standing};
+ghost use Rattle.tx_history.specs.Streams.{Adds, fault_of, lent, standing};
 
 use crate::attempts::write_attempt;
 use crate::rows::{write_first, write_last};
@@ -36,7 +36,7 @@ impl<'a, W: Write> Stream<'a, W> {
 
     /// The error of the write that failed, if one has.
     fn check(&self) -> io::Result<()>
-        ensures { result_err result ≡ self.now.fault }
+        ensures { result_err result ≡ fault_of self.now }
     {
         match self.fault {
             Some(fault) => Err(fault),
@@ -44,12 +44,13 @@ impl<'a, W: Write> Stream<'a, W> {
         }
     }
 
-    /// Writes the lines before the first attempt: the format's name, and the memory before the run.
+    /// Writes the lines before the first attempt: the format's name, and the memory before the run. Where a write fails,
+    /// or has failed, answers its error; so do `attempt` and `finish`.
     #[tactic(auto, using(crate::proofs::Streams::adds_refused))]
     pub fn open(&mut self, memory: &[u8]) -> io::Result<()>
         ensures same { lent self.new ≡ lent self.old }
         ensures adds { Adds (standing W.contents self.old) (standing W.contents self.new) (first_lines memory.now) }
-        ensures answer { (standing W.contents self.new).fault ≡ result_err result }
+        ensures answer { fault_of self.new ≡ result_err result }
     {
         self.check()?;
         self.fault = write_first(self.writer, memory).err();
@@ -61,7 +62,7 @@ impl<'a, W: Write> Stream<'a, W> {
     pub fn attempt(&mut self, attempt: &Attempt) -> io::Result<()>
         ensures same { lent self.new ≡ lent self.old }
         ensures adds { Adds (standing W.contents self.old) (standing W.contents self.new) (attempt_lines attempt.now) }
-        ensures answer { (standing W.contents self.new).fault ≡ result_err result }
+        ensures answer { fault_of self.new ≡ result_err result }
     {
         self.check()?;
         self.fault = write_attempt(self.writer, attempt).err();
@@ -73,7 +74,7 @@ impl<'a, W: Write> Stream<'a, W> {
     pub fn finish(&mut self, clock: u64, bytes: &[u8]) -> io::Result<()>
         ensures same { lent self.new ≡ lent self.old }
         ensures adds { Adds (standing W.contents self.old) (standing W.contents self.new) (last_line clock bytes.now) }
-        ensures answer { (standing W.contents self.new).fault ≡ result_err result }
+        ensures answer { fault_of self.new ≡ result_err result }
     {
         self.check()?;
         self.fault = write_last(self.writer, clock, bytes).err();
@@ -92,7 +93,7 @@ impl<'a, W: Write> Stream<'a, W> {
         ensures same { lent self.new ≡ lent self.old }
         ensures adds { Adds (standing W.contents self.old) (standing W.contents self.new)
             (history_text (record { memory = memory.now; attempts = attempts.now; clock = clock; bytes = bytes.now })) }
-        ensures answer { (standing W.contents self.new).fault ≡ result_err result }
+        ensures answer { fault_of self.new ≡ result_err result }
     {
         self.open(memory)?;
         for attempt in attempts {
