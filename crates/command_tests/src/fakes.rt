@@ -63,3 +63,30 @@ impl Write for Meagre {
         Ok(())
     }
 }
+
+/// Takes at most five bytes a write. The write after so many good ones fails, and only that one.
+#[derive(Drop)]
+pub struct Failing {
+    pub taken: Vec<u8>,
+    pub good: usize,
+    pub writes: usize,
+}
+
+impl Write for Failing {
+    fn write(&mut self, buf: &[u8]) -> io::Result<usize> {
+        let before = self.writes;
+        self.writes = before.saturating_add(1);
+        if before == self.good {
+            return Err(io::ErrorKind::StorageFull.into());
+        }
+        let (front, _) = buf.split_at(buf.len().min(5));
+        self.taken
+            .extend_from_slice(front)
+            .map_err(AllocError::from)?;
+        Ok(front.len())
+    }
+
+    fn flush(&mut self) -> io::Result<()> {
+        Ok(())
+    }
+}

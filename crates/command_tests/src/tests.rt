@@ -3,3 +3,4 @@
 mod asm;
 mod check;
 mod sched;
+mod stream;
