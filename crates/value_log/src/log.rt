@@ -77,6 +77,7 @@ impl ValueLog {
     }
 
     /// Makes room for so many more rows.
+    #[inline(always)]
     pub fn reserve(&mut self, more: usize) -> Result<(), AllocError>
         ensures rows { self.new.rows ≡ self.old.rows }
         ensures ok { OnOk result (more ≤ self.new.room) }
@@ -89,6 +90,18 @@ impl ValueLog {
         if more <= self.rows.capacity() - self.rows.len() {
             return Ok(());
         }
+        self.grow(more)
+    }
+
+    /// Makes room for so many more rows where there is not enough.
+    #[cold]
+    #[inline(never)]
+    fn grow(&mut self, more: usize) -> Result<(), AllocError>
+        ensures rows { self.new.rows ≡ self.old.rows }
+        ensures ok { OnOk result (more ≤ self.new.room) }
+        ensures err { OnErr result (self.new ≡ self.old) }
+        ensures kept { self.old.room ≤ self.new.room }
+    {
         if self.index.is_none() {
             self.index = Index::of(*self.rows.allocator(), self.rows.as_slice())?;
         }
