@@ -10,10 +10,10 @@ pub mod OpenCloses
 pub mod InsideReplies
 pub mod ClockTaken
 pub mod InsideStops
-pub mod Working
-pub mod Settling
+pub mod BetweenCalls
+pub mod AnswersInside
 pub mod Outside
-pub mod Starving
-pub mod Asking
-pub mod Finishing
-pub mod Starting
+pub mod RefusedMemory
+pub mod CallsInside
+pub mod StoppedWorkers
+pub mod NewWorkers

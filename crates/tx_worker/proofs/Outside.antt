@@ -29,7 +29,7 @@ use Rattle.tx_worker.specs.Workers.{Bounds, IsRoomy, IsSame, IsStopped, IsWorkin
 use Rattle.tx_worker.proofs.Begins.{begin_over, begins_actions, busy, full_begin, lost, opens}
 use Rattle.tx_worker.proofs.Falls.{falls_reply, falls_try}
 use Rattle.tx_worker.proofs.OutsideCalls.{passes}
-use Rattle.tx_worker.proofs.Working.{none_open, played}
+use Rattle.tx_worker.proofs.BetweenCalls.{none_open, played}
 
 -- memory was refused to a begin, and nothing has happened
 pub starved_begin : {P : Type 0} {rules : Rules P} {words : Words} {c : Course P} {b : Bounds} {old : Worker P} (k : IsWorking rules words c b old) → old.current ≡ None → (thread : Standing) (ended : Vec Attempt Global) → ended.items ≡ old.ended.items → (shuts : Bool) → thread ≡ old.thread

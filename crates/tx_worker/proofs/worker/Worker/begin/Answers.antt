@@ -5,7 +5,7 @@ use Rattle.tx_runs.specs.declared.ending.End.TheVariants as ends
 use Rattle.tx_worker.specs.declared.worker.Worker.{Worker}
 use Rattle.tx_worker.specs.Workers.{GoesOn, IsStopped, Turns}
 use Rattle.tx_worker.proofs.Outside.{busy_falls, busy_on, busy_over, full_over, lost_falls, lost_on, lost_over, opens_falls, opens_on, passes_falls, passes_on}
-use Rattle.tx_worker.proofs.Working.{by_tries}
+use Rattle.tx_worker.proofs.BetweenCalls.{by_tries}
 use Rattle.tx_worker.proofs.worker.Worker.begin.Goals as goal
 
 pub returns-then-is_open : goal.returns-then-is_open

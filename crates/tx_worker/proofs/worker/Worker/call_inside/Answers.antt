@@ -2,7 +2,7 @@ use Rattle.std.proofs.Common.{◌<◌, ℕ, Option, Some, false, sym, subst, vec
 use Rattle.itm_runtime.specs.Standing.{Standing, start_of}
 use Rattle.tx_runs.specs.declared.ending.End.{End}
 use Rattle.tx_worker.specs.Workers.{IsWorking, Turns}
-use Rattle.tx_worker.proofs.Asking.{answers, reserved, turns_settled}
+use Rattle.tx_worker.proofs.CallsInside.{answers, reserved, turns_settled}
 use Rattle.tx_worker.proofs.worker.Worker.call_inside.Goals as goal
 
 pub starve-requires-clause-works : goal.starve-requires-clause-works

@@ -19,7 +19,7 @@ use Rattle.tx_worker.specs.Falls.{Falls}
 use Rattle.tx_worker.specs.Progress.{Course, IsRunning}
 use Rattle.tx_worker.specs.Tallies.{row_of, tally_of}
 use Rattle.tx_worker.specs.Workers.{Bounds, IsAnswered, IsRoomy, IsWorking, SettlesAs, Turns, view_in}
-use Rattle.tx_worker.proofs.Working.{some_open}
+use Rattle.tx_worker.proofs.BetweenCalls.{some_open}
 
 -- the same attempt, with as much room at least
 pub record IsRoomier (o o' : OpenAttempt) : Type 0 where

@@ -25,7 +25,7 @@ use Rattle.tx_worker.specs.Workers.{Bounds, IsStopped, IsWorking, bounds_of}
 use Rattle.tx_worker.proofs.InsideStops.{starved_run}
 use Rattle.tx_worker.proofs.Later.{known_more, over_more}
 use Rattle.tx_worker.proofs.PlainActions.{given_up_runs}
-use Rattle.tx_worker.proofs.Working.{row_is, some_open, stopped}
+use Rattle.tx_worker.proofs.BetweenCalls.{row_is, some_open, stopped}
 
 -- what is given up held no clock
 done_free : (holds inside : Bool) → (if holds then Held else (if inside then Done else Nothing)) ≡ Done → holds ≡ false

@@ -34,7 +34,7 @@ use Rattle.tx_worker.proofs.InsideReplies.{cancels, commits, stays}
 use Rattle.tx_worker.proofs.InsideStops.{conflict_run, conflicts, full_run}
 use Rattle.tx_worker.proofs.Later.{known_more, over_more}
 use Rattle.tx_worker.proofs.PlainActions.{served_runs}
-use Rattle.tx_worker.proofs.Working.{played, room_after}
+use Rattle.tx_worker.proofs.BetweenCalls.{played, room_after}
 
 module _ {P : Type 0} {rules : Rules P} (laws : Obeys rules) {words : Words} {c : Course P} {b : Bounds} {s : Start} {w : Worker P} {o : OpenAttempt} {call : Call} {answer : Answer} (a : IsAnswered rules words c b s w o call answer) where
   abbrev pub tally : Tally P

@@ -28,7 +28,7 @@ use Rattle.tx_worker.specs.Tallies.{ending_as, row_of, tally_of}
 use Rattle.tx_worker.specs.Works.{AreHeld, EndsAs, EndsOpen, IsBack, IsFinished, is_held, view_left}
 use Rattle.tx_worker.specs.Workers.{Bounds, IsStopped, StopsAs, view_in}
 use Rattle.tx_worker.proofs.InsideStops.{unfinished_mode, unfinished_run}
-use Rattle.tx_worker.proofs.Working.{row_is}
+use Rattle.tx_worker.proofs.BetweenCalls.{row_is}
 
 -- ## The pass
 
