@@ -53,6 +53,7 @@ pub use Rattle.norec_world.specs.Runs.{IsBeforeTry, IsInTry, IsRun, ReadsFrom, R
 pub use Rattle.tx_runs.specs.Nesting.{IsNested, whole}
 pub use Rattle.tx_runs.specs.Outcomes.{is_done}
 pub use Rattle.tx_runs.specs.Runs.{LeadsTo, begins_at, run_after}
+pub use Rattle.norec_world.specs.Progress.{LeavesLess}
 pub use Rattle.norec_world.specs.Sound.{AnswerFits, BeginsAt, Falls, GoesOn, HasLess, HasRow, IsAnswered, IsDone, IsKept, IsNoMore, IsReady, IsSettledBy, IsSound, IsTied, RestsAs, StatusIs, rank, retried, run_left, steps_left}
 pub use Rattle.norec_world.specs.Starts.{HasStarted, IsFirst}
 pub use Rattle.norec_world.specs.Status.{ending_of, is_ready, is_waiting, waiting_step}

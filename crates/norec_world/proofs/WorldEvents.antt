@@ -2,7 +2,7 @@
 use Rattle.std.proofs.Common.{inl, inr, ◌≡◌, ◌↔◌, ◌≤◌, zero, suc, ℕ, ◌+◌, ◌<◌, Bool, true, false, cond, length, take, get_or, arith, List, [], ◌∷◌, ◌++◌, count_by, IsTrue, Option, None, Some, Result, Ok, Err, IsSome, refl, sym, ap, subst, ◌∙◌, slice_get, min, if◌then◌else◌}
 use Rattle.std.proofs.lemmas.List.{take_more}
 use Rattle.std.proofs.lemmas.List.Sums.{sum_by-append}
-use Rattle.norec_world.proofs.Common.{Actor, ActorGoes, AreActors, AreOpaque, AreTied, CommitsInOrder, End, Finished, Goes, HasLess, IsLawful, IsNoMore, Leads, Passes, Rules, SameOpening, Status, Step, Takes, Waits, World, WorldFault, cells_after, counted, ending_at, ending_of, in_transaction, observed, is_ready, is_waiting, option_and_then, passes_of, run_left, steps_left, told, waiting_step, waits_at, whole, slice_get_within, cases_lt}
+use Rattle.norec_world.proofs.Common.{Actor, ActorGoes, AreActors, AreOpaque, AreTied, CommitsInOrder, End, Finished, Goes, IsLawful, IsNoMore, Leads, LeavesLess, Passes, Rules, SameOpening, Status, Step, Takes, Waits, World, WorldFault, cells_after, counted, ending_at, ending_of, in_transaction, observed, is_ready, is_waiting, option_and_then, passes_of, run_left, steps_left, told, waiting_step, waits_at, whole, slice_get_within, cases_lt}
 use Rattle.norec_world.specs.declared.fault.WorldFault.TheVariants as faults
 use Rattle.norec_world.specs.World.{is_event}
 use Rattle.std.specs.Option.{option_map, option_map_or}
@@ -203,16 +203,13 @@ module _ {P : Type 0} (rules : Rules P) (actor : ℕ) where
 
 module _ {P : Type 0} (rules : Rules P) (actor : ℕ) where
   -- of the actor there
-  abbrev pub LeavesLess : Bool → World P → World P → Type 0
-  LeavesLess on old new = (a b : Actor P) → slice_get old.actors actor ≡ Some a → slice_get new.actors actor ≡ Some b → HasLess rules on a b
-
   abbrev pub LeavesLessSoFar : Bool → World P → World P → Type 0
   LeavesLessSoFar on old new = (a b : Actor P) → slice_get old.actors actor ≡ Some a → slice_get new.actors actor ≡ Some b → HasLessSoFar rules on a b
 
   abbrev pub LeavesNoMore : World P → World P → Type 0
   LeavesNoMore old new = (a b : Actor P) → slice_get old.actors actor ≡ Some a → slice_get new.actors actor ≡ Some b → is_waiting b.status ≡ true → IsNoMore rules a b
 
-  pub leaves_on : (was on : Bool) (a b c : World P) → was ≡ true → IsSome (waits_at b actor) → LeavesLessSoFar was a b → LeavesLess on b c → LeavesLessSoFar on a c
+  pub leaves_on : (was on : Bool) (a b c : World P) → was ≡ true → IsSome (waits_at b actor) → LeavesLessSoFar was a b → LeavesLess rules actor on b c → LeavesLessSoFar on a c
   leaves_on false on a b c e waits f g x z here there = absurd (cc)
   leaves_on true on a b c e waits f g x z here there = (let y = waits_there b actor waits in less_so_far rules on x y.0 z (f x y.0 here y.1) (g y.0 z y.1 there))
 
@@ -220,7 +217,7 @@ module _ {P : Type 0} (rules : Rules P) (actor : ℕ) where
   abbrev pub call_left_at : Bool → World P → ℕ
   call_left_at on w = if on then at_place (λ (a : Actor P). steps_left a.engine) w.actors actor + 1 else 0
 
-  pub call_falls : (on : Bool) (old new : World P) → IsSome (waits_at old actor) → length new.actors ≡ length old.actors → LeavesLess on old new → call_left_at on new < call_left_at true old
+  pub call_falls : (on : Bool) (old new : World P) → IsSome (waits_at old actor) → length new.actors ≡ length old.actors → LeavesLess rules actor on old new → call_left_at on new < call_left_at true old
   call_falls false old new waits long f = omega arith
   call_falls true old new waits long f =
       let steps : Actor P → ℕ = λ (a : Actor P). steps_left a.engine in
@@ -235,7 +232,7 @@ module _ {P : Type 0} (rules : Rules P) (actor : ℕ) where
   abbrev pub run_left_at : ℕ → World P → ℕ
   run_left_at k w = at_place (run_left rules k) w.actors actor
 
-  pub run_falls : (first old new : World P) → length old.actors ≡ length first.actors → length new.actors ≡ length old.actors → IsSome (waits_at old actor) → LeavesNoMore first old → LeavesLess false old new
+  pub run_falls : (first old new : World P) → length old.actors ≡ length first.actors → length new.actors ≡ length old.actors → IsSome (waits_at old actor) → LeavesNoMore first old → LeavesLess rules actor false old new
       → run_left_at (whole_at first) new < run_left_at (whole_at first) old
   run_falls first old new same long waits f g =
       let whole_of : Actor P → ℕ = λ (a : Actor P). whole rules (in_transaction a.engine) a.player in
@@ -248,7 +245,7 @@ module _ {P : Type 0} (rules : Rules P) (actor : ℕ) where
       let fell = (g y.0 z.0 y.1 z.1).over refl k (omega (arith, (f x.0 y.0 x.1 y.1 y.2).whole_falls)) in
       omega (arith, at_place_is (run_left rules k) old.actors actor y.0 y.1, at_place_is (run_left rules k) new.actors actor z.0 z.1)
 
-  pub no_more_on : (first old new : World P) → length old.actors ≡ length first.actors → IsSome (waits_at old actor) → LeavesNoMore first old → LeavesLess false old new → LeavesNoMore first new
+  pub no_more_on : (first old new : World P) → length old.actors ≡ length first.actors → IsSome (waits_at old actor) → LeavesNoMore first old → LeavesLess rules actor false old new → LeavesNoMore first new
   no_more_on first old new same waits f g a c here there waiting =
       let y = waits_there old actor waits in
       less_less rules a y.0 c (f a y.0 here y.1 y.2) ((g y.0 c y.1 there).less waiting)
@@ -258,14 +255,14 @@ module _ {P : Type 0} (rules : Rules P) (actor : ℕ) where
       (let same : a ≡ b = (let z : Some a ≡ Some b = sym here ∙ there in cc) in subst (IsNoMore rules a) same (same_less rules a))
 
   -- who goes on with its call waits for its next operation
-  pub waits_still : (on : Bool) (old new : World P) → IsSome (waits_at old actor) → length new.actors ≡ length old.actors → LeavesLess on old new → on ≡ true → IsSome (waits_at new actor)
+  pub waits_still : (on : Bool) (old new : World P) → IsSome (waits_at old actor) → length new.actors ≡ length old.actors → LeavesLess rules actor on old new → on ≡ true → IsSome (waits_at new actor)
   waits_still on old new waits long f e =
       let y = waits_there old actor waits in
       let z = there_is new.actors actor (omega (arith, long, slice_get_within old.actors actor y.0 y.1)) in
       subst IsSome (sym (ap (option_and_then (λ (a : Actor P). waiting_step a.status)) z.1)) (some_waiting z.0.status ((f y.0 z.0 y.1 z.1).on e).0)
 
   -- the actor of a call that is over
-  pub over_less : (on : Bool) (old new : World P) → on ≡ false → LeavesLessSoFar on old new → LeavesLess false old new
+  pub over_less : (on : Bool) (old new : World P) → on ≡ false → LeavesLessSoFar on old new → LeavesLess rules actor false old new
   over_less true old new e f = absurd (cc)
   over_less false old new e f = f
 

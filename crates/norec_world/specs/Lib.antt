@@ -14,6 +14,7 @@ pub mod LocalWork
 pub mod World
 pub mod Commits
 pub mod WorldEvents
+pub mod Progress
 pub mod Memories
 pub mod HeldAttempts
 pub mod LogAgreement

@@ -50,6 +50,13 @@ impl Recorded {
         &self.rows
     }
 
+    /// How many have ended; `all` has those first.
+    pub(crate) fn ended(&self) -> usize
+        ensures { result ≡ length self.now.ended }
+    {
+        self.ended
+    }
+
     /// Makes room for so many more.
     pub(crate) fn reserve(&mut self, more: usize) -> Result<(), AllocError>
         ensures same { self.new ≡ record self.old { room = self.new.room } }

@@ -44,7 +44,7 @@ impl<P: Player> Model for World<P> {
 
 impl<P: Player> World<P> {
     ghost use Rattle.norec_world.specs.World.{observed, counted, ending_at, waits_at, memory_of, attempts_of, SameOpening};
-    ghost use Rattle.std.specs.Prelude.{slice_get};
+    ghost use Rattle.std.specs.Prelude.{slice_get, take, drop};
     ghost use Rattle.std.specs.Option.{option_map};
     ghost use Rattle.norec_world.specs.Status.{is_waiting};
     ghost use Rattle.norec_world.specs.Actors.{AreActors};
@@ -56,7 +56,7 @@ impl<P: Player> World<P> {
     ghost use Rattle.norec_world.specs.Headline.{AreOpaque};
     ghost use Rattle.norec_world.specs.Tied.{AreTied};
     ghost use Rattle.norec_world.specs.WorldEvents.{Goes, Takes};
-    ghost use Rattle.norec_world.specs.Sound.{HasLess};
+    ghost use Rattle.norec_world.specs.Progress.{LeavesLess};
 
     /// A world over this memory, with the clock at 0. Each actor's local work up to its first operation is done.
     pub fn new(alloc: Global, setup: Setup, players: Vec<P>) -> Result<Self, AllocError>
@@ -112,7 +112,7 @@ impl<P: Player> World<P> {
         match self.waits(actor) {
             None => Err(WorldFault::NoSuchActor),
             Some(true) => {
-                let _goes_on = self.event(alloc, actor as usize);
+                let _goes_on = self.event(alloc, actor);
                 told(self.ending(actor))
             }
             Some(false) => Err(WorldFault::Ended),
@@ -130,8 +130,8 @@ impl<P: Player> World<P> {
         Some(self.actors.get(actor as usize)?.waits())
     }
 
-    /// Whether there is such an actor, and it waits for an operation.
-    fn is_waiting(&self, actor: u8) -> bool
+    /// Whether there is such an actor, and it waits for an operation. Each actor waits for one or has ended.
+    pub fn is_waiting(&self, actor: u8) -> bool
         ensures waits { result ≡ true → IsSome (waits_at self.now actor) }
         ensures ended { result ≡ false → actor < length self.now.actors → IsSome (ending_at self.now actor) }
         ensures commits { CommitsInOrder self.now }
@@ -144,14 +144,14 @@ impl<P: Player> World<P> {
         }
     }
 
-    /// The operation that the actor waits for, and its local work; tells whether the same call goes on.
-    fn event(&mut self, alloc: Global, actor: usize) -> bool
+    /// One event of an actor that waits, as `go`; tells whether the same call goes on. A loop of such events ends: while the
+    /// call goes on, it has fewer and fewer steps left, and once it is over, less is left of the whole run.
+    pub fn event(&mut self, alloc: Global, actor: u8) -> bool
         requires { IsSome (waits_at self.old actor) }
         ensures goes { Goes P.Player actor self.old (told (ending_at self.new actor)) self.new }
-        ensures less { (a a' : Actor P) → slice_get self.old.actors actor ≡ Some a
-            → slice_get self.new.actors actor ≡ Some a' → HasLess P.Player result a a' }
+        ensures less { LeavesLess P.Player actor result self.old self.new }
     {
-        let a = &mut self.actors[actor];
+        let a = &mut self.actors[actor as usize];
         a.step(&mut self.memory, &mut self.recorded);
         let goes_on = a.waits();
         a.work(alloc, &self.memory, &mut self.recorded);
@@ -174,20 +174,19 @@ impl<P: Player> World<P> {
         let _events = self.events();
         let mut taken = 0u64;
         while self.is_waiting(actor) {
-            taken = taken.saturating_add(self.finish_call(alloc, actor as usize));
+            taken = taken.saturating_add(self.finish_call(alloc, actor));
         }
         taken
     }
 
     /// Takes the events of the call in progress, and tells how many, up to 2^64 - 1.
-    fn finish_call(&mut self, alloc: Global, actor: usize) -> u64
+    fn finish_call(&mut self, alloc: Global, actor: u8) -> u64
         requires { IsSome (waits_at self.old actor) }
         ensures took { (n : ℕ) × Takes P.Player actor n self.old self.new × (result ≡ counted 0 n) }
         ensures counts { self.new.events ≡ counted self.old.events result }
         ensures opening { SameOpening self.old self.new }
         ensures actors { length self.new.actors ≡ length self.old.actors }
-        ensures less { (a a' : Actor P) → slice_get self.old.actors actor ≡ Some a
-            → slice_get self.new.actors actor ≡ Some a' → HasLess P.Player false a a' }
+        ensures less { LeavesLess P.Player actor false self.old self.new }
     {
         let _events = self.events();
         let mut taken = 0u64;
@@ -223,6 +222,15 @@ impl<P: Player> World<P> {
         ensures tied { AreTied P.Player self.now }
     {
         self.recorded.all()
+    }
+
+    /// How many of the attempts have ended; `attempts` has those first, and then the open ones.
+    pub fn ended(&self) -> usize
+        ensures value { result ≡ length self.now.attempts.ended }
+        ensures ended { take result (attempts_of self.now) ≡ self.now.attempts.ended }
+        ensures active { drop result (attempts_of self.now) ≡ self.now.attempts.active }
+    {
+        self.recorded.ended()
     }
 
     /// The shared memory.
