@@ -1,6 +1,9 @@
 pub mod WorkedPages
 pub mod WorkedRuns
 pub mod EndingLines
+pub mod Items
+pub mod Plays
+pub mod Loops
 pub mod ScheduleItems
 pub mod ProgramPages
 pub mod WrittenWorlds

@@ -18,7 +18,8 @@ use Rattle.script_program.specs.declared.instruction.Instruction.{Instruction}
 use Rattle.script_program.specs.Listing.{Listing, opening_of, threads_of}
 use Rattle.script_vm.specs.Threads.{Thread, opening, thread_rules}
 use Rattle.run_commands.specs.Scheduled.{Leaves, schedule_of, players_of}
-use Rattle.run_commands.specs.Pages.{first_thread, solo_of, page, IsOf, IsWorldOf, history_of}
+use Rattle.run_commands.specs.Pages.{first_thread, solo_of, page, IsOf, IsWorldOf}
+use Rattle.run_commands.specs.Items.{history_of}
 use Rattle.world_histories.proofs.LegalWorlds.{legal_world}
 use Rattle.world_laws.specs.ShownAlone.{DoneBy}
 use Rattle.world_laws.proofs.LedAlone.{led_alone}

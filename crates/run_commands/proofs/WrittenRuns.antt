@@ -1,5 +1,5 @@
 -- What was written of a program's run on threads.
-use Rattle.std.proofs.Common.{◌≡◌, ℕ, List, length, map, take, Option, Some, Ok, Err, refl}
+use Rattle.std.proofs.Common.{◌≡◌, ℕ, List, map, take, Option, Some, Ok, Err, refl}
 use Rattle.std.specs.Io.KnownBytes.{Appends, Keeps}
 use Rattle.arrayvec.specs.ArrayVec.{ArrayVec}
 use Rattle.script_program.specs.Listing.{Listing}
@@ -26,7 +26,7 @@ module _ (p : Listing) (r : Report) (o n : Option (List ℕ)) (ran : Ran p r) wh
   pub begun : (m : ℕ) × Appends o n (take m (history_text r.history)) → Outputs threading (Err Writing) (Ok p) o n
   begun grew =
       let endings : ArrayVec (Option End) = record { items = map Some r.ends.items } in
-      (p, endings, history_text r.history, grew.0, refl, run_of endings refl, grew.1)
+      (p, refl, (endings, history_text r.history, grew.0, run_of endings refl, grew.1))
 
 -- nothing, where there was no run
 pub failed : (p : Listing) (o n : Option (List ℕ)) (f : Failure AsmFault) → IsFailure f → Keeps o n → Outputs threading (Err f) (Ok p) o n

@@ -1,16 +1,22 @@
 -- What was written of a program's world.
-use Rattle.std.proofs.Common.{◌≡◌, ℕ, List, length, take, Option, Ok, Err, refl}
+use Rattle.std.proofs.Common.{◌≡◌, ℕ, List, length, Option, Result, Ok, Err, refl}
 use Rattle.std.specs.Io.KnownBytes.{Appends}
 use Rattle.arrayvec.specs.ArrayVec.{ArrayVec}
 use Rattle.tx_runs.specs.declared.ending.End.{End}
-use Rattle.norec_world.specs.World.{World}
+use Rattle.norec_world.specs.Commits.{CommitsInOrder}
+use Rattle.norec_world.specs.Headline.{AreOpaque}
+use Rattle.norec_world.specs.Tied.{AreTied}
+use Rattle.norec_world.specs.World.{World, observed}
 use Rattle.script_program.specs.Listing.{Listing, threads_of}
-use Rattle.script_vm.specs.Threads.{Thread}
+use Rattle.script_vm.specs.Threads.{Thread, thread_rules}
 use Rattle.text_commands.specs.declared.failure.Failure.TheVariants.{Writing}
 use Rattle.text_commands.specs.Answers.{Outputs}
 use Rattle.tx_history.specs.Histories.{history_text}
-use Rattle.run_commands.specs.Scheduled.{endings_of}
-use Rattle.run_commands.specs.Pages.{IsWorldOf, history_of}
+use Rattle.tx_history.specs.Spelling.{Puts, Writes}
+use Rattle.run_commands.specs.Scheduled.{Begins, endings_of, schedule_of}
+use Rattle.run_commands.specs.Pages.{IsWorldOf}
+use Rattle.run_commands.specs.Items.{history_of}
+use Rattle.run_commands.specs.Plays.{IsCutOff}
 use Rattle.run_commands.specs.Running.{IsRun, running}
 
 module _ (p : Listing) (w : World Thread) (o n : Option (List ℕ)) (is : IsWorldOf p w) where
@@ -21,8 +27,24 @@ module _ (p : Listing) (w : World Thread) (o n : Option (List ℕ)) (is : IsWorl
   pub told : (endings : ArrayVec (Option End)) → endings.items ≡ endings_of (length (threads_of p)) w → Appends o n (history_text (history_of w)) → Outputs running (Ok endings) (Ok p) o n
   told endings stand grew = (p, history_text (history_of w), refl, run_of endings stand, grew)
 
-  -- a beginning of it
-  pub begun : (m : ℕ) × Appends o n (take m (history_text (history_of w))) → Outputs running (Err Writing) (Ok p) o n
-  begun grew =
-      let endings : ArrayVec (Option End) = record { items = endings_of (length (threads_of p)) w } in
-      (p, endings, history_text (history_of w), grew.0, refl, run_of endings refl, grew.1)
+-- where a write failed, a beginning of it
+pub cut_written : {X E : Type 0} (r : Result X E) (u v : Option (List ℕ)) (text : List ℕ) → Puts u v r text → Writes u v r text
+cut_written (Ok x) u v text p = p
+cut_written (Err e) u v text p = (p.0, p.2)
+
+-- a beginning of it, where a write failed
+pub begun : (p : Listing) (first w : World Thread) (o n : Option (List ℕ)) → Begins p first → CommitsInOrder w → AreOpaque thread_rules (observed w) → AreTied thread_rules w
+    → IsCutOff thread_rules (schedule_of p) first w o n → Outputs running (Err Writing) (Ok p) o n
+begun p first w o n begins commits opaque tied stops = (
+  p,
+  refl,
+  record {
+    first = first;
+    begins = begins;
+    world = w;
+    stops = stops;
+    commits = commits;
+    opaque = opaque;
+    tied = tied;
+  },
+)

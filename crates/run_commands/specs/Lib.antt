@@ -1,3 +1,5 @@
+pub mod Items
+pub mod Plays
 pub mod Scheduled
 pub mod Pages
 pub mod Endings

@@ -9,11 +9,12 @@ use Rattle.world_laws.specs.SoFar.{IsSoFar}
 use Rattle.norec_world.specs.Commits.{CommitsInOrder}
 use Rattle.norec_world.specs.Headline.{AreOpaque}
 use Rattle.norec_world.specs.Tied.{AreTied}
-use Rattle.norec_world.specs.World.{World, attempts_of, ending_at, memory_of, observed}
+use Rattle.norec_world.specs.World.{World, ending_at, observed}
 use Rattle.script_program.specs.Listing.{Listing, opening_of, threads_of}
 use Rattle.script_vm.specs.Threads.{Thread, opening, thread_rules}
 use Rattle.tx_history.specs.declared.history.History.{History}
 use Rattle.tx_history.specs.Legal.{IsLegal}
+use Rattle.run_commands.specs.Items.{history_of}
 use Rattle.run_commands.specs.Scheduled.{Leaves}
 
 abbrev pub first_thread : Listing → Thread
@@ -39,10 +40,6 @@ IsOf p None h = (h.memory ≡ opening_of p) × (memory : List ℕ)
     × (h.clock % 2 ≡ 0 → h.bytes ≡ memory)
 
 -- ## The run of a program
-
--- what is told of a world
-abbrev pub history_of : World Thread → History
-history_of w = record { memory = w.base; attempts = attempts_of w; clock = w.cells.clock; bytes = memory_of w }
 
 -- The schedule leads to this world, which began with the program's memory, whose commits are in order and whose attempts are opaque, and of which a legal history is told; and where the program has one thread, what is told of it is what that one does alone.
 pub record IsWorldOf (p : Listing) (w : World Thread) : Type 0 where

@@ -2,16 +2,21 @@
 use Rattle.std.specs.Prelude.{◌≡◌, ℕ, List, length, Option}
 use Rattle.arrayvec.specs.ArrayVec.{ArrayVec}
 use Rattle.tx_runs.specs.declared.ending.End.{End}
-use Rattle.norec_world.specs.World.{World}
+use Rattle.norec_world.specs.Commits.{CommitsInOrder}
+use Rattle.norec_world.specs.Headline.{AreOpaque}
+use Rattle.norec_world.specs.Tied.{AreTied}
+use Rattle.norec_world.specs.World.{World, observed}
 use Rattle.script_fields.specs.declared.fault.AsmFault.{AsmFault}
 use Rattle.script_program.specs.Listing.{Listing, threads_of}
-use Rattle.script_vm.specs.Threads.{Thread}
+use Rattle.script_vm.specs.Threads.{Thread, thread_rules}
 use Rattle.text_commands.specs.Answers.{Command}
 use Rattle.text_commands.specs.Lines.{script_line}
 use Rattle.tx_history.specs.Histories.{history_text}
 use Rattle.run_commands.specs.Endings.{ending_lines, endings_status}
-use Rattle.run_commands.specs.Pages.{IsWorldOf, history_of}
-use Rattle.run_commands.specs.Scheduled.{endings_of}
+use Rattle.run_commands.specs.Items.{history_of}
+use Rattle.run_commands.specs.Pages.{IsWorldOf}
+use Rattle.run_commands.specs.Plays.{IsCutOff}
+use Rattle.run_commands.specs.Scheduled.{Begins, endings_of, schedule_of}
 
 -- a run of the program, after which the threads stand so, and the text of its history
 pub record IsRun (p : Listing) (endings : ArrayVec (Option End)) (text : List ℕ) : Type 0 where
@@ -20,10 +25,21 @@ pub record IsRun (p : Listing) (endings : ArrayVec (Option End)) (text : List �
   pub stand : endings.items ≡ endings_of (length (threads_of p)) world
   pub told : text ≡ history_text (history_of world)
 
+-- A write failed, or the handing on of what was written: some first events of the program's schedule were taken, or all, and a beginning of the history was written, with all attempts that had ended before the last event.
+pub record IsCutRun (p : Listing) (old new : Option (List ℕ)) : Type 0 where
+  pub first : World Thread
+  pub begins : Begins p first
+  pub world : World Thread
+  pub stops : IsCutOff thread_rules (schedule_of p) first world old new
+  pub commits : CommitsInOrder world
+  pub opaque : AreOpaque thread_rules (observed world)
+  pub tied : AreTied thread_rules world
+
 -- of a script the history of its program's run is written
 abbrev pub running : Command Listing AsmFault (ArrayVec (Option End))
 running = record {
   writes = IsRun;
+  cut = IsCutRun;
   status = λ endings. endings_status endings.items;
   says = λ endings. ending_lines 0 endings.items;
   line = script_line;

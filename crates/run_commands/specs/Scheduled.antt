@@ -1,8 +1,7 @@
 -- The run of a program: its players, the world that begins with them, and what its schedule makes of that world.
-use Rattle.std.specs.Prelude.{◌≡◌, ℕ, List, [], ◌∷◌, length, map, replicate, Option, Some, IsSome, Result, slice_get}
+use Rattle.std.specs.Prelude.{◌≡◌, ℕ, List, [], ◌∷◌, length, map, Option, Some, slice_get}
 use Rattle.std.specs.List.{range_with_len}
 use Rattle.tx_runs.specs.declared.ending.End.{End}
-use Rattle.norec_world.specs.declared.fault.WorldFault.{WorldFault}
 use Rattle.norec_world.specs.declared.actor.Actor.{Actor}
 use Rattle.norec_world.specs.World.{World, ending_at, memory_of, observed}
 use Rattle.norec_world.specs.Commits.{CommitsInOrder}
@@ -10,11 +9,11 @@ use Rattle.norec_world.specs.Headline.{AreOpaque}
 use Rattle.norec_world.specs.Tied.{AreTied}
 use Rattle.norec_world.specs.Tries.{IsBetween}
 use Rattle.norec_world.specs.Starts.{IsNew}
-use Rattle.norec_world.specs.WorldEvents.{Leads, Takes}
 use Rattle.script_program.specs.declared.schedule.Item.{Item}
-use Rattle.script_program.specs.declared.schedule.Item.TheVariants.{Take, Out}
+use Rattle.script_program.specs.declared.schedule.Item.TheVariants.{Out}
 use Rattle.script_program.specs.Listing.{Listing, opening_of, threads_of}
 use Rattle.script_vm.specs.Threads.{Thread, opening, thread_rules}
+use Rattle.run_commands.specs.Items.{ItemsLead}
 
 -- the players of its threads, by number
 abbrev pub players_of : Listing → List Thread
@@ -49,19 +48,9 @@ items_or_each (item ∷ items) threads = item ∷ items
 abbrev pub schedule_of : Listing → List Item
 schedule_of p = items_or_each p.schedule (length (threads_of p))
 
--- What an item asks for leads from the one world to the other: so many events of the thread, of which those after its end are passed over; or as many as lead to its end.
-abbrev pub ItemLeads : Item → World Thread → World Thread → Type 0
-ItemLeads (Take thread count) old new = (results : List (Result (Unit {0}) WorldFault)) × Leads thread_rules old (replicate count thread) results new
-ItemLeads (Out thread) old new = (n : ℕ) × Takes thread_rules thread n old new × IsSome (ending_at new thread)
-
--- one item after the other leads from the one world to the other
-abbrev pub ItemsLead : List Item → World Thread → World Thread → Type 0
-ItemsLead [] old new = new ≡ old
-ItemsLead (item ∷ items) old new = (between : World Thread) × ItemLeads item old between × ItemsLead items between new
-
 -- the program's schedule leads to this world from one that begins with its players
 abbrev pub Leaves : Listing → World Thread → Type 0
-Leaves p w = (first : World Thread) × Begins p first × ItemsLead (schedule_of p) first w
+Leaves p w = (first : World Thread) × Begins p first × ItemsLead thread_rules (schedule_of p) first w
 
 -- how its threads stand then, by number
 abbrev pub endings_of : ℕ → World Thread → List (Option End)

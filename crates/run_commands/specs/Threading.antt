@@ -3,7 +3,7 @@ use Rattle.std.specs.Prelude.{◌≡◌, ℕ, List, map, Option, Some}
 use Rattle.arrayvec.specs.ArrayVec.{ArrayVec}
 use Rattle.script_fields.specs.declared.fault.AsmFault.{AsmFault}
 use Rattle.script_program.specs.Listing.{Listing}
-use Rattle.text_commands.specs.Answers.{Command}
+use Rattle.text_commands.specs.Answers.{Command, HasFront}
 use Rattle.text_commands.specs.Lines.{script_line}
 use Rattle.text_commands.specs.declared.failure.Failure.{Failure}
 use Rattle.text_commands.specs.declared.failure.Failure.TheVariants as failures
@@ -26,6 +26,7 @@ pub record IsThreadedRun (p : Listing) (endings : ArrayVec (Option End)) (text :
 abbrev pub threading : Command Listing AsmFault (ArrayVec (Option End))
 threading = record {
   writes = IsThreadedRun;
+  cut = HasFront IsThreadedRun;
   status = λ endings. endings_status endings.items;
   says = λ endings. ending_lines 0 endings.items;
   line = script_line;

@@ -1,6 +1,6 @@
 //! Scripts that are run, and what they are answered.
 
-ghost use Rattle.std.specs.Prelude.{◌≡◌, ◌+◌, ℕ, List, IfErr, IfSome, Ok};
+ghost use Rattle.std.specs.Prelude.{◌≡◌, ◌+◌, ◌<◌, ℕ, List, All, IfErr, IfSome, Ok, OnErr, OnOk, length};
 ghost use Rattle.tx_history.specs.Spelling.{Writes};
 ghost use Rattle.script_asm.specs.Assembly.{program_of};
 ghost use Rattle.norec_world.specs.World.{observed};
@@ -12,58 +12,99 @@ ghost use Rattle.tx_history.specs.Histories.{history_text};
 ghost use Rattle.text_commands.specs.declared.failure.Failure.TheVariants.{Writing};
 ghost use Rattle.text_commands.specs.Input.{IsFront};
 ghost use Rattle.text_commands.specs.Answers.{Answers, Outputs};
-ghost use Rattle.run_commands.specs.Pages.{history_of};
+ghost use Rattle.script_program.specs.Listing.{thread_of, threads_of};
+ghost use Rattle.run_commands.specs.Items.{ItemsLead, history_of};
+ghost use Rattle.run_commands.specs.Plays.{IsCutOff};
 ghost use Rattle.run_commands.specs.Running.{running};
+ghost use Rattle.run_commands.specs.Scheduled.{Begins, schedule_of};
 
 use crate::endings::{Endings, tell_endings};
-use crate::running::{endings, run_program};
+use crate::playing::play;
+use crate::running::{begin, each_out, endings};
 use norec_world::World;
 use script_asm::AsmFault;
-use script_program::{MAX_TEXT, Program};
+use script_program::{Item, MAX_TEXT, Program};
 use script_vm::Script;
 use std::alloc::Global;
 use std::io;
 use std::io::{Read, Write};
 use text_commands::{Failure, read_program};
-use tx_history::write_history;
+use tx_history::Stream;
 
-/// Writes the history of a world, and hands on what the writer holds back.
-fn put_world<W: Write>(writer: &mut W, world: &World<Script<'_>>) -> io::Result<()>
-    ensures { Writes (W.contents writer.old) (W.contents writer.new) result (history_text (history_of world.now)) }
+/// Takes the events of the items, writes the history as they are taken, and hands on what the writer holds back.
+fn put_run<W: Write>(
+    alloc: Global,
+    world: &mut World<Script<'_>>,
+    items: &[Item],
+    writer: &mut W,
+) -> io::Result<()>
+    requires { All (λ i. thread_of i < length world.old.actors) items.now }
+    ensures text { Writes (W.contents writer.old) (W.contents writer.new) result (history_text (history_of world.new)) }
+    ensures leads { OnOk result (ItemsLead thread_rules items.now world.old world.new) }
+    ensures stops { OnErr result (IsCutOff thread_rules items.now world.old world.new (W.contents writer.old) (W.contents
+        writer.new)) }
+    ensures commits { CommitsInOrder world.new }
+    ensures opaque { AreOpaque thread_rules (observed world.new) }
+    ensures tied { AreTied thread_rules world.new }
 {
-    write_history(
-        writer,
-        world.base(),
-        world.attempts(),
-        world.clock(),
-        world.bytes(),
-    )?;
+    let mut stream = Stream::new(writer);
+    play(alloc, world, items, &mut stream)?;
     writer.flush()
 }
 
-/// Writes the history of a world.
-fn write_world<W: Write>(writer: &mut W, world: &World<Script<'_>>) -> Result<(), Failure<AsmFault>>
-    ensures text { Writes (W.contents writer.old) (W.contents writer.new) result (history_text (history_of world.now)) }
+/// Takes the events of the items and writes the history, or says that it could not be written.
+fn write_run<W: Write>(
+    alloc: Global,
+    world: &mut World<Script<'_>>,
+    items: &[Item],
+    writer: &mut W,
+) -> Result<(), Failure<AsmFault>>
+    requires { All (λ i. thread_of i < length world.old.actors) items.now }
+    ensures text { Writes (W.contents writer.old) (W.contents writer.new) result (history_text (history_of world.new)) }
     ensures failure { IfErr result (λ failure. failure ≡ Writing) }
-    ensures commits { CommitsInOrder world.now }
-    ensures opaque { AreOpaque thread_rules (observed world.now) }
-    ensures tied { AreTied thread_rules world.now }
+    ensures leads { OnOk result (ItemsLead thread_rules items.now world.old world.new) }
+    ensures stops { OnErr result (IsCutOff thread_rules items.now world.old world.new (W.contents writer.old) (W.contents
+        writer.new)) }
+    ensures commits { CommitsInOrder world.new }
+    ensures opaque { AreOpaque thread_rules (observed world.new) }
+    ensures tied { AreTied thread_rules world.new }
 {
-    let _events = world.events();
-    put_world(writer, world).map_err(|_| Failure::Writing)
+    put_run(alloc, world, items, writer).map_err(|_| Failure::Writing)
 }
 
-/// Runs a program and writes its history.
-fn play<W: Write>(
+/// Runs a program by these items, which are its schedule, and writes its history.
+fn run_items<W: Write>(
+    alloc: Global,
+    program: &Program,
+    mut world: World<Script<'_>>,
+    items: &[Item],
+    writer: &mut W,
+) -> Result<Endings, Failure<AsmFault>>
+    requires begins { Begins program.now world }
+    requires items { items.now ≡ schedule_of program.now }
+    requires there { All (λ i. thread_of i < length (threads_of program.now)) items.now }
+    ensures { Outputs running result (Ok program.now) (W.contents writer.old) (W.contents writer.new) }
+{
+    write_run(alloc, &mut world, items, writer)?;
+    Ok(endings(&world, program.threads()))
+}
+
+/// Runs a program by its schedule, or, where it has none, each of its threads to its end, and writes its history.
+fn run_program<W: Write>(
     alloc: Global,
     program: &Program,
     writer: &mut W,
 ) -> Result<Endings, Failure<AsmFault>>
     ensures { Outputs running result (Ok program.now) (W.contents writer.old) (W.contents writer.new) }
 {
-    let world = run_program(alloc, program)?;
-    write_world(writer, &world)?;
-    Ok(endings(&world, program.threads()))
+    let world = begin(alloc, program)?;
+    let items = program.schedule();
+    if items.is_empty() {
+        let each = each_out(alloc, program.threads())?;
+        run_items(alloc, program, world, &each, writer)
+    } else {
+        run_items(alloc, program, world, items, writer)
+    }
 }
 
 /// Reads a script, runs it and writes its history.
@@ -77,7 +118,7 @@ fn run<R: Read, W: Write>(
     ensures few { IsFront (R.remaining reader.old) (R.remaining reader.new) (MAX_TEXT + 1) }
 {
     let program = read_program(alloc, reader)?;
-    play(alloc, &program, writer)
+    run_program(alloc, &program, writer)
 }
 
 /// Reads a script, runs its schedule, writes the history, and answers the status of the program: 0 where all went well,

@@ -4,7 +4,10 @@
 mod by_schedule;
 mod endings;
 mod on_threads;
+mod playing;
 mod running;
+mod telling;
 
 pub use by_schedule::sched;
 pub use on_threads::threads;
+pub use playing::play;

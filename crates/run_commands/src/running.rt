@@ -1,15 +1,13 @@
 //! Programs that are run: a world of their threads, and the schedule.
 
-ghost use Rattle.std.specs.Prelude.{◌≡◌, ◌<◌, ◌≤◌, All, IfOk, length, vec_len};
-ghost use Rattle.norec_world.specs.World.{World};
-ghost use Rattle.script_program.specs.declared.schedule.Item.TheVariants.{Take};
+ghost use Rattle.std.specs.Prelude.{◌≡◌, ◌≤◌, IfOk, vec_len};
 ghost use Rattle.script_program.specs.Sizes.{IsSize};
-ghost use Rattle.script_program.specs.Listing.{opening_of, thread_of};
-ghost use Rattle.run_commands.specs.Scheduled.{Begins, ItemLeads, ItemsLead, Leaves, each_out, endings_of, players_of};
+ghost use Rattle.script_program.specs.Listing.{opening_of};
+ghost use Rattle.run_commands.specs.Scheduled.{Begins, each_out, endings_of, players_of};
 
 use crate::endings::Endings;
 use itm_types::MAX_ACTORS;
-use norec_world::{Bytes, Setup, World, WorldFault};
+use norec_world::{Bytes, Setup, World};
 use script_program::{Item, Program};
 use script_vm::Script;
 use std::alloc::{AllocError, Global};
@@ -38,7 +36,7 @@ fn players<'p>(alloc: Global, program: &'p Program) -> Result<Vec<Script<'p>>, A
 }
 
 /// A program's world before the first event.
-fn begin<'p>(alloc: Global, program: &'p Program) -> Result<World<Script<'p>>, AllocError>
+pub fn begin<'p>(alloc: Global, program: &'p Program) -> Result<World<Script<'p>>, AllocError>
     ensures { IfOk result (λ w. Begins program.now w) }
 {
     let players = players(alloc, program)?;
@@ -51,67 +49,16 @@ fn begin<'p>(alloc: Global, program: &'p Program) -> Result<World<Script<'p>>, A
     World::new(alloc, setup, players)
 }
 
-/// So many events of the thread, or as many as it takes until it has ended.
-#[tactic(auto, using(crate::proofs::ScheduleItems::led_none))]
-fn take_events(alloc: Global, world: &mut World<Script<'_>>, thread: u8, count: u32)
-    ensures leads { ItemLeads (Take thread count) world.old world.new }
-    ensures actors { length world.new.actors ≡ length world.old.actors }
-{
-    for _taken in 0..count {
-        if let Err(WorldFault::Ended) = world.go(alloc, thread) {
-            return;
-        }
-    }
-}
-
-/// What one item of a schedule asks for.
-fn take_item(alloc: Global, world: &mut World<Script<'_>>, item: Item)
-    requires { thread_of item < length world.old.actors }
-    ensures leads { ItemLeads item world.old world.new }
-    ensures actors { length world.new.actors ≡ length world.old.actors }
-{
-    match item {
-        Item::Take(thread, count) => take_events(alloc, world, thread, count),
-        Item::Out(thread) => {
-            world.run_out(alloc, thread);
-        }
-    }
-}
-
-/// One item after the other.
-#[tactic(auto, using(crate::proofs::ScheduleItems::items_none, crate::proofs::ScheduleItems::items_more))]
-fn take_items(alloc: Global, world: &mut World<Script<'_>>, items: &[Item])
-    requires { All (λ i. thread_of i < length world.old.actors) items.now }
-    ensures { ItemsLead items.now world.old world.new }
-{
-    for item in items {
-        take_item(alloc, world, *item);
-    }
-}
-
 /// Each thread to its end, by number.
-#[tactic(auto, using(crate::proofs::ScheduleItems::each_none, crate::proofs::ScheduleItems::each_more))]
-fn run_out_each(alloc: Global, world: &mut World<Script<'_>>, threads: u8)
-    requires { threads ≤ length world.old.actors }
-    ensures { ItemsLead (each_out threads) world.old world.new }
+pub fn each_out(alloc: Global, threads: usize) -> Result<Vec<Item>, AllocError>
+    requires { threads ≤ MAX_ACTORS }
+    ensures { IfOk result (λ items. items.items ≡ each_out threads) }
 {
+    let mut items = Vec::new(alloc);
     for thread in 0..threads {
-        take_item(alloc, world, Item::Out(thread));
+        items.push(Item::Out(thread as u8))?;
     }
-}
-
-/// The program's world once its schedule is run, or, where it has none, each of its threads to its end.
-pub fn run_program<'p>(alloc: Global, program: &'p Program) -> Result<World<Script<'p>>, AllocError>
-    ensures { IfOk result (λ w. Leaves program.now w) }
-{
-    let mut world = begin(alloc, program)?;
-    let items = program.schedule();
-    if items.is_empty() {
-        run_out_each(alloc, &mut world, program.threads() as u8);
-    } else {
-        take_items(alloc, &mut world, items);
-    }
-    Ok(world)
+    Ok(items)
 }
 
 /// How the threads of a world stand, by number.

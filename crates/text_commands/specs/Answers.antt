@@ -15,17 +15,22 @@ Reads (Err NoThread) read = ⊥
 Reads (Err Reading) read = Unit {0}
 Reads (Err Writing) read = ⊥
 
--- What a command does with what it has read: which text it writes, and with which end; and of each end the status and what is said. Of a fault of the text it says this line.
+-- What a command does with what it has read: which text it writes, and with which end; what the writer got where a write failed; and of each end the status and what is said. Of a fault of the text it says this line.
 pub record Command (A F T : Type 0) : Type 1 where
   pub writes : A → T → List ℕ → Type 0
+  pub cut : A → Option (List ℕ) → Option (List ℕ) → Type 0
   pub status : T → ℕ
   pub says : T → List ℕ
   pub line : F → List ℕ
 
--- what the writer got, by how that ended and by what the text is read as: all that the command writes; a beginning of it where a write failed; and else nothing
+-- a beginning of a text that the command writes
+abbrev pub HasFront : {A T : Type 0} → (A → T → List ℕ → Type 0) → A → Option (List ℕ) → Option (List ℕ) → Type 0
+HasFront {A} {T} writes a old new = (end : T) × (text : List ℕ) × (n : ℕ) × writes a end text × Appends old new (take n text)
+
+-- what the writer got, by how that ended and by what the text is read as: all that the command writes; where a write failed, what its `cut` says; and else nothing
 abbrev pub Outputs : {A F T : Type 0} → Command A F T → Result T (Failure F) → Result A F → Option (List ℕ) → Option (List ℕ) → Type 0
 Outputs {A} {F} {T} c (Ok end) read old new = (a : A) × (text : List ℕ) × (read ≡ Ok a) × c.writes a end text × Appends old new text
-Outputs {A} {F} {T} c (Err Writing) read old new = (a : A) × (end : T) × (text : List ℕ) × (n : ℕ) × (read ≡ Ok a) × c.writes a end text × Appends old new (take n text)
+Outputs {A} {F} {T} c (Err Writing) read old new = (a : A) × (read ≡ Ok a) × c.cut a old new
 Outputs {A} {F} {T} c (Err (Faulty f)) read old new = (read ≡ Err f) × Keeps old new
 Outputs {A} {F} {T} c (Err NoMemory) read old new = Keeps old new
 Outputs {A} {F} {T} c (Err NoThread) read old new = Keeps old new

@@ -8,7 +8,7 @@ use Rattle.history_reader.specs.declared.fault.ReadFault.{ReadFault}
 use Rattle.script_fields.specs.declared.fault.AsmFault.{AsmFault}
 use Rattle.script_print.specs.Printing.{printed}
 use Rattle.script_program.specs.Listing.{Listing}
-use Rattle.text_commands.specs.Answers.{Command}
+use Rattle.text_commands.specs.Answers.{Command, HasFront}
 use Rattle.text_commands.specs.Lines.{script_line, history_line}
 use Rattle.tx_history.specs.declared.history.History.{History}
 use Rattle.tx_history.specs.Legal.{IsLegal}
@@ -17,6 +17,7 @@ use Rattle.tx_history.specs.Legal.{IsLegal}
 abbrev pub printing : Command Listing AsmFault (Unit {0})
 printing = record {
   writes = λ p end text. text ≡ printed p;
+  cut = HasFront (λ p (end : Unit {0}) text. text ≡ printed p);
   status = λ end. 0;
   says = λ end. [];
   line = script_line;
@@ -41,6 +42,7 @@ pub record IsJudged (h : History) (v : Verdict) (text : List ℕ) : Type 0 where
 abbrev pub judging : Command History ReadFault Verdict
 judging = record {
   writes = IsJudged;
+  cut = HasFront IsJudged;
   status = verdict_status;
   says = λ v. [];
   line = history_line;

@@ -1,0 +1,258 @@
+-- What the writer has got of a world's history.
+use Rattle.std.proofs.Common.{inl, inr, ◌≡◌, ℕ, ◌≤◌, List, [], ◌∷◌, ◌++◌, length, take, drop, flat_map, Option, None, Some, IsSome, Result, Ok, Err, refl, sym, ap, subst, ◌∙◌, append-nil, append_assoc, arith}
+use Rattle.std.proofs.KnownBytes.{Appends-kept, Appends-nil, Appends-trans}
+use Rattle.std.proofs.lemmas.Grind.{common_steps, flat_map-append}
+use Rattle.std.proofs.lemmas.List.{take-append-drop}
+use Rattle.std.specs.Io.KnownBytes.{Appends}
+use Rattle.std.specs.Prelude.{OnErr}
+use Rattle.std.specs.Result.{result_err}
+use Rattle.std.specs.declared.io.Error.{Error}
+use Rattle.norec_world.specs.declared.actor.Actor.{Actor}
+use Rattle.norec_world.specs.Rows.{Rows}
+use Rattle.norec_world.specs.Tries.{Prior, Tries, prior_of, between, begins, runs, over, turned_away, outrun, shut_out}
+use Rattle.norec_world.specs.World.{World, ending_at, told, waits_at}
+use Rattle.norec_world.specs.WorldEvents.{Goes}
+use Rattle.norec_world.proofs.WorldEvents.{told_event}
+use Rattle.norec_world.proofs.Worlds.{waits_there}
+use Rattle.tx_attempts.specs.declared.attempt.Attempt.{Attempt}
+use Rattle.tx_history.specs.Histories.{attempt_lines, last_line, history_text}
+use Rattle.tx_history.specs.Streams.{Adds, Leaves, Standing, lines_so_far}
+use Rattle.tx_history.proofs.Streams.{adds_as, adds_failed, adds_nothing, adds_then}
+use Rattle.tx_player.specs.Rules.{Rules}
+use Rattle.script_program.specs.declared.schedule.Item.{Item}
+use Rattle.run_commands.specs.Items.{ItemsBegin, ItemsLead, history_of}
+use Rattle.run_commands.proofs.Items.{items_unbegun, items_whole}
+use Rattle.run_commands.specs.Plays.{AddsEnded, Begins, Fails, Front, IsCutOff}
+
+-- what is so of a failure
+pub on_err : {T E F : Type 0} (r : Result T E) → F → OnErr r F
+on_err (Ok x) h = record {}
+on_err (Err e) h = h
+
+-- ## What an event ends
+
+-- those that had ended before stay, and others may follow them
+abbrev pub Grown : List Attempt → List Attempt → Type 0
+Grown old new = (more : List Attempt) × (new ≡ old ++ more)
+
+still : (old new : List Attempt) → new ≡ old → Grown old new
+still old new e = ([], e ∙ sym (append-nil old))
+
+tries_grown : {P : Type 0} (clock : ℕ) (p : Prior) (clock' : ℕ) (r : Rows) (a : Actor P) → Tries clock p clock' r a → Grown p.ended r.ended
+tries_grown clock p clock' r a (between t) = still _ _ t.ended
+tries_grown clock p clock' r a (begins t) = still _ _ t.ended
+tries_grown clock p clock' r a (runs t) = still _ _ t.ended
+tries_grown clock p clock' r a (over t) = (t.row' ∷ [], t.ended)
+tries_grown clock p clock' r a (turned_away t) = still _ _ t.ended
+tries_grown clock p clock' r a (outrun t) = still _ _ t.ended
+tries_grown clock p clock' r a (shut_out t) = still _ _ t.ended
+
+module _ {P : Type 0} (rules : Rules P) where
+  pub event_grown : (old new : World P) (thread : ℕ) → IsSome (waits_at old thread) → Goes rules thread old (told (ending_at new thread)) new → Grown old.attempts.ended new.attempts.ended
+  event_grown old new thread waits g =
+      let there = waits_there old thread waits in
+      let goes = g.event_of there.0 there.1 (told_event (ending_at new thread)) in
+      tries_grown old.cells.clock (prior_of old.attempts there.0) new.cells.clock new.attempts goes.0 goes.2.tries
+
+dropped : (old new : List Attempt) (n : ℕ) → n ≡ length old → (g : Grown old new) → drop n new ≡ g.0
+dropped old new n long (more, e) = grind (arith, common_steps)
+
+module _ {P : Type 0} (rules : Rules P) where
+  -- an event, and the lines of what it ended
+  pub event_adds : (old new : World P) (thread n : ℕ) (s t : Standing) → IsSome (waits_at old thread) → Goes rules thread old (told (ending_at new thread)) new → n ≡ length old.attempts.ended
+      → Adds s t (flat_map attempt_lines (drop n new.attempts.ended)) → AddsEnded old new s t
+  event_adds old new thread n s t waits g long p =
+      let grown = event_grown rules old new thread waits g in
+      record {
+        base = g.opening.base;
+        more = grown.0;
+        ended = grown.1;
+        adds = adds_as s t _ _ p (ap (λ (l : List Attempt). flat_map attempt_lines l) (dropped old.attempts.ended new.attempts.ended n long grown));
+      }
+
+  -- how many had ended before is no more than how many have
+  pub event_within : (old new : World P) (thread n : ℕ) → IsSome (waits_at old thread) → Goes rules thread old (told (ending_at new thread)) new → n ≡ length old.attempts.ended → n ≤ length new.attempts.ended
+  event_within old new thread n waits g long =
+      let grown = event_grown rules old new thread waits g in
+      within old.attempts.ended new.attempts.ended n long grown
+    where
+      within : (xs ys : List Attempt) (k : ℕ) → k ≡ length xs → Grown xs ys → k ≤ length ys
+      within xs ys k e (more, f) = grind (arith, common_steps)
+
+-- ## One world after the other
+
+module _ {P : Type 0} where
+  pub adds_same : (w : World P) (s : Standing) → AddsEnded w w s s
+  adds_same w s = record { base = refl; more = []; ended = sym (append-nil w.attempts.ended); adds = adds_nothing s }
+
+  pub adds_both : (a b c : World P) (s t u : Standing) → AddsEnded a b s t → AddsEnded b c t u → AddsEnded a c s u
+  adds_both a b c s t u f g = record {
+    base = g.base ∙ f.base;
+    more = f.more ++ g.more;
+    ended = g.ended ∙ ap (λ (l : List Attempt). l ++ g.more) f.ended ∙ append_assoc a.attempts.ended f.more g.more;
+    adds = adds_as s u _ _ (adds_then s t u _ _ f.adds g.adds) (sym (flat_map-append attempt_lines f.more g.more));
+  }
+
+-- ## Where a write failed
+
+leaves_begun : (g : Option Error) (u v : Option (List ℕ)) (x : List ℕ) → Leaves None g u v x → (y : List ℕ) × Appends u v y
+leaves_begun None u v x p = (x, p)
+leaves_begun (Some e) u v x p = (take p.0 x, p.2)
+
+adds_begun : (s t : Standing) (x : List ℕ) → s.fault ≡ None → Adds s t x → (y : List ℕ) × Appends s.written t.written y
+unfolding Adds
+adds_begun s t x fresh p = leaves_begun t.fault s.written t.written x (subst (λ (f : Option Error). Leaves f t.fault s.written t.written x) fresh p)
+
+adds_all : (s t : Standing) (x : List ℕ) → s.fault ≡ None → t.fault ≡ None → Adds s t x → Appends s.written t.written x
+unfolding Adds
+adds_all s t x fresh good p = subst (λ (g : Option Error). Leaves None g s.written t.written x) good (subst (λ (f : Option Error). Leaves f t.fault s.written t.written x) fresh p)
+
+-- what came before the failed write is whole
+begins_with : (s t u : Standing) (x y : List ℕ) → s.fault ≡ None → t.fault ≡ None → Adds s t x → Adds t u y → Begins s.written u.written x
+begins_with s t u x y fresh good p q =
+    let more = adds_begun t u y good q in
+    (more.0, Appends-trans s.written t.written u.written x more.0 (adds_all s t x fresh good p) more.1)
+
+-- more came before
+begins_after : (s t : Standing) (u : Option (List ℕ)) (x y : List ℕ) → s.fault ≡ None → t.fault ≡ None → Adds s t x → Begins t.written u y → Begins s.written u (x ++ y)
+begins_after s t u x y fresh good p (more, b) =
+    (more, subst (Appends s.written u) (sym (append_assoc x y more)) (Appends-trans s.written t.written u x (y ++ more) (adds_all s t x fresh good p) b))
+
+module _ {P : Type 0} (rules : Rules P) where
+  -- after an event
+  pub fails_here : (leads : World P → World P → Type 0) (a b c : World P) (thread : ℕ) (s t u : Standing) → s.fault ≡ None → t.fault ≡ None → AddsEnded a b s t → AddsEnded b c t u
+      → leads a b → leads a c → Goes rules thread b (told (ending_at c thread)) c → Fails rules leads a c s u
+  fails_here leads a b c thread s t u fresh good f g first all goes = record {
+    before = b;
+    first = first;
+    last = (thread, told (ending_at c thread), told_event (ending_at c thread), goes);
+    all = all;
+    more = f.more;
+    ended = f.ended;
+    told = begins_with s t u _ _ fresh good f.adds g.adds;
+  }
+
+  -- after others
+  pub fails_later : (part leads : World P → World P → Type 0) (a b c : World P) (s t u : Standing) → s.fault ≡ None → t.fault ≡ None → AddsEnded a b s t
+      → ((w : World P) → part b w → leads a w) → Fails rules part b c t u → Fails rules leads a c s u
+  fails_later part leads a b c s t u fresh good f lift g = record {
+    before = g.before;
+    first = lift g.before g.first;
+    last = g.last;
+    all = lift c g.all;
+    more = f.more ++ g.more;
+    ended = g.ended ∙ ap (λ (l : List Attempt). l ++ g.more) f.ended ∙ append_assoc a.attempts.ended f.more g.more;
+    told = subst (Begins s.written u.written) (sym (flat_map-append attempt_lines f.more g.more)) (begins_after s t u.written _ _ fresh good f.adds g.told);
+  }
+
+-- ## A whole history
+
+so_far_more : (memory : List ℕ) (xs ys : List Attempt) → lines_so_far memory (xs ++ ys) ≡ lines_so_far memory xs ++ flat_map attempt_lines ys
+so_far_more memory xs ys = grind (arith, common_steps)
+
+module _ {P : Type 0} where
+  -- the lines so far, after some events
+  pub adds_lines : (a b : World P) (s t u : Standing) → Adds s t (lines_so_far a.base a.attempts.ended) → AddsEnded a b t u → Adds s u (lines_so_far b.base b.attempts.ended)
+  adds_lines a b s t u p f =
+      adds_as s u _ _ (adds_then s t u _ _ p f.adds)
+      (sym (so_far_more a.base a.attempts.ended f.more) ∙ (λ i. lines_so_far (sym f.base i) (sym f.ended i)))
+
+  text_of : (w : World P) → history_text (history_of w) ≡ lines_so_far w.base w.attempts.ended ++ (flat_map attempt_lines w.attempts.active ++ last_line w.cells.clock (history_of w).bytes)
+  unfolding history_text
+  text_of w =
+      ap (λ (l : List ℕ). l ++ last_line w.cells.clock (history_of w).bytes) (so_far_more w.base w.attempts.ended w.attempts.active)
+      ∙ append_assoc (lines_so_far w.base w.attempts.ended) (flat_map attempt_lines w.attempts.active) (last_line w.cells.clock (history_of w).bytes)
+
+  pub adds_history : (w : World P) (s t u : Standing) → Adds s t (lines_so_far w.base w.attempts.ended)
+      → Adds t u (flat_map attempt_lines w.attempts.active ++ last_line w.cells.clock (history_of w).bytes) → Adds s u (history_text (history_of w))
+  adds_history w s t u p q = adds_as s u _ _ (adds_then s t u _ _ p q) (sym (text_of w))
+
+  -- a write failed before all of it was written
+  pub adds_cut : (w : World P) (s t : Standing) (e : Error) → Adds s t (lines_so_far w.base w.attempts.ended) → t.fault ≡ Some e → Adds s t (history_text (history_of w))
+  adds_cut w s t e p failed = adds_as s t _ _ (adds_failed s t e _ _ p failed) (sym (text_of w))
+
+take_all : (xs : List ℕ) → take (length xs) xs ≡ xs
+take_all xs = grind (arith, common_steps)
+
+-- ## The lines of some attempts
+
+attempts_taken : (all : List Attempt) (i : ℕ) → flat_map attempt_lines (take i all) ++ flat_map attempt_lines (drop i all) ≡ flat_map attempt_lines all
+attempts_taken all i = sym (flat_map-append attempt_lines (take i all) (drop i all)) ∙ ap (λ (l : List Attempt). flat_map attempt_lines l) (take-append-drop i all)
+
+-- a write failed before all of them were written
+pub attempts_stopped : (a b : Standing) (all : List Attempt) (i : ℕ) (e : Error) → Adds a b (flat_map attempt_lines (take i all)) → b.fault ≡ Some e → Adds a b (flat_map attempt_lines all)
+attempts_stopped a b all i e p failed = adds_as a b _ _ (adds_failed a b e _ _ p failed) (attempts_taken all i)
+
+-- ## Where a write of the whole failed
+
+leaves_fresh : (f : Option Error) (u v : Option (List ℕ)) (x : List ℕ) → Leaves f None u v x → f ≡ None
+leaves_fresh None u v x p = refl
+leaves_fresh (Some e) u v x p = absurd p
+
+-- what has not failed had not failed before
+adds_fresh : (s t : Standing) (x : List ℕ) → t.fault ≡ None → Adds s t x → s.fault ≡ None
+unfolding Adds
+adds_fresh s t x good p = leaves_fresh s.fault s.written t.written x (subst (λ (g : Option Error). Leaves s.fault g s.written t.written x) good p)
+
+leaves_front : (f : Option Error) (e : Error) (u v : Option (List ℕ)) (x : List ℕ) → Leaves f (Some e) u v x → Front u v x
+leaves_front None e u v x p = (p.0, p.2)
+leaves_front (Some d) e u v x p = (0, Appends-kept u u v [] (Appends-nil u) p.1)
+
+adds_front : (s t : Standing) (e : Error) (x : List ℕ) → t.fault ≡ Some e → Adds s t x → Front s.written t.written x
+unfolding Adds
+adds_front s t e x failed p = leaves_front s.fault e s.written t.written x (subst (λ (g : Option Error). Leaves s.fault g s.written t.written x) failed p)
+
+module _ {P : Type 0} (rules : Rules P) (items : List Item) (a c : World P) where
+  -- after an event
+  pub cut_off : (s t u : Standing) (e : Error) → t.fault ≡ None → u.fault ≡ Some e → Adds s t (lines_so_far a.base a.attempts.ended) → AddsEnded a c t u → Fails rules (ItemsBegin rules items) a c t u → IsCutOff rules items a c s.written u.written
+  cut_off s t u e good failed p ended f = record {
+    begun = f.all;
+    got = inl (subst (λ (b : List ℕ). Front s.written u.written (lines_so_far b c.attempts.ended)) ended.base (adds_front s u e _ failed (adds_lines a c s t u p ended)));
+    told = inr (
+      f.before,
+      f.first,
+      inr f.last,
+      subst (Begins s.written u.written) (sym (ap (lines_so_far a.base) f.ended ∙ so_far_more a.base a.attempts.ended f.more)) (begins_after s t u.written _ _ (adds_fresh s t _ good p) good p f.told),
+    );
+  }
+
+  -- after the last event
+  cut_last : (s t u : Standing) (e : Error) (y : List ℕ) → t.fault ≡ None → u.fault ≡ Some e → Adds s t (lines_so_far c.base c.attempts.ended) → Adds t u y → Adds s u (history_text (history_of c)) → c.base ≡ a.base → ItemsLead rules items a c → IsCutOff rules items a c s.written u.written
+  cut_last s t u e y good failed p q whole base l = record {
+    begun = items_whole rules a c items l;
+    got = inr (l, adds_front s u e _ failed whole);
+    told = inr (
+      c,
+      items_whole rules a c items l,
+      inl refl,
+      subst (λ (b : List ℕ). Begins s.written u.written (lines_so_far b c.attempts.ended)) base (begins_with s t u _ _ (adds_fresh s t _ good p) good p q),
+    );
+  }
+
+  pub stops_last : {A : Type 0} (s t u : Standing) (r : Result A Error) (y : List ℕ) → t.fault ≡ None → u.fault ≡ result_err r → Adds s t (lines_so_far c.base c.attempts.ended) → Adds t u y → Adds s u (history_text (history_of c)) → c.base ≡ a.base → ItemsLead rules items a c → OnErr r (IsCutOff rules items a c s.written u.written)
+  stops_last s t u (Ok x) y good told p q whole base l = record {}
+  stops_last s t u (Err e) y good told p q whole base l = cut_last s t u e y good told p q whole base l
+
+  -- before the first one
+  pub cut_first : (s t : Standing) (e : Error) → c ≡ a → t.fault ≡ Some e → Adds s t (lines_so_far a.base a.attempts.ended) → IsCutOff rules items a c s.written t.written
+  cut_first s t e same failed p = record {
+    begun = subst (λ (w : World P). ItemsBegin rules items a w) (sym same) (items_unbegun rules a items);
+    got = inl (subst (λ (w : World P). Front s.written t.written (lines_so_far a.base w.attempts.ended)) (sym same) (adds_front s t e _ failed p));
+    told = inl same;
+  }
+
+  -- all was written, and then it could not be handed on
+  pub cut_whole : (u v : Option (List ℕ)) → Appends u v (history_text (history_of c)) → c.base ≡ a.base → ItemsLead rules items a c → IsCutOff rules items a c u v
+  cut_whole u v p base l = record {
+    begun = items_whole rules a c items l;
+    got = inr (l, (length (history_text (history_of c)), subst (Appends u v) (sym (take_all (history_text (history_of c)))) p));
+    told = inr (
+      c,
+      items_whole rules a c items l,
+      inl refl,
+      (
+        flat_map attempt_lines c.attempts.active ++ last_line c.cells.clock (history_of c).bytes,
+        subst (Appends u v) (text_of c ∙ ap (λ (b : List ℕ). lines_so_far b c.attempts.ended ++ (flat_map attempt_lines c.attempts.active ++ last_line c.cells.clock (history_of c).bytes)) base) p,
+      ),
+    );
+  }

@@ -1,0 +1,55 @@
+use Rattle.std.proofs.Common.{suc, ◌<◌, Bool, refl, sym, subst, ◌∙◌}
+use Rattle.norec_world.proofs.WorldEvents.{call_falls, call_left_at, leaves_on, over_less, takes_one, waits_still}
+use Rattle.script_program.specs.declared.schedule.Item.TheVariants.{Out}
+use Rattle.run_commands.specs.Items.{ItemBegins}
+use Rattle.run_commands.proofs.Loops.{less_first}
+use Rattle.run_commands.proofs.Plays.{adds_both, adds_same, fails_here, on_err}
+use Rattle.run_commands.proofs.playing.finish_call.Goals as goal
+
+pub loop-goes_on-init : goal.loop-goes_on-init
+loop-goes_on-init g c = record {
+  same = refl;
+  fresh = c.requires.fresh;
+  adds = adds_same c.args.world.now _;
+  took = (0, refl);
+  actors = refl;
+  waits = λ e. c.requires.waits;
+  less = less_first g.P.Player c.args.thread c.args.world.now c.requires.waits;
+}
+
+pub take_event-requires-clause-waits : goal.take_event-requires-clause-waits
+take_event-requires-clause-waits g c = c.loop-goes_on.invariant.waits c.loop-goes_on-test.true
+
+pub loop-goes_on-smaller : goal.loop-goes_on-smaller
+loop-goes_on-smaller g c =
+    subst (λ (on : Bool). call_left_at g.P.Player c.args.thread c.in_ok-goes_on.goes_on c.take_event.new.world < call_left_at g.P.Player c.args.thread on c.loop-goes_on.world) (sym c.loop-goes_on-test.true)
+    (call_falls g.P.Player c.args.thread c.in_ok-goes_on.goes_on c.loop-goes_on.world c.take_event.new.world
+    (c.loop-goes_on.invariant.waits c.loop-goes_on-test.true) c.take_event.ensures.goes.actors c.in_ok-goes_on.ensures.less)
+
+pub loop-goes_on-preserved : goal.loop-goes_on-preserved
+loop-goes_on-preserved g c =
+    let before = c.loop-goes_on.invariant in
+    let waits = before.waits c.loop-goes_on-test.true in
+    let goes = c.take_event.ensures.goes in
+    record {
+      same = c.take_event.ensures.same ∙ before.same;
+      fresh = c.in_ok-goes_on.ensures.answer;
+      adds = adds_both _ _ _ _ _ _ before.adds c.take_event.ensures.adds;
+      took = (suc before.took.0, takes_one g.P.Player c.args.thread before.took.0 c.args.world.now c.loop-goes_on.world c.take_event.new.world before.took.1 goes);
+      actors = goes.actors ∙ before.actors;
+      waits = waits_still g.P.Player c.args.thread c.in_ok-goes_on.goes_on c.loop-goes_on.world c.take_event.new.world waits goes.actors c.in_ok-goes_on.ensures.less;
+      less = leaves_on g.P.Player c.args.thread c.loop-goes_on.goes_on c.in_ok-goes_on.goes_on c.args.world.now c.loop-goes_on.world c.take_event.new.world c.loop-goes_on-test.true waits before.less c.in_ok-goes_on.ensures.less;
+    }
+
+pub returns-in_err-goes_on-clause-adds : goal.returns-in_err-goes_on-clause-adds
+returns-in_err-goes_on-clause-adds g c = adds_both _ _ _ _ _ _ c.loop-goes_on.invariant.adds c.take_event.ensures.adds
+
+pub returns-in_err-goes_on-clause-fails : goal.returns-in_err-goes_on-clause-fails
+returns-in_err-goes_on-clause-fails g c =
+    let before = c.loop-goes_on.invariant in
+    let goes = c.take_event.ensures.goes in
+    on_err c.from_residual.result (fails_here g.P.Player (ItemBegins g.P.Player (Out c.args.thread)) c.args.world.now c.loop-goes_on.world c.take_event.new.world c.args.thread _ _ _ c.requires.fresh before.fresh before.adds c.take_event.ensures.adds
+    before.took (suc before.took.0, takes_one g.P.Player c.args.thread before.took.0 c.args.world.now c.loop-goes_on.world c.take_event.new.world before.took.1 goes) goes)
+
+pub returns-clause-less : goal.returns-clause-less
+returns-clause-less g c = over_less g.P.Player c.args.thread c.loop-goes_on.goes_on c.args.world.now c.loop-goes_on.world c.loop-goes_on-test.false c.loop-goes_on.invariant.less

@@ -1,0 +1,196 @@
+//! Worlds whose events are taken item by item, and whose history is written as they are.
+
+ghost use Rattle.std.specs.Prelude.{◌≡◌, ◌<◌, ℕ, All, IfOk, IsSome, None, OnErr, OnOk, false, length};
+ghost use Rattle.std.specs.Result.{result_err};
+ghost use Rattle.norec_world.specs.Commits.{CommitsInOrder};
+ghost use Rattle.norec_world.specs.Headline.{AreOpaque};
+ghost use Rattle.norec_world.specs.Progress.{LeavesLess};
+ghost use Rattle.norec_world.specs.Tied.{AreTied};
+ghost use Rattle.norec_world.specs.World.{ending_at, observed, told, waits_at};
+ghost use Rattle.norec_world.specs.WorldEvents.{Goes, Takes};
+ghost use Rattle.script_program.specs.declared.schedule.Item.TheVariants.{Out, Take};
+ghost use Rattle.script_program.specs.Listing.{thread_of};
+ghost use Rattle.tx_history.specs.Histories.{history_text};
+ghost use Rattle.tx_history.specs.Streams.{Adds, fault_of, lent, standing};
+ghost use Rattle.run_commands.specs.Items.{ItemBegins, ItemLeads, ItemsBegin, ItemsLead, history_of};
+ghost use Rattle.run_commands.specs.Plays.{AddsEnded, Fails, IsCutOff};
+
+use crate::telling::{close_history, open_history, put_ended};
+use norec_world::World;
+use script_program::Item;
+use std::alloc::Global;
+use std::io;
+use std::io::Write;
+use tx_history::Stream;
+use tx_player::Player;
+
+/// One event of the thread, and the lines of what it ended; tells whether the same call goes on.
+fn take_event<P: Player, W: Write>(
+    alloc: Global,
+    world: &mut World<P>,
+    thread: u8,
+    stream: &mut Stream<'_, W>,
+) -> io::Result<bool>
+    requires waits { IsSome (waits_at world.old thread) }
+    requires fresh { fault_of stream.old ≡ None }
+    ensures same { lent stream.new ≡ lent stream.old }
+    ensures answer { fault_of stream.new ≡ result_err result }
+    ensures goes { Goes P.Player thread world.old (told (ending_at world.new thread)) world.new }
+    ensures less { IfOk result (λ goes_on. LeavesLess P.Player thread goes_on world.old world.new) }
+    ensures adds { AddsEnded world.old world.new (standing W.contents stream.old) (standing W.contents stream.new) }
+{
+    let first = world.ended();
+    let goes_on = world.event(alloc, thread);
+    put_ended(world, stream, first)?;
+    Ok(goes_on)
+}
+
+/// The events of the thread's call in progress.
+fn finish_call<P: Player, W: Write>(
+    alloc: Global,
+    world: &mut World<P>,
+    thread: u8,
+    stream: &mut Stream<'_, W>,
+) -> io::Result<()>
+    requires waits { IsSome (waits_at world.old thread) }
+    requires fresh { fault_of stream.old ≡ None }
+    ensures same { lent stream.new ≡ lent stream.old }
+    ensures answer { fault_of stream.new ≡ result_err result }
+    ensures adds { AddsEnded world.old world.new (standing W.contents stream.old) (standing W.contents stream.new) }
+    ensures took { OnOk result ((n : ℕ) × Takes P.Player thread n world.old world.new) }
+    ensures less { OnOk result (LeavesLess P.Player thread false world.old world.new) }
+    ensures fails { OnErr result (Fails P.Player (ItemBegins P.Player (Out thread)) world.old world.new
+        (standing W.contents stream.old) (standing W.contents stream.new)) }
+    ensures actors { length world.new.actors ≡ length world.old.actors }
+{
+    let mut goes_on = true;
+    while goes_on {
+        goes_on = take_event(alloc, world, thread, stream)?;
+    }
+    Ok(())
+}
+
+/// Events of the thread until it has ended.
+fn run_out<P: Player, W: Write>(
+    alloc: Global,
+    world: &mut World<P>,
+    thread: u8,
+    stream: &mut Stream<'_, W>,
+) -> io::Result<()>
+    requires there { thread < length world.old.actors }
+    requires fresh { fault_of stream.old ≡ None }
+    ensures same { lent stream.new ≡ lent stream.old }
+    ensures answer { fault_of stream.new ≡ result_err result }
+    ensures adds { AddsEnded world.old world.new (standing W.contents stream.old) (standing W.contents stream.new) }
+    ensures leads { OnOk result (ItemLeads P.Player (Out thread) world.old world.new) }
+    ensures fails { OnErr result (Fails P.Player (ItemBegins P.Player (Out thread)) world.old world.new
+        (standing W.contents stream.old) (standing W.contents stream.new)) }
+    ensures actors { length world.new.actors ≡ length world.old.actors }
+{
+    while world.is_waiting(thread) {
+        finish_call(alloc, world, thread, stream)?;
+    }
+    Ok(())
+}
+
+/// So many events of the thread, or as many as it takes until it has ended.
+fn take_events<P: Player, W: Write>(
+    alloc: Global,
+    world: &mut World<P>,
+    thread: u8,
+    count: u32,
+    stream: &mut Stream<'_, W>,
+) -> io::Result<()>
+    requires there { thread < length world.old.actors }
+    requires fresh { fault_of stream.old ≡ None }
+    ensures same { lent stream.new ≡ lent stream.old }
+    ensures answer { fault_of stream.new ≡ result_err result }
+    ensures adds { AddsEnded world.old world.new (standing W.contents stream.old) (standing W.contents stream.new) }
+    ensures leads { OnOk result (ItemLeads P.Player (Take thread count) world.old world.new) }
+    ensures fails { OnErr result (Fails P.Player (ItemBegins P.Player (Take thread count)) world.old world.new
+        (standing W.contents stream.old) (standing W.contents stream.new)) }
+    ensures actors { length world.new.actors ≡ length world.old.actors }
+{
+    for _taken in 0..count {
+        if !world.is_waiting(thread) {
+            return Ok(());
+        }
+        take_event(alloc, world, thread, stream)?;
+    }
+    Ok(())
+}
+
+/// What one item of a schedule asks for.
+fn take_item<P: Player, W: Write>(
+    alloc: Global,
+    world: &mut World<P>,
+    item: Item,
+    stream: &mut Stream<'_, W>,
+) -> io::Result<()>
+    requires there { thread_of item < length world.old.actors }
+    requires fresh { fault_of stream.old ≡ None }
+    ensures same { lent stream.new ≡ lent stream.old }
+    ensures answer { fault_of stream.new ≡ result_err result }
+    ensures adds { AddsEnded world.old world.new (standing W.contents stream.old) (standing W.contents stream.new) }
+    ensures leads { OnOk result (ItemLeads P.Player item world.old world.new) }
+    ensures fails { OnErr result (Fails P.Player (ItemBegins P.Player item) world.old world.new
+        (standing W.contents stream.old) (standing W.contents stream.new)) }
+    ensures actors { length world.new.actors ≡ length world.old.actors }
+{
+    match item {
+        Item::Take(thread, count) => take_events(alloc, world, thread, count, stream),
+        Item::Out(thread) => run_out(alloc, world, thread, stream),
+    }
+}
+
+/// One item after the other.
+fn take_items<P: Player, W: Write>(
+    alloc: Global,
+    world: &mut World<P>,
+    items: &[Item],
+    stream: &mut Stream<'_, W>,
+) -> io::Result<()>
+    requires there { All (λ i. thread_of i < length world.old.actors) items.now }
+    requires fresh { fault_of stream.old ≡ None }
+    ensures same { lent stream.new ≡ lent stream.old }
+    ensures answer { fault_of stream.new ≡ result_err result }
+    ensures adds { AddsEnded world.old world.new (standing W.contents stream.old) (standing W.contents stream.new) }
+    ensures leads { OnOk result (ItemsLead P.Player items.now world.old world.new) }
+    ensures fails { OnErr result (Fails P.Player (ItemsBegin P.Player items.now) world.old world.new
+        (standing W.contents stream.old) (standing W.contents stream.new)) }
+{
+    for item in items {
+        take_item(alloc, world, *item, stream)?;
+    }
+    Ok(())
+}
+
+/// What the items of a schedule ask for, one after the other, and the history of the world as it goes: the lines before the
+/// first event, those of each attempt right after the event that ended it, and at the end those of the open ones and the
+/// last one. Where a write fails, no further event is taken, and its error is answered.
+pub fn play<P: Player, W: Write>(
+    alloc: Global,
+    world: &mut World<P>,
+    items: &[Item],
+    stream: &mut Stream<'_, W>,
+) -> io::Result<()>
+    requires { All (λ i. thread_of i < length world.old.actors) items.now }
+    ensures same { lent stream.new ≡ lent stream.old }
+    ensures answer { fault_of stream.new ≡ result_err result }
+    ensures adds { Adds (standing W.contents stream.old) (standing W.contents stream.new) (history_text (history_of
+        world.new)) }
+    ensures leads { OnOk result (ItemsLead P.Player items.now world.old world.new) }
+    ensures base { world.new.base ≡ world.old.base }
+    ensures stops { OnErr result (IsCutOff P.Player items.now world.old world.new (standing W.contents stream.old).written
+        (standing W.contents stream.new).written) }
+    ensures commits { CommitsInOrder world.new }
+    ensures opaque { AreOpaque P.Player (observed world.new) }
+    ensures tied { AreTied P.Player world.new }
+{
+    let _events = world.events();
+    open_history(world, stream)?;
+    let taken = take_items(alloc, world, items, stream);
+    let _events_taken = world.events();
+    taken?;
+    close_history(world, stream)
+}
