@@ -41,6 +41,25 @@ const SECOND: Step = Step::Store(2, 6);
 
 const FREE: Step = Step::Store(0, 2);
 
+/// The step is made, and finds 0.
+fn turn(rt: &impl Abort, words: &Words, pass: &mut Pass, made: Step)
+    requires own { Owns words.now pass.old }
+    requires cell { cell_of made < cells_of words.now }
+    requires lawful { Lawful (view_of pass.old) made }
+    ensures own { Owns words.now pass.new }
+    ensures turn { Turns (view_of pass.old) made 0 (view_of pass.new) }
+{
+    let seen = words.step(pass, made);
+    assert_eq!(rt; seen, 0);
+}
+
+/// The engine, which waits for a step that finds 0, asks for the next one.
+fn go_on(rt: &impl Abort, engine: &mut Engine, next: &Next) {
+    assert!(rt; engine.waits());
+    assert!(rt; engine.fits(0));
+    assert_eq!(rt; engine.resume(0), *next);
+}
+
 /// The step is made, and the engine asks for the next one.
 fn step(
     rt: &impl Abort,
@@ -56,11 +75,8 @@ fn step(
     ensures own { Owns words.now pass.new }
     ensures turn { Turns (view_of pass.old) made 0 (view_of pass.new) }
 {
-    let seen = words.step(pass, made);
-    assert_eq!(rt; seen, 0);
-    assert!(rt; engine.waits());
-    assert!(rt; engine.fits(seen));
-    assert_eq!(rt; engine.resume(seen), *next);
+    turn(rt, words, pass, made);
+    go_on(rt, engine, next);
 }
 
 /// A call comes, to which the engine gives this.

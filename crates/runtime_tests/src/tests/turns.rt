@@ -1,7 +1,7 @@
 //! Two threads by turns.
 
-ghost use Rattle.std.specs.Prelude.{IfOk};
-ghost use Rattle.shared_words.specs.Passes.{Owns};
+ghost use Rattle.std.specs.Prelude.{◌≡◌, ◌+◌, ◌*◌, IfOk, length};
+ghost use Rattle.shared_words.specs.Passes.{Owns, cells_of};
 
 use crate::tests::helpers::{
     BEGIN, BEGIN_IRREVOCABLE, DONE, IN, keep, part, read, thread, walk, word, write,
@@ -13,6 +13,20 @@ use shared_words::Words;
 use std::alloc::AllocError;
 use std::process::Abort;
 use std::test::Fail;
+
+/// Both threads end, and the one commit has left 7 in the second word.
+fn end(rt: &impl Abort, words: Words, a: Thread, b: Thread, memory: &mut [u8])
+    requires own { Owns words a.pass × Owns words b.pass }
+    requires size { length memory.old + 8 ≡ 8 * cells_of words }
+{
+    let mut first = part(rt, &words, a);
+    let second = part(rt, &words, b);
+    words.join(&mut first, second);
+    let closed = words.close(first, memory);
+    assert_eq!(rt; closed.clock, 2);
+    let left = [0u8, 0, 0, 0, 0, 0, 0, 0, 7, 0, 0, 0, 0, 0, 0, 0];
+    assert_eq!(rt; &*memory, left.as_slice());
+}
 
 /// A reader whose snapshot moves while another one commits.
 fn overtake(
@@ -52,12 +66,7 @@ fn two_by_turns(rt: HostRuntime) -> Result<(), Fail> {
     let mut a = thread(alloc, &words, first, 8, 0)?;
     let mut b = thread(alloc, &words, second, 8, 0)?;
     overtake(&rt, &words, &mut a, &mut b)?;
-    let mut first = part(&rt, &words, a);
-    let second = part(&rt, &words, b);
-    words.join(&mut first, second);
-    let closed = words.close(first, &mut memory);
-    assert_eq!(rt; closed.clock, 2);
-    assert_eq!(rt; memory, [0, 0, 0, 0, 0, 0, 0, 0, 7, 0, 0, 0, 0, 0, 0, 0]);
+    end(&rt, words, a, b, &mut memory);
     Ok(())
 }
 
@@ -87,11 +96,6 @@ fn irrevocable_by_turns(rt: HostRuntime) -> Result<(), Fail> {
     let a = thread(alloc, &words, first, 8, 0)?;
     let mut b = thread(alloc, &words, second, 2, 0)?;
     let a = keep_out(&rt, &words, a, &mut b)?;
-    let mut first = part(&rt, &words, a);
-    let second = part(&rt, &words, b);
-    words.join(&mut first, second);
-    let closed = words.close(first, &mut memory);
-    assert_eq!(rt; closed.clock, 2);
-    assert_eq!(rt; memory, [0, 0, 0, 0, 0, 0, 0, 0, 7, 0, 0, 0, 0, 0, 0, 0]);
+    end(&rt, words, a, b, &mut memory);
     Ok(())
 }
