@@ -3,10 +3,11 @@ use Rattle.std.proofs.Common.{◌≡◌, ℕ, ◌+◌, ◌<◌, ◌≤◌, List,
 use Rattle.std.proofs.lemmas.Grind.{common_steps}
 use Rattle.std.specs.Prelude.{decimal}
 use Rattle.hex.specs.Hex.{encode_lower, encode_with}
+use Rattle.tx_attempts.specs.declared.attempt.Attempt.{Attempt}
 use Rattle.tx_attempts.specs.declared.attempt.Entry.{Entry}
 use Rattle.itm_types.specs.declared.call.Ran.{Ran}
 use Rattle.tx_history.specs.declared.pieces.Piece.{Piece}
-use Rattle.tx_history.specs.Histories.{call_line, ran_line}
+use Rattle.tx_history.specs.Histories.{attempt_lines, call_line, ran_line}
 use Rattle.tx_history.specs.Spelling.{Grows, Sheet, spelled}
 use Rattle.tx_history.proofs.PagedTexts.{grows_nil, grows_then}
 use Rattle.tx_history.proofs.TextPieces.{encode_more, take_past}
@@ -49,6 +50,15 @@ pub grows_ran : (a b c : Sheet) (rows : List Ran) (i : ℕ) (d : Ran)
     → i < length rows → Grows a b (flat_map ran_line (take i rows)) → Grows b c (ran_line (get_or rows i d)) → Grows a c (flat_map ran_line (take (i + 1) rows))
 grows_ran a b c rows i d l p q =
     let e : flat_map ran_line (take (i + 1) rows) ≡ flat_map ran_line (take i rows) ++ ran_line (get_or rows i d) = grind (arith, common_steps) in
+    subst (Grows a c) (sym e) (grows_then a b c _ _ p q)
+
+pub grows_no_attempt : (a : Sheet) (rows : List Attempt) → Grows a a (flat_map attempt_lines (take 0 rows))
+grows_no_attempt a rows = nothing a
+
+pub grows_attempt : (a b c : Sheet) (rows : List Attempt) (i : ℕ) (d : Attempt)
+    → i < length rows → Grows a b (flat_map attempt_lines (take i rows)) → Grows b c (attempt_lines (get_or rows i d)) → Grows a c (flat_map attempt_lines (take (i + 1) rows))
+grows_attempt a b c rows i d l p q =
+    let e : flat_map attempt_lines (take (i + 1) rows) ≡ flat_map attempt_lines (take i rows) ++ attempt_lines (get_or rows i d) = grind (arith, common_steps) in
     subst (Grows a c) (sym e) (grows_then a b c _ _ p q)
 
 -- two texts, each with a number after it

@@ -4,3 +4,5 @@ pub mod AppendedTexts
 pub mod Streams
 pub mod WorkedLines
 pub mod WorkedStreams
+pub mod PlainSizes
+mod WorkedBounds

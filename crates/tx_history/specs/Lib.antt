@@ -2,3 +2,4 @@ pub mod Spelling
 pub mod Histories
 pub mod Streams
 pub mod Legal
+pub mod Bounds

@@ -1,10 +1,12 @@
 //! The lines of attempts.
 
-ghost use Rattle.std.specs.Prelude.{◌≡◌, flat_map};
+ghost use Rattle.std.specs.Prelude.{◌≡◌, All, flat_map};
+ghost use Rattle.hex.specs.Hex.{IsBytes};
+ghost use Rattle.tx_history.specs.Bounds.{AttemptFits, EntryFits, IsWord, RanFits};
 ghost use Rattle.tx_history.specs.Spelling.{Grows, Puts, sheet};
 ghost use Rattle.tx_history.specs.Histories.{outcome_name, try_text, props_end, head_line, arena_line, call_line, kind_text, ran_line, attempt_lines};
 
-use crate::bodies::{put_body, put_reply};
+use crate::bodies::{function_number, put_body, put_reply};
 use crate::paging::Pages;
 use crate::pieces::Piece;
 use itm_types::{ActionKind, Props, Ran};
@@ -31,6 +33,7 @@ fn put_try<W: Write>(pages: &mut Pages<'_, W>, attempt: &Attempt)
     ensures same { pages.new.writer.ghost_name ≡ pages.old.writer.ghost_name }
     ensures grows { Grows (sheet W.contents pages.old) (sheet W.contents pages.new)
         (try_text attempt.now) }
+    ensures fits { IsWord attempt.now.at }
 {
     pages.text(b"attempt ");
     pages.number(u64::from(attempt.thread));
@@ -56,6 +59,7 @@ fn put_head<W: Write>(pages: &mut Pages<'_, W>, attempt: &Attempt)
     ensures same { pages.new.writer.ghost_name ≡ pages.old.writer.ghost_name }
     ensures grows { Grows (sheet W.contents pages.old) (sheet W.contents pages.new)
         (head_line attempt.now) }
+    ensures fits { IsWord attempt.now.at }
 {
     put_try(pages, attempt);
     put_props(pages, attempt.props);
@@ -66,6 +70,7 @@ fn put_arena<W: Write>(pages: &mut Pages<'_, W>, bytes: &[u8])
     ensures same { pages.new.writer.ghost_name ≡ pages.old.writer.ghost_name }
     ensures grows { Grows (sheet W.contents pages.old) (sheet W.contents pages.new)
         (arena_line bytes.now) }
+    ensures fits { IsBytes bytes.now }
 {
     if bytes.is_empty() {
         pages.text(b"arena -\n");
@@ -82,6 +87,7 @@ pub fn put_call<W: Write>(pages: &mut Pages<'_, W>, entry: &Entry)
     ensures same { pages.new.writer.ghost_name ≡ pages.old.writer.ghost_name }
     ensures grows { Grows (sheet W.contents pages.old) (sheet W.contents pages.new)
         (call_line entry.now) }
+    ensures fits { EntryFits entry.now }
 {
     pages.text(b"call ");
     put_body(pages, &entry.call);
@@ -95,6 +101,7 @@ fn put_calls<W: Write>(pages: &mut Pages<'_, W>, calls: &[Entry])
     ensures same { pages.new.writer.ghost_name ≡ pages.old.writer.ghost_name }
     ensures grows { Grows (sheet W.contents pages.old) (sheet W.contents pages.new)
         (flat_map call_line calls.now) }
+    ensures fits { All EntryFits calls.now }
 {
     for entry in calls {
         put_call(pages, entry);
@@ -116,12 +123,13 @@ fn put_ran<W: Write>(pages: &mut Pages<'_, W>, ran: Ran)
     ensures same { pages.new.writer.ghost_name ≡ pages.old.writer.ghost_name }
     ensures grows { Grows (sheet W.contents pages.old) (sheet W.contents pages.new)
         (ran_line ran) }
+    ensures fits { RanFits ran }
 {
     pages.put(&[
         Piece::Text(b"ran "),
         Piece::Text(kind_text(ran.kind)),
         Piece::Text(b" "),
-        Piece::Number(u64::from(ran.action.fun)),
+        Piece::Number(function_number(ran.action.fun)),
         Piece::Text(b" "),
         Piece::Number(ran.action.arg),
         Piece::Text(b"\n"),
@@ -133,6 +141,7 @@ pub fn put_all_ran<W: Write>(pages: &mut Pages<'_, W>, all: &[Ran])
     ensures same { pages.new.writer.ghost_name ≡ pages.old.writer.ghost_name }
     ensures grows { Grows (sheet W.contents pages.old) (sheet W.contents pages.new)
         (flat_map ran_line all.now) }
+    ensures fits { All RanFits all.now }
 {
     for ran in all {
         put_ran(pages, *ran);
@@ -143,6 +152,7 @@ fn put_attempt<W: Write>(pages: &mut Pages<'_, W>, attempt: &Attempt)
     ensures same { pages.new.writer.ghost_name ≡ pages.old.writer.ghost_name }
     ensures grows { Grows (sheet W.contents pages.old) (sheet W.contents pages.new)
         (attempt_lines attempt.now) }
+    ensures fits { AttemptFits attempt.now }
 {
     put_head(pages, attempt);
     put_arena(pages, attempt.arena.as_slice());
@@ -151,9 +161,23 @@ fn put_attempt<W: Write>(pages: &mut Pages<'_, W>, attempt: &Attempt)
     pages.text(b"end\n");
 }
 
+/// The lines of attempts.
+#[tactic(auto, using(crate::proofs::AppendedTexts::grows_no_attempt, crate::proofs::AppendedTexts::grows_attempt))]
+pub fn put_attempts<W: Write>(pages: &mut Pages<'_, W>, attempts: &[Attempt])
+    ensures same { pages.new.writer.ghost_name ≡ pages.old.writer.ghost_name }
+    ensures grows { Grows (sheet W.contents pages.old) (sheet W.contents pages.new)
+        (flat_map attempt_lines attempts.now) }
+    ensures fits { All AttemptFits attempts.now }
+{
+    for attempt in attempts {
+        put_attempt(pages, attempt);
+    }
+}
+
 /// Writes the lines of an attempt. Where a write fails, what the writer took is a beginning of them.
 pub fn write_attempt<W: Write>(writer: &mut W, attempt: &Attempt) -> io::Result<()>
-    ensures { Puts (W.contents writer.old) (W.contents writer.new) result (attempt_lines attempt.now) }
+    ensures written { Puts (W.contents writer.old) (W.contents writer.new) result (attempt_lines attempt.now) }
+    ensures fits { AttemptFits attempt.now }
 {
     let mut pages = Pages::new(writer);
     put_attempt(&mut pages, attempt);

@@ -1,9 +1,10 @@
 //! What was called, and what was answered.
 
-ghost use Rattle.std.specs.Prelude.{◌≡◌, ◌++◌, codes, decimal};
+ghost use Rattle.std.specs.Prelude.{◌≡◌, ◌≤◌, ◌++◌, codes, decimal};
 ghost use Rattle.hex.specs.Hex.{encode_lower};
 ghost use Rattle.itm_types.specs.Names.{name_of};
 ghost use Rattle.itm_types.specs.declared.entry.Entry.{Entry};
+ghost use Rattle.tx_history.specs.Bounds.{CallFits, IsAction, IsCopying, IsDatum, IsWord, ReplyFits};
 ghost use Rattle.tx_history.specs.Spelling.{Grows, sheet};
 ghost use Rattle.tx_history.specs.Histories.{copy_text, fill_text, commit_action_text, undo_action_text, body_text, reply_text};
 
@@ -18,6 +19,7 @@ fn put_at<W: Write>(pages: &mut Pages<'_, W>, function: Function, at: u64)
     ensures same { pages.new.writer.ghost_name ≡ pages.old.writer.ghost_name }
     ensures grows { Grows (sheet W.contents pages.old) (sheet W.contents pages.new)
         (name_of function ++ codes " " ++ decimal at) }
+    ensures fits { IsWord at }
 {
     pages.text(name_of(function).as_bytes());
     pages.text(b" ");
@@ -29,6 +31,7 @@ fn put_write<W: Write>(pages: &mut Pages<'_, W>, hint: WriteHint, at: u64, value
     ensures same { pages.new.writer.ghost_name ≡ pages.old.writer.ghost_name }
     ensures grows { Grows (sheet W.contents pages.old) (sheet W.contents pages.new)
         (name_of (Entry.Write hint value.now.width) ++ codes " " ++ decimal at ++ codes " " ++ encode_lower value.now.bytes.items) }
+    ensures fits { IsWord at × IsDatum value.now }
 {
     put_at(pages, Function::Write(hint, value.width), at);
     pages.text(b" ");
@@ -41,6 +44,7 @@ fn put_copy<W: Write>(pages: &mut Pages<'_, W>, copying: Copying)
     ensures same { pages.new.writer.ghost_name ≡ pages.old.writer.ghost_name }
     ensures grows { Grows (sheet W.contents pages.old) (sheet W.contents pages.new)
         (copy_text copying) }
+    ensures fits { IsCopying copying }
 {
     let function = Function::Copy {
         moves: copying.moves,
@@ -63,6 +67,7 @@ fn put_fill<W: Write>(pages: &mut Pages<'_, W>, hint: WriteHint, to: u64, byte: 
     ensures same { pages.new.writer.ghost_name ≡ pages.old.writer.ghost_name }
     ensures grows { Grows (sheet W.contents pages.old) (sheet W.contents pages.new)
         (fill_text hint to byte size) }
+    ensures fits { IsWord to × IsWord size }
 {
     pages.put(&[
         Piece::Text(name_of(Function::Fill(hint)).as_bytes()),
@@ -75,16 +80,25 @@ fn put_fill<W: Write>(pages: &mut Pages<'_, W>, hint: WriteHint, to: u64, byte: 
     ]);
 }
 
+/// The number of an action's function, as it is written.
+pub fn function_number(fun: u32) -> u64
+    ensures value { result ≡ fun }
+    ensures fits { fun ≤ 4294967295 }
+{
+    u64::from(fun)
+}
+
 /// An action that runs once the transaction has committed.
 #[tactic(auto, unfolding(crate::specs::Histories::commit_action_text), using(crate::proofs::PagedTexts::grows_as))]
 fn put_commit_action<W: Write>(pages: &mut Pages<'_, W>, action: Action)
     ensures same { pages.new.writer.ghost_name ≡ pages.old.writer.ghost_name }
     ensures grows { Grows (sheet W.contents pages.old) (sheet W.contents pages.new)
         (commit_action_text action) }
+    ensures fits { IsAction action }
 {
     pages.put(&[
         Piece::Text(b"_ITM_addUserCommitAction "),
-        Piece::Number(u64::from(action.fun)),
+        Piece::Number(function_number(action.fun)),
         Piece::Text(b" _ITM_noTransactionId "),
         Piece::Number(action.arg),
     ]);
@@ -96,10 +110,11 @@ fn put_undo_action<W: Write>(pages: &mut Pages<'_, W>, action: Action)
     ensures same { pages.new.writer.ghost_name ≡ pages.old.writer.ghost_name }
     ensures grows { Grows (sheet W.contents pages.old) (sheet W.contents pages.new)
         (undo_action_text action) }
+    ensures fits { IsAction action }
 {
     pages.put(&[
         Piece::Text(b"_ITM_addUserUndoAction "),
-        Piece::Number(u64::from(action.fun)),
+        Piece::Number(function_number(action.fun)),
         Piece::Text(b" "),
         Piece::Number(action.arg),
     ]);
@@ -110,6 +125,7 @@ pub fn put_body<W: Write>(pages: &mut Pages<'_, W>, call: &Call)
     ensures same { pages.new.writer.ghost_name ≡ pages.old.writer.ghost_name }
     ensures grows { Grows (sheet W.contents pages.old) (sheet W.contents pages.new)
         (body_text call.now) }
+    ensures fits { CallFits call.now }
 {
     match call {
         Call::Begin { props, .. } => pages.put(&[
@@ -166,6 +182,7 @@ pub fn put_reply<W: Write>(pages: &mut Pages<'_, W>, reply: &Reply)
     ensures same { pages.new.writer.ghost_name ≡ pages.old.writer.ghost_name }
     ensures grows { Grows (sheet W.contents pages.old) (sheet W.contents pages.new)
         (reply_text reply.now) }
+    ensures fits { ReplyFits reply.now }
 {
     match reply {
         Reply::Done => pages.text(b"ok"),

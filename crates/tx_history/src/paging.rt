@@ -1,7 +1,8 @@
 //! A text that is written as it comes, and that stops at the first write that failed.
 
-ghost use Rattle.std.specs.Prelude.{◌≡◌, ◌≤◌, [], false, length, flat_map, decimal, is_err};
-ghost use Rattle.hex.specs.Hex.{encode_lower};
+ghost use Rattle.std.specs.Prelude.{◌≡◌, ◌≤◌, All, [], false, length, flat_map, decimal, is_err};
+ghost use Rattle.hex.specs.Hex.{IsBytes, encode_lower};
+ghost use Rattle.tx_history.specs.Bounds.{IsWord, PieceFits};
 ghost use Rattle.tx_history.specs.Spelling.{Grows, sheet, spelled};
 
 use crate::pieces::{Piece, put_bytes};
@@ -100,6 +101,7 @@ impl<'a, W: Write> Pages<'a, W> {
     pub(crate) fn number(&mut self, n: u64)
         ensures same { self.new.writer.ghost_name ≡ self.old.writer.ghost_name }
         ensures grows { Grows (sheet W.contents self.old) (sheet W.contents self.new) (decimal n) }
+        ensures fits { IsWord n }
     {
         let mut buffer = Buffer::new();
         self.text(buffer.format(n).as_bytes());
@@ -123,6 +125,7 @@ impl<'a, W: Write> Pages<'a, W> {
     pub(crate) fn hex(&mut self, bytes: &[u8])
         ensures same { self.new.writer.ghost_name ≡ self.old.writer.ghost_name }
         ensures grows { Grows (sheet W.contents self.old) (sheet W.contents self.new) (encode_lower bytes.now) }
+        ensures fits { IsBytes bytes.now }
     {
         let mut at = 0;
         while at < bytes.len() {
@@ -137,6 +140,7 @@ impl<'a, W: Write> Pages<'a, W> {
     fn piece(&mut self, piece: &Piece<'_>)
         ensures same { self.new.writer.ghost_name ≡ self.old.writer.ghost_name }
         ensures grows { Grows (sheet W.contents self.old) (sheet W.contents self.new) (spelled piece.now) }
+        ensures fits { PieceFits piece.now }
     {
         match piece {
             Piece::Text(text) => self.text(text),
@@ -150,6 +154,7 @@ impl<'a, W: Write> Pages<'a, W> {
     pub(crate) fn put(&mut self, pieces: &[Piece<'_>])
         ensures same { self.new.writer.ghost_name ≡ self.old.writer.ghost_name }
         ensures grows { Grows (sheet W.contents self.old) (sheet W.contents self.new) (flat_map spelled pieces.now) }
+        ensures fit { All PieceFits pieces.now }
     {
         for piece in pieces {
             self.piece(piece);

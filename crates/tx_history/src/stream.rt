@@ -1,13 +1,16 @@
 //! A history that is written as its run goes.
 
-ghost use Rattle.std.specs.Prelude.{◌≡◌, None};
+ghost use Rattle.std.specs.Prelude.{◌≡◌, None, OnOk};
 ghost use Rattle.std.specs.Result.{result_err};
+ghost use Rattle.hex.specs.Hex.{IsBytes};
+ghost use Rattle.tx_history.specs.Bounds.{AttemptFits, HistoryFits, IsWord};
 ghost use Rattle.tx_history.specs.Histories.{attempt_lines, first_lines, history_text, last_line};
-ghost use Rattle.tx_history.specs.Spelling.{Puts};
+ghost use Rattle.tx_history.specs.Spelling.{Grows, Puts, sheet};
 ghost use Rattle.tx_history.specs.Streams.{Adds, fault_of, lent, standing};
 
-use crate::attempts::write_attempt;
-use crate::rows::{write_first, write_last};
+use crate::attempts::{put_attempts, write_attempt};
+use crate::paging::Pages;
+use crate::rows::{put_first, put_last, write_first, write_last};
 use std::io;
 use std::io::Write;
 use tx_attempts::Attempt;
@@ -51,6 +54,7 @@ impl<'a, W: Write> Stream<'a, W> {
         ensures same { lent self.new ≡ lent self.old }
         ensures adds { Adds (standing W.contents self.old) (standing W.contents self.new) (first_lines memory.now) }
         ensures answer { fault_of self.new ≡ result_err result }
+        ensures fits { OnOk result (IsBytes memory.now) }
     {
         self.check()?;
         self.fault = write_first(self.writer, memory).err();
@@ -63,6 +67,7 @@ impl<'a, W: Write> Stream<'a, W> {
         ensures same { lent self.new ≡ lent self.old }
         ensures adds { Adds (standing W.contents self.old) (standing W.contents self.new) (attempt_lines attempt.now) }
         ensures answer { fault_of self.new ≡ result_err result }
+        ensures fits { OnOk result (AttemptFits attempt.now) }
     {
         self.check()?;
         self.fault = write_attempt(self.writer, attempt).err();
@@ -75,36 +80,37 @@ impl<'a, W: Write> Stream<'a, W> {
         ensures same { lent self.new ≡ lent self.old }
         ensures adds { Adds (standing W.contents self.old) (standing W.contents self.new) (last_line clock bytes.now) }
         ensures answer { fault_of self.new ≡ result_err result }
+        ensures fits { OnOk result (IsWord clock × IsBytes bytes.now) }
     {
         self.check()?;
         self.fault = write_last(self.writer, clock, bytes).err();
         self.check()
     }
+}
 
-    /// Writes a whole history.
-    #[tactic(auto, using(crate::proofs::Streams::adds_first, crate::proofs::Streams::adds_after))]
-    fn whole(
-        &mut self,
-        memory: &[u8],
-        attempts: &[Attempt],
-        clock: u64,
-        bytes: &[u8],
-    ) -> io::Result<()>
-        ensures same { lent self.new ≡ lent self.old }
-        ensures adds { Adds (standing W.contents self.old) (standing W.contents self.new)
-            (history_text (record { memory = memory.now; attempts = attempts.now; clock = clock; bytes = bytes.now })) }
-        ensures answer { fault_of self.new ≡ result_err result }
-    {
-        self.open(memory)?;
-        for attempt in attempts {
-            self.attempt(attempt)?;
-        }
-        self.finish(clock, bytes)
-    }
+/// The lines of a whole history.
+fn put_history<W: Write>(
+    pages: &mut Pages<'_, W>,
+    memory: &[u8],
+    attempts: &[Attempt],
+    clock: u64,
+    bytes: &[u8],
+)
+    ensures same { pages.new.writer.ghost_name ≡ pages.old.writer.ghost_name }
+    ensures grows { Grows (sheet W.contents pages.old) (sheet W.contents pages.new)
+        (history_text (record { memory = memory.now; attempts = attempts.now; clock = clock; bytes = bytes.now })) }
+    ensures fits { HistoryFits (record { memory = memory.now; attempts = attempts.now; clock = clock; bytes = bytes.now }) }
+{
+    put_first(pages, memory);
+    put_attempts(pages, attempts);
+    put_last(pages, clock, bytes);
 }
 
 /// Writes a whole history that is there: the memory before the run, the attempts, and the clock and the memory after it.
-/// Where a write fails, what the writer took is a beginning of it.
+/// Where a write fails, what the writer took is a beginning of it, and the writer is not asked again.
+///
+/// All of it is put in words, also what a failed write keeps from the writer. So whatever comes of the writes, each number
+/// and byte of the history is one of its type.
 pub fn write_history<W: Write>(
     writer: &mut W,
     memory: &[u8],
@@ -112,9 +118,11 @@ pub fn write_history<W: Write>(
     clock: u64,
     bytes: &[u8],
 ) -> io::Result<()>
-    ensures { Puts (W.contents writer.old) (W.contents writer.new) result
+    ensures written { Puts (W.contents writer.old) (W.contents writer.new) result
         (history_text (record { memory = memory.now; attempts = attempts.now; clock = clock; bytes = bytes.now })) }
+    ensures fits { HistoryFits (record { memory = memory.now; attempts = attempts.now; clock = clock; bytes = bytes.now }) }
 {
-    let mut stream = Stream::new(writer);
-    stream.whole(memory, attempts, clock, bytes)
+    let mut pages = Pages::new(writer);
+    put_history(&mut pages, memory, attempts, clock, bytes);
+    pages.close()
 }

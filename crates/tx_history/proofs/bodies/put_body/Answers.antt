@@ -1,7 +1,9 @@
-use Rattle.std.proofs.Common.{arith}
+use Rattle.std.proofs.Common.{subst, arith}
 use Rattle.std.proofs.lemmas.Grind.{common_steps}
+use Rattle.hex.specs.Hex.{IsBytes}
 use Rattle.tx_history.specs.Histories.{body_text}
 use Rattle.tx_history.proofs.PagedTexts.{grows_as}
+use Rattle.tx_history.specs.declared.pieces.Piece.TheVariants.{Number}
 use Rattle.tx_history.proofs.bodies.put_body.Goals as goal
 
 pub returns-in-Begin-clause-grows : goal.returns-in-Begin-clause-grows
@@ -23,3 +25,8 @@ returns-in-Mode-clause-grows g c = rw c.in-Mode.is c.put-in-Mode.ensures.grows
 pub returns-in-InTransaction-clause-grows : goal.returns-in-InTransaction-clause-grows
 unfolding body_text
 returns-in-InTransaction-clause-grows g c = rw c.in-InTransaction.is c.put-in-InTransaction.ensures.grows
+
+pub returns-in-Save-clause-fits : goal.returns-in-Save-clause-fits
+returns-in-Save-clause-fits g c =
+    let bytes : IsBytes c.as_slice.result.now = c.put-in-Save.ensures.fit 5 (Number 0) (omega arith) in
+    rw c.in-Save.is (c.put-in-Save.ensures.fit 3 (Number 0) (omega arith), subst IsBytes c.as_slice.ensures.value bytes)

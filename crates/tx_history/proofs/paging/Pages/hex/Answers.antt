@@ -13,3 +13,6 @@ loop-at-preserved g c =
       grows = hex_grown _ _ _ c.args.bytes.now c.loop-at.at c.min-n.result c.loop-at.invariant.grows (rw (← e) c.chunk.ensures.grows);
       far = omega arith;
     }
+
+pub returns-clause-fits : goal.returns-clause-fits
+returns-clause-fits g c = λ i. (c.type_inv.bytes i).fits
