@@ -39,7 +39,8 @@ use Rattle.history_reader.specs.Digits.{is_lower_digit, is_lower_hex, bytes_if, 
 use Rattle.history_reader.specs.Words.{outcome, kind, block_props}
 use Rattle.history_reader.specs.Replies.{refusal_of}
 use Rattle.history_reader.specs.Calls.{access_names, point_verb, or_point, verb_of}
-use Rattle.history_reader.specs.Tellable.{IsArenaWidth, IsDatum, IsMemory}
+use Rattle.tx_history.specs.Bounds.{IsArenaWidth, IsDatum}
+use Rattle.history_reader.specs.Tellable.{IsMemory}
 use Rattle.history_reader.specs.LineFields.{verb_text, arena_text}
 use Rattle.history_reader.proofs.Values.{low_is, same_datum}
 

@@ -1,17 +1,10 @@
 -- What a line's fields were spelled for is what they say where they stand.
-use Rattle.std.proofs.Common.{◌≡◌, ℕ, ◌-◌, ◌+◌, ◌%◌, ◌≤◌, Bool, true, false, cond, eqb, List, [], ◌∷◌, ◌++◌, length, Result, Ok, refl, sym, ap, ◌∙◌, arith, append_assoc}
+use Rattle.std.proofs.Common.{◌≡◌, ℕ, ◌-◌, ◌+◌, ◌≤◌, Bool, true, false, List, [], ◌∷◌, ◌++◌, length, Result, Ok, refl, ap, ◌∙◌, arith}
 use Rattle.std.specs.Prelude.{decimal, codes}
 use Rattle.hex.specs.Hex.{IsBytes, encode_lower}
 use Rattle.itm_types.specs.declared.call.ActionKind.{ActionKind}
-use Rattle.itm_types.specs.declared.call.Call.{Call}
-use Rattle.itm_types.specs.declared.call.Call.TheVariants as calls
 use Rattle.itm_types.specs.declared.call.Props.{Props}
 use Rattle.itm_types.specs.declared.call.Ran.{Ran}
-use Rattle.itm_types.specs.declared.call.Reply.{Reply}
-use Rattle.itm_types.specs.declared.call.Reply.TheVariants as replies
-use Rattle.itm_types.specs.Access.{size_of}
-use Rattle.itm_types.specs.Names.{name_of}
-use Rattle.itm_types.specs.declared.entry.Entry.TheVariants as points
 use Rattle.itm_types.specs.declared.limits.TheConstants.{MAX_ARENA, MAX_ACTORS, MAX_RETRIES}
 use Rattle.script_fields.specs.declared.fault.AsmKind.{AsmKind}
 use Rattle.script_fields.specs.Operands.{◌>>=◌, both, number, function}
@@ -21,7 +14,7 @@ use Rattle.script_fields.proofs.SpelledNumbers.{number_again, function_again}
 use Rattle.tx_attempts.specs.declared.attempt.Attempt.{Attempt}
 use Rattle.tx_attempts.specs.declared.attempt.Entry.{Entry}
 use Rattle.tx_attempts.specs.declared.attempt.Outcome.{Outcome}
-use Rattle.tx_history.specs.Histories.{outcome_name, kind_text, try_text, props_end, head_line, arena_line, copy_text, fill_text, commit_action_text, undo_action_text, body_text, reply_text, call_line, ran_line, last_line}
+use Rattle.tx_history.specs.Histories.{outcome_name, kind_text}
 use Rattle.history_reader.specs.declared.state.Head.{Head}
 use Rattle.history_reader.specs.declared.state.Place.{Place}
 use Rattle.history_reader.specs.declared.state.Place.TheVariants as places
@@ -33,8 +26,9 @@ use Rattle.history_reader.specs.Words.{outcome, kind, block_props}
 use Rattle.history_reader.specs.Digits.{sized}
 use Rattle.history_reader.specs.Lines as lines
 use Rattle.history_reader.specs.Lines.{head_of, ran_of, final_of, memory_of, arena_of, try_of, outcome_of, memory_line, final_line, end_line, between_line, later_line, call_or_later, placed, fields_line, meaning}
-use Rattle.history_reader.specs.Tellable.{IsWord, IsRan, IsAttempt, IsEntry, IsMemory}
-use Rattle.history_reader.specs.LineFields.{arena_text, verb_text, verb_in, operands_of, reply_fields, rest_of, call_fields, ran_fields, head_fields, arena_fields, final_fields}
+use Rattle.tx_history.specs.Bounds.{IsWord}
+use Rattle.history_reader.specs.Tellable.{IsRan, IsAttempt, IsEntry, IsMemory}
+use Rattle.history_reader.specs.LineFields.{arena_text, verb_text, verb_in, rest_of}
 use Rattle.history_reader.proofs.AgainFields.{ranged_again, sized_again, memory_again, arena_again, outcome_again, kind_again, block_props_again}
 use Rattle.history_reader.proofs.AgainCalls.{both_again, call_again}
 use Rattle.history_reader.proofs.AgainSpelled.{AreFields, fields_again}

@@ -33,7 +33,8 @@ use Rattle.history_reader.specs.declared.reply.Answer.TheVariants as answers
 use Rattle.history_reader.specs.declared.verb.Verb.{Verb}
 use Rattle.history_reader.specs.declared.verb.Verb.TheVariants as verbs
 use Rattle.history_reader.specs.Fields.{is_space, fields}
-use Rattle.history_reader.specs.Tellable.{IsWord, IsCall, answer_to, IsReply, IsEntry, IsRan, IsAttempt, IsMemory}
+use Rattle.tx_history.specs.Bounds.{IsWord}
+use Rattle.history_reader.specs.Tellable.{IsCall, answer_to, IsReply, IsEntry, IsRan, IsAttempt, IsMemory}
 use Rattle.history_reader.specs.LineFields.{arena_text, verb_text, verb_in, operands_of, reply_fields, call_fields, ran_fields, head_fields, arena_fields, memory_fields, final_fields}
 use Rattle.history_reader.proofs.AgainFields.{some_bytes, refusal_number, IsCalled, arena_cases}
 use Rattle.history_reader.proofs.AgainCalls.{called}

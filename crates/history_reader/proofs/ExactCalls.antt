@@ -26,7 +26,8 @@ use Rattle.history_reader.specs.Words.{block_props, props_names}
 use Rattle.history_reader.specs.Digits.{sized, low, datum, datum_of}
 use Rattle.history_reader.specs.Replies.{refusal_of, refused, accepted, reply_of, with_reply}
 use Rattle.history_reader.specs.Calls.{one_operand, two_operands, three_operands}
-use Rattle.history_reader.specs.Tellable.{IsWord, IsDatum, IsReply}
+use Rattle.tx_history.specs.Bounds.{IsWord, IsDatum}
+use Rattle.history_reader.specs.Tellable.{IsReply}
 use Rattle.history_reader.specs.LineFields.{reply_fields}
 use Rattle.history_reader.proofs.Values.{low_is}
 use Rattle.history_reader.proofs.ExactFields.{bind_ok, both_ok, exactly_exact, lookup_exact, or_operand_ok, number_exact, ranged_exact, function_exact}

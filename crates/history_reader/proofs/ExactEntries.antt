@@ -26,7 +26,8 @@ use Rattle.history_reader.specs.Numbers.{byte}
 use Rattle.history_reader.specs.Words.{block_props}
 use Rattle.history_reader.specs.Digits.{datum}
 use Rattle.history_reader.specs.Calls.{access_names, point_verb, or_point, verb_of, no_operand, begin_operand, abort_operand, mode_operand, place_operand, place_size, place_datum, undo_action, commit_action, copy_operands, fill_operands, control_call, point_call, verb_call, call_of}
-use Rattle.history_reader.specs.Tellable.{IsWord, IsArenaWidth, IsDatum, IsEntry}
+use Rattle.tx_history.specs.Bounds.{IsWord, IsArenaWidth, IsDatum}
+use Rattle.history_reader.specs.Tellable.{IsEntry}
 use Rattle.history_reader.specs.LineFields.{verb_text, verb_in, rest_of}
 use Rattle.history_reader.proofs.ExactFields.{bind_ok, AreNamed, lookup_exact, or_operand_ok}
 use Rattle.history_reader.proofs.ExactCalls.{next_exact, reply_after, one_operand_exact, two_operands_exact, three_operands_exact, number_is, function_is, byte_is, props_is, scope_is, mode_is, no_transaction_is, datum_is}

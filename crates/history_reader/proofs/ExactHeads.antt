@@ -17,7 +17,8 @@ use Rattle.history_reader.specs.Numbers.{thread, nth}
 use Rattle.history_reader.specs.Words.{outcome_names, outcome, kind_names, kind, block_props}
 use Rattle.history_reader.specs.Digits.{sized, memory_bytes, arena_bytes}
 use Rattle.history_reader.specs.Lines.{memory_of, arena_of, try_of, outcome_of, head_of, ran_of, final_of}
-use Rattle.history_reader.specs.Tellable.{IsWord, IsMemory, IsRan}
+use Rattle.tx_history.specs.Bounds.{IsWord}
+use Rattle.history_reader.specs.Tellable.{IsMemory, IsRan}
 use Rattle.history_reader.specs.LineFields.{arena_text}
 use Rattle.history_reader.proofs.ExactFields.{bind_ok, both_ok, lookup_exact, or_operand_ok, ranged_exact, function_exact}
 use Rattle.history_reader.proofs.ExactBytes.{sized_exact, memory_exact, arena_exact}

@@ -15,3 +15,10 @@ pub mod AgainCalls
 pub mod AgainSpelled
 pub mod AgainLines
 pub mod AgainTexts
+pub mod CanonicalTexts
+pub mod CanonicalRuns
+pub mod CanonicalAttempts
+pub mod CanonicalHistories
+pub mod FittingReplies
+pub mod LegalTexts
+mod WorkedCanonical

@@ -9,3 +9,5 @@ pub mod Lines
 pub mod Reading
 pub mod Tellable
 pub mod LineFields
+pub mod Canonical
+pub mod LegalTexts

@@ -1,42 +1,19 @@
 -- The histories that a text can tell.
-use Rattle.std.specs.Prelude.{◌≡◌, ◌⊎◌, ℕ, ◌+◌, ◌-◌, ◌*◌, ◌%◌, ◌^◌, ◌<◌, ◌≤◌, List, length, All}
+use Rattle.std.specs.Prelude.{◌≡◌, ℕ, ◌+◌, ◌-◌, ◌%◌, ◌≤◌, List, length, All}
 use Rattle.hex.specs.Hex.{IsBytes}
 use Rattle.itm_types.specs.Access.{size_of}
-use Rattle.itm_types.specs.declared.access.Width.{Width}
-use Rattle.itm_types.specs.declared.access.Width.TheVariants.{U1, U2, U4, U8}
-use Rattle.itm_types.specs.declared.call.Action.{Action}
-use Rattle.itm_types.specs.declared.call.Copying.{Copying}
 use Rattle.itm_types.specs.declared.call.Call.{Call}
 use Rattle.itm_types.specs.declared.call.Call.TheVariants as calls
 use Rattle.itm_types.specs.declared.call.Ran.{Ran}
 use Rattle.itm_types.specs.declared.call.Reply.{Reply}
 use Rattle.itm_types.specs.declared.call.Reply.TheVariants as replies
-use Rattle.itm_types.specs.declared.datum.Datum.{Datum}
 use Rattle.itm_types.specs.declared.limits.TheConstants.{MAX_MEMORY, MAX_ARENA, MAX_ACTORS, MAX_RETRIES}
 use Rattle.tx_attempts.specs.declared.attempt.Attempt.{Attempt}
 use Rattle.tx_attempts.specs.declared.attempt.Entry.{Entry}
 use Rattle.tx_history.specs.declared.history.History.{History}
+use Rattle.tx_history.specs.Bounds.{IsWord, IsAction, IsCopying, IsDatum, IsArenaWidth}
 use Rattle.history_reader.specs.declared.reply.Answer.{Answer}
 use Rattle.history_reader.specs.declared.reply.Answer.TheVariants as answers
-
--- a number of 64 bits
-abbrev pub IsWord : ℕ → Type 0
-IsWord n = n < 2 ^ 64
-
--- a function, by a number of 32 bits, and its argument
-abbrev pub IsAction : Action → Type 0
-IsAction a = (a.fun ≤ 4294967295) × IsWord a.arg
-
-abbrev pub IsCopying : Copying → Type 0
-IsCopying c = IsWord c.to × IsWord c.from × IsWord c.size
-
--- the arena is accessed in 1, 2, 4 or 8 bytes
-abbrev pub IsArenaWidth : Width → Type 0
-IsArenaWidth w = (w ≡ U1) ⊎ ((w ≡ U2) ⊎ ((w ≡ U4) ⊎ (w ≡ U8)))
-
--- a value whose bytes are bytes
-abbrev pub IsDatum : Datum → Type 0
-IsDatum d = IsBytes d.bytes.items
 
 -- A call that a text can tell. How many more calls a block may make is not told.
 abbrev pub IsCall : Call → Type 0

@@ -17,4 +17,4 @@ mod whole;
 mod words;
 
 pub use fault::{ReadFault, ReadKind};
-pub use whole::read;
+pub use whole::{legal_texts, read};

@@ -1,7 +1,10 @@
 //! Whole texts.
 
 ghost use Rattle.std.specs.Prelude.{◌≡◌, IfOk, IfErr, Ok};
+ghost use Rattle.tx_history.specs.Bounds.{AreLimited, HistoryFits};
 ghost use Rattle.tx_history.specs.Histories.{history_text};
+ghost use Rattle.tx_history.specs.Legal.{IsLegal};
+ghost use Rattle.history_reader.specs.LegalTexts.{IsLegalText};
 ghost use Rattle.history_reader.specs.Reading.{whole, end_of, Fails, Gives, RunsOut, IsAnswer, read_of};
 ghost use Rattle.history_reader.specs.Tellable.{IsHistory};
 ghost use Rattle.history_reader.specs.declared.fault.ReadKind.TheVariants.{Memory};
@@ -88,3 +91,9 @@ pub fn read(alloc: Global, text: &[u8]) -> Result<History, ReadFault>
         Err(kind) => Err(ReadFault { line: number, kind }),
     }
 }
+
+/// The text of a legal history is read as a legal one, where each number and byte that it tells is one of its type, as of
+/// every history that is written, and its sizes and counts are within the limits of a run. Does nothing.
+pub fn legal_texts()
+    ensures { (h : History) → IsLegal h → HistoryFits h → AreLimited h → IsLegalText (history_text h) }
+{}
