@@ -1,3 +1,4 @@
 pub mod Unwritten
 pub mod AloneCalls
 pub mod AloneRuns
+pub mod LimitedRuns

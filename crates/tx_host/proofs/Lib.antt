@@ -9,3 +9,5 @@ pub mod ThreadAttempts
 pub mod LegalRuns
 pub mod WholeRun
 pub mod Examples
+pub mod ScriptWidths
+pub mod LimitedReports

@@ -3,3 +3,4 @@ pub mod Courses
 pub mod Starts
 pub mod Joins
 pub mod Reports
+pub mod Limits

@@ -1,3 +1,4 @@
 pub mod EachThread
 pub mod Holders
 pub mod LegalWorlds
+pub mod LimitedWorlds

@@ -5,7 +5,9 @@ ghost use Rattle.norec_world.specs.Commits.{CommitsInOrder};
 ghost use Rattle.norec_world.specs.Headline.{AreOpaque};
 ghost use Rattle.norec_world.specs.Tied.{AreTied};
 ghost use Rattle.norec_world.specs.World.{World, observed};
+ghost use Rattle.tx_history.specs.Bounds.{AreLimited};
 ghost use Rattle.tx_history.specs.Legal.{IsLegal};
+ghost use Rattle.world_histories.specs.Limits.{HasArenaWidths, IsLimitedWorld};
 ghost use Rattle.world_histories.specs.Told.{told_of};
 
 use tx_player::Player;
@@ -17,4 +19,11 @@ use tx_player::Player;
 pub fn legal<P: Player>()
     ensures { (w : World P) → CommitsInOrder w → AreOpaque P.Player (observed w) → AreTied P.Player w
         → IsLegal (told_of w) }
+{}
+
+/// It is also within the limits of a run, where the world is, and where its players access their arenas in 1, 2, 4 or 8
+/// bytes. Does nothing.
+pub fn limited<P: Player>()
+    ensures { HasArenaWidths P.Player → (w : World P) → AreOpaque P.Player (observed w) → IsLimitedWorld w
+        → AreLimited (told_of w) }
 {}
