@@ -57,20 +57,35 @@ check 'a flag' 1
 run check
 check 'check without a file' 1
 
+# files that cannot be read. That of a process's own memory can be opened, and its first read fails.
 want_line 'itmrun: reading failed'
-run sched "$work/absent"
-check 'a file that is not there' 5
-run asm "$work/absent"
-check 'a script that is not there' 5
-run asm "$work"
-check 'a folder to be printed' 5
-run sched "$work"
-check 'a folder' 5
-run sched ''
-check 'an empty name' 5
-"$program" sched - <&- >"$work/output" 2>"$work/errors"
-status=$?
-check 'closed input' 5
+: >"$work/locked"
+chmod 0 "$work/locked"
+for command in asm sched threads check; do
+    run $command "$work/absent"
+    check "$command of a file that is not there" 5
+    run $command "$root/HANDLES/absent"
+    check "$command of a file in a file" 5
+    run $command "$work"
+    check "$command of a folder" 5
+    run $command ''
+    check "$command of an empty name" 5
+    if [ -r /proc/self/mem ]; then
+        run $command /proc/self/mem
+        check "$command of a file whose reading fails" 5
+    fi
+    # who may read everything may read this too
+    if [ ! -r "$work/locked" ]; then
+        run $command "$work/locked"
+        check "$command of a file that may not be read" 5
+    fi
+    "$program" $command - <&- >"$work/output" 2>"$work/errors"
+    status=$?
+    check "$command of a closed input" 5
+    "$program" $command - <"$work" >"$work/output" 2>"$work/errors"
+    status=$?
+    check "$command of a folder as input" 5
+done
 
 cp "$root/examples/counter.history" "$work/want_output"
 : >"$work/want_errors"

@@ -383,11 +383,6 @@ judge_each "$work/one_left" <<'END'
 5|call _ITM_RU1 0 = 02|legal
 END
 
-want_line 'itmrun: reading failed'
-run check "$work/absent"
-check 'a history that is not there' 5
-run check "$work"
-check 'a folder that is to be judged' 5
 want_line 'itmrun: writing failed'
 : >"$work/output"
 "$program" check "$root/examples/counter.history" >&- 2>"$work/errors"

@@ -283,6 +283,11 @@ END
 # groups and blocks count together, and a number beyond its limit goes before their number
 {
     printf '.memory 8\n.thread\n'
+    repeated 257 'ifnz r1\n'
+} >"$work/input"
+refused 'one choice too many' 'line 259: too long'
+{
+    printf '.memory 8\n.thread\n'
     repeated 256 'ifnz r1\n'
     printf '_ITM_beginTransaction r0 -'
 } >"$work/input"

@@ -179,9 +179,6 @@ is 'one commit for four threads: by number' "$(sort "$work/errors" | cmp - "$wor
 is_history 'one commit for four threads' 1
 
 # what is said where there is no run
-want_line 'itmrun: reading failed'
-run threads "$work/absent"
-check 'threads of a file that is not there' 5
 want_line 'itmrun: line 2: misplaced'
 printf '.memory 8\n.rept 2\n' >"$work/input"
 run threads -
