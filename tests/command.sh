@@ -310,21 +310,28 @@ fi
 . "$root/tests/scripts.sh"
 . "$root/tests/threads.sh"
 
-# the tables, whose scripts are counted with the rest
-sh "$root/tests/tables.sh" >"$work/tables" 2>&1
-sed '$d' "$work/tables"
-last=$(tail -n 1 "$work/tables")
-case $last in
-*' passed, '*' failed')
-    passed=$((passed + ${last%% *}))
-    last=${last#*, }
-    failed=$((failed + ${last%% *}))
-    ;;
-*)
-    failed=$((failed + 1))
-    echo "failed: the tables: $last"
-    ;;
-esac
+# count NAME WORD..: runs these words, whose last line counts what passed and what failed
+count() {
+    name=$1
+    shift
+    "$@" >"$work/told" 2>&1
+    sed '$d' "$work/told"
+    last=$(tail -n 1 "$work/told")
+    case $last in
+    *' passed, '*' failed')
+        passed=$((passed + ${last%% *}))
+        last=${last#*, }
+        failed=$((failed + ${last%% *}))
+        ;;
+    *)
+        failed=$((failed + 1))
+        echo "failed: $name: $last"
+        ;;
+    esac
+}
+
+count 'the tables' sh "$root/tests/tables.sh"
+count 'threads that stop' sh "$root/tests/sweeps.sh" stops
 
 echo "$passed passed, $failed failed"
 [ "$failed" = 0 ]

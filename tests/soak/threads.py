@@ -83,10 +83,13 @@ class Followed(Thread):
 
     def finish(self, errors):
         """How the thread ended after its last try that has lines. Where its code goes on, only the errors tell if there was
-        no memory for its next try."""
+        no memory for its next try, or for a begin that is refused."""
+        asked = self.asked
         goes_on = self.to_block()
-        if self.end is None and goes_on:
-            self.end = STARVED if self.line(STARVED) in errors else GAVE_UP
+        if self.end is None and (goes_on or self.asked > asked) and self.line(STARVED) in errors:
+            self.end = STARVED
+        elif self.end is None and goes_on:
+            self.end = GAVE_UP
         self.end = self.end or FINISHED
 
     def line(self, end):

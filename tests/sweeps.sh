@@ -1,0 +1,63 @@
+#!/bin/sh
+# The worked scripts, those in examples/ and in tests/rows/, and their histories through the built program, with something
+# refused or cut off at each place in turn: sh tests/sweeps.sh [SWEEP..]. Outside the gate, but for `stops`; needs python3,
+# what refuses needs gcc, and `engines` needs rt.
+#
+# - `sched`, `asm`, `check` and `threads`: each growth of memory refused, it alone, and it with all that come after it; under
+#   `threads` each thread too.
+# - `stops`: under `sched` a thread that stops for ever, after each of its events.
+# - `cuts`: each proper beginning of a history.
+# - `files`: under each command each read and each write that fails, and such that move one byte.
+# - `engines`: tests/refused.sh, whose tests call engines, worlds and the plain machine with each allocation refused.
+#
+# All sweeps, or those that are named; what each answer has to be is said in tests/sweeps/. Something is refused by a
+# library before the C library's (tests/sweeps/refuse.c). JOBS=N takes so many scripts at a time, as many as there are
+# processors where it is not said. ITMRUN=PROGRAM takes another built program than this tree's. The last line is
+# "N passed, M failed"; the exit status is 0 where none failed.
+
+root=$(CDPATH= cd -- "$(dirname -- "$0")/.." && pwd) || exit 1
+program=${ITMRUN:-}
+if [ -z "$program" ]; then
+    # builds the program, if it has to be
+    "$root/itmrun" sched "$root/examples/counter.itm" >/dev/null || exit 1
+    program=$root/crates/itmrun/out/itmrun
+fi
+work=$(mktemp -d) || exit 1
+trap 'rm -rf "$work"' EXIT
+[ $# -gt 0 ] || set -- sched asm check threads stops cuts files engines
+passed=0
+failed=0
+
+# add WORD..: runs this, and adds what its last line counts
+add() {
+    "$@" >"$work/told" 2>&1
+    sed '$d' "$work/told"
+    last=$(tail -n 1 "$work/told")
+    case $last in
+    *' passed, '*' failed')
+        passed=$((passed + ${last%% *}))
+        last=${last#*, }
+        failed=$((failed + ${last%% *}))
+        ;;
+    *)
+        failed=$((failed + 1))
+        echo "failed: $sweep: $last"
+        ;;
+    esac
+}
+
+for sweep; do
+    case $sweep in
+    engines)
+        add sh "$root/tests/refused.sh"
+        continue
+        ;;
+    stops | cuts) ;;
+    *)
+        [ -f "$work/refuse.so" ] || gcc -O1 -shared -fPIC -o "$work/refuse.so" "$root/tests/sweeps/refuse.c" -ldl || exit 1
+        ;;
+    esac
+    add python3 -B "$root/tests/sweeps/sweeps.py" "$program" "$work/refuse.so" "${JOBS:-$(nproc)}" "$sweep"
+done
+echo "$passed passed, $failed failed"
+[ "$failed" = 0 ]

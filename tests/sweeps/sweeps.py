@@ -1,0 +1,53 @@
+"""Runs the sweeps, each over the worked scripts.
+
+sweeps.py PROGRAM LIBRARY JOBS [SWEEP..]: all sweeps, or those that are named, so many scripts at a time. LIBRARY is one that
+refuses things (refuse.c). Of each sweep the numbers of its runs are told. The last line is "N passed, M failed".
+"""
+
+import collections
+import concurrent.futures
+import subprocess
+import sys
+import time
+
+from worked import Setup, worked
+from cuts import cuts
+from driver import Wrong
+from files import files
+from refused import asm, check, sched
+from refused_threads import threads
+from stops import stops
+
+MOST = 600  # of what is wrong, so many characters are told
+SWEEPS = {it.__name__: it for it in (sched, asm, check, threads, stops, cuts, files)}
+
+
+def tried(sweep, setup, script):
+    """The counts of a sweep over one script, or what is wrong."""
+    try:
+        return SWEEPS[sweep](setup, script)
+    except (Wrong, subprocess.TimeoutExpired) as wrong:
+        return f"{script.name}: {str(wrong)[:MOST]}"
+
+
+def main(program, library, jobs, *names):
+    setup, scripts, passed, failed = Setup(program, library), worked(), 0, 0
+    with concurrent.futures.ProcessPoolExecutor(int(jobs)) as pool:
+        for name in names or SWEEPS:
+            start, counts = time.monotonic(), collections.Counter()
+            futures = [pool.submit(tried, name, setup, script) for script in scripts]
+            for result in (it.result() for it in futures):
+                if isinstance(result, str):
+                    failed += 1
+                    print(f"failed: {name}: {result}", flush=True)
+                else:
+                    counts += result
+            passed += counts.total()
+            said = ", ".join(f"{count} {kind}" for kind, count in sorted(counts.items()))
+            print(f"{name}: {said} ({time.monotonic() - start:.0f} s)", flush=True)
+    print(f"{passed} passed, {failed} failed")
+    return 1 if failed else 0
+
+
+if __name__ == "__main__":
+    sys.exit(main(*sys.argv[1:]))

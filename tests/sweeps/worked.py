@@ -1,0 +1,60 @@
+"""The worked scripts, and how a text is run where something is refused."""
+
+import collections
+import os
+import pathlib
+import sys
+import tempfile
+
+ROOT = pathlib.Path(__file__).resolve().parent.parent.parent
+sys.path.insert(0, str(ROOT / "tests/soak"))
+from driver import expect, made
+from script import Script
+
+# the program, and the library that refuses
+Setup = collections.namedtuple("Setup", "program refuse")
+
+NO_MEMORY, NO_THREAD = ((b"", f"itmrun: no {what}\n".encode(), 4) for what in ("memory", "thread"))
+MOST = 20_000  # nothing here is refused so often
+
+
+class Worked:
+    """A script and what `sched` answers to it: the output, the errors and the status."""
+
+    def __init__(self, file):
+        self.name, self.text = file.stem, file.read_bytes()
+        output, errors = (file.with_suffix(end) for end in (".history", ".errors"))
+        output, errors = (it.read_bytes() if it.exists() else b"" for it in (output, errors))
+        self.has_fault = not output
+        self.ample = output, errors, 2 if self.has_fault else 4 if errors else 0
+
+    def script(self):
+        return Script(self.text.decode("latin-1"))
+
+
+def worked():
+    """All of them."""
+    files = [*ROOT.glob("examples/*.itm"), *ROOT.glob("tests/rows/*.itm")]
+    return sorted(map(Worked, files), key=lambda it: it.name)
+
+
+def refusing(setup, command, text, **variables):
+    """What the program answers to a text where this is refused, and whether it came to that."""
+    with tempfile.TemporaryDirectory() as folder:
+        told = os.path.join(folder, "refused")
+        words = {name: str(value) for name, value in variables.items()}
+        answer = made(setup.program, command, text, LD_PRELOAD=setup.refuse, REFUSED=told, **words)
+        return answer, os.path.exists(told)
+
+
+def each(setup, command, text, name, **variables):
+    """Each answer with one more thing refused, by its number: that of this name. The last run, in which nothing is, has to
+    be answered as one without the library."""
+    for number in range(1, MOST):
+        answer, refused = refusing(setup, command, text, **{name: number}, **variables)
+        if not refused:
+            break
+        yield number, answer
+    ample = made(setup.program, command, text)
+    expect(not refused, "there is no end")
+    expect(command == "threads" or answer == ample, "with nothing refused the answer is", answer, "in place of", ample)
