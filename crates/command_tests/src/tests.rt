@@ -2,5 +2,6 @@
 
 mod asm;
 mod check;
+mod reads;
 mod sched;
 mod stream;
