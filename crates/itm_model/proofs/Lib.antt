@@ -1,9 +1,14 @@
 mod ActionExamples
 mod CopyExamples
+mod CoveredBytes
+mod EntriesHandedOn
 mod Examples
+mod FewEntries
 mod IrrevocableExamples
 mod JournalRollbacks
 mod KeptLogs
 mod LaidBytes
+mod NewestEntries
 mod OpenBlocks
 mod Overwrites
+mod PieceExamples

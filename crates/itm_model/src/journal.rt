@@ -13,6 +13,8 @@ use user_actions::ActionMark;
 pub(crate) struct Old {
     pub(crate) place: u64,
     pub(crate) bytes: Value,
+    /// Of an old piece of the memory: how many entries the journal had up to the one before it of this piece, or 0.
+    pub(crate) earlier: usize,
 }
 
 /// An open block.
@@ -86,6 +88,7 @@ fn keep_part(bytes: &[u8], logs: &mut Vec<Old>, start: usize, size: usize)
     logs.push_reserved(Old {
         place: start as u64,
         bytes: kept,
+        earlier: 0,
     });
 }
 

@@ -4,6 +4,7 @@
 mod bytes;
 mod journal;
 mod limits;
+mod pieces;
 mod plain;
 
 pub use limits::WORD;

@@ -5,9 +5,10 @@ ghost use Rattle.itm_model.specs.Machine.{after, answer, back, closed, effect, e
 ghost use Rattle.itm_model.specs.Places.{in_range};
 ghost use Rattle.itm_model.specs.Undoable.{before_after, before_next, takes_memory};
 
-use crate::bytes::{replace, value_at};
+use crate::bytes::{WIDEST, replace, value_at};
 use crate::journal::{Mark, Old, keep, unwind};
 use crate::limits::WORD;
+use crate::pieces::{forget, hand_on, innermost_at, keep_pieces};
 use itm_types::{
     ActionKind, CANCELLED, Call, Datum, ENTERED, MAX_ARENA, MAX_MEMORY, MAX_OPEN_BLOCKS, Props,
     Refusal, Reply, Width,
@@ -22,8 +23,10 @@ use user_actions::{ActionMark, UserActions};
 pub struct Plain {
     memory: Vec<u8>,
     arena: Vec<u8>,
-    /// What was overwritten since the last outermost begin, oldest first.
+    /// The pieces that were overwritten since the last outermost begin, oldest first, and each at most once for a block.
     journal: Vec<Old>,
+    /// Of each piece of the memory: how many entries the journal has up to the newest one of it, or 0.
+    newest: Vec<usize>,
     /// What was logged of the arena since the last outermost begin, oldest first.
     logs: Vec<Old>,
     /// The open blocks, innermost last.
@@ -39,6 +42,7 @@ impl Model for Plain {
 
     ghost Value = { Undoable };
 
+    ghost use Rattle.std.specs.Prelude.{length};
     ghost use Rattle.itm_model.specs.Undoing.{put_back, blocks_of, IsSound};
 
     ghost view = { λ p. record {
@@ -51,9 +55,10 @@ impl Model for Plain {
         irrevocable = p.irrevocable;
       };
       before = put_back p.journal.items p.memory.items;
+      kept = length p.journal.items;
     } };
 
-    ghost invariant = { λ p. IsSound p.memory.items p.journal.items p.arena.items p.logs.items p.marks.items };
+    ghost invariant = { λ p. IsSound p.memory.items p.journal.items p.newest.items p.arena.items p.logs.items p.marks.items };
 }
 
 impl Plain {
@@ -67,10 +72,13 @@ impl Plain {
         ensures state { IfOk result (λ p. p.state ≡ opened bytes.now arena.now props) }
         ensures before { IfOk result (λ p. p.before ≡ bytes.now) }
     {
+        let mut newest = Vec::new(alloc);
+        newest.resize(bytes.len().div_ceil(WIDEST), 0)?;
         let mut plain = Plain {
             memory: bytes.to_vec(alloc)?,
             arena: arena.to_vec(alloc)?,
             journal: Vec::new(alloc),
+            newest,
             logs: Vec::new(alloc),
             marks: Vec::new(alloc),
             actions: UserActions::new(alloc),
@@ -82,7 +90,7 @@ impl Plain {
     }
 
     /// Makes one call. A refused call changes nothing, and an outermost begin starts anew on the bytes
-    /// that are there. It costs what it touches, and a begin a mark.
+    /// that are there. It costs what it touches, a begin a mark, and a commit what its block keeps.
     pub fn one(&mut self, call: &Call) -> Result<Reply, AllocError>
         ensures reply { IfOk result (λ r. r ≡ reply MAX_OPEN_BLOCKS self.old.state call.now) }
         ensures after { OnOk result (self.new.state ≡ after MAX_OPEN_BLOCKS self.old.state call.now) }
@@ -111,6 +119,7 @@ impl Plain {
             return;
         }
         if let Some(mark) = self.marks.pop() {
+            forget(&self.journal, &mut self.newest, mark.at);
             unwind(&mut self.memory, &mut self.journal, mark.at);
             unwind(&mut self.arena, &mut self.logs, mark.logs);
             self.actions.roll_back(mark.actions);
@@ -137,6 +146,7 @@ impl Plain {
         ensures state { self.new.state ≡ outside self.old.before self.old.state.arena }
         ensures before { self.new.before ≡ self.old.before }
     {
+        forget(&self.journal, &mut self.newest, 0);
         unwind(&mut self.memory, &mut self.journal, 0);
         self.marks.clear();
         self.actions.clear();
@@ -161,6 +171,7 @@ impl Plain {
             actions: ActionMark::default(),
             wrote: false,
         });
+        forget(&self.journal, &mut self.newest, 0);
         self.journal.clear();
         self.logs.clear();
         self.actions.clear();
@@ -296,9 +307,11 @@ impl Plain {
         ensures closed { self.new.state ≡ closed self.old.state }
         ensures before { self.new.before ≡ self.old.before }
     {
-        let Some(_closed) = self.marks.pop() else {
+        let Some(closed) = self.marks.pop() else {
             return;
         };
+        let top = innermost_at(&self.marks);
+        hand_on(&mut self.journal, &mut self.newest, top, closed.at);
         if self.marks.is_empty() {
             self.actions.run_commits();
             self.irrevocable = false;
@@ -325,7 +338,15 @@ impl Plain {
         ensures err { OnErr result (self.new ≡ self.old) }
     {
         let size = value.bytes.len() as u64;
-        keep(&self.memory, &mut self.journal, place, size)?;
+        let top = innermost_at(&self.marks);
+        keep_pieces(
+            &self.memory,
+            &mut self.journal,
+            &mut self.newest,
+            top,
+            place,
+            size,
+        )?;
         replace(&mut self.memory, place, &value.bytes);
         self.wrote = self.wrote || size > 0;
         Ok(())
@@ -361,4 +382,5 @@ mod actions;
 mod bases;
 mod copies;
 mod irrevocable;
+mod kept;
 mod refusals;

@@ -5,6 +5,7 @@ ghost use Rattle.itm_model.specs.Machine.{opened};
 
 use super::Plain;
 use crate::journal::{Mark, is_laid, lay};
+use crate::pieces::forget;
 use itm_types::{MAX_ARENA, Props};
 use std::alloc::{AllocError, Global};
 use user_actions::ActionMark;
@@ -33,6 +34,7 @@ impl Plain {
             actions: ActionMark::default(),
             wrote: false,
         });
+        forget(&self.journal, &mut self.newest, 0);
         self.journal.clear();
         self.logs.clear();
         self.arena = own;

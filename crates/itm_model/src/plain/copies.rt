@@ -8,7 +8,7 @@ ghost use Rattle.itm_model.specs.Places.{in_range};
 
 use super::Plain;
 use crate::bytes::{fill, move_within, range_at, replace};
-use crate::journal::keep;
+use crate::pieces::{innermost_at, keep_pieces};
 use itm_types::{CopyPair, Copying};
 use std::alloc::AllocError;
 
@@ -41,7 +41,15 @@ impl Plain {
         ensures none { size ≡ 0 → IsOk result }
         ensures err { OnErr result (self.new ≡ self.old) }
     {
-        keep(&self.memory, &mut self.journal, to, size)?;
+        let top = innermost_at(&self.marks);
+        keep_pieces(
+            &self.memory,
+            &mut self.journal,
+            &mut self.newest,
+            top,
+            to,
+            size,
+        )?;
         replace(&mut self.memory, to, range_at(&self.arena, from, size));
         self.wrote = self.wrote || size > 0;
         Ok(())
@@ -66,7 +74,15 @@ impl Plain {
         ensures none { size ≡ 0 → IsOk result }
         ensures err { OnErr result (self.new ≡ self.old) }
     {
-        keep(&self.memory, &mut self.journal, to, size)?;
+        let top = innermost_at(&self.marks);
+        keep_pieces(
+            &self.memory,
+            &mut self.journal,
+            &mut self.newest,
+            top,
+            to,
+            size,
+        )?;
         move_within(&mut self.memory, to, from, size);
         self.wrote = self.wrote || size > 0;
         Ok(())
@@ -80,7 +96,15 @@ impl Plain {
         ensures none { size ≡ 0 → IsOk result }
         ensures err { OnErr result (self.new ≡ self.old) }
     {
-        keep(&self.memory, &mut self.journal, to, size)?;
+        let top = innermost_at(&self.marks);
+        keep_pieces(
+            &self.memory,
+            &mut self.journal,
+            &mut self.newest,
+            top,
+            to,
+            size,
+        )?;
         fill(&mut self.memory, to, byte, size);
         self.wrote = self.wrote || size > 0;
         Ok(())

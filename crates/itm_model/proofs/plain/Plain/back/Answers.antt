@@ -1,10 +1,14 @@
-use Rattle.std.proofs.Common.{◌≡◌, List, [], ◌∷◌, ◌++◌, length, reverse, subst, ap, sym, ◌∙◌}
+use Rattle.std.proofs.Common.{◌≡◌, List, [], ◌∷◌, ◌++◌, length, take, reverse, subst, ap, sym, ◌∙◌, arith}
+use Rattle.std.proofs.lemmas.List.{length-take-le, reverse-append}
 use Rattle.user_actions.specs.Actions.{ActionList}
+use Rattle.itm_model.specs.declared.journal.Old.{Old}
 use Rattle.itm_model.specs.declared.journal.Mark.{Mark}
+use Rattle.itm_model.specs.Pieces.{AreAmong, AreNewest, AreOnce}
 use Rattle.itm_model.specs.Undoable.{Undoable}
 use Rattle.itm_model.specs.Machine.{back}
 use Rattle.itm_model.specs.Undoing.{AreUnder}
-use Rattle.itm_model.proofs.OpenBlocks.{under_last, back_is, back_nothing, fewer_blocks, state_of}
+use Rattle.itm_model.proofs.Overwrites.{in_table, is_cut}
+use Rattle.itm_model.proofs.OpenBlocks.{AreUnder-more, under_last, back_is, back_nothing, fewer_blocks, state_of}
 use Rattle.itm_model.proofs.JournalRollbacks.{AreWithin-drop}
 use Rattle.itm_model.proofs.plain.Plain.back.Goals as goal
 
@@ -32,3 +36,32 @@ returns-in-Some-clause-fewer c = λ revocable.
     let p = c.self.inside in
     fewer_blocks p.irrevocable p.journal.items c.unwind.new.journal.items p.memory.items c.unwind.new.memory.items p.arena.items c.unwind-in-Some.new.memory.items p.logs.items c.unwind-in-Some.new.journal.items
     p.marks.items c.pop.new.self.items c.in-Some.mark p.actions.actions p.wrote _ (ap (λ (u : Undoable). u.state) c.self.view_is) c.in-Some.ensures.items
+
+pub forget-requires-clause-among : goal.forget-requires-clause-among
+forget-requires-clause-among c =
+    let p = c.self.inside in
+    subst (AreAmong (length p.newest.items)) (sym c.deref.ensures.value) (in_table (length p.memory.items) p.journal.items p.newest.items c.self.invariant.indexed)
+
+pub invariant_of-self : goal.invariant_of-self
+invariant_of-self c =
+    let p = c.self.inside in
+    let mark = c.in-Some.mark in
+    let rest = c.pop.new.self.items in
+    let j' = c.unwind.new.journal.items in
+    let os' = c.unwind-in-Some.new.journal.items in
+    let e : p.marks.items ≡ rest ++ mark ∷ [] = c.in-Some.ensures.items in
+    let under = under_last (length p.journal.items) (length p.logs.items) rest mark (subst (λ (t : List Mark). AreUnder (length p.journal.items) (length p.logs.items) (reverse t)) e c.self.invariant.under) in
+    let once : AreOnce p.journal.items (mark ∷ reverse rest) = subst (AreOnce p.journal.items) (reverse-append rest (mark ∷ [])) (subst (λ (t : List Mark). AreOnce p.journal.items (reverse t)) e c.self.invariant.once) in
+    let long : length j' ≡ mark.at = ap (length {A = Old}) c.unwind.ensures.rest ∙ length-take-le mark.at p.journal.items under.0 in
+    let high : length os' ≡ mark.logs = ap (length {A = Old}) c.unwind-in-Some.ensures.rest ∙ length-take-le mark.logs p.logs.items under.1 in
+    let table : AreNewest (take mark.at p.journal.items) c.forget.new.newest.items = subst (λ (t : List Old). AreNewest (take mark.at t) c.forget.new.newest.items) c.deref.ensures.value c.forget.ensures.newest in
+    record {
+      within = c.unwind.ensures.within;
+      logged = c.unwind-in-Some.ensures.within;
+      under = AreUnder-more mark.at (length j') mark.logs (length os') (reverse rest) (omega (arith, long)) (omega (arith, high)) under.2;
+      indexed = is_cut mark.at p.journal.items p.newest.items p.memory.items j' c.forget.new.newest.items c.unwind.new.memory.items c.self.invariant.within c.self.invariant.indexed c.unwind.ensures.memory c.unwind.ensures.rest table c.forget.ensures.count;
+      once = subst (λ (t : List Old). AreOnce t (reverse rest)) (sym c.unwind.ensures.rest) once.1;
+    }
+
+pub returns-in-Some-clause-before : goal.returns-in-Some-clause-before
+returns-in-Some-clause-before c = c.unwind.ensures.restores 0 (omega arith) ∙ ap (λ (u : Undoable). u.before) c.self.view_is

@@ -12,6 +12,8 @@ invariant_of-self-2 c =
       within = c.self.invariant.within;
       logged = subst (λ (t : List ℕ). AreWithin (length t) c.keep.new.logs.items) c.deref.ensures.value c.in_ok-keep.ensures.within;
       under = AreUnder-more (length p.journal.items) (length p.journal.items) (length p.logs.items) (length c.keep.new.logs.items) (reverse p.marks.items) (omega arith) c.in_ok-keep.ensures.longer c.self.invariant.under;
+      indexed = c.self.invariant.indexed;
+      once = c.self.invariant.once;
     }
 
 pub returns-clause-ok : goal.returns-clause-ok

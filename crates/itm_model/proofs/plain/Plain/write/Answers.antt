@@ -1,27 +1,26 @@
-use Rattle.std.proofs.Common.{◌≡◌, ◌≤◌, ◌+◌, ◌||◌, ℕ, nat_lt, List, length, subst, ap, ◌∙◌, rules}
+use Rattle.std.proofs.Common.{◌≡◌, ◌≤◌, ◌+◌, ◌||◌, nat_lt, length, ap, ◌∙◌, rules}
 use Rattle.itm_types.specs.Slices.{with_slice}
 use Rattle.itm_model.specs.Undoable.{Undoable}
 use Rattle.itm_model.specs.Machine.{written}
-use Rattle.itm_model.specs.Undoing.{AreWithin, Logged}
 use Rattle.itm_model.proofs.Overwrites.{IsWritten, is_written}
 use Rattle.itm_model.proofs.plain.Plain.write.Goals as goal
 use Rattle.itm_model.proofs.plain.Plain.write.Goals.{then-self, else-self}
 
-done : (c : goal.After-self-1) → IsWritten c.self.inside.journal.items c.self.inside.memory.items c.self.inside.arena.items c.self.inside.logs.items c.self.inside.marks.items c.self.inside.actions.actions c.self.inside.wrote c.self.inside.irrevocable c.args.place c.args.value.now.bytes.items c.keep.new.logs.items c.replace.new.bytes.items c.if-self.self
+done : (c : goal.After-self-1) → IsWritten c.self.inside.journal.items c.self.inside.memory.items c.self.inside.arena.items c.self.inside.logs.items c.self.inside.marks.items c.self.inside.actions.actions c.self.inside.wrote c.self.inside.irrevocable c.args.place c.args.value.now.bytes.items c.keep_pieces.new.journal.items c.keep_pieces.new.newest.items c.replace.new.bytes.items c.if-self.self
 done c =
     let p = c.self.inside in
     let m = p.memory.items in
     let j = p.journal.items in
-    let j' = c.keep.new.logs.items in
+    let j' = c.keep_pieces.new.journal.items in
     let new = c.args.value.now.bytes.items in
     let len : c.len-size.result ≡ length new = c.len-size.ensures.value in
     let fits : c.args.place + length new ≤ length m = search (rules, len) in
-    let kept : Logged m c.args.place (length new) j j' = subst (λ (t : List ℕ). Logged t c.args.place (length new) j j') c.deref.ensures.value (subst (λ (n : ℕ). Logged c.deref.result.now c.args.place n j j') len c.in_ok-keep.ensures.ok) in
-    let within : AreWithin (length m) j' = subst (λ (t : List ℕ). AreWithin (length t) j') c.deref.ensures.value c.in_ok-keep.ensures.within in
+    let kept = c.in_ok-keep_pieces.ensures in
     let wrote : c.if-self.self ≡ (p.wrote || nat_lt 0 (length new)) =
     elim c.if-self.branch [ then-self w ↦ search (rules, len) | else-self w ↦ search (rules, len) ] in
-    is_written j m p.arena.items p.logs.items p.marks.items p.actions.actions p.wrote p.irrevocable c.args.place new j' c.replace.new.bytes.items c.if-self.self
-    c.self.invariant fits kept c.in_ok-keep.ensures.longer within (c.replace.ensures ∙ ap (with_slice m c.args.place) c.deref-2.ensures.0) wrote
+    is_written j p.newest.items m p.arena.items p.logs.items p.marks.items p.actions.actions p.wrote p.irrevocable c.args.place new j' c.keep_pieces.new.newest.items c.replace.new.bytes.items c.if-self.self
+    c.innermost_at-top.result c.len-size.result c.deref.result.now c.deref-2.result.now c.deref.ensures.value c.deref-2.ensures.value c.innermost_at-top.ensures len
+    c.self.invariant fits kept.adds kept.same kept.covered kept.indexed (c.replace.ensures ∙ ap (with_slice m c.args.place) c.deref-3.ensures.0) wrote
 
 pub invariant_of-self-2 : goal.invariant_of-self-2
 invariant_of-self-2 c = (done c).sound
