@@ -309,6 +309,7 @@ fi
 . "$root/tests/histories.sh"
 . "$root/tests/scripts.sh"
 . "$root/tests/threads.sh"
+. "$root/tests/streams.sh"
 
 # count NAME WORD..: runs these words, whose last line counts what passed and what failed
 count() {

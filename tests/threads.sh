@@ -188,3 +188,8 @@ want_line 'itmrun: writing failed'
 "$program" threads "$root/examples/counter.itm" >&- 2>"$work/errors"
 status=$?
 check 'closed output of threads' 5
+if [ -w /dev/full ]; then
+    "$program" threads "$root/examples/counter.itm" >/dev/full 2>"$work/errors"
+    status=$?
+    check 'full output of threads' 5
+fi

@@ -1,7 +1,6 @@
 """Texts through each command with each read and each write failing in turn, and with one byte moved by each.
 
-After a read that failed nothing is written, and after a write that failed a beginning of the text. It may be the whole text
-where only one write fails: the program's buffer goes once more to the output as the program ends.
+After a read that failed nothing is written, and after a write that failed a beginning of the text, and not all of it.
 """
 
 import collections
@@ -20,7 +19,7 @@ def failing(setup, command, text, ample, **how):
         expect(answer == (b"", *READING), command, "read", number, "failed: the answer is", answer)
         counts["a read failed"] += 1
     for number, (output, *rest) in each(setup, command, text, "REFUSE_WRITE", **how):
-        begins = ample is None or ample[0].startswith(output)
+        begins = ample is None or ample[0].startswith(output) and output != ample[0]
         expect(begins and tuple(rest) == WRITING, command, "write", number, "failed: the answer is", output, *rest)
         counts["a write failed"] += 1
     for number, (output, errors, status) in each(setup, command, text, "REFUSE_ERROR", **how):

@@ -1,7 +1,8 @@
-//! The commands, whose readers and writers fail in turn.
+//! The commands, whose readers and writers fail in turn; and what of a run is done as its history comes to the writer.
 
 mod asm;
 mod check;
+mod play;
 mod reads;
 mod sched;
 mod stream;

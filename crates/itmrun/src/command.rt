@@ -4,7 +4,7 @@ use clap::error::ErrorKind;
 use clap::{Arg, ArgAction, ArgMatches, Command};
 use run_commands::{sched, threads};
 use std::alloc::{AllocError, Global};
-use std::io::{BufWriter, Read, Write};
+use std::io::{Read, Write};
 use std::rt::{Env, Files};
 use std::sync::Wait;
 use std::thread::Threads;
@@ -106,14 +106,13 @@ fn do_task<T: Print + AllocGlobal + Threads + Wait, R: Read, E: Write>(
     reader: &mut R,
     errors: &mut E,
 ) -> u8 {
-    match BufWriter::new(rt.alloc(), io::writer(rt)) {
-        Ok(mut writer) => match task {
-            Task::Asm => asm(rt.alloc(), reader, &mut writer, errors),
-            Task::Sched => sched(rt.alloc(), reader, &mut writer, errors),
-            Task::Threads => threads(rt, rt.alloc(), reader, &mut writer, errors),
-            Task::Check => check(rt.alloc(), reader, &mut writer, errors),
-        },
-        Err(_) => say(errors, b"itmrun: no memory\n", 4),
+    // the commands write in pages, and a reader of a pipe is to have each attempt at once: so nothing is held back here
+    let mut writer = io::writer(rt);
+    match task {
+        Task::Asm => asm(rt.alloc(), reader, &mut writer, errors),
+        Task::Sched => sched(rt.alloc(), reader, &mut writer, errors),
+        Task::Threads => threads(rt, rt.alloc(), reader, &mut writer, errors),
+        Task::Check => check(rt.alloc(), reader, &mut writer, errors),
     }
 }
 
