@@ -3,7 +3,7 @@
 # Outside the gate; needs python3.
 #
 # - `asm`: scripts of 8 and 16 million bytes, nearly the largest ones, through `itmrun asm`.
-# - `sched`: scripts of 32,000 and 64,000 instructions, nearly the longest ones, through `itmrun sched`.
+# - `sched` and `threads`: scripts of 32,000 and 64,000 instructions, nearly the longest ones, through these commands.
 # - `check`: histories of 8 and 16 million bytes through `itmrun check`.
 # - `works`: histories whose lines touch many bytes each, of 256,000 and 512,000 bytes, through `itmrun check`.
 #

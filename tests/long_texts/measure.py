@@ -20,6 +20,7 @@ Part = collections.namedtuple("Part", "command shapes sizes most")
 PARTS = {
     "asm": Part("asm", scripts.TEXTS, (8_000_000, 16_000_000), 20),
     "sched": Part("sched", scripts.CODES, (32_000, 64_000), 200),
+    "threads": Part("threads", scripts.CODES, (32_000, 64_000), 200),
     "check": Part("check", histories.TEXTS, (8_000_000, 16_000_000), 20),
     "works": Part("check", histories.WORKS, (256_000, 512_000), 20),
 }
@@ -97,7 +98,7 @@ def main(program, *names):
                 passed, failed = passed + (not fault), failed + bool(fault)
                 status, seconds, kilobytes = costs[1]
                 told = f"{sizes[1]:9}{status:4}{seconds:8.3f} s {ratio_of(costs):6.2f}{kilobytes:9} kB {bytes_each:8.1f}"
-                print(f"{name:6}{shape.name:50}{told}{'  failed: ' if fault else ''}{fault or ''}", flush=True)
+                print(f"{name:8}{shape.name:50}{told}{'  failed: ' if fault else ''}{fault or ''}", flush=True)
     print(f"{passed} passed, {failed} failed")
     return 1 if failed else 0
 

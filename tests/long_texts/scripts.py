@@ -61,13 +61,14 @@ def two(first, second, head=WIDE + BEGIN, tail=COMMIT):
 
 NEXT = b"add r2 r2 r3\nand r2 r2 r5\n"
 WRITES, FILL = b"_ITM_WU8 r2 r1\n" + NEXT, b"_ITM_memsetW 0 1 65536\n"
+MANY = b".patience 1000\n.retries 10000\n" + WIDE.replace(b"thread", b"thread 32")
 UNDO, DONE = b"_ITM_addUserUndoAction 1 2\n", b"_ITM_addUserCommitAction 1 _ITM_noTransactionId 2\n"
 
 # Each begin of a block in a block looks for the end of the outermost one, for its room: so these codes cost the square of
 # their length.
 SQUARE = 6
 
-# Codes up to the longest one, under `sched`. The code of several threads stands once, and a log keeps its bytes each time.
+# Codes up to the longest one, under `sched` and `threads`. The code of several threads stands once, and a log keeps its bytes each time.
 CODES = [
     Shape("blocks that count", code(BEGIN + b"_ITM_RU8 r2 0\nadd r2 r2 r1\n_ITM_WU8 0 r2\n" + COMMIT, WIDE, b"")),
     Shape("empty blocks", code(BEGIN + COMMIT, WIDE, b"")),
@@ -89,7 +90,7 @@ CODES = [
     Shape("choices", code(125 * b"ifnz r0\n" + 125 * b"endif\n")),
     Shape("blocks that do not begin", code(BEGIN.replace(b"-", b"pr_hasNoIrrevocable+pr_doesGoIrrevocable") + COMMIT, WIDE, b"")),
     Shape("calls that are passed over", code(1000 * b"_ITM_RU8 r2 0\n", WIDE + BEGIN + ABORT, COMMIT)),
-    Shape("many threads", lambda count: code(BEGIN + WRITES + COMMIT, WIDE.replace(b"thread", b"thread 32"), b"")(count // 8), most=2000),
+    Shape("many threads", lambda count: code(BEGIN + WRITES + COMMIT, MANY, b"")(count // 8), most=2000),
     Shape("fills", lambda count: code(FILL)(count // 64)),
     Shape("fills in blocks", lambda count: code(BEGIN + FILL + COMMIT, WIDE, b"")(count // 64)),
     Shape("moves", lambda count: code(b"_ITM_memmoveRtWt 1 0 65535\n")(count // 64)),
