@@ -12,7 +12,8 @@
 #
 # All sweeps, or those that are named; what each answer has to be is said in tests/sweeps/. Something is refused by a
 # library before the C library's (tests/sweeps/refuse.c). JOBS=N takes so many scripts at a time, as many as there are
-# processors where it is not said. ITMRUN=PROGRAM takes another built program than this tree's. The last line is
+# processors where it is not said; one at a time all of them take a quarter of an hour, and `engines` some three minutes
+# more. ITMRUN=PROGRAM takes another built program than this tree's. The last line is
 # "N passed, M failed"; the exit status is 0 where none failed.
 
 root=$(CDPATH= cd -- "$(dirname -- "$0")/.." && pwd) || exit 1
