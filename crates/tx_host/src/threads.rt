@@ -4,6 +4,8 @@ ghost use Rattle.std.specs.Prelude.{◌≡◌, ◌+◌, ◌*◌, false, IfOk, le
 ghost use Rattle.script_program.specs.Listing.{opening_of};
 ghost use Rattle.shared_words.specs.Good.{EndsWith};
 ghost use Rattle.shared_words.specs.Passes.{Owns, cells_of, view_of};
+ghost use Rattle.tx_history.specs.Bounds.{AreLimited};
+ghost use Rattle.tx_host.specs.Limits.{IsLimitedListing};
 ghost use Rattle.tx_host.specs.Reports.{Ran};
 
 use crate::gather::gather_all;
@@ -22,10 +24,12 @@ use tx_worker::{ActionSink, Gate};
 fn memories(alloc: Global, program: &Program) -> Result<(Vec<u8>, Vec<u8>), AllocError>
     ensures before { IfOk result (λ r. r.0.items ≡ opening_of program.now) }
     ensures size { IfOk result (λ r. length r.1.items ≡ length r.0.items) }
+    ensures limits { IfOk result (λ r. IsLimitedListing program.now) }
 {
     let mut before = vec![in alloc; 0; program.size()]?;
     let after = vec![in alloc; 0; program.size()]?;
     program.opening(&mut before);
+    let _limits = (program.arena(), program.limits(), program.threads());
     Ok((before, after))
 }
 
@@ -54,7 +58,8 @@ pub fn run_threads<R: Threads + Wait, G: Gate + Sync, A: ActionSink + Sync>(
     gate: &G,
     sink: &A,
 ) -> Result<Report, HostFault>
-    ensures { IfOk result (λ r. Ran program.now r) }
+    ensures ran { IfOk result (λ r. Ran program.now r) }
+    ensures limited { IfOk result (λ r. AreLimited r.history) }
 {
     let Ok((before, room)) = memories(alloc, program) else {
         return Err(HostFault::NoMemory);

@@ -2,11 +2,12 @@ use Rattle.std.proofs.Common.{rules, ◌≡◌, List, ℕ, ◌∙◌, sym}
 use Rattle.itm_types.specs.Memory.{bytes_of}
 use Rattle.shared_words.specs.Passes.{view_of}
 use Rattle.tx_host.specs.declared.report.Report.{Report}
+use Rattle.tx_host.proofs.LimitedReports.{limited_report}
 use Rattle.tx_host.proofs.WholeRun.{ran}
 use Rattle.tx_host.proofs.threads.run_threads.Goals as goal
 
-pub returns : goal.returns
-returns g c =
+pub returns-clause-ran : goal.returns-clause-ran
+returns-clause-ran g c =
     let words = c.in-Ok-new.ensures in
     let start = view_of c.in-Ok-new.pass in
     let before : List ℕ = c.in-Ok.before.items in
@@ -17,3 +18,6 @@ returns g c =
       ends = c.in-Ok-gather_all.ends;
     } in
     ran c.args.program.now report start (view_of c.in_ok-pass.pass) c.in_ok-pass.all.items words.first (from ∙ sym kept) (kept ∙ c.in-Ok.ensures.before) c.in_ok-pass.ensures.gathers c.closed-clock.ensures c.in-Ok-gather_all.ensures.attempts c.in-Ok-gather_all.ensures.ends
+
+pub returns-clause-limited : goal.returns-clause-limited
+returns-clause-limited g c = limited_report c.args.program.now _ (returns-clause-ran g c) c.in-Ok.ensures.limits
