@@ -3,8 +3,10 @@ use Rattle.std.proofs.Common.{inl, inr, ◌≡◌, ℕ, ◌≤◌, List, [], ◌
 use Rattle.std.proofs.KnownBytes.{Appends-kept, Appends-nil, Appends-trans}
 use Rattle.std.proofs.lemmas.Grind.{common_steps, flat_map-append}
 use Rattle.std.proofs.lemmas.List.{take-append-drop}
+use Rattle.std.proofs.lemmas.List.Elements.{All-append, All-nil}
+use Rattle.hex.specs.Hex.{IsBytes}
 use Rattle.std.specs.Io.KnownBytes.{Appends}
-use Rattle.std.specs.Prelude.{OnErr}
+use Rattle.std.specs.Prelude.{All, OnErr, OnOk}
 use Rattle.std.specs.Result.{result_err}
 use Rattle.std.specs.declared.io.Error.{Error}
 use Rattle.norec_world.specs.declared.actor.Actor.{Actor}
@@ -15,12 +17,14 @@ use Rattle.norec_world.specs.WorldEvents.{Goes}
 use Rattle.norec_world.proofs.WorldEvents.{told_event}
 use Rattle.norec_world.proofs.Worlds.{waits_there}
 use Rattle.tx_attempts.specs.declared.attempt.Attempt.{Attempt}
+use Rattle.tx_history.specs.Bounds.{AttemptFits, HistoryFits, IsWord}
 use Rattle.tx_history.specs.Histories.{attempt_lines, last_line, history_text}
 use Rattle.tx_history.specs.Streams.{Adds, Leaves, Standing, lines_so_far}
 use Rattle.tx_history.proofs.Streams.{adds_as, adds_failed, adds_nothing, adds_then}
 use Rattle.tx_player.specs.Rules.{Rules}
 use Rattle.script_program.specs.declared.schedule.Item.{Item}
-use Rattle.run_commands.specs.Items.{ItemsBegin, ItemsLead, history_of}
+use Rattle.run_commands.specs.Items.{ItemsBegin, ItemsLead}
+use Rattle.world_histories.specs.Told.{told_of}
 use Rattle.run_commands.proofs.Items.{items_unbegun, items_whole}
 use Rattle.run_commands.specs.Plays.{AddsEnded, Begins, Fails, Front, IsCutOff}
 
@@ -28,6 +32,24 @@ use Rattle.run_commands.specs.Plays.{AddsEnded, Begins, Fails, Front, IsCutOff}
 pub on_err : {T E F : Type 0} (r : Result T E) → F → OnErr r F
 on_err (Ok x) h = record {}
 on_err (Err e) h = h
+
+-- what is so where nothing failed, of a call that leaves this fault
+pub on_ok : {T F : Type 0} (r : Result T Error) (g : Option Error) → g ≡ result_err r → OnOk r F → g ≡ None → F
+on_ok (Ok x) g told h good = h
+on_ok (Err e) g told h good = absurd (some_is_none e (sym told ∙ good))
+  where
+    some_is_none : (e : Error) → Some e ≡ None → ⊥
+    some_is_none e f = cc
+
+-- and the other way round
+pub if_ok : {T F : Type 0} (r : Result T Error) (g : Option Error) → g ≡ result_err r → (g ≡ None → F) → OnOk r F
+if_ok (Ok x) g told h = h told
+if_ok (Err e) g told h = record {}
+
+-- what is so in any case
+pub on_any : {T E F : Type 0} (r : Result T E) → F → OnOk r F
+on_any (Ok x) h = h
+on_any (Err e) h = record {}
 
 -- ## What an event ends
 
@@ -60,14 +82,16 @@ dropped old new n long (more, e) = grind (arith, common_steps)
 module _ {P : Type 0} (rules : Rules P) where
   -- an event, and the lines of what it ended
   pub event_adds : (old new : World P) (thread n : ℕ) (s t : Standing) → IsSome (waits_at old thread) → Goes rules thread old (told (ending_at new thread)) new → n ≡ length old.attempts.ended
-      → Adds s t (flat_map attempt_lines (drop n new.attempts.ended)) → AddsEnded old new s t
-  event_adds old new thread n s t waits g long p =
+      → Adds s t (flat_map attempt_lines (drop n new.attempts.ended)) → (t.fault ≡ None → All AttemptFits (drop n new.attempts.ended)) → AddsEnded old new s t
+  event_adds old new thread n s t waits g long p fits =
       let grown = event_grown rules old new thread waits g in
+      let same = dropped old.attempts.ended new.attempts.ended n long grown in
       record {
         base = g.opening.base;
         more = grown.0;
         ended = grown.1;
-        adds = adds_as s t _ _ p (ap (λ (l : List Attempt). flat_map attempt_lines l) (dropped old.attempts.ended new.attempts.ended n long grown));
+        adds = adds_as s t _ _ p (ap (λ (l : List Attempt). flat_map attempt_lines l) same);
+        fits = λ good. subst (All AttemptFits) same (fits good);
       }
 
   -- how many had ended before is no more than how many have
@@ -79,11 +103,22 @@ module _ {P : Type 0} (rules : Rules P) where
       within : (xs ys : List Attempt) (k : ℕ) → k ≡ length xs → Grown xs ys → k ≤ length ys
       within xs ys k e (more, f) = grind (arith, common_steps)
 
+-- ## What has not failed
+
+leaves_fresh : (f : Option Error) (u v : Option (List ℕ)) (x : List ℕ) → Leaves f None u v x → f ≡ None
+leaves_fresh None u v x p = refl
+leaves_fresh (Some e) u v x p = absurd p
+
+-- what has not failed had not failed before
+adds_fresh : (s t : Standing) (x : List ℕ) → t.fault ≡ None → Adds s t x → s.fault ≡ None
+unfolding Adds
+adds_fresh s t x good p = leaves_fresh s.fault s.written t.written x (subst (λ (g : Option Error). Leaves s.fault g s.written t.written x) good p)
+
 -- ## One world after the other
 
 module _ {P : Type 0} where
   pub adds_same : (w : World P) (s : Standing) → AddsEnded w w s s
-  adds_same w s = record { base = refl; more = []; ended = sym (append-nil w.attempts.ended); adds = adds_nothing s }
+  adds_same w s = record { base = refl; more = []; ended = sym (append-nil w.attempts.ended); adds = adds_nothing s; fits = λ good. All-nil AttemptFits }
 
   pub adds_both : (a b c : World P) (s t u : Standing) → AddsEnded a b s t → AddsEnded b c t u → AddsEnded a c s u
   adds_both a b c s t u f g = record {
@@ -91,6 +126,7 @@ module _ {P : Type 0} where
     more = f.more ++ g.more;
     ended = g.ended ∙ ap (λ (l : List Attempt). l ++ g.more) f.ended ∙ append_assoc a.attempts.ended f.more g.more;
     adds = adds_as s u _ _ (adds_then s t u _ _ f.adds g.adds) (sym (flat_map-append attempt_lines f.more g.more));
+    fits = λ good. All-append AttemptFits f.more g.more (f.fits (adds_fresh t u _ good g.adds)) (g.fits good);
   }
 
 -- ## Where a write failed
@@ -157,22 +193,32 @@ module _ {P : Type 0} where
       adds_as s u _ _ (adds_then s t u _ _ p f.adds)
       (sym (so_far_more a.base a.attempts.ended f.more) ∙ (λ i. lines_so_far (sym f.base i) (sym f.ended i)))
 
-  text_of : (w : World P) → history_text (history_of w) ≡ lines_so_far w.base w.attempts.ended ++ (flat_map attempt_lines w.attempts.active ++ last_line w.cells.clock (history_of w).bytes)
+  text_of : (w : World P) → history_text (told_of w) ≡ lines_so_far w.base w.attempts.ended ++ (flat_map attempt_lines w.attempts.active ++ last_line w.cells.clock (told_of w).bytes)
   unfolding history_text
   text_of w =
-      ap (λ (l : List ℕ). l ++ last_line w.cells.clock (history_of w).bytes) (so_far_more w.base w.attempts.ended w.attempts.active)
-      ∙ append_assoc (lines_so_far w.base w.attempts.ended) (flat_map attempt_lines w.attempts.active) (last_line w.cells.clock (history_of w).bytes)
+      ap (λ (l : List ℕ). l ++ last_line w.cells.clock (told_of w).bytes) (so_far_more w.base w.attempts.ended w.attempts.active)
+      ∙ append_assoc (lines_so_far w.base w.attempts.ended) (flat_map attempt_lines w.attempts.active) (last_line w.cells.clock (told_of w).bytes)
 
   pub adds_history : (w : World P) (s t u : Standing) → Adds s t (lines_so_far w.base w.attempts.ended)
-      → Adds t u (flat_map attempt_lines w.attempts.active ++ last_line w.cells.clock (history_of w).bytes) → Adds s u (history_text (history_of w))
+      → Adds t u (flat_map attempt_lines w.attempts.active ++ last_line w.cells.clock (told_of w).bytes) → Adds s u (history_text (told_of w))
   adds_history w s t u p q = adds_as s u _ _ (adds_then s t u _ _ p q) (sym (text_of w))
 
   -- a write failed before all of it was written
-  pub adds_cut : (w : World P) (s t : Standing) (e : Error) → Adds s t (lines_so_far w.base w.attempts.ended) → t.fault ≡ Some e → Adds s t (history_text (history_of w))
+  pub adds_cut : (w : World P) (s t : Standing) (e : Error) → Adds s t (lines_so_far w.base w.attempts.ended) → t.fault ≡ Some e → Adds s t (history_text (told_of w))
   adds_cut w s t e p failed = adds_as s t _ _ (adds_failed s t e _ _ p failed) (sym (text_of w))
 
 take_all : (xs : List ℕ) → take (length xs) xs ≡ xs
 take_all xs = grind (arith, common_steps)
+
+-- the numbers of a whole history
+pub history_fits : {P : Type 0} (a b : World P) (s t : Standing) → IsBytes a.base × All AttemptFits a.attempts.ended → AddsEnded a b s t → t.fault ≡ None
+    → All AttemptFits b.attempts.active × IsWord b.cells.clock × IsBytes (told_of b).bytes → HistoryFits (told_of b)
+history_fits a b s t first f good last = record {
+  memory = subst IsBytes (sym f.base) first.0;
+  attempts = All-append AttemptFits b.attempts.ended b.attempts.active (subst (All AttemptFits) (sym f.ended) (All-append AttemptFits a.attempts.ended f.more first.1 (f.fits good))) last.0;
+  clock = last.1;
+  bytes = last.2;
+}
 
 -- ## The lines of some attempts
 
@@ -184,15 +230,6 @@ pub attempts_stopped : (a b : Standing) (all : List Attempt) (i : ℕ) (e : Erro
 attempts_stopped a b all i e p failed = adds_as a b _ _ (adds_failed a b e _ _ p failed) (attempts_taken all i)
 
 -- ## Where a write of the whole failed
-
-leaves_fresh : (f : Option Error) (u v : Option (List ℕ)) (x : List ℕ) → Leaves f None u v x → f ≡ None
-leaves_fresh None u v x p = refl
-leaves_fresh (Some e) u v x p = absurd p
-
--- what has not failed had not failed before
-adds_fresh : (s t : Standing) (x : List ℕ) → t.fault ≡ None → Adds s t x → s.fault ≡ None
-unfolding Adds
-adds_fresh s t x good p = leaves_fresh s.fault s.written t.written x (subst (λ (g : Option Error). Leaves s.fault g s.written t.written x) good p)
 
 leaves_front : (f : Option Error) (e : Error) (u v : Option (List ℕ)) (x : List ℕ) → Leaves f (Some e) u v x → Front u v x
 leaves_front None e u v x p = (p.0, p.2)
@@ -217,7 +254,7 @@ module _ {P : Type 0} (rules : Rules P) (items : List Item) (a c : World P) wher
   }
 
   -- after the last event
-  cut_last : (s t u : Standing) (e : Error) (y : List ℕ) → t.fault ≡ None → u.fault ≡ Some e → Adds s t (lines_so_far c.base c.attempts.ended) → Adds t u y → Adds s u (history_text (history_of c)) → c.base ≡ a.base → ItemsLead rules items a c → IsCutOff rules items a c s.written u.written
+  cut_last : (s t u : Standing) (e : Error) (y : List ℕ) → t.fault ≡ None → u.fault ≡ Some e → Adds s t (lines_so_far c.base c.attempts.ended) → Adds t u y → Adds s u (history_text (told_of c)) → c.base ≡ a.base → ItemsLead rules items a c → IsCutOff rules items a c s.written u.written
   cut_last s t u e y good failed p q whole base l = record {
     begun = items_whole rules a c items l;
     got = inr (l, adds_front s u e _ failed whole);
@@ -229,7 +266,7 @@ module _ {P : Type 0} (rules : Rules P) (items : List Item) (a c : World P) wher
     );
   }
 
-  pub stops_last : {A : Type 0} (s t u : Standing) (r : Result A Error) (y : List ℕ) → t.fault ≡ None → u.fault ≡ result_err r → Adds s t (lines_so_far c.base c.attempts.ended) → Adds t u y → Adds s u (history_text (history_of c)) → c.base ≡ a.base → ItemsLead rules items a c → OnErr r (IsCutOff rules items a c s.written u.written)
+  pub stops_last : {A : Type 0} (s t u : Standing) (r : Result A Error) (y : List ℕ) → t.fault ≡ None → u.fault ≡ result_err r → Adds s t (lines_so_far c.base c.attempts.ended) → Adds t u y → Adds s u (history_text (told_of c)) → c.base ≡ a.base → ItemsLead rules items a c → OnErr r (IsCutOff rules items a c s.written u.written)
   stops_last s t u (Ok x) y good told p q whole base l = record {}
   stops_last s t u (Err e) y good told p q whole base l = cut_last s t u e y good told p q whole base l
 
@@ -242,17 +279,17 @@ module _ {P : Type 0} (rules : Rules P) (items : List Item) (a c : World P) wher
   }
 
   -- all was written, and then it could not be handed on
-  pub cut_whole : (u v : Option (List ℕ)) → Appends u v (history_text (history_of c)) → c.base ≡ a.base → ItemsLead rules items a c → IsCutOff rules items a c u v
+  pub cut_whole : (u v : Option (List ℕ)) → Appends u v (history_text (told_of c)) → c.base ≡ a.base → ItemsLead rules items a c → IsCutOff rules items a c u v
   cut_whole u v p base l = record {
     begun = items_whole rules a c items l;
-    got = inr (l, (length (history_text (history_of c)), subst (Appends u v) (sym (take_all (history_text (history_of c)))) p));
+    got = inr (l, (length (history_text (told_of c)), subst (Appends u v) (sym (take_all (history_text (told_of c)))) p));
     told = inr (
       c,
       items_whole rules a c items l,
       inl refl,
       (
-        flat_map attempt_lines c.attempts.active ++ last_line c.cells.clock (history_of c).bytes,
-        subst (Appends u v) (text_of c ∙ ap (λ (b : List ℕ). lines_so_far b c.attempts.ended ++ (flat_map attempt_lines c.attempts.active ++ last_line c.cells.clock (history_of c).bytes)) base) p,
+        flat_map attempt_lines c.attempts.active ++ last_line c.cells.clock (told_of c).bytes,
+        subst (Appends u v) (text_of c ∙ ap (λ (b : List ℕ). lines_so_far b c.attempts.ended ++ (flat_map attempt_lines c.attempts.active ++ last_line c.cells.clock (told_of c).bytes)) base) p,
       ),
     );
   }

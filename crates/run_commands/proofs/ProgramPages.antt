@@ -1,8 +1,8 @@
 -- What is told of a program's world is what its one thread does alone.
-use Rattle.std.proofs.Common.{◌≡◌, inl, inr, ℕ, zero, suc, ◌+◌, ◌*◌, ◌/◌, ◌%◌, ◌<◌, ◌==◌, List, [], ◌∷◌, length, map, replicate, Option, None, Some, refl, sym, ap, subst, ◌∙◌, arith}
+use Rattle.std.proofs.Common.{◌≡◌, inl, inr, ℕ, zero, suc, ◌+◌, ◌*◌, ◌/◌, ◌%◌, ◌<◌, ◌≤◌, ◌==◌, List, [], ◌∷◌, length, map, replicate, Option, None, Some, refl, sym, ap, subst, ◌∙◌, arith}
 use Rattle.std.specs.Prelude.{slice_index_or}
 use Rattle.std.proofs.lemmas.List.{length-map}
-use Rattle.itm_types.specs.declared.limits.TheConstants.{MAX_OPEN_BLOCKS}
+use Rattle.itm_types.specs.declared.limits.TheConstants.{MAX_ACTORS, MAX_ARENA, MAX_OPEN_BLOCKS, MAX_RETRIES}
 use Rattle.tx_attempts.specs.declared.attempt.Attempt.{Attempt}
 use Rattle.tx_runs.specs.declared.ending.End.{End}
 use Rattle.tx_runs.specs.declared.ending.End.TheVariants.{Finished, GaveUp, NoMemory}
@@ -19,8 +19,16 @@ use Rattle.script_program.specs.Listing.{Listing, opening_of, threads_of}
 use Rattle.script_vm.specs.Threads.{Thread, opening, thread_rules}
 use Rattle.run_commands.specs.Scheduled.{Leaves, schedule_of, players_of}
 use Rattle.run_commands.specs.Pages.{first_thread, solo_of, page, IsOf, IsWorldOf}
-use Rattle.run_commands.specs.Items.{history_of}
+use Rattle.world_histories.specs.Told.{told_of}
+use Rattle.history_reader.proofs.LegalTexts.{legal_text}
+use Rattle.history_reader.specs.LegalTexts.{IsLegalText}
+use Rattle.tx_history.specs.Bounds.{HistoryFits, IsMemorySize}
+use Rattle.tx_history.specs.Histories.{history_text}
+use Rattle.tx_host.proofs.ScriptWidths.{script_widths}
+use Rattle.tx_host.specs.Limits.{IsLimitedListing}
 use Rattle.world_histories.proofs.LegalWorlds.{legal_world}
+use Rattle.world_histories.proofs.LimitedWorlds.{limited_world}
+use Rattle.world_histories.specs.Limits.{IsLimitedWorld}
 use Rattle.world_laws.specs.ShownAlone.{DoneBy}
 use Rattle.world_laws.proofs.LedAlone.{led_alone}
 use Rattle.script_vm.specs.ThreadLaws.{thread_laws}
@@ -44,6 +52,7 @@ record BeganAs (p : Listing) (w : World Thread) : Type 0 where
   pub base : w.base ≡ opening_of p
   pub arena : w.arena ≡ p.arena
   pub limit : w.max_commits ≡ p.limits.max_commits
+  pub retries : w.retries ≡ p.limits.retries
 
 began_as : (p : Listing) (w : World Thread) → Leaves p w → BeganAs p w
 began_as p w (first, begins, leads) =
@@ -53,7 +62,22 @@ began_as p w (first, begins, leads) =
       base = kept.opening.base ∙ begins.base;
       arena = kept.opening.arena ∙ begins.arena;
       limit = kept.opening.max_commits ∙ begins.limit;
+      retries = kept.opening.retries ∙ begins.retries;
     }
+
+-- a world of a program within the limits of a run is within them too
+limited_as : (p : Listing) (w : World Thread) → BeganAs p w → IsLimitedListing p → IsLimitedWorld w
+limited_as p w began limits = record {
+  memory = subst (λ (bytes : List ℕ). IsMemorySize (length bytes)) (sym began.base) limits.memory;
+  arena = subst (λ (n : ℕ). n ≤ MAX_ARENA) (sym began.arena) limits.arena;
+  retries = subst (λ (n : ℕ). n ≤ MAX_RETRIES) (sym began.retries) limits.retries;
+  actors = subst (λ (n : ℕ). n ≤ MAX_ACTORS) (sym (ap (λ (l : List Thread). length l) began.players ∙ length-map (threads_of p) opening)) limits.threads;
+}
+
+-- its history's text is read as a legal one
+pub read_as_legal : (p : Listing) (w : World Thread) → IsWorldOf p w → IsLimitedListing p → HistoryFits (told_of w) → IsLegalText (history_text (told_of w))
+read_as_legal p w is limits fits =
+    legal_text (told_of w) is.legal fits (limited_world thread_rules script_widths w is.opaque (limited_as p w (began_as p w is.leaves) limits))
 
 module _ (p : Listing) (w : World Thread) (began : BeganAs p w) (player : Thread) (player_is : player ≡ first_thread p) where
   -- what the player does alone is what the program's thread does
@@ -71,7 +95,7 @@ module _ (p : Listing) (w : World Thread) (began : BeganAs p w) (player : Thread
       (subst (λ (n : ℕ). IsSoFar thread_rules n 0 player w.base (replicate w.arena 0) commits memory outcome rows) began.limit s)))
 
   shows : (end : End) → solo_of p ≡ record { attempts = attempts_of w; memory = memory_of w; commits = w.cells.clock / 2; held = w.cells.clock % 2 == 1; ending = end }
-      → ((solo_of p).ending ≡ end) × (history_of w ≡ page p)
+      → ((solo_of p).ending ≡ end) × (told_of w ≡ page p)
   unfolding page
   shows end all = (
     ap (λ (s : Solo). s.ending) all,
@@ -83,7 +107,7 @@ module _ (p : Listing) (w : World Thread) (began : BeganAs p w) (player : Thread
     }),
   )
 
-  of_ending : (ending : Option End) → DoneBy thread_rules w player ending → IsOf p ending (history_of w)
+  of_ending : (ending : Option End) → DoneBy thread_rules w player ending → IsOf p ending (told_of w)
   of_ending None (memory, part, told) = (began.base, memory, so_far (w.cells.clock / 2) memory outcomes.Unfinished (attempts_of w) part, told)
   of_ending (Some Finished) all = shows Finished (sym alone_is ∙ all)
   of_ending (Some GaveUp) all = shows GaveUp (sym alone_is ∙ all)

@@ -7,6 +7,8 @@ use Rattle.script_fields.specs.declared.fault.AsmFault.{AsmFault}
 use Rattle.text_commands.specs.declared.failure.Failure.{Failure}
 use Rattle.text_commands.specs.declared.failure.Failure.TheVariants.{Writing}
 use Rattle.text_commands.specs.Answers.{Outputs}
+use Rattle.history_reader.proofs.LegalTexts.{legal_text}
+use Rattle.tx_history.specs.Bounds.{AreLimited, HistoryFits}
 use Rattle.tx_history.specs.Histories.{history_text}
 use Rattle.tx_host.specs.declared.report.HostFault.TheVariants.{Held, NoMemory, NoThread}
 use Rattle.tx_host.specs.declared.report.Report.{Report}
@@ -14,9 +16,9 @@ use Rattle.tx_host.specs.Reports.{Ran}
 use Rattle.tx_runs.specs.declared.ending.End.{End}
 use Rattle.run_commands.specs.Threading.{IsFailure, IsThreadedRun, threading}
 
-module _ (p : Listing) (r : Report) (o n : Option (List ℕ)) (ran : Ran p r) where
+module _ (p : Listing) (r : Report) (o n : Option (List ℕ)) (ran : Ran p r) (limited : AreLimited r.history) (fits : HistoryFits r.history) where
   run_of : (endings : ArrayVec (Option End)) → endings.items ≡ map Some r.ends.items → IsThreadedRun p endings (history_text r.history)
-  run_of endings stand = record { report = r; ran = ran; stand = stand; told = refl }
+  run_of endings stand = record { report = r; ran = ran; stand = stand; told = refl; read = legal_text r.history ran.legal fits limited }
 
   -- the history
   pub told : (endings : ArrayVec (Option End)) → endings.items ≡ map Some r.ends.items → Appends o n (history_text r.history) → Outputs threading (Ok endings) (Ok p) o n

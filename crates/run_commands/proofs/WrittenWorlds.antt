@@ -11,21 +11,24 @@ use Rattle.script_program.specs.Listing.{Listing, threads_of}
 use Rattle.script_vm.specs.Threads.{Thread, thread_rules}
 use Rattle.text_commands.specs.declared.failure.Failure.TheVariants.{Writing}
 use Rattle.text_commands.specs.Answers.{Outputs}
+use Rattle.tx_history.specs.Bounds.{HistoryFits}
 use Rattle.tx_history.specs.Histories.{history_text}
 use Rattle.tx_history.specs.Spelling.{Puts, Writes}
 use Rattle.run_commands.specs.Scheduled.{Begins, endings_of, schedule_of}
 use Rattle.run_commands.specs.Pages.{IsWorldOf}
-use Rattle.run_commands.specs.Items.{history_of}
+use Rattle.world_histories.specs.Told.{told_of}
 use Rattle.run_commands.specs.Plays.{IsCutOff}
+use Rattle.tx_host.specs.Limits.{IsLimitedListing}
+use Rattle.run_commands.proofs.ProgramPages.{read_as_legal}
 use Rattle.run_commands.specs.Running.{IsRun, running}
 
 module _ (p : Listing) (w : World Thread) (o n : Option (List ℕ)) (is : IsWorldOf p w) where
-  run_of : (endings : ArrayVec (Option End)) → endings.items ≡ endings_of (length (threads_of p)) w → IsRun p endings (history_text (history_of w))
-  run_of endings stand = record { world = w; of_program = is; stand = stand; told = refl }
+  run_of : HistoryFits (told_of w) → IsLimitedListing p → (endings : ArrayVec (Option End)) → endings.items ≡ endings_of (length (threads_of p)) w → IsRun p endings (history_text (told_of w))
+  run_of fits limits endings stand = record { world = w; of_program = is; stand = stand; told = refl; read = read_as_legal p w is limits fits }
 
   -- the history
-  pub told : (endings : ArrayVec (Option End)) → endings.items ≡ endings_of (length (threads_of p)) w → Appends o n (history_text (history_of w)) → Outputs running (Ok endings) (Ok p) o n
-  told endings stand grew = (p, history_text (history_of w), refl, run_of endings stand, grew)
+  pub told : HistoryFits (told_of w) → IsLimitedListing p → (endings : ArrayVec (Option End)) → endings.items ≡ endings_of (length (threads_of p)) w → Appends o n (history_text (told_of w)) → Outputs running (Ok endings) (Ok p) o n
+  told fits limits endings stand grew = (p, history_text (told_of w), refl, run_of fits limits endings stand, grew)
 
 -- where a write failed, a beginning of it
 pub cut_written : {X E : Type 0} (r : Result X E) (u v : Option (List ℕ)) (text : List ℕ) → Puts u v r text → Writes u v r text

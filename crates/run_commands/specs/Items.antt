@@ -1,16 +1,11 @@
 -- What the items of a schedule make of a world, whole or begun.
 use Rattle.std.specs.Prelude.{◌≡◌, ◌⊎◌, ℕ, ◌≤◌, List, [], ◌∷◌, replicate, IsSome, Result}
 use Rattle.norec_world.specs.declared.fault.WorldFault.{WorldFault}
-use Rattle.norec_world.specs.World.{World, attempts_of, ending_at, memory_of}
+use Rattle.norec_world.specs.World.{World, ending_at}
 use Rattle.norec_world.specs.WorldEvents.{Leads, Takes}
 use Rattle.script_program.specs.declared.schedule.Item.{Item}
 use Rattle.script_program.specs.declared.schedule.Item.TheVariants.{Take, Out}
-use Rattle.tx_history.specs.declared.history.History.{History}
 use Rattle.tx_player.specs.Rules.{Rules}
-
--- what is told of a world
-abbrev pub history_of : {P : Type 0} → World P → History
-history_of w = record { memory = w.base; attempts = attempts_of w; clock = w.cells.clock; bytes = memory_of w }
 
 module _ {P : Type 0} (rules : Rules P) where
   -- What an item asks for leads from the one world to the other: so many events of the thread, of which those after its end are passed over; or as many as lead to its end.

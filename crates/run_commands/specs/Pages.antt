@@ -14,7 +14,7 @@ use Rattle.script_program.specs.Listing.{Listing, opening_of, threads_of}
 use Rattle.script_vm.specs.Threads.{Thread, opening, thread_rules}
 use Rattle.tx_history.specs.declared.history.History.{History}
 use Rattle.tx_history.specs.Legal.{IsLegal}
-use Rattle.run_commands.specs.Items.{history_of}
+use Rattle.world_histories.specs.Told.{told_of}
 use Rattle.run_commands.specs.Scheduled.{Leaves}
 
 abbrev pub first_thread : Listing → Thread
@@ -48,5 +48,5 @@ pub record IsWorldOf (p : Listing) (w : World Thread) : Type 0 where
   pub commits : CommitsInOrder w
   pub opaque : AreOpaque thread_rules (observed w)
   pub tied : AreTied thread_rules w
-  pub legal : IsLegal (history_of w)
-  pub alone : length (threads_of p) ≡ 1 → IsOf p (ending_at w 0) (history_of w)
+  pub legal : IsLegal (told_of w)
+  pub alone : length (threads_of p) ≡ 1 → IsOf p (ending_at w 0) (told_of w)

@@ -2,6 +2,7 @@
 use Rattle.std.specs.Prelude.{◌≡◌, ℕ, List, length, Option}
 use Rattle.arrayvec.specs.ArrayVec.{ArrayVec}
 use Rattle.tx_runs.specs.declared.ending.End.{End}
+use Rattle.history_reader.specs.LegalTexts.{IsLegalText}
 use Rattle.norec_world.specs.Commits.{CommitsInOrder}
 use Rattle.norec_world.specs.Headline.{AreOpaque}
 use Rattle.norec_world.specs.Tied.{AreTied}
@@ -13,7 +14,7 @@ use Rattle.text_commands.specs.Answers.{Command}
 use Rattle.text_commands.specs.Lines.{script_line}
 use Rattle.tx_history.specs.Histories.{history_text}
 use Rattle.run_commands.specs.Endings.{ending_lines, endings_status}
-use Rattle.run_commands.specs.Items.{history_of}
+use Rattle.world_histories.specs.Told.{told_of}
 use Rattle.run_commands.specs.Pages.{IsWorldOf}
 use Rattle.run_commands.specs.Plays.{IsCutOff}
 use Rattle.run_commands.specs.Scheduled.{Begins, endings_of, schedule_of}
@@ -23,7 +24,8 @@ pub record IsRun (p : Listing) (endings : ArrayVec (Option End)) (text : List �
   pub world : World Thread
   pub of_program : IsWorldOf p world
   pub stand : endings.items ≡ endings_of (length (threads_of p)) world
-  pub told : text ≡ history_text (history_of world)
+  pub told : text ≡ history_text (told_of world)
+  pub read : IsLegalText text  -- so who checks it finds it legal
 
 -- A write failed, or the handing on of what was written: some first events of the program's schedule were taken, or all, and a beginning of the history was written, with all attempts that had ended before the last event.
 pub record IsCutRun (p : Listing) (old new : Option (List ℕ)) : Type 0 where

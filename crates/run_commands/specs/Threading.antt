@@ -1,6 +1,7 @@
 -- The command that runs scripts on threads of their own.
 use Rattle.std.specs.Prelude.{◌≡◌, ℕ, List, map, Option, Some}
 use Rattle.arrayvec.specs.ArrayVec.{ArrayVec}
+use Rattle.history_reader.specs.LegalTexts.{IsLegalText}
 use Rattle.script_fields.specs.declared.fault.AsmFault.{AsmFault}
 use Rattle.script_program.specs.Listing.{Listing}
 use Rattle.text_commands.specs.Answers.{Command, HasFront}
@@ -21,6 +22,7 @@ pub record IsThreadedRun (p : Listing) (endings : ArrayVec (Option End)) (text :
   pub ran : Ran p report
   pub stand : endings.items ≡ map Some report.ends.items
   pub told : text ≡ history_text report.history
+  pub read : IsLegalText text  -- so who checks it finds it legal
 
 -- of a script the history of its program's run on threads is written
 abbrev pub threading : Command Listing AsmFault (ArrayVec (Option End))

@@ -8,12 +8,15 @@ ghost use Rattle.norec_world.specs.Commits.{CommitsInOrder};
 ghost use Rattle.norec_world.specs.Headline.{AreOpaque};
 ghost use Rattle.norec_world.specs.Tied.{AreTied};
 ghost use Rattle.script_vm.specs.Threads.{thread_rules};
+ghost use Rattle.tx_history.specs.Bounds.{HistoryFits};
 ghost use Rattle.tx_history.specs.Histories.{history_text};
+ghost use Rattle.tx_host.specs.Limits.{IsLimitedListing};
 ghost use Rattle.text_commands.specs.declared.failure.Failure.TheVariants.{Writing};
 ghost use Rattle.text_commands.specs.Input.{IsFront};
 ghost use Rattle.text_commands.specs.Answers.{Answers, Outputs};
 ghost use Rattle.script_program.specs.Listing.{thread_of, threads_of};
-ghost use Rattle.run_commands.specs.Items.{ItemsLead, history_of};
+ghost use Rattle.run_commands.specs.Items.{ItemsLead};
+ghost use Rattle.world_histories.specs.Told.{told_of};
 ghost use Rattle.run_commands.specs.Plays.{IsCutOff};
 ghost use Rattle.run_commands.specs.Running.{running};
 ghost use Rattle.run_commands.specs.Scheduled.{Begins, schedule_of};
@@ -39,7 +42,8 @@ fn put_run<W: Write>(
     writer: &mut W,
 ) -> io::Result<()>
     requires { All (λ i. thread_of i < length world.old.actors) items.now }
-    ensures text { Writes (W.contents writer.old) (W.contents writer.new) result (history_text (history_of world.new)) }
+    ensures text { Writes (W.contents writer.old) (W.contents writer.new) result (history_text (told_of world.new)) }
+    ensures fits { OnOk result (HistoryFits (told_of world.new)) }
     ensures leads { OnOk result (ItemsLead thread_rules items.now world.old world.new) }
     ensures stops { OnErr result (IsCutOff thread_rules items.now world.old world.new (W.contents writer.old) (W.contents
         writer.new)) }
@@ -60,8 +64,9 @@ fn write_run<W: Write>(
     writer: &mut W,
 ) -> Result<(), Failure<AsmFault>>
     requires { All (λ i. thread_of i < length world.old.actors) items.now }
-    ensures text { Writes (W.contents writer.old) (W.contents writer.new) result (history_text (history_of world.new)) }
+    ensures text { Writes (W.contents writer.old) (W.contents writer.new) result (history_text (told_of world.new)) }
     ensures failure { IfErr result (λ failure. failure ≡ Writing) }
+    ensures fits { OnOk result (HistoryFits (told_of world.new)) }
     ensures leads { OnOk result (ItemsLead thread_rules items.now world.old world.new) }
     ensures stops { OnErr result (IsCutOff thread_rules items.now world.old world.new (W.contents writer.old) (W.contents
         writer.new)) }
@@ -81,6 +86,7 @@ fn run_items<W: Write>(
     writer: &mut W,
 ) -> Result<Endings, Failure<AsmFault>>
     requires begins { Begins program.now world }
+    requires limits { IsLimitedListing program.now }
     requires items { items.now ≡ schedule_of program.now }
     requires there { All (λ i. thread_of i < length (threads_of program.now)) items.now }
     ensures { Outputs running result (Ok program.now) (W.contents writer.old) (W.contents writer.new) }

@@ -6,6 +6,7 @@ ghost use Rattle.script_program.specs.Listing.{Listing, threads_of};
 ghost use Rattle.text_commands.specs.declared.failure.Failure.TheVariants.{Writing};
 ghost use Rattle.text_commands.specs.Input.{IsFront};
 ghost use Rattle.text_commands.specs.Answers.{Answers, Outputs};
+ghost use Rattle.tx_history.specs.Bounds.{AreLimited, HistoryFits};
 ghost use Rattle.tx_history.specs.Histories.{history_text};
 ghost use Rattle.tx_history.specs.Spelling.{Writes};
 ghost use Rattle.tx_host.specs.Reports.{Ran};
@@ -37,7 +38,8 @@ fn failure_of(fault: HostFault) -> Failure<AsmFault>
 
 /// Writes a history, and hands on what the writer holds back.
 fn put_history<W: Write>(writer: &mut W, history: &History) -> io::Result<()>
-    ensures { Writes (W.contents writer.old) (W.contents writer.new) result (history_text history.now) }
+    ensures text { Writes (W.contents writer.old) (W.contents writer.new) result (history_text history.now) }
+    ensures fits { HistoryFits history.now }
 {
     write_history(
         writer,
@@ -65,6 +67,7 @@ fn endings(program: &Program, ends: &[End]) -> Endings
 fn write_run<W: Write>(writer: &mut W, history: &History) -> Result<(), Failure<AsmFault>>
     ensures text { Writes (W.contents writer.old) (W.contents writer.new) result (history_text history.now) }
     ensures failure { IfErr result (λ failure. failure ≡ Writing) }
+    ensures fits { HistoryFits history.now }
 {
     put_history(writer, history).map_err(|_| Failure::Writing)
 }
@@ -76,6 +79,7 @@ fn run_on<T: Threads + Wait>(
     program: &Program,
 ) -> Result<Report, Failure<AsmFault>>
     ensures ran { IfOk result (λ report. Ran program.now report) }
+    ensures limited { IfOk result (λ report. AreLimited report.history) }
     ensures failure { IfErr result IsFailure }
 {
     run_threads(rt, alloc, program, &Open, &Quiet).map_err(failure_of)

@@ -10,9 +10,11 @@ ghost use Rattle.norec_world.specs.World.{ending_at, observed, told, waits_at};
 ghost use Rattle.norec_world.specs.WorldEvents.{Goes, Takes};
 ghost use Rattle.script_program.specs.declared.schedule.Item.TheVariants.{Out, Take};
 ghost use Rattle.script_program.specs.Listing.{thread_of};
+ghost use Rattle.tx_history.specs.Bounds.{HistoryFits};
 ghost use Rattle.tx_history.specs.Histories.{history_text};
 ghost use Rattle.tx_history.specs.Streams.{Adds, fault_of, lent, standing};
-ghost use Rattle.run_commands.specs.Items.{ItemBegins, ItemLeads, ItemsBegin, ItemsLead, history_of};
+ghost use Rattle.run_commands.specs.Items.{ItemBegins, ItemLeads, ItemsBegin, ItemsLead};
+ghost use Rattle.world_histories.specs.Told.{told_of};
 ghost use Rattle.run_commands.specs.Plays.{AddsEnded, Fails, IsCutOff};
 
 use crate::telling::{close_history, open_history, put_ended};
@@ -177,8 +179,9 @@ pub fn play<P: Player, W: Write>(
     requires { All (λ i. thread_of i < length world.old.actors) items.now }
     ensures same { lent stream.new ≡ lent stream.old }
     ensures answer { fault_of stream.new ≡ result_err result }
-    ensures adds { Adds (standing W.contents stream.old) (standing W.contents stream.new) (history_text (history_of
+    ensures adds { Adds (standing W.contents stream.old) (standing W.contents stream.new) (history_text (told_of
         world.new)) }
+    ensures fits { OnOk result (HistoryFits (told_of world.new)) }
     ensures leads { OnOk result (ItemsLead P.Player items.now world.old world.new) }
     ensures base { world.new.base ≡ world.old.base }
     ensures stops { OnErr result (IsCutOff P.Player items.now world.old world.new (standing W.contents stream.old).written

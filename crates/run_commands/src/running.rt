@@ -3,6 +3,7 @@
 ghost use Rattle.std.specs.Prelude.{◌≡◌, ◌≤◌, IfOk, vec_len};
 ghost use Rattle.script_program.specs.Sizes.{IsSize};
 ghost use Rattle.script_program.specs.Listing.{opening_of};
+ghost use Rattle.tx_host.specs.Limits.{IsLimitedListing};
 ghost use Rattle.run_commands.specs.Scheduled.{Begins, each_out, endings_of, players_of};
 
 use crate::endings::Endings;
@@ -37,7 +38,8 @@ fn players<'p>(alloc: Global, program: &'p Program) -> Result<Vec<Script<'p>>, A
 
 /// A program's world before the first event.
 pub fn begin<'p>(alloc: Global, program: &'p Program) -> Result<World<Script<'p>>, AllocError>
-    ensures { IfOk result (λ w. Begins program.now w) }
+    ensures begins { IfOk result (λ w. Begins program.now w) }
+    ensures limits { IfOk result (λ w. IsLimitedListing program.now) }
 {
     let players = players(alloc, program)?;
     let memory = opening(alloc, program)?;

@@ -1,8 +1,10 @@
 //! Attempts of a world on their way to a stream.
 
-ghost use Rattle.std.specs.Prelude.{◌≡◌, ◌≤◌, ◌++◌, None, drop, flat_map, length};
+ghost use Rattle.std.specs.Prelude.{◌≡◌, ◌≤◌, ◌++◌, All, None, OnOk, drop, flat_map, length};
 ghost use Rattle.std.specs.Result.{result_err};
+ghost use Rattle.hex.specs.Hex.{IsBytes};
 ghost use Rattle.norec_world.specs.World.{memory_of};
+ghost use Rattle.tx_history.specs.Bounds.{AttemptFits, IsWord};
 ghost use Rattle.tx_history.specs.Histories.{attempt_lines, last_line};
 ghost use Rattle.tx_history.specs.Streams.{Adds, fault_of, lent, lines_so_far, standing};
 
@@ -20,6 +22,7 @@ fn put_attempts<W: Write>(stream: &mut Stream<'_, W>, attempts: &[Attempt]) -> i
     ensures same { lent stream.new ≡ lent stream.old }
     ensures adds { Adds (standing W.contents stream.old) (standing W.contents stream.new) (flat_map attempt_lines
         attempts.now) }
+    ensures fits { OnOk result (All AttemptFits attempts.now) }
     ensures answer { fault_of stream.new ≡ result_err result }
 {
     for attempt in attempts {
@@ -39,6 +42,7 @@ pub(crate) fn put_ended<P: Player, W: Write>(
     ensures same { lent stream.new ≡ lent stream.old }
     ensures adds { Adds (standing W.contents stream.old) (standing W.contents stream.new) (flat_map attempt_lines
         (drop first world.now.attempts.ended)) }
+    ensures fits { OnOk result (All AttemptFits (drop first world.now.attempts.ended)) }
     ensures answer { fault_of stream.new ≡ result_err result }
 {
     let (ended, _) = world.attempts().split_at(world.ended());
@@ -54,6 +58,7 @@ pub(crate) fn open_history<P: Player, W: Write>(
     ensures same { lent stream.new ≡ lent stream.old }
     ensures adds { Adds (standing W.contents stream.old) (standing W.contents stream.new) (lines_so_far world.now.base
         world.now.attempts.ended) }
+    ensures fits { OnOk result (IsBytes world.now.base × All AttemptFits world.now.attempts.ended) }
     ensures answer { fault_of stream.new ≡ result_err result }
 {
     stream.open(world.base())?;
@@ -69,6 +74,8 @@ pub(crate) fn close_history<P: Player, W: Write>(
     ensures same { lent stream.new ≡ lent stream.old }
     ensures adds { Adds (standing W.contents stream.old) (standing W.contents stream.new)
         (flat_map attempt_lines world.now.attempts.active ++ last_line world.now.cells.clock (memory_of world.now)) }
+    ensures fits { OnOk result (All AttemptFits world.now.attempts.active × IsWord world.now.cells.clock × IsBytes (memory_of
+        world.now)) }
     ensures answer { fault_of stream.new ≡ result_err result }
 {
     let (_, active) = world.attempts().split_at(world.ended());

@@ -21,4 +21,4 @@ returns g c =
     let leads = subst (λ (items : List Item). ItemsLead thread_rules items c.args.world w) c.requires.items c.in_ok-write_run.ensures.leads in
     let is = world_of_run c.args.program.now w (c.args.world, c.requires.begins, leads) c.in_ok-write_run.ensures.commits c.in_ok-write_run.ensures.opaque c.in_ok-write_run.ensures.tied in
     let threads = ap (λ (n : ℕ). endings_of n w) c.threads.ensures.value in
-    told c.args.program.now w _ _ is c.endings.result (c.endings.ensures ∙ threads) c.in_ok-write_run.ensures.text
+    told c.args.program.now w _ _ is c.in_ok-write_run.ensures.fits c.requires.limits c.endings.result (c.endings.ensures ∙ threads) c.in_ok-write_run.ensures.text

@@ -1,11 +1,11 @@
-use Rattle.run_commands.proofs.Plays.{event_adds, event_within}
+use Rattle.run_commands.proofs.Plays.{event_adds, event_within, on_ok}
 use Rattle.run_commands.proofs.playing.take_event.Goals as goal
 
 pub put_ended-requires-clause-first : goal.put_ended-requires-clause-first
 put_ended-requires-clause-first g c = event_within g.P.Player c.args.world.now c.event-goes_on.new.self c.args.thread c.ended-first.result c.requires.waits c.event-goes_on.ensures.goes c.ended-first.ensures.value
 
 pub returns-in_err-put_ended-clause-adds : goal.returns-in_err-put_ended-clause-adds
-returns-in_err-put_ended-clause-adds g c = event_adds g.P.Player c.args.world.now c.event-goes_on.new.self c.args.thread c.ended-first.result _ _ c.requires.waits c.event-goes_on.ensures.goes c.ended-first.ensures.value c.put_ended.ensures.adds
+returns-in_err-put_ended-clause-adds g c = event_adds g.P.Player c.args.world.now c.event-goes_on.new.self c.args.thread c.ended-first.result _ _ c.requires.waits c.event-goes_on.ensures.goes c.ended-first.ensures.value c.put_ended.ensures.adds (on_ok c.put_ended.result _ c.put_ended.ensures.answer c.put_ended.ensures.fits)
 
 pub returns-clause-adds : goal.returns-clause-adds
-returns-clause-adds g c = event_adds g.P.Player c.args.world.now c.event-goes_on.new.self c.args.thread c.ended-first.result _ _ c.requires.waits c.event-goes_on.ensures.goes c.ended-first.ensures.value c.put_ended.ensures.adds
+returns-clause-adds g c = event_adds g.P.Player c.args.world.now c.event-goes_on.new.self c.args.thread c.ended-first.result _ _ c.requires.waits c.event-goes_on.ensures.goes c.ended-first.ensures.value c.put_ended.ensures.adds (on_ok c.put_ended.result _ c.put_ended.ensures.answer c.put_ended.ensures.fits)
