@@ -26,7 +26,7 @@ use Rattle.script_program.specs.declared.schedule.Item.{Item}
 use Rattle.run_commands.specs.Items.{ItemsBegin, ItemsLead}
 use Rattle.world_histories.specs.Told.{told_of}
 use Rattle.run_commands.proofs.Items.{items_unbegun, items_whole}
-use Rattle.run_commands.specs.Plays.{AddsEnded, Begins, Fails, Front, IsCutOff}
+use Rattle.run_commands.specs.Plays.{AddsEnded, HasWhole, Fails, Front, IsCutOff}
 
 -- what is so of a failure
 pub on_err : {T E F : Type 0} (r : Result T E) → F → OnErr r F
@@ -144,13 +144,13 @@ unfolding Adds
 adds_all s t x fresh good p = subst (λ (g : Option Error). Leaves None g s.written t.written x) good (subst (λ (f : Option Error). Leaves f t.fault s.written t.written x) fresh p)
 
 -- what came before the failed write is whole
-begins_with : (s t u : Standing) (x y : List ℕ) → s.fault ≡ None → t.fault ≡ None → Adds s t x → Adds t u y → Begins s.written u.written x
+begins_with : (s t u : Standing) (x y : List ℕ) → s.fault ≡ None → t.fault ≡ None → Adds s t x → Adds t u y → HasWhole s.written u.written x
 begins_with s t u x y fresh good p q =
     let more = adds_begun t u y good q in
     (more.0, Appends-trans s.written t.written u.written x more.0 (adds_all s t x fresh good p) more.1)
 
 -- more came before
-begins_after : (s t : Standing) (u : Option (List ℕ)) (x y : List ℕ) → s.fault ≡ None → t.fault ≡ None → Adds s t x → Begins t.written u y → Begins s.written u (x ++ y)
+begins_after : (s t : Standing) (u : Option (List ℕ)) (x y : List ℕ) → s.fault ≡ None → t.fault ≡ None → Adds s t x → HasWhole t.written u y → HasWhole s.written u (x ++ y)
 begins_after s t u x y fresh good p (more, b) =
     (more, subst (Appends s.written u) (sym (append_assoc x y more)) (Appends-trans s.written t.written u x (y ++ more) (adds_all s t x fresh good p) b))
 
@@ -178,7 +178,7 @@ module _ {P : Type 0} (rules : Rules P) where
     all = lift c g.all;
     more = f.more ++ g.more;
     ended = g.ended ∙ ap (λ (l : List Attempt). l ++ g.more) f.ended ∙ append_assoc a.attempts.ended f.more g.more;
-    told = subst (Begins s.written u.written) (sym (flat_map-append attempt_lines f.more g.more)) (begins_after s t u.written _ _ fresh good f.adds g.told);
+    told = subst (HasWhole s.written u.written) (sym (flat_map-append attempt_lines f.more g.more)) (begins_after s t u.written _ _ fresh good f.adds g.told);
   }
 
 -- ## A whole history
@@ -249,7 +249,7 @@ module _ {P : Type 0} (rules : Rules P) (items : List Item) (a c : World P) wher
       f.before,
       f.first,
       inr f.last,
-      subst (Begins s.written u.written) (sym (ap (lines_so_far a.base) f.ended ∙ so_far_more a.base a.attempts.ended f.more)) (begins_after s t u.written _ _ (adds_fresh s t _ good p) good p f.told),
+      subst (HasWhole s.written u.written) (sym (ap (lines_so_far a.base) f.ended ∙ so_far_more a.base a.attempts.ended f.more)) (begins_after s t u.written _ _ (adds_fresh s t _ good p) good p f.told),
     );
   }
 
@@ -262,7 +262,7 @@ module _ {P : Type 0} (rules : Rules P) (items : List Item) (a c : World P) wher
       c,
       items_whole rules a c items l,
       inl refl,
-      subst (λ (b : List ℕ). Begins s.written u.written (lines_so_far b c.attempts.ended)) base (begins_with s t u _ _ (adds_fresh s t _ good p) good p q),
+      subst (λ (b : List ℕ). HasWhole s.written u.written (lines_so_far b c.attempts.ended)) base (begins_with s t u _ _ (adds_fresh s t _ good p) good p q),
     );
   }
 

@@ -18,8 +18,8 @@ abbrev pub Front : Option (List ℕ) → Option (List ℕ) → List ℕ → Type
 Front old new text = (n : ℕ) × Appends old new (take n text)
 
 -- what came to the writer begins with the text
-abbrev pub Begins : Option (List ℕ) → Option (List ℕ) → List ℕ → Type 0
-Begins old new text = (more : List ℕ) × Appends old new (text ++ more)
+abbrev pub HasWhole : Option (List ℕ) → Option (List ℕ) → List ℕ → Type 0
+HasWhole old new text = (more : List ℕ) × Appends old new (text ++ more)
 
 -- the lines of the attempts that ended between the two worlds are added
 pub record AddsEnded {P : Type 0} (old new : World P) (s t : Standing) : Type 0 where
@@ -42,10 +42,10 @@ module _ {P : Type 0} (rules : Rules P) where
     pub all : leads old new
     pub more : List Attempt
     pub ended : before.attempts.ended ≡ old.attempts.ended ++ more
-    pub told : Begins s.written t.written (flat_map attempt_lines more)
+    pub told : HasWhole s.written t.written (flat_map attempt_lines more)
 
-  -- A write failed before all was written of what the items ask for. Some first events of that were taken, and no other. What came to the writer is a beginning of the history: of its lines so far, or, after the last event, of all of it. And if an event was taken, then the lines of all attempts that had ended before the last one came to the writer whole.
+  -- A write failed, or the handing on of what was written. Some first events of that were taken, and no other. What came to the writer is a beginning of the history: of its lines so far, or, after the last event, of all of it. And if an event was taken, then the lines of all attempts that had ended before the last one came to the writer whole.
   pub record IsCutOff (items : List Item) (first new : World P) (u v : Option (List ℕ)) : Type 0 where
     pub begun : ItemsBegin rules items first new
     pub got : Front u v (lines_so_far first.base new.attempts.ended) ⊎ (ItemsLead rules items first new × Front u v (history_text (told_of new)))
-    pub told : (new ≡ first) ⊎ ((before : World P) × ItemsBegin rules items first before × ((before ≡ new) ⊎ IsNext before new) × Begins u v (lines_so_far first.base before.attempts.ended))
+    pub told : (new ≡ first) ⊎ ((before : World P) × ItemsBegin rules items first before × ((before ≡ new) ⊎ IsNext before new) × HasWhole u v (lines_so_far first.base before.attempts.ended))

@@ -127,10 +127,10 @@ fn run<R: Read, W: Write>(
     run_program(alloc, &program, writer)
 }
 
-/// Reads a script, runs its schedule, writes the history, and answers the status of the program: 0 where all went well,
-/// 2 where the text is no script, 4 where a thread gave up or memory was refused, and 5 where reading or writing
-/// failed. The errors get a line where the status is not 0, and where threads gave up or found no memory, one for each
-/// of them, by number.
+/// Reads a script, runs its schedule, writes the history as its events are taken, and answers the status of the
+/// program: 0 where all went well, 2 where the text is no script, 4 where a thread gave up or memory was refused, and 5
+/// where reading or writing failed, which ends the run. The errors get a line where the status is not 0, and where
+/// threads gave up or found no memory, one for each of them, by number.
 pub fn sched<R: Read, W: Write, E: Write>(
     alloc: Global,
     reader: &mut R,

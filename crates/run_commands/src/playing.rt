@@ -1,4 +1,4 @@
-//! Worlds whose events are taken item by item, and whose history is written as they are.
+//! Worlds whose events are taken item by item, and whose history is written as they are taken.
 
 ghost use Rattle.std.specs.Prelude.{◌≡◌, ◌<◌, ℕ, All, IfOk, IsSome, None, OnErr, OnOk, false, length};
 ghost use Rattle.std.specs.Result.{result_err};
@@ -26,7 +26,8 @@ use std::io::Write;
 use tx_history::Stream;
 use tx_player::Player;
 
-/// One event of the thread, and the lines of what it ended; tells whether the same call goes on.
+/// One event of the thread, and the lines of what it ended; tells whether the same call goes on. Where a write fails,
+/// answers its error; so do the functions below, which then take no further event.
 fn take_event<P: Player, W: Write>(
     alloc: Global,
     world: &mut World<P>,
@@ -168,8 +169,9 @@ fn take_items<P: Player, W: Write>(
 }
 
 /// What the items of a schedule ask for, one after the other, and the history of the world as it goes: the lines before the
-/// first event, those of each attempt right after the event that ended it, and at the end those of the open ones and the
-/// last one. Where a write fails, no further event is taken, and its error is answered.
+/// first event, with those of attempts that have ended already; those of each attempt right after the event that ended it;
+/// and at the end those of the open ones and the last one. Each item is of a thread that there is. Where a write fails, or
+/// had failed before, no further event is taken, and its error is answered.
 pub fn play<P: Player, W: Write>(
     alloc: Global,
     world: &mut World<P>,
@@ -190,6 +192,7 @@ pub fn play<P: Player, W: Write>(
     ensures opaque { AreOpaque P.Player (observed world.new) }
     ensures tied { AreTied P.Player world.new }
 {
+    // (what holds of every world: the last clauses)
     let _events = world.events();
     open_history(world, stream)?;
     let taken = take_items(alloc, world, items, stream);

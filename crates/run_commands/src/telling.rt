@@ -15,7 +15,7 @@ use tx_attempts::Attempt;
 use tx_history::Stream;
 use tx_player::Player;
 
-/// Writes the lines of the attempts.
+/// Writes the lines of the attempts. Where a write fails, answers its error; so do the functions below.
 #[tactic(auto, using(tx_history::proofs::Streams::adds_nothing, tx_history::proofs::Streams::adds_attempt))]
 fn put_attempts<W: Write>(stream: &mut Stream<'_, W>, attempts: &[Attempt]) -> io::Result<()>
     requires { fault_of stream.old ≡ None }
@@ -50,7 +50,7 @@ pub(crate) fn put_ended<P: Player, W: Write>(
     put_attempts(stream, rest)
 }
 
-/// Writes the lines before the first event.
+/// Writes the lines before the first event: those before the first attempt, and those of attempts that have ended already.
 pub(crate) fn open_history<P: Player, W: Write>(
     world: &World<P>,
     stream: &mut Stream<'_, W>,

@@ -21,6 +21,11 @@ use tx_history::{History, Piece};
 /// So many bytes a history may have: 2^40.
 pub const MAX_HISTORY: usize = 1_099_511_627_776;
 
+/// What the limit of histories is, as a number. Does nothing.
+pub fn largest_history()
+    ensures { MAX_HISTORY ≡ 1099511627776 }
+{}
+
 /// The history of a text.
 fn history_of(alloc: Global, text: &[u8]) -> Result<History, Failure<ReadFault>>
     ensures read { Reads result (read_of text.now) }
