@@ -79,6 +79,10 @@ module _ {P : Type 0} (rules : Rules P) where
 dropped : (old new : List Attempt) (n : ℕ) → n ≡ length old → (g : Grown old new) → drop n new ≡ g.0
 dropped old new n long (more, e) = grind (arith, common_steps)
 
+-- behind all of them there is none
+pub none_left : (all : List Attempt) (n i : ℕ) → n ≡ length all → n ≡ i → drop i all ≡ []
+none_left all n i long same = grind (arith, common_steps)
+
 module _ {P : Type 0} (rules : Rules P) where
   -- an event, and the lines of what it ended
   pub event_adds : (old new : World P) (thread n : ℕ) (s t : Standing) → IsSome (waits_at old thread) → Goes rules thread old (told (ending_at new thread)) new → n ≡ length old.attempts.ended
