@@ -98,6 +98,13 @@ module _ {P : Type 0} (rules : Rules P) where
         fits = λ good. subst (All AttemptFits) same (fits good);
       }
 
+  -- one that ended none
+  pub event_ends_none : (old new : World P) (thread n m : ℕ) (s : Standing) → IsSome (waits_at old thread) → Goes rules thread old (told (ending_at new thread)) new → n ≡ length old.attempts.ended → m ≡ length new.attempts.ended → m ≡ n
+      → AddsEnded old new s s
+  event_ends_none old new thread n m s waits g before after same =
+      let none = none_left new.attempts.ended m n after same in
+      event_adds old new thread n s s waits g before (adds_as s s [] _ (adds_nothing s) (sym (ap (λ (l : List Attempt). flat_map attempt_lines l) none))) (λ good. subst (All AttemptFits) (sym none) (All-nil AttemptFits))
+
   -- how many had ended before is no more than how many have
   pub event_within : (old new : World P) (thread n : ℕ) → IsSome (waits_at old thread) → Goes rules thread old (told (ending_at new thread)) new → n ≡ length old.attempts.ended → n ≤ length new.attempts.ended
   event_within old new thread n waits g long =

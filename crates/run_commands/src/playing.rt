@@ -44,6 +44,10 @@ fn take_event<P: Player, W: Write>(
 {
     let first = world.ended();
     let goes_on = world.event(alloc, thread);
+    // nearly every event ends none
+    if world.ended() == first {
+        return Ok(goes_on);
+    }
     put_ended(world, stream, first)?;
     Ok(goes_on)
 }

@@ -45,10 +45,6 @@ pub(crate) fn put_ended<P: Player, W: Write>(
     ensures fits { OnOk result (All AttemptFits (drop first world.now.attempts.ended)) }
     ensures answer { fault_of stream.new ≡ result_err result }
 {
-    // nearly every event ends none
-    if world.ended() == first {
-        return Ok(());
-    }
     let (ended, _) = world.attempts().split_at(world.ended());
     let (_, rest) = ended.split_at(first);
     put_attempts(stream, rest)

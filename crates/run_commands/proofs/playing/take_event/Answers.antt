@@ -1,4 +1,4 @@
-use Rattle.run_commands.proofs.Plays.{event_adds, event_within, on_ok}
+use Rattle.run_commands.proofs.Plays.{event_adds, event_ends_none, event_within, on_ok}
 use Rattle.run_commands.proofs.playing.take_event.Goals as goal
 
 pub put_ended-requires-clause-first : goal.put_ended-requires-clause-first
@@ -9,3 +9,6 @@ returns-in_err-put_ended-clause-adds g c = event_adds g.P.Player c.args.world.no
 
 pub returns-clause-adds : goal.returns-clause-adds
 returns-clause-adds g c = event_adds g.P.Player c.args.world.now c.event-goes_on.new.self c.args.thread c.ended-first.result _ _ c.requires.waits c.event-goes_on.ensures.goes c.ended-first.ensures.value c.put_ended.ensures.adds (on_ok c.put_ended.result _ c.put_ended.ensures.answer c.put_ended.ensures.fits)
+
+pub returns-then-ended-first-clause-adds : goal.returns-then-ended-first-clause-adds
+returns-then-ended-first-clause-adds g c = event_ends_none g.P.Player c.args.world.now c.event-goes_on.new.self c.args.thread c.ended-first.result c.ended.result _ c.requires.waits c.event-goes_on.ensures.goes c.ended-first.ensures.value c.ended.ensures.value c.if-ended-first.true
