@@ -104,17 +104,17 @@ TEXTS = [
     Shape("empty lines", lambda size: filled(size, b"\n", START), 2),
 ]
 
-# Those whose calls touch many bytes each. The plain machine's journal and its logs have an entry for each 32 bytes that are
-# written or logged, while a block is open that may go back: so many bytes of memory for each byte of text.
+# Those whose calls touch many bytes each. The plain machine's logs have an entry for each 32 bytes that are logged, while a
+# block is open that may go back, also where it has these bytes: so many bytes of memory for each byte of text.
 WORKS = [
-    Shape("fills of one try", within(FILL, start=WIDE, words=8192), most=3500),
-    Shape("fills in blocks", within(BEGINS + FILL + COMMITS, start=WIDE, words=8192), most=1300),
+    Shape("fills of one try", within(FILL, start=WIDE, words=8192)),
+    Shape("fills in blocks", within(BEGINS + FILL + COMMITS, start=WIDE, words=8192)),
     Shape("fills in cancelled blocks", within(BEGINS + FILL + ABORTS, start=WIDE, words=8192)),
     Shape("fills of many tries", tries(FILL, b"conflict", start=WIDE, words=8192)),
     Shape("fills and commits of many tries", tries(FILL + COMMITS, b"readonly", start=WIDE, words=8192)),
-    Shape("moves of one try", within(MOVE, start=WIDE, words=8192), most=3200),
+    Shape("moves of one try", within(MOVE, start=WIDE, words=8192)),
     Shape("copies to the arena", within(b"call _ITM_memcpyRtWn 0 0 4096 = ok\n", ARENA, WIDE, 8192)),
-    Shape("copies from the arena", within(b"call _ITM_memcpyRnWt 0 0 4096 = ok\n", ARENA, WIDE, 8192), most=240),
+    Shape("copies from the arena", within(b"call _ITM_memcpyRnWt 0 0 4096 = ok\n", ARENA, WIDE, 8192)),
     Shape("blocks that log", within(BEGINS + LOGS + COMMITS, ARENA), most=100),
     Shape("cancelled blocks that log", within(BEGINS + LOGS + ABORTS, ARENA)),
     Shape("logs of one try", within(LOGS, ARENA), most=300),
