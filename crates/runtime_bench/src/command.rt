@@ -6,10 +6,7 @@ use crate::fault::Fault;
 use crate::measure::{Outcome, is_right, measure};
 use crate::worker::Task;
 use crate::workload::{WORKLOADS, name_of, named};
-use clap::error::ErrorKind;
-use clap::{Arg, ArgAction, ArgMatches, Command};
 use itm_types::MAX_WORDS;
-use std::alloc::{AllocError, Global};
 use std::env;
 use std::num::nearest_u64_to_f64;
 use std::rt::{Clock, Env};
@@ -28,42 +25,14 @@ struct Order {
     ghost few: { threads ≤ 8 },
 }
 
-/// A place for one word, which has to be there.
-fn place<'a>(alloc: Global, name: &'a str) -> Arg<'a> {
-    Arg::new(alloc, name).required(true).action(ArgAction::Set)
-}
-
-fn command_line<'a>(alloc: Global) -> Result<Command<'a>, AllocError> {
-    Command::new(alloc, "runtime_bench")
-        .disable_help_flag(true)
-        .disable_version_flag(true)
-        .arg(place(alloc, "workload"))?
-        .arg(place(alloc, "threads"))?
-        .arg(place(alloc, "size"))?
-        .arg(place(alloc, "milliseconds"))
-}
-
-fn fault_of(kind: ErrorKind) -> Fault {
-    match kind {
-        ErrorKind::OutOfMemory => Fault::Memory,
-        _ => Fault::Usage,
-    }
-}
-
-/// What stands in the places of the command line.
-fn places_of<'a>(alloc: Global, words: &'a [String]) -> Result<ArgMatches<'a>, Fault> {
-    let line = command_line(alloc)?;
-    line.try_get_matches_from(words)
-        .map_err(|error| fault_of(error.kind()))
-}
-
-fn order_of(alloc: Global, words: &[String]) -> Result<Order, Fault> {
-    let places = places_of(alloc, words)?;
-    let name = places.get_str("workload").ok_or(Fault::Usage)?;
-    let workload = named(name).ok_or(Fault::Usage)?;
-    let threads = places.get_one::<u8>("threads").ok_or(Fault::Usage)?;
-    let size = places.get_one::<u64>("size").ok_or(Fault::Usage)?;
-    let milliseconds = places.get_one("milliseconds").ok_or(Fault::Usage)?;
+fn order_of(words: &[String]) -> Result<Order, Fault> {
+    let [_, workload, threads, size, milliseconds] = words else {
+        return Err(Fault::Usage);
+    };
+    let workload = named(workload).ok_or(Fault::Usage)?;
+    let threads: u8 = threads.parse()?;
+    let size: u64 = size.parse()?;
+    let milliseconds = milliseconds.parse()?;
     if threads == 0 || threads > 8 || size == 0 || size > MAX_WORDS as u64 {
         return Err(Fault::Usage);
     }
@@ -97,7 +66,7 @@ fn obey<R: Threads + Clock + AllocGlobal + Print + Sync>(
     rt: &R,
     words: &[String],
 ) -> Result<(), Fault> {
-    let order = order_of(rt.alloc(), words)?;
+    let order = order_of(words)?;
     let outcome = measure(rt, order.threads, &order.task, order.milliseconds)?;
     if !is_right(&order.task, &outcome) {
         return Err(Fault::Wrong);

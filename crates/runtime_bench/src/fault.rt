@@ -2,6 +2,7 @@
 
 use std::alloc::AllocError;
 use std::io;
+use std::num::ParseIntError;
 
 /// Why nothing was measured.
 #[derive(Clone, Copy, Debug, PartialEq, Eq)]
@@ -27,6 +28,13 @@ impl From<AllocError> for Fault {
 impl From<io::Error> for Fault {
     fn from(_: io::Error) -> Fault {
         Fault::System
+    }
+}
+
+/// A word that is no number.
+impl From<ParseIntError> for Fault {
+    fn from(_: ParseIntError) -> Fault {
+        Fault::Usage
     }
 }
 
