@@ -156,8 +156,24 @@ repeated_code 'as many groups of nothing' 0 '.rept 65536\n.rept 65536\n.rept 655
 repeated_code 'an instruction as often as may be' 65536 '.rept 65536\nset r0 0\n.endr'
 repeated_code 'a group of a group' 65536 '.rept 256\n.rept 256\nset r0 0\n.endr\n.endr'
 repeated_code 'a group that stands never' 65536 '.rept 65535\nset r0 0\n.endr\n.rept 0\nset r0 0\n.endr\nset r0 0'
+repeated_code 'a group that stands never and has no lines' 1 '.rept 0\n.endr\nset r0 0'
+repeated_code 'groups within one that stands never' 1 '.rept 0\nset r1 1\n.rept 0\nset r1 2\n.endr\n.rept 3\nset r1 3\n.endr\nset r1 4\n.endr\nset r0 0'
+repeated_code 'a block and a choice that stand never' 1 '.rept 0\n_ITM_beginTransaction r0 -\nifnz r0\nelse\nendif\n_ITM_commitTransaction\n.endr\nset r0 0'
+repeated_code 'a group that stands never within one that stands twice' 4 '.rept 2\nset r0 0\n.rept 0\nset r1 1\n.rept 2\nset r1 2\n.endr\n.endr\nset r0 0\n.endr'
+repeated_code 'as much that stands never as may be' 65536 '.rept 0\n.rept 65536\nset r1 1\n.endr\n.endr\n.rept 65536\nset r0 0\n.endr'
 refused_each '.memory 8\n.thread\n' <<'END'
 line 7: too long|.rept 0\n.rept 65536\nset r0 0\nset r0 1\n.endr\n.endr
+line 7: too long|.rept 0\n.rept 65536\nset r0 0\n.endr\nset r0 0\n.endr
+line 7: too long|.rept 0\n.rept 65536\nset r0 0\n.endr\nifnz r0
+line 8: too long|.rept 0\n.rept 2\n.rept 32769\nset r0 0\n.endr\n.endr\n.endr
+line 8: too long|.rept 65536\nset r0 0\n.endr\n.rept 0\n.rept 0\nset r0 0\n.endr\n.endr
+line 11: too long|.rept 0\n.rept 65536\nset r0 0\n.endr\n.endr\n.rept 32769\nset r0 0\nset r0 0\n.endr
+line 5: unbalanced|.rept 0\nifnz r0\n.endr
+line 5: unbalanced|ifnz r0\n.rept 0\nendif
+line 3: unbalanced|.rept 0\nset r0 0\n.thread
+line 4: unbalanced|.rept 0\n.rept 0\nset r0 0\n
+line 4: misplaced|.rept 0\n.arena 8\n.endr
+line 5: wrong operand|.rept 0\n.rept 0\nset r16 0
 line 7: too long|.rept 65536\nset r0 0\n.endr\n.rept 0\nset r0 0\n.endr
 line 6: too long|.rept 65536\nset r0 0\n.endr\nifnz r0
 line 7: too long|.rept 257\n.rept 256\nset r0 0\n.endr\n.endr

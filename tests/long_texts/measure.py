@@ -48,7 +48,7 @@ def cost(program, command, path):
 def written(shape, size, path):
     """The bytes of a text that is written to a file."""
     with open(path, "wb") as file:
-        for piece in shape.pieces(size // shape.shorter):
+        for piece in shape.pieces(size):
             file.write(piece)
     return os.path.getsize(path)
 

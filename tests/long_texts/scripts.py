@@ -39,8 +39,9 @@ TEXTS = [
     Shape("deep groups of nothing", of(256 * b".rept 65536\n" + 256 * b".endr\n")),
     Shape("small groups that stand never", never(b"set r0 0\n")),
     Shape("large groups that stand never", never(1000 * b"_ITM_memmoveRtaWWtaW r10 18446744073709551615 r11\n")),
-    # a group is written out at its end, whatever becomes of it: some 16 microseconds for each byte of such a text
-    Shape("groups that stand often in those that stand never", never(b".rept 65536\nset r0 0\n.endr\n"), shorter=100),
+    Shape("groups that stand often in those that stand never", never(b".rept 65536\nset r0 0\n.endr\n")),
+    Shape("deep groups in those that stand never", never(15 * b".rept 2\n" + b"set r0 0\n" + 15 * b".endr\n")),
+    Shape("deep groups that stand never", of(256 * b".rept 0\n" + b"set r0 0\n" + 256 * b".endr\n")),
     Shape("choices within choices", never(250 * b"ifnz r1\n" + 250 * b"else\nendif\n")),
     Shape("blocks within blocks", never(250 * BEGIN + 250 * COMMIT)),
     Shape("a fault in the last line", of(b"; nothing\n", HEAD, b"set"), status=2),

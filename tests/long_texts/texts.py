@@ -2,10 +2,9 @@
 
 import collections
 
-# Of a text: its name, its pieces by its size, the status with which it is answered, and how many times shorter than others it
-# is. Where it is not as with others, how many times as long a text of twice the size may take, and how many bytes of memory
-# each further byte may.
-Shape = collections.namedtuple("Shape", "name pieces status shorter ratio most", defaults=[0, 1, None, None])
+# Of a text: its name, its pieces by its size, and the status with which it is answered. Where it is not as with others, how
+# many times as long a text of twice the size may take, and how many bytes of memory each further byte may.
+Shape = collections.namedtuple("Shape", "name pieces status ratio most", defaults=[0, None, None])
 
 BYTES = bytes(it for it in range(256) if it != ord("\n"))
 

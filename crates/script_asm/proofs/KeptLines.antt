@@ -1,22 +1,23 @@
 -- Lines that leave more to be kept, or more open.
-use Rattle.std.proofs.Common.{◌≡◌, ℕ, ◌+◌, ◌<◌, ◌≤◌, inl, inr, Bool, true, false, cond, leb, List, [], ◌∷◌, ◌++◌, length, Option, Some, None, Result, Ok, refl, ap, arith, length-append}
+use Rattle.std.proofs.Common.{◌≡◌, ℕ, ◌+◌, ◌<◌, ◌≤◌, inl, inr, false, leb, List, [], ◌∷◌, ◌++◌, length, Option, Some, None, Result, Ok, refl, sym, ap, arith, length-append}
 use Rattle.std.proofs.lemmas.Bool.{lt-ltb, le-ltb, lt-leb}
 use Rattle.itm_types.specs.declared.limits.TheConstants.{MAX_ACTORS}
 use Rattle.script_program.specs.declared.limits.TheConstants.{MAX_ITEMS, MAX_INSTRUCTIONS, MAX_LEVELS}
 use Rattle.script_asm.specs.declared.words.Word.TheVariants as words
 use Rattle.script_fields.specs.declared.fault.AsmKind.TheVariants as kinds
 use Rattle.script_fields.specs.declared.fault.AsmFault.{AsmFault}
+use Rattle.script_fields.proofs.FirstLines.{chosen}
 use Rattle.script_program.specs.declared.instruction.Instruction.{Instruction}
 use Rattle.script_asm.specs.declared.groups.Group.{Group}
-use Rattle.script_asm.specs.declared.groups.Group.TheVariants as groups
 use Rattle.script_program.specs.declared.schedule.Item.{Item}
 use Rattle.script_asm.specs.declared.state.State.{State}
 use Rattle.script_program.specs.Listing.{Shared, Placed, Part}
-use Rattle.script_program.specs.Sections.{Sections, thread_total, instruction_total, begun, expanded}
+use Rattle.script_program.specs.Sections.{Sections, thread_total, code_total, instruction_total, begun, expanded}
 use Rattle.script_program.specs.Schedules.{planned}
 use Rattle.script_asm.specs.Readings.{◌>>=◌, fault}
 use Rattle.script_asm.specs.Directives.{threaded}
-use Rattle.script_asm.specs.Blocks.{counted, opened, begins, repeated, without_innermost}
+use Rattle.script_asm.specs.Groups.{within_never}
+use Rattle.script_asm.specs.Blocks.{added, counted, opened, begins, ends_repeat, without_innermost}
 use Rattle.script_asm.specs.Assembly.{obeyed}
 use Rattle.script_asm.specs.Wants.{Adds, init_count, kept}
 use Rattle.script_asm.specs.Items.{schedule_of}
@@ -35,8 +36,7 @@ pub items_kept : (s : State) (n : ℕ) (fs : List (List ℕ)) (items : List Item
 unfolding obeyed
 items_kept s n fs items e h = rw (e, le-ltb MAX_ITEMS (length s.schedule.items + length items) h) (adds_items s n items (some_items fs items e))
 
-section_total : (t : Sections) (n : ℕ) → 0 < t.count → (length (begun t n).ended ≡ length t.ended + 1) × (instruction_total (begun t n) ≡ instruction_total t)
-unfolding instruction_total
+section_total : (t : Sections) (n : ℕ) → 0 < t.count → (length (begun t n).ended ≡ length t.ended + 1) × (code_total (begun t n) ≡ code_total t)
 section_total t n h =
     let last : Part = record { count = t.count; code = t.code } in
     rw (lt-ltb 0 t.count h) (length-append t.ended (last ∷ []), omega (arith, code_more t.ended last))
@@ -57,22 +57,28 @@ abbrev with_code : State → Instruction → State
 with_code s i = record s { threads = record s.threads { code = s.threads.code ++ i ∷ [] } }
 
 code_grows : (s : State) (i : Instruction) → kept s < kept (with_code s i)
-unfolding instruction_total
 code_grows s i = omega (arith, length-append s.threads.code (i ∷ []))
 
-pub code_kept : (s : State) (n : ℕ) (i : Instruction) → instruction_total s.threads < MAX_INSTRUCTIONS → Adds s (counted s n i)
-code_kept s n i h = rw (lt-leb MAX_INSTRUCTIONS (instruction_total s.threads) h) (with_code s i, refl, inl (code_grows s i))
+pub code_kept : (s : State) (n : ℕ) (i : Instruction) → instruction_total s.threads < MAX_INSTRUCTIONS → within_never s.levels ≡ false → Adds s (counted s n i)
+code_kept s n i h stands = rw (lt-leb MAX_INSTRUCTIONS (instruction_total s.threads) h, stands) (with_code s i, refl, inl (code_grows s i))
 
--- where it is well, what comes after it keeps it
-then_kept : (s t : State) (n : ℕ) (i : Instruction) (b : Bool) (next : State → Result State AsmFault) → cond b (fault n kinds.TooLong) (Ok (with_code s i)) ≡ Ok t → Adds s (next (with_code s i))
-    → Adds s (cond b (fault n kinds.TooLong) (Ok (with_code s i)) >>= next)
-then_kept s t n i true next e h = absurd cc
-then_kept s t n i false next e h = h
+-- it leaves open what was open
+pub counted_levels : (s t : State) (n : ℕ) (i : Instruction) → counted s n i ≡ Ok t → t.levels ≡ s.levels
+counted_levels s t n i e =
+    let next : State = record s { threads = added (within_never s.levels) s.threads i } in
+    elim (chosen (leb MAX_INSTRUCTIONS (instruction_total s.threads)) (fault n kinds.TooLong) (Ok next) (Ok t) e) [
+      | inl many ↦ absurd cc
+      | inr few ↦ let is : next ≡ t = cc in ap (λ (u : State). u.levels) (sym is)
+    ]
+
+-- one that was well, and after it one more that is open
+then_kept : (s t : State) (n : ℕ) (g : Group) (read : Result State AsmFault) → read ≡ Ok t → t.levels ≡ s.levels → length s.levels < MAX_LEVELS → Adds s (read >>= λ u. opened u n g)
+then_kept s t n g read e same h =
+    let few : length t.levels < MAX_LEVELS = omega (arith, ap length same) in
+    rw (e, lt-leb MAX_LEVELS (length t.levels) few) (record t { levels = record { line = n; group = g } ∷ t.levels }, refl, inr (omega (arith, ap length same)))
 
 pub begin_kept : (s t : State) (n : ℕ) (i : Instruction) (g : Group) → counted s n i ≡ Ok t → length s.levels < MAX_LEVELS → Adds s (begins s n i g)
-begin_kept s t n i g e h =
-    then_kept s t n i (leb MAX_INSTRUCTIONS (instruction_total s.threads)) (λ t. opened t n g) e
-    (rw (lt-leb MAX_LEVELS (length s.levels) h) (record (with_code s i) { levels = record { line = n; group = g } ∷ s.levels }, refl, inl (code_grows s i)))
+begin_kept s t n i g e h = then_kept s t n g (counted s n i) e (counted_levels s t n i e) h
 
 -- ## One more that is open, and code that stands several times
 
@@ -83,11 +89,10 @@ abbrev with_repeats : State → ℕ → ℕ → State
 with_repeats s start times = without_innermost (record s { threads = expanded s.threads start times })
 
 repeats_grow : (s : State) (start times : ℕ) → length s.threads.code < length (expanded s.threads start times).code → kept s < kept (with_repeats s start times)
-unfolding expanded instruction_total
+unfolding expanded
 repeats_grow s start times h = omega arith
 
-pub repeats_kept : (s : State) (n start times : ℕ) (g : Option Group) → g ≡ Some (groups.Repeat start times) → instruction_total (expanded s.threads start times) ≤ MAX_INSTRUCTIONS
-    → length s.threads.code < length (expanded s.threads start times).code → Adds s (repeated s n g)
-unfolding repeated
-repeats_kept s n start times g e few h =
-    rw (e, le-ltb MAX_INSTRUCTIONS (instruction_total (expanded s.threads start times)) few) (with_repeats s start times, refl, inl (repeats_grow s start times h))
+pub repeats_kept : (s : State) (n start times : ℕ) → instruction_total (expanded s.threads start times) ≤ MAX_INSTRUCTIONS
+    → length s.threads.code < length (expanded s.threads start times).code → Adds s (ends_repeat s n (expanded s.threads start times))
+repeats_kept s n start times few h =
+    rw (le-ltb MAX_INSTRUCTIONS (instruction_total (expanded s.threads start times)) few) (with_repeats s start times, refl, inl (repeats_grow s start times h))

@@ -1,4 +1,5 @@
 pub mod TurnedGroups
+pub mod NeverGroups
 pub mod LineItems
 pub mod KeptLines
 pub mod OnLiterals

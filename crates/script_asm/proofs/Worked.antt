@@ -173,6 +173,18 @@ no_repeats : program_of (script (line (codes ".rept 0") ++ line (codes "set r0 1
 unfolding on_literals
 no_repeats = refl
 
+-- within a group that stands never nothing stands, whatever its own groups say
+never_within : program_of (script (line (codes ".rept 0") ++ line (codes "set r0 1") ++ line (codes ".rept 0") ++ line (codes "set r0 2") ++ line (codes ".endr") ++ line (codes ".rept 3") ++ line (codes "ifnz r0") ++ line (codes "else") ++ line (codes "endif") ++ line (codes ".endr") ++ line (codes "set r0 3") ++ line (codes ".endr") ++ codes "set r0 4"))
+    ≡ Ok (listing 8 (part 1 (set_to 4 ∷ []) ∷ []))
+unfolding on_literals
+never_within = refl
+
+-- a group that stands never leaves the lines around it as they are, also within a group that stands several times
+never_between : program_of (script (line (codes ".rept 2") ++ line (codes "set r0 1") ++ line (codes ".rept 0") ++ line (codes "set r0 2") ++ line (codes ".endr") ++ line (codes ".rept 0") ++ line (codes ".endr") ++ line (codes ".rept 2") ++ line (codes "set r0 3") ++ line (codes ".endr") ++ codes ".endr"))
+    ≡ Ok (listing 8 (part 1 (set_to 1 ∷ set_to 3 ∷ set_to 3 ∷ set_to 1 ∷ set_to 3 ∷ set_to 3 ∷ []) ∷ []))
+unfolding on_literals
+never_between = refl
+
 -- groups of nothing
 empty_repeats : program_of (script (line (codes ".rept 9") ++ line (codes ".rept 9") ++ line (codes ".rept 9") ++ line (codes ".endr") ++ line (codes ".endr") ++ codes ".endr"))
     ≡ Ok (listing 8 (part 1 [] ∷ []))

@@ -53,6 +53,21 @@ group_too_long : program_of (script (line (codes ".rept 65536") ++ line (codes "
 unfolding on_literals
 group_too_long = refl
 
+-- also where it stands never in the end, since its lines are counted
+never_too_long : program_of (script (line (codes ".rept 0") ++ line (codes ".rept 65536") ++ line (codes "set r1 1") ++ line (codes "set r1 1") ++ line (codes ".endr") ++ codes ".endr")) ≡ fault 7 kinds.TooLong
+unfolding on_literals
+never_too_long = refl
+
+-- a line of a group that stands never may be the one that is too many
+never_counted : program_of (script (line (codes ".rept 0") ++ line (codes ".rept 65536") ++ line (codes "set r0 1") ++ line (codes ".endr") ++ codes "set r0 1")) ≡ fault 7 kinds.TooLong
+unfolding on_literals
+never_counted = refl
+
+-- but once the group has ended they count no more
+never_ended : program_of (script (line (codes ".rept 0") ++ line (codes ".rept 65536") ++ line (codes "set r0 1") ++ line (codes ".endr") ++ line (codes ".endr") ++ line (codes ".rept 32769") ++ line (codes "set r0 1") ++ line (codes "set r0 1") ++ codes ".endr")) ≡ fault 11 kinds.TooLong
+unfolding on_literals
+never_ended = refl
+
 -- ## A section that begins while something is open
 
 -- what is wrong is said of the block that is open, and not of too many threads

@@ -92,7 +92,7 @@ initial = record {
   memory = None;
   limits = record { arena = None; patience = None; retries = None; commits = None };
   schedule = record { items = []; lines = [] };
-  threads = record { ended = []; count = 0; code = [] };
+  threads = record { ended = []; count = 0; code = []; left_out = 0 };
   levels = [];
 }
 

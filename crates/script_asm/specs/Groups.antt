@@ -1,5 +1,5 @@
 -- What is open: beginnings whose ends have not come yet, the innermost first.
-use Rattle.std.specs.Prelude.{ℕ, Bool, true, false, List, [], ◌∷◌, Option, Some, None}
+use Rattle.std.specs.Prelude.{ℕ, ◌+◌, ◌||◌, Bool, true, false, nat_eq, List, [], ◌∷◌, Option, Some, None, if◌then◌else◌}
 use Rattle.script_asm.specs.declared.groups.Beginning.{Beginning}
 use Rattle.script_asm.specs.declared.groups.Group.{Group}
 use Rattle.script_asm.specs.declared.groups.Group.TheVariants as groups
@@ -28,3 +28,18 @@ second_part (b ∷ more) = record b { group = groups.Second } ∷ more
 abbrev pub is_second : Option Group → Bool
 is_second (Some groups.Second) = true
 is_second g = false
+
+-- it is lines that are to stand 0 times
+abbrev pub stands_never : Group → Bool
+stands_never (groups.Repeat start times) = nat_eq times 0
+stands_never g = false
+
+-- one of those that are open is
+abbrev pub within_never : List Beginning → Bool
+within_never [] = false
+within_never (b ∷ more) = stands_never b.group || within_never more
+
+-- how many of them are
+abbrev pub never_count : List Beginning → ℕ
+never_count [] = 0
+never_count (b ∷ more) = (if stands_never b.group then 1 else 0) + never_count more

@@ -8,16 +8,16 @@ use Rattle.script_asm.specs.declared.state.State.{State}
 use Rattle.script_asm.specs.declared.stop.Stop.{Stop}
 use Rattle.script_asm.specs.declared.stop.Stop.TheVariants as stops
 use Rattle.script_program.specs.Listing.{Listing, Shared}
-use Rattle.script_program.specs.Sections.{instruction_total}
+use Rattle.script_program.specs.Sections.{code_total}
 use Rattle.script_asm.specs.Assembly.{meaning, lines_say, initial, program_of}
 
 abbrev pub init_count : Option Shared → ℕ
 init_count None = 0
 init_count (Some m) = length m.inits
 
--- what the lines have left to be kept: runs of bytes, items, sections that have ended, and instructions
+-- what the lines have left to be kept: runs of bytes, items, sections that have ended, and the instructions of their code
 abbrev pub kept : State → ℕ
-kept s = init_count s.memory + length s.schedule.items + length s.threads.ended + instruction_total s.threads
+kept s = init_count s.memory + length s.schedule.items + length s.threads.ended + code_total s.threads
 
 -- more is kept, or more is open
 abbrev pub Grows : State → State → Type 0

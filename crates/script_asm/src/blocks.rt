@@ -1,8 +1,8 @@
 //! The lines of a section: instructions, and blocks and groups that begin and end.
 
-ghost use Rattle.std.specs.Prelude.{◌≡◌};
+ghost use Rattle.std.specs.Prelude.{◌≡◌, true, false};
 ghost use Rattle.script_asm.specs.Groups.{innermost};
-ghost use Rattle.script_asm.specs.Blocks.{counted, begins, ends, ends_block, turns_group, ends_group, run_code, repeats, repeated};
+ghost use Rattle.script_asm.specs.Blocks.{counted, begins, ends, ends_block, turns_group, ends_group, run_code, repeats, again, ends_repeat, repeated};
 ghost use Rattle.script_asm.specs.Wants.{Steps};
 
 use crate::groups::Group;
@@ -17,6 +17,10 @@ fn push_code(state: &mut State, line: usize, instruction: Instruction) -> Result
 {
     if state.threads.is_full() {
         return fault(line, AsmKind::TooLong);
+    }
+    if state.levels.within_never() {
+        state.threads.leave_out();
+        return Ok(());
     }
     match state.threads.push(instruction) {
         Ok(()) => Ok(()),
@@ -101,29 +105,56 @@ pub fn begin_repeat(state: &mut State, line: usize, times: usize) -> Result<(), 
     if state.levels.is_full() {
         return fault(line, AsmKind::TooLong);
     }
-    let start = state.threads.code_len();
+    let start = if times == 0 || state.levels.within_never() {
+        state.threads.left_out()
+    } else {
+        state.threads.code_len()
+    };
     match state.levels.push(line, Group::Repeat { start, times }) {
         Ok(()) => Ok(()),
         Err(_) => Err(Stop::Memory),
     }
 }
 
-/// They end: their code stands so many times in place of once.
+/// What was left out from a number on counts so many times, and the innermost ends.
+fn count_again(state: &mut State, line: usize, start: usize, times: usize) -> Result<(), Stop>
+    ensures { Steps result state.old state.new (ends_repeat state.old line (again true state.old.threads start times)) }
+{
+    if state.threads.exceeds_left_out(start, times) {
+        return fault(line, AsmKind::TooLong);
+    }
+    state.threads.count_again(start, times);
+    state.levels.pop();
+    Ok(())
+}
+
+/// The code from a place on stands so many times, and the innermost ends.
+fn stand_again(state: &mut State, line: usize, start: usize, times: usize) -> Result<(), Stop>
+    ensures { Steps result state.old state.new (ends_repeat state.old line (again false state.old.threads start times)) }
+{
+    if state.threads.exceeds(start, times) {
+        return fault(line, AsmKind::TooLong);
+    }
+    match state.threads.repeat(start, times) {
+        Ok(()) => {
+            state.levels.pop();
+            Ok(())
+        }
+        Err(_) => Err(Stop::Memory),
+    }
+}
+
+/// Lines end that stand so many times: so often they stand in place of once, or count where they were left out.
 #[tactic(auto, unfolding(crate::specs::Blocks::repeated))]
 pub fn end_repeat(state: &mut State, line: usize) -> Result<(), Stop>
     ensures { Steps result state.old state.new (repeated state.old line (innermost state.old.levels)) }
 {
     match state.levels.innermost() {
         Some(Group::Repeat { start, times }) => {
-            if state.threads.exceeds(start, times) {
-                return fault(line, AsmKind::TooLong);
-            }
-            match state.threads.repeat(start, times) {
-                Ok(()) => {
-                    state.levels.pop();
-                    Ok(())
-                }
-                Err(_) => Err(Stop::Memory),
+            if state.levels.within_never() {
+                count_again(state, line, start, times)
+            } else {
+                stand_again(state, line, start, times)
             }
         }
         _ => fault(line, AsmKind::Unbalanced),

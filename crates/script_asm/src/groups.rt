@@ -1,7 +1,8 @@
 //! What is open: blocks, and groups of lines.
 
-ghost use Rattle.std.specs.Prelude.{◌≡◌, ◌<◌, [], ◌∷◌, length, nat_le, OnOk};
-ghost use Rattle.script_asm.specs.Groups.{innermost, innermost_line, outer, second_part};
+ghost use Rattle.std.specs.Prelude.{◌≡◌, ◌<◌, [], ◌∷◌, length, nat_le, OnOk, Some};
+ghost use Rattle.script_asm.specs.declared.groups.Group.TheVariants as groups;
+ghost use Rattle.script_asm.specs.Groups.{innermost, innermost_line, outer, second_part, stands_never, within_never};
 
 use script_program::MAX_LEVELS;
 use std::alloc::{AllocError, Global};
@@ -17,7 +18,20 @@ pub enum Group {
     /// Its second part.
     Second,
     /// Lines that are read once and stand so many times: how long the section's code was as they began, and how often.
+    /// Where they or those around them are to stand 0 times, how much was left out as they began.
     Repeat { start: usize, times: usize },
+}
+
+impl Group {
+    /// Whether it is lines that are to stand 0 times.
+    fn stands_never(self) -> bool
+        ensures { result ≡ stands_never self }
+    {
+        match self {
+            Group::Repeat { times, .. } => times == 0,
+            _ => false,
+        }
+    }
 }
 
 /// A beginning whose end has not come yet, and its line.
@@ -31,18 +45,21 @@ pub struct Beginning {
 #[derive(Drop)]
 pub struct Groups {
     beginnings: Vec<Beginning>,
+    /// How many of them are lines that are to stand 0 times.
+    never: usize,
 }
 
 impl Model for Groups {
-    ghost use Rattle.std.specs.Prelude.{◌≤◌, List, length, reverse};
+    ghost use Rattle.std.specs.Prelude.{◌≡◌, ◌≤◌, List, length, reverse};
     ghost use Rattle.script_asm.specs.declared.groups.Beginning.{Beginning};
     ghost use Rattle.script_program.specs.declared.limits.TheConstants.{MAX_LEVELS};
+    ghost use Rattle.script_asm.specs.Groups.{never_count};
 
     ghost Value = { List Beginning };
 
     ghost view = { λ g. reverse g.beginnings.items };
 
-    ghost invariant = { λ g. length g.beginnings.items ≤ MAX_LEVELS };
+    ghost invariant = { λ g. (length g.beginnings.items ≤ MAX_LEVELS) × (g.never ≡ never_count (reverse g.beginnings.items)) };
 }
 
 impl Groups {
@@ -52,6 +69,7 @@ impl Groups {
     {
         Groups {
             beginnings: Vec::new(alloc),
+            never: 0,
         }
     }
 
@@ -82,12 +100,22 @@ impl Groups {
         MAX_LEVELS <= self.beginnings.len()
     }
 
+    /// Whether lines that are to stand 0 times are open.
+    pub fn within_never(&self) -> bool
+        ensures { result ≡ within_never self.now }
+    {
+        0 < self.never
+    }
+
     /// One more begins, within all that are open.
     pub fn push(&mut self, line: usize, group: Group) -> Result<(), AllocError>
         requires { length self.old < MAX_LEVELS }
         ensures { OnOk result (self.new ≡ record { line = line; group = group } ∷ self.old) }
     {
         self.beginnings.push(Beginning { line, group })?;
+        if group.stands_never() {
+            self.never += 1;
+        }
         Ok(())
     }
 
@@ -95,11 +123,16 @@ impl Groups {
     pub fn pop(&mut self)
         ensures { self.new ≡ outer self.old }
     {
-        self.beginnings.pop();
+        if let Some(beginning) = self.beginnings.pop() {
+            if beginning.group.stands_never() {
+                self.never -= 1;
+            }
+        }
     }
 
-    /// The second part of the innermost begins, where there is one.
+    /// The second part of the innermost begins, where its first part is open.
     pub fn turn(&mut self)
+        requires { innermost self.old ≡ Some groups.First }
         ensures { self.new ≡ second_part self.old }
     {
         let count = self.beginnings.len();

@@ -1,5 +1,5 @@
 -- What is open after the code so far, as lines begin and end blocks, groups and repeats.
-use Rattle.std.proofs.Common.{◌≡◌, ℕ, zero, suc, ◌<◌, ◌≤◌, List, [], ◌∷◌, ◌++◌, length, take, drop, Option, Some, None, refl, sym, ap, ◌∙◌, arith, subst}
+use Rattle.std.proofs.Common.{◌≡◌, ℕ, zero, suc, ◌<◌, ◌≤◌, Bool, true, false, cond, ◌||◌, List, [], ◌∷◌, ◌++◌, length, take, drop, Option, Some, None, refl, sym, ap, ◌∙◌, arith, subst}
 use Rattle.std.specs.Bool.{⊤}
 use Rattle.std.specs.List.{repeat}
 use Rattle.std.proofs.lemmas.Bool.{lt-ltb}
@@ -10,7 +10,7 @@ use Rattle.script_asm.specs.declared.groups.Group.{Group}
 use Rattle.script_asm.specs.declared.groups.Group.TheVariants as groups
 use Rattle.script_program.specs.declared.instruction.Instruction.{Instruction}
 use Rattle.script_program.specs.declared.limits.TheConstants.{MAX_LEVELS}
-use Rattle.script_asm.specs.Groups.{innermost, outer, second_part}
+use Rattle.script_asm.specs.Groups.{innermost, outer, second_part, stands_never, within_never}
 use Rattle.script_print.proofs.Printable.{pushed, open_after, then_after, open_after_all}
 
 -- ## What is open, but for repeats
@@ -173,3 +173,38 @@ again_open code b more start times e o =
 pub repeat_ended : (code : List Instruction) (ls : List Beginning) (start times : ℕ) → innermost ls ≡ Some (groups.Repeat start times) → IsOpen code ls → IsOpen (take start code ++ repeat times (drop start code)) (outer ls)
 repeat_ended code [] start times e o = absurd cc
 repeat_ended code (b ∷ more) start times e o = let is : b.group ≡ groups.Repeat start times = cc in again_open code b more start times is o
+
+-- ## Lines that are to stand never
+
+-- what is open, but for lines that are to stand never and what is within them: their code is left out
+abbrev pub standing : List Beginning → List Beginning
+standing [] = []
+standing (b ∷ more) = cond (within_never (b ∷ more)) (standing more) (b ∷ more)
+
+-- all stands where there are no such lines
+pub standing_all : (ls : List Beginning) → within_never ls ≡ false → standing ls ≡ ls
+standing_all [] e = refl
+standing_all (b ∷ more) e = rw e refl
+
+-- the innermost does not stand where there are
+pub standing_outer : (ls : List Beginning) → within_never ls ≡ true → standing (outer ls) ≡ standing ls
+standing_outer [] e = refl
+standing_outer (b ∷ more) e = rw e refl
+
+neither : (a b : Bool) → (a || b) ≡ false → b ≡ false
+neither true b e = absurd cc
+neither false b e = e
+
+-- there are none around the innermost where there are none
+pub never_outer : (ls : List Beginning) → within_never ls ≡ false → within_never (outer ls) ≡ false
+never_outer [] e = refl
+never_outer (b ∷ more) e = neither (stands_never b.group) (within_never more) e
+
+-- the parts of a group are within the same lines
+pub never_second : (ls : List Beginning) → innermost ls ≡ Some groups.First → within_never (second_part ls) ≡ within_never ls
+never_second [] e = absurd cc
+never_second (b ∷ more) e = let is : b.group ≡ groups.First = cc in rw is refl
+
+pub standing_second : (ls : List Beginning) → innermost ls ≡ Some groups.First → within_never ls ≡ true → standing (second_part ls) ≡ standing ls
+standing_second [] first e = absurd cc
+standing_second (b ∷ more) first e = rw (e, never_second (b ∷ more) first ∙ e) refl

@@ -22,7 +22,7 @@ use Rattle.script_print.proofs.PrintedCode.{groups_of, with_code, code_said}
 
 -- sections, the last of which is read
 abbrev sections : List Part → Part → Sections
-sections ended q = record { ended = ended; count = q.count; code = q.code }
+sections ended q = record { ended = ended; count = q.count; code = q.code; left_out = 0 }
 
 -- in these sections, with nothing open
 abbrev pub with_sections : State → Sections → State
@@ -64,7 +64,7 @@ part_said : (s : State) (n : ℕ) (t : Sections) (ended : List Part) (q : Part) 
 unfolding instruction_total
 part_said s n t ended q may begins few short h =
     let u = with_sections s (sections ended (of_count q.count)) in
-    let code = code_said q.code u (n + 1) [] (lt-ltb 0 q.count h.0) (omega arith) h.1.1 h.1.0 in
+    let code = code_said q.code u (n + 1) [] (lt-ltb 0 q.count h.0) (omega arith) refl h.1.1 h.1.0 in
     said_next (thread_fields q.count) (map instruction_fields q.code) (with_sections s t) u n (begun_said s n t q.count may h.0 few ∙ ap (λ (k : Sections). Ok (with_sections s k)) begins)
     ∙ code.2 ∙ ap (λ (levels : List Beginning). Ok (with_code u q.code levels)) (none_left code.0 code.1)
 
@@ -111,7 +111,7 @@ later (r ∷ more) s n ended q may some few short h =
 
 -- before the first section
 abbrev pub no_sections : Sections
-no_sections = record { ended = []; count = 0; code = [] }
+no_sections = record { ended = []; count = 0; code = []; left_out = 0 }
 
 pub parts_said : (parts : List Part) (s : State) (n : ℕ) → is_some s.memory ≡ true → 0 < length parts → threads_in parts ≤ MAX_ACTORS → instructions_in parts ≤ MAX_INSTRUCTIONS
     → AllByRecursion IsPart parts → SaysParts s n no_sections parts parts

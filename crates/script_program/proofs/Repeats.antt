@@ -7,7 +7,7 @@ use Rattle.std.proofs.lemmas.List.{append-nil, length-take, length-drop, take-ap
 use Rattle.std.proofs.Math.Seq.{drop-append_seam, take-append_seam}
 use Rattle.std.proofs.Math.Nat.{mul_comm, mul-le-mul_right}
 use Rattle.script_program.specs.declared.instruction.Instruction.{Instruction}
-use Rattle.script_program.specs.Sections.{Sections, instruction_total, expanded}
+use Rattle.script_program.specs.Sections.{Sections, instruction_total, expanded, counted_again}
 
 length-repeat : (n : ℕ) (xs : List Instruction) → length (repeat n xs) ≡ n * length xs
 length-repeat zero xs = omega arith
@@ -43,12 +43,15 @@ unfolding expanded instruction_total
 expanded_total t start times =
     omega (arith, length-append (take start t.code) (repeat times (drop start t.code)), length-take start t.code, length-repeat times (drop start t.code), ap (λ (n : ℕ). times * n) (length-drop start t.code))
 
-pub too_many : (t : Sections) (start times all group product : ℕ) → all ≡ instruction_total t → all ≤ 65536 → group ≡ length t.code - start → product ≡ min (group * times) (2 ^ 64 - 1)
-    → ltb (65536 - (all - group)) product ≡ ltb 65536 (instruction_total (expanded t start times))
-too_many t start times all group product a few g p =
-    let total = expanded_total t start times in
-    let turned : times * (length t.code - start) ≡ group * times = ap (λ (n : ℕ). times * n) (sym g) ∙ mul_comm times group in
-    ltb_from_iff (λ e. let below = ltb-true _ _ e in omega (arith, total, turned, below), λ below. lt-ltb _ _ (omega (arith, total, turned, below)))
+-- as much, whichever number of the two comes first
+pub turned : (n group times : ℕ) → group ≡ n → times * n ≡ group * times
+turned n group times g = ap (λ (k : ℕ). times * k) (sym g) ∙ mul_comm times group
+
+-- too many where so many of them counted so many times
+pub too_many : (all group times product : ℕ) → all ≤ 65536 → group ≤ all → product ≡ min (group * times) (2 ^ 64 - 1) → ltb (65536 - (all - group)) product ≡ ltb 65536 ((all - group) + times * group)
+too_many all group times product few within p =
+    let same = turned group group times refl in
+    ltb_from_iff (λ e. let below = ltb-true _ _ e in omega (arith, same, below), λ below. lt-ltb _ _ (omega (arith, same, below)))
 
 -- one more of what stands there
 appended : (c : List Instruction) (start count : ℕ) → start ≤ length c → 1 ≤ count
@@ -107,3 +110,10 @@ longer t start times end e h k =
     let there = expanded_length t start times (omega arith) in
     let twice : 2 * (length t.code - start) ≤ times * (length t.code - start) = mul-le-mul_right (length t.code - start) (omega arith) in
     omega (arith, there, twice)
+
+-- ## Instructions that leave no code
+
+-- how many instructions there are where what was left out counts so many times
+pub counted_total : (t : Sections) (start times : ℕ) → instruction_total (counted_again t start times) ≡ (instruction_total t - (t.left_out - start)) + times * (t.left_out - start)
+unfolding counted_again instruction_total
+counted_total t start times = omega arith

@@ -1,8 +1,8 @@
 //! The threads of a script: sections of code, each for one thread or for several.
 
-ghost use Rattle.std.specs.Prelude.{◌≡◌, ◌+◌, ◌-◌, ◌<◌, ◌≤◌, [], ◌∷◌, ◌++◌, Some, OnErr, OnOk, length, nat_le, nat_lt, slice_get, slice_range, take};
+ghost use Rattle.std.specs.Prelude.{◌≡◌, ◌+◌, ◌-◌, ◌*◌, ◌<◌, ◌≤◌, [], ◌∷◌, ◌++◌, Some, OnErr, OnOk, length, nat_le, nat_lt, slice_get, slice_range, take};
 ghost use Rattle.script_program.specs.Listing.{codes_of};
-ghost use Rattle.script_program.specs.Sections.{parts_of, thread_total, instruction_total, begun, expanded};
+ghost use Rattle.script_program.specs.Sections.{parts_of, thread_total, instruction_total, begun, expanded, counted_again};
 
 use crate::instruction::Instruction;
 use crate::limits::MAX_INSTRUCTIONS;
@@ -36,6 +36,7 @@ pub struct Threads {
     ended: Vec<Section>,
     count: usize,
     code: Vec<Instruction>,
+    left_out: usize,
     threads: usize,
     instructions: usize,
 }
@@ -48,10 +49,10 @@ impl Model for Threads {
 
     ghost Value = { Sections };
 
-    ghost view = { λ t. record { ended = t.ended.items; count = t.count; code = t.code.items } };
+    ghost view = { λ t. record { ended = t.ended.items; count = t.count; code = t.code.items; left_out = t.left_out } };
 
-    ghost invariant = { λ t. (t.threads ≡ thread_total (record { ended = t.ended.items; count = t.count; code = t.code.items }))
-        × (t.instructions ≡ instruction_total (record { ended = t.ended.items; count = t.count; code = t.code.items }))
+    ghost invariant = { λ t. (t.threads ≡ thread_total (record { ended = t.ended.items; count = t.count; code = t.code.items; left_out = t.left_out }))
+        × (t.instructions ≡ instruction_total (record { ended = t.ended.items; count = t.count; code = t.code.items; left_out = t.left_out }))
         × (t.threads ≤ MAX_ACTORS) × (t.instructions ≤ MAX_INSTRUCTIONS) };
 }
 
@@ -59,12 +60,13 @@ impl Threads {
     /// No section has begun. Takes no memory.
     #[tactic(auto, unfolding(crate::specs::Sections::thread_total, crate::specs::Sections::instruction_total))]
     pub fn new(alloc: Global) -> Self
-        ensures { result ≡ record { ended = []; count = 0; code = [] } }
+        ensures { result ≡ record { ended = []; count = 0; code = []; left_out = 0 } }
     {
         Threads {
             ended: Vec::new(alloc),
             count: 0,
             code: Vec::new(alloc),
+            left_out: 0,
             threads: 0,
             instructions: 0,
         }
@@ -85,7 +87,7 @@ impl Threads {
         self.threads
     }
 
-    /// Whether there are as many instructions as may be.
+    /// Whether as many instructions are counted as may be.
     pub fn is_full(&self) -> bool
         ensures { result ≡ nat_le MAX_INSTRUCTIONS (instruction_total self.now) }
     {
@@ -132,11 +134,37 @@ impl Threads {
         }
     }
 
+    /// One more line is counted, and leaves no code. Takes no memory.
+    #[tactic(auto, unfolding(crate::specs::Sections::thread_total, crate::specs::Sections::instruction_total))]
+    pub fn leave_out(&mut self)
+        requires { instruction_total self.old < MAX_INSTRUCTIONS }
+        ensures { self.new ≡ record self.old { left_out = self.old.left_out + 1 } }
+    {
+        self.left_out += 1;
+        self.instructions += 1;
+    }
+
     /// How many instructions the code that is read has.
     pub fn code_len(&self) -> usize
         ensures { result ≡ length self.now.code }
     {
         self.code.len()
+    }
+
+    /// How many instructions were counted that leave no code.
+    pub fn left_out(&self) -> usize
+        ensures { result ≡ self.now.left_out }
+    {
+        self.left_out
+    }
+
+    /// Whether there would be more instructions than may be, if so many of them counted so many times.
+    fn would_exceed(&self, group: usize, times: usize) -> bool
+        requires { group ≤ instruction_total self.now }
+        ensures { result ≡ nat_lt MAX_INSTRUCTIONS ((instruction_total self.now - group) + times * group) }
+    {
+        let others = self.instructions - group;
+        MAX_INSTRUCTIONS - others < group.saturating_mul(times)
     }
 
     /// Whether there would be more instructions than may be, if those of the code that is read from a place on stood
@@ -146,8 +174,29 @@ impl Threads {
         ensures { result ≡ nat_lt MAX_INSTRUCTIONS (instruction_total (expanded self.now start times)) }
     {
         let group = self.code.len().saturating_sub(start);
-        let others = self.instructions - group;
-        MAX_INSTRUCTIONS - others < group.saturating_mul(times)
+        self.would_exceed(group, times)
+    }
+
+    /// Whether there would be more instructions than may be, if those that were left out from a number on counted so
+    /// many times.
+    #[tactic(auto, unfolding(crate::specs::Sections::instruction_total))]
+    pub fn exceeds_left_out(&self, start: usize, times: usize) -> bool
+        ensures { result ≡ nat_lt MAX_INSTRUCTIONS (instruction_total (counted_again self.now start times)) }
+    {
+        let group = self.left_out.saturating_sub(start);
+        self.would_exceed(group, times)
+    }
+
+    /// What was left out from a number on counts so many times in place of once. Takes no memory, and a time that does
+    /// not grow with the times.
+    pub fn count_again(&mut self, start: usize, times: usize)
+        requires { instruction_total (counted_again self.old start times) ≤ MAX_INSTRUCTIONS }
+        ensures { self.new ≡ counted_again self.old start times }
+    {
+        let group = self.left_out.saturating_sub(start);
+        let again = group * times;
+        self.left_out = self.left_out - group + again;
+        self.instructions = self.instructions - group + again;
     }
 
     /// The code that is read ends before a place.
