@@ -1,5 +1,5 @@
 -- What an engine gives for a call leaves room for the actions that have run.
-use Rattle.std.proofs.Common.{◌≡◌, ℕ, ◌+◌, ◌<◌, ◌≤◌, Bool, true, false, true≢false, [], length, is_some, Result, Ok, Err, IfOk, OnOk, OnErr, Some, None, refl, sym, ap, subst, ◌∙◌, inl, inr, arith, vec_capacity}
+use Rattle.std.proofs.Common.{Vec, Global, ◌≡◌, ℕ, ◌+◌, ◌<◌, ◌≤◌, Bool, true, false, true≢false, [], length, is_some, Result, Ok, Err, IfOk, OnOk, OnErr, Some, None, refl, sym, ap, subst, ◌∙◌, inl, inr, arith, vec_capacity}
 use Rattle.itm_types.specs.Calls.{is_abort, registered_by}
 use Rattle.norec_core.specs.Core.{came, goes}
 use Rattle.norec_core.specs.Copies.{copy_refusal}
@@ -12,11 +12,13 @@ use Rattle.norec_world.specs.Records.{Asks as AsksOf, asked_pending, begins_agai
 use Rattle.norec_world.proofs.ActiveRows.{row_from}
 use Rattle.itm_types.specs.declared.call.Call.TheVariants.{Abort, Begin, CommitAction, Copy, Fill, Log, LogBytes, Mode, Read, UndoAction, Write}
 use Rattle.itm_types.specs.declared.call.Ran.{Ran}
+use Rattle.tx_attempts.specs.declared.attempt.Entry.{Entry}
 use Rattle.user_actions.specs.Actions.{total}
 use Rattle.norec_core.specs.declared.answer.Next.{Next}
 use Rattle.norec_core.specs.declared.answer.Next.TheVariants.{Step as Asks, Answer as Answers}
 use Rattle.norec_core.proofs.ActionCounts.{LeavesActions, registers}
-use Rattle.norec_world.specs.ActionRoom.{IsActing, IsEmpty, MayRunOn, NoCancel, StartsEmpty}
+use Rattle.norec_world.specs.ActionRoom.{HasRoomFor, IsActing, IsEmpty, MayRunOn, NoCancel, StartsEmpty, is_held}
+use Rattle.norec_world.proofs.HeldRoom.{LeavesRoom, leaves_room, same_room}
 use Rattle.norec_world.proofs.Common.{Actor, Answer, Attempt, Call, Core, Ends, HasRow, Proceeds, Rows, Step, active_of, cases_Bool, in_transaction, is_begin, is_inside, none_inside, rests, with_changed}
 use Rattle.norec_world.proofs.LaterActions.{first_here}
 
@@ -28,7 +30,7 @@ module _ {P : Type 0} (r : Rows) (a : Actor P) (mid : Core) (call : Call) (was :
     (empty : IsEmpty a) (all : (row : Attempt) → active_of a.thread r.active ≡ Some row → row.ran ≡ mid.actions.ran)
     (places : (row : Attempt) → active_of a.thread r.active ≡ Some row → total mid.actions + registers call ≤ vec_capacity a.end_room)
     (cancel : (row : Attempt) → active_of a.thread r.active ≡ Some row → is_abort call ≡ true → total mid.actions ≤ vec_capacity a.cancel_room)
-    (pending : StartsEmpty a) where
+    (pending : StartsEmpty a) (room : HasRoomFor mid a) (settled : IsSettled a.engine) where
   open_as : (b : Bool) → was ≡ b → HasRow b r a.thread → (row : Attempt) → active_of a.thread r.active ≡ Some row → in_transaction mid ≡ true
   open_as true e h row f = o ∙ e
   open_as false e none row f = absurd (let both : None ≡ Some row = sym none ∙ f in cc)
@@ -50,11 +52,15 @@ module _ {P : Type 0} (r : Rows) (a : Actor P) (mid : Core) (call : Call) (was :
         places = λ row e. (let p = places row e in let n = ap total same in omega arith);
         pending = pending;
         status = other;
+        room = same_room mid a.engine a (sym (ap (λ (c : Core). c.blocks) g.stays)) (sym (ap (λ (c : Core). c.irrevocable) g.stays)) (sym (ap (λ (c : Core). c.doing) g.stays)) (sym (ap (λ (c : Core). c.room) g.stays)) (sym same) room;
       }
 
   module _ (answer : Answer) (g : Ends mid answer a.engine) (shut : in_transaction mid ≡ false → (mid.actions.commits ≡ []) × (mid.actions.undos ≡ [])) where
     acts : LeavesActions mid call a.engine
     acts = (rests mid a.engine answer g).acts call doing
+
+    left : LeavesRoom mid a.engine
+    left = leaves_room mid a.engine call answer doing settled g shut
 
     cancel_place : in_transaction a.engine ≡ true → (row : Attempt) → active_of a.thread r.active ≡ Some row → length row.ran < length a.engine.actions.ran → length a.engine.actions.ran ≤ vec_capacity a.cancel_room
     cancel_place now row e less = elim (cases_Bool (is_abort call)) [
@@ -77,6 +83,9 @@ module _ {P : Type 0} (r : Rows) (a : Actor P) (mid : Core) (call : Call) (was :
       cancel_places = cancel_place;
       pending = pending;
       anew = λ now none. (let x = shut_as was refl has none in acts.begins x (shut x).0 (shut x).1 now);
+      room = λ held some. (let less = left.room held some in let both = room (left.held held) less.0 in ((let x = both.0 in let y = less.1 in omega arith), (let x = both.1 in let y = less.1 in omega arith)));
+      over = left.over;
+      still = λ held row e. all row e ∙ sym (left.ran held (was_open row e));
     }
 
   -- whatever it gave
@@ -101,13 +110,14 @@ plain_waits old new call again step stage asks waits = (refl, refl)
 
 -- ## An actor that has no open attempt, and one whose attempt is changed
 
-pub none_acting : {P : Type 0} (r : Rows) (a : Actor P) → active_of a.thread r.active ≡ None → IsEmpty a → StartsEmpty a → NoCancel a.status → IsActing r a
-none_acting r a none empty pending status = record {
+pub none_acting : {P : Type 0} (r : Rows) (a : Actor P) → active_of a.thread r.active ≡ None → IsEmpty a → StartsEmpty a → NoCancel a.status → is_held a.engine ≡ false → IsActing r a
+none_acting r a none empty pending status free = record {
   empty = empty;
   all = λ row e. absurd (let both : None ≡ Some row = sym none ∙ e in cc);
   places = λ row e. absurd (let both : None ≡ Some row = sym none ∙ e in cc);
   pending = pending;
   status = status;
+  room = λ held some. absurd (true≢false (sym held ∙ free));
 }
 
 pub changed_acting : {P : Type 0} (r r' : Rows) (a : Actor P) (f : Attempt → Attempt) → ((x : Attempt) → (f x).thread ≡ x.thread) → ((x : Attempt) → (f x).ran ≡ x.ran) → r' ≡ with_changed a.thread f r → IsActing r a → IsActing r' a
@@ -117,7 +127,37 @@ changed_acting r r' a f thread ran is acts = record {
   places = λ row e. (let was = row_from r r' a.thread f thread is row e in acts.places was.0 was.1);
   pending = acts.pending;
   status = acts.status;
+  room = acts.room;
 }
+
+-- ## More room is made
+
+module _ {P : Type 0} (r : Rows) (a : Actor P) (spare : Vec Entry Global) (end_room cancel_room : Vec Ran Global) where
+  abbrev Grown : Actor P
+  Grown = record a { spare = spare; end_room = end_room; cancel_room = cancel_room }
+
+  grown : (end_room.items ≡ []) × (cancel_room.items ≡ []) → vec_capacity a.end_room ≤ vec_capacity end_room → vec_capacity a.cancel_room ≤ vec_capacity cancel_room → IsActing r a → IsActing r Grown
+  grown empty more more' acts = record {
+    empty = record { end_room = empty.0; cancel_room = empty.1 };
+    all = acts.all;
+    places = λ row e. (let p = acts.places row e in omega arith);
+    pending = acts.pending;
+    status = acts.status;
+    room = λ held some. (let both = acts.room held some in ((let x = both.0 in omega arith), (let x = both.1 in omega arith)));
+  }
+
+  pub grown_acting : (a' : Actor P) → a' ≡ Grown → (end_room.items ≡ []) × (cancel_room.items ≡ []) → vec_capacity a.end_room ≤ vec_capacity end_room → vec_capacity a.cancel_room ≤ vec_capacity cancel_room → IsActing r a
+      → (r' : Rows) → r' ≡ r → IsActing r' a'
+  grown_acting a' is empty more more' acts r' same = subst (λ (s : Rows). IsActing s a') (sym same) (subst (IsActing r) (sym is) (grown empty more more' acts))
+
+pub on_err : {A E T : Type 0} (result : Result A E) → T → OnErr result T
+on_err (Ok what) t = tt
+on_err (Err x) t = t
+
+-- the call did not come to the engine
+pub unasked_acting : {P E : Type 0} (r : Rows) (a : Actor P) (e : Core) (result : Result Next E) → OnErr result (e ≡ a.engine) → IsActing r a → OnErr result (IsActing r (record a { engine = e }))
+unasked_acting r a e (Ok what) still is = tt
+unasked_acting r a e (Err x) still is = subst (λ (c : Core). IsActing r (record a { engine = c })) (sym still) is
 
 -- ## A call goes to the engine
 
@@ -131,11 +171,11 @@ pub called_acting : {P E : Type 0} (r : Rows) (a : Actor P) (mid old : Core) (ca
     → ((row : Attempt) → active_of a.thread r.active ≡ Some row → row.ran ≡ mid.actions.ran)
     → ((row : Attempt) → active_of a.thread r.active ≡ Some row → total mid.actions + registers call ≤ vec_capacity a.end_room)
     → ((row : Attempt) → active_of a.thread r.active ≡ Some row → is_abort call ≡ true → total mid.actions ≤ vec_capacity a.cancel_room)
-    → StartsEmpty a → (in_transaction mid ≡ false → (mid.actions.commits ≡ []) × (mid.actions.undos ≡ []))
-    → (result : Result Next E) → IfOk result (λ what. Proceeds mid what a.engine) → OnOk result (a.engine.stage ≡ stage_at old call again) → OnOk result (a.engine.waits ≡ asked a.engine) → IfOk result (MayRunOn r a call)
-called_acting r a mid old call again was o has doing empty all places cancel pending shut (Ok what) g stage asks =
-    gave_acting r a mid call was o has doing empty all places cancel pending what g shut (gave_plainly mid a.engine old call again what g stage asks)
-called_acting r a mid old call again was o has doing empty all places cancel pending shut (Err x) g stage asks = tt
+    → StartsEmpty a → HasRoomFor mid a → (in_transaction mid ≡ false → (mid.actions.commits ≡ []) × (mid.actions.undos ≡ []))
+    → (result : Result Next E) → IfOk result (λ what. Proceeds mid what a.engine) → OnOk result (a.engine.stage ≡ stage_at old call again) → OnOk result (a.engine.waits ≡ asked a.engine) → OnOk result (IsSettled a.engine) → IfOk result (MayRunOn r a call)
+called_acting r a mid old call again was o has doing empty all places cancel pending room shut (Ok what) g stage asks settled =
+    gave_acting r a mid call was o has doing empty all places cancel pending room settled what g shut (gave_plainly mid a.engine old call again what g stage asks)
+called_acting r a mid old call again was o has doing empty all places cancel pending room shut (Err x) g stage asks settled = tt
 
 -- a place more where the call registers one
 pub places_for : (call : Call) (least room room' : ℕ) → least ≤ room → room ≤ room' → (is_some (registered_by call) ≡ true → least < room') → least + registers call ≤ room'

@@ -1,4 +1,4 @@
--- Worked cases, computed: the attempts of one counter, and of two whose first try is lost; a block that is cancelled and the next one; the counts of a schedule.
+-- Worked cases, computed: the attempts of one counter, and of two whose first try is lost; a block that is cancelled and the next one; the counts of a schedule; which transactions have a room that is kept.
 use Rattle.std.proofs.Common.{◌≡◌, ℕ, zero, suc, ◌-◌, List, [], ◌∷◌, ◌++◌, map, refl, ap, ◌∙◌, false, true, replicate, Option, None, Some, Ok, Err, arith}
 use Rattle.itm_types.specs.declared.access.Width.TheVariants.{U1, U2, U8}
 use Rattle.itm_types.specs.declared.access.ReadHint.TheVariants.{R}
@@ -6,12 +6,15 @@ use Rattle.itm_types.specs.declared.access.WriteHint.TheVariants.{W}
 use Rattle.itm_types.specs.declared.datum.Datum.{Datum}
 use Rattle.norec_world.proofs.Common.{Attempt, Begin, Between, Call, Commit, Done, Entry, IsOpaque, IsRunOf, Props, Read, Rules, Write, after, alone, passes_of, takes_clock}
 use Rattle.itm_types.specs.declared.call.Reply.{Reply}
-use Rattle.itm_types.specs.declared.call.Call.TheVariants.{Abort, Load, Log, Save}
+use Rattle.itm_types.specs.declared.call.Call.TheVariants.{Abort, Load, Log, Mode, Save}
 use Rattle.itm_types.specs.declared.call.Reply.TheVariants.{Bytes, Code}
 use Rattle.tx_attempts.specs.declared.attempt.Outcome.TheVariants.{Cancelled, Committed, Conflict, Full, ReadOnly}
 use Rattle.norec_world.specs.declared.fault.WorldFault.TheVariants as faults
 use Rattle.tx_attempts.specs.Attempts.{ByAbort, memory_after}
 use Rattle.norec_world.specs.Dates.{AreDated, IsDated}
+use Rattle.nest_frames.specs.Nest.{Frame}
+use Rattle.norec_core.specs.Core.{Core, opening}
+use Rattle.norec_world.specs.ActionRoom.{counted, is_held}
 use Rattle.norec_world.proofs.Plan.{Plan, next_call, restarted, calls_left, depth}
 use Rattle.norec_world.proofs.Plan as plans
 
@@ -227,3 +230,39 @@ not_cancelled (x ∷ y ∷ rest, outer, e) = absurd (cc)
 
 schedule_counts : passes_of (Ok tt ∷ Err faults.NoSuchActor ∷ Err faults.NoMemory ∷ Err faults.Ended ∷ []) ≡ record { taken = 1; passed = 2; starved = 1 }
 schedule_counts = refl
+
+-- ## Which transactions have a room that is kept: one whose `Mode` or begin is in progress, and one that is irrevocable
+
+abbrev pub block : Props → Frame
+block props = record { props = props; rows = []; log = []; commits = 0; undos = 0 }
+
+abbrev pub inside : Props → Core
+inside props = record (opening 1 [] 1 1) { blocks = block props ∷ []; actions = record { commits = record { fun = 1; arg = 2 } ∷ []; undos = []; ran = [] } }
+
+abbrev pub going : Props
+going = record plain { goes_irrevocable = true }
+
+outside_none : is_held (opening 1 [] 1 1) ≡ false
+outside_none = refl
+
+begin_goes : is_held (record (opening 1 [] 1 1) { doing = Some (Begin going 3) }) ≡ true
+begin_goes = refl
+
+mode_goes : is_held (record (inside plain) { doing = Some (Mode 3) }) ≡ true
+mode_goes = refl
+
+mode_refused : is_held (record (inside (record plain { no_irrevocable = true })) { doing = Some (Mode 3) }) ≡ false
+mode_refused = refl
+
+commit_goes_not : is_held (record (inside plain) { doing = Some Commit }) ≡ false
+commit_goes_not = refl
+
+irrevocable_is : is_held (record (inside plain) { irrevocable = true; doing = Some Commit }) ≡ true
+irrevocable_is = refl
+
+-- one action is registered
+counts_one : counted (inside plain) ≡ 1
+counts_one = refl
+
+counts_none : counted (record (inside plain) { blocks = [] }) ≡ 0
+counts_none = refl

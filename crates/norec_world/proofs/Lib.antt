@@ -4,6 +4,7 @@ pub mod Examples
 pub mod ActiveRows
 pub mod OthersAttempts
 pub mod LaterActions
+pub mod HeldRoom
 pub mod ActionRoom
 pub mod Taken
 pub mod TryEnds

@@ -60,7 +60,7 @@ module _ {P : Type 0} (rules : Rules P) where
       record {
         tied = tied_still cells cells' b s.tied fit late long held;
         kept = record { row = has_row_same (in_transaction b.engine) r r' b.thread same k.row; empty = k.empty; tried = k.tried; tries = k.tries; retries = k.retries };
-        acts = record { empty = s.acts.empty; all = λ row e. s.acts.all row (sym same ∙ e); places = λ row e. s.acts.places row (sym same ∙ e); pending = s.acts.pending; status = s.acts.status };
+        acts = record { empty = s.acts.empty; all = λ row e. s.acts.all row (sym same ∙ e); places = λ row e. s.acts.places row (sym same ∙ e); pending = s.acts.pending; status = s.acts.status; room = s.acts.room };
         status = status_as r r' b (λ row e l. pending_some b.pending row r'.room e room) (λ row e. (row, sym same ∙ e, refl)) b.status s.status;
       }
 

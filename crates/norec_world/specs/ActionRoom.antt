@@ -1,8 +1,8 @@
 -- The actions of an actor's transaction: which of them have run, and the room for those that are to run.
-use Rattle.std.specs.Prelude.{◌≡◌, ◌<◌, ◌≤◌, true, false, [], length, is_some, None, Some, vec_capacity}
+use Rattle.std.specs.Prelude.{◌≡◌, ℕ, ◌+◌, ◌<◌, ◌≤◌, ◌||◌, if◌then◌else◌, Bool, true, false, [], length, is_some, Option, None, Some, vec_capacity}
 use Rattle.itm_types.specs.Calls.{is_abort, registered_by}
 use Rattle.user_actions.specs.Actions.{total}
-use Rattle.norec_core.specs.Core.{in_transaction}
+use Rattle.norec_core.specs.Core.{Core, goes, in_transaction}
 use Rattle.itm_types.specs.declared.call.Call.{Call}
 use Rattle.norec_core.specs.declared.answer.Next.{Next}
 use Rattle.norec_core.specs.declared.answer.Next.TheVariants.{Step, Answer}
@@ -19,7 +19,24 @@ NoCancel Ready = Unit {0}
 NoCancel (Waits call step) = (is_abort call ≡ false) × (is_some (registered_by call) ≡ false)
 NoCancel (Ended end) = Unit {0}
 
+-- the room that the call in progress asks for, where it makes the transaction irrevocable
+abbrev pub goes_in : Core → Option Call → Option ℕ
+goes_in e None = None
+goes_in e (Some call) = goes e call
+
+-- the transaction is irrevocable, or the call in progress makes it so
+abbrev pub is_held : Core → Bool
+is_held e = e.irrevocable || is_some (goes_in e e.doing)
+
+-- the actions of the open transaction
+abbrev pub counted : Core → ℕ
+counted e = if in_transaction e then total e.actions else 0
+
 module _ {P : Type 0} where
+  -- while some of the room of such a transaction is left, there is a place for each of its actions and for as many more as the room has
+  abbrev pub HasRoomFor : Core → Actor P → Type 0
+  HasRoomFor e a = is_held e ≡ true → 0 < e.room → (counted e + e.room ≤ vec_capacity a.end_room) × (counted e + e.room ≤ vec_capacity a.cancel_room)
+
   -- the actor's open attempt, if it has one, has the actions that have run
   abbrev pub HasAll : Rows → Actor P → Type 0
   HasAll r a = (row : Attempt) → active_of a.thread r.active ≡ Some row → row.ran ≡ a.engine.actions.ran
@@ -57,6 +74,7 @@ module _ {P : Type 0} where
     pub places : HasPlaces r a
     pub pending : StartsEmpty a
     pub status : NoCancel a.status
+    pub room : HasRoomFor a.engine a
 
   -- a call is answered, and nothing is recorded of that yet
   pub record MayRun (r : Rows) (a : Actor P) : Type 0 where
@@ -66,6 +84,9 @@ module _ {P : Type 0} where
     pub cancel_places : HasCancelPlaces r a
     pub pending : StartsEmpty a
     pub anew : BeginsEmpty r a
+    pub room : HasRoomFor a.engine a
+    pub over : in_transaction a.engine ≡ false → is_held a.engine ≡ false
+    pub still : is_held a.engine ≡ true → HasAll r a
 
   -- what the engine gave for the call is to be recorded
   abbrev pub MayRunOn : Rows → Actor P → Call → Next → Type 0

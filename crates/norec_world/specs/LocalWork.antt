@@ -25,9 +25,9 @@ pub record SameActor {P : Type 0} (a a' : Actor P) : Type 0 where
   pub retries : a'.retries ≡ a.retries
   pub nothing : a'.status ≡ Ready → a'.pending ≡ None
 
--- there is no room for one action more that runs at the attempt's end, or for those that have run once a cancel is done
+-- There is no room for one action more that runs at the attempt's end, or for those that have run once a cancel is done. Of an irrevocable attempt that is so only once its commit actions have used its room up.
 abbrev pub LacksRoom : {P : Type 0} → Actor P → Call → Type 0
-LacksRoom a call = ((is_some (registered_by call) ≡ true) × (vec_capacity a.end_room ≤ total a.engine.actions)) ⊎ ((is_abort call ≡ true) × (vec_capacity a.cancel_room < total a.engine.actions))
+LacksRoom a call = (a.engine.irrevocable ≡ true → a.engine.room ≡ 0) × (((is_some (registered_by call) ≡ true) × (vec_capacity a.end_room ≤ total a.engine.actions)) ⊎ ((is_abort call ≡ true) × (vec_capacity a.cancel_room < total a.engine.actions)))
 
 -- within a block memory is wanted for the call with its reply where there is no room left for them, likewise for the actions that it leaves, or by the call for itself
 abbrev pub IsShort : {P : Type 0} → Rows → Actor P → Call → Type 0

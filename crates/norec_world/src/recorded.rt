@@ -9,7 +9,7 @@ ghost use Rattle.norec_world.specs.Rows.{Rows, AreFrom, all_of, active_of, is_of
 use itm_types::Ran;
 use std::alloc::{AllocError, Global};
 use std::marker::Model;
-use tx_attempts::{Attempt, Entry, Outcome};
+use tx_attempts::{Attempt, Entry, Outcome, RanActions};
 
 /// The attempts that have ended, in the order in which they did, and then the open ones by actor.
 #[derive(Drop)]
@@ -141,10 +141,14 @@ impl Recorded {
             → length ran.now ≤ vec_capacity spare.old }
         ensures ran { self.new ≡ with_changed thread (λ row. record row { ran = ran.now }) self.old }
         ensures empty { spare.new.items ≡ [] }
+
+        // Where it has all of them already, no room is used.
+        ensures kept { ((row : Attempt) → active_of thread self.old.active ≡ Some row → row.ran ≡ ran.now)
+            → vec_capacity spare.new ≡ vec_capacity spare.old }
     {
         if let Some(place) = position_of(&self.rows[self.ended..], thread) {
             let row = &mut self.rows[self.ended + place];
-            row.ran.grow(spare, ran);
+            grow(&mut row.ran, spare, ran);
         }
     }
 
@@ -183,6 +187,20 @@ impl Recorded {
             insert_within(&mut self.rows, self.ended, row);
             self.ended += 1;
         }
+    }
+}
+
+/// All of these, of which the first ones are there already. Room is used only where there are more.
+fn grow(ran: &mut RanActions, spare: &mut Vec<Ran>, all: &[Ran])
+    requires first { IsBeginningOf ran.old all.now }
+    requires empty { spare.old.items ≡ [] }
+    requires room { length ran.old < length all.now → length all.now ≤ vec_capacity spare.old }
+    ensures all { ran.new ≡ all.now }
+    ensures empty { spare.new.items ≡ [] }
+    ensures kept { ran.old ≡ all.now → vec_capacity spare.new ≡ vec_capacity spare.old }
+{
+    if ran.as_slice().len() < all.len() {
+        ran.grow(spare, all);
     }
 }
 

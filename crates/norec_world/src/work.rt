@@ -374,7 +374,7 @@ fn reserve_actions(
     requires cancel_empty { cancel_room.old.items ≡ [] }
     ensures end_empty { end_room.new.items ≡ [] }
     ensures cancel_empty { cancel_room.new.items ≡ [] }
-    ensures kept { vec_capacity end_room.old ≤ vec_capacity end_room.new }
+    ensures kept { (vec_capacity end_room.old ≤ vec_capacity end_room.new) × (vec_capacity cancel_room.old ≤ vec_capacity cancel_room.new) }
     ensures end { OnOk result (is_some (registered_by call.now) ≡ true → actions < vec_capacity end_room.new) }
     ensures cancel { OnOk result (is_abort call.now ≡ true → actions ≤ vec_capacity cancel_room.new) }
     ensures short { OnErr result (((is_some (registered_by call.now) ≡ true) × (vec_capacity end_room.old ≤ actions))

@@ -115,6 +115,11 @@ returns-then-is_open-2-clause-acts g c =
       places = λ row e. (let w = was row e in c.requires.acts.places w.0 w.1);
       pending = λ row e. absurd (let none : None ≡ Some row = sym c.take.ensures.after ∙ e in cc);
       status = subst NoCancel (sym c.requires.answered.1.status) tt;
+      room = λ held some.
+          (let both = c.requires.acts.room held some in
+          let kept = c.run.ensures.kept (λ row e. (let w = row_from r c.add.new.self c.args.self.now.thread (λ x. record x { calls = x.calls ++ record { call = c.args.call; reply = c.args.reply } ∷ [] }) (λ x. refl) c.add.ensures.added row e in
+          ap (λ (x : Attempt). x.ran) w.2 ∙ (c.requires.acts.still held w.0 w.1 ∙ sym c.due.ensures))) in
+          (both.0, (let x = both.1 in omega arith)));
     }
 
 pub returns-then-is_open-clause-acts : goal.returns-then-is_open-clause-acts
@@ -140,6 +145,7 @@ returns-then-is_open-clause-acts g c =
       places = λ row e. omega arith;
       pending = λ row e. absurd (let gone : None ≡ Some row = sym c.take.ensures.after ∙ e in cc);
       status = subst NoCancel (sym d.status) tt;
+      room = c.requires.acts.room;
     }
 
 pub returns-then-is_open-2-clause-records : goal.returns-then-is_open-2-clause-records

@@ -23,7 +23,7 @@ pub invariant_of-self : goal.invariant_of-self
 invariant_of-self c = (
   c.self.invariant.0,
   put_from c.self.inside.rows.items c.self.inside.ended c.args.thread c.in-Some.place (first_grown c) c.index_mut-row.result.now c.index_mut-row.ensures.value
-      (λ row. record row { ran = c.grow.new.self }) (λ row. refl) c.self.invariant.1,
+      (λ row. record row { ran = c.grow.new.ran }) (λ row. refl) c.self.invariant.1,
 )
 
 pub returns-in-Some-clause-ran : goal.returns-in-Some-clause-ran
@@ -38,3 +38,8 @@ returns-in_default-clause-ran c =
     same_rows c.self.inside.rows.items c.self.inside.ended c.args.thread
     (place_none c.self.inside.rows.items c.self.inside.ended c.deref.result.now c.args.thread c.deref.ensures.value c.in_default.ensures.value)
     _ c.args.self.now c.self.view_is (λ row. record row { ran = c.args.ran.now })
+
+pub returns-in-Some-clause-kept : goal.returns-in-Some-clause-kept
+returns-in-Some-clause-kept c same =
+    c.grow.ensures.kept (same c.index_mut-row.result.now
+    (row_at_place c.self.inside.rows.items c.self.inside.ended c.args.thread c.in-Some.place (first_grown c) c.index_mut-row.result.now c.index_mut-row.ensures.value _ c.args.self.now c.self.view_is))
