@@ -9,3 +9,4 @@ pub mod WorkedFaults
 pub mod LaidBytes
 pub mod RefusedLines
 pub mod UsualWords
+pub mod PlainLines

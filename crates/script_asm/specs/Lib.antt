@@ -8,3 +8,4 @@ pub mod Directives
 pub mod Blocks
 pub mod Assembly
 pub mod Wants
+pub mod PlainTexts

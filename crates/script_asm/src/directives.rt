@@ -122,16 +122,17 @@ pub fn read_commits(state: &mut State, line: usize, rest: &[u8]) -> Result<(), S
 pub fn read_schedule(state: &mut State, line: usize, rest: &[u8]) -> Result<(), Stop>
     ensures { Steps result state.old state.new (obeyed state.old line words.Schedule (fields rest.now)) }
 {
+    let before = state.schedule.len();
+    if add_items(&mut state.schedule, line, rest) {
+        return Ok(());
+    }
     match count_items(rest) {
         Ok(count) => {
-            let total = state.schedule.len().saturating_add(count);
+            let total = before.saturating_add(count);
             if MAX_ITEMS < total {
                 return fault(line, AsmKind::TooLong);
             }
-            match add_items(&mut state.schedule, line, rest) {
-                Ok(()) => Ok(()),
-                Err(_) => Err(Stop::Memory),
-            }
+            Err(Stop::Memory)
         }
         Err(kind) => fault(line, kind),
     }

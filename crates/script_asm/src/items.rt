@@ -1,13 +1,12 @@
 //! The operands of `.schedule`.
 
-ghost use Rattle.std.specs.Prelude.{◌≡◌, Ok, Err, IfErr, IfOk, OnOk, length, position};
+ghost use Rattle.std.specs.Prelude.{◌≡◌, ◌≤◌, Ok, Err, IfErr, IfOk, OnOk, length, position, true};
 ghost use Rattle.script_fields.specs.Text.{fields};
 ghost use Rattle.script_program.specs.Schedules.{planned};
 ghost use Rattle.script_asm.specs.Items.{is_times, thread_number, events, item_of, items_in, schedule_of};
 
 use script_fields::{AsmKind, both, first_field, number, within};
-use script_program::{Item, MAX_EVENTS, Plan};
-use std::alloc::AllocError;
+use script_program::{Item, MAX_EVENTS, MAX_ITEMS, Plan};
 
 fn times_at(field: &[u8]) -> Option<usize>
     ensures { result ≡ position is_times field.now }
@@ -68,16 +67,24 @@ pub fn count_items(rest: &[u8]) -> Result<usize, AsmKind>
     }
 }
 
-/// Puts the items that stand in the line.
-pub fn add_items(plan: &mut Plan, line: usize, rest: &[u8]) -> Result<(), AllocError>
-    ensures { OnOk result (plan.new ≡ planned plan.old line (items_in (fields rest.now))) }
+/// Puts the items that stand in the line, and tells whether each field is one, there is one or more, and there is room
+/// for them all. Where it is not so, some of them stand there.
+pub fn add_items(plan: &mut Plan, line: usize, rest: &[u8]) -> bool
+    ensures items { result ≡ true → schedule_of (fields rest.now) ≡ Ok (items_in (fields rest.now)) }
+    ensures planned { result ≡ true → plan.new ≡ planned plan.old line (items_in (fields rest.now)) }
+    ensures few { result ≡ true → length plan.new.items ≤ MAX_ITEMS }
 {
     let mut rest = rest;
+    let mut count = 0usize;
     while let Some((field, after)) = first_field(rest) {
-        if let Ok(item) = item_of(field) {
-            plan.push(line, item)?;
+        let Ok(item) = item_of(field) else {
+            return false;
+        };
+        if MAX_ITEMS <= plan.len() || plan.push(line, item).is_err() {
+            return false;
         }
+        count += 1;
         rest = after;
     }
-    Ok(())
+    0 < count
 }

@@ -1,7 +1,10 @@
 //! Scripts line by line.
 
-ghost use Rattle.std.specs.Prelude.{◌≡◌};
+ghost use Rattle.std.specs.Prelude.{◌≡◌, MatchOption, false, true};
+ghost use Rattle.std.specs.List.{list_all};
+ghost use Rattle.script_fields.specs.Text.{is_allowed, without_comment};
 ghost use Rattle.script_asm.specs.Assembly.{meaning, end_of};
+ghost use Rattle.script_asm.specs.PlainTexts.{is_plain, is_plain_or_feed};
 ghost use Rattle.script_asm.specs.Wants.{Steps};
 
 use crate::obeying::obey;
@@ -13,15 +16,47 @@ use script_fields::{AsmFault, AsmKind, code_part, first_field, has_allowed};
 use script_program::Program;
 use std::alloc::Global;
 
-/// Reads one more line.
+/// Whether a text has no comment, and no other bytes than visible ones, spaces and line feeds. Each byte is looked at
+/// whatever the others are, so that the compiler can take many at a time.
+pub fn is_plain(text: &[u8]) -> bool
+    ensures { result ≡ list_all is_plain_or_feed text.now }
+{
+    let mut plain = true;
+    for b in text {
+        plain &= *b == b'\n' || (b' ' <= *b && *b <= b'~' && *b != b';');
+    }
+    plain
+}
+
+/// The line without its comment, where that holds only bytes that it may hold; a line that is plain is known to.
+#[tactic(auto, using(crate::proofs::PlainLines::all_allowed, crate::proofs::PlainLines::no_comment))]
+fn code_of(line: &[u8], plain: bool) -> Option<&[u8]>
+    requires { plain ≡ true → list_all is_plain line.now ≡ true }
+    ensures { MatchOption result (list_all is_allowed (without_comment line.now) ≡ false)
+        (λ code. (code.now ≡ without_comment line.now) × (list_all is_allowed code.now ≡ true)) }
+{
+    if plain {
+        return Some(line);
+    }
+    let code = code_part(line);
+    if has_allowed(code) { Some(code) } else { None }
+}
+
+/// Reads one more line, which may be known to be plain.
 #[tactic(auto, unfolding(crate::specs::Assembly::meaning))]
-pub fn read_line(alloc: Global, state: &mut State, number: usize, line: &[u8]) -> Result<(), Stop>
+pub fn read_line(
+    alloc: Global,
+    state: &mut State,
+    number: usize,
+    line: &[u8],
+    plain: bool,
+) -> Result<(), Stop>
+    requires { plain ≡ true → list_all is_plain line.now ≡ true }
     ensures { Steps result state.old state.new (meaning state.old number line.now) }
 {
-    let code = code_part(line);
-    if !has_allowed(code) {
+    let Some(code) = code_of(line, plain) else {
         return fault(number, AsmKind::Character);
-    }
+    };
     let Some((first, rest)) = first_field(code) else {
         return Ok(());
     };

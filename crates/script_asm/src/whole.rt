@@ -7,7 +7,7 @@ ghost use Rattle.script_asm.specs.Wants.{Gives, RunsOut, IsAnswer};
 ghost use Rattle.script_asm.specs.declared.stop.Stop.TheVariants.{Memory};
 
 use crate::groups::Groups;
-use crate::reading::{finish, read_line};
+use crate::reading::{finish, is_plain, read_line};
 use crate::state::State;
 use crate::stop::Stop;
 use script_fields::{AsmFault, AsmKind, first_line};
@@ -15,7 +15,7 @@ use script_program::{MAX_TEXT, Plan, Program, SaidLimits, Threads};
 use std::alloc::Global;
 
 /// What the lines say, one after the other; `number` is the line that was read last.
-#[tactic(auto, using(crate::proofs::RefusedLines::read_on, crate::proofs::RefusedLines::drop_on, crate::proofs::RefusedLines::runs_out))]
+#[tactic(auto, using(crate::proofs::RefusedLines::read_on, crate::proofs::RefusedLines::drop_on, crate::proofs::RefusedLines::runs_out, crate::proofs::PlainLines::each_line, crate::proofs::PlainLines::line_on))]
 fn read_lines(alloc: Global, text: &[u8], number: &mut usize) -> Result<State, Stop>
     requires small { length text.now ≤ MAX_TEXT }
     requires first { number.old ≡ 0 }
@@ -29,10 +29,12 @@ fn read_lines(alloc: Global, text: &[u8], number: &mut usize) -> Result<State, S
         threads: Threads::new(alloc),
         levels: Groups::new(alloc),
     };
+    // a text is looked through once, and not line by line, where it is plain
+    let plain = is_plain(text);
     let mut rest = text;
     while let Some((line, after)) = first_line(rest) {
         *number += 1;
-        read_line(alloc, &mut state, *number, line)?;
+        read_line(alloc, &mut state, *number, line, plain)?;
         rest = after;
     }
     Ok(state)

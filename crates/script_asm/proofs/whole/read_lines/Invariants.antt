@@ -1,6 +1,8 @@
-use Rattle.std.proofs.Common.{◌≡◌, ◌+◌, ◌≤◌, Ok, length, take, drop}
+use Rattle.std.proofs.Common.{◌≡◌, ◌+◌, ◌≤◌, Ok, length, take, drop, true}
+use Rattle.std.specs.List.{list_all}
 use Rattle.std.specs.Str.Lines.{lines}
 use Rattle.script_asm.specs.Assembly.{lines_say, initial}
+use Rattle.script_asm.specs.PlainTexts.{is_plain}
 use Rattle.script_asm.proofs.whole.read_lines.Given as goal
 
 abbrev pub invariant-loop-line : goal.invariant-loop-line
@@ -9,6 +11,7 @@ invariant-loop-line l = record {
   before : lines_say initial 1 (take l.number (lines l.text)) ≡ Ok l.state;
   rest : drop l.number (lines l.text) ≡ lines l.rest;
   small : l.number + length l.rest ≤ length l.text;
+  plain : l.plain ≡ true → list_all (list_all is_plain) (lines l.rest) ≡ true;
 }
 
 abbrev pub decreases-loop-line : goal.decreases-loop-line
