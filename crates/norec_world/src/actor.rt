@@ -105,32 +105,50 @@ impl<P: Player> Actor<P> {
         requires waits { is_waiting self.old.status ≡ true }
         ensures { HasStepped P.Player memory.old recorded.old self.old memory.new recorded.new self.new }
     {
-        match mem::replace(&mut self.status, Status::Ready) {
-            Status::Waits { call, step } => {
-                let seen = memory.apply(step);
-                let next = self.engine.resume(seen);
-                self.proceed(recorded, call, next);
-                self.follow(recorded);
-            }
-            other => self.status = other,
-        }
+        let Status::Waits { step, .. } = self.status else {
+            return;
+        };
+        let seen = memory.apply(step);
+        let next = self.engine.resume(seen);
+        self.proceed(recorded, next);
+        self.follow(recorded);
     }
 
-    /// The call waits for a step, or what comes of its answer is recorded.
-    pub(crate) fn proceed(&mut self, recorded: &mut Recorded, call: Call, next: Next)
-        requires due { (was : Bool) × IsDue P.Player was recorded.old self.old call next }
-        requires acts { MayRunOn recorded.old self.old call next }
+    /// The call in progress waits for a step, or what comes of its answer is recorded. The call stays where it is while it
+    /// waits.
+    fn proceed(&mut self, recorded: &mut Recorded, next: Next)
+        requires waits { is_waiting self.old.status ≡ true }
+        requires due { (call : Call) (step : Step) → self.old.status ≡ Status.Waits call step
+            → (was : Bool) × IsDue P.Player was recorded.old (record self.old { status = Status.Ready }) call next }
+        requires acts { (call : Call) (step : Step) → self.old.status ≡ Status.Waits call step
+            → MayRunOn recorded.old (record self.old { status = Status.Ready }) call next }
         ensures acts { IsActing recorded.new self.new }
-        ensures done { (was : Bool) → IsDue P.Player was recorded.old self.old call next
-            → IsDone P.Player was recorded.old recorded.new self.old self.new call next }
-        ensures tells { (was : Bool) → IsDue P.Player was recorded.old self.old call next
-            → Tells P.Player was recorded.old recorded.new self.old self.new call next }
-        ensures others { (was : Bool) → IsDue P.Player was recorded.old self.old call next
+        ensures done { (call : Call) (step : Step) → self.old.status ≡ Status.Waits call step → (was : Bool)
+            → IsDue P.Player was recorded.old (record self.old { status = Status.Ready }) call next
+            → IsDone P.Player was recorded.old recorded.new (record self.old { status = Status.Ready }) self.new call next }
+        ensures tells { (call : Call) (step : Step) → self.old.status ≡ Status.Waits call step → (was : Bool)
+            → IsDue P.Player was recorded.old (record self.old { status = Status.Ready }) call next
+            → Tells P.Player was recorded.old recorded.new (record self.old { status = Status.Ready }) self.new call next }
+        ensures others { (call : Call) (step : Step) → self.old.status ≡ Status.Waits call step → (was : Bool)
+            → IsDue P.Player was recorded.old (record self.old { status = Status.Ready }) call next
             → KeepsOthers self.old recorded.old self.new recorded.new }
     {
         match next {
-            Next::Step(step) => self.status = Status::Waits { call, step },
-            Next::Answer(answer) => self.settle(recorded, call, answer),
+            Next::Step(next) => self.wait(next),
+            Next::Answer(answer) => match mem::replace(&mut self.status, Status::Ready) {
+                Status::Waits { call, .. } => self.settle(recorded, call, answer),
+                other => self.status = other,
+            },
+        }
+    }
+
+    /// The call in progress waits for this step.
+    fn wait(&mut self, next: Step)
+        ensures { (call : Call) (step : Step) → self.old.status ≡ Status.Waits call step
+            → self.new ≡ record self.old { status = Status.Waits call next } }
+    {
+        if let Status::Waits { step, .. } = &mut self.status {
+            *step = next;
         }
     }
 

@@ -1,6 +1,6 @@
 //! The attempts so far.
 
-ghost use Rattle.std.specs.Prelude.{◌≡◌, ◌==◌, ◌+◌, ◌-◌, ◌<◌, ◌≤◌, ◌++◌, ◌∷◌, [], List, length, position, insert, nat_lt, Some, None, is_some, IfSome, IfOk, OnErr, vec_len, vec_capacity};
+ghost use Rattle.std.specs.Prelude.{◌≡◌, ◌==◌, ◌+◌, ◌-◌, ◌<◌, ◌≤◌, ◌++◌, ◌∷◌, [], List, length, position, insert, remove, slice_index_or, nat_lt, Some, None, is_some, IfSome, IfOk, OnErr, vec_len, vec_capacity};
 ghost use Rattle.tx_attempts.specs.declared.attempt.Attempt.{Attempt};
 ghost use Rattle.tx_attempts.specs.Beginnings.{IsBeginningOf};
 ghost use Rattle.norec_world.specs.Records.{StopsAt};
@@ -181,10 +181,10 @@ impl Recorded {
             → self.new ≡ with_ended thread (record row { at = at; outcome = outcome }) self.old }
     {
         if let Some(place) = position_of(&self.rows[self.ended..], thread) {
-            let mut row = self.rows.remove(self.ended + place);
+            let row = &mut self.rows[self.ended + place];
             row.at = at;
             row.outcome = outcome;
-            insert_within(&mut self.rows, self.ended, row);
+            bring_forward(&mut self.rows, self.ended + place, self.ended);
             self.ended += 1;
         }
     }
@@ -228,5 +228,24 @@ fn insert_within(rows: &mut Vec<Attempt>, place: usize, attempt: Attempt)
     ensures len { vec_len rows.new ≡ vec_len rows.old + 1 }
     ensures capacity { vec_capacity rows.new ≡ vec_capacity rows.old }
 {
-    let _ = rows.insert(place, attempt);
+    if place == rows.len() {
+        rows.push_reserved(attempt);
+    } else {
+        let _ = rows.insert(place, attempt);
+    }
+}
+
+/// The one at a place comes to stand at another place, which is not behind it.
+fn bring_forward(rows: &mut Vec<Attempt>, from: usize, to: usize)
+    requires within { from < vec_len rows.old }
+    requires order { to ≤ from }
+    ensures items { (row : Attempt) → row ≡ slice_index_or rows.old.items from row
+        → rows.new.items ≡ insert (remove rows.old.items from) to row }
+    ensures len { vec_len rows.new ≡ vec_len rows.old }
+    ensures capacity { vec_capacity rows.new ≡ vec_capacity rows.old }
+{
+    if to < from {
+        let row = rows.remove(from);
+        insert_within(rows, to, row);
+    }
 }
