@@ -27,7 +27,9 @@ use tx_history::Stream;
 use tx_player::Player;
 
 /// One event of the thread, and the lines of what it ended; tells whether the same call goes on. Where a write fails,
-/// answers its error; so do the functions below, which then take no further event.
+/// answers its error; so do the functions below, which then take no further event. Its code stands where it is called, as do
+/// those of one item: an answer of it has room for an error, which would be cleared and copied for each event.
+#[inline(always)]
 fn take_event<P: Player, W: Write>(
     alloc: Global,
     world: &mut World<P>,
@@ -101,6 +103,7 @@ fn run_out<P: Player, W: Write>(
 }
 
 /// So many events of the thread, or as many as it takes until it has ended.
+#[inline(always)]
 fn take_events<P: Player, W: Write>(
     alloc: Global,
     world: &mut World<P>,
@@ -128,6 +131,7 @@ fn take_events<P: Player, W: Write>(
 }
 
 /// What one item of a schedule asks for.
+#[inline(always)]
 fn take_item<P: Player, W: Write>(
     alloc: Global,
     world: &mut World<P>,
