@@ -85,28 +85,59 @@ fn undone(fun: u32) -> Ran {
     }
 }
 
-pub(super) fn expect_blocks(rt: &impl Abort, alloc: Global) -> Result<bool, AllocError> {
-    let mut arena = match Arena::new(alloc, 2) {
-        Ok(arena) => arena,
-        Err(_) => Arena::new(alloc, 2)?,
-    };
-    let mut frames = Frames::new(alloc, 2);
+/// An arena of 2 bytes, for which memory is found at the second time at the latest.
+fn arena(alloc: Global) -> Result<Arena, AllocError> {
+    match Arena::new(alloc, 2) {
+        Ok(arena) => Ok(arena),
+        Err(_) => Arena::new(alloc, 2),
+    }
+}
+
+/// Three blocks are filled, each within the one before; whether memory was found for all.
+fn nest(rt: &impl Abort, frames: &mut Frames, arena: &mut Arena) -> Result<bool, AllocError> {
     let mut found = true;
     for block in 0..3u8 {
-        enter(rt, &mut frames);
-        found &= fill(rt, &mut frames, &arena, u32::from(block))?;
-        store(rt, &mut arena, block + 1);
+        enter(rt, frames);
+        found &= fill(rt, frames, arena, u32::from(block))?;
+        store(rt, arena, block + 1);
     }
-    cancel(rt, &mut frames, &mut arena);
-    assert_eq!(rt; arena.bytes(), [0, 2].as_slice());
+    Ok(found)
+}
+
+/// The arena has these bytes.
+fn holds(rt: &impl Abort, arena: &Arena, bytes: &[u8]) {
+    assert_eq!(rt; arena.bytes(), bytes);
+}
+
+/// These actions have come to run.
+fn runs(rt: &impl Abort, frames: &Frames, wanted: &[Ran]) {
+    assert_eq!(rt; frames.due(), wanted);
+}
+
+/// The first byte of word 1 is written so.
+fn has_written(rt: &impl Abort, frames: &Frames, value: u64) {
     let row = frames.get(1).expect(rt, "a row");
-    assert_eq!(rt; row.value & 0xff, 1);
-    assert_eq!(rt; frames.due(), [undone(2)].as_slice());
-    cancel(rt, &mut frames, &mut arena);
-    cancel(rt, &mut frames, &mut arena);
-    assert_eq!(rt; arena.bytes(), [0, 0].as_slice());
-    assert_eq!(rt; frames.due(), [undone(2), undone(1), undone(0)].as_slice());
+    assert_eq!(rt; row.value & 0xff, value);
+}
+
+/// The three blocks are cancelled, the innermost one first.
+fn cancel_all(rt: &impl Abort, frames: &mut Frames, arena: &mut Arena) {
+    cancel(rt, frames, arena);
+    holds(rt, arena, &[0, 2]);
+    has_written(rt, frames, 1);
+    runs(rt, frames, &[undone(2)]);
+    cancel(rt, frames, arena);
+    cancel(rt, frames, arena);
+    holds(rt, arena, &[0, 0]);
+    runs(rt, frames, &[undone(2), undone(1), undone(0)]);
     assert_eq!(rt; frames.len(), 0);
+}
+
+pub(super) fn expect_blocks(rt: &impl Abort, alloc: Global) -> Result<bool, AllocError> {
+    let mut arena = arena(alloc)?;
+    let mut frames = Frames::new(alloc, 2);
+    let found = nest(rt, &mut frames, &mut arena)?;
+    cancel_all(rt, &mut frames, &mut arena);
     Ok(found)
 }
 

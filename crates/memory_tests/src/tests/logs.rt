@@ -1,6 +1,9 @@
 //! A value log that grows past what it looks through, with each allocation refused in turn.
 
+ghost use Rattle.std.specs.Prelude.{◌≤◌};
+
 use itm_types::{LogRow, MAX_WORDS};
+use std::alloc::AllocError;
 use std::process::Abort;
 use std::test::Fail;
 use value_log::ValueLog;
@@ -16,23 +19,39 @@ fn add(rt: &impl Abort, log: &mut ValueLog, word: u32, value: u64) -> Result<(),
     Ok(())
 }
 
+const LAST: u32 = MAX_WORDS as u32 - 1;
+
+/// The last words have rows, the first one 0, the next one 1 and so on.
+fn has_rows(rt: &impl Abort, log: &ValueLog, rows: u32)
+    requires { rows ≤ 40 }
+{
+    assert_eq!(rt; log.len(), rows as usize);
+    for earlier in 0..rows {
+        assert_eq!(rt; log.find(LAST - earlier), Some(u64::from(earlier)));
+    }
+}
+
+/// Room for one more row is made, at the second time where memory was refused.
+fn make_room(rt: &impl Abort, log: &mut ValueLog, rows: u32) -> Result<(), AllocError>
+    requires { rows ≤ 40 }
+{
+    if log.reserve(1).is_err() {
+        has_rows(rt, log, rows);
+        log.reserve(1)?;
+    }
+    Ok(())
+}
+
 /// Run with each allocation refused in turn, a refusal leaves the log as it was, and the next call is served: while
 /// the rows are few, and where the index is made.
 #[test]
 fn values(rt: HostRuntime) -> Result<(), Fail> {
     let mut log = ValueLog::new(rt.alloc());
-    let last = MAX_WORDS as u32 - 1;
     for word in 0..40u32 {
-        if log.reserve(1).is_err() {
-            assert_eq!(rt; log.len(), word as usize);
-            for earlier in 0..word {
-                assert_eq!(rt; log.find(last - earlier), Some(u64::from(earlier)));
-            }
-            log.reserve(1)?;
-        }
-        add(&rt, &mut log, last - word, u64::from(word))?;
+        make_room(&rt, &mut log, word)?;
+        add(&rt, &mut log, LAST - word, u64::from(word))?;
     }
-    assert_eq!(rt; log.find(last - 39), Some(39));
+    assert_eq!(rt; log.find(LAST - 39), Some(39));
     assert_eq!(rt; log.find(0), None);
     Ok(())
 }

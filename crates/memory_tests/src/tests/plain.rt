@@ -21,22 +21,37 @@ const GOES: Props = Props {
 };
 
 /// A block just begun on 40 bytes of 9, with an arena of 40 bytes of 8.
+fn opened(alloc: Global) -> Result<Plain, AllocError> {
+    Plain::new(alloc, &[9; 40], &[8; 40], BLOCK)
+}
+
+/// The same, where memory is found at the second time at the latest.
 fn begun(alloc: Global) -> Result<Plain, AllocError> {
-    match Plain::new(alloc, &[9; 40], &[8; 40], BLOCK) {
+    match opened(alloc) {
         Ok(plain) => Ok(plain),
-        Err(_) => Plain::new(alloc, &[9; 40], &[8; 40], BLOCK),
+        Err(_) => opened(alloc),
     }
+}
+
+/// What the call is answered.
+fn given(plain: &mut Plain, call: &Call) -> Result<Reply, AllocError> {
+    plain.one(call)
 }
 
 /// The call is served; whether memory was found for it.
 fn answers(rt: &impl Abort, plain: &mut Plain, call: &Call, gives: &Reply) -> bool {
-    match plain.one(call) {
+    match given(plain, call) {
         Ok(reply) => {
             assert_eq!(rt; reply, *gives, "{call:?}");
             true
         }
         Err(_) => false,
     }
+}
+
+/// The call is served at once.
+fn must(rt: &impl Abort, plain: &mut Plain, call: &Call, gives: &Reply) {
+    assert!(rt; answers(rt, plain, call, gives), "{call:?}");
 }
 
 const BEGIN: Call = Call::Begin {
@@ -84,14 +99,49 @@ const MOVE: Call = Call::Copy(Copying {
 
 const ACTION: Action = Action { fun: 1, arg: 0 };
 
+/// The block is as it was when it began.
+fn unchanged(rt: &impl Abort, plain: &Plain, call: &Call) {
+    assert_eq!(rt; plain.memory(), [9; 40].as_slice(), "{call:?}");
+    assert_eq!(rt; plain.arena(), [8; 40].as_slice(), "{call:?}");
+    assert_eq!(rt; plain.depth(), 1, "{call:?}");
+    assert_eq!(rt; plain.undo().len(), 0, "{call:?}");
+    assert!(rt; !plain.wrote() && plain.mode() == 1, "{call:?}");
+}
+
+/// The call is served in a block just begun, at the second time where memory was refused.
+fn served(rt: &impl Abort, plain: &mut Plain, call: &Call, gives: &Reply) -> bool {
+    let found = answers(rt, plain, call, gives);
+    if !found {
+        unchanged(rt, plain, call);
+        must(rt, plain, call, gives);
+    }
+    found
+}
+
+/// Each call is served in a block of its own.
+fn each(rt: &impl Abort, alloc: Global, rows: &[(Call, Reply)]) -> Result<bool, AllocError> {
+    let mut found = true;
+    for (call, gives) in rows {
+        let mut plain = begun(alloc)?;
+        found &= served(rt, &mut plain, call, gives);
+    }
+    Ok(found)
+}
+
+/// A copy into the arena takes no memory.
+fn copies_in(rt: &impl Abort, alloc: Global) -> Result<(), AllocError> {
+    let mut plain = begun(alloc)?;
+    must(rt, &mut plain, &COPY_IN, &Reply::Done);
+    Ok(())
+}
+
 pub(super) fn expect_calls(rt: &impl Abort, alloc: Global) -> Result<bool, AllocError> {
     let write = Call::Write {
         hint: WriteHint::W,
         at: 1,
         value: Datum::new(Width::U1, &[1]),
     };
-    let mut found = true;
-    for (call, gives) in [
+    let rows = [
         (write, Reply::Done),
         (FILL, Reply::Done),
         (COPY_OUT, Reply::Done),
@@ -101,21 +151,9 @@ pub(super) fn expect_calls(rt: &impl Abort, alloc: Global) -> Result<bool, Alloc
         (Call::UndoAction(ACTION), Reply::Done),
         (BEGIN, Reply::Code(5)),
         (GOES_ON, Reply::Code(5)),
-    ] {
-        let mut plain = begun(alloc)?;
-        if !answers(rt, &mut plain, &call, &gives) {
-            found = false;
-            assert_eq!(rt; plain.memory(), [9; 40].as_slice(), "{call:?}");
-            assert_eq!(rt; plain.arena(), [8; 40].as_slice(), "{call:?}");
-            assert_eq!(rt; plain.depth(), 1, "{call:?}");
-            assert_eq!(rt; plain.undo().len(), 0, "{call:?}");
-            assert!(rt; !plain.wrote() && plain.mode() == 1, "{call:?}");
-            assert!(rt; answers(rt, &mut plain, &call, &gives), "{call:?}");
-        }
-    }
-    // a copy into the arena takes none
-    let mut plain = begun(alloc)?;
-    assert!(rt; answers(rt, &mut plain, &COPY_IN, &Reply::Done));
+    ];
+    let found = each(rt, alloc, &rows)?;
+    copies_in(rt, alloc)?;
     Ok(found)
 }
 
@@ -125,33 +163,66 @@ fn calls(rt: HostRuntime) -> Result<(), Fail> {
     Ok(())
 }
 
-/// Outside a transaction a begin that is refused leaves what the last one wrote, and so does `again` within one.
-pub(super) fn expect_begins(rt: &impl Abort, alloc: Global) -> Result<bool, AllocError> {
-    let mut plain = begun(alloc)?;
-    let mut found = answers(rt, &mut plain, &FILL, &Reply::Done);
+/// A fill whose block commits.
+fn fills(rt: &impl Abort, plain: &mut Plain) -> bool {
+    let found = answers(rt, plain, &FILL, &Reply::Done);
     if !found {
-        assert!(rt; answers(rt, &mut plain, &FILL, &Reply::Done));
+        must(rt, plain, &FILL, &Reply::Done);
     }
-    assert!(rt; answers(rt, &mut plain, &Call::Commit, &Reply::Done));
-    if !answers(rt, &mut plain, &BEGIN, &Reply::Code(5)) {
-        found = false;
-        assert!(rt; plain.depth() == 0 && plain.wrote());
-        assert!(rt; answers(rt, &mut plain, &BEGIN, &Reply::Code(5)));
+    must(rt, plain, &Call::Commit, &Reply::Done);
+    found
+}
+
+/// So many blocks are open, in which something was written or nothing was.
+fn stands(rt: &impl Abort, plain: &Plain, depth: usize, wrote: bool) {
+    assert_eq!(rt; plain.depth(), depth);
+    assert_eq!(rt; plain.wrote(), wrote);
+}
+
+/// A begin that is refused leaves what the last transaction wrote.
+fn enters(rt: &impl Abort, plain: &mut Plain) -> bool {
+    let found = answers(rt, plain, &BEGIN, &Reply::Code(5));
+    if !found {
+        stands(rt, plain, 0, true);
+        must(rt, plain, &BEGIN, &Reply::Code(5));
     }
-    assert!(rt; plain.depth() == 1 && !plain.wrote());
-    if plain.again(GOES).is_err() {
-        found = false;
-        assert!(rt; plain.depth() == 1 && !plain.wrote());
+    stands(rt, plain, 1, false);
+    found
+}
+
+/// So does `again`.
+fn goes_again(rt: &impl Abort, plain: &mut Plain) -> Result<bool, AllocError> {
+    let found = plain.again(GOES).is_ok();
+    if !found {
+        stands(rt, plain, 1, false);
         plain.again(GOES)?;
     }
     assert!(rt; plain.depth() == 1 && plain.is_irrevocable());
-    // a log and an undo action take none then
-    assert!(rt; answers(rt, &mut plain, &LOG, &Reply::Done));
-    assert!(rt; answers(rt, &mut plain, &Call::UndoAction(ACTION), &Reply::Done));
+    Ok(found)
+}
+
+/// In an irrevocable transaction a log and an undo action take no memory.
+fn takes_none(rt: &impl Abort, plain: &mut Plain) {
+    must(rt, plain, &LOG, &Reply::Done);
+    must(rt, plain, &Call::UndoAction(ACTION), &Reply::Done);
     assert!(rt; plain.undo().is_empty() && plain.ran().is_empty());
     assert_eq!(rt; plain.memory().first(), Some(&9));
     assert_eq!(rt; plain.memory().last(), Some(&7));
-    Ok(found)
+}
+
+/// Two transactions, one after the other, and the second one once more.
+fn begin_all(rt: &impl Abort, plain: &mut Plain) -> Result<bool, AllocError> {
+    let filled = fills(rt, plain);
+    let entered = enters(rt, plain);
+    let gone = goes_again(rt, plain)?;
+    takes_none(rt, plain);
+    Ok(filled && entered && gone)
+}
+
+/// Outside a transaction a begin that is refused leaves what the last one wrote, and so does `again` within one.
+pub(super) fn expect_begins(rt: &impl Abort, alloc: Global) -> Result<bool, AllocError> {
+    let mut plain = begun(alloc)?;
+    begin_all(rt, &mut plain)
 }
 
 #[test]

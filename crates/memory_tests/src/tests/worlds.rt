@@ -3,9 +3,9 @@
 ghost use Rattle.std.specs.Prelude.{◌≡◌, IfOk};
 ghost use Rattle.script_vm.specs.Threads.{depth_of};
 
+use super::cases::{Case, Due, expect_end};
 use super::roomless::Roomless;
-use itm_types::{Action, ActionKind, Ran};
-use norec_world::{Attempt, Bytes, Outcome, Passes, Setup, World};
+use norec_world::{Bytes, Outcome, Passes, Setup, World};
 use script_asm::{AsmKind, assemble};
 use script_program::Program;
 use script_vm::Script;
@@ -60,84 +60,15 @@ fn roomless<'p>(alloc: Global, program: &'p Program) -> Option<World<Roomless<'p
     world(alloc, program, player).ok()
 }
 
-/// An action with no argument that has run, by its number.
-#[derive(Clone, Copy)]
-pub(super) enum Due {
-    Committed(u32),
-    Undone(u32),
-}
-
-fn ran(due: Due) -> Ran {
-    let (kind, fun) = match due {
-        Due::Committed(fun) => (ActionKind::Commit, fun),
-        Due::Undone(fun) => (ActionKind::Undo, fun),
-    };
-    Ran {
-        kind,
-        action: Action { fun, arg: 0 },
-    }
-}
-
-/// These actions have run, in this order.
-fn expect_ran(rt: &impl Abort, all: &[Ran], wanted: &[Due]) {
-    assert_eq!(rt; all.len(), wanted.len());
-    for (one, due) in all.iter().zip(wanted) {
-        assert_eq!(rt; *one, ran(*due));
-    }
-}
-
-/// What becomes of a script's block.
-#[derive(Clone, Copy)]
-pub(super) struct Case {
-    script: &'static [u8],
-    /// With memory for all: how it ends, how many calls it has made and which actions have run, the clock and the first
-    /// byte.
-    outcome: Outcome,
-    calls: usize,
-    ran: &'static [Due],
-    clock: u64,
-    byte: u8,
-    /// Where memory is refused, the actions that have run, by the number of calls before. Later calls take none.
-    starved: &'static [&'static [Due]],
-    /// After so many calls the block is irrevocable, and is left open where memory is refused.
-    held: usize,
-}
-
-/// How many calls the first attempt has.
-fn calls_of(attempts: &[Attempt]) -> usize {
-    match attempts.first() {
-        Some(attempt) => attempt.calls.as_slice().len(),
-        None => 0,
-    }
+/// The world's one thread takes all the events that it has left.
+fn run_out<P: Player>(alloc: Global, world: &mut World<P>) {
+    world.run_out(alloc, 0);
 }
 
 /// The block comes to its end, or finds no memory.
 fn expect<P: Player>(rt: &impl Abort, alloc: Global, mut world: World<P>, case: &Case) -> bool {
-    world.run_out(alloc, 0);
-    let found = world.ending(0) == Some(End::Finished);
-    assert!(rt; found || world.ending(0) == Some(End::NoMemory));
-    assert!(rt; world.attempts().len() <= 1);
-    let calls = calls_of(world.attempts());
-    assert!(rt; !found || calls == case.calls);
-    let (outcome, clock, byte) = if found {
-        (case.outcome, case.clock, case.byte)
-    } else if case.held <= calls {
-        (Outcome::Unfinished, 1, case.byte)
-    } else {
-        (Outcome::NoMemory, 0, 0)
-    };
-    assert_eq!(rt; world.clock(), clock);
-    assert_eq!(rt; world.bytes().first().copied(), Some(byte));
-    let wanted = if found {
-        case.ran
-    } else {
-        case.starved.get(calls).expect(rt, "no room was made")
-    };
-    if let Some(attempt) = world.attempts().first() {
-        assert_eq!(rt; attempt.outcome, outcome);
-        expect_ran(rt, attempt.ran.as_slice(), wanted);
-    }
-    found
+    run_out(alloc, &mut world);
+    expect_end(rt, &world, case)
 }
 
 /// The first thread of the case's script, where memory is found to begin with.
@@ -375,6 +306,25 @@ _ITM_RU8 r2 8
 _ITM_commitTransaction
 ";
 
+/// The schedule takes so many events and is passed over so often.
+fn takes<P: Player>(
+    rt: &impl Abort,
+    alloc: Global,
+    world: &mut World<P>,
+    schedule: &[u8],
+    wanted: Passes,
+) {
+    let passes = world.run(alloc, schedule);
+    assert_eq!(rt; passes, wanted);
+}
+
+/// Both blocks have ended after seven events.
+fn has_ended<P: Player>(rt: &impl Abort, world: &World<P>) {
+    assert_eq!(rt; world.events(), 7);
+    assert_eq!(rt; world.attempts().len(), 2);
+    assert_eq!(rt; world.ending(0), Some(End::Finished));
+}
+
 /// A schedule passes over actors that are not there, and those that have ended.
 #[test]
 fn schedule(rt: HostRuntime) {
@@ -385,8 +335,12 @@ fn schedule(rt: HostRuntime) {
         passed: 2,
         starved: 0,
     };
-    assert_eq!(rt; world.run(rt.alloc(), &[0, 0, 0, 0, 3, 0, 0, 0, 0]), passes);
-    assert_eq!(rt; world.events(), 7);
-    assert_eq!(rt; world.attempts().len(), 2);
-    assert_eq!(rt; world.ending(0), Some(End::Finished));
+    takes(
+        &rt,
+        rt.alloc(),
+        &mut world,
+        &[0, 0, 0, 0, 3, 0, 0, 0, 0],
+        passes,
+    );
+    has_ended(&rt, &world);
 }
