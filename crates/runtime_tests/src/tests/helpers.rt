@@ -1,14 +1,14 @@
 //! What the tests have in common.
 
-ghost use Rattle.std.specs.Prelude.{◌≡◌, ◌<◌, ◌≤◌, false, IfOk};
-ghost use Rattle.shared_words.specs.Passes.{Owns, view_of};
+ghost use Rattle.std.specs.Prelude.{◌≡◌, ◌+◌, ◌*◌, ◌<◌, ◌≤◌, false, length, IfOk};
+ghost use Rattle.shared_words.specs.Passes.{Owns, view_of, cells_of};
 
 use itm_runtime::Thread;
 use itm_types::{
     Call, Datum, ENTERED, Limits, MAX_COMMITS, Props, ReadHint, Reply, Value, Width, WriteHint,
 };
 use norec_core::Answer;
-use shared_words::{Pass, Words};
+use shared_words::{Pass, Words, WordsFault};
 use std::alloc::{AllocError, Global};
 use std::process::Abort;
 use undo_log::Arena;
@@ -40,6 +40,29 @@ pub(super) const IN: Answer = Answer::Reply(Reply::Code(ENTERED));
 
 /// A call, its answer, and the number of its steps.
 pub(super) type Row = (Call, Answer, u128);
+
+/// The words of these bytes, and their one pass.
+pub(super) fn opened(alloc: Global, bytes: &[u8]) -> Result<(Words, Pass), WordsFault>
+    ensures own { IfOk result (λ r. Owns r.0 r.1) }
+    ensures size { IfOk result (λ r. 8 * cells_of r.0 ≡ length bytes.now + 8) }
+    ensures share { IfOk result (λ r. 1 < (view_of r.1).share) }
+    ensures idle { IfOk result (λ r. (view_of r.1).holds ≡ false) }
+{
+    Words::new(alloc, bytes)
+}
+
+/// Two passes of one.
+pub(super) fn cut(words: &Words, pass: Pass) -> (Pass, Pass)
+    requires own { Owns words.now pass }
+    requires share { 1 < (view_of pass).share }
+    requires idle { (view_of pass).holds ≡ false }
+    ensures own { Owns words.now result.0 × Owns words.now result.1 }
+    ensures idle { ((view_of result.0).holds ≡ false) × ((view_of result.1).holds ≡ false) }
+{
+    let mut first = pass;
+    let second = words.split(&mut first);
+    (first, second)
+}
 
 /// A thread of so much patience, with an arena of so many bytes.
 pub(super) fn thread(

@@ -6,8 +6,10 @@ ghost use Rattle.shared_words.specs.Passes.{Owns, view_of, cells_of};
 ghost use Rattle.shared_words.specs.Steps.{Lawful, Turns, cell_of};
 
 use crate::tests::helpers::{
-    BEGIN, BEGIN_IRREVOCABLE, DONE, IN, Row, code, part, read, thread, walk, word, write,
+    BEGIN, BEGIN_IRREVOCABLE, DONE, IN, Row, code, cut, opened, part, read, thread, walk, word,
+    write,
 };
+use itm_runtime::Thread;
 use itm_types::{Call, Datum, Limits, MAX_COMMITS, Step, Width, WriteHint};
 use norec_core::{Answer, Next};
 use norec_engine::Engine;
@@ -86,6 +88,48 @@ fn ask(rt: &impl Abort, engine: &mut Engine, call: &Call, next: &Next) -> Result
     Ok(())
 }
 
+/// An engine over four words.
+fn engine(alloc: Global) -> Result<Engine, AllocError> {
+    let limits = Limits {
+        patience: 8,
+        retries: 0,
+        max_commits: MAX_COMMITS,
+    };
+    Ok(Engine::new(alloc, 4, Arena::new(alloc, 0)?, limits))
+}
+
+/// A block begins.
+fn enter(
+    rt: &impl Abort,
+    words: &Words,
+    pass: &mut Pass,
+    engine: &mut Engine,
+) -> Result<(), AllocError>
+    requires own { Owns words.now pass.old }
+    requires cells { 2 < cells_of words.now }
+    requires idle { (view_of pass.old).holds ≡ false }
+    ensures own { Owns words.now pass.new }
+    ensures idle { (view_of pass.new).holds ≡ false }
+{
+    ask(rt, engine, &BEGIN, &Next::Step(Step::Load(0)))?;
+    let open = Next::Answer(IN);
+    step(rt, words, pass, engine, Step::Load(0), &open);
+    Ok(())
+}
+
+/// The first word is written, and half of the second one.
+fn write_words(rt: &impl Abort, engine: &mut Engine) -> Result<(), AllocError> {
+    let done = Next::Answer(DONE);
+    ask(rt, engine, &write(0, 5), &done)?;
+    let half = Call::Write {
+        hint: WriteHint::W,
+        at: 8,
+        value: Datum::new(Width::U4, &[6, 0, 0, 0]),
+    };
+    ask(rt, engine, &half, &done)?;
+    ask(rt, engine, &Call::Commit, &Next::Step(TAKE))
+}
+
 /// An engine that has written the first word and half of the second one, and is to take the clock.
 fn write_two(
     rt: &impl Abort,
@@ -94,29 +138,67 @@ fn write_two(
     pass: &mut Pass,
 ) -> Result<Engine, AllocError>
     requires own { Owns words.now pass.old }
+    requires cells { 2 < cells_of words.now }
     requires idle { (view_of pass.old).holds ≡ false }
     ensures own { Owns words.now pass.new }
     ensures idle { (view_of pass.new).holds ≡ false }
 {
-    let limits = Limits {
-        patience: 8,
-        retries: 0,
-        max_commits: MAX_COMMITS,
-    };
-    let mut engine = Engine::new(alloc, 4, Arena::new(alloc, 0)?, limits);
-    ask(rt, &mut engine, &BEGIN, &Next::Step(Step::Load(0)))?;
-    let open = Next::Answer(IN);
-    step(rt, words, pass, &mut engine, Step::Load(0), &open);
-    let done = Next::Answer(DONE);
-    ask(rt, &mut engine, &write(0, 5), &done)?;
-    let half = Call::Write {
-        hint: WriteHint::W,
-        at: 8,
-        value: Datum::new(Width::U4, &[6, 0, 0, 0]),
-    };
-    ask(rt, &mut engine, &half, &done)?;
-    ask(rt, &mut engine, &Call::Commit, &Next::Step(TAKE))?;
+    let mut engine = engine(alloc)?;
+    enter(rt, words, pass, &mut engine)?;
+    write_words(rt, &mut engine)?;
     Ok(engine)
+}
+
+/// The clock is taken.
+fn take(rt: &impl Abort, words: &Words, pass: &mut Pass, engine: &mut Engine)
+    requires own { Owns words.now pass.old }
+    requires cells { 2 < cells_of words.now }
+    requires idle { (view_of pass.old).holds ≡ false }
+    ensures own { Owns words.now pass.new }
+    ensures holds { (view_of pass.new).holds ≡ true }
+    ensures clock { (view_of pass.new).clock ≡ 0 }
+{
+    step(rt, words, pass, engine, TAKE, &Next::Step(FIRST));
+}
+
+/// The first word is stored.
+fn store_first(rt: &impl Abort, words: &Words, pass: &mut Pass, engine: &mut Engine)
+    requires own { Owns words.now pass.old }
+    requires cells { 2 < cells_of words.now }
+    requires holds { (view_of pass.old).holds ≡ true }
+    requires clock { (view_of pass.old).clock ≡ 0 }
+    ensures own { Owns words.now pass.new }
+    ensures holds { (view_of pass.new).holds ≡ true }
+    ensures clock { (view_of pass.new).clock ≡ 0 }
+{
+    step(rt, words, pass, engine, FIRST, &Next::Step(LOAD));
+}
+
+/// The second word is loaded, for the half that is not written.
+fn load_second(rt: &impl Abort, words: &Words, pass: &mut Pass, engine: &mut Engine)
+    requires own { Owns words.now pass.old }
+    requires cells { 2 < cells_of words.now }
+    requires holds { (view_of pass.old).holds ≡ true }
+    requires clock { (view_of pass.old).clock ≡ 0 }
+    ensures own { Owns words.now pass.new }
+    ensures holds { (view_of pass.new).holds ≡ true }
+    ensures clock { (view_of pass.new).clock ≡ 0 }
+{
+    step(rt, words, pass, engine, LOAD, &Next::Step(SECOND));
+    assert!(rt; !pass.idle());
+}
+
+/// The second word is stored.
+fn store_second(rt: &impl Abort, words: &Words, pass: &mut Pass, engine: &mut Engine)
+    requires own { Owns words.now pass.old }
+    requires cells { 2 < cells_of words.now }
+    requires holds { (view_of pass.old).holds ≡ true }
+    requires clock { (view_of pass.old).clock ≡ 0 }
+    ensures own { Owns words.now pass.new }
+    ensures holds { (view_of pass.new).holds ≡ true }
+    ensures clock { (view_of pass.new).clock ≡ 0 }
+{
+    step(rt, words, pass, engine, SECOND, &Next::Step(FREE));
 }
 
 /// The clock is taken, and so many steps more are made: all that are made while it is held are three.
@@ -126,20 +208,78 @@ fn stop_after(rt: &impl Abort, words: &Words, pass: &mut Pass, engine: &mut Engi
     requires idle { (view_of pass.old).holds ≡ false }
     ensures own { Owns words.now pass.new }
 {
-    step(rt, words, pass, engine, TAKE, &Next::Step(FIRST));
+    take(rt, words, pass, engine);
     if steps == 0 {
         return;
     }
-    step(rt, words, pass, engine, FIRST, &Next::Step(LOAD));
+    store_first(rt, words, pass, engine);
     if steps == 1 {
         return;
     }
-    step(rt, words, pass, engine, LOAD, &Next::Step(SECOND));
-    assert!(rt; !pass.idle());
+    load_second(rt, words, pass, engine);
     if steps == 2 {
         return;
     }
-    step(rt, words, pass, engine, SECOND, &Next::Step(FREE));
+    store_second(rt, words, pass, engine);
+}
+
+/// A commit of this pass stops after so many steps.
+fn stop(
+    rt: &impl Abort,
+    alloc: Global,
+    words: &Words,
+    pass: &mut Pass,
+    steps: u32,
+) -> Result<(), AllocError>
+    requires own { Owns words.now pass.old }
+    requires cells { 2 < cells_of words.now }
+    requires idle { (view_of pass.old).holds ≡ false }
+    ensures own { Owns words.now pass.new }
+{
+    let mut engine = write_two(rt, alloc, words, pass)?;
+    stop_after(rt, words, pass, &mut engine, steps);
+    Ok(())
+}
+
+/// A thread is answered so before the clock is taken, and so after the commit of this pass has stopped.
+fn around(
+    rt: &impl Abort,
+    alloc: Global,
+    words: &Words,
+    pass: &mut Pass,
+    thread: &mut Thread,
+    steps: u32,
+    before: &[Row],
+    after: &[Row],
+) -> Result<(), AllocError>
+    requires own { Owns words.now pass.old × Owns words.now thread.old.pass }
+    requires cells { 2 < cells_of words.now }
+    requires idle { (view_of pass.old).holds ≡ false }
+    ensures own { Owns words.now pass.new × Owns words.now thread.new.pass }
+{
+    walk(rt, words, thread, before)?;
+    stop(rt, alloc, words, pass, steps)?;
+    walk(rt, words, thread, after)
+}
+
+/// A thread of the other pass is answered so before the clock is taken, and so after the commit has stopped.
+fn answered(
+    rt: &impl Abort,
+    alloc: Global,
+    words: &Words,
+    pass: &mut Pass,
+    other: Pass,
+    steps: u32,
+    before: &[Row],
+    after: &[Row],
+)
+    requires own { Owns words.now pass.old × Owns words.now other }
+    requires cells { 2 < cells_of words.now }
+    requires idle { ((view_of pass.old).holds ≡ false) × ((view_of other).holds ≡ false) }
+{
+    let mut thread = thread(alloc, words, other, PATIENCE, 0).expect(rt, "memory");
+    around(rt, alloc, words, pass, &mut thread, steps, before, after).expect(rt, "memory");
+    part(rt, words, thread);
 }
 
 /// A thread is answered so before the clock is taken, and so after the commit has stopped.
@@ -150,14 +290,9 @@ fn beside(
     before: &[Row],
     after: &[Row],
 ) -> Result<(), Fail> {
-    let (words, mut pass) = Words::new(alloc, &[0u8; 32])?;
-    let other = words.split(&mut pass);
-    let mut thread = thread(alloc, &words, other, PATIENCE, 0)?;
-    walk(rt, &words, &mut thread, before)?;
-    let mut engine = write_two(rt, alloc, &words, &mut pass)?;
-    stop_after(rt, &words, &mut pass, &mut engine, steps);
-    walk(rt, &words, &mut thread, after)?;
-    part(rt, &words, thread);
+    let (words, pass) = opened(alloc, &[0u8; 32])?;
+    let (mut pass, other) = cut(&words, pass);
+    answered(rt, alloc, &words, &mut pass, other, steps, before, after);
     assert!(rt; !pass.idle());
     Ok(())
 }
