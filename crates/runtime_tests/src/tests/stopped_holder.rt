@@ -1,5 +1,5 @@
-//! Threads beside a commit that is stopped for ever while it holds the clock. Each of their calls still returns, within
-//! its steps.
+//! Threads beside a commit that is stopped for ever after one of its steps. Each of their calls still returns, within its
+//! steps.
 
 ghost use Rattle.std.specs.Prelude.{◌≡◌, ◌<◌, false, true};
 ghost use Rattle.shared_words.specs.Passes.{Owns, view_of, cells_of};
@@ -201,7 +201,19 @@ fn store_second(rt: &impl Abort, words: &Words, pass: &mut Pass, engine: &mut En
     step(rt, words, pass, engine, SECOND, &Next::Step(FREE));
 }
 
-/// The clock is taken, and so many steps more are made: all that are made while it is held are three.
+/// The clock is free again, and the commit is answered.
+fn free(rt: &impl Abort, words: &Words, pass: &mut Pass, engine: &mut Engine)
+    requires own { Owns words.now pass.old }
+    requires cells { 2 < cells_of words.now }
+    requires holds { (view_of pass.old).holds ≡ true }
+    requires clock { (view_of pass.old).clock ≡ 0 }
+    ensures own { Owns words.now pass.new }
+{
+    let ends = Answer::Committed { at: 0, wrote: true };
+    step(rt, words, pass, engine, FREE, &Next::Answer(ends));
+}
+
+/// The clock is taken, and so many steps more are made: three while it is held, and the fourth one frees it.
 fn stop_after(rt: &impl Abort, words: &Words, pass: &mut Pass, engine: &mut Engine, steps: u32)
     requires own { Owns words.now pass.old }
     requires cells { 2 < cells_of words.now }
@@ -221,6 +233,10 @@ fn stop_after(rt: &impl Abort, words: &Words, pass: &mut Pass, engine: &mut Engi
         return;
     }
     store_second(rt, words, pass, engine);
+    if steps == 3 {
+        return;
+    }
+    free(rt, words, pass, engine);
 }
 
 /// A commit of this pass stops after so many steps.
@@ -293,7 +309,7 @@ fn beside(
     let (words, pass) = opened(alloc, &[0u8; 32])?;
     let (mut pass, other) = cut(&words, pass);
     answered(rt, alloc, &words, &mut pass, other, steps, before, after);
-    assert!(rt; !pass.idle());
+    assert_eq!(rt; pass.idle(), steps == 4);
     Ok(())
 }
 
@@ -367,4 +383,19 @@ fn modes(rt: HostRuntime) -> Result<(), Fail> {
         beside(&rt, rt.alloc(), steps, &before, &after)?;
     }
     Ok(())
+}
+
+/// After its last step the clock is free.
+#[test]
+fn freed(rt: HostRuntime) -> Result<(), Fail> {
+    let before = [(BEGIN, IN, 1), (read(24), word(0), 2)];
+    let committed = Answer::Committed { at: 1, wrote: true };
+    let after = [
+        // the word, the clock, a round over one row, and the word and the clock again
+        (read(0), word(5), 7),
+        (read(8), word(6), 2),
+        (write(16, 1), DONE, 0),
+        (Call::Commit, committed, 3),
+    ];
+    beside(&rt, rt.alloc(), 4, &before, &after)
 }
