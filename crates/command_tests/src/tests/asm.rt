@@ -1,6 +1,9 @@
 //! Scripts from their bytes to what is written, said and answered.
 
 use crate::fakes::{Comment, Meagre};
+use std::alloc::Global;
+use std::io::{Read, Write};
+use std::process::Abort;
 use std::test::*;
 use text_commands::asm;
 
@@ -33,61 +36,92 @@ _ITM_WU1 7 r1
 _ITM_commitTransaction
 ";
 
+/// The status of a script.
+fn status_of<R: Read, W: Write, E: Write>(
+    alloc: Global,
+    reader: &mut R,
+    output: &mut W,
+    errors: &mut E,
+) -> u8 {
+    asm(alloc, reader, output, errors)
+}
+
+/// A reader fails after so many bytes: nothing is written, and the errors get this line.
+fn fails_after(rt: &impl Abort, alloc: Global, left: usize, status: u8, line: &[u8]) {
+    let mut reader = Comment {
+        left,
+        failed: false,
+    };
+    let mut output = Vec::new(alloc);
+    let mut errors = Vec::new(alloc);
+    assert_eq!(rt;
+        status_of(alloc, &mut reader, &mut output, &mut errors),
+        status
+    );
+    assert!(rt; output.is_empty());
+    assert_eq!(rt; errors.as_slice(), line);
+}
+
 /// A read that fails, and a text of which no more is read than makes it too long.
 #[test]
 fn failing_reads(rt: HostRuntime) {
-    let rows: [(usize, u8, &[u8]); 3] = [
-        (0, 5, b"itmrun: reading failed\n"),
-        (16_777_216, 5, b"itmrun: reading failed\n"),
-        (16_777_217, 2, b"itmrun: line 0: too long\n"),
-    ];
-    for (left, status, line) in rows {
-        let mut reader = Comment {
-            left,
-            failed: false,
-        };
-        let mut output = Vec::new(rt.alloc());
-        let mut errors = Vec::new(rt.alloc());
-        assert_eq!(rt;
-            asm(rt.alloc(), &mut reader, &mut output, &mut errors),
-            status
-        );
-        assert!(rt; output.is_empty());
-        assert_eq!(rt; errors.as_slice(), line);
+    let failed = b"itmrun: reading failed\n";
+    fails_after(&rt, rt.alloc(), 0, 5, failed);
+    fails_after(&rt, rt.alloc(), 16_777_216, 5, failed);
+    fails_after(
+        &rt,
+        rt.alloc(),
+        16_777_217,
+        2,
+        b"itmrun: line 0: too long\n",
+    );
+}
+
+/// Whether the whole text was taken, with status 0; else what was taken is a beginning of it, and the errors have the one
+/// line.
+fn is_whole(rt: &impl Abort, status: u8, taken: &[u8], errors: &[u8]) -> bool {
+    if status == 0 {
+        assert_eq!(rt; taken, TEXT);
+        return true;
     }
+    assert_eq!(rt; status, 5);
+    assert!(rt; TEXT.starts_with(taken));
+    assert_eq!(rt; errors, b"itmrun: writing failed\n".as_slice());
+    false
+}
+
+/// So many writes are good: whether the whole text is taken.
+fn written(rt: &impl Abort, alloc: Global, writes: usize, most: usize, fails: bool) -> bool {
+    let mut reader = SCRIPT;
+    let mut writer = Meagre {
+        taken: Vec::new(alloc),
+        writes,
+        most,
+        fails,
+    };
+    let mut errors = Vec::new(alloc);
+    let status = status_of(alloc, &mut reader, &mut writer, &mut errors);
+    is_whole(rt, status, &writer.taken, &errors)
+}
+
+/// Each write fails in turn; how many there are in all.
+fn fails_in_turn(rt: &impl Abort, alloc: Global, most: usize, fails: bool) -> usize {
+    for writes in 0..1000 {
+        if written(rt, alloc, writes, most, fails) {
+            return writes;
+        }
+    }
+    panic!(rt; "no write is the last one");
 }
 
 /// Each write fails in turn, and then the flush: what was taken before is a beginning of the text, and the errors get
 /// the one line.
 #[test]
 fn failing_writes(rt: HostRuntime) {
-    for fails in [true, false] {
-        for most in [1, 64] {
-            let calls = TEXT.len().div_ceil(most);
-            let needed = if fails { calls + 1 } else { calls };
-            let mut whole = false;
-            for writes in 0..1000 {
-                let mut reader = SCRIPT;
-                let mut writer = Meagre {
-                    taken: Vec::new(rt.alloc()),
-                    writes,
-                    most,
-                    fails,
-                };
-                let mut errors = Vec::new(rt.alloc());
-                let status = asm(rt.alloc(), &mut reader, &mut writer, &mut errors);
-                if status == 0 {
-                    assert_eq!(rt; writer.taken.as_slice(), TEXT);
-                    assert_eq!(rt; writes, needed);
-                    whole = true;
-                    break;
-                }
-                assert_eq!(rt; status, 5);
-                assert!(rt; TEXT.starts_with(&writer.taken));
-                assert_eq!(rt; errors.as_slice(), b"itmrun: writing failed\n".as_slice());
-            }
-            assert!(rt; whole);
-        }
+    for most in [1, 64] {
+        let calls = TEXT.len().div_ceil(most);
+        assert_eq!(rt; fails_in_turn(&rt, rt.alloc(), most, true), calls + 1);
+        assert_eq!(rt; fails_in_turn(&rt, rt.alloc(), most, false), calls);
     }
 }
 
@@ -102,7 +136,10 @@ fn failing_errors(rt: HostRuntime) {
         most: 4,
         fails: false,
     };
-    assert_eq!(rt; asm(rt.alloc(), &mut reader, &mut output, &mut writer), 5);
+    assert_eq!(rt;
+        status_of(rt.alloc(), &mut reader, &mut output, &mut writer),
+        5
+    );
     assert_eq!(rt; writer.taken.as_slice(), b"itmrun: ".as_slice());
     assert!(rt; output.is_empty());
 }

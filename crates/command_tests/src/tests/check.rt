@@ -1,6 +1,9 @@
 //! Histories from their bytes to what is written, said and answered.
 
 use crate::fakes::{Comment, Meagre};
+use std::alloc::Global;
+use std::io::{Read, Write};
+use std::process::Abort;
 use std::test::*;
 use text_commands::check;
 
@@ -20,39 +23,59 @@ end
 final 4 0102000000000000
 ";
 
+/// The status of a history.
+fn status_of<R: Read, W: Write, E: Write>(
+    alloc: Global,
+    reader: &mut R,
+    output: &mut W,
+    errors: &mut E,
+) -> u8 {
+    check(alloc, reader, output, errors)
+}
+
+/// A reader fails after so many bytes: nothing is written, and the errors get the one line.
+fn fails_after(rt: &impl Abort, alloc: Global, left: usize) {
+    let mut reader = Comment {
+        left,
+        failed: false,
+    };
+    let mut output = Vec::new(alloc);
+    let mut errors = Vec::new(alloc);
+    assert_eq!(rt; status_of(alloc, &mut reader, &mut output, &mut errors), 5);
+    assert!(rt; output.is_empty());
+    assert_eq!(rt; errors.as_slice(), b"itmrun: reading failed\n".as_slice());
+}
+
 /// A read that fails.
 #[test]
 fn failing_reads(rt: HostRuntime) {
-    for left in [0, 5000] {
-        let mut reader = Comment {
-            left,
-            failed: false,
-        };
-        let mut output = Vec::new(rt.alloc());
-        let mut errors = Vec::new(rt.alloc());
-        assert_eq!(rt; check(rt.alloc(), &mut reader, &mut output, &mut errors), 5);
-        assert!(rt; output.is_empty());
-        assert_eq!(rt; errors.as_slice(), b"itmrun: reading failed\n".as_slice());
-    }
+    fails_after(&rt, rt.alloc(), 0);
+    fails_after(&rt, rt.alloc(), 5000);
 }
 
-/// Each write fails in turn, and then the flush: what was taken before is a beginning of the verdict.
+/// After so many writes, one byte each, the next one fails, or the flush: what was taken before is a beginning of the
+/// verdict.
+fn fails_at(rt: &impl Abort, alloc: Global, writes: usize) {
+    let verdict = b"bad 8 position\n".as_slice();
+    let mut reader = TWICE;
+    let mut writer = Meagre {
+        taken: Vec::new(alloc),
+        writes,
+        most: 1,
+        fails: true,
+    };
+    let mut errors = Vec::new(alloc);
+    assert_eq!(rt; status_of(alloc, &mut reader, &mut writer, &mut errors), 5);
+    assert_eq!(rt; writer.taken.len(), writes);
+    assert!(rt; verdict.starts_with(&writer.taken));
+    assert_eq!(rt; errors.as_slice(), b"itmrun: writing failed\n".as_slice());
+}
+
+/// Each write fails in turn, and then the flush.
 #[test]
 fn failing_writes(rt: HostRuntime) {
-    let verdict = b"bad 8 position\n".as_slice();
     for writes in 0..16 {
-        let mut reader = TWICE;
-        let mut writer = Meagre {
-            taken: Vec::new(rt.alloc()),
-            writes,
-            most: 1,
-            fails: true,
-        };
-        let mut errors = Vec::new(rt.alloc());
-        assert_eq!(rt; check(rt.alloc(), &mut reader, &mut writer, &mut errors), 5);
-        assert_eq!(rt; writer.taken.len(), writes);
-        assert!(rt; verdict.starts_with(&writer.taken));
-        assert_eq!(rt; errors.as_slice(), b"itmrun: writing failed\n".as_slice());
+        fails_at(&rt, rt.alloc(), writes);
     }
 }
 
@@ -67,7 +90,10 @@ fn failing_errors(rt: HostRuntime) {
         most: 4,
         fails: false,
     };
-    assert_eq!(rt; check(rt.alloc(), &mut reader, &mut output, &mut writer), 5);
+    assert_eq!(rt;
+        status_of(rt.alloc(), &mut reader, &mut output, &mut writer),
+        5
+    );
     assert_eq!(rt; writer.taken.as_slice(), b"itmrun: ".as_slice());
     assert!(rt; output.is_empty());
 }

@@ -7,7 +7,7 @@ ghost use Rattle.script_vm.specs.Threads.{depth_of};
 use crate::counted::{Counted, Noting};
 use norec_world::{Bytes, Setup, World};
 use run_commands::play;
-use script_asm::assemble;
+use script_asm::{AsmFault, assemble};
 use script_program::{Item, Program};
 use script_vm::Script;
 use std::alloc::{AllocError, Global};
@@ -229,40 +229,84 @@ fn begin<'p>(
     World::new(alloc, setup, players)
 }
 
+/// The run is played as the case says: whether its whole history was written.
+fn is_played(
+    alloc: Global,
+    world: &mut World<Counted<'_>>,
+    case: &Case,
+    writer: &mut Noting<'_>,
+) -> bool
+    requires { length world.old.actors ≡ 2 }
+{
+    let items = [
+        Item::Take(0, case.first),
+        Item::Take(1, case.second),
+        Item::Take(0, case.third),
+        Item::Out(1),
+    ];
+    let mut stream = Stream::new(writer);
+    play(alloc, world, &items, &mut stream).is_ok()
+}
+
+/// The history is written as far as the run has come, and no farther.
+fn has_come(
+    rt: &impl Abort,
+    world: &World<Counted<'_>>,
+    parts: &[Part],
+    taken: &[(u8, u32)],
+    replies: u32,
+    whole: bool,
+) {
+    expect_front(rt, parts, taken);
+    let place = place_at(parts, taken.len());
+    assert_eq!(rt; world.events(), place.events);
+    assert_eq!(rt; replies, place.replies);
+    assert_eq!(rt; whole, place.byte.is_none());
+}
+
+/// So many writes are good: whether the whole history was written.
+fn fails_after(
+    rt: &impl Abort,
+    alloc: Global,
+    program: &Program,
+    case: &Case,
+    most: usize,
+    good: usize,
+) -> bool
+    requires { length (threads_of program.now) ≡ 2 }
+{
+    let replies = Cell::new(0);
+    let mut world = begin(alloc, program, &replies).expect(rt, "memory");
+    let mut writer = Noting {
+        taken: Vec::new(alloc),
+        replies: &replies,
+        most,
+        good,
+        writes: 0,
+    };
+    let whole = is_played(alloc, &mut world, case, &mut writer);
+    has_come(rt, &world, case.parts, &writer.taken, replies.get(), whole);
+    let writes = if whole { good } else { good.saturating_add(1) };
+    assert_eq!(rt; writer.writes, writes);
+    whole
+}
+
+/// The program of a script.
+fn program(alloc: Global, text: &[u8]) -> Result<Program, AsmFault> {
+    assemble(alloc, text)
+}
+
 /// Each write fails in turn, and at last none. Each part of the history comes to the writer when the run has come just so
 /// far; and from a write that fails on there is no further one, no event and no reply.
 fn fails_in_turn(rt: &impl Abort, alloc: Global, case: &Case, most: usize) {
-    let program = assemble(alloc, TWO_COUNTERS).expect(rt, "the script");
+    let program = program(alloc, TWO_COUNTERS).expect(rt, "the script");
     assert_eq!(rt; program.threads(), 2);
     let mut whole = false;
     for good in 0..1000usize {
-        let replies = Cell::new(0);
-        let mut world = begin(alloc, &program, &replies).expect(rt, "memory");
-        let mut writer = Noting {
-            taken: Vec::new(alloc),
-            replies: &replies,
-            most,
-            good,
-            writes: 0,
-        };
-        let items = [
-            Item::Take(0, case.first),
-            Item::Take(1, case.second),
-            Item::Take(0, case.third),
-            Item::Out(1),
-        ];
-        let mut stream = Stream::new(&mut writer);
-        whole = play(alloc, &mut world, &items, &mut stream).is_ok();
-        expect_front(rt, case.parts, &writer.taken);
-        let place = place_at(case.parts, writer.taken.len());
-        assert_eq!(rt; world.events(), place.events);
-        assert_eq!(rt; replies.get(), place.replies);
-        assert_eq!(rt; whole, place.byte.is_none());
+        whole = fails_after(rt, alloc, &program, case, most, good);
         if whole {
-            assert_eq!(rt; writer.writes, good);
             break;
         }
-        assert_eq!(rt; writer.writes, good.saturating_add(1));
     }
     assert!(rt; whole);
 }

@@ -3,6 +3,7 @@
 use crate::fakes::Halting;
 use run_commands::sched;
 use std::alloc::Global;
+use std::io::{Read, Write};
 use std::process::Abort;
 use std::test::*;
 use text_commands::{asm, check};
@@ -41,6 +42,48 @@ end
 final 0 0000000000000000
 ";
 
+/// The status of a text.
+fn status_of<R: Read, W: Write, E: Write>(
+    alloc: Global,
+    command: Command,
+    reader: &mut R,
+    output: &mut W,
+    errors: &mut E,
+) -> u8 {
+    match command {
+        Command::Asm => asm(alloc, reader, output, errors),
+        Command::Sched => sched(alloc, reader, output, errors),
+        Command::Check => check(alloc, reader, output, errors),
+    }
+}
+
+/// Whether the text is answered, with status 0; else nothing is written, and the errors have the one line.
+fn is_answered(rt: &impl Abort, status: u8, output: &[u8], errors: &[u8], written: &[u8]) -> bool {
+    if status == 0 {
+        assert_eq!(rt; output, written);
+        assert!(rt; errors.is_empty());
+        return true;
+    }
+    assert_eq!(rt; status, 5);
+    assert!(rt; output.is_empty());
+    assert_eq!(rt; errors, b"itmrun: reading failed\n".as_slice());
+    false
+}
+
+/// Whether the text of the reader is answered.
+fn answered(
+    rt: &impl Abort,
+    alloc: Global,
+    command: Command,
+    reader: &mut Halting<'_>,
+    written: &[u8],
+) -> bool {
+    let mut output = Vec::new(alloc);
+    let mut errors = Vec::new(alloc);
+    let status = status_of(alloc, command, reader, &mut output, &mut errors);
+    is_answered(rt, status, &output, &errors, written)
+}
+
 /// Each read of a text fails in turn, and nothing is written; where so many are good, which is all of them, it is answered.
 fn fails_in_turn(
     rt: &impl Abort,
@@ -56,37 +99,24 @@ fn fails_in_turn(
             reads,
             most,
         };
-        let mut output = Vec::new(alloc);
-        let mut errors = Vec::new(alloc);
-        let status = match command {
-            Command::Asm => asm(alloc, &mut reader, &mut output, &mut errors),
-            Command::Sched => sched(alloc, &mut reader, &mut output, &mut errors),
-            Command::Check => check(alloc, &mut reader, &mut output, &mut errors),
-        };
-        if status == 0 {
-            assert_eq!(rt; output.as_slice(), written);
-            assert!(rt; errors.is_empty());
+        if answered(rt, alloc, command, &mut reader, written) {
             return reads;
         }
-        assert_eq!(rt; status, 5);
-        assert!(rt; output.is_empty());
-        assert_eq!(rt; errors.as_slice(), b"itmrun: reading failed\n".as_slice());
     }
     panic!(rt; "no read is the last one");
 }
 
-/// The last read finds the end.
+/// Of reads of at most 1 byte, 7 and 4,096 the last one finds the end.
+fn ends_so(rt: &impl Abort, alloc: Global, command: Command, text: &[u8], written: &[u8]) {
+    for most in [1, 7, 4096] {
+        let reads = fails_in_turn(rt, alloc, command, text, most, written);
+        assert_eq!(rt; reads, text.len().div_ceil(most).saturating_add(1));
+    }
+}
+
 #[test]
 fn failing_reads(rt: HostRuntime) {
-    let rows: [(Command, &[u8], &[u8]); 3] = [
-        (Command::Asm, SCRIPT, PRINT),
-        (Command::Sched, SCRIPT, HISTORY),
-        (Command::Check, HISTORY, b"legal\n"),
-    ];
-    for (command, text, written) in rows {
-        for most in [1, 7, 4096] {
-            let reads = fails_in_turn(&rt, rt.alloc(), command, text, most, written);
-            assert_eq!(rt; reads, text.len().div_ceil(most).saturating_add(1));
-        }
-    }
+    ends_so(&rt, rt.alloc(), Command::Asm, SCRIPT, PRINT);
+    ends_so(&rt, rt.alloc(), Command::Sched, SCRIPT, HISTORY);
+    ends_so(&rt, rt.alloc(), Command::Check, HISTORY, b"legal\n");
 }

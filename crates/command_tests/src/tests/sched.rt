@@ -3,7 +3,7 @@
 use crate::fakes::{Comment, Meagre};
 use run_commands::sched;
 use std::alloc::Global;
-use std::io::Read;
+use std::io::{Read, Write};
 use std::process::Abort;
 use std::test::*;
 
@@ -78,122 +78,164 @@ _ITM_WU8 0 r1
 _ITM_commitTransaction
 ";
 
-/// What a script is answered.
-#[derive(Drop)]
-struct Answer {
-    output: Vec<u8>,
-    errors: Vec<u8>,
-    status: u8,
+/// The status of a script.
+fn status_of<R: Read, W: Write, E: Write>(
+    alloc: Global,
+    reader: &mut R,
+    output: &mut W,
+    errors: &mut E,
+) -> u8 {
+    sched(alloc, reader, output, errors)
 }
 
-/// What the reader's script is answered where nothing fails but the reader.
-fn answer_to<R: Read>(alloc: Global, reader: &mut R) -> Answer {
+/// A reader fails after so many bytes: nothing is written, and the errors get this line.
+fn fails_after(rt: &impl Abort, alloc: Global, left: usize, status: u8, line: &[u8]) {
+    let mut reader = Comment {
+        left,
+        failed: false,
+    };
     let mut output = Vec::new(alloc);
     let mut errors = Vec::new(alloc);
-    let status = sched(alloc, reader, &mut output, &mut errors);
-    Answer {
-        output,
-        errors,
-        status,
-    }
+    assert_eq!(rt;
+        status_of(alloc, &mut reader, &mut output, &mut errors),
+        status
+    );
+    assert!(rt; output.is_empty());
+    assert_eq!(rt; errors.as_slice(), line);
 }
 
 /// A read that fails, and a text of which no more is read than makes it too long.
 #[test]
 fn failing_reads(rt: HostRuntime) {
-    let rows: [(usize, u8, &[u8]); 3] = [
-        (0, 5, b"itmrun: reading failed\n"),
-        (16_777_216, 5, b"itmrun: reading failed\n"),
-        (16_777_217, 2, b"itmrun: line 0: too long\n"),
-    ];
-    for (left, status, line) in rows {
-        let mut reader = Comment {
-            left,
-            failed: false,
-        };
-        let answer = answer_to(rt.alloc(), &mut reader);
-        assert_eq!(rt; answer.status, status);
-        assert!(rt; answer.output.is_empty());
-        assert_eq!(rt; answer.errors.as_slice(), line);
+    let failed = b"itmrun: reading failed\n";
+    fails_after(&rt, rt.alloc(), 0, 5, failed);
+    fails_after(&rt, rt.alloc(), 16_777_216, 5, failed);
+    fails_after(
+        &rt,
+        rt.alloc(),
+        16_777_217,
+        2,
+        b"itmrun: line 0: too long\n",
+    );
+}
+
+/// A script whose history is written in pieces of 16 bytes, and what it is answered where nothing fails.
+#[derive(Clone, Copy)]
+struct Case {
+    script: &'static [u8],
+    history: &'static [u8],
+    good: u8,
+}
+
+/// What has come of a try whose writer fails.
+#[derive(Clone, Copy)]
+struct Tried {
+    /// The status is the good one.
+    good: bool,
+    /// All of the history was taken.
+    taken: bool,
+}
+
+/// What was taken is a beginning of the history; where the status is not the good one, the errors have the one line.
+fn judged(rt: &impl Abort, case: &Case, status: u8, taken: &[u8], errors: &[u8]) -> Tried {
+    assert!(rt; case.history.starts_with(taken));
+    let good = status == case.good;
+    if !good {
+        assert_eq!(rt; status, 5);
+        assert_eq!(rt; errors, b"itmrun: writing failed\n".as_slice());
     }
+    Tried {
+        good,
+        taken: taken.len() == case.history.len(),
+    }
+}
+
+/// The write after so many fails, and its flush where all else is good.
+fn write_so(rt: &impl Abort, alloc: Global, case: &Case, writes: usize, fails: bool) -> Tried {
+    let mut reader = case.script;
+    let mut writer = Meagre {
+        taken: Vec::new(alloc),
+        writes,
+        most: 16,
+        fails,
+    };
+    let mut errors = Vec::new(alloc);
+    let status = status_of(alloc, &mut reader, &mut writer, &mut errors);
+    judged(rt, case, status, &writer.taken, &errors)
 }
 
 /// Each write of a script's history fails in turn, and then its flush: what was taken before is a beginning of it, and
 /// the errors get the one line, also where threads gave up.
-fn fails_in_turn(
-    rt: &impl Abort,
-    alloc: Global,
-    script: &[u8],
-    history: &[u8],
-    fails: bool,
-    good: u8,
-) {
+fn fails_in_turn(rt: &impl Abort, alloc: Global, case: &Case, fails: bool) {
     let mut unflushed = false;
     for writes in 0..1000 {
-        let mut reader = script;
-        let mut writer = Meagre {
-            taken: Vec::new(alloc),
-            writes,
-            most: 16,
-            fails,
-        };
-        let mut errors = Vec::new(alloc);
-        let status = sched(alloc, &mut reader, &mut writer, &mut errors);
-        assert!(rt; history.starts_with(&writer.taken));
-        if status == good {
+        let tried = write_so(rt, alloc, case, writes, fails);
+        if tried.good {
             assert!(rt; 9 <= writes);
             break;
         }
-        assert_eq!(rt; status, 5);
         assert!(rt; !unflushed);
-        unflushed = writer.taken.len() == history.len();
-        assert_eq!(rt; errors.as_slice(), b"itmrun: writing failed\n".as_slice());
+        unflushed = tried.taken;
     }
     assert_eq!(rt; unflushed, fails);
 }
 
 #[test]
 fn failing_writes(rt: HostRuntime) {
+    let counter = Case {
+        script: COUNTER,
+        history: COUNTER_HISTORY,
+        good: 0,
+    };
+    let partial = Case {
+        script: PARTIAL_WRITE_BACK,
+        history: PARTIAL_WRITE_BACK_HISTORY,
+        good: 4,
+    };
     for fails in [true, false] {
-        fails_in_turn(&rt, rt.alloc(), COUNTER, COUNTER_HISTORY, fails, 0);
-        fails_in_turn(
-            &rt,
-            rt.alloc(),
-            PARTIAL_WRITE_BACK,
-            PARTIAL_WRITE_BACK_HISTORY,
-            fails,
-            4,
-        );
+        fails_in_turn(&rt, rt.alloc(), &counter, fails);
+        fails_in_turn(&rt, rt.alloc(), &partial, fails);
     }
+}
+
+/// A writer that takes one byte at a time gets the whole history.
+fn takes_all(rt: &impl Abort, alloc: Global) {
+    let mut reader = COUNTER;
+    let mut writer = Meagre {
+        taken: Vec::new(alloc),
+        writes: usize::MAX,
+        most: 1,
+        fails: true,
+    };
+    let mut errors = Vec::new(alloc);
+    assert_eq!(rt; status_of(alloc, &mut reader, &mut writer, &mut errors), 0);
+    assert_eq!(rt; writer.taken.as_slice(), COUNTER_HISTORY);
+}
+
+/// One that fails on the errors after so many writes gives status 5.
+fn fails_on_errors(rt: &impl Abort, alloc: Global, script: &[u8], writes: usize, taken: &[u8]) {
+    let mut reader = script;
+    let mut output = Vec::new(alloc);
+    let mut writer = Meagre {
+        taken: Vec::new(alloc),
+        writes,
+        most: 4,
+        fails: false,
+    };
+    assert_eq!(rt; status_of(alloc, &mut reader, &mut output, &mut writer), 5);
+    assert_eq!(rt; writer.taken.as_slice(), taken);
 }
 
 /// A writer that takes one byte at a time gets the whole history, and one that fails on the errors gives status 5.
 #[test]
 fn meagre_writers(rt: HostRuntime) {
-    let mut reader = COUNTER;
-    let mut writer = Meagre {
-        taken: Vec::new(rt.alloc()),
-        writes: usize::MAX,
-        most: 1,
-        fails: true,
-    };
-    let mut errors = Vec::new(rt.alloc());
-    assert_eq!(rt; sched(rt.alloc(), &mut reader, &mut writer, &mut errors), 0);
-    assert_eq!(rt; writer.taken.as_slice(), COUNTER_HISTORY);
-    let rows: [(&[u8], usize, &[u8]); 2] = [
-        (b"no script", 2, b"itmrun: "),
-        (TWO_GAVE_UP, 9, b"itmrun: thread 0 gave up\nitmrun: "),
-    ];
-    for (script, writes, taken) in rows {
-        let mut reader = script;
-        let mut output = Vec::new(rt.alloc());
-        let mut writer = Meagre {
-            taken: Vec::new(rt.alloc()),
-            writes,
-            most: 4,
-            fails: false,
-        };
-        assert_eq!(rt; sched(rt.alloc(), &mut reader, &mut output, &mut writer), 5);
-        assert_eq!(rt; writer.taken.as_slice(), taken);
-    }
+    takes_all(&rt, rt.alloc());
+    fails_on_errors(&rt, rt.alloc(), b"no script", 2, b"itmrun: ");
+    fails_on_errors(
+        &rt,
+        rt.alloc(),
+        TWO_GAVE_UP,
+        9,
+        b"itmrun: thread 0 gave up\nitmrun: ",
+    );
 }
