@@ -1,7 +1,7 @@
 //! Two threads in an order that a gate makes: only threads that run side by side come to it.
 
 use crate::tests::gates::{Held, InTurns};
-use crate::tests::texts::{report_of, text_of};
+use crate::tests::texts::{expect_ends, expect_text, report_of};
 use std::test::Fail;
 use tx_runs::End;
 use tx_worker::Quiet;
@@ -40,9 +40,8 @@ final 2 00000000000000000700000000000000
 fn a_commit_between_two_reads(rt: HostRuntime) -> Result<(), Fail> {
     let held = [Held::new(1, 0, 1), Held::new(0, 2, 2)];
     let report = report_of(&rt, TWO_WORDS, &InTurns::new(&held), &Quiet)?;
-    let text = text_of(rt.alloc(), &report)?;
-    assert_eq!(rt; text.as_slice(), BETWEEN_TWO_READS.as_bytes());
-    assert_eq!(rt; report.ends.as_slice(), [End::Finished; 2].as_slice());
+    expect_text(&rt, rt.alloc(), &report, BETWEEN_TWO_READS)?;
+    expect_ends(&rt, &report, &[End::Finished; 2]);
     Ok(())
 }
 
@@ -83,9 +82,8 @@ final 4 0200000000000000
 fn a_commit_before_a_commit(rt: HostRuntime) -> Result<(), Fail> {
     let held = [Held::new(1, 0, 2), Held::new(0, 3, 3)];
     let report = report_of(&rt, TWO_COUNTERS, &InTurns::new(&held), &Quiet)?;
-    let text = text_of(rt.alloc(), &report)?;
-    assert_eq!(rt; text.as_slice(), TRIED_AGAIN.as_bytes());
-    assert_eq!(rt; report.ends.as_slice(), [End::Finished; 2].as_slice());
+    expect_text(&rt, rt.alloc(), &report, TRIED_AGAIN)?;
+    expect_ends(&rt, &report, &[End::Finished; 2]);
     Ok(())
 }
 
@@ -154,11 +152,7 @@ fn a_commit_before_each_try(rt: HostRuntime) -> Result<(), Fail> {
         Held::new(1, 11, 8),
     ];
     let report = report_of(&rt, WRITER_AND_READER, &InTurns::new(&held), &Quiet)?;
-    let text = text_of(rt.alloc(), &report)?;
-    assert_eq!(rt; text.as_slice(), THREE_TRIES.as_bytes());
-    assert_eq!(rt;
-        report.ends.as_slice(),
-        [End::Finished, End::GaveUp].as_slice()
-    );
+    expect_text(&rt, rt.alloc(), &report, THREE_TRIES)?;
+    expect_ends(&rt, &report, &[End::Finished, End::GaveUp]);
     Ok(())
 }

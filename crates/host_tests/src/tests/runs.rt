@@ -2,9 +2,11 @@
 
 use crate::tests::gates::ShutsAt;
 use crate::tests::sinks::Digits;
-use crate::tests::texts::report_of;
+use crate::tests::texts::{expect_ends, report_of};
+use std::process::Abort;
 use std::test::Fail;
 use tx_attempts::Outcome;
+use tx_host::Report;
 use tx_runs::End;
 use tx_worker::{Open, Quiet};
 
@@ -20,25 +22,29 @@ _ITM_WU8 0 r2
 _ITM_commitTransaction
 ";
 
+/// How many of the attempts committed.
+fn committed(report: &Report) -> usize {
+    let attempts = report.history.attempts.as_slice();
+    attempts
+        .iter()
+        .filter(|a| a.outcome == Outcome::Committed)
+        .count()
+}
+
+/// The clock and the memory at the end.
+fn expect_left(rt: &impl Abort, report: &Report, clock: u64, bytes: &[u8]) {
+    assert_eq!(rt; report.history.clock, clock);
+    assert_eq!(rt; report.history.bytes.as_slice(), bytes);
+}
+
 /// Each thread adds one, whatever the order of their steps. So many tries are not used up while one that holds the clock is
 /// put aside.
 #[test]
 fn four_count(rt: HostRuntime) -> Result<(), Fail> {
     let report = report_of(&rt, COUNTER, &Open, &Quiet)?;
-    assert_eq!(rt; report.history.clock, 8);
-    assert_eq!(rt;
-        report.history.bytes.as_slice(),
-        [4, 0, 0, 0, 0, 0, 0, 0].as_slice()
-    );
-    assert_eq!(rt; report.ends.as_slice(), [End::Finished; 4].as_slice());
-    let committed = report
-        .history
-        .attempts
-        .as_slice()
-        .iter()
-        .filter(|a| a.outcome == Outcome::Committed)
-        .count();
-    assert_eq!(rt; committed, 4);
+    expect_left(&rt, &report, 8, &[4, 0, 0, 0, 0, 0, 0, 0]);
+    expect_ends(&rt, &report, &[End::Finished; 4]);
+    assert_eq!(rt; committed(&report), 4);
     Ok(())
 }
 
@@ -66,17 +72,22 @@ fn undo_actions_run(rt: HostRuntime) -> Result<(), Fail> {
     Ok(())
 }
 
-/// Where the gate shuts, the attempt stays as it is, and nothing runs.
-#[test]
-fn a_shut_gate_stops(rt: HostRuntime) -> Result<(), Fail> {
-    let sink = Digits::new();
-    let report = report_of(&rt, CANCELLED, &ShutsAt { call: 2 }, &sink)?;
-    assert_eq!(rt; report.ends.as_slice(), [End::GaveUp].as_slice());
+/// The one attempt has made one call, and stays as it is.
+fn expect_unfinished(rt: &impl Abort, report: &Report) {
     assert_eq!(rt; report.history.attempts.as_slice().len(), 1);
     for attempt in report.history.attempts.as_slice() {
         assert_eq!(rt; attempt.outcome, Outcome::Unfinished);
         assert_eq!(rt; attempt.calls.as_slice().len(), 1);
     }
+}
+
+/// Where the gate shuts, the attempt stays as it is, and nothing runs.
+#[test]
+fn a_shut_gate_stops(rt: HostRuntime) -> Result<(), Fail> {
+    let sink = Digits::new();
+    let report = report_of(&rt, CANCELLED, &ShutsAt { call: 2 }, &sink)?;
+    expect_ends(&rt, &report, &[End::GaveUp]);
+    expect_unfinished(&rt, &report);
     assert_eq!(rt; sink.all(), 0);
     Ok(())
 }

@@ -2,7 +2,7 @@
 
 use crate::tests::gates::Tallies;
 use crate::tests::sinks::{Digits, Meanwhile};
-use crate::tests::texts::{report_of, text_of};
+use crate::tests::texts::{expect_ends, expect_text, report_of};
 use std::sync::atomic::Ordering;
 use std::test::Fail;
 use tx_runs::End;
@@ -27,7 +27,7 @@ _ITM_inTransaction r1
 fn irrevocable_calls_pass_the_gate(rt: HostRuntime) -> Result<(), Fail> {
     let gate = Tallies::new();
     let report = report_of(&rt, IRREVOCABLE, &gate, &Quiet)?;
-    assert_eq!(rt; report.ends.as_slice(), [End::Finished].as_slice());
+    expect_ends(&rt, &report, &[End::Finished]);
     assert_eq!(rt; gate.asked.load(Ordering::SeqCst), 0x1_0010_0111);
     assert_eq!(rt; gate.told.load(Ordering::SeqCst), 0x1_0010_0111);
     Ok(())
@@ -86,8 +86,7 @@ final 2 0500000000000000
 fn actions_run_after_the_commit(rt: HostRuntime) -> Result<(), Fail> {
     let meanwhile = Meanwhile::new(3);
     let report = report_of(&rt, WRITER_WITH_ACTION, &meanwhile, &meanwhile)?;
-    let text = text_of(rt.alloc(), &report)?;
-    assert_eq!(rt; text.as_slice(), READ_MEANWHILE.as_bytes());
-    assert_eq!(rt; report.ends.as_slice(), [End::Finished; 2].as_slice());
+    expect_text(&rt, rt.alloc(), &report, READ_MEANWHILE)?;
+    expect_ends(&rt, &report, &[End::Finished; 2]);
     Ok(())
 }
