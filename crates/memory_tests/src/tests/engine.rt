@@ -37,7 +37,7 @@ fn logged(rt: &impl Abort, engine: &mut Engine) -> bool {
     found
 }
 
-/// What was logged comes back.
+/// At a cancel the arena becomes as it was logged.
 fn put_back(rt: &impl Abort, engine: &mut Engine, logged: [u8; 4]) {
     must(rt, engine, &save([5, 6, 7, 8]), &DONE);
     cancelled(rt, engine);
@@ -45,12 +45,17 @@ fn put_back(rt: &impl Abort, engine: &mut Engine, logged: [u8; 4]) {
     holds(rt, engine, logged);
 }
 
+/// What was logged comes back, and nothing else.
+fn logs(rt: &impl Abort, engine: &mut Engine) -> bool {
+    let found = logged(rt, engine);
+    let left = if found { [0; 4] } else { [1, 2, 3, 4] };
+    put_back(rt, engine, left);
+    found
+}
+
 pub(super) fn expect_log(rt: &impl Abort, alloc: Global) -> Result<bool, AllocError> {
     let mut engine = engine(alloc, 2)?;
-    let found = logged(rt, &mut engine);
-    let left = if found { [0; 4] } else { [1, 2, 3, 4] };
-    put_back(rt, &mut engine, left);
-    Ok(found)
+    Ok(logs(rt, &mut engine))
 }
 
 #[test]
@@ -97,11 +102,15 @@ fn writes(rt: &impl Abort, engine: &mut Engine) -> bool {
     found
 }
 
+fn reads_and_writes(rt: &impl Abort, engine: &mut Engine) -> bool {
+    let read = reads(rt, engine);
+    let written = writes(rt, engine);
+    read && written
+}
+
 pub(super) fn expect_read_and_write(rt: &impl Abort, alloc: Global) -> Result<bool, AllocError> {
     let mut engine = engine(alloc, 5)?;
-    let read = reads(rt, &mut engine);
-    let written = writes(rt, &mut engine);
-    Ok(read && written)
+    Ok(reads_and_writes(rt, &mut engine))
 }
 
 #[test]
@@ -140,13 +149,17 @@ fn tried(rt: &impl Abort, engine: &mut Engine, call: &Call, gives: &Next) -> boo
     found
 }
 
+fn copies_and_moves(rt: &impl Abort, engine: &mut Engine) -> bool {
+    let copied = tried(rt, engine, &COPY_OUT, &DONE);
+    let filled = tried(rt, engine, &FILL, &DONE);
+    let loads = Next::Step(Step::Load(2));
+    let moved = tried(rt, engine, &MOVE, &loads);
+    copied && filled && moved
+}
+
 pub(super) fn expect_copies_and_fills(rt: &impl Abort, alloc: Global) -> Result<bool, AllocError> {
     let mut engine = engine(alloc, 6)?;
-    let copied = tried(rt, &mut engine, &COPY_OUT, &DONE);
-    let filled = tried(rt, &mut engine, &FILL, &DONE);
-    let loads = Next::Step(Step::Load(2));
-    let moved = tried(rt, &mut engine, &MOVE, &loads);
-    Ok(copied && filled && moved)
+    Ok(copies_and_moves(rt, &mut engine))
 }
 
 #[test]
@@ -220,12 +233,17 @@ fn commits(rt: &impl Abort, engine: &mut Engine) {
     runs(rt, engine, &[committed(1), committed(2)]);
 }
 
+/// An irrevocable transaction, from its begin to its commit.
+fn goes_beyond(rt: &impl Abort, engine: &mut Engine) -> bool {
+    let gone = goes(rt, engine);
+    let registered = registers(rt, engine);
+    commits(rt, engine);
+    gone && registered
+}
+
 pub(super) fn expect_beyond_room(rt: &impl Abort, alloc: Global) -> Result<bool, AllocError> {
     let mut engine = engine(alloc, 2)?;
-    let gone = goes(rt, &mut engine);
-    let registered = registers(rt, &mut engine);
-    commits(rt, &mut engine);
-    Ok(gone && registered)
+    Ok(goes_beyond(rt, &mut engine))
 }
 
 #[test]

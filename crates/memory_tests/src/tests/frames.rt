@@ -43,6 +43,42 @@ fn register(
     frames.register(kind, Action { fun, arg: 0 })
 }
 
+/// The word is written, at the second time where memory was refused; whether it was not.
+fn writes(rt: &impl Abort, frames: &mut Frames, value: u64) -> Result<bool, AllocError> {
+    let rows = frames.len();
+    let found = write(rt, frames, value).is_ok();
+    if !found {
+        assert_eq!(rt; frames.len(), rows);
+        write(rt, frames, value)?;
+    }
+    Ok(found)
+}
+
+/// So is the arena logged.
+fn logs(rt: &impl Abort, frames: &mut Frames, arena: &Arena) -> Result<bool, AllocError> {
+    let found = log(rt, frames, arena).is_ok();
+    if !found {
+        log(rt, frames, arena)?;
+    }
+    Ok(found)
+}
+
+/// So is an action registered.
+fn registers(
+    rt: &impl Abort,
+    frames: &mut Frames,
+    kind: ActionKind,
+    fun: u32,
+) -> Result<bool, AllocError> {
+    let actions = frames.actions();
+    let found = register(rt, frames, kind, fun).is_ok();
+    if !found {
+        assert_eq!(rt; frames.actions(), actions);
+        register(rt, frames, kind, fun)?;
+    }
+    Ok(found)
+}
+
 /// In a block of this number a word is written, the arena logged, and an action of each kind registered.
 fn fill(
     rt: &impl Abort,
@@ -50,26 +86,11 @@ fn fill(
     arena: &Arena,
     number: u32,
 ) -> Result<bool, AllocError> {
-    let mut found = true;
-    let rows = frames.len();
-    if write(rt, frames, u64::from(number)).is_err() {
-        found = false;
-        assert_eq!(rt; frames.len(), rows);
-        write(rt, frames, u64::from(number))?;
-    }
-    if log(rt, frames, arena).is_err() {
-        found = false;
-        log(rt, frames, arena)?;
-    }
-    for kind in [ActionKind::Undo, ActionKind::Commit] {
-        let actions = frames.actions();
-        if register(rt, frames, kind, number).is_err() {
-            found = false;
-            assert_eq!(rt; frames.actions(), actions);
-            register(rt, frames, kind, number)?;
-        }
-    }
-    Ok(found)
+    let written = writes(rt, frames, u64::from(number))?;
+    let logged = logs(rt, frames, arena)?;
+    let undo = registers(rt, frames, ActionKind::Undo, number)?;
+    let commit = registers(rt, frames, ActionKind::Commit, number)?;
+    Ok(written && logged && undo && commit)
 }
 
 fn cancel(rt: &impl Abort, frames: &mut Frames, arena: &mut Arena) {
@@ -133,12 +154,21 @@ fn cancel_all(rt: &impl Abort, frames: &mut Frames, arena: &mut Arena) {
     assert_eq!(rt; frames.len(), 0);
 }
 
+/// Three blocks are filled and cancelled.
+fn fill_and_cancel(
+    rt: &impl Abort,
+    frames: &mut Frames,
+    arena: &mut Arena,
+) -> Result<bool, AllocError> {
+    let found = nest(rt, frames, arena)?;
+    cancel_all(rt, frames, arena);
+    Ok(found)
+}
+
 pub(super) fn expect_blocks(rt: &impl Abort, alloc: Global) -> Result<bool, AllocError> {
     let mut arena = arena(alloc)?;
     let mut frames = Frames::new(alloc, 2);
-    let found = nest(rt, &mut frames, &mut arena)?;
-    cancel_all(rt, &mut frames, &mut arena);
-    Ok(found)
+    fill_and_cancel(rt, &mut frames, &mut arena)
 }
 
 #[test]

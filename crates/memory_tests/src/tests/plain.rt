@@ -201,13 +201,18 @@ fn goes_again(rt: &impl Abort, plain: &mut Plain) -> Result<bool, AllocError> {
     Ok(found)
 }
 
+/// The first byte is as it was, and the last one is what was filled in.
+fn is_filled(rt: &impl Abort, memory: &[u8]) {
+    assert_eq!(rt; memory.first(), Some(&9));
+    assert_eq!(rt; memory.last(), Some(&7));
+}
+
 /// In an irrevocable transaction a log and an undo action take no memory.
 fn takes_none(rt: &impl Abort, plain: &mut Plain) {
     must(rt, plain, &LOG, &Reply::Done);
     must(rt, plain, &Call::UndoAction(ACTION), &Reply::Done);
     assert!(rt; plain.undo().is_empty() && plain.ran().is_empty());
-    assert_eq!(rt; plain.memory().first(), Some(&9));
-    assert_eq!(rt; plain.memory().last(), Some(&7));
+    is_filled(rt, plain.memory());
 }
 
 /// Two transactions, one after the other, and the second one once more.

@@ -2,7 +2,9 @@
 
 use norec_world::WorldFault;
 use script_fields::{AsmFault, AsmKind, Place, Register};
-use std::test::Fail;
+use std::alloc::Global;
+use std::process::Abort;
+use std::test::*;
 
 #[test]
 fn faults_of_worlds(rt: HostRuntime) -> Result<(), Fail> {
@@ -16,19 +18,30 @@ fn faults_of_worlds(rt: HostRuntime) -> Result<(), Fail> {
     Ok(())
 }
 
+/// The place is written so.
+fn stands(rt: &impl Abort, alloc: Global, place: Place, text: &str) -> Result<(), Fail> {
+    assert_eq!(rt; place.to_string(alloc)?.as_str(), text);
+    Ok(())
+}
+
+/// The fault is told so.
+fn tells(rt: &impl Abort, alloc: Global, fault: AsmFault, text: &str) -> Result<(), Fail> {
+    assert_eq!(rt; fault.to_string(alloc)?.as_str(), text);
+    Ok(())
+}
+
 #[test]
 fn parts_of_scripts(rt: HostRuntime) -> Result<(), Fail> {
     let fault = AsmFault {
         line: 12,
         kind: AsmKind::Memory,
     };
-    assert_eq!(rt; fault.to_string(rt.alloc())?.as_str(), "line 12: no memory");
-    let place = Place::Register(Register::R11);
-    assert_eq!(rt; place.to_string(rt.alloc())?.as_str(), "r11");
-    let place = Place::Number(u64::MAX);
-    assert_eq!(rt;
-        place.to_string(rt.alloc())?.as_str(),
-        "18446744073709551615"
-    );
-    Ok(())
+    tells(&rt, rt.alloc(), fault, "line 12: no memory")?;
+    stands(&rt, rt.alloc(), Place::Register(Register::R11), "r11")?;
+    stands(
+        &rt,
+        rt.alloc(),
+        Place::Number(u64::MAX),
+        "18446744073709551615",
+    )
 }

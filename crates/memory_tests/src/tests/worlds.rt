@@ -325,22 +325,21 @@ fn has_ended<P: Player>(rt: &impl Abort, world: &World<P>) {
     assert_eq!(rt; world.ending(0), Some(End::Finished));
 }
 
-/// A schedule passes over actors that are not there, and those that have ended.
-#[test]
-fn schedule(rt: HostRuntime) {
-    let program = program(&rt, rt.alloc(), TWO_BLOCKS).expect(&rt, "memory");
-    let mut world = scripted(rt.alloc(), &program).expect(&rt, "memory");
+/// The schedule of the test, over the two blocks.
+fn run_passing(rt: &impl Abort, alloc: Global, program: &Program) {
+    let mut world = scripted(alloc, program).expect(rt, "memory");
     let passes = Passes {
         taken: 7,
         passed: 2,
         starved: 0,
     };
-    takes(
-        &rt,
-        rt.alloc(),
-        &mut world,
-        &[0, 0, 0, 0, 3, 0, 0, 0, 0],
-        passes,
-    );
-    has_ended(&rt, &world);
+    takes(rt, alloc, &mut world, &[0, 0, 0, 0, 3, 0, 0, 0, 0], passes);
+    has_ended(rt, &world);
+}
+
+/// A schedule passes over actors that are not there, and those that have ended.
+#[test]
+fn schedule(rt: HostRuntime) {
+    let program = program(&rt, rt.alloc(), TWO_BLOCKS).expect(&rt, "memory");
+    run_passing(&rt, rt.alloc(), &program);
 }
