@@ -1,7 +1,7 @@
 //! Two threads in an order that a gate makes: only threads that run side by side come to it.
 
 use crate::tests::gates::{Held, InTurns};
-use crate::tests::texts::{expect_ends, expect_text, report_of};
+use crate::tests::texts::expect_run;
 use std::test::Fail;
 use tx_runs::End;
 use tx_worker::Quiet;
@@ -39,10 +39,9 @@ final 2 00000000000000000700000000000000
 #[test]
 fn a_commit_between_two_reads(rt: HostRuntime) -> Result<(), Fail> {
     let held = [Held::new(1, 0, 1), Held::new(0, 2, 2)];
-    let report = report_of(&rt, TWO_WORDS, &InTurns::new(&held), &Quiet)?;
-    expect_text(&rt, rt.alloc(), &report, BETWEEN_TWO_READS)?;
-    expect_ends(&rt, &report, &[End::Finished; 2]);
-    Ok(())
+    let gate = InTurns::new(&held);
+    let ends = [End::Finished; 2];
+    expect_run(&rt, TWO_WORDS, &gate, &Quiet, BETWEEN_TWO_READS, &ends)
 }
 
 const TWO_COUNTERS: &str = ".memory 8
@@ -81,10 +80,9 @@ final 4 0200000000000000
 #[test]
 fn a_commit_before_a_commit(rt: HostRuntime) -> Result<(), Fail> {
     let held = [Held::new(1, 0, 2), Held::new(0, 3, 3)];
-    let report = report_of(&rt, TWO_COUNTERS, &InTurns::new(&held), &Quiet)?;
-    expect_text(&rt, rt.alloc(), &report, TRIED_AGAIN)?;
-    expect_ends(&rt, &report, &[End::Finished; 2]);
-    Ok(())
+    let gate = InTurns::new(&held);
+    let ends = [End::Finished; 2];
+    expect_run(&rt, TWO_COUNTERS, &gate, &Quiet, TRIED_AGAIN, &ends)
 }
 
 const WRITER_AND_READER: &str = ".memory 16
@@ -151,8 +149,7 @@ fn a_commit_before_each_try(rt: HostRuntime) -> Result<(), Fail> {
         Held::new(0, 6, 9),
         Held::new(1, 11, 8),
     ];
-    let report = report_of(&rt, WRITER_AND_READER, &InTurns::new(&held), &Quiet)?;
-    expect_text(&rt, rt.alloc(), &report, THREE_TRIES)?;
-    expect_ends(&rt, &report, &[End::Finished, End::GaveUp]);
-    Ok(())
+    let gate = InTurns::new(&held);
+    let ends = [End::Finished, End::GaveUp];
+    expect_run(&rt, WRITER_AND_READER, &gate, &Quiet, THREE_TRIES, &ends)
 }

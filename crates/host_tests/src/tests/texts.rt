@@ -68,12 +68,7 @@ fn text_of(alloc: Global, report: &Report) -> Result<Vec<u8>, Fail> {
 }
 
 /// This is the text of a report's history.
-pub(super) fn expect_text(
-    rt: &impl Abort,
-    alloc: Global,
-    report: &Report,
-    text: &str,
-) -> Result<(), Fail> {
+fn expect_text(rt: &impl Abort, alloc: Global, report: &Report, text: &str) -> Result<(), Fail> {
     let written = text_of(alloc, report)?;
     assert_eq!(rt; written.as_slice(), text.as_bytes());
     Ok(())
@@ -82,4 +77,16 @@ pub(super) fn expect_text(
 /// The threads have ended so.
 pub(super) fn expect_ends(rt: &impl Abort, report: &Report, ends: &[End]) {
     assert_eq!(rt; report.ends.as_slice(), ends);
+}
+
+/// The run of a script has this history, and its threads have ended so.
+pub(super) fn expect_run<
+    R: Threads + Wait + Abort + AllocGlobal,
+    G: Gate + Sync,
+    A: ActionSink + Sync,
+>(rt: &R, script: &str, gate: &G, sink: &A, text: &str, ends: &[End]) -> Result<(), Fail> {
+    let report = report_of(rt, script, gate, sink)?;
+    expect_text(rt, rt.alloc(), &report, text)?;
+    expect_ends(rt, &report, ends);
+    Ok(())
 }

@@ -2,7 +2,7 @@
 
 use crate::tests::gates::Tallies;
 use crate::tests::sinks::{Digits, Meanwhile};
-use crate::tests::texts::{expect_ends, expect_text, report_of};
+use crate::tests::texts::{expect_ends, expect_run, report_of};
 use std::sync::atomic::Ordering;
 use std::test::Fail;
 use tx_runs::End;
@@ -85,8 +85,13 @@ final 2 0500000000000000
 #[test]
 fn actions_run_after_the_commit(rt: HostRuntime) -> Result<(), Fail> {
     let meanwhile = Meanwhile::new(3);
-    let report = report_of(&rt, WRITER_WITH_ACTION, &meanwhile, &meanwhile)?;
-    expect_text(&rt, rt.alloc(), &report, READ_MEANWHILE)?;
-    expect_ends(&rt, &report, &[End::Finished; 2]);
-    Ok(())
+    let ends = [End::Finished; 2];
+    expect_run(
+        &rt,
+        WRITER_WITH_ACTION,
+        &meanwhile,
+        &meanwhile,
+        READ_MEANWHILE,
+        &ends,
+    )
 }
