@@ -1,5 +1,7 @@
 //! An engine that answers a call by want of memory is as it was, and serves the call where it is made again.
 
+ghost use Rattle.std.specs.Prelude.{◌<◌, ◌≤◌};
+
 use super::asks::{
     BEGIN, DONE, READ_ONLY, asked, begin, bytes, cancelled, code, engine, given_up, handed, holds,
     must, read, save, served,
@@ -11,6 +13,35 @@ use norec_engine::{Answer, Engine, Next, Undone};
 use std::alloc::{AllocError, Global};
 use std::process::Abort;
 use std::test::Fail;
+
+/// What is asked of an engine.
+#[derive(Clone, Copy)]
+enum Asks {
+    Log,
+    ReadAndWrite,
+    CopiesAndFills,
+    BeyondRoom,
+    Actions,
+}
+
+/// Whether memory was found for all that was asked.
+fn serves(rt: &impl Abort, engine: &mut Engine, asks: Asks) -> bool {
+    match asks {
+        Asks::Log => logs(rt, engine),
+        Asks::ReadAndWrite => reads_and_writes(rt, engine),
+        Asks::CopiesAndFills => copies_and_moves(rt, engine),
+        Asks::BeyondRoom => goes_beyond(rt, engine),
+        Asks::Actions => registers_many(rt, engine),
+    }
+}
+
+/// The same of a new engine over so many words. The proof that an engine is let go is long: it stands here alone.
+fn expect(rt: &impl Abort, alloc: Global, words: u32, asks: Asks) -> Result<bool, AllocError>
+    requires { (0 < words) × (words ≤ 8) }
+{
+    let mut engine = engine(alloc, words)?;
+    Ok(serves(rt, &mut engine, asks))
+}
 
 const LOG: Call = Call::Log {
     width: Width::U4,
@@ -54,8 +85,7 @@ fn logs(rt: &impl Abort, engine: &mut Engine) -> bool {
 }
 
 pub(super) fn expect_log(rt: &impl Abort, alloc: Global) -> Result<bool, AllocError> {
-    let mut engine = engine(alloc, 2)?;
-    Ok(logs(rt, &mut engine))
+    expect(rt, alloc, 2, Asks::Log)
 }
 
 #[test]
@@ -109,8 +139,7 @@ fn reads_and_writes(rt: &impl Abort, engine: &mut Engine) -> bool {
 }
 
 pub(super) fn expect_read_and_write(rt: &impl Abort, alloc: Global) -> Result<bool, AllocError> {
-    let mut engine = engine(alloc, 5)?;
-    Ok(reads_and_writes(rt, &mut engine))
+    expect(rt, alloc, 5, Asks::ReadAndWrite)
 }
 
 #[test]
@@ -158,8 +187,7 @@ fn copies_and_moves(rt: &impl Abort, engine: &mut Engine) -> bool {
 }
 
 pub(super) fn expect_copies_and_fills(rt: &impl Abort, alloc: Global) -> Result<bool, AllocError> {
-    let mut engine = engine(alloc, 6)?;
-    Ok(copies_and_moves(rt, &mut engine))
+    expect(rt, alloc, 6, Asks::CopiesAndFills)
 }
 
 #[test]
@@ -242,8 +270,7 @@ fn goes_beyond(rt: &impl Abort, engine: &mut Engine) -> bool {
 }
 
 pub(super) fn expect_beyond_room(rt: &impl Abort, alloc: Global) -> Result<bool, AllocError> {
-    let mut engine = engine(alloc, 2)?;
-    Ok(goes_beyond(rt, &mut engine))
+    expect(rt, alloc, 2, Asks::BeyondRoom)
 }
 
 #[test]
@@ -301,8 +328,7 @@ fn registers_many(rt: &impl Abort, engine: &mut Engine) -> bool {
 }
 
 pub(super) fn expect_actions(rt: &impl Abort, alloc: Global) -> Result<bool, AllocError> {
-    let mut engine = engine(alloc, 2)?;
-    Ok(registers_many(rt, &mut engine))
+    expect(rt, alloc, 2, Asks::Actions)
 }
 
 #[test]
