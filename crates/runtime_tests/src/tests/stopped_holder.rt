@@ -130,25 +130,6 @@ fn write_words(rt: &impl Abort, engine: &mut Engine) -> Result<(), AllocError> {
     ask(rt, engine, &Call::Commit, &Next::Step(TAKE))
 }
 
-/// An engine that has written the first word and half of the second one, and is to take the clock.
-fn write_two(
-    rt: &impl Abort,
-    alloc: Global,
-    words: &Words,
-    pass: &mut Pass,
-) -> Result<Engine, AllocError>
-    requires own { Owns words.now pass.old }
-    requires cells { 2 < cells_of words.now }
-    requires idle { (view_of pass.old).holds ≡ false }
-    ensures own { Owns words.now pass.new }
-    ensures idle { (view_of pass.new).holds ≡ false }
-{
-    let mut engine = engine(alloc)?;
-    enter(rt, words, pass, &mut engine)?;
-    write_words(rt, &mut engine)?;
-    Ok(engine)
-}
-
 /// The clock is taken.
 fn take(rt: &impl Abort, words: &Words, pass: &mut Pass, engine: &mut Engine)
     requires own { Owns words.now pass.old }
@@ -239,6 +220,25 @@ fn stop_after(rt: &impl Abort, words: &Words, pass: &mut Pass, engine: &mut Engi
     free(rt, words, pass, engine);
 }
 
+/// The engine has written the first word and half of the second one, and its commit stops after so many steps.
+fn commit_part(
+    rt: &impl Abort,
+    words: &Words,
+    pass: &mut Pass,
+    engine: &mut Engine,
+    steps: u32,
+) -> Result<(), AllocError>
+    requires own { Owns words.now pass.old }
+    requires cells { 2 < cells_of words.now }
+    requires idle { (view_of pass.old).holds ≡ false }
+    ensures own { Owns words.now pass.new }
+{
+    enter(rt, words, pass, engine)?;
+    write_words(rt, engine)?;
+    stop_after(rt, words, pass, engine, steps);
+    Ok(())
+}
+
 /// A commit of this pass stops after so many steps.
 fn stop(
     rt: &impl Abort,
@@ -252,9 +252,8 @@ fn stop(
     requires idle { (view_of pass.old).holds ≡ false }
     ensures own { Owns words.now pass.new }
 {
-    let mut engine = write_two(rt, alloc, words, pass)?;
-    stop_after(rt, words, pass, &mut engine, steps);
-    Ok(())
+    let mut engine = engine(alloc)?;
+    commit_part(rt, words, pass, &mut engine, steps)
 }
 
 /// A thread is answered so before the clock is taken, and so after the commit of this pass has stopped.
