@@ -105,7 +105,7 @@ begun=$proved
 # a check takes a processor and up to 4 GB
 most=${RT_JOBS:-$(awk -v most="$(nproc)" '/^MemAvailable:/ { n = int($2 / 4000000) } END { print n < 1 ? 1 : n < most ? n : most }' /proc/meminfo)}
 idle=$most
-echo "itmrun: proving and building the program; from nothing that takes ten to thirty minutes" >&2
+echo "itmrun: proving and building the program; from nothing that takes a quarter to half an hour" >&2
 while [ "$count" -lt $((total - 1)) ]; do
     first=
     set --
