@@ -45,13 +45,13 @@ pair_of e = (e.call, e.reply)
 
 -- the calls with their replies, as the plain machine gives them
 abbrev pub pairs_of : Attempt → List (Call × Reply)
-pairs_of a = map pair_of a.calls
+pairs_of a = map pair_of a.calls.list
 
 abbrev pub calls_of : Attempt → List Call
-calls_of a = map (λ e. e.call) a.calls
+calls_of a = map (λ e. e.call) a.calls.list
 
 abbrev pub replies_of : Attempt → List Reply
-replies_of a = map (λ e. e.reply) a.calls
+replies_of a = map (λ e. e.reply) a.calls.list
 
 -- the plain state after the attempt's calls alone on these bytes; `deepest` blocks may be open
 abbrev pub alone : ℕ → List ℕ → Attempt → State

@@ -1,3 +1,4 @@
+pub mod Kept
 pub mod Beginnings
 pub mod Attempts
 pub mod Counts

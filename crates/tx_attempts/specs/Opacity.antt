@@ -98,7 +98,7 @@ module _ {P : Type 0} (rules : Rules P) (deepest : ℕ) where
     pub beginning : IsBeginningOf (pairs_of a) (answers rules.next_call rules.answered rules.calls_left deepest p memory a.arena a.props)
     pub whole : is_open (alone deepest memory a) ≡ false → pairs_of a ≡ answers rules.next_call rules.answered rules.calls_left deepest p memory a.arena a.props
     pub ends : EndsAs a.outcome (alone deepest memory a)
-    pub closed : ClosedBy a.outcome a.calls
+    pub closed : ClosedBy a.outcome a.calls.list
     pub ran : a.ran ≡ ran_of a.outcome (alone deepest memory a)
     pub full : a.outcome ≡ Full → LacksClock p a memory  -- full is told of a writer's commit alone, or of a call that makes the transaction irrevocable
 

@@ -45,76 +45,93 @@ impl Bytes {
     }
 }
 
-/// Calls with their replies, in order.
+/// Calls with their replies, in order, with a promised room: for so many more there is a place, whatever comes.
 #[derive(Debug, Drop)]
 pub struct Calls {
     items: Vec<Entry>,
+    room: usize,
 }
 
 impl Model for Calls {
-    ghost use Rattle.std.specs.Prelude.{List};
-    ghost use Rattle.tx_attempts.specs.declared.attempt.Entry.{Entry};
+    ghost use Rattle.std.specs.Prelude.{◌+◌, ◌≤◌, length, vec_capacity};
+    ghost use Rattle.tx_attempts.specs.Kept.{Kept};
 
-    ghost Value = { List Entry };
+    ghost Value = { Kept };
 
-    ghost view = { λ c. c.items.items };
+    ghost view = { λ c. record { list = c.items.items; room = c.room } };
+
+    ghost invariant = { λ c. length c.items.items + c.room ≤ vec_capacity c.items };
 }
 
 impl Calls {
-    /// No calls. Takes no memory.
+    ghost use Rattle.tx_attempts.specs.Kept.{grown, spent};
+
+    /// No calls, and no room. Takes no memory.
     pub fn new(alloc: Global) -> Self
-        ensures { result ≡ [] }
+        ensures { result ≡ record { list = []; room = 0 } }
     {
         Calls {
             items: Vec::new(alloc),
+            room: 0,
         }
     }
 
-    /// These calls. Takes no memory.
+    /// These calls, with no room. Takes no memory.
     pub fn from_vec(items: Vec<Entry>) -> Self
-        ensures { result ≡ items.items }
+        ensures { result ≡ record { list = items.items; room = 0 } }
     {
-        Calls { items }
+        Calls { items, room: 0 }
     }
 
     /// No calls, with room for so many.
     pub fn with_room(alloc: Global, room: usize) -> Result<Self, AllocError>
-        ensures none { IfOk result (λ calls. calls ≡ []) }
+        ensures none { IfOk result (λ calls. calls ≡ record { list = []; room = room }) }
         ensures short { OnErr result (0 < room) }
     {
         let mut items = Vec::new(alloc);
         items.reserve(room)?;
-        Ok(Calls { items })
-    }
-
-    /// Makes room for so many more.
-    pub fn reserve(&mut self, more: usize) -> Result<(), AllocError>
-        ensures same { self.new ≡ self.old }
-        ensures short { OnErr result (0 < more) }
-    {
-        self.items.reserve(more)?;
-        Ok(())
+        Ok(Calls { items, room })
     }
 
     pub fn as_slice(&self) -> &[Entry]
-        ensures { result.now ≡ self.now }
+        ensures { result.now ≡ self.now.list }
     {
         &self.items
     }
 
-    /// One more. Contracts see calls as a list, so the room for it is told of `spare`, to which the calls move over
-    /// where their own room is used up.
-    pub fn push(&mut self, spare: &mut Vec<Entry>, entry: Entry)
+    /// For how many more there is room.
+    pub fn room(&self) -> usize
+        ensures { result ≡ self.now.room }
+    {
+        self.room
+    }
+
+    /// One more, and where `ahead` is not 0 room for so many from then on; else it takes of the room that there is. The
+    /// places are those of the room, or of `spare`, to which the calls move over.
+    pub fn push(&mut self, spare: &mut Vec<Entry>, entry: Entry, ahead: usize)
         requires empty { spare.old.items ≡ [] }
-        requires room { length self.old < vec_capacity spare.old }
-        ensures added { self.new ≡ self.old ++ entry ∷ [] }
+        requires place { self.old.room ≡ 0 → length self.old.list < vec_capacity spare.old }
+        requires places { 0 < ahead → length self.old.list + 1 + ahead ≤ vec_capacity spare.old }
+        ensures added { self.new ≡ grown self.old entry ahead }
         ensures empty { spare.new.items ≡ [] }
     {
-        if self.items.len() == self.items.capacity() {
+        if ahead > 0 || (self.room == 0 && self.items.len() == self.items.capacity()) {
             let _ = spare.append(&mut self.items);
             mem::swap(spare, &mut self.items);
         }
         self.items.push_reserved(entry);
+        self.room = if ahead > 0 {
+            ahead
+        } else {
+            self.room.saturating_sub(1)
+        };
+    }
+
+    /// No place is promised any more.
+    pub fn give_up_room(&mut self)
+        ensures { self.new ≡ spent self.old }
+    {
+        self.room = 0;
     }
 }
 

@@ -76,7 +76,7 @@ RanFits r = IsAction r.action
 pub record AttemptFits (a : Attempt) : Type 0 where
   pub at : IsWord a.at
   pub arena : IsBytes a.arena
-  pub calls : All EntryFits a.calls
+  pub calls : All EntryFits a.calls.list
   pub ran : All RanFits a.ran
 
 -- of a history that is written, each number and each byte that its text tells is one of its type
@@ -115,7 +115,7 @@ pub record IsLimited (a : Attempt) : Type 0 where
   pub thread : a.thread ≤ MAX_ACTORS - 1
   pub nth : (1 ≤ a.nth) × (a.nth ≤ MAX_RETRIES + 1)
   pub arena : length a.arena ≤ MAX_ARENA
-  pub widths : All (λ (e : Entry). HasArenaWidth e.call) a.calls
+  pub widths : All (λ (e : Entry). HasArenaWidth e.call) a.calls.list
 
 -- a memory of 1 to 8,192 words of 8 bytes
 abbrev pub IsMemorySize : ℕ → Type 0

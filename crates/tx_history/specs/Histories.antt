@@ -98,7 +98,7 @@ unfoldable pub ran_line : Ran → List ℕ
 ran_line r = codes "ran " ++ kind_text r.kind ++ codes " " ++ decimal r.action.fun ++ codes " " ++ decimal r.action.arg ++ codes "\n"
 
 unfoldable pub attempt_lines : Attempt → List ℕ
-attempt_lines a = head_line a ++ arena_line a.arena ++ flat_map call_line a.calls ++ flat_map ran_line a.ran ++ codes "end\n"
+attempt_lines a = head_line a ++ arena_line a.arena ++ flat_map call_line a.calls.list ++ flat_map ran_line a.ran ++ codes "end\n"
 
 -- the lines before the first attempt
 unfoldable pub first_lines : List ℕ → List ℕ

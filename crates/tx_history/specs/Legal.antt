@@ -28,7 +28,7 @@ state_at memory a calls = state_after MAX_OPEN_BLOCKS (opened memory a.arena a.p
 abbrev pub EndsIn : Outcome → List ℕ → Attempt → State → Type 0
 EndsIn Committed memory a s = is_open s ≡ false
 EndsIn ReadOnly memory a s = (is_open s ≡ false) × (s.memory ≡ memory)
-    × ((before : List Entry) (last : Entry) → a.calls ≡ before ++ last ∷ [] → (state_at memory a before).irrevocable ≡ false)
+    × ((before : List Entry) (last : Entry) → a.calls.list ≡ before ++ last ∷ [] → (state_at memory a before).irrevocable ≡ false)
 EndsIn Cancelled memory a s = is_open s ≡ false
 EndsIn Conflict memory a s = (is_open s ≡ true) × (s.irrevocable ≡ false)
 EndsIn Full memory a s = (is_open s ≡ true) × (s.irrevocable ≡ false)
@@ -49,9 +49,9 @@ ran_alone Unfinished s = s.actions.ran
 pub record IsAlone (memory : List ℕ) (a : Attempt) : Type 0 where
   pub props : may_begin a.props ≡ true
   pub replies : replies_of a ≡ replies MAX_OPEN_BLOCKS (opened memory a.arena a.props) (calls_of a)
-  pub stays_open : (before : List Entry) (e : Entry) (rest : List Entry) → a.calls ≡ before ++ e ∷ rest → is_open (state_at memory a before) ≡ true  -- no call stands after the block's end
+  pub stays_open : (before : List Entry) (e : Entry) (rest : List Entry) → a.calls.list ≡ before ++ e ∷ rest → is_open (state_at memory a before) ≡ true  -- no call stands after the block's end
   pub ends : EndsIn a.outcome memory a (alone MAX_OPEN_BLOCKS memory a)
-  pub closed : ClosedBy a.outcome a.calls
+  pub closed : ClosedBy a.outcome a.calls.list
   pub ran : a.ran ≡ ran_alone a.outcome (alone MAX_OPEN_BLOCKS memory a)
 
 -- ## A history

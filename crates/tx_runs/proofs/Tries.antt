@@ -16,6 +16,7 @@ use Rattle.tx_attempts.specs.Alone.{IsAlone, player_then, state_then}
 use Rattle.tx_attempts.specs.Attempts.{ClosedBy, alone, pair_of}
 use Rattle.tx_attempts.specs.Opacity.{Beginning, Between, EndsAs, IsTryAt, LacksClock, begin_code, ran_of, takes_clock}
 use Rattle.tx_attempts.specs.declared.attempt.Attempt.{Attempt}
+use Rattle.tx_attempts.specs.Kept.{grown}
 use Rattle.tx_attempts.specs.declared.attempt.Entry.{Entry}
 use Rattle.tx_attempts.specs.declared.attempt.Outcome.{Outcome}
 use Rattle.tx_attempts.specs.declared.attempt.Outcome.TheVariants as outcomes
@@ -40,8 +41,8 @@ not_closed outcomes.Unfinished e calls = tt
 
 -- over these bytes its calls are made alone, and lead to an open block
 pub record IsMadeAlone {P : Type 0} (rules : Rules P) (b : Between P) (start : Beginning P) (row : Attempt) (memory : List ℕ) : Type 0 where
-  pub alone : IsAlone rules MAX_OPEN_BLOCKS (rules.answered start.player (begin_code b.again)) (opened memory start.arena start.props) row.calls
-  pub still_open : is_open (state_then MAX_OPEN_BLOCKS (opened memory start.arena start.props) row.calls) ≡ true
+  pub alone : IsAlone rules MAX_OPEN_BLOCKS (rules.answered start.player (begin_code b.again)) (opened memory start.arena start.props) row.calls.list
+  pub still_open : is_open (state_then MAX_OPEN_BLOCKS (opened memory start.arena start.props) row.calls.list) ≡ true
 
 module _ {P : Type 0} {rules : Rules P} (laws : Obeys rules) where
   -- a call that the player makes in its open block
@@ -63,27 +64,47 @@ module _ {P : Type 0} {rules : Rules P} (laws : Obeys rules) where
 
   -- its calls are the first of those that its player makes alone on the memory of its position, and all of them where its block has ended
   pub is_try : (n : ℕ) (memory : ℕ → List ℕ) (b : Between P) (start : Beginning P) (row : Attempt) → row.arena ≡ start.arena → row.props ≡ start.props → b.tries < row.nth → row.began ≤ row.at → row.at ≤ n
-      → IsAlone rules MAX_OPEN_BLOCKS (rules.answered start.player (begin_code b.again)) (opened (memory row.at) start.arena start.props) row.calls
-      → EndsAs row.outcome (state_then MAX_OPEN_BLOCKS (opened (memory row.at) start.arena start.props) row.calls)
-      → ClosedBy row.outcome row.calls → row.ran ≡ ran_of row.outcome (state_then MAX_OPEN_BLOCKS (opened (memory row.at) start.arena start.props) row.calls)
+      → IsAlone rules MAX_OPEN_BLOCKS (rules.answered start.player (begin_code b.again)) (opened (memory row.at) start.arena start.props) row.calls.list
+      → EndsAs row.outcome (state_then MAX_OPEN_BLOCKS (opened (memory row.at) start.arena start.props) row.calls.list)
+      → ClosedBy row.outcome row.calls.list → row.ran ≡ ran_of row.outcome (state_then MAX_OPEN_BLOCKS (opened (memory row.at) start.arena start.props) row.calls.list)
       → (row.outcome ≡ outcomes.Full → LacksClock rules MAX_OPEN_BLOCKS (rules.answered start.player (begin_code b.again)) row (memory row.at))
       → IsTryAt rules MAX_OPEN_BLOCKS n memory b (Some start) row
   is_try n memory b start row arena props tries older newer h ends closed ran full =
       let p : P = rules.answered start.player (begin_code b.again) in
       let same : opened (memory row.at) row.arena row.props ≡ opened (memory row.at) start.arena start.props = λ i. opened (memory row.at) (arena i) (props i) in
-      let alone_so : IsAlone rules MAX_OPEN_BLOCKS p (opened (memory row.at) row.arena row.props) row.calls = subst (λ (s : State). IsAlone rules MAX_OPEN_BLOCKS p s row.calls) (sym same) h in (
+      let alone_so : IsAlone rules MAX_OPEN_BLOCKS p (opened (memory row.at) row.arena row.props) row.calls.list = subst (λ (s : State). IsAlone rules MAX_OPEN_BLOCKS p s row.calls.list) (sym same) h in (
         arena,
         props,
         tries,
         record {
           no_older = older;
           no_newer = newer;
-          beginning = (_, sym (begins_alone rules laws MAX_OPEN_BLOCKS (rules.calls_left p) p (opened (memory row.at) row.arena row.props) row.calls (omega arith) alone_so));
-          whole = λ closed. sym (all_alone p (memory row.at) row.arena row.props row.calls alone_so closed);
-          ends = subst (λ (x : State). EndsAs row.outcome (state_then MAX_OPEN_BLOCKS x row.calls)) (sym same) ends;
+          beginning = (_, sym (begins_alone rules laws MAX_OPEN_BLOCKS (rules.calls_left p) p (opened (memory row.at) row.arena row.props) row.calls.list (omega arith) alone_so));
+          whole = λ closed. sym (all_alone p (memory row.at) row.arena row.props row.calls.list alone_so closed);
+          ends = subst (λ (x : State). EndsAs row.outcome (state_then MAX_OPEN_BLOCKS x row.calls.list)) (sym same) ends;
           closed = closed;
-          ran = ran ∙ ap (λ (x : State). ran_of row.outcome (state_then MAX_OPEN_BLOCKS x row.calls)) (sym same);
+          ran = ran ∙ ap (λ (x : State). ran_of row.outcome (state_then MAX_OPEN_BLOCKS x row.calls.list)) (sym same);
           full = full;
+        },
+      )
+
+  -- and so they are with other room for more
+  pub try_of_room : (n : ℕ) (memory : ℕ → List ℕ) (b : Between P) (start : Beginning P) (row : Attempt) (room : ℕ) → IsTryAt rules MAX_OPEN_BLOCKS n memory b (Some start) row
+      → IsTryAt rules MAX_OPEN_BLOCKS n memory b (Some start) (record row { calls = record row.calls { room = room } })
+  try_of_room n memory b start row room t =
+      let o = t.3 in (
+        t.0,
+        t.1,
+        t.2,
+        record {
+          no_older = o.no_older;
+          no_newer = o.no_newer;
+          beginning = o.beginning;
+          whole = o.whole;
+          ends = o.ends;
+          closed = o.closed;
+          ran = o.ran;
+          full = λ f. (let l = o.full f in record { call = l.call; rest = l.rest; answers_are = l.answers_are; revocable = l.revocable; takes = l.takes });
         },
       )
 
@@ -91,28 +112,28 @@ module _ {P : Type 0} {rules : Rules P} (laws : Obeys rules) where
 
   -- the state that its calls lead to
   abbrev pub led_to : {b : Between P} {row : Attempt} {p : P} → IsOfBlock rules b row p → List ℕ → State
-  led_to {row = row} t memory = state_then MAX_OPEN_BLOCKS (opened memory t.start.arena t.start.props) row.calls
+  led_to {row = row} t memory = state_then MAX_OPEN_BLOCKS (opened memory t.start.arena t.start.props) row.calls.list
 
   module _ {b : Between P} {row : Attempt} {p : P} (t : IsOfBlock rules b row p) where
     -- its calls alone, by its own fields
-    pub alone_led : (memory : List ℕ) → alone MAX_OPEN_BLOCKS memory row ≡ state_then MAX_OPEN_BLOCKS (opened memory t.start.arena t.start.props) row.calls
-    alone_led memory = λ i. state_then MAX_OPEN_BLOCKS (opened memory (t.arena i) (t.props i)) row.calls
+    pub alone_led : (memory : List ℕ) → alone MAX_OPEN_BLOCKS memory row ≡ state_then MAX_OPEN_BLOCKS (opened memory t.start.arena t.start.props) row.calls.list
+    alone_led memory = λ i. state_then MAX_OPEN_BLOCKS (opened memory (t.arena i) (t.props i)) row.calls.list
 
     -- ## Without a commit
 
     -- in conflict, full, for want of memory, or not ended yet
-    pub try_stops : (n : ℕ) (memories : ℕ → List ℕ) (k : ℕ) (outcome : Outcome) (ran : List Ran) → is_done outcome ≡ false → (made : IsMadeAlone rules b t.start row (memories k)) → EndsAs outcome (state_then MAX_OPEN_BLOCKS (opened (memories k) t.start.arena t.start.props) row.calls)
-        → row.began ≤ k → k ≤ n → ran ≡ ran_of outcome (state_then MAX_OPEN_BLOCKS (opened (memories k) t.start.arena t.start.props) row.calls)
+    pub try_stops : (n : ℕ) (memories : ℕ → List ℕ) (k : ℕ) (outcome : Outcome) (ran : List Ran) → is_done outcome ≡ false → (made : IsMadeAlone rules b t.start row (memories k)) → EndsAs outcome (state_then MAX_OPEN_BLOCKS (opened (memories k) t.start.arena t.start.props) row.calls.list)
+        → row.began ≤ k → k ≤ n → ran ≡ ran_of outcome (state_then MAX_OPEN_BLOCKS (opened (memories k) t.start.arena t.start.props) row.calls.list)
         → (outcome ≡ outcomes.Full → LacksClock rules MAX_OPEN_BLOCKS (rules.answered t.start.player (begin_code b.again)) row (memories k))
         → IsTryAt rules MAX_OPEN_BLOCKS n memories b (Some t.start) (record row { at = k; ran = ran; outcome = outcome })
     try_stops n memories k outcome ran undone made ends older newer ran_is full =
-        is_try n memories b t.start (record row { at = k; ran = ran; outcome = outcome }) t.arena t.props t.tries older newer made.alone ends (not_closed outcome undone row.calls) ran_is
+        is_try n memories b t.start (record row { at = k; ran = ran; outcome = outcome }) t.arena t.props t.tries older newer made.alone ends (not_closed outcome undone row.calls.list) ran_is
         (λ f. (let l = full f in record { call = l.call; rest = l.rest; answers_are = l.answers_are; revocable = l.revocable; takes = l.takes }))
 
     -- ## One call more
 
     module _ (memory : List ℕ) (call : Call) (r : Reply) (made : IsMadeAlone rules b t.start row memory) (asks : rules.next_call p ≡ Some call)
-        (replied : r ≡ reply MAX_OPEN_BLOCKS (state_then MAX_OPEN_BLOCKS (opened memory t.start.arena t.start.props) row.calls) call) where
+        (replied : r ≡ reply MAX_OPEN_BLOCKS (state_then MAX_OPEN_BLOCKS (opened memory t.start.arena t.start.props) row.calls.list) call) where
       abbrev pub last : Entry
       last = record { call = call; reply = r }
 
@@ -122,43 +143,43 @@ module _ {P : Type 0} {rules : Rules P} (laws : Obeys rules) where
       abbrev pub from : State
       from = opened memory t.start.arena t.start.props
 
-      pub closing_state : state_then MAX_OPEN_BLOCKS (opened memory t.start.arena t.start.props) (row.calls ++ record { call = call; reply = r } ∷ []) ≡ after MAX_OPEN_BLOCKS (state_then MAX_OPEN_BLOCKS (opened memory t.start.arena t.start.props) row.calls) call
-      closing_state = state_snoc MAX_OPEN_BLOCKS from row.calls last
+      pub closing_state : state_then MAX_OPEN_BLOCKS (opened memory t.start.arena t.start.props) (row.calls.list ++ record { call = call; reply = r } ∷ []) ≡ after MAX_OPEN_BLOCKS (state_then MAX_OPEN_BLOCKS (opened memory t.start.arena t.start.props) row.calls.list) call
+      closing_state = state_snoc MAX_OPEN_BLOCKS from row.calls.list last
 
-      pub closing_alone : IsAlone rules MAX_OPEN_BLOCKS (rules.answered t.start.player (begin_code b.again)) (opened memory t.start.arena t.start.props) (row.calls ++ record { call = call; reply = r } ∷ [])
-      closing_alone = alone_more by p from row.calls last made.alone made.still_open t.player asks replied
+      pub closing_alone : IsAlone rules MAX_OPEN_BLOCKS (rules.answered t.start.player (begin_code b.again)) (opened memory t.start.arena t.start.props) (row.calls.list ++ record { call = call; reply = r } ∷ [])
+      closing_alone = alone_more by p from row.calls.list last made.alone made.still_open t.player asks replied
 
       -- its last call ends its block: the state that it leaves is that of the call
-      pub try_closes : (n : ℕ) (memories : ℕ → List ℕ) (at : ℕ) (outcome : Outcome) (ran : List Ran) → memories at ≡ memory → row.began ≤ at → at ≤ n → EndsAs outcome (after MAX_OPEN_BLOCKS (state_then MAX_OPEN_BLOCKS (opened memory t.start.arena t.start.props) row.calls) call)
-          → ClosedBy outcome (row.calls ++ record { call = call; reply = r } ∷ []) → ran ≡ ran_of outcome (after MAX_OPEN_BLOCKS (state_then MAX_OPEN_BLOCKS (opened memory t.start.arena t.start.props) row.calls) call) → (outcome ≡ outcomes.Full → ⊥)
-          → IsTryAt rules MAX_OPEN_BLOCKS n memories b (Some t.start) (record row { calls = row.calls ++ record { call = call; reply = r } ∷ []; at = at; ran = ran; outcome = outcome })
+      pub try_closes : (n : ℕ) (memories : ℕ → List ℕ) (at : ℕ) (outcome : Outcome) (ran : List Ran) → memories at ≡ memory → row.began ≤ at → at ≤ n → EndsAs outcome (after MAX_OPEN_BLOCKS (state_then MAX_OPEN_BLOCKS (opened memory t.start.arena t.start.props) row.calls.list) call)
+          → ClosedBy outcome (row.calls.list ++ record { call = call; reply = r } ∷ []) → ran ≡ ran_of outcome (after MAX_OPEN_BLOCKS (state_then MAX_OPEN_BLOCKS (opened memory t.start.arena t.start.props) row.calls.list) call) → (outcome ≡ outcomes.Full → ⊥)
+          → IsTryAt rules MAX_OPEN_BLOCKS n memories b (Some t.start) (record row { calls = grown row.calls (record { call = call; reply = r }) 0; at = at; ran = ran; outcome = outcome })
       try_closes n memories at outcome ran here older newer ends closed ran_is never =
-          let so : state_then MAX_OPEN_BLOCKS (opened (memories at) t.start.arena t.start.props) (row.calls ++ last ∷ []) ≡ after MAX_OPEN_BLOCKS (state_then MAX_OPEN_BLOCKS from row.calls) call =
-          ap (λ (bytes : List ℕ). state_then MAX_OPEN_BLOCKS (opened bytes t.start.arena t.start.props) (row.calls ++ last ∷ [])) here ∙ closing_state in
-          is_try n memories b t.start (record row { calls = row.calls ++ last ∷ []; at = at; ran = ran; outcome = outcome }) t.arena t.props t.tries older newer
-          (subst (λ (bytes : List ℕ). IsAlone rules MAX_OPEN_BLOCKS by (opened bytes t.start.arena t.start.props) (row.calls ++ last ∷ [])) (sym here) closing_alone)
+          let so : state_then MAX_OPEN_BLOCKS (opened (memories at) t.start.arena t.start.props) (row.calls.list ++ last ∷ []) ≡ after MAX_OPEN_BLOCKS (state_then MAX_OPEN_BLOCKS from row.calls.list) call =
+          ap (λ (bytes : List ℕ). state_then MAX_OPEN_BLOCKS (opened bytes t.start.arena t.start.props) (row.calls.list ++ last ∷ [])) here ∙ closing_state in
+          is_try n memories b t.start (record row { calls = grown row.calls last 0; at = at; ran = ran; outcome = outcome }) t.arena t.props t.tries older newer
+          (subst (λ (bytes : List ℕ). IsAlone rules MAX_OPEN_BLOCKS by (opened bytes t.start.arena t.start.props) (row.calls.list ++ last ∷ [])) (sym here) closing_alone)
           (subst (EndsAs outcome) (sym so) ends) closed (ran_is ∙ ap (ran_of outcome) (sym so)) (λ f. absurd (never f))
 
       pub closing_left : (at : ℕ) (outcome : Outcome) (ran : List Ran)
-          → alone MAX_OPEN_BLOCKS memory (record row { calls = row.calls ++ record { call = call; reply = r } ∷ []; at = at; ran = ran; outcome = outcome })
-          ≡ after MAX_OPEN_BLOCKS (state_then MAX_OPEN_BLOCKS (opened memory t.start.arena t.start.props) row.calls) call
-      closing_left at outcome ran = (λ i. state_then MAX_OPEN_BLOCKS (opened memory (t.arena i) (t.props i)) (row.calls ++ last ∷ [])) ∙ closing_state
+          → alone MAX_OPEN_BLOCKS memory (record row { calls = grown row.calls (record { call = call; reply = r }) 0; at = at; ran = ran; outcome = outcome })
+          ≡ after MAX_OPEN_BLOCKS (state_then MAX_OPEN_BLOCKS (opened memory t.start.arena t.start.props) row.calls.list) call
+      closing_left at outcome ran = (λ i. state_then MAX_OPEN_BLOCKS (opened memory (t.arena i) (t.props i)) (row.calls.list ++ last ∷ [])) ∙ closing_state
 
       -- it takes the clock, which is refused as full
-      pub lacks_clock : (state_then MAX_OPEN_BLOCKS (opened memory t.start.arena t.start.props) row.calls).irrevocable ≡ false → takes_clock (after MAX_OPEN_BLOCKS (state_then MAX_OPEN_BLOCKS (opened memory t.start.arena t.start.props) row.calls) call) ≡ true
+      pub lacks_clock : (state_then MAX_OPEN_BLOCKS (opened memory t.start.arena t.start.props) row.calls.list).irrevocable ≡ false → takes_clock (after MAX_OPEN_BLOCKS (state_then MAX_OPEN_BLOCKS (opened memory t.start.arena t.start.props) row.calls.list) call) ≡ true
           → LacksClock rules MAX_OPEN_BLOCKS (rules.answered t.start.player (begin_code b.again)) row memory
       lacks_clock revocable takes =
           let here = alone_led memory in
-          let after_all : List (Call × Reply) = answers_within rules.next_call rules.answered rules.calls_left MAX_OPEN_BLOCKS (rules.calls_left by) (player_then rules.answered by (row.calls ++ last ∷ [])) (state_then MAX_OPEN_BLOCKS from (row.calls ++ last ∷ []))
-          (turn rules.next_call rules.answered rules.calls_left (player_then rules.answered by (row.calls ++ last ∷ [])) (state_then MAX_OPEN_BLOCKS from (row.calls ++ last ∷ []))) in
+          let after_all : List (Call × Reply) = answers_within rules.next_call rules.answered rules.calls_left MAX_OPEN_BLOCKS (rules.calls_left by) (player_then rules.answered by (row.calls.list ++ last ∷ [])) (state_then MAX_OPEN_BLOCKS from (row.calls.list ++ last ∷ []))
+          (turn rules.next_call rules.answered rules.calls_left (player_then rules.answered by (row.calls.list ++ last ∷ [])) (state_then MAX_OPEN_BLOCKS from (row.calls.list ++ last ∷ []))) in
           record {
             call = call;
             rest = after_all;
             answers_are = (λ i. answers rules.next_call rules.answered rules.calls_left MAX_OPEN_BLOCKS by memory (t.arena i) (t.props i))
-                ∙ (begins_alone rules laws MAX_OPEN_BLOCKS (rules.calls_left by) by from (row.calls ++ last ∷ []) (let l : rules.calls_left by ≤ rules.calls_left by = omega arith in l) closing_alone
-                ∙ (ap (λ (xs : List (Call × Reply)). xs ++ after_all) (map-append pair_of row.calls (last ∷ []))
-                ∙ (append_assoc (map pair_of row.calls) ((call, r) ∷ []) after_all
-                ∙ ap (λ (x : Reply). map pair_of row.calls ++ (call, x) ∷ after_all) (replied ∙ ap (λ (x : State). reply MAX_OPEN_BLOCKS x call) (sym here)))));
+                ∙ (begins_alone rules laws MAX_OPEN_BLOCKS (rules.calls_left by) by from (row.calls.list ++ last ∷ []) (let l : rules.calls_left by ≤ rules.calls_left by = omega arith in l) closing_alone
+                ∙ (ap (λ (xs : List (Call × Reply)). xs ++ after_all) (map-append pair_of row.calls.list (last ∷ []))
+                ∙ (append_assoc (map pair_of row.calls.list) ((call, r) ∷ []) after_all
+                ∙ ap (λ (x : Reply). map pair_of row.calls.list ++ (call, x) ∷ after_all) (replied ∙ ap (λ (x : State). reply MAX_OPEN_BLOCKS x call) (sym here)))));
             revocable = ap (λ (x : State). x.irrevocable) here ∙ revocable;
             takes = ap (λ (x : State). takes_clock (after MAX_OPEN_BLOCKS x call)) here ∙ takes;
           }
