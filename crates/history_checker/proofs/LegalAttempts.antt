@@ -172,7 +172,7 @@ front_is before e =
     ap (λ (n : ℕ). take n (before ++ e ∷ [])) size ∙ take-append_seam before (e ∷ [])
 
 -- the mode as the last call came
-came_is : (memory : List ℕ) (a : Attempt) (before : List Entry) (last : Entry) → a.calls ≡ before ++ last ∷ [] → came_irrevocable memory a ≡ (state_at memory a before).irrevocable
+came_is : (memory : List ℕ) (a : Attempt) (before : List Entry) (last : Entry) → a.calls.list ≡ before ++ last ∷ [] → came_irrevocable memory a ≡ (state_at memory a before).irrevocable
 came_is memory a before last is =
     ap (λ (xs : List Entry). (state_at memory a (take (length xs - 1) xs)).irrevocable) is
     ∙ ap (λ (xs : List Entry). (state_at memory a xs).irrevocable) (front_is before last)
@@ -189,19 +189,19 @@ given_up inside irrevocable = (
 )
 
 -- the state fits the outcome exactly where it is as the outcome says, and the last call too
-fits_decides : (o : Outcome) (memory : List ℕ) (a : Attempt) (s : State) → Decides (fits o memory a s) (EndsIn o memory a s × ClosedBy o a.calls)
-fits_decides Committed memory a s = Decides-and (not (is_open s)) (ends_by_commit a.calls) (off_decides (is_open s)) (commit_decides a.calls)
+fits_decides : (o : Outcome) (memory : List ℕ) (a : Attempt) (s : State) → Decides (fits o memory a s) (EndsIn o memory a s × ClosedBy o a.calls.list)
+fits_decides Committed memory a s = Decides-and (not (is_open s)) (ends_by_commit a.calls.list) (off_decides (is_open s)) (commit_decides a.calls.list)
 fits_decides ReadOnly memory a s = (
-  λ h. (let p = and_parts (not (is_open s) && ends_by_commit a.calls) (bytes_eq s.memory memory && not (came_irrevocable memory a)) h in
-      let q = and_parts (not (is_open s)) (ends_by_commit a.calls) p.0 in
+  λ h. (let p = and_parts (not (is_open s) && ends_by_commit a.calls.list) (bytes_eq s.memory memory && not (came_irrevocable memory a)) h in
+      let q = and_parts (not (is_open s)) (ends_by_commit a.calls.list) p.0 in
       let r = and_parts (bytes_eq s.memory memory) (not (came_irrevocable memory a)) p.1 in
-      ((not-true (is_open s) q.0, (bytes_eq-Decides s.memory memory).0 r.0, λ before last is. sym (came_is memory a before last is) ∙ not-true (came_irrevocable memory a) r.1), (commit_decides a.calls).0 q.1)),
+      ((not-true (is_open s) q.0, (bytes_eq-Decides s.memory memory).0 r.0, λ before last is. sym (came_is memory a before last is) ∙ not-true (came_irrevocable memory a) r.1), (commit_decides a.calls.list).0 q.1)),
   λ h. (let late : came_irrevocable memory a ≡ false = came_is memory a h.1.0 (record { call = Commit; reply = Done }) h.1.1 ∙ h.0.2 h.1.0 (record { call = Commit; reply = Done }) h.1.1 in
-      and_from (not (is_open s) && ends_by_commit a.calls) (bytes_eq s.memory memory && not (came_irrevocable memory a))
-      (and_from (not (is_open s)) (ends_by_commit a.calls) (not_from_false (is_open s) h.0.0) ((commit_decides a.calls).1 h.1))
+      and_from (not (is_open s) && ends_by_commit a.calls.list) (bytes_eq s.memory memory && not (came_irrevocable memory a))
+      (and_from (not (is_open s)) (ends_by_commit a.calls.list) (not_from_false (is_open s) h.0.0) ((commit_decides a.calls.list).1 h.1))
       (and_from (bytes_eq s.memory memory) (not (came_irrevocable memory a)) ((bytes_eq-Decides s.memory memory).1 h.0.1) (not_from_false (came_irrevocable memory a) late))),
 )
-fits_decides Cancelled memory a s = Decides-and (not (is_open s)) (ends_by_abort a.calls) (off_decides (is_open s)) (abort_decides a.calls)
+fits_decides Cancelled memory a s = Decides-and (not (is_open s)) (ends_by_abort a.calls.list) (off_decides (is_open s)) (abort_decides a.calls.list)
 fits_decides Conflict memory a s = given_up (is_open s) s.irrevocable
 fits_decides Full memory a s = given_up (is_open s) s.irrevocable
 fits_decides NoMemory memory a s = given_up (is_open s) s.irrevocable
@@ -225,9 +225,9 @@ module _ (memory : List ℕ) (a : Attempt) where
   unfolding fault_in
   alone_from e =
       let s = alone MAX_OPEN_BLOCKS memory a in
-      let begun = begun_nothing (may_begin a.props) (first_of (calls_fault (opened memory a.arena a.props) 0 a.calls) (end_fault memory a s)) (at_head kind.Shape) e in
-      let parts = first_nothing (calls_fault (opened memory a.arena a.props) 0 a.calls) (end_fault memory a s) begun.1 in
-      let told = calls_told (opened memory a.arena a.props) 0 a.calls parts.0 in
+      let begun = begun_nothing (may_begin a.props) (first_of (calls_fault (opened memory a.arena a.props) 0 a.calls.list) (end_fault memory a s)) (at_head kind.Shape) e in
+      let parts = first_nothing (calls_fault (opened memory a.arena a.props) 0 a.calls.list) (end_fault memory a s) begun.1 in
+      let told = calls_told (opened memory a.arena a.props) 0 a.calls.list parts.0 in
       let ended = both_passed (fits a.outcome memory a s) (pointwise same_ran a.ran (ran_alone a.outcome s)) None (at_head kind.Ran) (at_head kind.Shape) parts.1 in
       let as_told = (fits_decides a.outcome memory a s).0 ended.0 in
       record {
@@ -244,9 +244,9 @@ module _ (memory : List ℕ) (a : Attempt) where
   unfolding fault_in
   faultless i =
       let s = alone MAX_OPEN_BLOCKS memory a in
-      let calls : calls_fault (opened memory a.arena a.props) 0 a.calls ≡ None = calls_right (opened memory a.arena a.props) 0 a.calls i.replies i.stays_open in
+      let calls : calls_fault (opened memory a.arena a.props) 0 a.calls.list ≡ None = calls_right (opened memory a.arena a.props) 0 a.calls.list i.replies i.stays_open in
       let ended : end_fault memory a s ≡ None =
       cond-true (fits a.outcome memory a s) (if pointwise same_ran a.ran (ran_alone a.outcome s) then None else Some (at_head kind.Ran)) (Some (at_head kind.Shape)) ((fits_decides a.outcome memory a s).1 (i.ends, i.closed))
       ∙ cond-true (pointwise same_ran a.ran (ran_alone a.outcome s)) None (Some (at_head kind.Ran)) ((all_ran_decides a.ran (ran_alone a.outcome s)).1 i.ran) in
-      cond-true (may_begin a.props) (first_of (calls_fault (opened memory a.arena a.props) 0 a.calls) (end_fault memory a s)) (Some (at_head kind.Shape)) i.props
+      cond-true (may_begin a.props) (first_of (calls_fault (opened memory a.arena a.props) 0 a.calls.list) (end_fault memory a s)) (Some (at_head kind.Shape)) i.props
       ∙ (λ t. first_of (calls t) (ended t))

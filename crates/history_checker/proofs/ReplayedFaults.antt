@@ -22,7 +22,7 @@ pub fault_refused : (m : List ℕ) (a : Attempt) → refuses a ≡ true → faul
 unfolding fault_in
 fault_refused m a h = cond-false (not (refuses a)) _ _ (ap not h)
 
-fault_begun : (m : List ℕ) (a : Attempt) → refuses a ≡ false → fault_in m a ≡ first_of (calls_fault (opened m a.arena a.props) 0 a.calls) (end_fault m a (alone MAX_OPEN_BLOCKS m a))
+fault_begun : (m : List ℕ) (a : Attempt) → refuses a ≡ false → fault_in m a ≡ first_of (calls_fault (opened m a.arena a.props) 0 a.calls.list) (end_fault m a (alone MAX_OPEN_BLOCKS m a))
 unfolding fault_in
 fault_begun m a h = cond-true (not (refuses a)) _ _ (ap not h)
 
@@ -34,10 +34,10 @@ first_none : (f g : Option Fault) → is_some f ≡ false → first_of f g ≡ g
 first_none None g h = refl
 first_none (Some x) g h = cc
 
-pub fault_early : (m : List ℕ) (a : Attempt) (f : Option Fault) → refuses a ≡ false → f ≡ calls_fault (opened m a.arena a.props) 0 a.calls → is_some f ≡ true → f ≡ fault_in m a
+pub fault_early : (m : List ℕ) (a : Attempt) (f : Option Fault) → refuses a ≡ false → f ≡ calls_fault (opened m a.arena a.props) 0 a.calls.list → is_some f ≡ true → f ≡ fault_in m a
 fault_early m a f r e h = sym (first_some f (end_fault m a (alone MAX_OPEN_BLOCKS m a)) h) ∙ (ap (λ g. first_of g (end_fault m a (alone MAX_OPEN_BLOCKS m a))) e ∙ sym (fault_begun m a r))
 
-pub fault_late : (m : List ℕ) (a : Attempt) (f : Option Fault) → refuses a ≡ false → f ≡ calls_fault (opened m a.arena a.props) 0 a.calls → is_some f ≡ false → end_fault m a (alone MAX_OPEN_BLOCKS m a) ≡ fault_in m a
+pub fault_late : (m : List ℕ) (a : Attempt) (f : Option Fault) → refuses a ≡ false → f ≡ calls_fault (opened m a.arena a.props) 0 a.calls.list → is_some f ≡ false → end_fault m a (alone MAX_OPEN_BLOCKS m a) ≡ fault_in m a
 fault_late m a f r e h = sym (first_none f (end_fault m a (alone MAX_OPEN_BLOCKS m a)) h) ∙ (ap (λ g. first_of g (end_fault m a (alone MAX_OPEN_BLOCKS m a))) e ∙ sym (fault_begun m a r))
 
 pub none_of : (f : Option Fault) → is_some f ≡ false → f ≡ None

@@ -57,7 +57,7 @@ abbrev pub plain : Props
 plain = record { no_abort = false; no_irrevocable = false; goes_irrevocable = false }
 
 abbrev pub attempt : Outcome → ℕ → List Entry → Attempt
-attempt outcome at calls = record { thread = 0; nth = 1; began = 0; at = at; props = plain; arena = []; calls = calls; ran = []; outcome = outcome }
+attempt outcome at calls = record { thread = 0; nth = 1; began = 0; at = at; props = plain; arena = []; calls = record { list = calls; room = 0 }; ran = []; outcome = outcome }
 
 -- after which these actions had run
 abbrev pub attempt_ran : Outcome → List Entry → List Ran → Attempt

@@ -102,13 +102,13 @@ ends_by_abort calls = last_is (λ e. is_abort_done e.call e.reply) calls
 
 -- the transaction was irrevocable as its last call came
 abbrev pub came_irrevocable : List ℕ → Attempt → Bool
-came_irrevocable memory a = (state_at memory a (take (length a.calls - 1) a.calls)).irrevocable
+came_irrevocable memory a = (state_at memory a (take (length a.calls.list - 1) a.calls.list)).irrevocable
 
 -- the machine's state after the calls fits the outcome
 abbrev pub fits : Outcome → List ℕ → Attempt → State → Bool
-fits Committed memory a s = not (is_open s) && ends_by_commit a.calls
-fits ReadOnly memory a s = (not (is_open s) && ends_by_commit a.calls) && (bytes_eq s.memory memory && not (came_irrevocable memory a))
-fits Cancelled memory a s = not (is_open s) && ends_by_abort a.calls
+fits Committed memory a s = not (is_open s) && ends_by_commit a.calls.list
+fits ReadOnly memory a s = (not (is_open s) && ends_by_commit a.calls.list) && (bytes_eq s.memory memory && not (came_irrevocable memory a))
+fits Cancelled memory a s = not (is_open s) && ends_by_abort a.calls.list
 fits Conflict memory a s = is_open s && not s.irrevocable
 fits Full memory a s = is_open s && not s.irrevocable
 fits NoMemory memory a s = is_open s && not s.irrevocable
@@ -125,5 +125,5 @@ end_fault memory a s =
 unfoldable pub fault_in : List ℕ → Attempt → Option Fault
 fault_in memory a =
     if may_begin a.props
-    then first_of (calls_fault (opened memory a.arena a.props) 0 a.calls) (end_fault memory a (alone MAX_OPEN_BLOCKS memory a))
+    then first_of (calls_fault (opened memory a.arena a.props) 0 a.calls.list) (end_fault memory a (alone MAX_OPEN_BLOCKS memory a))
     else Some (at_head kind.Shape)

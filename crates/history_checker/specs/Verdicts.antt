@@ -16,7 +16,7 @@ use Rattle.history_checker.specs.Replays.{first_of, at_head, fault_in}
 
 -- the lines of an attempt: its head, its arena, one for each call and each action that ran, and its end
 abbrev pub line_count : Attempt → ℕ
-line_count a = 3 + length a.calls + length a.ran
+line_count a = 3 + length a.calls.list + length a.ran
 
 -- the head line of an attempt; that of one past the last is the final line
 abbrev pub head_row : List Attempt → ℕ → ℕ

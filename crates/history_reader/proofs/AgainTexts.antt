@@ -103,7 +103,7 @@ at_end true head memory attempts arena es rs line = refl
 -- the attempt that these lines tell
 abbrev told_by : Head → List ℕ → List Entry → List Ran → Attempt
 told_by head arena calls ran =
-    record { thread = head.thread; nth = head.nth; began = 0; at = head.at; props = head.props; arena = arena; calls = calls; ran = ran; outcome = head.outcome }
+    record { thread = head.thread; nth = head.nth; began = 0; at = head.at; props = head.props; arena = arena; calls = record { list = calls; room = 0 }; ran = ran; outcome = head.outcome }
 
 -- the last line of an attempt is of one field
 end_field : AreFields (codes "end" ∷ [])
@@ -151,9 +151,9 @@ unfolding meaning
 at_arena head memory attempts line = refl
 
 -- when its begin was called is not told
-told_again : (a : Attempt) → IsAttempt a → told_by (head_in a) a.arena a.calls a.ran ≡ a
+told_again : (a : Attempt) → IsAttempt a → told_by (head_in a) a.arena a.calls.list a.ran ≡ a
 told_again a h =
-    ap (λ (n : ℕ). record { thread = a.thread; nth = a.nth; began = n; at = a.at; props = a.props; arena = a.arena; calls = a.calls; ran = a.ran; outcome = a.outcome }) (sym h.began)
+    λ i. record { thread = a.thread; nth = a.nth; began = sym h.began i; at = a.at; props = a.props; arena = a.arena; calls = record { list = a.calls.list; room = sym h.room i }; ran = a.ran; outcome = a.outcome }
 
 -- parts in a row, each with all that stands behind it
 parts_apart : (a b c d e rest : List ℕ) → a ++ b ++ c ++ d ++ e ++ rest ≡ a ++ (b ++ (c ++ (d ++ (e ++ rest))))
@@ -161,9 +161,9 @@ parts_apart a b c d e rest = simp append_assoc
 
 -- the lines of an attempt in a row
 attempt_parts : (a : Attempt) (rest : List ℕ)
-    → attempt_lines a ++ rest ≡ head_line a ++ (arena_line a.arena ++ (flat_map call_line a.calls ++ (flat_map ran_line a.ran ++ (codes "end\n" ++ rest))))
+    → attempt_lines a ++ rest ≡ head_line a ++ (arena_line a.arena ++ (flat_map call_line a.calls.list ++ (flat_map ran_line a.ran ++ (codes "end\n" ++ rest))))
 unfolding attempt_lines
-attempt_parts a rest = parts_apart (head_line a) (arena_line a.arena) (flat_map call_line a.calls) (flat_map ran_line a.ran) (codes "end\n") rest
+attempt_parts a rest = parts_apart (head_line a) (arena_line a.arena) (flat_map call_line a.calls.list) (flat_map ran_line a.ran) (codes "end\n") rest
 
 -- the lines of an attempt leave the attempt
 attempt_leads : (memory : List ℕ) (attempts : List Attempt) (a : Attempt) (rest : List ℕ) → IsAttempt a
@@ -173,10 +173,10 @@ attempt_leads memory attempts a rest h =
     let s : State = between memory attempts in
     let t : State = within (places.AtArena head) memory attempts [] [] [] in
     let u : State = within (places.InCalls head) memory attempts a.arena [] [] in
-    let v : State = within (places.InCalls head) memory attempts a.arena a.calls [] in
-    let w : State = between memory (attempts ++ told_by head a.arena a.calls a.ran ∷ []) in
+    let v : State = within (places.InCalls head) memory attempts a.arena a.calls.list [] in
+    let w : State = between memory (attempts ++ told_by head a.arena a.calls.list a.ran ∷ []) in
     let last : List ℕ = flat_map ran_line a.ran ++ (codes "end\n" ++ rest) in
-    let later : List ℕ = flat_map call_line a.calls ++ last in
+    let later : List ℕ = flat_map call_line a.calls.list ++ last in
     let heads : AreFields (head_fields a) = head_are a h in
     let arenas : AreFields (arena_fields a.arena) = arena_are a.arena h.arena.0 in
     let one : Leads s t (head_line a ++ (arena_line a.arena ++ later)) (arena_line a.arena ++ later) =
@@ -186,8 +186,8 @@ attempt_leads memory attempts a rest h =
     let two : Leads t u (arena_line a.arena ++ later) later =
     line_leads t u (arena_fields a.arena) (arena_line a.arena) later (arena_joined a.arena) arenas
     (says_again t u (codes "arena") (arena_text a.arena ∷ []) (at_arena head memory attempts (joined (arena_fields a.arena))) arenas (arena_says t head a.arena h.arena.0 h.arena.1)) in
-    let three : Leads u v later last = calls_lead head memory attempts a.arena [] a.calls last (recursion_from_All IsEntry a.calls h.calls) in
-    let four : Leads v w last rest = ran_lead false head memory attempts a.arena a.calls [] a.ran rest (recursion_from_All IsRan a.ran h.ran) in
+    let three : Leads u v later last = calls_lead head memory attempts a.arena [] a.calls.list last (recursion_from_All IsEntry a.calls.list h.calls) in
+    let four : Leads v w last rest = ran_lead false head memory attempts a.arena a.calls.list [] a.ran rest (recursion_from_All IsRan a.ran h.ran) in
     let all : Leads s w (head_line a ++ (arena_line a.arena ++ later)) rest =
     leads_on s t w (head_line a ++ (arena_line a.arena ++ later)) (arena_line a.arena ++ later) rest one
     (leads_on t u w (arena_line a.arena ++ later) later rest two (leads_on u v w later last rest three four)) in

@@ -65,20 +65,20 @@ module _ (memory : List ℕ) (a : Attempt) (h : IsAlone memory a) where
   same = same_alone MAX_OPEN_BLOCKS memory a
 
   -- the state after some first calls
-  same_at : (before : List Entry) (rest : List Entry) (p : Parts canonical_entry a.calls before rest) → state_at memory (canonical_attempt a) before ≡ state_at memory a p.front
+  same_at : (before : List Entry) (rest : List Entry) (p : Parts canonical_entry a.calls.list before rest) → state_at memory (canonical_attempt a) before ≡ state_at memory a p.front
   same_at before rest p =
       ap (state_at memory (canonical_attempt a)) (sym p.front_is) ∙ same_state MAX_OPEN_BLOCKS (opened memory a.arena a.props) p.front
 
-  stays : (before : List Entry) (e : Entry) (rest : List Entry) → map canonical_entry a.calls ≡ before ++ e ∷ rest → is_open (state_at memory (canonical_attempt a) before) ≡ true
+  stays : (before : List Entry) (e : Entry) (rest : List Entry) → map canonical_entry a.calls.list ≡ before ++ e ∷ rest → is_open (state_at memory (canonical_attempt a) before) ≡ true
   stays before e rest is =
-      let p = parts_of canonical_entry a.calls before e rest is in
+      let p = parts_of canonical_entry a.calls.list before e rest is in
       ap is_open (same_at before rest p) ∙ h.stays_open p.front p.here p.back p.whole
 
-  was_revocable : ((before : List Entry) (last : Entry) → a.calls ≡ before ++ last ∷ [] → (state_at memory a before).irrevocable ≡ false)
-      → (before : List Entry) (last : Entry) → map canonical_entry a.calls ≡ before ++ last ∷ [] → (state_at memory (canonical_attempt a) before).irrevocable ≡ false
+  was_revocable : ((before : List Entry) (last : Entry) → a.calls.list ≡ before ++ last ∷ [] → (state_at memory a before).irrevocable ≡ false)
+      → (before : List Entry) (last : Entry) → map canonical_entry a.calls.list ≡ before ++ last ∷ [] → (state_at memory (canonical_attempt a) before).irrevocable ≡ false
   was_revocable r before last is =
-      let p = parts_of canonical_entry a.calls before last [] is in
-      let whole : a.calls ≡ p.front ++ p.here ∷ [] = p.whole ∙ ap (λ (l : List Entry). p.front ++ p.here ∷ l) (none_left canonical_entry p.back p.back_is) in
+      let p = parts_of canonical_entry a.calls.list before last [] is in
+      let whole : a.calls.list ≡ p.front ++ p.here ∷ [] = p.whole ∙ ap (λ (l : List Entry). p.front ++ p.here ∷ l) (none_left canonical_entry p.back p.back_is) in
       ap (λ (s : State). s.irrevocable) (same_at before [] p) ∙ r p.front p.here whole
 
   ends_so : (o : Outcome) (s : State) → EndsIn o memory a s → EndsIn o memory (canonical_attempt a) s
@@ -93,9 +93,9 @@ module _ (memory : List ℕ) (a : Attempt) (h : IsAlone memory a) where
   pub canonical_alone : IsAlone memory (canonical_attempt a)
   canonical_alone = record {
     props = h.props;
-    replies = same_told a.calls ∙ h.replies ∙ sym (same_replies MAX_OPEN_BLOCKS (opened memory a.arena a.props) a.calls);
+    replies = same_told a.calls.list ∙ h.replies ∙ sym (same_replies MAX_OPEN_BLOCKS (opened memory a.arena a.props) a.calls.list);
     stays_open = stays;
     ends = subst (EndsIn a.outcome memory (canonical_attempt a)) (sym same) (ends_so a.outcome (alone MAX_OPEN_BLOCKS memory a) h.ends);
-    closed = closed_too a.outcome a.calls h.closed;
+    closed = closed_too a.outcome a.calls.list h.closed;
     ran = h.ran ∙ ap (ran_alone a.outcome) (sym same);
   }

@@ -90,7 +90,7 @@ module _ (deepest : ℕ) where
 
   -- the attempt alone
   pub same_alone : (memory : List ℕ) (a : Attempt) → alone deepest memory (canonical_attempt a) ≡ alone deepest memory a
-  same_alone memory a = same_state (opened memory a.arena a.props) a.calls
+  same_alone memory a = same_state (opened memory a.arena a.props) a.calls.list
 
 -- what is answered is told
 pub same_told : (es : List Entry) → replies_in (map canonical_entry es) ≡ replies_in es

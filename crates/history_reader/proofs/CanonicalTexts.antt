@@ -48,7 +48,7 @@ canonical_head a = refl
 
 canonical_tried : (a : Attempt) → attempt_lines (canonical_attempt a) ≡ attempt_lines a
 unfolding attempt_lines
-canonical_tried a = λ i. canonical_head a i ++ arena_line a.arena ++ canonical_lines a.calls i ++ flat_map ran_line a.ran ++ codes "end\n"
+canonical_tried a = λ i. canonical_head a i ++ arena_line a.arena ++ canonical_lines a.calls.list i ++ flat_map ran_line a.ran ++ codes "end\n"
 
 canonical_all : (all : List Attempt) → flat_map attempt_lines (map canonical_attempt all) ≡ flat_map attempt_lines all
 canonical_all [] = refl

@@ -28,7 +28,7 @@ attempt_of h arena calls ran = record {
   at = h.at;
   props = h.props;
   arena = arena;
-  calls = calls;
+  calls = record { list = calls; room = 0 };
   ran = ran;
   outcome = h.outcome;
 }

@@ -124,7 +124,7 @@ ran_step p h s t fs at k e =
     })
 
 tellable : (h : Head) (s : State) → IsOpen h s → IsAttempt (attempt_of h s.arena s.calls s.ran)
-tellable h s k = record { thread = k.head.0; nth = k.head.1; began = refl; at = k.head.2; arena = k.arena; calls = k.calls; ran = k.ran }
+tellable h s k = record { thread = k.head.0; nth = k.head.1; began = refl; room = refl; at = k.head.2; arena = k.arena; calls = k.calls; ran = k.ran }
 
 end_step : (p : Place) (h : Head) (s t : State) (fs : List (List ℕ)) → so_far p s ≡ so_far (places.InRan h) s → IsOpen h s → end_line s h fs ≡ Ok t → Follows p s t (line_of (codes "end" ∷ fs))
 unfolding end_line

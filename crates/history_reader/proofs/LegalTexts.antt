@@ -26,7 +26,8 @@ attempt_is memory a h f l = record {
   began = refl;
   at = f.at;
   arena = (f.arena, l.arena);
-  calls = entries_are MAX_OPEN_BLOCKS (opened memory a.arena a.props) a.calls h.replies f.calls l.widths;
+  room = refl;
+  calls = entries_are MAX_OPEN_BLOCKS (opened memory a.arena a.props) a.calls.list h.replies f.calls l.widths;
   ran = f.ran;
 }
 

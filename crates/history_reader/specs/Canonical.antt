@@ -1,4 +1,4 @@
--- The canonical history of those with one text: the one that the text is read as. Of a call no text tells how many more the block may make, of a fill's byte it tells the low 8 bits, and of an attempt not when its begin was called.
+-- The canonical history of those with one text: the one that the text is read as. Of a call no text tells how many more the block may make, of a fill's byte it tells the low 8 bits, and of an attempt not when its begin was called, nor for how many more calls it had room.
 use Rattle.std.specs.Prelude.{◌%◌, map}
 use Rattle.itm_types.specs.declared.call.Call.{Call}
 use Rattle.itm_types.specs.declared.call.Call.TheVariants as calls
@@ -27,7 +27,7 @@ abbrev pub canonical_entry : Entry → Entry
 canonical_entry e = record { call = canonical_call e.call; reply = e.reply }
 
 abbrev pub canonical_attempt : Attempt → Attempt
-canonical_attempt a = record a { began = 0; calls = map canonical_entry a.calls }
+canonical_attempt a = record a { began = 0; calls = record { list = map canonical_entry a.calls.list; room = 0 } }
 
 abbrev pub canonical : History → History
 canonical h = record h { attempts = map canonical_attempt h.attempts }

@@ -69,7 +69,7 @@ ended s h = record s {
     at = h.at;
     props = h.props;
     arena = s.arena;
-    calls = s.calls;
+    calls = record { list = s.calls; room = 0 };
     ran = s.ran;
     outcome = h.outcome;
   } ∷ [];

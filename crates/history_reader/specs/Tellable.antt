@@ -71,14 +71,15 @@ IsEntry e = IsCall e.call × IsReply (answer_to e.call) e.reply
 abbrev pub IsRan : Ran → Type 0
 IsRan r = IsAction r.action
 
--- an attempt that a text can tell: when its begin was called is not told
+-- an attempt that a text can tell: when its begin was called is not told, nor for how many more calls it has room
 pub record IsAttempt (a : Attempt) : Type 0 where
   pub thread : a.thread ≤ MAX_ACTORS - 1
   pub nth : (1 ≤ a.nth) × (a.nth ≤ MAX_RETRIES + 1)
   pub began : a.began ≡ 0
   pub at : IsWord a.at
   pub arena : IsBytes a.arena × (length a.arena ≤ MAX_ARENA)
-  pub calls : All IsEntry a.calls
+  pub calls : All IsEntry a.calls.list
+  pub room : a.calls.room ≡ 0
   pub ran : All IsRan a.ran
 
 -- a memory of 1 to 8,192 words of 8 bytes

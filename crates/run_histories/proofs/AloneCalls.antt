@@ -80,14 +80,14 @@ ran_same NoMemory s = refl
 ran_same Unfinished s = refl
 
 module _ {P : Type 0} (rules : Rules P) (p : P) (a : Attempt) (n : ℕ) (memory : List ℕ) (opaque : IsOpaque rules MAX_OPEN_BLOCKS p a n memory) where
-  made : (map (λ (e : Entry). e.reply) a.calls ≡ replies MAX_OPEN_BLOCKS (opened memory a.arena a.props) (calls_in a.calls)) × AllInside MAX_OPEN_BLOCKS (opened memory a.arena a.props) (calls_in a.calls)
-  made = told rules.next_call rules.answered rules.calls_left MAX_OPEN_BLOCKS a.calls opaque.beginning.0 (rules.calls_left p) p (opened memory a.arena a.props) _ refl opaque.beginning.1
+  made : (map (λ (e : Entry). e.reply) a.calls.list ≡ replies MAX_OPEN_BLOCKS (opened memory a.arena a.props) (calls_in a.calls.list)) × AllInside MAX_OPEN_BLOCKS (opened memory a.arena a.props) (calls_in a.calls.list)
+  made = told rules.next_call rules.answered rules.calls_left MAX_OPEN_BLOCKS a.calls.list opaque.beginning.0 (rules.calls_left p) p (opened memory a.arena a.props) _ refl opaque.beginning.1
 
   ends_in : (o : Outcome) → EndsAs o (alone MAX_OPEN_BLOCKS memory a) → EndsIn o memory a (alone MAX_OPEN_BLOCKS memory a)
   ends_in Committed e = e.0
   ends_in ReadOnly e = (
     e.0,
-    (stands_after MAX_OPEN_BLOCKS memory (opened memory a.arena a.props) (calls_in a.calls) made.1 (stands_opened MAX_OPEN_BLOCKS memory a.arena a.props)).memory e.1,
+    (stands_after MAX_OPEN_BLOCKS memory (opened memory a.arena a.props) (calls_in a.calls.list) made.1 (stands_opened MAX_OPEN_BLOCKS memory a.arena a.props)).memory e.1,
     λ before last is. never_irrevocable MAX_OPEN_BLOCKS memory (opened memory a.arena a.props) before (last ∷ []) (stands_opened MAX_OPEN_BLOCKS memory a.arena a.props)
         (subst (λ (xs : List Entry). AllInside MAX_OPEN_BLOCKS (opened memory a.arena a.props) (calls_in xs)) is made.1)
         (ap (λ (xs : List Entry). (state_after MAX_OPEN_BLOCKS (opened memory a.arena a.props) (calls_in xs)).wrote) (sym is) ∙ e.1),

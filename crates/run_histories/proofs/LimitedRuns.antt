@@ -23,7 +23,7 @@ use Rattle.run_histories.proofs.AloneCalls.{same_head, same_tail}
 pub record IsOwn (Q : Call → Type 0) (k : ℕ) (a : Attempt) : Type 0 where
   pub arena : length a.arena ≡ k
   pub nth : 1 ≤ a.nth
-  pub calls : All (λ (x : Entry). Q x.call) a.calls
+  pub calls : All (λ (x : Entry). Q x.call) a.calls.list
 
 module _ {P : Type 0} (rules : Rules P) (Q : Call → Type 0) (made : (p : P) (c : Call) → rules.next_call p ≡ Some c → Q c) where
   -- ## Calls
@@ -75,7 +75,7 @@ module _ {P : Type 0} (rules : Rules P) (Q : Call → Type 0) (made : (p : P) (c
   own_try b (Some start) a l e t = record {
     arena = ap (length {A = ℕ}) t.0 ∙ arena_there rules Q made k (rules.calls_left b.player) b.player b.arena (rules.next_call b.player) start l e;
     nth = (let later = t.2 in omega arith);
-    calls = calls_made rules Q made MAX_OPEN_BLOCKS a.calls t.3.beginning.0 (rules.calls_left (rules.answered start.player (begin_code b.again))) (rules.answered start.player (begin_code b.again)) (opened (memory a.at) a.arena a.props) _ refl t.3.beginning.1;
+    calls = calls_made rules Q made MAX_OPEN_BLOCKS a.calls.list t.3.beginning.0 (rules.calls_left (rules.answered start.player (begin_code b.again))) (rules.answered start.player (begin_code b.again)) (opened (memory a.at) a.arena a.props) _ refl t.3.beginning.1;
   }
 
   follows_sized : (o : Outcome) (p : P) (a : Attempt) (s : State) (m : ℕ) → IsSized m k s → IfSome (follows rules MAX_OPEN_BLOCKS o p a s) (λ (b : Between P). length b.arena ≡ k)

@@ -21,7 +21,7 @@ returns-then-is_some-clause-fault c =
     let m = c.args.plain.now.state.memory in
     let a = c.args.attempt.now in
     let state : c.again_with-2.new.self.state ≡ opened m a.arena a.props = c.in_ok-again_with-2.ensures.state ∙ ap (λ (t : List ℕ). opened m t a.props) c.as_slice.ensures in
-    let fault : c.in_ok-called.called.fault ≡ calls_fault (opened m a.arena a.props) 0 a.calls = c.in_ok-called.ensures.fault ∙ (ap (λ (s : State). calls_fault s 0 c.as_slice-2.result.now) state ∙ ap (calls_fault (opened m a.arena a.props) 0) c.as_slice-2.ensures) in
+    let fault : c.in_ok-called.called.fault ≡ calls_fault (opened m a.arena a.props) 0 a.calls.list = c.in_ok-called.ensures.fault ∙ (ap (λ (s : State). calls_fault s 0 c.as_slice-2.result.now) state ∙ ap (calls_fault (opened m a.arena a.props) 0) c.as_slice-2.ensures) in
     fault_early m a c.in_ok-called.called.fault (sym c.is_refused.ensures ∙ c.if-is_refused.false) fault (sym c.is_some.ensures ∙ c.if-is_some.true)
 
 pub returns-clause-fault : goal.returns-clause-fault
@@ -29,7 +29,7 @@ returns-clause-fault c =
     let m = c.args.plain.now.state.memory in
     let a = c.args.attempt.now in
     let state : c.again_with-2.new.self.state ≡ opened m a.arena a.props = c.in_ok-again_with-2.ensures.state ∙ ap (λ (t : List ℕ). opened m t a.props) c.as_slice.ensures in
-    let fault : c.in_ok-called.called.fault ≡ calls_fault (opened m a.arena a.props) 0 a.calls = c.in_ok-called.ensures.fault ∙ (ap (λ (s : State). calls_fault s 0 c.as_slice-2.result.now) state ∙ ap (calls_fault (opened m a.arena a.props) 0) c.as_slice-2.ensures) in
+    let fault : c.in_ok-called.called.fault ≡ calls_fault (opened m a.arena a.props) 0 a.calls.list = c.in_ok-called.ensures.fault ∙ (ap (λ (s : State). calls_fault s 0 c.as_slice-2.result.now) state ∙ ap (calls_fault (opened m a.arena a.props) 0) c.as_slice-2.ensures) in
     let no = sym c.is_some.ensures ∙ c.if-is_some.false in
     let ended : c.replay_calls.new.plain.state ≡ alone MAX_OPEN_BLOCKS m a =
     c.in_ok-called.ensures.state (none_of c.in_ok-called.called.fault no) ∙ (ap (λ (s : State). state_after MAX_OPEN_BLOCKS s (made c.as_slice-2.result.now)) state ∙ ap (λ (es : List Entry). state_after MAX_OPEN_BLOCKS (opened m a.arena a.props) (made es)) c.as_slice-2.ensures) in
