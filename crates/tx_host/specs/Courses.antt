@@ -35,7 +35,7 @@ module _ (memory : ℕ → List ℕ) (first : Between Thread) where
     pub now_is : run_after thread_rules memory (Some first) before ≡ Some between
     pub start : Beginning Thread
     pub begins : begins_at thread_rules between ≡ Some start
-    pub none : thread_rules.next_call (player_then thread_rules.answered (thread_rules.answered start.player (begin_code between.again)) last.calls) ≡ None
+    pub none : thread_rules.next_call (player_then thread_rules.answered (thread_rules.answered start.player (begin_code between.again)) last.calls.list) ≡ None
 
   -- a thread that finished had no more calls. One that gave up was stopped by its gate, found as many commits as may be, or had looked at the clock as often as it has tries: which of these, no attempt tells
   abbrev pub EndsBy : End → List Attempt → Type 0

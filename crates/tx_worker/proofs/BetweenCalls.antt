@@ -80,12 +80,12 @@ turns_counted rules words shuts old new n (Some end) t = λ c b k. stopped_count
 -- with one call more
 pub row_grown : (number nth : ℕ) (o o' : OpenAttempt) (call : Call) (r : Replied) (ran : List Ran) → o'.began ≡ o.began → o'.props ≡ o.props → o'.arena ≡ o.arena → o'.calls.items ≡ o.calls.items ++ record { call = call; reply = r } ∷ [] → o'.ran.items ≡ ran
     → row_of number nth o' ≡ with_call call r ran (row_of number nth o)
-row_grown number nth o o' call r ran began props arena calls ran_is = λ i. record (row_of number nth o) { began = began i; props = props i; arena = (arena i).items; calls = calls i; ran = ran_is i }
+row_grown number nth o o' call r ran began props arena calls ran_is = λ i. record (row_of number nth o) { began = began i; props = props i; arena = (arena i).items; calls = record { list = calls i; room = 0 }; ran = ran_is i }
 
 -- with the actions that have run since
 pub row_ran : (number nth : ℕ) (o o' : OpenAttempt) (ran : List Ran) → o'.began ≡ o.began → o'.props ≡ o.props → o'.arena ≡ o.arena → o'.calls ≡ o.calls → o'.ran.items ≡ ran
     → row_of number nth o' ≡ record (row_of number nth o) { ran = ran }
-row_ran number nth o o' ran began props arena calls ran_is = λ i. record (row_of number nth o) { began = began i; props = props i; arena = (arena i).items; calls = (calls i).items; ran = ran_is i }
+row_ran number nth o o' ran began props arena calls ran_is = λ i. record (row_of number nth o) { began = began i; props = props i; arena = (arena i).items; calls = record { list = (calls i).items; room = 0 }; ran = ran_is i }
 
 -- it is the one that the tally has
 pub row_is : {P : Type 0} (rules : Rules P) (c : Course P) (w : Worker P) (o : OpenAttempt) (inside : IsInside rules c (view_in w) w.thread.engine (tally_of w)) → w.current ≡ Some o → inside.row ≡ row_of w.number w.nth o

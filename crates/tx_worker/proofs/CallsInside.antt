@@ -31,7 +31,7 @@ pub record IsRoomier (o o' : OpenAttempt) : Type 0 where
   pub room : vec_capacity o.ran ≤ vec_capacity o'.ran
 
 same_row : (number nth : ℕ) (o o' : OpenAttempt) → IsRoomier o o' → row_of number nth o ≡ row_of number nth o'
-same_row number nth o o' roomier = λ i. record (row_of number nth o) { began = sym roomier.began i; props = sym roomier.props i; arena = (sym roomier.arena i).items; calls = sym roomier.calls i; ran = sym roomier.ran i }
+same_row number nth o o' roomier = λ i. record (row_of number nth o) { began = sym roomier.began i; props = sym roomier.props i; arena = (sym roomier.arena i).items; calls = record { list = sym roomier.calls i; room = 0 }; ran = sym roomier.ran i }
 
 module _ {P : Type 0} {rules : Rules P} {words : Words} {c : Course P} {b : Bounds} (w : Worker P) (o o' : OpenAttempt) (roomier : IsRoomier o o') where
   pub reserved : IsWorking rules words c b (record w { current = Some o }) → IsWorking rules words c b (record w { current = Some o' })

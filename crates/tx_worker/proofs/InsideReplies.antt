@@ -60,7 +60,7 @@ module _ {P : Type 0} {rules : Rules P} (laws : Obeys rules) (c : Course P) (s :
             arena = try.of_block.arena;
             props = try.of_block.props;
             tries = try.of_block.tries;
-            player = ap (λ (q : P). rules.answered q r) try.of_block.player ∙ sym (player_snoc rules.answered (rules.answered try.of_block.start.player (begin_code h.between.again)) h.row.calls (record { call = s.call; reply = r }));
+            player = ap (λ (q : P). rules.answered q r) try.of_block.player ∙ sym (player_snoc rules.answered (rules.answered try.of_block.start.player (begin_code h.between.again)) h.row.calls.list (record { call = s.call; reply = r }));
           };
           began = (let up = grows.snapshot in let began = try.began in omega arith);
           ran = refl;
@@ -141,7 +141,7 @@ module _ {P : Type 0} {rules : Rules P} (laws : Obeys rules) (c : Course P) (s :
 
       pub cancels : IsRunning rules c v e (closed t (rules.answered t.player r) (ending_as outcomes.Cancelled (e.snapshot / 2) e.actions.ran (with_call s.call r e.actions.ran (running.inside inside).row)))
       cancels =
-          let calls = (running.inside inside).row.calls in
+          let calls = (running.inside inside).row.calls.list in
           let same = at_once.1 in
           let count = (before.reads inside).count in
           let seen = ap (λ (x : View). length x.seen) at_once.0 in
@@ -188,7 +188,7 @@ module _ {P : Type 0} {rules : Rules P} (laws : Obeys rules) (c : Course P) (s :
 
     by_wrote : (w : Bool) → wrote ≡ w → Closes laws c s t v e running served.went asks inside Done commit_read done_plain (if w then outcomes.Committed else outcomes.ReadOnly)
     by_wrote true is =
-        let calls = (running.inside inside).row.calls in
+        let calls = (running.inside inside).row.calls.list in
         let at_is = served.tells.closes.at_is in
         let next = served.tells.next is in
         let seen = next.0 in
@@ -206,7 +206,7 @@ module _ {P : Type 0} {rules : Rules P} (laws : Obeys rules) (c : Course P) (s :
           depth = depth_over;
         }
     by_wrote false is =
-        let calls = (running.inside inside).row.calls in
+        let calls = (running.inside inside).row.calls.list in
         let at_is = served.tells.closes.at_is in
         let seen = served.tells.closes.seen in
         record {

@@ -92,7 +92,7 @@ module _ {P : Type 0} {rules : Rules P} (laws : Obeys rules) (c : Course P) (s :
         let h = running.inside inside in
         let shut = served.tells.closes.closed in
         let begun : rules.depth (rules.restarted t.player) ≡ 0 = running.nested.begun inside in
-        let player : rules.restarted (answered_all rules.answered (rules.answered h.try.of_block.start.player (begin_code h.between.again)) (map (λ (x : Entry). x.reply) h.row.calls)) ≡ rules.restarted t.player = ap rules.restarted (sym h.try.of_block.player) in
+        let player : rules.restarted (answered_all rules.answered (rules.answered h.try.of_block.start.player (begin_code h.between.again)) (map (λ (x : Entry). x.reply) h.row.calls.list)) ≡ rules.restarted t.player = ap rules.restarted (sym h.try.of_block.player) in
         let left : State = alone MAX_OPEN_BLOCKS (bytes_at v (e.snapshot / 2)) (ending_as outcomes.Conflict (e.snapshot / 2) e.actions.ran h.row) in
         let arena : (undone left).arena ≡ e.arena =
         ap (λ (x : State). (undone x).arena) (alone_stood laws c t s.view v s.engine running inside served.went position conflict_read)

@@ -39,7 +39,7 @@ ran_done outcomes.Cancelled s e = refl
 ran_done outcome s e = absurd (true≢false (sym e))
 
 follows_done : {P : Type 0} (rules : Rules P) (outcome : Outcome) (p : P) (a : Attempt) (s : State) → is_done outcome ≡ true
-    → follows rules MAX_OPEN_BLOCKS outcome p a s ≡ Some (record { player = answered_all rules.answered p (map (λ (x : Entry). x.reply) a.calls); arena = s.arena; again = false; tries = 0 })
+    → follows rules MAX_OPEN_BLOCKS outcome p a s ≡ Some (record { player = answered_all rules.answered p (map (λ (x : Entry). x.reply) a.calls.list); arena = s.arena; again = false; tries = 0 })
 follows_done rules outcomes.Committed p a s e = refl
 follows_done rules outcomes.ReadOnly p a s e = refl
 follows_done rules outcomes.Cancelled p a s e = refl
@@ -57,7 +57,7 @@ module _ {P : Type 0} {rules : Rules P} (laws : Obeys rules) (c : Course P) (s :
     pub done : is_done outcome ≡ true
     pub shut : in_transaction e ≡ false
     pub ends : EndsAs outcome last
-    pub by : ClosedBy outcome ((running.inside inside).row.calls ++ record { call = s.call; reply = r } ∷ [])
+    pub by : ClosedBy outcome ((running.inside inside).row.calls.list ++ record { call = s.call; reply = r } ∷ [])
     pub actions : e.actions ≡ last.actions
     pub arena : e.arena ≡ last.arena
     pub older : s.engine.snapshot ≤ e.snapshot
@@ -107,8 +107,8 @@ module _ {P : Type 0} {rules : Rules P} (laws : Obeys rules) (c : Course P) (s :
     now_closed =
         let h = running.inside inside in
         let first : P = rules.answered h.try.of_block.start.player (begin_code h.between.again) in
-        let player : answered_all rules.answered first (map (λ (x : Entry). x.reply) (h.row.calls ++ record { call = s.call; reply = r } ∷ [])) ≡ rules.answered t.player r =
-        player_snoc rules.answered first h.row.calls (record { call = s.call; reply = r }) ∙ ap (λ (q : P). rules.answered q r) (sym h.try.of_block.player) in
+        let player : answered_all rules.answered first (map (λ (x : Entry). x.reply) (h.row.calls.list ++ record { call = s.call; reply = r } ∷ [])) ≡ rules.answered t.player r =
+        player_snoc rules.answered first h.row.calls.list (record { call = s.call; reply = r }) ∙ ap (λ (q : P). rules.answered q r) (sym h.try.of_block.player) in
         let arena : (alone MAX_OPEN_BLOCKS (bytes_at v (e.snapshot / 2)) final).arena ≡ e.arena = ap (λ (x : State). x.arena) left_last ∙ sym closes.arena in
         run_closed.1 ∙ (follows_done rules outcome first final (alone MAX_OPEN_BLOCKS (bytes_at v (e.snapshot / 2)) final) closes.done
         ∙ (λ i. Some (record { player = player i; arena = arena i; again = false; tries = 0 })))

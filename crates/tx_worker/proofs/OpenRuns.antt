@@ -67,7 +67,7 @@ positions_same xs a e = positions_more xs a ∙ (ap (λ (b : Bool). positions xs
 module _ {P : Type 0} {rules : Rules P} (laws : Obeys rules) (c : Course P) (t : Tally P) (u v : View) (e : Core) (running : IsRunning rules c u e t) (inside : in_transaction e ≡ true) (went : Went u v) where
   -- what its calls led to
   abbrev pub led : List ℕ → State
-  led memory = state_then MAX_OPEN_BLOCKS (opened memory (running.inside inside).try.of_block.start.arena (running.inside inside).try.of_block.start.props) (running.inside inside).row.calls
+  led memory = state_then MAX_OPEN_BLOCKS (opened memory (running.inside inside).try.of_block.start.arena (running.inside inside).try.of_block.start.props) (running.inside inside).row.calls.list
 
   module _ (m : List ℕ) (read : MayRead u e m) where
     pub stood_led : stands_for e (stood e.irrevocable u m) ≡ led (bytes_of m)

@@ -119,7 +119,7 @@ module _ {P : Type 0} {rules : Rules P} (laws : Obeys rules) {words : Words} {c 
         began = (sym k.same.known ∙ sym began) i;
         props = sym o_props i;
         arena = sym arena i;
-        calls = sym calls i;
+        calls = record { list = sym calls i; room = 0 };
         ran = sym ran i;
       }
 

@@ -121,7 +121,7 @@ module _ {P : Type 0} {rules : Rules P} (laws : Obeys rules) {words : Words} {c 
           now_is = h.now_is;
           start = h.try.of_block.start;
           begins = h.try.of_block.begins;
-          none = ap (λ (a : Attempt). rules.next_call (player_then rules.answered (rules.answered h.try.of_block.start.player (begin_code h.between.again)) a.calls)) (sym the_row) ∙ (ap rules.next_call (sym h.try.of_block.player) ∙ s.1);
+          none = ap (λ (a : Attempt). rules.next_call (player_then rules.answered (rules.answered h.try.of_block.start.player (begin_code h.between.again)) a.calls.list)) (sym the_row) ∙ (ap rules.next_call (sym h.try.of_block.player) ∙ s.1);
         })
     within_so ends.GaveUp s = s
     within_so ends.NoMemory s = s

@@ -46,8 +46,8 @@ module _ {P : Type 0} (rules : Rules P) where
     pub began : row.began ≤ e.snapshot / 2
     pub ran : row.ran ≡ e.actions.ran
     pub each : (m : List ℕ) → MayRead v e m
-        → IsAlone rules MAX_OPEN_BLOCKS (rules.answered of_block.start.player (begin_code b.again)) (opened (bytes_of m) of_block.start.arena of_block.start.props) row.calls
-        × (stands_for e (stood e.irrevocable v m) ≡ state_then MAX_OPEN_BLOCKS (opened (bytes_of m) of_block.start.arena of_block.start.props) row.calls)
+        → IsAlone rules MAX_OPEN_BLOCKS (rules.answered of_block.start.player (begin_code b.again)) (opened (bytes_of m) of_block.start.arena of_block.start.props) row.calls.list
+        × (stands_for e (stood e.irrevocable v m) ≡ state_then MAX_OPEN_BLOCKS (opened (bytes_of m) of_block.start.arena of_block.start.props) row.calls.list)
 
   -- before the next one: the player has come as far as its calls outside a transaction led
   pub record IsBefore (b : Between P) (t : Tally P) (arena : List ℕ) : Type 0 where

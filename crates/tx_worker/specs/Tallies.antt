@@ -7,12 +7,13 @@ use Rattle.itm_types.specs.declared.call.Reply.{Reply}
 use Rattle.tx_attempts.specs.declared.attempt.Outcome.{Outcome}
 use Rattle.tx_attempts.specs.declared.attempt.Attempt.{Attempt}
 use Rattle.tx_attempts.specs.declared.attempt.Outcome.TheVariants.{Unfinished}
+use Rattle.tx_attempts.specs.Kept.{grown}
 use Rattle.tx_worker.specs.declared.current.OpenAttempt.{OpenAttempt}
 use Rattle.tx_worker.specs.declared.worker.Worker.{Worker}
 
--- the open attempt, as it stands
+-- the open attempt, as it stands. No room is told of its calls: it holds them as a list of its own, whose capacity its contracts see
 abbrev pub row_of : ℕ → ℕ → OpenAttempt → Attempt
-row_of thread nth o = record { thread = thread; nth = nth; began = o.began; at = 0; props = o.props; arena = o.arena.items; calls = o.calls.items; ran = o.ran.items; outcome = Unfinished }
+row_of thread nth o = record { thread = thread; nth = nth; began = o.began; at = 0; props = o.props; arena = o.arena.items; calls = record { list = o.calls.items; room = 0 }; ran = o.ran.items; outcome = Unfinished }
 
 pub record Tally (P : Type 0) : Type 0 where
   pub player : P
@@ -28,7 +29,7 @@ tally_of w = record { player = w.player; ended = w.ended.items; open_one = optio
 
 -- the open attempt with one call more, and the actions that have run since
 abbrev pub with_call : Call → Reply → List Ran → Attempt → Attempt
-with_call call reply ran row = record row { calls = row.calls ++ record { call = call; reply = reply } ∷ []; ran = ran }
+with_call call reply ran row = record row { calls = grown row.calls (record { call = call; reply = reply }) 0; ran = ran }
 
 -- the attempt as it ends, at this position
 abbrev pub ending_as : Outcome → ℕ → List Ran → Attempt → Attempt
@@ -49,4 +50,4 @@ module _ {P : Type 0} where
 
   -- the attempt of a begin that is accepted
   abbrev pub begun : ℕ → ℕ → Props → List ℕ → Tally P → Attempt
-  begun number known props arena t = record { thread = number; nth = t.nth; began = known; at = 0; props = props; arena = arena; calls = []; ran = []; outcome = Unfinished }
+  begun number known props arena t = record { thread = number; nth = t.nth; began = known; at = 0; props = props; arena = arena; calls = record { list = []; room = 0 }; ran = []; outcome = Unfinished }

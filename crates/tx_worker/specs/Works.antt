@@ -70,7 +70,7 @@ module _ {P : Type 0} (rules : Rules P) where
     pub now_is : now_at rules c v before ≡ Some between
     pub start : Beginning P
     pub begins : begins_at rules between ≡ Some start
-    pub none : rules.next_call (player_then rules.answered (rules.answered start.player (begin_code between.again)) last.calls) ≡ None
+    pub none : rules.next_call (player_then rules.answered (rules.answered start.player (begin_code between.again)) last.calls.list) ≡ None
 
   -- it finished where its player had no more calls; it gave up where the gate was shut, as many commits as may be were done, or it had looked at the clock as often as there are tries
   abbrev pub EndsAs : Course P → ℕ → Bool → End → View → List Attempt → Type 0
