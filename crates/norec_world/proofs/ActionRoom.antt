@@ -1,5 +1,5 @@
 -- What an engine gives for a call leaves room for the actions that have run.
-use Rattle.std.proofs.Common.{Vec, Global, ◌≡◌, ℕ, ◌+◌, ◌<◌, ◌≤◌, Bool, true, false, true≢false, [], length, is_some, Result, Ok, Err, IfOk, OnOk, OnErr, Some, None, refl, sym, ap, subst, ◌∙◌, inl, inr, arith, vec_capacity}
+use Rattle.std.proofs.Common.{unwrap_or, Vec, Global, ◌≡◌, ℕ, ◌+◌, ◌<◌, ◌≤◌, Bool, true, false, true≢false, [], length, is_some, Result, Ok, Err, IfOk, OnOk, OnErr, Some, None, refl, sym, ap, subst, ◌∙◌, inl, inr, arith, vec_capacity}
 use Rattle.itm_types.specs.Calls.{is_abort, registered_by}
 use Rattle.norec_core.specs.Core.{came, goes}
 use Rattle.norec_core.specs.Copies.{copy_refusal}
@@ -132,9 +132,9 @@ changed_acting r r' a f thread ran is acts = record {
 
 -- ## More room is made
 
-module _ {P : Type 0} (r : Rows) (a : Actor P) (spare : Vec Entry Global) (end_room cancel_room : Vec Ran Global) where
+module _ {P : Type 0} (r : Rows) (a : Actor P) (spare : Vec Entry Global) (ahead : ℕ) (end_room cancel_room : Vec Ran Global) where
   abbrev Grown : Actor P
-  Grown = record a { spare = spare; end_room = end_room; cancel_room = cancel_room }
+  Grown = record a { spare = spare; ahead = ahead; end_room = end_room; cancel_room = cancel_room }
 
   grown : (end_room.items ≡ []) × (cancel_room.items ≡ []) → vec_capacity a.end_room ≤ vec_capacity end_room → vec_capacity a.cancel_room ≤ vec_capacity cancel_room → IsActing r a → IsActing r Grown
   grown empty more more' acts = record {
@@ -197,13 +197,14 @@ pub record IsServed {E : Type 0} (result : Result Next E) (old : Core) (call : C
 
 -- nothing else has changed
 pub asked_served : {P E : Type 0} (clock : ℕ) (r r' : Rows) (old new : Actor P) (call : Call) → begins_again (in_transaction old.engine) old.again call ≡ false
-    → new.pending ≡ asked_pending (in_transaction old.engine) clock old call → new.again ≡ old.again → new.player ≡ old.player → new.nth ≡ old.nth → new.thread ≡ old.thread → r' ≡ record r { room = r'.room }
+    → new.pending ≡ asked_pending (in_transaction old.engine) clock old call → new.again ≡ old.again → new.player ≡ old.player → new.nth ≡ old.nth → (in_transaction old.engine ≡ true → new.ahead ≡ unwrap_or (goes old.engine call) 0) → new.thread ≡ old.thread → r' ≡ record r { room = r'.room }
     → (result : Result Next E) → IsServed result old.engine call new.engine → IfOk result (AsksOf clock r r' old new call)
-asked_served clock r r' old new call first pending again player nth thread rows (Ok what) e = record {
+asked_served clock r r' old new call first pending again player nth ahead thread rows (Ok what) e = record {
   pending = pending;
   again = again;
   player = player;
   nth = nth;
+  ahead = ahead;
   thread = thread;
   rows_are = rows;
   called = subst (λ (b : Bool). IsCalled old.engine call b what new.engine) (sym first) (record {
@@ -218,14 +219,14 @@ asked_served clock r r' old new call first pending again player nth thread rows 
     held = e.held;
   });
 }
-asked_served clock r r' old new call first pending again player nth thread rows (Err x) e = tt
+asked_served clock r r' old new call first pending again player nth ahead thread rows (Err x) e = tt
 
 -- also within a block
 pub asked_inside : {P E : Type 0} (clock : ℕ) (r r' : Rows) (old new : Actor P) (call : Call) → in_transaction old.engine ≡ true
-    → new.pending ≡ old.pending → new.again ≡ old.again → new.player ≡ old.player → new.nth ≡ old.nth → new.thread ≡ old.thread → r' ≡ record r { room = r'.room }
+    → new.pending ≡ old.pending → new.again ≡ old.again → new.player ≡ old.player → new.nth ≡ old.nth → (in_transaction old.engine ≡ true → new.ahead ≡ unwrap_or (goes old.engine call) 0) → new.thread ≡ old.thread → r' ≡ record r { room = r'.room }
     → (result : Result Next E) → IsServed result old.engine call new.engine → IfOk result (AsksOf clock r r' old new call)
-asked_inside clock r r' old new call inside pending again player nth thread rows result e =
-    asked_served clock r r' old new call (ap (λ (b : Bool). begins_again b old.again call) inside) (pending ∙ sym (ap (λ (b : Bool). asked_pending b clock old call) inside)) again player nth thread rows result e
+asked_inside clock r r' old new call inside pending again player nth ahead thread rows result e =
+    asked_served clock r r' old new call (ap (λ (b : Bool). begins_again b old.again call) inside) (pending ∙ sym (ap (λ (b : Bool). asked_pending b clock old call) inside)) again player nth ahead thread rows result e
 
 -- outside one memory is wanted for a begin alone
 starves_open : (c : Core) (call : Call) → c.blocks ≡ [] → MayStarveOpen c call → is_begin call ≡ true

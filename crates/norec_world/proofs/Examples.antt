@@ -80,7 +80,7 @@ fresh = record { player = record { step = 0; got = 0 }; arena = []; again = fals
 -- ## One counter
 
 abbrev pub counter : Attempt
-counter = record { thread = 0; nth = 1; began = 0; at = 0; props = plain; arena = []; calls = read 0 ∷ write 1 ∷ commit ∷ []; ran = []; outcome = Committed }
+counter = record { thread = 0; nth = 1; began = 0; at = 0; props = plain; arena = []; calls = record { list = read 0 ∷ write 1 ∷ commit ∷ []; room = 0 }; ran = []; outcome = Committed }
 
 counter_memory : memory_after 1 (replicate 8 0) (counter ∷ []) 1 ≡ 1 ∷ replicate 7 0
 counter_memory = refl
@@ -94,13 +94,13 @@ counter_run = ((refl, refl, omega arith, counter_is_opaque), tt)
 -- ## The lost update: of two counters the first to begin is the last to commit. Its first try conflicts, and is opaque all the same.
 
 abbrev other : Attempt
-other = record { thread = 1; nth = 1; began = 0; at = 0; props = plain; arena = []; calls = read 0 ∷ write 1 ∷ commit ∷ []; ran = []; outcome = Committed }
+other = record { thread = 1; nth = 1; began = 0; at = 0; props = plain; arena = []; calls = record { list = read 0 ∷ write 1 ∷ commit ∷ []; room = 0 }; ran = []; outcome = Committed }
 
 abbrev lost : Attempt
-lost = record { thread = 0; nth = 1; began = 0; at = 0; props = plain; arena = []; calls = read 0 ∷ write 1 ∷ []; ran = []; outcome = Conflict }
+lost = record { thread = 0; nth = 1; began = 0; at = 0; props = plain; arena = []; calls = record { list = read 0 ∷ write 1 ∷ []; room = 0 }; ran = []; outcome = Conflict }
 
 abbrev retried : Attempt
-retried = record { thread = 0; nth = 2; began = 1; at = 1; props = plain; arena = []; calls = read 1 ∷ write 2 ∷ commit ∷ []; ran = []; outcome = Committed }
+retried = record { thread = 0; nth = 2; began = 1; at = 1; props = plain; arena = []; calls = record { list = read 1 ∷ write 2 ∷ commit ∷ []; room = 0 }; ran = []; outcome = Committed }
 
 abbrev memory : ℕ → List ℕ
 memory = memory_after 1 (replicate 8 0) (other ∷ lost ∷ retried ∷ [])
@@ -156,14 +156,14 @@ next_block = record { later = omega arith; few = omega arith; after = omega arit
 -- ## Full: the counter's commit is refused, and full is told of nothing before it
 
 abbrev pub refused : Attempt
-refused = record { thread = 0; nth = 1; began = 0; at = 0; props = plain; arena = []; calls = read 0 ∷ write 1 ∷ []; ran = []; outcome = Full }
+refused = record { thread = 0; nth = 1; began = 0; at = 0; props = plain; arena = []; calls = record { list = read 0 ∷ write 1 ∷ []; room = 0 }; ran = []; outcome = Full }
 
 refused_is_opaque : IsOpaque counter_rules 1 (record { step = 1; got = 0 }) refused 0 (replicate 8 0)
 refused_is_opaque = record { no_older = omega arith; no_newer = omega arith; beginning = (commit_pair, refl); whole = λ e. absurd (cc); ends = (refl, refl); closed = tt; ran = refl; full = λ f. record { call = Commit; rest = []; answers_are = refl; revocable = refl; takes = refl } }
 
 -- one that would still write is not full
 abbrev early : Attempt
-early = record { thread = 0; nth = 1; began = 0; at = 0; props = plain; arena = []; calls = read 0 ∷ []; ran = []; outcome = Full }
+early = record { thread = 0; nth = 1; began = 0; at = 0; props = plain; arena = []; calls = record { list = read 0 ∷ []; room = 0 }; ran = []; outcome = Full }
 
 abbrev second : List (Call × Reply) → Call
 second [] = Commit
@@ -200,13 +200,13 @@ abbrev pub in_block : List Entry
 in_block = record { call = Log U1 0; reply = Done } ∷ record { call = begin; reply = Code 5 } ∷ record { call = save; reply = Done } ∷ write 7 ∷ []
 
 abbrev pub cancelled : Attempt
-cancelled = record { thread = 0; nth = 1; began = 0; at = 0; props = plain; arena = two 0 0; calls = in_block ++ record { call = Abort true; reply = Code 24 } ∷ []; ran = []; outcome = Cancelled }
+cancelled = record { thread = 0; nth = 1; began = 0; at = 0; props = plain; arena = two 0 0; calls = record { list = in_block ++ record { call = Abort true; reply = Code 24 } ∷ []; room = 0 }; ran = []; outcome = Cancelled }
 
 abbrev pub load : Entry
 load = record { call = Load U2 0; reply = Bytes (record { items = two 0 2 }) }
 
 abbrev pub next : Attempt
-next = record { thread = 0; nth = 1; began = 0; at = 0; props = plain; arena = two 0 2; calls = load ∷ commit ∷ []; ran = []; outcome = ReadOnly }
+next = record { thread = 0; nth = 1; began = 0; at = 0; props = plain; arena = two 0 2; calls = record { list = load ∷ commit ∷ []; room = 0 }; ran = []; outcome = ReadOnly }
 
 cancelled_is_opaque : IsOpaque plan_rules 2 (planned_to 1) cancelled 0 (replicate 8 0)
 cancelled_is_opaque = record { no_older = omega arith; no_newer = omega arith; beginning = ([], refl); whole = λ e. refl; ends = (refl, refl); closed = (in_block, true, refl); ran = refl; full = λ f. absurd (cc) }

@@ -1,4 +1,5 @@
 -- The open attempt, as its calls go on.
+use Rattle.tx_attempts.specs.Kept.{grown}
 use Rattle.std.proofs.Common.{◌≡◌, ℕ, ◌/◌, ◌<◌, ◌≤◌, Bool, true, false, if◌then◌else◌, List, [], ◌∷◌, ◌++◌, Option, None, Some, refl, sym, true≢false, ap, subst, ◌∙◌, arith}
 use Rattle.itm_types.specs.declared.row.LogRow.{LogRow}
 use Rattle.norec_world.proofs.Common.{Agrees, AsksFor, Attempt, Begin, Between, Call, Code, Core, Enters, Entry, IsAlone, IsInTry, IsMemory, MAX_OPEN_BLOCKS, Obeys, Props, ReadsFrom, Refusal, Replied, Replies, Rules, State, Step, after, begin_code, begins_at, bytes_of, handed_is, handed_to, in_transaction, inside_all, is_inside, is_open, none_inside, opened, player_then, recoded, reply, stands_for, state_over, state_then}
@@ -124,9 +125,9 @@ module _ {P : Type 0} {rules : Rules P} (laws : Obeys rules) {position : List �
     state : List ℕ → State
     state m = opened (bytes_of m) t.start.arena t.start.props
 
-    pub try_replies : {new : Core} {r : Replied} → row.began ≤ new.snapshot / 2 → Replies mid call r new → ((m : List ℕ) → Agrees m new.log → Agrees m mid.log) → IsInTry rules position b (record row { calls = row.calls ++ record { call = call; reply = r } ∷ []; ran = new.actions.ran }) (rules.answered p r) new
+    pub try_replies : {new : Core} {r : Replied} (ahead : ℕ) → row.began ≤ new.snapshot / 2 → Replies mid call r new → ((m : List ℕ) → Agrees m new.log → Agrees m mid.log) → IsInTry rules position b (record row { calls = grown row.calls (record { call = call; reply = r }) ahead; ran = new.actions.ran }) (rules.answered p r) new
     unfolding begun state
-    try_replies {new} {r} began g less =
+    try_replies {new} {r} ahead began g less =
         let words : new.words ≡ mid.words = ap (λ (c : Core). c.words) g.stays in
         let revocable : new.irrevocable ≡ false = ap (λ (c : Core). c.irrevocable) g.stays ∙ g.revocable in
         record {
@@ -138,28 +139,28 @@ module _ {P : Type 0} {rules : Rules P} (laws : Obeys rules) {position : List �
           began = began;
           anew = ap (λ (c : Core). c.again) g.stays;
           ran = refl;
-          player = ap (λ (q : P). rules.answered q r) t.player ∙ sym (player_snoc rules.answered begun row.calls (record { call = call; reply = r }));
+          player = ap (λ (q : P). rules.answered q r) t.player ∙ sym (player_snoc rules.answered begun row.calls.list (record { call = call; reply = r }));
           alone = λ m mem reads.
               (let memory : IsMemory mid.words m = subst (λ (n : ℕ). IsMemory n m) words mem in
               let agrees : Agrees m new.log = reads_agree position new.irrevocable new.log m revocable reads in
               let old = less m agrees in
               let stands = t.stands g.revocable m memory old in
-              let replied : r ≡ reply MAX_OPEN_BLOCKS (state_then MAX_OPEN_BLOCKS (state m) row.calls) call =
+              let replied : r ≡ reply MAX_OPEN_BLOCKS (state_then MAX_OPEN_BLOCKS (state m) row.calls.list) call =
               g.reply_is m memory agrees ∙ (ap (λ (a : Bool). recoded call a (reply MAX_OPEN_BLOCKS (stands_for mid m) call)) t.anew
               ∙ (told_plainly call (reply MAX_OPEN_BLOCKS (stands_for mid m) call) ∙ ap (λ (s : State). reply MAX_OPEN_BLOCKS s call) stands)) in
-              alone_more laws begun p (state m) row.calls (record { call = call; reply = r }) (t.alone m memory (agree_reads position mid.irrevocable mid.log m g.revocable old)) (ap is_open (sym stands) ∙ stands_open mid m inside) t.player asks replied);
+              alone_more laws begun p (state m) row.calls.list (record { call = call; reply = r }) (t.alone m memory (agree_reads position mid.irrevocable mid.log m g.revocable old)) (ap is_open (sym stands) ∙ stands_open mid m inside) t.player asks replied);
           stands = λ e m mem agrees.
               (let memory : IsMemory mid.words m = subst (λ (n : ℕ). IsMemory n m) words mem in
-              g.meets m memory agrees ∙ (ap (λ (s : State). after MAX_OPEN_BLOCKS s call) (t.stands g.revocable m memory (less m agrees)) ∙ sym (state_snoc MAX_OPEN_BLOCKS (state m) row.calls (record { call = call; reply = r }))));
+              g.meets m memory agrees ∙ (ap (λ (s : State). after MAX_OPEN_BLOCKS s call) (t.stands g.revocable m memory (less m agrees)) ∙ sym (state_snoc MAX_OPEN_BLOCKS (state m) row.calls.list (record { call = call; reply = r }))));
         }
 
     -- of a transaction that is irrevocable then, by the memory of its position
-    pub try_holds : {new : Core} {r : Replied} → row.began ≤ new.snapshot / 2 → new.words ≡ mid.words → new.irrevocable ≡ true → new.again ≡ false → IsAlone rules MAX_OPEN_BLOCKS (rules.answered t.start.player (begin_code b.again)) (opened (bytes_of position) t.start.arena t.start.props) row.calls
-        → is_open (state_then MAX_OPEN_BLOCKS (opened (bytes_of position) t.start.arena t.start.props) row.calls) ≡ true
-        → r ≡ reply MAX_OPEN_BLOCKS (state_then MAX_OPEN_BLOCKS (opened (bytes_of position) t.start.arena t.start.props) row.calls) call
-        → IsInTry rules position b (record row { calls = row.calls ++ record { call = call; reply = r } ∷ []; ran = new.actions.ran }) (rules.answered p r) new
+    pub try_holds : {new : Core} {r : Replied} (ahead : ℕ) → row.began ≤ new.snapshot / 2 → new.words ≡ mid.words → new.irrevocable ≡ true → new.again ≡ false → IsAlone rules MAX_OPEN_BLOCKS (rules.answered t.start.player (begin_code b.again)) (opened (bytes_of position) t.start.arena t.start.props) row.calls.list
+        → is_open (state_then MAX_OPEN_BLOCKS (opened (bytes_of position) t.start.arena t.start.props) row.calls.list) ≡ true
+        → r ≡ reply MAX_OPEN_BLOCKS (state_then MAX_OPEN_BLOCKS (opened (bytes_of position) t.start.arena t.start.props) row.calls.list) call
+        → IsInTry rules position b (record row { calls = grown row.calls (record { call = call; reply = r }) ahead; ran = new.actions.ran }) (rules.answered p r) new
     unfolding begun state
-    try_holds {new} {r} began words holds anew made still_open replied =
+    try_holds {new} {r} ahead began words holds anew made still_open replied =
         let last : Entry = record { call = call; reply = r } in
         record {
           start = t.start;
@@ -170,10 +171,10 @@ module _ {P : Type 0} {rules : Rules P} (laws : Obeys rules) {position : List �
           began = began;
           anew = anew;
           ran = refl;
-          player = ap (λ (q : P). rules.answered q r) t.player ∙ sym (player_snoc rules.answered begun row.calls last);
+          player = ap (λ (q : P). rules.answered q r) t.player ∙ sym (player_snoc rules.answered begun row.calls.list last);
           alone = λ m mem reads.
               (let here : m ≡ position = subst (λ (x : Bool). ReadsFrom x position new.log m) holds reads in
-              subst (λ (x : List ℕ). IsAlone rules MAX_OPEN_BLOCKS begun (state x) (row.calls ++ last ∷ [])) (sym here) (alone_more laws begun p (state position) row.calls last made still_open t.player asks replied));
+              subst (λ (x : List ℕ). IsAlone rules MAX_OPEN_BLOCKS begun (state x) (row.calls.list ++ last ∷ [])) (sym here) (alone_more laws begun p (state position) row.calls.list last made still_open t.player asks replied));
           stands = λ revocable. absurd (true≢false (sym holds ∙ revocable));
         }
 
@@ -181,19 +182,19 @@ module _ {P : Type 0} (rules : Rules P) (position : List ℕ) where
   -- ## A begin is accepted
 
   module _ (b : Between P) (row : Attempt) (p : P) (mid new : Core) (props : Props) (room : ℕ) (r : Replied) (comes : begins_at rules b ≡ Some (record { player = p; arena = mid.arena; props = row.props }))
-      (row_arena : row.arena ≡ mid.arena) (row_props : row.props ≡ props) (row_calls : row.calls ≡ []) (row_ran : row.ran ≡ []) (tries : b.tries < row.nth) (outside : in_transaction mid ≡ false) (empty : mid.writes ≡ []) (again : mid.again ≡ b.again)
+      (row_arena : row.arena ≡ mid.arena) (row_props : row.props ≡ props) (row_calls : row.calls.list ≡ []) (row_ran : row.ran ≡ []) (tries : b.tries < row.nth) (outside : in_transaction mid ≡ false) (empty : mid.writes ≡ []) (again : mid.again ≡ b.again)
       (began : row.began ≤ new.snapshot / 2) (revocable : mid.irrevocable ≡ false) where
-    made_none : (m : List ℕ) → IsAlone rules MAX_OPEN_BLOCKS (rules.answered p (begin_code b.again)) (opened (bytes_of m) mid.arena row.props) row.calls
+    made_none : (m : List ℕ) → IsAlone rules MAX_OPEN_BLOCKS (rules.answered p (begin_code b.again)) (opened (bytes_of m) mid.arena row.props) row.calls.list
     made_none m = subst (λ (xs : List Entry). IsAlone rules MAX_OPEN_BLOCKS (rules.answered p (begin_code b.again)) (opened (bytes_of m) mid.arena row.props) xs) (sym row_calls) tt
 
-    player_so : r ≡ begin_code b.again → rules.answered p r ≡ player_then rules.answered (rules.answered p (begin_code b.again)) row.calls
+    player_so : r ≡ begin_code b.again → rules.answered p r ≡ player_then rules.answered (rules.answered p (begin_code b.again)) row.calls.list
     player_so entered = ap (rules.answered p) entered ∙ ap (λ (xs : List Entry). player_then rules.answered (rules.answered p (begin_code b.again)) xs) (sym row_calls)
 
     ran_so : r ≡ begin_code b.again → row.ran ≡ (actions_after mid (Begin props room) r).ran
     ran_so entered = row_ran ∙ sym (ap (λ (a : Actions). a.ran) (ap (actions_after mid (Begin props room)) entered) ∙ ap (λ (w : Bool). (if w then mid.actions else record mid.actions { ran = [] }).ran) outside)
 
     -- the plain state then
-    pub begin_leaves : (m : List ℕ) → refusal MAX_OPEN_BLOCKS (outside_of mid m) (Begin props room) ≡ None → after MAX_OPEN_BLOCKS (stands_for mid m) (Begin props room) ≡ state_then MAX_OPEN_BLOCKS (opened (bytes_of m) mid.arena row.props) row.calls
+    pub begin_leaves : (m : List ℕ) → refusal MAX_OPEN_BLOCKS (outside_of mid m) (Begin props room) ≡ None → after MAX_OPEN_BLOCKS (stands_for mid m) (Begin props room) ≡ state_then MAX_OPEN_BLOCKS (opened (bytes_of m) mid.arena row.props) row.calls.list
     begin_leaves m none =
         ap (λ (s : State). after MAX_OPEN_BLOCKS s (Begin props room)) (stands_outside mid outside revocable m)
         ∙ (ap (λ (o : Option Refusal). after_unless o (outside_of mid m) (opened (bytes_of (overlay m mid.writes)) mid.arena props)) none

@@ -1,4 +1,5 @@
 -- One actor's work leaves the others' attempts.
+use Rattle.tx_attempts.specs.Kept.{spent}
 use Rattle.itm_types.specs.declared.call.Ran.{Ran}
 use Rattle.std.proofs.Common.{Vec, Global, inl, inr, ◌≡◌, ℕ, ◌-◌, Bool, true, false, ◌+◌, ◌≤◌, subst, arith, List, [], ◌∷◌, ◌++◌, None, Some, refl, sym, ap, ◌∙◌, append_assoc, nat_lt, Option}
 use Rattle.norec_world.proofs.Common.{Actor, AllOf, AreFrom, Attempt, ChangesOwn, CountsTry, Ended, GaveUp, HasRow, KeepsOthers, Outcome, Rows, StopsAt, StopsIf, active_of, append-nil, cases_Bool, cond_both, count_pending, is_of, retried, with_changed, with_ended, with_opened}
@@ -89,7 +90,7 @@ module _ {P : Type 0} where
       let is = stops row.0 row.1 in
       record {
         thread = thread;
-        own = own_ended a.thread (record row.0 { at = at; ran = ran; outcome = outcome }) r r' (row_is_of a.thread r.active row.0 row.1) is;
+        own = own_ended a.thread (record row.0 { calls = spent row.0.calls; at = at; ran = ran; outcome = outcome }) r r' (row_is_of a.thread r.active row.0 row.1) is;
         room = λ k few l. (let nothing : count_pending a'.pending ≡ 0 = ap count_pending none in let roomy = ap (λ (y : Rows). y.room) is in omega arith);
       }
   others_stopped a a' r r' false at outcome ran row thread none is = record {
@@ -111,6 +112,6 @@ module _ {P : Type 0} where
   -- memory was refused: an irrevocable attempt stays
   pub others_starved : (a a' : Actor P) (r r' : Rows) (is_open irrevocable : Bool) (at : ℕ) (outcome : Outcome) (ran : List Ran) → HasRow is_open r a.thread → a'.thread ≡ a.thread → a'.pending ≡ a.pending
       → (is_open ≡ true → irrevocable ≡ false → StopsAt a.thread r at outcome ran r') → (is_open ≡ false → r' ≡ r) → (irrevocable ≡ true → r' ≡ r) → KeepsOthers a r a' r'
-  others_starved a a' r r' true false at outcome ran row thread pending stops none held = others_ended a a' r r' row.0 (record row.0 { at = at; ran = ran; outcome = outcome }) row.1 refl thread pending (stops refl refl row.0 row.1)
+  others_starved a a' r r' true false at outcome ran row thread pending stops none held = others_ended a a' r r' row.0 (record row.0 { calls = spent row.0.calls; at = at; ran = ran; outcome = outcome }) row.1 refl thread pending (stops refl refl row.0 row.1)
   others_starved a a' r r' true true at outcome ran row thread pending stops none held = others_still a a' r r' thread pending (held refl)
   others_starved a a' r r' false irrevocable at outcome ran row thread pending stops none held = others_still a a' r r' thread pending (none refl)

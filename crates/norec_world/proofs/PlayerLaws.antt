@@ -1,12 +1,10 @@
 -- The player's laws, over one answer: its depth, where it goes back to, and how much is left to do; and what comes of the answer once it is recorded.
 use Rattle.itm_types.specs.declared.call.Ran.{Ran}
-use Rattle.std.proofs.Common.{◌&&◌, ◌≡◌, ℕ, ◌+◌, ◌*◌, ◌<◌, ◌≤◌, Bool, true, false, Some, refl, ap, subst, ◌∙◌, arith, if◌then◌else◌, ◌-◌, nat_lt, [], Option, None, is_some, sym, Vec, Global, ltb-false, List, length, ◌∷◌, drop, length-drop}
-use Rattle.std.proofs.Math.Nat.{mul-le-mul_right}
-use Rattle.norec_world.proofs.Common.{Actor, Attempt, Begin, Call, Code, Commit, Done, End, Ended, Entry, Falls, GaveUp, HasRow, IsAnswered, IsKept, IsNested, IsSettledBy, Obeys, Replied, Reply, RestsAs, Rows, Rules, Status, active_of, depth_after, in_transaction, is_begin, is_inside, ne_eqb, cond_both, Core, opens, retried, whole, Answer}
+use Rattle.std.proofs.Common.{◌≡◌, ℕ, ◌+◌, ◌*◌, ◌<◌, ◌≤◌, Bool, true, false, Some, refl, ap, subst, ◌∙◌, arith, if◌then◌else◌, ◌-◌, nat_lt, [], Option, None, is_some, sym, Vec, Global, ltb-false, List, length, ◌∷◌, drop, length-drop}
+use Rattle.norec_world.proofs.Common.{Actor, Attempt, Begin, Call, Code, Commit, Done, End, Ended, Entry, Falls, GaveUp, HasRow, IsAnswered, IsKept, IsNested, IsSettledBy, Obeys, Replied, Reply, RestsAs, Rows, Rules, Status, active_of, depth_after, in_transaction, is_begin, is_inside, cond_both, Core, retried, whole, Answer}
 use Rattle.norec_world.specs.Sound.{tries_left}
 use Rattle.tx_runs.specs.Nesting.{IsDeep}
 use Rattle.tx_runs.proofs.Players.{Played, block_same, plays, rank_less, rank_same}
-use Rattle.tx_player.specs.Depth.{is_code}
 use Rattle.nest_frames.specs.Nest.{Frame, closed, logged}
 use Rattle.itm_types.specs.declared.call.Call.TheVariants.{Abort, Log, LogBytes}
 use Rattle.undo_log.specs.Rollback.{Old}

@@ -1,5 +1,5 @@
 -- What stands in the rows of attempts, after an answer.
-use Rattle.std.proofs.Common.{is_some, Option, inl, inr, None, Some, sym, subst, ◌≡◌, ℕ, ◌&&◌, Bool, true, false, List, [], ◌∷◌, length, refl, ap, ◌∙◌, arith, ◌<◌}
+use Rattle.std.proofs.Common.{is_some, Option, inl, inr, None, Some, sym, subst, ◌≡◌, ℕ, ◌&&◌, Bool, true, false, List, [], ◌∷◌, refl, ap, ◌∙◌, arith, ◌<◌}
 use Rattle.tx_player.specs.Depth.{is_code}
 use Rattle.norec_world.proofs.ActiveRows.{opened_here, changed_here}
 use Rattle.norec_world.proofs.Common.{Actor, Attempt, Call, HasRow, IsKept, Replied, Rows, Rules, Status, StatusIs, Unfinished, active_of, cases_Bool, changed, depth_after, in_transaction, is_begin, is_of, opens, with_changed, with_ended, with_opened, without}
@@ -91,4 +91,4 @@ module _ {P : Type 0} (rules : Rules P)
 
   pub told_status : (status : Status) → StatusIs rules r a status → StatusIs rules r' a status
   told_status status s =
-      status_as rules r r' a (λ row e l. (let same : r'.room ≡ r.room = ap (λ (x : Rows). x.room) is in omega arith)) (λ row e. (had.0, had.1, ap length (told_calls row e))) status s
+      status_as rules r r' a (λ row e l. (let same : r'.room ≡ r.room = ap (λ (x : Rows). x.room) is in omega arith)) (λ row e. (had.0, had.1, told_calls row e)) status s

@@ -1,4 +1,5 @@
 -- An actor's run, once an answer is recorded.
+use Rattle.tx_attempts.specs.Kept.{grown}
 use Rattle.std.proofs.Common.{◌≡◌, ℕ, ◌/◌, ◌%◌, ◌≤◌, Bool, true, List, [], ◌∷◌, ◌++◌, Option, Some, refl, sym, true≢false, ap, subst, ◌∙◌, arith, inl, inr}
 use Rattle.norec_world.proofs.Common.{Actor, Agrees, Answers, Attempt, Between, Call, Cells, Core, Enters, IsBeforeTry, IsInTry, IsMemory, IsRun, IsRunOf, IsTied, IsTryAt, LeadsTo, MAX_OPEN_BLOCKS, Obeys, RecordsReply, Replied, RepliesHeld, Reply, Rows, Rules, State, Status, active_of, after_try, alone, begins_at, bytes_at, bytes_of, in_transaction, is_open, of_thread, recoded, reply_cases, run_after, stands_for, words_at}
 use Rattle.norec_world.proofs.ActiveRows.{changed_here}
@@ -57,13 +58,13 @@ module _ {P : Type 0} {rules : Rules P} (laws : Obeys rules) {first : Between P}
 
   module _ (reply : Replied) (m : HasAnswered rules true cells cells' r r1 mid a last call (Reply reply)) (held : HasHeld base cells cells' r a.thread mid a.engine call (Answers (Reply reply))) (opened : in_transaction last.engine ≡ true) where
     with_call : Attempt → Attempt
-    with_call x = record x { calls = x.calls ++ record { call = call; reply = reply } ∷ []; ran = last.engine.actions.ran }
+    with_call x = record x { calls = grown x.calls (record { call = call; reply = reply }) a.ahead; ran = last.engine.actions.ran }
 
     half : cells'.clock / 2 ≡ cells.clock / 2
     half = half_same m refl
 
     abbrev Tried : Type 0
-    Tried = IsInTry rules (words_at base r.ended (cells.clock / 2)) (run.inside m.taken.was_is).0 (record (run.inside m.taken.was_is).1 { calls = (run.inside m.taken.was_is).1.calls ++ record { call = call; reply = reply } ∷ []; ran = a.engine.actions.ran }) (rules.answered a.player reply) a.engine
+    Tried = IsInTry rules (words_at base r.ended (cells.clock / 2)) (run.inside m.taken.was_is).0 (record (run.inside m.taken.was_is).1 { calls = grown (run.inside m.taken.was_is).1.calls (record { call = call; reply = reply }) a.ahead; ran = a.engine.actions.ran }) (rules.answered a.player reply) a.engine
 
     began : (run.inside m.taken.was_is).1.began ≤ a.engine.snapshot / 2
     began = (let early = (run.inside m.taken.was_is).4.began in let up = seen.up m.taken.was_is in omega arith)
@@ -76,7 +77,7 @@ module _ {P : Type 0} {rules : Rules P} (laws : Obeys rules) {first : Between P}
         let agrees : Agrees position mid.log = subst (λ (k : ℕ). Agrees (words_at base r.ended k) mid.log) same (seen.logged m.taken.was_is) in
         let made = made_so laws t (bytes_of position) position g.revocable m.taken.was_is position_fits refl agrees in
         let stands = stands_led laws t (bytes_of position) position g.revocable m.taken.was_is position_fits refl agrees in
-        try_holds laws t m.taken.was_is m.answered.in_call.asks began (ap (λ (c : Core). c.words) g.stays) (ap (λ (c : Core). c.irrevocable) g.stays) (ap (λ (c : Core). c.again) g.stays) made.alone made.still_open
+        try_holds laws t m.taken.was_is m.answered.in_call.asks a.ahead began (ap (λ (c : Core). c.words) g.stays) (ap (λ (c : Core). c.irrevocable) g.stays) (ap (λ (c : Core). c.again) g.stays) made.alone made.still_open
         (g.reply_is position ∙ (ap (λ (w : Bool). recoded call w (plainly MAX_OPEN_BLOCKS (stands_for mid position) call)) t.anew ∙ (told_plainly call (plainly MAX_OPEN_BLOCKS (stands_for mid position) call) ∙ ap (λ (s : State). plainly MAX_OPEN_BLOCKS s call) stands)))
 
     -- once it is
@@ -88,12 +89,12 @@ module _ {P : Type 0} {rules : Rules P} (laws : Obeys rules) {first : Between P}
         let alone_is = alone_led laws (of_block t) (bytes_of position) in
         let open_now : is_open (alone MAX_OPEN_BLOCKS (bytes_of position) row) ≡ true = ap (λ (bytes : List ℕ). is_open (alone MAX_OPEN_BLOCKS bytes row)) position_bytes ∙ held.still_open g.irrevocable row active in
         let made = made_held laws t (bytes_of position) g.irrevocable position_fits refl open_now in
-        try_holds laws t m.taken.was_is m.answered.in_call.asks began (ap (λ (c : Core). c.words) g.stays) (ap (λ (c : Core). c.irrevocable) g.stays ∙ g.irrevocable) (ap (λ (c : Core). c.again) g.stays) made.alone made.still_open
+        try_holds laws t m.taken.was_is m.answered.in_call.asks a.ahead began (ap (λ (c : Core). c.words) g.stays) (ap (λ (c : Core). c.irrevocable) g.stays ∙ g.irrevocable) (ap (λ (c : Core). c.again) g.stays) made.alone made.still_open
         ((held.comes g.irrevocable row active).1 ∙ (ap (λ (bytes : List ℕ). plainly MAX_OPEN_BLOCKS (alone MAX_OPEN_BLOCKS bytes row) call) (sym position_bytes) ∙ ap (λ (s : State). plainly MAX_OPEN_BLOCKS s call) alone_is))
 
     now_tried : Tried
     now_tried = elim (reply_cases mid a.engine call reply m.taken.doing m.ends) [
-      | inl g ↦ try_replies laws (run.inside m.taken.was_is).4 m.taken.was_is m.answered.in_call.asks began g (seen.fewer (ap in_transaction (sym m.settled.engine) ∙ opened) (ap (λ (c : Core). c.irrevocable) g.stays ∙ g.revocable))
+      | inl g ↦ try_replies laws (run.inside m.taken.was_is).4 m.taken.was_is m.answered.in_call.asks a.ahead began g (seen.fewer (ap in_transaction (sym m.settled.engine) ∙ opened) (ap (λ (c : Core). c.irrevocable) g.stays ∙ g.revocable))
       | inr (inl g) ↦ entered_try g
       | inr (inr g) ↦ held_try g
     ]
@@ -112,8 +113,8 @@ module _ {P : Type 0} {rules : Rules P} (laws : Obeys rules) {first : Between P}
             (λ i. now_at rules first base (ended i) (m.settled.thread i)) ∙ t.2,
             ap (λ (k : ℕ). active_of k r1.active) m.settled.thread ∙ (ap (λ (x : Rows). active_of a.thread x.active) told.0 ∙ changed_here a.thread with_call r.active t.1 (λ x. refl) t.3),
             subst (λ (xs : List Attempt). IsInTry rules (words_at base xs (cells.clock / 2)) t.0 row last.player last.engine) (sym ended)
-                (subst (λ (c : Core). IsInTry rules position t.0 (record t.1 { calls = t.1.calls ++ record { call = call; reply = reply } ∷ []; ran = c.actions.ran }) last.player c) (sym m.settled.engine)
-                (subst (λ (q : P). IsInTry rules position t.0 (record t.1 { calls = t.1.calls ++ record { call = call; reply = reply } ∷ []; ran = a.engine.actions.ran }) q a.engine) (sym told.1) now_tried)),
+                (subst (λ (c : Core). IsInTry rules position t.0 (record t.1 { calls = grown t.1.calls (record { call = call; reply = reply }) a.ahead; ran = c.actions.ran }) last.player c) (sym m.settled.engine)
+                (subst (λ (q : P). IsInTry rules position t.0 (record t.1 { calls = grown t.1.calls (record { call = call; reply = reply }) a.ahead; ran = a.engine.actions.ran }) q a.engine) (sym told.1) now_tried)),
             told.2 ∙ t.5,
             t.6 ∙ sym told.3,
           );

@@ -204,7 +204,7 @@ module _ {P : Type 0} {rules : Rules P} (laws : Obeys rules) {first : Between P}
               ap (stands_for a.engine) words
                   ∙ (g'.meets position fits nothing
                   ∙ (leaves
-                  ∙ ((ap (λ (bytes : List ℕ). state_then MAX_OPEN_BLOCKS (opened bytes mid.arena row'.props) row'.calls) (same_at seen (cells.clock / 2) l) ∙ ap (λ (arena : List ℕ). state_then MAX_OPEN_BLOCKS (opened (bytes_at base r.ended (cells.clock / 2)) arena row'.props) row'.calls) (sym p.1)) ∙ ap (alone MAX_OPEN_BLOCKS (bytes_at base r.ended (cells.clock / 2))) same))),
+                  ∙ ((ap (λ (bytes : List ℕ). state_then MAX_OPEN_BLOCKS (opened bytes mid.arena row'.props) row'.calls.list) (same_at seen (cells.clock / 2) l) ∙ ap (λ (arena : List ℕ). state_then MAX_OPEN_BLOCKS (opened (bytes_at base r.ended (cells.clock / 2)) arena row'.props) row'.calls.list) (sym p.1)) ∙ ap (alone MAX_OPEN_BLOCKS (bytes_at base r.ended (cells.clock / 2))) same))),
               ap (λ (x : Attempt). x.ran) (sym same) ∙ try.ran,
             )
 

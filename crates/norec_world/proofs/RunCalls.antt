@@ -1,12 +1,13 @@
 -- An actor's run over a call, up to its first step, and over a step.
+use Rattle.tx_attempts.specs.Kept.{grown}
 use Rattle.norec_world.proofs.LaterActions.{given_up_as}
-use Rattle.std.proofs.Common.{◌≡◌, ℕ, ◌/◌, ◌≤◌, ◌&&◌, Bool, true, false, not, List, [], ◌∷◌, ◌++◌, Some, refl, sym, true≢false, ap, subst, ◌∙◌, arith, None, inl, inr}
+use Rattle.std.proofs.Common.{unwrap_or, ◌≡◌, ℕ, ◌/◌, ◌≤◌, ◌&&◌, Bool, true, false, not, List, [], ◌++◌, Some, refl, sym, true≢false, ap, subst, ◌∙◌, arith, None, inl, inr}
 use Rattle.std.proofs.lemmas.Bool.{and_right, not_from_true}
 use Rattle.norec_world.proofs.Common.{Actor, Agrees, Answer, AreCounted, AreLaid, Attempt, Begin, Between, Call, Cells, Commit, Core, Ended, HasRow, IsBeforeTry, IsDone, IsHeld, IsInTry, IsRun, IsRunOf, IsSound, IsTold, LeadsTo, MAX_OPEN_BLOCKS, Next, Obeys, Props, Ready, Reply, Rows, Rules, RunsFrom, Sees, Starves, Status, Step, Tells, active_of, asked_pending, begins_again, begins_at, bytes_at, cases_Bool, cond-false, cond-true, ending_of, found, handed_is, handed_to, in_transaction, is_inside, of_thread, run_after, words_at, RecordsReply}
 use Rattle.tx_attempts.specs.declared.attempt.Outcome.TheVariants as outcomes
 use Rattle.tx_runs.specs.declared.ending.End.TheVariants as ends
 use Rattle.norec_world.proofs.ActiveRows.{changed_here, row_from}
-use Rattle.norec_core.specs.Core.{may_go, rolled_back}
+use Rattle.norec_core.specs.Core.{goes, may_go, rolled_back}
 use Rattle.norec_core.specs.Proceeds.{IsSettled}
 use Rattle.norec_core.specs.declared.phase.Phase.TheVariants.{Idle}
 use Rattle.norec_world.proofs.SoundSteps.{IsCalling, active_same, call_taken, ended_same, mid, rests, IsStepping, mid_step, same, step_taken, waits}
@@ -47,14 +48,14 @@ module _ {P : Type 0} {rules : Rules P} (laws : Obeys rules) {cells : Cells} {r0
     (first : Between P) (base : List ℕ) (laid : AreLaid base cells r0) (runs : RunsFrom rules first base cells r0 old) where
   -- the attempt that is to be opened then
   fresh_pending : (b : Between P) → IsBeforeTry rules (cells.clock / 2) b old → in_transaction old.engine ≡ false → (c : Call) → c ≡ call → (row : Attempt) → asked_pending false cells.clock old c ≡ Some row
-      → (row.began ≤ cells.clock / 2) × (row.arena ≡ old.engine.arena) × (row.calls ≡ []) × (row.ran ≡ []) × (may_go [] row.props ≡ true → begins_at rules b ≡ Some (record { player = a.player; arena = old.engine.arena; props = row.props })) × ((mid m).again ≡ b.again)
+      → (row.began ≤ cells.clock / 2) × (row.arena ≡ old.engine.arena) × (row.calls.list ≡ []) × (row.ran ≡ []) × (may_go [] row.props ≡ true → begins_at rules b ≡ Some (record { player = a.player; arena = old.engine.arena; props = row.props })) × ((mid m).again ≡ b.again)
   fresh_pending b k o (Begin props room) is row e =
-      let made : record { thread = old.thread; nth = old.nth; began = cells.clock / 2; at = 0; props = props; arena = old.engine.arena; calls = []; ran = []; outcome = outcomes.Unfinished } ≡ row = cc in
+      let made : record { thread = old.thread; nth = old.nth; began = cells.clock / 2; at = 0; props = props; arena = old.engine.arena; calls = record { list = []; room = unwrap_or (goes old.engine (Begin props room)) 0 }; ran = []; outcome = outcomes.Unfinished } ≡ row = cc in
       let asks : rules.next_call old.player ≡ Some (Begin props room) = ap rules.next_call (sym m.asked.same.player) ∙ (m.asked.in_call.asks ∙ ap (λ (c : Call). Some c) (sym is)) in
       let same : props ≡ row.props = ap (λ (x : Attempt). x.props) made in (
         (let began = ap (λ (x : Attempt). x.began) made in omega arith),
         ap (λ (x : Attempt). x.arena) (sym made),
-        ap (λ (x : Attempt). x.calls) (sym made),
+        ap (λ (x : Attempt). x.calls.list) (sym made),
         ap (λ (x : Attempt). x.ran) (sym made),
         λ may. led_before rules laws k ∙ (begin_here rules laws old.player old.engine.arena props room asks (may_begin old.engine.arena props room (subst (λ (x : Props). may_go [] x ≡ true) (sym same) may)) ∙ (λ i. Some (record { player = (sym m.asks.player) i; arena = old.engine.arena; props = same i }))),
         (λ i. begins_again (o i) old.again (sym is i) && not (o i)) ∙ (and-true old.again ∙ k.again),
@@ -111,7 +112,7 @@ module _ {P : Type 0} {rules : Rules P} (laws : Obeys rules) {cells : Cells} {r0
       by_answer true (Reply reply) was t now row f =
           let x = run_came.inside was in
           let told = subst (λ (o : Bool). RecordsReply rules true o r r1 a last call reply) (ap in_transaction t.settled.engine ∙ now) t.told in
-          let with_call : Attempt → Attempt = λ x. record x { calls = x.calls ++ record { call = call; reply = reply } ∷ []; ran = last.engine.actions.ran } in
+          let with_call : Attempt → Attempt = λ x. record x { calls = grown x.calls (record { call = call; reply = reply }) a.ahead; ran = last.engine.actions.ran } in
           let here : active_of last.thread r1.active ≡ Some (with_call x.1) =
           ap (λ (k : ℕ). active_of k r1.active) t.settled.thread ∙ (ap (λ (x : Rows). active_of a.thread x.active) told.0 ∙ changed_here a.thread with_call r.active x.1 (λ x. refl) x.3) in
           let same : with_call x.1 ≡ row = (let z : Some (with_call x.1) ≡ Some row = sym here ∙ f in cc) in

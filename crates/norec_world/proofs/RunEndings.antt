@@ -1,4 +1,5 @@
 -- An actor's run, once its attempt has ended.
+use Rattle.tx_attempts.specs.Kept.{grown, spent}
 use Rattle.std.proofs.Common.{◌≡◌, ℕ, ◌/◌, ◌≤◌, Bool, true, false, if◌then◌else◌, List, [], ◌∷◌, ◌++◌, map, Option, Some, refl, sym, true≢false, ap, subst, ◌∙◌, arith, inl, inr}
 use Rattle.norec_world.proofs.Common.{Actor, Agrees, Answers, Attempt, Between, Call, Cells, Code, Commit, Committed, Conflict, ConflictsIn, Core, Done, EndsAs, Entry, Full, Next, IsMemory, IsRun, LacksClock, MAX_OPEN_BLOCKS, Obeys, Outcome, Replied, Replies, RecordsReply, Reply, Rows, Rules, State, StopsAt, after, after_try, alone, answered_all, backed, begin_code, bytes_at, bytes_of, cases_Bool, ending_of, false_from_ne_true, follows, in_transaction, is_done, is_open, opened, recoded, stands_for, state_then, takes_clock, words_at, words_of}
 use Rattle.itm_model.specs.Machine.{undone, reply as plainly}
@@ -22,7 +23,7 @@ use Rattle.norec_world.proofs.OpenEngines.{stands_open}
 use Rattle.norec_world.proofs.Taken.{HasAnswered}
 use Rattle.norec_world.proofs.TryEnds.{none_pending, none_retried, next_try, plain_reply}
 use Rattle.tx_runs.proofs.PlainCalls.{commit_reply}
-use Rattle.tx_runs.proofs.Tries.{IsMadeAlone, alone_led, closing_left, lacks_clock, try_closes, try_stops}
+use Rattle.tx_runs.proofs.Tries.{IsMadeAlone, alone_led, closing_left, lacks_clock, try_closes, try_of_room, try_stops}
 use Rattle.norec_world.proofs.TryOutcomes.{made_held, made_so, of_block, stands_led}
 
 module _ {P : Type 0} {rules : Rules P} (laws : Obeys rules) {first : Between P} {base : List ℕ} {cells cells' : Cells} {r : Rows} (r1 : Rows) {mid : Core} (a last : Actor P) (call : Call)
@@ -30,7 +31,7 @@ module _ {P : Type 0} {rules : Rules P} (laws : Obeys rules) {first : Between P}
     (n' : ℕ) (later : cells.clock / 2 ≤ n') (still : (k : ℕ) → k ≤ cells.clock / 2 → bytes_at base r1.ended k ≡ bytes_at base r.ended k) (inside : in_transaction mid ≡ true) where
   -- the plain state that its calls so far lead to from these bytes
   abbrev led : List ℕ → State
-  led memory = state_then MAX_OPEN_BLOCKS (opened memory (run.inside inside).4.start.arena (run.inside inside).4.start.props) (run.inside inside).1.calls
+  led memory = state_then MAX_OPEN_BLOCKS (opened memory (run.inside inside).4.start.arena (run.inside inside).4.start.props) (run.inside inside).1.calls.list
 
   -- ## By its commit
 
@@ -46,7 +47,7 @@ module _ {P : Type 0} {rules : Rules P} (laws : Obeys rules) {first : Between P}
 
     -- the attempt as it ends
     abbrev ended_row : Attempt
-    ended_row = record (run.inside inside).1 { calls = (run.inside inside).1.calls ++ record { call = call; reply = Done } ∷ []; at = at; ran = a.engine.actions.ran; outcome = if wrote then outcomes.Committed else outcomes.ReadOnly }
+    ended_row = record (run.inside inside).1 { calls = spent (grown (run.inside inside).1.calls (record { call = call; reply = Done }) 0); at = at; ran = a.engine.actions.ran; outcome = if wrote then outcomes.Committed else outcomes.ReadOnly }
 
     -- a writer's commit is at the position of the clock
     here_now : wrote ≡ true → at ≡ cells.clock / 2
@@ -107,37 +108,38 @@ module _ {P : Type 0} {rules : Rules P} (laws : Obeys rules) {first : Between P}
     ran_so true = ap (λ (x : Actions). x.ran) parts.0.actions_is
     ran_so false = ap (λ (x : Actions). x.ran) parts.0.actions_is
 
-    by_commit : (w : Bool) → ClosedBy (if w then outcomes.Committed else outcomes.ReadOnly) ((run.inside inside).1.calls ++ record { call = call; reply = Done } ∷ [])
-    by_commit true = ((run.inside inside).1.calls, (λ i. (run.inside inside).1.calls ++ record { call = m.answered.fits.2 i; reply = Done } ∷ []))
-    by_commit false = ((run.inside inside).1.calls, (λ i. (run.inside inside).1.calls ++ record { call = m.answered.fits.2 i; reply = Done } ∷ []))
+    by_commit : (w : Bool) → ClosedBy (if w then outcomes.Committed else outcomes.ReadOnly) ((run.inside inside).1.calls.list ++ record { call = call; reply = Done } ∷ [])
+    by_commit true = ((run.inside inside).1.calls.list, (λ i. (run.inside inside).1.calls.list ++ record { call = m.answered.fits.2 i; reply = Done } ∷ []))
+    by_commit false = ((run.inside inside).1.calls.list, (λ i. (run.inside inside).1.calls.list ++ record { call = m.answered.fits.2 i; reply = Done } ∷ []))
 
     never_full : (w : Bool) → (if w then outcomes.Committed else outcomes.ReadOnly) ≡ outcomes.Full → ⊥
     never_full true e = cc
     never_full false e = cc
 
-    pub commit_ended : r1.ended ≡ r.ended ++ record (run.inside inside).1 { calls = (run.inside inside).1.calls ++ record { call = call; reply = Done } ∷ []; at = at; ran = a.engine.actions.ran; outcome = if wrote then outcomes.Committed else outcomes.ReadOnly } ∷ []
+    pub commit_ended : r1.ended ≡ r.ended ++ record (run.inside inside).1 { calls = spent (grown (run.inside inside).1.calls (record { call = call; reply = Done }) 0); at = at; ran = a.engine.actions.ran; outcome = if wrote then outcomes.Committed else outcomes.ReadOnly } ∷ []
     commit_ended =
         ap (λ (x : Rows). x.ended) (m.told.0 (run.inside inside).1 (run.inside inside).3)
-        ∙ ap (λ (x : List Ran). r.ended ++ record (run.inside inside).1 { calls = (run.inside inside).1.calls ++ record { call = call; reply = Done } ∷ []; at = at; ran = x; outcome = if wrote then outcomes.Committed else outcomes.ReadOnly } ∷ [])
+        ∙ ap (λ (x : List Ran). r.ended ++ record (run.inside inside).1 { calls = spent (grown (run.inside inside).1.calls (record { call = call; reply = Done }) 0); at = at; ran = x; outcome = if wrote then outcomes.Committed else outcomes.ReadOnly } ∷ [])
         (ap (λ (c : Core). c.actions.ran) m.settled.engine)
 
-    commit_left : alone MAX_OPEN_BLOCKS (bytes_at base r1.ended at) (record (run.inside inside).1 { calls = (run.inside inside).1.calls ++ record { call = call; reply = Done } ∷ []; at = at; ran = a.engine.actions.ran; outcome = if wrote then outcomes.Committed else outcomes.ReadOnly })
+    commit_left : alone MAX_OPEN_BLOCKS (bytes_at base r1.ended at) (record (run.inside inside).1 { calls = spent (grown (run.inside inside).1.calls (record { call = call; reply = Done }) 0); at = at; ran = a.engine.actions.ran; outcome = if wrote then outcomes.Committed else outcomes.ReadOnly })
         ≡ after MAX_OPEN_BLOCKS (led (bytes_at base r1.ended at)) call
     commit_left = closing_left laws (of_block (run.inside inside).4) (bytes_at base r1.ended at) call Done parts.1 m.answered.in_call.asks replied at (if wrote then outcomes.Committed else outcomes.ReadOnly) a.engine.actions.ran
 
     -- what a writer leaves are the words as they are
-    pub commit_memory : wrote ≡ true → (alone MAX_OPEN_BLOCKS (bytes_at base r1.ended at) (record (run.inside inside).1 { calls = (run.inside inside).1.calls ++ record { call = call; reply = Done } ∷ []; at = at; ran = a.engine.actions.ran; outcome = if wrote then outcomes.Committed else outcomes.ReadOnly })).memory ≡ bytes_of cells'.words
+    pub commit_memory : wrote ≡ true → (alone MAX_OPEN_BLOCKS (bytes_at base r1.ended at) (record (run.inside inside).1 { calls = spent (grown (run.inside inside).1.calls (record { call = call; reply = Done }) 0); at = at; ran = a.engine.actions.ran; outcome = if wrote then outcomes.Committed else outcomes.ReadOnly })).memory ≡ bytes_of cells'.words
     commit_memory w = ap (λ (s : State). s.memory) commit_left ∙ sym (parts.0.memory_is w)
 
     pub commit_runs : IsRun rules first base n' r1 last
     commit_runs =
         let t = run.inside inside in
-        let try = try_closes laws (of_block t.4) (bytes_at base r1.ended at) call Done parts.1 m.answered.in_call.asks replied
-        n' (bytes_at base r1.ended) at (if wrote then outcomes.Committed else outcomes.ReadOnly) a.engine.actions.ran refl (let e = t.4.began in let is = m.ends.at_is in omega arith) (omega (arith, at_most, later)) (ends_so wrote refl) (by_commit wrote) (ran_so wrote) (never_full wrote) in
+        let try = try_of_room laws n' (bytes_at base r1.ended) t.0 t.4.start (record t.1 { calls = grown t.1.calls (record { call = call; reply = Done }) 0; at = at; ran = a.engine.actions.ran; outcome = if wrote then outcomes.Committed else outcomes.ReadOnly }) 0
+        (try_closes laws (of_block t.4) (bytes_at base r1.ended at) call Done parts.1 m.answered.in_call.asks replied
+        n' (bytes_at base r1.ended) at (if wrote then outcomes.Committed else outcomes.ReadOnly) a.engine.actions.ran refl (let e = t.4.began in let is = m.ends.at_is in omega arith) (omega (arith, at_most, later)) (ends_so wrote refl) (by_commit wrote) (ran_so wrote) (never_full wrote)) in
         let over = ended_run laws r1 a last call seen run n' later still inside ended_row (row_is_of a.thread r.active t.1 t.3) commit_ended m.settled.thread try in
         let arena : (alone MAX_OPEN_BLOCKS (bytes_at base r1.ended at) ended_row).arena ≡ last.engine.arena = ap (λ (x : State). x.arena) commit_left ∙ (sym parts.0.arena_is ∙ ap (λ (c : Core). c.arena) (sym m.settled.engine)) in
-        let player : answered_all rules.answered (rules.answered t.4.start.player (begin_code t.0.again)) (map (λ (x : Entry). x.reply) (t.1.calls ++ record { call = call; reply = Done } ∷ [])) ≡ last.player =
-        player_snoc rules.answered (rules.answered t.4.start.player (begin_code t.0.again)) t.1.calls (record { call = call; reply = Done }) ∙ (ap (λ (q : P). rules.answered q Done) (sym t.4.player) ∙ sym m.told.1) in
+        let player : answered_all rules.answered (rules.answered t.4.start.player (begin_code t.0.again)) (map (λ (x : Entry). x.reply) (t.1.calls.list ++ record { call = call; reply = Done } ∷ [])) ≡ last.player =
+        player_snoc rules.answered (rules.answered t.4.start.player (begin_code t.0.again)) t.1.calls.list (record { call = call; reply = Done }) ∙ (ap (λ (q : P). rules.answered q Done) (sym t.4.player) ∙ sym m.told.1) in
         record {
           run = over.0;
           inside = λ o. absurd (true≢false (sym o ∙ (ap in_transaction m.settled.engine ∙ m.answered.fits.1)));
@@ -154,7 +156,7 @@ module _ {P : Type 0} {rules : Rules P} (laws : Obeys rules) {first : Between P}
           );
         }
       where
-        follows_commit : (w : Bool) (p : P) (x : Attempt) (st : State) → follows rules MAX_OPEN_BLOCKS (if w then outcomes.Committed else outcomes.ReadOnly) p x st ≡ Some (record { player = answered_all rules.answered p (map (λ (y : Entry). y.reply) x.calls); arena = st.arena; again = false; tries = 0 })
+        follows_commit : (w : Bool) (p : P) (x : Attempt) (st : State) → follows rules MAX_OPEN_BLOCKS (if w then outcomes.Committed else outcomes.ReadOnly) p x st ≡ Some (record { player = answered_all rules.answered p (map (λ (y : Entry). y.reply) x.calls.list); arena = st.arena; again = false; tries = 0 })
         follows_commit true p x st = refl
         follows_commit false p x st = refl
 
@@ -210,20 +212,21 @@ module _ {P : Type 0} {rules : Rules P} (laws : Obeys rules) {first : Between P}
         let engine : last.engine.snapshot / 2 ≡ at_last = ap (λ (c : Core). c.snapshot / 2) m.settled.engine in
         let up = seen.up inside in
         let early = t.4.began in
-        let try = try_closes laws (of_block t.4) (bytes_at base r1.ended at_last) call reply made m.answered.in_call.asks reply_plain
+        let try = try_of_room laws n' (bytes_at base r1.ended) t.0 t.4.start (record t.1 { calls = grown t.1.calls (record { call = call; reply = reply }) 0; at = at_last; ran = a.engine.actions.ran; outcome = outcomes.Cancelled }) 0
+        (try_closes laws (of_block t.4) (bytes_at base r1.ended at_last) call reply made m.answered.in_call.asks reply_plain
         n' (bytes_at base r1.ended) at_last outcomes.Cancelled a.engine.actions.ran refl (omega arith) (omega (arith, newer, later))
         (subst (λ (s : State). (is_open (after MAX_OPEN_BLOCKS s call) ≡ false) × ((after MAX_OPEN_BLOCKS s call).wrote ≡ false)) stands ends)
-        (t.1.calls, aborts.0, (λ i. t.1.calls ++ record { call = aborts.1 i; reply = aborts.2 i } ∷ []))
-        (ap (λ (x : Actions). x.ran) (sym (stands_actions a.engine seen_words)) ∙ ap (λ (s : State). s.actions.ran) state) (λ f. absurd (cc)) in
-        let rows : r1.ended ≡ r.ended ++ record t.1 { calls = t.1.calls ++ record { call = call; reply = reply } ∷ []; at = at_last; ran = a.engine.actions.ran; outcome = outcomes.Cancelled } ∷ [] =
-        ap (λ (x : Rows). x.ended) (told.0 t.1 t.3) ∙ ap (λ (k : ℕ). r.ended ++ record t.1 { calls = t.1.calls ++ record { call = call; reply = reply } ∷ []; at = k; ran = last.engine.actions.ran; outcome = outcomes.Cancelled } ∷ []) engine
-        ∙ ap (λ (x : List Ran). r.ended ++ record t.1 { calls = t.1.calls ++ record { call = call; reply = reply } ∷ []; at = at_last; ran = x; outcome = outcomes.Cancelled } ∷ []) (ap (λ (c : Core). c.actions.ran) m.settled.engine) in
+        (t.1.calls.list, aborts.0, (λ i. t.1.calls.list ++ record { call = aborts.1 i; reply = aborts.2 i } ∷ []))
+        (ap (λ (x : Actions). x.ran) (sym (stands_actions a.engine seen_words)) ∙ ap (λ (s : State). s.actions.ran) state) (λ f. absurd (cc))) in
+        let rows : r1.ended ≡ r.ended ++ record t.1 { calls = spent (grown t.1.calls (record { call = call; reply = reply }) 0); at = at_last; ran = a.engine.actions.ran; outcome = outcomes.Cancelled } ∷ [] =
+        ap (λ (x : Rows). x.ended) (told.0 t.1 t.3) ∙ ap (λ (k : ℕ). r.ended ++ record t.1 { calls = spent (grown t.1.calls (record { call = call; reply = reply }) 0); at = k; ran = last.engine.actions.ran; outcome = outcomes.Cancelled } ∷ []) engine
+        ∙ ap (λ (x : List Ran). r.ended ++ record t.1 { calls = spent (grown t.1.calls (record { call = call; reply = reply }) 0); at = at_last; ran = x; outcome = outcomes.Cancelled } ∷ []) (ap (λ (c : Core). c.actions.ran) m.settled.engine) in
         let over = ended_run laws r1 a last call seen run n' later still inside _ (row_is_of a.thread r.active t.1 t.3) rows m.settled.thread try in
         let left = closing_left laws (of_block t.4) (bytes_at base r1.ended at_last) call reply made m.answered.in_call.asks reply_plain at_last outcomes.Cancelled a.engine.actions.ran in
-        let arena : (alone MAX_OPEN_BLOCKS (bytes_at base r1.ended at_last) (record t.1 { calls = t.1.calls ++ record { call = call; reply = reply } ∷ []; at = at_last; ran = a.engine.actions.ran; outcome = outcomes.Cancelled })).arena ≡ last.engine.arena =
+        let arena : (alone MAX_OPEN_BLOCKS (bytes_at base r1.ended at_last) (record t.1 { calls = spent (grown t.1.calls (record { call = call; reply = reply }) 0); at = at_last; ran = a.engine.actions.ran; outcome = outcomes.Cancelled })).arena ≡ last.engine.arena =
         ap (λ (x : State). x.arena) (left ∙ sym state) ∙ (stands_arena a.engine seen_words ∙ ap (λ (c : Core). c.arena) (sym m.settled.engine)) in
-        let player : answered_all rules.answered (rules.answered t.4.start.player (begin_code t.0.again)) (map (λ (x : Entry). x.reply) (t.1.calls ++ record { call = call; reply = reply } ∷ [])) ≡ last.player =
-        player_snoc rules.answered (rules.answered t.4.start.player (begin_code t.0.again)) t.1.calls (record { call = call; reply = reply }) ∙ (ap (λ (q : P). rules.answered q reply) (sym t.4.player) ∙ sym told.1) in
+        let player : answered_all rules.answered (rules.answered t.4.start.player (begin_code t.0.again)) (map (λ (x : Entry). x.reply) (t.1.calls.list ++ record { call = call; reply = reply } ∷ [])) ≡ last.player =
+        player_snoc rules.answered (rules.answered t.4.start.player (begin_code t.0.again)) t.1.calls.list (record { call = call; reply = reply }) ∙ (ap (λ (q : P). rules.answered q reply) (sym t.4.player) ∙ sym told.1) in
         record {
           run = over.0;
           inside = λ o. absurd (true≢false (sym o ∙ shut));
@@ -252,7 +255,7 @@ module _ {P : Type 0} {rules : Rules P} (laws : Obeys rules) {first : Between P}
     words_same : words_at base r1.ended k ≡ words_at base r.ended k
     words_same = ap words_of (still k newer)
 
-    stop_ended : r1.ended ≡ r.ended ++ record (run.inside inside).1 { at = k; ran = ran; outcome = outcome } ∷ []
+    stop_ended : r1.ended ≡ r.ended ++ record (run.inside inside).1 { calls = spent (run.inside inside).1.calls; at = k; ran = ran; outcome = outcome } ∷ []
     stop_ended = ap (λ (x : Rows). x.ended) (stops (run.inside inside).1 (run.inside inside).3)
 
     memory_now : IsMemory mid.words (words_at base r1.ended k)
@@ -272,15 +275,16 @@ module _ {P : Type 0} {rules : Rules P} (laws : Obeys rules) {first : Between P}
 
     pub stop_run : ran ≡ ran_of outcome (stands_for mid (words_at base r1.ended k)) → (outcome ≡ outcomes.Full → LacksClock rules MAX_OPEN_BLOCKS (rules.answered (run.inside inside).4.start.player (begin_code (run.inside inside).0.again)) (run.inside inside).1 (bytes_at base r1.ended k))
         → RunOf rules first base n' r1.ended last.thread
-        × (now_at rules first base r1.ended last.thread ≡ after_try rules MAX_OPEN_BLOCKS (bytes_at base r1.ended) (run.inside inside).0 (Some (run.inside inside).4.start) (record (run.inside inside).1 { at = k; ran = ran; outcome = outcome }))
+        × (now_at rules first base r1.ended last.thread ≡ after_try rules MAX_OPEN_BLOCKS (bytes_at base r1.ended) (run.inside inside).0 (Some (run.inside inside).4.start) (record (run.inside inside).1 { calls = spent (run.inside inside).1.calls; at = k; ran = ran; outcome = outcome }))
     stop_run ran_is full =
         let t = run.inside inside in
-        ended_run laws r1 a last call seen run n' later still inside (record t.1 { at = k; ran = ran; outcome = outcome }) (row_is_of a.thread r.active t.1 t.3) stop_ended thread
+        ended_run laws r1 a last call seen run n' later still inside (record t.1 { calls = spent t.1.calls; at = k; ran = ran; outcome = outcome }) (row_is_of a.thread r.active t.1 t.3) stop_ended thread
+        (try_of_room laws n' (bytes_at base r1.ended) t.0 t.4.start (record t.1 { at = k; ran = ran; outcome = outcome }) 0
         (try_stops laws (of_block t.4) n' (bytes_at base r1.ended) k outcome ran undone stop_made
-        (subst (EndsAs outcome) stop_stands (ends (stands_for mid (words_at base r1.ended k)) (stands_open mid (words_at base r1.ended k) inside) (stands_mode mid (words_at base r1.ended k) ∙ revocable))) older (omega (arith, newer, later)) (ran_is ∙ ap (ran_of outcome) stop_stands) full)
+        (subst (EndsAs outcome) stop_stands (ends (stands_for mid (words_at base r1.ended k)) (stands_open mid (words_at base r1.ended k) inside) (stands_mode mid (words_at base r1.ended k) ∙ revocable))) older (omega (arith, newer, later)) (ran_is ∙ ap (ran_of outcome) stop_stands) full))
 
     -- the plain state that it leaves
-    stop_left : alone MAX_OPEN_BLOCKS (bytes_at base r1.ended k) (record (run.inside inside).1 { at = k; ran = ran; outcome = outcome }) ≡ stands_for mid (words_at base r1.ended k)
+    stop_left : alone MAX_OPEN_BLOCKS (bytes_at base r1.ended k) (record (run.inside inside).1 { calls = spent (run.inside inside).1.calls; at = k; ran = ran; outcome = outcome }) ≡ stands_for mid (words_at base r1.ended k)
     stop_left = alone_led laws (of_block (run.inside inside).4) (bytes_at base r1.ended k) ∙ sym stop_stands
 
   -- in conflict: its player goes back to its begin
@@ -302,8 +306,8 @@ module _ {P : Type 0} {rules : Rules P} (laws : Obeys rules) {first : Between P}
         let ran_is : last.engine.actions.ran ≡ (undone (stands_for mid words)).actions.ran = ap (λ (c : Core). c.actions.ran) m.settled.engine ∙ (ap (λ (x : Actions). x.ran) (sym (stands_actions a.engine words)) ∙ ap (λ (x : State). x.actions.ran) undone_is) in
         let over = stop_run k outcomes.Conflict last.engine.actions.ran refl (λ x o i. (o, i)) m.settled.thread m.told.0 (omega arith) (omega arith) agrees revocable ran_is (λ f. absurd (cc)) in
         let state = stop_left k outcomes.Conflict last.engine.actions.ran refl (λ x o i. (o, i)) m.settled.thread m.told.0 (omega arith) (omega arith) agrees revocable in
-        let player : rules.restarted (answered_all rules.answered (rules.answered t.4.start.player (begin_code t.0.again)) (map (λ (x : Entry). x.reply) t.1.calls)) ≡ last.player = ap rules.restarted (sym t.4.player) ∙ sym m.told.1 in
-        let left : State = alone MAX_OPEN_BLOCKS (bytes_at base r1.ended k) (record t.1 { at = k; ran = last.engine.actions.ran; outcome = outcomes.Conflict }) in
+        let player : rules.restarted (answered_all rules.answered (rules.answered t.4.start.player (begin_code t.0.again)) (map (λ (x : Entry). x.reply) t.1.calls.list)) ≡ last.player = ap rules.restarted (sym t.4.player) ∙ sym m.told.1 in
+        let left : State = alone MAX_OPEN_BLOCKS (bytes_at base r1.ended k) (record t.1 { calls = spent t.1.calls; at = k; ran = last.engine.actions.ran; outcome = outcomes.Conflict }) in
         let arena : (undone left).arena ≡ last.engine.arena =
         ap (λ (x : State). (undone x).arena) state
         ∙ (sym (ap (λ (x : State). x.arena) undone_is) ∙ (stands_arena a.engine words ∙ ap (λ (c : Core). c.arena) (sym m.settled.engine))) in

@@ -131,8 +131,8 @@ module _ {P : Type 0} (rules : Rules P) (laws : Obeys rules) where
     -- of an open attempt: its calls are made alone on the memory of its position, and its actions are those of the state that they lead to
     open_parts : (place : ℕ) (p : P) (a : Actor P) (e : slice_get w.opening place ≡ Some p) (f : slice_get w.actors place ≡ Some a) (o : in_transaction a.engine ≡ true)
         → let t = (running.each place p a e f).runs.inside o in let k : ℕ = a.engine.snapshot / 2 in
-        IsMadeAlone rules t.0 t.4.start t.1 (bytes_at w.base (attempts_of w) k) × (a.engine.actions.ran ≡ (state_then MAX_OPEN_BLOCKS (opened (bytes_at w.base (attempts_of w) k) t.4.start.arena t.4.start.props) t.1.calls).actions.ran)
-        × ((state_then MAX_OPEN_BLOCKS (opened (bytes_at w.base (attempts_of w) k) t.4.start.arena t.4.start.props) t.1.calls).irrevocable ≡ a.engine.irrevocable)
+        IsMadeAlone rules t.0 t.4.start t.1 (bytes_at w.base (attempts_of w) k) × (a.engine.actions.ran ≡ (state_then MAX_OPEN_BLOCKS (opened (bytes_at w.base (attempts_of w) k) t.4.start.arena t.4.start.props) t.1.calls.list).actions.ran)
+        × ((state_then MAX_OPEN_BLOCKS (opened (bytes_at w.base (attempts_of w) k) t.4.start.arena t.4.start.props) t.1.calls.list).irrevocable ≡ a.engine.irrevocable)
     open_parts place p a e f o = elim (cases_Bool a.engine.irrevocable) [ inl i ↦ held_so i | inr r ↦ open_so r ]
       where
         x : RunsFrom rules (first_of p w.arena) w.base w.cells w.attempts a
@@ -157,8 +157,8 @@ module _ {P : Type 0} (rules : Rules P) (laws : Obeys rules) where
         agrees = subst (λ (m : List ℕ). Agrees m a.engine.log) (sym words) (x.sees.logged o)
 
         open_so : a.engine.irrevocable ≡ false → IsMadeAlone rules (x.runs.inside o).0 (x.runs.inside o).4.start (x.runs.inside o).1 (bytes_at w.base (attempts_of w) (a.engine.snapshot / 2))
-            × (a.engine.actions.ran ≡ (state_then MAX_OPEN_BLOCKS (opened (bytes_at w.base (attempts_of w) (a.engine.snapshot / 2)) (x.runs.inside o).4.start.arena (x.runs.inside o).4.start.props) (x.runs.inside o).1.calls).actions.ran)
-            × ((state_then MAX_OPEN_BLOCKS (opened (bytes_at w.base (attempts_of w) (a.engine.snapshot / 2)) (x.runs.inside o).4.start.arena (x.runs.inside o).4.start.props) (x.runs.inside o).1.calls).irrevocable ≡ a.engine.irrevocable)
+            × (a.engine.actions.ran ≡ (state_then MAX_OPEN_BLOCKS (opened (bytes_at w.base (attempts_of w) (a.engine.snapshot / 2)) (x.runs.inside o).4.start.arena (x.runs.inside o).4.start.props) (x.runs.inside o).1.calls.list).actions.ran)
+            × ((state_then MAX_OPEN_BLOCKS (opened (bytes_at w.base (attempts_of w) (a.engine.snapshot / 2)) (x.runs.inside o).4.start.arena (x.runs.inside o).4.start.props) (x.runs.inside o).1.calls.list).irrevocable ≡ a.engine.irrevocable)
         open_so r =
             let m : List ℕ = words_at w.base (attempts_of w) (a.engine.snapshot / 2) in
             let stands = stands_led laws (x.runs.inside o).4 (bytes_at w.base (attempts_of w) (a.engine.snapshot / 2)) m r o memory same agrees in (
@@ -168,8 +168,8 @@ module _ {P : Type 0} (rules : Rules P) (laws : Obeys rules) where
             )
 
         held_so : a.engine.irrevocable ≡ true → IsMadeAlone rules (x.runs.inside o).0 (x.runs.inside o).4.start (x.runs.inside o).1 (bytes_at w.base (attempts_of w) (a.engine.snapshot / 2))
-            × (a.engine.actions.ran ≡ (state_then MAX_OPEN_BLOCKS (opened (bytes_at w.base (attempts_of w) (a.engine.snapshot / 2)) (x.runs.inside o).4.start.arena (x.runs.inside o).4.start.props) (x.runs.inside o).1.calls).actions.ran)
-            × ((state_then MAX_OPEN_BLOCKS (opened (bytes_at w.base (attempts_of w) (a.engine.snapshot / 2)) (x.runs.inside o).4.start.arena (x.runs.inside o).4.start.props) (x.runs.inside o).1.calls).irrevocable ≡ a.engine.irrevocable)
+            × (a.engine.actions.ran ≡ (state_then MAX_OPEN_BLOCKS (opened (bytes_at w.base (attempts_of w) (a.engine.snapshot / 2)) (x.runs.inside o).4.start.arena (x.runs.inside o).4.start.props) (x.runs.inside o).1.calls.list).actions.ran)
+            × ((state_then MAX_OPEN_BLOCKS (opened (bytes_at w.base (attempts_of w) (a.engine.snapshot / 2)) (x.runs.inside o).4.start.arena (x.runs.inside o).4.start.props) (x.runs.inside o).1.calls.list).irrevocable ≡ a.engine.irrevocable)
         held_so i =
             let t = x.runs.inside o in
             let h = x.held i t.1 t.3 in

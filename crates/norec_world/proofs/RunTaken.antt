@@ -1,4 +1,5 @@
 -- A value or a call was taken in, and what the engine gave is recorded: the actor's run goes on, and the words are still those that the commits left.
+use Rattle.tx_attempts.specs.Kept.{grown, spent}
 use Rattle.std.proofs.Common.{◌≡◌, ℕ, suc, ◌+◌, ◌/◌, ◌≤◌, ◌==◌, Bool, true, false, List, [], ◌∷◌, ◌++◌, Option, None, Some, refl, sym, true≢false, ap, subst, ◌∙◌, arith, eq-eqb, append-nil, inl, inr}
 use Rattle.norec_world.proofs.Common.{Actor, Agrees, Answer, Answers, AreCounted, AreLaid, Asks, Attempt, Between, Busy, Call, Cells, Committed, Conflict, Core, Done, Full, IsDone, IsHeld, IsRun, Loaded, MAX_OPEN_BLOCKS, Next, NoMemory, Obeys, RecordsReply, Replied, Reply, Rows, Rules, Sees, StandsIn, State, Step, Tells, Waits, active_of, after, alone, backed, bytes_at, committed_at, cond-true, ending_of, frees, in_transaction, is_open, memory_left, opened, reply_cases, rests, same_Some, stands_for, words_at}
 use Rattle.tx_attempts.specs.declared.attempt.Outcome.TheVariants as outcomes
@@ -134,7 +135,7 @@ module _ {P : Type 0} {rules : Rules P} (laws : Obeys rules) {first : Between P}
         let up = clock_grows m.taken.moves in
         let inside = m.taken.was_is in
         let t = run.inside inside in
-        let row : Attempt = record t.1 { calls = t.1.calls ++ record { call = call; reply = Done } ∷ []; at = at; ran = a.engine.actions.ran; outcome = outcomes.Committed } in
+        let row : Attempt = record t.1 { calls = spent (grown t.1.calls (record { call = call; reply = Done }) 0); at = at; ran = a.engine.actions.ran; outcome = outcomes.Committed } in
         let rows : r1.ended ≡ r.ended ++ row ∷ [] = commit_ended laws r1 a last call seen run (cells'.clock / 2) up (bytes_stay seen.laid more ended) inside at true m held in
         let left_so = commit_memory laws r1 a last call seen run (cells'.clock / 2) up (bytes_stay seen.laid more ended) inside at true m held refl in
         let found_row : committed_at r1.ended (cells.clock / 2) ≡ Some row =
@@ -199,14 +200,14 @@ module _ {P : Type 0} {rules : Rules P} (laws : Obeys rules) {first : Between P}
             let t = run.inside m.taken.was_is in
             let half = half_same m refl in
             let told = subst (λ (o : Bool). RecordsReply rules true o r r1 a last call reply) (ap in_transaction m.settled.engine ∙ inside) m.told in
-            let with_call : Attempt → Attempt = λ x. record x { calls = x.calls ++ record { call = call; reply = reply } ∷ []; ran = last.engine.actions.ran } in
+            let with_call : Attempt → Attempt = λ x. record x { calls = grown x.calls (record { call = call; reply = reply }) a.ahead; ran = last.engine.actions.ran } in
             let here : active_of last.thread r1.active ≡ Some (with_call t.1) = ap (λ (k : ℕ). active_of k r1.active) m.settled.thread ∙ (ap (λ (x : Rows). active_of a.thread x.active) told.0 ∙ changed_here a.thread with_call r.active t.1 (λ x. refl) t.3) in
             let same : with_call t.1 ≡ row = same_Some _ _ (sym here ∙ active) in
             let s = held_stands reply m held now in
             let memory : bytes_at base r.ended (cells.clock / 2) ≡ bytes_at base r1.ended (cells'.clock / 2) = λ i. bytes_at base (sym (ap (λ (x : Rows). x.ended) told.0) i) (sym half i) in
             subst (λ (x : Attempt). IsHeld (bytes_at base r1.ended (cells'.clock / 2)) cells'.words x a.engine) same
             (subst (λ (bytes : List ℕ). IsHeld bytes cells'.words (with_call t.1) a.engine) memory
-            (stands_held (bytes_at base r.ended (cells.clock / 2)) (with_call t.1) inside now (s ∙ sym (state_snoc MAX_OPEN_BLOCKS (opened (bytes_at base r.ended (cells.clock / 2)) t.1.arena t.1.props) t.1.calls (record { call = call; reply = reply })))
+            (stands_held (bytes_at base r.ended (cells.clock / 2)) (with_call t.1) inside now (s ∙ sym (state_snoc MAX_OPEN_BLOCKS (opened (bytes_at base r.ended (cells.clock / 2)) t.1.arena t.1.props) t.1.calls.list (record { call = call; reply = reply })))
             (ap (λ (c : Core). c.actions.ran) m.settled.engine) idle))
         by_answer false (Reply reply) m held now inside idle =
             let half = half_same m refl in

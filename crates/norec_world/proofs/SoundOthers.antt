@@ -2,6 +2,7 @@
 use Rattle.std.proofs.Common.{◌≡◌, ◌≢◌, ◌⊎◌, inl, inr, ℕ, zero, suc, ◌+◌, ◌%◌, ◌<◌, ◌≤◌, Bool, true, false, List, [], ◌∷◌, ◌++◌, length, length-append, Option, None, Some, slice_get, slice_set, refl, sym, ap, subst, ◌∙◌, arith, eq-eqb, eqb-true, ◌==◌, length-set, if◌then◌else◌}
 use Rattle.norec_world.proofs.Common.{Actor, AllFit, AreActors, AreFrom, AreOpen, AreUnfinished, Attempt, Cells, ChangesOwn, ClocksOn, HasRow, IsSound, IsTied, KeepsOthers, MAX_ACTORS, Rows, Rules, Status, StatusIs, Unfinished, Waits, active_of, both_ways, cases_Bool, cases_eq, cases_lt, count_pending, eqb-false, false_from_ne_true, in_transaction, is_ready, ne_eqb, slice_get-set_same, slice_get_within, none-some, same_Some}
 use Rattle.itm_types.proofs.Words.{slice_get-set_other}
+use Rattle.tx_attempts.specs.Kept.{Kept}
 use Rattle.norec_world.specs.OthersAttempts.{pending_in}
 use Rattle.norec_world.proofs.TiedEngines.{held_even}
 use Rattle.norec_world.specs.Actors.{IsActor}
@@ -28,7 +29,7 @@ module _ {P : Type 0} (rules : Rules P) where
 
   -- over other rows with room for what comes, where its open attempt is no longer
   pub status_as : (r r' : Rows) (b : Actor P) → ((row : Attempt) → b.pending ≡ Some row → 0 < r.room → 0 < r'.room)
-      → ((row : Attempt) → active_of b.thread r'.active ≡ Some row → (was : Attempt) × (active_of b.thread r.active ≡ Some was) × (length row.calls ≡ length was.calls))
+      → ((row : Attempt) → active_of b.thread r'.active ≡ Some row → (was : Attempt) × (active_of b.thread r.active ≡ Some was) × (row.calls ≡ was.calls))
       → (s : Status) → StatusIs rules r b s → StatusIs rules r' b s
   status_as r r' b roomy calls (Waits call step) s =
       let i = s.in_call in
@@ -41,7 +42,8 @@ module _ {P : Type 0} (rules : Rules P) where
           inside = i.inside;
           props = i.props;
           opens = λ row e. (let p = i.opens row e in record { thread = p.thread; nth = p.nth; outcome = p.outcome; room = roomy row e p.room });
-          room = λ row o e. (let was = calls row e in let some = i.room was.0 o was.1 in let same = was.2 in omega arith);
+          room = λ row o e none. (let was = calls row e in let some = i.room was.0 o was.1 (sym (ap (λ (k : Kept). k.room) was.2) ∙ none) in let same = ap (λ (k : Kept). length k.list) was.2 in omega arith);
+          ahead = λ row o e more. (let was = calls row e in let some = i.ahead was.0 o was.1 more in let same = ap (λ (k : Kept). length k.list) was.2 in omega arith);
         };
         doing = s.doing;
         waits = s.waits;

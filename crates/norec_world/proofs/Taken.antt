@@ -68,6 +68,7 @@ in_call_of e s i = record {
   inside = i.inside;
   props = i.props;
   room = i.room;
+  ahead = i.ahead;
   opens = λ row e. (let p = i.opens row e in record { thread = p.thread; nth = p.nth; outcome = p.outcome; room = p.room });
 }
 

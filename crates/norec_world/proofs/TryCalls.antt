@@ -1,13 +1,13 @@
 -- What a call of an actor, up to its first step, and a step of it do to its try.
 use Rattle.norec_world.proofs.LaterActions.{given_up_later}
 use Rattle.itm_types.specs.declared.call.Ran.{Ran}
-use Rattle.std.proofs.Common.{List, ◌++◌, ◌≡◌, ℕ, ◌/◌, ◌%◌, ◌≤◌, ◌==◌, if◌then◌else◌, Bool, true, false, [], Option, None, Some, refl, sym, ap, subst, ◌∙◌, arith}
+use Rattle.std.proofs.Common.{unwrap_or, List, ◌++◌, ◌≡◌, ℕ, ◌/◌, ◌%◌, ◌≤◌, ◌==◌, if◌then◌else◌, Bool, true, false, [], Option, None, Some, refl, sym, ap, subst, ◌∙◌, arith}
 use Rattle.norec_world.proofs.Common.{Actor, Answer, Answers, Asks, Attempt, Begin, BeginsAt, Busy, Call, Cells, Conflict, Core, Ended, Full, HasRow, IsDone, IsSound, IsTold, Next, Opens, Prior, Props, Ready, Reply, Rows, Rules, Starves, Status, Step, Tells, Tries, Waits, active_of, asked_pending, begins, ending_of, cond-true, false_from_ne_true, found, handed_is, in_transaction, none-some, prior_of, Replied, replied_outside}
 use Rattle.tx_attempts.specs.declared.attempt.Outcome.TheVariants as outcomes
 use Rattle.tx_runs.specs.declared.ending.End.TheVariants as ends
 use Rattle.norec_world.proofs.TiedEngines.{limit_same, snapshot_still}
 use Rattle.norec_core.proofs.KeptFields.{IsHanded}
-use Rattle.norec_core.specs.Core.{may_go}
+use Rattle.norec_core.specs.Core.{goes, may_go}
 use Rattle.norec_core.specs.Endings.{EndsSo, ending_after, ending_at, ending_from}
 use Rattle.norec_core.specs.declared.phase.Phase.{Phase}
 use Rattle.norec_core.specs.declared.phase.Phase.TheVariants as at
@@ -59,11 +59,11 @@ module _ {P : Type 0} (rules : Rules P)
 module _ {P : Type 0} {rules : Rules P} {cells : Cells} {r0 r : Rows} {old a : Actor P} {call : Call} {what : Next} (m : IsCalling rules cells r0 r old a call what) where
   -- an attempt that is to be opened then is one of this moment
   opens_now : (c : Call) → (row : Attempt) → asked_pending false cells.clock old c ≡ Some row → a.engine.arena ≡ old.engine.arena
-      → row ≡ record { thread = a.thread; nth = old.nth; began = cells.clock / 2; at = 0; props = row.props; arena = a.engine.arena; calls = []; ran = []; outcome = outcomes.Unfinished }
+      → row ≡ record { thread = a.thread; nth = old.nth; began = cells.clock / 2; at = 0; props = row.props; arena = a.engine.arena; calls = record { list = []; room = row.calls.room }; ran = []; outcome = outcomes.Unfinished }
   opens_now (Begin props room) row e arena =
-      let fresh : Attempt = record { thread = old.thread; nth = old.nth; began = cells.clock / 2; at = 0; props = props; arena = old.engine.arena; calls = []; ran = []; outcome = outcomes.Unfinished } in
+      let fresh : Attempt = record { thread = old.thread; nth = old.nth; began = cells.clock / 2; at = 0; props = props; arena = old.engine.arena; calls = record { list = []; room = unwrap_or (goes old.engine (Begin props room)) 0 }; ran = []; outcome = outcomes.Unfinished } in
       let is : fresh ≡ row = cc in
-      sym is ∙ (λ i. record { thread = (sym m.asks.thread) i; nth = old.nth; began = cells.clock / 2; at = 0; props = (ap (λ (x : Attempt). x.props) is) i; arena = (sym arena) i; calls = []; ran = []; outcome = outcomes.Unfinished })
+      sym is ∙ (λ i. record { thread = (sym m.asks.thread) i; nth = old.nth; began = cells.clock / 2; at = 0; props = (ap (λ (x : Attempt). x.props) is) i; arena = (sym arena) i; calls = record { list = []; room = (ap (λ (x : Attempt). x.calls.room) is) i }; ran = []; outcome = outcomes.Unfinished })
   opens_now c row e arena = absurd (let n = sym (rests m.sound m.ready).nothing ∙ e in cc)
 
   -- it waits for its first step

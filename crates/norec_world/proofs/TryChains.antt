@@ -46,7 +46,7 @@ continues_twice a b c x y = record {
   props = y.props ∙ x.props;
   arena = y.arena ∙ x.arena;
   more = x.more ++ y.more;
-  calls = y.calls ∙ (ap (λ (l : List Entry). l ++ y.more) x.calls ∙ append_assoc a.calls x.more y.more);
+  calls = y.calls ∙ (ap (λ (l : List Entry). l ++ y.more) x.calls ∙ append_assoc a.calls.list x.more y.more);
   more_ran = x.more_ran ++ y.more_ran;
   ran = y.ran ∙ (ap (λ (l : List Ran). l ++ y.more_ran) x.ran ∙ append_assoc a.ran x.more_ran y.more_ran);
 }
@@ -95,7 +95,7 @@ module _ {P : Type 0} (clock clock1 : ℕ) (p : Prior) (r1 r2 : Rows) (a1 a2 : A
   tries_then (begins t) = absurd (let n = sym nothing ∙ t.now in cc)
   tries_then (over t) =
       let b = after t.row'.outcome t.after in
-      over (record { row = t.row; row' = t.row'; was = t.was; ended = b.1 ∙ t.ended; continues = t.continues; reads = t.reads ∙ ap (λ (n : ℕ). n / 2) (sym still); at = t.at; closed = t.closed; after = b.0 })
+      over (record { row = t.row; row' = t.row'; was = t.was; ended = b.1 ∙ t.ended; continues = t.continues; reads = t.reads ∙ ap (λ (n : ℕ). n / 2) (sym still); at = t.at; closed = t.closed; spent = t.spent; after = b.0 })
   tries_then (turned_away t) =
       let b = again (nat_lt p.retries p.nth) t.after in
       turned_away (record { none = t.none; row = t.row; was = t.was; ended = b.1 ∙ t.ended; odd = t.odd; same = t.same; after = b.0 })
@@ -135,6 +135,7 @@ module _ {P : Type 0} (clock clock1 : ℕ) (p : Prior) (r1 r2 : Rows) (a1 a2 : A
         reads = w.reads;
         at = subst (λ (n : ℕ). EndsAt n clock clock1 w.row'.at w.row'.outcome) limit (ends_on a1.engine.max_commits clock clock1 w.row'.at w.row'.outcome t.half w.at);
         closed = w.closed;
+        spent = w.spent;
         after = after_same w.row'.outcome a1.nth t.tries w.after;
       })
 

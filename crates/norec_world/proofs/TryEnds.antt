@@ -1,4 +1,5 @@
 -- What an answer does to the try that its call belongs to.
+use Rattle.tx_attempts.specs.Kept.{grown, spent}
 use Rattle.itm_types.specs.declared.call.Ran.{Ran}
 use Rattle.std.proofs.Common.{true≢false, inl, inr, ◌≡◌, ℕ, ◌+◌, ◌*◌, ◌/◌, ◌%◌, ◌≤◌, Bool, true, false, nat_lt, if◌then◌else◌, is_some, IsSome, ◌&&◌, not, List, [], ◌∷◌, ◌++◌, length, Option, None, Some, refl, sym, ap, subst, ◌∙◌, arith, append-nil, ◌⊎◌}
 use Rattle.nest_frames.specs.Nest.{Frame}
@@ -46,7 +47,7 @@ module _ {P : Type 0} (clock clock' : ℕ) (r r' : Rows) (a a' : Actor P) (ended
     row' = row;
     was = ap (λ (o : Option Attempt). current_of o a.pending) was;
     now = now;
-    continues = record { thread = refl; nth = refl; began = refl; props = refl; arena = refl; more = []; calls = sym (append-nil row.calls); more_ran = []; ran = sym (append-nil row.ran) };
+    continues = record { thread = refl; nth = refl; began = refl; props = refl; arena = refl; more = []; calls = sym (append-nil row.calls.list); more_ran = []; ran = sym (append-nil row.ran) };
     ended = ended;
     half = half;
     tries = nth;
@@ -56,25 +57,26 @@ module _ {P : Type 0} (clock clock' : ℕ) (r r' : Rows) (a a' : Actor P) (ended
 
   -- either
   pub stays : (b : Bool) → HasRow b r a.thread → a.pending ≡ None → active_of a'.thread r'.active ≡ active_of a.thread r.active → a'.nth ≡ a.nth
-      → (b ≡ false → (row : Attempt) → a'.pending ≡ Some row → row ≡ record { thread = a'.thread; nth = a.nth; began = clock' / 2; at = 0; props = row.props; arena = a'.engine.arena; calls = []; ran = []; outcome = outcomes.Unfinished })
+      → (b ≡ false → (row : Attempt) → a'.pending ≡ Some row → row ≡ record { thread = a'.thread; nth = a.nth; began = clock' / 2; at = 0; props = row.props; arena = a'.engine.arena; calls = record { list = []; room = row.calls.room }; ran = []; outcome = outcomes.Unfinished })
       → (ending_of a'.status ≡ Some ends.GaveUp → ⊥) → (ending_of a'.status ≡ Some ends.NoMemory → a'.engine.irrevocable ≡ true) → Tries clock (prior_of r a) clock' r' a'
   stays true h nothing same nth opens goes_on fed = stays_open h.0 h.1 (same ∙ h.1) nth goes_on fed
   stays false h nothing same nth opens goes_on fed = stays_between h nothing (record { none = same ∙ h; tries = nth; opens = opens refl; goes_on = goes_on })
 
 -- the open attempt ends, and its block has not
 pub stops_try : {P : Type 0} (seen clock clock' : ℕ) (r r' : Rows) (a a' : Actor P) (row : Attempt) (at : ℕ) (outcome : Outcome) (ran : List Ran)
-    → active_of a.thread r.active ≡ Some row → r'.ended ≡ r.ended ++ record row { at = at; ran = ran; outcome = outcome } ∷ [] → (more : List Ran) → ran ≡ row.ran ++ more
+    → active_of a.thread r.active ≡ Some row → r'.ended ≡ r.ended ++ record row { calls = spent row.calls; at = at; ran = ran; outcome = outcome } ∷ [] → (more : List Ran) → ran ≡ row.ran ++ more
     → at ≡ a'.engine.snapshot / 2 → EndsAt a.engine.max_commits clock clock' at outcome → is_done outcome ≡ false
     → GoesOnAfter outcome clock' (prior_of r a) r' a' → Tries clock (record (prior_of r a) { seen = seen }) clock' r' a'
 stops_try seen clock clock' r r' a a' row at outcome ran was ended more_ran ran_is reads ends undone goes = over (record {
   row = row;
-  row' = record row { at = at; ran = ran; outcome = outcome };
+  row' = record row { calls = spent row.calls; at = at; ran = ran; outcome = outcome };
   was = ap (λ (o : Option Attempt). current_of o a.pending) was;
   ended = ended;
-  continues = record { thread = refl; nth = refl; began = refl; props = refl; arena = refl; more = []; calls = sym (append-nil row.calls); more_ran = more_ran; ran = ran_is };
+  continues = record { thread = refl; nth = refl; began = refl; props = refl; arena = refl; more = []; calls = sym (append-nil row.calls.list); more_ran = more_ran; ran = ran_is };
   reads = reads;
   at = ends;
-  closed = not_closed outcome undone row.calls;
+  closed = not_closed outcome undone row.calls.list;
+  spent = refl;
   after = goes_seen outcome goes;
 })
   where
@@ -144,7 +146,7 @@ module _ {P : Type 0} {rules : Rules P} {cells cells' : Cells} {r r1 : Rows} {mi
       by_open true o told =
           let row = m.answered.kept.row in
           let later : (more : List Ran) × (last.engine.actions.ran ≡ row.0.ran ++ more) = (let f = m.taken.first row.0 row.1 in (f.0, ap (λ (c : Core). c.actions.ran) m.settled.engine ∙ sym f.1)) in
-          let with_call : Attempt → Attempt = λ x. record x { calls = x.calls ++ record { call = call; reply = reply } ∷ []; ran = last.engine.actions.ran } in
+          let with_call : Attempt → Attempt = λ x. record x { calls = grown x.calls (record { call = call; reply = reply }) a.ahead; ran = last.engine.actions.ran } in
           runs (record {
             row = row.0;
             row' = with_call row.0;
@@ -165,20 +167,21 @@ module _ {P : Type 0} {rules : Rules P} {cells cells' : Cells} {r r1 : Rows} {mi
           let abort = cancels mid a.engine call reply cells'.words ends m.taken.was_is closed (sym m.taken.words, m.taken.tied.fit) (subst (Agrees cells'.words) (sym (m.taken.tied.settled.closed closed).0) tt) in
           over (record {
             row = row.0;
-            row' = record row.0 { calls = row.0.calls ++ record { call = call; reply = reply } ∷ []; at = last.engine.snapshot / 2; ran = last.engine.actions.ran; outcome = outcomes.Cancelled };
+            row' = record row.0 { calls = spent (grown row.0.calls (record { call = call; reply = reply }) 0); at = last.engine.snapshot / 2; ran = last.engine.actions.ran; outcome = outcomes.Cancelled };
             was = ap (λ (o : Option Attempt). current_of o a.pending) row.1;
             ended = ap (λ (x : Rows). x.ended) (told.0 row.0 row.1);
             continues = record { thread = refl; nth = refl; began = refl; props = refl; arena = refl; more = record { call = call; reply = reply } ∷ []; calls = refl; more_ran = later.0; ran = later.1 };
             reads = refl;
             at = (half, omega (arith, ap (λ (c : Core). c.snapshot) m.settled.engine, reached cells' a.engine m.taken.tied));
-            closed = (row.0.calls, abort.0, (λ i. row.0.calls ++ record { call = abort.1 i; reply = abort.2 i } ∷ []));
+            closed = (row.0.calls.list, abort.0, (λ i. row.0.calls.list ++ record { call = abort.1 i; reply = abort.2 i } ∷ []));
+            spent = refl;
             after = is_between rules r r1 a last true m.settled cells'.clock 1 closed (told.4 ∙ m.answered.status) told.3;
           })
   open_tries (Committed at wrote) m =
       let row = m.answered.kept.row in
       let later : (more : List Ran) × (last.engine.actions.ran ≡ row.0.ran ++ more) = (let f = m.taken.first row.0 row.1 in (f.0, ap (λ (c : Core). c.actions.ran) m.settled.engine ∙ sym f.1)) in
       let closed : in_transaction a.engine ≡ false = m.answered.fits.1 in
-      let done : Attempt = record row.0 { calls = row.0.calls ++ record { call = call; reply = replies.Done } ∷ []; at = at; ran = last.engine.actions.ran; outcome = if wrote then outcomes.Committed else outcomes.ReadOnly } in
+      let done : Attempt = record row.0 { calls = spent (grown row.0.calls (record { call = call; reply = replies.Done }) 0); at = at; ran = last.engine.actions.ran; outcome = if wrote then outcomes.Committed else outcomes.ReadOnly } in
       over (record {
         row = row.0;
         row' = done;
@@ -188,6 +191,7 @@ module _ {P : Type 0} {rules : Rules P} {cells cells' : Cells} {r r1 : Rows} {mi
         reads = m.ends.at_is ∙ ap (λ (n : ℕ). n / 2) (sym (ap (λ (c : Core). c.snapshot) (m.settled.engine ∙ m.ends.stays)));
         at = at_end wrote refl;
         closed = closed_end wrote;
+        spent = refl;
         after = after_end wrote (is_between rules r r1 a last true m.settled cells'.clock 1 closed (m.told.4 ∙ m.answered.status) m.told.3);
       })
     where
@@ -196,9 +200,9 @@ module _ {P : Type 0} {rules : Rules P} {cells cells' : Cells} {r r1 : Rows} {mi
       at_end false e =
           (m.taken.moves.keeps (m.ends.freed ∙ e), omega (arith, ap (λ (c : Core). c.snapshot) m.ends.stays, m.ends.at_is, reached cells' a.engine m.taken.tied))
 
-      closed_end : (b : Bool) → ClosedBy (if b then outcomes.Committed else outcomes.ReadOnly) (m.answered.kept.row.0.calls ++ record { call = call; reply = replies.Done } ∷ [])
-      closed_end true = (m.answered.kept.row.0.calls, (λ i. m.answered.kept.row.0.calls ++ record { call = m.answered.fits.2 i; reply = replies.Done } ∷ []))
-      closed_end false = (m.answered.kept.row.0.calls, (λ i. m.answered.kept.row.0.calls ++ record { call = m.answered.fits.2 i; reply = replies.Done } ∷ []))
+      closed_end : (b : Bool) → ClosedBy (if b then outcomes.Committed else outcomes.ReadOnly) (m.answered.kept.row.0.calls.list ++ record { call = call; reply = replies.Done } ∷ [])
+      closed_end true = (m.answered.kept.row.0.calls.list, (λ i. m.answered.kept.row.0.calls.list ++ record { call = m.answered.fits.2 i; reply = replies.Done } ∷ []))
+      closed_end false = (m.answered.kept.row.0.calls.list, (λ i. m.answered.kept.row.0.calls.list ++ record { call = m.answered.fits.2 i; reply = replies.Done } ∷ []))
 
       after_end : (b : Bool) → IsBetween cells'.clock 1 r1 last → GoesOnAfter (if b then outcomes.Committed else outcomes.ReadOnly) cells'.clock (record (prior_of r a) { seen = seen }) r1 last
       after_end true x = x
@@ -295,7 +299,7 @@ module _ {P : Type 0} {rules : Rules P} {cells cells' : Cells} {r r1 : Rows} {mi
           row' = new_row;
           was = ap (λ (o : Option Attempt). current_of o a.pending) m.answered.kept.row ∙ b.1;
           now = ap (λ (t : ℕ). active_of t r1.active) (m.settled.thread ∙ sym q.thread) ∙ (ap (λ (x : Rows). active_of row.thread x.active) b.3 ∙ opened_here new_row r.active free);
-          continues = record { thread = refl; nth = refl; began = refl; props = refl; arena = refl; more = []; calls = sym (append-nil row.calls); more_ran = []; ran = sym (append-nil row.ran) };
+          continues = record { thread = refl; nth = refl; began = refl; props = refl; arena = refl; more = []; calls = sym (append-nil row.calls.list); more_ran = []; ran = sym (append-nil row.ran) };
           ended = ap (λ (x : Rows). x.ended) b.3;
           half = half;
           tries = m.told.3;

@@ -31,7 +31,7 @@ LacksRoom a call = (a.engine.irrevocable ≡ true → a.engine.room ≡ 0) × ((
 
 -- within a block memory is wanted for the call with its reply where there is no room left for them, likewise for the actions that it leaves, or by the call for itself
 abbrev pub IsShort : {P : Type 0} → Rows → Actor P → Call → Type 0
-IsShort r a call = (row : Attempt) → active_of a.thread r.active ≡ Some row → (vec_capacity a.spare ≤ length row.calls) ⊎ LacksRoom a call ⊎ MayStarve a.engine call
+IsShort r a call = (row : Attempt) → active_of a.thread r.active ≡ Some row → ((row.calls.room ≡ 0) × (vec_capacity a.spare ≤ length row.calls.list)) ⊎ LacksRoom a call ⊎ MayStarve a.engine call
 
 -- its step was done on these cells: its engine is handed what was found, and of what comes the call waits for the next step, or is answered
 pub record TakesIn {P : Type 0} (rules : Rules P) (cells : Cells) (r : Rows) (a : Actor P) (r' : Rows) (a' : Actor P) : Type 0 where

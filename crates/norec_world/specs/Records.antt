@@ -1,5 +1,6 @@
 -- What the actor's rows, player and counts are once an answer is recorded.
-use Rattle.std.specs.Prelude.{◌≡◌, ℕ, ◌+◌, ◌/◌, nat_lt, Bool, true, false, List, [], ◌∷◌, ◌++◌, Option, None, Some, if◌then◌else◌}
+use Rattle.tx_attempts.specs.Kept.{grown, spent}
+use Rattle.std.specs.Prelude.{◌≡◌, ℕ, ◌+◌, ◌/◌, nat_lt, Bool, true, false, List, [], Option, None, Some, unwrap_or, if◌then◌else◌}
 use Rattle.itm_types.specs.declared.call.Call.{Call}
 use Rattle.itm_types.specs.declared.call.Call.TheVariants.{Begin}
 use Rattle.norec_core.specs.Moves.{IsCalled}
@@ -10,7 +11,7 @@ use Rattle.itm_types.specs.declared.call.Reply.{Reply as Replied}
 use Rattle.itm_types.specs.declared.call.Reply.TheVariants.{Done}
 use Rattle.norec_core.specs.declared.answer.Answer.{Answer}
 use Rattle.norec_core.specs.declared.answer.Answer.TheVariants.{Reply, Committed, Conflict, Busy, Full}
-use Rattle.norec_core.specs.Core.{in_transaction}
+use Rattle.norec_core.specs.Core.{goes, in_transaction}
 use Rattle.tx_attempts.specs.declared.attempt.Attempt.{Attempt}
 use Rattle.norec_world.specs.Rows.{Rows, active_of, with_changed, with_opened, with_ended}
 use Rattle.tx_attempts.specs.declared.attempt.Outcome.{Outcome}
@@ -20,18 +21,18 @@ use Rattle.norec_world.specs.declared.actor.Actor.{Actor}
 use Rattle.norec_world.specs.declared.actor.Status.TheVariants.{Waits, Ended}
 use Rattle.tx_player.specs.Rules.{Rules}
 
--- the actor's open attempt has one call more, and these actions have run in it
-abbrev pub AddsCall : ℕ → Rows → Call → Replied → List Ran → Rows → Type 0
-AddsCall thread r call reply ran r' = r' ≡ with_changed thread (λ row. record row { calls = row.calls ++ record { call = call; reply = reply } ∷ []; ran = ran }) r
+-- the actor's open attempt has one call more, with room for so many from then on where the call asked for it, and these actions have run in it
+abbrev pub AddsCall : ℕ → Rows → ℕ → Call → Replied → List Ran → Rows → Type 0
+AddsCall thread r ahead call reply ran r' = r' ≡ with_changed thread (λ row. record row { calls = grown row.calls (record { call = call; reply = reply }) ahead; ran = ran }) r
 
--- it has the call that ends its block, and is over
+-- it has the call that ends its block, and is over: no place is promised in it any more
 abbrev pub EndsBy : ℕ → Rows → ℕ → Outcome → Call → Replied → List Ran → Rows → Type 0
 EndsBy thread r at outcome call reply ran r' = (row : Attempt) → active_of thread r.active ≡ Some row
-    → r' ≡ with_ended thread (record row { calls = row.calls ++ record { call = call; reply = reply } ∷ []; at = at; ran = ran; outcome = outcome }) r
+    → r' ≡ with_ended thread (record row { calls = spent (grown row.calls (record { call = call; reply = reply }) 0); at = at; ran = ran; outcome = outcome }) r
 
 -- it is over, and its block has not ended
 abbrev pub StopsAt : ℕ → Rows → ℕ → Outcome → List Ran → Rows → Type 0
-StopsAt thread r at outcome ran r' = (row : Attempt) → active_of thread r.active ≡ Some row → r' ≡ with_ended thread (record row { at = at; ran = ran; outcome = outcome }) r
+StopsAt thread r at outcome ran r' = (row : Attempt) → active_of thread r.active ≡ Some row → r' ≡ with_ended thread (record row { calls = spent row.calls; at = at; ran = ran; outcome = outcome }) r
 
 -- likewise, where the transaction was open
 abbrev pub StopsIf : Bool → ℕ → Rows → ℕ → Outcome → List Ran → Rows → Type 0
@@ -65,7 +66,7 @@ module _ {P : Type 0} (rules : Rules P) where
   -- of a reply to a call that came where a transaction was open, or not, and where one is then, or none: a cancel ends the attempt
   abbrev pub RecordsReply : Bool → Bool → Rows → Rows → Actor P → Actor P → Call → Replied → Type 0
   RecordsReply true true r r' old new call reply =
-      AddsCall old.thread r call reply new.engine.actions.ran r' × (new.player ≡ rules.answered old.player reply) × (new.again ≡ old.again) × (new.nth ≡ old.nth) × (new.status ≡ old.status)
+      AddsCall old.thread r old.ahead call reply new.engine.actions.ran r' × (new.player ≡ rules.answered old.player reply) × (new.again ≡ old.again) × (new.nth ≡ old.nth) × (new.status ≡ old.status)
   RecordsReply true false r r' old new call reply =
       EndsBy old.thread r (new.engine.snapshot / 2) outcomes.Cancelled call reply new.engine.actions.ran r' × (new.player ≡ rules.answered old.player reply) × (new.again ≡ false) × (new.nth ≡ 1) × (new.status ≡ old.status)
   RecordsReply false now r r' old new call reply =
@@ -99,7 +100,7 @@ asked_pending false clock a (Begin props room) = Some (record {
   at = 0;
   props = props;
   arena = a.engine.arena;
-  calls = [];
+  calls = record { list = []; room = unwrap_or (goes a.engine (Begin props room)) 0 };
   ran = [];
   outcome = outcomes.Unfinished;
 })
@@ -117,6 +118,7 @@ pub record Asks {P : Type 0} (clock : ℕ) (r r' : Rows) (old new : Actor P) (ca
   pub again : new.again ≡ old.again
   pub player : new.player ≡ old.player
   pub nth : new.nth ≡ old.nth
+  pub ahead : in_transaction old.engine ≡ true → new.ahead ≡ unwrap_or (goes old.engine call) 0  -- the room that it asks for is known until its answer
   pub thread : new.thread ≡ old.thread
   pub rows_are : r' ≡ record r { room = r'.room }
   pub called : IsCalled old.engine call (begins_again (in_transaction old.engine) old.again call) what new.engine

@@ -38,10 +38,10 @@ module _ {P : Type 0} (rules : Rules P) where
     pub began : row.began ≤ e.snapshot / 2
     pub anew : e.again ≡ false
     pub ran : row.ran ≡ e.actions.ran
-    pub player : p ≡ player_then rules.answered (rules.answered start.player (begin_code b.again)) row.calls
+    pub player : p ≡ player_then rules.answered (rules.answered start.player (begin_code b.again)) row.calls.list
     pub alone : (m : List ℕ) → IsMemory e.words m → ReadsFrom e.irrevocable position e.log m
-        → IsAlone rules MAX_OPEN_BLOCKS (rules.answered start.player (begin_code b.again)) (opened (bytes_of m) start.arena start.props) row.calls
-    pub stands : e.irrevocable ≡ false → (m : List ℕ) → IsMemory e.words m → Agrees m e.log → stands_for e m ≡ state_then MAX_OPEN_BLOCKS (opened (bytes_of m) start.arena start.props) row.calls
+        → IsAlone rules MAX_OPEN_BLOCKS (rules.answered start.player (begin_code b.again)) (opened (bytes_of m) start.arena start.props) row.calls.list
+    pub stands : e.irrevocable ≡ false → (m : List ℕ) → IsMemory e.words m → Agrees m e.log → stands_for e m ≡ state_then MAX_OPEN_BLOCKS (opened (bytes_of m) start.arena start.props) row.calls.list
 
   -- before the next one, with so many commits done: the player has come as far as its calls outside a transaction led, and perhaps called its begin
   pub record IsBeforeTry (n : ℕ) (b : Between P) (a : Actor P) : Type 0 where
@@ -50,7 +50,7 @@ module _ {P : Type 0} (rules : Rules P) where
     pub again : a.again ≡ b.again
     pub tries : b.tries < a.nth
     pub pending : (row : Attempt) → a.pending ≡ Some row
-        → (row.began ≤ n) × (row.arena ≡ a.engine.arena) × (row.calls ≡ []) × (row.ran ≡ [])
+        → (row.began ≤ n) × (row.arena ≡ a.engine.arena) × (row.calls.list ≡ []) × (row.ran ≡ [])
         × (may_go [] row.props ≡ true → begins_at rules b ≡ Some (record { player = a.player; arena = a.engine.arena; props = row.props })) × (a.engine.again ≡ b.again)
 
   -- the actor's attempts are its player's run from here, over the memories of so many commits, and each saw what its player gets alone

@@ -98,7 +98,8 @@ module _ {P : Type 0} (rules : Rules P) where
     pub inside : is_open ≡ true → a.pending ≡ None
     pub opens : (row : Attempt) → a.pending ≡ Some row → IsPending r a row
     pub props : (row : Attempt) (props : Props) (room : ℕ) → a.pending ≡ Some row → call ≡ Begin props room → row.props ≡ props
-    pub room : (row : Attempt) → is_open ≡ true → active_of a.thread r.active ≡ Some row → length row.calls < vec_capacity a.spare
+    pub room : (row : Attempt) → is_open ≡ true → active_of a.thread r.active ≡ Some row → row.calls.room ≡ 0 → length row.calls.list < vec_capacity a.spare
+    pub ahead : (row : Attempt) → is_open ≡ true → active_of a.thread r.active ≡ Some row → 0 < a.ahead → length row.calls.list + 1 + a.ahead ≤ vec_capacity a.spare
 
   pub record IsWaiting (r : Rows) (a : Actor P) (call : Call) (step : Step) : Type 0 where
     pub nested : IsNested rules (in_transaction a.engine) a.player

@@ -22,7 +22,7 @@ pub record Continues (row row' : Attempt) : Type 0 where
   pub props : row'.props ≡ row.props
   pub arena : row'.arena ≡ row.arena
   pub more : List Entry
-  pub calls : row'.calls ≡ row.calls ++ more
+  pub calls : row'.calls.list ≡ row.calls.list ++ more
   pub more_ran : List Ran
   pub ran : row'.ran ≡ row.ran ++ more_ran
 
@@ -68,7 +68,7 @@ module _ {P : Type 0} where
     pub none : active_of a.thread r.active ≡ None
     pub tries : a.nth ≡ nth
     pub opens : (row : Attempt) → a.pending ≡ Some row
-        → row ≡ record { thread = a.thread; nth = nth; began = clock / 2; at = 0; props = row.props; arena = a.engine.arena; calls = []; ran = []; outcome = Unfinished }
+        → row ≡ record { thread = a.thread; nth = nth; began = clock / 2; at = 0; props = row.props; arena = a.engine.arena; calls = record { list = []; room = row.calls.room }; ran = []; outcome = Unfinished }
     pub goes_on : ending_of a.status ≡ Some ends.GaveUp → ⊥
 
   -- it has ended so, with no try open
@@ -132,7 +132,8 @@ module _ {P : Type 0} where
     pub continues : Continues row row'
     pub reads : row'.at ≡ a.engine.snapshot / 2  -- where the engine read last
     pub at : EndsAt p.max_commits clock clock' row'.at row'.outcome
-    pub closed : ClosedBy row'.outcome row'.calls
+    pub closed : ClosedBy row'.outcome row'.calls.list
+    pub spent : row'.calls.room ≡ 0  -- no place is promised in it any more
     pub after : GoesOnAfter row'.outcome clock' p r a
 
   -- its begin found the clock odd once too often

@@ -34,6 +34,8 @@ pub(crate) struct Actor<P> {
     pub(crate) engine: Engine,
     /// Room for the calls of the open attempt, and one more while a call is in progress.
     pub(crate) spare: Vec<Entry>,
+    /// The room that the call in progress asks for, where it makes the open attempt irrevocable.
+    pub(crate) ahead: usize,
     /// Room for the actions that have run once the open attempt ends.
     pub(crate) end_room: Vec<Ran>,
     /// Room for those that have run once the cancel in progress is done, where the attempt stays open.
@@ -70,6 +72,7 @@ impl<P: Player> Actor<P> {
             player,
             engine,
             spare: Vec::new(alloc),
+            ahead: 0,
             end_room: Vec::new(alloc),
             cancel_room: Vec::new(alloc),
             pending: None,

@@ -4,6 +4,7 @@
 mod actor;
 mod fault;
 mod memory;
+mod places;
 mod recorded;
 mod schedule;
 mod setup;

@@ -3,6 +3,7 @@
 ghost use Rattle.std.specs.Prelude.{◌≡◌, ◌==◌, ◌+◌, ◌-◌, ◌<◌, ◌≤◌, ◌++◌, ◌∷◌, [], List, length, position, insert, remove, slice_index_or, nat_lt, Some, None, is_some, IfSome, IfOk, OnErr, vec_len, vec_capacity};
 ghost use Rattle.tx_attempts.specs.declared.attempt.Attempt.{Attempt};
 ghost use Rattle.tx_attempts.specs.Beginnings.{IsBeginningOf};
+ghost use Rattle.tx_attempts.specs.Kept.{grown, spent};
 ghost use Rattle.norec_world.specs.Records.{StopsAt};
 ghost use Rattle.norec_world.specs.Rows.{Rows, AreFrom, all_of, active_of, is_of, with_changed, with_opened, with_ended};
 
@@ -87,7 +88,7 @@ impl Recorded {
 
     /// How many calls with replies the actor's open attempt has.
     pub(crate) fn calls_of(&self, thread: u8) -> usize
-        ensures { (row : Attempt) → active_of thread self.now.active ≡ Some row → result ≡ length row.calls }
+        ensures { (row : Attempt) → active_of thread self.now.active ≡ Some row → result ≡ length row.calls.list }
     {
         match position_of(&self.rows[self.ended..], thread) {
             Some(place) => self.rows[self.ended + place].calls.as_slice().len(),
@@ -95,16 +96,14 @@ impl Recorded {
         }
     }
 
-    /// Makes room for so many more calls of the actor's open attempt.
-    pub(crate) fn reserve_calls(&mut self, thread: u8, more: usize) -> Result<(), AllocError>
-        ensures same { self.new ≡ self.old }
-        ensures short { OnErr result (0 < more) }
+    /// For how many more calls the actor's open attempt has room.
+    pub(crate) fn room_of(&self, thread: u8) -> usize
+        ensures { (row : Attempt) → active_of thread self.now.active ≡ Some row → result ≡ row.calls.room }
     {
-        if let Some(place) = position_of(&self.rows[self.ended..], thread) {
-            let row = &mut self.rows[self.ended + place];
-            row.calls.reserve(more)?;
+        match position_of(&self.rows[self.ended..], thread) {
+            Some(place) => self.rows[self.ended + place].calls.room(),
+            None => 0,
         }
-        Ok(())
     }
 
     /// The actor's open attempt reads at this position.
@@ -117,18 +116,20 @@ impl Recorded {
         }
     }
 
-    /// A call of the actor's open attempt has a reply.
-    pub(crate) fn add(&mut self, thread: u8, spare: &mut Vec<Entry>, entry: Entry)
+    /// A call of the actor's open attempt has a reply, and asked for this room.
+    pub(crate) fn add(&mut self, thread: u8, spare: &mut Vec<Entry>, entry: Entry, ahead: usize)
         requires empty { spare.old.items ≡ [] }
-        requires room { (row : Attempt) → active_of thread self.old.active ≡ Some row
-            → length row.calls < vec_capacity spare.old }
-        ensures added { self.new ≡ with_changed thread (λ row. record row { calls = row.calls ++ entry ∷ [] })
+        requires room { (row : Attempt) → active_of thread self.old.active ≡ Some row → row.calls.room ≡ 0
+            → length row.calls.list < vec_capacity spare.old }
+        requires ahead { (row : Attempt) → active_of thread self.old.active ≡ Some row → 0 < ahead
+            → length row.calls.list + 1 + ahead ≤ vec_capacity spare.old }
+        ensures added { self.new ≡ with_changed thread (λ row. record row { calls = grown row.calls entry ahead })
             self.old }
         ensures empty { spare.new.items ≡ [] }
     {
         if let Some(place) = position_of(&self.rows[self.ended..], thread) {
             let row = &mut self.rows[self.ended + place];
-            row.calls.push(spare, entry);
+            row.calls.push(spare, entry, ahead);
         }
     }
 
@@ -174,16 +175,17 @@ impl Recorded {
         self.end(thread, at, outcome);
     }
 
-    /// The actor's open attempt ends, at this position.
+    /// The actor's open attempt ends, at this position. No place is promised in it any more.
     fn end(&mut self, thread: u8, at: u64, outcome: Outcome)
         ensures gone { active_of thread self.new.active ≡ None }
         ensures ended { (row : Attempt) → active_of thread self.old.active ≡ Some row
-            → self.new ≡ with_ended thread (record row { at = at; outcome = outcome }) self.old }
+            → self.new ≡ with_ended thread (record row { calls = spent row.calls; at = at; outcome = outcome }) self.old }
     {
         if let Some(place) = position_of(&self.rows[self.ended..], thread) {
             let row = &mut self.rows[self.ended + place];
             row.at = at;
             row.outcome = outcome;
+            row.calls.give_up_room();
             bring_forward(&mut self.rows, self.ended + place, self.ended);
             self.ended += 1;
         }

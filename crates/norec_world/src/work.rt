@@ -3,10 +3,12 @@
 ghost use Rattle.std.specs.Prelude.{◌≡◌, ◌⊎◌, ◌^◌, ◌+◌, ◌/◌, ◌<◌, ◌≤◌, ◌++◌, ◌∷◌, ℕ, Bool, true, false, [], if◌then◌else◌, Some, None, IfOk, OnOk, OnErr, is_some, length, unwrap_or, vec_capacity};
 ghost use Rattle.tx_attempts.specs.declared.attempt.Attempt.{Attempt};
 ghost use Rattle.itm_types.specs.Calls.{is_abort, registered_by};
+ghost use Rattle.norec_world.specs.Rows.{active_of};
 ghost use Rattle.norec_core.specs.Core.{in_transaction};
 
 use crate::actor::{Actor, Status};
 use crate::memory::Memory;
+use crate::places::{reserve_actions, reserve_place};
 use crate::recorded::Recorded;
 use itm_types::{Call, MAX_ACTORS, MAX_RETRIES, Props, Ran, Reply};
 use norec_core::{Answer, Next, Undone};
@@ -19,7 +21,8 @@ impl<P: Player> Actor<P> {
     ghost use Rattle.norec_world.specs.Cells.{Cells};
     ghost use Rattle.norec_world.specs.Status.{is_ready, ending_of};
     ghost use Rattle.norec_world.specs.Records.{Asks, Records, StopsAt};
-    ghost use Rattle.norec_world.specs.Rows.{active_of, with_ended};
+    ghost use Rattle.norec_world.specs.Rows.{with_ended};
+    ghost use Rattle.tx_attempts.specs.Kept.{grown, spent};
     ghost use Rattle.norec_core.specs.Proceeds.{IsSettled};
     ghost use Rattle.norec_core.specs.Undoing.{after_undoing};
     ghost use Rattle.itm_types.specs.Calls.{is_begin};
@@ -88,7 +91,6 @@ impl<P: Player> Actor<P> {
                 recorded.reserve(MAX_ACTORS)?;
                 let ahead = ahead_of(self.engine.goes(call));
                 let attempt = self.attempt(alloc, memory.clock(), *props, ahead)?;
-                self.spare.reserve(ahead)?;
                 self.end_room.reserve(ahead)?;
                 self.cancel_room.reserve(ahead)?;
                 let next = self.engine.begin(*props, *room, self.again)?;
@@ -98,11 +100,12 @@ impl<P: Player> Actor<P> {
             _ if !self.engine.is_open() => self.engine.call(call),
             _ => {
                 let calls = recorded.calls_of(self.thread);
-                self.spare.reserve(calls.saturating_add(1))?;
+                reserve_place(recorded, self.thread, calls, &mut self.spare)?;
                 let actions = self.engine.actions();
                 reserve_actions(call, actions, &mut self.end_room, &mut self.cancel_room)?;
                 let ahead = ahead_of(self.engine.goes(call));
-                self.reserve_ahead(recorded, calls, actions, ahead)?;
+                self.reserve_ahead(calls, actions, ahead)?;
+                self.ahead = ahead;
                 self.engine.call(call)
             }
         }
@@ -112,7 +115,6 @@ impl<P: Player> Actor<P> {
     /// asks for room too, though in an irrevocable transaction it is refused.
     fn reserve_ahead(
         &mut self,
-        recorded: &mut Recorded,
         calls: usize,
         actions: usize,
         ahead: usize,
@@ -125,7 +127,6 @@ impl<P: Player> Actor<P> {
             × (vec_capacity self.old.cancel_room ≤ vec_capacity self.new.cancel_room) }
         ensures room { OnOk result (0 < ahead → (calls + 1 + ahead ≤ vec_capacity self.new.spare) × (actions + ahead ≤ vec_capacity self.new.end_room)
             × (actions + ahead ≤ vec_capacity self.new.cancel_room)) }
-        ensures rows { recorded.new ≡ recorded.old }
         ensures short { OnErr result (0 < ahead) }
     {
         if ahead == 0 {
@@ -133,7 +134,6 @@ impl<P: Player> Actor<P> {
         }
         self.spare
             .reserve(calls.saturating_add(1).saturating_add(ahead))?;
-        recorded.reserve_calls(self.thread, ahead + 1)?;
         self.end_room.reserve(actions + ahead)?;
         self.cancel_room.reserve(actions + ahead)?;
         Ok(())
@@ -154,7 +154,7 @@ impl<P: Player> Actor<P> {
           at = 0;
           props = props;
           arena = self.now.engine.arena;
-          calls = [];
+          calls = record { list = []; room = ahead };
           ran = [];
           outcome = Outcome.Unfinished;
         }) }
@@ -245,7 +245,12 @@ impl<P: Player> Actor<P> {
             }
             None => {
                 if is_open {
-                    recorded.add(self.thread, &mut self.spare, Entry { call, reply });
+                    recorded.add(
+                        self.thread,
+                        &mut self.spare,
+                        Entry { call, reply },
+                        self.ahead,
+                    );
                     recorded.run(self.thread, &mut self.cancel_room, self.engine.due());
                 } else if recorded.has_open(self.thread) {
                     let at = self.engine.snapshot() / 2;
@@ -279,7 +284,7 @@ impl<P: Player> Actor<P> {
     fn close(&mut self, recorded: &mut Recorded, entry: Entry, at: u64, outcome: Outcome)
         requires empty { self.old.spare.items ≡ [] }
         requires room { (row : Attempt) → active_of self.old.thread recorded.old.active ≡ Some row
-            → length row.calls < vec_capacity self.old.spare }
+            → row.calls.room ≡ 0 → length row.calls.list < vec_capacity self.old.spare }
         requires end_empty { self.old.end_room.items ≡ [] }
         requires first { HasFirst recorded.old self.old }
         requires places { HasPlaces recorded.old self.old }
@@ -290,13 +295,13 @@ impl<P: Player> Actor<P> {
         ensures ended { (row : Attempt) → active_of self.old.thread recorded.old.active ≡ Some row
             → recorded.new
             ≡ with_ended self.old.thread (record row {
-              calls = row.calls ++ entry ∷ [];
+              calls = spent (grown row.calls entry 0);
               at = at;
               ran = self.old.engine.actions.ran;
               outcome = outcome;
             }) recorded.old }
     {
-        recorded.add(self.thread, &mut self.spare, entry);
+        recorded.add(self.thread, &mut self.spare, entry, 0);
         recorded.stop(
             self.thread,
             at,
@@ -358,31 +363,5 @@ impl<P: Player> Actor<P> {
             );
         }
         self.status = Status::Ended(End::NoMemory);
-    }
-}
-
-/// Makes room for the actions that the call may leave, where there are so many: for one more at the attempt's end, or for
-/// those that a cancel runs.
-fn reserve_actions(
-    call: &Call,
-    actions: usize,
-    end_room: &mut Vec<Ran>,
-    cancel_room: &mut Vec<Ran>,
-) -> Result<(), AllocError>
-    requires few { actions < 2 ^ 63 }
-    requires end_empty { end_room.old.items ≡ [] }
-    requires cancel_empty { cancel_room.old.items ≡ [] }
-    ensures end_empty { end_room.new.items ≡ [] }
-    ensures cancel_empty { cancel_room.new.items ≡ [] }
-    ensures kept { (vec_capacity end_room.old ≤ vec_capacity end_room.new) × (vec_capacity cancel_room.old ≤ vec_capacity cancel_room.new) }
-    ensures end { OnOk result (is_some (registered_by call.now) ≡ true → actions < vec_capacity end_room.new) }
-    ensures cancel { OnOk result (is_abort call.now ≡ true → actions ≤ vec_capacity cancel_room.new) }
-    ensures short { OnErr result (((is_some (registered_by call.now) ≡ true) × (vec_capacity end_room.old ≤ actions))
-        ⊎ ((is_abort call.now ≡ true) × (vec_capacity cancel_room.old < actions))) }
-{
-    match call {
-        Call::CommitAction(_) | Call::UndoAction(_) => end_room.reserve(actions + 1),
-        Call::Abort { .. } => cancel_room.reserve(actions),
-        _ => Ok(()),
     }
 }

@@ -1,5 +1,5 @@
-use Rattle.std.proofs.Common.{rules, ◌≡◌, ◌≢◌, ◌+◌, ◌<◌, ◌≤◌, ℕ, zero, suc, Some, [], ◌∷◌, ◌++◌, inl, inr, slice_get, drop, replicate, List, length, length-append, ap, sym, subst, refl, ◌∙◌, arith}
-use Rattle.norec_world.proofs.Common.{same_Some, Actor, AreActors, ChangesOwn, HasStarted, IsFirst, MAX_ACTORS, RunsFrom, bytes_of, count_pending, ending_in, first_of, opening, slice_index_or}
+use Rattle.std.proofs.Common.{refl, Option, None, arith, rules, ◌≡◌, ◌≢◌, ◌+◌, ◌<◌, ◌≤◌, ℕ, zero, suc, Some, [], ◌∷◌, ◌++◌, inl, inr, slice_get, drop, replicate, List, length, length-append, ap, sym, subst, refl, ◌∙◌, arith}
+use Rattle.norec_world.proofs.Common.{same_Some, Actor, AreActors, Attempt, ChangesOwn, HasStarted, IsFirst, MAX_ACTORS, RunsFrom, bytes_of, count_pending, ending_in, first_of, opening, slice_index_or}
 use Rattle.norec_world.proofs.RunOthers.{other_runs, laid_first}
 use Rattle.norec_world.proofs.TryChains.{fed_joined, first_still}
 use Rattle.norec_world.proofs.SoundOthers.{actors_joined, joined_place, none_active, joined_place}
@@ -11,6 +11,14 @@ drop_head [] zero x ys e = absurd (cc)
 drop_head [] (suc k) x ys e = absurd (cc)
 drop_head (y ∷ xs) zero x ys e = ((let same : y ≡ x = cc in ap (λ (z : _). Some z) same), (let same : xs ≡ ys = cc in same))
 drop_head (y ∷ xs) (suc k) x ys e = drop_head xs k x ys e
+
+unlisted : (o : Option Attempt) → ((row : Attempt) → o ≡ Some row → ⊥) → o ≡ None
+unlisted None never = refl
+unlisted (Some row) never = absurd (never row refl)
+
+-- no one has an attempt who is not there yet
+pub start-requires-clause-none : goal.start-requires-clause-none
+start-requires-clause-none g c = unlisted _ (λ row e. (let i = c.loop-player.invariant in let l = i.sound.listed _ row e in let few = i.few in let t = c.len-thread.ensures in omega arith))
 
 pub loop-player-preserved : goal.loop-player-preserved
 loop-player-preserved g c =

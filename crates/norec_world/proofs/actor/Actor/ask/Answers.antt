@@ -4,7 +4,7 @@ use Rattle.norec_core.specs.Core.{Core, came}
 use Rattle.norec_world.specs.ActionRoom.{MayRunOn}
 use Rattle.norec_world.proofs.ActionRoom.{IsServed, asked_inside, asked_served, called_acting, grown_acting, on_err, places_for, starves_begin, unasked_acting}
 use Rattle.norec_world.proofs.HeldRoom.{came_room}
-use Rattle.norec_world.proofs.Common.{Actor, Attempt, Begin, Rows, in_transaction, same_Some}
+use Rattle.norec_world.proofs.Common.{Actor, Attempt, Begin, in_transaction, same_Some}
 use Rattle.norec_world.proofs.actor.Actor.ask.Goals.{After-call-in_default-2}
 use Rattle.norec_world.proofs.actor.Actor.ask.Goals as goal
 
@@ -29,6 +29,7 @@ returns-in_ok-next-in-Begin-clause-asked g c = record {
         let p : c.in-Begin.props ≡ props = cc in
         ap (λ (x : Attempt). x.props) (sym same) ∙ (ap (λ (x : Attempt). x.props) c.in_ok-attempt-in-Begin.ensures ∙ p));
     room = search rules;
+    ahead = search rules;
   };
 }
 
@@ -48,9 +49,8 @@ returns-in_ok-reserve_ahead-in_default-2-clause-acts g c =
     let made = c.in_ok-reserve_actions-in_default-2.ensures in
     let ahead = c.reserve_ahead.ensures in
     let e = served g c in
-    let new : Actor g.row.P.Denot = record a { spare = c.reserve_ahead.new.self.spare; end_room = c.reserve_ahead.new.self.end_room; cancel_room = c.reserve_ahead.new.self.cancel_room } in
-    subst (λ (r : Rows). IfOk c.call-in_default-2.result (MayRunOn r (record c.reserve_ahead.new.self { engine = c.call-in_default-2.new.self }) c.args.call.now)) (sym ahead.rows)
-    (subst (λ (x : Actor g.row.P.Denot). IfOk c.call-in_default-2.result (MayRunOn c.args.recorded.now (record x { engine = c.call-in_default-2.new.self }) c.args.call.now)) (sym ahead.actor)
+    let new : Actor g.row.P.Denot = record a { spare = c.reserve_ahead.new.self.spare; ahead = c.ahead_of-ahead-in_default-2.result; end_room = c.reserve_ahead.new.self.end_room; cancel_room = c.reserve_ahead.new.self.cancel_room } in
+    subst (λ (x : Actor g.row.P.Denot). IfOk c.call-in_default-2.result (MayRunOn c.args.recorded.now (record x { ahead = c.ahead_of-ahead-in_default-2.result; engine = c.call-in_default-2.new.self }) c.args.call.now)) (sym ahead.actor)
     (called_acting c.args.recorded.now (record new { engine = c.call-in_default-2.new.self }) (came a.engine c.args.call.now false) a.engine c.args.call.now false (in_transaction a.engine) refl c.requires.kept.row refl
     (record { end_room = ahead.empty.1; cancel_room = ahead.empty.2 }) acts.all
     (λ row f. (let l = places_for c.args.call.now (total a.engine.actions) (vec_capacity a.end_room) (vec_capacity c.reserve_actions.new.end_room) (acts.places row f) made.kept.0 (λ more. (let m = made.end more in let n = c.actions-actions.ensures.total in omega arith)) in
@@ -65,23 +65,23 @@ returns-in_ok-reserve_ahead-in_default-2-clause-acts g c =
     let both = c.in_ok-reserve_ahead-in_default-2.ensures.room (omega arith) in
     ((let x = both.1 in omega arith), (let x = both.2 in omega arith)))))
     (λ shut. (let inside = c.is_open-2.ensures in let tested = c.if-not-is_open-2.false in absurd (cc)))
-    c.call-in_default-2.result e.proceeds e.order e.asks e.settled))
+    c.call-in_default-2.result e.proceeds e.order e.asks e.settled)
 
 pub returns-in_ok-reserve_ahead-in_default-2-clause-told : goal.returns-in_ok-reserve_ahead-in_default-2-clause-told
 returns-in_ok-reserve_ahead-in_default-2-clause-told g c =
     let actor = c.reserve_ahead.ensures.actor in
-    let rows = c.reserve_ahead.ensures.rows in
-    asked_inside c.args.memory.now.clock c.args.recorded.now c.reserve_ahead.new.recorded c.args.self.now (record c.reserve_ahead.new.self { engine = c.call-in_default-2.new.self }) c.args.call.now
+    asked_inside c.args.memory.now.clock c.args.recorded.now c.args.recorded.now c.args.self.now (record c.reserve_ahead.new.self { ahead = c.ahead_of-ahead-in_default-2.result; engine = c.call-in_default-2.new.self }) c.args.call.now
     (let inside = c.is_open-2.ensures in let tested = c.if-not-is_open-2.false in cc)
-    (ap (λ (x : Actor g.row.P.Denot). x.pending) actor) (ap (λ (x : Actor g.row.P.Denot). x.again) actor) (ap (λ (x : Actor g.row.P.Denot). x.player) actor) (ap (λ (x : Actor g.row.P.Denot). x.nth) actor) (ap (λ (x : Actor g.row.P.Denot). x.thread) actor)
-    (rows ∙ (λ i. record c.args.recorded.now { room = ap (λ (x : Rows). x.room) (sym rows) i }))
+    (ap (λ (x : Actor g.row.P.Denot). x.pending) actor) (ap (λ (x : Actor g.row.P.Denot). x.again) actor) (ap (λ (x : Actor g.row.P.Denot). x.player) actor) (ap (λ (x : Actor g.row.P.Denot). x.nth) actor)
+    (λ o. c.ahead_of-ahead-in_default-2.ensures.value ∙ ap (λ (o : Option ℕ). unwrap_or o 0) c.goes-in_default-2.ensures) (ap (λ (x : Actor g.row.P.Denot). x.thread) actor)
+    refl
     c.call-in_default-2.result (served g c)
 
 pub returns-in_default-clause-told : goal.returns-in_default-clause-told
 returns-in_default-clause-told g c =
     let e = c.call.ensures in
     asked_served c.args.memory.now.clock c.args.recorded.now c.args.recorded.now c.args.self.now (record c.args.self.now { engine = c.call.new.self }) c.args.call.now
-    (search rules) (search rules) refl refl refl refl refl c.call.result
+    (search rules) (search rules) refl refl refl (λ o. absurd (let inside = c.is_open-2.ensures in cc)) refl refl c.call.result
     (record { proceeds = e.proceeds; at_once = e.at_once; stays = e.stays; order = e.order; ends = e.ends; tries = e.tries; asks = e.asks; settled = e.settled; held = e.held })
 
 pub returns-in_err-reserve_ahead-in_default-2-clause-unasked_acts : goal.returns-in_err-reserve_ahead-in_default-2-clause-unasked_acts
@@ -89,13 +89,13 @@ returns-in_err-reserve_ahead-in_default-2-clause-unasked_acts g c =
     let made = c.in_ok-reserve_actions-in_default-2.ensures in
     let ahead = c.reserve_ahead.ensures in
     on_err c.from_residual-in_err-reserve_ahead-in_default-2.result
-    (grown_acting c.args.recorded.now c.args.self.now c.reserve_ahead.new.self.spare c.reserve_ahead.new.self.end_room c.reserve_ahead.new.self.cancel_room c.reserve_ahead.new.self ahead.actor (ahead.empty.1, ahead.empty.2)
-    (let m = made.kept.0 in let k = ahead.kept.1 in omega arith) (let m = made.kept.1 in let k = ahead.kept.2 in omega arith) c.requires.acts c.reserve_ahead.new.recorded ahead.rows)
+    (grown_acting c.args.recorded.now c.args.self.now c.reserve_ahead.new.self.spare c.args.self.now.ahead c.reserve_ahead.new.self.end_room c.reserve_ahead.new.self.cancel_room c.reserve_ahead.new.self ahead.actor (ahead.empty.1, ahead.empty.2)
+    (let m = made.kept.0 in let k = ahead.kept.1 in omega arith) (let m = made.kept.1 in let k = ahead.kept.2 in omega arith) c.requires.acts c.args.recorded.now refl)
 
 pub returns-in_ok-reserve_ahead-in_default-2-clause-unasked_acts : goal.returns-in_ok-reserve_ahead-in_default-2-clause-unasked_acts
 returns-in_ok-reserve_ahead-in_default-2-clause-unasked_acts g c =
     let made = c.in_ok-reserve_actions-in_default-2.ensures in
     let ahead = c.reserve_ahead.ensures in
-    unasked_acting c.reserve_ahead.new.recorded c.reserve_ahead.new.self c.call-in_default-2.new.self c.call-in_default-2.result c.call-in_default-2.ensures.err
-    (grown_acting c.args.recorded.now c.args.self.now c.reserve_ahead.new.self.spare c.reserve_ahead.new.self.end_room c.reserve_ahead.new.self.cancel_room c.reserve_ahead.new.self ahead.actor (ahead.empty.1, ahead.empty.2)
-    (let m = made.kept.0 in let k = ahead.kept.1 in omega arith) (let m = made.kept.1 in let k = ahead.kept.2 in omega arith) c.requires.acts c.reserve_ahead.new.recorded ahead.rows)
+    unasked_acting c.args.recorded.now (record c.reserve_ahead.new.self { ahead = c.ahead_of-ahead-in_default-2.result }) c.call-in_default-2.new.self c.call-in_default-2.result c.call-in_default-2.ensures.err
+    (grown_acting c.args.recorded.now c.args.self.now c.reserve_ahead.new.self.spare c.ahead_of-ahead-in_default-2.result c.reserve_ahead.new.self.end_room c.reserve_ahead.new.self.cancel_room (record c.reserve_ahead.new.self { ahead = c.ahead_of-ahead-in_default-2.result }) (λ i. record (ahead.actor i) { ahead = c.ahead_of-ahead-in_default-2.result }) (ahead.empty.1, ahead.empty.2)
+    (let m = made.kept.0 in let k = ahead.kept.1 in omega arith) (let m = made.kept.1 in let k = ahead.kept.2 in omega arith) c.requires.acts c.args.recorded.now refl)

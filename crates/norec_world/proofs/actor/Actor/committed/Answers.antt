@@ -1,6 +1,7 @@
+use Rattle.tx_attempts.specs.Kept.{grown, spent}
 use Rattle.itm_types.specs.declared.call.Ran.{Ran}
 use Rattle.tx_attempts.specs.declared.attempt.Outcome.TheVariants as outcomes
-use Rattle.std.proofs.Common.{List, if◌then◌else◌, ◌≡◌, Bool, true, length, refl, sym, ap, subst, ◌∙◌, ◌++◌, ◌∷◌, []}
+use Rattle.std.proofs.Common.{List, if◌then◌else◌, ◌≡◌, Bool, true, length, refl, sym, ap, subst, ◌∙◌}
 use Rattle.norec_world.proofs.Common.{Actor, Committed, Done, HasRow, IsAnswered, IsSettledBy, Outcome, depth_after, with_ended}
 use Rattle.norec_world.proofs.OthersAttempts.{others_ended}
 use Rattle.norec_world.proofs.PlayerLaws.{after_close, deep_of}
@@ -21,8 +22,8 @@ returns-clause-settled g c was d =
 pub returns-clause-records : goal.returns-clause-records
 returns-clause-records g c was d = (
   λ row e. c.close.ensures.ended row e
-      ∙ ap (λ (o : Outcome). with_ended c.args.self.now.thread (record row { calls = row.calls ++ record { call = c.args.call; reply = Done } ∷ []; at = c.args.at; ran = c.args.self.now.engine.actions.ran; outcome = o }) c.args.recorded.now) c.outcome_of.ensures
-      ∙ ap (λ (ran : List Ran). with_ended c.args.self.now.thread (record row { calls = row.calls ++ record { call = c.args.call; reply = Done } ∷ []; at = c.args.at; ran = ran; outcome = if c.args.wrote then outcomes.Committed else outcomes.ReadOnly }) c.args.recorded.now)
+      ∙ ap (λ (o : Outcome). with_ended c.args.self.now.thread (record row { calls = spent (grown row.calls (record { call = c.args.call; reply = Done }) 0); at = c.args.at; ran = c.args.self.now.engine.actions.ran; outcome = o }) c.args.recorded.now) c.outcome_of.ensures
+      ∙ ap (λ (ran : List Ran). with_ended c.args.self.now.thread (record row { calls = spent (grown row.calls (record { call = c.args.call; reply = Done }) 0); at = c.args.at; ran = ran; outcome = if c.args.wrote then outcomes.Committed else outcomes.ReadOnly }) c.args.recorded.now)
       (sym (ap (λ (x : Actor g.row.P.Denot). x.engine.actions.ran) c.close.ensures.actor)),
   ap (λ (x : Actor g.row.P.Denot). x.player) c.close.ensures.actor ∙ c.answer.ensures,
   ap (λ (x : Actor g.row.P.Denot). x.again) c.close.ensures.actor,

@@ -1,3 +1,4 @@
+use Rattle.tx_attempts.specs.Kept.{grown}
 use Rattle.itm_types.specs.declared.call.Ran.{Ran}
 use Rattle.user_actions.specs.Actions.{total}
 use Rattle.norec_world.specs.ActionRoom.{NoCancel}
@@ -40,8 +41,8 @@ returns-then-is_open-2-clause-settled g c was d =
     let h : HasRow true r a.thread = subst (λ (b : Bool). HasRow b r a.thread) open_before d.kept.row in
     after_reply g.P.Player g.met.P.Player.laws r c.run.new.self a c.args.call
     was c.args.reply d c.answer.new.self c.answer.ensures c.add.new.spare a.end_room c.run.new.spare c.add.ensures.empty c.take.new.self c.take.ensures.after a.again
-    (row_changed r c.run.new.self a.thread (in_transaction a.engine) (λ row. record row { calls = row.calls ++ record { call = c.args.call; reply = c.args.reply } ∷ []; ran = c.due.result.now }) (λ x. refl) (λ x. refl)
-    (changed_then r c.add.new.self c.run.new.self a.thread (λ row. record row { calls = row.calls ++ record { call = c.args.call; reply = c.args.reply } ∷ [] }) (λ row. record row { ran = c.due.result.now }) (λ x. refl) c.add.ensures.added c.run.ensures.ran) h opened)
+    (row_changed r c.run.new.self a.thread (in_transaction a.engine) (λ row. record row { calls = grown row.calls (record { call = c.args.call; reply = c.args.reply }) c.args.self.now.ahead; ran = c.due.result.now }) (λ x. refl) (λ x. refl)
+    (changed_then r c.add.new.self c.run.new.self a.thread (λ row. record row { calls = grown row.calls (record { call = c.args.call; reply = c.args.reply }) c.args.self.now.ahead }) (λ row. record row { ran = c.due.result.now }) (λ x. refl) c.add.ensures.added c.run.ensures.ran) h opened)
 
 -- no transaction was open, nor is one now
 pub returns-else-has_open-clause-settled : goal.returns-else-has_open-clause-settled
@@ -81,8 +82,8 @@ returns-then-is_open-clause-others g c was d =
 
 pub returns-then-is_open-2-clause-others : goal.returns-then-is_open-2-clause-others
 returns-then-is_open-2-clause-others g c was d =
-    others_changed c.args.self.now _ c.args.recorded.now c.run.new.self (λ row. record row { calls = row.calls ++ record { call = c.args.call; reply = c.args.reply } ∷ []; ran = c.due.result.now }) (λ x. refl) refl
-    (c.take.ensures.after ∙ sym (sym c.in-None.ensures.value)) (changed_then c.args.recorded.now c.add.new.self c.run.new.self c.args.self.now.thread (λ row. record row { calls = row.calls ++ record { call = c.args.call; reply = c.args.reply } ∷ [] }) (λ row. record row { ran = c.due.result.now }) (λ x. refl) c.add.ensures.added c.run.ensures.ran)
+    others_changed c.args.self.now _ c.args.recorded.now c.run.new.self (λ row. record row { calls = grown row.calls (record { call = c.args.call; reply = c.args.reply }) c.args.self.now.ahead; ran = c.due.result.now }) (λ x. refl) refl
+    (c.take.ensures.after ∙ sym (sym c.in-None.ensures.value)) (changed_then c.args.recorded.now c.add.new.self c.run.new.self c.args.self.now.thread (λ row. record row { calls = grown row.calls (record { call = c.args.call; reply = c.args.reply }) c.args.self.now.ahead }) (λ row. record row { ran = c.due.result.now }) (λ x. refl) c.add.ensures.added c.run.ensures.ran)
 
 no_length : (xs : List Ran) → length xs ≡ 0 → xs ≡ []
 no_length [] e = refl
@@ -90,13 +91,13 @@ no_length (x ∷ xs) e = absurd (omega arith)
 
 pub run-requires-clause-first : goal.run-requires-clause-first
 run-requires-clause-first g c row e =
-    let was = row_from c.args.recorded.now c.add.new.self c.args.self.now.thread (λ row. record row { calls = row.calls ++ record { call = c.args.call; reply = c.args.reply } ∷ [] }) (λ x. refl) c.add.ensures.added row e in
+    let was = row_from c.args.recorded.now c.add.new.self c.args.self.now.thread (λ row. record row { calls = grown row.calls (record { call = c.args.call; reply = c.args.reply }) c.args.self.now.ahead }) (λ x. refl) c.add.ensures.added row e in
     let first = c.requires.acts.first was.0 was.1 in
     (first.0, (ap (λ (x : Attempt). x.ran ++ first.0) was.2 ∙ first.1) ∙ sym c.due.ensures)
 
 pub run-requires-clause-room : goal.run-requires-clause-room
 run-requires-clause-room g c row e less =
-    let was = row_from c.args.recorded.now c.add.new.self c.args.self.now.thread (λ row. record row { calls = row.calls ++ record { call = c.args.call; reply = c.args.reply } ∷ [] }) (λ x. refl) c.add.ensures.added row e in
+    let was = row_from c.args.recorded.now c.add.new.self c.args.self.now.thread (λ row. record row { calls = grown row.calls (record { call = c.args.call; reply = c.args.reply }) c.args.self.now.ahead }) (λ x. refl) c.add.ensures.added row e in
     let opened : in_transaction c.args.self.now.engine ≡ true = sym c.is_open-is_open.ensures ∙ c.if-is_open-2.true in
     let due = ap (length {A = Ran}) c.due.ensures in
     let same = ap (λ (x : Attempt). length x.ran) was.2 in
@@ -106,9 +107,9 @@ run-requires-clause-room g c row e less =
 pub returns-then-is_open-2-clause-acts : goal.returns-then-is_open-2-clause-acts
 returns-then-is_open-2-clause-acts g c =
     let r = c.args.recorded.now in
-    let rows = (changed_then r c.add.new.self c.run.new.self c.args.self.now.thread (λ row. record row { calls = row.calls ++ record { call = c.args.call; reply = c.args.reply } ∷ [] }) (λ row. record row { ran = c.due.result.now }) (λ x. refl) c.add.ensures.added c.run.ensures.ran) in
+    let rows = (changed_then r c.add.new.self c.run.new.self c.args.self.now.thread (λ row. record row { calls = grown row.calls (record { call = c.args.call; reply = c.args.reply }) c.args.self.now.ahead }) (λ row. record row { ran = c.due.result.now }) (λ x. refl) c.add.ensures.added c.run.ensures.ran) in
     let was = λ (row : Attempt) (e : active_of c.args.self.now.thread c.run.new.self.active ≡ Some row).
-    row_from r c.run.new.self c.args.self.now.thread (λ x. record x { calls = x.calls ++ record { call = c.args.call; reply = c.args.reply } ∷ []; ran = c.due.result.now }) (λ x. refl) rows row e in
+    row_from r c.run.new.self c.args.self.now.thread (λ x. record x { calls = grown x.calls (record { call = c.args.call; reply = c.args.reply }) c.args.self.now.ahead; ran = c.due.result.now }) (λ x. refl) rows row e in
     record {
       empty = record { end_room = c.requires.acts.empty.end_room; cancel_room = c.run.ensures.empty };
       all = λ row e. ap (λ (x : Attempt). x.ran) (was row e).2 ∙ c.due.ensures;
@@ -117,7 +118,7 @@ returns-then-is_open-2-clause-acts g c =
       status = subst NoCancel (sym c.requires.answered.1.status) tt;
       room = λ held some.
           (let both = c.requires.acts.room held some in
-          let kept = c.run.ensures.kept (λ row e. (let w = row_from r c.add.new.self c.args.self.now.thread (λ x. record x { calls = x.calls ++ record { call = c.args.call; reply = c.args.reply } ∷ [] }) (λ x. refl) c.add.ensures.added row e in
+          let kept = c.run.ensures.kept (λ row e. (let w = row_from r c.add.new.self c.args.self.now.thread (λ x. record x { calls = grown x.calls (record { call = c.args.call; reply = c.args.reply }) c.args.self.now.ahead }) (λ x. refl) c.add.ensures.added row e in
           ap (λ (x : Attempt). x.ran) w.2 ∙ (c.requires.acts.still held w.0 w.1 ∙ sym c.due.ensures))) in
           (both.0, (let x = both.1 in omega arith)));
     }
@@ -155,7 +156,7 @@ returns-then-is_open-2-clause-records g c was d =
     let opened : in_transaction a.engine ≡ true = sym c.is_open-is_open.ensures ∙ c.if-is_open-2.true in
     let none : a.pending ≡ None = sym c.in-None.ensures.value in
     let open_before : was ≡ true = was_open was (in_transaction a.engine) (g.P.Player.depth a.player) (length a.engine.blocks) c.args.call c.args.reply d.nested.deep (deep_of a.engine.blocks) (λ e. sym (d.in_call.begins e) ∙ ap is_some none) d.fits.0 opened in
-    let rows = (changed_then r c.add.new.self c.run.new.self a.thread (λ row. record row { calls = row.calls ++ record { call = c.args.call; reply = c.args.reply } ∷ [] }) (λ row. record row { ran = c.due.result.now }) (λ x. refl) c.add.ensures.added c.run.ensures.ran)
-    ∙ ap (λ (ran : List Ran). with_changed a.thread (λ row. record row { calls = row.calls ++ record { call = c.args.call; reply = c.args.reply } ∷ []; ran = ran }) r) c.due.ensures in
+    let rows = (changed_then r c.add.new.self c.run.new.self a.thread (λ row. record row { calls = grown row.calls (record { call = c.args.call; reply = c.args.reply }) c.args.self.now.ahead }) (λ row. record row { ran = c.due.result.now }) (λ x. refl) c.add.ensures.added c.run.ensures.ran)
+    ∙ ap (λ (ran : List Ran). with_changed a.thread (λ row. record row { calls = grown row.calls (record { call = c.args.call; reply = c.args.reply }) c.args.self.now.ahead; ran = ran }) r) c.due.ensures in
     subst (λ (b : Bool). RecordsReply g.P.Player b (in_transaction a.engine) r c.run.new.self a (record a { player = c.answer.new.self; spare = c.add.new.spare; cancel_room = c.run.new.spare; pending = c.take.new.self }) c.args.call c.args.reply) (sym open_before)
     (subst (λ (n : Bool). RecordsReply g.P.Player true n r c.run.new.self a (record a { player = c.answer.new.self; spare = c.add.new.spare; cancel_room = c.run.new.spare; pending = c.take.new.self }) c.args.call c.args.reply) (sym opened) (rows, c.answer.ensures, refl, refl, refl))

@@ -7,7 +7,7 @@ pub returns-in-Some : goal.returns-in-Some
 returns-in-Some c row found =
     let first = place_first c.self.inside.rows.items c.self.inside.ended c.deref.result.now c.args.thread c.in-Some.place c.deref.ensures.value c.in-Some.ensures.value in
     let same = is_row c.self.inside.rows.items c.self.inside.ended c.args.thread c.in-Some.place first c.index.result.now c.index.ensures _ c.args.self.now c.self.view_is row found in
-    ap length c.as_slice.ensures ∙ ap (λ (r : Attempt). length r.calls) (sym same)
+    ap length c.as_slice.ensures ∙ ap (λ (r : Attempt). length r.calls.list) (sym same)
 
 pub returns-in-None : goal.returns-in-None
 returns-in-None c row found =

@@ -1,5 +1,6 @@
 use Rattle.std.proofs.Common.{◌≡◌, ℕ, ◌+◌, ◌-◌, ◌<◌, ◌≤◌, List, length, set, get_or, length-take, length-drop, arith, sym, ap, ◌∙◌, drop, vec_len, vec_capacity}
 use Rattle.std.proofs.lemmas.Grind.{common_steps}
+use Rattle.tx_attempts.specs.Kept.{Kept, spent}
 use Rattle.norec_world.proofs.Common.{Attempt, Rows, active_of, insert, is_of, remove, with_ended}
 use Rattle.norec_world.proofs.ActiveRows.{IsFirstAt, place_first, place_none, is_row, no_row, moved_from, moved_rows, without_here}
 use Rattle.norec_world.proofs.recorded.Recorded.end.Goals as goal
@@ -11,7 +12,7 @@ within : (c : goal.After-self-in-Some-1) → c.self.inside.ended ≤ length c.se
 within c = let count = c.self.inside.rows.ok.0 in let bound = c.self.invariant.0 in omega arith
 
 abbrev ended_row : goal.After-self-in-Some-1 → Attempt
-ended_row c = record c.index_mut-row.result.now { at = c.args.at; outcome = c.args.outcome }
+ended_row c = record c.index_mut-row.result.now { calls = c.give_up_room.new.self; at = c.args.at; outcome = c.args.outcome }
 
 -- where a changed one stood
 put_at : (xs : List Attempt) (i : ℕ) (y : Attempt) → i < length xs → y ≡ get_or (set xs i y) i y
@@ -45,7 +46,8 @@ returns-in-Some-clause-ended c row found =
     moved_rows c.self.inside.rows.items c.self.inside.ended c.args.thread c.in-Some.place (first c) (within c) (ended_row c)
     c.bring_forward.new.rows.items (moved c) _ _ kept
     ∙ (ap (λ (r : Rows). with_ended c.args.thread (ended_row c) r) c.self.view_is
-    ∙ ap (λ (x : Attempt). with_ended c.args.thread (record x { at = c.args.at; outcome = c.args.outcome }) c.args.self.now) (sym same))
+    ∙ (ap (λ (k : Kept). with_ended c.args.thread (record (ended_row c) { calls = k }) c.args.self.now) c.give_up_room.ensures
+    ∙ ap (λ (x : Attempt). with_ended c.args.thread (record x { calls = spent x.calls; at = c.args.at; outcome = c.args.outcome }) c.args.self.now) (sym same)))
 
 pub returns-in_default-clause-ended : goal.returns-in_default-clause-ended
 returns-in_default-clause-ended c row found =

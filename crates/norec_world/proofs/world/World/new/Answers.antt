@@ -13,11 +13,11 @@ invariant_of-result g c = let w : World g.row.P.Denot = record { opening = c.in_
       long = search rules;
       commits = commits;
       running = record {
-        laid = laid_first c.new-base.result c.new-memory.result c.start_all.new.recorded (search rules) c.new-memory.ensures.fit c.new-memory.ensures.clock c.in_ok-actors.ensures.none.0;
+        laid = laid_first c.new-base.result c.new-memory.result c.start_all.new.recorded (let b : c.new-base.result ≡ c.args.setup.bytes = c.new-base.ensures ∙ (c.in_ok-to_vec.ensures.items_if_clones_equal (λ x y e. e) ∙ c.as_slice.ensures) in b ∙ (sym c.into_vec.ensures ∙ sym c.new-memory.ensures.bytes)) c.new-memory.ensures.fit c.new-memory.ensures.clock c.in_ok-actors.ensures.none.0;
         ordered = subst (AreFrom 0) (sym c.in_ok-actors.ensures.none.1) tt;
         threads = subst (AreOfActors (length c.in_ok-actors.actors.items)) (sym c.in_ok-actors.ensures.none.0) tt;
         each = λ place p a e f.
-            (let based : c.new-base.result ≡ bytes_of c.new-memory.result.words = search rules in
+            (let based : c.new-base.result ≡ bytes_of c.new-memory.result.words = (let b : c.new-base.result ≡ c.args.setup.bytes = c.new-base.ensures ∙ (c.in_ok-to_vec.ensures.items_if_clones_equal (λ x y e. e) ∙ c.as_slice.ensures) in b ∙ (sym c.into_vec.ensures ∙ sym c.new-memory.ensures.bytes)) in
             let players : c.in_ok-opening.opening.items ≡ c.args.players.items = search rules in
             subst (λ (base : List ℕ). RunsFrom g.P.Player (first_of p c.args.setup.arena) base c.new-memory.result c.start_all.new.recorded a) (sym based)
             (c.in_ok-actors.ensures.runs place p a (ap (λ (xs : List g.row.P.Denot). slice_get xs place) (sym players) ∙ e) f));
@@ -39,10 +39,10 @@ returns-clause-tied g c = world_tied g.P.Player g.met.P.Player.laws _ (invariant
 
 pub returns-clause-anew : goal.returns-clause-anew
 returns-clause-anew g c =
-    let based : c.new-base.result ≡ bytes_of c.new-memory.result.words = search rules in
+    let based : c.new-base.result ≡ bytes_of c.new-memory.result.words = (let b : c.new-base.result ≡ c.args.setup.bytes = c.new-base.ensures ∙ (c.in_ok-to_vec.ensures.items_if_clones_equal (λ x y e. e) ∙ c.as_slice.ensures) in b ∙ (sym c.into_vec.ensures ∙ sym c.new-memory.ensures.bytes)) in
     record {
       starts = λ place p a e f.
-          (let based : c.new-base.result ≡ c.args.setup.bytes = search rules in
+          (let based : c.new-base.result ≡ c.args.setup.bytes = c.new-base.ensures ∙ (c.in_ok-to_vec.ensures.items_if_clones_equal (λ x y e. e) ∙ c.as_slice.ensures) in
           let players : c.in_ok-opening.opening.items ≡ c.args.players.items = search rules in
           let words : length c.new-memory.result.words ≡ length c.args.setup.bytes / 8 = search rules in
           subst (λ (n : ℕ). HasStarted g.P.Player c.new-memory.result.clock (opening n (replicate c.args.setup.arena 0) c.args.setup.limits.patience c.args.setup.limits.max_commits) c.args.setup.limits.retries place p a)
