@@ -10,6 +10,7 @@ use Rattle.norec_core.specs.declared.answer.Answer.{Answer}
 use Rattle.norec_core.specs.declared.answer.Answer.TheVariants.{Reply, Committed, Conflict, Busy, Full}
 use Rattle.norec_core.specs.declared.answer.Next.{Next}
 use Rattle.norec_core.specs.declared.answer.Next.TheVariants.{Step as Steps, Answer as Answers}
+use Rattle.tx_attempts.specs.Kept.{grown, spent}
 use Rattle.tx_attempts.specs.declared.attempt.Attempt.{Attempt}
 use Rattle.tx_attempts.specs.declared.attempt.Outcome.{Outcome}
 use Rattle.tx_attempts.specs.declared.attempt.Outcome.TheVariants as outcomes
@@ -63,12 +64,12 @@ module _ (r s : Rows) (same : SameRows r s) where
     found_too = (λ i. active_of (sym e i) (sym same.active i)) ∙ found
 
     stopped_same : (m n : ℕ) (o : Outcome) (p q : List Ran) (r' s' : Rows) → m ≡ n → p ≡ q → StopsAt t r m o p r' → StopsAt u s n o q s' → SameRows r' s'
-    stopped_same m n o p q r' s' f g x y = ended_same t u _ _ r' s' e (λ i. record row { at = f i; ran = g i; outcome = o }) (x row found) (y row found_too)
+    stopped_same m n o p q r' s' f g x y = ended_same t u _ _ r' s' e (λ i. record row { calls = spent row.calls; at = f i; ran = g i; outcome = o }) (x row found) (y row found_too)
 
     ended_by_same : (m n : ℕ) (o : Outcome) (call : Call) (reply : Replied) (p q : List Ran) (r' s' : Rows) → m ≡ n → p ≡ q → EndsBy t r m o call reply p r' → EndsBy u s n o call reply q s'
         → SameRows r' s'
     ended_by_same m n o call reply p q r' s' f g x y =
-        ended_same t u _ _ r' s' e (λ i. record row { calls = row.calls ++ record { call = call; reply = reply } ∷ []; at = f i; ran = g i; outcome = o }) (x row found) (y row found_too)
+        ended_same t u _ _ r' s' e (λ i. record row { calls = spent (grown row.calls (record { call = call; reply = reply }) 0); at = f i; ran = g i; outcome = o }) (x row found) (y row found_too)
 
 -- ## Answers
 
@@ -86,7 +87,7 @@ module _ {P : Type 0} (rules : Rules P) (r s : Rows) (same : SameRows r s) (a b 
   asked_again x y p n g = record {
     thread = thread';
     status = x ∙ sym y;
-    parts = λ on. record { retries = retries'; player = p; engine = engine; pending = nothing x ∙ sym (nothing' y); nth = n; again = g };
+    parts = λ on. record { retries = retries'; player = p; engine = engine; pending = nothing x ∙ sym (nothing' y); nth = n; again = g; ahead = λ c step w o. absurd (let z = sym x ∙ w in cc) };
   }
 
   counted_same : a.retries ≡ b.retries → a'.player ≡ b'.player → CountsTry a a' → CountsTry b b' → AreAlike a' b'
@@ -113,6 +114,7 @@ module _ {P : Type 0} (rules : Rules P) (r s : Rows) (same : SameRows r s) (a b 
     -- what an answer needs of what was recorded before
     pub record IsGrounded (was : Bool) (answer : Answer) : Type 0 where
       pub retries : (IsAtOnce (Answers answer) → ⊥) → a.retries ≡ b.retries  -- none is counted at once
+      pub ahead : was ≡ true → a.ahead ≡ b.ahead
       pub commits : (at : ℕ) (wrote : Bool) → answer ≡ Committed at wrote → was ≡ true
       pub opened : was ≡ true → (row : Attempt) × (active_of a.thread r.active ≡ Some row)
       pub begins : was ≡ false → in_transaction a'.engine ≡ true → (row : Attempt) × (a.pending ≡ Some row)
@@ -125,7 +127,7 @@ module _ {P : Type 0} (rules : Rules P) (r s : Rows) (same : SameRows r s) (a b 
         by_open : (now : Bool) → RecordsReply rules true now r r' a a' call reply → RecordsReply rules true now s s' b b' call reply → SameRows r' s' × AreAlike a' b'
         by_open true x y = (
           changed_same r s same a.thread b.thread _ _ r' s' thread
-              (λ i. λ row. record row { calls = row.calls ++ record { call = call; reply = reply } ∷ []; ran = (engine i).actions.ran }) x.0 y.0,
+              (λ i. λ row. record row { calls = grown row.calls (record { call = call; reply = reply }) (k.ahead refl i); ran = (engine i).actions.ran }) x.0 y.0,
           asked_again (x.4 ∙ ready) (y.4 ∙ ready') (x.1 ∙ ((λ i. rules.answered (player i) reply) ∙ sym y.1)) (x.3 ∙ (nth ∙ sym y.3)) (x.2 ∙ (again ∙ sym y.2)),
         )
         by_open false x y = (
@@ -157,7 +159,7 @@ module _ {P : Type 0} (rules : Rules P) (r s : Rows) (same : SameRows r s) (a b 
         (rows_same r s same r' s' x.0 y.0, record { thread = thread'; status = x.1 ∙ sym y.1; parts = λ on. absurd (let z = sym on ∙ ap ending_of x.1 in cc) })
 
     abbrev pub IsGroundedNext : Bool → Next → Type 0
-    IsGroundedNext was (Steps step) = Unit {0}
+    IsGroundedNext was (Steps step) = in_transaction a'.engine ≡ true → a.ahead ≡ b.ahead
     IsGroundedNext was (Answers answer) = IsGrounded was answer
 
     -- the call waits for its next step, or its answer is recorded
@@ -175,6 +177,7 @@ module _ {P : Type 0} (rules : Rules P) (r s : Rows) (same : SameRows r s) (a b 
           pending = ap (λ (z : Actor P). z.pending) x.0 ∙ (pending ∙ sym (ap (λ (z : Actor P). z.pending) y.0));
           nth = ap (λ (z : Actor P). z.nth) x.0 ∙ (nth ∙ sym (ap (λ (z : Actor P). z.nth) y.0));
           again = ap (λ (z : Actor P). z.again) x.0 ∙ (again ∙ sym (ap (λ (z : Actor P). z.again) y.0));
+          ahead = λ c s w o. ap (λ (z : Actor P). z.ahead) x.0 ∙ (k o ∙ sym (ap (λ (z : Actor P). z.ahead) y.0));
         };
       },
     )

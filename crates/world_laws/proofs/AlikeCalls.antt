@@ -1,11 +1,11 @@
 -- Two actors that are alike are alike after a step, and after a call of their players.
-use Rattle.std.proofs.Common.{◌≡◌, ℕ, ◌/◌, Bool, true, false, [], Some, refl, sym, ap, subst, ◌∙◌}
+use Rattle.std.proofs.Common.{◌≡◌, ℕ, ◌/◌, Bool, true, false, [], Some, unwrap_or, refl, sym, ap, subst, ◌∙◌}
 use Rattle.norec_world.proofs.Common.{Answers, Call, Cells, Core, IsAtOnce, Next, Proceeds, Rows, Rules, Step, Tells, asked_pending, begins_again, came, ending_of, found, in_transaction}
 use Rattle.norec_world.specs.declared.actor.Actor.{Actor}
 use Rattle.norec_world.specs.declared.actor.Status.TheVariants.{Ready, Waits}
 use Rattle.world_laws.specs.Alike.{AreAlike, HasAttempt}
 use Rattle.itm_types.specs.declared.call.Call.TheVariants as requests
-use Rattle.norec_core.specs.Core.{handed}
+use Rattle.norec_core.specs.Core.{goes, handed}
 use Rattle.norec_core.specs.Moves.{IsCalled, IsResumed}
 use Rattle.norec_core.specs.declared.answer.Next.TheVariants.{Step as Steps}
 use Rattle.norec_core.proofs.OneOutcome.{called_once, resumed_once}
@@ -46,9 +46,10 @@ module _ {P : Type 0} (rules : Rules P) (cells : Cells) (r s r' s' : Rows) (a b 
   grounded : (what : Next) → Proceeds (handed a.engine (found cells t.step)) what a'.engine
       → IsGroundedNext rules r s same (record a { engine = a'.engine; status = Ready }) (record b { engine = b'.engine; status = Ready }) a' b' alike.thread parts.player parts.pending parts.nth parts.again refl refl one.1
       (t.same.thread ∙ (alike.thread ∙ sym u.same.thread)) (t.same.retries ∙ (parts.retries ∙ sym u.same.retries)) t.same.nothing u.same.nothing t.rows u.rows t.call (in_transaction a.engine) what
-  grounded (Steps step) g = tt
+  grounded (Steps step) g = λ o. parts.ahead t.call t.step t.waits (sym (handed_open a.engine a.engine.waits (found cells t.step)) ∙ (sym (ap in_transaction g.stays) ∙ o))
   grounded (Answers answer) g = record {
     retries = λ k. parts.retries;
+    ahead = λ o. parts.ahead t.call t.step t.waits o;
     opened = λ o. held.inside o;
     commits = λ at wrote is. sym (handed_open a.engine a.engine.waits (found cells t.step)) ∙ commits_inside (handed a.engine (found cells t.step)) a'.engine answer at wrote is g;
     begins = λ shut o. (let h = held.begins t.call t.step t.waits shut in (h.0, h.1));
@@ -75,7 +76,7 @@ pending_same false clock a b (requests.Begin props room) thread p = λ i. Some (
   at = 0;
   props = props;
   arena = (p.engine i).arena;
-  calls = [];
+  calls = record { list = []; room = unwrap_or (goes (p.engine i) (requests.Begin props room)) 0 };
   ran = [];
   outcome = outcomes.Unfinished;
 })
@@ -122,15 +123,19 @@ module _ {P : Type 0} (rules : Rules P) (clock : ℕ) where
     again_now : f.asked.again ≡ g.asked.again
     again_now = f.asks.again ∙ (parts.again ∙ sym g.asks.again)
 
+    ahead_now : in_transaction a.engine ≡ true → f.asked.ahead ≡ g.asked.ahead
+    ahead_now o = f.asks.ahead o ∙ ((λ i. unwrap_or (goes (parts.engine i) (request_same i)) 0) ∙ sym (g.asks.ahead (ap in_transaction (sym parts.engine) ∙ o)))
+
     engine_now : a'.engine ≡ b'.engine
     engine_now = f.engine ∙ (outcome.1 ∙ sym g.engine)
 
     grounded_now : (what : Next) → IsAtOnce what → Proceeds (came a.engine f.call (begins_again (in_transaction a.engine) a.again f.call)) what f.asked.engine
         → IsGroundedNext rules f.rows g.rows rows_now f.asked g.asked a' b' thread_now player_now pending_now nth_now again_now f.ready g.ready engine_now
         (f.same.thread ∙ (thread ∙ sym g.same.thread)) (f.same.retries ∙ (parts.retries ∙ sym g.same.retries)) f.same.nothing g.same.nothing r' s' f.call (in_transaction a.engine) what
-    grounded_now (Steps step) x p = tt
+    grounded_now (Steps step) x p = λ o. ahead_now (sym (ap in_transaction p.stays) ∙ (sym (ap in_transaction f.engine) ∙ o))
     grounded_now (Answers answer) x p = record {
       retries = λ k. absurd (k x);
+      ahead = λ o. ahead_now o;
       opened = λ o. roomed rules clock r r' a a' held f o;
       commits = λ at wrote is. commits_inside (came a.engine f.call (begins_again (in_transaction a.engine) a.again f.call)) f.asked.engine answer at wrote is p;
       begins = λ shut o. absurd (opens_none rules clock r r' a a' held f shut o);

@@ -47,7 +47,7 @@ module _ {P : Type 0} (rules : Rules P) (clock : ℕ) (q : Rows) where
       what = f.what;
       rows = q;
       asked = f.asked;
-      asks = record { pending = f.asks.pending; again = f.asks.again; player = f.asks.player; nth = f.asks.nth; thread = f.asks.thread; rows_are = refl; called = f.asks.called };
+      asks = record { pending = f.asks.pending; again = f.asks.again; player = f.asks.player; nth = f.asks.nth; ahead = f.asks.ahead; thread = f.asks.thread; rows_are = refl; called = f.asks.called };
       ready = f.ready;
       tells = tells_anywhere f.what f.asks.called.ends f.tells;
       engine = f.engine;
@@ -99,6 +99,7 @@ module _ {P : Type 0} (rules : Rules P) (clock words size patience max_commits r
             pending = f.pending ∙ sym g.pending;
             nth = f.tries.0 ∙ sym g.tries.0;
             again = f.tries.1 ∙ sym g.tries.1;
+            ahead = λ c s w o. absurd (let z = sym w ∙ f.ready in cc);
           };
         };
         held = record {

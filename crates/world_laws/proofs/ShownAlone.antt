@@ -1,12 +1,13 @@
 -- What a world with one actor shows is what its player does alone.
-use Rattle.std.proofs.Common.{◌≡◌, ◌⊎◌, inl, inr, ℕ, zero, suc, ◌/◌, ◌%◌, ◌≤◌, Bool, true, false, ◌&&◌, ◌==◌, nat_le, if◌then◌else◌, List, [], ◌∷◌, ◌++◌, length, map, replicate, Option, None, Some, slice_get, refl, sym, ap, subst, ◌∙◌, arith, append-nil, le-leb}
+use Rattle.std.proofs.Common.{◌≡◌, ◌⊎◌, inl, inr, ℕ, zero, suc, ◌+◌, ◌/◌, ◌%◌, ◌≤◌, Bool, true, false, ◌&&◌, ◌==◌, nat_le, if◌then◌else◌, List, [], ◌∷◌, ◌++◌, length, map, replicate, Option, None, Some, slice_get, refl, sym, ap, subst, ◌∙◌, arith, append-nil, le-leb}
+use Rattle.std.proofs.lemmas.List.{map-append}
 use Rattle.std.proofs.lemmas.Bool.{and_left, and_right, lt-leb}
-use Rattle.norec_world.proofs.Common.{AreOfActors, AreOpaque, AreTied, AreUnfinished, Attempt, Between, Call, EndsAs, IsAlone, IsBeforeTry, IsRunOf, MAX_OPEN_BLOCKS, Obeys, Outcome, Row, Rules, StandsIn, State, Step, World, active_of, after, alone, answers, answers_within, attempts_of, begin_code, begin_of, begin_within, both_ways, bytes_at, committed_at, cond-false, cond-true, current_of, ending_at, ending_of, observed, first_of, in_transaction, is_open, of_thread, opened, option_and_then, pair_of, player_then, reply, run_after, same_Some, stands_for, state_then, takes_clock, CommitsInOrder, HasRow}
+use Rattle.norec_world.proofs.Common.{AreOfActors, AreOpaque, AreTied, AreUnfinished, Attempt, Between, Call, EndsAs, IsAlone, IsBeforeTry, IsRunOf, MAX_OPEN_BLOCKS, Obeys, Outcome, Row, Rules, StandsIn, State, Step, World, active_of, after, alone, answers, answers_within, attempts_of, begin_code, begin_of, begin_within, both_ways, bytes_at, committed_at, cond-false, cond-true, current_of, ending_at, ending_of, observed, first_of, in_transaction, is_open, of_thread, opened, option_and_then, pair_of, player_then, reply, run_after, same_Some, stands_for, state_then, takes_clock, CommitsInOrder, HasRow, is_committed}
 use Rattle.norec_world.specs.declared.actor.Actor.{Actor}
 use Rattle.tx_runs.specs.declared.ending.End.{End}
 use Rattle.tx_runs.specs.declared.ending.End.TheVariants.{Finished, GaveUp, NoMemory}
-use Rattle.world_laws.specs.Sole.{EndsWith, IsFirstTry, IsOnWay, IsSole, StandsSole}
-use Rattle.world_laws.specs.Solo.{row_of, solo_within, stopped, with_all, with_first}
+use Rattle.world_laws.specs.Sole.{AreSole, EndsWith, IsFirstTry, IsOnWay, IsSole, StandsSole}
+use Rattle.world_laws.specs.Solo.{one_if, row_of, solo_within, stopped, with_all, with_first, without_room}
 use Rattle.world_laws.specs.ShownAlone.{ShowsAlone}
 use Rattle.norec_world.proofs.RunBegins.{led_before}
 use Rattle.itm_types.specs.declared.call.Reply.{Reply}
@@ -43,6 +44,11 @@ of_actors_parts n (x ∷ xs) ys f = of_actors_parts n xs ys f.1
 mode_in : (b : Bool) (writes : List Row) (blocks : List Frame) (arena : List ℕ) (actions : Actions) (m : List ℕ) → (state_in b writes blocks arena actions m).irrevocable ≡ b
 mode_in true writes blocks arena actions m = refl
 mode_in false writes blocks arena actions m = refl
+
+-- of attempts that are over no room is told
+told_whole : (n : ℕ) (xs : List Attempt) (k : ℕ) → AreSole n xs k → map without_room xs ≡ xs
+told_whole n [] k s = refl
+told_whole n (a ∷ rest) k s = λ i. record a { calls = record { list = a.calls.list; room = sym s.3 i } } ∷ told_whole (n + one_if (is_committed a.outcome)) rest k s.4 i
 
 module _ {P : Type 0} (rules : Rules P) (laws : Obeys rules) (w : World P) (commits : CommitsInOrder w) (opaque : AreOpaque rules (observed w)) (tied : AreTied rules w)
     (p : P) (a : Actor P) (players : w.opening ≡ p ∷ []) (actors : w.actors ≡ a ∷ []) (sole : IsSole rules w.max_commits w.base (first_of p w.arena) w.cells.clock w.attempts a) where
@@ -103,14 +109,18 @@ module _ {P : Type 0} (rules : Rules P) (laws : Obeys rules) (w : World P) (comm
   left_by : (tail : List Attempt) (x : Arrived tail) → w.cells.clock % 2 ≡ 0 → memory_of w ≡ x.before.memory
   left_by tail x z = opaque.free z ∙ (ap (bytes_at w.base (attempts_of w)) (sym x.commits) ∙ sym x.memory)
 
+  -- what is told of its attempts
+  told_as : (tail : List Attempt) → attempts_of w ≡ sole.past ++ tail → map without_room (attempts_of w) ≡ sole.past ++ map without_room tail
+  told_as tail is = ap (map without_room) is ∙ (map-append without_room sole.past tail ∙ ap (λ (l : List Attempt). l ++ map without_room tail) (told_whole 0 sole.past (w.cells.clock / 2) sole.commit))
+
   -- the player goes no further
-  stops : (tail : List Attempt) (x : Arrived tail) (end : End) (memory : List ℕ) (held : Bool) → solo_within rules MAX_OPEN_BLOCKS w.max_commits 0 (rules.calls_left x.before.player) x.before ≡ record { attempts = tail; memory = memory; commits = x.before.commits; held = held; ending = end }
+  stops : (tail : List Attempt) (x : Arrived tail) (end : End) (memory : List ℕ) (held : Bool) → solo_within rules MAX_OPEN_BLOCKS w.max_commits 0 (rules.calls_left x.before.player) x.before ≡ record { attempts = map without_room tail; memory = memory; commits = x.before.commits; held = held; ending = end }
       → attempts_of w ≡ sole.past ++ tail → memory_of w ≡ memory → (w.cells.clock % 2 == 1) ≡ held → All end
   stops tail x end memory held last is left odd =
-      x.whole ∙ (ap (with_all sole.past) last ∙ (λ i. record { attempts = sym is i; memory = sym left i; commits = x.commits i; held = sym odd i; ending = end }))
+      x.whole ∙ (ap (with_all sole.past) last ∙ (λ i. record { attempts = sym (told_as tail is) i; memory = sym left i; commits = x.commits i; held = sym odd i; ending = end }))
 
   -- between two blocks, or with the block given up
-  rests_even : (tail : List Attempt) (x : Arrived tail) (end : End) → solo_within rules MAX_OPEN_BLOCKS w.max_commits 0 (rules.calls_left x.before.player) x.before ≡ record { attempts = tail; memory = x.before.memory; commits = x.before.commits; held = false; ending = end }
+  rests_even : (tail : List Attempt) (x : Arrived tail) (end : End) → solo_within rules MAX_OPEN_BLOCKS w.max_commits 0 (rules.calls_left x.before.player) x.before ≡ record { attempts = map without_room tail; memory = x.before.memory; commits = x.before.commits; held = false; ending = end }
       → attempts_of w ≡ sole.past ++ tail → w.cells.clock % 2 ≡ 0 → All end
   rests_even tail x end last is z = stops tail x end x.before.memory false last is (left_by tail x z) (ap (λ (n : ℕ). n == 1) z)
 
@@ -153,32 +163,35 @@ module _ {P : Type 0} (rules : Rules P) (laws : Obeys rules) (w : World P) (comm
     abbrev from : State
     from = opened x.before.memory y.start.arena y.start.props
 
-    alone_here : IsAlone rules MAX_OPEN_BLOCKS begun from row.calls
+    alone_here : IsAlone rules MAX_OPEN_BLOCKS begun from row.calls.list
     alone_here = made_alone rules laws w.max_commits w.base (attempts_of w) (w.cells.clock / 2) x.before row y x.memory first_here at_here
 
-    state_here : alone MAX_OPEN_BLOCKS (bytes_at w.base (attempts_of w) row.at) row ≡ state_then MAX_OPEN_BLOCKS from row.calls
+    state_here : alone MAX_OPEN_BLOCKS (bytes_at w.base (attempts_of w) row.at) row ≡ state_then MAX_OPEN_BLOCKS from row.calls.list
     state_here = same_state rules laws w.max_commits w.base (attempts_of w) (w.cells.clock / 2) x.before row y x.memory first_here at_here
 
     row_here : (outcome : Outcome) → outcome ≡ row.outcome → row_of MAX_OPEN_BLOCKS 0 x.before y.start row.calls outcome ≡ row
-    row_here outcome o = same_row rules laws w.max_commits w.base (attempts_of w) (w.cells.clock / 2) x.before row y x.memory first_here at_here outcome o
+    row_here outcome o = same_row rules laws w.max_commits w.base (attempts_of w) (w.cells.clock / 2) x.before row y x.memory first_here at_here outcome row.calls.room o refl
 
-    begun_so : (outcome : Outcome) → row.outcome ≡ outcome → IsBegun rules w.max_commits 0 x.before sole.past outcome (attempts_of w)
-    begun_so outcome o = record { start = y.start; calls = row.calls; rows_are = is ∙ ap (λ (r : Attempt). sole.past ++ r ∷ []) (sym (row_here outcome (sym o))); begins = y.comes; alone = alone_here }
+    row_told : (outcome : Outcome) → outcome ≡ row.outcome → row_of MAX_OPEN_BLOCKS 0 x.before y.start (record { list = row.calls.list; room = 0 }) outcome ≡ without_room row
+    row_told outcome o = ap without_room (row_here outcome o)
+
+    begun_so : (outcome : Outcome) → row.outcome ≡ outcome → ((outcome ≡ outcomes.Unfinished → ⊥) → row.calls.room ≡ 0) → IsBegun rules w.max_commits 0 x.before sole.past outcome (attempts_of w)
+    begun_so outcome o spent = record { start = y.start; calls = row.calls; rows_are = is ∙ ap (λ (r : Attempt). sole.past ++ r ∷ []) (sym (row_here outcome (sym o))); begins = y.comes; alone = alone_here; spent = spent }
 
     -- its player makes no more calls
-    rests_open : row.outcome ≡ outcomes.Unfinished → rules.next_call (player_then rules.answered begun row.calls) ≡ None → ((state_then MAX_OPEN_BLOCKS from row.calls).irrevocable && nat_le w.max_commits x.before.commits) ≡ false
-        → memory_of w ≡ (if (state_then MAX_OPEN_BLOCKS from row.calls).irrevocable then (state_then MAX_OPEN_BLOCKS from row.calls).memory else x.before.memory) → (w.cells.clock % 2 == 1) ≡ (state_then MAX_OPEN_BLOCKS from row.calls).irrevocable → All Finished
+    rests_open : row.outcome ≡ outcomes.Unfinished → rules.next_call (player_then rules.answered begun row.calls.list) ≡ None → ((state_then MAX_OPEN_BLOCKS from row.calls.list).irrevocable && nat_le w.max_commits x.before.commits) ≡ false
+        → memory_of w ≡ (if (state_then MAX_OPEN_BLOCKS from row.calls.list).irrevocable then (state_then MAX_OPEN_BLOCKS from row.calls.list).memory else x.before.memory) → (w.cells.clock % 2 == 1) ≡ (state_then MAX_OPEN_BLOCKS from row.calls.list).irrevocable → All Finished
     rests_open o none free left odd =
-        let t : State = state_then MAX_OPEN_BLOCKS from row.calls in
-        let q : P = player_then rules.answered begun row.calls in
-        let gets : answers rules.next_call rules.answered rules.calls_left MAX_OPEN_BLOCKS begun x.before.memory y.start.arena y.start.props ≡ map pair_of row.calls =
-        begins_alone rules laws MAX_OPEN_BLOCKS (rules.calls_left begun) begun from row.calls (let l : rules.calls_left begun ≤ rules.calls_left begun = omega arith in l) alone_here
-        ∙ (ap (λ (k : Option Call). map pair_of row.calls ++ answers_within rules.next_call rules.answered rules.calls_left MAX_OPEN_BLOCKS (rules.calls_left begun) q t k) (no_turn (is_open t) (rules.next_call q) none)
-        ∙ (ap (λ (l : List (Call × Reply)). map pair_of row.calls ++ l) (gets_none rules laws MAX_OPEN_BLOCKS (rules.calls_left begun) q t) ∙ append-nil (map pair_of row.calls))) in
+        let t : State = state_then MAX_OPEN_BLOCKS from row.calls.list in
+        let q : P = player_then rules.answered begun row.calls.list in
+        let gets : answers rules.next_call rules.answered rules.calls_left MAX_OPEN_BLOCKS begun x.before.memory y.start.arena y.start.props ≡ map pair_of row.calls.list =
+        begins_alone rules laws MAX_OPEN_BLOCKS (rules.calls_left begun) begun from row.calls.list (let l : rules.calls_left begun ≤ rules.calls_left begun = omega arith in l) alone_here
+        ∙ (ap (λ (k : Option Call). map pair_of row.calls.list ++ answers_within rules.next_call rules.answered rules.calls_left MAX_OPEN_BLOCKS (rules.calls_left begun) q t k) (no_turn (is_open t) (rules.next_call q) none)
+        ∙ (ap (λ (l : List (Call × Reply)). map pair_of row.calls.list ++ l) (gets_none rules laws MAX_OPEN_BLOCKS (rules.calls_left begun) q t) ∙ append-nil (map pair_of row.calls.list))) in
         let open_then : is_open t ≡ true = ap is_open (sym state_here) ∙ subst (λ (k : Outcome). EndsAs k (alone MAX_OPEN_BLOCKS (bytes_at w.base (attempts_of w) row.at) row)) o y.opaque.ends in
         stops (row ∷ []) x Finished (if t.irrevocable then t.memory else x.before.memory) t.irrevocable
-        (open_block rules laws MAX_OPEN_BLOCKS w.max_commits 0 x.before y.start y.comes row.calls gets alone_here open_then free
-        ∙ ap (λ (r : Attempt). with_first r (left_open rules MAX_OPEN_BLOCKS w.max_commits 0 x.before t)) (row_here outcomes.Unfinished (sym o))) is left odd
+        (open_block rules laws MAX_OPEN_BLOCKS w.max_commits 0 x.before y.start y.comes row.calls.list gets alone_here open_then free
+        ∙ ap (λ (r : Attempt). with_first r (left_open rules MAX_OPEN_BLOCKS w.max_commits 0 x.before t)) (row_told outcomes.Unfinished (sym o))) is left odd
       where
         no_turn : (b : Bool) (k : Option Call) → k ≡ None → (if b then k else None) ≡ None
         no_turn true k e = e
@@ -190,12 +203,12 @@ module _ {P : Type 0} (rules : Rules P) (laws : Obeys rules) (w : World P) (comm
         let lacks = y.opaque.full o in
         let n = x.commits in
         rests_even (row ∷ []) x GaveUp
-        (full_block rules laws MAX_OPEN_BLOCKS w.max_commits 0 x.before y.start y.comes row.calls lacks.call (reply MAX_OPEN_BLOCKS (alone MAX_OPEN_BLOCKS (bytes_at w.base (attempts_of w) row.at) row) lacks.call) lacks.rest
+        (full_block rules laws MAX_OPEN_BLOCKS w.max_commits 0 x.before y.start y.comes row.calls.list lacks.call (reply MAX_OPEN_BLOCKS (alone MAX_OPEN_BLOCKS (bytes_at w.base (attempts_of w) row.at) row) lacks.call) lacks.rest
         (sym (same_answers rules laws w.max_commits w.base (attempts_of w) (w.cells.clock / 2) x.before row y x.memory first_here at_here) ∙ lacks.answers_are) alone_here
         (ap is_open (sym state_here) ∙ (subst (λ (k : Outcome). EndsAs k (alone MAX_OPEN_BLOCKS (bytes_at w.base (attempts_of w) row.at) row)) o y.opaque.ends).0)
         (ap (λ (s : State). s.irrevocable) (sym state_here) ∙ lacks.revocable) (ap (λ (s : State). takes_clock (after MAX_OPEN_BLOCKS s lacks.call)) (sym state_here) ∙ lacks.takes)
         (le-leb w.max_commits x.before.commits (omega arith))
-        ∙ ap (λ (r : Attempt). with_first r (stopped rules MAX_OPEN_BLOCKS w.max_commits 0 x.before GaveUp)) (row_here outcomes.Full (sym o))) is z
+        ∙ ap (λ (r : Attempt). with_first r (stopped rules MAX_OPEN_BLOCKS w.max_commits 0 x.before GaveUp)) (row_told outcomes.Full (sym o))) is z
 
     -- its engine, and the plain state after its calls
     module _ (some : active_of a.thread w.attempts.active ≡ Some row) where
@@ -209,11 +222,11 @@ module _ {P : Type 0} (rules : Rules P) (laws : Obeys rules) (w : World P) (comm
       read_at = tied.reads 0 a row here placed
 
       -- it is not irrevocable where its engine is not
-      revocable_here : a.engine.irrevocable ≡ false → (state_then MAX_OPEN_BLOCKS from row.calls).irrevocable ≡ false
+      revocable_here : a.engine.irrevocable ≡ false → (state_then MAX_OPEN_BLOCKS from row.calls.list).irrevocable ≡ false
       revocable_here e = ap (λ (s : State). s.irrevocable) (sym state_here) ∙ (tied.modes 0 a row here placed ∙ e)
 
       -- and where it is, it is what the words hold
-      held_here : IsIdle a.engine → a.engine.irrevocable ≡ true → stands_for a.engine w.cells.words ≡ state_then MAX_OPEN_BLOCKS from row.calls
+      held_here : IsIdle a.engine → a.engine.irrevocable ≡ true → stands_for a.engine w.cells.words ≡ state_then MAX_OPEN_BLOCKS from row.calls.list
       held_here idle e =
           let n : w.cells.clock / 2 ≡ row.at = sym (at_here ∙ x.commits) in
           subst (λ (o : Option Step). StandsIn o a.engine.doing a.engine w.cells.words (alone MAX_OPEN_BLOCKS (bytes_at w.base (attempts_of w) (w.cells.clock / 2)) row)) idle.0 (tied.stored 0 a row here placed e)
@@ -223,31 +236,31 @@ module _ {P : Type 0} (rules : Rules P) (laws : Obeys rules) (w : World P) (comm
       few_here : a.engine.irrevocable ≡ true → nat_le w.max_commits x.before.commits ≡ false
       few_here e = lt-leb w.max_commits x.before.commits (omega (arith, odd_where e, commits.few, x.commits))
 
-      rests_idle : IsIdle a.engine → row.outcome ≡ outcomes.Unfinished → rules.next_call (player_then rules.answered begun row.calls) ≡ None → All Finished
+      rests_idle : IsIdle a.engine → row.outcome ≡ outcomes.Unfinished → rules.next_call (player_then rules.answered begun row.calls.list) ≡ None → All Finished
       rests_idle idle o none = by_mode a.engine.irrevocable refl
         where
           by_mode : (b : Bool) → a.engine.irrevocable ≡ b → All Finished
           by_mode true e =
-              let t : State = state_then MAX_OPEN_BLOCKS from row.calls in
+              let t : State = state_then MAX_OPEN_BLOCKS from row.calls.list in
               let stands = held_here idle e in
               let odd = odd_where e in
               let mode : t.irrevocable ≡ true = ap (λ (s : State). s.irrevocable) (sym stands) ∙ (mode_in a.engine.irrevocable a.engine.writes a.engine.blocks a.engine.arena a.engine.actions w.cells.words ∙ e) in
               let left : memory_of w ≡ t.memory = sym (ap (λ (b : Bool). (state_in b a.engine.writes a.engine.blocks a.engine.arena a.engine.actions w.cells.words).memory) e) ∙ ap (λ (s : State). s.memory) stands in
               rests_open o none (and_right t.irrevocable (nat_le w.max_commits x.before.commits) (few_here e)) (left ∙ sym (cond-true t.irrevocable t.memory x.before.memory mode)) (ap (λ (n : ℕ). n == 1) odd ∙ sym mode)
           by_mode false e =
-              let t : State = state_then MAX_OPEN_BLOCKS from row.calls in
+              let t : State = state_then MAX_OPEN_BLOCKS from row.calls.list in
               let even = even_free w commits one a here (idle.1 ∙ e) in
               let mode = revocable_here e in
               rests_open o none (and_left t.irrevocable (nat_le w.max_commits x.before.commits) mode) (left_by (row ∷ []) x even ∙ sym (cond-false t.irrevocable t.memory x.before.memory mode)) (ap (λ (n : ℕ). n == 1) even ∙ sym mode)
 
     -- its player stands where its calls have led it
-    stands_so : w.attempts.ended ≡ sole.past → active_of a.thread w.attempts.active ≡ Some row → a.player ≡ player_then rules.answered begun row.calls
+    stands_so : w.attempts.ended ≡ sole.past → active_of a.thread w.attempts.active ≡ Some row → a.player ≡ player_then rules.answered begun row.calls.list
     stands_so ended some =
         let t = (tied.players 0 p a player_here here).inside (row_open (in_transaction a.engine) w.attempts a.thread row row_kept some) in
         let place : t.0 ≡ between x.before = same_Some _ _ (sym t.2 ∙ led (row ∷ []) x ended) in
         let start : t.4.start ≡ y.start = same_Some _ _ (sym t.4.begins ∙ (ap (λ (b : Between P). begin_of rules MAX_OPEN_BLOCKS b.player b.arena) place ∙ y.comes)) in
         let same : t.1 ≡ row = same_Some _ _ (sym t.3 ∙ some) in
-        t.4.player ∙ (λ i. player_then rules.answered (rules.answered (start i).player (begin_code (place i).again)) (same i).calls)
+        t.4.player ∙ (λ i. player_then rules.answered (rules.answered (start i).player (begin_code (place i).again)) (same i).calls.list)
 
   -- ## By how it stands
 
@@ -276,15 +289,15 @@ module _ {P : Type 0} (rules : Rules P) (laws : Obeys rules) (w : World P) (comm
     nothing_open : (outcome : Outcome) → active_of a.thread w.attempts.active ≡ None → (memory : List ℕ) × So (w.cells.clock / 2) memory outcome × (w.cells.clock % 2 ≡ 0 → memory_of w ≡ memory)
     nothing_open outcome e = (let x = arrived [] (is_none e) in (x.before.memory, so_far [] x outcome (inl (is_none e ∙ append-nil sole.past)), left_by [] x))
 
-  some_over : (outcome : Outcome) (row : Attempt) (is : attempts_of w ≡ sole.past ++ row ∷ []) → IsFirstTry (w.cells.clock / 2) row → row.outcome ≡ outcome → (memory : List ℕ) × So (w.cells.clock / 2) memory outcome × (w.cells.clock % 2 ≡ 0 → memory_of w ≡ memory)
-  some_over outcome row is first o = (let x = arrived (row ∷ []) is in (x.before.memory, so_far (row ∷ []) x outcome (inr (begun_so row is first x outcome o)), left_by (row ∷ []) x))
+  some_over : (outcome : Outcome) (row : Attempt) (is : attempts_of w ≡ sole.past ++ row ∷ []) → IsFirstTry (w.cells.clock / 2) row → row.outcome ≡ outcome → ((outcome ≡ outcomes.Unfinished → ⊥) → row.calls.room ≡ 0) → (memory : List ℕ) × So (w.cells.clock / 2) memory outcome × (w.cells.clock % 2 ≡ 0 → memory_of w ≡ memory)
+  some_over outcome row is first o spent = (let x = arrived (row ∷ []) is in (x.before.memory, so_far (row ∷ []) x outcome (inr (begun_so row is first x outcome o spent)), left_by (row ∷ []) x))
 
   going : IsOnWay rules w.max_commits w.base (first_of p w.arena) sole.past (w.cells.clock / 2) w.attempts a → DoneBy rules w p None
   going s = by_open (active_of a.thread w.attempts.active) refl
     where
       by_open : (o : Option Attempt) → active_of a.thread w.attempts.active ≡ o → DoneBy rules w p None
       by_open None e = nothing_open s.ended outcomes.Unfinished e
-      by_open (Some row) e = some_over outcomes.Unfinished row (is_some_row s.ended row e) (s.current row (ap (λ (o : Option Attempt). current_of o a.pending) e)) (unfinished row (active_one row e))
+      by_open (Some row) e = some_over outcomes.Unfinished row (is_some_row s.ended row e) (s.current row (ap (λ (o : Option Attempt). current_of o a.pending) e)) (unfinished row (active_one row e)) (λ u. absurd (u refl))
 
   finished : IsOnWay rules w.max_commits w.base (first_of p w.arena) sole.past (w.cells.clock / 2) w.attempts a → ending_of a.status ≡ Some Finished → rules.next_call a.player ≡ None → IsIdle a.engine → All Finished
   finished s end none idle = by_open (active_of a.thread w.attempts.active) refl
@@ -324,7 +337,7 @@ module _ {P : Type 0} (rules : Rules P) (laws : Obeys rules) (w : World P) (comm
       ]
   done_by (Some NoMemory) e (inl s) = starved (even_shut rules w tied commits one a here s.0) (elim s.1 [
     | inl ended ↦ nothing_open ended outcomes.NoMemory s.0
-    | inr last ↦ some_over outcomes.NoMemory last.row (last_is outcomes.NoMemory s.0 last) last.first last.outcome_is
+    | inr last ↦ some_over outcomes.NoMemory last.row (last_is outcomes.NoMemory s.0 last) last.first last.outcome_is (λ u. last.spent)
   ])
   done_by (Some NoMemory) e (inr s) = (let part = going s.1 in inr (odd_where s.0, (part.0, part.1)))
 

@@ -26,9 +26,9 @@ of_actors_first n [] ys f = tt
 of_actors_first n (x ∷ xs) ys f = (f.0, of_actors_first n xs ys f.1)
 
 -- one attempt more
-sole_more : (n k : ℕ) (xs : List Attempt) (a : Attempt) → AreSole n xs k → IsFirstTry k a → a.at ≡ k → is_done a.outcome ≡ true → AreSole n (xs ++ a ∷ []) (k + one_if (is_committed a.outcome))
-sole_more n k [] a s f at d = (subst (λ (j : ℕ). IsFirstTry j a) (sym s) f, at ∙ sym s, d, ap (λ (j : ℕ). j + one_if (is_committed a.outcome)) s)
-sole_more n k (x ∷ xs) a s f at d = (s.0, s.1, s.2, sole_more (n + one_if (is_committed x.outcome)) k xs a s.3 f at d)
+sole_more : (n k : ℕ) (xs : List Attempt) (a : Attempt) → AreSole n xs k → IsFirstTry k a → a.at ≡ k → is_done a.outcome ≡ true → a.calls.room ≡ 0 → AreSole n (xs ++ a ∷ []) (k + one_if (is_committed a.outcome))
+sole_more n k [] a s f at d z = (subst (λ (j : ℕ). IsFirstTry j a) (sym s) f, at ∙ sym s, d, z, ap (λ (j : ℕ). j + one_if (is_committed a.outcome)) s)
+sole_more n k (x ∷ xs) a s f at d z = (s.0, s.1, s.2, s.3, sole_more (n + one_if (is_committed x.outcome)) k xs a s.4 f at d z)
 
 -- the last attempt of a run did not begin after it read last
 module _ {P : Type 0} (rules : Rules P) (n : ℕ) (memory : ℕ → List ℕ) where
@@ -119,13 +119,13 @@ module _ {P : Type 0} (rules : Rules P) (max_commits : ℕ) (base : List ℕ) (b
       by_commit : is_done t.row'.outcome ≡ true → t.row'.at ≡ clock / 2 → clock / 2 + one_if (is_committed t.row'.outcome) ≡ clock' / 2 → IsBetween clock' 1 r' a' → IsSole rules max_commits base begin clock' r' a'
       by_commit d at n b = record {
         past = old.past ++ t.row' ∷ [];
-        commit = subst (AreSole 0 (old.past ++ t.row' ∷ [])) n (sole_more 0 (clock / 2) old.past t.row' old.commit first at d);
+        commit = subst (AreSole 0 (old.past ++ t.row' ∷ [])) n (sole_more 0 (clock / 2) old.past t.row' old.commit first at d t.spent);
         stands = stands_between clock' (old.past ++ t.row' ∷ []) r' a' mine ended b finishes;
         seen = seen;
       }
 
       last : (outcome : Outcome) → t.row'.outcome ≡ outcome → clock' / 2 ≡ clock / 2 → EndsWith old.past (clock' / 2) outcome r'
-      last outcome o half = record { row = t.row'; ended = ended; first = now t.row' half first; outcome_is = o }
+      last outcome o half = record { row = t.row'; ended = ended; first = now t.row' half first; outcome_is = o; spent = t.spent }
 
       by_outcome : (o : Outcome) → t.row'.outcome ≡ o → EndsAt a.engine.max_commits clock clock' t.row'.at o → GoesOnAfter o clock' (prior_of r a) r' a' → IsSole rules max_commits base begin clock' r' a'
       by_outcome outcomes.Committed o at g =

@@ -173,7 +173,7 @@ module _ {P : Type 0} (rules : Rules P) (deepest : ℕ) where
 -- they do not go down
 sole_up : (n : ℕ) (xs : List Attempt) (k : ℕ) → AreSole n xs k → n ≤ k
 sole_up n [] k s = omega (arith, s)
-sole_up n (a ∷ rest) k s = (let l = sole_up (n + one_if (is_committed a.outcome)) rest k s.3 in omega arith)
+sole_up n (a ∷ rest) k s = (let l = sole_up (n + one_if (is_committed a.outcome)) rest k s.4 in omega arith)
 
 not_full : (w : Bool) (n m : ℕ) → (w ≡ true → n < m) → (w && nat_le m n) ≡ false
 not_full false n m l = refl
@@ -210,29 +210,29 @@ module _ {P : Type 0} (rules : Rules P) (laws : Obeys rules) (max_commits : ℕ)
     bytes : bytes_at base all a.at ≡ b.memory
     bytes = ap (bytes_at base all) at ∙ sym now
 
-    pub same_state : alone MAX_OPEN_BLOCKS (bytes_at base all a.at) a ≡ state_then MAX_OPEN_BLOCKS (opened b.memory x.start.arena x.start.props) a.calls
-    same_state = λ i. state_then MAX_OPEN_BLOCKS (opened (bytes i) (x.arena i) (x.props i)) a.calls
+    pub same_state : alone MAX_OPEN_BLOCKS (bytes_at base all a.at) a ≡ state_then MAX_OPEN_BLOCKS (opened b.memory x.start.arena x.start.props) a.calls.list
+    same_state = λ i. state_then MAX_OPEN_BLOCKS (opened (bytes i) (x.arena i) (x.props i)) a.calls.list
 
     pub same_answers : answers rules.next_call rules.answered rules.calls_left MAX_OPEN_BLOCKS (rules.answered x.start.player (begin_code false)) (bytes_at base all a.at) a.arena a.props ≡ answers rules.next_call rules.answered rules.calls_left MAX_OPEN_BLOCKS (rules.answered x.start.player (begin_code false)) b.memory x.start.arena x.start.props
     same_answers = λ i. answers rules.next_call rules.answered rules.calls_left MAX_OPEN_BLOCKS begun (bytes i) (x.arena i) (x.props i)
 
-    pub same_row : (outcome : Outcome) → outcome ≡ a.outcome → row_of MAX_OPEN_BLOCKS 0 b x.start a.calls outcome ≡ a
-    same_row outcome o = λ i. record {
+    pub same_row : (outcome : Outcome) (room : ℕ) → outcome ≡ a.outcome → room ≡ a.calls.room → row_of MAX_OPEN_BLOCKS 0 b x.start (record { list = a.calls.list; room = room }) outcome ≡ a
+    same_row outcome room o z = λ i. record {
       thread = sym first.thread i;
       nth = sym first.nth i;
       began = sym first.began i;
       at = sym at i;
       props = sym x.props i;
       arena = sym x.arena i;
-      calls = a.calls;
-      ran = (ap (λ (k : Outcome). ran_of k (state_then MAX_OPEN_BLOCKS (opened b.memory x.start.arena x.start.props) a.calls)) o ∙ (ap (ran_of a.outcome) (sym same_state) ∙ sym x.opaque.ran)) i;
+      calls = record { list = a.calls.list; room = z i };
+      ran = (ap (λ (k : Outcome). ran_of k (state_then MAX_OPEN_BLOCKS (opened b.memory x.start.arena x.start.props) a.calls.list)) o ∙ (ap (ran_of a.outcome) (sym same_state) ∙ sym x.opaque.ran)) i;
       outcome = o i;
     }
 
-    pub made_alone : IsAlone rules MAX_OPEN_BLOCKS (rules.answered x.start.player (begin_code false)) (opened b.memory x.start.arena x.start.props) a.calls
+    pub made_alone : IsAlone rules MAX_OPEN_BLOCKS (rules.answered x.start.player (begin_code false)) (opened b.memory x.start.arena x.start.props) a.calls.list
     made_alone =
         let s : State = opened b.memory x.start.arena x.start.props in
-        alone_of rules MAX_OPEN_BLOCKS (rules.calls_left begun) begun s (turn rules.next_call rules.answered rules.calls_left begun s) a.calls x.opaque.beginning.0 refl (x.opaque.beginning.1 ∙ same_answers)
+        alone_of rules MAX_OPEN_BLOCKS (rules.calls_left begun) begun s (turn rules.next_call rules.answered rules.calls_left begun s) a.calls.list x.opaque.beginning.0 refl (x.opaque.beginning.1 ∙ same_answers)
 
     -- and that ended by its commit
     module _ (done : is_done a.outcome ≡ true) where
@@ -240,18 +240,18 @@ module _ {P : Type 0} (rules : Rules P) (laws : Obeys rules) (max_commits : ℕ)
       ended = alone MAX_OPEN_BLOCKS (bytes_at base all a.at) a
 
       abbrev pub after_it : Progress P
-      after_it = record { player = player_then rules.answered (rules.answered x.start.player (begin_code false)) a.calls; arena = (alone MAX_OPEN_BLOCKS (bytes_at base all a.at) a).arena; memory = (alone MAX_OPEN_BLOCKS (bytes_at base all a.at) a).memory; commits = b.commits + one_if (is_committed a.outcome) }
+      after_it = record { player = player_then rules.answered (rules.answered x.start.player (begin_code false)) a.calls.list; arena = (alone MAX_OPEN_BLOCKS (bytes_at base all a.at) a).arena; memory = (alone MAX_OPEN_BLOCKS (bytes_at base all a.at) a).memory; commits = b.commits + one_if (is_committed a.outcome) }
 
       record IsOver (o : Outcome) : Type 0 where
         shut : is_open ended ≡ false
         wrote : ended.wrote ≡ is_committed o
-        named : ended_as (aborts (map pair_of a.calls)) (is_committed o) ≡ o
+        named : ended_as (aborts (map pair_of a.calls.list)) (is_committed o) ≡ o
         led : follows rules MAX_OPEN_BLOCKS o begun a ended ≡ Some (record { player = answered_all rules.answered begun (replies_of a); arena = ended.arena; again = false; tries = 0 })
 
-      last_is : (before : List Entry) (last : Entry) → a.calls ≡ before ++ last ∷ [] → aborts (map pair_of a.calls) ≡ is_abort last.call
+      last_is : (before : List Entry) (last : Entry) → a.calls.list ≡ before ++ last ∷ [] → aborts (map pair_of a.calls.list) ≡ is_abort last.call
       last_is before last e = ap (λ (l : List Entry). aborts (map pair_of l)) e ∙ aborts_snoc rules laws MAX_OPEN_BLOCKS max_commits 0 before last
 
-      over_as : (o : Outcome) → is_done o ≡ true → EndsAs o ended → ClosedBy o a.calls → IsOver o
+      over_as : (o : Outcome) → is_done o ≡ true → EndsAs o ended → ClosedBy o a.calls.list → IsOver o
       over_as outcomes.Committed d e c = record { shut = e.0; wrote = e.1; named = ap (λ (b : Bool). ended_as b true) (last_is c.0 _ c.1); led = refl }
       over_as outcomes.ReadOnly d e c = record { shut = e.0; wrote = e.1; named = ap (λ (b : Bool). ended_as b false) (last_is c.0 _ c.1); led = refl }
       over_as outcomes.Cancelled d e c = record { shut = e.0; wrote = e.1; named = ap (λ (b : Bool). ended_as b false) (last_is c.0 _ c.2); led = refl }
@@ -260,14 +260,14 @@ module _ {P : Type 0} (rules : Rules P) (laws : Obeys rules) (max_commits : ℕ)
       over : IsOver a.outcome
       over = over_as a.outcome done x.opaque.ends x.opaque.closed
 
-      wrote_then : (state_then MAX_OPEN_BLOCKS (opened b.memory x.start.arena x.start.props) a.calls).wrote ≡ is_committed a.outcome
+      wrote_then : (state_then MAX_OPEN_BLOCKS (opened b.memory x.start.arena x.start.props) a.calls.list).wrote ≡ is_committed a.outcome
       wrote_then = ap (λ (s : State). s.wrote) (sym same_state) ∙ over.wrote
 
-      pub goes_past : (is_committed a.outcome ≡ true → b.commits < max_commits) → goes (rules.calls_left b.player) b ≡ with_first a (goes (rules.calls_left after_it.player) after_it)
-      goes_past few =
-          ended_block rules laws MAX_OPEN_BLOCKS max_commits 0 b x.start x.comes a.calls (sym same_answers ∙ sym (x.opaque.whole over.shut)) made_alone
+      pub goes_past : a.calls.room ≡ 0 → (is_committed a.outcome ≡ true → b.commits < max_commits) → goes (rules.calls_left b.player) b ≡ with_first a (goes (rules.calls_left after_it.player) after_it)
+      goes_past spent few =
+          ended_block rules laws MAX_OPEN_BLOCKS max_commits 0 b x.start x.comes a.calls.list (sym same_answers ∙ sym (x.opaque.whole over.shut)) made_alone
           (ap is_open (sym same_state) ∙ over.shut) (not_full _ b.commits max_commits (λ w. few (sym wrote_then ∙ w)))
-          ∙ (λ i. with_first (same_row (ended_as (aborts (map pair_of a.calls)) ((state_then MAX_OPEN_BLOCKS (opened b.memory x.start.arena x.start.props) a.calls).wrote)) (ap (ended_as (aborts (map pair_of a.calls))) wrote_then ∙ over.named) i)
+          ∙ (λ i. with_first (same_row (ended_as (aborts (map pair_of a.calls.list)) ((state_then MAX_OPEN_BLOCKS (opened b.memory x.start.arena x.start.props) a.calls.list).wrote)) 0 (ap (ended_as (aborts (map pair_of a.calls.list))) wrote_then ∙ over.named) (sym spent) i)
           (goes (rules.calls_left after_it.player) (record { player = after_it.player; arena = (sym same_state i).arena; memory = (sym same_state i).memory; commits = b.commits + one_if (wrote_then i) })))
 
       pub leads_past : after_try rules MAX_OPEN_BLOCKS (bytes_at base all) (between b) (begin_of rules MAX_OPEN_BLOCKS b.player b.arena) a ≡ Some (between after_it)
@@ -284,7 +284,7 @@ module _ {P : Type 0} (rules : Rules P) (laws : Obeys rules) (max_commits : ℕ)
               ap (λ (k : ℕ). (alone MAX_OPEN_BLOCKS (bytes_at base all k) a).memory) at
               ∙ (ap (memory_left MAX_OPEN_BLOCKS (bytes_at base all b.commits)) (sym it) ∙ ap (bytes_at base all) (let n : suc b.commits ≡ b.commits + 1 = omega arith in n))
           by_commit false e =
-              let left_as = (unwritten rules MAX_OPEN_BLOCKS b.memory begun (opened b.memory x.start.arena x.start.props) a.calls made_alone (unwritten_opened rules MAX_OPEN_BLOCKS b.memory x.start.arena x.start.props)).now (wrote_then ∙ e) in
+              let left_as = (unwritten rules MAX_OPEN_BLOCKS b.memory begun (opened b.memory x.start.arena x.start.props) a.calls.list made_alone (unwritten_opened rules MAX_OPEN_BLOCKS b.memory x.start.arena x.start.props)).now (wrote_then ∙ e) in
               ap (λ (s : State). s.memory) same_state ∙ (left_as ∙ (now ∙ ap (bytes_at base all) (let n : b.commits ≡ b.commits + 0 = omega arith in n)))
 
       pub found_past : (rest : List Attempt) → ((j : ℕ) → b.commits ≤ j → committed_at all j ≡ committed_at (a ∷ rest) j) → (j : ℕ) → after_it.commits ≤ j → committed_at all j ≡ committed_at rest j
@@ -310,12 +310,12 @@ module _ {P : Type 0} (rules : Rules P) (laws : Obeys rules) (max_commits : ℕ)
       let x = is_next b a (past ++ tail) r in
       let q : Progress P = after_it b a x now sole.0 sole.1 sole.2 in
       let led = leads_past b a x now sole.0 sole.1 sole.2 in
-      let up = sole_up q.commits past k sole.3 in
+      let up = sole_up q.commits past k sole.4 in
       let rest = arrives q past tail k (memory_past b a x now sole.0 sole.1 sole.2 (past ++ tail) found) (found_past b a x now sole.0 sole.1 sole.2 (past ++ tail) found)
-      (subst (λ (o : Option (Between P)). IsRunOf rules MAX_OPEN_BLOCKS total (bytes_at base all) o (past ++ tail)) led r.1) sole.3 few in
+      (subst (λ (o : Option (Between P)). IsRunOf rules MAX_OPEN_BLOCKS total (bytes_at base all) o (past ++ tail)) led r.1) sole.4 few in
       record {
         before = rest.before;
-        whole = goes_past b a x now sole.0 sole.1 sole.2 (λ w. (let one = ap one_if w in omega arith)) ∙ ap (with_first a) rest.whole;
+        whole = goes_past b a x now sole.0 sole.1 sole.2 sole.3 (λ w. (let one = ap one_if w in omega arith)) ∙ ap (with_first a) rest.whole;
         commits = rest.commits;
         memory = rest.memory;
         run = rest.run;

@@ -180,12 +180,12 @@ module _ {P : Type 0} (rules : Rules P) (laws : Obeys rules) (deepest : ℕ) whe
       pub full_block : (ys : List Entry) (c : Call) (r : Reply) (rest : List (Call × Reply))
           → answers rules.next_call rules.answered rules.calls_left deepest (begun start) b.memory start.arena start.props ≡ map pair_of ys ++ (c, r) ∷ rest → IsAlone rules deepest (begun start) first_state ys
           → is_open (state_of b start ys) ≡ true → (state_of b start ys).irrevocable ≡ false → takes_clock (after deepest (state_of b start ys) c) ≡ true → nat_le max_commits b.commits ≡ true
-          → goes (rules.calls_left b.player) b ≡ with_first (row_of deepest thread b start ys Full) (stopped rules deepest max_commits thread b GaveUp)
+          → goes (rules.calls_left b.player) b ≡ with_first (row_of deepest thread b start (record { list = ys; room = 0 }) Full) (stopped rules deepest max_commits thread b GaveUp)
       full_block ys c r rest all made opens revocable takes full =
           let before = next_takes rules deepest (begun start) first_state ys c r rest made (marked_opened b.memory start.arena start.props) opens revocable takes in
           whole_block (map pair_of ys ++ (c, r) ∷ rest) all (and_left start.props.goes_irrevocable (nat_le max_commits b.commits) (revocable_begins before.0)) (Some (map pair_of ys))
           (cond-true (nat_le max_commits b.commits) _ _ full ∙ before.1)
-          ∙ ap (λ (l : List Entry). with_first (row_of deepest thread b start l Full) (stopped rules deepest max_commits thread b GaveUp)) (entries_pairs ys)
+          ∙ ap (λ (l : List Entry). with_first (row_of deepest thread b start (record { list = l; room = 0 }) Full) (stopped rules deepest max_commits thread b GaveUp)) (entries_pairs ys)
 
       -- these are all that the player makes
       module _ (xs : List Entry) (all : answers rules.next_call rules.answered rules.calls_left deepest (begun start) b.memory start.arena start.props ≡ map pair_of xs)
@@ -218,15 +218,15 @@ module _ {P : Type 0} (rules : Rules P) (laws : Obeys rules) (deepest : ℕ) whe
 
         -- it has ended
         pub ended_block : is_open (state_of b start xs) ≡ false → ((state_of b start xs).wrote && nat_le max_commits b.commits) ≡ false
-            → goes (rules.calls_left b.player) b ≡ with_first (row_of deepest thread b start xs (ended_as (aborts (map pair_of xs)) (state_of b start xs).wrote))
+            → goes (rules.calls_left b.player) b ≡ with_first (row_of deepest thread b start (record { list = xs; room = 0 }) (ended_as (aborts (map pair_of xs)) (state_of b start xs).wrote))
             (goes (rules.calls_left (player_then rules.answered (begun start) xs)) (next_of b (player_then rules.answered (begun start) xs) (state_of b start xs)))
         ended_block closed free =
             let n : ℕ = rules.calls_left b.player in
             let q : P = player_then rules.answered (begun start) xs in
             block_here (by_wrote last_state.wrote refl)
             ∙ (cond-false (is_open last_state) _ _ closed
-            ∙ ((λ i. with_first (row_of deepest thread b start (entries_pairs xs i) (ended_as (aborts (map pair_of xs)) last_state.wrote)) (goes n (next_of b (player_pairs (begun start) xs i) last_state)))
-            ∙ ap (with_first (row_of deepest thread b start xs (ended_as (aborts (map pair_of xs)) last_state.wrote))) (solo_enough n (rules.calls_left q) (next_of b q last_state) less (omega arith))))
+            ∙ ((λ i. with_first (row_of deepest thread b start (record { list = entries_pairs xs i; room = 0 }) (ended_as (aborts (map pair_of xs)) last_state.wrote)) (goes n (next_of b (player_pairs (begun start) xs i) last_state)))
+            ∙ ap (with_first (row_of deepest thread b start (record { list = xs; room = 0 }) (ended_as (aborts (map pair_of xs)) last_state.wrote))) (solo_enough n (rules.calls_left q) (next_of b q last_state) less (omega arith))))
           where
             by_wrote : (w : Bool) → last_state.wrote ≡ w → (takes_clock last_state && nat_le max_commits b.commits) ≡ false
             by_wrote true w = and_right (takes_clock last_state) (nat_le max_commits b.commits) (ap (λ (x : Bool). x && nat_le max_commits b.commits) (sym w) ∙ free)
@@ -237,11 +237,11 @@ module _ {P : Type 0} (rules : Rules P) (laws : Obeys rules) (deepest : ℕ) whe
 
         -- the player leaves it open for good
         pub open_block : is_open (state_of b start xs) ≡ true → ((state_of b start xs).irrevocable && nat_le max_commits b.commits) ≡ false
-            → goes (rules.calls_left b.player) b ≡ with_first (row_of deepest thread b start xs Unfinished) (left_open rules deepest max_commits thread b (state_of b start xs))
+            → goes (rules.calls_left b.player) b ≡ with_first (row_of deepest thread b start (record { list = xs; room = 0 }) Unfinished) (left_open rules deepest max_commits thread b (state_of b start xs))
         open_block opens free =
             block_here (ap (λ (x : Bool). x && nat_le max_commits b.commits) (or_none last_state.irrevocable (not (is_open last_state) && last_state.wrote) (and_left (not (is_open last_state)) last_state.wrote (ap not opens))) ∙ free)
             ∙ (cond-true (is_open last_state) _ _ opens
-            ∙ ap (λ (l : List Entry). with_first (row_of deepest thread b start l Unfinished) (left_open rules deepest max_commits thread b last_state)) (entries_pairs xs))
+            ∙ ap (λ (l : List Entry). with_first (row_of deepest thread b start (record { list = l; room = 0 }) Unfinished) (left_open rules deepest max_commits thread b last_state)) (entries_pairs xs))
 
     -- a player that comes to no block
     pub no_block : (b : Progress P) → begin_of rules deepest b.player b.arena ≡ None → goes (rules.calls_left b.player) b ≡ stopped rules deepest max_commits thread b Finished

@@ -14,7 +14,7 @@ pub record SameRows (r s : Rows) : Type 0 where
   pub ended : r.ended ≡ s.ended
   pub active : r.active ≡ s.active
 
--- all but the room for calls
+-- all but the buffers
 pub record SameParts {P : Type 0} (a b : Actor P) : Type 0 where
   pub retries : a.retries ≡ b.retries
   pub player : a.player ≡ b.player
@@ -22,6 +22,7 @@ pub record SameParts {P : Type 0} (a b : Actor P) : Type 0 where
   pub pending : a.pending ≡ b.pending
   pub nth : a.nth ≡ b.nth
   pub again : a.again ≡ b.again
+  pub ahead : (call : Call) (step : Step) → a.status ≡ Waits call step → in_transaction a.engine ≡ true → a.ahead ≡ b.ahead  -- what the call in progress asks for
 
 -- both have ended alike, of which nothing more is asked, or both go on alike
 pub record AreAlike {P : Type 0} (a b : Actor P) : Type 0 where

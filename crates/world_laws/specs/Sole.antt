@@ -24,10 +24,10 @@ pub record IsFirstTry (n : ℕ) (a : Attempt) : Type 0 where
   pub nth : a.nth ≡ 1
   pub began : a.began ≡ n
 
--- from so many commits to so many: each is such a try, reads where all before it had ended, and its block has ended: it committed, or was cancelled
+-- from so many commits to so many: each is such a try, reads where all before it had ended, and its block has ended: it committed, or was cancelled; no place is promised in it any more
 abbrev pub AreSole : ℕ → List Attempt → ℕ → Type 0
 AreSole n [] last = n ≡ last
-AreSole n (a ∷ rest) last = IsFirstTry n a × (a.at ≡ n) × (is_done a.outcome ≡ true) × AreSole (n + one_if (is_committed a.outcome)) rest last
+AreSole n (a ∷ rest) last = IsFirstTry n a × (a.at ≡ n) × (is_done a.outcome ≡ true) × (a.calls.room ≡ 0) × AreSole (n + one_if (is_committed a.outcome)) rest last
 
 -- after these attempts one ended so, without its commit
 pub record EndsWith (past : List Attempt) (n : ℕ) (outcome : Outcome) (r : Rows) : Type 0 where
@@ -35,6 +35,7 @@ pub record EndsWith (past : List Attempt) (n : ℕ) (outcome : Outcome) (r : Row
   pub ended : r.ended ≡ past ++ row ∷ []
   pub first : IsFirstTry n row
   pub outcome_is : row.outcome ≡ outcome
+  pub spent : row.calls.room ≡ 0
 
 -- no step is waited for, and an irrevocable transaction alone holds the clock
 abbrev pub IsIdle : Core → Type 0

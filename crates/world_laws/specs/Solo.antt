@@ -6,6 +6,7 @@ use Rattle.itm_types.specs.declared.call.Reply.{Reply}
 use Rattle.itm_model.specs.State.{State}
 use Rattle.itm_model.specs.Machine.{after, opened, is_open}
 use Rattle.itm_model.specs.Runs.{answers, state_after}
+use Rattle.tx_attempts.specs.Kept.{Kept, spent}
 use Rattle.tx_attempts.specs.declared.attempt.Entry.{Entry}
 use Rattle.tx_attempts.specs.declared.attempt.Attempt.{Attempt}
 use Rattle.tx_attempts.specs.declared.attempt.Outcome.{Outcome}
@@ -34,6 +35,10 @@ pub record Solo : Type 0 where
 abbrev pub entry_of : Call × Reply → Entry
 entry_of c = record { call = c.0; reply = c.1 }
 
+-- the attempt with no place promised for more calls
+abbrev pub without_room : Attempt → Attempt
+without_room a = record a { calls = spent a.calls }
+
 -- one attempt, and then the rest
 abbrev pub with_first : Attempt → Solo → Solo
 with_first a s = record s { attempts = a ∷ s.attempts }
@@ -43,7 +48,7 @@ abbrev pub with_all : List Attempt → Solo → Solo
 with_all past s = record s { attempts = past ++ s.attempts }
 
 -- the row of the block that begins so, with these calls
-abbrev pub row_of : {P : Type 0} → ℕ → ℕ → Progress P → Beginning P → List Entry → Outcome → Attempt
+abbrev pub row_of : {P : Type 0} → ℕ → ℕ → Progress P → Beginning P → Kept → Outcome → Attempt
 row_of deepest thread b start calls outcome = record {
   thread = thread;
   nth = 1;
@@ -52,7 +57,7 @@ row_of deepest thread b start calls outcome = record {
   props = start.props;
   arena = start.arena;
   calls = calls;
-  ran = ran_of outcome (state_after deepest (opened b.memory start.arena start.props) (map (λ (e : Entry). e.call) calls));
+  ran = ran_of outcome (state_after deepest (opened b.memory start.arena start.props) (map (λ (e : Entry). e.call) calls.list));
   outcome = outcome;
 }
 
@@ -78,9 +83,9 @@ ended_as false true = Committed
 ended_as false false = ReadOnly
 
 module _ {P : Type 0} (rules : Rules P) (deepest max_commits thread : ℕ) where
-  -- the row of the block, with these calls
+  -- the row of the block, with these calls, and no room for more
   abbrev pub the_attempt : Progress P → Beginning P → List (Call × Reply) → Outcome → Attempt
-  the_attempt b start pairs outcome = row_of deepest thread b start (map entry_of pairs) outcome
+  the_attempt b start pairs outcome = row_of deepest thread b start (record { list = map entry_of pairs; room = 0 }) outcome
 
   -- the player after these replies
   abbrev pub player_after : P → List (Call × Reply) → P
