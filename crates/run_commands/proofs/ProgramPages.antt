@@ -8,7 +8,7 @@ use Rattle.tx_runs.specs.declared.ending.End.{End}
 use Rattle.tx_runs.specs.declared.ending.End.TheVariants.{Finished, GaveUp, NoMemory}
 use Rattle.tx_attempts.specs.declared.attempt.Outcome.{Outcome}
 use Rattle.tx_attempts.specs.declared.attempt.Outcome.TheVariants as outcomes
-use Rattle.world_laws.specs.Solo.{Solo, one_if, solo}
+use Rattle.world_laws.specs.Solo.{Solo, one_if, solo, without_room}
 use Rattle.world_laws.specs.SoFar.{IsSoFar}
 use Rattle.norec_world.specs.Commits.{CommitsInOrder}
 use Rattle.norec_world.specs.Headline.{AreOpaque}
@@ -18,7 +18,7 @@ use Rattle.script_program.specs.declared.instruction.Instruction.{Instruction}
 use Rattle.script_program.specs.Listing.{Listing, opening_of, threads_of}
 use Rattle.script_vm.specs.Threads.{Thread, opening, thread_rules}
 use Rattle.run_commands.specs.Scheduled.{Leaves, schedule_of, players_of}
-use Rattle.run_commands.specs.Pages.{first_thread, solo_of, page, IsOf, IsWorldOf}
+use Rattle.run_commands.specs.Pages.{first_thread, solo_of, page, roomless, IsOf, IsWorldOf}
 use Rattle.world_histories.specs.Told.{told_of}
 use Rattle.history_reader.proofs.LegalTexts.{legal_text}
 use Rattle.history_reader.specs.LegalTexts.{IsLegalText}
@@ -94,8 +94,8 @@ module _ (p : Listing) (w : World Thread) (began : BeganAs p w) (player : Thread
       (subst (λ (t : Thread). IsSoFar thread_rules p.limits.max_commits 0 t w.base (replicate w.arena 0) commits memory outcome rows) player_is
       (subst (λ (n : ℕ). IsSoFar thread_rules n 0 player w.base (replicate w.arena 0) commits memory outcome rows) began.limit s)))
 
-  shows : (end : End) → solo_of p ≡ record { attempts = attempts_of w; memory = memory_of w; commits = w.cells.clock / 2; held = w.cells.clock % 2 == 1; ending = end }
-      → ((solo_of p).ending ≡ end) × (told_of w ≡ page p)
+  shows : (end : End) → solo_of p ≡ record { attempts = map without_room (attempts_of w); memory = memory_of w; commits = w.cells.clock / 2; held = w.cells.clock % 2 == 1; ending = end }
+      → ((solo_of p).ending ≡ end) × (roomless (told_of w) ≡ page p)
   unfolding page
   shows end all = (
     ap (λ (s : Solo). s.ending) all,

@@ -1,10 +1,10 @@
 -- What is told of a run, and the page of a program: what its first thread does alone on the memory that the program begins with.
-use Rattle.std.specs.Prelude.{◌≡◌, ◌⊎◌, ℕ, ◌+◌, ◌*◌, ◌/◌, ◌%◌, List, [], length, replicate, slice_index_or, Option, None, Some}
+use Rattle.std.specs.Prelude.{◌≡◌, ◌⊎◌, ℕ, ◌+◌, ◌*◌, ◌/◌, ◌%◌, List, [], length, map, replicate, slice_index_or, Option, None, Some}
 use Rattle.itm_types.specs.declared.limits.TheConstants.{MAX_OPEN_BLOCKS}
 use Rattle.tx_runs.specs.declared.ending.End.{End}
 use Rattle.tx_runs.specs.declared.ending.End.TheVariants.{Finished, GaveUp, NoMemory}
 use Rattle.tx_attempts.specs.declared.attempt.Outcome.TheVariants as outcomes
-use Rattle.world_laws.specs.Solo.{Solo, one_if, solo}
+use Rattle.world_laws.specs.Solo.{Solo, one_if, solo, without_room}
 use Rattle.world_laws.specs.SoFar.{IsSoFar}
 use Rattle.norec_world.specs.Commits.{CommitsInOrder}
 use Rattle.norec_world.specs.Headline.{AreOpaque}
@@ -28,10 +28,14 @@ solo_of p = solo thread_rules MAX_OPEN_BLOCKS p.limits.max_commits 0 (first_thre
 unfoldable pub page : Listing → History
 page p = record { memory = opening_of p; attempts = (solo_of p).attempts; clock = 2 * (solo_of p).commits + one_if (solo_of p).held; bytes = (solo_of p).memory }
 
--- The history of a run after which the one thread stands so: the page, where it ran to its end; a beginning of what it does, with what the commits so far left, where it found no memory or has not ended; of an irrevocable transaction that found none, with what it stored over that.
+-- the history, with no room in its attempts
+abbrev pub roomless : History → History
+roomless h = record h { attempts = map without_room h.attempts }
+
+-- The history of a run after which the one thread stands so: the page, where it ran to its end, but the room for more calls that an unfinished attempt has; a beginning of what it does, with what the commits so far left, where it found no memory or has not ended; of an irrevocable transaction that found none, with what it stored over that.
 abbrev pub IsOf : Listing → Option End → History → Type 0
-IsOf p (Some Finished) h = ((solo_of p).ending ≡ Finished) × (h ≡ page p)
-IsOf p (Some GaveUp) h = ((solo_of p).ending ≡ GaveUp) × (h ≡ page p)
+IsOf p (Some Finished) h = ((solo_of p).ending ≡ Finished) × (roomless h ≡ page p)
+IsOf p (Some GaveUp) h = ((solo_of p).ending ≡ GaveUp) × (roomless h ≡ page p)
 IsOf p (Some NoMemory) h = (h.memory ≡ opening_of p)
     × (((h.clock % 2 ≡ 0) × IsSoFar thread_rules p.limits.max_commits 0 (first_thread p) (opening_of p) (replicate p.arena 0) (h.clock / 2) h.bytes outcomes.NoMemory h.attempts)
     ⊎ ((h.clock % 2 ≡ 1) × ((memory : List ℕ) × IsSoFar thread_rules p.limits.max_commits 0 (first_thread p) (opening_of p) (replicate p.arena 0) (h.clock / 2) memory outcomes.Unfinished h.attempts)))
