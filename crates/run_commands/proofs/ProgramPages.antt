@@ -32,6 +32,7 @@ use Rattle.world_histories.specs.Limits.{IsLimitedWorld}
 use Rattle.world_laws.specs.ShownAlone.{DoneBy}
 use Rattle.world_laws.proofs.LedAlone.{led_alone}
 use Rattle.script_vm.specs.ThreadLaws.{thread_laws}
+use Rattle.run_commands.proofs.RoomlessTexts.{roomless_text}
 use Rattle.run_commands.proofs.ScheduleItems.{items_keep, items_led}
 
 first_is : (threads : List (List Instruction)) (x : Thread) → map opening threads ≡ x ∷ [] → x ≡ opening (slice_index_or threads 0 [])
@@ -94,18 +95,19 @@ module _ (p : Listing) (w : World Thread) (began : BeganAs p w) (player : Thread
       (subst (λ (t : Thread). IsSoFar thread_rules p.limits.max_commits 0 t w.base (replicate w.arena 0) commits memory outcome rows) player_is
       (subst (λ (n : ℕ). IsSoFar thread_rules n 0 player w.base (replicate w.arena 0) commits memory outcome rows) began.limit s)))
 
-  shows : (end : End) → solo_of p ≡ record { attempts = map without_room (attempts_of w); memory = memory_of w; commits = w.cells.clock / 2; held = w.cells.clock % 2 == 1; ending = end }
-      → ((solo_of p).ending ≡ end) × (roomless (told_of w) ≡ page p)
+  is_page : (end : End) → solo_of p ≡ record { attempts = map without_room (attempts_of w); memory = memory_of w; commits = w.cells.clock / 2; held = w.cells.clock % 2 == 1; ending = end }
+      → roomless (told_of w) ≡ page p
   unfolding page
-  shows end all = (
-    ap (λ (s : Solo). s.ending) all,
-    (λ i. record {
-      memory = began.base i;
-      attempts = (ap (λ (s : Solo). s.attempts) (sym all)) i;
-      clock = (doubled w.cells.clock ∙ ap (λ (s : Solo). 2 * s.commits + one_if s.held) (sym all)) i;
-      bytes = (ap (λ (s : Solo). s.memory) (sym all)) i;
-    }),
-  )
+  is_page end all = λ i. record {
+    memory = began.base i;
+    attempts = (ap (λ (s : Solo). s.attempts) (sym all)) i;
+    clock = (doubled w.cells.clock ∙ ap (λ (s : Solo). 2 * s.commits + one_if s.held) (sym all)) i;
+    bytes = (ap (λ (s : Solo). s.memory) (sym all)) i;
+  }
+
+  shows : (end : End) → solo_of p ≡ record { attempts = map without_room (attempts_of w); memory = memory_of w; commits = w.cells.clock / 2; held = w.cells.clock % 2 == 1; ending = end }
+      → ((solo_of p).ending ≡ end) × (roomless (told_of w) ≡ page p) × (history_text (told_of w) ≡ history_text (page p))
+  shows end all = (let same = is_page end all in (ap (λ (s : Solo). s.ending) all, same, sym (roomless_text (told_of w)) ∙ ap history_text same))
 
   of_ending : (ending : Option End) → DoneBy thread_rules w player ending → IsOf p ending (told_of w)
   of_ending None (memory, part, told) = (began.base, memory, so_far (w.cells.clock / 2) memory outcomes.Unfinished (attempts_of w) part, told)

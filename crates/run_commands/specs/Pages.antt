@@ -13,6 +13,7 @@ use Rattle.norec_world.specs.World.{World, ending_at, observed}
 use Rattle.script_program.specs.Listing.{Listing, opening_of, threads_of}
 use Rattle.script_vm.specs.Threads.{Thread, opening, thread_rules}
 use Rattle.tx_history.specs.declared.history.History.{History}
+use Rattle.tx_history.specs.Histories.{history_text}
 use Rattle.tx_history.specs.Legal.{IsLegal}
 use Rattle.world_histories.specs.Told.{told_of}
 use Rattle.run_commands.specs.Scheduled.{Leaves}
@@ -32,10 +33,10 @@ page p = record { memory = opening_of p; attempts = (solo_of p).attempts; clock 
 abbrev pub roomless : History → History
 roomless h = record h { attempts = map without_room h.attempts }
 
--- The history of a run after which the one thread stands so: the page, where it ran to its end, but the room for more calls that an unfinished attempt has; a beginning of what it does, with what the commits so far left, where it found no memory or has not ended; of an irrevocable transaction that found none, with what it stored over that.
+-- The history of a run after which the one thread stands so: the page, where it ran to its end, but for the room for more calls that an unfinished attempt has, and with the same text; a beginning of what it does, with what the commits so far left, where it found no memory or has not ended; of an irrevocable transaction that found none, with what it stored over that.
 abbrev pub IsOf : Listing → Option End → History → Type 0
-IsOf p (Some Finished) h = ((solo_of p).ending ≡ Finished) × (roomless h ≡ page p)
-IsOf p (Some GaveUp) h = ((solo_of p).ending ≡ GaveUp) × (roomless h ≡ page p)
+IsOf p (Some Finished) h = ((solo_of p).ending ≡ Finished) × (roomless h ≡ page p) × (history_text h ≡ history_text (page p))
+IsOf p (Some GaveUp) h = ((solo_of p).ending ≡ GaveUp) × (roomless h ≡ page p) × (history_text h ≡ history_text (page p))
 IsOf p (Some NoMemory) h = (h.memory ≡ opening_of p)
     × (((h.clock % 2 ≡ 0) × IsSoFar thread_rules p.limits.max_commits 0 (first_thread p) (opening_of p) (replicate p.arena 0) (h.clock / 2) h.bytes outcomes.NoMemory h.attempts)
     ⊎ ((h.clock % 2 ≡ 1) × ((memory : List ℕ) × IsSoFar thread_rules p.limits.max_commits 0 (first_thread p) (opening_of p) (replicate p.arena 0) (h.clock / 2) memory outcomes.Unfinished h.attempts)))
