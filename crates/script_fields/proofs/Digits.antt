@@ -1,8 +1,9 @@
 -- The number that digits spell, from left to right.
-use Rattle.std.proofs.Common.{◌≡◌, ℕ, ◌+◌, ◌-◌, ◌*◌, ◌^◌, ◌<◌, ◌≤◌, Bool, cond, List, [], ◌∷◌, length, drop, get_or, Some, None, refl, sym, ap, ◌∙◌, arith, drop-cons, add-one}
-use Rattle.std.proofs.lemmas.Bool.{lt-ltb, le-ltb}
+use Rattle.std.proofs.Common.{◌≡◌, ℕ, ◌+◌, ◌-◌, ◌*◌, ◌^◌, ◌<◌, ◌≤◌, Bool, true, false, not, ◌&&◌, cond, eqb, Ok, Err, List, [], ◌∷◌, length, drop, get_or, Some, None, refl, sym, ap, ◌∙◌, arith, drop-cons, add-one}
+use Rattle.std.proofs.lemmas.Bool.{lt-ltb, le-ltb, le-leb}
 use Rattle.std.proofs.lemmas.Grind.{common_steps}
-use Rattle.script_fields.specs.Operands.{value_after, value_of}
+use Rattle.script_fields.specs.Operands.{value_after, value_of, in_range, is_number, number}
+use Rattle.script_fields.specs.declared.fault.AsmKind.TheVariants as kinds
 
 value_ge : (n : ℕ) (cs : List ℕ) → n ≤ value_after n cs
 value_ge n [] = omega arith
@@ -24,3 +25,16 @@ all_read total i f e h small =
     let none : drop i f ≡ [] = grind (arith, common_steps) in
     let same : total ≡ value_after 0 f = ap (value_after total) (sym none) ∙ e in
     ap (λ (t : Bool). cond t (Some (value_after 0 f)) None) (lt-ltb _ _ (omega (arith, same))) ∙ ap (λ (n : ℕ). Some n) (sym same)
+
+no_zero_in_front : (b : Bool) → (not (b && false) && true) ≡ true
+no_zero_in_front true = refl
+no_zero_in_front false = refl
+
+pub one_digit : (f : List ℕ) → length f ≡ 1 → 48 ≤ get_or f 0 0 → get_or f 0 0 ≤ 57 → number f ≡ Ok (get_or f 0 0 - 48)
+unfolding number
+one_digit [] one low high = absurd (omega arith)
+one_digit (d ∷ []) one low high =
+    let digit : is_number (d ∷ []) ≡ true = rw (le-leb 48 d low, le-leb d 57 high) (no_zero_in_front (eqb d 48)) in
+    ap (λ (t : Bool). cond t (in_range (value_of (d ∷ []))) (Err kinds.Operand)) digit
+    ∙ ap in_range (all_read (d - 48) 1 (d ∷ []) (omega arith) (omega arith) (omega arith))
+one_digit (d ∷ e ∷ more) one low high = absurd (omega arith)

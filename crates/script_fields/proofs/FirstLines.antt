@@ -19,12 +19,12 @@ pub chosen : {A : Type 0} (b : Bool) (x y z : A) → cond b x y ≡ z → ((b �
 chosen true x y z e = inl (refl, e)
 chosen false x y z e = inr (refl, e)
 
-at_is : (p : ℕ → Bool) (xs : List ℕ) (i : ℕ) → Some i ≡ position p xs → (position_or_len p xs ≡ i) × (position_or_len p xs < length xs)
+pub at_is : (p : ℕ → Bool) (xs : List ℕ) (i : ℕ) → Some i ≡ position p xs → (position_or_len p xs ≡ i) × (position_or_len p xs < length xs)
 at_is p xs i e =
     let c = chosen (ltb (position_or_len p xs) (length xs)) (Some (position_or_len p xs)) None (Some i) (sym e) in
     elim c [ inl h ↦ (cc, ltb-true _ _ h.0) | inr h ↦ absurd cc ]
 
-at_none : (p : ℕ → Bool) (xs : List ℕ) → None ≡ position p xs → length xs ≤ position_or_len p xs
+pub at_none : (p : ℕ → Bool) (xs : List ℕ) → None ≡ position p xs → length xs ≤ position_or_len p xs
 at_none p xs e =
     let c = chosen (ltb (position_or_len p xs) (length xs)) (Some (position_or_len p xs)) None None (sym e) in
     elim c [ inl h ↦ absurd cc | inr h ↦ ltb-false _ _ h.0 ]

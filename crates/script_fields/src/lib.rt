@@ -24,6 +24,7 @@ mod operands;
 mod place;
 mod property;
 mod register;
+mod scan;
 mod shapes;
 mod text;
 mod words;

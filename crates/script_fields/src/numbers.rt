@@ -35,6 +35,10 @@ fn value_of(field: &[u8]) -> Option<u64>
 pub fn number(field: &[u8]) -> Result<u64, AsmKind>
     ensures { result ≡ number field.now }
 {
+    // most numbers are one digit
+    if field.len() == 1 && b'0' <= field[0] && field[0] <= b'9' {
+        return Ok(u64::from(field[0] - b'0'));
+    }
     if !is_number(field) {
         return Err(AsmKind::Operand);
     }

@@ -3,7 +3,9 @@
 ghost use Rattle.std.specs.Prelude.{◌≡◌, ◌<◌, ◌≤◌, ◌∷◌, [], length, MatchOption, IfSome, ◌⊎◌, slice_index, false, position};
 ghost use Rattle.std.specs.List.{list_all};
 ghost use Rattle.std.specs.Str.Lines.{lines, strip_carriage_return};
-ghost use Rattle.script_fields.specs.Text.{fields, without_comment, is_allowed, is_feed, is_blank, is_ink, is_semicolon};
+ghost use Rattle.script_fields.specs.Text.{fields, without_comment, is_allowed, is_ink, is_semicolon};
+
+use crate::scan::{blank_at, feed_at};
 
 fn without_return(line: &[u8]) -> &[u8]
     ensures { result.now ≡ strip_carriage_return line.now }
@@ -12,18 +14,6 @@ fn without_return(line: &[u8]) -> &[u8]
         [front @ .., b'\r'] => front,
         _ => line,
     }
-}
-
-fn feed_at(text: &[u8]) -> Option<usize>
-    ensures { result ≡ position is_feed text.now }
-{
-    text.iter().position(|b| *b == b'\n')
-}
-
-fn blank_at(line: &[u8]) -> Option<usize>
-    ensures { result ≡ position is_blank line.now }
-{
-    line.iter().position(|b| *b == b' ' || *b == b'\t')
 }
 
 fn ink_at(line: &[u8]) -> Option<usize>
