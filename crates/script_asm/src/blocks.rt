@@ -11,9 +11,12 @@ use crate::stop::{Stop, fault};
 use script_fields::AsmKind;
 use script_program::Instruction;
 
+/// One more instruction. Its code stands where it is called: an answer has room for a fault, which would be cleared and
+/// copied for each line.
+#[inline(always)]
 #[tactic(auto, using(crate::proofs::KeptLines::code_kept))]
-fn push_code(state: &mut State, line: usize, instruction: Instruction) -> Result<(), Stop>
-    ensures { Steps result state.old state.new (counted state.old line instruction) }
+fn push_code(state: &mut State, line: usize, instruction: &Instruction) -> Result<(), Stop>
+    ensures { Steps result state.old state.new (counted state.old line instruction.now) }
 {
     if state.threads.is_full() {
         return fault(line, AsmKind::TooLong);
@@ -22,15 +25,20 @@ fn push_code(state: &mut State, line: usize, instruction: Instruction) -> Result
         state.threads.leave_out();
         return Ok(());
     }
-    match state.threads.push(instruction) {
+    match state.threads.push(*instruction) {
         Ok(()) => Ok(()),
         Err(_) => Err(Stop::Memory),
     }
 }
 
 /// An instruction that begins a block or a group.
-fn begin(state: &mut State, line: usize, instruction: Instruction, group: Group) -> Result<(), Stop>
-    ensures { Steps result state.old state.new (begins state.old line instruction group) }
+fn begin(
+    state: &mut State,
+    line: usize,
+    instruction: &Instruction,
+    group: Group,
+) -> Result<(), Stop>
+    ensures { Steps result state.old state.new (begins state.old line instruction.now group) }
 {
     if state.levels.is_full() {
         return fault(line, AsmKind::TooLong);
@@ -43,8 +51,8 @@ fn begin(state: &mut State, line: usize, instruction: Instruction, group: Group)
 }
 
 /// An instruction that ends what is innermost.
-fn end(state: &mut State, line: usize, instruction: Instruction) -> Result<(), Stop>
-    ensures { Steps result state.old state.new (ends state.old line instruction) }
+fn end(state: &mut State, line: usize, instruction: &Instruction) -> Result<(), Stop>
+    ensures { Steps result state.old state.new (ends state.old line instruction.now) }
 {
     push_code(state, line, instruction)?;
     state.levels.pop();
@@ -55,7 +63,7 @@ fn end_block(state: &mut State, line: usize) -> Result<(), Stop>
     ensures { Steps result state.old state.new (ends_block state.old line (innermost state.old.levels)) }
 {
     match state.levels.innermost() {
-        Some(Group::Block) => end(state, line, Instruction::Commit),
+        Some(Group::Block) => end(state, line, &Instruction::Commit),
         _ => fault(line, AsmKind::Unbalanced),
     }
 }
@@ -65,7 +73,7 @@ fn turn_group(state: &mut State, line: usize) -> Result<(), Stop>
 {
     match state.levels.innermost() {
         Some(Group::First) => {
-            push_code(state, line, Instruction::Else)?;
+            push_code(state, line, &Instruction::Else)?;
             state.levels.turn();
             Ok(())
         }
@@ -77,18 +85,18 @@ fn end_group(state: &mut State, line: usize) -> Result<(), Stop>
     ensures { Steps result state.old state.new (ends_group state.old line (innermost state.old.levels)) }
 {
     match state.levels.innermost() {
-        Some(Group::First) => end(state, line, Instruction::EndIf),
-        Some(Group::Second) => end(state, line, Instruction::EndIf),
+        Some(Group::First) => end(state, line, &Instruction::EndIf),
+        Some(Group::Second) => end(state, line, &Instruction::EndIf),
         _ => fault(line, AsmKind::Unbalanced),
     }
 }
 
 /// One more line of a thread's code.
 #[tactic(auto, unfolding(crate::specs::Blocks::run_code))]
-pub fn run_code(state: &mut State, line: usize, instruction: Instruction) -> Result<(), Stop>
-    ensures { Steps result state.old state.new (run_code state.old line instruction) }
+pub fn run_code(state: &mut State, line: usize, instruction: &Instruction) -> Result<(), Stop>
+    ensures { Steps result state.old state.new (run_code state.old line instruction.now) }
 {
-    match instruction {
+    match *instruction {
         Instruction::Begin { .. } => begin(state, line, instruction, Group::Block),
         Instruction::IfNotZero { .. } => begin(state, line, instruction, Group::First),
         Instruction::Else => turn_group(state, line),

@@ -9,7 +9,7 @@ ghost use Rattle.script_asm.specs.Assembly.{obeyed};
 ghost use Rattle.script_asm.specs.Wants.{Steps};
 
 use crate::blocks::{begin_repeat, end_repeat, run_code};
-use crate::code::instruction_of;
+use crate::code::instruction_into;
 use crate::directives::{
     read_arena, read_commits, read_init, read_memory, read_patience, read_retries, read_schedule,
 };
@@ -18,7 +18,7 @@ use crate::stop::{Stop, fault};
 use crate::words::{Mnemonic, Word};
 use itm_types::MAX_ACTORS;
 use script_fields::{AsmKind, count_of, limit_of, no_field};
-use script_program::MAX_REPEATS;
+use script_program::{Instruction, MAX_REPEATS};
 use std::alloc::Global;
 
 /// A section begins, where nothing is open.
@@ -72,8 +72,9 @@ fn read_end_repeat(state: &mut State, line: usize, rest: &[u8]) -> Result<(), St
 fn read_code(state: &mut State, line: usize, mnemonic: Mnemonic, rest: &[u8]) -> Result<(), Stop>
     ensures { Steps result state.old state.new (obeyed state.old line (words.Code mnemonic) (fields rest.now)) }
 {
-    match instruction_of(mnemonic, rest) {
-        Ok(instruction) => run_code(state, line, instruction),
+    let mut instruction = Instruction::Else;
+    match instruction_into(mnemonic, rest, &mut instruction) {
+        Ok(()) => run_code(state, line, &instruction),
         Err(kind) => fault(line, kind),
     }
 }
