@@ -79,8 +79,8 @@ impl<'p> Script<'p> {
         match reply {
             Reply::Code(n) => {
                 let start = Start::new(self.rest, &self.registers, code);
-                self.rest = more;
                 self.blocks.open(start);
+                self.rest = more;
                 self.registers.put_number(code, u64::from(*n));
                 self.go_on(more);
             }

@@ -8,11 +8,12 @@ use script_fields::Register;
 use script_program::{Instruction, MAX_INSTRUCTIONS};
 use std::marker::Model;
 
-/// The code and the registers as a block's begin was called, and the begin's register.
+/// The code and the registers as a block's begin was called, and the begin's register. The registers stand first: so they are
+/// copied once, to where the start is kept, and not by way of the stack.
 #[derive(Drop)]
 pub struct Start<'p> {
-    rest: &'p [Instruction],
     registers: Registers,
+    rest: &'p [Instruction],
     code: Register,
 }
 
@@ -35,8 +36,8 @@ impl<'p> Start<'p> {
         ensures { result ≡ record { rest = rest.now; registers = registers.now; code = code } }
     {
         Start {
-            rest,
             registers: *registers,
+            rest,
             code,
         }
     }
