@@ -3,6 +3,7 @@
 ghost use Rattle.std.specs.Prelude.{◌≡◌, ◌≤◌, ◌++◌, codes, decimal};
 ghost use Rattle.hex.specs.Hex.{encode_lower};
 ghost use Rattle.itm_types.specs.Names.{name_of};
+ghost use Rattle.script_fields.specs.Properties.{props_text};
 ghost use Rattle.itm_types.specs.declared.entry.Entry.{Entry};
 ghost use Rattle.tx_history.specs.Bounds.{CallFits, IsAction, IsCopying, IsDatum, IsWord, ReplyFits};
 ghost use Rattle.tx_history.specs.Spelling.{Grows, sheet};
@@ -10,9 +11,30 @@ ghost use Rattle.tx_history.specs.Histories.{copy_text, fill_text, commit_action
 
 use crate::paging::Pages;
 use crate::pieces::Piece;
-use itm_types::{Action, Call, Copying, Datum, Entry as Function, Reply, WriteHint, name_of};
+use itm_types::{
+    Action, Call, Copying, Datum, Entry as Function, Props, Reply, WriteHint, name_of,
+};
 use script_fields::{props_text, scope_text};
 use std::io::Write;
+
+/// A begin, and its properties.
+fn put_begin<W: Write>(pages: &mut Pages<'_, W>, props: Props)
+    ensures same { pages.new.writer.ghost_name ≡ pages.old.writer.ghost_name }
+    ensures grows { Grows (sheet W.contents pages.old) (sheet W.contents pages.new)
+        (codes "_ITM_beginTransaction " ++ props_text props) }
+{
+    pages.text(b"_ITM_beginTransaction ");
+    pages.text(props_text(props).as_bytes());
+}
+
+/// The code that a begin is answered with.
+fn put_code<W: Write>(pages: &mut Pages<'_, W>, code: u32)
+    ensures same { pages.new.writer.ghost_name ≡ pages.old.writer.ghost_name }
+    ensures grows { Grows (sheet W.contents pages.old) (sheet W.contents pages.new) (codes "code " ++ decimal code) }
+{
+    pages.text(b"code ");
+    pages.number(u64::from(code));
+}
 
 /// An entry point, and the first byte that it is called for.
 fn put_at<W: Write>(pages: &mut Pages<'_, W>, function: Function, at: u64)
@@ -128,10 +150,7 @@ pub fn put_body<W: Write>(pages: &mut Pages<'_, W>, call: &Call)
     ensures fits { CallFits call.now }
 {
     match call {
-        Call::Begin { props, .. } => pages.put(&[
-            Piece::Text(b"_ITM_beginTransaction "),
-            Piece::Text(props_text(*props).as_bytes()),
-        ]),
+        Call::Begin { props, .. } => put_begin(pages, *props),
         Call::Commit => pages.text(b"_ITM_commitTransaction"),
         Call::Abort { outer } => pages.put(&[
             Piece::Text(b"_ITM_abortTransaction "),
@@ -187,7 +206,7 @@ pub fn put_reply<W: Write>(pages: &mut Pages<'_, W>, reply: &Reply)
     match reply {
         Reply::Done => pages.text(b"ok"),
         Reply::Bytes(bytes) => pages.hex(bytes.as_slice()),
-        Reply::Code(n) => pages.put(&[Piece::Text(b"code "), Piece::Number(u64::from(*n))]),
+        Reply::Code(n) => put_code(pages, *n),
         Reply::Refused(refusal) => pages.put(&[
             Piece::Text(b"refused "),
             Piece::Number(u64::from(refusal.number())),

@@ -1,6 +1,6 @@
 //! A text that is written as it comes, and that stops at the first write that failed.
 
-ghost use Rattle.std.specs.Prelude.{◌≡◌, ◌≤◌, All, [], false, length, flat_map, decimal, is_err};
+ghost use Rattle.std.specs.Prelude.{◌≡◌, ◌<◌, ◌≤◌, All, [], false, length, flat_map, decimal, is_err};
 ghost use Rattle.hex.specs.Hex.{IsBytes, encode_lower};
 ghost use Rattle.tx_history.specs.Bounds.{IsWord, PieceFits};
 ghost use Rattle.tx_history.specs.Spelling.{Grows, sheet, spelled};
@@ -97,14 +97,37 @@ impl<'a, W: Write> Pages<'a, W> {
         }
     }
 
-    /// Writes the number in decimal digits.
+    /// Writes a number below 10.
+    #[inline(always)]
+    #[tactic(auto, using(crate::proofs::PagedTexts::grows_as, std::proofs::lemmas::Fmt::decimal_digit))]
+    fn digit(&mut self, n: u8)
+        requires { n < 10 }
+        ensures same { self.new.writer.ghost_name ≡ self.old.writer.ghost_name }
+        ensures grows { Grows (sheet W.contents self.old) (sheet W.contents self.new) (decimal n) }
+    {
+        self.text(&[b'0' + n]);
+    }
+
+    fn digits(&mut self, n: u64)
+        ensures same { self.new.writer.ghost_name ≡ self.old.writer.ghost_name }
+        ensures grows { Grows (sheet W.contents self.old) (sheet W.contents self.new) (decimal n) }
+    {
+        let mut buffer = Buffer::new();
+        self.text(buffer.format(n).as_bytes());
+    }
+
+    /// Writes the number in decimal digits. Most numbers are one, which is written where it is called.
+    #[inline(always)]
     pub(crate) fn number(&mut self, n: u64)
         ensures same { self.new.writer.ghost_name ≡ self.old.writer.ghost_name }
         ensures grows { Grows (sheet W.contents self.old) (sheet W.contents self.new) (decimal n) }
         ensures fits { IsWord n }
     {
-        let mut buffer = Buffer::new();
-        self.text(buffer.format(n).as_bytes());
+        if n < 10 {
+            self.digit(n as u8);
+        } else {
+            self.digits(n);
+        }
     }
 
     fn chunk(&mut self, chunk: &[u8])

@@ -8,11 +8,11 @@ use Rattle.tx_history.proofs.bodies.put_body.Goals as goal
 
 pub returns-in-Begin-clause-grows : goal.returns-in-Begin-clause-grows
 unfolding body_text
-returns-in-Begin-clause-grows g c = rw c.in-Begin.is (grows_as _ _ _ _ c.put.ensures.grows (grind (arith, common_steps, c.props_text.ensures)))
+returns-in-Begin-clause-grows g c = rw c.in-Begin.is c.put_begin.ensures.grows
 
 pub returns-in-Abort-clause-grows : goal.returns-in-Abort-clause-grows
 unfolding body_text
-returns-in-Abort-clause-grows g c = rw c.in-Abort.is (grows_as _ _ _ _ c.put-in-Abort.ensures.grows (grind (arith, common_steps, c.scope_text.ensures)))
+returns-in-Abort-clause-grows g c = rw c.in-Abort.is (grows_as _ _ _ _ c.put.ensures.grows (grind (arith, common_steps, c.scope_text.ensures)))
 
 pub returns-in-Commit-clause-grows : goal.returns-in-Commit-clause-grows
 unfolding body_text
