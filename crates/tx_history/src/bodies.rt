@@ -2,8 +2,11 @@
 
 ghost use Rattle.std.specs.Prelude.{◌≡◌, ◌≤◌, ◌++◌, codes, decimal};
 ghost use Rattle.hex.specs.Hex.{encode_lower};
+ghost use Rattle.itm_types.specs.Access.{size_of};
 ghost use Rattle.itm_types.specs.Names.{name_of};
+ghost use Rattle.itm_types.specs.Refusals.{number_of};
 ghost use Rattle.script_fields.specs.Properties.{props_text};
+ghost use Rattle.script_fields.specs.Spelling.{scope_text};
 ghost use Rattle.itm_types.specs.declared.entry.Entry.{Entry};
 ghost use Rattle.tx_history.specs.Bounds.{CallFits, IsAction, IsCopying, IsDatum, IsWord, ReplyFits};
 ghost use Rattle.tx_history.specs.Spelling.{Grows, sheet};
@@ -12,7 +15,8 @@ ghost use Rattle.tx_history.specs.Histories.{copy_text, fill_text, commit_action
 use crate::paging::Pages;
 use crate::pieces::Piece;
 use itm_types::{
-    Action, Call, Copying, Datum, Entry as Function, Props, Reply, WriteHint, name_of,
+    Action, Call, Copying, Datum, Entry as Function, Props, Refusal, Reply, Width, WriteHint,
+    name_of,
 };
 use script_fields::{props_text, scope_text};
 use std::io::Write;
@@ -34,6 +38,16 @@ fn put_code<W: Write>(pages: &mut Pages<'_, W>, code: u32)
 {
     pages.text(b"code ");
     pages.number(u64::from(code));
+}
+
+/// A refusal, by its number.
+fn put_refused<W: Write>(pages: &mut Pages<'_, W>, refusal: Refusal)
+    ensures same { pages.new.writer.ghost_name ≡ pages.old.writer.ghost_name }
+    ensures grows { Grows (sheet W.contents pages.old) (sheet W.contents pages.new)
+        (codes "refused " ++ decimal (number_of refusal)) }
+{
+    pages.text(b"refused ");
+    pages.number(u64::from(refusal.number()));
 }
 
 /// An entry point, and the first byte that it is called for.
@@ -60,8 +74,59 @@ fn put_write<W: Write>(pages: &mut Pages<'_, W>, hint: WriteHint, at: u64, value
     pages.hex(value.bytes.as_slice());
 }
 
+/// An abort, and its scope.
+fn put_abort<W: Write>(pages: &mut Pages<'_, W>, outer: bool)
+    ensures same { pages.new.writer.ghost_name ≡ pages.old.writer.ghost_name }
+    ensures grows { Grows (sheet W.contents pages.old) (sheet W.contents pages.new)
+        (codes "_ITM_abortTransaction " ++ scope_text outer) }
+{
+    pages.text(b"_ITM_abortTransaction ");
+    pages.text(scope_text(outer).as_bytes());
+}
+
+/// Bytes of the arena that are kept: the first, and how many.
+fn put_log_bytes<W: Write>(pages: &mut Pages<'_, W>, at: u64, size: u64)
+    ensures same { pages.new.writer.ghost_name ≡ pages.old.writer.ghost_name }
+    ensures grows { Grows (sheet W.contents pages.old) (sheet W.contents pages.new)
+        (name_of Entry.LogBytes ++ codes " " ++ decimal at ++ codes " " ++ decimal size) }
+    ensures fits { IsWord at × IsWord size }
+{
+    put_at(pages, Function::LogBytes, at);
+    pages.text(b" ");
+    pages.number(size);
+}
+
+/// A read of the arena: how many bytes, and the first.
+fn put_load<W: Write>(pages: &mut Pages<'_, W>, width: Width, at: u64)
+    ensures same { pages.new.writer.ghost_name ≡ pages.old.writer.ghost_name }
+    ensures grows { Grows (sheet W.contents pages.old) (sheet W.contents pages.new)
+        (codes "ld" ++ decimal (size_of width) ++ codes " " ++ decimal at) }
+    ensures fits { IsWord at }
+{
+    pages.text(b"ld");
+    pages.number(u64::from(width.size()));
+    pages.text(b" ");
+    pages.number(at);
+}
+
+/// A write of the arena: how many bytes, the first, and what is written.
+fn put_save<W: Write>(pages: &mut Pages<'_, W>, at: u64, value: &Datum)
+    ensures same { pages.new.writer.ghost_name ≡ pages.old.writer.ghost_name }
+    ensures grows { Grows (sheet W.contents pages.old) (sheet W.contents pages.new)
+        (codes "st" ++ decimal (size_of value.now.width) ++ codes " " ++ decimal at ++ codes " " ++ encode_lower value.now.bytes.items) }
+    ensures fits { IsWord at × IsDatum value.now }
+{
+    pages.text(b"st");
+    pages.number(u64::from(value.width.size()));
+    pages.text(b" ");
+    pages.number(at);
+    pages.text(b" ");
+    pages.hex(value.bytes.as_slice());
+}
+
 /// A copy: where it writes, where it reads, and how many bytes.
 #[tactic(auto, unfolding(crate::specs::Histories::copy_text), using(crate::proofs::PagedTexts::grows_as))]
+#[inline(never)]
 fn put_copy<W: Write>(pages: &mut Pages<'_, W>, copying: Copying)
     ensures same { pages.new.writer.ghost_name ≡ pages.old.writer.ghost_name }
     ensures grows { Grows (sheet W.contents pages.old) (sheet W.contents pages.new)
@@ -85,6 +150,7 @@ fn put_copy<W: Write>(pages: &mut Pages<'_, W>, copying: Copying)
 
 /// A fill: where it writes, the byte that it sets, and how many.
 #[tactic(auto, unfolding(crate::specs::Histories::fill_text), using(crate::proofs::PagedTexts::grows_as))]
+#[inline(never)]
 fn put_fill<W: Write>(pages: &mut Pages<'_, W>, hint: WriteHint, to: u64, byte: u64, size: u64)
     ensures same { pages.new.writer.ghost_name ≡ pages.old.writer.ghost_name }
     ensures grows { Grows (sheet W.contents pages.old) (sheet W.contents pages.new)
@@ -112,6 +178,7 @@ pub fn function_number(fun: u32) -> u64
 
 /// An action that runs once the transaction has committed.
 #[tactic(auto, unfolding(crate::specs::Histories::commit_action_text), using(crate::proofs::PagedTexts::grows_as))]
+#[inline(never)]
 fn put_commit_action<W: Write>(pages: &mut Pages<'_, W>, action: Action)
     ensures same { pages.new.writer.ghost_name ≡ pages.old.writer.ghost_name }
     ensures grows { Grows (sheet W.contents pages.old) (sheet W.contents pages.new)
@@ -128,6 +195,7 @@ fn put_commit_action<W: Write>(pages: &mut Pages<'_, W>, action: Action)
 
 /// An action that runs where its block is rolled back.
 #[tactic(auto, unfolding(crate::specs::Histories::undo_action_text), using(crate::proofs::PagedTexts::grows_as))]
+#[inline(never)]
 fn put_undo_action<W: Write>(pages: &mut Pages<'_, W>, action: Action)
     ensures same { pages.new.writer.ghost_name ≡ pages.old.writer.ghost_name }
     ensures grows { Grows (sheet W.contents pages.old) (sheet W.contents pages.new)
@@ -152,24 +220,13 @@ pub fn put_body<W: Write>(pages: &mut Pages<'_, W>, call: &Call)
     match call {
         Call::Begin { props, .. } => put_begin(pages, *props),
         Call::Commit => pages.text(b"_ITM_commitTransaction"),
-        Call::Abort { outer } => pages.put(&[
-            Piece::Text(b"_ITM_abortTransaction "),
-            Piece::Text(scope_text(*outer).as_bytes()),
-        ]),
-        Call::Mode { .. } => pages.put(&[Piece::Text(
-            b"_ITM_changeTransactionMode modeSerialIrrevocable",
-        )]),
-        Call::InTransaction => pages.put(&[Piece::Text(b"_ITM_inTransaction")]),
+        Call::Abort { outer } => put_abort(pages, *outer),
+        Call::Mode { .. } => pages.text(b"_ITM_changeTransactionMode modeSerialIrrevocable"),
+        Call::InTransaction => pages.text(b"_ITM_inTransaction"),
         Call::Read { hint, width, at } => put_at(pages, Function::Read(*hint, *width), *at),
         Call::Write { hint, at, value } => put_write(pages, *hint, *at, value),
         Call::Log { width, at } => put_at(pages, Function::Log(*width), *at),
-        Call::LogBytes { at, size } => pages.put(&[
-            Piece::Text(name_of(Function::LogBytes).as_bytes()),
-            Piece::Text(b" "),
-            Piece::Number(*at),
-            Piece::Text(b" "),
-            Piece::Number(*size),
-        ]),
+        Call::LogBytes { at, size } => put_log_bytes(pages, *at, *size),
         Call::Copy(copying) => put_copy(pages, *copying),
         Call::Fill {
             hint,
@@ -179,20 +236,8 @@ pub fn put_body<W: Write>(pages: &mut Pages<'_, W>, call: &Call)
         } => put_fill(pages, *hint, *to, *byte, *size),
         Call::CommitAction(action) => put_commit_action(pages, *action),
         Call::UndoAction(action) => put_undo_action(pages, *action),
-        Call::Load { width, at } => pages.put(&[
-            Piece::Text(b"ld"),
-            Piece::Number(u64::from(width.size())),
-            Piece::Text(b" "),
-            Piece::Number(*at),
-        ]),
-        Call::Save { at, value } => pages.put(&[
-            Piece::Text(b"st"),
-            Piece::Number(u64::from(value.width.size())),
-            Piece::Text(b" "),
-            Piece::Number(*at),
-            Piece::Text(b" "),
-            Piece::Hex(value.bytes.as_slice()),
-        ]),
+        Call::Load { width, at } => put_load(pages, *width, *at),
+        Call::Save { at, value } => put_save(pages, *at, value),
     }
 }
 
@@ -207,9 +252,6 @@ pub fn put_reply<W: Write>(pages: &mut Pages<'_, W>, reply: &Reply)
         Reply::Done => pages.text(b"ok"),
         Reply::Bytes(bytes) => pages.hex(bytes.as_slice()),
         Reply::Code(n) => put_code(pages, *n),
-        Reply::Refused(refusal) => pages.put(&[
-            Piece::Text(b"refused "),
-            Piece::Number(u64::from(refusal.number())),
-        ]),
+        Reply::Refused(refusal) => put_refused(pages, *refusal),
     }
 }
