@@ -27,6 +27,8 @@ fn events(field: &[u8]) -> Result<u32, AsmKind>
     Ok(within(1, MAX_EVENTS, number(field)?)? as u32)
 }
 
+/// An item. Its code stands where it is called, since a line of a long schedule has many.
+#[inline(always)]
 #[tactic(auto, unfolding(crate::specs::Items::item_of))]
 fn item_of(field: &[u8]) -> Result<Item, AsmKind>
     ensures { result ≡ item_of field.now }
