@@ -12,6 +12,7 @@ trap 'rm -rf "$work"' EXIT
 cp -a "$top" "$work/copy"
 cd "$work/copy"
 for name in "$@"; do
+    mkdir -p "crates/$name/must-fail"
     rm -f "crates/$name/must-fail/"*.edit
     cp "crates/$name/wrong-bodies/"*.edit "crates/$name/must-fail/"
 done
