@@ -96,7 +96,7 @@ pub fn put_call<W: Write>(pages: &mut Pages<'_, W>, entry: &Entry)
     pages.text(b"\n");
 }
 
-#[tactic(auto, using(crate::proofs::AppendedTexts::grows_none, crate::proofs::AppendedTexts::grows_call))]
+#[tactic(auto, using(crate::proofs::AppendedTexts::grows_none, crate::proofs::AppendedTexts::grows_next))]
 fn put_calls<W: Write>(pages: &mut Pages<'_, W>, calls: &[Entry])
     ensures same { pages.new.writer.ghost_name ≡ pages.old.writer.ghost_name }
     ensures grows { Grows (sheet W.contents pages.old) (sheet W.contents pages.new)
@@ -136,7 +136,7 @@ fn put_ran<W: Write>(pages: &mut Pages<'_, W>, ran: Ran)
     ]);
 }
 
-#[tactic(auto, using(crate::proofs::AppendedTexts::grows_no_ran, crate::proofs::AppendedTexts::grows_ran))]
+#[tactic(auto, using(crate::proofs::AppendedTexts::grows_none, crate::proofs::AppendedTexts::grows_next))]
 pub fn put_all_ran<W: Write>(pages: &mut Pages<'_, W>, all: &[Ran])
     ensures same { pages.new.writer.ghost_name ≡ pages.old.writer.ghost_name }
     ensures grows { Grows (sheet W.contents pages.old) (sheet W.contents pages.new)
@@ -162,7 +162,7 @@ fn put_attempt<W: Write>(pages: &mut Pages<'_, W>, attempt: &Attempt)
 }
 
 /// The lines of attempts.
-#[tactic(auto, using(crate::proofs::AppendedTexts::grows_no_attempt, crate::proofs::AppendedTexts::grows_attempt))]
+#[tactic(auto, using(crate::proofs::AppendedTexts::grows_none, crate::proofs::AppendedTexts::grows_next))]
 pub fn put_attempts<W: Write>(pages: &mut Pages<'_, W>, attempts: &[Attempt])
     ensures same { pages.new.writer.ghost_name ≡ pages.old.writer.ghost_name }
     ensures grows { Grows (sheet W.contents pages.old) (sheet W.contents pages.new)

@@ -173,7 +173,7 @@ impl<'a, W: Write> Pages<'a, W> {
     }
 
     /// Writes the pieces one after the other.
-    #[tactic(auto, using(crate::proofs::AppendedTexts::grows_no_piece, crate::proofs::AppendedTexts::grows_piece))]
+    #[tactic(auto, using(crate::proofs::AppendedTexts::grows_none, crate::proofs::AppendedTexts::grows_next))]
     pub(crate) fn put(&mut self, pieces: &[Piece<'_>])
         ensures same { self.new.writer.ghost_name ≡ self.old.writer.ghost_name }
         ensures grows { Grows (sheet W.contents self.old) (sheet W.contents self.new) (flat_map spelled pieces.now) }
