@@ -1,15 +1,16 @@
 //! The steps of a call, one after the other.
 
-ghost use Rattle.std.specs.Prelude.{◌≡◌, ◌+◌};
+ghost use Rattle.std.specs.Prelude.{◌≡◌, ◌+◌, ◌<◌};
 ghost use Rattle.shared_words.specs.Passes.{Owns, view_of};
 ghost use Rattle.itm_runtime.specs.Ties.{Stands};
 ghost use Rattle.itm_runtime.specs.Served.{Start, Served};
-ghost use Rattle.itm_runtime.specs.InCall.{InCall, IsDue};
+ghost use Rattle.itm_runtime.specs.InCall.{InCall, IsDue, left};
+ghost use Rattle.norec_core.specs.declared.answer.Next.TheVariants.{Step as Asks};
 ghost use Rattle.norec_engine.specs.NextSteps.{next_in};
 
 use itm_types::Step;
 use norec_core::Answer;
-use norec_engine::Engine;
+use norec_engine::{Engine, Likely};
 use shared_words::{Pass, Words};
 
 /// Does the steps of a call, from this one on where it asks for one, up to its answer.
@@ -32,6 +33,72 @@ pub(crate) fn finish(
     }
 }
 
+/// The same of a begin, which most often asks for the clock alone.
+#[inline(always)]
+pub(crate) fn finish_begin(
+    words: &Words,
+    pass: &mut Pass,
+    engine: &mut Engine,
+    first: Option<Step>,
+    answer: &mut Answer,
+)
+    requires own { Owns words.now pass.old }
+    requires due { (s : Start) × IsDue s (view_of pass.old) engine.old (next_in first answer.old) }
+    ensures own { Owns words.now pass.new }
+    ensures served { (s : Start) → IsDue s (view_of pass.old) engine.old (next_in first answer.old) → Served s answer.new (view_of pass.new) engine.new }
+    ensures stands { Stands (view_of pass.new) engine.new }
+{
+    if let Some(step) = first {
+        let next = advance(words, pass, engine, step, Likely::Begin, answer);
+        finish(words, pass, engine, next, answer);
+    }
+}
+
+/// The same of a read, which most often asks for one word, and for the clock to confirm it.
+#[inline(always)]
+pub(crate) fn finish_read(
+    words: &Words,
+    pass: &mut Pass,
+    engine: &mut Engine,
+    first: Option<Step>,
+    answer: &mut Answer,
+)
+    requires own { Owns words.now pass.old }
+    requires due { (s : Start) × IsDue s (view_of pass.old) engine.old (next_in first answer.old) }
+    ensures own { Owns words.now pass.new }
+    ensures served { (s : Start) → IsDue s (view_of pass.old) engine.old (next_in first answer.old) → Served s answer.new (view_of pass.new) engine.new }
+    ensures stands { Stands (view_of pass.new) engine.new }
+{
+    if let Some(step) = first {
+        if let Some(step) = advance(words, pass, engine, step, Likely::Load, answer) {
+            let next = advance(words, pass, engine, step, Likely::Confirm, answer);
+            finish(words, pass, engine, next, answer);
+        }
+    }
+}
+
+/// The same of a commit, which most often takes the clock at once, and stores.
+#[inline(always)]
+pub(crate) fn finish_commit(
+    words: &Words,
+    pass: &mut Pass,
+    engine: &mut Engine,
+    first: Option<Step>,
+    answer: &mut Answer,
+)
+    requires own { Owns words.now pass.old }
+    requires due { (s : Start) × IsDue s (view_of pass.old) engine.old (next_in first answer.old) }
+    ensures own { Owns words.now pass.new }
+    ensures served { (s : Start) → IsDue s (view_of pass.old) engine.old (next_in first answer.old) → Served s answer.new (view_of pass.new) engine.new }
+    ensures stands { Stands (view_of pass.new) engine.new }
+{
+    if let Some(step) = first {
+        if let Some(step) = advance(words, pass, engine, step, Likely::Exchange, answer) {
+            run(words, pass, engine, step, answer);
+        }
+    }
+}
+
 /// Does the steps that the call asks for, from this one on, up to its answer.
 #[inline(never)]
 fn drive(words: &Words, pass: &mut Pass, engine: &mut Engine, first: Step, answer: &mut Answer)
@@ -41,9 +108,41 @@ fn drive(words: &Words, pass: &mut Pass, engine: &mut Engine, first: Step, answe
     ensures served { (s : Start) → InCall s (view_of pass.old) engine.old first → Served s answer.new (view_of pass.new) engine.new }
     ensures stands { Stands (view_of pass.new) engine.new }
 {
+    run(words, pass, engine, first, answer);
+}
+
+/// The same, made quick where they are the stores of a commit.
+#[inline(always)]
+fn run(words: &Words, pass: &mut Pass, engine: &mut Engine, first: Step, answer: &mut Answer)
+    requires own { Owns words.now pass.old }
+    requires due { (s : Start) × InCall s (view_of pass.old) engine.old first }
+    ensures own { Owns words.now pass.new }
+    ensures served { (s : Start) → InCall s (view_of pass.old) engine.old first → Served s answer.new (view_of pass.new) engine.new }
+    ensures stands { Stands (view_of pass.new) engine.new }
+{
     let mut next = Some(first);
     while let Some(step) = next {
-        let seen = words.step(pass, step);
-        next = engine.resume_into(seen, answer);
+        next = advance(words, pass, engine, step, Likely::Store, answer);
     }
+}
+
+/// Does one step of a call, which waits for what is likely or for something else; tells the next one.
+#[inline(always)]
+fn advance(
+    words: &Words,
+    pass: &mut Pass,
+    engine: &mut Engine,
+    step: Step,
+    likely: Likely,
+    answer: &mut Answer,
+) -> Option<Step>
+    requires own { Owns words.now pass.old }
+    requires due { (s : Start) × InCall s (view_of pass.old) engine.old step }
+    ensures own { Owns words.now pass.new }
+    ensures due { (s : Start) → InCall s (view_of pass.old) engine.old step
+        → IsDue s (view_of pass.new) engine.new (next_in result answer.new) }
+    ensures less { left engine.new (next_in result answer.new) < left engine.old (Asks step) }
+{
+    let seen = words.step(pass, step);
+    engine.resume_likely(likely, seen, answer)
 }

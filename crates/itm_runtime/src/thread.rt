@@ -10,8 +10,10 @@ ghost use Rattle.itm_runtime.specs.Ties.{Stands};
 ghost use Rattle.itm_runtime.specs.Served.{Served};
 ghost use Rattle.itm_runtime.specs.Standing.{start_of};
 
-use crate::drive::finish;
-use itm_types::{Call, Limits, MAX_COMMITS, MAX_PATIENCE, Props, Ran, Reply};
+use crate::drive::{finish, finish_begin, finish_commit, finish_read};
+use itm_types::{
+    Call, Datum, Limits, MAX_COMMITS, MAX_PATIENCE, Props, Ran, ReadHint, Reply, Width, WriteHint,
+};
 use norec_core::{Answer, Undone};
 use norec_engine::Engine;
 use shared_words::{Pass, Words};
@@ -75,13 +77,30 @@ impl Thread {
         ensures starves { OnErr result (MayStarve self.old.engine (Call.Begin props room)) }
     {
         let mut answer = Answer::Reply(Reply::Done);
-        let first = self.engine.begin_into(props, room, again, &mut answer)?;
-        finish(words, &mut self.pass, &mut self.engine, first, &mut answer);
+        let first = self.engine.open_into(props, room, again, &mut answer)?;
+        finish_begin(words, &mut self.pass, &mut self.engine, first, &mut answer);
         Ok(answer)
     }
 
     /// Any call of the interface.
     pub fn call(&mut self, words: &Words, call: &Call) -> Result<Answer, AllocError>
+        requires own { Owns words.now self.old.pass }
+        ensures own { Owns words.now self.new.pass }
+        ensures served { IfOk result (λ a. Served (start_of self.old call.now false) a (view_of self.new.pass) self.new.engine) }
+        ensures stands { Stands (view_of self.new.pass) self.new.engine }
+        ensures err { OnErr result (self.new ≡ self.old) }
+        ensures starves { OnErr result (MayStarve self.old.engine call.now) }
+    {
+        match call {
+            Call::Read { hint, width, at } => self.read(words, *hint, *width, *at),
+            Call::Write { hint, at, value } => self.write(words, *hint, *at, value),
+            Call::Commit => Ok(self.commit(words)),
+            _ => self.call_other(words, call),
+        }
+    }
+
+    /// Any call, by no way of its own.
+    fn call_other(&mut self, words: &Words, call: &Call) -> Result<Answer, AllocError>
         requires own { Owns words.now self.old.pass }
         ensures own { Owns words.now self.new.pass }
         ensures served { IfOk result (λ a. Served (start_of self.old call.now false) a (view_of self.new.pass) self.new.engine) }
@@ -95,6 +114,48 @@ impl Thread {
         Ok(answer)
     }
 
+    /// A value is read (section 5.4).
+    pub fn read(
+        &mut self,
+        words: &Words,
+        hint: ReadHint,
+        width: Width,
+        at: u64,
+    ) -> Result<Answer, AllocError>
+        requires own { Owns words.now self.old.pass }
+        ensures own { Owns words.now self.new.pass }
+        ensures served { IfOk result (λ a. Served (start_of self.old (Call.Read hint width at) false) a (view_of self.new.pass) self.new.engine) }
+        ensures stands { Stands (view_of self.new.pass) self.new.engine }
+        ensures err { OnErr result (self.new ≡ self.old) }
+        ensures starves { OnErr result (MayStarve self.old.engine (Call.Read hint width at)) }
+    {
+        let mut answer = Answer::Reply(Reply::Done);
+        let first = self.engine.read_into(hint, width, at, &mut answer)?;
+        finish_read(words, &mut self.pass, &mut self.engine, first, &mut answer);
+        Ok(answer)
+    }
+
+    /// A value is written (section 5.4).
+    pub fn write(
+        &mut self,
+        words: &Words,
+        hint: WriteHint,
+        at: u64,
+        value: &Datum,
+    ) -> Result<Answer, AllocError>
+        requires own { Owns words.now self.old.pass }
+        ensures own { Owns words.now self.new.pass }
+        ensures served { IfOk result (λ a. Served (start_of self.old (Call.Write hint at value.now) false) a (view_of self.new.pass) self.new.engine) }
+        ensures stands { Stands (view_of self.new.pass) self.new.engine }
+        ensures err { OnErr result (self.new ≡ self.old) }
+        ensures starves { OnErr result (MayStarve self.old.engine (Call.Write hint at value.now)) }
+    {
+        let mut answer = Answer::Reply(Reply::Done);
+        let first = self.engine.write_into(hint, at, value, &mut answer)?;
+        finish(words, &mut self.pass, &mut self.engine, first, &mut answer);
+        Ok(answer)
+    }
+
     /// The innermost block ends; with the outermost one the transaction commits (section 5.12). Takes no memory.
     pub fn commit(&mut self, words: &Words) -> Answer
         requires own { Owns words.now self.old.pass }
@@ -102,8 +163,12 @@ impl Thread {
         ensures served { Served (start_of self.old Call.Commit false) result (view_of self.new.pass) self.new.engine }
         ensures stands { Stands (view_of self.new.pass) self.new.engine }
     {
-        match self.call(words, &Call::Commit) {
-            Ok(answer) => answer,
+        let mut answer = Answer::Reply(Reply::Done);
+        match self.engine.commit_into(&mut answer) {
+            Ok(first) => {
+                finish_commit(words, &mut self.pass, &mut self.engine, first, &mut answer);
+                answer
+            }
             Err(_) => unreachable!(),
         }
     }

@@ -17,3 +17,4 @@ mod LocalReplies
 pub mod EitherMode
 pub mod HeldCounts
 pub mod Settled
+pub mod RevocableTurns

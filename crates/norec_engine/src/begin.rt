@@ -23,6 +23,7 @@ use norec_data::{Data, End, Pending, Turn, begin_refusal};
 use std::alloc::AllocError;
 
 /// A begin comes.
+#[inline(always)]
 pub(crate) fn begin(
     state: &mut Data,
     props: Props,
@@ -75,6 +76,7 @@ fn reserve_room(frames: &mut Frames, props: Props, room: u32) -> Result<(), Allo
 }
 
 /// The clock was loaded for a begin.
+#[inline(always)]
 pub(crate) fn begin_seen(state: &mut Data, seen: u64) -> Turn
     requires sound { IsSound state.old (Phase.Begin state.old.opening) }
     requires fits { state.old.clock ≤ seen }
@@ -137,6 +139,7 @@ pub(crate) fn begin_taken(state: &mut Data, seen: u64) -> Turn
 }
 
 /// The outermost block begins.
+#[inline(always)]
 fn open(state: &mut Data, opening: Opening) -> End
     requires outside { IsOutside state.old }
     ensures reply { (d : Data) → answer_of d result ≡ Answer.Reply (Reply.Code (if opening.again then 9 else 5)) }

@@ -16,6 +16,7 @@ use norec_core::{Aim, Answer, Phase, Taking};
 use norec_data::{Cause, Data, End, Pending, Turn, finish, roll_back};
 
 /// A commit comes.
+#[inline(always)]
 pub(crate) fn commit(state: &mut Data) -> Turn
     requires sound { IsSound state.old Phase.Idle }
     ensures sound { IsSoundTurn result state.new }
@@ -44,6 +45,7 @@ pub(crate) fn commit(state: &mut Data) -> Turn
 }
 
 /// The clock is to be taken, where fewer writers have committed than may.
+#[inline(always)]
 pub(crate) fn exchange(state: &mut Data, taking: Taking) -> Turn
     requires may { MayExchange state.old taking }
     ensures sound { IsSoundTurn result state.new }
@@ -65,6 +67,7 @@ pub(crate) fn exchange(state: &mut Data, taking: Taking) -> Turn
 }
 
 /// The clock was taken, or another value was found in it.
+#[inline(always)]
 pub(crate) fn exchanged(state: &mut Data, seen: u64) -> Turn
     requires sound { IsSound state.old (Phase.Exchange state.old.taking) }
     requires fits { state.old.clock ≤ seen }
@@ -126,6 +129,7 @@ pub(crate) fn back_loaded(state: &mut Data, row: usize, seen: u64) -> Turn
 }
 
 /// A row was stored.
+#[inline(always)]
 pub(crate) fn stored(state: &mut Data, row: usize) -> Turn
     requires sound { IsSound state.old (Phase.Store state.old.taking row state.old.got) }
     ensures sound { IsSoundTurn result state.new }
@@ -140,6 +144,7 @@ pub(crate) fn stored(state: &mut Data, row: usize) -> Turn
 }
 
 /// The clock was freed.
+#[inline(always)]
 pub(crate) fn freed(state: &mut Data) -> Turn
     requires sound { IsSound state.old Phase.Free }
     ensures sound { IsSoundTurn result state.new }

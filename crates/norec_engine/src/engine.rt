@@ -34,10 +34,10 @@ use value_log::ValueLog;
 /// `resume`, which again gives the answer or the next step.
 #[derive(Drop)]
 pub struct Engine {
-    state: Data,
-    pending: Pending,
+    pub(crate) state: Data,
+    pub(crate) pending: Pending,
     /// The transaction is irrevocable: the clock is held from call to call.
-    irrevocable: bool,
+    pub(crate) irrevocable: bool,
 }
 
 impl Model for Engine {
@@ -113,6 +113,7 @@ impl Engine {
 
     /// An outermost block begins, `again` where an earlier try of it got past its begin; inside a transaction this is
     /// `call_into`. The step that it asks for first; where there is none, the call is over, and `answer` tells how.
+    #[inline(never)]
     pub fn begin_into(
         &mut self,
         props: Props,
@@ -152,6 +153,7 @@ impl Engine {
     }
 
     /// A call comes. The step that it asks for first; where there is none, the call is over, and `answer` tells how.
+    #[inline(never)]
     pub fn call_into(
         &mut self,
         call: &Call,
@@ -189,6 +191,7 @@ impl Engine {
 
     /// The step that it waits for was done: `seen` is the value loaded, the value that an exchange found, or 0 after a store.
     /// The next step; where there is none, the call is over, and `answer` tells how.
+    #[inline(never)]
     pub fn resume_into(&mut self, seen: u64, answer: &mut Answer) -> Option<Step>
         requires waits { IsSome self.old.waits }
         requires fits { Fits self.old seen }

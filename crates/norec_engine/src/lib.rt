@@ -10,6 +10,7 @@ mod commit;
 mod copy;
 mod engine;
 mod fill;
+mod likely;
 mod local;
 mod mode;
 mod next;
@@ -21,4 +22,5 @@ mod turns;
 mod write;
 
 pub use engine::Engine;
+pub use likely::Likely;
 pub use norec_core::{Answer, Next, Undone};

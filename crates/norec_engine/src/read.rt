@@ -30,6 +30,7 @@ use word_pieces::{Piece, merge, piece_at};
 pub(crate) const MOST_PIECES: usize = 5;
 
 /// A read comes.
+#[inline(always)]
 pub(crate) fn read(
     state: &mut Data,
     hint: ReadHint,
@@ -64,7 +65,7 @@ pub(crate) fn read(
         Some(number) => {
             state.log.reserve(MOST_PIECES)?;
             start(state);
-            state.reading = Reading { number, ..reading };
+            set_value(&mut state.reading, hint, width, at, number);
             Ok(Turn::Wait(Pending::Load))
         }
         None => {
@@ -74,7 +75,30 @@ pub(crate) fn read(
     }
 }
 
+/// The reading is one of this value, at a piece of it. Where it was one of a value before, no more than the parts of it
+/// are written.
+#[inline(always)]
+fn set_value(reading: &mut Reading, hint: ReadHint, width: Width, at: u64, number: u8)
+    requires wide { size_of width ≤ 32 }
+    ensures { reading.new ≡ record { purpose = Purpose.Value hint width; at = at; size = size_of width; number = number } }
+{
+    match &mut reading.purpose {
+        Purpose::Value {
+            hint: old_hint,
+            width: old_width,
+        } => {
+            *old_hint = hint;
+            *old_width = width;
+        }
+        Purpose::Chunk { .. } => reading.purpose = Purpose::Value { hint, width },
+    }
+    reading.at = at;
+    reading.size = width.size();
+    reading.number = number;
+}
+
 /// A read comes, and has started no round.
+#[inline(always)]
 fn start(state: &mut Data)
     ensures { state.new ≡ record state.old { spent = 0; entry = length state.old.log.rows; tries = 0 } }
 {
@@ -83,6 +107,7 @@ fn start(state: &mut Data)
 }
 
 /// A read has all its pieces, and is answered.
+#[inline(always)]
 fn reply_gathered(state: &mut Data, reading: Reading) -> Turn
     requires may { MayReply state.old reading }
     ensures sound { IsSoundTurn result state.new }
@@ -113,11 +138,10 @@ fn go_past(state: &mut Data) -> Turn
     ensures ends { TurnEndsSo None result state.new }
     ensures tries { (core_after result state.new).tries ≡ tries_after (phase_after result state.new) state.old.tries }
 {
-    let next = state.reading.next();
     if is_whole(&state.reading) {
-        reply_gathered(state, next)
+        reply_gathered(state, state.reading.next())
     } else {
-        go_on(state, next)
+        go_on(state, state.reading.next())
     }
 }
 
@@ -199,6 +223,7 @@ fn take_more(state: &mut Data, reading: Reading) -> Option<u8>
 }
 
 /// A piece's word, where the piece is to be had with no step: the write set has all of it, or the word is logged.
+#[inline(always)]
 fn had(state: &Data, piece: Piece) -> Option<u64>
     requires piece { IsPiece piece }
     requires rows { AreRows state.now.frames.writes.rows }
@@ -246,6 +271,7 @@ fn overlaid(state: &Data, word: u32, value: u64) -> u64
 }
 
 /// A word was loaded, to be confirmed.
+#[inline(always)]
 pub(crate) fn loaded(state: &mut Data, seen: u64) -> Turn
     requires sound { IsSound state.old (Phase.Load state.old.reading) }
     ensures sound { IsSoundTurn result state.new }
@@ -259,6 +285,7 @@ pub(crate) fn loaded(state: &mut Data, seen: u64) -> Turn
 }
 
 /// The clock was loaded to confirm a word.
+#[inline(always)]
 pub(crate) fn confirmed(state: &mut Data, value: u64, seen: u64) -> Turn
     requires sound { IsSound state.old (Phase.Confirm state.old.reading value) }
     requires fits { state.old.clock ≤ seen }

@@ -24,6 +24,7 @@ use std::alloc::AllocError;
 use word_pieces::{Piece, piece_at, pieces};
 
 /// A write comes.
+#[inline(always)]
 pub(crate) fn write(
     state: &mut Data,
     hint: WriteHint,

@@ -84,20 +84,28 @@ fn next(number: u64) -> u64 {
 /// The transaction that comes after so many, and the random number after those that it took.
 fn draw(task: &Task, random: u64, done: u64) -> (Block, u64) {
     let size = task.size.min(MAX_WORDS as u64);
-    let bound = match task.workload {
-        Workload::ReadOnly => MAX_WORDS as u64 - size + 1,
-        _ => size.max(1),
+    let (first, second, random) = match task.workload {
+        Workload::Counter | Workload::Writes => (0, 0, random),
+        Workload::Transfer => draw_two(random, size.max(1)),
+        Workload::ReadOnly => draw_two(random, MAX_WORDS as u64 - size + 1),
     };
-    let first = next(random);
-    let second = next(first);
     let block = Block {
         workload: task.workload,
         size,
-        first: first % bound,
-        second: second % bound,
+        first,
+        second,
         value: done.wrapping_add(1),
     };
-    (block, second)
+    (block, random)
+}
+
+/// Two random numbers below a bound, and the number from which the next ones come.
+fn draw_two(random: u64, bound: u64) -> (u64, u64, u64)
+    requires some { 0 < bound }
+{
+    let first = next(random);
+    let second = next(first);
+    (first % bound, second % bound, second)
 }
 
 /// Runs transactions until it is told to stop, or has committed as many as the task has.

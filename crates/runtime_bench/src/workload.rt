@@ -4,7 +4,7 @@ ghost use Rattle.std.specs.Prelude.{◌≡◌};
 ghost use Rattle.shared_words.specs.Passes.{Owns};
 
 use itm_runtime::Thread;
-use itm_types::{Call, Datum, MAX_WORDS, ReadHint, Reply, Width, WriteHint};
+use itm_types::{Datum, MAX_WORDS, ReadHint, Reply, Width, WriteHint};
 use norec_core::Answer;
 use shared_words::Words;
 use std::alloc::AllocError;
@@ -82,12 +82,7 @@ fn get(words: &Words, thread: &mut Thread, word: u64) -> Result<Option<u64>, All
     requires own { Owns words.now thread.old.pass }
     ensures own { Owns words.now thread.new.pass }
 {
-    let call = Call::Read {
-        hint: ReadHint::R,
-        width: Width::U8,
-        at: place_of(word),
-    };
-    match thread.call(words, &call)? {
+    match thread.read(words, ReadHint::R, Width::U8, place_of(word))? {
         Answer::Reply(Reply::Bytes(bytes)) => Ok(Some(word_of(bytes.as_slice()))),
         _ => Ok(None),
     }
@@ -98,12 +93,8 @@ fn put(words: &Words, thread: &mut Thread, word: u64, value: u64) -> Result<bool
     requires own { Owns words.now thread.old.pass }
     ensures own { Owns words.now thread.new.pass }
 {
-    let call = Call::Write {
-        hint: WriteHint::W,
-        at: place_of(word),
-        value: Datum::new(Width::U8, &value.to_le_bytes()),
-    };
-    match thread.call(words, &call)? {
+    let value = Datum::new(Width::U8, &value.to_le_bytes());
+    match thread.write(words, WriteHint::W, place_of(word), &value)? {
         Answer::Reply(_) => Ok(true),
         _ => Ok(false),
     }

@@ -29,7 +29,7 @@ reply_gathered-requires c =
     let may = c.requires.may in
     let whole = c.is_whole.ensures.whole c.if-is_whole.true in
     let all : s.reading.number + 1 ≡ count r = omega (arith, whole.1, may.reading.far) in
-    rw c.next-next.ensures (record {
+    rw c.next.ensures (record {
       may = record {
         bounds = may.bounds;
         is_open = may.is_open;
@@ -42,7 +42,7 @@ reply_gathered-requires c =
 pub returns-then-is_whole-clause-proceeds : goal.returns-then-is_whole-clause-proceeds
 returns-then-is_whole-clause-proceeds c log =
     let s = c.args.state.now in
-    subst (λ (r : Reading). Turns (logged (between s (aims.Read r)) log) c.reply_gathered.result c.reply_gathered.new.state) c.next-next.ensures (c.reply_gathered.ensures.proceeds log)
+    subst (λ (r : Reading). Turns (logged (between s (aims.Read r)) log) c.reply_gathered.result c.reply_gathered.new.state) c.next.ensures (c.reply_gathered.ensures.proceeds log)
 
 pub returns-then-is_whole-clause-order : goal.returns-then-is_whole-clause-order
 returns-then-is_whole-clause-order c =

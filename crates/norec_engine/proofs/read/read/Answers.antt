@@ -80,8 +80,10 @@ returns-in_ok-reserve-in-Some-take_had-clause-sound c =
       logging = record { room = omega (arith, words, few_words c.args.at (size_of width) small, c.in_ok-reserve-in-Some-take_had.ensures.ok); grown = omega arith };
       missing = ready_missing s hint width c.args.at sound may.0 within small g log rows next (subst (λ (d : Data). IsMissing d next) st found.2);
     } in
-    subst (λ (d : Data). IsSoundTurn (Wait waits.Load) (record d { reading = next })) (sym is)
-    (load_sound (ready s g log) first next on (omega arith) sound.bounds (ready_open s hint width c.args.at sound may.0 within small g log rows) read (settled s hint width c.args.at sound may.0 within small) (omega arith))
+    subst (λ (r : Reading). IsSoundTurn (Wait waits.Load) (record c.start.new.state { reading = r }))
+    ((λ i. record { purpose = for.Value hint width; at = c.args.at; size = c.size-2.ensures.value i; number = next.number }) ∙ sym c.set_value.ensures)
+    (subst (λ (d : Data). IsSoundTurn (Wait waits.Load) (record d { reading = next })) (sym is)
+    (load_sound (ready s g log) first next on (omega arith) sound.bounds (ready_open s hint width c.args.at sound may.0 within small g log rows) read (settled s hint width c.args.at sound may.0 within small) (omega arith)))
 
 pub returns-in_ok-reserve-in-Some-take_had-clause-order : goal.returns-in_ok-reserve-in-Some-take_had-clause-order
 returns-in_ok-reserve-in-Some-take_had-clause-order c =
@@ -89,7 +91,8 @@ returns-in_ok-reserve-in-Some-take_had-clause-order c =
     let bytes = c.from.ensures ∙ c.size.ensures.value in
     let first : Reading = value_reading c.args.hint c.args.width c.args.at in
     let accepted : (in_block s && nat_le (first.at + first.size) (8 * s.words)) ≡ true = (λ i. in_block s && nat_le (c.args.at + sym bytes i) (8 * s.words)) ∙ sym c.in_default.ensures.served in
-    c.in-Some-take_had.ensures.order Idle
+    ap Load (c.set_value.ensures ∙ sym (λ i. record { purpose = for.Value c.args.hint c.args.width; at = c.args.at; size = c.size-2.ensures.value i; number = c.in-Some-take_had.number }))
+    ∙ c.in-Some-take_had.ensures.order Idle
     ∙ stands s c.len-state.result (record { purpose = for.Value c.args.hint c.args.width; at = c.args.at; size = c.size-2.result; number = 0 }) first accepted c.len-state.ensures.len (λ i. record { purpose = for.Value c.args.hint c.args.width; at = c.args.at; size = c.size-2.ensures.value i; number = 0 }) Idle
 
 pub returns-in-None-clause-proceeds : goal.returns-in-None-clause-proceeds

@@ -1,0 +1,35 @@
+use Rattle.itm_types.specs.declared.step.Step.{Step}
+use Rattle.norec_core.specs.declared.answer.Next.{Next}
+use Rattle.norec_engine.specs.NextSteps.{next_in}
+use Rattle.shared_words.specs.Passes.{view_of, cells_of}
+use Rattle.itm_runtime.proofs.StepToStep.{lawful_of, cell_within, fits_of, waits_of, goes, smaller}
+use Rattle.itm_runtime.proofs.drive.advance.Goals as goal
+
+pub step-seen-requires : goal.step-seen-requires
+step-seen-requires c =
+    let i = c.requires.due.1 in
+    record {
+      own = c.requires.own;
+      cell = cell_within _ _ _ c.args.step c.requires.own.over i.tied i.lawful;
+      lawful = lawful_of _ _ i.tied c.args.step i.lawful;
+    }
+
+pub resume_likely-requires : goal.resume_likely-requires
+resume_likely-requires c =
+    let i = c.requires.due.1 in
+    record {
+      waits = waits_of c.requires.due.0 _ _ _ i;
+      fits = fits_of c.requires.due.0 _ _ _ _ c.args.step i c.step-seen.ensures.turn;
+    }
+
+pub returns-clause-due : goal.returns-clause-due
+returns-clause-due c =
+    let r = c.resume_likely.ensures in
+    let next : Next = next_in c.resume_likely.result c.resume_likely.new.answer in
+    goes (cells_of c.args.words.now) (view_of c.args.pass.now) (view_of c.step-seen.new.pass) c.requires.own.over c.step-seen.ensures.own.over c.args.engine.now c.resume_likely.new.self c.args.step c.step-seen.result c.step-seen.ensures.turn r.joins r.settled r.asks r.order r.count next r.proceeds r.held r.tries r.ends
+
+pub returns-clause-less : goal.returns-clause-less
+returns-clause-less c =
+    let r = c.resume_likely.ensures in
+    let next : Next = next_in c.resume_likely.result c.resume_likely.new.answer in
+    smaller (cells_of c.args.words.now) (view_of c.args.pass.now) (view_of c.step-seen.new.pass) c.requires.own.over c.step-seen.ensures.own.over c.args.engine.now c.resume_likely.new.self c.args.step c.step-seen.result c.step-seen.ensures.turn r.joins r.settled r.asks r.order r.count next r.proceeds r.held r.tries r.ends c.requires.due.0 c.requires.due.1
