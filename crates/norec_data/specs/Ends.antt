@@ -1,5 +1,6 @@
 -- How a call ends, with what is kept beside the phase.
 use Rattle.std.specs.Prelude.{◌/◌, ℕ, true, false, []}
+use Rattle.std.specs.Int.{w64, to_le_bytes}
 use Rattle.arrayvec.specs.ArrayVec.{ArrayVec}
 use Rattle.itm_types.specs.declared.call.Reply.TheVariants as replies
 use Rattle.norec_core.specs.declared.answer.Answer.{Answer}
@@ -12,6 +13,7 @@ use Rattle.norec_data.specs.declared.end.End.TheVariants as ends
 abbrev pub answer_of : Data → End → Answer
 answer_of d ends.Done = answers.Reply replies.Done
 answer_of d ends.Gathered = answers.Reply (replies.Bytes d.gathered)
+answer_of d (ends.Word word) = answers.Reply (replies.Bytes (record { items = to_le_bytes w64 word }))
 answer_of d ends.Entered = answers.Reply (replies.Code 5)
 answer_of d ends.EnteredAgain = answers.Reply (replies.Code 9)
 answer_of d ends.Cancelled = answers.Reply (replies.Code 24)

@@ -1,6 +1,7 @@
 //! How a call ends.
 
-ghost use Rattle.std.specs.Prelude.{◌≡◌, ◌/◌};
+ghost use Rattle.std.specs.Prelude.{◌≡◌, ◌/◌, []};
+ghost use Rattle.std.specs.Int.{w64, to_le_bytes};
 ghost use Rattle.norec_data.specs.Ends.{answer_of, told};
 
 use crate::data::Data;
@@ -16,6 +17,8 @@ pub enum End {
     Done,
     /// The bytes that are gathered.
     Gathered,
+    /// The bytes of this word.
+    Word(u64),
     /// A block began, for the first time.
     Entered,
     /// A block began again.
@@ -55,6 +58,7 @@ impl End {
                 let bytes = mem::replace(&mut state.gathered, Value::new());
                 *answer = Answer::Reply(Reply::Bytes(bytes));
             }
+            End::Word(word) => tell_word(answer, word),
             End::Entered => *answer = Answer::Reply(Reply::Code(ENTERED)),
             End::EnteredAgain => *answer = Answer::Reply(Reply::Code(ENTERED_AGAIN)),
             End::Cancelled => *answer = Answer::Reply(Reply::Code(CANCELLED)),
@@ -77,6 +81,31 @@ impl End {
                 }
             }
         }
+    }
+}
+
+/// The answer is the bytes of a word. They are written where they stay, since a value that is moved is read in other
+/// parts than these bytes are written in, and has to wait for them.
+#[inline(always)]
+fn tell_word(answer: &mut Answer, word: u64)
+    ensures { answer.new ≡ Answer.Reply (Reply.Bytes (record { items = to_le_bytes w64 word })) }
+{
+    *answer = Answer::Reply(Reply::Bytes(Value::new()));
+    match answer {
+        Answer::Reply(Reply::Bytes(bytes)) => put_word(bytes, word),
+        _ => unreachable!(),
+    }
+}
+
+/// An empty value has the bytes of a word.
+#[inline(always)]
+fn put_word(bytes: &mut Value, word: u64)
+    requires empty { bytes.old.items ≡ [] }
+    ensures { bytes.new ≡ record { items = to_le_bytes w64 word } }
+{
+    match bytes.try_extend_from_slice(&word.to_le_bytes()) {
+        Ok(()) => {}
+        Err(_) => unreachable!(),
     }
 }
 

@@ -7,6 +7,9 @@ pub mod AcceptedCopies
 pub mod ReadingFields
 pub mod Sources
 pub mod Loads
+pub mod ReadReplies
+pub mod JoinedRows
+pub mod WholeWords
 pub mod ReadyCopies
 pub mod ReadyReads
 pub mod Counts

@@ -103,6 +103,12 @@ abbrev pub IsValue : Purpose → Type 0
 IsValue (for.Value hint width) = Unit {0}
 IsValue (for.Chunk k number) = ⊥
 
+-- it is made for the value of a read, which is this word
+pub record IsWord (r : Reading) (word : ℕ) : Type 0 where
+  pub value : IsValue r.purpose
+  pub at_is : r.at ≡ 8 * word
+  pub size_is : r.size ≡ 8
+
 -- a read may be answered: its pieces are gathered
 pub record MayReply (d : Data) (r : Reading) : Type 0 where
   pub bounds : IsBounded d.words d.limits d.snapshot d.frames.size d.arena

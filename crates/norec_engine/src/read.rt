@@ -10,7 +10,7 @@ ghost use Rattle.itm_types.specs.Access.{size_of};
 ghost use Rattle.norec_core.specs.Accesses.{parts, count, passed};
 ghost use Rattle.norec_data.specs.View.{in_block, core, rows_before};
 ghost use Rattle.norec_engine.specs.InPhases.{IsSound, IsMissing, IsOpen, IsReading, next_load};
-ghost use Rattle.norec_engine.specs.Between.{between, logged, IsSoundTurn, IsValue, MayGather, MayReply};
+ghost use Rattle.norec_engine.specs.Between.{between, logged, IsSoundTurn, IsValue, IsWord, MayGather, MayReply};
 ghost use Rattle.norec_data.specs.Turns.{core_after, phase_after, Turns, TurnEndsSo, Stays};
 ghost use Rattle.norec_core.specs.Core.{came, handed};
 ghost use Rattle.norec_core.specs.Order.{load_among, load_stage, log_after, snapshot_after, stage_after, stage_at, tries_after, tries_at};
@@ -159,6 +159,20 @@ fn is_whole(reading: &Reading) -> bool
     }
 }
 
+/// The word that is the value of the read, if it is one of a whole word.
+#[inline(always)]
+fn whole_word(reading: &Reading) -> Option<u32>
+    requires place { reading.now.at ≤ MAX_MEMORY }
+    ensures word { IfSome result (λ word. IsWord reading.now word) }
+{
+    match reading.purpose {
+        Purpose::Value { .. } if reading.size == 8 && reading.at % 8 == 0 => {
+            Some((reading.at / 8) as u32)
+        }
+        _ => None,
+    }
+}
+
 /// The access goes on from this piece: with the next one that is loaded, or with what it was made for.
 pub(crate) fn go_on(state: &mut Data, reading: Reading) -> Turn
     requires may { MayGather state.old reading }
@@ -301,6 +315,10 @@ pub(crate) fn confirmed(state: &mut Data, value: u64, seen: u64) -> Turn
 {
     state.clock = seen;
     if seen == state.snapshot {
+        if let Some(word) = whole_word(&state.reading) {
+            state.log.add(LogRow { word, value });
+            return Turn::End(End::Word(overlaid(state, word, value)));
+        }
         let Some(piece) = state.reading.piece() else {
             unreachable!();
         };

@@ -1,38 +1,124 @@
-use Rattle.std.proofs.Common.{ℕ, ◌+◌, ◌==◌, List, [], ◌∷◌, ◌++◌, length, take, refl, sym, ap, subst, ◌∙◌, arith, eq-eqb, add-one, inl, inr}
-use Rattle.std.proofs.lemmas.Bool.{cond-true}
+use Rattle.std.proofs.Common.{◌≡◌, ℕ, ◌+◌, List, [], ◌∷◌, ◌++◌, None, Some, length, slice_get, take, refl, sym, ap, subst, ◌∙◌, arith}
 use Rattle.std.proofs.lemmas.List.{length-append}
+use Rattle.std.specs.Int.{w64, to_le_bytes}
 use Rattle.std.specs.Prelude.{slice_index}
+use Rattle.itm_types.specs.LogRows.{value_of}
 use Rattle.itm_types.specs.declared.row.LogRow.{LogRow}
-use Rattle.itm_types.specs.Memory.{Agrees}
 use Rattle.word_pieces.specs.declared.piece.Piece.{Piece}
 use Rattle.word_pieces.specs.Pieces.{gathered, part_of}
 use Rattle.write_set.specs.Rows.{overlay}
-use Rattle.itm_types.specs.LogRows.{AreSingle}
-use Rattle.norec_core.specs.OwnAccesses.{word_of}
-use Rattle.norec_core.specs.Rows.{is_had, IsLog}
-use Rattle.norec_core.specs.declared.phase.Phase.TheVariants.{Confirm}
-use Rattle.norec_core.specs.Proceeds.{Settles}
-use Rattle.norec_core.specs.Accesses.{count, parts}
-use Rattle.norec_data.specs.View.{core, rows_before}
-use Rattle.norec_core.specs.Order.{load_stage}
-use Rattle.norec_core.proofs.Overlays.{IsLog-push, Agrees-last, Agrees-front, index_of}
+use Rattle.norec_core.specs.Rows.{is_had}
+use Rattle.norec_core.specs.Accesses.{count, part, parts}
+use Rattle.norec_core.specs.declared.phase.Reading.{Reading}
+use Rattle.norec_core.proofs.Overlays.{index_of}
 use Rattle.norec_core.proofs.Readings.{none_left, part_is, length-part_of, passed_next, total_left}
-use Rattle.norec_engine.proofs.ReadingFields.{among, after_log, after_open, after_snapshot}
-use Rattle.norec_engine.proofs.Sources.{purpose_more, unlogged}
+use Rattle.norec_data.specs.declared.data.Data.{Data}
+use Rattle.norec_data.specs.declared.end.End.TheVariants.{Word}
+use Rattle.norec_data.specs.declared.turn.Turn.TheVariants.{End}
+use Rattle.norec_data.specs.View.{rows_before}
+use Rattle.norec_engine.proofs.JoinedRows.{agreed_before, has_value, joined_open, joined_for, joins, stage_joined, log_joined}
+use Rattle.norec_engine.proofs.ReadReplies.{Finds, replies, loads_no_more}
+use Rattle.norec_engine.proofs.ReadingFields.{among}
+use Rattle.norec_engine.proofs.Sources.{unlogged}
+use Rattle.norec_engine.proofs.WholeWords.{bytes_there, one_piece, word_is}
 use Rattle.norec_engine.proofs.read.confirmed.Goals as goal
 
-pub unreachable-requires : goal.unreachable-requires
-unreachable-requires c = (let none = none_left c.args.state.now.reading (sym c.piece.ensures.value ∙ c.in_default.is) in let some = c.requires.sound.in_phase.1.missing.some in absurd (omega arith))
+-- the rows with one of this word
+abbrev with_row : List LogRow → ℕ → ℕ → List LogRow
+with_row rows value word = rows ++ record { word = word; value = value } ∷ []
+
+-- ## A whole word
 
 pub add-requires : goal.add-requires
 add-requires c =
     let s = c.args.state.now in
-    let r = c.args.state.now.reading in
-    let p = c.in-Some.piece in
+    let r = s.reading in
+    let is = c.in-Some.ensures.word in
     let phase = c.requires.sound.in_phase in
     let to_come = total_left r.purpose r.number (count r) (among s r.purpose r.at r.size phase.1.reading.purpose) phase.1.missing.some in
-    let word = c.in-Some.ensures.in_memory s.words phase.1.reading.within in
-    let is = part_is r p (sym c.piece.ensures.value ∙ c.in-Some.is) in
+    record {
+      room = omega (arith, to_come, phase.1.logging.room);
+      word = omega (arith, is.at_is, is.size_is, phase.1.reading.within, c.requires.sound.bounds.small);
+      first = subst (λ (n : ℕ). value_of n s.log.rows ≡ None) (sym (word_is r c.in-Some.word is phase.1.missing.some)) (unlogged s.frames.writes.rows s.log.rows (part r) phase.1.missing.unhad);
+    }
+
+pub returns-in-Some-clause-sound : goal.returns-in-Some-clause-sound
+returns-in-Some-clause-sound c =
+    let s = c.args.state.now in
+    let r = s.reading in
+    let is = c.in-Some.ensures.word in
+    let sound = c.requires.sound in
+    let same = word_is r c.in-Some.word is sound.in_phase.1.missing.some in
+    let added = c.add.ensures.rows ∙ ap (with_row s.log.rows c.args.value) same in
+    let is_open = joined_open s c.args.value c.args.seen c.add.new.self sound c.if-seen-state.true added s.gathered (omega arith) (omega (arith, same, is.at_is, is.size_is, sound.in_phase.1.reading.within)) c.add.ensures.single in
+    record {
+      sound = record {
+        bounds = sound.bounds;
+        reached = omega (arith, c.if-seen-state.true);
+        in_phase = (λ o. (is_open, c.if-seen-state.true), λ closed. absurd (let yes = is_open.is_open in cc));
+      };
+      asked = tt;
+    }
+
+pub returns-in-Some-clause-proceeds : goal.returns-in-Some-clause-proceeds
+returns-in-Some-clause-proceeds c =
+    let s = c.args.state.now in
+    let r = s.reading in
+    let is = c.in-Some.ensures.word in
+    let sound = c.requires.sound in
+    let same = word_is r c.in-Some.word is sound.in_phase.1.missing.some in
+    let added = c.add.ensures.rows ∙ ap (with_row s.log.rows c.args.value) same in
+    let now : Data = record s { clock = c.args.seen; log = c.add.new.self } in
+    let finds : Finds now r (to_le_bytes w64 c.overlaid.result) = record {
+      bounds = sound.bounds;
+      is_open = joined_open s c.args.value c.args.seen c.add.new.self sound c.if-seen-state.true added s.gathered (omega arith) (omega (arith, same, is.at_is, is.size_is, sound.in_phase.1.reading.within)) c.add.ensures.single;
+      within = sound.in_phase.1.reading.within;
+      purpose = joined_for s c.args.value c.args.seen c.add.new.self sound c.if-seen-state.true added s.gathered;
+      settled = c.if-seen-state.true;
+      has = λ m mem agrees.
+          (let there = subst (λ (n : ℕ). slice_get m n ≡ Some c.args.value) (sym same) (has_value s c.args.value c.args.seen c.add.new.self sound c.if-seen-state.true added m agrees) in
+          bytes_there r c.in-Some.word is (overlay m s.frames.writes.rows) c.overlaid.result (c.overlaid.ensures m there));
+    } in
+    replies now r (to_le_bytes w64 c.overlaid.result) finds s.log.rows r.purpose refl is.value
+
+pub returns-in-Some-clause-joins : goal.returns-in-Some-clause-joins
+returns-in-Some-clause-joins c =
+    let s = c.args.state.now in
+    let same = word_is s.reading c.in-Some.word c.in-Some.ensures.word c.requires.sound.in_phase.1.missing.some in
+    let added = c.add.ensures.rows ∙ ap (with_row s.log.rows c.args.value) same in
+    joins s c.args.value c.args.seen c.add.new.self c.requires.sound c.if-seen-state.true added (End (Word c.overlaid.result)) (record s { clock = c.args.seen; log = c.add.new.self }) (λ o. refl) refl
+
+pub returns-in-Some-clause-order : goal.returns-in-Some-clause-order
+returns-in-Some-clause-order c =
+    let s = c.args.state.now in
+    let is = c.in-Some.ensures.word in
+    let same = word_is s.reading c.in-Some.word is c.requires.sound.in_phase.1.missing.some in
+    let added = c.add.ensures.rows ∙ ap (with_row s.log.rows c.args.value) same in
+    let next : Reading = record s.reading { number = s.reading.number + 1 } in
+    sym (loads_no_more (rows_before s) c.add.new.self.rows next is.value (omega (arith, one_piece s.reading c.in-Some.word is)))
+    ∙ stage_joined s c.args.value c.args.seen c.add.new.self c.requires.sound c.if-seen-state.true added
+
+pub returns-in-Some-clause-log : goal.returns-in-Some-clause-log
+returns-in-Some-clause-log c o =
+    let s = c.args.state.now in
+    let same = word_is s.reading c.in-Some.word c.in-Some.ensures.word c.requires.sound.in_phase.1.missing.some in
+    let added = c.add.ensures.rows ∙ ap (with_row s.log.rows c.args.value) same in
+    log_joined s c.args.value c.args.seen c.add.new.self c.requires.sound c.if-seen-state.true added
+
+-- ## A piece
+
+pub unreachable-requires : goal.unreachable-requires
+unreachable-requires c = (let none = none_left c.args.state.now.reading (sym c.piece.ensures.value ∙ c.in_default-piece.is) in let some = c.requires.sound.in_phase.1.missing.some in absurd (omega arith))
+
+pub add-requires-then-seen-state : goal.add-requires-then-seen-state
+add-requires-then-seen-state c =
+    let s = c.args.state.now in
+    let r = s.reading in
+    let p = c.in-Some-piece.piece in
+    let phase = c.requires.sound.in_phase in
+    let to_come = total_left r.purpose r.number (count r) (among s r.purpose r.at r.size phase.1.reading.purpose) phase.1.missing.some in
+    let word = c.in-Some-piece.ensures.in_memory s.words phase.1.reading.within in
+    let is = part_is r p (sym c.piece.ensures.value ∙ c.in-Some-piece.is) in
     record {
       room = omega (arith, to_come, phase.1.logging.room);
       word = omega (arith, word, c.requires.sound.bounds.small);
@@ -42,43 +128,36 @@ add-requires c =
 pub go_past-requires : goal.go_past-requires
 go_past-requires c =
     let s = c.args.state.now in
-    let r = c.args.state.now.reading in
-    let phase = c.requires.sound.in_phase in
-    let reading = phase.1.reading in
-    let p = c.in-Some.piece in
-    let row : LogRow = record { word = p.word; value = c.args.value } in
-    let left = phase.1.missing.some in
-    let word = c.in-Some.ensures.in_memory s.words reading.within in
-    let added = c.add.ensures.rows in
-    let more = λ (m : List ℕ). c.in-Some.ensures.reads_on m in
+    let r = s.reading in
+    let sound = c.requires.sound in
+    let reading = sound.in_phase.1.reading in
+    let p = c.in-Some-piece.piece in
+    let left = sound.in_phase.1.missing.some in
+    let same = ap (λ (x : Piece). x.word) (part_is r p (sym c.piece.ensures.value ∙ c.in-Some-piece.is)) in
+    let log = c.add-then-seen-state.new.self in
+    let rows = c.add-then-seen-state.ensures.rows in
+    let added = rows ∙ ap (with_row s.log.rows c.args.value) same in
+    let word = c.in-Some-piece.ensures.in_memory s.words reading.within in
+    let more = λ (m : List ℕ). c.in-Some-piece.ensures.reads_on m in
     let gone = c.gather.ensures in
     let on = passed_next r.purpose r.number in
     let to_come = total_left r.purpose r.number (count r) (among s r.purpose r.at r.size reading.purpose) left in
-    let joined = λ (m : List ℕ) (agrees : Agrees m c.add.new.self.rows). subst (Agrees m) added agrees in
     record {
       may = record {
-        bounds = c.requires.sound.bounds;
-        is_open = record {
-          is_open = phase.0.is_open;
-          log = subst (IsLog s.words) (sym added) (IsLog-push s.words s.log.rows row phase.0.log word (omega arith) (subst AreSingle added c.add.ensures.single));
-          writes = phase.0.writes;
-          rows = phase.0.rows;
-          frames = phase.0.frames;
-          tries = phase.0.tries;
-        };
+        bounds = sound.bounds;
+        is_open = joined_open s c.args.value c.args.seen log sound c.if-seen-state.true added c.gather.new.value (omega arith) (omega (arith, same, word)) c.add-then-seen-state.ensures.single;
         reading = record {
           within = reading.within;
           small = reading.small;
-          purpose = purpose_more s.words (length s.arena) s.frames.writes s.log.rows c.add.new.self.rows s.buffer.items (λ m agrees. Agrees-front m s.log.rows row (joined m agrees)) s.written r.purpose r.at r.size reading.purpose;
+          purpose = joined_for s c.args.value c.args.seen log sound c.if-seen-state.true added c.gather.new.value;
           far = omega (arith, left);
           has = λ m mem agrees.
-              (let all = joined m agrees in
-              let here = Agrees-last m s.log.rows row all in
+              (let here = subst (λ (n : ℕ). slice_get m n ≡ Some c.args.value) (sym same) (has_value s c.args.value c.args.seen log sound c.if-seen-state.true added m agrees) in
               let now = index_of (overlay m s.frames.writes.rows) p.word c.overlaid-word.result (c.overlaid-word.ensures m here) in
-              gone ∙ ((λ i. reading.has m mem (Agrees-front m s.log.rows row all) i ++ part_of p (sym now i)) ∙ sym (more (overlay m s.frames.writes.rows))));
+              gone ∙ ((λ i. reading.has m mem (agreed_before s c.args.value c.args.seen log sound c.if-seen-state.true added m agrees) i ++ part_of p (sym now i)) ∙ sym (more (overlay m s.frames.writes.rows))));
           sized =
               (let parts_are = more [] in
-              let in_word = c.in-Some.ensures.piece.in_word in
+              let in_word = c.in-Some-piece.ensures.piece.in_word in
               omega (
                 arith,
                 ap (length {A = ℕ}) gone,
@@ -91,49 +170,33 @@ go_past-requires c =
               ));
         };
         logging = record {
-          room = omega (arith, to_come, on, phase.1.logging.room, c.add.ensures.room);
-          grown = omega (arith, on, phase.1.logging.grown, ap (length {A = LogRow}) added, length-append s.log.rows (row ∷ []));
+          room = omega (arith, to_come, on, sound.in_phase.1.logging.room, c.add-then-seen-state.ensures.room);
+          grown = omega (arith, on, sound.in_phase.1.logging.grown, ap (length {A = LogRow}) rows, length-append s.log.rows (record { word = p.word; value = c.args.value } ∷ []));
         };
         settled = c.if-seen-state.true;
-        spent = omega (arith, on, phase.3);
+        spent = omega (arith, on, sound.in_phase.3);
       };
-      few = c.in-Some.ensures.few;
+      few = c.in-Some-piece.ensures.few;
     }
 
-pub returns-in-Some-clause-joins : goal.returns-in-Some-clause-joins
-returns-in-Some-clause-joins c =
+pub returns-in-Some-piece-clause-joins : goal.returns-in-Some-piece-clause-joins
+returns-in-Some-piece-clause-joins c =
     let s = c.args.state.now in
-    let r = c.args.state.now.reading in
-    let phase = c.requires.sound.in_phase in
-    let result = c.go_past.result in
-    let new = c.go_past.new.state in
+    let same = ap (λ (x : Piece). x.word) (part_is s.reading c.in-Some-piece.piece (sym c.piece.ensures.value ∙ c.in-Some-piece.is)) in
+    let added = c.add-then-seen-state.ensures.rows ∙ ap (with_row s.log.rows c.args.value) same in
     let stays = c.go_past.ensures.stays in
-    let p = c.in-Some.piece in
-    let word = ap (λ (x : Piece). x.word) (part_is r p (sym c.piece.ensures.value ∙ c.in-Some.is)) in
-    let settles : Settles (core s (Confirm r c.args.value)) c.args.seen = record { load = refl; same = c.if-seen-state.true ∙ sym phase.2; even = omega (arith, c.requires.sound.bounds.even, c.if-seen-state.true) } in
-    record {
-      log = λ o. inr (inl (
-        settles,
-        after_log result new ∙ (stays.log (sym (after_open result new) ∙ o) ∙ (c.add.ensures.rows ∙ ap (λ (n : ℕ). s.log.rows ++ record { word = n; value = c.args.value } ∷ []) word)),
-        after_snapshot result new ∙ (stays.snapshot ∙ sym c.if-seen-state.true),
-        sym c.if-seen-state.true,
-      ));
-      begins = λ closed o. absurd (let yes = phase.0.is_open in cc);
-      snapshot = λ o. inl (after_snapshot result new ∙ stays.snapshot);
-    }
+    joins s c.args.value c.args.seen c.add-then-seen-state.new.self c.requires.sound c.if-seen-state.true added c.go_past.result c.go_past.new.state stays.log stays.snapshot
 
-pub returns-in-Some-clause-order : goal.returns-in-Some-clause-order
-returns-in-Some-clause-order c =
+pub returns-in-Some-piece-clause-order : goal.returns-in-Some-piece-clause-order
+returns-in-Some-piece-clause-order c =
     let s = c.args.state.now in
-    let r = c.args.state.now.reading in
-    let word = ap (λ (x : Piece). x.word) (part_is r c.in-Some.piece (sym c.piece.ensures.value ∙ c.in-Some.is)) in
-    let log = c.add.ensures.rows ∙ ap (λ (n : ℕ). s.log.rows ++ record { word = n; value = c.args.value } ∷ []) word in
-    c.go_past.ensures.order ∙ ((λ i. load_stage (rows_before s) (log i) (record r { number = r.number + 1 })) ∙ (ap (λ (n : ℕ). load_stage (rows_before s) (s.log.rows ++ record { word = word_of r; value = c.args.value } ∷ []) (record r { number = n })) (add-one r.number)
-    ∙ sym (cond-true (c.args.seen == s.snapshot) _ _ (eq-eqb c.args.seen s.snapshot c.if-seen-state.true))))
+    let same = ap (λ (x : Piece). x.word) (part_is s.reading c.in-Some-piece.piece (sym c.piece.ensures.value ∙ c.in-Some-piece.is)) in
+    let added = c.add-then-seen-state.ensures.rows ∙ ap (with_row s.log.rows c.args.value) same in
+    c.go_past.ensures.order ∙ stage_joined s c.args.value c.args.seen c.add-then-seen-state.new.self c.requires.sound c.if-seen-state.true added
 
-pub returns-in-Some-clause-log : goal.returns-in-Some-clause-log
-returns-in-Some-clause-log c o =
+pub returns-in-Some-piece-clause-log : goal.returns-in-Some-piece-clause-log
+returns-in-Some-piece-clause-log c o =
     let s = c.args.state.now in
-    let word = ap (λ (x : Piece). x.word) (part_is c.args.state.now.reading c.in-Some.piece (sym c.piece.ensures.value ∙ c.in-Some.is)) in
-    c.go_past.ensures.stays.log o ∙ (c.add.ensures.rows ∙ (ap (λ (n : ℕ). s.log.rows ++ record { word = n; value = c.args.value } ∷ []) word
-    ∙ sym (cond-true (c.args.seen == s.snapshot) _ _ (eq-eqb c.args.seen s.snapshot c.if-seen-state.true))))
+    let same = ap (λ (x : Piece). x.word) (part_is s.reading c.in-Some-piece.piece (sym c.piece.ensures.value ∙ c.in-Some-piece.is)) in
+    let added = c.add-then-seen-state.ensures.rows ∙ ap (with_row s.log.rows c.args.value) same in
+    c.go_past.ensures.stays.log o ∙ log_joined s c.args.value c.args.seen c.add-then-seen-state.new.self c.requires.sound c.if-seen-state.true added
