@@ -7,7 +7,7 @@ ghost use Rattle.word_pieces.specs.Pieces.{IsPiece, part_of};
 ghost use Rattle.write_set.specs.Rows.{overlay, AreRows};
 ghost use Rattle.norec_core.specs.Rows.{is_covered, is_had, is_logged};
 ghost use Rattle.itm_types.specs.Access.{size_of};
-ghost use Rattle.norec_core.specs.Accesses.{parts, count, passed};
+ghost use Rattle.norec_core.specs.Accesses.{part, parts, count, passed};
 ghost use Rattle.norec_data.specs.View.{in_block, core, rows_before};
 ghost use Rattle.norec_engine.specs.InPhases.{IsSound, IsMissing, IsOpen, IsReading, next_load};
 ghost use Rattle.norec_engine.specs.Between.{between, logged, IsSoundTurn, IsValue, IsWord, MayGather, MayReply};
@@ -24,7 +24,7 @@ use itm_types::{Call, LogRow, MAX_MEMORY, MAX_WORDS, ReadHint, Value, Width};
 use norec_core::{Aim, Phase, Purpose, Reading};
 use norec_data::{Cause, Data, End, Pending, Turn, access_refusal};
 use std::alloc::AllocError;
-use word_pieces::{Piece, merge, piece_at};
+use word_pieces::{Piece, merge};
 
 /// The words that one access touches at most.
 pub(crate) const MOST_PIECES: usize = 5;
@@ -125,7 +125,9 @@ fn reply_gathered(state: &mut Data, reading: Reading) -> Turn
 /// The access goes on past the piece that was loaded. A value that has no further one is answered with no copy made of
 /// the reading.
 #[inline(always)]
-fn go_past(state: &mut Data) -> Turn
+fn go_past(state: &mut Data, piece: Piece) -> Turn
+    requires part { piece ≡ part state.old.reading }
+    requires in_value { piece.at + piece.count ≤ 32 }
     requires may { MayGather state.old (record state.old.reading { number = state.old.reading.number + 1 }) }
     requires few { state.old.reading.number < 5 }
     ensures sound { IsSoundTurn result state.new }
@@ -138,7 +140,7 @@ fn go_past(state: &mut Data) -> Turn
     ensures ends { TurnEndsSo None result state.new }
     ensures tries { (core_after result state.new).tries ≡ tries_after (phase_after result state.new) state.old.tries }
 {
-    if is_whole(&state.reading) {
+    if is_whole(&state.reading, piece) {
         reply_gathered(state, state.reading.next())
     } else {
         go_on(state, state.reading.next())
@@ -147,14 +149,13 @@ fn go_past(state: &mut Data) -> Turn
 
 /// The read is one of a value, and has no piece past this one.
 #[inline(always)]
-fn is_whole(reading: &Reading) -> bool
-    requires place { reading.now.at ≤ MAX_MEMORY }
-    requires small { reading.now.size ≤ 32 }
-    requires few { reading.now.number < 5 }
+fn is_whole(reading: &Reading, piece: Piece) -> bool
+    requires part { piece ≡ part reading.now }
+    requires in_value { piece.at + piece.count ≤ 32 }
     ensures whole { result ≡ true → IsValue reading.now.purpose × (count reading.now ≤ reading.now.number + 1) }
 {
     match reading.purpose {
-        Purpose::Value { .. } => piece_at(reading.at, reading.size, reading.number + 1).is_none(),
+        Purpose::Value { .. } => piece.at + piece.count == reading.size,
         Purpose::Chunk { .. } => false,
     }
 }
@@ -329,7 +330,7 @@ pub(crate) fn confirmed(state: &mut Data, value: u64, seen: u64) -> Turn
         state.log.add(row);
         let word = overlaid(state, piece.word, value);
         piece.gather(word, &mut state.gathered);
-        go_past(state)
+        go_past(state, piece)
     } else {
         try_round(state, Cause::Read)
     }

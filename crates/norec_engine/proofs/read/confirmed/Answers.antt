@@ -176,6 +176,8 @@ go_past-requires c =
         settled = c.if-seen-state.true;
         spent = omega (arith, on, sound.in_phase.3);
       };
+      part = part_is r p (sym c.piece.ensures.value ∙ c.in-Some-piece.is);
+      in_value = c.in-Some-piece.ensures.in_value;
       few = c.in-Some-piece.ensures.few;
     }
 
