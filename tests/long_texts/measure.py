@@ -28,7 +28,7 @@ PARTS = {
 RATIO, SHORT = 2.5, 0.2  # of the times of the two sizes, where the second one is more than so many seconds
 SECONDS, KILOBYTES = 20, 2 << 20  # the most that a text may take
 ROOM = 4 << 30  # bytes of address space of a run
-TURNS = 3
+TURNS = 10
 
 
 def cost(program, command, path):
