@@ -114,7 +114,7 @@ impl Thread {
         Ok(answer)
     }
 
-    /// A value is read (section 5.4).
+    /// A value is read, as by `call` of a `Read` (section 5.15).
     pub fn read(
         &mut self,
         words: &Words,
@@ -135,7 +135,7 @@ impl Thread {
         Ok(answer)
     }
 
-    /// A value is written (section 5.4).
+    /// A value is written, as by `call` of a `Write` (section 5.15).
     pub fn write(
         &mut self,
         words: &Words,
