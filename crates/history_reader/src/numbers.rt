@@ -1,7 +1,6 @@
 //! Fields as numbers with limits.
 
 ghost use Rattle.std.specs.Prelude.{◌≡◌, ◌≤◌, IfOk};
-ghost use Rattle.script_fields.specs.Operands.{function};
 ghost use Rattle.history_reader.specs.Numbers.{ranged, thread, nth, byte};
 
 use itm_types::{MAX_ACTORS, MAX_RETRIES};
@@ -29,14 +28,6 @@ pub fn nth(field: &[u8]) -> Result<u32, AsmKind>
     ensures { result ≡ nth field.now }
 {
     Ok(ranged(1, u64::from(MAX_RETRIES) + 1, field)? as u32)
-}
-
-/// The number of a function: at most 32 bits.
-#[tactic(auto, unfolding(script_fields::specs::Operands::function, crate::specs::Numbers::ranged))]
-pub fn function(field: &[u8]) -> Result<u32, AsmKind>
-    ensures { result ≡ function field.now }
-{
-    Ok(ranged(0, u64::from(u32::MAX), field)? as u32)
 }
 
 /// A byte.

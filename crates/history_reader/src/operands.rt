@@ -8,11 +8,11 @@ ghost use Rattle.history_reader.specs.Calls.{no_operand, begin_operand, abort_op
 
 use crate::digits::datum;
 use crate::fields::{next_field, three_fields};
-use crate::numbers::{byte, function};
+use crate::numbers::byte;
 use crate::reply::{Answer, with_reply};
-use crate::words::{block_props, mode, no_transaction, scope};
+use crate::words::block_props;
 use itm_types::{Datum, Props, Reply, Width};
-use script_fields::{AsmKind, both, number};
+use script_fields::{AsmKind, both, function, mode, no_transaction, number, scope};
 
 /// No operand.
 #[tactic(auto, unfolding(crate::specs::Calls::no_operand))]

@@ -7,9 +7,8 @@ ghost use Rattle.history_reader.specs.Replies.{refusal_of, refused, accepted, re
 use crate::digits::value;
 use crate::fields::{equals, next_field, no_field, one_field};
 use crate::numbers::{byte, ranged};
-use crate::words::exactly;
 use itm_types::{Refusal, Reply, Width};
-use script_fields::{AsmKind, both};
+use script_fields::{AsmKind, both, exactly};
 
 /// Of which kind the reply of a call is, where it is not refused.
 #[derive(Clone, Copy)]

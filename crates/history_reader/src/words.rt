@@ -1,7 +1,6 @@
 //! Fields that are one of a few words.
 
 ghost use Rattle.std.specs.Prelude.{◌≡◌};
-ghost use Rattle.script_fields.specs.Operands.{exactly, scope, mode, no_transaction};
 ghost use Rattle.history_reader.specs.Words.{outcome, kind, block_props};
 
 use itm_types::{ActionKind, Props};
@@ -115,45 +114,4 @@ pub fn block_props(field: &[u8]) -> Result<Props, AsmKind>
     ensures { result ≡ block_props field.now }
 {
     lookup(&PROPS, field).ok_or(AsmKind::Operand)
-}
-
-/// This text and no other.
-pub fn exactly(text: &[u8], field: &[u8]) -> Result<(), AsmKind>
-    ensures { result ≡ exactly text.now field.now }
-{
-    if field == text {
-        Ok(())
-    } else {
-        Err(AsmKind::Operand)
-    }
-}
-
-/// The scope of an abort: whether all blocks that are open are cancelled.
-#[tactic(auto, unfolding(script_fields::specs::Operands::scope))]
-pub fn scope(field: &[u8]) -> Result<bool, AsmKind>
-    ensures { result ≡ scope field.now }
-{
-    if field == b"userAbort".as_slice() {
-        Ok(false)
-    } else if field == b"userAbort+outerAbort".as_slice() {
-        Ok(true)
-    } else {
-        Err(AsmKind::Operand)
-    }
-}
-
-/// The one mode that a transaction can be changed to.
-#[tactic(auto, unfolding(script_fields::specs::Operands::mode))]
-pub fn mode(field: &[u8]) -> Result<(), AsmKind>
-    ensures { result ≡ mode field.now }
-{
-    exactly(b"modeSerialIrrevocable", field)
-}
-
-/// The word for an action that is bound to no transaction.
-#[tactic(auto, unfolding(script_fields::specs::Operands::no_transaction))]
-pub fn no_transaction(field: &[u8]) -> Result<(), AsmKind>
-    ensures { result ≡ no_transaction field.now }
-{
-    exactly(b"_ITM_noTransactionId", field)
 }

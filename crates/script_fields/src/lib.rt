@@ -34,7 +34,7 @@ pub use fault::{AsmFault, AsmKind};
 pub use fields::no_field;
 pub use literal::Literal;
 pub use names::lookup;
-pub use numbers::{number, within};
+pub use numbers::{function, number, within};
 pub use operands::both;
 pub use place::Place;
 pub use property::props_text;
@@ -45,4 +45,4 @@ pub use shapes::{
     three_registers, two_places, two_registers, undo_action,
 };
 pub use text::{code_part, first_field, first_line, has_allowed};
-pub use words::scope_text;
+pub use words::{exactly, mode, no_transaction, scope, scope_text};

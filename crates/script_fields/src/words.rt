@@ -6,7 +6,8 @@ ghost use Rattle.script_fields.specs.Spelling.{scope_text};
 
 use crate::fault::AsmKind;
 
-fn exactly(text: &[u8], field: &[u8]) -> Result<(), AsmKind>
+/// This text and no other.
+pub fn exactly(text: &[u8], field: &[u8]) -> Result<(), AsmKind>
     ensures { result ≡ exactly text.now field.now }
 {
     if field == text {
