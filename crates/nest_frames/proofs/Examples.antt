@@ -7,7 +7,7 @@ use Rattle.write_set.specs.declared.row.Row.{Row}
 use Rattle.write_set.specs.Marks.{Written, start}
 use Rattle.write_set.specs.Rows.{row}
 use Rattle.user_actions.specs.Actions.{Actions, no_actions, as_commit, as_undo}
-use Rattle.nest_frames.specs.declared.frames.Moment.{Moment}
+use Rattle.nest_frames.specs.declared.moment.Moment.{Moment}
 use Rattle.nest_frames.specs.Nest.{Frame, begun, log_of, logged, closed, is_kept, arena_back, arena_restored, actions_closed, actions_cancelled, actions_back}
 use Rattle.nest_frames.specs.Moments.{frames_of}
 

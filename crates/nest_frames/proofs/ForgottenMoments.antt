@@ -4,7 +4,7 @@ use Rattle.std.specs.List.{refill}
 use Rattle.std.proofs.lemmas.List.{append-nil, drop_all, length-map, map-append, reverse-append, take_all, take-append-le}
 use Rattle.user_actions.specs.Actions.{ActionList, Actions}
 use Rattle.write_set.specs.Marks.{start, unwritten}
-use Rattle.nest_frames.specs.declared.frames.Moment.{Moment}
+use Rattle.nest_frames.specs.declared.moment.Moment.{Moment}
 use Rattle.nest_frames.specs.Nest.{Frame, Nest, made_irrevocable}
 use Rattle.write_set.specs.Marks.{Written}
 use Rattle.undo_log.specs.Rollback.{Old, Undo}

@@ -10,7 +10,7 @@ use Rattle.write_set.specs.Rows.{lookup, replaced}
 use Rattle.write_set.specs.Marks.{Written, AreMarks, IsNew, put_back}
 use Rattle.write_set.proofs.Overlays.{lookup_here, lookup_there}
 use Rattle.write_set.proofs.PutBack.{length-put_back, take-put_back}
-use Rattle.nest_frames.specs.declared.frames.Moment.{Moment}
+use Rattle.nest_frames.specs.declared.moment.Moment.{Moment}
 use Rattle.nest_frames.specs.Nest.{rows_of}
 use Rattle.nest_frames.specs.Moments.{frames_from, frames_of, AreUnder, IsSound}
 

@@ -14,7 +14,7 @@ use Rattle.undo_log.proofs.KeptBytes.{kept_of-append, kept_of-log}
 use Rattle.write_set.specs.declared.mark.Mark.{Mark}
 use Rattle.write_set.specs.declared.mark.Place.{Place}
 use Rattle.write_set.specs.Marks.{Written, IsBy, IsMark, KeepsMarks, KeepsOuter, rows_at, unwritten}
-use Rattle.nest_frames.specs.declared.frames.Moment.{Moment}
+use Rattle.nest_frames.specs.declared.moment.Moment.{Moment}
 use Rattle.nest_frames.specs.Nest.{Frame, Nest, log_of, logged, closed, actions_closed}
 use Rattle.nest_frames.specs.Moments.{frames_from, frames_of, AreUnder, BeginEmpty, IsSound}
 

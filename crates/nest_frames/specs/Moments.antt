@@ -5,7 +5,7 @@ use Rattle.undo_log.specs.Rollback.{Old}
 use Rattle.user_actions.specs.Actions.{Actions}
 use Rattle.write_set.specs.declared.mark.Place.{Place}
 use Rattle.write_set.specs.Marks.{Written, IsBy, rows_at, start, unwritten}
-use Rattle.nest_frames.specs.declared.frames.Moment.{Moment}
+use Rattle.nest_frames.specs.declared.moment.Moment.{Moment}
 use Rattle.nest_frames.specs.Nest.{Frame}
 
 -- a moment at which there was nothing

@@ -8,37 +8,16 @@ ghost use Rattle.write_set.specs.Rows.{lookup, laid, put, reserved, overlay, Are
 ghost use Rattle.write_set.specs.Marks.{unwritten, place_of, reserve, AreMarks, KeepsRoom, MayPut};
 ghost use Rattle.undo_log.specs.Rollback.{found, put_back, kept_of};
 ghost use Rattle.user_actions.specs.Actions.{no_actions, registered, room_after, total};
-ghost use Rattle.nest_frames.specs.Moments.{at_start};
 ghost use Rattle.nest_frames.specs.Nest.{Frame, begun, log_of, rows_of, logged, closed, is_kept, arena_back, arena_restored, stays_revocable, actions_closed, actions_cancelled, actions_back, made_irrevocable};
 
+use crate::moment::Moment;
 use arrayvec::ArrayVec;
 use itm_types::{Action, ActionKind, MAX_OPEN_BLOCKS, Props, Ran};
 use std::alloc::{AllocError, Global};
 use std::marker::Model;
 use undo_log::{Arena, UndoLog};
-use user_actions::{ActionMark, UserActions};
+use user_actions::UserActions;
 use write_set::{Row, WriteSet};
-
-/// Where an open block began.
-#[derive(Debug, Default, Drop)]
-pub(crate) struct Moment {
-    pub(crate) props: Props,
-    pub(crate) rows: write_set::Mark,
-    pub(crate) log: undo_log::Mark,
-    pub(crate) actions: ActionMark,
-}
-
-impl Moment {
-    /// The begin of such a block at which there was nothing.
-    fn at_start(props: Props) -> Moment
-        ensures { result ≡ at_start props }
-    {
-        Moment {
-            props,
-            ..Moment::default()
-        }
-    }
-}
 
 /// What a transaction has written and logged, the actions that it has registered, and its open blocks.
 #[derive(Debug, Drop)]

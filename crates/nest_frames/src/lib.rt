@@ -2,5 +2,6 @@
 #![tactic(auto)]
 
 mod frames;
+mod moment;
 
 pub use frames::Frames;

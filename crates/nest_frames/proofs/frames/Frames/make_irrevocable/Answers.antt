@@ -4,7 +4,7 @@ use Rattle.undo_log.specs.Rollback.{Undo}
 use Rattle.user_actions.specs.Actions.{ActionList}
 use Rattle.write_set.specs.Marks.{Written, unwritten}
 use Rattle.nest_frames.specs.Moments.{IsSound, frames_of}
-use Rattle.nest_frames.specs.declared.frames.Moment.{Moment}
+use Rattle.nest_frames.specs.declared.moment.Moment.{Moment}
 use Rattle.nest_frames.specs.Nest.{Nest, made_irrevocable}
 use Rattle.nest_frames.proofs.ForgottenMoments.{all_forgotten, forgotten, next_forgotten, nest_so, sound_so}
 use Rattle.nest_frames.proofs.frames.Frames.make_irrevocable.Goals as goal
