@@ -15,17 +15,20 @@ use std::io;
 use std::io::Write;
 use tx_attempts::{Attempt, Entry, Outcome};
 
-fn outcome_name(outcome: Outcome) -> &'static [u8]
-    ensures { result.now ≡ outcome_name outcome }
+/// Each text stands in the code, so that it is copied with no loop.
+fn put_outcome<W: Write>(pages: &mut Pages<'_, W>, outcome: Outcome)
+    ensures same { pages.new.writer.ghost_name ≡ pages.old.writer.ghost_name }
+    ensures grows { Grows (sheet W.contents pages.old) (sheet W.contents pages.new)
+        (outcome_name outcome) }
 {
     match outcome {
-        Outcome::Committed => b"committed",
-        Outcome::ReadOnly => b"readonly",
-        Outcome::Cancelled => b"cancelled",
-        Outcome::Conflict => b"conflict",
-        Outcome::Full => b"full",
-        Outcome::NoMemory => b"nomemory",
-        Outcome::Unfinished => b"unfinished",
+        Outcome::Committed => pages.text(b"committed"),
+        Outcome::ReadOnly => pages.text(b"readonly"),
+        Outcome::Cancelled => pages.text(b"cancelled"),
+        Outcome::Conflict => pages.text(b"conflict"),
+        Outcome::Full => pages.text(b"full"),
+        Outcome::NoMemory => pages.text(b"nomemory"),
+        Outcome::Unfinished => pages.text(b"unfinished"),
     }
 }
 
@@ -42,7 +45,7 @@ fn put_try<W: Write>(pages: &mut Pages<'_, W>, attempt: &Attempt)
     pages.text(b" ");
     pages.number(attempt.at);
     pages.text(b" ");
-    pages.text(outcome_name(attempt.outcome));
+    put_outcome(pages, attempt.outcome);
 }
 
 fn put_props<W: Write>(pages: &mut Pages<'_, W>, props: Props)
@@ -50,9 +53,19 @@ fn put_props<W: Write>(pages: &mut Pages<'_, W>, props: Props)
     ensures grows { Grows (sheet W.contents pages.old) (sheet W.contents pages.new)
         (props_end props) }
 {
-    pages.text(b" ");
-    pages.text(props_text(props).as_bytes());
-    pages.text(b"\n");
+    match props {
+        // most blocks have none
+        Props {
+            no_abort: false,
+            no_irrevocable: false,
+            goes_irrevocable: false,
+        } => pages.text(b" -\n"),
+        _ => {
+            pages.text(b" ");
+            pages.text(props_text(props).as_bytes());
+            pages.text(b"\n");
+        }
+    }
 }
 
 fn put_head<W: Write>(pages: &mut Pages<'_, W>, attempt: &Attempt)

@@ -143,6 +143,21 @@ impl<'a, W: Write> Pages<'a, W> {
         self.text(digits);
     }
 
+    /// Writes the 8 bytes of a word, each in two hexadecimal digits. Its code stands where it is called, so that no digit
+    /// takes a turn of a loop.
+    #[inline(always)]
+    fn word(&mut self, word: &[u8])
+        requires { length word.now ≡ 8 }
+        ensures same { self.new.writer.ghost_name ≡ self.old.writer.ghost_name }
+        ensures grows { Grows (sheet W.contents self.old) (sheet W.contents self.new) (encode_lower word.now) }
+    {
+        let mut digits = [0u8; 16];
+        let written = hex::encode_to_slice(word, &mut digits);
+        let holds = written.is_ok();
+        prove!(holds);
+        self.text(&digits);
+    }
+
     /// Writes the bytes, each in two hexadecimal digits.
     #[tactic(auto, using(crate::proofs::AppendedTexts::hex_starts, crate::proofs::AppendedTexts::hex_grown, crate::proofs::AppendedTexts::hex_whole))]
     pub(crate) fn hex(&mut self, bytes: &[u8])
@@ -150,6 +165,10 @@ impl<'a, W: Write> Pages<'a, W> {
         ensures grows { Grows (sheet W.contents self.old) (sheet W.contents self.new) (encode_lower bytes.now) }
         ensures fits { IsBytes bytes.now }
     {
+        if bytes.len() == 8 {
+            self.word(bytes);
+            return;
+        }
         let mut at = 0;
         while at < bytes.len() {
             let (_, rest) = bytes.split_at(at);

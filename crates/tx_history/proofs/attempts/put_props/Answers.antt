@@ -1,9 +1,24 @@
+use Rattle.std.proofs.Common.{◌≡◌, false, refl}
+use Rattle.std.specs.Prelude.{codes}
+use Rattle.itm_types.specs.declared.call.Props.{Props}
 use Rattle.tx_history.specs.Histories.{props_end}
-use Rattle.tx_history.proofs.PagedTexts.{grows_then}
+use Rattle.tx_history.proofs.PagedTexts.{grows_as, grows_then}
 use Rattle.tx_history.proofs.attempts.put_props.Goals as goal
 
-pub returns-clause-grows : goal.returns-clause-grows
+-- of no properties
+bare : (p : Props) → p.no_abort ≡ false → p.no_irrevocable ≡ false → p.goes_irrevocable ≡ false → codes " -\n" ≡ props_end p
 unfolding props_end
-returns-clause-grows g c =
-    let props = rw c.props_text.ensures at rw c.as_bytes.ensures.value at c.text-2.ensures.grows in
-    grows_then _ _ _ _ _ (grows_then _ _ _ _ _ c.text.ensures.grows props) c.text-3.ensures.grows
+bare p a b c = rw (a, b, c) refl
+
+pub returns-in-false-clause-grows : goal.returns-in-false-clause-grows
+returns-in-false-clause-grows g c =
+    let abort : c.args.props.no_abort ≡ false = cc in
+    let irrevocable : c.args.props.no_irrevocable ≡ false = cc in
+    let goes : c.args.props.goes_irrevocable ≡ false = cc in
+    grows_as _ _ _ _ c.text.ensures.grows (bare c.args.props abort irrevocable goes)
+
+pub returns-in_default-clause-grows : goal.returns-in_default-clause-grows
+unfolding props_end
+returns-in_default-clause-grows g c =
+    let props = rw c.props_text.ensures at rw c.as_bytes.ensures.value at c.text-in_default-2.ensures.grows in
+    grows_then _ _ _ _ _ (grows_then _ _ _ _ _ c.text-in_default.ensures.grows props) c.text-in_default-3.ensures.grows

@@ -7,5 +7,4 @@ unfolding try_text
 returns-clause-grows g c =
     let thread = rw c.from.ensures at c.number.ensures.grows in
     let nth = rw c.from-2.ensures at c.number-2.ensures.grows in
-    let outcome = rw c.outcome_name.ensures at c.text-5.ensures.grows in
-    grows_then _ _ _ _ _ (grows_then _ _ _ _ _ (grows_then _ _ _ _ _ (grows_then _ _ _ _ _ (grows_then _ _ _ _ _ (grows_then _ _ _ _ _ (grows_then _ _ _ _ _ c.text.ensures.grows thread) c.text-2.ensures.grows) nth) c.text-3.ensures.grows) c.number-3.ensures.grows) c.text-4.ensures.grows) outcome
+    grows_then _ _ _ _ _ (grows_then _ _ _ _ _ (grows_then _ _ _ _ _ (grows_then _ _ _ _ _ (grows_then _ _ _ _ _ (grows_then _ _ _ _ _ (grows_then _ _ _ _ _ c.text.ensures.grows thread) c.text-2.ensures.grows) nth) c.text-3.ensures.grows) c.number-3.ensures.grows) c.text-4.ensures.grows) c.put_outcome.ensures.grows
