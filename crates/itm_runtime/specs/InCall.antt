@@ -17,6 +17,8 @@ use Rattle.norec_core.specs.Proceeds.{Got, IsLawful, most}
 use Rattle.norec_core.specs.Stands.{stands_for}
 use Rattle.shared_words.specs.declared.view.View.{View}
 use Rattle.shared_words.specs.Commits.{StartsWith}
+use Rattle.shared_words.specs.Passes.{IsOver}
+use Rattle.shared_words.specs.Steps.{Turns}
 use Rattle.shared_words.specs.Views.{held}
 use Rattle.itm_runtime.specs.Ties.{IsTied, Stands}
 use Rattle.itm_runtime.specs.Served.{Start, LoadedLast, Went, Served}
@@ -76,6 +78,14 @@ pub record InCall (s : Start) (v : View) (e : Core) (step : Step) : Type 0 where
   pub within : e.spent ≤ most (came s.engine s.call s.again) (Some s.call)
   pub grew : in_transaction e ≡ true → Grew s v e
   pub held_on : s.engine.irrevocable ≡ true → HeldOn s v e
+
+-- over so many cells the step was done that the engine waited for, and found this
+pub record IsDone (cells : ℕ) (s : Start) (v : View) (e : Core) (seen : ℕ) : Type 0 where
+  pub before : View
+  pub step : Step
+  pub over : IsOver cells before
+  pub in_call : InCall s before e step
+  pub turn : Turns before step seen v
 
 abbrev pub IsDue : Start → View → Core → Next → Type 0
 IsDue s v e (Asks step) = InCall s v e step

@@ -1,10 +1,10 @@
 //! The steps of a call, one after the other.
 
 ghost use Rattle.std.specs.Prelude.{◌≡◌, ◌+◌, ◌<◌};
-ghost use Rattle.shared_words.specs.Passes.{Owns, view_of};
+ghost use Rattle.shared_words.specs.Passes.{Owns, view_of, cells_of};
 ghost use Rattle.itm_runtime.specs.Ties.{Stands};
 ghost use Rattle.itm_runtime.specs.Served.{Start, Served};
-ghost use Rattle.itm_runtime.specs.InCall.{InCall, IsDue, left};
+ghost use Rattle.itm_runtime.specs.InCall.{InCall, IsDue, IsDone, left};
 ghost use Rattle.norec_core.specs.declared.answer.Next.TheVariants.{Step as Asks};
 ghost use Rattle.norec_engine.specs.NextSteps.{next_in};
 
@@ -33,13 +33,14 @@ pub(crate) fn finish(
     }
 }
 
-/// The same of a begin, which most often asks for the clock alone.
+/// The same where one step is likely: of a begin the load of the clock, of a commit at last the store that frees it.
 #[inline(always)]
-pub(crate) fn finish_begin(
+pub(crate) fn finish_by(
     words: &Words,
     pass: &mut Pass,
     engine: &mut Engine,
     first: Option<Step>,
+    likely: Likely,
     answer: &mut Answer,
 )
     requires own { Owns words.now pass.old }
@@ -49,7 +50,7 @@ pub(crate) fn finish_begin(
     ensures stands { Stands (view_of pass.new) engine.new }
 {
     if let Some(step) = first {
-        let next = advance(words, pass, engine, step, Likely::Begin, answer);
+        let next = advance(words, pass, engine, step, likely, answer);
         finish(words, pass, engine, next, answer);
     }
 }
@@ -94,7 +95,7 @@ pub(crate) fn finish_commit(
 {
     if let Some(step) = first {
         if let Some(step) = advance(words, pass, engine, step, Likely::Exchange, answer) {
-            run(words, pass, engine, step, answer);
+            store(words, pass, engine, step, answer);
         }
     }
 }
@@ -108,12 +109,15 @@ fn drive(words: &Words, pass: &mut Pass, engine: &mut Engine, first: Step, answe
     ensures served { (s : Start) → InCall s (view_of pass.old) engine.old first → Served s answer.new (view_of pass.new) engine.new }
     ensures stands { Stands (view_of pass.new) engine.new }
 {
-    run(words, pass, engine, first, answer);
+    let mut next = Some(first);
+    while let Some(step) = next {
+        next = go_on(words, pass, engine, step, answer);
+    }
 }
 
 /// The same, made quick where they are the stores of a commit.
 #[inline(always)]
-fn run(words: &Words, pass: &mut Pass, engine: &mut Engine, first: Step, answer: &mut Answer)
+fn store(words: &Words, pass: &mut Pass, engine: &mut Engine, first: Step, answer: &mut Answer)
     requires own { Owns words.now pass.old }
     requires due { (s : Start) × InCall s (view_of pass.old) engine.old first }
     ensures own { Owns words.now pass.new }
@@ -122,11 +126,31 @@ fn run(words: &Words, pass: &mut Pass, engine: &mut Engine, first: Step, answer:
 {
     let mut next = Some(first);
     while let Some(step) = next {
-        next = advance(words, pass, engine, step, Likely::Store, answer);
+        next = advance_store(words, pass, engine, step, answer);
     }
 }
 
-/// Does one step of a call, which waits for what is likely or for something else; tells the next one.
+/// Does one step of a call, whatever it waits for; tells the next one.
+fn go_on(
+    words: &Words,
+    pass: &mut Pass,
+    engine: &mut Engine,
+    step: Step,
+    answer: &mut Answer,
+) -> Option<Step>
+    requires own { Owns words.now pass.old }
+    requires due { (s : Start) × InCall s (view_of pass.old) engine.old step }
+    ensures own { Owns words.now pass.new }
+    ensures due { (s : Start) → InCall s (view_of pass.old) engine.old step
+        → IsDue s (view_of pass.new) engine.new (next_in result answer.new) }
+    ensures less { left engine.new (next_in result answer.new) < left engine.old (Asks step) }
+{
+    let found = words.step(pass, step);
+    engine.resume_into(found, answer)
+}
+
+/// Does one step of a call; tells the next one, where the call goes on as it is likely to, else it does all of them. That
+/// no step comes back from there keeps the likely way free of what is not.
 #[inline(always)]
 fn advance(
     words: &Words,
@@ -144,5 +168,63 @@ fn advance(
     ensures less { left engine.new (next_in result answer.new) < left engine.old (Asks step) }
 {
     let seen = words.step(pass, step);
+    if !engine.foresees(likely, seen) {
+        resume(words, pass, engine, seen, answer);
+        return None;
+    }
     engine.resume_likely(likely, seen, answer)
+}
+
+/// The same of a store, which most often is the last one, where it is none of those before.
+#[inline(always)]
+fn advance_store(
+    words: &Words,
+    pass: &mut Pass,
+    engine: &mut Engine,
+    step: Step,
+    answer: &mut Answer,
+) -> Option<Step>
+    requires own { Owns words.now pass.old }
+    requires due { (s : Start) × InCall s (view_of pass.old) engine.old step }
+    ensures own { Owns words.now pass.new }
+    ensures due { (s : Start) → InCall s (view_of pass.old) engine.old step
+        → IsDue s (view_of pass.new) engine.new (next_in result answer.new) }
+    ensures less { left engine.new (next_in result answer.new) < left engine.old (Asks step) }
+{
+    let stored = words.step(pass, step);
+    if !engine.foresees(Likely::Store, stored) {
+        resume_last(words, pass, engine, stored, answer);
+        return None;
+    }
+    engine.resume_likely(Likely::Store, stored, answer)
+}
+
+/// Hands the value of a step in, which most often is the last store of a commit, and does the steps that are left.
+#[inline(always)]
+fn resume_last(words: &Words, pass: &mut Pass, engine: &mut Engine, seen: u64, answer: &mut Answer)
+    requires own { Owns words.now pass.old }
+    requires done { (s : Start) × IsDone (cells_of words.now) s (view_of pass.old) engine.old seen }
+    ensures own { Owns words.now pass.new }
+    ensures served { (s : Start) → IsDone (cells_of words.now) s (view_of pass.old) engine.old seen → Served s answer.new (view_of pass.new) engine.new }
+    ensures stands { Stands (view_of pass.new) engine.new }
+{
+    if !engine.foresees(Likely::LastStore, seen) {
+        resume(words, pass, engine, seen, answer);
+        return;
+    }
+    let next = engine.resume_likely(Likely::LastStore, seen, answer);
+    finish_by(words, pass, engine, next, Likely::Free, answer);
+}
+
+/// Hands the value of a step in, and does the steps that are left.
+#[inline(never)]
+fn resume(words: &Words, pass: &mut Pass, engine: &mut Engine, seen: u64, answer: &mut Answer)
+    requires own { Owns words.now pass.old }
+    requires done { (s : Start) × IsDone (cells_of words.now) s (view_of pass.old) engine.old seen }
+    ensures own { Owns words.now pass.new }
+    ensures served { (s : Start) → IsDone (cells_of words.now) s (view_of pass.old) engine.old seen → Served s answer.new (view_of pass.new) engine.new }
+    ensures stands { Stands (view_of pass.new) engine.new }
+{
+    let next = engine.resume_into(seen, answer);
+    finish(words, pass, engine, next, answer);
 }

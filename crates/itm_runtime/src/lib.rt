@@ -3,5 +3,6 @@
 
 mod drive;
 mod thread;
+mod unlikely;
 
 pub use thread::Thread;

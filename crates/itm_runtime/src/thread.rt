@@ -10,12 +10,12 @@ ghost use Rattle.itm_runtime.specs.Ties.{Stands};
 ghost use Rattle.itm_runtime.specs.Served.{Served};
 ghost use Rattle.itm_runtime.specs.Standing.{start_of};
 
-use crate::drive::{finish, finish_begin, finish_commit, finish_read};
+use crate::drive::{finish, finish_by, finish_commit, finish_read};
 use itm_types::{
     Call, Datum, Limits, MAX_COMMITS, MAX_PATIENCE, Props, Ran, ReadHint, Reply, Width, WriteHint,
 };
 use norec_core::{Answer, Undone};
-use norec_engine::Engine;
+use norec_engine::{Engine, Likely};
 use shared_words::{Pass, Words};
 use std::alloc::{AllocError, Global};
 use std::marker::Model;
@@ -27,8 +27,8 @@ use undo_log::Arena;
 /// where the transaction is irrevocable: a thread that is dropped then leaves it odd for ever, and no other one commits.
 #[derive(Drop)]
 pub struct Thread {
-    pass: Pass,
-    engine: Engine,
+    pub(crate) pass: Pass,
+    pub(crate) engine: Engine,
 }
 
 impl Model for Thread {
@@ -77,8 +77,23 @@ impl Thread {
         ensures starves { OnErr result (MayStarve self.old.engine (Call.Begin props room)) }
     {
         let mut answer = Answer::Reply(Reply::Done);
+        if props.goes_irrevocable || self.engine.is_open() {
+            self.begin_otherwise(words, props, room, again, &mut answer)?;
+            return Ok(answer);
+        }
+        if self.engine.is_irrevocable() {
+            self.begin_otherwise(words, props, room, again, &mut answer)?;
+            return Ok(answer);
+        }
         let first = self.engine.open_into(props, room, again, &mut answer)?;
-        finish_begin(words, &mut self.pass, &mut self.engine, first, &mut answer);
+        finish_by(
+            words,
+            &mut self.pass,
+            &mut self.engine,
+            first,
+            Likely::Begin,
+            &mut answer,
+        );
         Ok(answer)
     }
 
@@ -99,21 +114,6 @@ impl Thread {
         }
     }
 
-    /// Any call, by no way of its own.
-    fn call_other(&mut self, words: &Words, call: &Call) -> Result<Answer, AllocError>
-        requires own { Owns words.now self.old.pass }
-        ensures own { Owns words.now self.new.pass }
-        ensures served { IfOk result (λ a. Served (start_of self.old call.now false) a (view_of self.new.pass) self.new.engine) }
-        ensures stands { Stands (view_of self.new.pass) self.new.engine }
-        ensures err { OnErr result (self.new ≡ self.old) }
-        ensures starves { OnErr result (MayStarve self.old.engine call.now) }
-    {
-        let mut answer = Answer::Reply(Reply::Done);
-        let first = self.engine.call_into(call, &mut answer)?;
-        finish(words, &mut self.pass, &mut self.engine, first, &mut answer);
-        Ok(answer)
-    }
-
     /// A value is read, as by `call` of a `Read` (section 5.15).
     pub fn read(
         &mut self,
@@ -130,6 +130,10 @@ impl Thread {
         ensures starves { OnErr result (MayStarve self.old.engine (Call.Read hint width at)) }
     {
         let mut answer = Answer::Reply(Reply::Done);
+        if self.engine.is_irrevocable() {
+            self.read_otherwise(words, hint, width, at, &mut answer)?;
+            return Ok(answer);
+        }
         let first = self.engine.read_into(hint, width, at, &mut answer)?;
         finish_read(words, &mut self.pass, &mut self.engine, first, &mut answer);
         Ok(answer)
@@ -151,6 +155,10 @@ impl Thread {
         ensures starves { OnErr result (MayStarve self.old.engine (Call.Write hint at value.now)) }
     {
         let mut answer = Answer::Reply(Reply::Done);
+        if self.engine.is_irrevocable() {
+            self.write_otherwise(words, hint, at, value, &mut answer)?;
+            return Ok(answer);
+        }
         let first = self.engine.write_into(hint, at, value, &mut answer)?;
         finish(words, &mut self.pass, &mut self.engine, first, &mut answer);
         Ok(answer)
@@ -164,6 +172,10 @@ impl Thread {
         ensures stands { Stands (view_of self.new.pass) self.new.engine }
     {
         let mut answer = Answer::Reply(Reply::Done);
+        if !self.engine.takes_clock() {
+            self.commit_otherwise(words, &mut answer);
+            return answer;
+        }
         match self.engine.commit_into(&mut answer) {
             Ok(first) => {
                 finish_commit(words, &mut self.pass, &mut self.engine, first, &mut answer);

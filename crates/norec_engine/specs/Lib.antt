@@ -2,3 +2,4 @@ pub mod InPhases
 pub mod Between
 pub mod Modes
 pub mod NextSteps
+pub mod Foreseen

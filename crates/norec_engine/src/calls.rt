@@ -15,7 +15,6 @@ use crate::begin::{begin, begin_seen, begin_taken};
 use crate::commit::{back_loaded, commit, exchanged, freed, stored};
 use crate::copy::copy;
 use crate::fill::fill;
-use crate::likely::Likely;
 use crate::local::{in_transaction, load, log, register, save};
 use crate::mode::mode;
 use crate::read::{confirmed, loaded, read};
@@ -57,52 +56,6 @@ pub(crate) fn turned(state: &mut Data, pending: Pending, seen: u64) -> Turn
         Pending::Free => freed(state),
         Pending::Fetch | Pending::Place => unreachable!(),
     }
-}
-
-/// The same, made quick where that is what is likely.
-#[inline(always)]
-pub(crate) fn turned_likely(state: &mut Data, pending: Pending, likely: Likely, seen: u64) -> Turn
-    requires sound { IsSound state.old (phase_of state.old pending) }
-    requires waits { IsSome (waits_of state.old (phase_of state.old pending)) }
-    requires fits { Fits (core state.old (phase_of state.old pending)) seen }
-    ensures sound { IsSoundTurn result state.new }
-    ensures proceeds { Turns (handed (core state.old (phase_of state.old pending)) seen) result state.new }
-    ensures joins { Joins (core state.old (phase_of state.old pending)) seen (core_after result state.new) }
-    ensures order { phase_after result state.new ≡ stage_after (core state.old (phase_of state.old pending)) seen }
-    ensures ends { TurnEndsSo (ending_after (core state.old (phase_of state.old pending)) seen) result state.new }
-    ensures tries { (core_after result state.new).tries ≡ tries_after (phase_after result state.new)
-        (core state.old (phase_of state.old pending)).tries }
-    ensures snapshot { state.new.snapshot ≡ snapshot_after (core state.old (phase_of state.old pending)) seen }
-    ensures log { in_block state.new ≡ true → state.new.log.rows ≡ log_after (core state.old (phase_of state.old pending)) seen }
-{
-    match (likely, pending) {
-        (Likely::Begin, Pending::Begin) => begin_seen(state, seen),
-        (Likely::Load, Pending::Load) => loaded(state, seen),
-        (Likely::Confirm, Pending::Confirm(value)) => confirmed(state, value, seen),
-        (Likely::Exchange, Pending::Exchange) => exchanged(state, seen),
-        (Likely::Store, Pending::Store(row)) => stored(state, row),
-        (Likely::Store, Pending::Free) => freed(state),
-        _ => turned_otherwise(state, pending, seen),
-    }
-}
-
-/// The same, where it is not.
-#[inline(never)]
-fn turned_otherwise(state: &mut Data, pending: Pending, seen: u64) -> Turn
-    requires sound { IsSound state.old (phase_of state.old pending) }
-    requires waits { IsSome (waits_of state.old (phase_of state.old pending)) }
-    requires fits { Fits (core state.old (phase_of state.old pending)) seen }
-    ensures sound { IsSoundTurn result state.new }
-    ensures proceeds { Turns (handed (core state.old (phase_of state.old pending)) seen) result state.new }
-    ensures joins { Joins (core state.old (phase_of state.old pending)) seen (core_after result state.new) }
-    ensures order { phase_after result state.new ≡ stage_after (core state.old (phase_of state.old pending)) seen }
-    ensures ends { TurnEndsSo (ending_after (core state.old (phase_of state.old pending)) seen) result state.new }
-    ensures tries { (core_after result state.new).tries ≡ tries_after (phase_after result state.new)
-        (core state.old (phase_of state.old pending)).tries }
-    ensures snapshot { state.new.snapshot ≡ snapshot_after (core state.old (phase_of state.old pending)) seen }
-    ensures log { in_block state.new ≡ true → state.new.log.rows ≡ log_after (core state.old (phase_of state.old pending)) seen }
-{
-    turned(state, pending, seen)
 }
 
 /// What comes of a call.

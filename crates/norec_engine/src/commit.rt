@@ -78,12 +78,12 @@ pub(crate) fn exchanged(state: &mut Data, seen: u64) -> Turn
     ensures ends { TurnEndsSo (ending_after (core state.old (Phase.Exchange state.old.taking)) seen) result state.new }
     ensures tries { (core_after result state.new).tries ≡ tries_after (phase_after result state.new) state.old.tries }
 {
-    state.clock = seen;
+    // where it is the snapshot, it is what the clock was
     if seen == state.snapshot {
-        next_store(state, 0)
-    } else {
-        try_round(state, Cause::Take)
+        return next_store(state, 0);
     }
+    state.clock = seen;
+    try_round(state, Cause::Take)
 }
 
 /// The next row is stored, or the clock is freed.

@@ -7,50 +7,100 @@ ghost use Rattle.norec_core.specs.Endings.{ending_at, ending_after, EndsSo};
 ghost use Rattle.norec_core.specs.Proceeds.{Proceeds, Joins, StaysOn, IsAtOnce, MayStarve, Fits, IsWithin, IsSettled};
 ghost use Rattle.norec_core.specs.Held.{ComesHeld, StepsHeld};
 ghost use Rattle.norec_engine.specs.NextSteps.{next_in};
+ghost use Rattle.norec_engine.specs.Foreseen.{Awaits, GoesOn};
 
 use crate::begin::begin;
-use crate::calls::turned_likely;
+use crate::calls::turned;
 use crate::commit::commit;
 use crate::engine::Engine;
 use crate::read::read;
 use crate::turns::take;
 use crate::write::write;
 use itm_types::{Call, Datum, Props, ReadHint, Step, Width, WriteHint};
-use norec_core::Answer;
+use norec_core::{Answer, Phase, Taking};
 use norec_data::Pending;
 use std::alloc::AllocError;
 
-/// What a call in progress most likely waits for. It makes that case quick, and changes nothing else.
+/// What a call in progress most likely waits for, and goes on to. It makes that case quick, and changes nothing else.
 #[derive(Clone, Copy)]
 pub enum Likely {
-    /// The clock, for a begin.
+    /// The clock, for a begin: it is even.
     Begin,
     /// A word that is read.
     Load,
-    /// The clock, to confirm that word.
+    /// The clock, to confirm that word: it is the snapshot.
     Confirm,
-    /// The exchange that takes the clock.
+    /// The exchange that takes the clock: a row of a whole word is stored next.
     Exchange,
-    /// A store of the commit.
+    /// A store of the commit: a row of a whole word is stored next.
     Store,
-}
-
-impl Likely {
-    /// The call waits for it.
-    #[inline(always)]
-    fn is(self, pending: Pending) -> bool {
-        match (self, pending) {
-            (Likely::Begin, Pending::Begin)
-            | (Likely::Load, Pending::Load)
-            | (Likely::Confirm, Pending::Confirm(_))
-            | (Likely::Exchange, Pending::Exchange)
-            | (Likely::Store, Pending::Store(_) | Pending::Free) => true,
-            _ => false,
-        }
-    }
+    /// The last store of the commit: the clock is freed next.
+    LastStore,
+    /// The store that frees the clock.
+    Free,
 }
 
 impl Engine {
+    /// The transaction is irrevocable.
+    #[inline(always)]
+    pub fn is_irrevocable(&self) -> bool
+        ensures { result ≡ self.now.irrevocable }
+    {
+        self.irrevocable
+    }
+
+    /// A commit takes the clock.
+    #[inline(always)]
+    pub fn takes_clock(&self) -> bool
+        requires idle { self.now.waits ≡ None }
+        ensures revocable { result ≡ true → self.now.irrevocable ≡ false }
+        ensures exchanges { result ≡ true → stage_at self.now Call.Commit false ≡ Phase.Exchange Taking.Commit }
+    {
+        if self.irrevocable {
+            return false;
+        }
+        if !self.state.is_outermost() {
+            return false;
+        }
+        if self.state.frames.len() == 0 {
+            return false;
+        }
+        self.state.snapshot / 2 < self.state.limits.max_commits
+    }
+
+    /// The call waits for what is likely, in a transaction that is not irrevocable, and with this value goes on as it is
+    /// likely to. A no tells nothing.
+    #[inline(always)]
+    pub fn foresees(&self, likely: Likely, seen: u64) -> bool
+        ensures revocable { result ≡ true → self.now.irrevocable ≡ false }
+        ensures waits { result ≡ true → Awaits likely self.now.stage }
+        ensures goes_on { result ≡ true → GoesOn likely (stage_after self.now seen) }
+    {
+        if self.irrevocable {
+            return false;
+        }
+        let frames = &self.state.frames;
+        let rows = frames.len();
+        match (likely, self.pending) {
+            (Likely::Begin, Pending::Begin) => {
+                seen % 2 == 0 && !self.state.opening.props.goes_irrevocable
+            }
+            (Likely::Load, Pending::Load) | (Likely::Free, Pending::Free) => true,
+            (Likely::Confirm, Pending::Confirm(_)) => seen == self.state.snapshot,
+            (Likely::Exchange, Pending::Exchange) => {
+                seen == self.state.snapshot && rows > 0 && frames.row(0).mask == u64::MAX
+            }
+            (Likely::Store, Pending::Store(row)) => {
+                row + 1 < rows && frames.row(row + 1).mask == u64::MAX
+            }
+            (Likely::LastStore, Pending::Store(row)) => match self.state.taking {
+                Taking::Commit => row + 1 == rows,
+                _ => false,
+            },
+            _ => false,
+        }
+    }
+
     /// `begin_into`, made quick where no transaction is open and the block stays revocable.
     #[inline(always)]
     pub fn open_into(
@@ -217,10 +267,10 @@ impl Engine {
         if self.irrevocable {
             return self.resume_into(seen, answer);
         }
-        if !likely.is(self.pending) {
+        if !self.foresees(likely, seen) {
             return self.resume_into(seen, answer);
         }
-        let turn = turned_likely(&mut self.state, self.pending, likely, seen);
+        let turn = turned(&mut self.state, self.pending, seen);
         take(
             &mut self.state,
             &mut self.pending,

@@ -1,4 +1,3 @@
-use Rattle.itm_types.specs.declared.step.Step.{Step}
 use Rattle.norec_core.specs.declared.answer.Next.{Next}
 use Rattle.norec_engine.specs.NextSteps.{next_in}
 use Rattle.shared_words.specs.Passes.{view_of, cells_of}
@@ -13,6 +12,11 @@ step-seen-requires c =
       cell = cell_within _ _ _ c.args.step c.requires.own.over i.tied i.lawful;
       lawful = lawful_of _ _ i.tied c.args.step i.lawful;
     }
+
+pub resume-requires-clause-done : goal.resume-requires-clause-done
+resume-requires-clause-done c =
+    let i = c.requires.due.1 in
+    (c.requires.due.0, record { before = view_of c.args.pass.now; step = c.args.step; over = c.requires.own.over; in_call = i; turn = c.step-seen.ensures.turn })
 
 pub resume_likely-requires : goal.resume_likely-requires
 resume_likely-requires c =
@@ -33,3 +37,7 @@ returns-clause-less c =
     let r = c.resume_likely.ensures in
     let next : Next = next_in c.resume_likely.result c.resume_likely.new.answer in
     smaller (cells_of c.args.words.now) (view_of c.args.pass.now) (view_of c.step-seen.new.pass) c.requires.own.over c.step-seen.ensures.own.over c.args.engine.now c.resume_likely.new.self c.args.step c.step-seen.result c.step-seen.ensures.turn r.joins r.settled r.asks r.order r.count next r.proceeds r.held r.tries r.ends c.requires.due.0 c.requires.due.1
+
+pub returns-then-not-foresees-clause-due : goal.returns-then-not-foresees-clause-due
+returns-then-not-foresees-clause-due c = λ s i.
+    (c.resume.ensures.served s (record { before = view_of c.args.pass.now; step = c.args.step; over = c.requires.own.over; in_call = i; turn = c.step-seen.ensures.turn }), c.resume.ensures.stands)

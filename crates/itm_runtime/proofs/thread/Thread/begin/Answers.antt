@@ -7,16 +7,16 @@ use Rattle.itm_runtime.specs.Standing.{Standing, start_of}
 use Rattle.itm_runtime.proofs.StepToStep.{starts}
 use Rattle.itm_runtime.proofs.thread.Thread.begin.Goals as goal
 
-pub finish_begin-requires-clause-due : goal.finish_begin-requires-clause-due
-finish_begin-requires-clause-due c =
+pub finish_by-requires-clause-due : goal.finish_by-requires-clause-due
+finish_by-requires-clause-due c =
     let r = c.in_ok-first.ensures in (
-      record { view = view_of c.self.inside.pass; engine = c.self.inside.engine; call = Begin c.args.props c.args.room; again = c.args.again },
-      starts (view_of c.self.inside.pass) c.self.inside.engine c.open_into.new.self (Begin c.args.props c.args.room) c.args.again c.self.invariant r.stays r.settled r.asks r.order r.tries r.count (next_in c.in_ok-first.first c.open_into.new.answer) r.at_once r.proceeds r.held,
+      record { view = view_of c.self-2.inside.pass; engine = c.self-2.inside.engine; call = Begin c.args.props c.args.room; again = c.args.again },
+      starts (view_of c.self-2.inside.pass) c.self-2.inside.engine c.open_into.new.self (Begin c.args.props c.args.room) c.args.again c.self-2.invariant r.stays r.settled r.asks r.order r.tries r.count (next_in c.in_ok-first.first c.open_into.new.answer) r.at_once r.proceeds r.held,
     )
 
 pub returns-clause-served : goal.returns-clause-served
 returns-clause-served c =
     let r = c.in_ok-first.ensures in
-    let s : Start = record { view = view_of c.self.inside.pass; engine = c.self.inside.engine; call = Begin c.args.props c.args.room; again = c.args.again } in
-    let d = starts (view_of c.self.inside.pass) c.self.inside.engine c.open_into.new.self (Begin c.args.props c.args.room) c.args.again c.self.invariant r.stays r.settled r.asks r.order r.tries r.count (next_in c.in_ok-first.first c.open_into.new.answer) r.at_once r.proceeds r.held in
-    subst (λ (t : Standing). Served (start_of t (Begin c.args.props c.args.room) c.args.again) c.finish_begin.new.answer (view_of c.finish_begin.new.pass) c.finish_begin.new.engine) c.self.view_is (c.finish_begin.ensures.served s d)
+    let s : Start = record { view = view_of c.self-2.inside.pass; engine = c.self-2.inside.engine; call = Begin c.args.props c.args.room; again = c.args.again } in
+    let d = starts (view_of c.self-2.inside.pass) c.self-2.inside.engine c.open_into.new.self (Begin c.args.props c.args.room) c.args.again c.self-2.invariant r.stays r.settled r.asks r.order r.tries r.count (next_in c.in_ok-first.first c.open_into.new.answer) r.at_once r.proceeds r.held in
+    subst (λ (t : Standing). Served (start_of t (Begin c.args.props c.args.room) c.args.again) c.finish_by.new.answer (view_of c.finish_by.new.pass) c.finish_by.new.engine) c.self-2.view_is (c.finish_by.ensures.served s d)

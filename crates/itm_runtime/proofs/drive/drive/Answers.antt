@@ -4,11 +4,9 @@ use Rattle.norec_core.specs.declared.answer.Answer.{Answer}
 use Rattle.norec_core.specs.declared.answer.Next.{Next}
 use Rattle.norec_core.specs.declared.answer.Next.TheVariants.{Step as Asks, Answer as Answers}
 use Rattle.norec_engine.specs.NextSteps.{next_in}
-use Rattle.shared_words.specs.Passes.{view_of, cells_of}
-use Rattle.itm_runtime.specs.Served.{Start}
-use Rattle.itm_runtime.specs.InCall.{InCall, left}
+use Rattle.itm_runtime.specs.InCall.{left}
 use Rattle.itm_runtime.proofs.StepToStep.{at_step, at_answer}
-use Rattle.itm_runtime.proofs.drive.run.Goals as goal
+use Rattle.itm_runtime.proofs.drive.drive.Goals as goal
 
 -- the step that is done next, as what is due
 step_due : (o : Option Step) (a : Answer) (step : Step) → o ≡ Some step → next_in o a ≡ Asks step
@@ -18,8 +16,8 @@ answer_due : (o : Option Step) (a : Answer) → ((step : Step) → o ≡ Some st
 answer_due None a n = refl
 answer_due (Some step) a n = absurd (n step refl)
 
-pub advance-next-requires : goal.advance-next-requires
-advance-next-requires c =
+pub go_on-next-requires : goal.go_on-next-requires
+go_on-next-requires c =
     let inv = c.loop-next.invariant in
     record { own = inv.own; due = (inv.due.0, at_step inv.due.0 _ _ _ _ (step_due _ c.loop-next.answer _ c.in-Some.is) inv.due.1) }
 
@@ -28,15 +26,15 @@ loop-next-preserved c =
     let inv = c.loop-next.invariant in
     let is = step_due c.loop-next.next c.loop-next.answer c.in-Some.step c.in-Some.is in
     record {
-      own = c.advance-next.ensures.own;
-      due = (inv.due.0, c.advance-next.ensures.due inv.due.0 (at_step inv.due.0 _ _ _ _ is inv.due.1));
-      still = λ s d. c.advance-next.ensures.due s (at_step s _ _ _ _ is (inv.still s d));
+      own = c.go_on-next.ensures.own;
+      due = (inv.due.0, c.go_on-next.ensures.due inv.due.0 (at_step inv.due.0 _ _ _ _ is inv.due.1));
+      still = λ s d. c.go_on-next.ensures.due s (at_step s _ _ _ _ is (inv.still s d));
     }
 
 pub loop-next-smaller : goal.loop-next-smaller
 loop-next-smaller c =
     let is = step_due c.loop-next.next c.loop-next.answer c.in-Some.step c.in-Some.is in
-    subst (λ (x : Next). left c.advance-next.new.engine (next_in c.advance-next.result c.advance-next.new.answer) < left c.loop-next.engine x) (sym is) c.advance-next.ensures.less
+    subst (λ (x : Next). left c.go_on-next.new.engine (next_in c.go_on-next.result c.go_on-next.new.answer) < left c.loop-next.engine x) (sym is) c.go_on-next.ensures.less
 
 pub returns : goal.returns
 returns c =

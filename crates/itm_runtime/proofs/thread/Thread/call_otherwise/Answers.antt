@@ -4,7 +4,7 @@ use Rattle.shared_words.specs.Passes.{view_of}
 use Rattle.itm_runtime.specs.Served.{Start, Served}
 use Rattle.itm_runtime.specs.Standing.{Standing, start_of}
 use Rattle.itm_runtime.proofs.StepToStep.{starts}
-use Rattle.itm_runtime.proofs.thread.Thread.call_other.Goals as goal
+use Rattle.itm_runtime.proofs.thread.Thread.call_otherwise.Goals as goal
 
 pub finish-requires-clause-due : goal.finish-requires-clause-due
 finish-requires-clause-due c =

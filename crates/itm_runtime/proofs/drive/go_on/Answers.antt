@@ -1,0 +1,34 @@
+use Rattle.norec_core.specs.declared.answer.Next.{Next}
+use Rattle.norec_engine.specs.NextSteps.{next_in}
+use Rattle.shared_words.specs.Passes.{view_of, cells_of}
+use Rattle.itm_runtime.proofs.StepToStep.{lawful_of, cell_within, fits_of, waits_of, goes, smaller}
+use Rattle.itm_runtime.proofs.drive.go_on.Goals as goal
+
+pub step-found-requires : goal.step-found-requires
+step-found-requires c =
+    let i = c.requires.due.1 in
+    record {
+      own = c.requires.own;
+      cell = cell_within _ _ _ c.args.step c.requires.own.over i.tied i.lawful;
+      lawful = lawful_of _ _ i.tied c.args.step i.lawful;
+    }
+
+pub resume_into-requires : goal.resume_into-requires
+resume_into-requires c =
+    let i = c.requires.due.1 in
+    record {
+      waits = waits_of c.requires.due.0 _ _ _ i;
+      fits = fits_of c.requires.due.0 _ _ _ _ c.args.step i c.step-found.ensures.turn;
+    }
+
+pub returns-clause-due : goal.returns-clause-due
+returns-clause-due c =
+    let r = c.resume_into.ensures in
+    let next : Next = next_in c.resume_into.result c.resume_into.new.answer in
+    goes (cells_of c.args.words.now) (view_of c.args.pass.now) (view_of c.step-found.new.pass) c.requires.own.over c.step-found.ensures.own.over c.args.engine.now c.resume_into.new.self c.args.step c.step-found.result c.step-found.ensures.turn r.joins r.settled r.asks r.order r.count next r.proceeds r.held r.tries r.ends
+
+pub returns-clause-less : goal.returns-clause-less
+returns-clause-less c =
+    let r = c.resume_into.ensures in
+    let next : Next = next_in c.resume_into.result c.resume_into.new.answer in
+    smaller (cells_of c.args.words.now) (view_of c.args.pass.now) (view_of c.step-found.new.pass) c.requires.own.over c.step-found.ensures.own.over c.args.engine.now c.resume_into.new.self c.args.step c.step-found.result c.step-found.ensures.turn r.joins r.settled r.asks r.order r.count next r.proceeds r.held r.tries r.ends c.requires.due.0 c.requires.due.1

@@ -1,0 +1,130 @@
+//! Calls that do what is not likely. They write the answer where the caller has it: the likely way, which has none of its
+//! own to hand over, then moves none about.
+
+ghost use Rattle.std.specs.Prelude.{◌≡◌, false, IfOk, OnOk, OnErr};
+ghost use Rattle.norec_core.specs.Proceeds.{MayStarve};
+ghost use Rattle.shared_words.specs.Passes.{Owns, view_of};
+ghost use Rattle.itm_runtime.specs.Ties.{Stands};
+ghost use Rattle.itm_runtime.specs.Served.{Served};
+ghost use Rattle.itm_runtime.specs.Standing.{start_of};
+
+use crate::drive::finish;
+use crate::thread::Thread;
+use itm_types::{Call, Datum, Props, ReadHint, Reply, Width, WriteHint};
+use norec_core::Answer;
+use shared_words::Words;
+use std::alloc::AllocError;
+
+impl Thread {
+    /// A begin, whatever it does.
+    #[inline(never)]
+    pub(crate) fn begin_otherwise(
+        &mut self,
+        words: &Words,
+        props: Props,
+        room: u32,
+        again: bool,
+        answer: &mut Answer,
+    ) -> Result<(), AllocError>
+        requires own { Owns words.now self.old.pass }
+        ensures own { Owns words.now self.new.pass }
+        ensures served { OnOk result (Served (start_of self.old (Call.Begin props room) again) answer.new (view_of self.new.pass) self.new.engine) }
+        ensures stands { Stands (view_of self.new.pass) self.new.engine }
+        ensures err { OnErr result (self.new ≡ self.old) }
+        ensures starves { OnErr result (MayStarve self.old.engine (Call.Begin props room)) }
+    {
+        let first = self.engine.begin_into(props, room, again, answer)?;
+        finish(words, &mut self.pass, &mut self.engine, first, answer);
+        Ok(())
+    }
+
+    /// A call, whatever it does.
+    #[inline(never)]
+    pub(crate) fn call_other(&mut self, words: &Words, call: &Call) -> Result<Answer, AllocError>
+        requires own { Owns words.now self.old.pass }
+        ensures own { Owns words.now self.new.pass }
+        ensures served { IfOk result (λ a. Served (start_of self.old call.now false) a (view_of self.new.pass) self.new.engine) }
+        ensures stands { Stands (view_of self.new.pass) self.new.engine }
+        ensures err { OnErr result (self.new ≡ self.old) }
+        ensures starves { OnErr result (MayStarve self.old.engine call.now) }
+    {
+        let mut answer = Answer::Reply(Reply::Done);
+        self.call_otherwise(words, call, &mut answer)?;
+        Ok(answer)
+    }
+
+    /// The same, with the answer where the caller has it.
+    pub(crate) fn call_otherwise(
+        &mut self,
+        words: &Words,
+        call: &Call,
+        answer: &mut Answer,
+    ) -> Result<(), AllocError>
+        requires own { Owns words.now self.old.pass }
+        ensures own { Owns words.now self.new.pass }
+        ensures served { OnOk result (Served (start_of self.old call.now false) answer.new (view_of self.new.pass) self.new.engine) }
+        ensures stands { Stands (view_of self.new.pass) self.new.engine }
+        ensures err { OnErr result (self.new ≡ self.old) }
+        ensures starves { OnErr result (MayStarve self.old.engine call.now) }
+    {
+        let first = self.engine.call_into(call, answer)?;
+        finish(words, &mut self.pass, &mut self.engine, first, answer);
+        Ok(())
+    }
+
+    /// A read, whatever it does.
+    #[inline(never)]
+    pub(crate) fn read_otherwise(
+        &mut self,
+        words: &Words,
+        hint: ReadHint,
+        width: Width,
+        at: u64,
+        answer: &mut Answer,
+    ) -> Result<(), AllocError>
+        requires own { Owns words.now self.old.pass }
+        ensures own { Owns words.now self.new.pass }
+        ensures served { OnOk result (Served (start_of self.old (Call.Read hint width at) false) answer.new (view_of self.new.pass) self.new.engine) }
+        ensures stands { Stands (view_of self.new.pass) self.new.engine }
+        ensures err { OnErr result (self.new ≡ self.old) }
+        ensures starves { OnErr result (MayStarve self.old.engine (Call.Read hint width at)) }
+    {
+        self.call_otherwise(words, &Call::Read { hint, width, at }, answer)
+    }
+
+    /// A write, whatever it does.
+    #[inline(never)]
+    pub(crate) fn write_otherwise(
+        &mut self,
+        words: &Words,
+        hint: WriteHint,
+        at: u64,
+        value: &Datum,
+        answer: &mut Answer,
+    ) -> Result<(), AllocError>
+        requires own { Owns words.now self.old.pass }
+        ensures own { Owns words.now self.new.pass }
+        ensures served { OnOk result (Served (start_of self.old (Call.Write hint at value.now) false) answer.new (view_of self.new.pass) self.new.engine) }
+        ensures stands { Stands (view_of self.new.pass) self.new.engine }
+        ensures err { OnErr result (self.new ≡ self.old) }
+        ensures starves { OnErr result (MayStarve self.old.engine (Call.Write hint at value.now)) }
+    {
+        let first = self.engine.write_into(hint, at, value, answer)?;
+        finish(words, &mut self.pass, &mut self.engine, first, answer);
+        Ok(())
+    }
+
+    /// A commit, whatever it does. Takes no memory.
+    #[inline(never)]
+    pub(crate) fn commit_otherwise(&mut self, words: &Words, answer: &mut Answer)
+        requires own { Owns words.now self.old.pass }
+        ensures own { Owns words.now self.new.pass }
+        ensures served { Served (start_of self.old Call.Commit false) answer.new (view_of self.new.pass) self.new.engine }
+        ensures stands { Stands (view_of self.new.pass) self.new.engine }
+    {
+        match self.call_otherwise(words, &Call::Commit, answer) {
+            Ok(()) => {}
+            Err(_) => unreachable!(),
+        }
+    }
+}
