@@ -125,8 +125,9 @@ fn run(
     };
     let (mut block, mut random) = draw(task, seed, 0);
     let mut again = false;
+    let most = if task.count > 0 { task.count } else { u64::MAX };
     for _ in 0..u64::MAX {
-        if stop.load(Ordering::SeqCst) || (task.count > 0 && tally.commits == task.count) {
+        if stop.load(Ordering::SeqCst) || tally.commits == most {
             break;
         }
         tally.attempts = tally.attempts.wrapping_add(1);
