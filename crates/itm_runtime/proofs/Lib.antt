@@ -10,3 +10,4 @@ pub mod LastLoads
 pub mod CallAnswers
 pub mod StepToStep
 pub mod ThreadUndone
+pub mod WordReads

@@ -1,14 +1,17 @@
 //! The steps of a call, one after the other.
 
 ghost use Rattle.std.specs.Prelude.{◌≡◌, ◌+◌, ◌<◌};
-ghost use Rattle.shared_words.specs.Passes.{Owns, view_of, cells_of};
+ghost use Rattle.shared_words.specs.declared.view.View.{View};
+ghost use Rattle.shared_words.specs.Passes.{IsOver, Owns, cells_of, view_of};
+ghost use Rattle.shared_words.specs.Steps.{Turns};
 ghost use Rattle.itm_runtime.specs.Ties.{Stands};
 ghost use Rattle.itm_runtime.specs.Served.{Start, Served};
 ghost use Rattle.itm_runtime.specs.InCall.{InCall, IsDue, IsDone, left};
 ghost use Rattle.norec_core.specs.declared.answer.Next.TheVariants.{Step as Asks};
 ghost use Rattle.norec_engine.specs.NextSteps.{next_in};
+ghost use Rattle.norec_engine.specs.WholeReads.{LoadsWord};
 
-use itm_types::Step;
+use itm_types::{Reply, Step};
 use norec_core::Answer;
 use norec_engine::{Engine, Likely};
 use shared_words::{Pass, Words};
@@ -55,27 +58,42 @@ pub(crate) fn finish_by(
     }
 }
 
-/// The same of a read, which most often asks for one word, and for the clock to confirm it.
+/// Does the steps of a read of one whole word that it asks for: loads the word, and the clock to confirm it.
 #[inline(always)]
-pub(crate) fn finish_read(
-    words: &Words,
-    pass: &mut Pass,
-    engine: &mut Engine,
-    first: Option<Step>,
-    answer: &mut Answer,
-)
+pub(crate) fn finish_word(words: &Words, pass: &mut Pass, engine: &mut Engine, word: u32) -> Answer
     requires own { Owns words.now pass.old }
-    requires due { (s : Start) × IsDue s (view_of pass.old) engine.old (next_in first answer.old) }
+    requires loads { LoadsWord engine.old word }
+    requires due { (s : Start) × InCall s (view_of pass.old) engine.old (Step.Load (word + 1)) }
     ensures own { Owns words.now pass.new }
-    ensures served { (s : Start) → IsDue s (view_of pass.old) engine.old (next_in first answer.old) → Served s answer.new (view_of pass.new) engine.new }
+    ensures served { (s : Start) → InCall s (view_of pass.old) engine.old (Step.Load (word + 1)) → Served s result (view_of pass.new) engine.new }
     ensures stands { Stands (view_of pass.new) engine.new }
 {
-    if let Some(step) = first {
-        if let Some(step) = advance(words, pass, engine, step, Likely::Load, answer) {
-            let next = advance(words, pass, engine, step, Likely::Confirm, answer);
-            finish(words, pass, engine, next, answer);
-        }
+    let value = words.step(pass, Step::Load(word + 1));
+    let clock = words.step(pass, Step::Load(0));
+    engine.word_loaded(value);
+    if clock != engine.snapshot() {
+        return finish_late(words, pass, engine, clock);
     }
+    let mut answer = Answer::Reply(Reply::Done);
+    engine.word_confirmed(word, clock, &mut answer);
+    answer
+}
+
+/// The same once another one has committed: the clock was loaded, and is not the snapshot.
+#[cold]
+#[inline(never)]
+fn finish_late(words: &Words, pass: &mut Pass, engine: &mut Engine, clock: u64) -> Answer
+    requires own { Owns words.now pass.old }
+    requires due { (s : Start) × (v : View) × IsOver (cells_of words.now) v × InCall s v engine.old (Step.Load 0) × Turns v (Step.Load 0) clock (view_of pass.old) }
+    ensures own { Owns words.now pass.new }
+    ensures served { (s : Start) (v : View) → IsOver (cells_of words.now) v → InCall s v engine.old (Step.Load 0) → Turns v (Step.Load 0) clock (view_of pass.old)
+        → Served s result (view_of pass.new) engine.new }
+    ensures stands { Stands (view_of pass.new) engine.new }
+{
+    let mut answer = Answer::Reply(Reply::Done);
+    let next = engine.resume_into(clock, &mut answer);
+    finish(words, pass, engine, next, &mut answer);
+    answer
 }
 
 /// The same of a commit, which most often takes the clock at once, and stores.

@@ -10,7 +10,7 @@ ghost use Rattle.itm_runtime.specs.Ties.{Stands};
 ghost use Rattle.itm_runtime.specs.Served.{Served};
 ghost use Rattle.itm_runtime.specs.Standing.{start_of};
 
-use crate::drive::{finish, finish_by, finish_commit, finish_read};
+use crate::drive::{finish, finish_by, finish_commit, finish_word};
 use itm_types::{
     Call, Datum, Limits, MAX_COMMITS, MAX_PATIENCE, Props, Ran, ReadHint, Reply, Width, WriteHint,
 };
@@ -129,14 +129,10 @@ impl Thread {
         ensures err { OnErr result (self.new ≡ self.old) }
         ensures starves { OnErr result (MayStarve self.old.engine (Call.Read hint width at)) }
     {
-        let mut answer = Answer::Reply(Reply::Done);
-        if self.engine.is_irrevocable() {
-            self.read_otherwise(words, hint, width, at, &mut answer)?;
-            return Ok(answer);
+        match self.engine.read_word(hint, width, at) {
+            Some(word) => Ok(finish_word(words, &mut self.pass, &mut self.engine, word)),
+            None => self.call_other(words, &Call::Read { hint, width, at }),
         }
-        let first = self.engine.read_into(hint, width, at, &mut answer)?;
-        finish_read(words, &mut self.pass, &mut self.engine, first, &mut answer);
-        Ok(answer)
     }
 
     /// A value is written, as by `call` of a `Write` (section 5.15).

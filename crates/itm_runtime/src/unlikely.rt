@@ -10,7 +10,7 @@ ghost use Rattle.itm_runtime.specs.Standing.{start_of};
 
 use crate::drive::finish;
 use crate::thread::Thread;
-use itm_types::{Call, Datum, Props, ReadHint, Reply, Width, WriteHint};
+use itm_types::{Call, Datum, Props, Reply, WriteHint};
 use norec_core::Answer;
 use shared_words::Words;
 use std::alloc::AllocError;
@@ -70,26 +70,6 @@ impl Thread {
         let first = self.engine.call_into(call, answer)?;
         finish(words, &mut self.pass, &mut self.engine, first, answer);
         Ok(())
-    }
-
-    /// A read, whatever it does.
-    #[inline(never)]
-    pub(crate) fn read_otherwise(
-        &mut self,
-        words: &Words,
-        hint: ReadHint,
-        width: Width,
-        at: u64,
-        answer: &mut Answer,
-    ) -> Result<(), AllocError>
-        requires own { Owns words.now self.old.pass }
-        ensures own { Owns words.now self.new.pass }
-        ensures served { OnOk result (Served (start_of self.old (Call.Read hint width at) false) answer.new (view_of self.new.pass) self.new.engine) }
-        ensures stands { Stands (view_of self.new.pass) self.new.engine }
-        ensures err { OnErr result (self.new ≡ self.old) }
-        ensures starves { OnErr result (MayStarve self.old.engine (Call.Read hint width at)) }
-    {
-        self.call_otherwise(words, &Call::Read { hint, width, at }, answer)
     }
 
     /// A write, whatever it does.

@@ -3,3 +3,4 @@ pub mod Between
 pub mod Modes
 pub mod NextSteps
 pub mod Foreseen
+pub mod WholeReads

@@ -19,6 +19,7 @@ mod read;
 mod rounds;
 mod steps;
 mod turns;
+mod words;
 mod write;
 
 pub use engine::Engine;

@@ -13,10 +13,9 @@ use crate::begin::begin;
 use crate::calls::turned;
 use crate::commit::commit;
 use crate::engine::Engine;
-use crate::read::read;
 use crate::turns::take;
 use crate::write::write;
-use itm_types::{Call, Datum, Props, ReadHint, Step, Width, WriteHint};
+use itm_types::{Call, Datum, Props, Step, WriteHint};
 use norec_core::{Answer, Phase, Taking};
 use norec_data::Pending;
 use std::alloc::AllocError;
@@ -26,10 +25,6 @@ use std::alloc::AllocError;
 pub enum Likely {
     /// The clock, for a begin: it is even.
     Begin,
-    /// A word that is read.
-    Load,
-    /// The clock, to confirm that word: it is the snapshot.
-    Confirm,
     /// The exchange that takes the clock: a row of a whole word is stored next.
     Exchange,
     /// A store of the commit: a row of a whole word is stored next.
@@ -85,8 +80,7 @@ impl Engine {
             (Likely::Begin, Pending::Begin) => {
                 seen % 2 == 0 && !self.state.opening.props.goes_irrevocable
             }
-            (Likely::Load, Pending::Load) | (Likely::Free, Pending::Free) => true,
-            (Likely::Confirm, Pending::Confirm(_)) => seen == self.state.snapshot,
+            (Likely::Free, Pending::Free) => true,
             (Likely::Exchange, Pending::Exchange) => {
                 seen == self.state.snapshot && rows > 0 && frames.row(0).mask == u64::MAX
             }
@@ -132,43 +126,6 @@ impl Engine {
             return self.begin_into(props, room, again, answer);
         }
         let turn = begin(&mut self.state, props, room, again)?;
-        Ok(take(
-            &mut self.state,
-            &mut self.pending,
-            &mut self.irrevocable,
-            turn,
-            answer,
-        ))
-    }
-
-    /// `call_into` of a read, made quick in a transaction that is not irrevocable.
-    #[inline(always)]
-    pub fn read_into(
-        &mut self,
-        hint: ReadHint,
-        width: Width,
-        at: u64,
-        answer: &mut Answer,
-    ) -> Result<Option<Step>, AllocError>
-        requires idle { self.old.waits ≡ None }
-        ensures proceeds { IfOk result (λ step. Proceeds (came self.old (Call.Read hint width at) false) (next_in step answer.new) self.new) }
-        ensures at_once { IfOk result (λ step. IsAtOnce (next_in step answer.new)) }
-        ensures stays { OnOk result (StaysOn self.old self.new) }
-        ensures order { OnOk result (self.new.stage ≡ stage_at self.old (Call.Read hint width at) false) }
-        ensures ends { IfOk result (λ step. EndsSo (ending_at self.old (Call.Read hint width at)) (next_in step answer.new)) }
-        ensures tries { OnOk result (self.new.tries ≡ tries_at self.new.stage) }
-        ensures asks { OnOk result (self.new.waits ≡ asked self.new) }
-        ensures count { OnOk result (IsWithin self.new) }
-        ensures settled { OnOk result (IsSettled self.new) }
-        ensures err { OnErr result (self.new ≡ self.old) }
-        ensures starves { OnErr result (MayStarve self.old (Call.Read hint width at)) }
-        ensures held { self.old.irrevocable ≡ true
-            → IfOk result (λ step. ComesHeld self.old (Call.Read hint width at) (next_in step answer.new) self.new) }
-    {
-        if self.irrevocable {
-            return self.call_into(&Call::Read { hint, width, at }, answer);
-        }
-        let turn = read(&mut self.state, hint, width, at)?;
         Ok(take(
             &mut self.state,
             &mut self.pending,

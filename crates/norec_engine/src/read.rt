@@ -78,7 +78,7 @@ pub(crate) fn read(
 /// The reading is one of this value, at a piece of it. Where it was one of a value before, no more than the parts of it
 /// are written.
 #[inline(always)]
-fn set_value(reading: &mut Reading, hint: ReadHint, width: Width, at: u64, number: u8)
+pub(crate) fn set_value(reading: &mut Reading, hint: ReadHint, width: Width, at: u64, number: u8)
     requires wide { size_of width ≤ 32 }
     ensures { reading.new ≡ record { purpose = Purpose.Value hint width; at = at; size = size_of width; number = number } }
 {
@@ -99,7 +99,7 @@ fn set_value(reading: &mut Reading, hint: ReadHint, width: Width, at: u64, numbe
 
 /// A read comes, and has started no round.
 #[inline(always)]
-fn start(state: &mut Data)
+pub(crate) fn start(state: &mut Data)
     ensures { state.new ≡ record state.old { spent = 0; entry = length state.old.log.rows; tries = 0 } }
 {
     state.come();
@@ -289,6 +289,8 @@ fn overlaid(state: &Data, word: u32, value: u64) -> u64
 #[inline(always)]
 pub(crate) fn loaded(state: &mut Data, seen: u64) -> Turn
     requires sound { IsSound state.old (Phase.Load state.old.reading) }
+    ensures turn { result ≡ Turn.Wait (Pending.Confirm seen) }
+    ensures state { state.new ≡ state.old }
     ensures sound { IsSoundTurn result state.new }
     ensures proceeds { Turns (handed (core state.old (Phase.Load state.old.reading)) seen) result state.new }
     ensures stays { Stays state.old state.new }
@@ -314,12 +316,11 @@ pub(crate) fn confirmed(state: &mut Data, value: u64, seen: u64) -> Turn
         → state.new.log.rows ≡ log_after (core state.old (Phase.Confirm state.old.reading value)) seen }
     ensures tries { (core_after result state.new).tries ≡ tries_after (phase_after result state.new) state.old.tries }
 {
-    state.clock = seen;
     if seen == state.snapshot {
         if let Some(word) = whole_word(&state.reading) {
-            state.log.add(LogRow { word, value });
-            return Turn::End(End::Word(overlaid(state, word, value)));
+            return Turn::End(End::Word(confirmed_word(state, word, value, seen)));
         }
+        state.clock = seen;
         let Some(piece) = state.reading.piece() else {
             unreachable!();
         };
@@ -332,6 +333,27 @@ pub(crate) fn confirmed(state: &mut Data, value: u64, seen: u64) -> Turn
         piece.gather(word, &mut state.gathered);
         go_past(state, piece)
     } else {
+        state.clock = seen;
         try_round(state, Cause::Read)
     }
+}
+
+/// The clock was loaded to confirm a whole word, and is still the snapshot: what the word is under the write set.
+#[inline(always)]
+pub(crate) fn confirmed_word(state: &mut Data, word: u32, value: u64, seen: u64) -> u64
+    requires sound { IsSound state.old (Phase.Confirm state.old.reading value) }
+    requires word { IsWord state.old.reading word }
+    requires same { seen ≡ state.old.snapshot }
+    ensures sound { IsSoundTurn (Turn.End (End.Word result)) state.new }
+    ensures proceeds { Turns (handed (core state.old (Phase.Confirm state.old.reading value)) seen) (Turn.End (End.Word result)) state.new }
+    ensures joins { Joins (core state.old (Phase.Confirm state.old.reading value)) seen (core_after (Turn.End (End.Word result)) state.new) }
+    ensures order { Phase.Idle ≡ stage_after (core state.old (Phase.Confirm state.old.reading value)) seen }
+    ensures ends { TurnEndsSo (ending_after (core state.old (Phase.Confirm state.old.reading value)) seen) (Turn.End (End.Word result)) state.new }
+    ensures snapshot { state.new.snapshot ≡ snapshot_after (core state.old (Phase.Confirm state.old.reading value)) seen }
+    ensures log { in_block state.new ≡ true
+        → state.new.log.rows ≡ log_after (core state.old (Phase.Confirm state.old.reading value)) seen }
+{
+    state.clock = seen;
+    state.log.add(LogRow { word, value });
+    overlaid(state, word, value)
 }

@@ -51,7 +51,7 @@ pub(crate) fn take(
 
 /// The step that is waited for. There are fewer in all than a count can tell.
 #[inline(always)]
-fn next_step(state: &Data, irrevocable: bool, pending: Pending) -> Step
+pub(crate) fn next_step(state: &Data, irrevocable: bool, pending: Pending) -> Step
     requires sound { IsSoundIn irrevocable (counted state.now) (phase_of state.now pending) }
     requires waits { IsWaiting pending }
     ensures step { result ≡ asked_step state.now (phase_of state.now pending) }

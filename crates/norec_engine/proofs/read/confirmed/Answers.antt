@@ -1,117 +1,28 @@
-use Rattle.std.proofs.Common.{◌≡◌, ℕ, ◌+◌, List, [], ◌∷◌, ◌++◌, None, Some, length, slice_get, take, refl, sym, ap, subst, ◌∙◌, arith}
+use Rattle.std.proofs.Common.{◌≡◌, ℕ, List, [], ◌∷◌, ◌++◌, Some, length, slice_get, take, sym, ap, subst, ◌∙◌, arith}
 use Rattle.std.proofs.lemmas.List.{length-append}
-use Rattle.std.specs.Int.{w64, to_le_bytes}
 use Rattle.std.specs.Prelude.{slice_index}
-use Rattle.itm_types.specs.LogRows.{value_of}
 use Rattle.itm_types.specs.declared.row.LogRow.{LogRow}
 use Rattle.word_pieces.specs.declared.piece.Piece.{Piece}
 use Rattle.word_pieces.specs.Pieces.{gathered, part_of}
 use Rattle.write_set.specs.Rows.{overlay}
 use Rattle.norec_core.specs.Rows.{is_had}
-use Rattle.norec_core.specs.Accesses.{count, part, parts}
-use Rattle.norec_core.specs.declared.phase.Reading.{Reading}
+use Rattle.norec_core.specs.Accesses.{count, parts}
 use Rattle.norec_core.proofs.Overlays.{index_of}
 use Rattle.norec_core.proofs.Readings.{none_left, part_is, length-part_of, passed_next, total_left}
-use Rattle.norec_data.specs.declared.data.Data.{Data}
-use Rattle.norec_data.specs.declared.end.End.TheVariants.{Word}
-use Rattle.norec_data.specs.declared.turn.Turn.TheVariants.{End}
-use Rattle.norec_data.specs.View.{rows_before}
 use Rattle.norec_engine.proofs.JoinedRows.{agreed_before, has_value, joined_open, joined_for, joins, stage_joined, log_joined}
-use Rattle.norec_engine.proofs.ReadReplies.{Finds, replies, loads_no_more}
 use Rattle.norec_engine.proofs.ReadingFields.{among}
 use Rattle.norec_engine.proofs.Sources.{unlogged}
-use Rattle.norec_engine.proofs.WholeWords.{bytes_there, one_piece, word_is}
 use Rattle.norec_engine.proofs.read.confirmed.Goals as goal
 
 -- the rows with one of this word
 abbrev with_row : List LogRow → ℕ → ℕ → List LogRow
 with_row rows value word = rows ++ record { word = word; value = value } ∷ []
 
--- ## A whole word
-
-pub add-requires : goal.add-requires
-add-requires c =
-    let s = c.args.state.now in
-    let r = s.reading in
-    let is = c.in-Some.ensures.word in
-    let phase = c.requires.sound.in_phase in
-    let to_come = total_left r.purpose r.number (count r) (among s r.purpose r.at r.size phase.1.reading.purpose) phase.1.missing.some in
-    record {
-      room = omega (arith, to_come, phase.1.logging.room);
-      word = omega (arith, is.at_is, is.size_is, phase.1.reading.within, c.requires.sound.bounds.small);
-      first = subst (λ (n : ℕ). value_of n s.log.rows ≡ None) (sym (word_is r c.in-Some.word is phase.1.missing.some)) (unlogged s.frames.writes.rows s.log.rows (part r) phase.1.missing.unhad);
-    }
-
-pub returns-in-Some-clause-sound : goal.returns-in-Some-clause-sound
-returns-in-Some-clause-sound c =
-    let s = c.args.state.now in
-    let r = s.reading in
-    let is = c.in-Some.ensures.word in
-    let sound = c.requires.sound in
-    let same = word_is r c.in-Some.word is sound.in_phase.1.missing.some in
-    let added = c.add.ensures.rows ∙ ap (with_row s.log.rows c.args.value) same in
-    let is_open = joined_open s c.args.value c.args.seen c.add.new.self sound c.if-seen-state.true added s.gathered (omega arith) (omega (arith, same, is.at_is, is.size_is, sound.in_phase.1.reading.within)) c.add.ensures.single in
-    record {
-      sound = record {
-        bounds = sound.bounds;
-        reached = omega (arith, c.if-seen-state.true);
-        in_phase = (λ o. (is_open, c.if-seen-state.true), λ closed. absurd (let yes = is_open.is_open in cc));
-      };
-      asked = tt;
-    }
-
-pub returns-in-Some-clause-proceeds : goal.returns-in-Some-clause-proceeds
-returns-in-Some-clause-proceeds c =
-    let s = c.args.state.now in
-    let r = s.reading in
-    let is = c.in-Some.ensures.word in
-    let sound = c.requires.sound in
-    let same = word_is r c.in-Some.word is sound.in_phase.1.missing.some in
-    let added = c.add.ensures.rows ∙ ap (with_row s.log.rows c.args.value) same in
-    let now : Data = record s { clock = c.args.seen; log = c.add.new.self } in
-    let finds : Finds now r (to_le_bytes w64 c.overlaid.result) = record {
-      bounds = sound.bounds;
-      is_open = joined_open s c.args.value c.args.seen c.add.new.self sound c.if-seen-state.true added s.gathered (omega arith) (omega (arith, same, is.at_is, is.size_is, sound.in_phase.1.reading.within)) c.add.ensures.single;
-      within = sound.in_phase.1.reading.within;
-      purpose = joined_for s c.args.value c.args.seen c.add.new.self sound c.if-seen-state.true added s.gathered;
-      settled = c.if-seen-state.true;
-      has = λ m mem agrees.
-          (let there = subst (λ (n : ℕ). slice_get m n ≡ Some c.args.value) (sym same) (has_value s c.args.value c.args.seen c.add.new.self sound c.if-seen-state.true added m agrees) in
-          bytes_there r c.in-Some.word is (overlay m s.frames.writes.rows) c.overlaid.result (c.overlaid.ensures m there));
-    } in
-    replies now r (to_le_bytes w64 c.overlaid.result) finds s.log.rows r.purpose refl is.value
-
-pub returns-in-Some-clause-joins : goal.returns-in-Some-clause-joins
-returns-in-Some-clause-joins c =
-    let s = c.args.state.now in
-    let same = word_is s.reading c.in-Some.word c.in-Some.ensures.word c.requires.sound.in_phase.1.missing.some in
-    let added = c.add.ensures.rows ∙ ap (with_row s.log.rows c.args.value) same in
-    joins s c.args.value c.args.seen c.add.new.self c.requires.sound c.if-seen-state.true added (End (Word c.overlaid.result)) (record s { clock = c.args.seen; log = c.add.new.self }) (λ o. refl) refl
-
-pub returns-in-Some-clause-order : goal.returns-in-Some-clause-order
-returns-in-Some-clause-order c =
-    let s = c.args.state.now in
-    let is = c.in-Some.ensures.word in
-    let same = word_is s.reading c.in-Some.word is c.requires.sound.in_phase.1.missing.some in
-    let added = c.add.ensures.rows ∙ ap (with_row s.log.rows c.args.value) same in
-    let next : Reading = record s.reading { number = s.reading.number + 1 } in
-    sym (loads_no_more (rows_before s) c.add.new.self.rows next is.value (omega (arith, one_piece s.reading c.in-Some.word is)))
-    ∙ stage_joined s c.args.value c.args.seen c.add.new.self c.requires.sound c.if-seen-state.true added
-
-pub returns-in-Some-clause-log : goal.returns-in-Some-clause-log
-returns-in-Some-clause-log c o =
-    let s = c.args.state.now in
-    let same = word_is s.reading c.in-Some.word c.in-Some.ensures.word c.requires.sound.in_phase.1.missing.some in
-    let added = c.add.ensures.rows ∙ ap (with_row s.log.rows c.args.value) same in
-    log_joined s c.args.value c.args.seen c.add.new.self c.requires.sound c.if-seen-state.true added
-
--- ## A piece
-
 pub unreachable-requires : goal.unreachable-requires
 unreachable-requires c = (let none = none_left c.args.state.now.reading (sym c.piece.ensures.value ∙ c.in_default-piece.is) in let some = c.requires.sound.in_phase.1.missing.some in absurd (omega arith))
 
-pub add-requires-then-seen-state : goal.add-requires-then-seen-state
-add-requires-then-seen-state c =
+pub add-requires : goal.add-requires
+add-requires c =
     let s = c.args.state.now in
     let r = s.reading in
     let p = c.in-Some-piece.piece in
@@ -134,8 +45,8 @@ go_past-requires c =
     let p = c.in-Some-piece.piece in
     let left = sound.in_phase.1.missing.some in
     let same = ap (λ (x : Piece). x.word) (part_is r p (sym c.piece.ensures.value ∙ c.in-Some-piece.is)) in
-    let log = c.add-then-seen-state.new.self in
-    let rows = c.add-then-seen-state.ensures.rows in
+    let log = c.add.new.self in
+    let rows = c.add.ensures.rows in
     let added = rows ∙ ap (with_row s.log.rows c.args.value) same in
     let word = c.in-Some-piece.ensures.in_memory s.words reading.within in
     let more = λ (m : List ℕ). c.in-Some-piece.ensures.reads_on m in
@@ -145,7 +56,7 @@ go_past-requires c =
     record {
       may = record {
         bounds = sound.bounds;
-        is_open = joined_open s c.args.value c.args.seen log sound c.if-seen-state.true added c.gather.new.value (omega arith) (omega (arith, same, word)) c.add-then-seen-state.ensures.single;
+        is_open = joined_open s c.args.value c.args.seen log sound c.if-seen-state.true added c.gather.new.value (omega arith) (omega (arith, same, word)) c.add.ensures.single;
         reading = record {
           within = reading.within;
           small = reading.small;
@@ -170,7 +81,7 @@ go_past-requires c =
               ));
         };
         logging = record {
-          room = omega (arith, to_come, on, sound.in_phase.1.logging.room, c.add-then-seen-state.ensures.room);
+          room = omega (arith, to_come, on, sound.in_phase.1.logging.room, c.add.ensures.room);
           grown = omega (arith, on, sound.in_phase.1.logging.grown, ap (length {A = LogRow}) rows, length-append s.log.rows (record { word = p.word; value = c.args.value } ∷ []));
         };
         settled = c.if-seen-state.true;
@@ -185,20 +96,20 @@ pub returns-in-Some-piece-clause-joins : goal.returns-in-Some-piece-clause-joins
 returns-in-Some-piece-clause-joins c =
     let s = c.args.state.now in
     let same = ap (λ (x : Piece). x.word) (part_is s.reading c.in-Some-piece.piece (sym c.piece.ensures.value ∙ c.in-Some-piece.is)) in
-    let added = c.add-then-seen-state.ensures.rows ∙ ap (with_row s.log.rows c.args.value) same in
+    let added = c.add.ensures.rows ∙ ap (with_row s.log.rows c.args.value) same in
     let stays = c.go_past.ensures.stays in
-    joins s c.args.value c.args.seen c.add-then-seen-state.new.self c.requires.sound c.if-seen-state.true added c.go_past.result c.go_past.new.state stays.log stays.snapshot
+    joins s c.args.value c.args.seen c.add.new.self c.requires.sound c.if-seen-state.true added c.go_past.result c.go_past.new.state stays.log stays.snapshot
 
 pub returns-in-Some-piece-clause-order : goal.returns-in-Some-piece-clause-order
 returns-in-Some-piece-clause-order c =
     let s = c.args.state.now in
     let same = ap (λ (x : Piece). x.word) (part_is s.reading c.in-Some-piece.piece (sym c.piece.ensures.value ∙ c.in-Some-piece.is)) in
-    let added = c.add-then-seen-state.ensures.rows ∙ ap (with_row s.log.rows c.args.value) same in
-    c.go_past.ensures.order ∙ stage_joined s c.args.value c.args.seen c.add-then-seen-state.new.self c.requires.sound c.if-seen-state.true added
+    let added = c.add.ensures.rows ∙ ap (with_row s.log.rows c.args.value) same in
+    c.go_past.ensures.order ∙ stage_joined s c.args.value c.args.seen c.add.new.self c.requires.sound c.if-seen-state.true added
 
 pub returns-in-Some-piece-clause-log : goal.returns-in-Some-piece-clause-log
 returns-in-Some-piece-clause-log c o =
     let s = c.args.state.now in
     let same = ap (λ (x : Piece). x.word) (part_is s.reading c.in-Some-piece.piece (sym c.piece.ensures.value ∙ c.in-Some-piece.is)) in
-    let added = c.add-then-seen-state.ensures.rows ∙ ap (with_row s.log.rows c.args.value) same in
-    c.go_past.ensures.stays.log o ∙ log_joined s c.args.value c.args.seen c.add-then-seen-state.new.self c.requires.sound c.if-seen-state.true added
+    let added = c.add.ensures.rows ∙ ap (with_row s.log.rows c.args.value) same in
+    c.go_past.ensures.stays.log o ∙ log_joined s c.args.value c.args.seen c.add.new.self c.requires.sound c.if-seen-state.true added
