@@ -13,13 +13,15 @@ use Rattle.norec_world.proofs.ActiveRows.{row_from}
 use Rattle.itm_types.specs.declared.call.Call.TheVariants.{Abort, Begin, CommitAction, Copy, Fill, Log, LogBytes, Mode, Read, UndoAction, Write}
 use Rattle.itm_types.specs.declared.call.Ran.{Ran}
 use Rattle.tx_attempts.specs.declared.attempt.Entry.{Entry}
+use Rattle.tx_attempts.specs.Kept.{Kept}
 use Rattle.user_actions.specs.Actions.{total}
 use Rattle.norec_core.specs.declared.answer.Next.{Next}
 use Rattle.norec_core.specs.declared.answer.Next.TheVariants.{Step as Asks, Answer as Answers}
 use Rattle.norec_core.proofs.ActionCounts.{LeavesActions, registers}
-use Rattle.norec_world.specs.ActionRoom.{HasRoomFor, IsActing, IsEmpty, MayRunOn, NoCancel, StartsEmpty, is_held}
+use Rattle.norec_world.specs.ActionRoom.{AsksAs, HasRoomFor, IsActing, IsEmpty, MayRunOn, NoCancel, StartsEmpty, is_held, promised, wanted}
+use Rattle.norec_world.proofs.CallRoom.{leaves_backed, promised_same, wanted_same}
 use Rattle.norec_world.proofs.HeldRoom.{LeavesRoom, leaves_room, same_room}
-use Rattle.norec_world.proofs.Common.{Actor, Answer, Attempt, Call, Core, Ends, HasRow, Proceeds, Rows, Step, active_of, cases_Bool, in_transaction, is_begin, is_inside, none_inside, rests, with_changed}
+use Rattle.norec_world.proofs.Common.{Actor, Answer, AsksFor, Attempt, Call, Core, Ends, HasRow, Proceeds, Ready, Rows, Step, active_of, cases_Bool, in_transaction, is_begin, is_inside, none_inside, rests, with_changed}
 use Rattle.norec_world.proofs.LaterActions.{first_here}
 
 cancels_register_none : (call : Call) → is_abort call ≡ true → registers call ≡ 0
@@ -30,7 +32,8 @@ module _ {P : Type 0} (r : Rows) (a : Actor P) (mid : Core) (call : Call) (was :
     (empty : IsEmpty a) (all : (row : Attempt) → active_of a.thread r.active ≡ Some row → row.ran ≡ mid.actions.ran)
     (places : (row : Attempt) → active_of a.thread r.active ≡ Some row → total mid.actions + registers call ≤ vec_capacity a.end_room)
     (cancel : (row : Attempt) → active_of a.thread r.active ≡ Some row → is_abort call ≡ true → total mid.actions ≤ vec_capacity a.cancel_room)
-    (pending : StartsEmpty a) (room : HasRoomFor mid a) (settled : IsSettled a.engine) where
+    (pending : StartsEmpty a) (room : HasRoomFor mid a) (backed : (row : Attempt) → active_of a.thread r.active ≡ Some row → row.calls.room ≤ promised mid) (ahead : in_transaction mid ≡ true → a.ahead ≡ wanted mid)
+    (asks : (row : Attempt) → a.pending ≡ Some row → row.calls.room ≡ wanted mid) (reserved : wanted mid ≤ mid.room) (settled : IsSettled a.engine) where
   open_as : (b : Bool) → was ≡ b → HasRow b r a.thread → (row : Attempt) → active_of a.thread r.active ≡ Some row → in_transaction mid ≡ true
   open_as true e h row f = o ∙ e
   open_as false e none row f = absurd (let both : None ≡ Some row = sym none ∙ f in cc)
@@ -53,7 +56,16 @@ module _ {P : Type 0} (r : Rows) (a : Actor P) (mid : Core) (call : Call) (was :
         pending = pending;
         status = other;
         room = same_room mid a.engine a (sym (ap (λ (c : Core). c.blocks) g.stays)) (sym (ap (λ (c : Core). c.irrevocable) g.stays)) (sym (ap (λ (c : Core). c.doing) g.stays)) (sym (ap (λ (c : Core). c.room) g.stays)) (sym same) room;
+        backed = λ row e. (let few = backed row e in let n = promised_same a.engine mid (ap (λ (c : Core). c.irrevocable) g.stays) (ap (λ (c : Core). c.room) g.stays) in omega arith);
+        asks = record {
+          ahead = λ o. ahead (sym (ap in_transaction g.stays) ∙ o) ∙ sym (wanted_on g);
+          pending = λ row e. asks row e ∙ sym (wanted_on g);
+          backed = (let n = wanted_on g in let k = ap (λ (c : Core). c.room) g.stays in omega arith);
+        };
       }
+    where
+      wanted_on : AsksFor mid step a.engine → wanted a.engine ≡ wanted mid
+      wanted_on g = wanted_same a.engine mid (ap (λ (c : Core). c.blocks) g.stays) (ap (λ (c : Core). c.irrevocable) g.stays) (ap (λ (c : Core). c.doing) g.stays)
 
   module _ (answer : Answer) (g : Ends mid answer a.engine) (shut : in_transaction mid ≡ false → (mid.actions.commits ≡ []) × (mid.actions.undos ≡ [])) where
     acts : LeavesActions mid call a.engine
@@ -86,6 +98,8 @@ module _ {P : Type 0} (r : Rows) (a : Actor P) (mid : Core) (call : Call) (was :
       room = λ held some. (let less = left.room held some in let both = room (left.held held) less.0 in ((let x = both.0 in let y = less.1 in omega arith), (let x = both.1 in let y = less.1 in omega arith)));
       over = left.over;
       still = λ held row e. all row e ∙ sym (left.ran held (was_open row e));
+      adds = λ now row e entry. (leaves_backed mid a.engine call answer doing reserved settled g now).adds row.calls.room a.ahead (backed row e) (ahead (was_open row e));
+      opens = λ now row e. (leaves_backed mid a.engine call answer doing reserved settled g now).opens row.calls.room (asks row e);
     }
 
   -- whatever it gave
@@ -110,24 +124,28 @@ plain_waits old new call again step stage asks waits = (refl, refl)
 
 -- ## An actor that has no open attempt, and one whose attempt is changed
 
-pub none_acting : {P : Type 0} (r : Rows) (a : Actor P) → active_of a.thread r.active ≡ None → IsEmpty a → StartsEmpty a → NoCancel a.status → is_held a.engine ≡ false → IsActing r a
-none_acting r a none empty pending status free = record {
+pub none_acting : {P : Type 0} (r : Rows) (a : Actor P) → active_of a.thread r.active ≡ None → IsEmpty a → StartsEmpty a → NoCancel a.status → is_held a.engine ≡ false → AsksAs a a.status → IsActing r a
+none_acting r a none empty pending status free asks = record {
   empty = empty;
   all = λ row e. absurd (let both : None ≡ Some row = sym none ∙ e in cc);
   places = λ row e. absurd (let both : None ≡ Some row = sym none ∙ e in cc);
   pending = pending;
   status = status;
   room = λ held some. absurd (true≢false (sym held ∙ free));
+  backed = λ row e. absurd (let both : None ≡ Some row = sym none ∙ e in cc);
+  asks = asks;
 }
 
-pub changed_acting : {P : Type 0} (r r' : Rows) (a : Actor P) (f : Attempt → Attempt) → ((x : Attempt) → (f x).thread ≡ x.thread) → ((x : Attempt) → (f x).ran ≡ x.ran) → r' ≡ with_changed a.thread f r → IsActing r a → IsActing r' a
-changed_acting r r' a f thread ran is acts = record {
+pub changed_acting : {P : Type 0} (r r' : Rows) (a : Actor P) (f : Attempt → Attempt) → ((x : Attempt) → (f x).thread ≡ x.thread) → ((x : Attempt) → (f x).ran ≡ x.ran) → ((x : Attempt) → (f x).calls ≡ x.calls) → r' ≡ with_changed a.thread f r → IsActing r a → IsActing r' a
+changed_acting r r' a f thread ran calls is acts = record {
   empty = acts.empty;
   all = λ row e. (let was = row_from r r' a.thread f thread is row e in ap (λ (x : Attempt). x.ran) was.2 ∙ (ran was.0 ∙ acts.all was.0 was.1));
   places = λ row e. (let was = row_from r r' a.thread f thread is row e in acts.places was.0 was.1);
   pending = acts.pending;
   status = acts.status;
   room = acts.room;
+  backed = λ row e. (let was = row_from r r' a.thread f thread is row e in let few = acts.backed was.0 was.1 in let n = ap (λ (x : Attempt). x.calls.room) was.2 in let k = ap (λ (k : Kept). k.room) (calls was.0) in omega arith);
+  asks = acts.asks;
 }
 
 -- ## More room is made
@@ -136,19 +154,21 @@ module _ {P : Type 0} (r : Rows) (a : Actor P) (spare : Vec Entry Global) (ahead
   abbrev Grown : Actor P
   Grown = record a { spare = spare; ahead = ahead; end_room = end_room; cancel_room = cancel_room }
 
-  grown : (end_room.items ≡ []) × (cancel_room.items ≡ []) → vec_capacity a.end_room ≤ vec_capacity end_room → vec_capacity a.cancel_room ≤ vec_capacity cancel_room → IsActing r a → IsActing r Grown
-  grown empty more more' acts = record {
+  grown : (end_room.items ≡ []) × (cancel_room.items ≡ []) → vec_capacity a.end_room ≤ vec_capacity end_room → vec_capacity a.cancel_room ≤ vec_capacity cancel_room → a.status ≡ Ready → IsActing r a → IsActing r Grown
+  grown empty more more' ready acts = record {
     empty = record { end_room = empty.0; cancel_room = empty.1 };
     all = acts.all;
     places = λ row e. (let p = acts.places row e in omega arith);
     pending = acts.pending;
     status = acts.status;
     room = λ held some. (let both = acts.room held some in ((let x = both.0 in omega arith), (let x = both.1 in omega arith)));
+    backed = acts.backed;
+    asks = subst (AsksAs Grown) (sym ready) tt;
   }
 
-  pub grown_acting : (a' : Actor P) → a' ≡ Grown → (end_room.items ≡ []) × (cancel_room.items ≡ []) → vec_capacity a.end_room ≤ vec_capacity end_room → vec_capacity a.cancel_room ≤ vec_capacity cancel_room → IsActing r a
+  pub grown_acting : (a' : Actor P) → a' ≡ Grown → (end_room.items ≡ []) × (cancel_room.items ≡ []) → vec_capacity a.end_room ≤ vec_capacity end_room → vec_capacity a.cancel_room ≤ vec_capacity cancel_room → a.status ≡ Ready → IsActing r a
       → (r' : Rows) → r' ≡ r → IsActing r' a'
-  grown_acting a' is empty more more' acts r' same = subst (λ (s : Rows). IsActing s a') (sym same) (subst (IsActing r) (sym is) (grown empty more more' acts))
+  grown_acting a' is empty more more' ready acts r' same = subst (λ (s : Rows). IsActing s a') (sym same) (subst (IsActing r) (sym is) (grown empty more more' ready acts))
 
 pub on_err : {A E T : Type 0} (result : Result A E) → T → OnErr result T
 on_err (Ok what) t = tt
@@ -171,11 +191,12 @@ pub called_acting : {P E : Type 0} (r : Rows) (a : Actor P) (mid old : Core) (ca
     → ((row : Attempt) → active_of a.thread r.active ≡ Some row → row.ran ≡ mid.actions.ran)
     → ((row : Attempt) → active_of a.thread r.active ≡ Some row → total mid.actions + registers call ≤ vec_capacity a.end_room)
     → ((row : Attempt) → active_of a.thread r.active ≡ Some row → is_abort call ≡ true → total mid.actions ≤ vec_capacity a.cancel_room)
-    → StartsEmpty a → HasRoomFor mid a → (in_transaction mid ≡ false → (mid.actions.commits ≡ []) × (mid.actions.undos ≡ []))
+    → StartsEmpty a → HasRoomFor mid a → ((row : Attempt) → active_of a.thread r.active ≡ Some row → row.calls.room ≤ promised mid) → (in_transaction mid ≡ true → a.ahead ≡ wanted mid) → ((row : Attempt) → a.pending ≡ Some row → row.calls.room ≡ wanted mid) → wanted mid ≤ mid.room
+    → (in_transaction mid ≡ false → (mid.actions.commits ≡ []) × (mid.actions.undos ≡ []))
     → (result : Result Next E) → IfOk result (λ what. Proceeds mid what a.engine) → OnOk result (a.engine.stage ≡ stage_at old call again) → OnOk result (a.engine.waits ≡ asked a.engine) → OnOk result (IsSettled a.engine) → IfOk result (MayRunOn r a call)
-called_acting r a mid old call again was o has doing empty all places cancel pending room shut (Ok what) g stage asks settled =
-    gave_acting r a mid call was o has doing empty all places cancel pending room settled what g shut (gave_plainly mid a.engine old call again what g stage asks)
-called_acting r a mid old call again was o has doing empty all places cancel pending room shut (Err x) g stage asks settled = tt
+called_acting r a mid old call again was o has doing empty all places cancel pending room backed ahead wants reserved shut (Ok what) g stage asks settled =
+    gave_acting r a mid call was o has doing empty all places cancel pending room backed ahead wants reserved settled what g shut (gave_plainly mid a.engine old call again what g stage asks)
+called_acting r a mid old call again was o has doing empty all places cancel pending room backed ahead wants reserved shut (Err x) g stage asks settled = tt
 
 -- a place more where the call registers one
 pub places_for : (call : Call) (least room room' : ℕ) → least ≤ room → room ≤ room' → (is_some (registered_by call) ≡ true → least < room') → least + registers call ≤ room'

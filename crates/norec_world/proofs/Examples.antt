@@ -7,14 +7,16 @@ use Rattle.itm_types.specs.declared.datum.Datum.{Datum}
 use Rattle.norec_world.proofs.Common.{Attempt, Begin, Between, Call, Commit, Done, Entry, IsOpaque, IsRunOf, Props, Read, Rules, Write, after, alone, passes_of, takes_clock}
 use Rattle.itm_types.specs.declared.call.Reply.{Reply}
 use Rattle.itm_types.specs.declared.call.Call.TheVariants.{Abort, Load, Log, Mode, Save}
-use Rattle.itm_types.specs.declared.call.Reply.TheVariants.{Bytes, Code}
+use Rattle.itm_types.specs.declared.call.Reply.TheVariants.{Bytes, Code, Refused}
 use Rattle.tx_attempts.specs.declared.attempt.Outcome.TheVariants.{Cancelled, Committed, Conflict, Full, ReadOnly}
 use Rattle.norec_world.specs.declared.fault.WorldFault.TheVariants as faults
 use Rattle.tx_attempts.specs.Attempts.{ByAbort, memory_after}
 use Rattle.norec_world.specs.Dates.{AreDated, IsDated}
 use Rattle.nest_frames.specs.Nest.{Frame}
 use Rattle.norec_core.specs.Core.{Core, opening}
-use Rattle.norec_world.specs.ActionRoom.{counted, is_held}
+use Rattle.itm_types.specs.declared.call.Refusal.TheVariants.{Outside}
+use Rattle.norec_world.specs.ActionRoom.{counted, is_held, promised, wanted}
+use Rattle.norec_world.specs.PlayerRooms.{EndsWithin, MayReply}
 use Rattle.norec_world.proofs.Plan.{Plan, next_call, restarted, calls_left, depth}
 use Rattle.norec_world.proofs.Plan as plans
 
@@ -266,3 +268,37 @@ counts_one = refl
 
 counts_none : counted (record (inside plain) { blocks = [] }) ≡ 0
 counts_none = refl
+
+-- the room that such a call wants, and what the list may promise: nothing before the transaction is irrevocable
+begin_wants : wanted (record (opening 1 [] 1 1) { doing = Some (Begin going 3) }) ≡ 3
+begin_wants = refl
+
+mode_wants : wanted (record (inside plain) { doing = Some (Mode 3) }) ≡ 3
+mode_wants = refl
+
+refused_wants_none : wanted (record (inside (record plain { no_irrevocable = true })) { doing = Some (Mode 3) }) ≡ 0
+refused_wants_none = refl
+
+promises_none : promised (record (inside plain) { room = 3 }) ≡ 0
+promises_none = refl
+
+promises_room : promised (record (inside plain) { irrevocable = true; room = 3 }) ≡ 3
+promises_room = refl
+
+-- ## Players that tell their room: one that has a commit to make, within its block, ends within one call and within no fewer
+
+abbrev ending : Plan
+ending = record { calls = Commit ∷ []; at = 0; blocks = Some (record { begun = 0; within = 0 }) }
+
+ends_in_one : EndsWithin plan_rules 1 ending
+ends_in_one some call reply next may call' next' = absurd (let both : None ≡ Some call' = next' in cc)
+
+not_in_none : EndsWithin plan_rules 0 ending → ⊥
+not_in_none e = absurd (let one : 1 ≡ 0 = e Commit refl in omega arith)
+
+-- a commit within a block is done, and a begin is not
+commit_refused_not : MayReply 1 Commit (Refused Outside) → ⊥
+commit_refused_not may = absurd (let same : Refused Outside ≡ Done = may (omega arith) in cc)
+
+begin_done_not : MayReply 0 (Begin plain 3) Done → ⊥
+begin_done_not may = may

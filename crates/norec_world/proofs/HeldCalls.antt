@@ -58,16 +58,16 @@ commits_over mid m revocable one =
 
 -- ## A call that wants the clock
 
-both_true : (x y : Bool) → (x && y) ≡ true → (x ≡ true) × (y ≡ true)
+pub both_true : (x y : Bool) → (x && y) ≡ true → (x ≡ true) × (y ≡ true)
 both_true true y e = (refl, e)
 both_true false y e = absurd (cc)
 
-no_true : (x : Bool) → not x ≡ true → x ≡ false
+pub no_true : (x : Bool) → not x ≡ true → x ≡ false
 no_true true e = absurd (cc)
 no_true false e = refl
 
 -- the room is told under this condition
-told_under : (b : Bool) (room : ℕ) → is_some (if b then Some room else None) ≡ true → b ≡ true
+pub told_under : (b : Bool) (room : ℕ) → is_some (if b then Some room else None) ≡ true → b ≡ true
 told_under true room e = refl
 told_under false room e = absurd (cc)
 

@@ -17,12 +17,12 @@ use Rattle.norec_world.proofs.Common.{Actor, Answer, Busy, Call, Code, Committed
 
 -- ## Whether a transaction is held
 
-goes_same : (c d : Core) (call : Call) → c.blocks ≡ d.blocks → c.irrevocable ≡ d.irrevocable → goes c call ≡ goes d call
+pub goes_same : (c d : Core) (call : Call) → c.blocks ≡ d.blocks → c.irrevocable ≡ d.irrevocable → goes c call ≡ goes d call
 goes_same c d (Begin props room) b h = λ i. goes (record c { blocks = b i; irrevocable = h i }) (Begin props room)
 goes_same c d (Mode room) b h = λ i. goes (record c { blocks = b i; irrevocable = h i }) (Mode room)
 goes_same c d call b h = refl
 
-goes_in_same : (c d : Core) (doing : Option Call) → c.blocks ≡ d.blocks → c.irrevocable ≡ d.irrevocable → goes_in c doing ≡ goes_in d doing
+pub goes_in_same : (c d : Core) (doing : Option Call) → c.blocks ≡ d.blocks → c.irrevocable ≡ d.irrevocable → goes_in c doing ≡ goes_in d doing
 goes_in_same c d None b h = refl
 goes_in_same c d (Some call) b h = goes_same c d call b h
 
@@ -44,7 +44,7 @@ held_as c i = ap (λ (b : Bool). b || is_some (goes_in c c.doing)) i
 pub none_held : (c : Core) → c.irrevocable ≡ false → c.doing ≡ None → is_held c ≡ false
 none_held c revocable none = held_idle c none ∙ revocable
 
-some_is : {A : Type 0} (o : Option A) → IsSome o → is_some o ≡ true
+pub some_is : {A : Type 0} (o : Option A) → IsSome o → is_some o ≡ true
 some_is None s = absurd (cc)
 some_is (Some x) s = refl
 
@@ -70,7 +70,7 @@ two_off true false room = refl
 two_off false b room = refl
 
 -- an irrevocable transaction does not become so
-goes_no_more : (c : Core) (call : Call) → c.irrevocable ≡ true → goes c call ≡ None
+pub goes_no_more : (c : Core) (call : Call) → c.irrevocable ≡ true → goes c call ≡ None
 goes_no_more c (Begin props room) h =
     (λ i. if props.goes_irrevocable && may_go c.blocks props && nat_lt (length c.blocks) MAX_OPEN_BLOCKS && not (h i) then Some room else None) ∙ three_off props.goes_irrevocable (may_go c.blocks props) (nat_lt (length c.blocks) MAX_OPEN_BLOCKS) room
 goes_no_more c (Mode room) h = (λ i. if in_transaction c && not (stays_revocable c.blocks) && not (h i) then Some room else None) ∙ two_off (in_transaction c) (not (stays_revocable c.blocks)) room

@@ -5,6 +5,7 @@ pub mod ActiveRows
 pub mod OthersAttempts
 pub mod LaterActions
 pub mod HeldRoom
+pub mod CallRoom
 pub mod ActionRoom
 pub mod Taken
 pub mod TryEnds
@@ -23,6 +24,7 @@ pub mod Seen
 pub mod Laid
 pub mod RunTaken
 pub mod HeldMoves
+pub mod FedPlayers
 pub mod RunCalls
 pub mod RunOthers
 pub mod PlayerLaws

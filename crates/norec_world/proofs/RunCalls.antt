@@ -1,9 +1,9 @@
 -- An actor's run over a call, up to its first step, and over a step.
 use Rattle.tx_attempts.specs.Kept.{grown}
 use Rattle.norec_world.proofs.LaterActions.{given_up_as}
-use Rattle.std.proofs.Common.{unwrap_or, ◌≡◌, ℕ, ◌/◌, ◌≤◌, ◌&&◌, Bool, true, false, not, List, [], ◌++◌, Some, refl, sym, true≢false, ap, subst, ◌∙◌, arith, None, inl, inr}
+use Rattle.std.proofs.Common.{unwrap_or, ◌≡◌, ℕ, ◌/◌, ◌<◌, ◌≤◌, ◌&&◌, Bool, true, false, not, List, [], ◌++◌, Some, refl, sym, true≢false, ap, subst, ◌∙◌, arith, None, inl, inr}
 use Rattle.std.proofs.lemmas.Bool.{and_right, not_from_true}
-use Rattle.norec_world.proofs.Common.{Actor, Agrees, Answer, AreCounted, AreLaid, Attempt, Begin, Between, Call, Cells, Commit, Core, Ended, HasRow, IsBeforeTry, IsDone, IsHeld, IsInTry, IsRun, IsRunOf, IsSound, IsTold, LeadsTo, MAX_OPEN_BLOCKS, Next, Obeys, Props, Ready, Reply, Rows, Rules, RunsFrom, Sees, Starves, Status, Step, Tells, active_of, asked_pending, begins_again, begins_at, bytes_at, cases_Bool, cond-false, cond-true, ending_of, found, handed_is, handed_to, in_transaction, is_inside, of_thread, run_after, words_at, RecordsReply}
+use Rattle.norec_world.proofs.Common.{Actor, Agrees, Answer, AreCounted, AreLaid, Attempt, Begin, Between, Call, Cells, Commit, Core, Ended, HasRow, IsBeforeTry, IsDone, IsHeld, IsInTry, IsNested, IsRun, IsRunOf, IsSound, IsTold, LeadsTo, MAX_OPEN_BLOCKS, Next, Obeys, Props, Ready, Reply, Rows, Rules, RunsFrom, Sees, Starves, Status, Step, Tells, active_of, asked_pending, begins_again, begins_at, bytes_at, cases_Bool, cond-false, cond-true, ending_of, found, handed_is, handed_to, in_transaction, is_inside, of_thread, run_after, words_at, RecordsReply}
 use Rattle.tx_attempts.specs.declared.attempt.Outcome.TheVariants as outcomes
 use Rattle.tx_runs.specs.declared.ending.End.TheVariants as ends
 use Rattle.norec_world.proofs.ActiveRows.{changed_here, row_from}
@@ -18,6 +18,9 @@ use Rattle.norec_world.proofs.HeldMoves.{call_held, step_held}
 use Rattle.norec_core.proofs.HeldStores.{shut_revocable}
 use Rattle.norec_world.proofs.Seen.{HasSeen, call_seen, step_seen}
 use Rattle.norec_world.proofs.Taken.{HasAnswered, recorded, now, still_going}
+use Rattle.norec_world.specs.PlayerRooms.{ComesTo, EndsWithin}
+use Rattle.tx_runs.specs.Nesting.{IsDeep}
+use Rattle.norec_world.proofs.FedPlayers.{HasLeft, answered_left, none_within, waits_left}
 use Rattle.norec_world.proofs.RunAnswers.{RunOf, before_on, now_at, run_same}
 use Rattle.norec_world.proofs.RunEndings.{stop_run}
 use Rattle.tx_runs.proofs.Begins.{begin_here}
@@ -40,6 +43,7 @@ module _ {P : Type 0} {rules : Rules P} {cells : Cells} {r0 : Rows} {old : Actor
     held = runs.held;
     starved = λ e. absurd (cc);
     reads = runs.reads;
+    fed = λ true_room. (let x = runs.fed true_room in record { moves = x.moves; comes = x.comes; within = x.within; fed = λ e. absurd (cc) });
   }
 
 -- ## A call went to the engine
@@ -134,13 +138,20 @@ module _ {P : Type 0} {rules : Rules P} (laws : Obeys rules) {cells : Cells} {r0
           reads = recorded ReadsAt taken done tells
               (λ step t o row e. runs.reads (sym (ap in_transaction t.proceeds.stays) ∙ o) row (sym (active_same m) ∙ e) ∙ ap (λ (k : ℕ). k / 2) (sym m.asked.stays.snapshot))
               (λ answer is t. answer_reads (in_transaction old.engine) answer refl t);
+          fed = λ true_room.
+              (let before = runs.fed true_room in
+              let comes = subst (ComesTo rules before.moves first.player) (sym m.asks.player) before.comes in
+              let within = λ (h : (mid m).irrevocable ≡ true) (row : Attempt) (e : active_of a.thread r.active ≡ Some row). subst (EndsWithin rules row.calls.room) (sym m.asks.player) (before.within h row (sym (active_same m) ∙ e)) in
+              let shut = shut_revocable old.engine m.sound.tied.settled in
+              let left = recorded (HasLeft rules first.player) taken done tells (waits_left first.player true_room before.moves comes within shut) (λ answer is t. answered_left first.player true_room before.moves comes within shut answer t) in
+              record { moves = left.moves; comes = left.comes; within = left.within; fed = λ e. absurd (x.fed e) });
         },
       )
 
 -- ## Memory was refused
 
 module _ {P : Type 0} {rules : Rules P} (laws : Obeys rules) {cells : Cells} {r0 r1 : Rows} {old last : Actor P} (sound : IsSound rules cells r0 old) (s : Starves rules r0 old r1 last)
-    (first : Between P) (base : List ℕ) (laid : AreLaid base cells r0) (runs : RunsFrom rules first base cells r0 old) (free : old.engine.holds ≡ old.engine.irrevocable) (more : List Attempt) (ended : r1.ended ≡ r0.ended ++ more) where
+    (first : Between P) (base : List ℕ) (laid : AreLaid base cells r0) (runs : RunsFrom rules first base cells r0 old) (free : old.engine.holds ≡ old.engine.irrevocable) (nested : IsNested rules (in_transaction old.engine) old.player) (more : List Attempt) (ended : r1.ended ≡ r0.ended ++ more) where
   abbrev roomy : Rows
   roomy = record r0 { room = s.room }
 
@@ -193,6 +204,10 @@ module _ {P : Type 0} {rules : Rules P} (laws : Obeys rules) {cells : Cells} {r0
       held = λ i. absurd (true≢false (sym i ∙ ap (λ (c : Core). c.irrevocable) gone));
       starved = λ e r. closed;
       reads = λ o. absurd (true≢false (sym o ∙ closed));
+      fed = λ true_room.
+          (let before = runs.fed true_room in
+          let lost : last.engine.irrevocable ≡ false = ap (λ (c : Core). c.irrevocable) gone in
+          record { moves = before.moves; comes = subst (ComesTo rules before.moves first.player) (sym s.player) before.comes; within = λ h. absurd (true≢false (sym h ∙ lost)); fed = λ e. lost });
     }
 
   module _ (irrevocable : old.engine.irrevocable ≡ true) where
@@ -230,6 +245,11 @@ module _ {P : Type 0} {rules : Rules P} (laws : Obeys rules) {cells : Cells} {r0
           (subst (IsHeld (bytes_at base r0.ended (cells.clock / 2)) cells.words row) (sym kept) (runs.held irrevocable row (sym (λ j. active_of (s.same.thread j) (rows j).active) ∙ f)));
       starved = λ e r. absurd (true≢false (sym irrevocable ∙ (sym (ap (λ (c : Core). c.irrevocable) kept) ∙ r)));
       reads = λ o row f. runs.reads inside row (sym (λ j. active_of (s.same.thread j) (rows j).active) ∙ f) ∙ ap (λ (c : Core). c.snapshot / 2) (sym kept);
+      fed = λ true_room.
+          (let before = runs.fed true_room in
+          let row = runs.runs.inside inside in
+          let deep : 0 < rules.depth old.player = subst (λ (b : Bool). IsDeep b (rules.depth old.player)) inside nested.deep in
+          absurd (none_within rules row.1.calls.room old.player s.call (s.used irrevocable row.1 row.3) (before.within irrevocable row.1 row.3) deep s.next_is));
     }
 
   pub starve_runs : RunsFrom rules first base cells r1 last
@@ -300,6 +320,17 @@ held_told memory words r r' a told held row f = by_open (in_transaction a.engine
         subst (λ (x : Attempt). IsHeld memory words x a.engine) (sym was.2) (record { still_open = h.still_open; mode = h.mode; ran = h.ran; stands = h.stands; got = h.got })
     by_open false o = held row (ap (λ (x : Rows). active_of a.thread x.active) (sym (told.stays o)) ∙ f)
 
+-- likewise the room that it has left
+within_told : {P : Type 0} (rules : Rules P) (r r' : Rows) (a : Actor P) → IsTold a.thread (in_transaction a.engine) r (a.engine.snapshot / 2) r' → ((row : Attempt) → active_of a.thread r.active ≡ Some row → EndsWithin rules row.calls.room a.player)
+    → (row : Attempt) → active_of a.thread r'.active ≡ Some row → EndsWithin rules row.calls.room a.player
+within_told rules r r' a told within row f = by_open (in_transaction a.engine) refl
+  where
+    by_open : (b : Bool) → in_transaction a.engine ≡ b → EndsWithin rules row.calls.room a.player
+    by_open true o =
+        let was = row_from r r' a.thread (reading (a.engine.snapshot / 2)) (λ x. refl) (told.moves o) row f in
+        subst (λ (x : Attempt). EndsWithin rules x.calls.room a.player) (sym was.2) (within was.0 was.1)
+    by_open false o = within row (ap (λ (x : Rows). active_of a.thread x.active) (sym (told.stays o)) ∙ f)
+
 -- it goes on, or is answered
 
 module _ {P : Type 0} {rules : Rules P} (laws : Obeys rules) {cells : Cells} {r : Rows} {old : Actor P} {call : Call} {what : Next} {cells' : Cells} {new : Core} (m : IsStepping rules cells r old call what cells' new)
@@ -330,5 +361,12 @@ module _ {P : Type 0} {rules : Rules P} (laws : Obeys rules) {cells : Cells} {r 
               (held_told (bytes_at base r1.ended (cells'.clock / 2)) cells'.words r1 rows last told (x.held i) row f);
           starved = λ e. absurd (x.fed e);
           reads = t.1;
+          fed = λ true_room.
+              (let before = runs.fed true_room in
+              let kept = same m in
+              let within = λ (h : (mid_step m).irrevocable ≡ true) (row : Attempt) (e : active_of old.thread r.active ≡ Some row). before.within (sym kept.irrevocable ∙ h) row e in
+              let shut = λ (o : in_transaction (mid_step m) ≡ false). kept.irrevocable ∙ shut_revocable old.engine m.sound.tied.settled (sym (ap is_inside kept.blocks) ∙ o) in
+              let left = recorded (HasLeft rules first.player) taken done tells (waits_left first.player true_room before.moves before.comes within shut) (λ answer is t. answered_left first.player true_room before.moves before.comes within shut answer t) in
+              record { moves = left.moves; comes = left.comes; within = λ h row f. within_told rules r1 rows last told (left.within h) row f; fed = λ e. absurd (x.fed e) });
         },
       )

@@ -100,6 +100,7 @@ module _ {P : Type 0} (rules : Rules P) (laws : Obeys rules) where
             (subst (λ (c : Cells). IsHeld (bytes_at base r.ended (cells.clock / 2)) c.words row b.engine) (sym (held (holds_it i))) (x.held i row (sym (own.others b.thread apart) ∙ f)));
         starved = x.starved;
         reads = λ o row e. x.reads o row (sym (own.others b.thread apart) ∙ e);
+        fed = λ true_room. (let f = x.fed true_room in record { moves = f.moves; comes = f.comes; within = λ h row e. f.within h row (sym (own.others b.thread apart) ∙ e); fed = f.fed });
       }
     where
       -- an irrevocable one holds the clock
@@ -280,6 +281,10 @@ module _ {P : Type 0} (rules : Rules P) (laws : Obeys rules) where
           let top : w.cells.clock / 2 ≤ w.cells.clock / 2 = omega arith in
           let here = there_is w.opening place (omega (arith, long)) in
           (running.each place here.0 a here.1 e).sees.loaded.held h r ∙ ap (λ (m : List ℕ). backed a.engine (words_of m)) (sym (shown_still (w.cells.clock / 2) top)));
+      rooms = λ place a row e some.
+          (let one = sound.each place a e in
+          one.sound.acts.backed row (ap (λ (t : ℕ). active_of t w.attempts.active) one.thread ∙ some));
+      fed = λ place p a e f true_room. ((running.each place p a e f).fed true_room).fed;
       stored = λ place a row e some i.
           (let l = slice_get_within w.actors place a e in
           let top : w.cells.clock / 2 ≤ w.cells.clock / 2 = omega arith in
@@ -376,6 +381,7 @@ module _ {P : Type 0} (rules : Rules P) (laws : Obeys rules) where
         held = λ i. absurd (let z = sym i ∙ ap (λ (c : Core). c.irrevocable) is in cc);
         starved = λ e r. shut;
         reads = λ o. absurd (let z = sym o ∙ shut in cc);
+        fed = λ true_room. (let revocable = ap (λ (c : Core). c.irrevocable) is in record { moves = 0; comes = refl; within = λ h. absurd (let z = sym h ∙ revocable in cc); fed = λ e. revocable });
       }
 
 -- no commit has been done

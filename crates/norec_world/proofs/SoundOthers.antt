@@ -8,7 +8,7 @@ use Rattle.norec_world.proofs.TiedEngines.{held_even}
 use Rattle.norec_world.specs.Actors.{IsActor}
 pub use Rattle.std.proofs.lemmas.Option.{slice_get_within as within_of}
 
-has_row_same : (b : Bool) (r r' : Rows) (thread : ℕ) → active_of thread r'.active ≡ active_of thread r.active → HasRow b r thread → HasRow b r' thread
+pub has_row_same : (b : Bool) (r r' : Rows) (thread : ℕ) → active_of thread r'.active ≡ active_of thread r.active → HasRow b r thread → HasRow b r' thread
 has_row_same false r r' thread same h = same ∙ h
 has_row_same true r r' thread same h = (h.0, same ∙ h.1, h.2)
 
@@ -62,7 +62,7 @@ module _ {P : Type 0} (rules : Rules P) where
       record {
         tied = tied_still cells cells' b s.tied fit late long held;
         kept = record { row = has_row_same (in_transaction b.engine) r r' b.thread same k.row; empty = k.empty; tried = k.tried; tries = k.tries; retries = k.retries };
-        acts = record { empty = s.acts.empty; all = λ row e. s.acts.all row (sym same ∙ e); places = λ row e. s.acts.places row (sym same ∙ e); pending = s.acts.pending; status = s.acts.status; room = s.acts.room };
+        acts = record { empty = s.acts.empty; all = λ row e. s.acts.all row (sym same ∙ e); places = λ row e. s.acts.places row (sym same ∙ e); pending = s.acts.pending; status = s.acts.status; room = s.acts.room; backed = λ row e. s.acts.backed row (sym same ∙ e); asks = s.acts.asks };
         status = status_as r r' b (λ row e l. pending_some b.pending row r'.room e room) (λ row e. (row, sym same ∙ e, refl)) b.status s.status;
       }
 

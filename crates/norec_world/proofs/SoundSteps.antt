@@ -1,13 +1,14 @@
 -- A step was done, or a call of the player came: its value or the call went to the engine, and what the engine gave may be recorded.
 use Rattle.user_actions.specs.Actions.{total}
-use Rattle.norec_world.specs.ActionRoom.{MayRunOn, NoCancel}
+use Rattle.norec_world.specs.ActionRoom.{AsksAs, MayRunOn, NoCancel, wanted}
 use Rattle.norec_world.proofs.ActionRoom.{gave_acting, registers_none}
+use Rattle.norec_world.proofs.CallRoom.{promised_same, wanted_came, wanted_same}
 use Rattle.norec_world.proofs.HeldRoom.{same_room}
 use Rattle.norec_world.proofs.LaterActions.{first_here}
-use Rattle.std.proofs.Common.{◌≡◌, ◌≢◌, [], nat_lt, inl, ℕ, zero, suc, ◌+◌, ◌*◌, ◌/◌, ◌%◌, ◌<◌, ◌≤◌, ◌==◌, Bool, true, false, if◌then◌else◌, Option, None, Some, refl, sym, true≢false, ap, subst, ◌∙◌, arith, eqb-true, inr, ◌-◌, length}
-use Rattle.norec_world.proofs.Common.{Actor, AllFit, Answers, Asks, AsksFor, Begin, BeginsAt, Call, Cas, Cells, ClocksOn, Core, Ended, Falls, GoesOn, HoldsOn, IsDone, IsLawful, IsNested, IsNoMore, IsReady, IsResumed, IsSettledBy, IsSound, IsTied, IsWithin, Load, Next, Proceeds, Ready, RestsAs, Rows, Rules, Status, StatusIs, Step, Store, Waits, active_of, begins_again, came, cells_after, ending_of, found, handed_is, handed_to, in_transaction, is_inside, is_ready, is_waiting, none_inside, asked, same_Some, rank, rests as rested, steps_left, whole, IsTold, Tells}
+use Rattle.std.proofs.Common.{◌≡◌, ◌≢◌, [], nat_lt, inl, ℕ, zero, suc, ◌+◌, ◌*◌, ◌/◌, ◌%◌, ◌<◌, ◌≤◌, ◌==◌, Bool, true, false, if◌then◌else◌, Option, None, Some, refl, sym, true≢false, ap, subst, ◌∙◌, arith, eqb-true, inr, ◌-◌, length, unwrap_or}
+use Rattle.norec_world.proofs.Common.{Actor, AllFit, Answers, Asks, AsksFor, Attempt, Begin, BeginsAt, Call, Cas, Cells, ClocksOn, Core, Ended, Falls, GoesOn, HoldsOn, IsDone, IsLawful, IsNested, IsNoMore, IsReady, IsResumed, IsSettledBy, IsSound, IsTied, IsWithin, Load, Next, Proceeds, Ready, RestsAs, Rows, Rules, Status, StatusIs, Step, Store, Waits, active_of, asked_pending, begins_again, came, cells_after, ending_of, found, handed_is, handed_to, in_transaction, is_inside, is_ready, is_waiting, none_inside, asked, same_Some, rank, rests as rested, steps_left, whole, IsTold, Tells}
 use Rattle.norec_core.specs.Keeps.{Keeps}
-use Rattle.norec_core.specs.Core.{may_go}
+use Rattle.norec_core.specs.Core.{goes, may_go}
 use Rattle.norec_core.specs.Order.{asked_from, snapshot_from, stage_at, stage_from}
 use Rattle.norec_core.specs.declared.phase.Opening.{Opening}
 use Rattle.norec_core.specs.declared.phase.Phase.{Phase}
@@ -154,6 +155,10 @@ module _ {P : Type 0} {rules : Rules P} {cells : Cells} {r : Rows} {old : Actor 
       (λ b is. (let loads : m.step ≡ Load zero = same_Some _ _ (sym waits.waits ∙ (waits.asks ∙ ap (asked_from old.engine) is)) in
       (clock_same mid_step new what went).1 ∙ subst (λ (s : Step). (handed_to old.engine (Some s) (found cells s)).clock ≡ found cells s) (sym loads) refl))
 
+  -- nor does it want more or less room
+  same_wants : wanted (handed_to old.engine (Some m.step) (found cells m.step)) ≡ wanted old.engine
+  same_wants = wanted_same (handed_to old.engine (Some m.step) (found cells m.step)) old.engine same.blocks same.irrevocable same.doing
+
   pub step_taken : (status : Status) → status ≡ Ready → HasTaken rules (in_transaction old.engine) cells cells' r (handed_to old.engine (Some m.step) (found cells m.step)) (record old { engine = new; status = status }) call what
   step_taken status ready =
       let k = m.sound.kept in
@@ -169,6 +174,8 @@ module _ {P : Type 0} {rules : Rules P} {cells : Cells} {r : Rows} {old : Actor 
         nested = waits.nested;
         depth = waits.depth ∙ ap length (sym same.blocks);
         in_call = in_call_of new status waits.in_call;
+        ahead = λ o. (subst (AsksAs old) m.waiting m.sound.acts.asks).ahead o ∙ sym same_wants;
+        pending = λ row e. (subst (AsksAs old) m.waiting m.sound.acts.asks).pending row e ∙ sym same_wants;
         ready = ready;
         moves = moves;
         empty = λ e. same.writes ∙ (m.sound.tied.settled.closed e).1;
@@ -182,12 +189,15 @@ module _ {P : Type 0} {rules : Rules P} {cells : Cells} {r : Rows} {old : Actor 
   step_acts status ready =
       let acts = m.sound.acts in
       let plain = subst NoCancel m.waiting acts.status in
+      let asks = subst (AsksAs old) m.waiting acts.asks in
       let same_actions : (handed_to old.engine (Some m.step) (found cells m.step)).actions ≡ old.engine.actions = same.actions in
       let inside : in_transaction (handed_to old.engine (Some m.step) (found cells m.step)) ≡ in_transaction old.engine = ap is_inside same.blocks in
       gave_acting r (record old { engine = new; status = status }) (handed_to old.engine (Some m.step) (found cells m.step)) call (in_transaction old.engine) inside m.sound.kept.row (same.doing ∙ waits.doing)
       (record { end_room = acts.empty.end_room; cancel_room = acts.empty.cancel_room }) (λ row e. acts.all row e ∙ ap (λ (x : _). x.ran) (sym same_actions))
       (λ row e. (let p = acts.places row e in let n = registers_none call plain.1 in let t = ap total same_actions in omega arith)) (λ row e abort. absurd (let both : false ≡ true = sym plain.0 ∙ abort in cc)) acts.pending
-      (same_room old.engine (handed_to old.engine (Some m.step) (found cells m.step)) old (sym same.blocks) (sym same.irrevocable) (sym same.doing) (sym same.room) (sym same.actions) acts.room) m.resumed.settled what went (λ shut. (let none = (m.sound.tied.settled.closed (sym inside ∙ shut)) in (ap (λ (x : _). x.commits) same_actions ∙ none.2, ap (λ (x : _). x.undos) same_actions ∙ none.3))) (λ step e. plain)
+      (same_room old.engine (handed_to old.engine (Some m.step) (found cells m.step)) old (sym same.blocks) (sym same.irrevocable) (sym same.doing) (sym same.room) (sym same.actions) acts.room)
+      (λ row e. (let few = acts.backed row e in let n = promised_same (handed_to old.engine (Some m.step) (found cells m.step)) old.engine same.irrevocable same.room in omega arith))
+      (λ o. asks.ahead (sym inside ∙ o) ∙ sym same_wants) (λ row e. asks.pending row e ∙ sym same_wants) (let k = asks.backed in let n = same.room in let l = same_wants in omega arith) m.resumed.settled what went (λ shut. (let none = (m.sound.tied.settled.closed (sym inside ∙ shut)) in (ap (λ (x : _). x.commits) same_actions ∙ none.2, ap (λ (x : _). x.undos) same_actions ∙ none.3))) (λ step e. plain)
 
   -- what becomes of the clock, as the others see it
   pub step_clocks : (last : Core) → last ≡ new → ClocksOn cells old.engine cells' last
@@ -288,6 +298,12 @@ module _ {P : Type 0} {rules : Rules P} {cells : Cells} {r0 r : Rows} {old a : A
   abbrev pub mid : Core
   mid = came old.engine call (begins_again (in_transaction old.engine) old.again call)
 
+  -- the attempt that its begin is to open has the room that it asks for
+  pending_wants : (inside : Bool) (c : Call) (row : Attempt) → asked_pending inside cells.clock old c ≡ Some row → row.calls.room ≡ unwrap_or (goes old.engine c) 0
+  pending_wants false (Begin props room) row e = (let made = same_Some _ _ e in ap (λ (x : Attempt). x.calls.room) (sym made))
+  pending_wants true c row e = absurd (let z = sym (rests m.sound m.ready).nothing ∙ e in cc)
+  pending_wants false c row e = absurd (let z = sym (rests m.sound m.ready).nothing ∙ e in cc)
+
   pub call_taken : HasTaken rules (in_transaction old.engine) cells cells r (came old.engine call (begins_again (in_transaction old.engine) old.again call)) a call what
   call_taken =
       let ready = rests m.sound m.ready in
@@ -304,6 +320,8 @@ module _ {P : Type 0} {rules : Rules P} {cells : Cells} {r0 r : Rows} {old a : A
         nested = subst (IsNested rules (in_transaction old.engine)) (sym m.asked.same.player) ready.nested;
         depth = ap rules.depth m.asked.same.player ∙ ready.depth;
         in_call = m.asked.in_call;
+        ahead = λ o. m.asks.ahead o ∙ sym (wanted_came old.engine call (begins_again (in_transaction old.engine) old.again call));
+        pending = λ row e. pending_wants (in_transaction old.engine) call row (sym m.asks.pending ∙ e) ∙ sym (wanted_came old.engine call (begins_again (in_transaction old.engine) old.again call));
         ready = m.asked.same.status ∙ m.ready;
         moves = record { frees = λ f. absurd (cc); keeps = λ f. refl };
         empty = λ o. (m.sound.tied.settled.closed o).1;

@@ -1,7 +1,7 @@
 -- The moment that a step and a call of the player share: the engine has taken in a value or a call, and what it gave is recorded next.
-use Rattle.norec_world.specs.ActionRoom.{HasFirst, IsActing}
+use Rattle.norec_world.specs.ActionRoom.{HasFirst, IsActing, wanted}
 use Rattle.std.proofs.Common.{◌≡◌, ◌≢◌, ◌⊎◌, None, ◌+◌, ◌*◌, ◌/◌, Bool, true, false, [], refl, ap, subst, ◌∙◌, sym, length, Some, ◌≤◌, inl, inr, arith, ℕ}
-use Rattle.norec_world.proofs.Common.{Actor, Answer, AnswerFits, Answers, Asks, BeginsAt, Call, asked, Cells, Core, Ended, Ends, frees, HasRow, IsAnswered, IsAtOnce, IsDone, IsKept, IsNested, IsSettledBy, IsSound, IsTied, IsWithin, Next, Proceeds, Ready, Records, RestsAs, Rows, Rules, Status, StatusIs, Step, Tells, Waits, in_transaction, is_ready, rests, End, ending_of, cases_Bool}
+use Rattle.norec_world.proofs.Common.{Actor, Answer, AnswerFits, Answers, Asks, Attempt, BeginsAt, Call, asked, Cells, Core, Ended, Ends, frees, HasRow, IsAnswered, IsAtOnce, IsDone, IsKept, IsNested, IsSettledBy, IsSound, IsTied, IsWithin, Next, Proceeds, Ready, Records, RestsAs, Rows, Rules, Status, StatusIs, Step, Tells, Waits, in_transaction, is_ready, rests, End, ending_of, cases_Bool}
 use Rattle.norec_world.specs.Sound.{IsDue, IsInCall, IsWaiting}
 use Rattle.norec_world.proofs.TiedEngines.{answer_fits}
 
@@ -35,6 +35,8 @@ module _ {P : Type 0} (rules : Rules P) where
     pub nested : IsNested rules was a.player
     pub depth : rules.depth a.player ≡ length mid.blocks
     pub in_call : IsInCall rules was r a call
+    pub ahead : was ≡ true → a.ahead ≡ wanted mid
+    pub pending : (row : Attempt) → a.pending ≡ Some row → row.calls.room ≡ wanted mid
     pub ready : a.status ≡ Ready
     pub moves : ClockMoves cells cells' mid
     pub empty : was ≡ false → mid.writes ≡ []

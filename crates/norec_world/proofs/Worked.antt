@@ -31,7 +31,7 @@ module _ {P : Type 0} {rules : Rules P} (laws : Obeys rules) {cells : Cells} {r0
   -- the player has none
   pub finish_worked : rules.next_call old.player ≡ None → HasWorked rules cells r0 old r0 (record old { status = Ended Finished })
   finish_worked none = record {
-    sound = record { tied = sound.tied; acts = (let x = sound.acts in record { empty = record { end_room = x.empty.end_room; cancel_room = x.empty.cancel_room }; all = x.all; places = x.places; pending = x.pending; status = tt; room = x.room }); kept = (let k = sound.kept in record { row = k.row; empty = k.empty; tried = k.tried; tries = k.tries; retries = k.retries }); status = (rests sound ready).idle };
+    sound = record { tied = sound.tied; acts = (let x = sound.acts in record { empty = record { end_room = x.empty.end_room; cancel_room = x.empty.cancel_room }; all = x.all; places = x.places; pending = x.pending; status = tt; room = x.room; backed = x.backed; asks = tt }); kept = (let k = sound.kept in record { row = k.row; empty = k.empty; tried = k.tried; tries = k.tries; retries = k.retries }); status = (rests sound ready).idle };
     works = one_act r0 (record old { status = Ended Finished }) (finishes (record { none = none; actor = refl; rows = refl }));
     tries = λ w. finish_tries rules cells r0 old sound ready (record old { status = Ended Finished }) refl;
     runs = λ first base laid runs. (laid, finish_runs sound ready first base runs);
@@ -58,7 +58,7 @@ module _ {P : Type 0} {rules : Rules P} (laws : Obeys rules) {cells : Cells} {r0
         tries = λ w. tries;
         runs = λ first base laid runs. (
           laid_calls base cells r0 r1 laid own.more own.ended (counted_after cells.clock cells.clock (prior_of r0 old) r1 last tries laid.counted),
-          starve_runs laws sound s first base laid runs (rests sound ready).free own.more own.ended,
+          starve_runs laws sound s first base laid runs (rests sound ready).free (rests sound ready).nested own.more own.ended,
         );
         others = others;
         holds = holds;

@@ -1,5 +1,5 @@
--- The actions of an actor's transaction: which of them have run, and the room for those that are to run.
-use Rattle.std.specs.Prelude.{◌≡◌, ℕ, ◌+◌, ◌<◌, ◌≤◌, ◌||◌, if◌then◌else◌, Bool, true, false, [], length, is_some, Option, None, Some, vec_capacity}
+-- The actions of an actor's transaction: which of them have run, and the room for those that are to run. And the room for its calls.
+use Rattle.std.specs.Prelude.{◌≡◌, ℕ, ◌+◌, ◌<◌, ◌≤◌, ◌||◌, if◌then◌else◌, Bool, true, false, [], length, is_some, Option, None, Some, unwrap_or, vec_capacity}
 use Rattle.itm_types.specs.Calls.{is_abort, registered_by}
 use Rattle.user_actions.specs.Actions.{total}
 use Rattle.norec_core.specs.Core.{Core, goes, in_transaction}
@@ -7,6 +7,8 @@ use Rattle.itm_types.specs.declared.call.Call.{Call}
 use Rattle.norec_core.specs.declared.answer.Next.{Next}
 use Rattle.norec_core.specs.declared.answer.Next.TheVariants.{Step, Answer}
 use Rattle.tx_attempts.specs.declared.attempt.Attempt.{Attempt}
+use Rattle.tx_attempts.specs.declared.attempt.Entry.{Entry}
+use Rattle.tx_attempts.specs.Kept.{grown}
 use Rattle.norec_world.specs.declared.actor.Actor.{Actor}
 use Rattle.norec_world.specs.declared.actor.Status.{Status}
 use Rattle.norec_world.specs.declared.actor.Status.TheVariants.{Ready, Waits, Ended}
@@ -27,6 +29,14 @@ goes_in e (Some call) = goes e call
 -- the transaction is irrevocable, or the call in progress makes it so
 abbrev pub is_held : Core → Bool
 is_held e = e.irrevocable || is_some (goes_in e e.doing)
+
+-- how many places the list of the transaction's calls may promise at most: of one that is irrevocable, as many as its engine has room
+abbrev pub promised : Core → ℕ
+promised e = if e.irrevocable then e.room else 0
+
+-- and how many the call in progress asks for, where it makes the transaction so
+abbrev pub wanted : Core → ℕ
+wanted e = unwrap_or (goes_in e e.doing) 0
 
 -- the actions of the open transaction
 abbrev pub counted : Core → ℕ
@@ -62,6 +72,21 @@ module _ {P : Type 0} where
   abbrev pub BeginsEmpty : Rows → Actor P → Type 0
   BeginsEmpty r a = in_transaction a.engine ≡ true → active_of a.thread r.active ≡ None → total a.engine.actions ≡ 0
 
+  -- the actor's open attempt promises no more places than its engine has room
+  abbrev pub IsBacked : Rows → Actor P → Type 0
+  IsBacked r a = (row : Attempt) → active_of a.thread r.active ≡ Some row → row.calls.room ≤ promised a.engine
+
+  -- the list is to have the room that the call in progress asks for, and the engine has it
+  pub record HasAsked (a : Actor P) : Type 0 where
+    pub ahead : in_transaction a.engine ≡ true → a.ahead ≡ wanted a.engine
+    pub pending : (row : Attempt) → a.pending ≡ Some row → row.calls.room ≡ wanted a.engine
+    pub backed : wanted a.engine ≤ a.engine.room
+
+  abbrev pub AsksAs : Actor P → Status → Type 0
+  AsksAs a Ready = Unit {0}
+  AsksAs a (Waits call step) = HasAsked a
+  AsksAs a (Ended end) = Unit {0}
+
   -- the room is empty
   pub record IsEmpty (a : Actor P) : Type 0 where
     pub end_room : a.end_room.items ≡ []
@@ -75,6 +100,8 @@ module _ {P : Type 0} where
     pub pending : StartsEmpty a
     pub status : NoCancel a.status
     pub room : HasRoomFor a.engine a
+    pub backed : IsBacked r a
+    pub asks : AsksAs a a.status
 
   -- a call is answered, and nothing is recorded of that yet
   pub record MayRun (r : Rows) (a : Actor P) : Type 0 where
@@ -87,6 +114,8 @@ module _ {P : Type 0} where
     pub room : HasRoomFor a.engine a
     pub over : in_transaction a.engine ≡ false → is_held a.engine ≡ false
     pub still : is_held a.engine ≡ true → HasAll r a
+    pub adds : in_transaction a.engine ≡ true → (row : Attempt) → active_of a.thread r.active ≡ Some row → (entry : Entry) → (grown row.calls entry a.ahead).room ≤ promised a.engine
+    pub opens : in_transaction a.engine ≡ true → (row : Attempt) → a.pending ≡ Some row → row.calls.room ≤ promised a.engine
 
   -- what the engine gave for the call is to be recorded
   abbrev pub MayRunOn : Rows → Actor P → Call → Next → Type 0

@@ -18,6 +18,7 @@ pub mod Progress
 pub mod Memories
 pub mod HeldAttempts
 pub mod LogAgreement
+pub mod PlayerRooms
 pub mod Runs
 pub mod Dates
 pub mod Headline

@@ -71,6 +71,7 @@ module _ {P : Type 0} (rules : Rules P) where
     pub next_is : rules.next_call a.player ≡ Some call
     pub grows : in_transaction a.engine ≡ false → is_begin call ≡ true  -- outside a block memory is wanted for a begin alone
     pub short : in_transaction a.engine ≡ true → IsShort r a call
+    pub used : a.engine.irrevocable ≡ true → (row : Attempt) → active_of a.thread r.active ≡ Some row → row.calls.room ≡ 0  -- an irrevocable attempt has used up the room that it asked for
     pub status : a'.status ≡ Ended NoMemory
     pub player : a'.player ≡ a.player
     pub same : SameActor a a'

@@ -20,6 +20,7 @@ use Rattle.norec_world.specs.Headline.{bytes_at}
 use Rattle.norec_world.specs.Memories.{words_at}
 use Rattle.norec_world.specs.LogAgreement.{Sees, AreLaid}
 use Rattle.norec_world.specs.HeldAttempts.{IsHeld}
+use Rattle.norec_world.specs.PlayerRooms.{ComesTo, EndsWithin, TellsRoom}
 use Rattle.tx_player.specs.Rules.{Rules}
 
 -- the memory that an attempt reads may be this one: one that agrees with its log, or, of an irrevocable attempt, that of its position
@@ -61,12 +62,20 @@ module _ {P : Type 0} (rules : Rules P) where
     pub between : in_transaction a.engine ≡ false → (ending_of a.status ≡ Some GaveUp → ⊥) → (ending_of a.status ≡ Some NoMemory → ⊥)
         → (b : Between P) × (run_after rules (bytes_at base r.ended) (Some first) (of_thread a.thread r.ended) ≡ Some b) × IsBeforeTry n b a
 
+  -- the player has come from here; and if it tells its room truly, its irrevocable attempt has the room for all its calls that are still to come, and wants no memory
+  pub record IsFed (p : P) (r : Rows) (a : Actor P) : Type 0 where
+    pub moves : ℕ
+    pub comes : ComesTo rules moves p a.player
+    pub within : a.engine.irrevocable ≡ true → (row : Attempt) → active_of a.thread r.active ≡ Some row → EndsWithin rules row.calls.room a.player
+    pub fed : ending_of a.status ≡ Some NoMemory → a.engine.irrevocable ≡ false
+
   pub record RunsFrom (first : Between P) (base : List ℕ) (cells : Cells) (r : Rows) (a : Actor P) : Type 0 where
     pub runs : IsRun first base (cells.clock / 2) r a
     pub sees : Sees (words_at base r.ended) cells a.engine
     pub held : a.engine.irrevocable ≡ true → (row : Attempt) → active_of a.thread r.active ≡ Some row → IsHeld (bytes_at base r.ended (cells.clock / 2)) cells.words row a.engine
     pub starved : ending_of a.status ≡ Some NoMemory → a.engine.irrevocable ≡ false → in_transaction a.engine ≡ false
     pub reads : in_transaction a.engine ≡ true → (row : Attempt) → active_of a.thread r.active ≡ Some row → row.at ≡ a.engine.snapshot / 2
+    pub fed : TellsRoom rules first.player → IsFed first.player r a
 
   -- where the words were those of the commits, and the actor's attempts its player's run, they still are
   abbrev pub StillRuns : Cells → Rows → Actor P → Cells → Rows → Actor P → Type 0

@@ -1,11 +1,15 @@
 -- What ties the engines and the words of a world to its attempts.
-use Rattle.std.specs.Prelude.{◌≡◌, ℕ, ◌/◌, true, false, length, Some, slice_get}
+use Rattle.std.specs.Prelude.{◌≡◌, ℕ, ◌/◌, ◌≤◌, true, false, length, Some, slice_get}
 use Rattle.itm_types.specs.declared.limits.TheConstants.{MAX_OPEN_BLOCKS}
 use Rattle.norec_core.specs.Core.{in_transaction}
 use Rattle.norec_core.specs.Proceeds.{backed}
 use Rattle.norec_world.specs.declared.actor.Actor.{Actor}
 use Rattle.tx_attempts.specs.Attempts.{alone}
 use Rattle.tx_attempts.specs.declared.attempt.Attempt.{Attempt}
+use Rattle.norec_world.specs.ActionRoom.{promised}
+use Rattle.norec_world.specs.PlayerRooms.{TellsRoom}
+use Rattle.norec_world.specs.Status.{ending_of}
+use Rattle.tx_runs.specs.declared.ending.End.TheVariants.{NoMemory}
 use Rattle.norec_world.specs.Rows.{AreOpen, active_of}
 use Rattle.norec_world.specs.Headline.{bytes_at, first_of}
 use Rattle.norec_world.specs.World.{World, attempts_of}
@@ -31,6 +35,9 @@ module _ {P : Type 0} (rules : Rules P) where
     pub holder : (place : ℕ) (a : Actor P) → slice_get w.actors place ≡ Some a → a.engine.holds ≡ true
         → (row : Attempt) × (active_of place w.attempts.active ≡ Some row) × (row.at ≡ w.cells.clock / 2)  -- who holds it has an open one, at the last position
     pub held : (place : ℕ) (a : Actor P) → slice_get w.actors place ≡ Some a → a.engine.holds ≡ true → a.engine.irrevocable ≡ false → w.cells.words ≡ backed a.engine (words_at w.base (attempts_of w) (w.cells.clock / 2))
+    pub rooms : (place : ℕ) (a : Actor P) (row : Attempt) → slice_get w.actors place ≡ Some a → active_of place w.attempts.active ≡ Some row → row.calls.room ≤ promised a.engine  -- an attempt promises its calls no more places than its engine has room, and none before it is irrevocable
+    -- where a player tells its room truly, its irrevocable attempt never wants memory
+    pub fed : (place : ℕ) (p : P) (a : Actor P) → slice_get w.opening place ≡ Some p → slice_get w.actors place ≡ Some a → TellsRoom rules p → ending_of a.status ≡ Some NoMemory → a.engine.irrevocable ≡ false
     -- of an irrevocable attempt, with what its calls have stored, and what the call in progress has
     pub stored : (place : ℕ) (a : Actor P) (row : Attempt) → slice_get w.actors place ≡ Some a → active_of place w.attempts.active ≡ Some row → a.engine.irrevocable ≡ true
         → StandsIn a.engine.waits a.engine.doing a.engine w.cells.words (alone MAX_OPEN_BLOCKS (bytes_at w.base (attempts_of w) (w.cells.clock / 2)) row)

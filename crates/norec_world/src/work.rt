@@ -72,6 +72,7 @@ impl<P: Player> Actor<P> {
     ) -> Result<Next, AllocError>
         requires kept { IsKept (in_transaction self.old.engine) recorded.old self.old }
         requires ready { IsReady P.Player self.old }
+        requires status { self.old.status ≡ Status.Ready }
         requires settled { IsSettled self.old.engine }
         requires acts { IsActing recorded.old self.old }
         requires asks { P.next_call self.old.player ≡ Some call.now }

@@ -1,10 +1,12 @@
-use Rattle.std.proofs.Common.{◌≡◌, ℕ, Bool, true, false, if◌then◌else◌, Option, unwrap_or, refl, sym, ap, subst, ◌∙◌, IfOk, vec_capacity, arith, rules}
+use Rattle.std.proofs.Common.{◌≡◌, ℕ, Bool, true, false, true≢false, if◌then◌else◌, Option, None, Some, unwrap_or, refl, sym, ap, subst, ◌∙◌, IfOk, vec_capacity, arith, rules}
 use Rattle.user_actions.specs.Actions.{total}
-use Rattle.norec_core.specs.Core.{Core, came}
+use Rattle.norec_core.specs.Core.{Core, came, goes}
 use Rattle.norec_world.specs.ActionRoom.{MayRunOn}
-use Rattle.norec_world.proofs.ActionRoom.{IsServed, asked_inside, asked_served, called_acting, grown_acting, on_err, places_for, starves_begin, unasked_acting}
+use Rattle.norec_world.proofs.ActionRoom.{IsServed, asked_inside, asked_served, called_acting, gave_acting, grown_acting, on_err, places_for, starves_begin, unasked_acting}
+use Rattle.norec_world.proofs.CallRoom.{backed_came, promised_came, wanted_came}
 use Rattle.norec_world.proofs.HeldRoom.{came_room}
-use Rattle.norec_world.proofs.Common.{Actor, Attempt, Begin, in_transaction, same_Some}
+use Rattle.norec_world.proofs.SoundOthers.{has_row_same}
+use Rattle.norec_world.proofs.Common.{Actor, Attempt, Begin, Call, HasRow, Rows, active_of, in_transaction, same_Some}
 use Rattle.norec_world.proofs.actor.Actor.ask.Goals.{After-call-in_default-2}
 use Rattle.norec_world.proofs.actor.Actor.ask.Goals as goal
 
@@ -64,6 +66,9 @@ returns-in_ok-reserve_ahead-in_default-2-clause-acts g c =
     let asked = c.ahead_of-ahead-in_default-2.ensures.value ∙ ap (λ (o : Option ℕ). unwrap_or o 0) c.goes-in_default-2.ensures in
     let both = c.in_ok-reserve_ahead-in_default-2.ensures.room (omega arith) in
     ((let x = both.1 in omega arith), (let x = both.2 in omega arith)))))
+    (λ row f. (let few = acts.backed row f in let n = promised_came a.engine c.args.call.now false in omega arith))
+    (λ o. c.ahead_of-ahead-in_default-2.ensures.value ∙ (ap (λ (o : Option ℕ). unwrap_or o 0) c.goes-in_default-2.ensures ∙ sym (wanted_came a.engine c.args.call.now false)))
+    (λ row e. absurd (let none = c.requires.ready.nothing in let both : None ≡ Some row = sym none ∙ e in cc)) (backed_came a.engine c.args.call.now false)
     (λ shut. (let inside = c.is_open-2.ensures in let tested = c.if-not-is_open-2.false in absurd (cc)))
     c.call-in_default-2.result e.proceeds e.order e.asks e.settled)
 
@@ -90,7 +95,7 @@ returns-in_err-reserve_ahead-in_default-2-clause-unasked_acts g c =
     let ahead = c.reserve_ahead.ensures in
     on_err c.from_residual-in_err-reserve_ahead-in_default-2.result
     (grown_acting c.args.recorded.now c.args.self.now c.reserve_ahead.new.self.spare c.args.self.now.ahead c.reserve_ahead.new.self.end_room c.reserve_ahead.new.self.cancel_room c.reserve_ahead.new.self ahead.actor (ahead.empty.1, ahead.empty.2)
-    (let m = made.kept.0 in let k = ahead.kept.1 in omega arith) (let m = made.kept.1 in let k = ahead.kept.2 in omega arith) c.requires.acts c.args.recorded.now refl)
+    (let m = made.kept.0 in let k = ahead.kept.1 in omega arith) (let m = made.kept.1 in let k = ahead.kept.2 in omega arith) c.requires.status c.requires.acts c.args.recorded.now refl)
 
 pub returns-in_ok-reserve_ahead-in_default-2-clause-unasked_acts : goal.returns-in_ok-reserve_ahead-in_default-2-clause-unasked_acts
 returns-in_ok-reserve_ahead-in_default-2-clause-unasked_acts g c =
@@ -98,4 +103,31 @@ returns-in_ok-reserve_ahead-in_default-2-clause-unasked_acts g c =
     let ahead = c.reserve_ahead.ensures in
     unasked_acting c.args.recorded.now (record c.reserve_ahead.new.self { ahead = c.ahead_of-ahead-in_default-2.result }) c.call-in_default-2.new.self c.call-in_default-2.result c.call-in_default-2.ensures.err
     (grown_acting c.args.recorded.now c.args.self.now c.reserve_ahead.new.self.spare c.ahead_of-ahead-in_default-2.result c.reserve_ahead.new.self.end_room c.reserve_ahead.new.self.cancel_room (record c.reserve_ahead.new.self { ahead = c.ahead_of-ahead-in_default-2.result }) (λ i. record (ahead.actor i) { ahead = c.ahead_of-ahead-in_default-2.result }) (ahead.empty.1, ahead.empty.2)
-    (let m = made.kept.0 in let k = ahead.kept.1 in omega arith) (let m = made.kept.1 in let k = ahead.kept.2 in omega arith) c.requires.acts c.args.recorded.now refl)
+    (let m = made.kept.0 in let k = ahead.kept.1 in omega arith) (let m = made.kept.1 in let k = ahead.kept.2 in omega arith) c.requires.status c.requires.acts c.args.recorded.now refl)
+
+-- a begin of an outermost block: its attempt is to have the room that it asks for
+pub returns-in_ok-next-in-Begin-clause-acts : goal.returns-in_ok-next-in-Begin-clause-acts
+returns-in_ok-next-in-Begin-clause-acts g c =
+    let a = c.args.self.now in
+    let r : Rows = c.reserve.new.self in
+    let call : Call = Begin c.in-Begin.props c.in-Begin.room in
+    let attempt : Attempt = c.in_ok-attempt-in-Begin.attempt in
+    let made : attempt ≡ _ = c.in_ok-attempt-in-Begin.ensures in
+    let e = c.in_ok-next-in-Begin.ensures in
+    let shut : in_transaction a.engine ≡ false = (let o = c.is_open.ensures in let tested = c.if-not-is_open.true in cc) in
+    let has : HasRow (in_transaction a.engine) r a.thread = has_row_same (in_transaction a.engine) c.args.recorded.now r a.thread (ap (λ (x : Rows). active_of a.thread x.active) c.reserve.ensures.same) c.requires.kept.row in
+    let none : active_of a.thread r.active ≡ None = subst (λ (b : Bool). HasRow b r a.thread) shut has in
+    let asked : c.ahead_of-ahead.result ≡ unwrap_or (goes a.engine call) 0 =
+    c.ahead_of-ahead.ensures.value ∙ (ap (λ (o : Option ℕ). unwrap_or o 0) c.goes.ensures ∙ ap (λ (x : Call). unwrap_or (goes a.engine x) 0) c.in-Begin.is) in
+    let new : Actor g.row.P.Denot = record a { engine = c.begin.new.self; end_room = c.reserve-in-Begin.new.self; cancel_room = c.reserve-in-Begin-2.new.self; pending = Some attempt } in
+    subst (λ (x : Call). MayRunOn r new x c.in_ok-next-in-Begin.next) (sym c.in-Begin.is)
+    (gave_acting r new (came a.engine call a.again) call (in_transaction a.engine) refl has refl
+    (record { end_room = c.reserve-in-Begin.ensures.items ∙ c.requires.acts.empty.end_room; cancel_room = c.reserve-in-Begin-2.ensures.items ∙ c.requires.acts.empty.cancel_room })
+    (λ row f. absurd (let both : None ≡ Some row = sym none ∙ f in cc)) (λ row f. absurd (let both : None ≡ Some row = sym none ∙ f in cc)) (λ row f abort. absurd (let both : None ≡ Some row = sym none ∙ f in cc))
+    (λ row f. (let same : attempt ≡ row = same_Some _ _ f in ap (λ (x : Attempt). x.ran) (sym same) ∙ ap (λ (x : Attempt). x.ran) made))
+    (came_room a.engine call a.again a new c.requires.acts.room c.reserve-in-Begin.ensures.capacity c.reserve-in-Begin-2.ensures.capacity
+    (λ some. (let n = ap (λ (b : Bool). if b then total a.engine.actions else 0) shut in
+    ((let x = c.in_ok-reserve-in-Begin-2.ensures.ok in omega arith), (let x = c.in_ok-reserve-in-Begin-3.ensures.ok in omega arith)))))
+    (λ row f. absurd (let both : None ≡ Some row = sym none ∙ f in cc)) (λ o. absurd (true≢false (sym o ∙ shut)))
+    (λ row f. (let same : attempt ≡ row = same_Some _ _ f in ap (λ (x : Attempt). x.calls.room) (sym same) ∙ (ap (λ (x : Attempt). x.calls.room) made ∙ (asked ∙ sym (wanted_came a.engine call a.again)))))
+    (backed_came a.engine call a.again) e.settled c.in_ok-next-in-Begin.next e.proceeds (λ over. (let s = c.requires.settled.closed shut in (s.2, s.3))) (λ step is. (refl, refl)))

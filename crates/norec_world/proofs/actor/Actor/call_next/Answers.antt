@@ -1,4 +1,6 @@
+use Rattle.norec_core.specs.Proceeds.{IsSettled}
 use Rattle.norec_world.specs.ActionRoom.{MayRunOn}
+use Rattle.norec_world.proofs.CallRoom.{used_up}
 use Rattle.std.proofs.Common.{◌≡◌, ◌/◌, ℕ, true, refl, sym, ap, subst, ◌∙◌}
 use Rattle.norec_world.proofs.Common.{Core, IsTied, Rows, Starves, StatusIs, StopsAt, Waits, after_undoing, in_transaction}
 use Rattle.tx_attempts.specs.declared.attempt.Outcome.TheVariants as outcomes
@@ -8,6 +10,9 @@ use Rattle.norec_world.proofs.TiedEngines.{idle_still}
 use Rattle.norec_world.proofs.Taken.{due}
 use Rattle.norec_world.proofs.Worked.{call_worked, finish_worked, starve_worked}
 use Rattle.norec_world.proofs.actor.Actor.call_next.Goals as goal
+
+is_open : {e : Core} → IsSettled e → e.irrevocable ≡ true → in_transaction e ≡ true
+is_open s h = (s.holder (s.irrevocable h).0).0
 
 pub settle-requires : goal.settle-requires
 settle-requires g c = record {
@@ -49,6 +54,7 @@ returns-in-Err-clause-worked g c =
       next_is = sym c.next.ensures ∙ c.in-Some.is;
       grows = c.in-Err.ensures.grows;
       short = c.in-Err.ensures.short;
+      used = λ h. used_up c.args.recorded.now c.args.self.now c.in-Some.call c.requires.sound.acts.backed (c.in-Err.ensures.short (is_open c.requires.sound.tied.settled h)) h;
       status = starved.status;
       player = starved.player ∙ u.same.player;
       same = record { thread = starved.thread ∙ u.same.thread; retries = starved.same.1 ∙ u.same.retries; nothing = λ e. absurd (let z = sym starved.status ∙ e in cc) };

@@ -20,4 +20,4 @@ returns-then-is_open-clause-others g c =
 
 pub returns-then-is_open-clause-acts : goal.returns-then-is_open-clause-acts
 returns-then-is_open-clause-acts g c acts =
-    changed_acting c.args.recorded.now c.move_to.new.self c.args.self.now (λ row. record row { at = c.snapshot.result / 2 }) (λ x. refl) (λ x. refl) c.move_to.ensures acts
+    changed_acting c.args.recorded.now c.move_to.new.self c.args.self.now (λ row. record row { at = c.snapshot.result / 2 }) (λ x. refl) (λ x. refl) (λ x. refl) c.move_to.ensures acts

@@ -1,7 +1,7 @@
 use Rattle.tx_attempts.specs.Kept.{grown}
 use Rattle.itm_types.specs.declared.call.Ran.{Ran}
 use Rattle.user_actions.specs.Actions.{total}
-use Rattle.norec_world.specs.ActionRoom.{NoCancel}
+use Rattle.norec_world.specs.ActionRoom.{AsksAs, NoCancel}
 use Rattle.norec_world.proofs.ActiveRows.{changed_then, opened_here, row_from}
 use Rattle.norec_world.proofs.OthersAttempts.{others_opened, others_changed, others_ended}
 use Rattle.std.proofs.Common.{◌≡◌, ◌/◌, refl, Some, subst, ◌++◌, ◌∷◌, [], ap, ◌∙◌, sym, Bool, true, List, ℕ, None, is_some, length, arith}
@@ -121,6 +121,12 @@ returns-then-is_open-2-clause-acts g c =
           let kept = c.run.ensures.kept (λ row e. (let w = row_from r c.add.new.self c.args.self.now.thread (λ x. record x { calls = grown x.calls (record { call = c.args.call; reply = c.args.reply }) c.args.self.now.ahead }) (λ x. refl) c.add.ensures.added row e in
           ap (λ (x : Attempt). x.ran) w.2 ∙ (c.requires.acts.still held w.0 w.1 ∙ sym c.due.ensures))) in
           (both.0, (let x = both.1 in omega arith)));
+      backed = λ row e.
+          (let w = was row e in
+          let few = c.requires.acts.adds (sym c.is_open-is_open.ensures ∙ c.if-is_open-2.true) w.0 w.1 (record { call = c.args.call; reply = c.args.reply }) in
+          let n = ap (λ (x : Attempt). x.calls.room) w.2 in
+          omega arith);
+      asks = subst (AsksAs _) (sym c.requires.answered.1.status) tt;
     }
 
 pub returns-then-is_open-clause-acts : goal.returns-then-is_open-clause-acts
@@ -147,6 +153,11 @@ returns-then-is_open-clause-acts g c =
       pending = λ row e. absurd (let gone : None ≡ Some row = sym c.take.ensures.after ∙ e in cc);
       status = subst NoCancel (sym d.status) tt;
       room = c.requires.acts.room;
+      backed = λ row e. (let same : attempt ≡ row = (let both : Some attempt ≡ Some row = sym there ∙ e in cc) in
+          let few = c.requires.acts.opens opened c.in-Some.attempt (sym c.in-Some.ensures.value) in
+          let n = ap (λ (x : Attempt). x.calls.room) same in
+          omega arith);
+      asks = subst (AsksAs _) (sym d.status) tt;
     }
 
 pub returns-then-is_open-2-clause-records : goal.returns-then-is_open-2-clause-records
