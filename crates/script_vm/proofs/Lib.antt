@@ -3,3 +3,5 @@ pub mod CancelExamples
 pub mod Padding
 pub mod LowBytes
 pub mod KeptBlocks
+pub mod NestedThreads
+pub mod NestingExamples

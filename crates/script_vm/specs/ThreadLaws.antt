@@ -115,12 +115,12 @@ nearer p c r e = nearer_at p p.rest c r e
 
 -- ## Blocks open and close by begins and commits alone
 
-length-closed : (blocks : List Block) → length (closed blocks) ≡ length blocks - 1
+pub length-closed : (blocks : List Block) → length (closed blocks) ≡ length blocks - 1
 length-closed [] = refl
 length-closed (outer ∷ []) = refl
 length-closed (outer ∷ inner ∷ more) = omega (arith, length-closed (inner ∷ more))
 
-length-deeper : (blocks : List Block) (new : Block) → length (deeper blocks new) ≡ suc (length blocks)
+pub length-deeper : (blocks : List Block) (new : Block) → length (deeper blocks new) ≡ suc (length blocks)
 length-deeper blocks new = grind (arith, length-append {A = Block})
 
 -- with the thread's parts as variables
