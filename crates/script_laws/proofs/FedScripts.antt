@@ -1,0 +1,69 @@
+-- A script tells its room truly, since its code is nested; and so its irrevocable attempt never wants memory.
+use Rattle.std.proofs.Common.{◌≡◌, ℕ, zero, suc, ◌≤◌, List, [], ◌∷◌, map, Some, refl, sym, ap, subst, ◌∙◌, inl, inr, arith}
+use Rattle.std.specs.Prelude.{slice_get}
+use Rattle.itm_types.specs.declared.call.Call.{Call}
+use Rattle.itm_types.specs.declared.call.Call.TheVariants.{Begin, Commit, Mode}
+use Rattle.itm_types.specs.declared.call.Reply.{Reply}
+use Rattle.itm_types.specs.declared.call.Reply.TheVariants.{Bytes, Code, Done, Refused}
+use Rattle.norec_world.specs.PlayerRooms.{ComesTo, EndsWithin, GoesTo, MayReply, TellsRoom, told_room}
+use Rattle.norec_world.proofs.Common.{slice_get_within}
+use Rattle.norec_world.proofs.SoundOthers.{there_is}
+use Rattle.script_laws.proofs.AssembledCode.{assembled_nests}
+use Rattle.script_laws.specs.Fed.{AreFed, TellRoom}
+use Rattle.script_program.specs.declared.instruction.Instruction.{Instruction}
+use Rattle.script_program.specs.Listing.{threads_of}
+use Rattle.script_vm.specs.Nesting.{Nests}
+use Rattle.script_vm.specs.Threads.{Thread, answered, depth_of, next_call, opening, thread_rules}
+use Rattle.script_vm.proofs.NestedThreads.{IsNested, IsReplied, asked_room, back_nested, left, opening_nested, plays, some_left}
+
+may_be : (depth : ℕ) (call : Call) (reply : Reply) → MayReply depth call reply → IsReplied depth call reply
+may_be depth (Begin props room) (Code n) m = tt
+may_be depth (Begin props room) (Refused why) m = tt
+may_be depth (Begin props room) Done m = m
+may_be depth (Begin props room) (Bytes v) m = m
+may_be depth Commit reply m = m
+may_be depth call reply m = tt
+
+same_room : (call : Call) (n : ℕ) → told_room call ≡ Some n → asked_room call ≡ Some n
+same_room (Begin props room) n e = e
+same_room (Mode room) n e = e
+same_room call n e = absurd (cc)
+
+goes_nested : (p q : Thread) → IsNested p → GoesTo thread_rules p q → IsNested q
+goes_nested p q nested (inl g) = subst IsNested (sym g.4) (plays p g.0 g.1 nested g.2 (may_be (depth_of p) g.0 g.1 g.3)).nested
+goes_nested p q nested (inr g) = subst IsNested (sym g.1) (back_nested p nested)
+
+comes_nested : (n : ℕ) (code : List Instruction) (q : Thread) → Nests code [] → ComesTo thread_rules n (opening code) q → IsNested q
+comes_nested zero code q x comes = subst IsNested (sym comes) (opening_nested code x)
+comes_nested (suc n) code q x comes = goes_nested comes.0 q (comes_nested n code comes.0 x comes.1) comes.2
+
+ends_within : (n : ℕ) (t : Thread) → IsNested t → left t ≤ n → EndsWithin thread_rules n t
+ends_within zero t nested few = λ call next. by_depth call next (depth_of t) refl
+  where
+    by_depth : (call : Call) → next_call t ≡ Some call → (d : ℕ) → depth_of t ≡ d → depth_of t ≡ 0
+    by_depth call next zero e = e
+    by_depth call next (suc d) e = absurd (let some = some_left t call next (omega arith) in omega arith)
+ends_within (suc n) t nested few = λ some call reply next may.
+    (let x = plays t call reply nested next (may_be (depth_of t) call reply may) in
+    let falls = x.falls some in
+    ends_within n (answered t reply) x.nested (omega arith))
+
+pub tells_room : (code : List Instruction) → Nests code [] → TellsRoom thread_rules (opening code)
+tells_room code x n q call reply room comes next may told =
+    let p = plays q call reply (comes_nested n code q x comes) next (may_be (depth_of q) call reply may) in
+    ends_within room (answered q reply) p.nested (p.told room (same_room call room told))
+
+pub tell_room : TellRoom
+tell_room text p e place code is = tells_room code (assembled_nests text p e place code is)
+
+-- a player of each place is that of the thread
+opened_at : (codes : List (List Instruction)) (place : ℕ) (t : Thread) → slice_get (map opening codes) place ≡ Some t → (code : List Instruction) × (slice_get codes place ≡ Some code) × (t ≡ opening code)
+opened_at [] place t e = absurd (cc)
+opened_at (x ∷ codes) zero t e = (x, refl, (let same : opening x ≡ t = cc in sym same))
+opened_at (x ∷ codes) (suc n) t e = opened_at codes n t e
+
+pub are_fed : AreFed
+are_fed text p w e players tied place a is starved =
+    let here = there_is w.opening place (let l = slice_get_within w.actors place a is in let long = tied.each in omega arith) in
+    let thread = opened_at (threads_of p) place here.0 (ap (λ (l : List Thread). slice_get l place) (sym players) ∙ here.1) in
+    tied.fed place here.0 a here.1 is (subst (TellsRoom thread_rules) (sym thread.2) (tell_room text p e place thread.0 thread.1)) starved

@@ -1,0 +1,3 @@
+pub mod OpenCode
+pub mod AssembledCode
+pub mod FedScripts

@@ -1,0 +1,21 @@
+-- The room that the threads of a script tell, and the memory that a world of them wants.
+use Rattle.std.specs.Prelude.{◌≡◌, ℕ, false, List, map, Some, Ok, slice_get}
+use Rattle.norec_world.specs.declared.actor.Actor.{Actor}
+use Rattle.norec_world.specs.PlayerRooms.{TellsRoom}
+use Rattle.norec_world.specs.Status.{ending_of}
+use Rattle.norec_world.specs.Tied.{AreTied}
+use Rattle.norec_world.specs.World.{World}
+use Rattle.script_asm.specs.Assembly.{program_of}
+use Rattle.script_program.specs.declared.instruction.Instruction.{Instruction}
+use Rattle.script_program.specs.Listing.{Listing, threads_of}
+use Rattle.script_vm.specs.Threads.{Thread, opening, thread_rules}
+use Rattle.tx_runs.specs.declared.ending.End.TheVariants.{NoMemory}
+
+-- each thread of each script tells it truly
+abbrev pub TellRoom : Type 0
+TellRoom = (text : List ℕ) (p : Listing) → program_of text ≡ Ok p → (place : ℕ) (code : List Instruction) → slice_get (threads_of p) place ≡ Some code → TellsRoom thread_rules (opening code)
+
+-- in a world that began with a script's threads, at every moment: no actor that ended for want of memory has an irrevocable attempt
+abbrev pub AreFed : Type 0
+AreFed = (text : List ℕ) (p : Listing) (w : World Thread) → program_of text ≡ Ok p → w.opening ≡ map opening (threads_of p) → AreTied thread_rules w
+    → (place : ℕ) (a : Actor Thread) → slice_get w.actors place ≡ Some a → ending_of a.status ≡ Some NoMemory → a.engine.irrevocable ≡ false

@@ -1,0 +1,19 @@
+//! Laws of scripts: what their code is like, and what follows for the worlds that they are run in.
+#![tactic(auto)]
+
+ghost use Rattle.script_laws.specs.Assembled.{AreNested};
+ghost use Rattle.script_laws.specs.Fed.{AreFed, TellRoom};
+
+/// In the code of each script the blocks and groups stand within each other, each ended before what is around it. Does
+/// nothing.
+pub fn nested()
+    ensures { AreNested }
+{}
+
+/// Each thread of a script tells its room truly: as it makes its transaction irrevocable, how many calls come at most
+/// until its outermost block ends. So in a world of a script's threads no actor that found no memory has an irrevocable
+/// attempt. Does nothing.
+pub fn fed()
+    ensures tells { TellRoom }
+    ensures fed { AreFed }
+{}
