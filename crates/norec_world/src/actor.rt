@@ -103,6 +103,7 @@ impl<P: Player> Actor<P> {
     }
 
     /// The operation that it waits for: the call goes on, or is answered.
+    #[inline(always)]
     pub(crate) fn step(&mut self, memory: &mut Memory, recorded: &mut Recorded)
         requires sound { IsSound P.Player memory.old recorded.old self.old }
         requires waits { is_waiting self.old.status ≡ true }
@@ -119,6 +120,7 @@ impl<P: Player> Actor<P> {
 
     /// The call in progress waits for a step, or what comes of its answer is recorded. The call stays where it is while it
     /// waits.
+    #[inline(always)]
     fn proceed(&mut self, recorded: &mut Recorded, next: Next)
         requires waits { is_waiting self.old.status ≡ true }
         requires due { (call : Call) (step : Step) → self.old.status ≡ Status.Waits call step

@@ -117,6 +117,7 @@ impl Recorded {
     }
 
     /// A call of the actor's open attempt has a reply, and asked for this room.
+    #[inline(always)]
     pub(crate) fn add(&mut self, thread: u8, spare: &mut Vec<Entry>, entry: Entry, ahead: usize)
         requires empty { spare.old.items ≡ [] }
         requires room { (row : Attempt) → active_of thread self.old.active ≡ Some row → row.calls.room ≡ 0

@@ -33,6 +33,7 @@ impl<P: Player> Actor<P> {
     ghost use Rattle.norec_world.specs.Sound.{IsTied, IsKept, IsReady, IsSound, IsAnswered, IsSettledBy, IsAsked, IsUnasked, IsNoMore, Falls, retried};
 
     /// Calls are made until one waits for a step or the actor has ended.
+    #[inline(always)]
     pub(crate) fn work(&mut self, alloc: Global, memory: &Memory, recorded: &mut Recorded)
         requires { IsSound P.Player memory.now recorded.old self.old }
         ensures worked { HasWorked P.Player memory.now recorded.old self.old recorded.new self.new }
@@ -44,6 +45,7 @@ impl<P: Player> Actor<P> {
     }
 
     /// The player's next call.
+    #[inline(never)]
     fn call_next(&mut self, alloc: Global, memory: &Memory, recorded: &mut Recorded)
         requires sound { IsSound P.Player memory.now recorded.old self.old }
         requires ready { self.old.status ≡ Status.Ready }
@@ -174,7 +176,9 @@ impl<P: Player> Actor<P> {
         })
     }
 
-    /// What comes of the call's answer.
+    /// What comes of the call's answer. Its code stands where it is called, as does that of what it does with the call: a
+    /// call and its reply are large, and would be copied from one function to the next.
+    #[inline(always)]
     pub(crate) fn settle(&mut self, recorded: &mut Recorded, call: Call, answer: Answer)
         requires answered { (was : Bool) × IsAnswered P.Player was recorded.old self.old call answer }
         requires acts { MayRun recorded.old self.old }
@@ -223,6 +227,7 @@ impl<P: Player> Actor<P> {
     }
 
     /// The transaction is open as it was, or was cancelled, or its begin is over.
+    #[inline(always)]
     fn replied(&mut self, recorded: &mut Recorded, call: Call, reply: Reply)
         requires answered { (was : Bool) × IsAnswered P.Player was recorded.old self.old call (Answer.Reply reply) }
         requires acts { MayRun recorded.old self.old }
@@ -236,7 +241,7 @@ impl<P: Player> Actor<P> {
     {
         self.player.answer(&reply);
         let is_open = self.engine.is_open();
-        match self.pending.take() {
+        match taken(&mut self.pending) {
             Some(mut attempt) => {
                 if is_open {
                     self.again = true;
@@ -262,6 +267,7 @@ impl<P: Player> Actor<P> {
     }
 
     /// The block is done, and the next one is tried for the first time.
+    #[inline(always)]
     fn committed(&mut self, recorded: &mut Recorded, call: Call, at: u64, wrote: bool)
         requires answered { (was : Bool) × IsAnswered P.Player was recorded.old self.old call (Answer.Committed at wrote) }
         requires acts { MayRun recorded.old self.old }
@@ -282,6 +288,7 @@ impl<P: Player> Actor<P> {
     }
 
     /// The open attempt ends, with the call that has ended its block; the next one is of another block.
+    #[inline(always)]
     fn close(&mut self, recorded: &mut Recorded, entry: Entry, at: u64, outcome: Outcome)
         requires empty { self.old.spare.items ≡ [] }
         requires room { (row : Attempt) → active_of self.old.thread recorded.old.active ≡ Some row
@@ -365,4 +372,16 @@ impl<P: Player> Actor<P> {
         }
         self.status = Status::Ended(End::NoMemory);
     }
+}
+
+/// What stands there, which is left empty. Nearly every answer finds none, and then nothing is moved.
+#[inline(always)]
+fn taken(pending: &mut Option<Attempt>) -> Option<Attempt>
+    ensures value { result ≡ pending.old }
+    ensures after { pending.new ≡ None }
+{
+    if pending.is_none() {
+        return None;
+    }
+    pending.take()
 }

@@ -146,6 +146,7 @@ impl<P: Player> World<P> {
 
     /// One event of an actor that waits, as `go`. True where the call in progress has fewer steps left, as it has where it
     /// goes on; false where less is left of the whole run, as where that call is over. So a loop of such events ends.
+    #[inline(always)]
     pub fn event(&mut self, alloc: Global, actor: u8) -> bool
         requires { IsSome (waits_at self.old actor) }
         ensures goes { Goes P.Player actor self.old (told (ending_at self.new actor)) self.new }
