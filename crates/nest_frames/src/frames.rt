@@ -160,6 +160,10 @@ impl Frames {
         ensures actions { self.new.actions ≡ self.old.actions }
         ensures room { self.new.room ≡ self.old.room }
     {
+        if self.moments.is_empty() {
+            self.moments.push(Moment::at_start(props));
+            return;
+        }
         let rows = self.writes.mark();
         let log = self.undo.mark();
         let actions = self.actions.mark();
@@ -190,14 +194,15 @@ impl Frames {
             kept_of arena (log_of self.new.blocks)
             ≡ merged (kept_of arena (log_of (drop 1 self.old.blocks))) (kept_of arena (log_of self.old.blocks)) }
     {
-        let Some(closed) = self.moments.pop() else {
-            unreachable!()
-        };
-        if self.moments.is_empty() {
+        if self.moments.len() == 1 {
+            let _outermost = self.moments.pop();
             self.writes.clear();
             self.undo.clear();
             self.actions.run_commits();
         } else {
+            let Some(closed) = self.moments.pop() else {
+                unreachable!()
+            };
             self.writes.forget_mark(closed.rows);
             self.undo.forget_mark(closed.log);
         }

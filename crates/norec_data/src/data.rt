@@ -84,6 +84,7 @@ impl Data {
 }
 
 /// The transaction has committed, and nothing of it is kept.
+#[inline(always)]
 pub fn finish(state: &mut Data)
     requires { is_outermost state.old.frames.blocks ≡ true }
     ensures { IsEnded state.old state.old.arena (committed state.old.frames.actions) state.new }

@@ -93,6 +93,7 @@ impl Words {
 
     /// One atomic operation on one cell: tells the value loaded, the value that a compare-exchange met, or 0 for a
     /// store.
+    #[inline(always)]
     pub fn step(&self, pass: &mut Pass, step: Step) -> u64
         requires own { Owns self.now pass.old }
         requires cell { cell_of step < cells_of self.now }

@@ -3,8 +3,8 @@ use Rattle.nest_frames.specs.Nest.{Nest}
 use Rattle.nest_frames.proofs.OpenBlocks.{length-frames_of}
 use Rattle.nest_frames.proofs.frames.Frames.enter.Goals as goal
 
-pub push-requires : goal.push-requires
-push-requires c =
+pub push-requires-2 : goal.push-requires-2
+push-requires-2 c =
     let f = c.self.inside in
     let blocks = ap (λ (v : Nest). length v.blocks) c.self.view_is in
     (omega arith, omega (arith, c.requires, blocks, length-frames_of f.writes f.undo.olds f.moments.items))
