@@ -1,10 +1,10 @@
 -- Code that stands several times.
-use Rattle.std.proofs.Common.{◌≡◌, ◌<◌, ℕ, zero, suc, ◌+◌, ◌-◌, ◌*◌, ◌^◌, ◌≤◌, min, ltb, List, [], ◌++◌, length, take, drop, refl, sym, ap, ◌∙◌, arith, length-append, append_assoc, subst, add-one}
-use Rattle.std.specs.List.{repeat, slice_range}
+use Rattle.std.proofs.Common.{◌≡◌, ◌<◌, ℕ, zero, suc, ◌+◌, ◌-◌, ◌*◌, ◌^◌, ◌≤◌, min, ltb, List, [], ◌++◌, length, take, drop, refl, sym, ap, ◌∙◌, arith, length-append, append_assoc, add-one}
+use Rattle.std.specs.List.{repeat}
 use Rattle.std.proofs.lemmas.Bool.{ltb_from_iff, ltb-true, lt-ltb}
 use Rattle.std.proofs.lemmas.Grind.{common_steps}
 use Rattle.std.proofs.lemmas.List.{append-nil, length-take, length-drop, take-append-drop}
-use Rattle.std.proofs.Math.Seq.{drop-append_seam, take-append_seam}
+use Rattle.std.proofs.Math.Seq.{take-append_seam}
 use Rattle.std.proofs.Math.Nat.{mul_comm, mul-le-mul_right}
 use Rattle.script_program.specs.declared.instruction.Instruction.{Instruction}
 use Rattle.script_program.specs.Sections.{Sections, instruction_total, expanded, counted_again}
@@ -54,24 +54,12 @@ too_many all group times product few within p =
     ltb_from_iff (λ e. let below = ltb-true _ _ e in omega (arith, same, below), λ below. lt-ltb _ _ (omega (arith, same, below)))
 
 -- one more of what stands there
-appended : (c : List Instruction) (start count : ℕ) → start ≤ length c → 1 ≤ count
-    → slice_range (take start c ++ repeat count (drop start c)) start (length c) ≡ drop start c
-appended c start zero h k = absurd (omega arith)
-appended c start (suc n) h k =
-    let d : List Instruction = drop start c in
-    let place : length (take start c) ≡ start = omega (arith, length-take start c) in
-    let rest : drop start (take start c ++ (d ++ repeat n d)) ≡ d ++ repeat n d = subst (λ (m : ℕ). drop m (take start c ++ (d ++ repeat n d)) ≡ d ++ repeat n d) place (drop-append_seam (take start c) (d ++ repeat n d)) in
-    let size : length d ≡ length c - start = length-drop start c in
-    ap (take (length c - start)) rest ∙ subst (λ (m : ℕ). take m (d ++ repeat n d) ≡ d) size (take-append_seam d (repeat n d))
-
-pub once_more : (t : Sections) (start count : ℕ) → start ≤ length t.code → 1 ≤ count
-    → record (expanded t start count) { code = (expanded t start count).code ++ slice_range (expanded t start count).code start (length t.code) } ≡ expanded t start (count + 1)
+pub once_more : (t : Sections) (start count : ℕ) → record (expanded t start count) { code = (expanded t start count).code ++ drop start t.code } ≡ expanded t start (count + 1)
 unfolding expanded
-once_more t start count h k =
+once_more t start count =
     let d : List Instruction = drop start t.code in
-    let code : (take start t.code ++ repeat count d) ++ slice_range (take start t.code ++ repeat count d) start (length t.code) ≡ take start t.code ++ repeat (count + 1) d =
-    ap (λ (l : List Instruction). (take start t.code ++ repeat count d) ++ l) (appended t.code start count h k) ∙ append_assoc (take start t.code) (repeat count d) d
-    ∙ ap (λ (l : List Instruction). take start t.code ++ l) (rw add-one (repeat_more count d)) in
+    let code : (take start t.code ++ repeat count d) ++ d ≡ take start t.code ++ repeat (count + 1) d =
+    append_assoc (take start t.code) (repeat count d) d ∙ ap (λ (l : List Instruction). take start t.code ++ l) (rw add-one (repeat_more count d)) in
     ap (λ (l : List Instruction). record t { code = l }) code
 
 -- as much of it as there was before is what there was
@@ -91,19 +79,14 @@ expanded_length t start times h =
     omega (arith, length-append (take start t.code) (repeat times (drop start t.code)), length-take start t.code, length-repeat times (drop start t.code), ap (λ (n : ℕ). times * n) (length-drop start t.code))
 
 -- fewer times are less code
-pub room : (t : Sections) (start count times end : ℕ) → end ≡ length t.code → start ≤ end → count < times → instruction_total (expanded t start times) ≤ 65536 → instruction_total (expanded t start count) + (end - start) ≤ 65536
-room t start count times end e h k few =
+pub room : (t : Sections) (start count times : ℕ) → start ≤ length t.code → count < times → instruction_total (expanded t start times) ≤ 65536 → instruction_total (expanded t start count) + length (drop start t.code) ≤ 65536
+room t start count times h k few =
     let here = expanded_total t start count in
     let there = expanded_total t start times in
+    let size = length-drop start t.code in
     let more : (count + 1) * (length t.code - start) ≤ times * (length t.code - start) = mul-le-mul_right (length t.code - start) (omega arith) in
     let one : (count + 1) * (length t.code - start) ≡ count * (length t.code - start) + (length t.code - start) = omega arith in
-    omega (arith, here, there, more, one)
-
-pub within : (t : Sections) (start count end : ℕ) → end ≡ length t.code → start ≤ end → 1 ≤ count → end ≤ length (expanded t start count).code
-within t start count end e h k =
-    let here = expanded_length t start count (omega arith) in
-    let once : 1 * (length t.code - start) ≤ count * (length t.code - start) = mul-le-mul_right (length t.code - start) k in
-    omega (arith, here, once)
+    omega (arith, here, there, more, one, size)
 
 pub longer : (t : Sections) (start times end : ℕ) → end ≡ length t.code → start < end → 1 < times → length t.code < length (expanded t start times).code
 longer t start times end e h k =

@@ -1,6 +1,6 @@
 //! The threads of a script: sections of code, each for one thread or for several.
 
-ghost use Rattle.std.specs.Prelude.{◌≡◌, ◌+◌, ◌-◌, ◌*◌, ◌<◌, ◌≤◌, [], ◌∷◌, ◌++◌, Some, OnErr, OnOk, length, nat_le, nat_lt, slice_get, slice_range, take};
+ghost use Rattle.std.specs.Prelude.{◌≡◌, ◌+◌, ◌-◌, ◌*◌, ◌<◌, ◌≤◌, [], ◌∷◌, ◌++◌, Some, OnErr, OnOk, length, nat_le, nat_lt, slice_get, take};
 ghost use Rattle.script_program.specs.Listing.{codes_of};
 ghost use Rattle.script_program.specs.Sections.{parts_of, thread_total, instruction_total, begun, expanded, counted_again};
 
@@ -209,17 +209,15 @@ impl Threads {
         self.instructions -= group;
     }
 
-    /// What stands between two places of the code that is read stands after its end too.
+    /// These instructions stand after the code that is read.
     #[tactic(auto, unfolding(crate::specs::Sections::thread_total, crate::specs::Sections::instruction_total))]
-    fn append(&mut self, start: usize, end: usize) -> Result<(), AllocError>
-        requires order { start ≤ end }
-        requires within { end ≤ length self.old.code }
-        requires room { instruction_total self.old + (end - start) ≤ MAX_INSTRUCTIONS }
-        ensures ok { OnOk result (self.new ≡ record self.old { code = self.old.code ++ slice_range self.old.code start end }) }
+    fn append(&mut self, more: &[Instruction]) -> Result<(), AllocError>
+        requires room { instruction_total self.old + length more.now ≤ MAX_INSTRUCTIONS }
+        ensures ok { OnOk result (self.new ≡ record self.old { code = self.old.code ++ more.now }) }
         ensures refused { OnErr result (self.new ≡ self.old) }
     {
-        self.code.extend_from_within(start..end)?;
-        self.instructions += end - start;
+        self.code.extend_from_slice(more)?;
+        self.instructions += more.len();
         Ok(())
     }
 
@@ -239,8 +237,14 @@ impl Threads {
         if end <= start {
             return Ok(());
         }
+        if times == 1 {
+            return Ok(());
+        }
+        // a copy of the group, which is put behind the code as one piece
+        let (_, group) = self.code.split_at(start);
+        let group = group.to_vec(*self.code.allocator())?;
         for count in 1..times {
-            match self.append(start, end) {
+            match self.append(&group) {
                 Ok(()) => {}
                 Err(failed) => {
                     self.cut(end);

@@ -1,23 +1,26 @@
-use Rattle.std.proofs.Common.{ℕ, ◌≡◌, ◌+◌, ◌-◌, ◌<◌, ◌≤◌, ◌++◌, length, take, arith, ap, sym, ◌∙◌, subst}
-use Rattle.std.specs.List.{slice_range}
+use Rattle.std.proofs.Common.{ℕ, Result, Ok, Err, ◌≡◌, ◌+◌, ◌<◌, ◌≤◌, ◌++◌, List, length, take, drop, arith, refl, ap, sym, ◌∙◌, subst}
+use Rattle.std.specs.Prelude.{OnErr}
+use Rattle.script_program.specs.declared.instruction.Instruction.{Instruction}
 use Rattle.script_program.specs.Sections.{Sections, instruction_total, expanded}
-use Rattle.script_program.proofs.Repeats.{room, within, longer, once_more, cut_back}
+use Rattle.script_program.proofs.Repeats.{room, longer, once_more, cut_back}
 use Rattle.script_program.proofs.threads.Threads.repeat.Goals as goal
 
-pub append-requires-clause-within : goal.append-requires-clause-within
-append-requires-clause-within c =
-    let s : Sections = c.args.self.now in
-    let start = c.args.start in
-    let here : c.code_len-end.result ≤ length (expanded s start c.loop-count.count).code = within s start c.loop-count.count c.code_len-end.result c.code_len-end.ensures (omega arith) (omega arith) in
-    subst (λ (t : Sections). c.code_len-end.result ≤ length t.code) (sym c.loop-count.invariant) here
+-- where it holds in any case
+whatever : {A E P : Type 0} (r : Result A E) → P → OnErr r P
+whatever (Ok x) p = tt
+whatever (Err e) p = p
 
-pub append-requires-clause-room : goal.append-requires-clause-room
-append-requires-clause-room c =
+pub returns-in_err-group-clause-refused : goal.returns-in_err-group-clause-refused
+returns-in_err-group-clause-refused c = whatever c.from_residual.result (longer c.args.self.now c.args.start c.args.times c.code_len-end.result c.code_len-end.ensures (omega arith) (omega arith), refl)
+
+pub append-requires : goal.append-requires
+append-requires c =
     let s : Sections = c.args.self.now in
     let start = c.args.start in
-    let here : instruction_total (expanded s start c.loop-count.count) + (c.code_len-end.result - start) ≤ 65536 =
-    room s start c.loop-count.count c.args.times c.code_len-end.result c.code_len-end.ensures (omega arith) (omega arith) c.requires in
-    subst (λ (t : Sections). instruction_total t + (c.code_len-end.result - start) ≤ 65536) (sym c.loop-count.invariant) here
+    let group : c.deref-in-loop-count.result.now ≡ drop start s.code = c.deref-in-loop-count.ensures.value ∙ (c.in_ok-group.ensures.items_if_clones_equal (λ x y e. e) ∙ (c.split_at.ensures.back ∙ ap (drop start) (c.deref.ensures.value ∙ ap (λ (t : Sections). t.code) c.self.view_is))) in
+    let here : instruction_total (expanded s start c.loop-count.count) + length (drop start s.code) ≤ 65536 = room s start c.loop-count.count c.args.times (omega arith) (omega arith) c.requires in
+    let there : instruction_total (expanded s start c.loop-count.count) + length c.deref-in-loop-count.result.now ≤ 65536 = subst (λ (l : List Instruction). instruction_total (expanded s start c.loop-count.count) + length l ≤ 65536) (sym group) here in
+    record { room = subst (λ (t : Sections). instruction_total t + length c.deref-in-loop-count.result.now ≤ 65536) (sym c.loop-count.invariant) there }
 
 -- what stands up to an end
 abbrev up_to : Sections → ℕ → Sections
@@ -33,15 +36,15 @@ returns-in-Err-clause-refused c =
     let same : c.append.new.self ≡ expanded s start c.loop-count.count = c.in-Err.ensures.refused ∙ c.loop-count.invariant in
     (more, cut ∙ ap (λ (t : Sections). up_to t end) same ∙ ap (up_to (expanded s start c.loop-count.count)) c.code_len-end.ensures ∙ cut_back s start c.loop-count.count (omega arith))
 
--- one more of what stands from a place to an end
-abbrev next : ℕ → Sections → ℕ → Sections
-next start t end = record t { code = t.code ++ slice_range t.code start end }
+-- one more group
+abbrev next : Sections → List Instruction → Sections
+next t more = record t { code = t.code ++ more }
 
 pub loop-count-preserved : goal.loop-count-preserved
 loop-count-preserved c =
     let s : Sections = c.args.self.now in
     let start = c.args.start in
-    let now : c.append.new.self ≡ next start c.loop-count.self c.code_len-end.result = c.in-Ok.ensures.ok in
-    now ∙ ap (next start c.loop-count.self) c.code_len-end.ensures
-    ∙ ap (λ (t : Sections). next start t (length s.code)) c.loop-count.invariant
-    ∙ once_more s start c.loop-count.count (omega arith) (omega arith)
+    let group : c.deref-in-loop-count.result.now ≡ drop start s.code = c.deref-in-loop-count.ensures.value ∙ (c.in_ok-group.ensures.items_if_clones_equal (λ x y e. e) ∙ (c.split_at.ensures.back ∙ ap (drop start) (c.deref.ensures.value ∙ ap (λ (t : Sections). t.code) c.self.view_is))) in
+    let now : c.append.new.self ≡ next c.loop-count.self c.deref-in-loop-count.result.now = c.in-Ok.ensures.ok in
+    now ∙ ap (next c.loop-count.self) group ∙ ap (λ (t : Sections). next t (drop start s.code)) c.loop-count.invariant
+    ∙ once_more s start c.loop-count.count
