@@ -51,6 +51,7 @@ fn put_refused<W: Write>(pages: &mut Pages<'_, W>, refusal: Refusal)
 }
 
 /// An entry point, and the first byte that it is called for.
+#[inline(always)]
 fn put_at<W: Write>(pages: &mut Pages<'_, W>, function: Function, at: u64)
     ensures same { pages.new.writer.ghost_name ≡ pages.old.writer.ghost_name }
     ensures grows { Grows (sheet W.contents pages.old) (sheet W.contents pages.new)
