@@ -57,6 +57,18 @@ check 'a flag' 1
 run check
 check 'check without a file' 1
 
+# a line that cannot be written
+if [ -w /dev/full ]; then
+    : >"$work/want_errors"
+    : >"$work/errors"
+    "$program" >"$work/output" 2>/dev/full
+    status=$?
+    check 'no words, and full errors' 5
+    "$program" sched "$work/absent" >"$work/output" 2>/dev/full
+    status=$?
+    check 'a file that is not there, and full errors' 5
+fi
+
 # files that cannot be read. That of a process's own memory can be opened, and its first read fails.
 want_line 'itmrun: reading failed'
 : >"$work/locked"

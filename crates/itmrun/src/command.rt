@@ -1,5 +1,10 @@
 //! The program's words.
 
+ghost use Rattle.std.specs.Prelude.{◌≡◌, ℕ, List, IfErr, IfOk, IfSome, OnErr};
+ghost use Rattle.itmrun.specs.declared.command.Task.{Task};
+ghost use Rattle.itmrun.specs.Doing.{Answered, Does, Runs, fault_line, fault_status, word_of};
+ghost use Rattle.text_commands.specs.Answers.{Says};
+
 use clap::error::ErrorKind;
 use clap::{Arg, ArgAction, ArgMatches, Command};
 use run_commands::{sched, threads};
@@ -34,10 +39,28 @@ enum Task {
     Check,
 }
 
-/// Says a line on the error writer; where that fails, nothing more can be said.
-fn say<E: Write>(errors: &mut E, line: &[u8], status: u8) -> u8 {
-    let _ = put_pieces(errors, &[Piece::Text(line)]);
-    status
+/// Says a line on the error writer, and answers the status; where the line cannot be written, the status is 5.
+fn say<E: Write>(errors: &mut E, line: &[u8], status: u8) -> u8
+    ensures { Says line.now status result (E.contents errors.old) (E.contents errors.new) }
+{
+    match put_pieces(errors, &[Piece::Text(line)]) {
+        Ok(()) => status,
+        Err(_) => 5,
+    }
+}
+
+/// Says why the words say nothing that can be done, and answers the program's status.
+fn tell<E: Write>(errors: &mut E, fault: WordsFault) -> u8
+    ensures { Says (fault_line fault) (fault_status fault) result (E.contents errors.old) (E.contents errors.new) }
+{
+    match fault {
+        WordsFault::Usage => say(
+            errors,
+            b"itmrun: usage: itmrun asm|sched|threads|check FILE\n",
+            1,
+        ),
+        WordsFault::Memory => say(errors, b"itmrun: no memory\n", 4),
+    }
 }
 
 /// The program's words, its own name first.
@@ -81,7 +104,11 @@ fn fault_of(kind: ErrorKind) -> WordsFault {
 }
 
 /// What a command asks for.
-fn task_of(command: &str) -> Result<Task, WordsFault> {
+#[tactic(auto, unfolding(crate::specs::Doing::word_of))]
+fn task_of(command: &str) -> Result<Task, WordsFault>
+    ensures word { IfOk result (λ task. command.now ≡ word_of task) }
+    ensures none { IfErr result (λ fault. (task : Task) → command.now ≡ word_of task → ⊥) }
+{
     match command {
         "asm" => Ok(Task::Asm),
         "sched" => Ok(Task::Sched),
@@ -105,7 +132,10 @@ fn do_task<T: Print + AllocGlobal + Threads + Wait, R: Read, E: Write>(
     task: Task,
     reader: &mut R,
     errors: &mut E,
-) -> u8 {
+) -> u8
+    ensures { (text : List ℕ) × IfSome (R.remaining reader.old) (λ all. text ≡ all)
+        × Answered task text result (E.contents errors.old) (E.contents errors.new) }
+{
     // the commands write in pages, and a reader of a pipe is to have each attempt at once: so nothing is held back here
     let mut writer = io::writer(rt);
     match task {
@@ -122,7 +152,9 @@ fn do_file<T: Files + Input + Print + AllocGlobal + Threads + Wait, E: Write>(
     task: Task,
     path: &str,
     errors: &mut E,
-) -> u8 {
+) -> u8
+    ensures { Does task result (E.contents errors.old) (E.contents errors.new) }
+{
     if path == "-" {
         return do_task(rt, task, &mut rt.reader(), errors);
     }
@@ -137,7 +169,10 @@ fn obey<T: Files + Input + Print + AllocGlobal + Threads + Wait, E: Write>(
     rt: &T,
     words: &[String],
     errors: &mut E,
-) -> Result<u8, WordsFault> {
+) -> Result<u8, WordsFault>
+    ensures done { IfOk result (λ status. (task : Task) × Does task status (E.contents errors.old) (E.contents errors.new)) }
+    ensures quiet { OnErr result (errors.new ≡ errors.old) }
+{
     let (task, path) = order_of(rt.alloc(), words)?;
     Ok(do_file(rt, task, path, errors))
 }
@@ -146,18 +181,15 @@ fn obey<T: Files + Input + Print + AllocGlobal + Threads + Wait, E: Write>(
 pub fn run<T: Env + Files + Input + Print + AllocGlobal + Threads + Wait, E: Write>(
     rt: &T,
     errors: &mut E,
-) -> u8 {
-    let done = match words_of(rt) {
-        Ok(words) => obey(rt, &words, errors),
-        Err(fault) => Err(fault),
+) -> u8
+    ensures { Runs result (E.contents errors.old) (E.contents errors.new) }
+{
+    let words = match words_of(rt) {
+        Ok(words) => words,
+        Err(fault) => return tell(errors, fault),
     };
-    match done {
+    match obey(rt, &words, errors) {
         Ok(status) => status,
-        Err(WordsFault::Usage) => say(
-            errors,
-            b"itmrun: usage: itmrun asm|sched|threads|check FILE\n",
-            1,
-        ),
-        Err(WordsFault::Memory) => say(errors, b"itmrun: no memory\n", 4),
+        Err(fault) => tell(errors, fault),
     }
 }
