@@ -1,6 +1,6 @@
 //! Scripts from their bytes to what is written, said and answered.
 
-use crate::fakes::{Comment, Meagre};
+use crate::fakes::Meagre;
 use std::alloc::Global;
 use std::io::{Read, Write};
 use std::process::Abort;
@@ -44,37 +44,6 @@ fn status_of<R: Read, W: Write, E: Write>(
     errors: &mut E,
 ) -> u8 {
     asm(alloc, reader, output, errors)
-}
-
-/// A reader fails after so many bytes: nothing is written, and the errors get this line.
-fn fails_after(rt: &impl Abort, alloc: Global, left: usize, status: u8, line: &[u8]) {
-    let mut reader = Comment {
-        left,
-        failed: false,
-    };
-    let mut output = Vec::new(alloc);
-    let mut errors = Vec::new(alloc);
-    assert_eq!(rt;
-        status_of(alloc, &mut reader, &mut output, &mut errors),
-        status
-    );
-    assert!(rt; output.is_empty());
-    assert_eq!(rt; errors.as_slice(), line);
-}
-
-/// A read that fails, and a text of which no more is read than makes it too long.
-#[test]
-fn failing_reads(rt: HostRuntime) {
-    let failed = b"itmrun: reading failed\n";
-    fails_after(&rt, rt.alloc(), 0, 5, failed);
-    fails_after(&rt, rt.alloc(), 16_777_216, 5, failed);
-    fails_after(
-        &rt,
-        rt.alloc(),
-        16_777_217,
-        2,
-        b"itmrun: line 0: too long\n",
-    );
 }
 
 /// Whether the whole text was taken, with status 0; else what was taken is a beginning of it, and the errors have the one

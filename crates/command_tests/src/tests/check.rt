@@ -1,6 +1,6 @@
 //! Histories from their bytes to what is written, said and answered.
 
-use crate::fakes::{Comment, Meagre};
+use crate::fakes::Meagre;
 use std::alloc::Global;
 use std::io::{Read, Write};
 use std::process::Abort;
@@ -31,26 +31,6 @@ fn status_of<R: Read, W: Write, E: Write>(
     errors: &mut E,
 ) -> u8 {
     check(alloc, reader, output, errors)
-}
-
-/// A reader fails after so many bytes: nothing is written, and the errors get the one line.
-fn fails_after(rt: &impl Abort, alloc: Global, left: usize) {
-    let mut reader = Comment {
-        left,
-        failed: false,
-    };
-    let mut output = Vec::new(alloc);
-    let mut errors = Vec::new(alloc);
-    assert_eq!(rt; status_of(alloc, &mut reader, &mut output, &mut errors), 5);
-    assert!(rt; output.is_empty());
-    assert_eq!(rt; errors.as_slice(), b"itmrun: reading failed\n".as_slice());
-}
-
-/// A read that fails.
-#[test]
-fn failing_reads(rt: HostRuntime) {
-    fails_after(&rt, rt.alloc(), 0);
-    fails_after(&rt, rt.alloc(), 5000);
 }
 
 /// After so many writes, one byte each, the next one fails, or the flush: what was taken before is a beginning of the

@@ -1,6 +1,6 @@
 //! Texts whose reads fail in turn, or give one byte at a time.
 
-use crate::fakes::Halting;
+use crate::fakes::{Comment, Halting};
 use run_commands::sched;
 use std::alloc::Global;
 use std::io::{Read, Write};
@@ -119,4 +119,48 @@ fn failing_reads(rt: HostRuntime) {
     ends_so(&rt, rt.alloc(), Command::Asm, SCRIPT, PRINT);
     ends_so(&rt, rt.alloc(), Command::Sched, SCRIPT, HISTORY);
     ends_so(&rt, rt.alloc(), Command::Check, HISTORY, b"legal\n");
+}
+
+/// A reader fails after so many bytes of a comment: nothing is written, and the errors get this line.
+fn fails_after(
+    rt: &impl Abort,
+    alloc: Global,
+    command: Command,
+    left: usize,
+    status: u8,
+    line: &[u8],
+) {
+    let mut reader = Comment {
+        left,
+        failed: false,
+    };
+    let mut output = Vec::new(alloc);
+    let mut errors = Vec::new(alloc);
+    assert_eq!(rt;
+        status_of(alloc, command, &mut reader, &mut output, &mut errors),
+        status
+    );
+    assert!(rt; output.is_empty());
+    assert_eq!(rt; errors.as_slice(), line);
+}
+
+/// A read that fails, and a script of which no more is read than makes it too long.
+#[test]
+fn failing_comments(rt: HostRuntime) {
+    let failed = b"itmrun: reading failed\n";
+    for command in [Command::Asm, Command::Sched] {
+        fails_after(&rt, rt.alloc(), command, 0, 5, failed);
+        fails_after(&rt, rt.alloc(), command, 16_777_216, 5, failed);
+        fails_after(
+            &rt,
+            rt.alloc(),
+            command,
+            16_777_217,
+            2,
+            b"itmrun: line 0: too long\n",
+        );
+    }
+    for left in [0, 5000] {
+        fails_after(&rt, rt.alloc(), Command::Check, left, 5, failed);
+    }
 }
