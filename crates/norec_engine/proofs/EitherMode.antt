@@ -8,8 +8,8 @@ use Rattle.norec_data.specs.declared.turn.Turn.TheVariants.{Wait, End, Enter}
 use Rattle.norec_data.specs.Bounds.{IsHeld, IsOver}
 use Rattle.norec_data.specs.Ends.{told}
 use Rattle.norec_data.specs.Turns.{core_after}
-use Rattle.norec_engine.specs.Between.{IsSoundTurn}
-use Rattle.norec_engine.specs.InPhases.{IsSound}
+use Rattle.norec_revocable.specs.Between.{IsSoundTurn}
+use Rattle.norec_revocable.specs.InPhases.{IsSound}
 use Rattle.norec_engine.specs.Modes.{engine_after, IsSoundWith}
 use Rattle.norec_irrevocable.specs.Outcomes.{held_after, IsSoundAfter}
 use Rattle.norec_irrevocable.specs.Phases.{IsSoundHeld}

@@ -10,10 +10,10 @@ use Rattle.norec_core.specs.Proceeds.{IsSettled, IsWithin}
 use Rattle.norec_data.specs.declared.data.Data.{Data}
 use Rattle.norec_data.specs.Bounds.{IsOutside}
 use Rattle.norec_data.specs.View.{core, held, holds_of, in_block, waits_of}
-use Rattle.norec_engine.specs.InPhases.{InPhase, IsSound}
+use Rattle.norec_revocable.specs.InPhases.{InPhase, IsSound}
 use Rattle.norec_engine.specs.Modes.{engine_in, IsSoundIn}
-use Rattle.norec_engine.proofs.Counts.{counts}
-use Rattle.norec_engine.proofs.Ended.{none_written}
+use Rattle.norec_revocable.proofs.Counts.{counts}
+use Rattle.norec_revocable.proofs.Ended.{none_written}
 use Rattle.norec_engine.proofs.HeldCounts.{held_counts}
 use Rattle.norec_irrevocable.specs.Phases.{IsSoundHeld}
 

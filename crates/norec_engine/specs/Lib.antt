@@ -1,5 +1,3 @@
-pub mod InPhases
-pub mod Between
 pub mod Modes
 pub mod NextSteps
 pub mod Foreseen

@@ -7,7 +7,7 @@ use Rattle.norec_data.specs.declared.turn.Turn.{Turn}
 use Rattle.norec_data.specs.declared.turn.Turn.TheVariants.{Wait, End, Enter}
 use Rattle.norec_data.specs.Turns.{data_after, phase_after}
 use Rattle.norec_data.specs.View.{core, held}
-use Rattle.norec_engine.specs.InPhases.{IsSound}
+use Rattle.norec_revocable.specs.InPhases.{IsSound}
 use Rattle.norec_irrevocable.specs.Phases.{IsSoundHeld}
 
 -- as its callers see it

@@ -1,25 +1,10 @@
--- A read of one whole word that is neither written nor logged.
-use Rattle.std.specs.Prelude.{◌≡◌, ℕ, ◌+◌, ◌*◌, ◌<◌, ◌≤◌, true, false, None}
-use Rattle.itm_types.specs.declared.access.Width.{Width}
+-- The steps of a read of one whole word that is neither written nor logged.
+use Rattle.std.specs.Prelude.{◌≡◌, ℕ, ◌<◌, false}
 use Rattle.itm_types.specs.declared.limits.TheConstants.{MAX_WORDS}
-use Rattle.itm_types.specs.Access.{size_of}
-use Rattle.itm_types.specs.LogRows.{value_of}
-use Rattle.write_set.specs.Rows.{lookup}
 use Rattle.norec_core.specs.Core.{Core}
 use Rattle.norec_core.specs.declared.phase.Phase.TheVariants.{Load, Confirm}
 use Rattle.norec_core.specs.declared.phase.Reading.{Reading}
-use Rattle.norec_data.specs.declared.data.Data.{Data}
-use Rattle.norec_data.specs.View.{in_block}
-use Rattle.norec_engine.specs.Between.{IsWord}
-
--- the read is served, and its word has to be loaded
-pub record IsNewWord (d : Data) (width : Width) (at word : ℕ) : Type 0 where
-  pub is_open : in_block d ≡ true
-  pub at_is : at ≡ 8 * word
-  pub size_is : size_of width ≡ 8
-  pub within : at + 8 ≤ 8 * d.words
-  pub unwritten : lookup word d.frames.writes.rows ≡ None
-  pub unlogged : value_of word d.log.rows ≡ None
+use Rattle.norec_revocable.specs.Between.{IsWord}
 
 -- the engine waits for the word
 pub record LoadsWord (e : Core) (word : ℕ) : Type 0 where

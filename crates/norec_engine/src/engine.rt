@@ -12,9 +12,6 @@ ghost use Rattle.norec_engine.specs.Modes.{IsSoundIn};
 ghost use Rattle.norec_core.specs.Undoing.{undone_of, after_undoing};
 ghost use Rattle.norec_engine.specs.NextSteps.{next_in};
 
-use crate::begin::begin;
-use crate::calls::{called, turned};
-use crate::mode::goes;
 use crate::turns::take;
 use itm_types::{
     Call, Datum, Limits, MAX_COMMITS, MAX_PATIENCE, MAX_WORDS, Props, Ran, ReadHint, Refusal, Step,
@@ -141,7 +138,7 @@ impl Engine {
         let turn = if self.irrevocable {
             norec_irrevocable::called(&mut self.state, &Call::Begin { props, room })?
         } else {
-            begin(&mut self.state, props, room, again)?
+            norec_revocable::begin(&mut self.state, props, room, again)?
         };
         Ok(take(
             &mut self.state,
@@ -178,7 +175,7 @@ impl Engine {
         let turn = if self.irrevocable {
             norec_irrevocable::called(&mut self.state, call)?
         } else {
-            called(&mut self.state, call)?
+            norec_revocable::called(&mut self.state, call)?
         };
         Ok(take(
             &mut self.state,
@@ -212,7 +209,7 @@ impl Engine {
         let turn = if self.irrevocable {
             norec_irrevocable::resumed(&mut self.state, self.pending, seen)
         } else {
-            turned(&mut self.state, self.pending, seen)
+            norec_revocable::resumed(&mut self.state, self.pending, seen)
         };
         take(
             &mut self.state,
@@ -300,7 +297,7 @@ impl Engine {
         if self.irrevocable {
             None
         } else {
-            goes(&self.state, call)
+            norec_revocable::goes(&self.state, call)
         }
     }
 

@@ -2,25 +2,11 @@
 //! "NOrec: Streamlining STM by Abolishing Ownership Records" (Dalessandro, Spear, Scott, PPoPP 2010).
 #![tactic(auto)]
 
-mod abort;
-mod access;
-mod begin;
-mod calls;
-mod commit;
-mod copy;
 mod engine;
-mod fill;
 mod likely;
-mod local;
-mod mode;
 mod next;
-mod range;
-mod read;
-mod rounds;
-mod steps;
 mod turns;
 mod words;
-mod write;
 
 pub use engine::Engine;
 pub use likely::Likely;

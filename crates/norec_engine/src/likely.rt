@@ -9,15 +9,12 @@ ghost use Rattle.norec_core.specs.Held.{ComesHeld, StepsHeld};
 ghost use Rattle.norec_engine.specs.NextSteps.{next_in};
 ghost use Rattle.norec_engine.specs.Foreseen.{Awaits, GoesOn};
 
-use crate::begin::begin;
-use crate::calls::turned;
-use crate::commit::commit;
 use crate::engine::Engine;
 use crate::turns::take;
-use crate::write::write;
 use itm_types::{Call, Datum, Props, Step, WriteHint};
 use norec_core::{Answer, Phase, Taking};
 use norec_data::Pending;
+use norec_revocable::{begin, commit, resumed, write};
 use std::alloc::AllocError;
 
 /// What a call in progress most likely waits for, and goes on to. It makes that case quick, and changes nothing else.
@@ -227,7 +224,7 @@ impl Engine {
         if !self.foresees(likely, seen) {
             return self.resume_into(seen, answer);
         }
-        let turn = turned(&mut self.state, self.pending, seen);
+        let turn = resumed(&mut self.state, self.pending, seen);
         take(
             &mut self.state,
             &mut self.pending,

@@ -6,7 +6,6 @@ ghost use Rattle.norec_data.specs.Turns.{counted, pending_after, data_after, nex
 ghost use Rattle.norec_engine.specs.NextSteps.{next_in};
 ghost use Rattle.norec_engine.specs.Modes.{mode_after, IsSoundIn, IsSoundWith};
 
-use crate::steps::step_of;
 use itm_types::Step;
 use norec_core::Answer;
 use norec_data::{Data, Pending, Turn};
@@ -62,6 +61,6 @@ pub(crate) fn next_step(state: &Data, irrevocable: bool, pending: Pending) -> St
     if irrevocable {
         norec_irrevocable::step_of(state, pending)
     } else {
-        step_of(state, pending)
+        norec_revocable::step_of(state, pending)
     }
 }

@@ -9,7 +9,7 @@ use Rattle.nest_frames.specs.Nest.{stays_revocable}
 use Rattle.norec_core.specs.Core.{came, goes, may_go}
 use Rattle.norec_core.specs.Proceeds.{IsSettled, MayStarveHeld, MayStarveIn, Replies, room_left}
 use Rattle.norec_core.specs.Stands.{state_in}
-use Rattle.norec_engine.proofs.IrrevocableEntries.{begin_served, mode_enters}
+use Rattle.norec_revocable.proofs.IrrevocableEntries.{begin_served, mode_enters}
 use Rattle.norec_world.specs.ActionRoom.{IsBacked, goes_in, promised, wanted}
 use Rattle.norec_world.specs.LocalWork.{IsShort}
 use Rattle.norec_world.proofs.HeldCalls.{both_true, no_true, stands_mode, told_under}

@@ -9,7 +9,7 @@ use Rattle.itm_model.specs.Machine.{or_else, reply_unless, unless}
 use Rattle.norec_core.specs.Core.{goes}
 use Rattle.norec_core.specs.Proceeds.{IsSettled, recoded, reply_held}
 use Rattle.norec_core.specs.Stands.{block_kept, state_in}
-use Rattle.norec_engine.proofs.IrrevocableEntries.{length-over}
+use Rattle.norec_revocable.proofs.IrrevocableEntries.{length-over}
 use Rattle.norec_world.specs.ActionRoom.{wanted}
 use Rattle.norec_world.specs.PlayerRooms.{ComesTo, EndsWithin, GoesTo, MayReply, TellsRoom, told_room}
 use Rattle.norec_world.proofs.ActiveRows.{opened_here, row_from}

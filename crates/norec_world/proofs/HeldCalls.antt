@@ -8,7 +8,7 @@ use Rattle.norec_core.specs.Core.{may_go}
 use Rattle.norec_core.specs.Held.{ComesTo}
 use Rattle.norec_core.specs.Proceeds.{WantsClock}
 use Rattle.norec_core.specs.Stands.{is_some_row, state_in}
-use Rattle.norec_engine.proofs.IrrevocableEntries.{begin_enters, mode_enters}
+use Rattle.norec_revocable.proofs.IrrevocableEntries.{begin_enters, mode_enters}
 use Rattle.norec_world.proofs.Common.{Attempt, Begin, Call, Cells, Commit, Core, Got, MAX_OPEN_BLOCKS, Next, Row, Rows, State, Store, active_of, after, alone, bytes_at, bytes_of, in_transaction, is_open, reply, stands_for, state_over, takes_clock}
 
 -- the attempt's calls alone on the memory of its position lead to an open block, and the call comes to what the plain machine makes of it then

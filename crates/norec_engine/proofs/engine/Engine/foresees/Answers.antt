@@ -2,7 +2,7 @@ use Rattle.std.proofs.Common.{arith, subst, Bool, false}
 use Rattle.norec_data.specs.View.{phase_of}
 use Rattle.norec_data.specs.declared.pending.Pending.{Pending}
 use Rattle.norec_engine.specs.Modes.{IsSoundIn}
-use Rattle.norec_engine.proofs.Phases.{store_row}
+use Rattle.norec_revocable.proofs.Phases.{store_row}
 use Rattle.norec_engine.proofs.engine.Engine.foresees.Goals as goal
 
 pub overflow_add-row : goal.overflow_add-row

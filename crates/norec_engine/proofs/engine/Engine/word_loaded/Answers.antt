@@ -3,7 +3,7 @@ use Rattle.norec_core.specs.Core.{Core}
 use Rattle.norec_data.specs.declared.data.Data.{Data}
 use Rattle.norec_data.specs.Turns.{counted}
 use Rattle.norec_data.specs.View.{phase_of}
-use Rattle.norec_engine.specs.Between.{IsWord}
+use Rattle.norec_revocable.specs.Between.{IsWord}
 use Rattle.norec_engine.proofs.Settled.{counts_in, settled_in}
 use Rattle.norec_engine.proofs.WholeReads.{confirms, mode_is, same_load, same_wait, stage_is}
 use Rattle.norec_engine.proofs.engine.Engine.word_loaded.Goals as goal

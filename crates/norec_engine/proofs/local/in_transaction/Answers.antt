@@ -1,5 +1,0 @@
-use Rattle.norec_engine.proofs.Refusals.{asked_replies}
-use Rattle.norec_engine.proofs.local.in_transaction.Goals as goal
-
-pub returns-clause-proceeds : goal.returns-clause-proceeds
-returns-clause-proceeds c = rw (c.mode-end.ensures c.come.new.self) (rw c.come.ensures (asked_replies c.args.state.now c.requires.sound))

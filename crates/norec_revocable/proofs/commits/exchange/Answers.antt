@@ -1,0 +1,26 @@
+use Rattle.std.proofs.Common.{ℕ, refl, sym, ap, ◌∙◌, arith}
+use Rattle.norec_core.specs.Core.{rolled_back}
+use Rattle.norec_core.specs.declared.phase.Aim.TheVariants as aims
+use Rattle.norec_core.specs.declared.phase.Phase.TheVariants.{Idle}
+use Rattle.norec_data.specs.View.{core}
+use Rattle.norec_revocable.specs.Between.{between, moved}
+use Rattle.norec_revocable.proofs.Ended.{ended_undone}
+use Rattle.norec_data.proofs.Ended.{core_ended}
+use Rattle.norec_revocable.proofs.IrrevocableEntries.{wants_clock}
+use Rattle.norec_revocable.proofs.commits.exchange.Goals as goal
+
+pub returns-else-at-state-clause-proceeds : goal.returns-else-at-state-clause-proceeds
+returns-else-at-state-clause-proceeds c = λ was.
+    (let s = c.args.state.now in
+    let may = c.requires.may in
+    let over = c.roll_back.ensures in
+    let left = core_ended _ _ _ _ over.ended in
+    record {
+      wants = wants_clock s c.args.taking was may.is_open.is_open may.may.wants;
+      at_is = refl;
+      full = omega (arith, c.if-at-state.false);
+      free = refl;
+      unfreed = refl;
+      stays = left ∙ ap (λ (n : ℕ). record (rolled_back (moved (between s (aims.Take c.args.taking)) was)) { stage = Idle; tries = 0; snapshot = n }) (sym over.ended.snapshot);
+      undone = ended_undone (moved (between s (aims.Take c.args.taking)) was) (core c.roll_back.new.state Idle) Idle 0 s.snapshot may.is_open.frames over.restored refl may.is_open.is_open left;
+    })

@@ -1,0 +1,81 @@
+use Rattle.std.proofs.Common.{ℕ, List, length, refl, sym, ap, subst, ◌∙◌, arith}
+use Rattle.itm_types.specs.Memory.{bytes_of, IsMemory, Agrees}
+use Rattle.write_set.specs.declared.row.Row.{Row}
+use Rattle.write_set.specs.Rows.{overlay, AreRows}
+use Rattle.norec_core.specs.Copies.{source_in}
+use Rattle.norec_core.specs.Core.{is_inside}
+use Rattle.norec_core.specs.declared.phase.Phase.TheVariants.{Idle}
+use Rattle.norec_data.specs.View.{core, rows_before}
+use Rattle.norec_revocable.specs.InPhases.{AreFrames}
+use Rattle.norec_core.specs.Proceeds.{arena_copied, writes_copied}
+use Rattle.norec_core.specs.Rows.{AllWritesWithin}
+use Rattle.norec_core.specs.Stands.{state_over}
+use Rattle.norec_revocable.proofs.Copies.{copies}
+use Rattle.norec_revocable.proofs.Sources.{rows_before-fit, copied_fits, overlay_for, length-arena_copied}
+use Rattle.norec_revocable.proofs.copy.copied.Goals as goal
+
+pub returns-clause-sound : goal.returns-clause-sound
+returns-clause-sound c =
+    let s = c.args.state.now in
+    let k = c.args.copying in
+    let may = c.requires.may in
+    let served = may.source.served in
+    let before = rows_before s in
+    let fits = rows_before-fit s.words s.written s.frames.writes.rows may.is_open.rows may.is_open.writes in
+    let rows = copied_fits s.words (length s.arena) before k s.buffer.items fits.0 fits.1 served.accepted served.sized c.deliver.ensures.bytes in
+    rw c.deliver.ensures.frame (record {
+      asked = tt;
+      sound = record {
+        bounds = record {
+          patient = may.bounds.patient;
+          commits = may.bounds.commits;
+          small = may.bounds.small;
+          sized = c.deliver.ensures.size ∙ (may.bounds.sized ∙ sym (ap (length {A = ℕ}) c.deliver.ensures.arena ∙ length-arena_copied s.words s.arena k s.buffer.items served.accepted served.sized));
+          even = may.bounds.even;
+        };
+        reached = omega (arith, may.settled);
+        in_phase = (
+          λ o. (
+            record {
+              is_open = o;
+              log = may.is_open.log;
+              writes = subst (AllWritesWithin s.words) (sym c.deliver.ensures.rows) rows.1;
+              rows = subst AreRows (sym c.deliver.ensures.rows) rows.0;
+              frames = subst (AreFrames s.words) (sym c.deliver.ensures.blocks) may.is_open.frames;
+              tries = may.is_open.tries;
+            },
+            may.settled,
+          ),
+          λ o. (let yes = ap is_inside c.deliver.ensures.blocks ∙ may.is_open.is_open in absurd (cc)),
+        );
+      };
+    })
+
+pub returns-clause-proceeds : goal.returns-clause-proceeds
+returns-clause-proceeds c log =
+    let s = c.args.state.now in
+    let k = c.args.copying in
+    let may = c.requires.may in
+    let served = may.source.served in
+    let before : List Row = rows_before s in
+    let blocks = c.deliver.ensures.blocks in
+    let fits = rows_before-fit s.words s.written s.frames.writes.rows may.is_open.rows may.is_open.writes in
+    let got = λ (m : List ℕ) (mem : IsMemory s.words m) (agrees : Agrees m s.log.rows).
+    may.source.has m mem agrees
+    ∙ ap (λ (x : List ℕ). source_in k.pair s.arena (bytes_of x) k.from k.size) (ap (overlay m) served.reserved ∙ overlay_for k k.pair m before mem.1 fits.0) in
+    let all = λ (m : List ℕ) (mem : IsMemory s.words m) (agrees : Agrees m s.log.rows).
+    copies before s.frames.blocks s.arena s.frames.actions m s.words k may.is_open.is_open mem fits.0 served.accepted s.buffer.items c.deliver.ensures.bytes (got m mem agrees) in
+    rw c.deliver.ensures.frame (record {
+      meets = λ m mem agrees. (λ i. state_over (c.deliver.ensures.rows i) (blocks i) (c.deliver.ensures.arena i) (c.deliver.ensures.actions i) m) ∙ (all m mem agrees).0;
+      reply_is = λ m mem agrees. (all m mem agrees).1;
+      stays = ap (λ (n : ℕ). record (core (record s { arena = c.deliver.new.state.arena; frames = c.deliver.new.state.frames }) Idle) { room = n }) c.deliver.ensures.room_left;
+      writes = λ m mem agrees. c.deliver.ensures.rows ∙ ap (writes_copied before k k.pair) (got m mem agrees);
+      arena = λ m mem agrees. c.deliver.ensures.arena ∙ ap (arena_copied s.arena k k.pair) (got m mem agrees);
+      free = refl;
+      revocable = refl;
+      unfreed = refl;
+      still = λ other o. ap is_inside blocks ∙ o;
+      blocks = blocks;
+      actions = c.deliver.ensures.actions;
+      settled = λ o. (may.settled, may.bounds.even);
+    })

@@ -1,0 +1,16 @@
+use Rattle.std.proofs.Common.{◌≡◌, ◌-◌, length, drop}
+use Rattle.norec_core.specs.Copies.{chunks_in}
+use Rattle.norec_data.specs.View.{rows_before}
+use Rattle.norec_revocable.specs.Between.{MayCopy}
+use Rattle.norec_core.specs.Order.{load_chunks}
+use Rattle.norec_revocable.proofs.copy.next_chunk.Given as goal
+
+abbrev pub decreases-loop-reading : goal.decreases-loop-reading
+decreases-loop-reading l = length (chunks_in l.copying) - l.number
+
+abbrev pub invariant-loop-reading : goal.invariant-loop-reading
+invariant-loop-reading l = record {
+  may : MayCopy l.state l.copying l.number;
+  frame : l.state ≡ record l.fn.state { gathered = l.state.gathered; buffer = l.state.buffer };
+  order : load_chunks (rows_before l.fn.state) l.fn.state.log.rows l.copying l.fn.number (drop l.fn.number (chunks_in l.copying)) ≡ load_chunks (rows_before l.fn.state) l.fn.state.log.rows l.copying l.number (drop l.number (chunks_in l.copying));
+}

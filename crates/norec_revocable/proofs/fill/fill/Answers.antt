@@ -1,0 +1,66 @@
+use Rattle.std.proofs.Common.{◌≡◌, ℕ, ◌%◌, List, All, length, IsSome, false, refl, ap, sym, subst, ◌∙◌, arith}
+use Rattle.std.proofs.lemmas.List.{length-replicate}
+use Rattle.std.proofs.lemmas.List.Elements.{All-from_recursion}
+use Rattle.itm_types.specs.declared.access.WriteHint.{WriteHint}
+use Rattle.itm_types.specs.declared.call.Call.TheVariants.{Fill}
+use Rattle.itm_types.specs.declared.call.Reply.TheVariants.{Done}
+use Rattle.norec_core.specs.declared.phase.Phase.TheVariants.{Idle}
+use Rattle.norec_data.specs.declared.end.End.TheVariants as ends
+use Rattle.norec_data.specs.declared.turn.Turn.TheVariants.{End}
+use Rattle.norec_core.specs.Core.{came}
+use Rattle.norec_data.specs.View.{core}
+use Rattle.norec_revocable.specs.Between.{IsSoundTurn}
+use Rattle.norec_core.specs.Proceeds.{Replies}
+use Rattle.word_pieces.specs.declared.piece.Piece.{Piece}
+use Rattle.word_pieces.specs.declared.chunk.Direction.TheVariants.{Up}
+use Rattle.word_pieces.specs.Chunks.{chunks_of}
+use Rattle.write_set.specs.declared.row.Row.{Row}
+use Rattle.write_set.specs.Rows.{lookup}
+use Rattle.norec_core.specs.Rows.{range_pieces, reserved_all}
+use Rattle.norec_revocable.proofs.Fills.{none_filled, some_filled, filled_sound, fill_replies}
+use Rattle.norec_core.proofs.Writings.{all_reserved}
+use Rattle.norec_revocable.proofs.fill.fill.Goals.{then-size-gt0+in_ok-set_all+in_ok-reserve_range, else-size-gt0}
+use Rattle.norec_revocable.proofs.fill.fill.Goals as goal
+
+pub returns-in-Some-clause-proceeds : goal.returns-in-Some-clause-proceeds
+returns-in-Some-clause-proceeds c hint =
+    c.refuse.ensures.proceeds (Fill hint c.args.to c.args.byte c.args.size) c.args.to c.args.size refl (sym c.access_refusal.ensures.value ∙ c.in-Some.is)
+
+pub put_range-requires-clause-room : goal.put_range-requires-clause-room
+put_range-requires-clause-room c =
+    let old = c.args.state.now.frames.writes.rows in
+    let ps = range_pieces c.args.to (chunks_of Up (length c.deref.result.now)) in
+    let size : c.args.size ≡ length c.deref.result.now = sym (ap (length {A = ℕ}) (c.deref.ensures.value ∙ c.in_ok-set_all.ensures) ∙ length-replicate c.args.size (c.args.byte % 256)) in
+    let same : c.reserve_range.new.frames.writes.rows ≡ reserved_all old ps =
+    c.in_ok-reserve_range.ensures.rows ∙ (λ i. reserved_all old (range_pieces c.args.to (chunks_of (c.new.ensures.direction i) ((c.new.ensures.size ∙ size) i)))) in
+    subst (λ (rows : List Row). All (λ (p : Piece). IsSome (lookup p.word rows)) ps) (sym same)
+    (All-from_recursion (λ (p : Piece). IsSome (lookup p.word (reserved_all old ps))) ps (all_reserved old ps))
+
+-- the bytes are put, if there are some
+filled_turn : (c : goal.After-come) → IsSoundTurn (End ends.Done) c.come.new.self
+    × ((hint : WriteHint) → Replies (came (core c.args.state.now Idle) (Fill hint c.args.to c.args.byte c.args.size) false) (Fill hint c.args.to c.args.byte c.args.size) Done (core c.come.new.self Idle))
+filled_turn c =
+    let s = c.args.state.now in
+    let to = c.args.to in
+    let byte = c.args.byte in
+    let size = c.args.size in
+    let accepted = sym c.in_default.ensures.value in
+    rw c.come.ensures (elim c.if-size-gt0.branch [
+      | then-size-gt0+in_ok-set_all+in_ok-reserve_range w ↦ (
+          let made = w.in_ok-reserve_range.ensures.rows ∙ (λ i. reserved_all s.frames.writes.rows (range_pieces to (chunks_of (w.new.ensures.direction i) (w.new.ensures.size i)))) in
+          let is = some_filled s to byte size w.reserve_range.new.frames.writes.rows w.deref.result.now w.put_range.new.frames accepted made
+          (w.deref.ensures.value ∙ w.in_ok-set_all.ensures) w.put_range.ensures.rows (w.put_range.ensures.blocks ∙ w.reserve_range.ensures.blocks)
+          (w.put_range.ensures.size ∙ w.reserve_range.ensures.size) (w.put_range.ensures.actions ∙ w.reserve_range.ensures.actions) (w.put_range.ensures.room ∙ w.reserve_range.ensures.room) in
+          let sound = c.requires.sound in
+          rw w.state-is (filled_sound s to byte size w.put_range.new.frames w.set_all.new.buffer sound is, fill_replies s to byte size w.put_range.new.frames w.set_all.new.buffer sound is))
+      | else-size-gt0 w ↦ (
+          let is = none_filled s to byte size accepted (omega (arith, w.if-size-gt0.false)) in
+          let sound = c.requires.sound in
+          rw w.state-is (filled_sound s to byte size s.frames s.buffer sound is, fill_replies s to byte size s.frames s.buffer sound is))
+    ])
+
+pub returns-clause-sound : goal.returns-clause-sound
+returns-clause-sound c = (filled_turn c).0
+
+pub returns-clause-proceeds : goal.returns-clause-proceeds
+returns-clause-proceeds c = (filled_turn c).1

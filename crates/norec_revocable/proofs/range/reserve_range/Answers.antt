@@ -1,0 +1,97 @@
+use Rattle.std.proofs.Common.{◌≡◌, ℕ, ◌+◌, ◌<◌, ◌++◌, List, All, drop, length, take, refl, ap, sym, subst, ◌∙◌, arith}
+use Rattle.std.proofs.lemmas.List.{take_all}
+use Rattle.std.proofs.lemmas.List.Elements.{All-append, All-nil}
+use Rattle.word_pieces.specs.declared.chunk.Chunk.{Chunk}
+use Rattle.word_pieces.specs.declared.piece.Piece.{Piece}
+use Rattle.word_pieces.specs.Chunks.{chunks_of, chunks_before}
+use Rattle.word_pieces.specs.Pieces.{pieces_of}
+use Rattle.write_set.specs.declared.mark.Place.{Place}
+use Rattle.write_set.specs.declared.row.Row.{Row}
+use Rattle.write_set.specs.Marks.{MayPut}
+use Rattle.write_set.specs.Rows.{AreEmpty}
+use Rattle.nest_frames.specs.Nest.{Nest, Frame}
+use Rattle.norec_core.specs.Rows.{range_pieces, reserved_all}
+use Rattle.norec_core.proofs.Ranges.{range_pieces_more, reserved_all-append}
+use Rattle.norec_core.proofs.Writings.{cut-reserved_all, on_err, on_ok}
+use Rattle.norec_revocable.proofs.range.reserve_range.Goals as goal
+
+pub loop-number-init : goal.loop-number-init
+loop-number-init c = record {
+  rows = refl;
+  may_put = All-nil (λ (p : Piece). MayPut c.args.frames.now.writes p.word);
+  inner = refl;
+  blocks = refl;
+  size = refl;
+  actions = refl;
+  room = refl;
+}
+
+pub reserve_all-requires : goal.reserve_all-requires
+reserve_all-requires c = record { «open» = subst (λ (bs : List Frame). 0 < length bs) (sym c.loop-number.invariant.blocks) c.requires.open }
+
+pub cut-requires : goal.cut-requires
+cut-requires c =
+    let old = c.args.frames.now.writes.rows in
+    let i = c.loop-number.invariant in
+    let before = range_pieces c.args.to (chunks_before c.args.chunks.direction c.args.chunks.size c.loop-number.number) in
+    let rows = on_err c.reserve_all.result c.reserve_all.ensures.err (sym c.is_err.ensures.value ∙ c.if-is_err.true) ∙ i.rows in
+    record {
+      empty = subst (λ (n : ℕ). AreEmpty (drop n c.reserve_all.new.frames.writes.rows)) (sym c.len-len.ensures.len)
+          (subst (λ (xs : List Row). AreEmpty (drop (length old) xs)) (sym rows) (cut-reserved_all old before).0);
+      inner = omega (arith, ap (λ (p : Place). p.rows) c.reserve_all.ensures.inner, ap (λ (p : Place). p.rows) i.inner, c.len-len.ensures.marks.inner.rows, c.len-len.ensures.len);
+    }
+
+pub returns-then-is_err-clause-err : goal.returns-then-is_err-clause-err
+returns-then-is_err-clause-err c =
+    let old = c.args.frames.now.writes.rows in
+    let i = c.loop-number.invariant in
+    let before = range_pieces c.args.to (chunks_before c.args.chunks.direction c.args.chunks.size c.loop-number.number) in
+    let rows = on_err c.reserve_all.result c.reserve_all.ensures.err (sym c.is_err.ensures.value ∙ c.if-is_err.true) ∙ i.rows in
+    ap (λ (n : Nest). n.writes.rows) c.cut.ensures.new ∙ ((λ j. take (c.len-len.ensures.len j) (rows j)) ∙ (cut-reserved_all old before).1)
+
+pub returns-then-is_err-clause-blocks : goal.returns-then-is_err-clause-blocks
+returns-then-is_err-clause-blocks c = ap (λ (n : Nest). n.blocks) c.cut.ensures.new ∙ (c.reserve_all.ensures.blocks ∙ c.loop-number.invariant.blocks)
+
+pub returns-then-is_err-clause-size : goal.returns-then-is_err-clause-size
+returns-then-is_err-clause-size c = ap (λ (n : Nest). n.size) c.cut.ensures.new ∙ (c.reserve_all.ensures.size ∙ c.loop-number.invariant.size)
+
+pub returns-then-is_err-clause-room : goal.returns-then-is_err-clause-room
+returns-then-is_err-clause-room c = ap (λ (n : Nest). n.room) c.cut.ensures.new ∙ (c.reserve_all.ensures.room ∙ c.loop-number.invariant.room)
+
+pub returns-then-is_err-clause-actions : goal.returns-then-is_err-clause-actions
+returns-then-is_err-clause-actions c = ap (λ (n : Nest). n.actions) c.cut.ensures.new ∙ (c.reserve_all.ensures.actions ∙ c.loop-number.invariant.actions)
+
+pub loop-number-preserved : goal.loop-number-preserved
+loop-number-preserved c =
+    let i = c.loop-number.invariant in
+    let old = c.args.frames.now.writes.rows in
+    let k : Chunk = c.in-Some.chunk in
+    let before = chunks_before c.args.chunks.direction c.args.chunks.size c.loop-number.number in
+    let here = pieces_of (c.args.to + k.at) k.size in
+    let fine = sym c.is_err.ensures.value ∙ c.if-is_err.false in
+    let pieces_are : c.deref.result.now ≡ here = c.deref.ensures.0 ∙ c.pieces-pieces.ensures.value in
+    let more : range_pieces c.args.to (chunks_before c.args.chunks.direction c.args.chunks.size (c.loop-number.number + 1)) ≡ range_pieces c.args.to before ++ here =
+    ap (range_pieces c.args.to) c.in-Some.ensures.next ∙ range_pieces_more c.args.to before k in
+    let others = on_ok c.reserve_all.result c.reserve_all.ensures.others fine in
+    let may = subst (All (λ (p : Piece). MayPut c.reserve_all.new.frames.writes p.word)) pieces_are (on_ok c.reserve_all.result c.reserve_all.ensures.may_put fine) in
+    record {
+      rows = on_ok c.reserve_all.result c.reserve_all.ensures.rows fine
+          ∙ ((λ j. reserved_all (i.rows j) (pieces_are j)) ∙ sym (ap (reserved_all old) more ∙ reserved_all-append old (range_pieces c.args.to before) here));
+      may_put = subst (All (λ (p : Piece). MayPut c.reserve_all.new.frames.writes p.word)) (sym more)
+          (All-append (λ (p : Piece). MayPut c.reserve_all.new.frames.writes p.word) (range_pieces c.args.to before) here (λ j d l. others _ (i.may_put j d l)) may);
+      inner = c.reserve_all.ensures.inner ∙ i.inner;
+      blocks = c.reserve_all.ensures.blocks ∙ i.blocks;
+      size = c.reserve_all.ensures.size ∙ i.size;
+      actions = c.reserve_all.ensures.actions ∙ i.actions;
+      room = c.reserve_all.ensures.room ∙ i.room;
+    }
+
+pub returns-clause-rows : goal.returns-clause-rows
+returns-clause-rows c =
+    let all = take_all c.loop-number.number (chunks_of c.args.chunks.direction c.args.chunks.size) (omega (arith, c.len-number-end.ensures.value, c.loop-number-test.false)) in
+    c.loop-number.invariant.rows ∙ ap (λ (xs : List Chunk). reserved_all c.args.frames.now.writes.rows (range_pieces c.args.to xs)) all
+
+pub returns-clause-may_put : goal.returns-clause-may_put
+returns-clause-may_put c =
+    let all = take_all c.loop-number.number (chunks_of c.args.chunks.direction c.args.chunks.size) (omega (arith, c.len-number-end.ensures.value, c.loop-number-test.false)) in
+    subst (λ (xs : List Chunk). All (λ (p : Piece). MayPut c.loop-number.frames.writes p.word) (range_pieces c.args.to xs)) all c.loop-number.invariant.may_put

@@ -1,0 +1,28 @@
+use Rattle.std.proofs.Common.{◌≡◌, ◌∙◌, refl, ap, length, arith}
+use Rattle.write_set.specs.Rows.{overlay}
+use Rattle.write_set.proofs.Overlays.{length-overlay}
+use Rattle.word_pieces.proofs.Covers.{gathered-pieces_of, take_all-pieces_of}
+use Rattle.word_pieces.specs.Pieces.{gathered}
+use Rattle.norec_core.specs.Accesses.{count}
+use Rattle.norec_revocable.proofs.ReadReplies.{Finds, replies}
+use Rattle.norec_revocable.proofs.read.reply_gathered.Goals as goal
+
+pub returns-clause-proceeds : goal.returns-clause-proceeds
+returns-clause-proceeds c log =
+    let s = c.args.state.now in
+    let r = c.args.reading in
+    let may = c.requires.may in
+    let finds : Finds s r s.gathered.items = record {
+      bounds = may.bounds;
+      is_open = may.is_open;
+      within = may.whole.within;
+      purpose = may.whole.purpose;
+      settled = may.settled;
+      has = λ m mem agrees.
+          (let under = overlay m s.frames.writes.rows in
+          let size : length under ≡ s.words = length-overlay m s.frames.writes.rows ∙ mem.0 in
+          may.whole.has m mem agrees
+          ∙ (ap (gathered under) (take_all-pieces_of r.at r.size (count r) (omega arith))
+          ∙ gathered-pieces_of under r.at r.size (omega (arith, size, may.whole.within))));
+    } in
+    replies s r s.gathered.items finds log r.purpose refl may.value

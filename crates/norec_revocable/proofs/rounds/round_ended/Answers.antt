@@ -1,0 +1,50 @@
+use Rattle.std.proofs.Common.{◌+◌, ◌-◌, ◌*◌, ◌≤◌, length, refl, subst, arith}
+use Rattle.norec_data.specs.declared.pending.Cause.{Cause}
+use Rattle.norec_revocable.specs.InPhases.{Aims, MayRead, first_of, round_of}
+use Rattle.norec_core.specs.declared.phase.Aim.TheVariants as aims
+use Rattle.norec_core.specs.Accesses.{count, total}
+use Rattle.norec_data.specs.View.{aim_for, aim_of}
+use Rattle.norec_revocable.proofs.Counts.{more, round_over}
+use Rattle.norec_core.proofs.Readings.{total_left}
+use Rattle.norec_revocable.proofs.ReadingFields.{among}
+use Rattle.norec_revocable.proofs.Loads.{aims_later}
+use Rattle.norec_revocable.proofs.rounds.round_ended.Goals as goal
+
+pub try_round-requires : goal.try_round-requires
+try_round-requires c =
+    let s = c.args.state.now in
+    let phase = c.requires.sound.in_phase in
+    let o = phase.0.is_open in
+    record {
+      may = record {
+        bounds = c.requires.sound.bounds;
+        is_open = record { is_open = o.is_open; log = o.log; writes = o.writes; rows = o.rows; frames = o.frames; tries = o.tries };
+        may = aims_later s (aim_of s) c.args.seen s.snapshot s.spent phase.0.may;
+        later = omega (arith, phase.0.later, c.requires.fits);
+        spent = round_over s (aim_of s) c.args.seen phase.0;
+      };
+    }
+
+pub returns-in-Read-clause-sound : goal.returns-in-Read-clause-sound
+returns-in-Read-clause-sound c =
+    let s = c.args.state.now in
+    let sound = c.requires.sound in
+    let r = s.reading in
+    let round = sound.in_phase.0 in
+    let may : MayRead s r = subst (λ (x : Cause). Aims s (aim_for x s.reading s.taking)) c.in-Read.is round.may in
+    let spent = subst (λ (x : Cause). s.spent ≤ first_of (aim_for x s.reading s.taking) + (s.tries - 1) * round_of (aim_for x s.reading s.taking) s + (length s.log.rows + 2)) c.in-Read.is round.spent in
+    let o = round.is_open in
+    let left = total_left r.purpose r.number (count r) (among s r.purpose r.at r.size may.reading.purpose) may.missing.some in
+    record {
+      asked = tt;
+      sound = record {
+        bounds = record { patient = sound.bounds.patient; commits = sound.bounds.commits; small = sound.bounds.small; sized = sound.bounds.sized; even = omega (arith, c.if-is_steady.true, sound.in_phase.1) };
+        reached = omega arith;
+        in_phase = (
+          record { is_open = o.is_open; log = o.log; writes = o.writes; rows = o.rows; frames = o.frames; tries = o.tries },
+          aims_later s (aims.Read r) c.args.seen c.args.seen (s.spent + 1) may,
+          refl,
+          omega (arith, left, spent, may.logging.grown, more s.tries s.tries (s.entry + total r + 4) round.tried (omega arith)),
+        );
+      };
+    }

@@ -1,0 +1,16 @@
+use Rattle.std.proofs.Common.{◌≡◌, All, take}
+use Rattle.write_set.specs.Marks.{KeepsRoom, MayPut}
+use Rattle.norec_core.specs.Rows.{reserved_all}
+use Rattle.norec_revocable.proofs.writes.reserve_all.Given as goal
+
+abbrev pub invariant-loop-piece : goal.invariant-loop-piece
+invariant-loop-piece l = record {
+  rows : l.frames.writes.rows ≡ reserved_all l.fn.frames.writes.rows (take l.piece-index l.pieces);
+  may_put : All (λ p. MayPut l.frames.writes p.word) (take l.piece-index l.pieces);
+  inner : l.frames.writes.inner ≡ l.fn.frames.writes.inner;
+  others : KeepsRoom l.fn.frames.writes l.frames.writes;
+  blocks : l.frames.blocks ≡ l.fn.frames.blocks;
+  size : l.frames.size ≡ l.fn.frames.size;
+  actions : l.frames.actions ≡ l.fn.frames.actions;
+  room : l.frames.room ≡ l.fn.frames.room;
+}

@@ -1,0 +1,3 @@
+pub mod InPhases
+pub mod Between
+pub mod WholeReads

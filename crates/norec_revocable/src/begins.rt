@@ -1,0 +1,154 @@
+//! Begins of blocks.
+
+ghost use Rattle.std.specs.Prelude.{◌≡◌, ◌<◌, ◌≤◌, ◌∷◌, [], true, nat_lt, length, if◌then◌else◌, IfOk, IfNone, OnOk, OnErr};
+ghost use Rattle.user_actions.specs.Actions.{no_actions};
+ghost use Rattle.nest_frames.specs.Nest.{begun};
+ghost use Rattle.norec_data.specs.View.{in_block, core};
+ghost use Rattle.norec_revocable.specs.InPhases.{IsSound};
+ghost use Rattle.norec_data.specs.Bounds.{IsOutside};
+ghost use Rattle.norec_revocable.specs.Between.{IsSoundTurn};
+ghost use Rattle.norec_data.specs.Ends.{answer_of};
+ghost use Rattle.norec_data.specs.declared.data.Data.{Data};
+ghost use Rattle.norec_data.specs.Turns.{core_after, phase_after, Turns, TurnEndsSo, Stays};
+ghost use Rattle.norec_core.specs.Core.{came, handed, may_go};
+ghost use Rattle.norec_core.specs.Order.{log_after, snapshot_after, stage_after, stage_at, tries_after, tries_at};
+ghost use Rattle.norec_core.specs.Endings.{ending_at, ending_after};
+ghost use Rattle.norec_core.specs.Proceeds.{Joins, MayStarve};
+
+use crate::commits::exchange;
+use itm_types::{Call, Props, Reply};
+use nest_frames::Frames;
+use norec_core::{Answer, Opening, Phase, Taking};
+use norec_data::{Data, End, Pending, Turn, begin_refusal};
+use std::alloc::AllocError;
+
+/// A begin comes.
+#[inline(always)]
+pub fn begin(state: &mut Data, props: Props, room: u32, again: bool) -> Result<Turn, AllocError>
+    requires sound { IsSound state.old Phase.Idle }
+    ensures sound { IfOk result (λ turn. IsSoundTurn turn state.new) }
+    ensures proceeds { IfOk result
+        (λ turn. Turns (came (core state.old Phase.Idle) (Call.Begin props room) again) turn state.new) }
+    ensures stays { OnOk result (Stays state.old state.new) }
+    ensures err { OnErr result (state.new ≡ state.old) }
+    ensures starves { OnErr result (MayStarve (core state.old Phase.Idle) (Call.Begin props room)) }
+    ensures order { IfOk result
+        (λ turn. phase_after turn state.new ≡ stage_at (core state.old Phase.Idle) (Call.Begin props room) again) }
+    ensures ends { IfOk result (λ turn. TurnEndsSo (ending_at (core state.old Phase.Idle) (Call.Begin props room)) turn state.new) }
+    ensures tries { IfOk result (λ turn. (core_after turn state.new).tries ≡ tries_at (phase_after turn state.new)) }
+{
+    if let Some(why) = begin_refusal(state, props) {
+        state.come();
+        state.why = why;
+        return Ok(Turn::End(End::Refused));
+    }
+    reserve_room(&mut state.frames, props, room)?;
+    state.come();
+    if !state.is_open() {
+        state.tries = 1;
+        state.opening = Opening { props, room, again };
+        Ok(Turn::Wait(Pending::Begin))
+    } else if props.goes_irrevocable {
+        state.tries = 0;
+        Ok(exchange(state, Taking::Begin { props, room }))
+    } else {
+        state.frames.enter(props);
+        Ok(Turn::End(End::Entered))
+    }
+}
+
+/// Makes room for the actions of a begin, where it goes irrevocable.
+fn reserve_room(frames: &mut Frames, props: Props, room: u32) -> Result<(), AllocError>
+    ensures ok { OnOk result
+        (frames.new ≡ record frames.old { room = if props.goes_irrevocable then room else frames.old.room }) }
+    ensures err { OnErr result (frames.new ≡ frames.old) }
+    ensures starves { OnErr result ((props.goes_irrevocable ≡ true) × (0 < room)) }
+{
+    if props.goes_irrevocable {
+        frames.reserve_actions(room as usize)?;
+    }
+    Ok(())
+}
+
+/// The clock was loaded for a begin.
+#[inline(always)]
+pub(crate) fn begin_seen(state: &mut Data, seen: u64) -> Turn
+    requires sound { IsSound state.old (Phase.Begin state.old.opening) }
+    requires fits { state.old.clock ≤ seen }
+    ensures sound { IsSoundTurn result state.new }
+    ensures proceeds { Turns (handed (core state.old (Phase.Begin state.old.opening)) seen) result state.new }
+    ensures joins { Joins (core state.old (Phase.Begin state.old.opening)) seen (core_after result state.new) }
+    ensures order { phase_after result state.new ≡ stage_after (core state.old (Phase.Begin state.old.opening)) seen }
+    ensures ends { TurnEndsSo (ending_after (core state.old (Phase.Begin state.old.opening)) seen) result state.new }
+    ensures snapshot { state.new.snapshot ≡ snapshot_after (core state.old (Phase.Begin state.old.opening)) seen }
+    ensures log { in_block state.new ≡ true
+        → state.new.log.rows ≡ log_after (core state.old (Phase.Begin state.old.opening)) seen }
+    ensures tries { (core_after result state.new).tries ≡ tries_after (phase_after result state.new) state.old.tries }
+{
+    let opening = state.opening;
+    state.clock = seen;
+    if seen % 2 == 0 {
+        state.snapshot = seen;
+        if !opening.props.goes_irrevocable {
+            return Turn::End(open(state, opening));
+        }
+        let at = seen / 2;
+        if at < state.limits.max_commits {
+            Turn::Wait(Pending::Take)
+        } else {
+            Turn::End(End::Full)
+        }
+    } else if state.tries < state.limits.patience {
+        state.tries += 1;
+        Turn::Wait(Pending::Begin)
+    } else {
+        Turn::End(End::Busy)
+    }
+}
+
+/// The clock was taken for a begin that goes irrevocable, or another value was found in it.
+pub(crate) fn begin_taken(state: &mut Data, seen: u64) -> Turn
+    requires sound { IsSound state.old (Phase.Take state.old.opening) }
+    requires fits { state.old.clock ≤ seen }
+    ensures sound { IsSoundTurn result state.new }
+    ensures proceeds { Turns (handed (core state.old (Phase.Take state.old.opening)) seen) result state.new }
+    ensures joins { Joins (core state.old (Phase.Take state.old.opening)) seen (core_after result state.new) }
+    ensures order { phase_after result state.new ≡ stage_after (core state.old (Phase.Take state.old.opening)) seen }
+    ensures ends { TurnEndsSo (ending_after (core state.old (Phase.Take state.old.opening)) seen) result state.new }
+    ensures snapshot { state.new.snapshot ≡ snapshot_after (core state.old (Phase.Take state.old.opening)) seen }
+    ensures log { in_block state.new ≡ true
+        → state.new.log.rows ≡ log_after (core state.old (Phase.Take state.old.opening)) seen }
+    ensures tries { (core_after result state.new).tries ≡ tries_after (phase_after result state.new) state.old.tries }
+{
+    let opening = state.opening;
+    state.clock = seen;
+    if seen == state.snapshot {
+        Turn::Enter(open(state, opening))
+    } else if state.tries < state.limits.patience {
+        state.tries += 1;
+        Turn::Wait(Pending::Begin)
+    } else {
+        state.changed = None;
+        Turn::End(End::Conflict)
+    }
+}
+
+/// The outermost block begins.
+#[inline(always)]
+fn open(state: &mut Data, opening: Opening) -> End
+    requires outside { IsOutside state.old }
+    ensures reply { (d : Data) → answer_of d result ≡ Answer.Reply (Reply.Code (if opening.again then 9 else 5)) }
+    ensures blocks { state.new.frames.blocks ≡ begun opening.props [] no_actions ∷ [] }
+    ensures actions { state.new.frames.actions ≡ no_actions }
+    ensures rows { state.new.frames.writes.rows ≡ [] }
+    ensures frames { (state.new.frames.size ≡ state.old.frames.size) × (state.new.frames.room ≡ state.old.frames.room) }
+    ensures others { state.new ≡ record state.old { frames = state.new.frames } }
+{
+    state.frames.clear_due();
+    state.frames.enter(opening.props);
+    if opening.again {
+        End::EnteredAgain
+    } else {
+        End::Entered
+    }
+}

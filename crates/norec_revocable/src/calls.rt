@@ -1,0 +1,91 @@
+//! The calls of a transaction that may be tried again, and the values that its steps find.
+
+ghost use Rattle.std.specs.Prelude.{◌≡◌, IfOk, OnOk, OnErr, IsSome, true, false};
+ghost use Rattle.norec_core.specs.Core.{came, handed};
+ghost use Rattle.norec_core.specs.Order.{log_after, snapshot_after, stage_after, stage_at, tries_after, tries_at};
+ghost use Rattle.norec_core.specs.Endings.{ending_at, ending_after};
+ghost use Rattle.norec_core.specs.Proceeds.{Joins, MayStarve, Fits};
+ghost use Rattle.norec_data.specs.View.{in_block, core, phase_of, waits_of};
+ghost use Rattle.norec_data.specs.Turns.{core_after, phase_after, Turns, TurnEndsSo, Stays};
+ghost use Rattle.norec_revocable.specs.InPhases.{IsSound};
+ghost use Rattle.norec_revocable.specs.Between.{IsSoundTurn};
+
+use crate::abort::abort;
+use crate::begins::{begin, begin_seen, begin_taken};
+use crate::commits::{back_loaded, commit, exchanged, freed, stored};
+use crate::copy::copy;
+use crate::fill::fill;
+use crate::local::{in_transaction, load, log, register, save};
+use crate::mode::mode;
+use crate::read::{confirmed, loaded, read};
+use crate::rounds::{round_ended, round_started, row_seen};
+use crate::writes::write;
+use itm_types::{ActionKind, Call};
+use norec_core::Phase;
+use norec_data::{Data, Pending, Turn};
+use std::alloc::AllocError;
+
+/// What comes of the step that is waited for.
+#[inline(always)]
+pub fn resumed(state: &mut Data, pending: Pending, seen: u64) -> Turn
+    requires sound { IsSound state.old (phase_of state.old pending) }
+    requires waits { IsSome (waits_of state.old (phase_of state.old pending)) }
+    requires fits { Fits (core state.old (phase_of state.old pending)) seen }
+    ensures sound { IsSoundTurn result state.new }
+    ensures proceeds { Turns (handed (core state.old (phase_of state.old pending)) seen) result state.new }
+    ensures joins { Joins (core state.old (phase_of state.old pending)) seen (core_after result state.new) }
+    ensures order { phase_after result state.new ≡ stage_after (core state.old (phase_of state.old pending)) seen }
+    ensures ends { TurnEndsSo (ending_after (core state.old (phase_of state.old pending)) seen) result state.new }
+    ensures tries { (core_after result state.new).tries ≡ tries_after (phase_after result state.new)
+        (core state.old (phase_of state.old pending)).tries }
+    ensures snapshot { state.new.snapshot ≡ snapshot_after (core state.old (phase_of state.old pending)) seen }
+    ensures log { in_block state.new ≡ true → state.new.log.rows ≡ log_after (core state.old (phase_of state.old pending)) seen }
+{
+    match pending {
+        Pending::Idle => unreachable!(),
+        Pending::Begin => begin_seen(state, seen),
+        Pending::Load => loaded(state, seen),
+        Pending::Confirm(value) => confirmed(state, value, seen),
+        Pending::RoundStart => round_started(state, seen),
+        Pending::RoundRow(row) => row_seen(state, row, seen),
+        Pending::RoundEnd => round_ended(state, seen),
+        Pending::Take => begin_taken(state, seen),
+        Pending::Exchange => exchanged(state, seen),
+        Pending::BackLoad(row) => back_loaded(state, row, seen),
+        Pending::Store(row) => stored(state, row),
+        Pending::Free => freed(state),
+        Pending::Fetch | Pending::Place => unreachable!(),
+    }
+}
+
+/// What comes of a call.
+pub fn called(state: &mut Data, call: &Call) -> Result<Turn, AllocError>
+    requires sound { IsSound state.old Phase.Idle }
+    ensures sound { IfOk result (λ turn. IsSoundTurn turn state.new) }
+    ensures proceeds { IfOk result (λ turn. Turns (came (core state.old Phase.Idle) call.now false) turn state.new) }
+    ensures stays { OnOk result (Stays state.old state.new) }
+    ensures err_sound { OnErr result (IsSound state.new Phase.Idle) }
+    ensures err { OnErr result (core state.new Phase.Idle ≡ core state.old Phase.Idle) }
+    ensures starves { OnErr result (MayStarve (core state.old Phase.Idle) call.now) }
+    ensures order { IfOk result (λ turn. phase_after turn state.new ≡ stage_at (core state.old Phase.Idle) call.now false) }
+    ensures ends { IfOk result (λ turn. TurnEndsSo (ending_at (core state.old Phase.Idle) call.now) turn state.new) }
+    ensures tries { IfOk result (λ turn. (core_after turn state.new).tries ≡ tries_at (phase_after turn state.new)) }
+{
+    match call {
+        Call::Begin { props, room } => begin(state, *props, *room, false),
+        Call::Commit => Ok(commit(state)),
+        Call::Abort { outer } => Ok(abort(state, *outer)),
+        Call::Mode { room } => mode(state, *room),
+        Call::InTransaction => Ok(in_transaction(state)),
+        Call::Read { hint, width, at } => read(state, *hint, *width, *at),
+        Call::Write { hint, at, value } => write(state, *hint, *at, value),
+        Call::Log { width, at } => log(state, *at, u64::from(width.size())),
+        Call::LogBytes { at, size } => log(state, *at, *size),
+        Call::Copy(copying) => copy(state, *copying),
+        Call::Fill { to, byte, size, .. } => fill(state, *to, *byte, *size),
+        Call::CommitAction(action) => register(state, ActionKind::Commit, *action),
+        Call::UndoAction(action) => register(state, ActionKind::Undo, *action),
+        Call::Load { width, at } => Ok(load(state, *width, *at)),
+        Call::Save { at, value } => Ok(save(state, *at, value)),
+    }
+}

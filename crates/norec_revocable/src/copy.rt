@@ -1,0 +1,228 @@
+//! Copies. The whole source is read first, chunk by chunk, so that a conflict has changed nothing; then the destination
+//! is written at once, in the write set or in the arena. All memory is taken before the first step.
+
+ghost use Rattle.std.specs.Prelude.{◌≡◌, ◌<◌, ◌≤◌, ◌+◌, ◌^◌, ◌&&◌, false, IfOk, IfSome, OnOk, OnErr, List, None, length, drop, replicate, slice_get, option_map};
+ghost use Rattle.itm_types.specs.Slices.{slice, with_slice, AreBytes};
+ghost use Rattle.itm_types.specs.declared.row.LogRow.{LogRow};
+ghost use Rattle.norec_core.specs.Copies.{copy_refusal, chunks_in, direction_of, is_out, source_words, WritesShared};
+ghost use Rattle.norec_core.specs.Accesses.{count};
+ghost use Rattle.norec_data.specs.View.{in_block, core, rows_before};
+ghost use Rattle.norec_revocable.specs.InPhases.{IsSound, MayPutFor, Copied, IsServed, IsReading, reserved_for};
+ghost use Rattle.norec_revocable.specs.Between.{in_copy, logged, IsSoundTurn, MayCopy, MayFinish};
+ghost use Rattle.norec_data.specs.Turns.{core_after, phase_after, Turns, TurnEndsSo, Stays};
+ghost use Rattle.norec_core.specs.Core.{came};
+ghost use Rattle.norec_core.specs.Order.{chunk_reading, load_chunks, stage_at, tries_after, tries_at};
+ghost use Rattle.norec_core.specs.Proceeds.{MayStarve, arena_copied, writes_copied};
+
+mod refusals;
+
+use crate::copy::refusals::refuse_copy;
+use crate::fill::set_all;
+use crate::range::{put_range, reserve_range};
+use crate::read::{MOST_PIECES, take_had};
+use itm_types::{Call, CopyPair, Copying, MAX_MEMORY, MAX_WORDS, Value};
+use nest_frames::Frames;
+use norec_core::{Phase, Purpose, Reading};
+use norec_data::{Data, End, Pending, Turn, chunk_reading, chunks, copy_refusal, direction};
+use std::alloc::AllocError;
+use value_log::ValueLog;
+use word_pieces::{Chunks, Direction};
+
+/// A copy comes. One of no bytes takes no memory.
+pub(crate) fn copy(state: &mut Data, copying: Copying) -> Result<Turn, AllocError>
+    requires sound { IsSound state.old Phase.Idle }
+    ensures sound { IfOk result (λ turn. IsSoundTurn turn state.new) }
+    ensures proceeds { IfOk result
+        (λ turn. Turns (came (core state.old Phase.Idle) (Call.Copy copying) false) turn state.new) }
+    ensures stays { OnOk result (Stays state.old state.new) }
+    ensures err_sound { OnErr result (IsSound state.new Phase.Idle) }
+    ensures err { OnErr result (core state.new Phase.Idle ≡ core state.old Phase.Idle) }
+    ensures starves { OnErr result (MayStarve (core state.old Phase.Idle) (Call.Copy copying)) }
+    ensures order { IfOk result
+        (λ turn. phase_after turn state.new ≡ stage_at (core state.old Phase.Idle) (Call.Copy copying) false) }
+    ensures ends { IfOk result (λ turn. TurnEndsSo None turn state.new) }
+    ensures tries { IfOk result (λ turn. (core_after turn state.new).tries ≡ tries_at (phase_after turn state.new)) }
+{
+    if let Some(why) = copy_refusal(state, copying) {
+        return Ok(refuse_copy(state, copying, why));
+    }
+    let written = state.frames.len();
+    reserve(state, copying)?;
+    state.come();
+    state.tries = 0;
+    state.written = written;
+    match copying.pair {
+        CopyPair::Out(_) => {
+            take_source(state, copying);
+            Ok(copied(state, copying))
+        }
+        CopyPair::In(_) | CopyPair::Within(_, _) => Ok(next_chunk(state, copying, 0)),
+    }
+}
+
+/// Makes room for the source's bytes, the rows that reading it may log, and those of the destination.
+fn reserve(state: &mut Data, copying: Copying) -> Result<(), AllocError>
+    requires sound { IsSound state.old Phase.Idle }
+    requires served { copy_refusal (in_block state.old) state.old.words (length state.old.arena) copying ≡ None }
+    ensures frame { state.new ≡ record state.old {
+      buffer = state.new.buffer;
+      log = state.new.log;
+      frames = state.new.frames;
+    } }
+    ensures log { state.new.log.rows ≡ state.old.log.rows }
+    ensures blocks { state.new.frames.blocks ≡ state.old.frames.blocks }
+    ensures size { state.new.frames.size ≡ state.old.frames.size }
+    ensures actions { state.new.frames.actions ≡ state.old.frames.actions }
+    ensures room_left { state.new.frames.room ≡ state.old.frames.room }
+    ensures buffer { OnOk result (state.new.buffer.items ≡ replicate copying.size 0) }
+    ensures room { OnOk result (is_out copying.pair ≡ false → source_words copying ≤ state.new.log.room) }
+    ensures rows { OnOk result (state.new.frames.writes.rows ≡ reserved_for copying copying.pair state.old.frames.writes.rows) }
+    ensures may_put { OnOk result (MayPutFor copying copying.pair state.new.frames.writes) }
+    ensures err { OnErr result (state.new.frames.writes.rows ≡ state.old.frames.writes.rows) }
+    ensures some { OnErr result (0 < copying.size) }
+{
+    state.buffer.clear();
+    if copying.size == 0 {
+        return Ok(());
+    }
+    set_all(&mut state.buffer, copying.size as usize, 0)?;
+    reserve_source(&mut state.log, copying)?;
+    reserve_target(&mut state.frames, copying)
+}
+
+/// Makes room for the rows that reading the source may log.
+fn reserve_source(log: &mut ValueLog, copying: Copying) -> Result<(), AllocError>
+    requires { copying.size ≤ MAX_MEMORY }
+    ensures rows { log.new.rows ≡ log.old.rows }
+    ensures room { OnOk result (is_out copying.pair ≡ false → source_words copying ≤ log.new.room) }
+{
+    match copying.pair {
+        CopyPair::Out(_) => Ok(()),
+        CopyPair::In(_) | CopyPair::Within(_, _) => {
+            log.reserve(MOST_PIECES * chunks(copying).len() as usize)
+        }
+    }
+}
+
+/// Makes each word of a shared destination ready to be written.
+fn reserve_target(frames: &mut Frames, copying: Copying) -> Result<(), AllocError>
+    requires open { 0 < length frames.old.blocks }
+    requires range { WritesShared copying.pair → copying.to + copying.size ≤ MAX_MEMORY }
+    requires small { copying.size ≤ MAX_MEMORY }
+    ensures rows { OnOk result
+        (frames.new.writes.rows ≡ reserved_for copying copying.pair frames.old.writes.rows) }
+    ensures may_put { OnOk result (MayPutFor copying copying.pair frames.new.writes) }
+    ensures err { OnErr result (frames.new.writes.rows ≡ frames.old.writes.rows) }
+    ensures blocks { frames.new.blocks ≡ frames.old.blocks }
+    ensures size { frames.new.size ≡ frames.old.size }
+    ensures actions { frames.new.actions ≡ frames.old.actions }
+    ensures room { frames.new.room ≡ frames.old.room }
+{
+    match copying.pair {
+        CopyPair::In(_) => Ok(()),
+        CopyPair::Out(_) | CopyPair::Within(_, _) => {
+            reserve_range(frames, copying.to, chunks(copying))
+        }
+    }
+}
+
+/// The chunks of the source from this one on are read: up to a piece that is loaded, or to the end.
+pub(crate) fn next_chunk(state: &mut Data, copying: Copying, number: u32) -> Turn
+    requires may { MayCopy state.old copying number }
+    ensures sound { IsSoundTurn result state.new }
+    // whatever the log was before a row joined it
+    ensures proceeds { (log : List LogRow) → Turns (logged (in_copy state.old copying) log) result state.new }
+    ensures stays { Stays state.old state.new }
+    ensures order { phase_after result state.new
+        ≡ load_chunks (rows_before state.old) state.old.log.rows copying number (drop number (chunks_in copying)) }
+    ensures ends { TurnEndsSo None result state.new }
+    ensures tries { (core_after result state.new).tries ≡ tries_after (phase_after result state.new) state.old.tries }
+{
+    let mut number = number;
+    while let Some(reading) = chunk_reading(copying, number) {
+        state.gathered = Value::new();
+        if let Some(number) = take_had(state, reading) {
+            state.reading = Reading { number, ..reading };
+            return Turn::Wait(Pending::Load);
+        }
+        keep_chunk(state, copying, number, reading);
+        number += 1;
+    }
+    copied(state, copying)
+}
+
+/// The bytes of a chunk that is read whole go to their place in the buffer.
+pub(crate) fn keep_chunk(state: &mut Data, copying: Copying, number: u32, reading: Reading)
+    requires chunk { reading.purpose ≡ Purpose.Chunk copying number }
+    requires whole { IsReading state.old (record reading { number = count reading }) }
+    ensures frame { state.new ≡ record state.old { buffer = state.new.buffer } }
+    ensures copied { Copied state.new copying (number + 1) }
+{
+    let start = (reading.at - copying.from) as usize;
+    put_bytes(&mut state.buffer, start, &state.gathered);
+}
+
+/// Puts bytes at a place of the buffer.
+fn put_bytes(buffer: &mut Vec<u8>, start: usize, bytes: &[u8])
+    requires { start + length bytes.now ≤ length buffer.old.items }
+    ensures { buffer.new.items ≡ with_slice buffer.old.items start bytes.now }
+{
+    buffer[start..start + bytes.len()].copy_from_slice(bytes);
+}
+
+/// The source is read whole: its bytes go to the destination.
+fn copied(state: &mut Data, copying: Copying) -> Turn
+    requires may { MayFinish state.old copying }
+    ensures sound { IsSoundTurn result state.new }
+    ensures proceeds { (log : List LogRow) → Turns (logged (in_copy state.old copying) log) result state.new }
+    ensures stays { Stays state.old state.new }
+    ensures order { phase_after result state.new ≡ Phase.Idle }
+    ensures ends { TurnEndsSo None result state.new }
+    ensures tries { (core_after result state.new).tries ≡ 0 }
+{
+    deliver(state, copying);
+    Turn::End(End::Done)
+}
+
+/// The buffer goes to the destination, which has room for it.
+fn deliver(state: &mut Data, copying: Copying)
+    requires words { state.old.words ≤ MAX_WORDS }
+    requires served { IsServed state.old.words (length state.old.arena) (rows_before state.old) state.old.frames.writes state.old.buffer.items copying }
+    ensures frame { state.new ≡ record state.old {
+      arena = state.new.arena;
+      frames = state.new.frames;
+    } }
+    ensures rows { state.new.frames.writes.rows
+        ≡ writes_copied (rows_before state.old) copying copying.pair state.old.buffer.items }
+    ensures arena { state.new.arena ≡ arena_copied state.old.arena copying copying.pair state.old.buffer.items }
+    ensures blocks { state.new.frames.blocks ≡ state.old.frames.blocks }
+    ensures size { state.new.frames.size ≡ state.old.frames.size }
+    ensures actions { state.new.frames.actions ≡ state.old.frames.actions }
+    ensures room_left { state.new.frames.room ≡ state.old.frames.room }
+    ensures bytes { AreBytes state.old.buffer.items }
+{
+    match copying.pair {
+        CopyPair::In(_) => state.arena.put(copying.to as usize, &state.buffer),
+        CopyPair::Out(_) | CopyPair::Within(_, _) => put_range(
+            &mut state.frames,
+            copying.to,
+            direction(copying),
+            &state.buffer,
+        ),
+    }
+}
+
+/// The source's bytes are taken from the arena.
+fn take_source(state: &mut Data, copying: Copying)
+    requires range { copying.from + copying.size ≤ length state.old.arena }
+    requires sized { length state.old.buffer.items ≡ copying.size }
+    ensures frame { state.new ≡ record state.old { buffer = state.new.buffer } }
+    ensures bytes { state.new.buffer.items ≡ slice state.old.arena copying.from copying.size }
+{
+    let _bytes = state.arena.size();
+    let start = copying.from as usize;
+    let end = start + copying.size as usize;
+    state
+        .buffer
+        .copy_from_slice(&state.arena.bytes()[start..end]);
+}

@@ -1,0 +1,29 @@
+//! The calls of a transaction that may be tried again. It logs what it reads and keeps what it writes to itself, until a
+//! commit takes the clock: NOrec, from "NOrec: Streamlining STM by Abolishing Ownership Records" (Dalessandro, Spear,
+//! Scott, PPoPP 2010).
+#![tactic(auto)]
+
+mod abort;
+mod access;
+mod begins;
+mod calls;
+mod commits;
+mod copy;
+mod fill;
+mod local;
+mod mode;
+mod range;
+mod read;
+mod rounds;
+mod steps;
+mod words;
+mod writes;
+
+pub use begins::begin;
+pub use calls::{called, resumed};
+pub use commits::commit;
+pub use mode::goes;
+pub use read::{confirmed_word, loaded};
+pub use steps::step_of;
+pub use words::begin_word;
+pub use writes::write;

@@ -1,0 +1,94 @@
+//! Transactions that become irrevocable.
+
+ghost use Rattle.std.specs.Prelude.{◌≡◌, ◌<◌, None, Some, [], ◌∷◌, List, Option, false, map, length, IfOk, IfSome, OnOk, OnErr};
+ghost use Rattle.itm_types.specs.declared.call.Props.{Props};
+ghost use Rattle.write_set.specs.Marks.{unwritten};
+ghost use Rattle.nest_frames.specs.Nest.{begun, made_irrevocable, stays_revocable};
+ghost use Rattle.norec_core.specs.Core.{came, goes};
+ghost use Rattle.norec_core.specs.declared.phase.Phase.{Phase};
+ghost use Rattle.norec_core.specs.Order.{stage_at, tries_at};
+ghost use Rattle.norec_core.specs.Endings.{ending_at};
+ghost use Rattle.norec_core.specs.Proceeds.{MayStarve};
+ghost use Rattle.norec_data.specs.View.{core, in_block};
+ghost use Rattle.norec_revocable.specs.InPhases.{IsSound};
+ghost use Rattle.norec_revocable.specs.Between.{blocks_with, entry_end, IsSoundTurn};
+ghost use Rattle.norec_data.specs.Turns.{core_after, phase_after, Turns, TurnEndsSo, Stays};
+
+use crate::commits::exchange;
+use itm_types::{Call, MAX_OPEN_BLOCKS, Props};
+use norec_core::{Phase, Taking};
+use norec_data::{Data, End, Turn, begin_refusal, mode_refusal};
+use std::alloc::AllocError;
+
+/// The transaction is to become irrevocable.
+pub(crate) fn mode(state: &mut Data, room: u32) -> Result<Turn, AllocError>
+    requires sound { IsSound state.old Phase.Idle }
+    ensures sound { IfOk result (λ turn. IsSoundTurn turn state.new) }
+    ensures proceeds { IfOk result (λ turn. Turns (came (core state.old Phase.Idle) (Call.Mode room) false) turn state.new) }
+    ensures stays { OnOk result (Stays state.old state.new) }
+    ensures err { OnErr result (state.new ≡ state.old) }
+    ensures starves { OnErr result (MayStarve (core state.old Phase.Idle) (Call.Mode room)) }
+    ensures order { IfOk result (λ turn. phase_after turn state.new ≡ stage_at (core state.old Phase.Idle) (Call.Mode room) false) }
+    ensures ends { IfOk result (λ turn. TurnEndsSo (ending_at (core state.old Phase.Idle) (Call.Mode room)) turn state.new) }
+    ensures tries { IfOk result (λ turn. (core_after turn state.new).tries ≡ tries_at (phase_after turn state.new)) }
+{
+    if let Some(why) = mode_refusal(state) {
+        state.come();
+        state.why = why;
+        return Ok(Turn::End(End::Refused));
+    }
+    state.frames.reserve_actions(room as usize)?;
+    state.come();
+    state.tries = 0;
+    Ok(exchange(state, Taking::Mode { room }))
+}
+
+/// The room that the call asks for, where it makes the transaction irrevocable.
+pub fn goes(state: &Data, call: &Call) -> Option<u32>
+    ensures { (phase : Phase) → result ≡ goes (core state.now phase) call.now }
+{
+    match call {
+        Call::Begin { props, room } => {
+            if props.goes_irrevocable && begin_refusal(state, *props).is_none() {
+                Some(*room)
+            } else {
+                None
+            }
+        }
+        Call::Mode { room } => {
+            if mode_refusal(state).is_none() {
+                Some(*room)
+            } else {
+                None
+            }
+        }
+        _ => None,
+    }
+}
+
+/// The write set is stored: the transaction is irrevocable, and where a block of these properties goes irrevocable, it
+/// begins.
+pub(crate) fn go_irrevocable(state: &mut Data, props: Option<Props>) -> End
+    requires few { IfSome props (λ _. length state.old.frames.blocks < MAX_OPEN_BLOCKS) }
+    ensures end { result ≡ entry_end props }
+    ensures frames { state.new.frames ≡ record {
+      writes = unwritten;
+      size = state.old.frames.size;
+      blocks = map made_irrevocable (blocks_with props state.old.frames);
+      actions = record state.old.frames.actions { undos = [] };
+      room = state.old.frames.room;
+    } }
+    ensures log { state.new.log.rows ≡ [] }
+    ensures others { state.new ≡ record state.old { frames = state.new.frames; log = state.new.log } }
+{
+    let end = match props {
+        Some(props) => {
+            state.frames.enter(props);
+            End::Entered
+        }
+        None => End::Done,
+    };
+    state.frames.make_irrevocable();
+    state.log.clear();
+    end
+}

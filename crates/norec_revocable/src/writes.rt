@@ -1,0 +1,159 @@
+//! Writes: a value goes into the write set, piece by piece upwards, and no step is taken.
+
+ghost use Rattle.std.specs.Prelude.{◌≡◌, ◌<◌, ◌≤◌, ◌+◌, ◌∷◌, [], false, IfOk, OnOk, OnErr, All, length, map};
+ghost use Rattle.word_pieces.specs.Pieces.{IsPiece, pieces_of};
+ghost use Rattle.itm_types.specs.Slices.{AreBytes};
+ghost use Rattle.write_set.specs.Marks.{KeepsRoom, MayPut};
+ghost use Rattle.nest_frames.specs.Nest.{rows_of};
+ghost use Rattle.norec_core.specs.Rows.{AreRoomy, HaveRows, reserved_all, put_all};
+ghost use Rattle.norec_data.specs.View.{core};
+ghost use Rattle.norec_revocable.specs.InPhases.{IsSound};
+ghost use Rattle.norec_revocable.specs.Between.{IsSoundTurn};
+ghost use Rattle.norec_data.specs.Turns.{core_after, phase_after, Turns, TurnEndsSo, Stays};
+ghost use Rattle.norec_core.specs.Core.{came};
+ghost use Rattle.norec_core.specs.Order.{stage_at, tries_at};
+ghost use Rattle.norec_core.specs.Endings.{ending_at};
+ghost use Rattle.norec_core.specs.Proceeds.{MayStarve};
+
+use crate::access::refuse;
+use itm_types::{Call, Datum, MAX_MEMORY, WriteHint};
+use nest_frames::Frames;
+use norec_core::Phase;
+use norec_data::{Data, End, Turn, access_refusal};
+use std::alloc::AllocError;
+use word_pieces::{Piece, piece_at, pieces};
+
+/// A write comes.
+#[inline(always)]
+pub fn write(state: &mut Data, hint: WriteHint, at: u64, value: &Datum) -> Result<Turn, AllocError>
+    requires sound { IsSound state.old Phase.Idle }
+    ensures sound { IfOk result (λ turn. IsSoundTurn turn state.new) }
+    ensures proceeds { IfOk result
+        (λ turn. Turns (came (core state.old Phase.Idle) (Call.Write hint at value.now) false) turn state.new) }
+    ensures stays { OnOk result (Stays state.old state.new) }
+    ensures err_sound { OnErr result (IsSound state.new Phase.Idle) }
+    ensures err { OnErr result (core state.new Phase.Idle ≡ core state.old Phase.Idle) }
+    ensures starves { OnErr result (MayStarve (core state.old Phase.Idle) (Call.Write hint at value.now)) }
+    ensures order { IfOk result
+        (λ turn. phase_after turn state.new ≡ stage_at (core state.old Phase.Idle) (Call.Write hint at value.now) false) }
+    ensures ends { IfOk result (λ turn. TurnEndsSo (ending_at (core state.old Phase.Idle) (Call.Write hint at value.now)) turn state.new) }
+    ensures tries { IfOk result (λ turn. (core_after turn state.new).tries ≡ tries_at (phase_after turn state.new)) }
+{
+    if let Some(why) = access_refusal(state, at, u64::from(value.width.size())) {
+        return Ok(refuse(state, why));
+    }
+    put_value(&mut state.frames, at, value.width.size(), &value.bytes)?;
+    state.come();
+    Ok(Turn::End(End::Done))
+}
+
+/// Puts a value of so many bytes in the write set. Where memory is refused, no word is given a row.
+#[inline(always)]
+fn put_value(frames: &mut Frames, at: u64, size: u8, bytes: &[u8]) -> Result<(), AllocError>
+    requires open { 0 < length frames.old.blocks }
+    requires range { at + size ≤ MAX_MEMORY }
+    requires small { size ≤ 32 }
+    requires bytes { size ≤ length bytes.now }
+    ensures rows { OnOk result (frames.new.writes.rows
+        ≡ put_all (reserved_all frames.old.writes.rows (pieces_of at size)) (pieces_of at size) bytes.now) }
+    ensures err { OnErr result (frames.new.writes.rows ≡ frames.old.writes.rows) }
+    ensures blocks { frames.new.blocks ≡ frames.old.blocks }
+    ensures size { frames.new.size ≡ frames.old.size }
+    ensures actions { frames.new.actions ≡ frames.old.actions }
+    ensures room { frames.new.room ≡ frames.old.room }
+    ensures grows { OnErr result (AreRoomy frames.old.writes.rows (rows_of frames.old.blocks) (pieces_of at size) → ⊥) }
+    ensures bytes { AreBytes bytes.now }
+{
+    match piece_at(at, size, 0) {
+        Some(piece) if piece.count == size => put_piece(frames, piece, bytes),
+        _ => put_pieces(frames, at, size, bytes),
+    }
+}
+
+/// The same for a value that lies in one word.
+#[inline(always)]
+fn put_piece(frames: &mut Frames, piece: Piece, bytes: &[u8]) -> Result<(), AllocError>
+    requires open { 0 < length frames.old.blocks }
+    requires piece { IsPiece piece }
+    requires bytes { piece.at + piece.count ≤ length bytes.now }
+    ensures rows { OnOk result (frames.new.writes.rows
+        ≡ put_all (reserved_all frames.old.writes.rows (piece ∷ [])) (piece ∷ []) bytes.now) }
+    ensures err { OnErr result (frames.new.writes.rows ≡ frames.old.writes.rows) }
+    ensures blocks { frames.new.blocks ≡ frames.old.blocks }
+    ensures size { frames.new.size ≡ frames.old.size }
+    ensures actions { frames.new.actions ≡ frames.old.actions }
+    ensures room { frames.new.room ≡ frames.old.room }
+    ensures grows { OnErr result (AreRoomy frames.old.writes.rows (rows_of frames.old.blocks) (piece ∷ []) → ⊥) }
+    ensures bytes { AreBytes bytes.now }
+{
+    frames.reserve(piece.word)?;
+    frames.put(piece.word, piece.mask(), piece.scatter(bytes));
+    Ok(())
+}
+
+/// The same, piece by piece.
+#[inline(never)]
+fn put_pieces(frames: &mut Frames, at: u64, size: u8, bytes: &[u8]) -> Result<(), AllocError>
+    requires open { 0 < length frames.old.blocks }
+    requires range { at + size ≤ MAX_MEMORY }
+    requires small { size ≤ 32 }
+    requires bytes { size ≤ length bytes.now }
+    ensures rows { OnOk result (frames.new.writes.rows
+        ≡ put_all (reserved_all frames.old.writes.rows (pieces_of at size)) (pieces_of at size) bytes.now) }
+    ensures err { OnErr result (frames.new.writes.rows ≡ frames.old.writes.rows) }
+    ensures blocks { frames.new.blocks ≡ frames.old.blocks }
+    ensures size { frames.new.size ≡ frames.old.size }
+    ensures actions { frames.new.actions ≡ frames.old.actions }
+    ensures room { frames.new.room ≡ frames.old.room }
+    ensures grows { OnErr result (AreRoomy frames.old.writes.rows (rows_of frames.old.blocks) (pieces_of at size) → ⊥) }
+    ensures bytes { AreBytes bytes.now }
+{
+    let pieces = pieces(at, size);
+    reserve_all(frames, &pieces)?;
+    put_all(frames, &pieces, bytes);
+    Ok(())
+}
+
+/// Makes each piece's word ready to be written. Where memory is refused, none is given a row.
+pub(crate) fn reserve_all(frames: &mut Frames, pieces: &[Piece]) -> Result<(), AllocError>
+    requires open { 0 < length frames.old.blocks }
+    ensures rows { OnOk result (frames.new.writes.rows ≡ reserved_all frames.old.writes.rows pieces.now) }
+    ensures may_put { OnOk result (All (λ p. MayPut frames.new.writes p.word) pieces.now) }
+    ensures err { OnErr result (frames.new.writes.rows ≡ frames.old.writes.rows) }
+    ensures blocks { frames.new.blocks ≡ frames.old.blocks }
+    ensures size { frames.new.size ≡ frames.old.size }
+    ensures actions { frames.new.actions ≡ frames.old.actions }
+    ensures room { frames.new.room ≡ frames.old.room }
+    ensures inner { frames.new.writes.inner ≡ frames.old.writes.inner }
+    ensures others { OnOk result (KeepsRoom frames.old.writes frames.new.writes) }
+    ensures grows { OnErr result (AreRoomy frames.old.writes.rows (rows_of frames.old.blocks) pieces.now → ⊥) }
+{
+    let len = frames.len();
+    for piece in pieces {
+        if frames.reserve(piece.word).is_err() {
+            frames.cut(len);
+            return Err(AllocError);
+        }
+    }
+    Ok(())
+}
+
+/// Puts the pieces of a value in the write set, where each word was made ready.
+pub(crate) fn put_all(frames: &mut Frames, pieces: &[Piece], bytes: &[u8])
+    requires room { HaveRows frames.old.writes.rows pieces.now }
+    requires may_put { All (λ p. MayPut frames.old.writes p.word) pieces.now }
+    requires pieces { All IsPiece pieces.now }
+    requires bytes { All (λ p. p.at + p.count ≤ length bytes.now) pieces.now }
+    ensures rows { frames.new.writes.rows ≡ put_all frames.old.writes.rows pieces.now bytes.now }
+    ensures blocks { frames.new.blocks ≡ frames.old.blocks }
+    ensures size { frames.new.size ≡ frames.old.size }
+    ensures actions { frames.new.actions ≡ frames.old.actions }
+    ensures room { frames.new.room ≡ frames.old.room }
+    ensures words { map (λ r. r.word) frames.new.writes.rows ≡ map (λ r. r.word) frames.old.writes.rows }
+    ensures others { KeepsRoom frames.old.writes frames.new.writes }
+    ensures bytes { AreBytes bytes.now }
+{
+    for piece in pieces {
+        frames.put(piece.word, piece.mask(), piece.scatter(bytes));
+    }
+}
