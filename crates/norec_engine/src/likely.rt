@@ -67,6 +67,7 @@ impl Engine {
         ensures revocable { result ≡ true → self.now.irrevocable ≡ false }
         ensures waits { result ≡ true → Awaits likely self.now.stage }
         ensures goes_on { result ≡ true → GoesOn likely (stage_after self.now seen) }
+        ensures begins { result ≡ true → likely ≡ Likely.Begin → ending_after self.now seen ≡ None }
     {
         if self.irrevocable {
             return false;
