@@ -91,7 +91,7 @@ fn finish_late(words: &Words, pass: &mut Pass, engine: &mut Engine, clock: u64) 
     ensures stands { Stands (view_of pass.new) engine.new }
 {
     let mut answer = Answer::Reply(Reply::Done);
-    let next = engine.resume_into(clock, &mut answer);
+    let next = engine.resume_apart(clock, &mut answer);
     finish(words, pass, engine, next, &mut answer);
     answer
 }
@@ -164,7 +164,7 @@ fn go_on(
     ensures less { left engine.new (next_in result answer.new) < left engine.old (Asks step) }
 {
     let found = words.step(pass, step);
-    engine.resume_into(found, answer)
+    engine.resume_apart(found, answer)
 }
 
 /// Does one step of a call; tells the next one, where the call goes on as it is likely to, else it does all of them. That
@@ -243,6 +243,6 @@ fn resume(words: &Words, pass: &mut Pass, engine: &mut Engine, seen: u64, answer
     ensures served { (s : Start) → IsDone (cells_of words.now) s (view_of pass.old) engine.old seen → Served s answer.new (view_of pass.new) engine.new }
     ensures stands { Stands (view_of pass.new) engine.new }
 {
-    let next = engine.resume_into(seen, answer);
+    let next = engine.resume_apart(seen, answer);
     finish(words, pass, engine, next, answer);
 }

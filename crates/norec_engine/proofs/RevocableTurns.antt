@@ -1,6 +1,5 @@
 -- What a turn of a transaction that is not irrevocable leaves.
 use Rattle.std.proofs.Common.{◌≡◌, Bool, false, None, refl, sym, ap, subst, ◌∙◌}
-use Rattle.norec_core.specs.Core.{Core}
 use Rattle.norec_core.specs.Proceeds.{StaysOn}
 use Rattle.norec_core.specs.declared.phase.Phase.TheVariants.{Idle}
 use Rattle.norec_data.specs.declared.data.Data.{Data}

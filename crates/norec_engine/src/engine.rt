@@ -12,6 +12,7 @@ ghost use Rattle.norec_engine.specs.Modes.{IsSoundIn};
 ghost use Rattle.norec_core.specs.Undoing.{undone_of, after_undoing};
 ghost use Rattle.norec_engine.specs.NextSteps.{next_in};
 
+use crate::likely::Likely;
 use crate::turns::take;
 use itm_types::{
     Call, Datum, Limits, MAX_COMMITS, MAX_PATIENCE, MAX_WORDS, Props, Ran, ReadHint, Refusal, Step,
@@ -187,9 +188,39 @@ impl Engine {
     }
 
     /// The step that it waits for was done: `seen` is the value loaded, the value that an exchange found, or 0 after a store.
-    /// The next step; where there is none, the call is over, and `answer` tells how.
-    #[inline(never)]
+    /// The next step; where there is none, the call is over, and `answer` tells how. What a call most often waits for is
+    /// done where this is called.
+    #[inline(always)]
     pub fn resume_into(&mut self, seen: u64, answer: &mut Answer) -> Option<Step>
+        requires waits { IsSome self.old.waits }
+        requires fits { Fits self.old seen }
+        ensures proceeds { Proceeds (handed self.old seen) (next_in result answer.new) self.new }
+        ensures joins { Joins self.old seen self.new }
+        ensures order { self.new.stage ≡ stage_after self.old seen }
+        ensures ends { EndsSo (ending_after self.old seen) (next_in result answer.new) }
+        ensures tries { self.new.tries ≡ tries_after self.new.stage self.old.tries }
+        ensures snapshot { self.new.snapshot ≡ snapshot_after self.old seen }
+        ensures log { in_transaction self.new ≡ true → self.new.log ≡ log_after self.old seen }
+        ensures asks { self.new.waits ≡ asked self.new }
+        ensures count { IsWithin self.new }
+        ensures settled { IsSettled self.new }
+
+        // In an irrevocable transaction it comes to what the call was to come to.
+        ensures held { self.old.irrevocable ≡ true → StepsHeld self.old seen (next_in result answer.new) self.new }
+    {
+        match self.pending {
+            Pending::Begin => self.resume_likely(Likely::Begin, seen, answer),
+            Pending::Load => self.resume_likely(Likely::Load, seen, answer),
+            Pending::Exchange => self.resume_likely(Likely::Exchange, seen, answer),
+            Pending::Store(_) => self.resume_likely(Likely::LastStore, seen, answer),
+            Pending::Free => self.resume_likely(Likely::Free, seen, answer),
+            _ => self.resume_apart(seen, answer),
+        }
+    }
+
+    /// `resume_into` as a function of its own, whatever the call waits for.
+    #[inline(never)]
+    pub fn resume_apart(&mut self, seen: u64, answer: &mut Answer) -> Option<Step>
         requires waits { IsSome self.old.waits }
         requires fits { Fits self.old seen }
         ensures proceeds { Proceeds (handed self.old seen) (next_in result answer.new) self.new }

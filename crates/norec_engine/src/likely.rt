@@ -22,6 +22,8 @@ use std::alloc::AllocError;
 pub enum Likely {
     /// The clock, for a begin: it is even.
     Begin,
+    /// A word that is read: the clock is loaded next, to confirm it.
+    Load,
     /// The exchange that takes the clock: a row of a whole word is stored next.
     Exchange,
     /// A store of the commit: a row of a whole word is stored next.
@@ -78,6 +80,7 @@ impl Engine {
             (Likely::Begin, Pending::Begin) => {
                 seen % 2 == 0 && !self.state.opening.props.goes_irrevocable
             }
+            (Likely::Load, Pending::Load) => true,
             (Likely::Free, Pending::Free) => true,
             (Likely::Exchange, Pending::Exchange) => {
                 seen == self.state.snapshot && rows > 0 && frames.row(0).mask == u64::MAX
@@ -220,10 +223,10 @@ impl Engine {
         ensures held { self.old.irrevocable ≡ true → StepsHeld self.old seen (next_in result answer.new) self.new }
     {
         if self.irrevocable {
-            return self.resume_into(seen, answer);
+            return self.resume_apart(seen, answer);
         }
         if !self.foresees(likely, seen) {
-            return self.resume_into(seen, answer);
+            return self.resume_apart(seen, answer);
         }
         let turn = resumed(&mut self.state, self.pending, seen);
         take(

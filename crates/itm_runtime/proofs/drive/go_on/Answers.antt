@@ -13,8 +13,8 @@ step-found-requires c =
       lawful = lawful_of _ _ i.tied c.args.step i.lawful;
     }
 
-pub resume_into-requires : goal.resume_into-requires
-resume_into-requires c =
+pub resume_apart-requires : goal.resume_apart-requires
+resume_apart-requires c =
     let i = c.requires.due.1 in
     record {
       waits = waits_of c.requires.due.0 _ _ _ i;
@@ -23,12 +23,12 @@ resume_into-requires c =
 
 pub returns-clause-due : goal.returns-clause-due
 returns-clause-due c =
-    let r = c.resume_into.ensures in
-    let next : Next = next_in c.resume_into.result c.resume_into.new.answer in
-    goes (cells_of c.args.words.now) (view_of c.args.pass.now) (view_of c.step-found.new.pass) c.requires.own.over c.step-found.ensures.own.over c.args.engine.now c.resume_into.new.self c.args.step c.step-found.result c.step-found.ensures.turn r.joins r.settled r.asks r.order r.count next r.proceeds r.held r.tries r.ends
+    let r = c.resume_apart.ensures in
+    let next : Next = next_in c.resume_apart.result c.resume_apart.new.answer in
+    goes (cells_of c.args.words.now) (view_of c.args.pass.now) (view_of c.step-found.new.pass) c.requires.own.over c.step-found.ensures.own.over c.args.engine.now c.resume_apart.new.self c.args.step c.step-found.result c.step-found.ensures.turn r.joins r.settled r.asks r.order r.count next r.proceeds r.held r.tries r.ends
 
 pub returns-clause-less : goal.returns-clause-less
 returns-clause-less c =
-    let r = c.resume_into.ensures in
-    let next : Next = next_in c.resume_into.result c.resume_into.new.answer in
-    smaller (cells_of c.args.words.now) (view_of c.args.pass.now) (view_of c.step-found.new.pass) c.requires.own.over c.step-found.ensures.own.over c.args.engine.now c.resume_into.new.self c.args.step c.step-found.result c.step-found.ensures.turn r.joins r.settled r.asks r.order r.count next r.proceeds r.held r.tries r.ends c.requires.due.0 c.requires.due.1
+    let r = c.resume_apart.ensures in
+    let next : Next = next_in c.resume_apart.result c.resume_apart.new.answer in
+    smaller (cells_of c.args.words.now) (view_of c.args.pass.now) (view_of c.step-found.new.pass) c.requires.own.over c.step-found.ensures.own.over c.args.engine.now c.resume_apart.new.self c.args.step c.step-found.result c.step-found.ensures.turn r.joins r.settled r.asks r.order r.count next r.proceeds r.held r.tries r.ends c.requires.due.0 c.requires.due.1

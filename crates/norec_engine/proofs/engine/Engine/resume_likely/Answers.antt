@@ -1,9 +1,8 @@
-use Rattle.std.proofs.Common.{rules, ◌≡◌, Bool, ℕ, sym, ap, subst, ◌∙◌}
+use Rattle.std.proofs.Common.{rules, ◌≡◌, Bool, sym, ap, subst, ◌∙◌}
 use Rattle.norec_core.specs.Core.{Core}
 use Rattle.norec_core.specs.Order.{snapshot_after, tries_after}
 use Rattle.norec_core.specs.Proceeds.{Joins}
 use Rattle.norec_core.specs.declared.phase.Phase.{Phase}
-use Rattle.norec_data.specs.Turns.{core_after}
 use Rattle.norec_data.specs.View.{core, phase_of}
 use Rattle.norec_engine.specs.Modes.{mode_after}
 use Rattle.norec_engine.proofs.RevocableTurns.{left, snapshot_is, stage_is}
