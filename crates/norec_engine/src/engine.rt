@@ -211,6 +211,7 @@ impl Engine {
         match self.pending {
             Pending::Begin => self.resume_likely(Likely::Begin, seen, answer),
             Pending::Load => self.resume_likely(Likely::Load, seen, answer),
+            Pending::Confirm(_) => self.resume_likely(Likely::Confirm, seen, answer),
             Pending::Exchange => self.resume_likely(Likely::Exchange, seen, answer),
             Pending::Store(_) => self.resume_likely(Likely::LastStore, seen, answer),
             Pending::Free => self.resume_likely(Likely::Free, seen, answer),

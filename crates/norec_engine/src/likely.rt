@@ -14,7 +14,7 @@ use crate::turns::take;
 use itm_types::{Call, Datum, Props, Step, WriteHint};
 use norec_core::{Answer, Phase, Taking};
 use norec_data::Pending;
-use norec_revocable::{begin, commit, resumed, write};
+use norec_revocable::{begin, commit, ends_word, resumed, write};
 use std::alloc::AllocError;
 
 /// What a call in progress most likely waits for, and goes on to. It makes that case quick, and changes nothing else.
@@ -24,6 +24,8 @@ pub enum Likely {
     Begin,
     /// A word that is read: the clock is loaded next, to confirm it.
     Load,
+    /// The clock, to confirm a whole word: the read is answered.
+    Confirm,
     /// The exchange that takes the clock: a row of a whole word is stored next.
     Exchange,
     /// A store of the commit: a row of a whole word is stored next.
@@ -81,6 +83,7 @@ impl Engine {
                 seen % 2 == 0 && !self.state.opening.props.goes_irrevocable
             }
             (Likely::Load, Pending::Load) => true,
+            (Likely::Confirm, Pending::Confirm(_)) => ends_word(&self.state, seen),
             (Likely::Free, Pending::Free) => true,
             (Likely::Exchange, Pending::Exchange) => {
                 seen == self.state.snapshot && rows > 0 && frames.row(0).mask == u64::MAX

@@ -1,14 +1,20 @@
 -- A read of one whole word.
-use Rattle.std.proofs.Common.{◌≡◌, ℕ, ◌+◌, ◌*◌, ◌/◌, ◌%◌, ◌<◌, List, Some, slice_get, sym, ◌∙◌, arith}
+use Rattle.std.proofs.Common.{◌≡◌, ℕ, suc, ◌+◌, ◌*◌, ◌/◌, ◌%◌, ◌<◌, ◌==◌, List, [], ◌∷◌, ◌++◌, Some, slice_get, sym, ◌∙◌, eq-eqb, arith}
+use Rattle.std.proofs.lemmas.Bool.{cond-true}
 use Rattle.std.specs.Int.{w64, to_le_bytes}
 use Rattle.itm_types.specs.Memory.{bytes_of}
 use Rattle.itm_types.specs.Slices.{slice}
 use Rattle.itm_types.proofs.Words.{word-bytes_of}
 use Rattle.word_pieces.specs.Pieces.{count_of}
+use Rattle.norec_core.specs.declared.phase.Phase.TheVariants.{Confirm, Idle}
 use Rattle.norec_core.specs.declared.phase.Reading.{Reading}
 use Rattle.norec_core.specs.Accesses.{count}
+use Rattle.norec_core.specs.Order.{stage_after}
 use Rattle.norec_core.specs.OwnAccesses.{word_of}
+use Rattle.norec_data.specs.declared.data.Data.{Data}
+use Rattle.norec_data.specs.View.{core, rows_before}
 use Rattle.norec_revocable.specs.Between.{IsWord}
+use Rattle.norec_revocable.proofs.ReadReplies.{loads_no_more}
 
 module _ (r : Reading) (word : ℕ) (is : IsWord r word) where
   pub one_piece : count r ≡ 1
@@ -24,3 +30,10 @@ module _ (r : Reading) (word : ℕ) (is : IsWord r word) where
   bytes_there m value there =
       let at : word * 8 ≡ r.at = omega (arith, is.at_is) in
       sym (word-bytes_of m word value there) ∙ (λ i. slice (bytes_of m) (at i) (sym is.size_is i))
+
+-- once the clock has confirmed it, it is answered
+pub word_ends : (d : Data) (word value seen : ℕ) → IsWord d.reading word → seen ≡ d.snapshot → stage_after (core d (Confirm d.reading value)) seen ≡ Idle
+word_ends d word value seen is same =
+    let r = d.reading in
+    cond-true (seen == d.snapshot) _ _ (eq-eqb seen d.snapshot same)
+    ∙ loads_no_more (rows_before d) (d.log.rows ++ record { word = word_of r; value = value } ∷ []) (record r { number = suc r.number }) is.value (omega (arith, one_piece r word is))

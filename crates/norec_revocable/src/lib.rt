@@ -25,5 +25,5 @@ pub use commits::commit;
 pub use mode::goes;
 pub use read::{confirmed_word, loaded};
 pub use steps::step_of;
-pub use words::begin_word;
+pub use words::{begin_word, ends_word};
 pub use writes::write;

@@ -162,7 +162,7 @@ fn is_whole(reading: &Reading, piece: Piece) -> bool
 
 /// The word that is the value of the read, if it is one of a whole word.
 #[inline(always)]
-fn whole_word(reading: &Reading) -> Option<u32>
+pub(crate) fn whole_word(reading: &Reading) -> Option<u32>
     requires place { reading.now.at ≤ MAX_MEMORY }
     ensures word { IfSome result (λ word. IsWord reading.now word) }
 {

@@ -1,16 +1,16 @@
 //! Reads of one whole word that is neither written nor logged: the call asks for this word, with no look at its pieces.
 
-ghost use Rattle.std.specs.Prelude.{◌≡◌, ◌<◌, ◌≤◌, IfSome, IfNone, OnSome, false};
+ghost use Rattle.std.specs.Prelude.{◌≡◌, ◌<◌, ◌≤◌, ℕ, IfSome, IfNone, OnSome, false, true};
 ghost use Rattle.norec_core.specs.Core.{came};
-ghost use Rattle.norec_core.specs.Order.{stage_at};
+ghost use Rattle.norec_core.specs.Order.{stage_at, stage_after};
 ghost use Rattle.norec_data.specs.View.{core};
 ghost use Rattle.norec_data.specs.Turns.{Turns, Stays};
 ghost use Rattle.norec_revocable.specs.InPhases.{IsSound};
 ghost use Rattle.norec_revocable.specs.Between.{IsSoundTurn, IsWord};
 ghost use Rattle.norec_revocable.specs.WholeReads.{IsNewWord};
 
-use crate::read::{set_value, start};
-use itm_types::{Call, MAX_WORDS, ReadHint, Value, Width};
+use crate::read::{set_value, start, whole_word};
+use itm_types::{Call, MAX_MEMORY, MAX_WORDS, ReadHint, Value, Width};
 use norec_core::Phase;
 use norec_data::{Data, Pending, Turn, access_refusal};
 
@@ -56,4 +56,14 @@ fn new_word(state: &Data, width: Width, at: u64) -> Option<u32>
         return None;
     }
     Some(word)
+}
+
+/// The clock was loaded to confirm a word, and ends the read: it is one of a whole word, and the clock is still the
+/// snapshot.
+#[inline(always)]
+pub fn ends_word(state: &Data, seen: u64) -> bool
+    requires place { state.now.reading.at ≤ MAX_MEMORY }
+    ensures { result ≡ true → (value : ℕ) → stage_after (core state.now (Phase.Confirm state.now.reading value)) seen ≡ Phase.Idle }
+{
+    seen == state.snapshot && whole_word(&state.reading).is_some()
 }
