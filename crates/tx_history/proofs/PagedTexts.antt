@@ -3,7 +3,8 @@ use Rattle.std.proofs.Common.{◌≡◌, refl, ℕ, ◌+◌, ◌<◌, Bool, true
 use Rattle.std.proofs.KnownBytes.{Appends-nil, Appends-trans}
 use Rattle.std.proofs.lemmas.List.{length-append, take-append-le}
 use Rattle.std.proofs.Math.Seq.{take-append-add}
-use Rattle.std.specs.Prelude.{is_err}
+use Rattle.std.specs.Prelude.{is_err, is_some}
+use Rattle.std.specs.Result.{result_err}
 use Rattle.std.specs.Io.KnownBytes.{Appends}
 use Rattle.tx_history.specs.Spelling.{Goes, Grows, Puts, Sheet}
 
@@ -63,18 +64,27 @@ grows_then a b c x y p q = record {
 pub grows_as : (a b : Sheet) (x y : List ℕ) → Grows a b x → x ≡ y → Grows a b y
 grows_as a b x y p e = subst (Grows a b) e p
 
+-- one after another that is two
+pub grows_both : (a b c : Sheet) (x y z : List ℕ) → Grows a b x → Grows b c (y ++ z) → Grows a c ((x ++ y) ++ z)
+grows_both a b c x y z p q = subst (Grows a c) (sym (append_assoc x y z)) (grows_then a b c x (y ++ z) p q)
+
+-- or three
+pub grows_three : (a b c : Sheet) (x y z w : List ℕ) → Grows a b x → Grows b c ((y ++ z) ++ w) → Grows a c (((x ++ y) ++ z) ++ w)
+grows_three a b c x y z w p q =
+    subst (Grows a c) (ap (λ (l : List ℕ). x ++ l) (append_assoc y z w) ∙ sym (append_assoc x y (z ++ w)) ∙ sym (append_assoc (x ++ y) z w)) (grows_then a b c x ((y ++ z) ++ w) p q)
+
 -- nothing more is written
 pub grows_end : (a b c : Sheet) (x : List ℕ) → Grows a b x → Grows b c [] → Grows a c x
 grows_end a b c x p q = subst (Grows a c) (append-nil x) (grows_then a b c x [] p q)
 
-told_by : {A E : Type 0} (w v : Option (List ℕ)) (r : Result A E) (text gone : List ℕ) → Appends w v gone → Goes false (is_err r) text gone [] → Puts w v r text
+told_by : {A E : Type 0} (w v : Option (List ℕ)) (r : Result A E) (text gone : List ℕ) → Appends w v gone → Goes false (is_some (result_err r)) text gone [] → Puts w v r text
 told_by w v (Ok x) text gone p q = subst (Appends w v) (sym (append-nil gone) ∙ sym q) p
 told_by w v (Err e) text gone p q = (q.0, q.1, subst (Appends w v) q.2 p)
 
 -- what is told as a text ends
 pub closes : {A E : Type 0} (w v : Option (List ℕ)) (r : Result A E) (a b c : Sheet) (text : List ℕ)
-    → Grows a b text → Grows b c [] → a.failed ≡ false → a.page ≡ [] → is_err r ≡ c.failed → c.page ≡ [] → w ≡ a.written → v ≡ c.written → Puts w v r text
+    → Grows a b text → Grows b c [] → a.failed ≡ false → a.page ≡ [] → is_some (result_err r) ≡ c.failed → c.page ≡ [] → w ≡ a.written → v ≡ c.written → Puts w v r text
 closes w v r a b c text p q fresh empty told last first end =
     let all = grows_end a b c text p q in
-    let goes : Goes false (is_err r) text all.gone [] = rw (sym fresh) (rw told (subst (λ (l : List ℕ). Goes a.failed c.failed (l ++ text) all.gone []) empty (subst (Goes a.failed c.failed (a.page ++ text) all.gone) last all.goes))) in
+    let goes : Goes false (is_some (result_err r)) text all.gone [] = rw (sym fresh) (rw told (subst (λ (l : List ℕ). Goes a.failed c.failed (l ++ text) all.gone []) empty (subst (Goes a.failed c.failed (a.page ++ text) all.gone) last all.goes))) in
     rw first (rw end (told_by a.written c.written r text all.gone all.written goes))

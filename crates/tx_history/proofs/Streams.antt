@@ -1,15 +1,15 @@
 -- Texts that a stream writes, one after another.
-use Rattle.std.proofs.Common.{◌≡◌, true≢false, refl, ℕ, ◌+◌, ◌<◌, ◌≤◌, List, [], ◌∷◌, ◌++◌, length, take, drop, Option, None, Some, Result, Ok, Err, sym, ap, ◌∙◌, subst, append-nil, append_assoc, arith}
+use Rattle.std.proofs.Common.{◌≡◌, false, true≢false, refl, ℕ, ◌+◌, ◌<◌, ◌≤◌, List, [], ◌∷◌, ◌++◌, length, take, drop, Option, None, Some, Result, Ok, Err, sym, ap, ◌∙◌, subst, append-nil, append_assoc, arith}
 use Rattle.std.proofs.KnownBytes.{Appends-nil, Appends-trans, Appends-kept, Keeps-refl, Keeps-trans}
 use Rattle.std.proofs.lemmas.Grind.{common_steps, flat_map-append}
 use Rattle.std.proofs.lemmas.List.{length-append, take-append-drop, take-append-le}
-use Rattle.std.specs.Prelude.{IsErr, get_or, flat_map}
+use Rattle.std.specs.Prelude.{IsErr, get_or, flat_map, is_some}
 use Rattle.std.specs.Result.{result_err}
 use Rattle.std.specs.declared.io.Error.{Error}
 use Rattle.std.specs.Io.KnownBytes.{Appends}
 use Rattle.tx_attempts.specs.declared.attempt.Attempt.{Attempt}
 use Rattle.tx_history.specs.Histories.{attempt_lines, first_lines, last_line, history_text}
-use Rattle.tx_history.specs.Spelling.{IsCut, Puts}
+use Rattle.tx_history.specs.Spelling.{Grows, IsCut, Puts}
 use Rattle.tx_history.specs.Streams.{Adds, Leaves, Standing, lines_so_far}
 use Rattle.tx_history.proofs.TextPieces.{cut_short}
 
@@ -59,14 +59,20 @@ adds_failed a b e x y p failed = adds_then a b b x y p (adds_lost b e y failed)
 pub adds_as : (a b : Standing) (x y : List ℕ) → Adds a b x → x ≡ y → Adds a b y
 adds_as a b x y p e = subst (Adds a b) e p
 
-puts_as_told : {A : Type 0} (g : Option Error) (r : Result A Error) (u v : Option (List ℕ)) (x : List ℕ) → g ≡ result_err r → Puts u v r x → Leaves None g u v x
-puts_as_told g (Ok a) u v x e p = subst (λ (f : Option Error). Leaves None f u v x) (sym e) p
-puts_as_told g (Err f) u v x e p = subst (λ (h : Option Error). Leaves None h u v x) (sym e) p
+grown_leaves : (w v : Option (List ℕ)) (g : Option Error) (p q x : List ℕ) → p ≡ [] → q ≡ [] → Grows (record { failed = false; written = w; page = p }) (record { failed = is_some g; written = v; page = q }) x → Leaves None g w v x
+grown_leaves w v None p q x h k c = subst (Appends w v) (sym (append-nil c.gone) ∙ ap (λ (l : List ℕ). c.gone ++ l) (sym k) ∙ sym c.goes ∙ ap (λ (l : List ℕ). l ++ x) h) c.written
+grown_leaves w v (Some e) p q x h k c =
+    let all : p ++ x ≡ x = ap (λ (l : List ℕ). l ++ x) h in
+    (c.goes.0, subst (λ (l : List ℕ). c.goes.0 < length l) all c.goes.1, subst (Appends w v) (c.goes.2 ∙ ap (take c.goes.0) all) c.written)
 
--- a stream that had not failed has written a text
-pub adds_put : {A : Type 0} (a b : Standing) (r : Result A Error) (x : List ℕ) → a.fault ≡ None → b.fault ≡ result_err r → Puts a.written b.written r x → Adds a b x
+-- a stream that had not failed, which began on an empty page and ended on one, has written a text
+pub adds_grown : (a b : Standing) (w : Option (List ℕ)) (f : Option Error) (p q x : List ℕ) → a.fault ≡ None → w ≡ a.written → f ≡ a.fault → p ≡ [] → q ≡ []
+    → Grows (record { failed = is_some f; written = w; page = p }) (record { failed = is_some b.fault; written = b.written; page = q }) x → Adds a b x
 unfolding Adds
-adds_put a b r x fresh told p = subst (λ (f : Option Error). Leaves f b.fault a.written b.written x) (sym fresh) (puts_as_told b.fault r a.written b.written x told p)
+adds_grown a b w f p q x fresh first same h k c =
+    let before = subst (λ (e : Option Error). Grows (record { failed = is_some e; written = w; page = p }) (record { failed = is_some b.fault; written = b.written; page = q }) x) (same ∙ fresh) c in
+    let from_none = grown_leaves w b.written b.fault p q x h k before in
+    subst (λ (e : Option Error). Leaves e b.fault a.written b.written x) (sym fresh) (subst (λ (u : Option (List ℕ)). Leaves None b.fault u b.written x) first from_none)
 
 told_as_put : {A : Type 0} (r : Result A Error) (u v : Option (List ℕ)) (x : List ℕ) → Leaves None (result_err r) u v x → Puts u v r x
 told_as_put (Ok a) u v x p = p

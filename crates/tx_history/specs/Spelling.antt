@@ -1,10 +1,10 @@
 -- The one spelling of a history.
-use Rattle.std.specs.Prelude.{◌≡◌, Bool, true, false, ℕ, ◌<◌, List, [], ◌++◌, length, take, Option, Result, Ok, Err, decimal}
+use Rattle.std.specs.Prelude.{◌≡◌, Bool, true, false, ℕ, ◌<◌, List, [], ◌++◌, length, take, Option, is_some, Result, Ok, Err, decimal}
 use Rattle.std.specs.Io.KnownBytes.{Appends}
 use Rattle.hex.specs.Hex.{encode_lower}
 use Rattle.tx_history.specs.declared.pieces.Piece.{Piece}
 use Rattle.tx_history.specs.declared.pieces.Piece.TheVariants.{Text, Number, Hex}
-use Rattle.tx_history.specs.declared.paging.Pages.{Pages}
+use Rattle.tx_history.specs.declared.paging.Stream.{Stream}
 
 -- a beginning of the text is written, and not all of it
 abbrev pub IsCut : Option (List ℕ) → Option (List ℕ) → List ℕ → Type 0
@@ -26,8 +26,8 @@ pub record Sheet : Type 0 where
   pub written : Option (List ℕ)
   pub page : List ℕ
 
-abbrev pub sheet : {W : Type 0} → (W → Option (List ℕ)) → Pages W → Sheet
-sheet contents s = record { failed = s.failed; written = contents s.writer.now; page = s.page.items }
+abbrev pub sheet : {W : Type 0} → (W → Option (List ℕ)) → Stream W → Sheet
+sheet contents s = record { failed = is_some s.error; written = contents s.writer.now; page = s.page.items }
 
 -- of these bytes so many went to the writer, and the page has the rest; where a write failed, not all went
 abbrev pub Goes : Bool → Bool → List ℕ → List ℕ → List ℕ → Type 0

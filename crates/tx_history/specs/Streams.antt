@@ -3,13 +3,13 @@ use Rattle.std.specs.Prelude.{◌≡◌, ℕ, List, ◌++◌, flat_map, Option, 
 use Rattle.std.specs.Io.KnownBytes.{Appends, Keeps}
 use Rattle.std.specs.declared.io.Error.{Error}
 use Rattle.tx_attempts.specs.declared.attempt.Attempt.{Attempt}
-use Rattle.tx_history.specs.declared.stream.Stream.{Stream}
+use Rattle.tx_history.specs.declared.paging.Stream.{Stream}
 use Rattle.tx_history.specs.Spelling.{IsCut}
 use Rattle.tx_history.specs.Histories.{attempt_lines, first_lines}
 
 -- the error of the write that failed, where one has
 abbrev pub fault_of : {W : Type 0} → Stream W → Option Error
-fault_of s = s.fault
+fault_of s = s.error
 
 -- what a stream is to its callers: what its writer holds, and its fault
 pub record Standing : Type 0 where

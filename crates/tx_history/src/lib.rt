@@ -10,5 +10,6 @@ mod rows;
 mod stream;
 
 pub use history::History;
+pub use paging::Stream;
 pub use pieces::{Piece, put_pieces};
-pub use stream::{Stream, write_history};
+pub use stream::write_history;

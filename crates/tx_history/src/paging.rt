@@ -1,6 +1,7 @@
 //! A text that is written as it comes, and that stops at the first write that failed.
 
-ghost use Rattle.std.specs.Prelude.{◌≡◌, ◌<◌, ◌≤◌, All, [], false, length, flat_map, decimal, is_err};
+ghost use Rattle.std.specs.Prelude.{◌≡◌, ◌<◌, ◌≤◌, ◌+◌, ◌++◌, All, [], None, codes, drop, length, flat_map, decimal, is_some, take};
+ghost use Rattle.std.specs.Result.{result_err};
 ghost use Rattle.hex.specs.Hex.{IsBytes, encode_lower};
 ghost use Rattle.tx_history.specs.Bounds.{IsWord, PieceFits};
 ghost use Rattle.tx_history.specs.Spelling.{Grows, sheet, spelled};
@@ -14,41 +15,61 @@ use std::io::Write;
 /// So many bytes at most stand on a page.
 const PAGE: usize = 512;
 
-/// A text on its way to a writer, which is given it page by page, and no more once a write has failed.
+/// A history on its way to a writer: its first lines, then those of each attempt, then the last one. Each call hands its
+/// lines to the writer at once, and takes no memory. Once a write has failed, what the writer took is a beginning of the
+/// lines and not all of them; each later call answers the same error and writes nothing.
+///
+/// Within a call the lines stand on a page until it is full or the call ends. The page is the stream's own, so that no call
+/// makes one.
 #[derive(Drop)]
-pub(crate) struct Pages<'a, W: Write> {
+pub struct Stream<'a, W> {
     writer: &'a mut W,
     page: ArrayVec<u8, PAGE>,
-    failed: bool,
-    /// Why it failed.
+    /// The error of the write that failed, if one has.
     error: Option<io::Error>,
 }
 
-impl<'a, W: Write> Pages<'a, W> {
+impl<'a, W: Write> Stream<'a, W> {
     /// A text of which nothing is written.
-    pub(crate) fn new(writer: &'a mut W) -> Self
+    pub(crate) fn blank(writer: &'a mut W) -> Self
         ensures same { result.writer.ghost_name ≡ writer.entry.ghost_name }
         ensures writer { result.writer.now ≡ writer.entry.now }
-        ensures nothing { (result.page.items ≡ []) × (result.failed ≡ false) }
+        ensures nothing { (result.page.items ≡ []) × (result.error ≡ None) }
     {
-        Pages {
+        Stream {
             writer,
             page: ArrayVec::new(),
-            failed: false,
             error: None,
         }
     }
 
-    /// Gives the writer the page.
+    /// Begins on an empty page, as the last call left it.
+    #[inline]
+    pub(crate) fn begin(&mut self)
+        ensures same { self.new.writer.ghost_name ≡ self.old.writer.ghost_name }
+        ensures kept { (self.new.writer.now ≡ self.old.writer.now) × (self.new.error ≡ self.old.error) }
+        ensures page { self.new.page.items ≡ [] }
+    {
+        self.page.clear();
+    }
+
+    /// Whether a write has failed.
+    #[inline]
+    fn has_failed(&self) -> bool
+        ensures { result ≡ is_some self.now.error }
+    {
+        self.error.is_some()
+    }
+
+    /// Gives the writer the page, after which none is begun.
     #[tactic(auto, using(crate::proofs::PagedTexts::turned, crate::proofs::PagedTexts::lost))]
-    fn turn(&mut self)
+    pub(crate) fn turn(&mut self)
         ensures same { self.new.writer.ghost_name ≡ self.old.writer.ghost_name }
         ensures grows { Grows (sheet W.contents self.old) (sheet W.contents self.new) [] }
         ensures page { self.new.page.items ≡ [] }
     {
-        if !self.failed {
+        if !self.has_failed() {
             if let Err(error) = put_bytes(self.writer, self.page.as_slice()) {
-                self.failed = true;
                 self.error = Some(error);
             }
         }
@@ -62,9 +83,8 @@ impl<'a, W: Write> Pages<'a, W> {
         ensures same { self.new.writer.ghost_name ≡ self.old.writer.ghost_name }
         ensures grows { Grows (sheet W.contents self.old) (sheet W.contents self.new) text.now }
     {
-        if !self.failed {
+        if !self.has_failed() {
             if let Err(error) = put_bytes(self.writer, text) {
-                self.failed = true;
                 self.error = Some(error);
             }
         }
@@ -108,6 +128,17 @@ impl<'a, W: Write> Pages<'a, W> {
         self.text(&[b'0' + n]);
     }
 
+    /// Writes a blank and a number below 10.
+    #[inline(always)]
+    #[tactic(auto, using(crate::proofs::PagedTexts::grows_as, std::proofs::lemmas::Fmt::decimal_digit))]
+    fn blank_digit(&mut self, n: u8)
+        requires { n < 10 }
+        ensures same { self.new.writer.ghost_name ≡ self.old.writer.ghost_name }
+        ensures grows { Grows (sheet W.contents self.old) (sheet W.contents self.new) (codes " " ++ decimal n) }
+    {
+        self.text(&[b' ', b'0' + n]);
+    }
+
     fn digits(&mut self, n: u64)
         ensures same { self.new.writer.ghost_name ≡ self.old.writer.ghost_name }
         ensures grows { Grows (sheet W.contents self.old) (sheet W.contents self.new) (decimal n) }
@@ -123,10 +154,25 @@ impl<'a, W: Write> Pages<'a, W> {
         ensures grows { Grows (sheet W.contents self.old) (sheet W.contents self.new) (decimal n) }
         ensures fits { IsWord n }
     {
-        if n < 10 {
-            self.digit(n as u8);
-        } else {
-            self.digits(n);
+        match n {
+            0..=9 => self.digit(n as u8),
+            _ => self.digits(n),
+        }
+    }
+
+    /// Writes a blank and the number in decimal digits. Most numbers are one, which is written with the blank.
+    #[inline(always)]
+    pub(crate) fn blank_number(&mut self, n: u64)
+        ensures same { self.new.writer.ghost_name ≡ self.old.writer.ghost_name }
+        ensures grows { Grows (sheet W.contents self.old) (sheet W.contents self.new) (codes " " ++ decimal n) }
+        ensures fits { IsWord n }
+    {
+        match n {
+            0..=9 => self.blank_digit(n as u8),
+            _ => {
+                self.text(b" ");
+                self.digits(n);
+            }
         }
     }
 
@@ -143,32 +189,31 @@ impl<'a, W: Write> Pages<'a, W> {
         self.text(digits);
     }
 
-    /// Writes the 8 bytes of a word, each in two hexadecimal digits. Its code stands where it is called, so that no digit
-    /// takes a turn of a loop.
+    /// Writes a text in which the 8 bytes of a word stand from a place on, each in two hexadecimal digits. Its code stands
+    /// where it is called, so that no digit takes a turn of a loop.
     #[inline(always)]
-    fn word(&mut self, word: &[u8])
-        requires { length word.now ≡ 8 }
+    fn word_in<const N: usize>(&mut self, text: &[u8; N], at: usize, word: &[u8])
+        requires word { length word.now ≡ 8 }
+        requires place { at + 16 ≤ N }
         ensures same { self.new.writer.ghost_name ≡ self.old.writer.ghost_name }
-        ensures grows { Grows (sheet W.contents self.old) (sheet W.contents self.new) (encode_lower word.now) }
+        ensures grows { Grows (sheet W.contents self.old) (sheet W.contents self.new)
+            (take at text.now ++ encode_lower word.now ++ drop (at + 16) text.now) }
     {
-        let mut digits = [0u8; 16];
-        let written = hex::encode_to_slice(word, &mut digits);
+        let mut text = *text;
+        let whole = &mut text[..];
+        let written = hex::encode_to_slice(word, &mut whole[at..at + 16]);
         let holds = written.is_ok();
         prove!(holds);
-        self.text(&digits);
+        self.text(&text);
     }
 
-    /// Writes the bytes, each in two hexadecimal digits.
+    #[inline(never)]
     #[tactic(auto, using(crate::proofs::AppendedTexts::hex_starts, crate::proofs::AppendedTexts::hex_grown, crate::proofs::AppendedTexts::hex_whole))]
-    pub(crate) fn hex(&mut self, bytes: &[u8])
+    fn hex_in_chunks(&mut self, bytes: &[u8])
         ensures same { self.new.writer.ghost_name ≡ self.old.writer.ghost_name }
         ensures grows { Grows (sheet W.contents self.old) (sheet W.contents self.new) (encode_lower bytes.now) }
         ensures fits { IsBytes bytes.now }
     {
-        if bytes.len() == 8 {
-            self.word(bytes);
-            return;
-        }
         let mut at = 0;
         while at < bytes.len() {
             let (_, rest) = bytes.split_at(at);
@@ -176,6 +221,51 @@ impl<'a, W: Write> Pages<'a, W> {
             let (chunk, _) = rest.split_at(n);
             self.chunk(chunk);
             at += n;
+        }
+    }
+
+    /// Writes the bytes, each in two hexadecimal digits.
+    pub(crate) fn hex(&mut self, bytes: &[u8])
+        ensures same { self.new.writer.ghost_name ≡ self.old.writer.ghost_name }
+        ensures grows { Grows (sheet W.contents self.old) (sheet W.contents self.new) (encode_lower bytes.now) }
+        ensures fits { IsBytes bytes.now }
+    {
+        if bytes.len() == 8 {
+            self.word_in(&[0; 16], 0, bytes);
+        } else {
+            self.hex_in_chunks(bytes);
+        }
+    }
+
+    /// Writes a blank and the bytes, each in two hexadecimal digits. Most are a word.
+    #[inline(always)]
+    pub(crate) fn blank_hex(&mut self, bytes: &[u8])
+        ensures same { self.new.writer.ghost_name ≡ self.old.writer.ghost_name }
+        ensures grows { Grows (sheet W.contents self.old) (sheet W.contents self.new) (codes " " ++ encode_lower bytes.now) }
+        ensures fits { IsBytes bytes.now }
+    {
+        if bytes.len() == 8 {
+            self.word_in(b" 0123456789abcdef", 1, bytes);
+        } else {
+            self.text(b" ");
+            self.hex_in_chunks(bytes);
+        }
+    }
+
+    /// Writes the bytes of an answer, up to the end of its line. Most are a word.
+    #[inline(always)]
+    pub(crate) fn answer(&mut self, bytes: &[u8])
+        ensures same { self.new.writer.ghost_name ≡ self.old.writer.ghost_name }
+        ensures grows { Grows (sheet W.contents self.old) (sheet W.contents self.new)
+            (codes " = " ++ encode_lower bytes.now ++ codes "\n") }
+        ensures fits { IsBytes bytes.now }
+    {
+        if bytes.len() == 8 {
+            self.word_in(b" = 0123456789abcdef\n", 3, bytes);
+        } else {
+            self.text(b" = ");
+            self.hex_in_chunks(bytes);
+            self.text(b"\n");
         }
     }
 
@@ -203,20 +293,24 @@ impl<'a, W: Write> Pages<'a, W> {
         }
     }
 
+    /// The error of the write that failed, if one has.
+    pub(crate) fn told(&self) -> io::Result<()>
+        ensures { result_err result ≡ self.now.error }
+    {
+        match self.error {
+            Some(error) => Err(error),
+            None => Ok(()),
+        }
+    }
+
     /// Gives the writer the last page. Where a write has failed, tells why.
     pub(crate) fn close(&mut self) -> io::Result<()>
         ensures same { self.new.writer.ghost_name ≡ self.old.writer.ghost_name }
         ensures grows { Grows (sheet W.contents self.old) (sheet W.contents self.new) [] }
         ensures page { self.new.page.items ≡ [] }
-        ensures told { is_err result ≡ self.new.failed }
+        ensures told { result_err result ≡ self.new.error }
     {
         self.turn();
-        if !self.failed {
-            return Ok(());
-        }
-        match self.error.take() {
-            Some(error) => Err(error),
-            None => Err(io::ErrorKind::Other.into()),
-        }
+        self.told()
     }
 }

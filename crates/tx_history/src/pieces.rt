@@ -3,7 +3,7 @@
 ghost use Rattle.std.specs.Prelude.{flat_map};
 ghost use Rattle.tx_history.specs.Spelling.{Puts, spelled};
 
-use crate::paging::Pages;
+use crate::paging::Stream;
 use std::io;
 use std::io::Write;
 
@@ -39,7 +39,7 @@ pub(crate) fn put_bytes<W: Write>(writer: &mut W, bytes: &[u8]) -> io::Result<()
 pub fn put_pieces<W: Write>(writer: &mut W, pieces: &[Piece<'_>]) -> io::Result<()>
     ensures { Puts (W.contents writer.old) (W.contents writer.new) result (flat_map spelled pieces.now) }
 {
-    let mut pages = Pages::new(writer);
-    pages.put(pieces);
-    pages.close()
+    let mut stream = Stream::blank(writer);
+    stream.put(pieces);
+    stream.close()
 }

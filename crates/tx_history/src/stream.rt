@@ -9,21 +9,11 @@ ghost use Rattle.tx_history.specs.Spelling.{Grows, Puts, sheet};
 ghost use Rattle.tx_history.specs.Streams.{Adds, fault_of, lent, standing};
 
 use crate::attempts::{put_attempts, write_attempt};
-use crate::paging::Pages;
+use crate::paging::Stream;
 use crate::rows::{put_first, put_last, write_first, write_last};
 use std::io;
 use std::io::Write;
 use tx_attempts::Attempt;
-
-/// A history on its way to a writer: its first lines, then those of each attempt, then the last one. Each call hands its
-/// lines to the writer at once, and takes no memory. Once a write has failed, what the writer took is a beginning of the
-/// lines and not all of them; each later call answers the same error and writes nothing.
-#[derive(Drop)]
-pub struct Stream<'a, W: Write> {
-    writer: &'a mut W,
-    /// The error of the write that failed.
-    fault: Option<io::Error>,
-}
 
 impl<'a, W: Write> Stream<'a, W> {
     /// A history of which nothing is written.
@@ -31,20 +21,7 @@ impl<'a, W: Write> Stream<'a, W> {
         ensures same { lent result ≡ writer.entry.ghost_name }
         ensures nothing { standing W.contents result ≡ record { written = W.contents writer.old; fault = None } }
     {
-        Stream {
-            writer,
-            fault: None,
-        }
-    }
-
-    /// The error of the write that failed, if one has.
-    fn check(&self) -> io::Result<()>
-        ensures { result_err result ≡ fault_of self.now }
-    {
-        match self.fault {
-            Some(fault) => Err(fault),
-            None => Ok(()),
-        }
+        Stream::blank(writer)
     }
 
     /// Writes the lines before the first attempt: the format's name, and the memory before the run. Where a write fails,
@@ -56,9 +33,10 @@ impl<'a, W: Write> Stream<'a, W> {
         ensures answer { fault_of self.new ≡ result_err result }
         ensures fits { OnOk result (IsBytes memory.now) }
     {
-        self.check()?;
-        self.fault = write_first(self.writer, memory).err();
-        self.check()
+        self.told()?;
+        self.begin();
+        write_first(self, memory);
+        self.told()
     }
 
     /// Writes the lines of an attempt.
@@ -69,9 +47,10 @@ impl<'a, W: Write> Stream<'a, W> {
         ensures answer { fault_of self.new ≡ result_err result }
         ensures fits { OnOk result (AttemptFits attempt.now) }
     {
-        self.check()?;
-        self.fault = write_attempt(self.writer, attempt).err();
-        self.check()
+        self.told()?;
+        self.begin();
+        write_attempt(self, attempt);
+        self.told()
     }
 
     /// Writes the last line: the clock, and the memory after the run.
@@ -82,28 +61,29 @@ impl<'a, W: Write> Stream<'a, W> {
         ensures answer { fault_of self.new ≡ result_err result }
         ensures fits { OnOk result (IsWord clock × IsBytes bytes.now) }
     {
-        self.check()?;
-        self.fault = write_last(self.writer, clock, bytes).err();
-        self.check()
+        self.told()?;
+        self.begin();
+        write_last(self, clock, bytes);
+        self.told()
     }
 }
 
 /// The lines of a whole history.
 fn put_history<W: Write>(
-    pages: &mut Pages<'_, W>,
+    stream: &mut Stream<'_, W>,
     memory: &[u8],
     attempts: &[Attempt],
     clock: u64,
     bytes: &[u8],
 )
-    ensures same { pages.new.writer.ghost_name ≡ pages.old.writer.ghost_name }
-    ensures grows { Grows (sheet W.contents pages.old) (sheet W.contents pages.new)
+    ensures same { stream.new.writer.ghost_name ≡ stream.old.writer.ghost_name }
+    ensures grows { Grows (sheet W.contents stream.old) (sheet W.contents stream.new)
         (history_text (record { memory = memory.now; attempts = attempts.now; clock = clock; bytes = bytes.now })) }
     ensures fits { HistoryFits (record { memory = memory.now; attempts = attempts.now; clock = clock; bytes = bytes.now }) }
 {
-    put_first(pages, memory);
-    put_attempts(pages, attempts);
-    put_last(pages, clock, bytes);
+    put_first(stream, memory);
+    put_attempts(stream, attempts);
+    put_last(stream, clock, bytes);
 }
 
 /// Writes a whole history that is there: the memory before the run, the attempts, and the clock and the memory after it.
@@ -122,7 +102,7 @@ pub fn write_history<W: Write>(
         (history_text (record { memory = memory.now; attempts = attempts.now; clock = clock; bytes = bytes.now })) }
     ensures fits { HistoryFits (record { memory = memory.now; attempts = attempts.now; clock = clock; bytes = bytes.now }) }
 {
-    let mut pages = Pages::new(writer);
-    put_history(&mut pages, memory, attempts, clock, bytes);
-    pages.close()
+    let mut stream = Stream::blank(writer);
+    put_history(&mut stream, memory, attempts, clock, bytes);
+    stream.close()
 }

@@ -7,7 +7,7 @@ use Rattle.tx_history.proofs.attempts.put_attempts.Given as goal
 
 abbrev pub invariant-loop-attempt : goal.invariant-loop-attempt
 invariant-loop-attempt g l = record {
-  same : l.pages.writer.ghost_name ≡ l.fn.pages.writer.ghost_name;
-  grows : Grows (sheet g.W.Write.contents l.fn.pages) (sheet g.W.Write.contents l.pages) (flat_map attempt_lines (take l.attempt-index l.attempts));
+  same : l.stream.writer.ghost_name ≡ l.fn.stream.writer.ghost_name;
+  grows : Grows (sheet g.W.Write.contents l.fn.stream) (sheet g.W.Write.contents l.stream) (flat_map attempt_lines (take l.attempt-index l.attempts));
   fits : All AttemptFits (take l.attempt-index l.attempts);
 }

@@ -1,9 +1,9 @@
-use Rattle.tx_history.proofs.PagedTexts.{grows_then}
+use Rattle.std.specs.Prelude.{codes}
+use Rattle.tx_history.proofs.PagedTexts.{grows_both, grows_then}
 use Rattle.tx_history.proofs.bodies.put_save.Goals as goal
 
 pub returns-clause-grows : goal.returns-clause-grows
 returns-clause-grows g c =
     let size = rw c.size.ensures.value at rw c.from.ensures at c.number.ensures.grows in
-    let bytes = rw c.as_slice.ensures.value at c.hex.ensures.grows in
-    let first = grows_then _ _ _ _ _ (grows_then _ _ _ _ _ (grows_then _ _ _ _ _ c.text.ensures.grows size) c.text-2.ensures.grows) c.number-2.ensures.grows in
-    grows_then _ _ _ _ _ (grows_then _ _ _ _ _ first c.text-3.ensures.grows) bytes
+    let bytes = rw c.as_slice.ensures.value at c.blank_hex.ensures.grows in
+    grows_both _ _ _ _ (codes " ") _ (grows_both _ _ _ _ (codes " ") _ (grows_then _ _ _ _ _ c.text.ensures.grows size) c.blank_number.ensures.grows) bytes

@@ -1,10 +1,11 @@
-use Rattle.tx_history.proofs.PagedTexts.{grows_then}
+use Rattle.std.specs.Prelude.{codes}
+use Rattle.tx_history.proofs.PagedTexts.{grows_both}
 use Rattle.tx_history.proofs.bodies.put_write.Goals as goal
 
 pub returns-clause-grows : goal.returns-clause-grows
 returns-clause-grows g c =
-    let value = rw c.as_slice.ensures.value at c.hex.ensures.grows in
-    grows_then _ _ _ _ _ (grows_then _ _ _ _ _ c.put_at.ensures.grows c.text.ensures.grows) value
+    let value = rw c.as_slice.ensures.value at c.blank_hex.ensures.grows in
+    grows_both _ _ _ _ (codes " ") _ c.put_at.ensures.grows value
 
 pub returns-clause-fits : goal.returns-clause-fits
-returns-clause-fits g c = (c.put_at.ensures.fits, rw c.as_slice.ensures.value at c.hex.ensures.fits)
+returns-clause-fits g c = (c.put_at.ensures.fits, rw c.as_slice.ensures.value at c.blank_hex.ensures.fits)

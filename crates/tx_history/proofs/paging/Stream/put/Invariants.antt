@@ -2,7 +2,7 @@ use Rattle.std.proofs.Common.{◌≡◌, All, take}
 use Rattle.std.specs.List.{flat_map}
 use Rattle.tx_history.specs.Bounds.{PieceFits}
 use Rattle.tx_history.specs.Spelling.{Grows, sheet, spelled}
-use Rattle.tx_history.proofs.paging.Pages.put.Given as goal
+use Rattle.tx_history.proofs.paging.Stream.put.Given as goal
 
 abbrev pub invariant-loop-piece : goal.invariant-loop-piece
 invariant-loop-piece g l = record {

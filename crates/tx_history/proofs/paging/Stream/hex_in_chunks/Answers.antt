@@ -1,6 +1,6 @@
 use Rattle.std.proofs.Common.{◌≡◌, refl, arith, take, drop}
 use Rattle.tx_history.proofs.AppendedTexts.{hex_starts, hex_grown}
-use Rattle.tx_history.proofs.paging.Pages.hex.Goals as goal
+use Rattle.tx_history.proofs.paging.Stream.hex_in_chunks.Goals as goal
 
 pub loop-at-init : goal.loop-at-init
 loop-at-init g c = record { same = refl; grows = hex_starts _ c.args.bytes.now; far = omega arith }

@@ -3,7 +3,7 @@ use Rattle.std.proofs.lemmas.List.Elements.{All-more}
 use Rattle.tx_history.specs.Bounds.{PieceFits}
 use Rattle.tx_history.specs.Spelling.{spelled}
 use Rattle.tx_history.proofs.AppendedTexts.{grows_next}
-use Rattle.tx_history.proofs.paging.Pages.put.Goals as goal
+use Rattle.tx_history.proofs.paging.Stream.put.Goals as goal
 
 pub loop-piece-preserved : goal.loop-piece-preserved
 loop-piece-preserved g c = record {
