@@ -17,6 +17,33 @@ repeat_more : (n : ℕ) (xs : List Instruction) → repeat n xs ++ xs ≡ repeat
 repeat_more zero xs = sym (append-nil xs)
 repeat_more (suc n) xs = append_assoc xs (repeat n xs) xs ∙ ap (λ (l : List Instruction). xs ++ l) (repeat_more n xs)
 
+-- one more at the end
+pub one_more : (n : ℕ) (xs : List Instruction) → repeat n xs ++ xs ≡ repeat (n + 1) xs
+one_more n xs = rw add-one (repeat_more n xs)
+
+repeat_both : (m n : ℕ) (xs : List Instruction) → repeat m xs ++ repeat n xs ≡ repeat (m + n) xs
+repeat_both zero n xs = let e : n ≡ 0 + n = omega arith in ap (λ (k : ℕ). repeat k xs) e
+repeat_both (suc m) n xs =
+    let e : suc (m + n) ≡ suc m + n = omega arith in
+    append_assoc xs (repeat m xs) (repeat n xs) ∙ ap (λ (l : List Instruction). xs ++ l) (repeat_both m n xs) ∙ ap (λ (k : ℕ). repeat k xs) e
+
+-- the first of them
+first_of_them : (m n : ℕ) (xs : List Instruction) → m ≤ n → take (m * length xs) (repeat n xs) ≡ repeat m xs
+first_of_them m n xs h =
+    let e : m + (n - m) ≡ n = omega arith in
+    let whole : repeat m xs ++ repeat (n - m) xs ≡ repeat n xs = repeat_both m (n - m) xs ∙ ap (λ (k : ℕ). repeat k xs) e in
+    let size : m * length xs ≡ length (repeat m xs) = sym (length-repeat m xs) in
+    ap (λ (k : ℕ). take k (repeat n xs)) size ∙ ap (λ (l : List Instruction). take (length (repeat m xs)) l) (sym whole) ∙ take-append_seam (repeat m xs) (repeat (n - m) xs)
+
+-- that many are there
+pub within_them : (m n : ℕ) (xs : List Instruction) → m ≤ n → m * length xs ≤ length (repeat n xs)
+within_them m n xs h = omega (arith, length-repeat n xs, mul-le-mul_right (length xs) h)
+
+-- a part of a piece that is some copies of the group
+pub part_is : (m n : ℕ) (part piece group xs : List Instruction) → m ≤ n → piece ≡ repeat n group → group ≡ xs → part ≡ take (m * length group) piece → part ≡ repeat m xs
+part_is m n part piece group xs h p g e =
+    e ∙ ap (λ (l : List Instruction). take (m * length group) l) p ∙ first_of_them m n group h ∙ ap (repeat m) g
+
 repeat-nil : (n : ℕ) → repeat {A = Instruction} n [] ≡ []
 repeat-nil zero = refl
 repeat-nil (suc n) = repeat-nil n
@@ -53,13 +80,13 @@ too_many all group times product few within p =
     let same = turned group group times refl in
     ltb_from_iff (λ e. let below = ltb-true _ _ e in omega (arith, same, below), λ below. lt-ltb _ _ (omega (arith, same, below)))
 
--- one more of what stands there
-pub once_more : (t : Sections) (start count : ℕ) → record (expanded t start count) { code = (expanded t start count).code ++ drop start t.code } ≡ expanded t start (count + 1)
+-- so many more of what stands there
+pub more_again : (t : Sections) (start count more : ℕ) → record (expanded t start count) { code = (expanded t start count).code ++ repeat more (drop start t.code) } ≡ expanded t start (count + more)
 unfolding expanded
-once_more t start count =
+more_again t start count more =
     let d : List Instruction = drop start t.code in
-    let code : (take start t.code ++ repeat count d) ++ d ≡ take start t.code ++ repeat (count + 1) d =
-    append_assoc (take start t.code) (repeat count d) d ∙ ap (λ (l : List Instruction). take start t.code ++ l) (rw add-one (repeat_more count d)) in
+    let code : (take start t.code ++ repeat count d) ++ repeat more d ≡ take start t.code ++ repeat (count + more) d =
+    append_assoc (take start t.code) (repeat count d) (repeat more d) ∙ ap (λ (l : List Instruction). take start t.code ++ l) (repeat_both count more d) in
     ap (λ (l : List Instruction). record t { code = l }) code
 
 -- as much of it as there was before is what there was
@@ -79,14 +106,14 @@ expanded_length t start times h =
     omega (arith, length-append (take start t.code) (repeat times (drop start t.code)), length-take start t.code, length-repeat times (drop start t.code), ap (λ (n : ℕ). times * n) (length-drop start t.code))
 
 -- fewer times are less code
-pub room : (t : Sections) (start count times : ℕ) → start ≤ length t.code → count < times → instruction_total (expanded t start times) ≤ 65536 → instruction_total (expanded t start count) + length (drop start t.code) ≤ 65536
-room t start count times h k few =
+pub room : (t : Sections) (start count more times : ℕ) → start ≤ length t.code → count + more ≤ times → instruction_total (expanded t start times) ≤ 65536 → instruction_total (expanded t start count) + length (repeat more (drop start t.code)) ≤ 65536
+room t start count more times h k few =
     let here = expanded_total t start count in
     let there = expanded_total t start times in
-    let size = length-drop start t.code in
-    let more : (count + 1) * (length t.code - start) ≤ times * (length t.code - start) = mul-le-mul_right (length t.code - start) (omega arith) in
-    let one : (count + 1) * (length t.code - start) ≡ count * (length t.code - start) + (length t.code - start) = omega arith in
-    omega (arith, here, there, more, one, size)
+    let size : length (repeat more (drop start t.code)) ≡ more * (length t.code - start) = length-repeat more (drop start t.code) ∙ ap (λ (n : ℕ). more * n) (length-drop start t.code) in
+    let all : (count + more) * (length t.code - start) ≤ times * (length t.code - start) = mul-le-mul_right (length t.code - start) k in
+    let both : (count + more) * (length t.code - start) ≡ count * (length t.code - start) + more * (length t.code - start) = omega arith in
+    omega (arith, here, there, all, both, size)
 
 pub longer : (t : Sections) (start times end : ℕ) → end ≡ length t.code → start < end → 1 < times → length t.code < length (expanded t start times).code
 longer t start times end e h k =

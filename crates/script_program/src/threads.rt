@@ -1,6 +1,7 @@
 //! The threads of a script: sections of code, each for one thread or for several.
 
-ghost use Rattle.std.specs.Prelude.{◌≡◌, ◌+◌, ◌-◌, ◌*◌, ◌<◌, ◌≤◌, [], ◌∷◌, ◌++◌, Some, OnErr, OnOk, length, nat_le, nat_lt, slice_get, take};
+ghost use Rattle.std.specs.Prelude.{◌≡◌, ◌+◌, ◌-◌, ◌*◌, ◌<◌, ◌≤◌, [], ◌∷◌, ◌++◌, Some, OnErr, OnOk, IfOk, length, nat_le, nat_lt, slice_get, take};
+ghost use Rattle.std.specs.List.{repeat};
 ghost use Rattle.script_program.specs.Listing.{codes_of};
 ghost use Rattle.script_program.specs.Sections.{parts_of, thread_total, instruction_total, begun, expanded, counted_again};
 
@@ -10,6 +11,24 @@ use itm_types::MAX_ACTORS;
 use std::alloc::{AllocError, Global};
 use std::marker::Model;
 use std::mem;
+
+/// As many instructions are put behind the code at once as fit some 4,000 bytes, or else one group.
+const PIECE: usize = 72;
+
+/// A group of instructions, so many times.
+fn copies(
+    alloc: Global,
+    group: &[Instruction],
+    times: usize,
+) -> Result<Vec<Instruction>, AllocError>
+    ensures { IfOk result (λ piece. piece.items ≡ repeat times group.now) }
+{
+    let mut piece = Vec::new(alloc);
+    for _ in 0..times {
+        piece.extend_from_slice(group)?;
+    }
+    Ok(piece)
+}
 
 /// The code of so many threads.
 #[derive(Drop)]
@@ -240,12 +259,16 @@ impl Threads {
         if times == 1 {
             return Ok(());
         }
-        // a copy of the group, which is put behind the code as one piece
         let (_, group) = self.code.split_at(start);
-        let group = group.to_vec(*self.code.allocator())?;
-        for count in 1..times {
-            match self.append(&group) {
-                Ok(()) => {}
+        let size = group.len();
+        let most = (PIECE / size).clamp(1, times - 1);
+        let piece = copies(*self.code.allocator(), group, most)?;
+        let mut count = 1;
+        while count < times {
+            let more = most.min(times - count);
+            let (part, _) = piece.split_at(more * size);
+            match self.append(part) {
+                Ok(()) => count += more,
                 Err(failed) => {
                     self.cut(end);
                     return Err(failed);
