@@ -115,6 +115,14 @@ room t start count more times h k few =
     let both : (count + more) * (length t.code - start) ≡ count * (length t.code - start) + more * (length t.code - start) = omega arith in
     omega (arith, here, there, all, both, size)
 
+-- how much more that is
+pub few_more : (t : Sections) (start times : ℕ) (group : List Instruction) → group ≡ drop start t.code → instruction_total (expanded t start times) ≤ 65536 → length group * (times - 1) ≤ 65536
+few_more t start times group e few =
+    let there = expanded_total t start times in
+    let size : length group ≡ length t.code - start = ap length e ∙ length-drop start t.code in
+    let fewer : (times - 1) * (length t.code - start) ≤ times * (length t.code - start) = mul-le-mul_right (length t.code - start) (omega arith) in
+    omega (arith, there, fewer, turned (length t.code - start) (length group) (times - 1) size)
+
 pub longer : (t : Sections) (start times end : ℕ) → end ≡ length t.code → start < end → 1 < times → length t.code < length (expanded t start times).code
 longer t start times end e h k =
     let there = expanded_length t start times (omega arith) in

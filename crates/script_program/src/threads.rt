@@ -240,6 +240,13 @@ impl Threads {
         Ok(())
     }
 
+    /// There is memory for so many more instructions of the code that is read.
+    fn make_room(&mut self, more: usize) -> Result<(), AllocError>
+        ensures { self.new ≡ self.old }
+    {
+        self.code.reserve(more)
+    }
+
     /// The code that is read, from a place on, stands so many times in place of once.
     #[tactic(auto, unfolding(crate::specs::Sections::expanded), using(crate::proofs::Repeats::nothing, crate::proofs::Repeats::once))]
     pub fn repeat(&mut self, start: usize, times: usize) -> Result<(), AllocError>
@@ -263,6 +270,7 @@ impl Threads {
         let size = group.len();
         let most = (PIECE / size).clamp(1, times - 1);
         let piece = copies(*self.code.allocator(), group, most)?;
+        self.make_room(size * (times - 1))?;
         let mut count = 1;
         while count < times {
             let more = most.min(times - count);

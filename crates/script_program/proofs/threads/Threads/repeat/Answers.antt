@@ -3,7 +3,7 @@ use Rattle.std.specs.Prelude.{OnErr}
 use Rattle.std.specs.List.{repeat}
 use Rattle.script_program.specs.declared.instruction.Instruction.{Instruction}
 use Rattle.script_program.specs.Sections.{Sections, instruction_total, expanded}
-use Rattle.script_program.proofs.Repeats.{room, longer, more_again, cut_back, part_is, within_them}
+use Rattle.script_program.proofs.Repeats.{room, few_more, longer, more_again, cut_back, part_is, within_them}
 use Rattle.script_program.proofs.threads.Threads.repeat.Goals as goal
 
 -- where it holds in any case
@@ -13,6 +13,16 @@ whatever (Err e) p = p
 
 pub returns-in_err-piece-clause-refused : goal.returns-in_err-piece-clause-refused
 returns-in_err-piece-clause-refused c = whatever c.from_residual.result (longer c.args.self.now c.args.start c.args.times c.code_len-end.result c.code_len-end.ensures (omega arith) (omega arith), refl)
+
+pub overflow_mul-size : goal.overflow_mul-size
+overflow_mul-size c =
+    let s : Sections = c.args.self.now in
+    let start = c.args.start in
+    let group : c.split_at.result.1.now ≡ drop start s.code = c.split_at.ensures.back ∙ ap (drop start) (c.deref.ensures.value ∙ ap (λ (t : Sections). t.code) c.self.view_is) in
+    omega (arith, few_more s start c.args.times c.split_at.result.1.now group c.requires)
+
+pub returns-in_err-make_room-clause-refused : goal.returns-in_err-make_room-clause-refused
+returns-in_err-make_room-clause-refused c = whatever c.from_residual-in_err-make_room.result (longer c.args.self.now c.args.start c.args.times c.code_len-end.result c.code_len-end.ensures (omega arith) (omega arith), c.make_room.ensures)
 
 pub split_at-requires-in-loop-count : goal.split_at-requires-in-loop-count
 split_at-requires-in-loop-count c =

@@ -4,7 +4,7 @@ use Rattle.script_program.proofs.threads.Threads.repeat.Given as goal
 
 abbrev pub invariant-loop-count : goal.invariant-loop-count
 invariant-loop-count l = record {
-  same : l.self ≡ expanded l.initial.self l.start l.count;
+  same : l.self ≡ expanded l.fn.self l.start l.count;
   some : 1 ≤ l.count;
   most : l.count ≤ l.times;
 }
