@@ -175,7 +175,7 @@ on_err (Ok what) t = tt
 on_err (Err x) t = t
 
 -- the call did not come to the engine
-pub unasked_acting : {P E : Type 0} (r : Rows) (a : Actor P) (e : Core) (result : Result Next E) → OnErr result (e ≡ a.engine) → IsActing r a → OnErr result (IsActing r (record a { engine = e }))
+pub unasked_acting : {P A E : Type 0} (r : Rows) (a : Actor P) (e : Core) (result : Result A E) → OnErr result (e ≡ a.engine) → IsActing r a → OnErr result (IsActing r (record a { engine = e }))
 unasked_acting r a e (Ok what) still is = tt
 unasked_acting r a e (Err x) still is = subst (λ (c : Core). IsActing r (record a { engine = c })) (sym still) is
 
@@ -186,17 +186,17 @@ gave_plainly mid new old call again what g stage asks step is =
     let h = subst (λ (w : Next). Proceeds mid w new) is g in
     plain_waits old new call again step stage asks (ap (λ (c : Core). c.waits) h.stays)
 
--- there is room for what comes of it
-pub called_acting : {P E : Type 0} (r : Rows) (a : Actor P) (mid old : Core) (call : Call) (again was : Bool) (o : in_transaction mid ≡ was) (has : HasRow was r a.thread) (doing : mid.doing ≡ Some call) (empty : IsEmpty a)
+-- there is room for what comes of it, which the result tells
+pub called_acting : {P A E : Type 0} (next : A → Next) (r : Rows) (a : Actor P) (mid old : Core) (call : Call) (again was : Bool) (o : in_transaction mid ≡ was) (has : HasRow was r a.thread) (doing : mid.doing ≡ Some call) (empty : IsEmpty a)
     → ((row : Attempt) → active_of a.thread r.active ≡ Some row → row.ran ≡ mid.actions.ran)
     → ((row : Attempt) → active_of a.thread r.active ≡ Some row → total mid.actions + registers call ≤ vec_capacity a.end_room)
     → ((row : Attempt) → active_of a.thread r.active ≡ Some row → is_abort call ≡ true → total mid.actions ≤ vec_capacity a.cancel_room)
     → StartsEmpty a → HasRoomFor mid a → ((row : Attempt) → active_of a.thread r.active ≡ Some row → row.calls.room ≤ promised mid) → (in_transaction mid ≡ true → a.ahead ≡ wanted mid) → ((row : Attempt) → a.pending ≡ Some row → row.calls.room ≡ wanted mid) → wanted mid ≤ mid.room
     → (in_transaction mid ≡ false → (mid.actions.commits ≡ []) × (mid.actions.undos ≡ []))
-    → (result : Result Next E) → IfOk result (λ what. Proceeds mid what a.engine) → OnOk result (a.engine.stage ≡ stage_at old call again) → OnOk result (a.engine.waits ≡ asked a.engine) → OnOk result (IsSettled a.engine) → IfOk result (MayRunOn r a call)
-called_acting r a mid old call again was o has doing empty all places cancel pending room backed ahead wants reserved shut (Ok what) g stage asks settled =
-    gave_acting r a mid call was o has doing empty all places cancel pending room backed ahead wants reserved settled what g shut (gave_plainly mid a.engine old call again what g stage asks)
-called_acting r a mid old call again was o has doing empty all places cancel pending room backed ahead wants reserved shut (Err x) g stage asks settled = tt
+    → (result : Result A E) → IfOk result (λ what. Proceeds mid (next what) a.engine) → OnOk result (a.engine.stage ≡ stage_at old call again) → OnOk result (a.engine.waits ≡ asked a.engine) → OnOk result (IsSettled a.engine) → IfOk result (λ what. MayRunOn r a call (next what))
+called_acting next r a mid old call again was o has doing empty all places cancel pending room backed ahead wants reserved shut (Ok what) g stage asks settled =
+    gave_acting r a mid call was o has doing empty all places cancel pending room backed ahead wants reserved settled (next what) g shut (gave_plainly mid a.engine old call again (next what) g stage asks)
+called_acting next r a mid old call again was o has doing empty all places cancel pending room backed ahead wants reserved shut (Err x) g stage asks settled = tt
 
 -- a place more where the call registers one
 pub places_for : (call : Call) (least room room' : ℕ) → least ≤ room → room ≤ room' → (is_some (registered_by call) ≡ true → least < room') → least + registers call ≤ room'
@@ -205,22 +205,22 @@ places_for (UndoAction action) least room room' l k more = (let m = more refl in
 places_for call least room room' l k more = omega arith
 
 -- what the engine says of a call that came to it, or for which it found no memory
-pub record IsServed {E : Type 0} (result : Result Next E) (old : Core) (call : Call) (new : Core) : Type 0 where
-  pub proceeds : IfOk result (λ what. Proceeds (came old call false) what new)
-  pub at_once : IfOk result IsAtOnce
+pub record IsServed {A E : Type 0} (next : A → Next) (result : Result A E) (old : Core) (call : Call) (new : Core) : Type 0 where
+  pub proceeds : IfOk result (λ what. Proceeds (came old call false) (next what) new)
+  pub at_once : IfOk result (λ what. IsAtOnce (next what))
   pub stays : OnOk result (StaysOn old new)
   pub order : OnOk result (new.stage ≡ stage_at old call false)
-  pub ends : IfOk result (EndsSo (ending_at old call))
+  pub ends : IfOk result (λ what. EndsSo (ending_at old call) (next what))
   pub tries : OnOk result (new.tries ≡ tries_at new.stage)
   pub asks : OnOk result (new.waits ≡ asked new)
   pub settled : OnOk result (IsSettled new)
-  pub held : old.irrevocable ≡ true → IfOk result (λ what. ComesHeld old call what new)
+  pub held : old.irrevocable ≡ true → IfOk result (λ what. ComesHeld old call (next what) new)
 
 -- nothing else has changed
-pub asked_served : {P E : Type 0} (clock : ℕ) (r r' : Rows) (old new : Actor P) (call : Call) → begins_again (in_transaction old.engine) old.again call ≡ false
+pub asked_served : {P A E : Type 0} (next : A → Next) (clock : ℕ) (r r' : Rows) (old new : Actor P) (call : Call) → begins_again (in_transaction old.engine) old.again call ≡ false
     → new.pending ≡ asked_pending (in_transaction old.engine) clock old call → new.again ≡ old.again → new.player ≡ old.player → new.nth ≡ old.nth → (in_transaction old.engine ≡ true → new.ahead ≡ unwrap_or (goes old.engine call) 0) → new.thread ≡ old.thread → r' ≡ record r { room = r'.room }
-    → (result : Result Next E) → IsServed result old.engine call new.engine → IfOk result (AsksOf clock r r' old new call)
-asked_served clock r r' old new call first pending again player nth ahead thread rows (Ok what) e = record {
+    → (result : Result A E) → IsServed next result old.engine call new.engine → IfOk result (λ what. AsksOf clock r r' old new call (next what))
+asked_served next clock r r' old new call first pending again player nth ahead thread rows (Ok what) e = record {
   pending = pending;
   again = again;
   player = player;
@@ -228,7 +228,7 @@ asked_served clock r r' old new call first pending again player nth ahead thread
   ahead = ahead;
   thread = thread;
   rows_are = rows;
-  called = subst (λ (b : Bool). IsCalled old.engine call b what new.engine) (sym first) (record {
+  called = subst (λ (b : Bool). IsCalled old.engine call b (next what) new.engine) (sym first) (record {
     proceeds = e.proceeds;
     at_once = e.at_once;
     stays = e.stays;
@@ -240,14 +240,14 @@ asked_served clock r r' old new call first pending again player nth ahead thread
     held = e.held;
   });
 }
-asked_served clock r r' old new call first pending again player nth ahead thread rows (Err x) e = tt
+asked_served next clock r r' old new call first pending again player nth ahead thread rows (Err x) e = tt
 
 -- also within a block
-pub asked_inside : {P E : Type 0} (clock : ℕ) (r r' : Rows) (old new : Actor P) (call : Call) → in_transaction old.engine ≡ true
+pub asked_inside : {P A E : Type 0} (next : A → Next) (clock : ℕ) (r r' : Rows) (old new : Actor P) (call : Call) → in_transaction old.engine ≡ true
     → new.pending ≡ old.pending → new.again ≡ old.again → new.player ≡ old.player → new.nth ≡ old.nth → (in_transaction old.engine ≡ true → new.ahead ≡ unwrap_or (goes old.engine call) 0) → new.thread ≡ old.thread → r' ≡ record r { room = r'.room }
-    → (result : Result Next E) → IsServed result old.engine call new.engine → IfOk result (AsksOf clock r r' old new call)
-asked_inside clock r r' old new call inside pending again player nth ahead thread rows result e =
-    asked_served clock r r' old new call (ap (λ (b : Bool). begins_again b old.again call) inside) (pending ∙ sym (ap (λ (b : Bool). asked_pending b clock old call) inside)) again player nth ahead thread rows result e
+    → (result : Result A E) → IsServed next result old.engine call new.engine → IfOk result (λ what. AsksOf clock r r' old new call (next what))
+asked_inside next clock r r' old new call inside pending again player nth ahead thread rows result e =
+    asked_served next clock r r' old new call (ap (λ (b : Bool). begins_again b old.again call) inside) (pending ∙ sym (ap (λ (b : Bool). asked_pending b clock old call) inside)) again player nth ahead thread rows result e
 
 -- outside one memory is wanted for a begin alone
 starves_open : (c : Core) (call : Call) → c.blocks ≡ [] → MayStarveOpen c call → is_begin call ≡ true
@@ -267,6 +267,6 @@ starves_in : (irrevocable : Bool) (c : Core) (call : Call) → c.irrevocable ≡
 starves_in true c call i s shut m = absurd (true≢false (sym (s.holder (s.irrevocable i).0).0 ∙ shut))
 starves_in false c call i s shut m = starves_open c call (none_inside c.blocks shut) m
 
-pub starves_begin : {E : Type 0} (c : Core) (call : Call) → IsSettled c → (result : Result Next E) → OnErr result (MayStarve c call) → OnErr result (in_transaction c ≡ false → is_begin call ≡ true)
+pub starves_begin : {A E : Type 0} (c : Core) (call : Call) → IsSettled c → (result : Result A E) → OnErr result (MayStarve c call) → OnErr result (in_transaction c ≡ false → is_begin call ≡ true)
 starves_begin c call s (Ok what) m = tt
 starves_begin c call s (Err x) m = λ shut. starves_in c.irrevocable c call refl s shut m

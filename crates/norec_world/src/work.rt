@@ -5,13 +5,14 @@ ghost use Rattle.tx_attempts.specs.declared.attempt.Attempt.{Attempt};
 ghost use Rattle.itm_types.specs.Calls.{is_abort, registered_by};
 ghost use Rattle.norec_world.specs.Rows.{active_of};
 ghost use Rattle.norec_core.specs.Core.{in_transaction};
+ghost use Rattle.norec_engine.specs.NextSteps.{next_in};
 
 use crate::actor::{Actor, Status};
 use crate::memory::Memory;
 use crate::places::{reserve_actions, reserve_place};
 use crate::recorded::Recorded;
-use itm_types::{Call, MAX_ACTORS, MAX_RETRIES, Props, Ran, Reply};
-use norec_core::{Answer, Next, Undone};
+use itm_types::{Call, MAX_ACTORS, MAX_RETRIES, Props, Ran, Reply, Step};
+use norec_core::{Answer, Undone};
 use std::alloc::{AllocError, Global};
 use tx_attempts::{Attempt, Bytes, Calls, Entry, Outcome, RanActions};
 use tx_player::Player;
@@ -57,32 +58,35 @@ impl<P: Player> Actor<P> {
             self.status = Status::Ended(End::Finished);
             return;
         };
-        match self.ask(alloc, memory, recorded, &call) {
-            Ok(Next::Step(step)) => self.status = Status::Waits { call, step },
-            Ok(Next::Answer(answer)) => self.settle(recorded, call, answer),
+        let mut answer = Answer::Reply(Reply::Done);
+        match self.ask(alloc, memory, recorded, &call, &mut answer) {
+            Ok(Some(step)) => self.status = Status::Waits { call, step },
+            Ok(None) => self.settle(recorded, call, answer),
             Err(_) => self.starve(recorded),
         }
     }
 
-    /// The call goes to the engine, once there is room for what comes of it.
+    /// The call goes to the engine, once there is room for what comes of it. The step that it waits for first; where there is
+    /// none, the call is over, and `answer` tells how.
     fn ask(
         &mut self,
         alloc: Global,
         memory: &Memory,
         recorded: &mut Recorded,
         call: &Call,
-    ) -> Result<Next, AllocError>
+        answer: &mut Answer,
+    ) -> Result<Option<Step>, AllocError>
         requires kept { IsKept (in_transaction self.old.engine) recorded.old self.old }
         requires ready { IsReady P.Player self.old }
         requires status { self.old.status ≡ Status.Ready }
         requires settled { IsSettled self.old.engine }
         requires acts { IsActing recorded.old self.old }
         requires asks { P.next_call self.old.player ≡ Some call.now }
-        ensures acts { IfOk result (MayRunOn recorded.new self.new call.now) }
+        ensures acts { IfOk result (λ step. MayRunOn recorded.new self.new call.now (next_in step answer.new)) }
         ensures unasked_acts { OnErr result (IsActing recorded.new self.new) }
-        ensures asked { IfOk result (λ next. IsAsked P.Player recorded.new self.old self.new call.now next) }
+        ensures asked { IfOk result (λ step. IsAsked P.Player recorded.new self.old self.new call.now (next_in step answer.new)) }
         ensures told { IfOk result
-            (λ next. Asks memory.now.clock recorded.old recorded.new self.old self.new call.now next) }
+            (λ step. Asks memory.now.clock recorded.old recorded.new self.old self.new call.now (next_in step answer.new)) }
         ensures unasked { OnErr result (IsUnasked P.Player recorded.new self.old self.new) }
         ensures rows { recorded.new ≡ record recorded.old { room = recorded.new.room } }
         ensures grows { OnErr result (in_transaction self.old.engine ≡ false → is_begin call.now ≡ true) }
@@ -96,11 +100,11 @@ impl<P: Player> Actor<P> {
                 let attempt = self.attempt(alloc, memory.clock(), *props, ahead)?;
                 self.end_room.reserve(ahead)?;
                 self.cancel_room.reserve(ahead)?;
-                let next = self.engine.begin(*props, *room, self.again)?;
+                let next = self.engine.begin_into(*props, *room, self.again, answer)?;
                 self.pending = Some(attempt);
                 Ok(next)
             }
-            _ if !self.engine.is_open() => self.engine.call(call),
+            _ if !self.engine.is_open() => self.engine.call_into(call, answer),
             _ => {
                 let calls = recorded.calls_of(self.thread);
                 reserve_place(recorded, self.thread, calls, &mut self.spare)?;
@@ -109,7 +113,7 @@ impl<P: Player> Actor<P> {
                 let ahead = ahead_of(self.engine.goes(call));
                 self.reserve_ahead(calls, actions, ahead)?;
                 self.ahead = ahead;
-                self.engine.call(call)
+                self.engine.call_into(call, answer)
             }
         }
     }

@@ -1,13 +1,14 @@
 use Rattle.std.proofs.Common.{◌≡◌, ℕ, Bool, true, false, true≢false, if◌then◌else◌, Option, None, Some, unwrap_or, refl, sym, ap, subst, ◌∙◌, IfOk, vec_capacity, arith, rules}
 use Rattle.user_actions.specs.Actions.{total}
 use Rattle.norec_core.specs.Core.{Core, came, goes}
+use Rattle.norec_engine.specs.NextSteps.{next_in}
 use Rattle.norec_world.specs.ActionRoom.{MayRunOn}
 use Rattle.norec_world.proofs.ActionRoom.{IsServed, asked_inside, asked_served, called_acting, gave_acting, grown_acting, on_err, places_for, starves_begin, unasked_acting}
 use Rattle.norec_world.proofs.CallRoom.{backed_came, promised_came, wanted_came}
 use Rattle.norec_world.proofs.HeldRoom.{came_room}
 use Rattle.norec_world.proofs.SoundOthers.{has_row_same}
-use Rattle.norec_world.proofs.Common.{Actor, Attempt, Begin, Call, HasRow, Rows, active_of, in_transaction, same_Some}
-use Rattle.norec_world.proofs.actor.Actor.ask.Goals.{After-call-in_default-2}
+use Rattle.norec_world.proofs.Common.{Actor, Attempt, Begin, Call, HasRow, Rows, Step, active_of, in_transaction, same_Some}
+use Rattle.norec_world.proofs.actor.Actor.ask.Goals.{After-call_into-in_default-2}
 use Rattle.norec_world.proofs.actor.Actor.ask.Goals as goal
 
 pub returns-in_ok-next-in-Begin-clause-asked : goal.returns-in_ok-next-in-Begin-clause-asked
@@ -36,12 +37,12 @@ returns-in_ok-next-in-Begin-clause-asked g c = record {
 }
 
 pub returns-in_default-clause-grows : goal.returns-in_default-clause-grows
-returns-in_default-clause-grows g c = starves_begin c.args.self.now.engine c.args.call.now c.requires.settled c.call.result c.call.ensures.starves
+returns-in_default-clause-grows g c = starves_begin c.args.self.now.engine c.args.call.now c.requires.settled c.call_into.result c.call_into.ensures.starves
 
-served : (g : _) (c : After-call-in_default-2 g) → IsServed c.call-in_default-2.result c.args.self.now.engine c.args.call.now c.call-in_default-2.new.self
+served : (g : _) (c : After-call_into-in_default-2 g) → IsServed (λ (n : Option Step). next_in n c.call_into-in_default-2.new.answer) c.call_into-in_default-2.result c.args.self.now.engine c.args.call.now c.call_into-in_default-2.new.self
 served g c =
-    let e = c.call-in_default-2.ensures in
-    subst (λ (x : Core). IsServed c.call-in_default-2.result x c.args.call.now c.call-in_default-2.new.self) (ap (λ (x : Actor g.row.P.Denot). x.engine) c.reserve_ahead.ensures.actor)
+    let e = c.call_into-in_default-2.ensures in
+    subst (λ (x : Core). IsServed (λ (n : Option Step). next_in n c.call_into-in_default-2.new.answer) c.call_into-in_default-2.result x c.args.call.now c.call_into-in_default-2.new.self) (ap (λ (x : Actor g.row.P.Denot). x.engine) c.reserve_ahead.ensures.actor)
     (record { proceeds = e.proceeds; at_once = e.at_once; stays = e.stays; order = e.order; ends = e.ends; tries = e.tries; asks = e.asks; settled = e.settled; held = e.held })
 
 pub returns-in_ok-reserve_ahead-in_default-2-clause-acts : goal.returns-in_ok-reserve_ahead-in_default-2-clause-acts
@@ -52,13 +53,13 @@ returns-in_ok-reserve_ahead-in_default-2-clause-acts g c =
     let ahead = c.reserve_ahead.ensures in
     let e = served g c in
     let new : Actor g.row.P.Denot = record a { spare = c.reserve_ahead.new.self.spare; ahead = c.ahead_of-ahead-in_default-2.result; end_room = c.reserve_ahead.new.self.end_room; cancel_room = c.reserve_ahead.new.self.cancel_room } in
-    subst (λ (x : Actor g.row.P.Denot). IfOk c.call-in_default-2.result (MayRunOn c.args.recorded.now (record x { ahead = c.ahead_of-ahead-in_default-2.result; engine = c.call-in_default-2.new.self }) c.args.call.now)) (sym ahead.actor)
-    (called_acting c.args.recorded.now (record new { engine = c.call-in_default-2.new.self }) (came a.engine c.args.call.now false) a.engine c.args.call.now false (in_transaction a.engine) refl c.requires.kept.row refl
+    subst (λ (x : Actor g.row.P.Denot). IfOk c.call_into-in_default-2.result (λ (n : Option Step). MayRunOn c.args.recorded.now (record x { ahead = c.ahead_of-ahead-in_default-2.result; engine = c.call_into-in_default-2.new.self }) c.args.call.now (next_in n c.call_into-in_default-2.new.answer))) (sym ahead.actor)
+    (called_acting (λ (n : Option Step). next_in n c.call_into-in_default-2.new.answer) c.args.recorded.now (record new { engine = c.call_into-in_default-2.new.self }) (came a.engine c.args.call.now false) a.engine c.args.call.now false (in_transaction a.engine) refl c.requires.kept.row refl
     (record { end_room = ahead.empty.1; cancel_room = ahead.empty.2 }) acts.all
     (λ row f. (let l = places_for c.args.call.now (total a.engine.actions) (vec_capacity a.end_room) (vec_capacity c.reserve_actions.new.end_room) (acts.places row f) made.kept.0 (λ more. (let m = made.end more in let n = c.actions-actions.ensures.total in omega arith)) in
     let k = ahead.kept.1 in omega arith))
     (λ row f abort. (let m = made.cancel abort in let n = c.actions-actions.ensures.total in let k = ahead.kept.2 in omega arith)) acts.pending
-    (came_room a.engine c.args.call.now false a (record new { engine = c.call-in_default-2.new.self }) acts.room
+    (came_room a.engine c.args.call.now false a (record new { engine = c.call_into-in_default-2.new.self }) acts.room
     (let m = made.kept.0 in let k = ahead.kept.1 in omega arith) (let m = made.kept.1 in let k = ahead.kept.2 in omega arith)
     (λ some. (let inside : in_transaction a.engine ≡ true = (let o = c.is_open-2.ensures in let tested = c.if-not-is_open-2.false in cc) in
     let n = ap (λ (b : Bool). if b then total a.engine.actions else 0) inside in
@@ -70,23 +71,23 @@ returns-in_ok-reserve_ahead-in_default-2-clause-acts g c =
     (λ o. c.ahead_of-ahead-in_default-2.ensures.value ∙ (ap (λ (o : Option ℕ). unwrap_or o 0) c.goes-in_default-2.ensures ∙ sym (wanted_came a.engine c.args.call.now false)))
     (λ row e. absurd (let none = c.requires.ready.nothing in let both : None ≡ Some row = sym none ∙ e in cc)) (backed_came a.engine c.args.call.now false)
     (λ shut. (let inside = c.is_open-2.ensures in let tested = c.if-not-is_open-2.false in absurd (cc)))
-    c.call-in_default-2.result e.proceeds e.order e.asks e.settled)
+    c.call_into-in_default-2.result e.proceeds e.order e.asks e.settled)
 
 pub returns-in_ok-reserve_ahead-in_default-2-clause-told : goal.returns-in_ok-reserve_ahead-in_default-2-clause-told
 returns-in_ok-reserve_ahead-in_default-2-clause-told g c =
     let actor = c.reserve_ahead.ensures.actor in
-    asked_inside c.args.memory.now.clock c.args.recorded.now c.args.recorded.now c.args.self.now (record c.reserve_ahead.new.self { ahead = c.ahead_of-ahead-in_default-2.result; engine = c.call-in_default-2.new.self }) c.args.call.now
+    asked_inside (λ (n : Option Step). next_in n c.call_into-in_default-2.new.answer) c.args.memory.now.clock c.args.recorded.now c.args.recorded.now c.args.self.now (record c.reserve_ahead.new.self { ahead = c.ahead_of-ahead-in_default-2.result; engine = c.call_into-in_default-2.new.self }) c.args.call.now
     (let inside = c.is_open-2.ensures in let tested = c.if-not-is_open-2.false in cc)
     (ap (λ (x : Actor g.row.P.Denot). x.pending) actor) (ap (λ (x : Actor g.row.P.Denot). x.again) actor) (ap (λ (x : Actor g.row.P.Denot). x.player) actor) (ap (λ (x : Actor g.row.P.Denot). x.nth) actor)
     (λ o. c.ahead_of-ahead-in_default-2.ensures.value ∙ ap (λ (o : Option ℕ). unwrap_or o 0) c.goes-in_default-2.ensures) (ap (λ (x : Actor g.row.P.Denot). x.thread) actor)
     refl
-    c.call-in_default-2.result (served g c)
+    c.call_into-in_default-2.result (served g c)
 
 pub returns-in_default-clause-told : goal.returns-in_default-clause-told
 returns-in_default-clause-told g c =
-    let e = c.call.ensures in
-    asked_served c.args.memory.now.clock c.args.recorded.now c.args.recorded.now c.args.self.now (record c.args.self.now { engine = c.call.new.self }) c.args.call.now
-    (search rules) (search rules) refl refl refl (λ o. absurd (let inside = c.is_open-2.ensures in cc)) refl refl c.call.result
+    let e = c.call_into.ensures in
+    asked_served (λ (n : Option Step). next_in n c.call_into.new.answer) c.args.memory.now.clock c.args.recorded.now c.args.recorded.now c.args.self.now (record c.args.self.now { engine = c.call_into.new.self }) c.args.call.now
+    (search rules) (search rules) refl refl refl (λ o. absurd (let inside = c.is_open-2.ensures in cc)) refl refl c.call_into.result
     (record { proceeds = e.proceeds; at_once = e.at_once; stays = e.stays; order = e.order; ends = e.ends; tries = e.tries; asks = e.asks; settled = e.settled; held = e.held })
 
 pub returns-in_err-reserve_ahead-in_default-2-clause-unasked_acts : goal.returns-in_err-reserve_ahead-in_default-2-clause-unasked_acts
@@ -101,7 +102,7 @@ pub returns-in_ok-reserve_ahead-in_default-2-clause-unasked_acts : goal.returns-
 returns-in_ok-reserve_ahead-in_default-2-clause-unasked_acts g c =
     let made = c.in_ok-reserve_actions-in_default-2.ensures in
     let ahead = c.reserve_ahead.ensures in
-    unasked_acting c.args.recorded.now (record c.reserve_ahead.new.self { ahead = c.ahead_of-ahead-in_default-2.result }) c.call-in_default-2.new.self c.call-in_default-2.result c.call-in_default-2.ensures.err
+    unasked_acting c.args.recorded.now (record c.reserve_ahead.new.self { ahead = c.ahead_of-ahead-in_default-2.result }) c.call_into-in_default-2.new.self c.call_into-in_default-2.result c.call_into-in_default-2.ensures.err
     (grown_acting c.args.recorded.now c.args.self.now c.reserve_ahead.new.self.spare c.ahead_of-ahead-in_default-2.result c.reserve_ahead.new.self.end_room c.reserve_ahead.new.self.cancel_room (record c.reserve_ahead.new.self { ahead = c.ahead_of-ahead-in_default-2.result }) (λ i. record (ahead.actor i) { ahead = c.ahead_of-ahead-in_default-2.result }) (ahead.empty.1, ahead.empty.2)
     (let m = made.kept.0 in let k = ahead.kept.1 in omega arith) (let m = made.kept.1 in let k = ahead.kept.2 in omega arith) c.requires.status c.requires.acts c.args.recorded.now refl)
 
@@ -119,8 +120,8 @@ returns-in_ok-next-in-Begin-clause-acts g c =
     let none : active_of a.thread r.active ≡ None = subst (λ (b : Bool). HasRow b r a.thread) shut has in
     let asked : c.ahead_of-ahead.result ≡ unwrap_or (goes a.engine call) 0 =
     c.ahead_of-ahead.ensures.value ∙ (ap (λ (o : Option ℕ). unwrap_or o 0) c.goes.ensures ∙ ap (λ (x : Call). unwrap_or (goes a.engine x) 0) c.in-Begin.is) in
-    let new : Actor g.row.P.Denot = record a { engine = c.begin.new.self; end_room = c.reserve-in-Begin.new.self; cancel_room = c.reserve-in-Begin-2.new.self; pending = Some attempt } in
-    subst (λ (x : Call). MayRunOn r new x c.in_ok-next-in-Begin.next) (sym c.in-Begin.is)
+    let new : Actor g.row.P.Denot = record a { engine = c.begin_into.new.self; end_room = c.reserve-in-Begin.new.self; cancel_room = c.reserve-in-Begin-2.new.self; pending = Some attempt } in
+    subst (λ (x : Call). MayRunOn r new x (next_in c.in_ok-next-in-Begin.next c.begin_into.new.answer)) (sym c.in-Begin.is)
     (gave_acting r new (came a.engine call a.again) call (in_transaction a.engine) refl has refl
     (record { end_room = c.reserve-in-Begin.ensures.items ∙ c.requires.acts.empty.end_room; cancel_room = c.reserve-in-Begin-2.ensures.items ∙ c.requires.acts.empty.cancel_room })
     (λ row f. absurd (let both : None ≡ Some row = sym none ∙ f in cc)) (λ row f. absurd (let both : None ≡ Some row = sym none ∙ f in cc)) (λ row f abort. absurd (let both : None ≡ Some row = sym none ∙ f in cc))
@@ -130,4 +131,4 @@ returns-in_ok-next-in-Begin-clause-acts g c =
     ((let x = c.in_ok-reserve-in-Begin-2.ensures.ok in omega arith), (let x = c.in_ok-reserve-in-Begin-3.ensures.ok in omega arith)))))
     (λ row f. absurd (let both : None ≡ Some row = sym none ∙ f in cc)) (λ o. absurd (true≢false (sym o ∙ shut)))
     (λ row f. (let same : attempt ≡ row = same_Some _ _ f in ap (λ (x : Attempt). x.calls.room) (sym same) ∙ (ap (λ (x : Attempt). x.calls.room) made ∙ (asked ∙ sym (wanted_came a.engine call a.again)))))
-    (backed_came a.engine call a.again) e.settled c.in_ok-next-in-Begin.next e.proceeds (λ over. (let s = c.requires.settled.closed shut in (s.2, s.3))) (λ step is. (refl, refl)))
+    (backed_came a.engine call a.again) e.settled (next_in c.in_ok-next-in-Begin.next c.begin_into.new.answer) e.proceeds (λ over. (let s = c.requires.settled.closed shut in (s.2, s.3))) (λ step is. (refl, refl)))

@@ -1,8 +1,9 @@
 use Rattle.norec_core.specs.Proceeds.{IsSettled}
+use Rattle.norec_engine.specs.NextSteps.{next_in}
 use Rattle.norec_world.specs.ActionRoom.{MayRunOn}
 use Rattle.norec_world.proofs.CallRoom.{used_up}
-use Rattle.std.proofs.Common.{◌≡◌, ◌/◌, ℕ, true, refl, sym, ap, subst, ◌∙◌}
-use Rattle.norec_world.proofs.Common.{Core, IsTied, Rows, Starves, StatusIs, StopsAt, Waits, after_undoing, in_transaction}
+use Rattle.std.proofs.Common.{◌≡◌, ◌/◌, ℕ, true, Option, None, Some, refl, sym, ap, subst, ◌∙◌}
+use Rattle.norec_world.proofs.Common.{Answer, Answers, Asks, Core, IsTied, Rows, Starves, StatusIs, Step, StopsAt, Waits, after_undoing, in_transaction}
 use Rattle.tx_attempts.specs.declared.attempt.Outcome.TheVariants as outcomes
 use Rattle.norec_world.proofs.OthersAttempts.{others_twice}
 use Rattle.norec_world.proofs.SoundSteps.{call_falls, call_taken, calling, rests}
@@ -11,6 +12,13 @@ use Rattle.norec_world.proofs.Taken.{due}
 use Rattle.norec_world.proofs.Worked.{call_worked, finish_worked, starve_worked}
 use Rattle.norec_world.proofs.actor.Actor.call_next.Goals as goal
 
+-- what the engine gave, by what it told
+as_step : (a : Answer) {o : Option Step} {step : Step} → o ≡ Some step → next_in o a ≡ Asks step
+as_step a e = ap (λ (n : Option Step). next_in n a) e
+
+as_answer : (a : Answer) {o : Option Step} → o ≡ None → next_in o a ≡ Answers a
+as_answer a e = ap (λ (n : Option Step). next_in n a) e
+
 is_open : {e : Core} → IsSettled e → e.irrevocable ≡ true → in_transaction e ≡ true
 is_open s h = (s.holder (s.irrevocable h).0).0
 
@@ -18,30 +26,30 @@ pub settle-requires : goal.settle-requires
 settle-requires g c = record {
   answered = (
     in_transaction c.args.self.now.engine,
-    due (call_taken (calling c.requires.sound c.requires.ready c.in-Ok-Answer.field-0-is c.in-Ok-Answer.ensures.asked c.in-Ok-Answer.ensures.told)),
+    due (call_taken (calling c.requires.sound c.requires.ready (as_answer c.ask.new.answer c.in-Ok-None.field-0-is) c.in-Ok-None.ensures.asked c.in-Ok-None.ensures.told)),
   );
-  acts = subst (MayRunOn c.ask.new.recorded c.ask.new.self c.in-Some.call) c.in-Ok-Answer.field-0-is c.in-Ok-Answer.ensures.acts;
+  acts = subst (MayRunOn c.ask.new.recorded c.ask.new.self c.in-Some.call) (as_answer c.ask.new.answer c.in-Ok-None.field-0-is) c.in-Ok-None.ensures.acts;
 }
 
 pub returns-in_default-clause-worked : goal.returns-in_default-clause-worked
 returns-in_default-clause-worked g c = finish_worked g.met.P.Player.laws c.requires.sound c.requires.ready (sym c.next.ensures ∙ c.in_default.is)
 
-pub returns-in-Ok-Step-clause-worked : goal.returns-in-Ok-Step-clause-worked
-returns-in-Ok-Step-clause-worked g c =
-    let m = calling c.requires.sound c.requires.ready c.in-Ok-Step.field-0-is c.in-Ok-Step.ensures.asked c.in-Ok-Step.ensures.told in
-    call_worked g.met.P.Player.laws m c.ask.new.recorded (record c.ask.new.self { status = Waits c.in-Some.call c.in-Ok-Step.step }) (refl, refl) (refl, refl) (sym c.next.ensures ∙ c.in-Some.is) (let o = c.ask.ensures.others in record { thread = o.thread; own = o.own; room = o.room }) (subst (MayRunOn c.ask.new.recorded c.ask.new.self c.in-Some.call) c.in-Ok-Step.field-0-is c.in-Ok-Step.ensures.acts)
+pub returns-in-Ok-Some-clause-worked : goal.returns-in-Ok-Some-clause-worked
+returns-in-Ok-Some-clause-worked g c =
+    let m = calling c.requires.sound c.requires.ready (as_step c.ask.new.answer c.in-Ok-Some.field-0-is) c.in-Ok-Some.ensures.asked c.in-Ok-Some.ensures.told in
+    call_worked g.met.P.Player.laws m c.ask.new.recorded (record c.ask.new.self { status = Waits c.in-Some.call c.in-Ok-Some.step }) (refl, refl) (refl, refl) (sym c.next.ensures ∙ c.in-Some.is) (let o = c.ask.ensures.others in record { thread = o.thread; own = o.own; room = o.room }) (subst (MayRunOn c.ask.new.recorded c.ask.new.self c.in-Some.call) (as_step c.ask.new.answer c.in-Ok-Some.field-0-is) c.in-Ok-Some.ensures.acts)
 
-pub returns-in-Ok-Answer-clause-worked : goal.returns-in-Ok-Answer-clause-worked
-returns-in-Ok-Answer-clause-worked g c =
-    let m = calling c.requires.sound c.requires.ready c.in-Ok-Answer.field-0-is c.in-Ok-Answer.ensures.asked c.in-Ok-Answer.ensures.told in
+pub returns-in-Ok-None-clause-worked : goal.returns-in-Ok-None-clause-worked
+returns-in-Ok-None-clause-worked g c =
+    let m = calling c.requires.sound c.requires.ready (as_answer c.ask.new.answer c.in-Ok-None.field-0-is) c.in-Ok-None.ensures.asked c.in-Ok-None.ensures.told in
     let was = in_transaction c.args.self.now.engine in
     let d = due (call_taken m) in
     call_worked g.met.P.Player.laws m c.settle.new.recorded c.settle.new.self (c.settle.ensures.settled was d) (c.settle.ensures.records was d) (sym c.next.ensures ∙ c.in-Some.is)
     (others_twice c.args.self.now c.ask.new.self c.settle.new.self c.args.recorded.now c.ask.new.recorded c.settle.new.recorded c.ask.ensures.others (c.settle.ensures.others was d)) c.settle.ensures.acts
 
-pub returns-in-Ok-Answer-clause-falls : goal.returns-in-Ok-Answer-clause-falls
-returns-in-Ok-Answer-clause-falls g c =
-    let m = calling c.requires.sound c.requires.ready c.in-Ok-Answer.field-0-is c.in-Ok-Answer.ensures.asked c.in-Ok-Answer.ensures.told in
+pub returns-in-Ok-None-clause-falls : goal.returns-in-Ok-None-clause-falls
+returns-in-Ok-None-clause-falls g c =
+    let m = calling c.requires.sound c.requires.ready (as_answer c.ask.new.answer c.in-Ok-None.field-0-is) c.in-Ok-None.ensures.asked c.in-Ok-None.ensures.told in
     call_falls m (c.settle.ensures.settled (in_transaction c.args.self.now.engine) (due (call_taken m)))
 
 pub returns-in-Err-clause-worked : goal.returns-in-Err-clause-worked
