@@ -1,34 +1,25 @@
 //! Room that is made in an actor's buffers before a call goes to its engine.
 
 ghost use Rattle.std.specs.Prelude.{◌≡◌, ◌⊎◌, ◌^◌, ◌<◌, ◌≤◌, true, [], Some, OnOk, OnErr, is_some, vec_capacity};
-ghost use Rattle.tx_attempts.specs.declared.attempt.Attempt.{Attempt};
 ghost use Rattle.itm_types.specs.Calls.{is_abort, registered_by};
-ghost use Rattle.norec_world.specs.Rows.{active_of};
 
-use crate::recorded::Recorded;
+use crate::recorded::CallCount;
 use itm_types::{Call, Ran};
 use std::alloc::AllocError;
 use tx_attempts::Entry;
 
-/// Makes a place for one more call, where the open attempt has so many and no room for more.
-pub(crate) fn reserve_place(
-    recorded: &Recorded,
-    thread: u8,
-    calls: usize,
-    spare: &mut Vec<Entry>,
-) -> Result<(), AllocError>
+/// Makes a place for one more call, where an open attempt has so many and no room for more.
+pub(crate) fn reserve_place(calls: CallCount, spare: &mut Vec<Entry>) -> Result<(), AllocError>
     requires empty { spare.old.items ≡ [] }
     ensures empty { spare.new.items ≡ [] }
     ensures kept { vec_capacity spare.old ≤ vec_capacity spare.new }
-    ensures place { OnOk result ((row : Attempt) → active_of thread recorded.now.active ≡ Some row → row.calls.room ≡ 0
-        → calls < vec_capacity spare.new) }
-    ensures short { OnErr result ((row : Attempt) → active_of thread recorded.now.active ≡ Some row
-        → (row.calls.room ≡ 0) × (vec_capacity spare.old ≤ calls)) }
+    ensures place { OnOk result (calls.room ≡ 0 → calls.made < vec_capacity spare.new) }
+    ensures short { OnErr result ((calls.room ≡ 0) × (vec_capacity spare.old ≤ calls.made)) }
 {
-    if recorded.room_of(thread) > 0 {
+    if calls.room > 0 {
         return Ok(());
     }
-    spare.reserve(calls.saturating_add(1))
+    spare.reserve(calls.made.saturating_add(1))
 }
 
 /// Makes room for the actions that the call may leave, where there are so many: for one more at the attempt's end, or for

@@ -20,6 +20,13 @@ pub(crate) struct Recorded {
     ended: usize,
 }
 
+/// How many calls an attempt has, and for how many more it has room.
+#[derive(Clone, Copy)]
+pub(crate) struct CallCount {
+    pub(crate) made: usize,
+    pub(crate) room: usize,
+}
+
 impl Model for Recorded {
     ghost use Rattle.std.specs.Prelude.{drop, ◌≤◌, vec_len};
     ghost use Rattle.norec_world.specs.Rows.{Rows, rows_of, AreFrom};
@@ -86,23 +93,20 @@ impl Recorded {
         position_of(&self.rows[self.ended..], thread).is_some()
     }
 
-    /// How many calls with replies the actor's open attempt has.
-    pub(crate) fn calls_of(&self, thread: u8) -> usize
-        ensures { (row : Attempt) → active_of thread self.now.active ≡ Some row → result ≡ length row.calls.list }
+    /// How many calls with replies the actor's open attempt has, and for how many more it has room.
+    pub(crate) fn calls_of(&self, thread: u8) -> CallCount
+        ensures made { (row : Attempt) → active_of thread self.now.active ≡ Some row → result.made ≡ length row.calls.list }
+        ensures room { (row : Attempt) → active_of thread self.now.active ≡ Some row → result.room ≡ row.calls.room }
     {
         match position_of(&self.rows[self.ended..], thread) {
-            Some(place) => self.rows[self.ended + place].calls.as_slice().len(),
-            None => 0,
-        }
-    }
-
-    /// For how many more calls the actor's open attempt has room.
-    pub(crate) fn room_of(&self, thread: u8) -> usize
-        ensures { (row : Attempt) → active_of thread self.now.active ≡ Some row → result ≡ row.calls.room }
-    {
-        match position_of(&self.rows[self.ended..], thread) {
-            Some(place) => self.rows[self.ended + place].calls.room(),
-            None => 0,
+            Some(place) => {
+                let calls = &self.rows[self.ended + place].calls;
+                CallCount {
+                    made: calls.as_slice().len(),
+                    room: calls.room(),
+                }
+            }
+            None => CallCount { made: 0, room: 0 },
         }
     }
 
@@ -134,8 +138,30 @@ impl Recorded {
         }
     }
 
-    /// These are the actions that have run in the actor's open attempt, of which it has the first ones already.
+    /// These are the actions that have run in the actor's open attempt, of which it has the first ones already. Nearly always
+    /// none has run, and then its attempt is not looked for.
+    #[inline(always)]
     pub(crate) fn run(&mut self, thread: u8, spare: &mut Vec<Ran>, ran: &[Ran])
+        requires first { (row : Attempt) → active_of thread self.old.active ≡ Some row
+            → IsBeginningOf row.ran ran.now }
+        requires empty { spare.old.items ≡ [] }
+        requires room { (row : Attempt) → active_of thread self.old.active ≡ Some row → length row.ran < length ran.now
+            → length ran.now ≤ vec_capacity spare.old }
+        ensures ran { self.new ≡ with_changed thread (λ row. record row { ran = ran.now }) self.old }
+        ensures empty { spare.new.items ≡ [] }
+
+        // Where it has all of them already, no room is used.
+        ensures kept { ((row : Attempt) → active_of thread self.old.active ≡ Some row → row.ran ≡ ran.now)
+            → vec_capacity spare.new ≡ vec_capacity spare.old }
+    {
+        if ran.is_empty() {
+            return;
+        }
+        self.run_some(thread, spare, ran);
+    }
+
+    /// The same, where some have run.
+    fn run_some(&mut self, thread: u8, spare: &mut Vec<Ran>, ran: &[Ran])
         requires first { (row : Attempt) → active_of thread self.old.active ≡ Some row
             → IsBeginningOf row.ran ran.now }
         requires empty { spare.old.items ≡ [] }

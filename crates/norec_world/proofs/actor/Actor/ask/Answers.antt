@@ -42,44 +42,41 @@ returns-in_default-clause-grows g c = starves_begin c.args.self.now.engine c.arg
 served : (g : _) (c : After-call_into-in_default-2 g) → IsServed (λ (n : Option Step). next_in n c.call_into-in_default-2.new.answer) c.call_into-in_default-2.result c.args.self.now.engine c.args.call.now c.call_into-in_default-2.new.self
 served g c =
     let e = c.call_into-in_default-2.ensures in
-    subst (λ (x : Core). IsServed (λ (n : Option Step). next_in n c.call_into-in_default-2.new.answer) c.call_into-in_default-2.result x c.args.call.now c.call_into-in_default-2.new.self) (ap (λ (x : Actor g.row.P.Denot). x.engine) c.reserve_ahead.ensures.actor)
+    subst (λ (x : Core). IsServed (λ (n : Option Step). next_in n c.call_into-in_default-2.new.answer) c.call_into-in_default-2.result x c.args.call.now c.call_into-in_default-2.new.self) (ap (λ (x : Actor g.row.P.Denot). x.engine) c.make_room.ensures.actor)
     (record { proceeds = e.proceeds; at_once = e.at_once; stays = e.stays; order = e.order; ends = e.ends; tries = e.tries; asks = e.asks; settled = e.settled; held = e.held })
 
-pub returns-in_ok-reserve_ahead-in_default-2-clause-acts : goal.returns-in_ok-reserve_ahead-in_default-2-clause-acts
-returns-in_ok-reserve_ahead-in_default-2-clause-acts g c =
+pub returns-in_ok-make_room-in_default-2-clause-acts : goal.returns-in_ok-make_room-in_default-2-clause-acts
+returns-in_ok-make_room-in_default-2-clause-acts g c =
     let a = c.args.self.now in
     let acts = c.requires.acts in
-    let made = c.in_ok-reserve_actions-in_default-2.ensures in
-    let ahead = c.reserve_ahead.ensures in
+    let room = c.make_room.ensures in
+    let made = c.in_ok-make_room-in_default-2.ensures in
     let e = served g c in
-    let new : Actor g.row.P.Denot = record a { spare = c.reserve_ahead.new.self.spare; ahead = c.ahead_of-ahead-in_default-2.result; end_room = c.reserve_ahead.new.self.end_room; cancel_room = c.reserve_ahead.new.self.cancel_room } in
-    subst (λ (x : Actor g.row.P.Denot). IfOk c.call_into-in_default-2.result (λ (n : Option Step). MayRunOn c.args.recorded.now (record x { ahead = c.ahead_of-ahead-in_default-2.result; engine = c.call_into-in_default-2.new.self }) c.args.call.now (next_in n c.call_into-in_default-2.new.answer))) (sym ahead.actor)
+    let new : Actor g.row.P.Denot = record a { spare = c.make_room.new.self.spare; ahead = c.make_room.new.self.ahead; end_room = c.make_room.new.self.end_room; cancel_room = c.make_room.new.self.cancel_room } in
+    subst (λ (x : Actor g.row.P.Denot). IfOk c.call_into-in_default-2.result (λ (n : Option Step). MayRunOn c.args.recorded.now (record x { engine = c.call_into-in_default-2.new.self }) c.args.call.now (next_in n c.call_into-in_default-2.new.answer))) (sym room.actor)
     (called_acting (λ (n : Option Step). next_in n c.call_into-in_default-2.new.answer) c.args.recorded.now (record new { engine = c.call_into-in_default-2.new.self }) (came a.engine c.args.call.now false) a.engine c.args.call.now false (in_transaction a.engine) refl c.requires.kept.row refl
-    (record { end_room = ahead.empty.1; cancel_room = ahead.empty.2 }) acts.all
-    (λ row f. (let l = places_for c.args.call.now (total a.engine.actions) (vec_capacity a.end_room) (vec_capacity c.reserve_actions.new.end_room) (acts.places row f) made.kept.0 (λ more. (let m = made.end more in let n = c.actions-actions.ensures.total in omega arith)) in
-    let k = ahead.kept.1 in omega arith))
-    (λ row f abort. (let m = made.cancel abort in let n = c.actions-actions.ensures.total in let k = ahead.kept.2 in omega arith)) acts.pending
-    (came_room a.engine c.args.call.now false a (record new { engine = c.call_into-in_default-2.new.self }) acts.room
-    (let m = made.kept.0 in let k = ahead.kept.1 in omega arith) (let m = made.kept.1 in let k = ahead.kept.2 in omega arith)
+    (record { end_room = room.empty.1; cancel_room = room.empty.2 }) acts.all
+    (λ row f. places_for c.args.call.now (total a.engine.actions) (vec_capacity a.end_room) (vec_capacity c.make_room.new.self.end_room) (acts.places row f) room.kept.1 made.end)
+    (λ row f. made.cancel) acts.pending
+    (came_room a.engine c.args.call.now false a (record new { engine = c.call_into-in_default-2.new.self }) acts.room room.kept.1 room.kept.2
     (λ some. (let inside : in_transaction a.engine ≡ true = (let o = c.is_open-2.ensures in let tested = c.if-not-is_open-2.false in cc) in
     let n = ap (λ (b : Bool). if b then total a.engine.actions else 0) inside in
-    let t = c.actions-actions.ensures.total in
-    let asked = c.ahead_of-ahead-in_default-2.ensures.value ∙ ap (λ (o : Option ℕ). unwrap_or o 0) c.goes-in_default-2.ensures in
-    let both = c.in_ok-reserve_ahead-in_default-2.ensures.room (omega arith) in
+    let asked = made.ahead in
+    let both = made.room (omega arith) in
     ((let x = both.1 in omega arith), (let x = both.2 in omega arith)))))
     (λ row f. (let few = acts.backed row f in let n = promised_came a.engine c.args.call.now false in omega arith))
-    (λ o. c.ahead_of-ahead-in_default-2.ensures.value ∙ (ap (λ (o : Option ℕ). unwrap_or o 0) c.goes-in_default-2.ensures ∙ sym (wanted_came a.engine c.args.call.now false)))
+    (λ o. made.ahead ∙ sym (wanted_came a.engine c.args.call.now false))
     (λ row e. absurd (let none = c.requires.ready.nothing in let both : None ≡ Some row = sym none ∙ e in cc)) (backed_came a.engine c.args.call.now false)
     (λ shut. (let inside = c.is_open-2.ensures in let tested = c.if-not-is_open-2.false in absurd (cc)))
     c.call_into-in_default-2.result e.proceeds e.order e.asks e.settled)
 
-pub returns-in_ok-reserve_ahead-in_default-2-clause-told : goal.returns-in_ok-reserve_ahead-in_default-2-clause-told
-returns-in_ok-reserve_ahead-in_default-2-clause-told g c =
-    let actor = c.reserve_ahead.ensures.actor in
-    asked_inside (λ (n : Option Step). next_in n c.call_into-in_default-2.new.answer) c.args.memory.now.clock c.args.recorded.now c.args.recorded.now c.args.self.now (record c.reserve_ahead.new.self { ahead = c.ahead_of-ahead-in_default-2.result; engine = c.call_into-in_default-2.new.self }) c.args.call.now
+pub returns-in_ok-make_room-in_default-2-clause-told : goal.returns-in_ok-make_room-in_default-2-clause-told
+returns-in_ok-make_room-in_default-2-clause-told g c =
+    let actor = c.make_room.ensures.actor in
+    asked_inside (λ (n : Option Step). next_in n c.call_into-in_default-2.new.answer) c.args.memory.now.clock c.args.recorded.now c.args.recorded.now c.args.self.now (record c.make_room.new.self { engine = c.call_into-in_default-2.new.self }) c.args.call.now
     (let inside = c.is_open-2.ensures in let tested = c.if-not-is_open-2.false in cc)
     (ap (λ (x : Actor g.row.P.Denot). x.pending) actor) (ap (λ (x : Actor g.row.P.Denot). x.again) actor) (ap (λ (x : Actor g.row.P.Denot). x.player) actor) (ap (λ (x : Actor g.row.P.Denot). x.nth) actor)
-    (λ o. c.ahead_of-ahead-in_default-2.ensures.value ∙ ap (λ (o : Option ℕ). unwrap_or o 0) c.goes-in_default-2.ensures) (ap (λ (x : Actor g.row.P.Denot). x.thread) actor)
+    (λ o. c.in_ok-make_room-in_default-2.ensures.ahead) (ap (λ (x : Actor g.row.P.Denot). x.thread) actor)
     refl
     c.call_into-in_default-2.result (served g c)
 
@@ -90,21 +87,19 @@ returns-in_default-clause-told g c =
     (search rules) (search rules) refl refl refl (λ o. absurd (let inside = c.is_open-2.ensures in cc)) refl refl c.call_into.result
     (record { proceeds = e.proceeds; at_once = e.at_once; stays = e.stays; order = e.order; ends = e.ends; tries = e.tries; asks = e.asks; settled = e.settled; held = e.held })
 
-pub returns-in_err-reserve_ahead-in_default-2-clause-unasked_acts : goal.returns-in_err-reserve_ahead-in_default-2-clause-unasked_acts
-returns-in_err-reserve_ahead-in_default-2-clause-unasked_acts g c =
-    let made = c.in_ok-reserve_actions-in_default-2.ensures in
-    let ahead = c.reserve_ahead.ensures in
-    on_err c.from_residual-in_err-reserve_ahead-in_default-2.result
-    (grown_acting c.args.recorded.now c.args.self.now c.reserve_ahead.new.self.spare c.args.self.now.ahead c.reserve_ahead.new.self.end_room c.reserve_ahead.new.self.cancel_room c.reserve_ahead.new.self ahead.actor (ahead.empty.1, ahead.empty.2)
-    (let m = made.kept.0 in let k = ahead.kept.1 in omega arith) (let m = made.kept.1 in let k = ahead.kept.2 in omega arith) c.requires.status c.requires.acts c.args.recorded.now refl)
+pub returns-in_err-make_room-in_default-2-clause-unasked_acts : goal.returns-in_err-make_room-in_default-2-clause-unasked_acts
+returns-in_err-make_room-in_default-2-clause-unasked_acts g c =
+    let room = c.make_room.ensures in
+    on_err c.from_residual-in_err-make_room-in_default-2.result
+    (grown_acting c.args.recorded.now c.args.self.now c.make_room.new.self.spare c.make_room.new.self.ahead c.make_room.new.self.end_room c.make_room.new.self.cancel_room c.make_room.new.self room.actor (room.empty.1, room.empty.2)
+    room.kept.1 room.kept.2 c.requires.status c.requires.acts c.args.recorded.now refl)
 
-pub returns-in_ok-reserve_ahead-in_default-2-clause-unasked_acts : goal.returns-in_ok-reserve_ahead-in_default-2-clause-unasked_acts
-returns-in_ok-reserve_ahead-in_default-2-clause-unasked_acts g c =
-    let made = c.in_ok-reserve_actions-in_default-2.ensures in
-    let ahead = c.reserve_ahead.ensures in
-    unasked_acting c.args.recorded.now (record c.reserve_ahead.new.self { ahead = c.ahead_of-ahead-in_default-2.result }) c.call_into-in_default-2.new.self c.call_into-in_default-2.result c.call_into-in_default-2.ensures.err
-    (grown_acting c.args.recorded.now c.args.self.now c.reserve_ahead.new.self.spare c.ahead_of-ahead-in_default-2.result c.reserve_ahead.new.self.end_room c.reserve_ahead.new.self.cancel_room (record c.reserve_ahead.new.self { ahead = c.ahead_of-ahead-in_default-2.result }) (λ i. record (ahead.actor i) { ahead = c.ahead_of-ahead-in_default-2.result }) (ahead.empty.1, ahead.empty.2)
-    (let m = made.kept.0 in let k = ahead.kept.1 in omega arith) (let m = made.kept.1 in let k = ahead.kept.2 in omega arith) c.requires.status c.requires.acts c.args.recorded.now refl)
+pub returns-in_ok-make_room-in_default-2-clause-unasked_acts : goal.returns-in_ok-make_room-in_default-2-clause-unasked_acts
+returns-in_ok-make_room-in_default-2-clause-unasked_acts g c =
+    let room = c.make_room.ensures in
+    unasked_acting c.args.recorded.now c.make_room.new.self c.call_into-in_default-2.new.self c.call_into-in_default-2.result c.call_into-in_default-2.ensures.err
+    (grown_acting c.args.recorded.now c.args.self.now c.make_room.new.self.spare c.make_room.new.self.ahead c.make_room.new.self.end_room c.make_room.new.self.cancel_room c.make_room.new.self room.actor (room.empty.1, room.empty.2)
+    room.kept.1 room.kept.2 c.requires.status c.requires.acts c.args.recorded.now refl)
 
 -- a begin of an outermost block: its attempt is to have the room that it asks for
 pub returns-in_ok-next-in-Begin-clause-acts : goal.returns-in_ok-next-in-Begin-clause-acts
