@@ -1,12 +1,12 @@
 -- What a player that tells its room truly has left to call in an irrevocable transaction, over an answer: no more than its attempt has places for.
 use Rattle.tx_attempts.specs.Kept.{grown}
-use Rattle.std.proofs.Common.{◌≡◌, ℕ, zero, suc, ◌-◌, ◌/◌, ◌<◌, ◌≤◌, Bool, true, false, true≢false, nat_lt, if◌then◌else◌, List, [], length, replicate, Option, None, Some, IsSome, is_some, unwrap_or, refl, sym, ap, subst, ◌∙◌, inl, inr, arith}
+use Rattle.std.proofs.Common.{◌≡◌, ℕ, zero, suc, ◌-◌, ◌/◌, ◌<◌, ◌≤◌, ◌&&◌, not, Bool, true, false, true≢false, nat_lt, if◌then◌else◌, List, [], length, replicate, Option, None, Some, IsSome, is_some, unwrap_or, refl, sym, ap, subst, ◌∙◌, inl, inr, arith}
 use Rattle.std.proofs.lemmas.Bool.{lt-ltb}
 use Rattle.std.proofs.lemmas.List.{length-map}
 use Rattle.itm_types.specs.declared.call.Call.TheVariants.{Mode}
 use Rattle.itm_types.specs.declared.call.Refusal.TheVariants.{Outside}
 use Rattle.itm_model.specs.Machine.{or_else, reply_unless, unless}
-use Rattle.norec_core.specs.Core.{goes}
+use Rattle.norec_core.specs.Core.{goes, may_go}
 use Rattle.norec_core.specs.Proceeds.{IsSettled, recoded, reply_held}
 use Rattle.norec_core.specs.Stands.{block_kept, state_in}
 use Rattle.norec_revocable.proofs.IrrevocableEntries.{length-over}
@@ -65,9 +65,16 @@ told_if : (b : Bool) (room : ℕ) → IsSome (if b then Some room else None) →
 told_if true room some = refl
 told_if false room some = absurd (cc)
 
+told_going : (going may few free : Bool) (room : ℕ) → IsSome (if going && may && few && free then Some room else None) → (if going then Some room else None) ≡ Some (unwrap_or (if going && may && few && free then Some room else None) 0)
+told_going true true true true room some = refl
+told_going true true true false room some = absurd (cc)
+told_going true true false free room some = absurd (cc)
+told_going true false few free room some = absurd (cc)
+told_going false may few free room some = absurd (cc)
+
 -- a call that makes its transaction irrevocable tells the room that it asks for
 told_as_asked : (c : Core) (call : Call) → IsSome (goes c call) → told_room call ≡ Some (unwrap_or (goes c call) 0)
-told_as_asked c (Begin props room) some = ap (λ (n : ℕ). Some n) (sym (told_if _ room some))
+told_as_asked c (Begin props room) some = told_going props.goes_irrevocable (may_go c.blocks props) (nat_lt (length c.blocks) MAX_OPEN_BLOCKS) (not c.irrevocable) room some
 told_as_asked c (Mode room) some = ap (λ (n : ℕ). Some n) (sym (told_if _ room some))
 told_as_asked c call some = absurd (cc)
 

@@ -1,5 +1,5 @@
 -- A player that tells its room truly: as it makes its transaction irrevocable, how many calls come until its outermost block ends.
-use Rattle.std.specs.Prelude.{◌≡◌, ◌⊎◌, ℕ, zero, suc, ◌<◌, Option, None, Some}
+use Rattle.std.specs.Prelude.{◌≡◌, ◌⊎◌, ℕ, zero, suc, ◌<◌, if◌then◌else◌, Option, None, Some}
 use Rattle.itm_types.specs.declared.call.Call.{Call}
 use Rattle.itm_types.specs.declared.call.Call.TheVariants.{Begin, Commit, Mode}
 use Rattle.itm_types.specs.declared.call.Reply.{Reply}
@@ -14,9 +14,9 @@ MayReply depth (Begin props room) reply = ⊥
 MayReply depth Commit reply = 0 < depth → reply ≡ Done
 MayReply depth call reply = Unit {0}
 
--- the room that a call tells
+-- the room that a call tells which is to make its transaction irrevocable
 abbrev pub told_room : Call → Option ℕ
-told_room (Begin props room) = Some room
+told_room (Begin props room) = if props.goes_irrevocable then Some room else None
 told_room (Mode room) = Some room
 told_room call = None
 

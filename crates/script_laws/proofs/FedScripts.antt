@@ -1,6 +1,6 @@
 -- A script tells its room truly, since its code is nested; and so its irrevocable attempt never wants memory.
-use Rattle.std.proofs.Common.{◌≡◌, ℕ, zero, suc, ◌≤◌, List, [], ◌∷◌, map, Some, refl, sym, ap, subst, ◌∙◌, inl, inr, arith}
-use Rattle.std.specs.Prelude.{slice_get}
+use Rattle.std.proofs.Common.{◌≡◌, ℕ, zero, suc, ◌≤◌, List, [], ◌∷◌, map, Bool, true, false, None, Some, refl, sym, ap, subst, ◌∙◌, inl, inr, arith}
+use Rattle.std.specs.Prelude.{slice_get, if◌then◌else◌}
 use Rattle.itm_types.specs.declared.call.Call.{Call}
 use Rattle.itm_types.specs.declared.call.Call.TheVariants.{Begin, Commit, Mode}
 use Rattle.itm_types.specs.declared.call.Reply.{Reply}
@@ -24,8 +24,12 @@ may_be depth (Begin props room) (Bytes v) m = m
 may_be depth Commit reply m = m
 may_be depth call reply m = tt
 
+only_told : (going : Bool) (room n : ℕ) → (if going then Some room else None) ≡ Some n → Some room ≡ Some n
+only_told true room n e = e
+only_told false room n e = absurd (cc)
+
 same_room : (call : Call) (n : ℕ) → told_room call ≡ Some n → asked_room call ≡ Some n
-same_room (Begin props room) n e = e
+same_room (Begin props room) n e = only_told props.goes_irrevocable room n e
 same_room (Mode room) n e = e
 same_room call n e = absurd (cc)
 
