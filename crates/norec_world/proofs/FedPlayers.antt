@@ -11,13 +11,13 @@ use Rattle.norec_core.specs.Proceeds.{IsSettled, recoded, reply_held}
 use Rattle.norec_core.specs.Stands.{block_kept, state_in}
 use Rattle.norec_revocable.proofs.IrrevocableEntries.{length-over}
 use Rattle.norec_world.specs.ActionRoom.{wanted}
-use Rattle.norec_world.specs.PlayerRooms.{ComesTo, EndsWithin, GoesTo, MayReply, TellsRoom, told_room}
+use Rattle.norec_world.specs.PlayerRooms.{ComesTo, EndsWithin, MayReply, TellsRoom, told_room}
 use Rattle.norec_world.proofs.ActiveRows.{opened_here, row_from}
 use Rattle.norec_world.proofs.CallRoom.{wanted_as, wanted_none}
 use Rattle.norec_world.proofs.HeldRoom.{goes_no_more}
 use Rattle.norec_world.proofs.Taken.{HasAnswered, HasTaken}
 use Rattle.norec_world.proofs.TryEnds.{begun_or_not}
-use Rattle.norec_world.proofs.Common.{Actor, Answer, Asks, Attempt, Begin, Busy, Call, Cells, Code, Commit, Committed, Conflict, Core, Done, Ends, Full, IsMemory, MAX_OPEN_BLOCKS, Props, RecordsReply, Refusal, Replied, Reply, Rows, Rules, State, Step, Waits, active_of, in_transaction, refusal, reply as machine_reply, reply_cases, same_Some, stands_for, with_opened}
+use Rattle.norec_world.proofs.Common.{Actor, Answer, Asks, Attempt, Begin, Busy, Call, Cells, Code, Commit, Committed, Conflict, Core, Done, Ends, Full, IsMemory, MAX_OPEN_BLOCKS, Props, RecordsReply, Refusal, Replied, Reply, Rows, Rules, State, Step, Waits, active_of, in_transaction, refusal, reply as machine_reply, reply_cases, same_Some, stands_for}
 
 -- ## The replies of the plain machine
 

@@ -76,6 +76,7 @@ impl Recorded {
     }
 
     /// An attempt opens, of an actor that has no open one; there has to be room for it.
+    #[inline(always)]
     pub(crate) fn open(&mut self, attempt: Attempt)
         requires room { 0 < self.old.room }
         requires none { active_of attempt.thread self.old.active ≡ None }
@@ -181,6 +182,7 @@ impl Recorded {
     }
 
     /// The actor's open attempt ends, at this position, with these actions that have run in it.
+    #[inline(always)]
     pub(crate) fn stop(
         &mut self,
         thread: u8,
@@ -203,6 +205,7 @@ impl Recorded {
     }
 
     /// The actor's open attempt ends, at this position. No place is promised in it any more.
+    #[inline(always)]
     fn end(&mut self, thread: u8, at: u64, outcome: Outcome)
         ensures gone { active_of thread self.new.active ≡ None }
         ensures ended { (row : Attempt) → active_of thread self.old.active ≡ Some row
@@ -250,6 +253,7 @@ fn first_after(rows: &[Attempt], thread: u8) -> Option<usize>
 }
 
 /// One more at this place, which there has to be room for.
+#[inline(always)]
 fn insert_within(rows: &mut Vec<Attempt>, place: usize, attempt: Attempt)
     requires room { vec_len rows.old < vec_capacity rows.old }
     requires within { place ≤ vec_len rows.old }
@@ -265,6 +269,7 @@ fn insert_within(rows: &mut Vec<Attempt>, place: usize, attempt: Attempt)
 }
 
 /// The one at a place comes to stand at another place, which is not behind it.
+#[inline(always)]
 fn bring_forward(rows: &mut Vec<Attempt>, from: usize, to: usize)
     requires within { from < vec_len rows.old }
     requires order { to ≤ from }

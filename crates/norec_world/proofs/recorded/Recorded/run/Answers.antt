@@ -1,4 +1,4 @@
-use Rattle.std.proofs.Common.{◌≡◌, ◌++◌, ◌∷◌, List, [], length, refl, sym, ap, ◌∙◌, arith}
+use Rattle.std.proofs.Common.{◌≡◌, ◌∷◌, List, [], length, refl, sym, arith}
 use Rattle.std.proofs.lemmas.Bool.{eqb-true}
 use Rattle.itm_types.specs.declared.call.Ran.{Ran}
 use Rattle.tx_attempts.specs.Beginnings.{IsBeginningOf}
