@@ -8,6 +8,7 @@ pub mod HeldRoom
 pub mod CallRoom
 pub mod ActionRoom
 pub mod Taken
+pub mod ReadPositions
 pub mod TryEnds
 pub mod TiedEngines
 pub mod ClockHolders

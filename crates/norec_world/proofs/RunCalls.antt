@@ -19,6 +19,7 @@ use Rattle.norec_core.proofs.HeldStores.{shut_revocable}
 use Rattle.norec_world.proofs.Seen.{HasSeen, call_seen, step_seen}
 use Rattle.norec_world.proofs.Taken.{HasAnswered, recorded, now, still_going}
 use Rattle.norec_world.specs.PlayerRooms.{ComesTo, EndsWithin}
+use Rattle.norec_world.specs.Records.{ReadsAt}
 use Rattle.tx_runs.specs.Nesting.{IsDeep}
 use Rattle.norec_world.proofs.FedPlayers.{HasLeft, answered_left, none_within, waits_left}
 use Rattle.norec_world.proofs.RunAnswers.{RunOf, before_on, now_at, run_same}
@@ -102,10 +103,6 @@ module _ {P : Type 0} {rules : Rules P} (laws : Obeys rules) {cells : Cells} {r0
   seen =
       call_seen base cells r old.engine a.engine call (begins_again (in_transaction old.engine) old.again call) (laid_same base cells r0 r (ended_same m) laid) m.sound.tied (rests m.sound m.ready).free
       (subst (λ (l : List Attempt). Sees (words_at base l) cells old.engine) (sym (ended_same m)) runs.sees) m.asked.stays
-
-  -- where its attempt reads
-  abbrev ReadsAt : Rows → Actor P → Type 0
-  ReadsAt x y = in_transaction y.engine ≡ true → (row : Attempt) → active_of y.thread x.active ≡ Some row → row.at ≡ y.engine.snapshot / 2
 
   -- where it is still open, the answer was a reply, and its row has one call more
   answer_reads : (b : Bool) (answer : Answer) → in_transaction old.engine ≡ b → {r1 : Rows} {last : Actor P} → HasAnswered rules b cells cells r r1 (mid m) a last call answer → ReadsAt r1 last

@@ -44,6 +44,10 @@ pub record IsTold (thread : ℕ) (is_open : Bool) (r : Rows) (at : ℕ) (r' : Ro
   pub moves : is_open ≡ true → r' ≡ with_changed thread (λ row. record row { at = at }) r
   pub stays : is_open ≡ false → r' ≡ r
 
+-- its open attempt stands where its engine reads
+abbrev pub ReadsAt : {P : Type 0} → Rows → Actor P → Type 0
+ReadsAt r a = in_transaction a.engine ≡ true → (row : Attempt) → active_of a.thread r.active ≡ Some row → row.at ≡ a.engine.snapshot / 2
+
 -- a begin's attempt is opened, where the begin was accepted
 abbrev pub Opens : Bool → Rows → Option Attempt → ℕ → Rows → Type 0
 Opens true r (Some row) at r' = r' ≡ with_opened (record row { at = at }) r

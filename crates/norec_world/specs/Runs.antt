@@ -14,6 +14,7 @@ use Rattle.tx_attempts.specs.Alone.{state_then, player_then, IsAlone}
 use Rattle.tx_attempts.specs.Opacity.{Beginning, Between, begin_code, IsRunOf}
 use Rattle.tx_runs.specs.Runs.{LeadsTo, begins_at, run_after}
 use Rattle.norec_world.specs.Cells.{Cells}
+use Rattle.norec_world.specs.Records.{ReadsAt}
 use Rattle.norec_world.specs.Rows.{Rows, active_of}
 use Rattle.norec_world.specs.Status.{ending_of}
 use Rattle.norec_world.specs.Headline.{bytes_at}
@@ -74,7 +75,7 @@ module _ {P : Type 0} (rules : Rules P) where
     pub sees : Sees (words_at base r.ended) cells a.engine
     pub held : a.engine.irrevocable ≡ true → (row : Attempt) → active_of a.thread r.active ≡ Some row → IsHeld (bytes_at base r.ended (cells.clock / 2)) cells.words row a.engine
     pub starved : ending_of a.status ≡ Some NoMemory → a.engine.irrevocable ≡ false → in_transaction a.engine ≡ false
-    pub reads : in_transaction a.engine ≡ true → (row : Attempt) → active_of a.thread r.active ≡ Some row → row.at ≡ a.engine.snapshot / 2
+    pub reads : ReadsAt r a
     pub fed : TellsRoom rules first.player → IsFed first.player r a
 
   -- where the words were those of the commits, and the actor's attempts its player's run, they still are

@@ -1,11 +1,12 @@
 //! One actor.
 
 ghost use Rattle.norec_core.specs.Core.{in_transaction};
+ghost use Rattle.norec_engine.specs.NextSteps.{next_in};
 
 use crate::memory::Memory;
 use crate::recorded::Recorded;
-use itm_types::{Call, Ran, Step};
-use norec_core::Next;
+use itm_types::{Call, Ran, Reply, Step};
+use norec_core::Answer;
 use norec_engine::Engine;
 use std::alloc::Global;
 use std::mem;
@@ -53,7 +54,7 @@ impl<P: Player> Actor<P> {
     ghost use Rattle.std.specs.Prelude.{◌≡◌, ◌/◌, Bool, true, false, [], Some, None};
     ghost use Rattle.norec_world.specs.Cells.{cells_after};
     ghost use Rattle.norec_world.specs.Status.{ending_of, is_waiting, is_ready, waiting_step};
-    ghost use Rattle.norec_world.specs.Records.{Tells, IsTold};
+    ghost use Rattle.norec_world.specs.Records.{Tells, IsTold, ReadsAt};
     ghost use Rattle.norec_world.specs.Moments.{HasStepped};
     ghost use Rattle.norec_world.specs.OthersAttempts.{KeepsOthers};
     ghost use Rattle.norec_world.specs.ActionRoom.{MayRunOn, IsActing};
@@ -106,44 +107,48 @@ impl<P: Player> Actor<P> {
     #[inline(always)]
     pub(crate) fn step(&mut self, memory: &mut Memory, recorded: &mut Recorded)
         requires sound { IsSound P.Player memory.old recorded.old self.old }
+        requires reads { ReadsAt recorded.old self.old }
         requires waits { is_waiting self.old.status ≡ true }
         ensures { HasStepped P.Player memory.old recorded.old self.old memory.new recorded.new self.new }
     {
         let Status::Waits { step, .. } = self.status else {
             return;
         };
+        let from = self.engine.snapshot();
         let seen = memory.apply(step);
-        let next = self.engine.resume(seen);
-        self.proceed(recorded, next);
-        self.follow(recorded);
+        let mut answer = Answer::Reply(Reply::Done);
+        let next = self.engine.resume_into(seen, &mut answer);
+        self.proceed(recorded, next, answer);
+        self.follow(recorded, from);
     }
 
     /// The call in progress waits for a step, or what comes of its answer is recorded. The call stays where it is while it
     /// waits.
     #[inline(always)]
-    fn proceed(&mut self, recorded: &mut Recorded, next: Next)
+    fn proceed(&mut self, recorded: &mut Recorded, next: Option<Step>, answer: Answer)
         requires waits { is_waiting self.old.status ≡ true }
         requires due { (call : Call) (step : Step) → self.old.status ≡ Status.Waits call step
-            → (was : Bool) × IsDue P.Player was recorded.old (record self.old { status = Status.Ready }) call next }
+            → (was : Bool) × IsDue P.Player was recorded.old (record self.old { status = Status.Ready }) call (next_in next answer) }
         requires acts { (call : Call) (step : Step) → self.old.status ≡ Status.Waits call step
-            → MayRunOn recorded.old (record self.old { status = Status.Ready }) call next }
+            → MayRunOn recorded.old (record self.old { status = Status.Ready }) call (next_in next answer) }
         ensures acts { IsActing recorded.new self.new }
         ensures done { (call : Call) (step : Step) → self.old.status ≡ Status.Waits call step → (was : Bool)
-            → IsDue P.Player was recorded.old (record self.old { status = Status.Ready }) call next
-            → IsDone P.Player was recorded.old recorded.new (record self.old { status = Status.Ready }) self.new call next }
+            → IsDue P.Player was recorded.old (record self.old { status = Status.Ready }) call (next_in next answer)
+            → IsDone P.Player was recorded.old recorded.new (record self.old { status = Status.Ready }) self.new call (next_in next answer) }
         ensures tells { (call : Call) (step : Step) → self.old.status ≡ Status.Waits call step → (was : Bool)
-            → IsDue P.Player was recorded.old (record self.old { status = Status.Ready }) call next
-            → Tells P.Player was recorded.old recorded.new (record self.old { status = Status.Ready }) self.new call next }
+            → IsDue P.Player was recorded.old (record self.old { status = Status.Ready }) call (next_in next answer)
+            → Tells P.Player was recorded.old recorded.new (record self.old { status = Status.Ready }) self.new call (next_in next answer) }
         ensures others { (call : Call) (step : Step) → self.old.status ≡ Status.Waits call step → (was : Bool)
-            → IsDue P.Player was recorded.old (record self.old { status = Status.Ready }) call next
+            → IsDue P.Player was recorded.old (record self.old { status = Status.Ready }) call (next_in next answer)
             → KeepsOthers self.old recorded.old self.new recorded.new }
     {
         match next {
-            Next::Step(next) => self.wait(next),
-            Next::Answer(answer) => match mem::replace(&mut self.status, Status::Ready) {
-                Status::Waits { call, .. } => self.settle(recorded, call, answer),
-                other => self.status = other,
-            },
+            Some(next) => self.wait(next),
+            None => {
+                if let Status::Waits { call, .. } = mem::replace(&mut self.status, Status::Ready) {
+                    self.settle(recorded, call, answer);
+                }
+            }
         }
     }
 
@@ -157,9 +162,10 @@ impl<P: Player> Actor<P> {
         }
     }
 
-    /// The open attempt is told where the engine reads.
-    fn follow(&self, recorded: &mut Recorded)
-        requires { IsKept (in_transaction self.now.engine) recorded.old self.now }
+    /// The open attempt is told where the engine reads, where that is not where it has read.
+    fn follow(&self, recorded: &mut Recorded, from: u64)
+        requires kept { IsKept (in_transaction self.now.engine) recorded.old self.now }
+        requires reads { from ≡ self.now.engine.snapshot → ReadsAt recorded.old self.now }
         ensures acts { IsActing recorded.old self.now → IsActing recorded.new self.now }
         ensures kept { IsKept (in_transaction self.now.engine) recorded.new self.now }
         ensures told { IsTold self.now.thread (in_transaction self.now.engine) recorded.old
@@ -168,8 +174,12 @@ impl<P: Player> Actor<P> {
         ensures status { (status : Status) → StatusIs P.Player recorded.old self.now status
             → StatusIs P.Player recorded.new self.now status }
     {
+        let now = self.engine.snapshot();
+        if now == from {
+            return;
+        }
         if self.engine.is_open() {
-            recorded.move_to(self.thread, self.engine.snapshot() / 2);
+            recorded.move_to(self.thread, now / 2);
         }
     }
 }

@@ -1,48 +1,58 @@
-use Rattle.std.proofs.Common.{◌≡◌, Some, ap, refl, subst, sym, ◌∙◌}
+use Rattle.std.proofs.Common.{◌≡◌, ℕ, ◌/◌, Some, ap, refl, subst, sym, ◌∙◌}
+use Rattle.norec_engine.specs.NextSteps.{next_in}
 use Rattle.norec_world.specs.ActionRoom.{MayRunOn}
-use Rattle.norec_world.proofs.Common.{Call, Ready, Status, Step, Waits, cells_after, in_transaction, is_waiting, prior_of, waiting_step}
+use Rattle.norec_world.proofs.Common.{Call, Core, Ready, Status, Step, Waits, cells_after, in_transaction, is_waiting, prior_of, waiting_step}
 use Rattle.norec_world.specs.Sound.{IsDue}
 use Rattle.norec_world.proofs.CommitCounts.{counted_after}
 use Rattle.norec_world.proofs.OthersAttempts.{others_twice}
+use Rattle.norec_world.proofs.ReadPositions.{still_reads}
 use Rattle.norec_world.proofs.RunCalls.{step_runs}
 use Rattle.norec_world.proofs.SoundSteps.{step_acts, step_clocks, step_falls, step_on, step_taken, stepping, takes_in, IsStepping, rests}
 use Rattle.norec_world.proofs.Taken.{due, now}
 use Rattle.norec_world.proofs.TryCalls.{step_tries, step_unfinished}
 use Rattle.norec_world.proofs.actor.Actor.step.Goals as goal
-use Rattle.norec_world.proofs.actor.Actor.step.Goals.{After-resume-next}
+use Rattle.norec_world.proofs.actor.Actor.step.Goals.{After-resume_into-next}
 
 same_call : {s : Status} {c d : Call} {x y : Step} → s ≡ Waits c x → s ≡ Waits d y → c ≡ d
 same_call {c = c} {d = d} {x = x} {y = y} p q = let both : Waits c x ≡ Waits d y = sym p ∙ q in cc
 
 -- the operation was done, and the engine went on with what was found
-stepped : (g : _) (c : After-resume-next g) → IsStepping g.P.Player c.args.memory.now c.args.recorded.now c.args.self.now c.in-Waits.call c.resume-next.result c.apply-seen.new.self c.resume-next.new.self
+stepped : (g : _) (c : After-resume_into-next g) → IsStepping g.P.Player c.args.memory.now c.args.recorded.now c.args.self.now c.in-Waits.call (next_in c.resume_into-next.result c.resume_into-next.new.answer) c.apply-seen.new.self c.resume_into-next.new.self
 stepped g c =
-    let e = c.resume-next.ensures in
+    let e = c.resume_into-next.ensures in
     stepping c.requires.sound c.in-Waits.is c.apply-seen.ensures.found c.apply-seen.ensures.cells c.apply-seen.ensures.fit
     (record { proceeds = e.proceeds; joins = e.joins; order = e.order; ends = e.ends; tries = e.tries; snapshot = e.snapshot; log = e.log; asks = e.asks; settled = e.settled; held = e.held }) e.count
 
 pub proceed-requires : goal.proceed-requires
 proceed-requires g c =
-    let m = stepped g (goal.at.proceed-requires g c).After-resume-next in
+    let m = stepped g (goal.at.proceed-requires g c).After-resume_into-next in
     let was = in_transaction c.args.self.now.engine in
-    let ready = record c.args.self.now { engine = c.resume-next.new.self; status = Ready } in
+    let ready = record c.args.self.now { engine = c.resume_into-next.new.self; status = Ready } in
     record {
       waits = ap is_waiting c.in-Waits.is;
-      due = λ call step is. (was, subst (λ (x : Call). IsDue g.P.Player was c.args.recorded.now ready x c.resume-next.result) (same_call c.in-Waits.is is) (due (step_taken m Ready refl)));
-      acts = λ call step is. subst (λ (x : Call). MayRunOn c.args.recorded.now ready x c.resume-next.result) (same_call c.in-Waits.is is) (step_acts m Ready refl);
+      due = λ call step is. (was, subst (λ (x : Call). IsDue g.P.Player was c.args.recorded.now ready x (next_in c.resume_into-next.result c.resume_into-next.new.answer)) (same_call c.in-Waits.is is) (due (step_taken m Ready refl)));
+      acts = λ call step is. subst (λ (x : Call). MayRunOn c.args.recorded.now ready x (next_in c.resume_into-next.result c.resume_into-next.new.answer)) (same_call c.in-Waits.is is) (step_acts m Ready refl);
     }
 
 pub follow-requires : goal.follow-requires
 follow-requires g c =
-    let taken = step_taken (stepped g (goal.at.follow-requires g c).After-resume-next) Ready refl in
+    let taken = step_taken (stepped g (goal.at.follow-requires g c).After-resume_into-next) Ready refl in
     let was = in_transaction c.args.self.now.engine in
     let call = c.in-Waits.call in
     let step = c.in-Waits.step in
-    (now taken (c.proceed.ensures.done call step c.in-Waits.is was (due taken)) (c.proceed.ensures.tells call step c.in-Waits.is was (due taken))).kept
+    let done = c.proceed.ensures.done call step c.in-Waits.is was (due taken) in
+    let tells = c.proceed.ensures.tells call step c.in-Waits.is was (due taken) in
+    let x = now taken done tells in
+    record {
+      kept = x.kept;
+      reads = λ same.
+          (let still = sym c.snapshot-from.ensures ∙ (same ∙ ap (λ (e : Core). e.snapshot) x.engine) in
+          still_reads (λ o row e. c.requires.reads o row e ∙ ap (λ (n : ℕ). n / 2) still) c.proceed.new.recorded c.proceed.new.self taken done tells);
+    }
 
 pub returns : goal.returns
 returns g c =
-    let m = stepped g (goal.at.returns g c).After-resume-next in
+    let m = stepped g (goal.at.returns g c).After-resume_into-next in
     let call = c.in-Waits.call in
     let step = c.in-Waits.step in
     let is = c.in-Waits.is in

@@ -1,7 +1,8 @@
-use Rattle.std.proofs.Common.{◌≡◌, ap, ◌∙◌, sym, subst, IsSome, slice_get, slice_set}
-use Rattle.norec_world.proofs.Common.{same_Some, Actor, Goes, HasLess, World, ending_at, slice_get-set_same, told, waits_at, world_of, slice_get_within}
+use Rattle.std.proofs.Common.{◌≡◌, ℕ, ap, ◌∙◌, sym, subst, IsSome, slice_get, slice_set}
+use Rattle.norec_world.proofs.Common.{same_Some, Actor, Goes, HasLess, World, active_of, ending_at, slice_get-set_same, told, waits_at, world_of, slice_get_within}
 use Rattle.norec_world.proofs.Worlds.{going_here}
 use Rattle.norec_world.proofs.LessLeft.{event_less}
+use Rattle.norec_world.proofs.RunOthers.{world_tied}
 use Rattle.norec_world.proofs.EventWorlds.{goes_after, world_after}
 use Rattle.norec_world.proofs.world.World.event.Goals as goal
 
@@ -10,6 +11,16 @@ step-requires-clause-sound g c =
     let W : World g.row.P.Denot → Type 0 = λ w. IsSome (waits_at w c.args.actor) in
     let here = going_here (world_of c.self.inside) c.args.actor c.index_mut-a.result.now (subst W (sym c.self.view_is) c.requires) c.index_mut-a.ensures.value in
     (c.self.invariant.actors.each c.args.actor c.index_mut-a.result.now here.0).sound
+
+-- its open attempt stands where its engine reads
+pub step-requires-clause-reads : goal.step-requires-clause-reads
+step-requires-clause-reads g c inside row e =
+    let old : World g.row.P.Denot = world_of c.self.inside in
+    let W : World g.row.P.Denot → Type 0 = λ w. IsSome (waits_at w c.args.actor) in
+    let got = c.index_mut-a.result.now in
+    let here = going_here old c.args.actor got (subst W (sym c.self.view_is) c.requires) c.index_mut-a.ensures.value in
+    let own = (c.self.invariant.actors.each c.args.actor got here.0).thread in
+    (world_tied g.P.Player g.met.P.Player.laws old c.self.invariant).reads c.args.actor got row here.0 (ap (λ (t : ℕ). active_of t old.attempts.active) (sym own) ∙ e)
 
 pub step-requires-clause-waits : goal.step-requires-clause-waits
 step-requires-clause-waits g c =
