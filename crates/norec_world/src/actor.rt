@@ -54,11 +54,11 @@ impl<P: Player> Actor<P> {
     ghost use Rattle.std.specs.Prelude.{◌≡◌, ◌/◌, Bool, true, false, [], Some, None};
     ghost use Rattle.norec_world.specs.Cells.{cells_after};
     ghost use Rattle.norec_world.specs.Status.{ending_of, is_waiting, is_ready, waiting_step};
-    ghost use Rattle.norec_world.specs.Records.{Tells, IsTold, ReadsAt};
+    ghost use Rattle.norec_world.specs.Records.{Records, Tells, IsTold, ReadsAt};
     ghost use Rattle.norec_world.specs.Moments.{HasStepped};
     ghost use Rattle.norec_world.specs.OthersAttempts.{KeepsOthers};
-    ghost use Rattle.norec_world.specs.ActionRoom.{MayRunOn, IsActing};
-    ghost use Rattle.norec_world.specs.Sound.{IsKept, IsSound, IsDue, IsDone, StatusIs, GoesOn, Falls};
+    ghost use Rattle.norec_world.specs.ActionRoom.{MayRun, MayRunOn, IsActing};
+    ghost use Rattle.norec_world.specs.Sound.{IsKept, IsSound, IsAnswered, IsSettledBy, IsDue, IsDone, StatusIs, GoesOn, Falls};
 
     /// An actor that has made no call.
     pub(crate) fn new(alloc: Global, thread: u8, retries: u32, player: P, engine: Engine) -> Self
@@ -144,11 +144,30 @@ impl<P: Player> Actor<P> {
     {
         match next {
             Some(next) => self.wait(next),
-            None => {
-                if let Status::Waits { call, .. } = mem::replace(&mut self.status, Status::Ready) {
-                    self.settle(recorded, call, answer);
-                }
-            }
+            None => self.end_call(recorded, answer),
+        }
+    }
+
+    /// The call in progress is answered, and what comes of that is recorded.
+    #[inline(always)]
+    fn end_call(&mut self, recorded: &mut Recorded, answer: Answer)
+        requires waits { is_waiting self.old.status ≡ true }
+        requires answered { (call : Call) (step : Step) → self.old.status ≡ Status.Waits call step
+            → (was : Bool) × IsAnswered P.Player was recorded.old (record self.old { status = Status.Ready }) call answer }
+        requires acts { MayRun recorded.old (record self.old { status = Status.Ready }) }
+        ensures acts { IsActing recorded.new self.new }
+        ensures settled { (call : Call) (step : Step) → self.old.status ≡ Status.Waits call step → (was : Bool)
+            → IsAnswered P.Player was recorded.old (record self.old { status = Status.Ready }) call answer
+            → IsSettledBy P.Player was recorded.new (record self.old { status = Status.Ready }) self.new }
+        ensures records { (call : Call) (step : Step) → self.old.status ≡ Status.Waits call step → (was : Bool)
+            → IsAnswered P.Player was recorded.old (record self.old { status = Status.Ready }) call answer
+            → Records P.Player was recorded.old recorded.new (record self.old { status = Status.Ready }) self.new call answer }
+        ensures others { (call : Call) (step : Step) → self.old.status ≡ Status.Waits call step → (was : Bool)
+            → IsAnswered P.Player was recorded.old (record self.old { status = Status.Ready }) call answer
+            → KeepsOthers self.old recorded.old self.new recorded.new }
+    {
+        if let Status::Waits { call, .. } = mem::replace(&mut self.status, Status::Ready) {
+            self.settle(recorded, call, answer);
         }
     }
 

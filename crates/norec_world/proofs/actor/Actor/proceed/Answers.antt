@@ -1,16 +1,20 @@
-use Rattle.std.proofs.Common.{◌≡◌, Option, ap, sym, subst, ◌∙◌}
+use Rattle.std.proofs.Common.{◌≡◌, Bool, None, Option, ap, sym, subst}
 use Rattle.norec_engine.specs.NextSteps.{next_in}
-use Rattle.norec_world.proofs.Common.{Call, IsAnswered, Next, Ready, Status, Step, Waits}
-use Rattle.norec_world.specs.Sound.{IsDue}
+use Rattle.norec_world.proofs.Common.{Actor, Answer, Answers, Call, IsAnswered, Next, Ready, Rows, Rules, Step}
+use Rattle.norec_world.specs.Sound.{IsDone, IsDue}
 use Rattle.norec_world.proofs.actor.Actor.proceed.Goals as goal
 
-pub returns-in-Waits-clause-others : goal.returns-in-Waits-clause-others
-returns-in-Waits-clause-others g c call step is was due =
-    let a = c.args.self.now in
-    let r = c.args.recorded.now in
-    let both : Waits call step ≡ Waits c.in-Waits.call c.in-Waits.step = sym is ∙ sym c.in-Waits.ensures.value in
-    let same : call ≡ c.in-Waits.call = cc in
-    let given : IsDue g.P.Player was r (record a { status = Ready }) c.in-Waits.call (next_in c.args.next c.args.answer) = subst (λ (x : Call). IsDue g.P.Player was r (record a { status = Ready }) x (next_in c.args.next c.args.answer)) same due in
-    let answered : IsAnswered g.P.Player was r (record a { status = Ready }) c.in-Waits.call c.args.answer = subst (λ (x : Next). IsDue g.P.Player was r (record a { status = Ready }) c.in-Waits.call x) (ap (λ (n : Option Step). next_in n c.args.answer) c.in-None.is) given in
-    let d = c.settle.ensures.others was (subst (λ (s : Status). IsAnswered g.P.Player was r (record a { status = s }) c.in-Waits.call c.args.answer) (sym c.replace.ensures.after) answered) in
-    record { thread = d.thread; own = d.own; room = d.room }
+-- where there is no next step, the answer comes
+answers : {next : Option Step} {answer : Answer} → next ≡ None → next_in next answer ≡ Answers answer
+answers {answer = answer} none = ap (λ (n : Option Step). next_in n answer) none
+
+given : {P : Type 0} {rules : Rules P} {was : Bool} {r : Rows} {a : Actor P} {call : Call} {next : Option Step} {answer : Answer} → next ≡ None → IsDue rules was r a call (next_in next answer) → IsAnswered rules was r a call answer
+given {rules = rules} {was = was} {r = r} {a = a} {call = call} none due = subst (λ (x : Next). IsDue rules was r a call x) (answers none) due
+
+pub returns-in-None-clause-done : goal.returns-in-None-clause-done
+returns-in-None-clause-done g c call step is was due =
+    subst (λ (x : Next). IsDone g.P.Player was c.args.recorded.now c.end_call.new.recorded (record c.args.self.now { status = Ready }) c.end_call.new.self call x) (sym (answers c.in-None.is))
+    (c.end_call.ensures.settled call step is was (given c.in-None.is due))
+
+pub returns-in-None-clause-others : goal.returns-in-None-clause-others
+returns-in-None-clause-others g c call step is was due = c.end_call.ensures.others call step is was (given c.in-None.is due)
