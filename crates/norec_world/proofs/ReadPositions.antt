@@ -23,8 +23,9 @@ module _ {P : Type 0} {rules : Rules P} {was : Bool} {cells cells' : Cells} {r :
   answer_reads : {r1 : Rows} {last : Actor P} (b : Bool) (answer : Answer) → b ≡ was → HasAnswered rules b cells cells' r r1 mid a last call answer → ReadsAt r1 last
   answer_reads {r1} {last} true (Reply reply) same t now row e =
       let told = subst (λ (o : Bool). RecordsReply rules true o r r1 a last call reply) now t.told in
-      let old = row_from r r1 a.thread (λ x. record x { calls = grown x.calls (record { call = call; reply = reply }) a.ahead; ran = last.engine.actions.ran }) (λ x. refl) told.0 row (ap (λ (k : ℕ). active_of k r1.active) (sym t.settled.thread) ∙ e) in
-      ap (λ (x : Attempt). x.at) old.2 ∙ (stood (sym same) old.0 old.1 ∙ ap (λ (c : Core). c.snapshot / 2) (sym t.settled.engine))
+      let f : Attempt → Attempt = λ x. record x { calls = grown x.calls (record { call = call; reply = reply }) a.ahead; ran = last.engine.actions.ran } in
+      let old = row_from r r1 a.thread f (λ x. refl) told.0 row (ap (λ (k : ℕ). active_of k r1.active) (sym t.settled.thread) ∙ e) in
+      ap (λ (x : Attempt). x.at) {y = f old.0} old.2 ∙ (stood (sym same) old.0 old.1 ∙ ap (λ (c : Core). c.snapshot / 2) (sym t.settled.engine))
   answer_reads {r1} {last} false (Reply reply) same t now row e = elim (begun_or_not reply t) [
     | inl b ↦
         (let q = t.answered.in_call.opens b.0 b.1 in
