@@ -148,8 +148,9 @@ impl<P: Player> Actor<P> {
         }
     }
 
-    /// The call in progress is answered, and what comes of that is recorded.
-    #[inline(always)]
+    /// The call in progress is answered, and what comes of that is recorded. Its code stands apart, so that of the events that
+    /// end no call stays small.
+    #[inline(never)]
     fn end_call(&mut self, recorded: &mut Recorded, answer: Answer)
         requires waits { is_waiting self.old.status ≡ true }
         requires answered { (call : Call) (step : Step) → self.old.status ≡ Status.Waits call step
