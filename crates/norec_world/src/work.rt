@@ -2,15 +2,13 @@
 
 ghost use Rattle.std.specs.Prelude.{◌≡◌, ◌⊎◌, ◌^◌, ◌+◌, ◌/◌, ◌<◌, ◌≤◌, ◌++◌, ◌∷◌, ℕ, Bool, true, false, [], if◌then◌else◌, Some, None, IfOk, OnOk, OnErr, is_some, length, unwrap_or, vec_capacity};
 ghost use Rattle.tx_attempts.specs.declared.attempt.Attempt.{Attempt};
-ghost use Rattle.itm_types.specs.Calls.{is_abort, registered_by};
 ghost use Rattle.norec_world.specs.Rows.{active_of};
-ghost use Rattle.user_actions.specs.Actions.{total};
-ghost use Rattle.norec_core.specs.Core.{goes, in_transaction};
+ghost use Rattle.norec_core.specs.Core.{in_transaction};
 ghost use Rattle.norec_engine.specs.NextSteps.{next_in};
 
 use crate::actor::{Actor, Status};
 use crate::memory::Memory;
-use crate::places::{reserve_actions, reserve_place};
+use crate::places::reserve_place;
 use crate::recorded::Recorded;
 use itm_types::{Call, MAX_ACTORS, MAX_RETRIES, Props, Ran, Reply, Step};
 use norec_core::{Answer, Undone};
@@ -28,11 +26,10 @@ impl<P: Player> Actor<P> {
     ghost use Rattle.norec_core.specs.Proceeds.{IsSettled};
     ghost use Rattle.norec_core.specs.Undoing.{after_undoing};
     ghost use Rattle.itm_types.specs.Calls.{is_begin};
-    ghost use Rattle.norec_world.specs.LocalWork.{IsShort, LacksRoom};
-    ghost use Rattle.norec_core.specs.Proceeds.{MayStarve};
+    ghost use Rattle.norec_world.specs.LocalWork.{IsShort};
     ghost use Rattle.norec_world.specs.Moments.{HasWorked};
     ghost use Rattle.norec_world.specs.OthersAttempts.{KeepsOthers};
-    ghost use Rattle.norec_world.specs.ActionRoom.{HasRoomFor, MayRunOn, HasFirst, HasPlaces, IsActing, IsEmpty, MayRun};
+    ghost use Rattle.norec_world.specs.ActionRoom.{MayRunOn, HasFirst, HasPlaces, IsActing, IsEmpty, MayRun};
     ghost use Rattle.norec_world.specs.Sound.{IsTied, IsKept, IsReady, IsSound, IsAnswered, IsSettledBy, IsAsked, IsUnasked, IsNoMore, Falls, retried};
 
     /// Calls are made until one waits for a step or the actor has ended.
@@ -114,88 +111,6 @@ impl<P: Player> Actor<P> {
                 self.engine.call_into(call, answer)
             }
         }
-    }
-
-    /// Makes room for what a call within a block leaves, whose attempt has so many calls: for its actions, and for what it
-    /// asks for. A read, a write and a commit leave no action and ask for nothing.
-    #[inline(always)]
-    fn make_room(&mut self, call: &Call, calls: usize) -> Result<(), AllocError>
-        requires inside { in_transaction self.old.engine ≡ true }
-        requires room { HasRoomFor self.old.engine self.old }
-        requires empty { (self.old.spare.items ≡ []) × (self.old.end_room.items ≡ []) × (self.old.cancel_room.items ≡ []) }
-        ensures actor { self.new ≡ record self.old { spare = self.new.spare; ahead = self.new.ahead; end_room = self.new.end_room; cancel_room = self.new.cancel_room } }
-        ensures empty { (self.new.spare.items ≡ []) × (self.new.end_room.items ≡ []) × (self.new.cancel_room.items ≡ []) }
-        ensures kept { (vec_capacity self.old.spare ≤ vec_capacity self.new.spare) × (vec_capacity self.old.end_room ≤ vec_capacity self.new.end_room)
-            × (vec_capacity self.old.cancel_room ≤ vec_capacity self.new.cancel_room) }
-        ensures ahead { OnOk result (self.new.ahead ≡ unwrap_or (goes self.old.engine call.now) 0) }
-        ensures room { OnOk result (0 < self.new.ahead → (calls + 1 + self.new.ahead ≤ vec_capacity self.new.spare)
-            × (total self.old.engine.actions + self.new.ahead ≤ vec_capacity self.new.end_room)
-            × (total self.old.engine.actions + self.new.ahead ≤ vec_capacity self.new.cancel_room)) }
-        ensures end { OnOk result (is_some (registered_by call.now) ≡ true → total self.old.engine.actions < vec_capacity self.new.end_room) }
-        ensures cancel { OnOk result (is_abort call.now ≡ true → total self.old.engine.actions ≤ vec_capacity self.new.cancel_room) }
-        ensures short { OnErr result (LacksRoom self.old call.now ⊎ MayStarve self.old.engine call.now) }
-    {
-        match call {
-            Call::Read { .. } | Call::Write { .. } | Call::Commit => {
-                self.ahead = 0;
-                Ok(())
-            }
-            _ => self.make_any_room(call, calls),
-        }
-    }
-
-    /// The same, for any call.
-    #[inline(never)]
-    fn make_any_room(&mut self, call: &Call, calls: usize) -> Result<(), AllocError>
-        requires inside { in_transaction self.old.engine ≡ true }
-        requires room { HasRoomFor self.old.engine self.old }
-        requires empty { (self.old.spare.items ≡ []) × (self.old.end_room.items ≡ []) × (self.old.cancel_room.items ≡ []) }
-        ensures actor { self.new ≡ record self.old { spare = self.new.spare; ahead = self.new.ahead; end_room = self.new.end_room; cancel_room = self.new.cancel_room } }
-        ensures empty { (self.new.spare.items ≡ []) × (self.new.end_room.items ≡ []) × (self.new.cancel_room.items ≡ []) }
-        ensures kept { (vec_capacity self.old.spare ≤ vec_capacity self.new.spare) × (vec_capacity self.old.end_room ≤ vec_capacity self.new.end_room)
-            × (vec_capacity self.old.cancel_room ≤ vec_capacity self.new.cancel_room) }
-        ensures ahead { OnOk result (self.new.ahead ≡ unwrap_or (goes self.old.engine call.now) 0) }
-        ensures room { OnOk result (0 < self.new.ahead → (calls + 1 + self.new.ahead ≤ vec_capacity self.new.spare)
-            × (total self.old.engine.actions + self.new.ahead ≤ vec_capacity self.new.end_room)
-            × (total self.old.engine.actions + self.new.ahead ≤ vec_capacity self.new.cancel_room)) }
-        ensures end { OnOk result (is_some (registered_by call.now) ≡ true → total self.old.engine.actions < vec_capacity self.new.end_room) }
-        ensures cancel { OnOk result (is_abort call.now ≡ true → total self.old.engine.actions ≤ vec_capacity self.new.cancel_room) }
-        ensures short { OnErr result (LacksRoom self.old call.now ⊎ MayStarve self.old.engine call.now) }
-    {
-        let actions = self.engine.actions();
-        reserve_actions(call, actions, &mut self.end_room, &mut self.cancel_room)?;
-        let ahead = ahead_of(self.engine.goes(call));
-        self.reserve_ahead(calls, actions, ahead)?;
-        self.ahead = ahead;
-        Ok(())
-    }
-
-    /// Makes room for so many more calls in the open attempt, and for as many more actions that run at its end. A cancel
-    /// asks for room too, though in an irrevocable transaction it is refused.
-    fn reserve_ahead(
-        &mut self,
-        calls: usize,
-        actions: usize,
-        ahead: usize,
-    ) -> Result<(), AllocError>
-        requires few { (actions < 2 ^ 63) × (ahead < 2 ^ 32) }
-        requires empty { (self.old.spare.items ≡ []) × (self.old.end_room.items ≡ []) × (self.old.cancel_room.items ≡ []) }
-        ensures actor { self.new ≡ record self.old { spare = self.new.spare; end_room = self.new.end_room; cancel_room = self.new.cancel_room } }
-        ensures empty { (self.new.spare.items ≡ []) × (self.new.end_room.items ≡ []) × (self.new.cancel_room.items ≡ []) }
-        ensures kept { (vec_capacity self.old.spare ≤ vec_capacity self.new.spare) × (vec_capacity self.old.end_room ≤ vec_capacity self.new.end_room)
-            × (vec_capacity self.old.cancel_room ≤ vec_capacity self.new.cancel_room) }
-        ensures room { OnOk result (0 < ahead → (calls + 1 + ahead ≤ vec_capacity self.new.spare) × (actions + ahead ≤ vec_capacity self.new.end_room)
-            × (actions + ahead ≤ vec_capacity self.new.cancel_room)) }
-        ensures short { OnErr result (0 < ahead) }
-    {
-        if ahead == 0 {
-            return Ok(());
-        }
-        self.spare
-            .reserve(calls.saturating_add(1).saturating_add(ahead))?;
-        self.end_room.reserve(actions + ahead)?;
-        self.cancel_room.reserve(actions + ahead)?;
-        Ok(())
     }
 
     /// The attempt that a begin is to open, with room for so many calls.
