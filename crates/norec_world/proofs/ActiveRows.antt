@@ -337,12 +337,12 @@ changed_then r r1 r2 thread f g keeps one two = two ∙ (ap (with_changed thread
 
 -- ## Changed into what it is
 
-changed_same : (thread : ℕ) (f : Attempt → Attempt) (xs : List Attempt) → ((a : Attempt) → active_of thread xs ≡ Some a → f a ≡ a) → changed (is_of thread) f xs ≡ xs
-changed_same thread f [] same = refl
-changed_same thread f (x ∷ xs) same = elim (cases_Bool (is_of thread x)) [
+left_as_is : (thread : ℕ) (f : Attempt → Attempt) (xs : List Attempt) → ((a : Attempt) → active_of thread xs ≡ Some a → f a ≡ a) → changed (is_of thread) f xs ≡ xs
+left_as_is thread f [] same = refl
+left_as_is thread f (x ∷ xs) same = elim (cases_Bool (is_of thread x)) [
   | inl e ↦ simp e (ap (λ (a : Attempt). a ∷ xs) (same x (simp e)))
-  | inr e ↦ simp e (ap (λ (ys : List Attempt). x ∷ ys) (changed_same thread f xs (λ a found. same a (simp e found))))
+  | inr e ↦ simp e (ap (λ (ys : List Attempt). x ∷ ys) (left_as_is thread f xs (λ a found. same a (simp e found))))
 ]
 
 pub unchanged : (r : Rows) (thread : ℕ) (f : Attempt → Attempt) → ((a : Attempt) → active_of thread r.active ≡ Some a → f a ≡ a) → with_changed thread f r ≡ r
-unchanged r thread f same = λ i. record r { active = changed_same thread f r.active same i }
+unchanged r thread f same = λ i. record r { active = left_as_is thread f r.active same i }
