@@ -1,6 +1,6 @@
 //! Lists that contracts compare by what stands in them.
 
-ghost use Rattle.std.specs.Prelude.{◌≡◌, ◌<◌, ◌≤◌, ◌+◌, ◌∷◌, [], ◌++◌, length, vec_capacity, IfOk, OnErr};
+ghost use Rattle.std.specs.Prelude.{◌≡◌, ◌<◌, ◌≤◌, ◌+◌, ◌∷◌, [], ◌++◌, length, vec_len, vec_capacity, IfOk, OnErr};
 ghost use Rattle.tx_attempts.specs.Beginnings.{IsBeginningOf};
 
 use crate::attempt::{Attempt, Entry};
@@ -108,6 +108,7 @@ impl Calls {
 
     /// One more, and where `ahead` is not 0 room for so many from then on; else it takes of the room that there is. The
     /// places are those of the room, or of `spare`, to which the calls move over.
+    #[inline(always)]
     pub fn push(&mut self, spare: &mut Vec<Entry>, entry: Entry, ahead: usize)
         requires empty { spare.old.items ≡ [] }
         requires place { self.old.room ≡ 0 → length self.old.list < vec_capacity spare.old }
@@ -116,8 +117,7 @@ impl Calls {
         ensures empty { spare.new.items ≡ [] }
     {
         if ahead > 0 || (self.room == 0 && self.items.len() == self.items.capacity()) {
-            let _ = spare.append(&mut self.items);
-            mem::swap(spare, &mut self.items);
+            move_over(&mut self.items, spare);
         }
         self.items.push_reserved(entry);
         self.room = if ahead > 0 {
@@ -133,6 +133,19 @@ impl Calls {
     {
         self.room = 0;
     }
+}
+
+/// The calls move over to `spare`, into the places that it has, and leave it their own.
+#[inline(never)]
+fn move_over(items: &mut Vec<Entry>, spare: &mut Vec<Entry>)
+    requires empty { spare.old.items ≡ [] }
+    requires places { vec_len items.old ≤ vec_capacity spare.old }
+    ensures items { items.new.items ≡ items.old.items }
+    ensures capacity { vec_capacity spare.old ≤ vec_capacity items.new }
+    ensures empty { spare.new.items ≡ [] }
+{
+    let _ = spare.append(items);
+    mem::swap(spare, items);
 }
 
 /// Attempts, in order.
