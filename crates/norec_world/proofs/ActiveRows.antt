@@ -55,14 +55,6 @@ module _ {A : Type 0} (p : A → Bool) where
     | inr e ↦ simp e (ap (λ (zs : List A). y ∷ zs) (changed_none f ys (simp e at none)))
   ]
 
-  -- the first one as it was
-  pub changed_same : (f : A → A) (xs : List A) (x : A) → find p xs ≡ Some x → f x ≡ x → changed p f xs ≡ xs
-  changed_same f [] x found same = refl
-  changed_same f (y ∷ ys) x found same = elim (cases_Bool (p y)) [
-    | inl e ↦ (let h = simp e at found in simp e (let here : y ≡ x = cc in ap (λ (z : A). z ∷ ys) (ap f here ∙ (same ∙ sym here))))
-    | inr e ↦ (let h = simp e at found in simp e (ap (λ (zs : List A). y ∷ zs) (changed_same f ys x h same)))
-  ]
-
   pub removed_first : (xs : List A) (i : ℕ) → IsFirstAt p xs i → remove xs i ≡ without p xs
   removed_first [] i first = absurd first
   removed_first (y ∷ ys) zero first = simp first refl

@@ -1,20 +1,16 @@
 -- Where an open attempt stands, once a value or a call was taken in and what the engine gave is recorded.
 use Rattle.tx_attempts.specs.Kept.{grown}
 use Rattle.std.proofs.Common.{◌≡◌, ℕ, ◌/◌, Bool, true, false, None, Some, inl, inr, refl, sym, true≢false, ap, subst, ◌∙◌}
-use Rattle.norec_world.proofs.ActiveRows.{changed_same, opened_here, row_from}
-use Rattle.norec_world.proofs.Common.{Actor, Answer, Attempt, Call, Cells, Core, HasRow, IsDone, IsTold, Next, RecordsReply, Reply, Rows, Rules, Tells, active_of, in_transaction, is_of, same_Some}
+use Rattle.norec_world.proofs.ActiveRows.{opened_here, row_from, unchanged}
+use Rattle.norec_world.proofs.Common.{Actor, Answer, Attempt, Call, Cells, Core, IsDone, IsTold, Next, RecordsReply, Reply, Rows, Rules, Tells, active_of, in_transaction, same_Some}
 use Rattle.norec_world.proofs.Taken.{HasAnswered, HasTaken, recorded}
 use Rattle.norec_world.proofs.TryEnds.{begun_or_not}
 use Rattle.norec_world.specs.Records.{ReadsAt}
 
 -- one that stands there already is told so
-pub told_same : (r : Rows) (thread at : ℕ) (is_open : Bool) → (is_open ≡ true → (row : Attempt) → active_of thread r.active ≡ Some row → row.at ≡ at) → HasRow is_open r thread → IsTold thread is_open r at r
-told_same r thread at is_open reads has = record {
-  moves = λ o.
-      (let here : HasRow true r thread = subst (λ (b : Bool). HasRow b r thread) o has in
-      let there : record here.0 { at = at } ≡ here.0 = λ i. record here.0 { at = (sym (reads o here.0 here.1)) i } in
-      let same = changed_same (is_of thread) (λ (row : Attempt). record row { at = at }) r.active here.0 here.1 there in
-      λ i. record r { active = (sym same) i });
+pub told_same : (r : Rows) (thread at : ℕ) (is_open : Bool) → (is_open ≡ true → (row : Attempt) → active_of thread r.active ≡ Some row → row.at ≡ at) → IsTold thread is_open r at r
+told_same r thread at is_open reads = record {
+  moves = λ o. sym (unchanged r thread (λ (row : Attempt). record row { at = at }) (λ row here. λ i. record row { at = (sym (reads o row here)) i }));
   stays = λ c. refl;
 }
 

@@ -27,4 +27,4 @@ returns-then-is_open-clause-acts g c acts =
 pub returns-then-now-from-clause-told : goal.returns-then-now-from-clause-told
 returns-then-now-from-clause-told g c =
     let a = c.args.self.now in
-    told_same c.args.recorded.now a.thread (a.engine.snapshot / 2) (in_transaction a.engine) (c.requires.reads (sym c.if-now-from.true ∙ c.snapshot-now.ensures)) c.requires.kept.row
+    told_same c.args.recorded.now a.thread (a.engine.snapshot / 2) (in_transaction a.engine) (c.requires.reads (sym c.if-now-from.true ∙ c.snapshot-now.ensures))
