@@ -9,7 +9,7 @@ use Rattle.norec_world.specs.PlayerRooms.{ComesTo, EndsWithin, GoesTo, MayReply,
 use Rattle.norec_world.proofs.Common.{slice_get_within}
 use Rattle.norec_world.proofs.SoundOthers.{there_is}
 use Rattle.script_laws.proofs.AssembledCode.{assembled_nests}
-use Rattle.script_laws.specs.Fed.{AreFed, TellRoom}
+use Rattle.script_laws.specs.Fed.{AreFed, TellRoom, TellsEachRoom, room_told}
 use Rattle.script_program.specs.declared.instruction.Instruction.{Instruction}
 use Rattle.script_program.specs.Listing.{threads_of}
 use Rattle.script_vm.specs.Nesting.{Nests}
@@ -24,14 +24,20 @@ may_be depth (Begin props room) (Bytes v) m = m
 may_be depth Commit reply m = m
 may_be depth call reply m = tt
 
+same_room : (call : Call) (n : ℕ) → room_told call ≡ Some n → asked_room call ≡ Some n
+same_room (Begin props room) n e = e
+same_room (Mode room) n e = e
+same_room call n e = absurd (cc)
+
+-- one that makes its transaction irrevocable is one of these
 only_told : (going : Bool) (room n : ℕ) → (if going then Some room else None) ≡ Some n → Some room ≡ Some n
 only_told true room n e = e
 only_told false room n e = absurd (cc)
 
-same_room : (call : Call) (n : ℕ) → told_room call ≡ Some n → asked_room call ≡ Some n
-same_room (Begin props room) n e = only_told props.goes_irrevocable room n e
-same_room (Mode room) n e = e
-same_room call n e = absurd (cc)
+going_told : (call : Call) (n : ℕ) → told_room call ≡ Some n → room_told call ≡ Some n
+going_told (Begin props room) n e = only_told props.goes_irrevocable room n e
+going_told (Mode room) n e = e
+going_told call n e = absurd (cc)
 
 goes_nested : (p q : Thread) → IsNested p → GoesTo thread_rules p q → IsNested q
 goes_nested p q nested (inl g) = subst IsNested (sym g.4) (plays p g.0 g.1 nested g.2 (may_be (depth_of p) g.0 g.1 g.3)).nested
@@ -52,13 +58,16 @@ ends_within (suc n) t nested few = λ some call reply next may.
     let falls = x.falls some in
     ends_within n (answered t reply) x.nested (omega arith))
 
-pub tells_room : (code : List Instruction) → Nests code [] → TellsRoom thread_rules (opening code)
-tells_room code x n q call reply room comes next may told =
-    let p = plays q call reply (comes_nested n code q x comes) next (may_be (depth_of q) call reply may) in
-    ends_within room (answered q reply) p.nested (p.told room (same_room call room told))
+tells_each_room : (code : List Instruction) → Nests code [] → TellsEachRoom (opening code)
+tells_each_room code x n u call reply room comes next may told =
+    let p = plays u call reply (comes_nested n code u x comes) next (may_be (depth_of u) call reply may) in
+    ends_within room (answered u reply) p.nested (p.told room (same_room call room told))
 
 pub tell_room : TellRoom
-tell_room text p e place code is = tells_room code (assembled_nests text p e place code is)
+tell_room text p e place code is = tells_each_room code (assembled_nests text p e place code is)
+
+tells_room : (t : Thread) → TellsEachRoom t → TellsRoom thread_rules t
+tells_room t each n u call reply room comes next may told = each n u call reply room comes next may (going_told call room told)
 
 -- a player of each place is that of the thread
 opened_at : (codes : List (List Instruction)) (place : ℕ) (t : Thread) → slice_get (map opening codes) place ≡ Some t → (code : List Instruction) × (slice_get codes place ≡ Some code) × (t ≡ opening code)
@@ -70,4 +79,4 @@ pub are_fed : AreFed
 are_fed text p w e players tied place a is starved =
     let here = there_is w.opening place (let l = slice_get_within w.actors place a is in let long = tied.each in omega arith) in
     let thread = opened_at (threads_of p) place here.0 (ap (λ (l : List Thread). slice_get l place) (sym players) ∙ here.1) in
-    tied.fed place here.0 a here.1 is (subst (TellsRoom thread_rules) (sym thread.2) (tell_room text p e place thread.0 thread.1)) starved
+    tied.fed place here.0 a here.1 is (subst (TellsRoom thread_rules) (sym thread.2) (tells_room (opening thread.0) (tell_room text p e place thread.0 thread.1))) starved
