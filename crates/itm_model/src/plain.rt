@@ -62,7 +62,7 @@ impl Model for Plain {
 }
 
 impl Plain {
-    /// A transaction whose outermost block has just begun on these bytes (Intel TM ABI 1.1, section 5.10).
+    /// A transaction whose outermost block has just begun on these bytes (Intel TM ABI 1.1, section 5.7).
     pub fn new(alloc: Global, bytes: &[u8], arena: &[u8], props: Props) -> Result<Plain, AllocError>
         requires some { WORD ≤ length bytes.now }
         requires room { length bytes.now ≤ MAX_MEMORY }

@@ -88,14 +88,14 @@ pub enum Instruction {
         at: Place,
         from: Register,
     },
-    /// Begins a block and puts the answer in a register (Intel TM ABI 1.1, section 5.10).
+    /// Begins a block and puts the answer in a register (Intel TM ABI 1.1, section 5.7).
     Begin {
         props: Props,
         code: Register,
     },
-    /// Ends the block (section 5.12).
+    /// Ends the block (section 5.9).
     Commit,
-    /// Cancels the innermost block, or all that are open (section 5.13).
+    /// Cancels the innermost block, or all that are open (section 5.8).
     Abort {
         outer: bool,
     },
@@ -115,14 +115,14 @@ pub enum Instruction {
         fun: u32,
         arg: Place,
     },
-    /// Reads shared memory into a register (section 5.15).
+    /// Reads shared memory into a register (section 5.12).
     Read {
         hint: ReadHint,
         width: Width,
         to: Register,
         at: Place,
     },
-    /// Writes a register's first bytes, as many as the width has, to shared memory (section 5.15).
+    /// Writes a register's first bytes, as many as the width has, to shared memory (section 5.12).
     Write {
         hint: WriteHint,
         width: Width,
