@@ -13,12 +13,11 @@
 
 most=${1:-76800}
 root=$(CDPATH= cd -- "$(dirname -- "$0")/.." && pwd) || exit 1
-program=$root/itmrun
 work=$(mktemp -d) || exit 1
 trap 'rm -rf "$work"' EXIT
 
 # builds the program, if it has to be, before anything is timed
-"$program" sched "$root/examples/counter.itm" >/dev/null || exit 1
+ITMRUN_PROVED=1 "$root/itmrun" sched "$root/examples/counter.itm" >/dev/null || exit 1
 program=$root/crates/itmrun/out/itmrun
 
 . "$root/bench/scripts.sh"

@@ -4,6 +4,7 @@
 
 root=$(CDPATH= cd -- "$(dirname -- "$0")/.." && pwd) || exit 1
 program=$root/itmrun
+export ITMRUN_PROVED=1
 work=$(mktemp -d) || exit 1
 trap 'rm -rf "$work"' EXIT
 passed=0
@@ -317,11 +318,18 @@ if [ -w /dev/full ]; then
     check 'full output of asm' 5
 fi
 
+# a runtime that loses an update
+echo 'bad 11 reply' >"$work/want_output"
+: >"$work/want_errors"
+run check "$root/examples/lost.history"
+check 'a history in which an update is lost' 3
+
 . "$root/tests/rows.sh"
 . "$root/tests/histories.sh"
 . "$root/tests/scripts.sh"
 . "$root/tests/threads.sh"
 . "$root/tests/streams.sh"
+. "$root/tests/launcher.sh"
 
 # count NAME WORD..: runs these words, whose last line counts what passed and what failed
 count() {
@@ -343,6 +351,7 @@ count() {
     esac
 }
 
+count 'the documents' python3 -B "$root/tests/documents.py"
 count 'the tables' sh "$root/tests/tables.sh"
 count 'threads that stop' sh "$root/tests/sweeps.sh" stops
 

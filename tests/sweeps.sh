@@ -20,7 +20,7 @@ root=$(CDPATH= cd -- "$(dirname -- "$0")/.." && pwd) || exit 1
 program=${ITMRUN:-}
 if [ -z "$program" ]; then
     # builds the program, if it has to be
-    "$root/itmrun" sched "$root/examples/counter.itm" >/dev/null || exit 1
+    ITMRUN_PROVED=1 "$root/itmrun" sched "$root/examples/counter.itm" >/dev/null || exit 1
     program=$root/crates/itmrun/out/itmrun
 fi
 work=$(mktemp -d) || exit 1

@@ -1,0 +1,140 @@
+# The part of tests/command.sh on the launcher: what it runs, and that the unproved sources answer as the proved program.
+
+# a copy of the launcher beside stand-ins: an `rt` that runs the proved program as `rt try` runs the unproved one, and a
+# build.sh that has the program at once
+copy=$work/copy
+built=$copy/crates/itmrun/out/itmrun
+mkdir -p "$copy/crates/itmrun/src" "$copy/crates/itmrun/out" "$copy/bin" "$work/here"
+cp "$root/itmrun" "$root/try.sh" "$root/crates.txt" "$copy"
+cat >"$copy/build.sh" <<END
+echo 'itmrun: proved 1 of 1: itmrun'
+cp "$root/crates/itmrun/out/itmrun" "$built"
+END
+cat >"$copy/bin/rt" <<END
+#!/bin/sh
+shift 2
+cd / && "$root/crates/itmrun/out/itmrun" "\$@" </dev/null
+status=\$?
+echo "checked: ended status=\$status" >&2
+echo 'races: not looked for, since a kit has no ThreadSanitizer' >&2
+echo "run=ended status=\$status runners=1 races=unchecked proved=no" >&2
+exit \$status
+END
+chmod +x "$copy/bin/rt"
+unproved='itmrun: not proved on this machine yet; this answer is of the unproved sources. sh build.sh proves and builds: some 20 minutes on four processors, 40 on two'
+
+# launcher WORD..: the copy, from a folder of its own
+launcher() {
+    cd "$work/here" && PATH=$path ITMRUN_PROVED=$only exec sh "$copy/itmrun" "$@"
+}
+
+# launch WORD..: the copy on $work/input
+launch() {
+    (launcher "$@") <"$work/input" >"$work/output" 2>"$work/errors"
+    status=$?
+}
+
+# both NAME STATUS WORD..: the unproved answer is the proved one, behind the line that says what it is
+both() {
+    name=$1 wanted=$2
+    shift 2
+    (cd "$work/here" && exec "$program" "$@") <"$work/input" >"$work/want_output" 2>"$work/proved_errors"
+    { echo "$unproved" && cat "$work/proved_errors"; } >"$work/want_errors"
+    rm -f "$built"
+    launch "$@"
+    check "$name, unproved" "$wanted"
+    cp "$work/proved_errors" "$work/want_errors"
+    cp "$root/crates/itmrun/out/itmrun" "$built"
+    launch "$@"
+    check "$name, proved" "$wanted"
+}
+
+only= path=$copy/bin:$PATH
+cp "$root/examples/lost_update.itm" "$work/here/script"
+cp "$work/here/script" "$work/here/-x"
+cp "$root/tests/rows/partial_write_back.itm" "$work/here/impatient"
+cp "$work/here/impatient" "$work/input"
+printf 'itm-history 1\nmemory 0000000000000000\nfinal 1 0000000000000000\n' >"$work/here/no run"
+both 'a script by its name' 0 sched script
+both 'a script by its whole path' 0 sched "$work/here/script"
+both 'a script whose name begins with a dash' 0 sched -- -x
+both 'a script that is printed' 0 asm script
+both 'a script that is read as standard input' 4 sched -
+both 'a script that is read as a device' 4 sched /dev/stdin
+both 'a thread that gives up' 4 sched impatient
+both 'no history' 2 check script
+both 'no script' 2 sched 'no run'
+both 'a history that is not legal' 3 check 'no run'
+both 'no file' 5 sched absent
+both 'an empty name' 5 sched ''
+both 'a folder' 5 check .
+both 'no words' 1
+both 'three words' 1 sched script script
+both 'a flag' 1 --help sched script
+
+# answers that cannot be written
+rm -f "$built"
+: >"$work/want_output"
+: >"$work/output"
+{ echo "$unproved" && echo 'itmrun: writing failed'; } >"$work/want_errors"
+if [ -w /dev/full ]; then
+    (launcher sched impatient) >/dev/full 2>"$work/errors"
+    status=$?
+    check 'full output, unproved' 5
+fi
+(launcher sched impatient) >&- 2>"$work/errors"
+status=$?
+check 'closed output, unproved' 5
+
+# nothing unproved is run where only the proved program is wanted, and nothing is said once it is there
+only=1
+echo 'itmrun: proved 1 of 1: itmrun' >"$work/want_errors"
+"$program" sched "$work/here/script" >"$work/want_output"
+launch sched script
+check 'the program is proved first' 0
+: >"$work/want_errors"
+launch sched script
+check 'the program is proved' 0
+only=
+launch sched script
+check 'a proved program says nothing of it' 0
+touch "$built"
+sleep 0.1
+touch "$copy/crates/itmrun/src"
+echo "$unproved" >"$work/want_errors"
+launch sched script
+check 'a source is newer than the program' 0
+
+# sources that cannot be run, and no rt
+rm -f "$built"
+: >"$work/want_output"
+printf '#!/bin/sh\necho "error: no such name" >&2\nexit 2\n' >"$copy/bin/rt"
+{ echo "$unproved" && echo 'error: no such name' && echo 'itmrun: the sources could not be run; rt says above why'; } \
+    >"$work/want_errors"
+launch sched script
+check 'sources that do not compile' 127
+mkdir "$work/few"
+for tool in sh dirname readlink find head; do ln -s "$(command -v $tool)" "$work/few"; done
+path=$work/few
+want_line 'itmrun: the program is not built, and there is no rt on the path'
+launch sched script
+check 'no rt' 127
+path=$copy/bin:$PATH
+
+# a launcher that is ended ends what it has started
+printf '#!/bin/sh\necho $$ >"%s"\nexec sleep 100\n' "$work/started" >"$copy/bin/rt"
+(launcher sched script) >"$work/output" 2>"$work/errors" &
+launcher=$!
+for _ in 1 2 3 4 5 6 7 8 9 10; do [ -s "$work/started" ] || sleep 1; done
+kill "$launcher"
+wait "$launcher"
+status=$?
+kill -0 "$(cat "$work/started")" 2>/dev/null && status='143, and its rt goes on'
+echo "$unproved" >"$work/want_errors"
+check 'a launcher that is ended' 143
+
+# the true rt
+cp "$root/examples/lost_update.history" "$work/want_output"
+(cd "$root/examples" && exec sh ../try.sh sched lost_update.itm) >"$work/output" 2>"$work/errors"
+status=$?
+check 'the unproved sources' 0
