@@ -1,0 +1,147 @@
+"""Reads README.md and docs/ against the repository: what stands in backticks exists, and what stands as an example is one.
+The last line is "N passed, M failed"; the exit status is 0 where none failed.
+
+- A path names a file or a folder, from the top, from docs/ or within a crate; words in capitals stand for any name.
+- `Type::item` names an item of a type, a trait, an enum or a module that are declared.
+- An `_ITM_` name is an entry point or the beginning of one, and what docs/ABI.md lists as left out is none.
+- Of every other span each word stands in the code, the definitions, the proofs, the tests or the examples.
+- A block of Rattle is part of a source file, line by line; a history or a script in README.md is a file of examples/.
+- A link leads to a page that is there.
+"""
+
+import pathlib
+import re
+import sys
+
+ROOT = pathlib.Path(__file__).resolve().parent.parent
+PAGES = [ROOT / "README.md", *sorted(ROOT.glob("docs/*.md"))]
+SOURCES = [
+    "crates.txt", "HANDLES", "itmrun", "*.sh", ".ci/run", "tests/**/*", "bench/*", "examples/*", "judge/**/*",
+    *(f"crates/*/{part}/**/*" for part in ("src", "specs", "proofs", "must-fail", "wrong-bodies")),
+]
+
+WORD = re.compile(r"[A-Za-z_][A-Za-z0-9_]*")
+CAPITALS = re.compile(r"[A-Z]+[0-9]?")
+PATH = re.compile(r"\.{0,2}/?[\w*.-]+(?:/[\w*.-]+)+/?|[\w-]+\.(?:antt|rt|sh|md|itm|history|py|txt)")
+ITEM = re.compile(r"(\w+)::(\w+)")
+BLOCK = re.compile(r"^ *```(\w*)\n(.*?)^ *```$", re.M | re.S)
+SPAN = re.compile(r"`([^`\n]+)`")
+LINK = re.compile(r"\]\(([^)#]+)[^)]*\)")
+
+HINTS = {"R": ["R", "RaR", "RaW", "RfW"], "W": ["W", "WaR", "WaW"]}
+TYPES = ["U1", "U2", "U4", "U8", "F", "D", "M64", "M128", "M256", "CF", "CD"]
+SIDES = ["n", "t", "taR", "taW"]
+
+# names of the ABI, of libitm and of tools that are told as what the repository does not have
+ABROAD = {
+    "TMConflict", "_ITM_noTransactionId", "_ITM_srcLocation", "_ZGTt", "dac8208d650f15bf", "defined", "delete",
+    "exceptionBlockAbort", "memchr", "nm", "userRetry",
+}
+
+
+def entries():
+    """The names of all entry points, by the rule of docs/SCRIPTS.md."""
+    plain = ["beginTransaction", "commitTransaction", "abortTransaction", "changeTransactionMode", "inTransaction"]
+    names = plain + ["addUserCommitAction", "addUserUndoAction", "LB"]
+    names += [hint + it for hints in HINTS.values() for hint in hints for it in TYPES]
+    names += ["L" + it for it in TYPES]
+    pairs = [(read, write) for read in SIDES for write in SIDES if (read, write) != ("n", "n")]
+    names += [f"{it}R{read}W{write}" for it in ("memcpy", "memmove") for read, write in pairs]
+    return {"_ITM_" + it for it in names + ["memset" + hint for hint in HINTS["W"]]}
+
+
+def sources():
+    """The texts of all files that docs speak of, by path."""
+    files = {it for pattern in SOURCES for it in ROOT.glob(pattern) if it.is_file() and "out" not in it.parts}
+    return {it.relative_to(ROOT): it.read_text(errors="replace") for it in files}
+
+
+class Documents:
+    def __init__(self):
+        self.passed = self.failed = 0
+        self.texts = sources()
+        self.code = {path: text for path, text in self.texts.items() if path.suffix == ".rt"}
+        self.lines = {line.strip() for text in self.code.values() for line in text.splitlines()}
+        self.words = set(ABROAD)
+        for path, text in self.texts.items():
+            self.words.update(WORD.findall(text), WORD.findall(str(path)))
+        self.entries = entries()
+
+    def expect(self, holds, page, *said):
+        if holds:
+            self.passed += 1
+        else:
+            self.failed += 1
+            print(f"failed: {page.relative_to(ROOT)}:", *said)
+
+    def is_path(self, text):
+        """Whether a file or a folder has this name: from the top, from docs/, or within crates, tests or examples."""
+        pattern = re.sub(r"\b[A-Z]+\b(?!\.md)", "*", text.strip("./") if text.startswith("./") else text.rstrip("/"))
+        starts = ("", "docs/", "crates/*/", "crates/*/src/", "crates/*/specs/", "crates/*/proofs/", "**/")
+        return any(next(ROOT.glob(start + pattern), None) for start in starts)
+
+    def is_item(self, owner, name):
+        """Whether the owner is declared, and the name stands in a file that declares it or implements for it."""
+        word = rf"\b{owner}\b"
+        if (ROOT / "crates" / owner).is_dir():
+            home = [text for path, text in self.texts.items() if path.parts[:2] == ("crates", owner)]
+        else:
+            owns = re.compile(rf"\b(?:struct|enum|trait|mod|type|impl\b[^{{;]*?)\s+{owner}\b")
+            home = [text for text in self.code.values() if owns.search(text)]
+        return any(re.search(rf"\b{name}\b", text) for text in home)
+
+    def is_word(self, word):
+        """Whether a word of a span names something."""
+        if word.startswith("_ITM_") and word not in ABROAD:
+            return any(it.startswith(word) for it in self.entries)
+        return word in self.words
+
+    def span(self, page, text):
+        paths = PATH.findall(text)
+        for it in paths:
+            self.expect(self.is_path(it), page, "there is no file", it, "in", text)
+        for owner, name in ITEM.findall(text):
+            self.expect(owner == "str" or self.is_item(owner, name), page, "there is no", f"{owner}::{name}")
+        words = [it for it in WORD.findall(PATH.sub(" ", text)) if not CAPITALS.fullmatch(it)]
+        lacking = [it for it in words if not self.is_word(it)]
+        self.expect(not lacking, page, "nothing is named", ", ".join(lacking), "in", text)
+
+    def left_out(self, page, text):
+        """What is listed as left out is no entry point, and is known from there on."""
+        named = set(re.findall(r"`(_ITM_\w+)`", text))
+        self.expect(named and not named & self.entries, page, "not left out:", *sorted(named & self.entries))
+        return named
+
+    def block(self, page, kind, text):
+        if kind == "rust":
+            lacking = [it for it in text.splitlines() if it.strip() and it.strip() not in self.lines]
+            self.expect(not lacking, page, "no source has the line", *lacking[:1])
+        elif not kind and page.name == "README.md":
+            files = [it for path, it in self.texts.items() if path.parts[0] == "examples"]
+            self.expect(text in files, page, "no example is", text.splitlines()[0], "..")
+
+    def page(self, page):
+        text = page.read_text()
+        for kind, block in BLOCK.findall(text):
+            self.block(page, kind, block)
+        text = BLOCK.sub("", text)
+        for link in LINK.findall(text):
+            self.expect((page.parent / link).exists(), page, "there is no page", link)
+        spans = SPAN.findall(text)
+        if page.name == "ABI.md":
+            abroad = self.left_out(page, text.split("\n## Left out\n", 1)[-1])
+            spans = [it for it in spans if it not in abroad]
+        for it in spans:
+            self.span(page, it)
+
+
+def main():
+    documents = Documents()
+    for page in PAGES:
+        documents.page(page)
+    print(f"{documents.passed} passed, {documents.failed} failed")
+    return 1 if documents.failed else 0
+
+
+if __name__ == "__main__":
+    sys.exit(main())
