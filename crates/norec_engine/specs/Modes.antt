@@ -1,11 +1,13 @@
 -- The engine in a transaction of either kind.
-use Rattle.std.specs.Prelude.{Bool, true, false}
+use Rattle.std.specs.Prelude.{◌≡◌, Bool, true, false}
 use Rattle.norec_core.specs.Core.{Core}
 use Rattle.norec_core.specs.declared.phase.Phase.{Phase}
 use Rattle.norec_data.specs.declared.data.Data.{Data}
 use Rattle.norec_data.specs.declared.turn.Turn.{Turn}
 use Rattle.norec_data.specs.declared.turn.Turn.TheVariants.{Wait, End, Enter}
-use Rattle.norec_data.specs.Turns.{data_after, phase_after}
+use Rattle.norec_data.specs.Turns.{data_after, next_of, pending_after, phase_after}
+use Rattle.norec_data.specs.declared.pending.Pending.{Pending}
+use Rattle.norec_core.specs.declared.answer.Next.{Next}
 use Rattle.norec_data.specs.View.{core, held}
 use Rattle.norec_revocable.specs.InPhases.{IsSound}
 use Rattle.norec_irrevocable.specs.Phases.{IsSoundHeld}
@@ -30,3 +32,10 @@ engine_after irrevocable turn d = engine_in (mode_after irrevocable turn) (data_
 
 abbrev pub IsSoundWith : Bool → Turn → Data → Type 0
 IsSoundWith irrevocable turn d = IsSoundIn (mode_after irrevocable turn) (data_after turn d) (phase_after turn d)
+
+-- a turn was taken: these fields are left, and this comes next
+pub record IsTaken (was : Bool) (turn : Turn) (old : Data) (what : Next) (new : Data) (p : Pending) (irrevocable : Bool) : Type 0 where
+  pub state : new ≡ data_after turn old
+  pub pending : p ≡ pending_after turn
+  pub mode : irrevocable ≡ mode_after was turn
+  pub next : what ≡ next_of turn old

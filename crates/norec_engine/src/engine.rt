@@ -1,16 +1,14 @@
 //! One thread's transactions over shared cells that someone else steps on.
 
-ghost use Rattle.std.specs.Prelude.{◌≡◌, ◌^◌, ◌<◌, ◌≤◌, IfOk, OnOk, OnErr, IsSome, true, IsTrue, ◌↔◌, is_some, false, []};
+ghost use Rattle.std.specs.Prelude.{◌≡◌, ◌^◌, ◌<◌, ◌≤◌, IsSome, true, IsTrue, ◌↔◌, is_some, false, []};
 ghost use Rattle.user_actions.specs.Actions.{total};
-ghost use Rattle.norec_core.specs.Core.{in_transaction, opening, came, handed, goes};
-ghost use Rattle.norec_core.specs.Order.{asked, log_after, snapshot_after, stage_after, stage_at, tries_after, tries_at};
-ghost use Rattle.norec_core.specs.Endings.{ending_at, ending_after, EndsSo};
-ghost use Rattle.norec_core.specs.Proceeds.{Proceeds, Joins, StaysOn, IsAtOnce, IsUndone, MayStarve, Fits, IsWithin, IsSettled};
-ghost use Rattle.norec_core.specs.Held.{ComesHeld, StepsHeld};
+ghost use Rattle.norec_core.specs.Core.{in_transaction, opening, goes};
+ghost use Rattle.norec_core.specs.Proceeds.{IsUndone, Fits};
 ghost use Rattle.norec_data.specs.View.{phase_of};
 ghost use Rattle.norec_engine.specs.Modes.{IsSoundIn};
 ghost use Rattle.norec_core.specs.Undoing.{undone_of, after_undoing};
-ghost use Rattle.norec_engine.specs.NextSteps.{next_in};
+ghost use Rattle.norec_engine.specs.NextSteps.{next_in, ComesInto};
+ghost use Rattle.norec_core.specs.Moves.{IsResumed};
 
 use crate::likely::Likely;
 use crate::turns::take;
@@ -120,21 +118,7 @@ impl Engine {
         answer: &mut Answer,
     ) -> Result<Option<Step>, AllocError>
         requires idle { self.old.waits ≡ None }
-        ensures proceeds { IfOk result (λ step. Proceeds (came self.old (Call.Begin props room) again) (next_in step answer.new) self.new) }
-        ensures at_once { IfOk result (λ step. IsAtOnce (next_in step answer.new)) }
-        ensures stays { OnOk result (StaysOn self.old self.new) }
-        ensures order { OnOk result (self.new.stage ≡ stage_at self.old (Call.Begin props room) again) }
-        ensures ends { IfOk result (λ step. EndsSo (ending_at self.old (Call.Begin props room)) (next_in step answer.new)) }
-        ensures tries { OnOk result (self.new.tries ≡ tries_at self.new.stage) }
-        ensures asks { OnOk result (self.new.waits ≡ asked self.new) }
-        ensures count { OnOk result (IsWithin self.new) }
-        ensures settled { OnOk result (IsSettled self.new) }
-        ensures err { OnErr result (self.new ≡ self.old) }
-        ensures starves { OnErr result (MayStarve self.old (Call.Begin props room)) }
-
-        // In an irrevocable transaction it comes to what the plain machine makes of it.
-        ensures held { self.old.irrevocable ≡ true
-            → IfOk result (λ step. ComesHeld self.old (Call.Begin props room) (next_in step answer.new) self.new) }
+        ensures { ComesInto self.old (Call.Begin props room) again result answer.new self.new }
     {
         let turn = if self.irrevocable {
             norec_irrevocable::called(&mut self.state, &Call::Begin { props, room })?
@@ -158,20 +142,7 @@ impl Engine {
         answer: &mut Answer,
     ) -> Result<Option<Step>, AllocError>
         requires idle { self.old.waits ≡ None }
-        ensures proceeds { IfOk result (λ step. Proceeds (came self.old call.now false) (next_in step answer.new) self.new) }
-        ensures at_once { IfOk result (λ step. IsAtOnce (next_in step answer.new)) }
-        ensures stays { OnOk result (StaysOn self.old self.new) }
-        ensures order { OnOk result (self.new.stage ≡ stage_at self.old call.now false) }
-        ensures ends { IfOk result (λ step. EndsSo (ending_at self.old call.now) (next_in step answer.new)) }
-        ensures tries { OnOk result (self.new.tries ≡ tries_at self.new.stage) }
-        ensures asks { OnOk result (self.new.waits ≡ asked self.new) }
-        ensures count { OnOk result (IsWithin self.new) }
-        ensures settled { OnOk result (IsSettled self.new) }
-        ensures err { OnErr result (self.new ≡ self.old) }
-        ensures starves { OnErr result (MayStarve self.old call.now) }
-
-        // In an irrevocable transaction it comes to what the plain machine makes of it.
-        ensures held { self.old.irrevocable ≡ true → IfOk result (λ step. ComesHeld self.old call.now (next_in step answer.new) self.new) }
+        ensures { ComesInto self.old call.now false result answer.new self.new }
     {
         let turn = if self.irrevocable {
             norec_irrevocable::called(&mut self.state, call)?
@@ -194,19 +165,7 @@ impl Engine {
     pub fn resume_into(&mut self, seen: u64, answer: &mut Answer) -> Option<Step>
         requires waits { IsSome self.old.waits }
         requires fits { Fits self.old seen }
-        ensures proceeds { Proceeds (handed self.old seen) (next_in result answer.new) self.new }
-        ensures joins { Joins self.old seen self.new }
-        ensures order { self.new.stage ≡ stage_after self.old seen }
-        ensures ends { EndsSo (ending_after self.old seen) (next_in result answer.new) }
-        ensures tries { self.new.tries ≡ tries_after self.new.stage self.old.tries }
-        ensures snapshot { self.new.snapshot ≡ snapshot_after self.old seen }
-        ensures log { in_transaction self.new ≡ true → self.new.log ≡ log_after self.old seen }
-        ensures asks { self.new.waits ≡ asked self.new }
-        ensures count { IsWithin self.new }
-        ensures settled { IsSettled self.new }
-
-        // In an irrevocable transaction it comes to what the call was to come to.
-        ensures held { self.old.irrevocable ≡ true → StepsHeld self.old seen (next_in result answer.new) self.new }
+        ensures { IsResumed self.old seen (next_in result answer.new) self.new }
     {
         match self.pending {
             Pending::Begin => self.resume_likely(Likely::Begin, seen, answer),
@@ -224,19 +183,7 @@ impl Engine {
     pub fn resume_apart(&mut self, seen: u64, answer: &mut Answer) -> Option<Step>
         requires waits { IsSome self.old.waits }
         requires fits { Fits self.old seen }
-        ensures proceeds { Proceeds (handed self.old seen) (next_in result answer.new) self.new }
-        ensures joins { Joins self.old seen self.new }
-        ensures order { self.new.stage ≡ stage_after self.old seen }
-        ensures ends { EndsSo (ending_after self.old seen) (next_in result answer.new) }
-        ensures tries { self.new.tries ≡ tries_after self.new.stage self.old.tries }
-        ensures snapshot { self.new.snapshot ≡ snapshot_after self.old seen }
-        ensures log { in_transaction self.new ≡ true → self.new.log ≡ log_after self.old seen }
-        ensures asks { self.new.waits ≡ asked self.new }
-        ensures count { IsWithin self.new }
-        ensures settled { IsSettled self.new }
-
-        // In an irrevocable transaction it comes to what the call was to come to.
-        ensures held { self.old.irrevocable ≡ true → StepsHeld self.old seen (next_in result answer.new) self.new }
+        ensures { IsResumed self.old seen (next_in result answer.new) self.new }
     {
         let turn = if self.irrevocable {
             norec_irrevocable::resumed(&mut self.state, self.pending, seen)

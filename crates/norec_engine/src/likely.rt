@@ -1,12 +1,11 @@
 //! Calls and steps that a driver does most often, made quick.
 
-ghost use Rattle.std.specs.Prelude.{◌≡◌, IfOk, OnOk, OnErr, IsSome, true, false, None};
-ghost use Rattle.norec_core.specs.Core.{in_transaction, came, handed};
-ghost use Rattle.norec_core.specs.Order.{asked, log_after, snapshot_after, stage_after, stage_at, tries_after, tries_at};
-ghost use Rattle.norec_core.specs.Endings.{ending_at, ending_after, EndsSo};
-ghost use Rattle.norec_core.specs.Proceeds.{Proceeds, Joins, StaysOn, IsAtOnce, MayStarve, Fits, IsWithin, IsSettled};
-ghost use Rattle.norec_core.specs.Held.{ComesHeld, StepsHeld};
-ghost use Rattle.norec_engine.specs.NextSteps.{next_in};
+ghost use Rattle.std.specs.Prelude.{◌≡◌, IsSome, true, false, None};
+ghost use Rattle.norec_core.specs.Order.{stage_after, stage_at};
+ghost use Rattle.norec_core.specs.Endings.{ending_after};
+ghost use Rattle.norec_core.specs.Proceeds.{Fits};
+ghost use Rattle.norec_engine.specs.NextSteps.{next_in, ComesInto};
+ghost use Rattle.norec_core.specs.Moves.{IsResumed};
 ghost use Rattle.norec_engine.specs.Foreseen.{Awaits, GoesOn};
 
 use crate::engine::Engine;
@@ -109,19 +108,7 @@ impl Engine {
         answer: &mut Answer,
     ) -> Result<Option<Step>, AllocError>
         requires idle { self.old.waits ≡ None }
-        ensures proceeds { IfOk result (λ step. Proceeds (came self.old (Call.Begin props room) again) (next_in step answer.new) self.new) }
-        ensures at_once { IfOk result (λ step. IsAtOnce (next_in step answer.new)) }
-        ensures stays { OnOk result (StaysOn self.old self.new) }
-        ensures order { OnOk result (self.new.stage ≡ stage_at self.old (Call.Begin props room) again) }
-        ensures ends { IfOk result (λ step. EndsSo (ending_at self.old (Call.Begin props room)) (next_in step answer.new)) }
-        ensures tries { OnOk result (self.new.tries ≡ tries_at self.new.stage) }
-        ensures asks { OnOk result (self.new.waits ≡ asked self.new) }
-        ensures count { OnOk result (IsWithin self.new) }
-        ensures settled { OnOk result (IsSettled self.new) }
-        ensures err { OnErr result (self.new ≡ self.old) }
-        ensures starves { OnErr result (MayStarve self.old (Call.Begin props room)) }
-        ensures held { self.old.irrevocable ≡ true
-            → IfOk result (λ step. ComesHeld self.old (Call.Begin props room) (next_in step answer.new) self.new) }
+        ensures { ComesInto self.old (Call.Begin props room) again result answer.new self.new }
     {
         if props.goes_irrevocable || self.state.is_open() {
             return self.begin_into(props, room, again, answer);
@@ -149,19 +136,7 @@ impl Engine {
         answer: &mut Answer,
     ) -> Result<Option<Step>, AllocError>
         requires idle { self.old.waits ≡ None }
-        ensures proceeds { IfOk result (λ step. Proceeds (came self.old (Call.Write hint at value.now) false) (next_in step answer.new) self.new) }
-        ensures at_once { IfOk result (λ step. IsAtOnce (next_in step answer.new)) }
-        ensures stays { OnOk result (StaysOn self.old self.new) }
-        ensures order { OnOk result (self.new.stage ≡ stage_at self.old (Call.Write hint at value.now) false) }
-        ensures ends { IfOk result (λ step. EndsSo (ending_at self.old (Call.Write hint at value.now)) (next_in step answer.new)) }
-        ensures tries { OnOk result (self.new.tries ≡ tries_at self.new.stage) }
-        ensures asks { OnOk result (self.new.waits ≡ asked self.new) }
-        ensures count { OnOk result (IsWithin self.new) }
-        ensures settled { OnOk result (IsSettled self.new) }
-        ensures err { OnErr result (self.new ≡ self.old) }
-        ensures starves { OnErr result (MayStarve self.old (Call.Write hint at value.now)) }
-        ensures held { self.old.irrevocable ≡ true
-            → IfOk result (λ step. ComesHeld self.old (Call.Write hint at value.now) (next_in step answer.new) self.new) }
+        ensures { ComesInto self.old (Call.Write hint at value.now) false result answer.new self.new }
     {
         if self.irrevocable {
             let value = copy_of(value);
@@ -181,19 +156,7 @@ impl Engine {
     #[inline(always)]
     pub fn commit_into(&mut self, answer: &mut Answer) -> Result<Option<Step>, AllocError>
         requires idle { self.old.waits ≡ None }
-        ensures proceeds { IfOk result (λ step. Proceeds (came self.old Call.Commit false) (next_in step answer.new) self.new) }
-        ensures at_once { IfOk result (λ step. IsAtOnce (next_in step answer.new)) }
-        ensures stays { OnOk result (StaysOn self.old self.new) }
-        ensures order { OnOk result (self.new.stage ≡ stage_at self.old Call.Commit false) }
-        ensures ends { IfOk result (λ step. EndsSo (ending_at self.old Call.Commit) (next_in step answer.new)) }
-        ensures tries { OnOk result (self.new.tries ≡ tries_at self.new.stage) }
-        ensures asks { OnOk result (self.new.waits ≡ asked self.new) }
-        ensures count { OnOk result (IsWithin self.new) }
-        ensures settled { OnOk result (IsSettled self.new) }
-        ensures err { OnErr result (self.new ≡ self.old) }
-        ensures starves { OnErr result (MayStarve self.old Call.Commit) }
-        ensures held { self.old.irrevocable ≡ true
-            → IfOk result (λ step. ComesHeld self.old Call.Commit (next_in step answer.new) self.new) }
+        ensures { ComesInto self.old Call.Commit false result answer.new self.new }
     {
         if self.irrevocable {
             return self.call_into(&Call::Commit, answer);
@@ -213,17 +176,7 @@ impl Engine {
     pub fn resume_likely(&mut self, likely: Likely, seen: u64, answer: &mut Answer) -> Option<Step>
         requires waits { IsSome self.old.waits }
         requires fits { Fits self.old seen }
-        ensures proceeds { Proceeds (handed self.old seen) (next_in result answer.new) self.new }
-        ensures joins { Joins self.old seen self.new }
-        ensures order { self.new.stage ≡ stage_after self.old seen }
-        ensures ends { EndsSo (ending_after self.old seen) (next_in result answer.new) }
-        ensures tries { self.new.tries ≡ tries_after self.new.stage self.old.tries }
-        ensures snapshot { self.new.snapshot ≡ snapshot_after self.old seen }
-        ensures log { in_transaction self.new ≡ true → self.new.log ≡ log_after self.old seen }
-        ensures asks { self.new.waits ≡ asked self.new }
-        ensures count { IsWithin self.new }
-        ensures settled { IsSettled self.new }
-        ensures held { self.old.irrevocable ≡ true → StepsHeld self.old seen (next_in result answer.new) self.new }
+        ensures { IsResumed self.old seen (next_in result answer.new) self.new }
     {
         if self.irrevocable {
             return self.resume_apart(seen, answer);

@@ -2,9 +2,9 @@
 
 ghost use Rattle.std.specs.Prelude.{◌≡◌, ◌+◌, ◌^◌, ◌<◌};
 ghost use Rattle.norec_data.specs.View.{phase_of, step_of as asked_step};
-ghost use Rattle.norec_data.specs.Turns.{counted, pending_after, data_after, next_of, Asked, IsWaiting};
+ghost use Rattle.norec_data.specs.Turns.{counted, Asked, IsWaiting};
 ghost use Rattle.norec_engine.specs.NextSteps.{next_in};
-ghost use Rattle.norec_engine.specs.Modes.{mode_after, IsSoundIn, IsSoundWith};
+ghost use Rattle.norec_engine.specs.Modes.{IsSoundIn, IsSoundWith, IsTaken};
 
 use itm_types::Step;
 use norec_core::Answer;
@@ -21,10 +21,7 @@ pub(crate) fn take(
 ) -> Option<Step>
     requires sound { IsSoundWith irrevocable.old turn state.old }
     requires asked { Asked turn }
-    ensures state { state.new ≡ data_after turn state.old }
-    ensures pending { pending.new ≡ pending_after turn }
-    ensures mode { irrevocable.new ≡ mode_after irrevocable.old turn }
-    ensures next { next_in result answer.new ≡ next_of turn state.old }
+    ensures { IsTaken irrevocable.old turn state.old (next_in result answer.new) state.new pending.new irrevocable.new }
 {
     match turn {
         Turn::Wait(next) => {

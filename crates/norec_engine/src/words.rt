@@ -1,11 +1,8 @@
 //! Reads of one whole word that is neither written nor logged, made quick: the word and the clock are loaded one right
 //! after the other, and then handed in.
 
-ghost use Rattle.std.specs.Prelude.{◌≡◌, ◌+◌, ◌<◌, ◌≤◌, ℕ, IfSome, IfNone, OnSome, None, false};
-ghost use Rattle.norec_core.specs.Core.{came, handed};
-ghost use Rattle.norec_core.specs.Order.{asked, stage_after, stage_at, tries_after, tries_at};
-ghost use Rattle.norec_core.specs.Endings.{ending_after, EndsSo};
-ghost use Rattle.norec_core.specs.Proceeds.{Proceeds, Joins, StaysOn, IsWithin, IsSettled};
+ghost use Rattle.std.specs.Prelude.{◌≡◌, ◌+◌, ◌<◌, ℕ, IfSome, IfNone, OnSome, None, false};
+ghost use Rattle.norec_core.specs.Moves.{IsCalled, IsResumed};
 ghost use Rattle.norec_engine.specs.WholeReads.{LoadsWord, ConfirmsWord};
 ghost use Rattle.norec_core.specs.declared.answer.Next.TheVariants.{Step as Asks, Answer as Answers};
 
@@ -23,13 +20,7 @@ impl Engine {
     pub fn read_word(&mut self, hint: ReadHint, width: Width, at: u64) -> Option<u32>
         requires idle { self.old.waits ≡ None }
         ensures none { IfNone result (self.new ≡ self.old) }
-        ensures proceeds { IfSome result (λ word. Proceeds (came self.old (Call.Read hint width at) false) (Asks (Step.Load (word + 1))) self.new) }
-        ensures stays { OnSome result (StaysOn self.old self.new) }
-        ensures order { OnSome result (self.new.stage ≡ stage_at self.old (Call.Read hint width at) false) }
-        ensures tries { OnSome result (self.new.tries ≡ tries_at self.new.stage) }
-        ensures asks { OnSome result (self.new.waits ≡ asked self.new) }
-        ensures count { OnSome result (IsWithin self.new) }
-        ensures settled { OnSome result (IsSettled self.new) }
+        ensures called { IfSome result (λ word. IsCalled self.old (Call.Read hint width at) false (Asks (Step.Load (word + 1))) self.new) }
         ensures revocable { OnSome result (self.old.irrevocable ≡ false) }
         ensures loads { IfSome result (LoadsWord self.new) }
     {
@@ -46,13 +37,7 @@ impl Engine {
     #[inline(always)]
     pub fn word_loaded(&mut self, value: u64)
         requires loads { (word : ℕ) × LoadsWord self.old word }
-        ensures proceeds { Proceeds (handed self.old value) (Asks (Step.Load 0)) self.new }
-        ensures joins { Joins self.old value self.new }
-        ensures order { self.new.stage ≡ stage_after self.old value }
-        ensures tries { self.new.tries ≡ tries_after self.new.stage self.old.tries }
-        ensures asks { self.new.waits ≡ asked self.new }
-        ensures count { IsWithin self.new }
-        ensures settled { IsSettled self.new }
+        ensures resumed { IsResumed self.old value (Asks (Step.Load 0)) self.new }
         ensures confirms { (word : ℕ) → LoadsWord self.old word → ConfirmsWord self.new word }
     {
         let Pending::Load = self.pending else {
@@ -71,14 +56,7 @@ impl Engine {
     pub fn word_confirmed(&mut self, word: u32, clock: u64, answer: &mut Answer)
         requires confirms { ConfirmsWord self.old word }
         requires same { clock ≡ self.old.snapshot }
-        ensures proceeds { Proceeds (handed self.old clock) (Answers answer.new) self.new }
-        ensures joins { Joins self.old clock self.new }
-        ensures order { self.new.stage ≡ stage_after self.old clock }
-        ensures ends { EndsSo (ending_after self.old clock) (Answers answer.new) }
-        ensures tries { self.new.tries ≡ tries_after self.new.stage self.old.tries }
-        ensures asks { self.new.waits ≡ asked self.new }
-        ensures count { IsWithin self.new }
-        ensures settled { IsSettled self.new }
+        ensures { IsResumed self.old clock (Answers answer.new) self.new }
     {
         let Pending::Confirm(value) = self.pending else {
             unreachable!();

@@ -1,3 +1,4 @@
 pub mod InPhases
 pub mod Between
 pub mod WholeReads
+pub mod Moves

@@ -1,19 +1,20 @@
 //! Begins of blocks.
 
-ghost use Rattle.std.specs.Prelude.{◌≡◌, ◌<◌, ◌≤◌, ◌∷◌, [], true, nat_lt, length, if◌then◌else◌, IfOk, IfNone, OnOk, OnErr};
+ghost use Rattle.std.specs.Prelude.{◌≡◌, ◌<◌, ◌≤◌, ◌∷◌, [], true, if◌then◌else◌, IfOk, OnOk, OnErr};
 ghost use Rattle.user_actions.specs.Actions.{no_actions};
 ghost use Rattle.nest_frames.specs.Nest.{begun};
-ghost use Rattle.norec_data.specs.View.{in_block, core};
+ghost use Rattle.norec_data.specs.View.{core};
 ghost use Rattle.norec_revocable.specs.InPhases.{IsSound};
 ghost use Rattle.norec_data.specs.Bounds.{IsOutside};
+ghost use Rattle.norec_revocable.specs.Moves.{StepTurns};
 ghost use Rattle.norec_revocable.specs.Between.{IsSoundTurn};
 ghost use Rattle.norec_data.specs.Ends.{answer_of};
 ghost use Rattle.norec_data.specs.declared.data.Data.{Data};
 ghost use Rattle.norec_data.specs.Turns.{core_after, phase_after, Turns, TurnEndsSo, Stays};
-ghost use Rattle.norec_core.specs.Core.{came, handed, may_go};
-ghost use Rattle.norec_core.specs.Order.{log_after, snapshot_after, stage_after, stage_at, tries_after, tries_at};
-ghost use Rattle.norec_core.specs.Endings.{ending_at, ending_after};
-ghost use Rattle.norec_core.specs.Proceeds.{Joins, MayStarve};
+ghost use Rattle.norec_core.specs.Core.{came};
+ghost use Rattle.norec_core.specs.Order.{stage_at, tries_at};
+ghost use Rattle.norec_core.specs.Endings.{ending_at};
+ghost use Rattle.norec_core.specs.Proceeds.{MayStarve};
 
 use crate::commits::exchange;
 use itm_types::{Call, Props, Reply};
@@ -75,15 +76,7 @@ fn reserve_room(frames: &mut Frames, props: Props, room: u32) -> Result<(), Allo
 pub(crate) fn begin_seen(state: &mut Data, seen: u64) -> Turn
     requires sound { IsSound state.old (Phase.Begin state.old.opening) }
     requires fits { state.old.clock ≤ seen }
-    ensures sound { IsSoundTurn result state.new }
-    ensures proceeds { Turns (handed (core state.old (Phase.Begin state.old.opening)) seen) result state.new }
-    ensures joins { Joins (core state.old (Phase.Begin state.old.opening)) seen (core_after result state.new) }
-    ensures order { phase_after result state.new ≡ stage_after (core state.old (Phase.Begin state.old.opening)) seen }
-    ensures ends { TurnEndsSo (ending_after (core state.old (Phase.Begin state.old.opening)) seen) result state.new }
-    ensures snapshot { state.new.snapshot ≡ snapshot_after (core state.old (Phase.Begin state.old.opening)) seen }
-    ensures log { in_block state.new ≡ true
-        → state.new.log.rows ≡ log_after (core state.old (Phase.Begin state.old.opening)) seen }
-    ensures tries { (core_after result state.new).tries ≡ tries_after (phase_after result state.new) state.old.tries }
+    ensures { StepTurns state.old (Phase.Begin state.old.opening) seen result state.new }
 {
     let opening = state.opening;
     state.clock = seen;
@@ -110,15 +103,7 @@ pub(crate) fn begin_seen(state: &mut Data, seen: u64) -> Turn
 pub(crate) fn begin_taken(state: &mut Data, seen: u64) -> Turn
     requires sound { IsSound state.old (Phase.Take state.old.opening) }
     requires fits { state.old.clock ≤ seen }
-    ensures sound { IsSoundTurn result state.new }
-    ensures proceeds { Turns (handed (core state.old (Phase.Take state.old.opening)) seen) result state.new }
-    ensures joins { Joins (core state.old (Phase.Take state.old.opening)) seen (core_after result state.new) }
-    ensures order { phase_after result state.new ≡ stage_after (core state.old (Phase.Take state.old.opening)) seen }
-    ensures ends { TurnEndsSo (ending_after (core state.old (Phase.Take state.old.opening)) seen) result state.new }
-    ensures snapshot { state.new.snapshot ≡ snapshot_after (core state.old (Phase.Take state.old.opening)) seen }
-    ensures log { in_block state.new ≡ true
-        → state.new.log.rows ≡ log_after (core state.old (Phase.Take state.old.opening)) seen }
-    ensures tries { (core_after result state.new).tries ≡ tries_after (phase_after result state.new) state.old.tries }
+    ensures { StepTurns state.old (Phase.Take state.old.opening) seen result state.new }
 {
     let opening = state.opening;
     state.clock = seen;

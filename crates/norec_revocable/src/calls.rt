@@ -1,14 +1,15 @@
 //! The calls of a transaction that may be tried again, and the values that its steps find.
 
-ghost use Rattle.std.specs.Prelude.{◌≡◌, IfOk, OnOk, OnErr, IsSome, true, false};
-ghost use Rattle.norec_core.specs.Core.{came, handed};
-ghost use Rattle.norec_core.specs.Order.{log_after, snapshot_after, stage_after, stage_at, tries_after, tries_at};
-ghost use Rattle.norec_core.specs.Endings.{ending_at, ending_after};
-ghost use Rattle.norec_core.specs.Proceeds.{Joins, MayStarve, Fits};
-ghost use Rattle.norec_data.specs.View.{in_block, core, phase_of, waits_of};
+ghost use Rattle.std.specs.Prelude.{◌≡◌, IfOk, OnOk, OnErr, IsSome, false};
+ghost use Rattle.norec_core.specs.Core.{came};
+ghost use Rattle.norec_core.specs.Order.{stage_at, tries_at};
+ghost use Rattle.norec_core.specs.Endings.{ending_at};
+ghost use Rattle.norec_core.specs.Proceeds.{MayStarve, Fits};
+ghost use Rattle.norec_data.specs.View.{core, phase_of, waits_of};
 ghost use Rattle.norec_data.specs.Turns.{core_after, phase_after, Turns, TurnEndsSo, Stays};
 ghost use Rattle.norec_revocable.specs.InPhases.{IsSound};
 ghost use Rattle.norec_revocable.specs.Between.{IsSoundTurn};
+ghost use Rattle.norec_revocable.specs.Moves.{StepTurns};
 
 use crate::abort::abort;
 use crate::begins::{begin, begin_seen, begin_taken};
@@ -31,15 +32,7 @@ pub fn resumed(state: &mut Data, pending: Pending, seen: u64) -> Turn
     requires sound { IsSound state.old (phase_of state.old pending) }
     requires waits { IsSome (waits_of state.old (phase_of state.old pending)) }
     requires fits { Fits (core state.old (phase_of state.old pending)) seen }
-    ensures sound { IsSoundTurn result state.new }
-    ensures proceeds { Turns (handed (core state.old (phase_of state.old pending)) seen) result state.new }
-    ensures joins { Joins (core state.old (phase_of state.old pending)) seen (core_after result state.new) }
-    ensures order { phase_after result state.new ≡ stage_after (core state.old (phase_of state.old pending)) seen }
-    ensures ends { TurnEndsSo (ending_after (core state.old (phase_of state.old pending)) seen) result state.new }
-    ensures tries { (core_after result state.new).tries ≡ tries_after (phase_after result state.new)
-        (core state.old (phase_of state.old pending)).tries }
-    ensures snapshot { state.new.snapshot ≡ snapshot_after (core state.old (phase_of state.old pending)) seen }
-    ensures log { in_block state.new ≡ true → state.new.log.rows ≡ log_after (core state.old (phase_of state.old pending)) seen }
+    ensures { StepTurns state.old (phase_of state.old pending) seen result state.new }
 {
     match pending {
         Pending::Idle => unreachable!(),

@@ -1,8 +1,9 @@
 //! Commits: the clock is taken, the write set is stored in the order of first writing, and the clock is freed.
 
-ghost use Rattle.std.specs.Prelude.{◌≡◌, ◌≤◌, ◌/◌, length, ℕ, false, None, Some};
+ghost use Rattle.std.specs.Prelude.{◌≡◌, ◌≤◌, ◌/◌, ℕ, false, None, Some};
 ghost use Rattle.norec_data.specs.View.{core};
 ghost use Rattle.norec_revocable.specs.InPhases.{IsSound};
+ghost use Rattle.norec_revocable.specs.Moves.{StepGoesTo};
 ghost use Rattle.norec_revocable.specs.Between.{between, moved, in_stores, IsSoundTurn, StaysBy, MayExchange, InStores};
 ghost use Rattle.norec_data.specs.Turns.{core_after, phase_after, Turns, TurnEndsSo, Stays};
 ghost use Rattle.norec_core.specs.Core.{came, handed};
@@ -117,12 +118,7 @@ fn next_store(state: &mut Data, row: usize) -> Turn
 /// The word of a row was loaded, to be stored with the row's part of it.
 pub(crate) fn back_loaded(state: &mut Data, row: usize, seen: u64) -> Turn
     requires sound { IsSound state.old (Phase.BackLoad state.old.taking row) }
-    ensures sound { IsSoundTurn result state.new }
-    ensures proceeds { Turns (handed (core state.old (Phase.BackLoad state.old.taking row)) seen) result state.new }
-    ensures stays { Stays state.old state.new }
-    ensures order { phase_after result state.new ≡ stage_after (core state.old (Phase.BackLoad state.old.taking row)) seen }
-    ensures ends { TurnEndsSo (ending_after (core state.old (Phase.BackLoad state.old.taking row)) seen) result state.new }
-    ensures tries { (core_after result state.new).tries ≡ tries_after (phase_after result state.new) state.old.tries }
+    ensures { StepGoesTo state.old (Phase.BackLoad state.old.taking row) seen result state.new }
 {
     state.got = Some(seen);
     Turn::Wait(Pending::Store(row))
@@ -147,12 +143,7 @@ pub(crate) fn stored(state: &mut Data, row: usize) -> Turn
 #[inline(always)]
 pub(crate) fn freed(state: &mut Data) -> Turn
     requires sound { IsSound state.old Phase.Free }
-    ensures sound { IsSoundTurn result state.new }
-    ensures proceeds { Turns (handed (core state.old Phase.Free) 0) result state.new }
-    ensures stays { Stays state.old state.new }
-    ensures order { phase_after result state.new ≡ stage_after (core state.old Phase.Free) 0 }
-    ensures ends { TurnEndsSo (ending_after (core state.old Phase.Free) 0) result state.new }
-    ensures tries { (core_after result state.new).tries ≡ tries_after (phase_after result state.new) state.old.tries }
+    ensures { StepGoesTo state.old Phase.Free 0 result state.new }
 {
     state.clock = state.snapshot + 2;
     finish(state);

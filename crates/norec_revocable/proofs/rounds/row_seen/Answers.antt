@@ -1,8 +1,9 @@
-use Rattle.std.proofs.Common.{◌≡◌, ◌==◌, ◌+◌, Bool, Some, List, arith, refl, sym, ap, subst, ◌∙◌, eq-eqb, take, ◌∷◌, [], ◌++◌}
+use Rattle.std.proofs.Common.{◌≡◌, ◌==◌, ◌+◌, Bool, Some, List, arith, refl, rules, sym, ap, subst, ◌∙◌, eq-eqb, take, ◌∷◌, [], ◌++◌}
 use Rattle.std.proofs.lemmas.Bool.{cond-true, cond-false, ne_eqb}
 use Rattle.std.proofs.lemmas.List.{take_more}
 use Rattle.std.proofs.lemmas.Option.{get_or_from_slice_get}
 use Rattle.itm_types.specs.declared.row.LogRow.{LogRow}
+use Rattle.norec_core.specs.declared.answer.Answer.TheVariants.{Conflict}
 use Rattle.norec_core.specs.declared.phase.Phase.TheVariants.{Idle, RoundRow}
 use Rattle.norec_core.specs.Core.{handed}
 use Rattle.norec_core.specs.Proceeds.{ConflictsIn}
@@ -14,52 +15,57 @@ use Rattle.norec_revocable.proofs.Ended.{ended_undone}
 use Rattle.norec_data.proofs.Ended.{core_ended}
 use Rattle.norec_revocable.proofs.rounds.row_seen.Goals as goal
 
-pub returns-then-logged-seen-clause-proceeds : goal.returns-then-logged-seen-clause-proceeds
-returns-then-logged-seen-clause-proceeds c =
-    let s = c.args.state.now in
-    let log = s.log.rows in
-    let here : row_at log c.args.row ≡ c.row-logged.result = get_or_from_slice_get log c.args.row c.row-logged.result _ c.row-logged.ensures in
-    let value = ap (λ (r : LogRow). r.value) here ∙ c.if-logged-seen.true in
-    let seen : row_at log c.args.row ≡ record { word = (row_at log c.args.row).word; value = c.args.seen } = λ i. record { word = (row_at log c.args.row).word; value = value i } in
-    let fresh = take_more log c.args.row (record { word = 0; value = 0 }) c.requires.sound.in_phase.2 ∙ ap (λ (r : LogRow). take c.args.row log ++ r ∷ []) seen in
-    subst (λ (rows : List LogRow). Turns (record (in_rows s (aim_of c.args.state.now) (c.args.row + 1)) { fresh = rows }) c.next_row.result c.next_row.new.state) fresh c.next_row.ensures.proceeds
+pub returns-then-logged-seen : goal.returns-then-logged-seen
+returns-then-logged-seen c = record {
+  sound = search rules;
+  proceeds = (let s = c.args.state.now in
+      let log = s.log.rows in
+      let here : row_at log c.args.row ≡ c.row-logged.result = get_or_from_slice_get log c.args.row c.row-logged.result _ c.row-logged.ensures in
+      let value = ap (λ (r : LogRow). r.value) here ∙ c.if-logged-seen.true in
+      let seen : row_at log c.args.row ≡ record { word = (row_at log c.args.row).word; value = c.args.seen } = λ i. record { word = (row_at log c.args.row).word; value = value i } in
+      let fresh = take_more log c.args.row (record { word = 0; value = 0 }) c.requires.sound.in_phase.2 ∙ ap (λ (r : LogRow). take c.args.row log ++ r ∷ []) seen in
+      subst (λ (rows : List LogRow). Turns (record (in_rows s (aim_of c.args.state.now) (c.args.row + 1)) { fresh = rows }) c.next_row.result c.next_row.new.state) fresh c.next_row.ensures.goes.proceeds);
+  stays = search rules;
+  order = (let row = row_at c.args.state.now.log.rows c.args.row in
+      let here : row ≡ c.row-logged.result = get_or_from_slice_get c.args.state.now.log.rows c.args.row c.row-logged.result _ c.row-logged.ensures in
+      c.next_row.ensures.goes.order ∙ sym (cond-true (row.value == c.args.seen) _ _ (eq-eqb row.value c.args.seen (ap (λ (r : LogRow). r.value) here ∙ c.if-logged-seen.true))));
+  ends = search (rules, c.next_row.ensures.waits);
+  tries = search rules;
+}
 
-pub returns-then-logged-seen-clause-order : goal.returns-then-logged-seen-clause-order
-returns-then-logged-seen-clause-order c =
-    let row = row_at c.args.state.now.log.rows c.args.row in
-    let here : row ≡ c.row-logged.result = get_or_from_slice_get c.args.state.now.log.rows c.args.row c.row-logged.result _ c.row-logged.ensures in
-    c.next_row.ensures.order ∙ sym (cond-true (row.value == c.args.seen) _ _ (eq-eqb row.value c.args.seen (ap (λ (r : LogRow). r.value) here ∙ c.if-logged-seen.true)))
-
-pub returns-else-logged-seen-clause-proceeds : goal.returns-else-logged-seen-clause-proceeds
-returns-else-logged-seen-clause-proceeds c =
-    let log = c.args.state.now.log.rows in
-    let logged = c.row-logged.result in
-    let here : row_at log c.args.row ≡ logged = get_or_from_slice_get log c.args.row logged _ c.row-logged.ensures in
-    let s = c.args.state.now in
-    subst (λ (b : Bool). ConflictsIn b (handed (core s (RoundRow (aim_of c.args.state.now) c.args.row)) c.args.seen) c.roll_back.new.state.clock (Some logged.word) (core c.roll_back.new.state Idle)) (sym c.requires.sound.in_phase.0.is_open.is_open) (record {
-      is_open = c.requires.sound.in_phase.0.is_open.is_open;
-      clock_is = c.roll_back.ensures.ended.clock;
-      later = omega (arith, c.requires.sound.in_phase.0.later, c.roll_back.ensures.ended.clock);
-      word_is = (
-        take c.args.row log,
-        c.args.seen,
-        logged,
-        c.args.row,
-        ap (λ (r : LogRow). take c.args.row log ++ record { word = r.word; value = c.args.seen } ∷ []) here,
-        c.row-logged.ensures,
-        refl,
-        c.if-logged-seen.false,
-      );
-      free = refl;
-      unfreed = refl;
-      stays = core_ended _ _ _ _ c.roll_back.ensures.ended;
-      undone =
-          ended_undone (handed (core c.args.state.now (RoundRow (aim_of c.args.state.now) c.args.row)) c.args.seen) (core c.roll_back.new.state Idle) Idle 0 c.args.state.now.snapshot
-          c.requires.sound.in_phase.0.is_open.frames c.roll_back.ensures.restored refl c.requires.sound.in_phase.0.is_open.is_open (core_ended _ _ _ _ c.roll_back.ensures.ended);
-    })
-
-pub returns-else-logged-seen-clause-order : goal.returns-else-logged-seen-clause-order
-returns-else-logged-seen-clause-order c =
-    let row = row_at c.args.state.now.log.rows c.args.row in
-    let here : row ≡ c.row-logged.result = get_or_from_slice_get c.args.state.now.log.rows c.args.row c.row-logged.result _ c.row-logged.ensures in
-    sym (cond-false (row.value == c.args.seen) _ _ (ne_eqb row.value c.args.seen (λ e. c.if-logged-seen.false (sym (ap (λ (r : LogRow). r.value) here) ∙ e))))
+pub returns-else-logged-seen : goal.returns-else-logged-seen
+returns-else-logged-seen c = record {
+  sound = search rules;
+  proceeds = (let log = c.args.state.now.log.rows in
+      let logged = c.row-logged.result in
+      let here : row_at log c.args.row ≡ logged = get_or_from_slice_get log c.args.row logged _ c.row-logged.ensures in
+      let s = c.args.state.now in
+      subst (λ (b : Bool). ConflictsIn b (handed (core s (RoundRow (aim_of c.args.state.now) c.args.row)) c.args.seen) c.roll_back.new.state.clock (Some logged.word) (core c.roll_back.new.state Idle)) (sym c.requires.sound.in_phase.0.is_open.is_open) (record {
+        is_open = c.requires.sound.in_phase.0.is_open.is_open;
+        clock_is = c.roll_back.ensures.ended.clock;
+        later = omega (arith, c.requires.sound.in_phase.0.later, c.roll_back.ensures.ended.clock);
+        word_is = (
+          take c.args.row log,
+          c.args.seen,
+          logged,
+          c.args.row,
+          ap (λ (r : LogRow). take c.args.row log ++ record { word = r.word; value = c.args.seen } ∷ []) here,
+          c.row-logged.ensures,
+          refl,
+          c.if-logged-seen.false,
+        );
+        free = refl;
+        unfreed = refl;
+        stays = core_ended _ _ _ _ c.roll_back.ensures.ended;
+        undone =
+            ended_undone (handed (core c.args.state.now (RoundRow (aim_of c.args.state.now) c.args.row)) c.args.seen) (core c.roll_back.new.state Idle) Idle 0 c.args.state.now.snapshot
+            c.requires.sound.in_phase.0.is_open.frames c.roll_back.ensures.restored refl c.requires.sound.in_phase.0.is_open.is_open (core_ended _ _ _ _ c.roll_back.ensures.ended);
+      }));
+  stays = search rules;
+  order = (let row = row_at c.args.state.now.log.rows c.args.row in
+      let here : row ≡ c.row-logged.result = get_or_from_slice_get c.args.state.now.log.rows c.args.row c.row-logged.result _ c.row-logged.ensures in
+      sym (cond-false (row.value == c.args.seen) _ _ (ne_eqb row.value c.args.seen (λ e. c.if-logged-seen.false (sym (ap (λ (r : LogRow). r.value) here) ∙ e)))));
+  ends = (let here : row_at c.args.state.now.log.rows c.args.row ≡ c.row-logged.result = get_or_from_slice_get c.args.state.now.log.rows c.args.row c.row-logged.result _ c.row-logged.ensures in
+      λ i. Conflict (c.roll_back.ensures.ended.clock i) (Some (sym here i).word));
+  tries = search rules;
+}

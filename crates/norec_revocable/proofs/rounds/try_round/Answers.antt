@@ -1,4 +1,4 @@
-use Rattle.std.proofs.Common.{Bool, None, arith, refl, subst, sym}
+use Rattle.std.proofs.Common.{Bool, None, arith, refl, rules, subst, sym}
 use Rattle.norec_core.specs.Proceeds.{ConflictsIn}
 use Rattle.norec_core.specs.declared.phase.Phase.TheVariants.{Idle}
 use Rattle.norec_data.specs.View.{aim_for, core}
@@ -7,18 +7,25 @@ use Rattle.norec_revocable.proofs.Ended.{ended_undone}
 use Rattle.norec_data.proofs.Ended.{core_ended}
 use Rattle.norec_revocable.proofs.rounds.try_round.Goals as goal
 
-pub returns-else-state-clause-proceeds : goal.returns-else-state-clause-proceeds
-returns-else-state-clause-proceeds c =
-    let s = c.args.state.now in
-    let may = c.requires.may in
-    let ended = core_ended _ _ _ _ c.roll_back.ensures.ended in
-    subst (λ (b : Bool). ConflictsIn b (between s (aim_for c.args.cause s.reading s.taking)) c.roll_back.new.state.clock None (core c.roll_back.new.state Idle)) (sym may.is_open.is_open) (record {
-      is_open = may.is_open.is_open;
-      clock_is = c.roll_back.ensures.ended.clock;
-      later = omega (arith, may.later, c.roll_back.ensures.ended.clock);
-      word_is = refl;
-      free = refl;
-      unfreed = refl;
-      stays = ended;
-      undone = ended_undone (between s (aim_for c.args.cause s.reading s.taking)) (core c.roll_back.new.state Idle) Idle 0 s.snapshot may.is_open.frames c.roll_back.ensures.restored refl may.is_open.is_open ended;
-    })
+pub returns-else-state : goal.returns-else-state
+returns-else-state c = record {
+  sound = search rules;
+  proceeds =
+      (let s = c.args.state.now in
+      let may = c.requires.may in
+      let ended = core_ended _ _ _ _ c.roll_back.ensures.ended in
+      subst (λ (b : Bool). ConflictsIn b (between s (aim_for c.args.cause s.reading s.taking)) c.roll_back.new.state.clock None (core c.roll_back.new.state Idle)) (sym may.is_open.is_open) (record {
+        is_open = may.is_open.is_open;
+        clock_is = c.roll_back.ensures.ended.clock;
+        later = omega (arith, may.later, c.roll_back.ensures.ended.clock);
+        word_is = refl;
+        free = refl;
+        unfreed = refl;
+        stays = ended;
+        undone = ended_undone (between s (aim_for c.args.cause s.reading s.taking)) (core c.roll_back.new.state Idle) Idle 0 s.snapshot may.is_open.frames c.roll_back.ensures.restored refl may.is_open.is_open ended;
+      }));
+  stays = search rules;
+  order = search rules;
+  ends = search rules;
+  tries = search rules;
+}

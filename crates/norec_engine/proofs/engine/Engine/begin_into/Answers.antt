@@ -1,7 +1,18 @@
 use Rattle.std.proofs.Common.{rules}
 use Rattle.norec_data.specs.View.{phase_of}
-use Rattle.norec_engine.proofs.Settled.{settled_in}
+use Rattle.norec_engine.proofs.Settled.{counts_in, settled_in}
 use Rattle.norec_engine.proofs.engine.Engine.begin_into.Goals as goal
 
-pub returns-clause-settled : goal.returns-clause-settled
-returns-clause-settled c = settled_in c.take.new.irrevocable c.take.new.state (phase_of c.take.new.state c.take.new.pending) (search rules)
+pub returns : goal.returns
+returns c = record {
+  proceeds = search rules;
+  at_once = search rules;
+  stays = search rules;
+  order = search rules;
+  ends = search rules;
+  tries = search rules;
+  asks = search rules;
+  count = counts_in c.take.new.irrevocable c.take.new.state (phase_of c.take.new.state c.take.new.pending) (search rules);
+  settled = settled_in c.take.new.irrevocable c.take.new.state (phase_of c.take.new.state c.take.new.pending) (search rules);
+  held = search rules;
+}

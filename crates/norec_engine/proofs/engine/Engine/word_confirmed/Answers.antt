@@ -3,5 +3,17 @@ use Rattle.norec_core.specs.declared.phase.Phase.TheVariants.{Idle}
 use Rattle.norec_engine.proofs.Settled.{settled_in}
 use Rattle.norec_engine.proofs.engine.Engine.word_confirmed.Goals as goal
 
-pub returns-clause-settled : goal.returns-clause-settled
-returns-clause-settled c = settled_in c.self.inside.irrevocable c.tell.new.state Idle (search rules)
+pub returns : goal.returns
+returns c = record {
+  proceeds = search rules;
+  joins = search rules;
+  order = search rules;
+  ends = search rules;
+  tries = search rules;
+  snapshot = search rules;
+  log = search rules;
+  asks = search rules;
+  count = search rules;
+  settled = settled_in c.self.inside.irrevocable c.tell.new.state Idle (search rules);
+  held = λ h. (let r = c.requires.confirms.revocable in absurd (cc));
+}

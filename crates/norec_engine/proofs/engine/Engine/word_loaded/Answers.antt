@@ -8,11 +8,20 @@ use Rattle.norec_engine.proofs.Settled.{counts_in, settled_in}
 use Rattle.norec_engine.proofs.WholeReads.{confirms, mode_is, same_load, same_wait, stage_is}
 use Rattle.norec_engine.proofs.engine.Engine.word_loaded.Goals as goal
 
-pub returns-clause-count : goal.returns-clause-count
-returns-clause-count c = counts_in c.self.inside.irrevocable (counted c.loaded.new.state) (phase_of (counted c.loaded.new.state) c.in-Wait.next) (search rules)
-
-pub returns-clause-settled : goal.returns-clause-settled
-returns-clause-settled c = settled_in c.self.inside.irrevocable (counted c.loaded.new.state) (phase_of (counted c.loaded.new.state) c.in-Wait.next) (search rules)
+pub returns-clause-resumed : goal.returns-clause-resumed
+returns-clause-resumed c = record {
+  proceeds = search rules;
+  joins = search rules;
+  order = search rules;
+  ends = tt;
+  tries = search rules;
+  snapshot = search rules;
+  log = search rules;
+  asks = search rules;
+  count = counts_in c.self.inside.irrevocable (counted c.loaded.new.state) (phase_of (counted c.loaded.new.state) c.in-Wait.next) (search rules);
+  settled = settled_in c.self.inside.irrevocable (counted c.loaded.new.state) (phase_of (counted c.loaded.new.state) c.in-Wait.next) (search rules);
+  held = λ h. (let r = c.requires.loads.1.revocable in absurd (cc));
+}
 
 pub returns-clause-confirms : goal.returns-clause-confirms
 returns-clause-confirms c word l =

@@ -1,23 +1,18 @@
-use Rattle.std.proofs.Common.{rules, Bool, sym, ap, subst, ◌∙◌}
-use Rattle.norec_core.specs.Core.{Core}
-use Rattle.norec_core.specs.Proceeds.{StaysOn}
-use Rattle.norec_data.specs.View.{core, phase_of}
-use Rattle.norec_engine.specs.Modes.{mode_after}
-use Rattle.norec_engine.proofs.RevocableTurns.{left, stays_on}
-use Rattle.norec_engine.proofs.Settled.{counts_in, settled_in}
+use Rattle.itm_types.specs.declared.call.Call.TheVariants.{Write}
+use Rattle.std.proofs.Common.{false}
+use Rattle.std.proofs.lemmas.Result.{err_from_is_err_and}
+use Rattle.norec_engine.proofs.RevocableTurns.{called_in, starved}
 use Rattle.norec_engine.proofs.engine.Engine.write_into.Goals as goal
 
-pub returns-clause-stays : goal.returns-clause-stays
-returns-clause-stays c =
-    let s = c.self.inside.state in
-    let p = c.self.inside.pending in
-    let turn = c.in_ok-turn.turn in
-    let idle = rw c.if-self.false at (ap (λ (e : Core). e.waits) c.self.view_is ∙ c.requires.idle) in
-    let new = left turn c.write.new.state c.take.new.state c.take.new.pending c.take.new.irrevocable c.take.ensures.state c.take.ensures.pending (c.take.ensures.mode ∙ ap (λ (b : Bool). mode_after b turn) c.if-self.false) in
-    rw (← c.self.view_is) (rw c.if-self.false (subst (StaysOn (core s (phase_of s p))) (sym new) (stays_on s p turn c.write.new.state idle c.in_ok-turn.ensures.stays)))
+pub returns : goal.returns
+returns c =
+    let s = c.self.inside in
+    let e = c.in_ok-turn.ensures in
+    called_in s.state s.pending s.irrevocable c.args.self.now c.self.view_is c.if-self.false c.in_ok-turn.turn c.write.new.state _ _ _ _ c.take.ensures c.requires.idle (Write c.args.hint c.args.at c.args.value.now) false (record { sound = e.sound; proceeds = e.proceeds; stays = e.stays; order = e.order; ends = e.ends; tries = e.tries })
 
-pub returns-clause-count : goal.returns-clause-count
-returns-clause-count c = counts_in c.take.new.irrevocable c.take.new.state (phase_of c.take.new.state c.take.new.pending) (search rules)
-
-pub returns-clause-settled : goal.returns-clause-settled
-returns-clause-settled c = settled_in c.take.new.irrevocable c.take.new.state (phase_of c.take.new.state c.take.new.pending) (search rules)
+pub returns-in_err-turn : goal.returns-in_err-turn
+returns-in_err-turn c =
+    let s = c.self.inside in
+    let r = err_from_is_err_and c.from_residual.result c.from_residual.ensures.1 in
+    let e = c.in_err-turn.ensures in
+    rw r.1 (starved s.state s.pending s.irrevocable c.args.self.now c.self.view_is c.if-self.false c.requires.idle (Write c.args.hint c.args.at c.args.value.now) c.write.new.state e.err e.starves)
