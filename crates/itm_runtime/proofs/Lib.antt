@@ -9,5 +9,6 @@ pub mod Tries
 pub mod LastLoads
 pub mod CallAnswers
 pub mod StepToStep
+pub mod CallResults
 pub mod ThreadUndone
 pub mod WordReads

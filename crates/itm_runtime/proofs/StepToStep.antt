@@ -14,10 +14,10 @@ use Rattle.norec_core.specs.declared.phase.Phase.{Phase}
 use Rattle.norec_core.specs.declared.phase.Phase.TheVariants.{Idle}
 use Rattle.norec_core.specs.Endings.{EndsSo, IsEnding, ending_after, ending_from}
 use Rattle.norec_core.proofs.AnsweredEngines.{rests}
-use Rattle.norec_core.specs.Core.{Core, came, handed, handed_to, in_transaction, is_inside}
-use Rattle.norec_core.specs.Held.{ComesHeld, StepsHeld}
-use Rattle.norec_core.specs.Order.{asked, asked_from, stage_after, stage_at, stage_from, tries_after, tries_at}
-use Rattle.norec_core.specs.Proceeds.{Ends, Proceeds, Joins, IsAtOnce, IsSettled, IsLawful, IsWithin, Fits, FitsStep, StaysOn, most}
+use Rattle.norec_core.specs.Core.{Core, came, handed_to, in_transaction, is_inside}
+use Rattle.norec_core.specs.Order.{asked_from, stage_from}
+use Rattle.norec_core.specs.Proceeds.{Ends, Proceeds, IsLawful, Fits, FitsStep, most}
+use Rattle.norec_core.specs.Moves.{IsCalled, IsResumed}
 use Rattle.norec_core.proofs.KeptFields.{handed_is, most_same}
 use Rattle.shared_words.specs.declared.view.View.{View}
 use Rattle.shared_words.specs.Steps.{Lawful, Turns, cell_of}
@@ -73,9 +73,9 @@ idle_of c Idle e = refl
 idle_of c p e = absurd (cc)
 
 module _ (cells : ℕ) (v w : View) (ov : IsOver cells v) (ow : IsOver cells w) (e new : Core) (step : Step) (n : ℕ) (turn : Turns v step n w)
-    (joins : Joins e n new) (settled : IsSettled new) (asks : new.waits ≡ asked new) (order : new.stage ≡ stage_after e n) (within : IsWithin new) (next : Next) (proceeds : Proceeds (handed e n) next new) (held : e.irrevocable ≡ true → StepsHeld e n next new) (tries : new.tries ≡ tries_after new.stage e.tries) (ends : EndsSo (ending_after e n) next) where
+    (next : Next) (r : IsResumed e n next new) where
   went : (s : Start) → InCall s v e step → Proceeds (handed_to e (Some step) n) next new
-  went s i = subst (λ (o : Option Step). Proceeds (handed_to e o n) next new) i.waits proceeds
+  went s i = subst (λ (o : Option Step). Proceeds (handed_to e o n) next new) i.waits r.proceeds
 
   -- the looks make up for the tries
   looked_on : (s : Start) → InCall s v e step → s.view.looks + e.tries ≤ w.looks
@@ -86,18 +86,18 @@ module _ (cells : ℕ) (v w : View) (ov : IsOver cells v) (ow : IsOver cells w) 
 
   tried_on : (s : Start) → InCall s v e step → Tried s w (handed_to e (Some step) n) new
   tried_on s i = record {
-    tried = (let a = next_tries new.stage s.view.looks e.tries w.looks (looked_on s i) in let r : s.view.looks + new.tries ≤ w.looks + pending new.stage = omega arith in r);
-    opening = λ c n'. subst IsOpening (sym order) (next_opens e e.stage n (i.opening (sym (ap is_inside (handed_is e step n).keeps.blocks) ∙ c)) (λ z. n' (order ∙ z)));
+    tried = (let tries = r.tries in let a = next_tries new.stage s.view.looks e.tries w.looks (looked_on s i) in let t : s.view.looks + new.tries ≤ w.looks + pending new.stage = omega arith in t);
+    opening = λ c n'. subst IsOpening (sym r.order) (next_opens e e.stage n (i.opening (sym (ap is_inside (handed_is e step n).keeps.blocks) ∙ c)) (λ z. n' (r.order ∙ z)));
     loads = loads_on v w e n step i.tied.holds turn i.loads;
   }
 
   rested : (s : Start) → InCall s v e step → (a : Answer) → next ≡ Answers a → stage_from e e.stage n ≡ Idle
   rested s i a is =
       let g : Ends (handed_to e (Some step) n) a new = subst (λ (x : Next). Proceeds (handed_to e (Some step) n) x new) is (went s i) in
-      sym order ∙ idle_of new new.stage (sym asks ∙ (rests (handed_to e (Some step) n) new a g).idle)
+      sym r.order ∙ idle_of new new.stage (sym r.asks ∙ (rests (handed_to e (Some step) n) new a g).idle)
 
   ended_so : (a : Answer) → next ≡ Answers a → IsEnding (ending_from e e.stage n) a
-  ended_so a is = subst (EndsSo (ending_after e n)) is ends
+  ended_so a is = subst (EndsSo (ending_after e n)) is r.ends
 
   patient : (s : Start) → InCall s v e step → e.patience ≤ e.tries → IsPatient s w
   patient s i x =
@@ -111,12 +111,12 @@ module _ (cells : ℕ) (v w : View) (ov : IsOver cells v) (ow : IsOver cells w) 
       let b = i.tied.over.size in
       let same : cells ≡ suc e.words = omega arith in
       let over : IsOver (suc e.words) w = subst (λ (k : ℕ). IsOver k w) same ow in
-      let m : IsMid s w (handed_to e (Some step) n) new = hands s v e n new joins settled asks w over step i turn in
-      let looked = λ (c : in_transaction (handed_to e (Some step) n) ≡ false). closed_look s v e n new joins settled asks w over step i (sym (ap is_inside (handed_is e step n).keeps.blocks) ∙ c) turn in
+      let m : IsMid s w (handed_to e (Some step) n) new = hands s v e n new r.joins r.settled r.asks w over step i turn in
+      let looked = λ (c : in_transaction (handed_to e (Some step) n) ≡ false). closed_look s v e n new r.joins r.settled r.asks w over step i (sym (ap is_inside (handed_is e step n).keeps.blocks) ∙ c) turn in
       let on : s.engine.irrevocable ≡ true → IsHeldMid s w next new = λ irr.
-      (let mode : e.irrevocable ≡ true = i.kept.irrevocable ∙ irr in hands_held s v e n w (i.tied.settled.irrevocable mode).0 new next order asks (held mode) step i (i.held_on irr) turn (went s i)) in
+      (let mode : e.irrevocable ≡ true = i.kept.irrevocable ∙ irr in hands_held s v e n w (i.tied.settled.irrevocable mode).0 new next r.order r.asks (r.held mode) step i (i.held_on irr) turn (went s i)) in
       let may_so : (a : Answer) → next ≡ Answers a → MayAnswer s w (handed_to e (Some step) n) new m a = λ a is. by_answer s i m looked a is in
-      due s w (handed_to e (Some step) n) new m next (may s w (handed_to e (Some step) n) new m next may_so) (tried_on s i) on (went s i) within
+      due s w (handed_to e (Some step) n) new m next (may s w (handed_to e (Some step) n) new m next may_so) (tried_on s i) on (went s i) r.count
     where
       by_answer : (s : Start) (i : InCall s v e step) (m : IsMid s w (handed_to e (Some step) n) new) → HasLooked s w (handed_to e (Some step) n) new m → (a : Answer) → next ≡ Answers a → MayAnswer s w (handed_to e (Some step) n) new m a
       by_answer s i m looked (Reply r) is = tt
@@ -145,9 +145,8 @@ module _ (cells : ℕ) (v w : View) (ov : IsOver cells v) (ow : IsOver cells w) 
   smaller s i = less s i next (went s i) (goes s i)
 
 -- a call comes
-pub starts : (v : View) (e new : Core) (call : Call) (again : Bool) → Stands v e → StaysOn e new → IsSettled new → new.waits ≡ asked new → new.stage ≡ stage_at e call again → new.tries ≡ tries_at new.stage → IsWithin new → (next : Next) → IsAtOnce next → Proceeds (came e call again) next new → (e.irrevocable ≡ true → ComesHeld e call next new)
-    → IsDue (record { view = v; engine = e; call = call; again = again }) v new next
-starts v e new call again t stays settled asks order tries within next once g held =
+pub starts : (v : View) (e new : Core) (call : Call) (again : Bool) → Stands v e → (next : Next) → IsCalled e call again next new → IsDue (record { view = v; engine = e; call = call; again = again }) v new next
+starts v e new call again t next r =
     let s : Start = record { view = v; engine = e; call = call; again = again } in
-    let m = comes v e new call again t stays settled asks order in
-    due s v (came e call again) new m next (at_once s v (came e call again) new m next once) (comes_tried v e new call again t stays settled asks order tries) (comes_held v e new call again t stays settled asks order next g held) g within
+    let m = comes v e new call again t r.stays r.settled r.asks r.order in
+    due s v (came e call again) new m next (at_once s v (came e call again) new m next r.at_once) (comes_tried v e new call again t r.stays r.settled r.asks r.order r.tries) (comes_held v e new call again t r.stays r.settled r.asks r.order next r.proceeds r.held) r.proceeds r.count

@@ -15,9 +15,11 @@ use Rattle.norec_core.specs.declared.phase.Phase.{Phase}
 use Rattle.norec_core.specs.declared.phase.Phase.TheVariants.{Idle, Begin, Take, RoundStart}
 use Rattle.norec_core.specs.Proceeds.{Got, IsLawful, most}
 use Rattle.norec_core.specs.Stands.{stands_for}
+use Rattle.shared_words.specs.declared.pass.Pass.{Pass}
 use Rattle.shared_words.specs.declared.view.View.{View}
+use Rattle.shared_words.specs.declared.words.Words.{Words}
 use Rattle.shared_words.specs.Commits.{StartsWith}
-use Rattle.shared_words.specs.Passes.{IsOver}
+use Rattle.shared_words.specs.Passes.{IsOver, Owns, view_of}
 use Rattle.shared_words.specs.Steps.{Turns}
 use Rattle.shared_words.specs.Views.{held}
 use Rattle.itm_runtime.specs.Ties.{IsTied, Stands}
@@ -95,3 +97,9 @@ IsDue s v e (Answers a) = Served s a v e × Stands v e
 abbrev pub left : Core → Next → ℕ
 left e (Asks step) = suc (most e e.doing - e.spent)
 left e (Answers a) = 0
+
+-- a step of the call in progress was done: what comes next is due, and fewer steps are left
+pub record StepsOn (words : Words) (v : View) (e : Core) (step : Step) (pass : Pass) (new : Core) (next : Next) : Type 0 where
+  pub own : Owns words pass
+  pub due : (s : Start) → InCall s v e step → IsDue s (view_of pass) new next
+  pub less : left new next < left e (Asks step)

@@ -1,13 +1,12 @@
 //! The steps of a call, one after the other.
 
-ghost use Rattle.std.specs.Prelude.{◌≡◌, ◌+◌, ◌<◌};
+ghost use Rattle.std.specs.Prelude.{◌+◌};
 ghost use Rattle.shared_words.specs.declared.view.View.{View};
 ghost use Rattle.shared_words.specs.Passes.{IsOver, Owns, cells_of, view_of};
 ghost use Rattle.shared_words.specs.Steps.{Turns};
-ghost use Rattle.itm_runtime.specs.Ties.{Stands};
-ghost use Rattle.itm_runtime.specs.Served.{Start, Served};
-ghost use Rattle.itm_runtime.specs.InCall.{InCall, IsDue, IsDone, left};
-ghost use Rattle.norec_core.specs.declared.answer.Next.TheVariants.{Step as Asks};
+ghost use Rattle.itm_runtime.specs.Served.{Start};
+ghost use Rattle.itm_runtime.specs.InCall.{InCall, IsDue, IsDone, StepsOn};
+ghost use Rattle.itm_runtime.specs.CallResults.{IsAnswered};
 ghost use Rattle.norec_engine.specs.NextSteps.{next_in};
 ghost use Rattle.norec_engine.specs.WholeReads.{LoadsWord};
 
@@ -27,9 +26,7 @@ pub(crate) fn finish(
 )
     requires own { Owns words.now pass.old }
     requires due { (s : Start) × IsDue s (view_of pass.old) engine.old (next_in first answer.old) }
-    ensures own { Owns words.now pass.new }
-    ensures served { (s : Start) → IsDue s (view_of pass.old) engine.old (next_in first answer.old) → Served s answer.new (view_of pass.new) engine.new }
-    ensures stands { Stands (view_of pass.new) engine.new }
+    ensures { (s : Start) → IsDue s (view_of pass.old) engine.old (next_in first answer.old) → IsAnswered words.now s answer.new pass.new engine.new }
 {
     if let Some(step) = first {
         drive(words, pass, engine, step, answer);
@@ -48,9 +45,7 @@ pub(crate) fn finish_by(
 )
     requires own { Owns words.now pass.old }
     requires due { (s : Start) × IsDue s (view_of pass.old) engine.old (next_in first answer.old) }
-    ensures own { Owns words.now pass.new }
-    ensures served { (s : Start) → IsDue s (view_of pass.old) engine.old (next_in first answer.old) → Served s answer.new (view_of pass.new) engine.new }
-    ensures stands { Stands (view_of pass.new) engine.new }
+    ensures { (s : Start) → IsDue s (view_of pass.old) engine.old (next_in first answer.old) → IsAnswered words.now s answer.new pass.new engine.new }
 {
     if let Some(step) = first {
         let next = advance(words, pass, engine, step, likely, answer);
@@ -64,9 +59,7 @@ pub(crate) fn finish_word(words: &Words, pass: &mut Pass, engine: &mut Engine, w
     requires own { Owns words.now pass.old }
     requires loads { LoadsWord engine.old word }
     requires due { (s : Start) × InCall s (view_of pass.old) engine.old (Step.Load (word + 1)) }
-    ensures own { Owns words.now pass.new }
-    ensures served { (s : Start) → InCall s (view_of pass.old) engine.old (Step.Load (word + 1)) → Served s result (view_of pass.new) engine.new }
-    ensures stands { Stands (view_of pass.new) engine.new }
+    ensures { (s : Start) → InCall s (view_of pass.old) engine.old (Step.Load (word + 1)) → IsAnswered words.now s result pass.new engine.new }
 {
     let value = words.step(pass, Step::Load(word + 1));
     let clock = words.step(pass, Step::Load(0));
@@ -85,10 +78,8 @@ pub(crate) fn finish_word(words: &Words, pass: &mut Pass, engine: &mut Engine, w
 fn finish_late(words: &Words, pass: &mut Pass, engine: &mut Engine, clock: u64) -> Answer
     requires own { Owns words.now pass.old }
     requires due { (s : Start) × (v : View) × IsOver (cells_of words.now) v × InCall s v engine.old (Step.Load 0) × Turns v (Step.Load 0) clock (view_of pass.old) }
-    ensures own { Owns words.now pass.new }
-    ensures served { (s : Start) (v : View) → IsOver (cells_of words.now) v → InCall s v engine.old (Step.Load 0) → Turns v (Step.Load 0) clock (view_of pass.old)
-        → Served s result (view_of pass.new) engine.new }
-    ensures stands { Stands (view_of pass.new) engine.new }
+    ensures { (s : Start) (v : View) → IsOver (cells_of words.now) v → InCall s v engine.old (Step.Load 0) → Turns v (Step.Load 0) clock (view_of pass.old)
+        → IsAnswered words.now s result pass.new engine.new }
 {
     let mut answer = Answer::Reply(Reply::Done);
     let next = engine.resume_apart(clock, &mut answer);
@@ -107,9 +98,7 @@ pub(crate) fn finish_commit(
 )
     requires own { Owns words.now pass.old }
     requires due { (s : Start) × IsDue s (view_of pass.old) engine.old (next_in first answer.old) }
-    ensures own { Owns words.now pass.new }
-    ensures served { (s : Start) → IsDue s (view_of pass.old) engine.old (next_in first answer.old) → Served s answer.new (view_of pass.new) engine.new }
-    ensures stands { Stands (view_of pass.new) engine.new }
+    ensures { (s : Start) → IsDue s (view_of pass.old) engine.old (next_in first answer.old) → IsAnswered words.now s answer.new pass.new engine.new }
 {
     if let Some(step) = first {
         if let Some(step) = advance(words, pass, engine, step, Likely::Exchange, answer) {
@@ -123,9 +112,7 @@ pub(crate) fn finish_commit(
 fn drive(words: &Words, pass: &mut Pass, engine: &mut Engine, first: Step, answer: &mut Answer)
     requires own { Owns words.now pass.old }
     requires due { (s : Start) × InCall s (view_of pass.old) engine.old first }
-    ensures own { Owns words.now pass.new }
-    ensures served { (s : Start) → InCall s (view_of pass.old) engine.old first → Served s answer.new (view_of pass.new) engine.new }
-    ensures stands { Stands (view_of pass.new) engine.new }
+    ensures { (s : Start) → InCall s (view_of pass.old) engine.old first → IsAnswered words.now s answer.new pass.new engine.new }
 {
     let mut next = Some(first);
     while let Some(step) = next {
@@ -138,9 +125,7 @@ fn drive(words: &Words, pass: &mut Pass, engine: &mut Engine, first: Step, answe
 fn store(words: &Words, pass: &mut Pass, engine: &mut Engine, first: Step, answer: &mut Answer)
     requires own { Owns words.now pass.old }
     requires due { (s : Start) × InCall s (view_of pass.old) engine.old first }
-    ensures own { Owns words.now pass.new }
-    ensures served { (s : Start) → InCall s (view_of pass.old) engine.old first → Served s answer.new (view_of pass.new) engine.new }
-    ensures stands { Stands (view_of pass.new) engine.new }
+    ensures { (s : Start) → InCall s (view_of pass.old) engine.old first → IsAnswered words.now s answer.new pass.new engine.new }
 {
     let mut next = Some(first);
     while let Some(step) = next {
@@ -158,10 +143,7 @@ fn go_on(
 ) -> Option<Step>
     requires own { Owns words.now pass.old }
     requires due { (s : Start) × InCall s (view_of pass.old) engine.old step }
-    ensures own { Owns words.now pass.new }
-    ensures due { (s : Start) → InCall s (view_of pass.old) engine.old step
-        → IsDue s (view_of pass.new) engine.new (next_in result answer.new) }
-    ensures less { left engine.new (next_in result answer.new) < left engine.old (Asks step) }
+    ensures { StepsOn words.now (view_of pass.old) engine.old step pass.new engine.new (next_in result answer.new) }
 {
     let found = words.step(pass, step);
     engine.resume_apart(found, answer)
@@ -180,10 +162,7 @@ fn advance(
 ) -> Option<Step>
     requires own { Owns words.now pass.old }
     requires due { (s : Start) × InCall s (view_of pass.old) engine.old step }
-    ensures own { Owns words.now pass.new }
-    ensures due { (s : Start) → InCall s (view_of pass.old) engine.old step
-        → IsDue s (view_of pass.new) engine.new (next_in result answer.new) }
-    ensures less { left engine.new (next_in result answer.new) < left engine.old (Asks step) }
+    ensures { StepsOn words.now (view_of pass.old) engine.old step pass.new engine.new (next_in result answer.new) }
 {
     let seen = words.step(pass, step);
     if !engine.foresees(likely, seen) {
@@ -204,10 +183,7 @@ fn advance_store(
 ) -> Option<Step>
     requires own { Owns words.now pass.old }
     requires due { (s : Start) × InCall s (view_of pass.old) engine.old step }
-    ensures own { Owns words.now pass.new }
-    ensures due { (s : Start) → InCall s (view_of pass.old) engine.old step
-        → IsDue s (view_of pass.new) engine.new (next_in result answer.new) }
-    ensures less { left engine.new (next_in result answer.new) < left engine.old (Asks step) }
+    ensures { StepsOn words.now (view_of pass.old) engine.old step pass.new engine.new (next_in result answer.new) }
 {
     let stored = words.step(pass, step);
     if !engine.foresees(Likely::Store, stored) {
@@ -222,9 +198,7 @@ fn advance_store(
 fn resume_last(words: &Words, pass: &mut Pass, engine: &mut Engine, seen: u64, answer: &mut Answer)
     requires own { Owns words.now pass.old }
     requires done { (s : Start) × IsDone (cells_of words.now) s (view_of pass.old) engine.old seen }
-    ensures own { Owns words.now pass.new }
-    ensures served { (s : Start) → IsDone (cells_of words.now) s (view_of pass.old) engine.old seen → Served s answer.new (view_of pass.new) engine.new }
-    ensures stands { Stands (view_of pass.new) engine.new }
+    ensures { (s : Start) → IsDone (cells_of words.now) s (view_of pass.old) engine.old seen → IsAnswered words.now s answer.new pass.new engine.new }
 {
     if !engine.foresees(Likely::LastStore, seen) {
         resume(words, pass, engine, seen, answer);
@@ -239,9 +213,7 @@ fn resume_last(words: &Words, pass: &mut Pass, engine: &mut Engine, seen: u64, a
 fn resume(words: &Words, pass: &mut Pass, engine: &mut Engine, seen: u64, answer: &mut Answer)
     requires own { Owns words.now pass.old }
     requires done { (s : Start) × IsDone (cells_of words.now) s (view_of pass.old) engine.old seen }
-    ensures own { Owns words.now pass.new }
-    ensures served { (s : Start) → IsDone (cells_of words.now) s (view_of pass.old) engine.old seen → Served s answer.new (view_of pass.new) engine.new }
-    ensures stands { Stands (view_of pass.new) engine.new }
+    ensures { (s : Start) → IsDone (cells_of words.now) s (view_of pass.old) engine.old seen → IsAnswered words.now s answer.new pass.new engine.new }
 {
     let next = engine.resume_apart(seen, answer);
     finish(words, pass, engine, next, answer);

@@ -3,11 +3,11 @@
 ghost use Rattle.std.specs.Prelude.{◌≡◌, ◌-◌, ◌^◌, ◌<◌, ◌≤◌, false, true, [], IsOk, IfOk, IfErr, OnOk, OnErr};
 ghost use Rattle.norec_core.specs.Core.{opening, in_transaction, goes};
 ghost use Rattle.user_actions.specs.Actions.{total};
-ghost use Rattle.norec_core.specs.Proceeds.{IsUndone, MayStarve};
+ghost use Rattle.norec_core.specs.Proceeds.{IsUndone};
 ghost use Rattle.norec_core.specs.Undoing.{after_undoing, undone_of};
 ghost use Rattle.shared_words.specs.Passes.{Owns, view_of, cells_of};
 ghost use Rattle.itm_runtime.specs.Ties.{Stands};
-ghost use Rattle.itm_runtime.specs.Served.{Served};
+ghost use Rattle.itm_runtime.specs.CallResults.{IsAnswered, Returns};
 ghost use Rattle.itm_runtime.specs.Standing.{start_of};
 
 use crate::drive::{finish, finish_by, finish_commit, finish_word};
@@ -70,11 +70,7 @@ impl Thread {
         again: bool,
     ) -> Result<Answer, AllocError>
         requires own { Owns words.now self.old.pass }
-        ensures own { Owns words.now self.new.pass }
-        ensures served { IfOk result (λ a. Served (start_of self.old (Call.Begin props room) again) a (view_of self.new.pass) self.new.engine) }
-        ensures stands { Stands (view_of self.new.pass) self.new.engine }
-        ensures err { OnErr result (self.new ≡ self.old) }
-        ensures starves { OnErr result (MayStarve self.old.engine (Call.Begin props room)) }
+        ensures { Returns (λ a. a) words.now self.old (Call.Begin props room) again result self.new }
     {
         let mut answer = Answer::Reply(Reply::Done);
         if props.goes_irrevocable || self.engine.is_open() {
@@ -100,11 +96,7 @@ impl Thread {
     /// Any call of the interface.
     pub fn call(&mut self, words: &Words, call: &Call) -> Result<Answer, AllocError>
         requires own { Owns words.now self.old.pass }
-        ensures own { Owns words.now self.new.pass }
-        ensures served { IfOk result (λ a. Served (start_of self.old call.now false) a (view_of self.new.pass) self.new.engine) }
-        ensures stands { Stands (view_of self.new.pass) self.new.engine }
-        ensures err { OnErr result (self.new ≡ self.old) }
-        ensures starves { OnErr result (MayStarve self.old.engine call.now) }
+        ensures { Returns (λ a. a) words.now self.old call.now false result self.new }
     {
         match call {
             Call::Read { hint, width, at } => self.read(words, *hint, *width, *at),
@@ -123,11 +115,7 @@ impl Thread {
         at: u64,
     ) -> Result<Answer, AllocError>
         requires own { Owns words.now self.old.pass }
-        ensures own { Owns words.now self.new.pass }
-        ensures served { IfOk result (λ a. Served (start_of self.old (Call.Read hint width at) false) a (view_of self.new.pass) self.new.engine) }
-        ensures stands { Stands (view_of self.new.pass) self.new.engine }
-        ensures err { OnErr result (self.new ≡ self.old) }
-        ensures starves { OnErr result (MayStarve self.old.engine (Call.Read hint width at)) }
+        ensures { Returns (λ a. a) words.now self.old (Call.Read hint width at) false result self.new }
     {
         match self.engine.read_word(hint, width, at) {
             Some(word) => Ok(finish_word(words, &mut self.pass, &mut self.engine, word)),
@@ -144,11 +132,7 @@ impl Thread {
         value: &Datum,
     ) -> Result<Answer, AllocError>
         requires own { Owns words.now self.old.pass }
-        ensures own { Owns words.now self.new.pass }
-        ensures served { IfOk result (λ a. Served (start_of self.old (Call.Write hint at value.now) false) a (view_of self.new.pass) self.new.engine) }
-        ensures stands { Stands (view_of self.new.pass) self.new.engine }
-        ensures err { OnErr result (self.new ≡ self.old) }
-        ensures starves { OnErr result (MayStarve self.old.engine (Call.Write hint at value.now)) }
+        ensures { Returns (λ a. a) words.now self.old (Call.Write hint at value.now) false result self.new }
     {
         let mut answer = Answer::Reply(Reply::Done);
         if self.engine.is_irrevocable() {
@@ -163,9 +147,7 @@ impl Thread {
     /// The innermost block ends; with the outermost one the transaction commits (section 5.12). Takes no memory.
     pub fn commit(&mut self, words: &Words) -> Answer
         requires own { Owns words.now self.old.pass }
-        ensures own { Owns words.now self.new.pass }
-        ensures served { Served (start_of self.old Call.Commit false) result (view_of self.new.pass) self.new.engine }
-        ensures stands { Stands (view_of self.new.pass) self.new.engine }
+        ensures { IsAnswered words.now (start_of self.old Call.Commit false) result self.new.pass self.new.engine }
     {
         let mut answer = Answer::Reply(Reply::Done);
         if !self.engine.takes_clock() {
@@ -184,9 +166,7 @@ impl Thread {
     /// The innermost block is cancelled, or with `outer` all that are open (section 5.13). Takes no memory.
     pub fn cancel(&mut self, words: &Words, outer: bool) -> Answer
         requires own { Owns words.now self.old.pass }
-        ensures own { Owns words.now self.new.pass }
-        ensures served { Served (start_of self.old (Call.Abort outer) false) result (view_of self.new.pass) self.new.engine }
-        ensures stands { Stands (view_of self.new.pass) self.new.engine }
+        ensures { IsAnswered words.now (start_of self.old (Call.Abort outer) false) result self.new.pass self.new.engine }
     {
         match self.call(words, &Call::Abort { outer }) {
             Ok(answer) => answer,
@@ -197,11 +177,7 @@ impl Thread {
     /// The transaction becomes irrevocable, with room for as many commit actions.
     pub fn irrevocable(&mut self, words: &Words, room: u32) -> Result<Answer, AllocError>
         requires own { Owns words.now self.old.pass }
-        ensures own { Owns words.now self.new.pass }
-        ensures served { IfOk result (λ a. Served (start_of self.old (Call.Mode room) false) a (view_of self.new.pass) self.new.engine) }
-        ensures stands { Stands (view_of self.new.pass) self.new.engine }
-        ensures err { OnErr result (self.new ≡ self.old) }
-        ensures starves { OnErr result (MayStarve self.old.engine (Call.Mode room)) }
+        ensures { Returns (λ a. a) words.now self.old (Call.Mode room) false result self.new }
     {
         self.call(words, &Call::Mode { room })
     }

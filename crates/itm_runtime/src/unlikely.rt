@@ -1,11 +1,9 @@
 //! Calls that do what is not likely. They write the answer where the caller has it: the likely way, which has none of its
 //! own to hand over, then moves none about.
 
-ghost use Rattle.std.specs.Prelude.{◌≡◌, false, IfOk, OnOk, OnErr};
-ghost use Rattle.norec_core.specs.Proceeds.{MayStarve};
-ghost use Rattle.shared_words.specs.Passes.{Owns, view_of};
-ghost use Rattle.itm_runtime.specs.Ties.{Stands};
-ghost use Rattle.itm_runtime.specs.Served.{Served};
+ghost use Rattle.std.specs.Prelude.{false};
+ghost use Rattle.shared_words.specs.Passes.{Owns};
+ghost use Rattle.itm_runtime.specs.CallResults.{IsAnswered, Returns};
 ghost use Rattle.itm_runtime.specs.Standing.{start_of};
 
 use crate::drive::finish;
@@ -27,11 +25,7 @@ impl Thread {
         answer: &mut Answer,
     ) -> Result<(), AllocError>
         requires own { Owns words.now self.old.pass }
-        ensures own { Owns words.now self.new.pass }
-        ensures served { OnOk result (Served (start_of self.old (Call.Begin props room) again) answer.new (view_of self.new.pass) self.new.engine) }
-        ensures stands { Stands (view_of self.new.pass) self.new.engine }
-        ensures err { OnErr result (self.new ≡ self.old) }
-        ensures starves { OnErr result (MayStarve self.old.engine (Call.Begin props room)) }
+        ensures { Returns (λ done. answer.new) words.now self.old (Call.Begin props room) again result self.new }
     {
         let first = self.engine.begin_into(props, room, again, answer)?;
         finish(words, &mut self.pass, &mut self.engine, first, answer);
@@ -42,11 +36,7 @@ impl Thread {
     #[inline(never)]
     pub(crate) fn call_other(&mut self, words: &Words, call: &Call) -> Result<Answer, AllocError>
         requires own { Owns words.now self.old.pass }
-        ensures own { Owns words.now self.new.pass }
-        ensures served { IfOk result (λ a. Served (start_of self.old call.now false) a (view_of self.new.pass) self.new.engine) }
-        ensures stands { Stands (view_of self.new.pass) self.new.engine }
-        ensures err { OnErr result (self.new ≡ self.old) }
-        ensures starves { OnErr result (MayStarve self.old.engine call.now) }
+        ensures { Returns (λ a. a) words.now self.old call.now false result self.new }
     {
         let mut answer = Answer::Reply(Reply::Done);
         self.call_otherwise(words, call, &mut answer)?;
@@ -61,11 +51,7 @@ impl Thread {
         answer: &mut Answer,
     ) -> Result<(), AllocError>
         requires own { Owns words.now self.old.pass }
-        ensures own { Owns words.now self.new.pass }
-        ensures served { OnOk result (Served (start_of self.old call.now false) answer.new (view_of self.new.pass) self.new.engine) }
-        ensures stands { Stands (view_of self.new.pass) self.new.engine }
-        ensures err { OnErr result (self.new ≡ self.old) }
-        ensures starves { OnErr result (MayStarve self.old.engine call.now) }
+        ensures { Returns (λ done. answer.new) words.now self.old call.now false result self.new }
     {
         let first = self.engine.call_into(call, answer)?;
         finish(words, &mut self.pass, &mut self.engine, first, answer);
@@ -83,11 +69,7 @@ impl Thread {
         answer: &mut Answer,
     ) -> Result<(), AllocError>
         requires own { Owns words.now self.old.pass }
-        ensures own { Owns words.now self.new.pass }
-        ensures served { OnOk result (Served (start_of self.old (Call.Write hint at value.now) false) answer.new (view_of self.new.pass) self.new.engine) }
-        ensures stands { Stands (view_of self.new.pass) self.new.engine }
-        ensures err { OnErr result (self.new ≡ self.old) }
-        ensures starves { OnErr result (MayStarve self.old.engine (Call.Write hint at value.now)) }
+        ensures { Returns (λ done. answer.new) words.now self.old (Call.Write hint at value.now) false result self.new }
     {
         let first = self.engine.write_into(hint, at, value, answer)?;
         finish(words, &mut self.pass, &mut self.engine, first, answer);
@@ -98,9 +80,7 @@ impl Thread {
     #[inline(never)]
     pub(crate) fn commit_otherwise(&mut self, words: &Words, answer: &mut Answer)
         requires own { Owns words.now self.old.pass }
-        ensures own { Owns words.now self.new.pass }
-        ensures served { Served (start_of self.old Call.Commit false) answer.new (view_of self.new.pass) self.new.engine }
-        ensures stands { Stands (view_of self.new.pass) self.new.engine }
+        ensures { IsAnswered words.now (start_of self.old Call.Commit false) answer.new self.new.pass self.new.engine }
     {
         match self.call_otherwise(words, &Call::Commit, answer) {
             Ok(()) => {}

@@ -1,6 +1,7 @@
-use Rattle.norec_core.specs.declared.answer.Next.{Next}
-use Rattle.norec_engine.specs.NextSteps.{next_in}
+use Rattle.std.proofs.Common.{arith}
 use Rattle.shared_words.specs.Passes.{view_of, cells_of}
+use Rattle.itm_runtime.specs.Served.{Start}
+use Rattle.itm_runtime.specs.InCall.{InCall}
 use Rattle.itm_runtime.proofs.StepToStep.{lawful_of, cell_within, fits_of, waits_of, goes, smaller}
 use Rattle.itm_runtime.proofs.drive.advance_store.Goals as goal
 
@@ -26,18 +27,24 @@ resume_likely-requires c =
       fits = fits_of c.requires.due.0 _ _ _ _ c.args.step i c.step-stored.ensures.turn;
     }
 
-pub returns-clause-due : goal.returns-clause-due
-returns-clause-due c =
+pub returns : goal.returns
+returns c =
     let r = c.resume_likely.ensures in
-    let next : Next = next_in c.resume_likely.result c.resume_likely.new.answer in
-    goes (cells_of c.args.words.now) (view_of c.args.pass.now) (view_of c.step-stored.new.pass) c.requires.own.over c.step-stored.ensures.own.over c.args.engine.now c.resume_likely.new.self c.args.step c.step-stored.result c.step-stored.ensures.turn r.joins r.settled r.asks r.order r.count next r.proceeds r.held r.tries r.ends
+    let words = cells_of c.args.words.now in
+    let over = c.requires.own.over in
+    let turn = c.step-stored.ensures.turn in
+    record {
+      own = c.step-stored.ensures.own;
+      due = goes words (view_of c.args.pass.now) (view_of c.step-stored.new.pass) over c.step-stored.ensures.own.over c.args.engine.now c.resume_likely.new.self c.args.step c.step-stored.result turn _ r;
+      less = smaller words (view_of c.args.pass.now) (view_of c.step-stored.new.pass) over c.step-stored.ensures.own.over c.args.engine.now c.resume_likely.new.self c.args.step c.step-stored.result turn _ r c.requires.due.0 c.requires.due.1;
+    }
 
-pub returns-clause-less : goal.returns-clause-less
-returns-clause-less c =
-    let r = c.resume_likely.ensures in
-    let next : Next = next_in c.resume_likely.result c.resume_likely.new.answer in
-    smaller (cells_of c.args.words.now) (view_of c.args.pass.now) (view_of c.step-stored.new.pass) c.requires.own.over c.step-stored.ensures.own.over c.args.engine.now c.resume_likely.new.self c.args.step c.step-stored.result c.step-stored.ensures.turn r.joins r.settled r.asks r.order r.count next r.proceeds r.held r.tries r.ends c.requires.due.0 c.requires.due.1
-
-pub returns-then-not-foresees-clause-due : goal.returns-then-not-foresees-clause-due
-returns-then-not-foresees-clause-due c = λ s i.
-    (c.resume_last.ensures.served s (record { before = view_of c.args.pass.now; step = c.args.step; over = c.requires.own.over; in_call = i; turn = c.step-stored.ensures.turn }), c.resume_last.ensures.stands)
+pub returns-then-not-foresees : goal.returns-then-not-foresees
+returns-then-not-foresees c =
+    let done = λ (s : Start) (i : InCall s (view_of c.args.pass.now) c.args.engine.now c.args.step).
+    c.resume_last.ensures s (record { before = view_of c.args.pass.now; step = c.args.step; over = c.requires.own.over; in_call = i; turn = c.step-stored.ensures.turn }) in
+    record {
+      own = (done c.requires.due.0 c.requires.due.1).own;
+      due = λ s i. ((done s i).served, (done s i).stands);
+      less = omega arith;
+    }

@@ -37,11 +37,7 @@ loop-next-smaller c =
     subst (λ (x : Next). left c.go_on-next.new.engine (next_in c.go_on-next.result c.go_on-next.new.answer) < left c.loop-next.engine x) (sym is) c.go_on-next.ensures.less
 
 pub returns : goal.returns
-returns c =
+returns c s d =
     let inv = c.loop-next.invariant in
-    let is = answer_due c.loop-next.next c.loop-next.answer c.in_default.not-Some in
-    record {
-      own = inv.own;
-      served = λ s d. (at_answer s _ _ _ _ is (inv.still s d)).0;
-      stands = (at_answer inv.due.0 _ _ _ _ is inv.due.1).1;
-    }
+    let a = at_answer s _ _ _ _ (answer_due c.loop-next.next c.loop-next.answer c.in_default.not-Some) (inv.still s d) in
+    record { own = inv.own; served = a.0; stands = a.1 }

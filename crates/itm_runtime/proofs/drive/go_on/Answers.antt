@@ -1,5 +1,3 @@
-use Rattle.norec_core.specs.declared.answer.Next.{Next}
-use Rattle.norec_engine.specs.NextSteps.{next_in}
 use Rattle.shared_words.specs.Passes.{view_of, cells_of}
 use Rattle.itm_runtime.proofs.StepToStep.{lawful_of, cell_within, fits_of, waits_of, goes, smaller}
 use Rattle.itm_runtime.proofs.drive.go_on.Goals as goal
@@ -21,14 +19,14 @@ resume_apart-requires c =
       fits = fits_of c.requires.due.0 _ _ _ _ c.args.step i c.step-found.ensures.turn;
     }
 
-pub returns-clause-due : goal.returns-clause-due
-returns-clause-due c =
+pub returns : goal.returns
+returns c =
     let r = c.resume_apart.ensures in
-    let next : Next = next_in c.resume_apart.result c.resume_apart.new.answer in
-    goes (cells_of c.args.words.now) (view_of c.args.pass.now) (view_of c.step-found.new.pass) c.requires.own.over c.step-found.ensures.own.over c.args.engine.now c.resume_apart.new.self c.args.step c.step-found.result c.step-found.ensures.turn r.joins r.settled r.asks r.order r.count next r.proceeds r.held r.tries r.ends
-
-pub returns-clause-less : goal.returns-clause-less
-returns-clause-less c =
-    let r = c.resume_apart.ensures in
-    let next : Next = next_in c.resume_apart.result c.resume_apart.new.answer in
-    smaller (cells_of c.args.words.now) (view_of c.args.pass.now) (view_of c.step-found.new.pass) c.requires.own.over c.step-found.ensures.own.over c.args.engine.now c.resume_apart.new.self c.args.step c.step-found.result c.step-found.ensures.turn r.joins r.settled r.asks r.order r.count next r.proceeds r.held r.tries r.ends c.requires.due.0 c.requires.due.1
+    let words = cells_of c.args.words.now in
+    let over = c.requires.own.over in
+    let turn = c.step-found.ensures.turn in
+    record {
+      own = c.step-found.ensures.own;
+      due = goes words (view_of c.args.pass.now) (view_of c.step-found.new.pass) over c.step-found.ensures.own.over c.args.engine.now c.resume_apart.new.self c.args.step c.step-found.result turn _ r;
+      less = smaller words (view_of c.args.pass.now) (view_of c.step-found.new.pass) over c.step-found.ensures.own.over c.args.engine.now c.resume_apart.new.self c.args.step c.step-found.result turn _ r c.requires.due.0 c.requires.due.1;
+    }

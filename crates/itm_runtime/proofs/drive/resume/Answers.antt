@@ -1,5 +1,3 @@
-use Rattle.norec_core.specs.declared.answer.Next.{Next}
-use Rattle.norec_engine.specs.NextSteps.{next_in}
 use Rattle.shared_words.specs.Passes.{view_of, cells_of}
 use Rattle.itm_runtime.proofs.StepToStep.{fits_of, waits_of, goes}
 use Rattle.itm_runtime.proofs.drive.resume.Goals as goal
@@ -16,11 +14,9 @@ pub finish-requires-clause-due : goal.finish-requires-clause-due
 finish-requires-clause-due c =
     let d = c.requires.done.1 in
     let r = c.resume_apart-next.ensures in
-    let next : Next = next_in c.resume_apart-next.result c.resume_apart-next.new.answer in
-    (c.requires.done.0, goes (cells_of c.args.words.now) d.before (view_of c.args.pass.now) d.over c.requires.own.over c.args.engine.now c.resume_apart-next.new.self d.step c.args.seen d.turn r.joins r.settled r.asks r.order r.count next r.proceeds r.held r.tries r.ends c.requires.done.0 d.in_call)
+    (c.requires.done.0, goes (cells_of c.args.words.now) d.before (view_of c.args.pass.now) d.over c.requires.own.over c.args.engine.now c.resume_apart-next.new.self d.step c.args.seen d.turn _ r c.requires.done.0 d.in_call)
 
-pub returns-clause-served : goal.returns-clause-served
-returns-clause-served c = λ s d.
+pub returns : goal.returns
+returns c = λ s d.
     (let r = c.resume_apart-next.ensures in
-    let next : Next = next_in c.resume_apart-next.result c.resume_apart-next.new.answer in
-    c.finish.ensures.served s (goes (cells_of c.args.words.now) d.before (view_of c.args.pass.now) d.over c.requires.own.over c.args.engine.now c.resume_apart-next.new.self d.step c.args.seen d.turn r.joins r.settled r.asks r.order r.count next r.proceeds r.held r.tries r.ends s d.in_call))
+    c.finish.ensures s (goes (cells_of c.args.words.now) d.before (view_of c.args.pass.now) d.over c.requires.own.over c.args.engine.now c.resume_apart-next.new.self d.step c.args.seen d.turn _ r s d.in_call))

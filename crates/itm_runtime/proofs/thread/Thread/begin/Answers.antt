@@ -1,22 +1,11 @@
-use Rattle.std.proofs.Common.{subst}
-use Rattle.itm_types.specs.declared.call.Call.TheVariants.{Begin}
-use Rattle.norec_engine.specs.NextSteps.{next_in}
-use Rattle.shared_words.specs.Passes.{view_of}
-use Rattle.itm_runtime.specs.Served.{Start, Served}
-use Rattle.itm_runtime.specs.Standing.{Standing, start_of}
-use Rattle.itm_runtime.proofs.StepToStep.{starts}
+use Rattle.itm_runtime.proofs.CallResults.{answered, due, left_standing}
 use Rattle.itm_runtime.proofs.thread.Thread.begin.Goals as goal
 
 pub finish_by-requires-clause-due : goal.finish_by-requires-clause-due
-finish_by-requires-clause-due c =
-    let r = c.in_ok-first.ensures in (
-      record { view = view_of c.self-2.inside.pass; engine = c.self-2.inside.engine; call = Begin c.args.props c.args.room; again = c.args.again },
-      starts (view_of c.self-2.inside.pass) c.self-2.inside.engine c.open_into.new.self (Begin c.args.props c.args.room) c.args.again c.self-2.invariant r.stays r.settled r.asks r.order r.tries r.count (next_in c.in_ok-first.first c.open_into.new.answer) r.at_once r.proceeds r.held,
-    )
+finish_by-requires-clause-due c = due c.self-2.inside.pass c.self-2.invariant c.in_ok-first.ensures
 
-pub returns-clause-served : goal.returns-clause-served
-returns-clause-served c =
-    let r = c.in_ok-first.ensures in
-    let s : Start = record { view = view_of c.self-2.inside.pass; engine = c.self-2.inside.engine; call = Begin c.args.props c.args.room; again = c.args.again } in
-    let d = starts (view_of c.self-2.inside.pass) c.self-2.inside.engine c.open_into.new.self (Begin c.args.props c.args.room) c.args.again c.self-2.invariant r.stays r.settled r.asks r.order r.tries r.count (next_in c.in_ok-first.first c.open_into.new.answer) r.at_once r.proceeds r.held in
-    subst (λ (t : Standing). Served (start_of t (Begin c.args.props c.args.room) c.args.again) c.finish_by.new.answer (view_of c.finish_by.new.pass) c.finish_by.new.engine) c.self-2.view_is (c.finish_by.ensures.served s d)
+pub returns : goal.returns
+returns c = answered c.self-2.inside.pass c.self-2.invariant c.in_ok-first.ensures c.finish_by.ensures c.args.self.now c.self-2.view_is
+
+pub invariant_of-self-2 : goal.invariant_of-self-2
+invariant_of-self-2 c = left_standing c.self-2.inside.pass c.self-2.invariant c.in_ok-first.ensures c.finish_by.ensures

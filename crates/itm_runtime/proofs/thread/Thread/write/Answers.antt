@@ -1,22 +1,11 @@
-use Rattle.std.proofs.Common.{false, subst}
-use Rattle.itm_types.specs.declared.call.Call.TheVariants.{Write}
-use Rattle.norec_engine.specs.NextSteps.{next_in}
-use Rattle.shared_words.specs.Passes.{view_of}
-use Rattle.itm_runtime.specs.Served.{Start, Served}
-use Rattle.itm_runtime.specs.Standing.{Standing, start_of}
-use Rattle.itm_runtime.proofs.StepToStep.{starts}
+use Rattle.itm_runtime.proofs.CallResults.{answered, due, left_standing}
 use Rattle.itm_runtime.proofs.thread.Thread.write.Goals as goal
 
 pub finish-requires-clause-due : goal.finish-requires-clause-due
-finish-requires-clause-due c =
-    let r = c.in_ok-first.ensures in (
-      record { view = view_of c.self.inside.pass; engine = c.self.inside.engine; call = (Write c.args.hint c.args.at c.args.value.now); again = false },
-      starts (view_of c.self.inside.pass) c.self.inside.engine c.write_into.new.self (Write c.args.hint c.args.at c.args.value.now) false c.self.invariant r.stays r.settled r.asks r.order r.tries r.count (next_in c.in_ok-first.first c.write_into.new.answer) r.at_once r.proceeds r.held,
-    )
+finish-requires-clause-due c = due c.self.inside.pass c.self.invariant c.in_ok-first.ensures
 
-pub returns-clause-served : goal.returns-clause-served
-returns-clause-served c =
-    let r = c.in_ok-first.ensures in
-    let s : Start = record { view = view_of c.self.inside.pass; engine = c.self.inside.engine; call = (Write c.args.hint c.args.at c.args.value.now); again = false } in
-    let d = starts (view_of c.self.inside.pass) c.self.inside.engine c.write_into.new.self (Write c.args.hint c.args.at c.args.value.now) false c.self.invariant r.stays r.settled r.asks r.order r.tries r.count (next_in c.in_ok-first.first c.write_into.new.answer) r.at_once r.proceeds r.held in
-    subst (λ (t : Standing). Served (start_of t (Write c.args.hint c.args.at c.args.value.now) false) c.finish.new.answer (view_of c.finish.new.pass) c.finish.new.engine) c.self.view_is (c.finish.ensures.served s d)
+pub returns : goal.returns
+returns c = answered c.self.inside.pass c.self.invariant c.in_ok-first.ensures c.finish.ensures c.args.self.now c.self.view_is
+
+pub invariant_of-self-2 : goal.invariant_of-self-2
+invariant_of-self-2 c = left_standing c.self.inside.pass c.self.invariant c.in_ok-first.ensures c.finish.ensures

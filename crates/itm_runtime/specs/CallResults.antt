@@ -1,0 +1,29 @@
+-- What comes of a call of a thread.
+use Rattle.std.specs.Prelude.{◌≡◌, Bool, Result, MatchResult}
+use Rattle.itm_types.specs.declared.call.Call.{Call}
+use Rattle.norec_core.specs.declared.answer.Answer.{Answer}
+use Rattle.norec_core.specs.Core.{Core}
+use Rattle.norec_core.specs.Proceeds.{MayStarve}
+use Rattle.shared_words.specs.declared.pass.Pass.{Pass}
+use Rattle.shared_words.specs.declared.words.Words.{Words}
+use Rattle.shared_words.specs.Passes.{Owns, view_of}
+use Rattle.itm_runtime.specs.Served.{Start, Served}
+use Rattle.itm_runtime.specs.Standing.{Standing, start_of}
+use Rattle.itm_runtime.specs.Ties.{Stands}
+
+-- the call was answered so, and the thread is left with this pass and this engine
+pub record IsAnswered (words : Words) (s : Start) (a : Answer) (pass : Pass) (engine : Core) : Type 0 where
+  pub own : Owns words pass
+  pub served : Served s a (view_of pass) engine
+  pub stands : Stands (view_of pass) engine
+
+-- memory was refused to the call, which is one that may want some, and nothing is changed
+pub record IsStarved (words : Words) (old : Standing) (call : Call) (new : Standing) : Type 0 where
+  pub own : Owns words new.pass
+  pub stands : Stands (view_of new.pass) new.engine
+  pub err : new ≡ old
+  pub starves : MayStarve old.engine call
+
+-- a call's whole result: there is its answer, which `answer` takes from it, or memory was refused
+abbrev pub Returns : {A E : Type 0} → (A → Answer) → Words → Standing → Call → Bool → Result A E → Standing → Type 0
+Returns answer words old call again result new = MatchResult result (λ a. IsAnswered words (start_of old call again) (answer a) new.pass new.engine) (λ e. IsStarved words old call new)
