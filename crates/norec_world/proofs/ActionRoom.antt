@@ -1,13 +1,12 @@
 -- What an engine gives for a call leaves room for the actions that have run.
-use Rattle.std.proofs.Common.{unwrap_or, Vec, Global, ◌≡◌, ℕ, ◌+◌, ◌<◌, ◌≤◌, Bool, true, false, true≢false, [], length, is_some, Result, Ok, Err, IfOk, OnOk, OnErr, Some, None, refl, sym, ap, subst, ◌∙◌, inl, inr, arith, vec_capacity}
+use Rattle.std.proofs.Common.{unwrap_or, Vec, Global, ◌≡◌, ℕ, ◌+◌, ◌<◌, ◌≤◌, Bool, true, false, true≢false, [], length, is_some, Result, Ok, Err, IfOk, OnErr, Some, None, Option, refl, sym, ap, subst, ◌∙◌, inl, inr, arith, vec_capacity}
 use Rattle.itm_types.specs.Calls.{is_abort, registered_by}
 use Rattle.norec_core.specs.Core.{came, goes}
 use Rattle.norec_core.specs.Copies.{copy_refusal}
-use Rattle.norec_core.specs.Endings.{EndsSo, ending_at}
-use Rattle.norec_core.specs.Held.{ComesHeld}
 use Rattle.norec_core.specs.Moves.{IsCalled}
-use Rattle.norec_core.specs.Order.{asked, asked_from, stage_at, tries_at}
-use Rattle.norec_core.specs.Proceeds.{IsAtOnce, IsSettled, MayStarve, MayStarveIn, MayStarveOpen, StaysOn}
+use Rattle.norec_engine.specs.NextSteps.{next_in, ComesInto}
+use Rattle.norec_core.specs.Order.{asked, asked_from, stage_at}
+use Rattle.norec_core.specs.Proceeds.{IsSettled, MayStarveIn, MayStarveOpen}
 use Rattle.norec_world.specs.Records.{Asks as AsksOf, asked_pending, begins_again}
 use Rattle.norec_world.proofs.ActiveRows.{row_from}
 use Rattle.itm_types.specs.declared.call.Call.TheVariants.{Abort, Begin, CommitAction, Copy, Fill, Log, LogBytes, Mode, Read, UndoAction, Write}
@@ -175,9 +174,9 @@ on_err (Ok what) t = tt
 on_err (Err x) t = t
 
 -- the call did not come to the engine
-pub unasked_acting : {P A E : Type 0} (r : Rows) (a : Actor P) (e : Core) (result : Result A E) → OnErr result (e ≡ a.engine) → IsActing r a → OnErr result (IsActing r (record a { engine = e }))
-unasked_acting r a e (Ok what) still is = tt
-unasked_acting r a e (Err x) still is = subst (λ (c : Core). IsActing r (record a { engine = c })) (sym still) is
+pub unasked_acting : {P E : Type 0} (r : Rows) (a : Actor P) (e : Core) (call : Call) (answer : Answer) (result : Result (Option Step) E) → ComesInto a.engine call false result answer e → IsActing r a → OnErr result (IsActing r (record a { engine = e }))
+unasked_acting r a e call answer (Ok what) still is = tt
+unasked_acting r a e call answer (Err x) still is = subst (λ (c : Core). IsActing r (record a { engine = c })) (sym still.err) is
 
 -- ## A call goes to the engine
 
@@ -187,16 +186,16 @@ gave_plainly mid new old call again what g stage asks step is =
     plain_waits old new call again step stage asks (ap (λ (c : Core). c.waits) h.stays)
 
 -- there is room for what comes of it, which the result tells
-pub called_acting : {P A E : Type 0} (next : A → Next) (r : Rows) (a : Actor P) (mid old : Core) (call : Call) (again was : Bool) (o : in_transaction mid ≡ was) (has : HasRow was r a.thread) (doing : mid.doing ≡ Some call) (empty : IsEmpty a)
-    → ((row : Attempt) → active_of a.thread r.active ≡ Some row → row.ran ≡ mid.actions.ran)
-    → ((row : Attempt) → active_of a.thread r.active ≡ Some row → total mid.actions + registers call ≤ vec_capacity a.end_room)
-    → ((row : Attempt) → active_of a.thread r.active ≡ Some row → is_abort call ≡ true → total mid.actions ≤ vec_capacity a.cancel_room)
-    → StartsEmpty a → HasRoomFor mid a → ((row : Attempt) → active_of a.thread r.active ≡ Some row → row.calls.room ≤ promised mid) → (in_transaction mid ≡ true → a.ahead ≡ wanted mid) → ((row : Attempt) → a.pending ≡ Some row → row.calls.room ≡ wanted mid) → wanted mid ≤ mid.room
-    → (in_transaction mid ≡ false → (mid.actions.commits ≡ []) × (mid.actions.undos ≡ []))
-    → (result : Result A E) → IfOk result (λ what. Proceeds mid (next what) a.engine) → OnOk result (a.engine.stage ≡ stage_at old call again) → OnOk result (a.engine.waits ≡ asked a.engine) → OnOk result (IsSettled a.engine) → IfOk result (λ what. MayRunOn r a call (next what))
-called_acting next r a mid old call again was o has doing empty all places cancel pending room backed ahead wants reserved shut (Ok what) g stage asks settled =
-    gave_acting r a mid call was o has doing empty all places cancel pending room backed ahead wants reserved settled (next what) g shut (gave_plainly mid a.engine old call again (next what) g stage asks)
-called_acting next r a mid old call again was o has doing empty all places cancel pending room backed ahead wants reserved shut (Err x) g stage asks settled = tt
+pub called_acting : {P E : Type 0} (answer : Answer) (r : Rows) (a : Actor P) (old : Core) (call : Call) (again was : Bool) (o : in_transaction (came old call again) ≡ was) (has : HasRow was r a.thread) (empty : IsEmpty a)
+    → ((row : Attempt) → active_of a.thread r.active ≡ Some row → row.ran ≡ (came old call again).actions.ran)
+    → ((row : Attempt) → active_of a.thread r.active ≡ Some row → total (came old call again).actions + registers call ≤ vec_capacity a.end_room)
+    → ((row : Attempt) → active_of a.thread r.active ≡ Some row → is_abort call ≡ true → total (came old call again).actions ≤ vec_capacity a.cancel_room)
+    → StartsEmpty a → HasRoomFor (came old call again) a → ((row : Attempt) → active_of a.thread r.active ≡ Some row → row.calls.room ≤ promised (came old call again)) → (in_transaction (came old call again) ≡ true → a.ahead ≡ wanted (came old call again)) → ((row : Attempt) → a.pending ≡ Some row → row.calls.room ≡ wanted (came old call again)) → wanted (came old call again) ≤ (came old call again).room
+    → (in_transaction (came old call again) ≡ false → ((came old call again).actions.commits ≡ []) × ((came old call again).actions.undos ≡ []))
+    → (result : Result (Option Step) E) → ComesInto old call again result answer a.engine → IfOk result (λ what. MayRunOn r a call (next_in what answer))
+called_acting answer r a old call again was o has empty all places cancel pending room backed ahead wants reserved shut (Ok what) e =
+    gave_acting r a (came old call again) call was o has refl empty all places cancel pending room backed ahead wants reserved e.settled (next_in what answer) e.proceeds shut (gave_plainly (came old call again) a.engine old call again (next_in what answer) e.proceeds e.order e.asks)
+called_acting answer r a old call again was o has empty all places cancel pending room backed ahead wants reserved shut (Err x) e = tt
 
 -- a place more where the call registers one
 pub places_for : (call : Call) (least room room' : ℕ) → least ≤ room → room ≤ room' → (is_some (registered_by call) ≡ true → least < room') → least + registers call ≤ room'
@@ -204,23 +203,11 @@ places_for (CommitAction action) least room room' l k more = (let m = more refl 
 places_for (UndoAction action) least room room' l k more = (let m = more refl in omega arith)
 places_for call least room room' l k more = omega arith
 
--- what the engine says of a call that came to it, or for which it found no memory
-pub record IsServed {A E : Type 0} (next : A → Next) (result : Result A E) (old : Core) (call : Call) (new : Core) : Type 0 where
-  pub proceeds : IfOk result (λ what. Proceeds (came old call false) (next what) new)
-  pub at_once : IfOk result (λ what. IsAtOnce (next what))
-  pub stays : OnOk result (StaysOn old new)
-  pub order : OnOk result (new.stage ≡ stage_at old call false)
-  pub ends : IfOk result (λ what. EndsSo (ending_at old call) (next what))
-  pub tries : OnOk result (new.tries ≡ tries_at new.stage)
-  pub asks : OnOk result (new.waits ≡ asked new)
-  pub settled : OnOk result (IsSettled new)
-  pub held : old.irrevocable ≡ true → IfOk result (λ what. ComesHeld old call (next what) new)
-
 -- nothing else has changed
-pub asked_served : {P A E : Type 0} (next : A → Next) (clock : ℕ) (r r' : Rows) (old new : Actor P) (call : Call) → begins_again (in_transaction old.engine) old.again call ≡ false
+pub asked_served : {P E : Type 0} (answer : Answer) (clock : ℕ) (r r' : Rows) (old new : Actor P) (call : Call) → begins_again (in_transaction old.engine) old.again call ≡ false
     → new.pending ≡ asked_pending (in_transaction old.engine) clock old call → new.again ≡ old.again → new.player ≡ old.player → new.nth ≡ old.nth → (in_transaction old.engine ≡ true → new.ahead ≡ unwrap_or (goes old.engine call) 0) → new.thread ≡ old.thread → r' ≡ record r { room = r'.room }
-    → (result : Result A E) → IsServed next result old.engine call new.engine → IfOk result (λ what. AsksOf clock r r' old new call (next what))
-asked_served next clock r r' old new call first pending again player nth ahead thread rows (Ok what) e = record {
+    → (result : Result (Option Step) E) → ComesInto old.engine call false result answer new.engine → IfOk result (λ what. AsksOf clock r r' old new call (next_in what answer))
+asked_served answer clock r r' old new call first pending again player nth ahead thread rows (Ok what) e = record {
   pending = pending;
   again = again;
   player = player;
@@ -228,26 +215,16 @@ asked_served next clock r r' old new call first pending again player nth ahead t
   ahead = ahead;
   thread = thread;
   rows_are = rows;
-  called = subst (λ (b : Bool). IsCalled old.engine call b (next what) new.engine) (sym first) (record {
-    proceeds = e.proceeds;
-    at_once = e.at_once;
-    stays = e.stays;
-    order = e.order;
-    ends = e.ends;
-    tries = e.tries;
-    asks = e.asks;
-    settled = e.settled;
-    held = e.held;
-  });
+  called = subst (λ (b : Bool). IsCalled old.engine call b (next_in what answer) new.engine) (sym first) e;
 }
-asked_served next clock r r' old new call first pending again player nth ahead thread rows (Err x) e = tt
+asked_served answer clock r r' old new call first pending again player nth ahead thread rows (Err x) e = tt
 
 -- also within a block
-pub asked_inside : {P A E : Type 0} (next : A → Next) (clock : ℕ) (r r' : Rows) (old new : Actor P) (call : Call) → in_transaction old.engine ≡ true
+pub asked_inside : {P E : Type 0} (answer : Answer) (clock : ℕ) (r r' : Rows) (old new : Actor P) (call : Call) → in_transaction old.engine ≡ true
     → new.pending ≡ old.pending → new.again ≡ old.again → new.player ≡ old.player → new.nth ≡ old.nth → (in_transaction old.engine ≡ true → new.ahead ≡ unwrap_or (goes old.engine call) 0) → new.thread ≡ old.thread → r' ≡ record r { room = r'.room }
-    → (result : Result A E) → IsServed next result old.engine call new.engine → IfOk result (λ what. AsksOf clock r r' old new call (next what))
-asked_inside next clock r r' old new call inside pending again player nth ahead thread rows result e =
-    asked_served next clock r r' old new call (ap (λ (b : Bool). begins_again b old.again call) inside) (pending ∙ sym (ap (λ (b : Bool). asked_pending b clock old call) inside)) again player nth ahead thread rows result e
+    → (result : Result (Option Step) E) → ComesInto old.engine call false result answer new.engine → IfOk result (λ what. AsksOf clock r r' old new call (next_in what answer))
+asked_inside answer clock r r' old new call inside pending again player nth ahead thread rows result e =
+    asked_served answer clock r r' old new call (ap (λ (b : Bool). begins_again b old.again call) inside) (pending ∙ sym (ap (λ (b : Bool). asked_pending b clock old call) inside)) again player nth ahead thread rows result e
 
 -- outside one memory is wanted for a begin alone
 starves_open : (c : Core) (call : Call) → c.blocks ≡ [] → MayStarveOpen c call → is_begin call ≡ true
@@ -267,6 +244,6 @@ starves_in : (irrevocable : Bool) (c : Core) (call : Call) → c.irrevocable ≡
 starves_in true c call i s shut m = absurd (true≢false (sym (s.holder (s.irrevocable i).0).0 ∙ shut))
 starves_in false c call i s shut m = starves_open c call (none_inside c.blocks shut) m
 
-pub starves_begin : {A E : Type 0} (c : Core) (call : Call) → IsSettled c → (result : Result A E) → OnErr result (MayStarve c call) → OnErr result (in_transaction c ≡ false → is_begin call ≡ true)
-starves_begin c call s (Ok what) m = tt
-starves_begin c call s (Err x) m = λ shut. starves_in c.irrevocable c call refl s shut m
+pub starves_begin : {E : Type 0} (c new : Core) (call : Call) (answer : Answer) → IsSettled c → (result : Result (Option Step) E) → ComesInto c call false result answer new → OnErr result (in_transaction c ≡ false → is_begin call ≡ true)
+starves_begin c new call answer s (Ok what) m = tt
+starves_begin c new call answer s (Err x) m = λ shut. starves_in c.irrevocable c call refl s shut m.starves

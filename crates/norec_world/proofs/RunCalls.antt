@@ -102,7 +102,7 @@ module _ {P : Type 0} {rules : Rules P} (laws : Obeys rules) {cells : Cells} {r0
   seen : HasSeen base cells cells r (mid m) a.engine
   seen =
       call_seen base cells r old.engine a.engine call (begins_again (in_transaction old.engine) old.again call) (laid_same base cells r0 r (ended_same m) laid) m.sound.tied (rests m.sound m.ready).free
-      (subst (λ (l : List Attempt). Sees (words_at base l) cells old.engine) (sym (ended_same m)) runs.sees) m.asked.stays
+      (subst (λ (l : List Attempt). Sees (words_at base l) cells old.engine) (sym (ended_same m)) runs.sees) m.asked.called.stays
 
   -- where it is still open, the answer was a reply, and its row has one call more
   answer_reads : (b : Bool) (answer : Answer) → in_transaction old.engine ≡ b → {r1 : Rows} {last : Actor P} → HasAnswered rules b cells cells r r1 (mid m) a last call answer → ReadsAt r1 last
@@ -117,8 +117,8 @@ module _ {P : Type 0} {rules : Rules P} (laws : Obeys rules) {cells : Cells} {r0
           let here : active_of last.thread r1.active ≡ Some (with_call x.1) =
           ap (λ (k : ℕ). active_of k r1.active) t.settled.thread ∙ (ap (λ (x : Rows). active_of a.thread x.active) told.0 ∙ changed_here a.thread with_call r.active x.1 (λ x. refl) x.3) in
           let same : with_call x.1 ≡ row = (let z : Some (with_call x.1) ≡ Some row = sym here ∙ f in cc) in
-          ap (λ (x : Attempt). x.at) (sym same) ∙ (runs.reads was x.1 (sym (active_same m) ∙ x.3) ∙ ap (λ (k : ℕ). k / 2) (sym (ap (λ (c : Core). c.snapshot) t.settled.engine ∙ m.asked.stays.snapshot)))
-      by_answer false (Reply reply) was t now row f = absurd (true≢false (sym (m.asked.stays.opens now) ∙ was))
+          ap (λ (x : Attempt). x.at) (sym same) ∙ (runs.reads was x.1 (sym (active_same m) ∙ x.3) ∙ ap (λ (k : ℕ). k / 2) (sym (ap (λ (c : Core). c.snapshot) t.settled.engine ∙ m.asked.called.stays.snapshot)))
+      by_answer false (Reply reply) was t now row f = absurd (true≢false (sym (m.asked.called.stays.opens now) ∙ was))
       by_answer b answer was t now row f = absurd (true≢false (sym now ∙ t.answered.fits.1))
 
   pub call_runs : (r1 : Rows) (last : Actor P) → IsDone rules (in_transaction old.engine) r r1 a last call what → Tells rules (in_transaction old.engine) r r1 a last call what → (more : List Attempt) → r1.ended ≡ r.ended ++ more → AreCounted cells.clock r1.ended
@@ -133,7 +133,7 @@ module _ {P : Type 0} {rules : Rules P} (laws : Obeys rules) {cells : Cells} {r0
           held = x.held;
           starved = λ e. absurd (x.fed e);
           reads = recorded ReadsAt taken done tells
-              (λ step t o row e. runs.reads (sym (ap in_transaction t.proceeds.stays) ∙ o) row (sym (active_same m) ∙ e) ∙ ap (λ (k : ℕ). k / 2) (sym m.asked.stays.snapshot))
+              (λ step t o row e. runs.reads (sym (ap in_transaction t.proceeds.stays) ∙ o) row (sym (active_same m) ∙ e) ∙ ap (λ (k : ℕ). k / 2) (sym m.asked.called.stays.snapshot))
               (λ answer is t. answer_reads (in_transaction old.engine) answer refl t);
           fed = λ true_room.
               (let before = runs.fed true_room in

@@ -6,7 +6,7 @@ use Rattle.norec_world.proofs.CallRoom.{promised_same, wanted_came, wanted_same}
 use Rattle.norec_world.proofs.HeldRoom.{same_room}
 use Rattle.norec_world.proofs.LaterActions.{first_here}
 use Rattle.std.proofs.Common.{◌≡◌, ◌≢◌, [], nat_lt, inl, ℕ, zero, suc, ◌+◌, ◌*◌, ◌/◌, ◌%◌, ◌<◌, ◌≤◌, ◌==◌, Bool, true, false, if◌then◌else◌, Option, None, Some, refl, sym, true≢false, ap, subst, ◌∙◌, arith, eqb-true, inr, ◌-◌, length, unwrap_or}
-use Rattle.norec_world.proofs.Common.{Actor, AllFit, Answers, Asks, AsksFor, Attempt, Begin, BeginsAt, Call, Cas, Cells, ClocksOn, Core, Ended, Falls, GoesOn, HoldsOn, IsDone, IsLawful, IsNested, IsNoMore, IsReady, IsResumed, IsSettledBy, IsSound, IsTied, IsWithin, Load, Next, Proceeds, Ready, RestsAs, Rows, Rules, Status, StatusIs, Step, Store, Waits, active_of, asked_pending, begins_again, came, cells_after, ending_of, found, handed_is, handed_to, in_transaction, is_inside, is_ready, is_waiting, none_inside, asked, same_Some, rank, rests as rested, steps_left, whole, IsTold, Tells}
+use Rattle.norec_world.proofs.Common.{Actor, AllFit, Answers, Asks, AsksFor, Attempt, Begin, BeginsAt, Call, Cas, Cells, ClocksOn, Core, Ended, Falls, GoesOn, HoldsOn, IsDone, IsLawful, IsNested, IsNoMore, IsReady, IsResumed, IsSettledBy, IsSound, IsTied, Load, Next, Proceeds, Ready, RestsAs, Rows, Rules, Status, StatusIs, Step, Store, Waits, active_of, asked_pending, begins_again, came, cells_after, ending_of, found, handed_is, handed_to, in_transaction, is_inside, is_ready, is_waiting, none_inside, asked, same_Some, rank, rests as rested, steps_left, whole, IsTold, Tells}
 use Rattle.norec_core.specs.Keeps.{Keeps}
 use Rattle.norec_core.specs.Core.{goes, may_go}
 use Rattle.norec_core.specs.Order.{asked_from, snapshot_from, stage_at, stage_from}
@@ -120,7 +120,6 @@ pub record IsStepping {P : Type 0} (rules : Rules P) (cells : Cells) (r : Rows) 
   pub cells_are : cells' ≡ cells_after cells step
   pub fit : AllFit cells'.words
   pub resumed : IsResumed old.engine (found cells step) what new
-  pub within : IsWithin new
 
 module _ {P : Type 0} {rules : Rules P} {cells : Cells} {r : Rows} {old : Actor P} {call : Call} {what : Next} {cells' : Cells} {new : Core} (m : IsStepping rules cells r old call what cells' new) where
   -- the engine with the value
@@ -168,7 +167,7 @@ module _ {P : Type 0} {rules : Rules P} {cells : Cells} {r : Rows} {old : Actor 
         doing = same.doing ∙ waits.doing;
         words = is_mid.words;
         tied = tied cells' mid_step new what is_mid went;
-        within = m.within;
+        within = m.resumed.count;
         kept = record { row = k.row; empty = k.empty; tried = k.tried; tries = k.tries; retries = k.retries };
         first = first_here r old.thread mid_step new call what (in_transaction old.engine) (ap is_inside same.blocks) k.row (same.doing ∙ waits.doing) went (λ row e. m.sound.acts.all row e ∙ ap (λ (x : _). x.ran) (sym same.actions));
         nested = waits.nested;
@@ -235,7 +234,7 @@ module _ {P : Type 0} {rules : Rules P} {cells : Cells} {r : Rows} {old : Actor 
       let opens : in_transaction old.engine ≡ in_transaction new = sym (ap in_transaction asks.stays ∙ ap is_inside kept.blocks) in
       let spent : new.spent ≡ old.engine.spent + 1 = ap (λ (c : Core). c.spent) asks.stays ∙ ap (λ (n : ℕ). n + 1) (handed_is old.engine m.step (found cells m.step)).spent in
       let most_is : most new new.doing ≡ most old.engine old.engine.doing = ap (λ (c : Core). most c c.doing) asks.stays ∙ (ap (most (mid_step m)) kept.doing ∙ most_same old.engine (mid_step m) kept old.engine.doing) in
-      let enough : new.spent ≤ most new new.doing = m.within (λ e. absurd (let f : Some step ≡ None = sym (ap (λ (c : Core). c.waits) asks.stays) ∙ e in cc)) in
+      let enough : new.spent ≤ most new new.doing = m.resumed.count (λ e. absurd (let f : Some step ≡ None = sym (ap (λ (c : Core). c.waits) asks.stays) ∙ e in cc)) in
       record {
         steps = (let fewer : steps_left new < steps_left old.engine = omega arith in fewer);
         less = record {
@@ -246,15 +245,14 @@ module _ {P : Type 0} {rules : Rules P} {cells : Cells} {r : Rows} {old : Actor 
 
 -- the same, with the value that was found by a name of its own
 pub stepping : {P : Type 0} {rules : Rules P} {cells : Cells} {r : Rows} {old : Actor P} {call : Call} {step : Step} {what : Next} {cells' : Cells} {new : Core} {seen : ℕ} → IsSound rules cells r old → old.status ≡ Waits call step → seen ≡ found cells step
-    → cells' ≡ cells_after cells step → AllFit cells'.words → IsResumed old.engine seen what new → IsWithin new → IsStepping rules cells r old call what cells' new
-stepping {old} {step} {what} {new} sound waiting seen_is cells_are fit resumed within = record {
+    → cells' ≡ cells_after cells step → AllFit cells'.words → IsResumed old.engine seen what new → IsStepping rules cells r old call what cells' new
+stepping {old} {step} {what} {new} sound waiting seen_is cells_are fit resumed = record {
   sound = sound;
   step = step;
   waiting = waiting;
   cells_are = cells_are;
   fit = fit;
   resumed = subst (λ (n : ℕ). IsResumed old.engine n what new) seen_is resumed;
-  within = within;
 }
 
 -- ## What is left to do
@@ -312,8 +310,8 @@ module _ {P : Type 0} {rules : Rules P} {cells : Cells} {r0 r : Rows} {old a : A
         proceeds = m.asks.called.proceeds;
         doing = refl;
         words = m.sound.tied.words;
-        tied = tied cells mid a.engine what (comes cells old.engine a.engine m.sound.tied m.asked.settled call (begins_again (in_transaction old.engine) old.again call)) m.asks.called.proceeds;
-        within = m.asked.within;
+        tied = tied cells mid a.engine what (comes cells old.engine a.engine m.sound.tied m.asked.called.settled call (begins_again (in_transaction old.engine) old.again call)) m.asks.called.proceeds;
+        within = m.asked.called.count;
         kept = m.asked.kept;
         first = first_here r a.thread mid a.engine call what (in_transaction old.engine) refl m.asked.kept.row refl m.asks.called.proceeds
             (λ row e. m.sound.acts.all row (sym ((λ i. active_of (m.asks.thread i) r.active) ∙ ap (λ (x : Rows). active_of old.thread x.active) m.asks.rows_are) ∙ e));
@@ -329,7 +327,7 @@ module _ {P : Type 0} {rules : Rules P} {cells : Cells} {r0 r : Rows} {old a : A
         begun = λ some shut. (let went_on = asks_step mid a.engine what m.asks.called.proceeds some in
             begun_call a.engine some m.asks.called.asks old.engine call (begins_again (in_transaction old.engine) old.again call)
             (sym (ap is_inside went_on.0) ∙ shut) went_on.1 went_on.0 m.asks.called.order);
-        outside = λ o free. (refl, inr m.asked.at_once);
+        outside = λ o free. (refl, inr m.asked.called.at_once);
       }
 
   -- the rows are those that were

@@ -90,7 +90,7 @@ module _ {P : Type 0} {rules : Rules P} {cells : Cells} {r0 r : Rows} {old a : A
           shut reply.0 (subst (HasAnswered rules false cells cells r r1 (mid m) a last call) reply.1 t)
         where
           closed : in_transaction a.engine ≡ false
-          closed = false_from_ne_true (in_transaction a.engine) (λ o. absurd (let f : true ≡ false = sym (m.asked.stays.opens o) ∙ e in cc))
+          closed = false_from_ne_true (in_transaction a.engine) (λ o. absurd (let f : true ≡ false = sym (m.asked.called.stays.opens o) ∙ e in cc))
 
           shut : (reply : Replied) → HasAnswered rules false cells cells r r1 (mid m) a last call (Reply reply) → Tries cells.clock (prior_of r0 old) cells.clock r1 last
           shut reply t =

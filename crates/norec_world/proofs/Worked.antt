@@ -108,7 +108,7 @@ module _ {P : Type 0} {rules : Rules P} (laws : Obeys rules) {cells : Cells} {r0
         holds = ap (λ (c : Core). c.holds) x.engine ∙ (clock_same (mid m) a.engine what m.asks.called.proceeds).2;
         clock = ap (λ (c : Core). c.clock) x.engine ∙ (clock_same (mid m) a.engine what m.asks.called.proceeds).1;
         limit = (ap (λ (c : Core). c.max_commits) x.engine ∙ kept.0, ap (λ (c : Core). c.patience) x.engine ∙ kept.1);
-        snapshot = ap (λ (c : Core). c.snapshot) x.engine ∙ m.asked.stays.snapshot;
+        snapshot = ap (λ (c : Core). c.snapshot) x.engine ∙ m.asked.called.stays.snapshot;
         retries = x.retries ∙ m.asked.same.retries;
         finishes = λ w e. absurd (recorded (λ x y. ending_of y.status ≡ Some Finished → ⊥) taken done tells (λ step t e. absurd (cc)) (λ answer is t. not_finished rules r r1 a last call (in_transaction old.engine) taken.ready answer t.told) e);
         still = not_still old m.ready;

@@ -8,9 +8,10 @@ use Rattle.itm_types.specs.Memory.{AllFit}
 use Rattle.itm_types.specs.declared.limits.TheConstants.{MAX_RETRIES}
 use Rattle.itm_types.specs.Calls.{is_begin, is_abort}
 use Rattle.tx_player.specs.Depth.{depth_after}
-use Rattle.norec_core.specs.Core.{Core, came, in_transaction, may_go}
+use Rattle.norec_core.specs.Core.{Core, in_transaction, may_go}
+use Rattle.norec_core.specs.Moves.{IsCalled}
 use Rattle.norec_core.specs.Order.{asked}
-use Rattle.norec_core.specs.Proceeds.{IsAtOnce, IsLawful, IsSettled, IsWithin, Proceeds, StaysOn, most}
+use Rattle.norec_core.specs.Proceeds.{IsLawful, IsSettled, IsWithin, most}
 use Rattle.norec_core.specs.declared.phase.Phase.{Phase}
 use Rattle.norec_core.specs.declared.phase.Phase.TheVariants as at
 use Rattle.norec_core.specs.declared.answer.Next.{Next}
@@ -26,6 +27,8 @@ use Rattle.norec_world.specs.declared.actor.Status.{Status}
 use Rattle.norec_world.specs.declared.actor.Status.TheVariants.{Ready, Waits, Ended}
 use Rattle.norec_world.specs.ActionRoom.{IsActing}
 use Rattle.norec_world.specs.Cells.{Cells}
+use Rattle.norec_world.specs.OthersAttempts.{KeepsOthers}
+use Rattle.norec_world.specs.Records.{Tells}
 use Rattle.norec_world.specs.Rows.{Rows, active_of}
 use Rattle.norec_world.specs.Status.{is_ready, is_waiting}
 use Rattle.tx_player.specs.Rules.{Rules}
@@ -183,11 +186,7 @@ module _ {P : Type 0} (rules : Rules P) where
   pub record IsAsked (r : Rows) (old new : Actor P) (call : Call) (what : Next) : Type 0 where
     pub same : SameBeside old new
     pub again : Bool
-    pub proceeds : Proceeds (came old.engine call again) what new.engine
-    pub at_once : IsAtOnce what
-    pub stays : StaysOn old.engine new.engine
-    pub within : IsWithin new.engine
-    pub settled : IsSettled new.engine
+    pub called : IsCalled old.engine call again what new.engine
     pub kept : IsKept (in_transaction old.engine) r new
     pub in_call : IsInCall (in_transaction old.engine) r new call
 
@@ -223,6 +222,20 @@ module _ {P : Type 0} (rules : Rules P) where
   abbrev pub IsDone : Bool → Rows → Rows → Actor P → Actor P → Call → Next → Type 0
   IsDone was r r' old new call (Asks step) = (new ≡ record old { status = Waits call step }) × (r' ≡ r)
   IsDone was r r' old new call (Answers answer) = IsSettledBy was r' old new
+
+  -- it may be recorded: a transaction was open as the call came, or none was
+  abbrev pub MayRecord : Rows → Actor P → Call → Next → Type 0
+  MayRecord r a call what = (was : Bool) × IsDue was r a call what
+
+  -- what is recorded of it
+  pub record IsRecorded (was : Bool) (r : Rows) (old : Actor P) (call : Call) (what : Next) (r' : Rows) (new : Actor P) : Type 0 where
+    pub done : IsDone was r r' old new call what
+    pub tells : Tells rules was r r' old new call what
+    pub others : KeepsOthers old r new r'
+
+  -- and that is so, whichever of the two it was
+  abbrev pub WritesDown : Rows → Actor P → Call → Next → Rows → Actor P → Type 0
+  WritesDown r old call what r' new = (was : Bool) → IsDue was r old call what → IsRecorded was r old call what r' new
 
   -- steps of the call in progress that are left, where one is
   abbrev pub call_left : Actor P → ℕ

@@ -1,5 +1,6 @@
 -- What an actor does next.
-use Rattle.std.specs.Prelude.{Bool, true, false, Option, None, Some}
+use Rattle.std.specs.Prelude.{◌≡◌, Bool, true, false, Option, None, Some}
+use Rattle.itm_types.specs.declared.call.Call.{Call}
 use Rattle.itm_types.specs.declared.step.Step.{Step}
 use Rattle.tx_runs.specs.declared.ending.End.{End}
 use Rattle.norec_world.specs.declared.actor.Status.{Status}
@@ -27,3 +28,7 @@ abbrev pub waiting_step : Status → Option Step
 waiting_step Ready = None
 waiting_step (Waits call step) = Some step
 waiting_step (Ended end) = None
+
+-- true of the call in progress, where one waits for a step
+abbrev pub InProgress : Status → (Call → Type 0) → Type 0
+InProgress status Holds = (call : Call) (step : Step) → status ≡ Waits call step → Holds call

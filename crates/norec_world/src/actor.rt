@@ -1,6 +1,7 @@
 //! One actor.
 
 ghost use Rattle.norec_core.specs.Core.{in_transaction};
+ghost use Rattle.norec_core.specs.declared.answer.Next.TheVariants.{Answer as Answers};
 ghost use Rattle.norec_engine.specs.NextSteps.{next_in};
 
 use crate::memory::Memory;
@@ -51,14 +52,13 @@ pub(crate) struct Actor<P> {
 }
 
 impl<P: Player> Actor<P> {
-    ghost use Rattle.std.specs.Prelude.{◌≡◌, ◌/◌, Bool, true, false, [], Some, None};
-    ghost use Rattle.norec_world.specs.Cells.{cells_after};
-    ghost use Rattle.norec_world.specs.Status.{ending_of, is_waiting, is_ready, waiting_step};
-    ghost use Rattle.norec_world.specs.Records.{Records, Tells, IsTold, ReadsAt};
+    ghost use Rattle.std.specs.Prelude.{◌≡◌, ◌/◌, true, false, [], Some, None};
+    ghost use Rattle.norec_world.specs.Status.{ending_of, is_waiting, InProgress};
+    ghost use Rattle.norec_world.specs.Records.{IsTold, ReadsAt};
     ghost use Rattle.norec_world.specs.Moments.{HasStepped};
     ghost use Rattle.norec_world.specs.OthersAttempts.{KeepsOthers};
     ghost use Rattle.norec_world.specs.ActionRoom.{MayRun, MayRunOn, IsActing};
-    ghost use Rattle.norec_world.specs.Sound.{IsKept, IsSound, IsAnswered, IsSettledBy, IsDue, IsDone, StatusIs, GoesOn, Falls};
+    ghost use Rattle.norec_world.specs.Sound.{IsKept, IsSound, MayRecord, StatusIs, WritesDown};
 
     /// An actor that has made no call.
     pub(crate) fn new(alloc: Global, thread: u8, retries: u32, player: P, engine: Engine) -> Self
@@ -127,20 +127,13 @@ impl<P: Player> Actor<P> {
     #[inline(always)]
     fn proceed(&mut self, recorded: &mut Recorded, next: Option<Step>, answer: Answer)
         requires waits { is_waiting self.old.status ≡ true }
-        requires due { (call : Call) (step : Step) → self.old.status ≡ Status.Waits call step
-            → (was : Bool) × IsDue P.Player was recorded.old (record self.old { status = Status.Ready }) call (next_in next answer) }
-        requires acts { (call : Call) (step : Step) → self.old.status ≡ Status.Waits call step
-            → MayRunOn recorded.old (record self.old { status = Status.Ready }) call (next_in next answer) }
+        requires due { InProgress self.old.status
+            (λ call. MayRecord P.Player recorded.old (record self.old { status = Status.Ready }) call (next_in next answer)) }
+        requires acts { InProgress self.old.status
+            (λ call. MayRunOn recorded.old (record self.old { status = Status.Ready }) call (next_in next answer)) }
         ensures acts { IsActing recorded.new self.new }
-        ensures done { (call : Call) (step : Step) → self.old.status ≡ Status.Waits call step → (was : Bool)
-            → IsDue P.Player was recorded.old (record self.old { status = Status.Ready }) call (next_in next answer)
-            → IsDone P.Player was recorded.old recorded.new (record self.old { status = Status.Ready }) self.new call (next_in next answer) }
-        ensures tells { (call : Call) (step : Step) → self.old.status ≡ Status.Waits call step → (was : Bool)
-            → IsDue P.Player was recorded.old (record self.old { status = Status.Ready }) call (next_in next answer)
-            → Tells P.Player was recorded.old recorded.new (record self.old { status = Status.Ready }) self.new call (next_in next answer) }
-        ensures others { (call : Call) (step : Step) → self.old.status ≡ Status.Waits call step → (was : Bool)
-            → IsDue P.Player was recorded.old (record self.old { status = Status.Ready }) call (next_in next answer)
-            → KeepsOthers self.old recorded.old self.new recorded.new }
+        ensures recorded { InProgress self.old.status
+            (λ call. WritesDown P.Player recorded.old (record self.old { status = Status.Ready }) call (next_in next answer) recorded.new self.new) }
     {
         match next {
             Some(next) => self.wait(next),
@@ -153,19 +146,12 @@ impl<P: Player> Actor<P> {
     #[inline(never)]
     fn end_call(&mut self, recorded: &mut Recorded, answer: Answer)
         requires waits { is_waiting self.old.status ≡ true }
-        requires answered { (call : Call) (step : Step) → self.old.status ≡ Status.Waits call step
-            → (was : Bool) × IsAnswered P.Player was recorded.old (record self.old { status = Status.Ready }) call answer }
+        requires answered { InProgress self.old.status
+            (λ call. MayRecord P.Player recorded.old (record self.old { status = Status.Ready }) call (Answers answer)) }
         requires acts { MayRun recorded.old (record self.old { status = Status.Ready }) }
         ensures acts { IsActing recorded.new self.new }
-        ensures settled { (call : Call) (step : Step) → self.old.status ≡ Status.Waits call step → (was : Bool)
-            → IsAnswered P.Player was recorded.old (record self.old { status = Status.Ready }) call answer
-            → IsSettledBy P.Player was recorded.new (record self.old { status = Status.Ready }) self.new }
-        ensures records { (call : Call) (step : Step) → self.old.status ≡ Status.Waits call step → (was : Bool)
-            → IsAnswered P.Player was recorded.old (record self.old { status = Status.Ready }) call answer
-            → Records P.Player was recorded.old recorded.new (record self.old { status = Status.Ready }) self.new call answer }
-        ensures others { (call : Call) (step : Step) → self.old.status ≡ Status.Waits call step → (was : Bool)
-            → IsAnswered P.Player was recorded.old (record self.old { status = Status.Ready }) call answer
-            → KeepsOthers self.old recorded.old self.new recorded.new }
+        ensures recorded { InProgress self.old.status
+            (λ call. WritesDown P.Player recorded.old (record self.old { status = Status.Ready }) call (Answers answer) recorded.new self.new) }
     {
         if let Status::Waits { call, .. } = mem::replace(&mut self.status, Status::Ready) {
             self.settle(recorded, call, answer);
@@ -174,8 +160,7 @@ impl<P: Player> Actor<P> {
 
     /// The call in progress waits for this step.
     fn wait(&mut self, next: Step)
-        ensures { (call : Call) (step : Step) → self.old.status ≡ Status.Waits call step
-            → self.new ≡ record self.old { status = Status.Waits call next } }
+        ensures { InProgress self.old.status (λ call. self.new ≡ record self.old { status = Status.Waits call next }) }
     {
         if let Status::Waits { step, .. } = &mut self.status {
             *step = next;

@@ -1,9 +1,10 @@
 //! The local work of an actor: what it does between two operations.
 
-ghost use Rattle.std.specs.Prelude.{◌≡◌, ◌⊎◌, ◌^◌, ◌+◌, ◌/◌, ◌<◌, ◌≤◌, ◌++◌, ◌∷◌, ℕ, Bool, true, false, [], if◌then◌else◌, Some, None, IfOk, OnOk, OnErr, is_some, length, unwrap_or, vec_capacity};
+ghost use Rattle.std.specs.Prelude.{◌≡◌, ◌+◌, ◌/◌, ◌<◌, ◌≤◌, true, false, [], Some, None, IfOk, OnErr, length, vec_capacity};
 ghost use Rattle.tx_attempts.specs.declared.attempt.Attempt.{Attempt};
 ghost use Rattle.norec_world.specs.Rows.{active_of};
 ghost use Rattle.norec_core.specs.Core.{in_transaction};
+ghost use Rattle.norec_core.specs.declared.answer.Next.TheVariants.{Answer as Answers};
 ghost use Rattle.norec_engine.specs.NextSteps.{next_in};
 
 use crate::actor::{Actor, Status};
@@ -19,8 +20,8 @@ use tx_runs::{End, ahead_of, outcome_of};
 
 impl<P: Player> Actor<P> {
     ghost use Rattle.norec_world.specs.Cells.{Cells};
-    ghost use Rattle.norec_world.specs.Status.{is_ready, ending_of};
-    ghost use Rattle.norec_world.specs.Records.{Asks, Records, StopsAt};
+    ghost use Rattle.norec_world.specs.Status.{is_ready};
+    ghost use Rattle.norec_world.specs.Records.{Asks, StopsAt};
     ghost use Rattle.norec_world.specs.Rows.{with_ended};
     ghost use Rattle.tx_attempts.specs.Kept.{grown, spent};
     ghost use Rattle.norec_core.specs.Proceeds.{IsSettled};
@@ -29,8 +30,8 @@ impl<P: Player> Actor<P> {
     ghost use Rattle.norec_world.specs.LocalWork.{IsShort};
     ghost use Rattle.norec_world.specs.Moments.{HasWorked};
     ghost use Rattle.norec_world.specs.OthersAttempts.{KeepsOthers};
-    ghost use Rattle.norec_world.specs.ActionRoom.{MayRunOn, HasFirst, HasPlaces, IsActing, IsEmpty, MayRun};
-    ghost use Rattle.norec_world.specs.Sound.{IsTied, IsKept, IsReady, IsSound, IsAnswered, IsSettledBy, IsAsked, IsUnasked, IsNoMore, Falls, retried};
+    ghost use Rattle.norec_world.specs.ActionRoom.{MayRunOn, HasFirst, HasPlaces, IsActing, MayRun};
+    ghost use Rattle.norec_world.specs.Sound.{IsTied, IsKept, IsReady, IsSound, IsAsked, IsUnasked, MayRecord, WritesDown, Falls, retried};
 
     /// Calls are made until one waits for a step or the actor has ended.
     #[inline(always)]
@@ -151,15 +152,10 @@ impl<P: Player> Actor<P> {
     /// call and its reply are large, and would be copied from one function to the next.
     #[inline(always)]
     pub(crate) fn settle(&mut self, recorded: &mut Recorded, call: Call, answer: Answer)
-        requires answered { (was : Bool) × IsAnswered P.Player was recorded.old self.old call answer }
+        requires answered { MayRecord P.Player recorded.old self.old call (Answers answer) }
         requires acts { MayRun recorded.old self.old }
         ensures acts { IsActing recorded.new self.new }
-        ensures settled { (was : Bool) → IsAnswered P.Player was recorded.old self.old call answer
-            → IsSettledBy P.Player was recorded.new self.old self.new }
-        ensures records { (was : Bool) → IsAnswered P.Player was recorded.old self.old call answer
-            → Records P.Player was recorded.old recorded.new self.old self.new call answer }
-        ensures others { (was : Bool) → IsAnswered P.Player was recorded.old self.old call answer
-            → KeepsOthers self.old recorded.old self.new recorded.new }
+        ensures recorded { WritesDown P.Player recorded.old self.old call (Answers answer) recorded.new self.new }
     {
         match answer {
             Answer::Reply(reply) => self.replied(recorded, call, reply),
@@ -200,15 +196,10 @@ impl<P: Player> Actor<P> {
     /// The transaction is open as it was, or was cancelled, or its begin is over.
     #[inline(always)]
     fn replied(&mut self, recorded: &mut Recorded, call: Call, reply: Reply)
-        requires answered { (was : Bool) × IsAnswered P.Player was recorded.old self.old call (Answer.Reply reply) }
+        requires answered { MayRecord P.Player recorded.old self.old call (Answers (Answer.Reply reply)) }
         requires acts { MayRun recorded.old self.old }
         ensures acts { IsActing recorded.new self.new }
-        ensures settled { (was : Bool) → IsAnswered P.Player was recorded.old self.old call (Answer.Reply reply)
-            → IsSettledBy P.Player was recorded.new self.old self.new }
-        ensures records { (was : Bool) → IsAnswered P.Player was recorded.old self.old call (Answer.Reply reply)
-            → Records P.Player was recorded.old recorded.new self.old self.new call (Answer.Reply reply) }
-        ensures others { (was : Bool) → IsAnswered P.Player was recorded.old self.old call (Answer.Reply reply)
-            → KeepsOthers self.old recorded.old self.new recorded.new }
+        ensures recorded { WritesDown P.Player recorded.old self.old call (Answers (Answer.Reply reply)) recorded.new self.new }
     {
         self.player.answer(&reply);
         let is_open = self.engine.is_open();
@@ -240,15 +231,10 @@ impl<P: Player> Actor<P> {
     /// The block is done, and the next one is tried for the first time.
     #[inline(always)]
     fn committed(&mut self, recorded: &mut Recorded, call: Call, at: u64, wrote: bool)
-        requires answered { (was : Bool) × IsAnswered P.Player was recorded.old self.old call (Answer.Committed at wrote) }
+        requires answered { MayRecord P.Player recorded.old self.old call (Answers (Answer.Committed at wrote)) }
         requires acts { MayRun recorded.old self.old }
         ensures acts { IsActing recorded.new self.new }
-        ensures settled { (was : Bool) → IsAnswered P.Player was recorded.old self.old call (Answer.Committed at wrote)
-            → IsSettledBy P.Player was recorded.new self.old self.new }
-        ensures records { (was : Bool) → IsAnswered P.Player was recorded.old self.old call (Answer.Committed at wrote)
-            → Records P.Player was recorded.old recorded.new self.old self.new call (Answer.Committed at wrote) }
-        ensures others { (was : Bool) → IsAnswered P.Player was recorded.old self.old call (Answer.Committed at wrote)
-            → KeepsOthers self.old recorded.old self.new recorded.new }
+        ensures recorded { WritesDown P.Player recorded.old self.old call (Answers (Answer.Committed at wrote)) recorded.new self.new }
     {
         self.player.answer(&Reply::Done);
         let entry = Entry {

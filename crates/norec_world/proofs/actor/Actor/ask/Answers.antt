@@ -1,9 +1,9 @@
 use Rattle.std.proofs.Common.{◌≡◌, ℕ, Bool, true, false, true≢false, if◌then◌else◌, Option, None, Some, unwrap_or, refl, sym, ap, subst, ◌∙◌, IfOk, vec_capacity, arith, rules}
 use Rattle.user_actions.specs.Actions.{total}
 use Rattle.norec_core.specs.Core.{Core, came, goes}
-use Rattle.norec_engine.specs.NextSteps.{next_in}
+use Rattle.norec_engine.specs.NextSteps.{next_in, ComesInto}
 use Rattle.norec_world.specs.ActionRoom.{MayRunOn}
-use Rattle.norec_world.proofs.ActionRoom.{IsServed, asked_inside, asked_served, called_acting, gave_acting, grown_acting, on_err, places_for, starves_begin, unasked_acting}
+use Rattle.norec_world.proofs.ActionRoom.{asked_inside, asked_served, called_acting, gave_acting, grown_acting, on_err, places_for, starves_begin, unasked_acting}
 use Rattle.norec_world.proofs.CallRoom.{backed_came, promised_came, wanted_came}
 use Rattle.norec_world.proofs.HeldRoom.{came_room}
 use Rattle.norec_world.proofs.SoundOthers.{has_row_same}
@@ -15,11 +15,7 @@ pub returns-in_ok-next-in-Begin-clause-asked : goal.returns-in_ok-next-in-Begin-
 returns-in_ok-next-in-Begin-clause-asked g c = record {
   same = search rules;
   again = c.args.self.now.again;
-  proceeds = search rules;
-  at_once = search rules;
-  stays = search rules;
-  within = search rules;
-  settled = search rules;
+  called = search rules;
   kept = search rules;
   in_call = record {
     asks = search rules;
@@ -37,13 +33,10 @@ returns-in_ok-next-in-Begin-clause-asked g c = record {
 }
 
 pub returns-in_default-clause-grows : goal.returns-in_default-clause-grows
-returns-in_default-clause-grows g c = starves_begin c.args.self.now.engine c.args.call.now c.requires.settled c.call_into.result c.call_into.ensures.starves
+returns-in_default-clause-grows g c = starves_begin c.args.self.now.engine c.call_into.new.self c.args.call.now c.call_into.new.answer c.requires.settled c.call_into.result c.call_into.ensures
 
-served : (g : _) (c : After-call_into-in_default-2 g) → IsServed (λ (n : Option Step). next_in n c.call_into-in_default-2.new.answer) c.call_into-in_default-2.result c.args.self.now.engine c.args.call.now c.call_into-in_default-2.new.self
-served g c =
-    let e = c.call_into-in_default-2.ensures in
-    subst (λ (x : Core). IsServed (λ (n : Option Step). next_in n c.call_into-in_default-2.new.answer) c.call_into-in_default-2.result x c.args.call.now c.call_into-in_default-2.new.self) (ap (λ (x : Actor g.row.P.Denot). x.engine) c.make_room.ensures.actor)
-    (record { proceeds = e.proceeds; at_once = e.at_once; stays = e.stays; order = e.order; ends = e.ends; tries = e.tries; asks = e.asks; settled = e.settled; held = e.held })
+served : (g : _) (c : After-call_into-in_default-2 g) → ComesInto c.args.self.now.engine c.args.call.now false c.call_into-in_default-2.result c.call_into-in_default-2.new.answer c.call_into-in_default-2.new.self
+served g c = subst (λ (x : Core). ComesInto x c.args.call.now false c.call_into-in_default-2.result c.call_into-in_default-2.new.answer c.call_into-in_default-2.new.self) (ap (λ (x : Actor g.row.P.Denot). x.engine) c.make_room.ensures.actor) c.call_into-in_default-2.ensures
 
 pub returns-in_ok-make_room-in_default-2-clause-acts : goal.returns-in_ok-make_room-in_default-2-clause-acts
 returns-in_ok-make_room-in_default-2-clause-acts g c =
@@ -51,10 +44,9 @@ returns-in_ok-make_room-in_default-2-clause-acts g c =
     let acts = c.requires.acts in
     let room = c.make_room.ensures in
     let made = c.in_ok-make_room-in_default-2.ensures in
-    let e = served g c in
     let new : Actor g.row.P.Denot = record a { spare = c.make_room.new.self.spare; ahead = c.make_room.new.self.ahead; end_room = c.make_room.new.self.end_room; cancel_room = c.make_room.new.self.cancel_room } in
     subst (λ (x : Actor g.row.P.Denot). IfOk c.call_into-in_default-2.result (λ (n : Option Step). MayRunOn c.args.recorded.now (record x { engine = c.call_into-in_default-2.new.self }) c.args.call.now (next_in n c.call_into-in_default-2.new.answer))) (sym room.actor)
-    (called_acting (λ (n : Option Step). next_in n c.call_into-in_default-2.new.answer) c.args.recorded.now (record new { engine = c.call_into-in_default-2.new.self }) (came a.engine c.args.call.now false) a.engine c.args.call.now false (in_transaction a.engine) refl c.requires.kept.row refl
+    (called_acting c.call_into-in_default-2.new.answer c.args.recorded.now (record new { engine = c.call_into-in_default-2.new.self }) a.engine c.args.call.now false (in_transaction a.engine) refl c.requires.kept.row
     (record { end_room = room.empty.1; cancel_room = room.empty.2 }) acts.all
     (λ row f. places_for c.args.call.now (total a.engine.actions) (vec_capacity a.end_room) (vec_capacity c.make_room.new.self.end_room) (acts.places row f) room.kept.1 made.end)
     (λ row f. made.cancel) acts.pending
@@ -68,12 +60,12 @@ returns-in_ok-make_room-in_default-2-clause-acts g c =
     (λ o. made.ahead ∙ sym (wanted_came a.engine c.args.call.now false))
     (λ row e. absurd (let none = c.requires.ready.nothing in let both : None ≡ Some row = sym none ∙ e in cc)) (backed_came a.engine c.args.call.now false)
     (λ shut. (let inside = c.is_open-2.ensures in let tested = c.if-not-is_open-2.false in absurd (cc)))
-    c.call_into-in_default-2.result e.proceeds e.order e.asks e.settled)
+    c.call_into-in_default-2.result (served g c))
 
 pub returns-in_ok-make_room-in_default-2-clause-told : goal.returns-in_ok-make_room-in_default-2-clause-told
 returns-in_ok-make_room-in_default-2-clause-told g c =
     let actor = c.make_room.ensures.actor in
-    asked_inside (λ (n : Option Step). next_in n c.call_into-in_default-2.new.answer) c.args.memory.now.clock c.args.recorded.now c.args.recorded.now c.args.self.now (record c.make_room.new.self { engine = c.call_into-in_default-2.new.self }) c.args.call.now
+    asked_inside c.call_into-in_default-2.new.answer c.args.memory.now.clock c.args.recorded.now c.args.recorded.now c.args.self.now (record c.make_room.new.self { engine = c.call_into-in_default-2.new.self }) c.args.call.now
     (let inside = c.is_open-2.ensures in let tested = c.if-not-is_open-2.false in cc)
     (ap (λ (x : Actor g.row.P.Denot). x.pending) actor) (ap (λ (x : Actor g.row.P.Denot). x.again) actor) (ap (λ (x : Actor g.row.P.Denot). x.player) actor) (ap (λ (x : Actor g.row.P.Denot). x.nth) actor)
     (λ o. c.in_ok-make_room-in_default-2.ensures.ahead) (ap (λ (x : Actor g.row.P.Denot). x.thread) actor)
@@ -82,10 +74,9 @@ returns-in_ok-make_room-in_default-2-clause-told g c =
 
 pub returns-in_default-clause-told : goal.returns-in_default-clause-told
 returns-in_default-clause-told g c =
-    let e = c.call_into.ensures in
-    asked_served (λ (n : Option Step). next_in n c.call_into.new.answer) c.args.memory.now.clock c.args.recorded.now c.args.recorded.now c.args.self.now (record c.args.self.now { engine = c.call_into.new.self }) c.args.call.now
+    asked_served c.call_into.new.answer c.args.memory.now.clock c.args.recorded.now c.args.recorded.now c.args.self.now (record c.args.self.now { engine = c.call_into.new.self }) c.args.call.now
     (search rules) (search rules) refl refl refl (λ o. absurd (let inside = c.is_open-2.ensures in cc)) refl refl c.call_into.result
-    (record { proceeds = e.proceeds; at_once = e.at_once; stays = e.stays; order = e.order; ends = e.ends; tries = e.tries; asks = e.asks; settled = e.settled; held = e.held })
+    c.call_into.ensures
 
 pub returns-in_err-make_room-in_default-2-clause-unasked_acts : goal.returns-in_err-make_room-in_default-2-clause-unasked_acts
 returns-in_err-make_room-in_default-2-clause-unasked_acts g c =
@@ -97,7 +88,7 @@ returns-in_err-make_room-in_default-2-clause-unasked_acts g c =
 pub returns-in_ok-make_room-in_default-2-clause-unasked_acts : goal.returns-in_ok-make_room-in_default-2-clause-unasked_acts
 returns-in_ok-make_room-in_default-2-clause-unasked_acts g c =
     let room = c.make_room.ensures in
-    unasked_acting c.args.recorded.now c.make_room.new.self c.call_into-in_default-2.new.self c.call_into-in_default-2.result c.call_into-in_default-2.ensures.err
+    unasked_acting c.args.recorded.now c.make_room.new.self c.call_into-in_default-2.new.self c.args.call.now c.call_into-in_default-2.new.answer c.call_into-in_default-2.result c.call_into-in_default-2.ensures
     (grown_acting c.args.recorded.now c.args.self.now c.make_room.new.self.spare c.make_room.new.self.ahead c.make_room.new.self.end_room c.make_room.new.self.cancel_room c.make_room.new.self room.actor (room.empty.1, room.empty.2)
     room.kept.1 room.kept.2 c.requires.status c.requires.acts c.args.recorded.now refl)
 

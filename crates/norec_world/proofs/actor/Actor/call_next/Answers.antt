@@ -44,13 +44,13 @@ returns-in-Ok-None-clause-worked g c =
     let m = calling c.requires.sound c.requires.ready (as_answer c.ask.new.answer c.in-Ok-None.field-0-is) c.in-Ok-None.ensures.asked c.in-Ok-None.ensures.told in
     let was = in_transaction c.args.self.now.engine in
     let d = due (call_taken m) in
-    call_worked g.met.P.Player.laws m c.settle.new.recorded c.settle.new.self (c.settle.ensures.settled was d) (c.settle.ensures.records was d) (sym c.next.ensures ∙ c.in-Some.is)
-    (others_twice c.args.self.now c.ask.new.self c.settle.new.self c.args.recorded.now c.ask.new.recorded c.settle.new.recorded c.ask.ensures.others (c.settle.ensures.others was d)) c.settle.ensures.acts
+    call_worked g.met.P.Player.laws m c.settle.new.recorded c.settle.new.self ((c.settle.ensures.recorded was d).done) ((c.settle.ensures.recorded was d).tells) (sym c.next.ensures ∙ c.in-Some.is)
+    (others_twice c.args.self.now c.ask.new.self c.settle.new.self c.args.recorded.now c.ask.new.recorded c.settle.new.recorded c.ask.ensures.others ((c.settle.ensures.recorded was d).others)) c.settle.ensures.acts
 
 pub returns-in-Ok-None-clause-falls : goal.returns-in-Ok-None-clause-falls
 returns-in-Ok-None-clause-falls g c =
     let m = calling c.requires.sound c.requires.ready (as_answer c.ask.new.answer c.in-Ok-None.field-0-is) c.in-Ok-None.ensures.asked c.in-Ok-None.ensures.told in
-    call_falls m (c.settle.ensures.settled (in_transaction c.args.self.now.engine) (due (call_taken m)))
+    call_falls m (c.settle.ensures.recorded (in_transaction c.args.self.now.engine) (due (call_taken m))).done
 
 pub returns-in-Err-clause-worked : goal.returns-in-Err-clause-worked
 returns-in-Err-clause-worked g c =

@@ -1,95 +1,100 @@
 use Rattle.norec_world.proofs.OthersAttempts.{others_stopped, retried_counts, retried_is}
 use Rattle.tx_runs.specs.Nesting.{IsDeep}
-use Rattle.std.proofs.Common.{◌≡◌, ◌/◌, length, ap, ◌∙◌, refl, sym, subst, Bool, true, false, None, [], is_some}
+use Rattle.std.proofs.Common.{rules, ◌≡◌, ◌/◌, length, ap, ◌∙◌, refl, sym, subst, Bool, true, false, None, [], is_some}
 use Rattle.norec_world.proofs.Common.{Actor, AnswerFits, Attempt, Busy, Conflict, Ended, Full, GaveUp, HasRow, IsSettledBy, Records, StopsIf, in_transaction, whole}
 use Rattle.tx_attempts.specs.declared.attempt.Outcome.TheVariants as outcomes
 use Rattle.norec_world.proofs.PlayerLaws.{after_try, ends_inside, ends_outside, settled_as}
 use Rattle.norec_world.proofs.actor.Actor.settle.Goals.{then-is_none, else-is_none, then-is_none-2, else-is_none-2}
 use Rattle.norec_world.proofs.actor.Actor.settle.Goals as goal
 
-pub returns-after-is_none-clause-settled : goal.returns-after-is_none-clause-settled
-returns-after-is_none-clause-settled g c was d =
-    let a = c.args.self.now in
-    let r = c.args.recorded.now in
-    let fits : AnswerFits was (g.P.Player.depth a.player) (in_transaction a.engine) (length a.engine.blocks) c.args.call (Conflict c.in-Conflict.clock c.in-Conflict.word) = subst (AnswerFits was (g.P.Player.depth a.player) (in_transaction a.engine) (length a.engine.blocks) c.args.call) c.in-Conflict.is d.fits in
-    elim c.if-is_none.branch [
-      | then-is_none w ↦
-          (let none : is_some a.pending ≡ false = sym (ap (is_some {T = Attempt}) c.take.ensures.value) ∙ w.if-is_none.ensures in
-          let inside : was ≡ true = ends_inside was a.pending c.args.call d.in_call.begins fits.0 none in
-          settled_as g.P.Player c.retry.ensures w.self-is w.recorded-is
-          (after_try g.P.Player g.met.P.Player.laws r w.stop.new.self a c.args.call was d w.stop.new.spare c.take.new.self c.take.ensures.after w.restart.new.self
-          (ap g.P.Player.depth w.restart.ensures ∙ d.nested.begun inside)
-          (ap g.P.Player.calls_left w.restart.ensures ∙ sym (ap (λ (b : Bool). whole g.P.Player b a.player) inside)) fits.1 w.stop.ensures.gone))
-      | else-is_none w ↦
-          (let some : is_some a.pending ≡ true = sym (ap (is_some {T = Attempt}) c.take.ensures.value) ∙ w.if-is_none.ensures in
-          let shut : was ≡ false = ends_outside was a.pending d.in_call.inside some in
-          settled_as g.P.Player c.retry.ensures w.self-is w.recorded-is
-          (after_try g.P.Player g.met.P.Player.laws r r a c.args.call was d a.end_room c.take.new.self c.take.ensures.after a.player
-          (subst (λ (b : Bool). IsDeep b (g.P.Player.depth a.player)) shut d.nested.deep)
-          (sym (ap (λ (b : Bool). whole g.P.Player b a.player) shut)) fits.1 (subst (λ (b : Bool). HasRow b r a.thread) shut d.kept.row)))
-    ]
-
-pub returns-after-is_none-clause-others : goal.returns-after-is_none-clause-others
-returns-after-is_none-clause-others g c was d =
+pub returns-after-is_none-clause-recorded : goal.returns-after-is_none-clause-recorded
+returns-after-is_none-clause-recorded g c was d =
     let a = c.args.self.now in
     let r = c.args.recorded.now in
     let fits : AnswerFits was (g.P.Player.depth a.player) (in_transaction a.engine) (length a.engine.blocks) c.args.call (Conflict c.in-Conflict.clock c.in-Conflict.word) = subst (AnswerFits was (g.P.Player.depth a.player) (in_transaction a.engine) (length a.engine.blocks) c.args.call) c.in-Conflict.is d.fits in
     let thread : c.retry.new.self.thread ≡ c.if-is_none.self.thread = retried_is (λ (x : Actor g.row.P.Denot). x.thread) c.retry.ensures refl refl in
     let pending : c.retry.new.self.pending ≡ c.if-is_none.self.pending = retried_is (λ (x : Actor g.row.P.Denot). x.pending) c.retry.ensures refl refl in
-    elim c.if-is_none.branch [
-      | then-is_none w ↦
-          (let none : is_some a.pending ≡ false = sym (ap (is_some {T = Attempt}) c.take.ensures.value) ∙ w.if-is_none.ensures in
-          let inside : was ≡ true = ends_inside was a.pending c.args.call d.in_call.begins fits.0 none in
-          others_stopped a c.retry.new.self r c.if-is_none.recorded was (w.snapshot-at.result / 2) outcomes.Conflict w.due.result.now d.kept.row (thread ∙ ap (λ (x : Actor g.row.P.Denot). x.thread) w.self-is)
-          (pending ∙ (ap (λ (x : Actor g.row.P.Denot). x.pending) w.self-is ∙ c.take.ensures.after))
-          (subst (λ (b : Bool). StopsIf b a.thread r (w.snapshot-at.result / 2) outcomes.Conflict w.due.result.now c.if-is_none.recorded) (sym inside) (λ row e. w.recorded-is ∙ w.stop.ensures.stops row e)))
-      | else-is_none w ↦
-          (let some : is_some a.pending ≡ true = sym (ap (is_some {T = Attempt}) c.take.ensures.value) ∙ w.if-is_none.ensures in
-          let shut : was ≡ false = ends_outside was a.pending d.in_call.inside some in
-          others_stopped a c.retry.new.self r c.if-is_none.recorded was 0 outcomes.Conflict [] d.kept.row (thread ∙ ap (λ (x : Actor g.row.P.Denot). x.thread) w.self-is)
-          (pending ∙ (ap (λ (x : Actor g.row.P.Denot). x.pending) w.self-is ∙ c.take.ensures.after))
-          (subst (λ (b : Bool). StopsIf b a.thread r 0 outcomes.Conflict [] c.if-is_none.recorded) (sym shut) w.recorded-is))
-    ]
+    record {
+      done =
+          elim c.if-is_none.branch [
+            | then-is_none w ↦
+                (let none : is_some a.pending ≡ false = sym (ap (is_some {T = Attempt}) c.take.ensures.value) ∙ w.if-is_none.ensures in
+                let inside : was ≡ true = ends_inside was a.pending c.args.call d.in_call.begins fits.0 none in
+                settled_as g.P.Player c.retry.ensures w.self-is w.recorded-is
+                (after_try g.P.Player g.met.P.Player.laws r w.stop.new.self a c.args.call was d w.stop.new.spare c.take.new.self c.take.ensures.after w.restart.new.self
+                (ap g.P.Player.depth w.restart.ensures ∙ d.nested.begun inside)
+                (ap g.P.Player.calls_left w.restart.ensures ∙ sym (ap (λ (b : Bool). whole g.P.Player b a.player) inside)) fits.1 w.stop.ensures.gone))
+            | else-is_none w ↦
+                (let some : is_some a.pending ≡ true = sym (ap (is_some {T = Attempt}) c.take.ensures.value) ∙ w.if-is_none.ensures in
+                let shut : was ≡ false = ends_outside was a.pending d.in_call.inside some in
+                settled_as g.P.Player c.retry.ensures w.self-is w.recorded-is
+                (after_try g.P.Player g.met.P.Player.laws r r a c.args.call was d a.end_room c.take.new.self c.take.ensures.after a.player
+                (subst (λ (b : Bool). IsDeep b (g.P.Player.depth a.player)) shut d.nested.deep)
+                (sym (ap (λ (b : Bool). whole g.P.Player b a.player) shut)) fits.1 (subst (λ (b : Bool). HasRow b r a.thread) shut d.kept.row)))
+          ];
+      tells = search rules;
+      others =
+          elim c.if-is_none.branch [
+            | then-is_none w ↦
+                (let none : is_some a.pending ≡ false = sym (ap (is_some {T = Attempt}) c.take.ensures.value) ∙ w.if-is_none.ensures in
+                let inside : was ≡ true = ends_inside was a.pending c.args.call d.in_call.begins fits.0 none in
+                others_stopped a c.retry.new.self r c.if-is_none.recorded was (w.snapshot-at.result / 2) outcomes.Conflict w.due.result.now d.kept.row (thread ∙ ap (λ (x : Actor g.row.P.Denot). x.thread) w.self-is)
+                (pending ∙ (ap (λ (x : Actor g.row.P.Denot). x.pending) w.self-is ∙ c.take.ensures.after))
+                (subst (λ (b : Bool). StopsIf b a.thread r (w.snapshot-at.result / 2) outcomes.Conflict w.due.result.now c.if-is_none.recorded) (sym inside) (λ row e. w.recorded-is ∙ w.stop.ensures.stops row e)))
+            | else-is_none w ↦
+                (let some : is_some a.pending ≡ true = sym (ap (is_some {T = Attempt}) c.take.ensures.value) ∙ w.if-is_none.ensures in
+                let shut : was ≡ false = ends_outside was a.pending d.in_call.inside some in
+                others_stopped a c.retry.new.self r c.if-is_none.recorded was 0 outcomes.Conflict [] d.kept.row (thread ∙ ap (λ (x : Actor g.row.P.Denot). x.thread) w.self-is)
+                (pending ∙ (ap (λ (x : Actor g.row.P.Denot). x.pending) w.self-is ∙ c.take.ensures.after))
+                (subst (λ (b : Bool). StopsIf b a.thread r 0 outcomes.Conflict [] c.if-is_none.recorded) (sym shut) w.recorded-is))
+          ];
+    }
 
-pub returns-after-is_none-2-clause-others : goal.returns-after-is_none-2-clause-others
-returns-after-is_none-2-clause-others g c was d =
+pub returns-after-is_none-2-clause-recorded : goal.returns-after-is_none-2-clause-recorded
+returns-after-is_none-2-clause-recorded g c was d =
     let a = c.args.self.now in
     let r = c.args.recorded.now in
     let fits : AnswerFits was (g.P.Player.depth a.player) (in_transaction a.engine) (length a.engine.blocks) c.args.call (Full c.in-Full.at) = subst (AnswerFits was (g.P.Player.depth a.player) (in_transaction a.engine) (length a.engine.blocks) c.args.call) c.in-Full.is d.fits in
     let last : Actor g.row.P.Denot = record c.if-is_none-2.self { status = Ended GaveUp } in
-    elim c.if-is_none-2.branch [
-      | then-is_none-2 w ↦
-          (let none : is_some a.pending ≡ false = sym (ap (is_some {T = Attempt}) c.take-in-Full.ensures.value) ∙ w.if-is_none-2.ensures in
-          let inside : was ≡ true = ends_inside was a.pending c.args.call d.in_call.begins fits.0 none in
-          others_stopped a last r c.if-is_none-2.recorded was c.in-Full.at outcomes.Full w.due-then-is_none-2.result.now d.kept.row (ap (λ (x : Actor g.row.P.Denot). x.thread) w.self-is)
-          (ap (λ (x : Actor g.row.P.Denot). x.pending) w.self-is ∙ c.take-in-Full.ensures.after)
-          (subst (λ (b : Bool). StopsIf b a.thread r c.in-Full.at outcomes.Full w.due-then-is_none-2.result.now c.if-is_none-2.recorded) (sym inside) (λ row e. w.recorded-is ∙ w.stop-then-is_none-2.ensures.stops row e)))
-      | else-is_none-2 w ↦
-          (let some : is_some a.pending ≡ true = sym (ap (is_some {T = Attempt}) c.take-in-Full.ensures.value) ∙ w.if-is_none-2.ensures in
-          let shut : was ≡ false = ends_outside was a.pending d.in_call.inside some in
-          others_stopped a last r c.if-is_none-2.recorded was 0 outcomes.Full [] d.kept.row (ap (λ (x : Actor g.row.P.Denot). x.thread) w.self-is)
-          (ap (λ (x : Actor g.row.P.Denot). x.pending) w.self-is ∙ c.take-in-Full.ensures.after)
-          (subst (λ (b : Bool). StopsIf b a.thread r 0 outcomes.Full [] c.if-is_none-2.recorded) (sym shut) w.recorded-is))
-    ]
+    record {
+      done = search rules;
+      tells = search rules;
+      others =
+          elim c.if-is_none-2.branch [
+            | then-is_none-2 w ↦
+                (let none : is_some a.pending ≡ false = sym (ap (is_some {T = Attempt}) c.take-in-Full.ensures.value) ∙ w.if-is_none-2.ensures in
+                let inside : was ≡ true = ends_inside was a.pending c.args.call d.in_call.begins fits.0 none in
+                others_stopped a last r c.if-is_none-2.recorded was c.in-Full.at outcomes.Full w.due-then-is_none-2.result.now d.kept.row (ap (λ (x : Actor g.row.P.Denot). x.thread) w.self-is)
+                (ap (λ (x : Actor g.row.P.Denot). x.pending) w.self-is ∙ c.take-in-Full.ensures.after)
+                (subst (λ (b : Bool). StopsIf b a.thread r c.in-Full.at outcomes.Full w.due-then-is_none-2.result.now c.if-is_none-2.recorded) (sym inside) (λ row e. w.recorded-is ∙ w.stop-then-is_none-2.ensures.stops row e)))
+            | else-is_none-2 w ↦
+                (let some : is_some a.pending ≡ true = sym (ap (is_some {T = Attempt}) c.take-in-Full.ensures.value) ∙ w.if-is_none-2.ensures in
+                let shut : was ≡ false = ends_outside was a.pending d.in_call.inside some in
+                others_stopped a last r c.if-is_none-2.recorded was 0 outcomes.Full [] d.kept.row (ap (λ (x : Actor g.row.P.Denot). x.thread) w.self-is)
+                (ap (λ (x : Actor g.row.P.Denot). x.pending) w.self-is ∙ c.take-in-Full.ensures.after)
+                (subst (λ (b : Bool). StopsIf b a.thread r 0 outcomes.Full [] c.if-is_none-2.recorded) (sym shut) w.recorded-is))
+          ];
+    }
 
-pub returns-in-Busy-clause-settled : goal.returns-in-Busy-clause-settled
-returns-in-Busy-clause-settled g c was d =
+pub returns-in-Busy-clause-recorded : goal.returns-in-Busy-clause-recorded
+returns-in-Busy-clause-recorded g c was d =
     let a = c.args.self.now in
     let r = c.args.recorded.now in
     let fits : AnswerFits was (g.P.Player.depth a.player) (in_transaction a.engine) (length a.engine.blocks) c.args.call (Busy c.in-Busy.clock) = subst (AnswerFits was (g.P.Player.depth a.player) (in_transaction a.engine) (length a.engine.blocks) c.args.call) c.in-Busy.is d.fits in
-    subst (IsSettledBy g.P.Player was r a) (sym c.retry-in-Busy.ensures)
-    (after_try g.P.Player g.met.P.Player.laws r r a c.args.call
-    was d a.end_room None refl a.player
-    (subst (λ (b : Bool). IsDeep b (g.P.Player.depth a.player)) fits.0 d.nested.deep)
-    (sym (ap (λ (b : Bool). whole g.P.Player b a.player) fits.0))
-    fits.1 (subst (λ (b : Bool). HasRow b r a.thread) fits.0 d.kept.row))
-
-pub returns-in-Busy-clause-records : goal.returns-in-Busy-clause-records
-returns-in-Busy-clause-records g c was d =
-    let a = c.args.self.now in
-    subst (Records g.P.Player was c.args.recorded.now c.args.recorded.now a c.retry-in-Busy.new.self c.args.call) (sym c.in-Busy.is) (
-      refl,
-      retried_is (λ (x : Actor g.row.P.Denot). x.player) c.retry-in-Busy.ensures refl refl,
-      retried_counts a a.player a.end_room None c.retry-in-Busy.ensures,
-      retried_is (λ (x : Actor g.row.P.Denot). x.pending) c.retry-in-Busy.ensures refl refl,
-    )
+    record {
+      done =
+          subst (IsSettledBy g.P.Player was r a) (sym c.retry-in-Busy.ensures)
+          (after_try g.P.Player g.met.P.Player.laws r r a c.args.call
+          was d a.end_room None refl a.player
+          (subst (λ (b : Bool). IsDeep b (g.P.Player.depth a.player)) fits.0 d.nested.deep)
+          (sym (ap (λ (b : Bool). whole g.P.Player b a.player) fits.0))
+          fits.1 (subst (λ (b : Bool). HasRow b r a.thread) fits.0 d.kept.row));
+      tells =
+          subst (Records g.P.Player was c.args.recorded.now c.args.recorded.now a c.retry-in-Busy.new.self c.args.call) (sym c.in-Busy.is) (
+            refl,
+            retried_is (λ (x : Actor g.row.P.Denot). x.player) c.retry-in-Busy.ensures refl refl,
+            retried_counts a a.player a.end_room None c.retry-in-Busy.ensures,
+            retried_is (λ (x : Actor g.row.P.Denot). x.pending) c.retry-in-Busy.ensures refl refl,
+          );
+      others = search rules;
+    }

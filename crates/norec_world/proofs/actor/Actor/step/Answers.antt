@@ -19,9 +19,7 @@ same_call {c = c} {d = d} {x = x} {y = y} p q = let both : Waits c x ≡ Waits d
 -- the operation was done, and the engine went on with what was found
 stepped : (g : _) (c : After-resume_into-next g) → IsStepping g.P.Player c.args.memory.now c.args.recorded.now c.args.self.now c.in-Waits.call (next_in c.resume_into-next.result c.resume_into-next.new.answer) c.apply-seen.new.self c.resume_into-next.new.self
 stepped g c =
-    let e = c.resume_into-next.ensures in
-    stepping c.requires.sound c.in-Waits.is c.apply-seen.ensures.found c.apply-seen.ensures.cells c.apply-seen.ensures.fit
-    (record { proceeds = e.proceeds; joins = e.joins; order = e.order; ends = e.ends; tries = e.tries; snapshot = e.snapshot; log = e.log; asks = e.asks; settled = e.settled; held = e.held }) e.count
+    stepping c.requires.sound c.in-Waits.is c.apply-seen.ensures.found c.apply-seen.ensures.cells c.apply-seen.ensures.fit c.resume_into-next.ensures
 
 pub proceed-requires : goal.proceed-requires
 proceed-requires g c =
@@ -40,14 +38,13 @@ follow-requires g c =
     let was = in_transaction c.args.self.now.engine in
     let call = c.in-Waits.call in
     let step = c.in-Waits.step in
-    let done = c.proceed.ensures.done call step c.in-Waits.is was (due taken) in
-    let tells = c.proceed.ensures.tells call step c.in-Waits.is was (due taken) in
-    let x = now taken done tells in
+    let recorded = c.proceed.ensures.recorded call step c.in-Waits.is was (due taken) in
+    let x = now taken recorded.done recorded.tells in
     record {
       kept = x.kept;
       reads = λ same.
           (let still = sym c.snapshot-from.ensures ∙ (same ∙ ap (λ (e : Core). e.snapshot) x.engine) in
-          still_reads (λ o row e. c.requires.reads o row e ∙ ap (λ (n : ℕ). n / 2) still) c.proceed.new.recorded c.proceed.new.self taken done tells);
+          still_reads (λ o row e. c.requires.reads o row e ∙ ap (λ (n : ℕ). n / 2) still) c.proceed.new.recorded c.proceed.new.self taken recorded.done recorded.tells);
     }
 
 pub returns : goal.returns
@@ -59,12 +56,13 @@ returns g c =
     let taken = step_taken m Ready refl in
     let was = in_transaction c.args.self.now.engine in
     let last = c.proceed.new.self in
-    let done = c.proceed.ensures.done call step is was (due taken) in
-    let tells = c.proceed.ensures.tells call step is was (due taken) in
+    let recorded = c.proceed.ensures.recorded call step is was (due taken) in
+    let done = recorded.done in
+    let tells = recorded.tells in
     let told = c.follow.ensures.told in
     let x = now taken done tells in
     let others = others_twice c.args.self.now last last c.args.recorded.now c.proceed.new.recorded c.follow.new.recorded
-    (let d = c.proceed.ensures.others call step is was (due taken) in record { thread = d.thread; own = d.own; room = d.room }) c.follow.ensures.others in
+    (let d = recorded.others in record { thread = d.thread; own = d.own; room = d.room }) c.follow.ensures.others in
     let tries = step_tries m Ready refl c.proceed.new.recorded last done tells c.follow.new.recorded told in
     record {
       sound = record { tied = (x.sound c.proceed.ensures.acts).tied; kept = c.follow.ensures.kept; acts = c.follow.ensures.acts c.proceed.ensures.acts; status = c.follow.ensures.status last.status x.status };
