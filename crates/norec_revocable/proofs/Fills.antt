@@ -33,6 +33,8 @@ use Rattle.norec_core.specs.Rows.{range_pieces, reserved_all, put_chunks, put_ra
 use Rattle.norec_core.specs.Stands.{state_over}
 use Rattle.norec_core.proofs.Machines.{access_same}
 use Rattle.norec_core.proofs.Ranges.{written_over, AreRows-put_range, AllWritesWithin-put_range}
+use Rattle.norec_revocable.specs.Moves.{CallTurns}
+use Rattle.norec_revocable.proofs.AtOnce.{answered, filled_at_once}
 use Rattle.norec_revocable.proofs.Refusals.{served}
 
 -- so many bytes of a value
@@ -103,7 +105,7 @@ some_filled d to byte size rows bytes frames accepted reserved are put blocks si
     }
 
 module _ (d : Data) (to byte size : ℕ) (frames : Nest) (buffer : Vec ℕ) (s : IsSound d Idle) (is : IsFilled d to byte size frames) where
-  pub filled_sound : IsSoundTurn (End ends.Done) (filled d frames buffer)
+  filled_sound : IsSoundTurn (End ends.Done) (filled d frames buffer)
   filled_sound =
       let bytes = bytes_set size byte in
       let may = served (in_block d) d.words to size is.accepted in
@@ -133,7 +135,7 @@ module _ (d : Data) (to byte size : ℕ) (frames : Nest) (buffer : Vec ℕ) (s :
         };
       }
 
-  pub fill_replies : (hint : WriteHint) → Replies (came (core d Idle) (Fill hint to byte size) false) (Fill hint to byte size) Done (core (filled d frames buffer) Idle)
+  fill_replies : (hint : WriteHint) → Replies (came (core d Idle) (Fill hint to byte size) false) (Fill hint to byte size) Done (core (filled d frames buffer) Idle)
   fill_replies hint =
       let may = served (in_block d) d.words to size is.accepted in
       let idle = s.in_phase.0 may.0 in
@@ -152,3 +154,8 @@ module _ (d : Data) (to byte size : ℕ) (frames : Nest) (buffer : Vec ℕ) (s :
         actions = is.actions;
         settled = λ o. (idle.1, s.bounds.even);
       }
+
+  pub fill_turns : (hint : WriteHint) → CallTurns d (Fill hint to byte size) false (End ends.Done) (filled d frames buffer)
+  fill_turns hint =
+      answered d (Fill hint to byte size) ends.Done (filled d frames buffer) (filled_at_once d hint to byte size) filled_sound (fill_replies hint)
+      (record { opens = λ o. sym (ap is_inside is.blocks) ∙ o; log = λ o. refl; snapshot = refl }) tt

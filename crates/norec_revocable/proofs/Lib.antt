@@ -18,3 +18,4 @@ pub mod IrrevocableEntries
 mod BlockBegins
 mod LocalReplies
 pub mod WholeReads
+pub mod AtOnce

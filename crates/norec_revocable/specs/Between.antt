@@ -70,16 +70,19 @@ in_stores d taking row = record (core d (at.BackLoad taking row)) { waits = None
 abbrev pub in_rows : Data → Aim → ℕ → Core
 in_rows d aim row = record (core d (at.RoundRow aim row)) { waits = None; stage = at.Idle; tries = 0 }
 
--- the same, but that a transaction that becomes irrevocable needs no log
+-- ## The log
+
+-- a transaction that becomes irrevocable needs none
 abbrev pub log_left : Turn → List LogRow → List LogRow
 log_left (Wait phase) log = log
 log_left (Ends end) log = log
 log_left (Enter end) log = []
 
-pub record StaysBy (turn : Turn) (old new : Data) : Type 0 where
-  pub opens : in_block new ≡ true → in_block old ≡ true
-  pub log : in_block new ≡ true → new.log.rows ≡ log_left turn old.log.rows
-  pub snapshot : new.snapshot ≡ old.snapshot
+-- the fields, with the log that a turn leaves of theirs
+abbrev pub left_by : Turn → Data → Data
+left_by turn d = record d { log = record d.log { rows = log_left turn d.log.rows } }
+
+-- ## What has to hold
 
 -- a round may be tried
 pub record MayTry (d : Data) (aim : Aim) : Type 0 where

@@ -1,20 +1,13 @@
 //! Begins of blocks.
 
-ghost use Rattle.std.specs.Prelude.{◌≡◌, ◌<◌, ◌≤◌, ◌∷◌, [], true, if◌then◌else◌, IfOk, OnOk, OnErr};
+ghost use Rattle.std.specs.Prelude.{◌≡◌, ◌<◌, ◌≤◌, ◌∷◌, [], true, if◌then◌else◌, OnOk, OnErr};
 ghost use Rattle.user_actions.specs.Actions.{no_actions};
 ghost use Rattle.nest_frames.specs.Nest.{begun};
-ghost use Rattle.norec_data.specs.View.{core};
 ghost use Rattle.norec_revocable.specs.InPhases.{IsSound};
 ghost use Rattle.norec_data.specs.Bounds.{IsOutside};
-ghost use Rattle.norec_revocable.specs.Moves.{StepTurns};
-ghost use Rattle.norec_revocable.specs.Between.{IsSoundTurn};
 ghost use Rattle.norec_data.specs.Ends.{answer_of};
 ghost use Rattle.norec_data.specs.declared.data.Data.{Data};
-ghost use Rattle.norec_data.specs.Turns.{core_after, phase_after, Turns, TurnEndsSo, Stays};
-ghost use Rattle.norec_core.specs.Core.{came};
-ghost use Rattle.norec_core.specs.Order.{stage_at, tries_at};
-ghost use Rattle.norec_core.specs.Endings.{ending_at};
-ghost use Rattle.norec_core.specs.Proceeds.{MayStarve};
+ghost use Rattle.norec_revocable.specs.Moves.{StepTurns, CallComes};
 
 use crate::commits::exchange;
 use itm_types::{Call, Props, Reply};
@@ -27,16 +20,7 @@ use std::alloc::AllocError;
 #[inline(always)]
 pub fn begin(state: &mut Data, props: Props, room: u32, again: bool) -> Result<Turn, AllocError>
     requires sound { IsSound state.old Phase.Idle }
-    ensures sound { IfOk result (λ turn. IsSoundTurn turn state.new) }
-    ensures proceeds { IfOk result
-        (λ turn. Turns (came (core state.old Phase.Idle) (Call.Begin props room) again) turn state.new) }
-    ensures stays { OnOk result (Stays state.old state.new) }
-    ensures err { OnErr result (state.new ≡ state.old) }
-    ensures starves { OnErr result (MayStarve (core state.old Phase.Idle) (Call.Begin props room)) }
-    ensures order { IfOk result
-        (λ turn. phase_after turn state.new ≡ stage_at (core state.old Phase.Idle) (Call.Begin props room) again) }
-    ensures ends { IfOk result (λ turn. TurnEndsSo (ending_at (core state.old Phase.Idle) (Call.Begin props room)) turn state.new) }
-    ensures tries { IfOk result (λ turn. (core_after turn state.new).tries ≡ tries_at (phase_after turn state.new)) }
+    ensures { CallComes state.old (Call.Begin props room) again result state.new }
 {
     if let Some(why) = begin_refusal(state, props) {
         state.come();

@@ -1,15 +1,10 @@
 //! The calls of a transaction that may be tried again, and the values that its steps find.
 
-ghost use Rattle.std.specs.Prelude.{◌≡◌, IfOk, OnOk, OnErr, IsSome, false};
-ghost use Rattle.norec_core.specs.Core.{came};
-ghost use Rattle.norec_core.specs.Order.{stage_at, tries_at};
-ghost use Rattle.norec_core.specs.Endings.{ending_at};
-ghost use Rattle.norec_core.specs.Proceeds.{MayStarve, Fits};
+ghost use Rattle.std.specs.Prelude.{IsSome, false};
+ghost use Rattle.norec_core.specs.Proceeds.{Fits};
 ghost use Rattle.norec_data.specs.View.{core, phase_of, waits_of};
-ghost use Rattle.norec_data.specs.Turns.{core_after, phase_after, Turns, TurnEndsSo, Stays};
 ghost use Rattle.norec_revocable.specs.InPhases.{IsSound};
-ghost use Rattle.norec_revocable.specs.Between.{IsSoundTurn};
-ghost use Rattle.norec_revocable.specs.Moves.{StepTurns};
+ghost use Rattle.norec_revocable.specs.Moves.{StepTurns, CallComes};
 
 use crate::abort::abort;
 use crate::begins::{begin, begin_seen, begin_taken};
@@ -54,15 +49,7 @@ pub fn resumed(state: &mut Data, pending: Pending, seen: u64) -> Turn
 /// What comes of a call.
 pub fn called(state: &mut Data, call: &Call) -> Result<Turn, AllocError>
     requires sound { IsSound state.old Phase.Idle }
-    ensures sound { IfOk result (λ turn. IsSoundTurn turn state.new) }
-    ensures proceeds { IfOk result (λ turn. Turns (came (core state.old Phase.Idle) call.now false) turn state.new) }
-    ensures stays { OnOk result (Stays state.old state.new) }
-    ensures err_sound { OnErr result (IsSound state.new Phase.Idle) }
-    ensures err { OnErr result (core state.new Phase.Idle ≡ core state.old Phase.Idle) }
-    ensures starves { OnErr result (MayStarve (core state.old Phase.Idle) call.now) }
-    ensures order { IfOk result (λ turn. phase_after turn state.new ≡ stage_at (core state.old Phase.Idle) call.now false) }
-    ensures ends { IfOk result (λ turn. TurnEndsSo (ending_at (core state.old Phase.Idle) call.now) turn state.new) }
-    ensures tries { IfOk result (λ turn. (core_after turn state.new).tries ≡ tries_at (phase_after turn state.new)) }
+    ensures { CallComes state.old call.now false result state.new }
 {
     match call {
         Call::Begin { props, room } => begin(state, *props, *room, false),

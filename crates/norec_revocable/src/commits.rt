@@ -1,14 +1,11 @@
 //! Commits: the clock is taken, the write set is stored in the order of first writing, and the clock is freed.
 
-ghost use Rattle.std.specs.Prelude.{◌≡◌, ◌≤◌, ◌/◌, ℕ, false, None, Some};
-ghost use Rattle.norec_data.specs.View.{core};
+ghost use Rattle.std.specs.Prelude.{◌≤◌, ◌/◌, ℕ, false, None, Some};
 ghost use Rattle.norec_revocable.specs.InPhases.{IsSound};
-ghost use Rattle.norec_revocable.specs.Moves.{StepGoesTo};
-ghost use Rattle.norec_revocable.specs.Between.{between, moved, in_stores, IsSoundTurn, StaysBy, MayExchange, InStores};
-ghost use Rattle.norec_data.specs.Turns.{core_after, phase_after, Turns, TurnEndsSo, Stays};
-ghost use Rattle.norec_core.specs.Core.{came, handed};
-ghost use Rattle.norec_core.specs.Endings.{ending_at, ending_after};
-ghost use Rattle.norec_core.specs.Order.{exchange_stage, stage_after, stage_at, store_stage, tries_after, tries_at};
+ghost use Rattle.norec_revocable.specs.Between.{between, moved, in_stores, left_by, MayExchange, InStores};
+ghost use Rattle.norec_data.specs.Turns.{Turns};
+ghost use Rattle.norec_core.specs.Order.{exchange_stage, store_stage};
+ghost use Rattle.norec_revocable.specs.Moves.{GoesTo, StepGoesTo, StepTurns, CallTurns};
 
 use crate::mode::go_irrevocable;
 use crate::rounds::try_round;
@@ -20,12 +17,7 @@ use norec_data::{Cause, Data, End, Pending, Turn, finish, roll_back};
 #[inline(always)]
 pub fn commit(state: &mut Data) -> Turn
     requires sound { IsSound state.old Phase.Idle }
-    ensures sound { IsSoundTurn result state.new }
-    ensures proceeds { Turns (came (core state.old Phase.Idle) Call.Commit false) result state.new }
-    ensures stays { Stays state.old state.new }
-    ensures order { phase_after result state.new ≡ stage_at (core state.old Phase.Idle) Call.Commit false }
-    ensures ends { TurnEndsSo (ending_at (core state.old Phase.Idle) Call.Commit) result state.new }
-    ensures tries { (core_after result state.new).tries ≡ tries_at (phase_after result state.new) }
+    ensures { CallTurns state.old Call.Commit false result state.new }
 {
     state.come();
     state.tries = 0;
@@ -49,13 +41,10 @@ pub fn commit(state: &mut Data) -> Turn
 #[inline(always)]
 pub(crate) fn exchange(state: &mut Data, taking: Taking) -> Turn
     requires may { MayExchange state.old taking }
-    ensures sound { IsSoundTurn result state.new }
+    ensures goes { GoesTo (between state.old (Aim.Take taking)) (exchange_stage state.old.limits.max_commits state.old.snapshot taking)
+        (Some (Answer.Full (state.old.snapshot / 2))) state.old result state.new }
     // whatever the snapshot was before a round moved it
     ensures proceeds { (was : ℕ) → Turns (moved (between state.old (Aim.Take taking)) was) result state.new }
-    ensures stays { Stays state.old state.new }
-    ensures order { phase_after result state.new ≡ exchange_stage state.old.limits.max_commits state.old.snapshot taking }
-    ensures ends { TurnEndsSo (Some (Answer.Full (state.old.snapshot / 2))) result state.new }
-    ensures tries { (core_after result state.new).tries ≡ tries_after (phase_after result state.new) state.old.tries }
 {
     let at = state.snapshot / 2;
     if at < state.limits.max_commits {
@@ -72,12 +61,7 @@ pub(crate) fn exchange(state: &mut Data, taking: Taking) -> Turn
 pub(crate) fn exchanged(state: &mut Data, seen: u64) -> Turn
     requires sound { IsSound state.old (Phase.Exchange state.old.taking) }
     requires fits { state.old.clock ≤ seen }
-    ensures sound { IsSoundTurn result state.new }
-    ensures proceeds { Turns (handed (core state.old (Phase.Exchange state.old.taking)) seen) result state.new }
-    ensures stays { StaysBy result state.old state.new }
-    ensures order { phase_after result state.new ≡ stage_after (core state.old (Phase.Exchange state.old.taking)) seen }
-    ensures ends { TurnEndsSo (ending_after (core state.old (Phase.Exchange state.old.taking)) seen) result state.new }
-    ensures tries { (core_after result state.new).tries ≡ tries_after (phase_after result state.new) state.old.tries }
+    ensures { StepTurns state.old (Phase.Exchange state.old.taking) seen result state.new }
 {
     // where it is the snapshot, it is what the clock was
     if seen == state.snapshot {
@@ -91,12 +75,7 @@ pub(crate) fn exchanged(state: &mut Data, seen: u64) -> Turn
 #[inline(always)]
 fn next_store(state: &mut Data, row: usize) -> Turn
     requires may { InStores state.old state.old.taking row }
-    ensures sound { IsSoundTurn result state.new }
-    ensures proceeds { Turns (in_stores state.old state.old.taking row) result state.new }
-    ensures stays { StaysBy result state.old state.new }
-    ensures order { phase_after result state.new ≡ store_stage state.old.taking state.old.frames.writes.rows row }
-    ensures ends { TurnEndsSo None result state.new }
-    ensures tries { (core_after result state.new).tries ≡ tries_after (phase_after result state.new) state.old.tries }
+    ensures { GoesTo (in_stores state.old state.old.taking row) (store_stage state.old.taking state.old.frames.writes.rows row) None (left_by result state.old) result state.new }
 {
     if row < state.frames.len() {
         let written = state.frames.row(row);
@@ -128,12 +107,7 @@ pub(crate) fn back_loaded(state: &mut Data, row: usize, seen: u64) -> Turn
 #[inline(always)]
 pub(crate) fn stored(state: &mut Data, row: usize) -> Turn
     requires sound { IsSound state.old (Phase.Store state.old.taking row state.old.got) }
-    ensures sound { IsSoundTurn result state.new }
-    ensures proceeds { Turns (handed (core state.old (Phase.Store state.old.taking row state.old.got)) 0) result state.new }
-    ensures stays { StaysBy result state.old state.new }
-    ensures order { phase_after result state.new ≡ stage_after (core state.old (Phase.Store state.old.taking row state.old.got)) 0 }
-    ensures ends { TurnEndsSo (ending_after (core state.old (Phase.Store state.old.taking row state.old.got)) 0) result state.new }
-    ensures tries { (core_after result state.new).tries ≡ tries_after (phase_after result state.new) state.old.tries }
+    ensures { StepTurns state.old (Phase.Store state.old.taking row state.old.got) 0 result state.new }
 {
     let _rows = state.frames.len();
     next_store(state, row + 1)

@@ -1,18 +1,18 @@
 //! Copies. The whole source is read first, chunk by chunk, so that a conflict has changed nothing; then the destination
 //! is written at once, in the write set or in the arena. All memory is taken before the first step.
 
-ghost use Rattle.std.specs.Prelude.{◌≡◌, ◌<◌, ◌≤◌, ◌+◌, ◌^◌, ◌&&◌, false, IfOk, IfSome, OnOk, OnErr, List, None, length, drop, replicate, slice_get, option_map};
+ghost use Rattle.std.specs.Prelude.{◌≡◌, ◌<◌, ◌≤◌, ◌+◌, false, OnOk, OnErr, List, None, length, drop, replicate};
 ghost use Rattle.itm_types.specs.Slices.{slice, with_slice, AreBytes};
 ghost use Rattle.itm_types.specs.declared.row.LogRow.{LogRow};
-ghost use Rattle.norec_core.specs.Copies.{copy_refusal, chunks_in, direction_of, is_out, source_words, WritesShared};
+ghost use Rattle.norec_core.specs.Copies.{copy_refusal, chunks_in, is_out, source_words, WritesShared};
 ghost use Rattle.norec_core.specs.Accesses.{count};
-ghost use Rattle.norec_data.specs.View.{in_block, core, rows_before};
+ghost use Rattle.norec_data.specs.View.{in_block, rows_before};
 ghost use Rattle.norec_revocable.specs.InPhases.{IsSound, MayPutFor, Copied, IsServed, IsReading, reserved_for};
-ghost use Rattle.norec_revocable.specs.Between.{in_copy, logged, IsSoundTurn, MayCopy, MayFinish};
-ghost use Rattle.norec_data.specs.Turns.{core_after, phase_after, Turns, TurnEndsSo, Stays};
-ghost use Rattle.norec_core.specs.Core.{came};
-ghost use Rattle.norec_core.specs.Order.{chunk_reading, load_chunks, stage_at, tries_after, tries_at};
-ghost use Rattle.norec_core.specs.Proceeds.{MayStarve, arena_copied, writes_copied};
+ghost use Rattle.norec_revocable.specs.Between.{in_copy, logged, MayCopy, MayFinish};
+ghost use Rattle.norec_data.specs.Turns.{Turns};
+ghost use Rattle.norec_core.specs.Order.{chunk_reading, load_chunks};
+ghost use Rattle.norec_core.specs.Proceeds.{arena_copied, writes_copied};
+ghost use Rattle.norec_revocable.specs.Moves.{GoesTo, CallComes};
 
 mod refusals;
 
@@ -31,17 +31,7 @@ use word_pieces::{Chunks, Direction};
 /// A copy comes. One of no bytes takes no memory.
 pub(crate) fn copy(state: &mut Data, copying: Copying) -> Result<Turn, AllocError>
     requires sound { IsSound state.old Phase.Idle }
-    ensures sound { IfOk result (λ turn. IsSoundTurn turn state.new) }
-    ensures proceeds { IfOk result
-        (λ turn. Turns (came (core state.old Phase.Idle) (Call.Copy copying) false) turn state.new) }
-    ensures stays { OnOk result (Stays state.old state.new) }
-    ensures err_sound { OnErr result (IsSound state.new Phase.Idle) }
-    ensures err { OnErr result (core state.new Phase.Idle ≡ core state.old Phase.Idle) }
-    ensures starves { OnErr result (MayStarve (core state.old Phase.Idle) (Call.Copy copying)) }
-    ensures order { IfOk result
-        (λ turn. phase_after turn state.new ≡ stage_at (core state.old Phase.Idle) (Call.Copy copying) false) }
-    ensures ends { IfOk result (λ turn. TurnEndsSo None turn state.new) }
-    ensures tries { IfOk result (λ turn. (core_after turn state.new).tries ≡ tries_at (phase_after turn state.new)) }
+    ensures { CallComes state.old (Call.Copy copying) false result state.new }
 {
     if let Some(why) = copy_refusal(state, copying) {
         return Ok(refuse_copy(state, copying, why));
@@ -129,14 +119,10 @@ fn reserve_target(frames: &mut Frames, copying: Copying) -> Result<(), AllocErro
 /// The chunks of the source from this one on are read: up to a piece that is loaded, or to the end.
 pub(crate) fn next_chunk(state: &mut Data, copying: Copying, number: u32) -> Turn
     requires may { MayCopy state.old copying number }
-    ensures sound { IsSoundTurn result state.new }
+    ensures goes { GoesTo (in_copy state.old copying) (load_chunks (rows_before state.old) state.old.log.rows copying number (drop number (chunks_in copying)))
+        None state.old result state.new }
     // whatever the log was before a row joined it
     ensures proceeds { (log : List LogRow) → Turns (logged (in_copy state.old copying) log) result state.new }
-    ensures stays { Stays state.old state.new }
-    ensures order { phase_after result state.new
-        ≡ load_chunks (rows_before state.old) state.old.log.rows copying number (drop number (chunks_in copying)) }
-    ensures ends { TurnEndsSo None result state.new }
-    ensures tries { (core_after result state.new).tries ≡ tries_after (phase_after result state.new) state.old.tries }
 {
     let mut number = number;
     while let Some(reading) = chunk_reading(copying, number) {
@@ -173,12 +159,9 @@ fn put_bytes(buffer: &mut Vec<u8>, start: usize, bytes: &[u8])
 /// The source is read whole: its bytes go to the destination.
 fn copied(state: &mut Data, copying: Copying) -> Turn
     requires may { MayFinish state.old copying }
-    ensures sound { IsSoundTurn result state.new }
+    ensures goes { GoesTo (in_copy state.old copying) Phase.Idle None state.old result state.new }
+    // whatever the log was before a row joined it
     ensures proceeds { (log : List LogRow) → Turns (logged (in_copy state.old copying) log) result state.new }
-    ensures stays { Stays state.old state.new }
-    ensures order { phase_after result state.new ≡ Phase.Idle }
-    ensures ends { TurnEndsSo None result state.new }
-    ensures tries { (core_after result state.new).tries ≡ 0 }
 {
     deliver(state, copying);
     Turn::End(End::Done)

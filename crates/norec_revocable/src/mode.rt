@@ -1,18 +1,15 @@
 //! Transactions that become irrevocable.
 
-ghost use Rattle.std.specs.Prelude.{◌≡◌, ◌<◌, None, Some, [], ◌∷◌, List, Option, false, map, length, IfOk, IfSome, OnOk, OnErr};
+ghost use Rattle.std.specs.Prelude.{◌≡◌, ◌<◌, None, Some, [], Option, false, map, length, IfSome};
 ghost use Rattle.itm_types.specs.declared.call.Props.{Props};
 ghost use Rattle.write_set.specs.Marks.{unwritten};
-ghost use Rattle.nest_frames.specs.Nest.{begun, made_irrevocable, stays_revocable};
-ghost use Rattle.norec_core.specs.Core.{came, goes};
+ghost use Rattle.nest_frames.specs.Nest.{made_irrevocable};
+ghost use Rattle.norec_core.specs.Core.{goes};
 ghost use Rattle.norec_core.specs.declared.phase.Phase.{Phase};
-ghost use Rattle.norec_core.specs.Order.{stage_at, tries_at};
-ghost use Rattle.norec_core.specs.Endings.{ending_at};
-ghost use Rattle.norec_core.specs.Proceeds.{MayStarve};
-ghost use Rattle.norec_data.specs.View.{core, in_block};
+ghost use Rattle.norec_data.specs.View.{core};
 ghost use Rattle.norec_revocable.specs.InPhases.{IsSound};
-ghost use Rattle.norec_revocable.specs.Between.{blocks_with, entry_end, IsSoundTurn};
-ghost use Rattle.norec_data.specs.Turns.{core_after, phase_after, Turns, TurnEndsSo, Stays};
+ghost use Rattle.norec_revocable.specs.Between.{blocks_with, entry_end};
+ghost use Rattle.norec_revocable.specs.Moves.{CallComes};
 
 use crate::commits::exchange;
 use itm_types::{Call, MAX_OPEN_BLOCKS, Props};
@@ -23,14 +20,7 @@ use std::alloc::AllocError;
 /// The transaction is to become irrevocable.
 pub(crate) fn mode(state: &mut Data, room: u32) -> Result<Turn, AllocError>
     requires sound { IsSound state.old Phase.Idle }
-    ensures sound { IfOk result (λ turn. IsSoundTurn turn state.new) }
-    ensures proceeds { IfOk result (λ turn. Turns (came (core state.old Phase.Idle) (Call.Mode room) false) turn state.new) }
-    ensures stays { OnOk result (Stays state.old state.new) }
-    ensures err { OnErr result (state.new ≡ state.old) }
-    ensures starves { OnErr result (MayStarve (core state.old Phase.Idle) (Call.Mode room)) }
-    ensures order { IfOk result (λ turn. phase_after turn state.new ≡ stage_at (core state.old Phase.Idle) (Call.Mode room) false) }
-    ensures ends { IfOk result (λ turn. TurnEndsSo (ending_at (core state.old Phase.Idle) (Call.Mode room)) turn state.new) }
-    ensures tries { IfOk result (λ turn. (core_after turn state.new).tries ≡ tries_at (phase_after turn state.new)) }
+    ensures { CallComes state.old (Call.Mode room) false result state.new }
 {
     if let Some(why) = mode_refusal(state) {
         state.come();

@@ -1,21 +1,19 @@
 //! Reads, and copies of shared bytes: piece by piece upwards a word is loaded, and logged once the clock confirms that its value stood at the
 //! snapshot. A piece that the write set has, or whose word is logged, takes no step.
 
-ghost use Rattle.std.specs.Prelude.{◌≡◌, ◌<◌, ◌≤◌, ◌+◌, ◌*◌, nat_le, ℕ, false, true, IfOk, IfSome, OnOk, OnErr, List, IfNone, None, Some, drop, is_some, length, slice_get, slice_index};
+ghost use Rattle.std.specs.Prelude.{◌≡◌, ◌<◌, ◌≤◌, ◌+◌, ◌*◌, ℕ, false, true, IfSome, List, IfNone, None, Some, drop, is_some, length, slice_get, slice_index};
 ghost use Rattle.itm_types.specs.Memory.{AllFit, Agrees};
 ghost use Rattle.word_pieces.specs.Pieces.{IsPiece, part_of};
 ghost use Rattle.write_set.specs.Rows.{overlay, AreRows};
 ghost use Rattle.norec_core.specs.Rows.{is_covered, is_had, is_logged};
 ghost use Rattle.itm_types.specs.Access.{size_of};
-ghost use Rattle.norec_core.specs.Accesses.{part, parts, count, passed};
-ghost use Rattle.norec_data.specs.View.{in_block, core, rows_before};
+ghost use Rattle.norec_core.specs.Accesses.{part, parts, count};
+ghost use Rattle.norec_data.specs.View.{rows_before};
 ghost use Rattle.norec_revocable.specs.InPhases.{IsSound, IsMissing, IsOpen, IsReading, next_load};
-ghost use Rattle.norec_revocable.specs.Between.{between, logged, IsSoundTurn, IsValue, IsWord, MayGather, MayReply};
-ghost use Rattle.norec_data.specs.Turns.{core_after, phase_after, Turns, TurnEndsSo, Stays};
-ghost use Rattle.norec_core.specs.Core.{came, handed};
-ghost use Rattle.norec_core.specs.Order.{load_among, load_stage, log_after, snapshot_after, stage_after, stage_at, tries_after, tries_at};
-ghost use Rattle.norec_core.specs.Endings.{ending_at, ending_after};
-ghost use Rattle.norec_core.specs.Proceeds.{Joins, MayStarve};
+ghost use Rattle.norec_revocable.specs.Between.{between, logged, IsValue, IsWord, MayGather, MayReply};
+ghost use Rattle.norec_data.specs.Turns.{Turns};
+ghost use Rattle.norec_core.specs.Order.{load_among, load_stage};
+ghost use Rattle.norec_revocable.specs.Moves.{GoesTo, StepGoesTo, StepTurns, CallComes};
 
 use crate::access::refuse;
 use crate::copy::{keep_chunk, next_chunk};
@@ -38,17 +36,7 @@ pub(crate) fn read(
     at: u64,
 ) -> Result<Turn, AllocError>
     requires sound { IsSound state.old Phase.Idle }
-    ensures sound { IfOk result (λ turn. IsSoundTurn turn state.new) }
-    ensures proceeds { IfOk result
-        (λ turn. Turns (came (core state.old Phase.Idle) (Call.Read hint width at) false) turn state.new) }
-    ensures stays { OnOk result (Stays state.old state.new) }
-    ensures err_sound { OnErr result (IsSound state.new Phase.Idle) }
-    ensures err { OnErr result (core state.new Phase.Idle ≡ core state.old Phase.Idle) }
-    ensures starves { OnErr result (MayStarve (core state.old Phase.Idle) (Call.Read hint width at)) }
-    ensures order { IfOk result
-        (λ turn. phase_after turn state.new ≡ stage_at (core state.old Phase.Idle) (Call.Read hint width at) false) }
-    ensures ends { IfOk result (λ turn. TurnEndsSo (ending_at (core state.old Phase.Idle) (Call.Read hint width at)) turn state.new) }
-    ensures tries { IfOk result (λ turn. (core_after turn state.new).tries ≡ tries_at (phase_after turn state.new)) }
+    ensures { CallComes state.old (Call.Read hint width at) false result state.new }
 {
     if let Some(why) = access_refusal(state, at, u64::from(width.size())) {
         return Ok(refuse(state, why));
@@ -110,14 +98,9 @@ pub(crate) fn start(state: &mut Data)
 #[inline(always)]
 fn reply_gathered(state: &mut Data, reading: Reading) -> Turn
     requires may { MayReply state.old reading }
-    ensures sound { IsSoundTurn result state.new }
+    ensures goes { GoesTo (between state.old (Aim.Read reading)) Phase.Idle None state.old result state.new }
     // whatever the log was before a row joined it
-    ensures proceeds { (log : List LogRow)
-        → Turns (logged (between state.old (Aim.Read reading)) log) result state.new }
-    ensures stays { Stays state.old state.new }
-    ensures order { phase_after result state.new ≡ Phase.Idle }
-    ensures ends { TurnEndsSo None result state.new }
-    ensures tries { (core_after result state.new).tries ≡ 0 }
+    ensures proceeds { (log : List LogRow) → Turns (logged (between state.old (Aim.Read reading)) log) result state.new }
 {
     Turn::End(End::Gathered)
 }
@@ -130,15 +113,11 @@ fn go_past(state: &mut Data, piece: Piece) -> Turn
     requires in_value { piece.at + piece.count ≤ 32 }
     requires may { MayGather state.old (record state.old.reading { number = state.old.reading.number + 1 }) }
     requires few { state.old.reading.number < 5 }
-    ensures sound { IsSoundTurn result state.new }
+    ensures goes { GoesTo (between state.old (Aim.Read (record state.old.reading { number = state.old.reading.number + 1 })))
+        (load_stage (rows_before state.old) state.old.log.rows (record state.old.reading { number = state.old.reading.number + 1 })) None state.old result state.new }
     // whatever the log was before a row joined it
     ensures proceeds { (log : List LogRow) → Turns
         (logged (between state.old (Aim.Read (record state.old.reading { number = state.old.reading.number + 1 }))) log) result state.new }
-    ensures stays { Stays state.old state.new }
-    ensures order { phase_after result state.new ≡ load_stage (rows_before state.old) state.old.log.rows
-        (record state.old.reading { number = state.old.reading.number + 1 }) }
-    ensures ends { TurnEndsSo None result state.new }
-    ensures tries { (core_after result state.new).tries ≡ tries_after (phase_after result state.new) state.old.tries }
 {
     if is_whole(&state.reading, piece) {
         reply_gathered(state, state.reading.next())
@@ -177,14 +156,9 @@ pub(crate) fn whole_word(reading: &Reading) -> Option<u32>
 /// The access goes on from this piece: with the next one that is loaded, or with what it was made for.
 pub(crate) fn go_on(state: &mut Data, reading: Reading) -> Turn
     requires may { MayGather state.old reading }
-    ensures sound { IsSoundTurn result state.new }
+    ensures goes { GoesTo (between state.old (Aim.Read reading)) (load_stage (rows_before state.old) state.old.log.rows reading) None state.old result state.new }
     // whatever the log was before a row joined it
-    ensures proceeds { (log : List LogRow)
-        → Turns (logged (between state.old (Aim.Read reading)) log) result state.new }
-    ensures stays { Stays state.old state.new }
-    ensures order { phase_after result state.new ≡ load_stage (rows_before state.old) state.old.log.rows reading }
-    ensures ends { TurnEndsSo None result state.new }
-    ensures tries { (core_after result state.new).tries ≡ tries_after (phase_after result state.new) state.old.tries }
+    ensures proceeds { (log : List LogRow) → Turns (logged (between state.old (Aim.Read reading)) log) result state.new }
 {
     if let Some(number) = take_had(state, reading) {
         state.reading = Reading { number, ..reading };
@@ -291,12 +265,7 @@ pub fn loaded(state: &mut Data, seen: u64) -> Turn
     requires sound { IsSound state.old (Phase.Load state.old.reading) }
     ensures turn { result ≡ Turn.Wait (Pending.Confirm seen) }
     ensures state { state.new ≡ state.old }
-    ensures sound { IsSoundTurn result state.new }
-    ensures proceeds { Turns (handed (core state.old (Phase.Load state.old.reading)) seen) result state.new }
-    ensures stays { Stays state.old state.new }
-    ensures order { phase_after result state.new ≡ stage_after (core state.old (Phase.Load state.old.reading)) seen }
-    ensures ends { TurnEndsSo (ending_after (core state.old (Phase.Load state.old.reading)) seen) result state.new }
-    ensures tries { (core_after result state.new).tries ≡ tries_after (phase_after result state.new) state.old.tries }
+    ensures goes { StepGoesTo state.old (Phase.Load state.old.reading) seen result state.new }
 {
     Turn::Wait(Pending::Confirm(seen))
 }
@@ -306,15 +275,7 @@ pub fn loaded(state: &mut Data, seen: u64) -> Turn
 pub(crate) fn confirmed(state: &mut Data, value: u64, seen: u64) -> Turn
     requires sound { IsSound state.old (Phase.Confirm state.old.reading value) }
     requires fits { state.old.clock ≤ seen }
-    ensures sound { IsSoundTurn result state.new }
-    ensures proceeds { Turns (handed (core state.old (Phase.Confirm state.old.reading value)) seen) result state.new }
-    ensures joins { Joins (core state.old (Phase.Confirm state.old.reading value)) seen (core_after result state.new) }
-    ensures order { phase_after result state.new ≡ stage_after (core state.old (Phase.Confirm state.old.reading value)) seen }
-    ensures ends { TurnEndsSo (ending_after (core state.old (Phase.Confirm state.old.reading value)) seen) result state.new }
-    ensures snapshot { state.new.snapshot ≡ snapshot_after (core state.old (Phase.Confirm state.old.reading value)) seen }
-    ensures log { in_block state.new ≡ true
-        → state.new.log.rows ≡ log_after (core state.old (Phase.Confirm state.old.reading value)) seen }
-    ensures tries { (core_after result state.new).tries ≡ tries_after (phase_after result state.new) state.old.tries }
+    ensures { StepTurns state.old (Phase.Confirm state.old.reading value) seen result state.new }
 {
     if seen == state.snapshot {
         if let Some(word) = whole_word(&state.reading) {
@@ -344,14 +305,7 @@ pub fn confirmed_word(state: &mut Data, word: u32, value: u64, seen: u64) -> u64
     requires sound { IsSound state.old (Phase.Confirm state.old.reading value) }
     requires word { IsWord state.old.reading word }
     requires same { seen ≡ state.old.snapshot }
-    ensures sound { IsSoundTurn (Turn.End (End.Word result)) state.new }
-    ensures proceeds { Turns (handed (core state.old (Phase.Confirm state.old.reading value)) seen) (Turn.End (End.Word result)) state.new }
-    ensures joins { Joins (core state.old (Phase.Confirm state.old.reading value)) seen (core_after (Turn.End (End.Word result)) state.new) }
-    ensures order { Phase.Idle ≡ stage_after (core state.old (Phase.Confirm state.old.reading value)) seen }
-    ensures ends { TurnEndsSo (ending_after (core state.old (Phase.Confirm state.old.reading value)) seen) (Turn.End (End.Word result)) state.new }
-    ensures snapshot { state.new.snapshot ≡ snapshot_after (core state.old (Phase.Confirm state.old.reading value)) seen }
-    ensures log { in_block state.new ≡ true
-        → state.new.log.rows ≡ log_after (core state.old (Phase.Confirm state.old.reading value)) seen }
+    ensures { StepTurns state.old (Phase.Confirm state.old.reading value) seen (Turn.End (End.Word result)) state.new }
 {
     state.clock = seen;
     state.log.add(LogRow { word, value });

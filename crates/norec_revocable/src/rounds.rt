@@ -5,8 +5,8 @@ ghost use Rattle.norec_data.specs.View.{aim_for, aim_of};
 ghost use Rattle.norec_revocable.specs.InPhases.{IsSound};
 ghost use Rattle.norec_revocable.specs.Between.{between, in_rows, MayTry, InRows};
 ghost use Rattle.norec_data.specs.Turns.{TurnEndsSo};
-ghost use Rattle.norec_revocable.specs.Moves.{GoesTo, StepGoesTo, StepTurns};
 ghost use Rattle.norec_core.specs.Order.{row_stage, try_stage};
+ghost use Rattle.norec_revocable.specs.Moves.{GoesTo, StepGoesTo, StepTurns};
 
 use crate::commits::exchange;
 use norec_core::{Answer, Phase};

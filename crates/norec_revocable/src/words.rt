@@ -1,13 +1,12 @@
 //! Reads of one whole word that is neither written nor logged: the call asks for this word, with no look at its pieces.
 
 ghost use Rattle.std.specs.Prelude.{◌≡◌, ◌<◌, ◌≤◌, ℕ, IfSome, IfNone, OnSome, false, true};
-ghost use Rattle.norec_core.specs.Core.{came};
-ghost use Rattle.norec_core.specs.Order.{stage_at, stage_after};
+ghost use Rattle.norec_core.specs.Order.{stage_after};
 ghost use Rattle.norec_data.specs.View.{core};
-ghost use Rattle.norec_data.specs.Turns.{Turns, Stays};
 ghost use Rattle.norec_revocable.specs.InPhases.{IsSound};
-ghost use Rattle.norec_revocable.specs.Between.{IsSoundTurn, IsWord};
+ghost use Rattle.norec_revocable.specs.Between.{IsWord};
 ghost use Rattle.norec_revocable.specs.WholeReads.{IsNewWord};
+ghost use Rattle.norec_revocable.specs.Moves.{CallTurns};
 
 use crate::read::{set_value, start, whole_word};
 use itm_types::{Call, MAX_MEMORY, MAX_WORDS, ReadHint, Value, Width};
@@ -20,11 +19,7 @@ use norec_data::{Data, Pending, Turn, access_refusal};
 pub fn begin_word(state: &mut Data, hint: ReadHint, width: Width, at: u64) -> Option<u32>
     requires sound { IsSound state.old Phase.Idle }
     ensures none { IfNone result (state.new ≡ state.old) }
-    ensures sound { OnSome result (IsSoundTurn (Turn.Wait Pending.Load) state.new) }
-    ensures proceeds { OnSome result
-        (Turns (came (core state.old Phase.Idle) (Call.Read hint width at) false) (Turn.Wait Pending.Load) state.new) }
-    ensures stays { OnSome result (Stays state.old state.new) }
-    ensures order { OnSome result (Phase.Load state.new.reading ≡ stage_at (core state.old Phase.Idle) (Call.Read hint width at) false) }
+    ensures called { OnSome result (CallTurns state.old (Call.Read hint width at) false (Turn.Wait Pending.Load) state.new) }
     ensures word { IfSome result (IsWord state.new.reading) }
     ensures within { IfSome result (λ word. word < state.new.words) }
     ensures first { OnSome result (state.new.reading.number ≡ 0) }

@@ -1,19 +1,13 @@
 //! Writes: a value goes into the write set, piece by piece upwards, and no step is taken.
 
-ghost use Rattle.std.specs.Prelude.{◌≡◌, ◌<◌, ◌≤◌, ◌+◌, ◌∷◌, [], false, IfOk, OnOk, OnErr, All, length, map};
+ghost use Rattle.std.specs.Prelude.{◌≡◌, ◌<◌, ◌≤◌, ◌+◌, ◌∷◌, [], false, OnOk, OnErr, All, length, map};
 ghost use Rattle.word_pieces.specs.Pieces.{IsPiece, pieces_of};
 ghost use Rattle.itm_types.specs.Slices.{AreBytes};
 ghost use Rattle.write_set.specs.Marks.{KeepsRoom, MayPut};
 ghost use Rattle.nest_frames.specs.Nest.{rows_of};
 ghost use Rattle.norec_core.specs.Rows.{AreRoomy, HaveRows, reserved_all, put_all};
-ghost use Rattle.norec_data.specs.View.{core};
 ghost use Rattle.norec_revocable.specs.InPhases.{IsSound};
-ghost use Rattle.norec_revocable.specs.Between.{IsSoundTurn};
-ghost use Rattle.norec_data.specs.Turns.{core_after, phase_after, Turns, TurnEndsSo, Stays};
-ghost use Rattle.norec_core.specs.Core.{came};
-ghost use Rattle.norec_core.specs.Order.{stage_at, tries_at};
-ghost use Rattle.norec_core.specs.Endings.{ending_at};
-ghost use Rattle.norec_core.specs.Proceeds.{MayStarve};
+ghost use Rattle.norec_revocable.specs.Moves.{CallComes};
 
 use crate::access::refuse;
 use itm_types::{Call, Datum, MAX_MEMORY, WriteHint};
@@ -27,17 +21,7 @@ use word_pieces::{Piece, piece_at, pieces};
 #[inline(always)]
 pub fn write(state: &mut Data, hint: WriteHint, at: u64, value: &Datum) -> Result<Turn, AllocError>
     requires sound { IsSound state.old Phase.Idle }
-    ensures sound { IfOk result (λ turn. IsSoundTurn turn state.new) }
-    ensures proceeds { IfOk result
-        (λ turn. Turns (came (core state.old Phase.Idle) (Call.Write hint at value.now) false) turn state.new) }
-    ensures stays { OnOk result (Stays state.old state.new) }
-    ensures err_sound { OnErr result (IsSound state.new Phase.Idle) }
-    ensures err { OnErr result (core state.new Phase.Idle ≡ core state.old Phase.Idle) }
-    ensures starves { OnErr result (MayStarve (core state.old Phase.Idle) (Call.Write hint at value.now)) }
-    ensures order { IfOk result
-        (λ turn. phase_after turn state.new ≡ stage_at (core state.old Phase.Idle) (Call.Write hint at value.now) false) }
-    ensures ends { IfOk result (λ turn. TurnEndsSo (ending_at (core state.old Phase.Idle) (Call.Write hint at value.now)) turn state.new) }
-    ensures tries { IfOk result (λ turn. (core_after turn state.new).tries ≡ tries_at (phase_after turn state.new)) }
+    ensures { CallComes state.old (Call.Write hint at value.now) false result state.new }
 {
     if let Some(why) = access_refusal(state, at, u64::from(value.width.size())) {
         return Ok(refuse(state, why));

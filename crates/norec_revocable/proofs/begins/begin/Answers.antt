@@ -1,4 +1,4 @@
-use Rattle.std.proofs.Common.{◌≡◌, ◌∷◌, length, sym, ap, subst, ◌∙◌}
+use Rattle.std.proofs.Common.{◌≡◌, ◌∷◌, length, sym, ap, subst, ◌∙◌, rules}
 use Rattle.itm_types.specs.declared.call.Call.TheVariants.{Begin as Begins}
 use Rattle.itm_types.specs.declared.call.Reply.TheVariants.{Code}
 use Rattle.write_set.specs.Marks.{place_of}
@@ -15,43 +15,57 @@ use Rattle.norec_revocable.specs.Between.{between, moved}
 use Rattle.norec_revocable.proofs.BlockBegins.{begin_came, begin_denied, begun_with, denied_ends, denied_order, nested, nested_replies}
 use Rattle.norec_revocable.proofs.begins.begin.Goals as goal
 
-pub returns-in-Some-clause-proceeds : goal.returns-in-Some-clause-proceeds
-returns-in-Some-clause-proceeds c =
-    rw c.come.ensures (begin_denied c.args.state.now c.args.props c.args.room c.args.again c.in-Some.why c.requires.sound (sym c.begin_refusal.ensures.refusal ∙ c.in-Some.is))
+pub returns-in-Some : goal.returns-in-Some
+returns-in-Some c = record {
+  sound = search rules;
+  proceeds = (rw c.come.ensures (begin_denied c.args.state.now c.args.props c.args.room c.args.again c.in-Some.why c.requires.sound (sym c.begin_refusal.ensures.refusal ∙ c.in-Some.is)));
+  stays = search rules;
+  order = denied_order c.args.state.now c.args.props c.args.room c.args.again c.in-Some.why (sym c.begin_refusal.ensures.refusal ∙ c.in-Some.is);
+  ends = denied_ends c.args.state.now c.args.props c.args.room c.args.again c.in-Some.why (sym c.begin_refusal.ensures.refusal ∙ c.in-Some.is);
+  tries = search rules;
+}
 
-pub returns-in-Some-clause-order : goal.returns-in-Some-clause-order
-returns-in-Some-clause-order c = denied_order c.args.state.now c.args.props c.args.room c.args.again c.in-Some.why (sym c.begin_refusal.ensures.refusal ∙ c.in-Some.is)
+pub returns-then-props : goal.returns-then-props
+returns-then-props c = record {
+  sound = search rules;
+  proceeds =
+      (let s = c.args.state.now in
+      let props = c.args.props in
+      let room = c.args.room in
+      let served = c.in_default.ensures.served in
+      let come : c.come-2.new.self ≡ begun_with s props room = c.come-2.ensures ∙ ap (λ (frames : Nest). record s { frames = frames; spent = 0; entry = length s.log.rows }) c.in_ok-reserve_room.ensures.ok in
+      let is_open = ap in_block (sym come) ∙ (sym c.is_open.ensures ∙ c.if-not-is_open.false) in
+      subst (λ (mid : Core). Turns mid c.exchange.result c.exchange.new.state)
+      (ap (λ (d : Data). moved (between (record d { tries = 0 }) (aims.Take (Begin props room))) s.snapshot) come ∙ begin_came s props room c.args.again served.0 served.1 is_open) (c.exchange.ensures.proceeds s.snapshot));
+  stays = search rules;
+  order = search rules;
+  ends = search rules;
+  tries = search rules;
+}
 
-pub returns-in-Some-clause-ends : goal.returns-in-Some-clause-ends
-returns-in-Some-clause-ends c = denied_ends c.args.state.now c.args.props c.args.room c.args.again c.in-Some.why (sym c.begin_refusal.ensures.refusal ∙ c.in-Some.is)
-
-pub returns-then-props-clause-proceeds : goal.returns-then-props-clause-proceeds
-returns-then-props-clause-proceeds c =
-    let s = c.args.state.now in
-    let props = c.args.props in
-    let room = c.args.room in
-    let served = c.in_default.ensures.served in
-    let come : c.come-2.new.self ≡ begun_with s props room = c.come-2.ensures ∙ ap (λ (frames : Nest). record s { frames = frames; spent = 0; entry = length s.log.rows }) c.in_ok-reserve_room.ensures.ok in
-    let is_open = ap in_block (sym come) ∙ (sym c.is_open.ensures ∙ c.if-not-is_open.false) in
-    subst (λ (mid : Core). Turns mid c.exchange.result c.exchange.new.state)
-    (ap (λ (d : Data). moved (between (record d { tries = 0 }) (aims.Take (Begin props room))) s.snapshot) come ∙ begin_came s props room c.args.again served.0 served.1 is_open) (c.exchange.ensures.proceeds s.snapshot)
-
-pub returns-else-props-clause-proceeds : goal.returns-else-props-clause-proceeds
-returns-else-props-clause-proceeds c =
-    let s = c.args.state.now in
-    let props = c.args.props in
-    let room = c.args.room in
-    let again = c.args.again in
-    let served = c.in_default.ensures.served in
-    let come : c.come-2.new.self ≡ begun_with s props room = c.come-2.ensures ∙ ap (λ (frames : Nest). record s { frames = frames; spent = 0; entry = length s.log.rows }) c.in_ok-reserve_room.ensures.ok in
-    let is_open = ap in_block (sym come) ∙ (sym c.is_open.ensures ∙ c.if-not-is_open.false) in
-    let enter = c.enter.ensures in
-    let frames : c.enter.new.self ≡ (nested s props room again served.0 served.1).frames = (λ i. record {
-      writes = (enter.writes ∙ ap (λ (d : Data). record d.frames.writes { inner = place_of d.frames.writes }) come) i;
-      size = (enter.size ∙ ap (λ (d : Data). d.frames.size) come) i;
-      blocks = (enter.blocks ∙ ap (λ (d : Data). begun props d.frames.writes.rows d.frames.actions ∷ d.frames.blocks) come) i;
-      actions = (enter.actions ∙ ap (λ (d : Data). d.frames.actions) come) i;
-      room = (enter.room ∙ ap (λ (d : Data). d.frames.room) come) i;
-    }) in
-    let is : record c.come-2.new.self { frames = c.enter.new.self } ≡ nested s props room again served.0 served.1 = (λ i. record (come i) { frames = frames i }) in
-    subst (λ (d : Data). Replies (came (core s Idle) (Begins props room) again) (Begins props room) (Code 5) (core d Idle)) (sym is) (nested_replies s props room again served.0 served.1 is_open c.if-props.false c.requires.sound)
+pub returns-else-props : goal.returns-else-props
+returns-else-props c = record {
+  sound = search rules;
+  proceeds =
+      (let s = c.args.state.now in
+      let props = c.args.props in
+      let room = c.args.room in
+      let again = c.args.again in
+      let served = c.in_default.ensures.served in
+      let come : c.come-2.new.self ≡ begun_with s props room = c.come-2.ensures ∙ ap (λ (frames : Nest). record s { frames = frames; spent = 0; entry = length s.log.rows }) c.in_ok-reserve_room.ensures.ok in
+      let is_open = ap in_block (sym come) ∙ (sym c.is_open.ensures ∙ c.if-not-is_open.false) in
+      let enter = c.enter.ensures in
+      let frames : c.enter.new.self ≡ (nested s props room again served.0 served.1).frames = (λ i. record {
+        writes = (enter.writes ∙ ap (λ (d : Data). record d.frames.writes { inner = place_of d.frames.writes }) come) i;
+        size = (enter.size ∙ ap (λ (d : Data). d.frames.size) come) i;
+        blocks = (enter.blocks ∙ ap (λ (d : Data). begun props d.frames.writes.rows d.frames.actions ∷ d.frames.blocks) come) i;
+        actions = (enter.actions ∙ ap (λ (d : Data). d.frames.actions) come) i;
+        room = (enter.room ∙ ap (λ (d : Data). d.frames.room) come) i;
+      }) in
+      let is : record c.come-2.new.self { frames = c.enter.new.self } ≡ nested s props room again served.0 served.1 = (λ i. record (come i) { frames = frames i }) in
+      subst (λ (d : Data). Replies (came (core s Idle) (Begins props room) again) (Begins props room) (Code 5) (core d Idle)) (sym is) (nested_replies s props room again served.0 served.1 is_open c.if-props.false c.requires.sound));
+  stays = search rules;
+  order = search rules;
+  ends = search rules;
+  tries = search rules;
+}

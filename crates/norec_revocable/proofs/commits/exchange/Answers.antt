@@ -1,4 +1,4 @@
-use Rattle.std.proofs.Common.{ℕ, refl, sym, ap, ◌∙◌, arith}
+use Rattle.std.proofs.Common.{ℕ, refl, sym, ap, ◌∙◌, arith, rules}
 use Rattle.norec_core.specs.Core.{rolled_back}
 use Rattle.norec_core.specs.declared.phase.Aim.TheVariants as aims
 use Rattle.norec_core.specs.declared.phase.Phase.TheVariants.{Idle}
@@ -24,3 +24,13 @@ returns-else-at-state-clause-proceeds c = λ was.
       stays = left ∙ ap (λ (n : ℕ). record (rolled_back (moved (between s (aims.Take c.args.taking)) was)) { stage = Idle; tries = 0; snapshot = n }) (sym over.ended.snapshot);
       undone = ended_undone (moved (between s (aims.Take c.args.taking)) was) (core c.roll_back.new.state Idle) Idle 0 s.snapshot may.is_open.frames over.restored refl may.is_open.is_open left;
     })
+
+pub returns-else-at-state-clause-goes : goal.returns-else-at-state-clause-goes
+returns-else-at-state-clause-goes c = record {
+  sound = search rules;
+  proceeds = returns-else-at-state-clause-proceeds c c.args.state.now.snapshot;
+  stays = search rules;
+  order = search rules;
+  ends = search rules;
+  tries = search rules;
+}

@@ -1,4 +1,4 @@
-use Rattle.std.proofs.Common.{◌≡◌, ◌≢◌, ◌<◌, ◌+◌, ◌*◌, ◌==◌, nat_lt, length, arith, refl, sym, ap, subst, ◌∙◌, eq-eqb}
+use Rattle.std.proofs.Common.{◌≡◌, ◌≢◌, ◌<◌, ◌+◌, ◌*◌, ◌==◌, nat_lt, length, arith, refl, sym, ap, subst, ◌∙◌, eq-eqb, rules}
 use Rattle.itm_types.specs.declared.call.Reply.TheVariants.{Done, Code}
 use Rattle.norec_data.specs.declared.end.End.{End}
 use Rattle.norec_data.specs.declared.turn.Turn.TheVariants.{Enter}
@@ -20,86 +20,121 @@ use Rattle.norec_revocable.proofs.Loads.{wants_later}
 use Rattle.norec_core.proofs.Overlays.{AllWritesWithin-at, write_at_of, stores_whole}
 use Rattle.norec_revocable.proofs.commits.next_store.Goals as goal
 
-pub returns-then-written-clause-proceeds : goal.returns-then-written-clause-proceeds
-returns-then-written-clause-proceeds c =
-    let rows = c.args.state.now.frames.writes.rows in
-    let within : c.args.row < length rows = omega (arith, c.if-row-len.true, c.len.ensures.len) in
-    let mask : (write_at rows c.args.row).mask ≡ whole = ap (λ (r : Row). r.mask) (write_at_of rows c.args.row c.row-written.result c.row-written.ensures.row) ∙ c.if-written.true in
-    record {
-      unfreed = refl;
-      lawful = (
-        omega (arith, AllWritesWithin-at c.args.state.now.words rows c.args.row c.requires.may.holding.is_open.writes within),
-        refl,
-        λ r. record { some = within; word_is = refl; value_is = λ m mem got. stores_whole m rows c.args.row within c.requires.may.holding.is_open.rows mask },
-      );
-      stays = refl;
-    }
-
-pub returns-then-written-clause-order : goal.returns-then-written-clause-order
-returns-then-written-clause-order c =
-    let rows = c.args.state.now.frames.writes.rows in
-    let within : c.args.row < length rows = omega (arith, c.if-row-len.true, c.len.ensures.len) in
-    let mask : (write_at rows c.args.row).mask ≡ whole = ap (λ (r : Row). r.mask) (write_at_of rows c.args.row c.row-written.result c.row-written.ensures.row) ∙ c.if-written.true in
-    sym (cond-true (nat_lt c.args.row (length rows)) (row_store c.args.state.now.taking (write_at rows c.args.row) c.args.row) (stored_stage c.args.state.now.taking) (lt-ltb c.args.row (length rows) within)
-    ∙ cond-true ((write_at rows c.args.row).mask == whole) (Store c.args.state.now.taking c.args.row _) (BackLoad c.args.state.now.taking c.args.row) (eq-eqb (write_at rows c.args.row).mask whole mask))
-
-pub returns-else-written-clause-sound : goal.returns-else-written-clause-sound
-returns-else-written-clause-sound c =
-    let rows = c.args.state.now.frames.writes.rows in
-    let may = c.requires.may in
-    let hold = may.holding in
-    let within : c.args.row < length rows = omega (arith, c.if-row-len.true, c.len.ensures.len) in
-    record {
-      asked = tt;
-      sound = record {
-        bounds = may.bounds;
-        reached = omega (arith, hold.settled);
-        in_phase = (
-          record { is_open = record { is_open = hold.is_open.is_open; log = hold.is_open.log; writes = hold.is_open.writes; rows = hold.is_open.rows; frames = hold.is_open.frames; tries = hold.is_open.tries }; wants = wants_later c.args.state.now c.args.state.now.taking c.args.state.now.clock c.args.state.now.snapshot (c.args.state.now.spent + 1) hold.wants; settled = hold.settled; free = hold.free; spent = omega (arith, hold.spent) },
-          within,
-          λ e. c.if-written.false (ap (λ (r : Row). r.mask) (sym (write_at_of rows c.args.row c.row-written.result c.row-written.ensures.row)) ∙ e),
+pub returns-then-written : goal.returns-then-written
+returns-then-written c = record {
+  sound =
+      (let rows = c.args.state.now.frames.writes.rows in
+      let may = c.requires.may in
+      let hold = may.holding in
+      let within : c.args.row < length rows = omega (arith, c.if-row-len.true, c.len.ensures.len) in
+      record {
+        asked = tt;
+        sound = record {
+          bounds = may.bounds;
+          reached = omega (arith, hold.settled);
+          in_phase = (
+            record { is_open = record { is_open = hold.is_open.is_open; log = hold.is_open.log; writes = hold.is_open.writes; rows = hold.is_open.rows; frames = hold.is_open.frames; tries = hold.is_open.tries }; wants = wants_later c.args.state.now c.args.state.now.taking c.args.state.now.clock c.args.state.now.snapshot (c.args.state.now.spent + 1) hold.wants; settled = hold.settled; free = hold.free; spent = omega (arith, hold.spent) },
+            within,
+            ap (λ (r : Row). r.mask) (write_at_of rows c.args.row c.row-written.result c.row-written.ensures.row) ∙ c.if-written.true,
+          );
+        };
+      });
+  proceeds =
+      (let rows = c.args.state.now.frames.writes.rows in
+      let within : c.args.row < length rows = omega (arith, c.if-row-len.true, c.len.ensures.len) in
+      let mask : (write_at rows c.args.row).mask ≡ whole = ap (λ (r : Row). r.mask) (write_at_of rows c.args.row c.row-written.result c.row-written.ensures.row) ∙ c.if-written.true in
+      record {
+        unfreed = refl;
+        lawful = (
+          omega (arith, AllWritesWithin-at c.args.state.now.words rows c.args.row c.requires.may.holding.is_open.writes within),
+          refl,
+          λ r. record { some = within; word_is = refl; value_is = λ m mem got. stores_whole m rows c.args.row within c.requires.may.holding.is_open.rows mask },
         );
-      };
-    }
+        stays = refl;
+      });
+  stays = search rules;
+  order =
+      (let rows = c.args.state.now.frames.writes.rows in
+      let within : c.args.row < length rows = omega (arith, c.if-row-len.true, c.len.ensures.len) in
+      let mask : (write_at rows c.args.row).mask ≡ whole = ap (λ (r : Row). r.mask) (write_at_of rows c.args.row c.row-written.result c.row-written.ensures.row) ∙ c.if-written.true in
+      sym (cond-true (nat_lt c.args.row (length rows)) (row_store c.args.state.now.taking (write_at rows c.args.row) c.args.row) (stored_stage c.args.state.now.taking) (lt-ltb c.args.row (length rows) within)
+      ∙ cond-true ((write_at rows c.args.row).mask == whole) (Store c.args.state.now.taking c.args.row _) (BackLoad c.args.state.now.taking c.args.row) (eq-eqb (write_at rows c.args.row).mask whole mask)));
+  ends = search rules;
+  tries = search rules;
+}
 
-pub returns-else-written-clause-proceeds : goal.returns-else-written-clause-proceeds
-returns-else-written-clause-proceeds c =
-    let rows = c.args.state.now.frames.writes.rows in
-    let within : c.args.row < length rows = omega (arith, c.if-row-len.true, c.len.ensures.len) in
-    record {
-      unfreed = refl;
-      lawful = (omega (arith, AllWritesWithin-at c.args.state.now.words rows c.args.row c.requires.may.holding.is_open.writes within), (c.requires.may.holding.is_open.is_open, λ h r. (within, refl)));
-      stays = refl;
-    }
+pub returns-else-written : goal.returns-else-written
+returns-else-written c = record {
+  sound =
+      (let rows = c.args.state.now.frames.writes.rows in
+      let may = c.requires.may in
+      let hold = may.holding in
+      let within : c.args.row < length rows = omega (arith, c.if-row-len.true, c.len.ensures.len) in
+      record {
+        asked = tt;
+        sound = record {
+          bounds = may.bounds;
+          reached = omega (arith, hold.settled);
+          in_phase = (
+            record { is_open = record { is_open = hold.is_open.is_open; log = hold.is_open.log; writes = hold.is_open.writes; rows = hold.is_open.rows; frames = hold.is_open.frames; tries = hold.is_open.tries }; wants = wants_later c.args.state.now c.args.state.now.taking c.args.state.now.clock c.args.state.now.snapshot (c.args.state.now.spent + 1) hold.wants; settled = hold.settled; free = hold.free; spent = omega (arith, hold.spent) },
+            within,
+            λ e. c.if-written.false (ap (λ (r : Row). r.mask) (sym (write_at_of rows c.args.row c.row-written.result c.row-written.ensures.row)) ∙ e),
+          );
+        };
+      });
+  proceeds =
+      (let rows = c.args.state.now.frames.writes.rows in
+      let within : c.args.row < length rows = omega (arith, c.if-row-len.true, c.len.ensures.len) in
+      record {
+        unfreed = refl;
+        lawful = (omega (arith, AllWritesWithin-at c.args.state.now.words rows c.args.row c.requires.may.holding.is_open.writes within), (c.requires.may.holding.is_open.is_open, λ h r. (within, refl)));
+        stays = refl;
+      });
+  stays = search rules;
+  order =
+      (let rows = c.args.state.now.frames.writes.rows in
+      let within : c.args.row < length rows = omega (arith, c.if-row-len.true, c.len.ensures.len) in
+      let mask : (write_at rows c.args.row).mask ≢ whole = λ e. c.if-written.false (ap (λ (r : Row). r.mask) (sym (write_at_of rows c.args.row c.row-written.result c.row-written.ensures.row)) ∙ e) in
+      sym (cond-true (nat_lt c.args.row (length rows)) (row_store c.args.state.now.taking (write_at rows c.args.row) c.args.row) (stored_stage c.args.state.now.taking) (lt-ltb c.args.row (length rows) within)
+      ∙ cond-false ((write_at rows c.args.row).mask == whole) (Store c.args.state.now.taking c.args.row _) (BackLoad c.args.state.now.taking c.args.row) (ne_eqb (write_at rows c.args.row).mask whole mask)));
+  ends = search rules;
+  tries = search rules;
+}
 
-pub returns-else-written-clause-order : goal.returns-else-written-clause-order
-returns-else-written-clause-order c =
-    let rows = c.args.state.now.frames.writes.rows in
-    let within : c.args.row < length rows = omega (arith, c.if-row-len.true, c.len.ensures.len) in
-    let mask : (write_at rows c.args.row).mask ≢ whole = λ e. c.if-written.false (ap (λ (r : Row). r.mask) (sym (write_at_of rows c.args.row c.row-written.result c.row-written.ensures.row)) ∙ e) in
-    sym (cond-true (nat_lt c.args.row (length rows)) (row_store c.args.state.now.taking (write_at rows c.args.row) c.args.row) (stored_stage c.args.state.now.taking) (lt-ltb c.args.row (length rows) within)
-    ∙ cond-false ((write_at rows c.args.row).mask == whole) (Store c.args.state.now.taking c.args.row _) (BackLoad c.args.state.now.taking c.args.row) (ne_eqb (write_at rows c.args.row).mask whole mask))
+pub returns-in-Mode : goal.returns-in-Mode
+returns-in-Mode c = record {
+  sound = search rules;
+  proceeds =
+      (let s = c.args.state.now in
+      let row = c.args.row in
+      let new = c.go_irrevocable.new.state in
+      let gone = c.go_irrevocable.ensures in
+      let stored : row ≡ length s.frames.writes.rows = omega (arith, c.if-row-len.false, c.len.ensures.len, c.requires.may.far) in
+      let holding = subst (λ (t : Taking). IsHolding s t (2 * row)) c.in-Mode.is c.requires.may.holding in
+      let enters = mode_entered s new row stored c.requires.may.bounds.even c.in-Mode.room (2 * row) holding (record { frames = gone.frames; log = gone.log; others = gone.others }) in
+      subst (λ (end : End). Turns (in_stores s s.taking row) (Enter end) new) (sym gone.end)
+      (subst (λ (t : Taking). Enters (in_stores s t row) (call_of (aims.Take t)) Done (core_held new)) (sym c.in-Mode.is) enters));
+  stays = search rules;
+  order = search rules;
+  ends = search rules;
+  tries = search rules;
+}
 
-pub returns-in-Mode-clause-proceeds : goal.returns-in-Mode-clause-proceeds
-returns-in-Mode-clause-proceeds c =
-    let s = c.args.state.now in
-    let row = c.args.row in
-    let new = c.go_irrevocable.new.state in
-    let gone = c.go_irrevocable.ensures in
-    let stored : row ≡ length s.frames.writes.rows = omega (arith, c.if-row-len.false, c.len.ensures.len, c.requires.may.far) in
-    let holding = subst (λ (t : Taking). IsHolding s t (2 * row)) c.in-Mode.is c.requires.may.holding in
-    let enters = mode_entered s new row stored c.requires.may.bounds.even c.in-Mode.room (2 * row) holding (record { frames = gone.frames; log = gone.log; others = gone.others }) in
-    subst (λ (end : End). Turns (in_stores s s.taking row) (Enter end) new) (sym gone.end)
-    (subst (λ (t : Taking). Enters (in_stores s t row) (call_of (aims.Take t)) Done (core_held new)) (sym c.in-Mode.is) enters)
-
-pub returns-in-Begin-clause-proceeds : goal.returns-in-Begin-clause-proceeds
-returns-in-Begin-clause-proceeds c =
-    let s = c.args.state.now in
-    let row = c.args.row in
-    let new = c.go_irrevocable-in-Begin.new.state in
-    let gone = c.go_irrevocable-in-Begin.ensures in
-    let stored : row ≡ length s.frames.writes.rows = omega (arith, c.if-row-len.false, c.len.ensures.len, c.requires.may.far) in
-    let holding = subst (λ (t : Taking). IsHolding s t (2 * row)) c.in-Begin.is c.requires.may.holding in
-    let enters = begin_entered s new row stored c.requires.may.bounds.even c.in-Begin.props c.in-Begin.room (2 * row) holding (record { frames = gone.frames; log = gone.log; others = gone.others }) in
-    subst (λ (end : End). Turns (in_stores s s.taking row) (Enter end) new) (sym gone.end)
-    (subst (λ (t : Taking). Enters (in_stores s t row) (call_of (aims.Take t)) (Code 5) (core_held new)) (sym c.in-Begin.is) enters)
+pub returns-in-Begin : goal.returns-in-Begin
+returns-in-Begin c = record {
+  sound = search rules;
+  proceeds =
+      (let s = c.args.state.now in
+      let row = c.args.row in
+      let new = c.go_irrevocable-in-Begin.new.state in
+      let gone = c.go_irrevocable-in-Begin.ensures in
+      let stored : row ≡ length s.frames.writes.rows = omega (arith, c.if-row-len.false, c.len.ensures.len, c.requires.may.far) in
+      let holding = subst (λ (t : Taking). IsHolding s t (2 * row)) c.in-Begin.is c.requires.may.holding in
+      let enters = begin_entered s new row stored c.requires.may.bounds.even c.in-Begin.props c.in-Begin.room (2 * row) holding (record { frames = gone.frames; log = gone.log; others = gone.others }) in
+      subst (λ (end : End). Turns (in_stores s s.taking row) (Enter end) new) (sym gone.end)
+      (subst (λ (t : Taking). Enters (in_stores s t row) (call_of (aims.Take t)) (Code 5) (core_held new)) (sym c.in-Begin.is) enters));
+  stays = search rules;
+  order = search rules;
+  ends = search rules;
+  tries = search rules;
+}

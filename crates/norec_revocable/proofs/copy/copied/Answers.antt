@@ -1,4 +1,4 @@
-use Rattle.std.proofs.Common.{ℕ, List, length, refl, sym, ap, subst, ◌∙◌, arith}
+use Rattle.std.proofs.Common.{ℕ, List, length, refl, sym, ap, subst, ◌∙◌, arith, rules}
 use Rattle.itm_types.specs.Memory.{bytes_of, IsMemory, Agrees}
 use Rattle.write_set.specs.declared.row.Row.{Row}
 use Rattle.write_set.specs.Rows.{overlay, AreRows}
@@ -13,43 +13,6 @@ use Rattle.norec_core.specs.Stands.{state_over}
 use Rattle.norec_revocable.proofs.Copies.{copies}
 use Rattle.norec_revocable.proofs.Sources.{rows_before-fit, copied_fits, overlay_for, length-arena_copied}
 use Rattle.norec_revocable.proofs.copy.copied.Goals as goal
-
-pub returns-clause-sound : goal.returns-clause-sound
-returns-clause-sound c =
-    let s = c.args.state.now in
-    let k = c.args.copying in
-    let may = c.requires.may in
-    let served = may.source.served in
-    let before = rows_before s in
-    let fits = rows_before-fit s.words s.written s.frames.writes.rows may.is_open.rows may.is_open.writes in
-    let rows = copied_fits s.words (length s.arena) before k s.buffer.items fits.0 fits.1 served.accepted served.sized c.deliver.ensures.bytes in
-    rw c.deliver.ensures.frame (record {
-      asked = tt;
-      sound = record {
-        bounds = record {
-          patient = may.bounds.patient;
-          commits = may.bounds.commits;
-          small = may.bounds.small;
-          sized = c.deliver.ensures.size ∙ (may.bounds.sized ∙ sym (ap (length {A = ℕ}) c.deliver.ensures.arena ∙ length-arena_copied s.words s.arena k s.buffer.items served.accepted served.sized));
-          even = may.bounds.even;
-        };
-        reached = omega (arith, may.settled);
-        in_phase = (
-          λ o. (
-            record {
-              is_open = o;
-              log = may.is_open.log;
-              writes = subst (AllWritesWithin s.words) (sym c.deliver.ensures.rows) rows.1;
-              rows = subst AreRows (sym c.deliver.ensures.rows) rows.0;
-              frames = subst (AreFrames s.words) (sym c.deliver.ensures.blocks) may.is_open.frames;
-              tries = may.is_open.tries;
-            },
-            may.settled,
-          ),
-          λ o. (let yes = ap is_inside c.deliver.ensures.blocks ∙ may.is_open.is_open in absurd (cc)),
-        );
-      };
-    })
 
 pub returns-clause-proceeds : goal.returns-clause-proceeds
 returns-clause-proceeds c log =
@@ -79,3 +42,47 @@ returns-clause-proceeds c log =
       actions = c.deliver.ensures.actions;
       settled = λ o. (may.settled, may.bounds.even);
     })
+
+pub returns-clause-goes : goal.returns-clause-goes
+returns-clause-goes c = record {
+  sound =
+      (let s = c.args.state.now in
+      let k = c.args.copying in
+      let may = c.requires.may in
+      let served = may.source.served in
+      let before = rows_before s in
+      let fits = rows_before-fit s.words s.written s.frames.writes.rows may.is_open.rows may.is_open.writes in
+      let rows = copied_fits s.words (length s.arena) before k s.buffer.items fits.0 fits.1 served.accepted served.sized c.deliver.ensures.bytes in
+      rw c.deliver.ensures.frame (record {
+        asked = tt;
+        sound = record {
+          bounds = record {
+            patient = may.bounds.patient;
+            commits = may.bounds.commits;
+            small = may.bounds.small;
+            sized = c.deliver.ensures.size ∙ (may.bounds.sized ∙ sym (ap (length {A = ℕ}) c.deliver.ensures.arena ∙ length-arena_copied s.words s.arena k s.buffer.items served.accepted served.sized));
+            even = may.bounds.even;
+          };
+          reached = omega (arith, may.settled);
+          in_phase = (
+            λ o. (
+              record {
+                is_open = o;
+                log = may.is_open.log;
+                writes = subst (AllWritesWithin s.words) (sym c.deliver.ensures.rows) rows.1;
+                rows = subst AreRows (sym c.deliver.ensures.rows) rows.0;
+                frames = subst (AreFrames s.words) (sym c.deliver.ensures.blocks) may.is_open.frames;
+                tries = may.is_open.tries;
+              },
+              may.settled,
+            ),
+            λ o. (let yes = ap is_inside c.deliver.ensures.blocks ∙ may.is_open.is_open in absurd (cc)),
+          );
+        };
+      }));
+  proceeds = returns-clause-proceeds c c.args.state.now.log.rows;
+  stays = search rules;
+  order = search rules;
+  ends = search rules;
+  tries = search rules;
+}

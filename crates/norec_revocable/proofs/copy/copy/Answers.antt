@@ -1,4 +1,4 @@
-use Rattle.std.proofs.Common.{◌≡◌, ℕ, false, List, length, None, sym, ap, subst, ◌∙◌, inl, inr}
+use Rattle.std.proofs.Common.{◌≡◌, ℕ, false, List, length, None, sym, ap, subst, ◌∙◌, inl, inr, rules}
 use Rattle.std.proofs.lemmas.Bool.{cond-true}
 use Rattle.std.specs.Prelude.{is_none}
 use Rattle.itm_types.specs.declared.copy.CopyPair.{CopyPair}
@@ -60,20 +60,27 @@ copied-requires c =
       };
     }))))
 
-pub returns-in-Out-clause-proceeds : goal.returns-in-Out-clause-proceeds
-returns-in-Out-clause-proceeds c =
-    let s = c.args.state.now in
-    let e = c.reserve.new.state in
-    let k = c.args.copying in
-    let made = c.in_ok-reserve.ensures in
-    let b = c.take_source.new.state.buffer in
-    let is : c.take_source.new.state ≡ record (ready s e) { buffer = b } =
-    c.take_source.ensures.frame
-    ∙ ((λ i. record (c.come.ensures i) { tries = 0; written = c.len-written.ensures.len i; buffer = b })
-    ∙ (λ i. record (made.frame i) { spent = 0; entry = length e.log.rows; tries = 0; written = length s.frames.writes.rows; buffer = b })) in
-    subst (λ mid. Turns mid c.copied.result c.copied.new.state)
-    (ap (λ (d : Data). logged (in_copy d k) s.log.rows) is ∙ ready_came s e k c.requires.sound (sym c.in_default.ensures) made.log made.blocks made.size made.actions made.room_left made.rows made.may_put)
-    (c.copied.ensures.proceeds s.log.rows)
+pub returns-in-Out : goal.returns-in-Out
+returns-in-Out c = record {
+  sound = search rules;
+  proceeds =
+      (let s = c.args.state.now in
+      let e = c.reserve.new.state in
+      let k = c.args.copying in
+      let made = c.in_ok-reserve.ensures in
+      let b = c.take_source.new.state.buffer in
+      let is : c.take_source.new.state ≡ record (ready s e) { buffer = b } =
+      c.take_source.ensures.frame
+      ∙ ((λ i. record (c.come.ensures i) { tries = 0; written = c.len-written.ensures.len i; buffer = b })
+      ∙ (λ i. record (made.frame i) { spent = 0; entry = length e.log.rows; tries = 0; written = length s.frames.writes.rows; buffer = b })) in
+      subst (λ mid. Turns mid c.copied.result c.copied.new.state)
+      (ap (λ (d : Data). logged (in_copy d k) s.log.rows) is ∙ ready_came s e k c.requires.sound (sym c.in_default.ensures) made.log made.blocks made.size made.actions made.room_left made.rows made.may_put)
+      (c.copied.ensures.proceeds s.log.rows));
+  stays = search rules;
+  order = search rules;
+  ends = search rules;
+  tries = search rules;
+}
 
 pub returns-in-In : goal.returns-in-In
 returns-in-In c =
@@ -96,22 +103,19 @@ returns-in-In c =
     let old : rows_before came_at ≡ rows = ap rows_before is ∙ before s e k sound accepted made.log made.blocks made.size made.actions made.room_left made.rows made.may_put in
     let log = s.log.rows in
     let logs : came_at.log.rows ≡ log = ap (λ (d : Data). d.log.rows) is ∙ made.log in
-    let at : phase_after c.next_chunk.result c.next_chunk.new.state ≡ load_chunks rows log k 0 cs = c.next_chunk.ensures.order ∙ (λ i. load_chunks (old i) (logs i) k 0 cs) in
+    let at : phase_after c.next_chunk.result c.next_chunk.new.state ≡ load_chunks rows log k 0 cs = c.next_chunk.ensures.goes.order ∙ (λ i. load_chunks (old i) (logs i) k 0 cs) in
     record {
-      sound = c.next_chunk.ensures.sound;
+      sound = c.next_chunk.ensures.goes.sound;
       proceeds =
           subst (λ mid. Turns mid c.next_chunk.result c.next_chunk.new.state)
           (ap (λ (d : Data). logged (in_copy d k) s.log.rows) is ∙ ready_came s e k sound accepted made.log made.blocks made.size made.actions made.room_left made.rows made.may_put)
           (c.next_chunk.ensures.proceeds s.log.rows);
       stays = record {
-        opens = λ o. sym (ap in_block is ∙ ap is_inside made.blocks) ∙ c.next_chunk.ensures.stays.opens o;
-        log = λ o. c.next_chunk.ensures.stays.log o ∙ (ap (λ (d : Data). d.log.rows) is ∙ made.log);
-        snapshot = c.next_chunk.ensures.stays.snapshot ∙ ap (λ (d : Data). d.snapshot) is;
+        opens = λ o. sym (ap in_block is ∙ ap is_inside made.blocks) ∙ c.next_chunk.ensures.goes.stays.opens o;
+        log = λ o. c.next_chunk.ensures.goes.stays.log o ∙ (ap (λ (d : Data). d.log.rows) is ∙ made.log);
+        snapshot = c.next_chunk.ensures.goes.stays.snapshot ∙ ap (λ (d : Data). d.snapshot) is;
       };
-      err_sound = tt;
-      err = tt;
-      starves = tt;
       order = at ∙ (sym (copy_stage_is rows log k k.pair shared) ∙ sym (cond-true (is_none (copy_refusal (in_block s) s.words (length s.arena) k)) _ _ (ap is_none accepted)));
-      ends = c.next_chunk.ensures.ends;
-      tries = c.next_chunk.ensures.tries ∙ (ap (λ (x : Phase). tries_after x 0) at ∙ (starts_chunks rows log k 0 cs ∙ sym (ap tries_at at)));
+      ends = c.next_chunk.ensures.goes.ends;
+      tries = c.next_chunk.ensures.goes.tries ∙ (ap (λ (x : Phase). tries_after x 0) at ∙ (starts_chunks rows log k 0 cs ∙ sym (ap tries_at at)));
     }

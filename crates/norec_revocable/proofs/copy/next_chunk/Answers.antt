@@ -1,10 +1,14 @@
-use Rattle.std.proofs.Common.{◌≡◌, ℕ, suc, ◌+◌, length, drop, sym, ap, subst, ◌∙◌, arith, add-one}
+use Rattle.std.proofs.Common.{◌≡◌, ℕ, suc, ◌+◌, length, drop, sym, ap, subst, ◌∙◌, arith, add-one, rules}
 use Rattle.itm_types.proofs.Words.{length-bytes_of}
 use Rattle.itm_types.specs.Memory.{bytes_of}
 use Rattle.word_pieces.proofs.Lists.{length-slice}
 use Rattle.write_set.specs.Rows.{overlay}
 use Rattle.write_set.proofs.Overlays.{length-overlay}
 use Rattle.norec_data.specs.declared.data.Data.{Data}
+use Rattle.norec_data.specs.declared.pending.Pending.TheVariants as waits
+use Rattle.norec_data.specs.declared.turn.Turn.TheVariants.{Wait}
+use Rattle.norec_data.specs.Turns.{Turns}
+use Rattle.norec_revocable.specs.Between.{in_copy}
 use Rattle.norec_core.specs.declared.phase.Phase.{Phase}
 use Rattle.norec_core.specs.declared.phase.Reading.{Reading}
 use Rattle.norec_core.specs.Copies.{chunks_in, direction_of}
@@ -14,7 +18,7 @@ use Rattle.norec_data.specs.View.{rows_before}
 use Rattle.norec_revocable.specs.InPhases.{IsReading}
 use Rattle.norec_revocable.proofs.AcceptedCopies.{source_within}
 use Rattle.norec_core.proofs.CopyChunks.{chunk_there}
-use Rattle.norec_revocable.proofs.Loads.{open_gathering, load_sound, logs_chunk, may_read, reading_of, no_reading, starts_chunk, whole_source}
+use Rattle.norec_revocable.proofs.Loads.{open_gathering, load_proceeds, load_sound, logs_chunk, may_read, reading_of, no_reading, starts_chunk, whole_source}
 use Rattle.norec_core.proofs.Readings.{none_drop, some_drop, some_count, words_in-next}
 use Rattle.norec_revocable.proofs.copy.next_chunk.Goals as goal
 
@@ -33,8 +37,8 @@ take_had-requires c =
       );
     }
 
-pub returns-in-Some-take_had-clause-sound : goal.returns-in-Some-take_had-clause-sound
-returns-in-Some-take_had-clause-sound c =
+pub returns-in-Some-take_had-clause-goes : goal.returns-in-Some-take_had-clause-goes
+returns-in-Some-take_had-clause-goes c =
     let s = c.loop-reading.state in
     let may = c.loop-reading.invariant.may in
     let k = c.args.copying in
@@ -43,24 +47,27 @@ returns-in-Some-take_had-clause-sound c =
     let next : Reading = record c.in-Some.reading { number = c.in-Some-take_had.number } in
     let found = c.in-Some-take_had.ensures.next in
     let same : next ≡ record (chunk_reading k n at.0) { number = next.number } = ap (λ (r : Reading). record r { number = c.in-Some-take_had.number }) at.2 in
-    let d : Data = record s { gathered = c.new-state.result } in
-    let read = may_read d (chunk_reading k n at.0) next c.take_had.new.state.gathered same (omega arith) (logs_chunk s k n at.0 c.new-state.result may) (rw (← c.take_had.ensures.frame) found.1) (rw (← c.take_had.ensures.frame) found.2) in
-    rw c.take_had.ensures.frame (load_sound _ (chunk_reading k n at.0) next same (omega arith) may.bounds (open_gathering s _ may.is_open) read may.settled (omega (arith, may.spent)))
-
-pub returns-in-Some-take_had-clause-order : goal.returns-in-Some-take_had-clause-order
-returns-in-Some-take_had-clause-order c =
-    let k = c.args.copying in
-    let n = c.loop-reading.number in
-    let before = rows_before c.args.state.now in
-    let at = reading_of k n c.in-Some.reading (sym c.in-Some.is ∙ c.chunk_reading.ensures.value) in
-    let rest = drop (suc n) (chunks_in k) in
-    let log = c.args.state.now.log.rows in
-    let past : Phase = load_chunks before log k (suc n) rest in
-    let rows = ap rows_before c.loop-reading.invariant.frame in
-    let logs = ap (λ (d : Data). d.log.rows) c.loop-reading.invariant.frame in
-    c.in-Some-take_had.ensures.order past
-    ∙ ((λ i. load_among (rows i) (logs i) past (at.2 i) (drop (at.2 i).number (parts (at.2 i))))
-    ∙ (sym (ap (load_chunks before log k n) (some_drop (chunks_in k) n at.0 at.1)) ∙ sym c.loop-reading.invariant.order))
+    let g = c.take_had.new.state.gathered in
+    let read = may_read (record s { gathered = c.new-state.result }) (chunk_reading k n at.0) next g same (omega arith) (logs_chunk s k n at.0 c.new-state.result may) (rw (← c.take_had.ensures.frame) found.1) (rw (← c.take_had.ensures.frame) found.2) in
+    record {
+      sound = rw c.take_had.ensures.frame (load_sound (record s { gathered = g }) (chunk_reading k n at.0) next same (omega arith) may.bounds (open_gathering s _ may.is_open) read may.settled (omega (arith, may.spent)));
+      proceeds =
+          subst (λ mid. Turns mid (Wait waits.Load) (record c.take_had.new.state { reading = next })) (ap (λ (d : Data). in_copy d k) c.loop-reading.invariant.frame)
+          (rw c.take_had.ensures.frame (load_proceeds (record s { gathered = g }) (chunk_reading k n at.0) next same (omega arith) may.bounds (open_gathering s _ may.is_open) read may.settled (omega (arith, may.spent)) s.log.rows));
+      stays = search rules;
+      order =
+          (let before = rows_before c.args.state.now in
+          let rest = drop (suc n) (chunks_in k) in
+          let log = c.args.state.now.log.rows in
+          let past : Phase = load_chunks before log k (suc n) rest in
+          let rows = ap rows_before c.loop-reading.invariant.frame in
+          let logs = ap (λ (d : Data). d.log.rows) c.loop-reading.invariant.frame in
+          c.in-Some-take_had.ensures.order past
+          ∙ ((λ i. load_among (rows i) (logs i) past (at.2 i) (drop (at.2 i).number (parts (at.2 i))))
+          ∙ (sym (ap (load_chunks before log k n) (some_drop (chunks_in k) n at.0 at.1)) ∙ sym c.loop-reading.invariant.order)));
+      ends = tt;
+      tries = search rules;
+    }
 
 pub overflow_add-number : goal.overflow_add-number
 overflow_add-number c =
@@ -143,10 +150,17 @@ copied-requires c =
       };
     }
 
-pub returns-clause-order : goal.returns-clause-order
-returns-clause-order c =
-    let k = c.args.copying in
-    let n = c.loop-reading.number in
-    let before = rows_before c.args.state.now in
-    let none = no_reading k n (sym c.in_default.is ∙ c.chunk_reading.ensures.value) in
-    c.copied.ensures.order ∙ (sym (ap (load_chunks before c.args.state.now.log.rows k n) (none_drop (chunks_in k) n none)) ∙ sym c.loop-reading.invariant.order)
+pub returns-clause-goes : goal.returns-clause-goes
+returns-clause-goes c = record {
+  sound = search rules;
+  proceeds = search rules;
+  stays = search rules;
+  order =
+      (let k = c.args.copying in
+      let n = c.loop-reading.number in
+      let before = rows_before c.args.state.now in
+      let none = no_reading k n (sym c.in_default.is ∙ c.chunk_reading.ensures.value) in
+      c.copied.ensures.goes.order ∙ (sym (ap (load_chunks before c.args.state.now.log.rows k n) (none_drop (chunks_in k) n none)) ∙ sym c.loop-reading.invariant.order));
+  ends = search rules;
+  tries = search rules;
+}

@@ -3,28 +3,22 @@ use Rattle.std.proofs.lemmas.List.{length-replicate}
 use Rattle.std.proofs.lemmas.List.Elements.{All-from_recursion}
 use Rattle.itm_types.specs.declared.access.WriteHint.{WriteHint}
 use Rattle.itm_types.specs.declared.call.Call.TheVariants.{Fill}
-use Rattle.itm_types.specs.declared.call.Reply.TheVariants.{Done}
-use Rattle.norec_core.specs.declared.phase.Phase.TheVariants.{Idle}
 use Rattle.norec_data.specs.declared.end.End.TheVariants as ends
 use Rattle.norec_data.specs.declared.turn.Turn.TheVariants.{End}
-use Rattle.norec_core.specs.Core.{came}
-use Rattle.norec_data.specs.View.{core}
-use Rattle.norec_revocable.specs.Between.{IsSoundTurn}
-use Rattle.norec_core.specs.Proceeds.{Replies}
 use Rattle.word_pieces.specs.declared.piece.Piece.{Piece}
 use Rattle.word_pieces.specs.declared.chunk.Direction.TheVariants.{Up}
 use Rattle.word_pieces.specs.Chunks.{chunks_of}
 use Rattle.write_set.specs.declared.row.Row.{Row}
 use Rattle.write_set.specs.Rows.{lookup}
 use Rattle.norec_core.specs.Rows.{range_pieces, reserved_all}
-use Rattle.norec_revocable.proofs.Fills.{none_filled, some_filled, filled_sound, fill_replies}
+use Rattle.norec_revocable.specs.Moves.{CallTurns}
+use Rattle.norec_revocable.proofs.Fills.{none_filled, some_filled, fill_turns}
 use Rattle.norec_core.proofs.Writings.{all_reserved}
 use Rattle.norec_revocable.proofs.fill.fill.Goals.{then-size-gt0+in_ok-set_all+in_ok-reserve_range, else-size-gt0}
 use Rattle.norec_revocable.proofs.fill.fill.Goals as goal
 
-pub returns-in-Some-clause-proceeds : goal.returns-in-Some-clause-proceeds
-returns-in-Some-clause-proceeds c hint =
-    c.refuse.ensures.proceeds (Fill hint c.args.to c.args.byte c.args.size) c.args.to c.args.size refl (sym c.access_refusal.ensures.value ∙ c.in-Some.is)
+pub returns-in-Some : goal.returns-in-Some
+returns-in-Some c hint = c.refuse.ensures (Fill hint c.args.to c.args.byte c.args.size) c.args.to c.args.size refl (sym c.access_refusal.ensures.value ∙ c.in-Some.is)
 
 pub put_range-requires-clause-room : goal.put_range-requires-clause-room
 put_range-requires-clause-room c =
@@ -37,9 +31,8 @@ put_range-requires-clause-room c =
     (All-from_recursion (λ (p : Piece). IsSome (lookup p.word (reserved_all old ps))) ps (all_reserved old ps))
 
 -- the bytes are put, if there are some
-filled_turn : (c : goal.After-come) → IsSoundTurn (End ends.Done) c.come.new.self
-    × ((hint : WriteHint) → Replies (came (core c.args.state.now Idle) (Fill hint c.args.to c.args.byte c.args.size) false) (Fill hint c.args.to c.args.byte c.args.size) Done (core c.come.new.self Idle))
-filled_turn c =
+filled_turn : (c : goal.After-come) (hint : WriteHint) → CallTurns c.args.state.now (Fill hint c.args.to c.args.byte c.args.size) false (End ends.Done) c.come.new.self
+filled_turn c hint =
     let s = c.args.state.now in
     let to = c.args.to in
     let byte = c.args.byte in
@@ -52,15 +45,12 @@ filled_turn c =
           (w.deref.ensures.value ∙ w.in_ok-set_all.ensures) w.put_range.ensures.rows (w.put_range.ensures.blocks ∙ w.reserve_range.ensures.blocks)
           (w.put_range.ensures.size ∙ w.reserve_range.ensures.size) (w.put_range.ensures.actions ∙ w.reserve_range.ensures.actions) (w.put_range.ensures.room ∙ w.reserve_range.ensures.room) in
           let sound = c.requires.sound in
-          rw w.state-is (filled_sound s to byte size w.put_range.new.frames w.set_all.new.buffer sound is, fill_replies s to byte size w.put_range.new.frames w.set_all.new.buffer sound is))
+          rw w.state-is (fill_turns s to byte size w.put_range.new.frames w.set_all.new.buffer sound is hint))
       | else-size-gt0 w ↦ (
           let is = none_filled s to byte size accepted (omega (arith, w.if-size-gt0.false)) in
           let sound = c.requires.sound in
-          rw w.state-is (filled_sound s to byte size s.frames s.buffer sound is, fill_replies s to byte size s.frames s.buffer sound is))
+          rw w.state-is (fill_turns s to byte size s.frames s.buffer sound is hint))
     ])
 
-pub returns-clause-sound : goal.returns-clause-sound
-returns-clause-sound c = (filled_turn c).0
-
-pub returns-clause-proceeds : goal.returns-clause-proceeds
-returns-clause-proceeds c = (filled_turn c).1
+pub returns : goal.returns
+returns c hint = filled_turn c hint

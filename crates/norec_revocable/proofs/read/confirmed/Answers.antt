@@ -1,4 +1,5 @@
-use Rattle.std.proofs.Common.{◌≡◌, ℕ, List, [], ◌∷◌, ◌++◌, Some, length, slice_get, take, sym, ap, subst, ◌∙◌, arith}
+use Rattle.std.proofs.Common.{◌≡◌, ℕ, List, [], ◌∷◌, ◌++◌, Some, length, slice_get, take, sym, ap, subst, ◌∙◌, arith, rules}
+use Rattle.std.proofs.lemmas.Grind.{common_steps}
 use Rattle.std.proofs.lemmas.List.{length-append}
 use Rattle.std.specs.Prelude.{slice_index}
 use Rattle.itm_types.specs.declared.row.LogRow.{LogRow}
@@ -92,24 +93,28 @@ go_past-requires c =
       few = c.in-Some-piece.ensures.few;
     }
 
-pub returns-in-Some-piece-clause-joins : goal.returns-in-Some-piece-clause-joins
-returns-in-Some-piece-clause-joins c =
-    let s = c.args.state.now in
-    let same = ap (λ (x : Piece). x.word) (part_is s.reading c.in-Some-piece.piece (sym c.piece.ensures.value ∙ c.in-Some-piece.is)) in
-    let added = c.add.ensures.rows ∙ ap (with_row s.log.rows c.args.value) same in
-    let stays = c.go_past.ensures.stays in
-    joins s c.args.value c.args.seen c.add.new.self c.requires.sound c.if-seen-state.true added c.go_past.result c.go_past.new.state stays.log stays.snapshot
-
-pub returns-in-Some-piece-clause-order : goal.returns-in-Some-piece-clause-order
-returns-in-Some-piece-clause-order c =
-    let s = c.args.state.now in
-    let same = ap (λ (x : Piece). x.word) (part_is s.reading c.in-Some-piece.piece (sym c.piece.ensures.value ∙ c.in-Some-piece.is)) in
-    let added = c.add.ensures.rows ∙ ap (with_row s.log.rows c.args.value) same in
-    c.go_past.ensures.order ∙ stage_joined s c.args.value c.args.seen c.add.new.self c.requires.sound c.if-seen-state.true added
-
-pub returns-in-Some-piece-clause-log : goal.returns-in-Some-piece-clause-log
-returns-in-Some-piece-clause-log c o =
-    let s = c.args.state.now in
-    let same = ap (λ (x : Piece). x.word) (part_is s.reading c.in-Some-piece.piece (sym c.piece.ensures.value ∙ c.in-Some-piece.is)) in
-    let added = c.add.ensures.rows ∙ ap (with_row s.log.rows c.args.value) same in
-    c.go_past.ensures.stays.log o ∙ log_joined s c.args.value c.args.seen c.add.new.self c.requires.sound c.if-seen-state.true added
+pub returns-in-Some-piece : goal.returns-in-Some-piece
+returns-in-Some-piece c = record {
+  sound = search rules;
+  proceeds = search rules;
+  joins =
+      (let s = c.args.state.now in
+      let same = ap (λ (x : Piece). x.word) (part_is s.reading c.in-Some-piece.piece (sym c.piece.ensures.value ∙ c.in-Some-piece.is)) in
+      let added = c.add.ensures.rows ∙ ap (with_row s.log.rows c.args.value) same in
+      let stays = c.go_past.ensures.goes.stays in
+      joins s c.args.value c.args.seen c.add.new.self c.requires.sound c.if-seen-state.true added c.go_past.result c.go_past.new.state stays.log stays.snapshot);
+  order =
+      (let s = c.args.state.now in
+      let same = ap (λ (x : Piece). x.word) (part_is s.reading c.in-Some-piece.piece (sym c.piece.ensures.value ∙ c.in-Some-piece.is)) in
+      let added = c.add.ensures.rows ∙ ap (with_row s.log.rows c.args.value) same in
+      c.go_past.ensures.goes.order ∙ stage_joined s c.args.value c.args.seen c.add.new.self c.requires.sound c.if-seen-state.true added);
+  ends = first_of (search rules, grind (arith, common_steps));
+  tries = search rules;
+  snapshot = search rules;
+  log =
+      (λ o.
+      (let s = c.args.state.now in
+      let same = ap (λ (x : Piece). x.word) (part_is s.reading c.in-Some-piece.piece (sym c.piece.ensures.value ∙ c.in-Some-piece.is)) in
+      let added = c.add.ensures.rows ∙ ap (with_row s.log.rows c.args.value) same in
+      c.go_past.ensures.goes.stays.log o ∙ log_joined s c.args.value c.args.seen c.add.new.self c.requires.sound c.if-seen-state.true added));
+}

@@ -1,4 +1,4 @@
-use Rattle.std.proofs.Common.{◌≡◌, ℕ, ◌+◌, ◌*◌, length, take, drop, refl, sym, ap, subst, ◌∙◌, arith, add-one}
+use Rattle.std.proofs.Common.{◌≡◌, ℕ, ◌+◌, ◌*◌, length, take, drop, refl, sym, ap, subst, ◌∙◌, arith, add-one, rules}
 use Rattle.word_pieces.specs.Pieces.{count_of}
 use Rattle.norec_data.specs.declared.data.Data.{Data}
 use Rattle.norec_core.specs.declared.phase.Aim.TheVariants as aims
@@ -23,15 +23,6 @@ take_had-requires c =
     let may = c.requires.may in
     record { may = (may.bounds.small, may.is_open, may.reading) }
 
-pub returns-in-Some-clause-sound : goal.returns-in-Some-clause-sound
-returns-in-Some-clause-sound c =
-    let s = c.args.state.now in
-    let may = c.requires.may in
-    let found = c.in-Some.ensures.next in
-    let next : Reading = record c.args.reading { number = c.in-Some.number } in
-    let read = may_read s c.args.reading next c.take_had.new.state.gathered refl found.0 may.logging (rw (← c.take_had.ensures.frame) found.1) (rw (← c.take_had.ensures.frame) found.2) in
-    rw c.take_had.ensures.frame (load_sound (record s { gathered = c.take_had.new.state.gathered }) c.args.reading next refl found.0 may.bounds (open_gathering s _ may.is_open) read may.settled may.spent)
-
 pub returns-in-Some-clause-proceeds : goal.returns-in-Some-clause-proceeds
 returns-in-Some-clause-proceeds c log =
     let s = c.args.state.now in
@@ -41,8 +32,21 @@ returns-in-Some-clause-proceeds c log =
     let read = may_read s c.args.reading next c.take_had.new.state.gathered refl found.0 may.logging (rw (← c.take_had.ensures.frame) found.1) (rw (← c.take_had.ensures.frame) found.2) in
     rw c.take_had.ensures.frame (load_proceeds (record s { gathered = c.take_had.new.state.gathered }) c.args.reading next refl found.0 may.bounds (open_gathering s _ may.is_open) read may.settled may.spent log)
 
-pub returns-in-Some-clause-order : goal.returns-in-Some-clause-order
-returns-in-Some-clause-order c = c.in-Some.ensures.order (load_past (rows_before c.args.state.now) c.args.state.now.log.rows c.args.reading.purpose)
+pub returns-in-Some-clause-goes : goal.returns-in-Some-clause-goes
+returns-in-Some-clause-goes c = record {
+  sound =
+      (let s = c.args.state.now in
+      let may = c.requires.may in
+      let found = c.in-Some.ensures.next in
+      let next : Reading = record c.args.reading { number = c.in-Some.number } in
+      let read = may_read s c.args.reading next c.take_had.new.state.gathered refl found.0 may.logging (rw (← c.take_had.ensures.frame) found.1) (rw (← c.take_had.ensures.frame) found.2) in
+      rw c.take_had.ensures.frame (load_sound (record s { gathered = c.take_had.new.state.gathered }) c.args.reading next refl found.0 may.bounds (open_gathering s _ may.is_open) read may.settled may.spent));
+  proceeds = returns-in-Some-clause-proceeds c c.args.state.now.log.rows;
+  stays = search rules;
+  order = c.in-Some.ensures.order (load_past (rows_before c.args.state.now) c.args.state.now.log.rows c.args.reading.purpose);
+  ends = search rules;
+  tries = search rules;
+}
 
 pub overflow_add-number : goal.overflow_add-number
 overflow_add-number c =
@@ -101,10 +105,17 @@ returns-in-Value-clause-proceeds c log =
     let s = c.args.state.now in
     subst (λ (mid : Core). Turns (logged mid log) c.reply_gathered.result c.reply_gathered.new.state) (ap (λ (d : Data). between d (aims.Read c.args.reading)) c.take_had.ensures.frame) (c.reply_gathered.ensures.proceeds log)
 
-pub returns-in-Value-clause-order : goal.returns-in-Value-clause-order
-returns-in-Value-clause-order c =
-    let s = c.args.state.now in
-    c.reply_gathered.ensures.order ∙ (ap (load_past (rows_before s) s.log.rows) (sym c.in-Value.is) ∙ c.in_default.ensures.order (load_past (rows_before s) s.log.rows c.args.reading.purpose))
+pub returns-in-Value-clause-goes : goal.returns-in-Value-clause-goes
+returns-in-Value-clause-goes c = record {
+  sound = search rules;
+  proceeds = returns-in-Value-clause-proceeds c c.args.state.now.log.rows;
+  stays = search rules;
+  order =
+      (let s = c.args.state.now in
+      c.reply_gathered.ensures.goes.order ∙ (ap (load_past (rows_before s) s.log.rows) (sym c.in-Value.is) ∙ c.in_default.ensures.order (load_past (rows_before s) s.log.rows c.args.reading.purpose)));
+  ends = search rules;
+  tries = search rules;
+}
 
 pub returns-in-Chunk-clause-proceeds : goal.returns-in-Chunk-clause-proceeds
 returns-in-Chunk-clause-proceeds c log =
@@ -116,13 +127,20 @@ returns-in-Chunk-clause-proceeds c log =
     ap (λ (d : Data). in_copy d k) frame ∙ ap (λ (what : Purpose). between s (aims.Read (record r { purpose = what }))) (sym c.in-Chunk.is) in
     subst (λ mid. Turns (logged mid log) c.next_chunk.result c.next_chunk.new.state) same (c.next_chunk.ensures.proceeds log)
 
-pub returns-in-Chunk-clause-order : goal.returns-in-Chunk-clause-order
-returns-in-Chunk-clause-order c =
-    let s = c.args.state.now in
-    let k = c.in-Chunk.copying in
-    let n = c.in-Chunk.number in
-    let before = rows_before s in
-    let frame = c.keep_chunk.ensures.frame ∙ (λ i. record (c.take_had.ensures.frame i) { buffer = c.keep_chunk.new.state.buffer }) in
-    c.next_chunk.ensures.order
-    ∙ ((λ i. load_chunks (rows_before (frame i)) (frame i).log.rows k (add-one n i) (drop (add-one n i) (chunks_in k)))
-    ∙ (ap (load_past before s.log.rows) (sym c.in-Chunk.is) ∙ c.in_default.ensures.order (load_past before s.log.rows c.args.reading.purpose)))
+pub returns-in-Chunk-clause-goes : goal.returns-in-Chunk-clause-goes
+returns-in-Chunk-clause-goes c = record {
+  sound = search rules;
+  proceeds = returns-in-Chunk-clause-proceeds c c.args.state.now.log.rows;
+  stays = search rules;
+  order =
+      (let s = c.args.state.now in
+      let k = c.in-Chunk.copying in
+      let n = c.in-Chunk.number in
+      let before = rows_before s in
+      let frame = c.keep_chunk.ensures.frame ∙ (λ i. record (c.take_had.ensures.frame i) { buffer = c.keep_chunk.new.state.buffer }) in
+      c.next_chunk.ensures.goes.order
+      ∙ ((λ i. load_chunks (rows_before (frame i)) (frame i).log.rows k (add-one n i) (drop (add-one n i) (chunks_in k)))
+      ∙ (ap (load_past before s.log.rows) (sym c.in-Chunk.is) ∙ c.in_default.ensures.order (load_past before s.log.rows c.args.reading.purpose))));
+  ends = search rules;
+  tries = search rules;
+}

@@ -1,4 +1,4 @@
-use Rattle.std.proofs.Common.{◌≡◌, ◌∙◌, refl, ap, length, arith}
+use Rattle.std.proofs.Common.{◌≡◌, ◌∙◌, refl, ap, length, arith, rules}
 use Rattle.write_set.specs.Rows.{overlay}
 use Rattle.write_set.proofs.Overlays.{length-overlay}
 use Rattle.word_pieces.proofs.Covers.{gathered-pieces_of, take_all-pieces_of}
@@ -26,3 +26,13 @@ returns-clause-proceeds c log =
           ∙ gathered-pieces_of under r.at r.size (omega (arith, size, may.whole.within))));
     } in
     replies s r s.gathered.items finds log r.purpose refl may.value
+
+pub returns-clause-goes : goal.returns-clause-goes
+returns-clause-goes c = record {
+  sound = search rules;
+  proceeds = returns-clause-proceeds c c.args.state.now.log.rows;
+  stays = search rules;
+  order = search rules;
+  ends = search rules;
+  tries = search rules;
+}

@@ -1,4 +1,5 @@
-use Rattle.std.proofs.Common.{◌≡◌, length, sym, subst, ◌∙◌}
+use Rattle.std.proofs.Common.{◌≡◌, length, sym, subst, ◌∙◌, rules, arith}
+use Rattle.std.proofs.lemmas.Grind.{common_steps}
 use Rattle.value_log.specs.Log.{Log}
 use Rattle.norec_core.specs.Order.{value_reading}
 use Rattle.norec_core.specs.declared.phase.Reading.{Reading}
@@ -10,12 +11,19 @@ use Rattle.norec_revocable.proofs.ReadyReads.{ready}
 use Rattle.norec_revocable.proofs.WholeReads.{starts}
 use Rattle.norec_revocable.proofs.words.begin_word.Goals as goal
 
-pub returns-clause-sound : goal.returns-clause-sound
-returns-clause-sound c =
-    let s = c.args.state.now in
-    let g = c.new-state.result in
-    let log : Log = c.reserve.new.self in
-    let is : c.start.new.state ≡ ready s g log = c.start.ensures ∙ (λ i. record s { log = log; gathered = g; written = c.len-state.ensures.len i; spent = 0; entry = length log.rows; tries = 0 }) in
-    subst (λ (r : Reading). IsSoundTurn (Wait waits.Load) (record c.start.new.state { reading = r })) (sym c.set_value.ensures)
-    (subst (λ (d : Data). IsSoundTurn (Wait waits.Load) (record d { reading = value_reading c.args.hint c.args.width c.args.at })) (sym is)
-    (starts s c.args.hint c.args.width c.args.at c.in_ok-word.word c.in_ok-word.ensures c.requires.sound g log c.reserve.ensures.rows c.new-state.ensures c.in-Ok.ensures.ok))
+pub returns-clause-called : goal.returns-clause-called
+returns-clause-called c = record {
+  sound =
+      (let s = c.args.state.now in
+      let g = c.new-state.result in
+      let log : Log = c.reserve.new.self in
+      let is : c.start.new.state ≡ ready s g log = c.start.ensures ∙ (λ i. record s { log = log; gathered = g; written = c.len-state.ensures.len i; spent = 0; entry = length log.rows; tries = 0 }) in
+      subst (λ (r : Reading). IsSoundTurn (Wait waits.Load) (record c.start.new.state { reading = r })) (sym c.set_value.ensures)
+      (subst (λ (d : Data). IsSoundTurn (Wait waits.Load) (record d { reading = value_reading c.args.hint c.args.width c.args.at })) (sym is)
+      (starts s c.args.hint c.args.width c.args.at c.in_ok-word.word c.in_ok-word.ensures c.requires.sound g log c.reserve.ensures.rows c.new-state.ensures c.in-Ok.ensures.ok)));
+  proceeds = first_of (search rules, grind (arith, common_steps));
+  stays = search rules;
+  order = search rules;
+  ends = tt;
+  tries = search rules;
+}
