@@ -17,7 +17,7 @@ use Rattle.norec_data.specs.declared.turn.Turn.TheVariants.{Wait, End, Enter}
 use Rattle.norec_data.specs.Turns.{core_after, counted, data_after, next_of, pending_after, phase_after, Stays, TurnEndsSo, Turns}
 use Rattle.norec_data.specs.View.{core, in_block, phase_of, waits_of}
 use Rattle.norec_revocable.specs.Between.{IsSoundTurn}
-use Rattle.norec_revocable.specs.Moves.{StepTurns}
+use Rattle.norec_revocable.specs.Moves.{CallStarves, CallTurns, StepTurns}
 use Rattle.norec_engine.specs.Modes.{engine_in, mode_after, IsTaken}
 use Rattle.norec_core.specs.Moves.{IsCalled, IsResumed, IsStarved}
 use Rattle.norec_engine.proofs.EitherMode.{revocable_after, revocable_sound}
@@ -91,15 +91,6 @@ settled turn d s = subst IsSettled (sym (revocable_after turn d)) (settled_in (m
 
 -- ## Calls
 
--- what comes of a call
-pub record CallTurns (s : Data) (call : Call) (again : Bool) (turn : Turn) (d : Data) : Type 0 where
-  pub sound : IsSoundTurn turn d
-  pub proceeds : Turns (came (core s Idle) call again) turn d
-  pub stays : Stays s d
-  pub order : phase_after turn d ≡ stage_at (core s Idle) call again
-  pub ends : TurnEndsSo (ending_at (core s Idle) call) turn d
-  pub tries : (core_after turn d).tries ≡ tries_at (phase_after turn d)
-
 called : (s : Data) (call : Call) (again : Bool) (turn : Turn) (d : Data) → CallTurns s call again turn d → IsCalled (core s Idle) call again (next_of turn d) (core_after turn d)
 called s call again turn d t = (let so = ends (ending_at (core s Idle) call) turn d t.ends in record {
   proceeds = t.proceeds;
@@ -147,12 +138,12 @@ module _ (s : Data) (p : Pending) (b : Bool) (old : Core) (view : engine_in b s 
   pub is_idle : old.waits ≡ None → core s Idle ≡ old
   is_idle none = ap (core s) (sym (idle_of s p (ap (λ (e : Core). e.waits) is_now ∙ none))) ∙ is_now
 
-  pub starved : old.waits ≡ None → (call : Call) (d : Data) → core d Idle ≡ core s Idle → MayStarve (core s Idle) call → IsStarved old call (engine_in b d (phase_of d p))
-  starved none call d same may =
+  pub starved : old.waits ≡ None → (call : Call) (d : Data) → CallStarves s call d → IsStarved old call (engine_in b d (phase_of d p))
+  starved none call d starves =
       let idle : phase_of s p ≡ Idle = idle_of s p (ap (λ (e : Core). e.waits) is_now ∙ none) in
       record {
-        err = ap (λ (x : Bool). engine_in x d (phase_of d p)) revocable ∙ (ap (core d) (idle_for s d p idle) ∙ (same ∙ is_idle none));
-        starves = subst (λ (e : Core). MayStarve e call) (is_idle none) may;
+        err = ap (λ (x : Bool). engine_in x d (phase_of d p)) revocable ∙ (ap (core d) (idle_for s d p idle) ∙ (starves.same ∙ is_idle none));
+        starves = subst (λ (e : Core). MayStarve e call) (is_idle none) starves.starves;
       }
 
   module _ (turn : Turn) (d : Data) (what : Next) (new : Data) (q : Pending) (mode : Bool) (t : IsTaken b turn d what new q mode) where

@@ -1,9 +1,16 @@
 use Rattle.std.proofs.Common.{rules}
 use Rattle.itm_types.specs.declared.call.Call.TheVariants.{Begin}
-use Rattle.norec_engine.proofs.RevocableTurns.{called_in}
+use Rattle.std.proofs.lemmas.Result.{err_from_is_err_and}
+use Rattle.norec_engine.proofs.RevocableTurns.{called_in, starved}
 use Rattle.norec_engine.proofs.engine.Engine.open_into.Goals as goal
 
 pub returns : goal.returns
 returns c =
     let s = c.self-2.inside in
     called_in s.state s.pending s.irrevocable c.args.self.now c.self-2.view_is c.if-self.false _ _ _ _ _ _ c.take.ensures c.requires.idle (Begin c.args.props c.args.room) c.args.again (search rules)
+
+pub returns-in_err-turn : goal.returns-in_err-turn
+returns-in_err-turn c =
+    let s = c.self-2.inside in
+    let r = err_from_is_err_and c.from_residual.result c.from_residual.ensures.1 in
+    rw r.1 (starved s.state s.pending s.irrevocable c.args.self.now c.self-2.view_is c.if-self.false c.requires.idle (Begin c.args.props c.args.room) _ (search rules))

@@ -13,4 +13,4 @@ pub returns-in_err-turn : goal.returns-in_err-turn
 returns-in_err-turn c =
     let s = c.self.inside in
     let r = err_from_is_err_and c.from_residual.result c.from_residual.ensures.1 in
-    rw r.1 (starved s.state s.pending s.irrevocable c.args.self.now c.self.view_is c.if-self.false c.requires.idle (Write c.args.hint c.args.at c.args.value.now) c.write.new.state (search rules) (search rules))
+    rw r.1 (starved s.state s.pending s.irrevocable c.args.self.now c.self.view_is c.if-self.false c.requires.idle (Write c.args.hint c.args.at c.args.value.now) _ (search rules))
