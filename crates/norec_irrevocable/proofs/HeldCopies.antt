@@ -20,6 +20,7 @@ use Rattle.word_pieces.specs.Chunks.{chunk_count, chunk_of, chunks_of}
 use Rattle.word_pieces.specs.Pieces.{gathered, pieces_of}
 use Rattle.word_pieces.proofs.Covers.{gathered-pieces_of}
 use Rattle.norec_core.specs.Copies.{chunks_in, direction_of, is_out, source_refusal}
+use Rattle.norec_core.specs.OwnAccesses.{chunk_source}
 use Rattle.norec_core.specs.Parts.{chunk_copying, copied_each, filled_each}
 use Rattle.norec_core.proofs.CopyChunks.{chunk_there, chunk_within}
 use Rattle.norec_core.proofs.CopyRefusals.{accepted_sides, shared_within}
@@ -81,6 +82,12 @@ out_copied : (s : State) (pair : CopyPair) (to from size : ℕ) → is_out pair 
 out_copied s (Out t) to from size o = refl
 out_copied s (In f) to from size o = absurd (cc)
 out_copied s (Within f t) to from size o = absurd (cc)
+
+-- what a chunk of a copy out of the arena writes, whatever is gathered
+pub out_source : (k : Copying) (pair : CopyPair) (at size : ℕ) (arena bytes : List ℕ) → is_out pair ≡ true → chunk_source k pair (k.to + at) size arena bytes ≡ slice arena (k.from + at) size
+out_source k (Out to) at size arena bytes o = (let same : k.to + at - k.to ≡ at = omega arith in ap (λ (n : ℕ). slice arena (k.from + n) size) same)
+out_source k (In from) at size arena bytes o = absurd (cc)
+out_source k (Within from to) at size arena bytes o = absurd (cc)
 
 -- as a chunk's store comes
 pub sent_comes : (d : Data) (k : Copying) (n : ℕ) (c : Chunk) → slice_get (chunks_in k) n ≡ Some c → is_out k.pair ≡ true → (bytes : List ℕ) → bytes ≡ slice d.arena (k.from + c.at) c.size → (m : List ℕ)

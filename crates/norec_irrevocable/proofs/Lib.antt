@@ -10,3 +10,4 @@ pub mod HeldCopies
 pub mod ChunkPhases
 pub mod LoadedPieces
 pub mod SameDatum
+pub mod Refused

@@ -1,2 +1,3 @@
 pub mod Phases
 pub mod Outcomes
+pub mod Moves

@@ -1,11 +1,10 @@
 //! The pieces of an access that writes.
 
-ghost use Rattle.std.specs.Prelude.{◌≡◌, ◌<◌, ◌≤◌, ◌+◌, IfSome, IfNone, false, length, None, Some};
+ghost use Rattle.std.specs.Prelude.{◌≡◌, ◌<◌, ◌≤◌, ◌+◌, IfSome, IfNone, length, None, Some};
 ghost use Rattle.itm_types.specs.Slices.{AreBytes};
 ghost use Rattle.word_pieces.specs.Pieces.{count_of};
 ghost use Rattle.norec_core.specs.Order.{place_from};
 ghost use Rattle.norec_core.specs.declared.phase.Phase.{Phase};
-ghost use Rattle.norec_data.specs.Turns.{Stays};
 ghost use Rattle.norec_data.specs.declared.data.Data.{Data};
 ghost use Rattle.norec_data.specs.View.{phase_of};
 ghost use Rattle.norec_irrevocable.specs.Phases.{IsNext};

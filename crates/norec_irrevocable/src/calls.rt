@@ -1,17 +1,10 @@
 //! The calls of an irrevocable transaction, and the values that its steps find.
 
-ghost use Rattle.std.specs.Prelude.{◌≡◌, IfOk, OnOk, OnErr, false};
-ghost use Rattle.itm_types.specs.declared.limits.TheConstants.{MAX_OPEN_BLOCKS};
-ghost use Rattle.itm_model.specs.Machine.{after, reply};
-ghost use Rattle.norec_core.specs.Core.{came, handed};
-ghost use Rattle.norec_core.specs.Endings.{ending_at, ending_after};
-ghost use Rattle.norec_core.specs.Order.{snapshot_after, stage_after, stage_at};
-ghost use Rattle.norec_core.specs.Proceeds.{MayStarve};
 ghost use Rattle.norec_data.specs.Bounds.{IsHeld};
-ghost use Rattle.norec_data.specs.Turns.{phase_after, IsWaiting, Stays, TurnEndsSo};
-ghost use Rattle.norec_data.specs.View.{core_held, held, phase_of};
-ghost use Rattle.norec_irrevocable.specs.Outcomes.{kept, ComesBy, HeldTurns, IsSoundAfter, Steps};
+ghost use Rattle.norec_data.specs.Turns.{IsWaiting};
+ghost use Rattle.norec_data.specs.View.{held, phase_of};
 ghost use Rattle.norec_irrevocable.specs.Phases.{IsSoundHeld};
+ghost use Rattle.norec_irrevocable.specs.Moves.{HeldStepTurns, HeldCallComes};
 
 use crate::blocks::{abort, begin, commit, freed, mode};
 use crate::copy::copy;
@@ -26,15 +19,7 @@ use std::alloc::AllocError;
 /// A call comes.
 pub fn called(state: &mut Data, call: &Call) -> Result<Turn, AllocError>
     requires held { IsHeld state.old }
-    ensures sound { IfOk result (λ turn. IsSoundAfter turn state.new) }
-    ensures proceeds { IfOk result (λ turn. HeldTurns (came (core_held state.old) call.now false) turn state.new) }
-    ensures comes { IfOk result (λ turn. ComesBy state.old (λ m. after MAX_OPEN_BLOCKS (kept state.old m) call.now)
-        (λ m. reply MAX_OPEN_BLOCKS (kept state.old m) call.now) turn state.new) }
-    ensures stays { OnOk result (Stays state.old state.new) }
-    ensures err { OnErr result (state.new ≡ state.old) }
-    ensures starves { OnErr result (MayStarve (core_held state.old) call.now) }
-    ensures order { IfOk result (λ turn. phase_after turn state.new ≡ stage_at (core_held state.old) call.now false) }
-    ensures ends { IfOk result (λ turn. TurnEndsSo (ending_at (core_held state.old) call.now) turn state.new) }
+    ensures { HeldCallComes state.old call.now result state.new }
 {
     match call {
         Call::Begin { props, room } => Ok(begin(state, *props, *room)),
@@ -64,13 +49,7 @@ pub fn called(state: &mut Data, call: &Call) -> Result<Turn, AllocError>
 pub fn resumed(state: &mut Data, pending: Pending, seen: u64) -> Turn
     requires sound { IsSoundHeld state.old (phase_of state.old pending) }
     requires waits { IsWaiting pending }
-    ensures sound { IsSoundAfter result state.new }
-    ensures proceeds { HeldTurns (handed (held state.old (phase_of state.old pending)) seen) result state.new }
-    ensures steps { Steps state.old (phase_of state.old pending) seen result state.new }
-    ensures stays { Stays state.old state.new }
-    ensures order { phase_after result state.new ≡ stage_after (held state.old (phase_of state.old pending)) seen }
-    ensures ends { TurnEndsSo (ending_after (held state.old (phase_of state.old pending)) seen) result state.new }
-    ensures snapshot { state.new.snapshot ≡ snapshot_after (held state.old (phase_of state.old pending)) seen }
+    ensures { HeldStepTurns state.old (phase_of state.old pending) seen result state.new }
 {
     match pending {
         Pending::Load => loaded(state, seen),

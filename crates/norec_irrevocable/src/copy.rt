@@ -1,21 +1,18 @@
 //! Copies: each chunk is read and written before the next one.
 
-ghost use Rattle.std.specs.Prelude.{◌≡◌, ℕ, List, drop, length, ◌+◌, ◌≤◌, ◌<◌, true, None, false};
+ghost use Rattle.std.specs.Prelude.{◌≡◌, ℕ, List, drop, ◌+◌, true, None, false};
 ghost use Rattle.itm_types.specs.declared.call.Reply.TheVariants.{Done};
-ghost use Rattle.itm_types.specs.declared.limits.TheConstants.{MAX_OPEN_BLOCKS};
-ghost use Rattle.itm_types.specs.Slices.{slice};
-ghost use Rattle.itm_model.specs.Machine.{after, reply, written};
+ghost use Rattle.itm_model.specs.Machine.{written};
 ghost use Rattle.norec_core.specs.Copies.{chunks_in, is_out};
-ghost use Rattle.norec_core.specs.Core.{came, handed};
-ghost use Rattle.norec_core.specs.Held.{answers, leaves};
-ghost use Rattle.norec_core.specs.Order.{chunk_from, place_from, stage_after, stage_at};
+ghost use Rattle.norec_core.specs.Order.{chunk_from, place_from};
+ghost use Rattle.norec_core.specs.OwnAccesses.{chunk_source};
 ghost use Rattle.norec_core.specs.Parts.{copied_each};
 ghost use Rattle.norec_core.specs.declared.phase.Phase.{Phase};
 ghost use Rattle.norec_data.specs.Bounds.{IsHeld};
-ghost use Rattle.norec_data.specs.Turns.{phase_after, Stays};
-ghost use Rattle.norec_data.specs.View.{core_held, held};
-ghost use Rattle.norec_irrevocable.specs.Outcomes.{in_call, kept, ComesBy, HeldTurns, IsSoundAfter};
-ghost use Rattle.norec_irrevocable.specs.Phases.{steps_before, IsServed, MayCopy, MayStore};
+ghost use Rattle.norec_data.specs.View.{held};
+ghost use Rattle.norec_irrevocable.specs.Outcomes.{in_call, kept};
+ghost use Rattle.norec_irrevocable.specs.Phases.{MayCopy, MayStore};
+ghost use Rattle.norec_irrevocable.specs.Moves.{HeldGoesTo, HeldCallTurns};
 
 use crate::access::{are_bytes, value_of};
 use crate::write::start;
@@ -26,12 +23,7 @@ use norec_data::{Data, End, Pending, Turn, chunk_reading, chunks, copy_refusal};
 /// A copy comes.
 pub(crate) fn copy(state: &mut Data, copying: Copying) -> Turn
     requires held { IsHeld state.old }
-    ensures sound { IsSoundAfter result state.new }
-    ensures proceeds { HeldTurns (came (core_held state.old) (Call.Copy copying) false) result state.new }
-    ensures comes { ComesBy state.old (λ m. after MAX_OPEN_BLOCKS (kept state.old m) (Call.Copy copying))
-        (λ m. reply MAX_OPEN_BLOCKS (kept state.old m) (Call.Copy copying)) result state.new }
-    ensures stays { Stays state.old state.new }
-    ensures order { phase_after result state.new ≡ stage_at (core_held state.old) (Call.Copy copying) false }
+    ensures { HeldCallTurns state.old (Call.Copy copying) result state.new }
 {
     let refused = copy_refusal(state, copying);
     state.come();
@@ -48,11 +40,8 @@ pub(crate) fn copy(state: &mut Data, copying: Copying) -> Turn
 pub(crate) fn chunk_on(state: &mut Data, copying: Copying, number: u32) -> Turn
     requires held { IsHeld state.old }
     requires may { MayCopy state.old copying number }
-    ensures sound { IsSoundAfter result state.new }
-    ensures proceeds { (bytes : List ℕ) → HeldTurns (in_call state.old (Call.Copy copying) bytes) result state.new }
-    ensures comes { ComesBy state.old (λ m. copied_each (kept state.old m) copying (drop number (chunks_in copying))) (λ m. Done) result state.new }
-    ensures stays { Stays state.old state.new }
-    ensures order { phase_after result state.new ≡ chunk_from copying number }
+    ensures { (bytes : List ℕ) → HeldGoesTo (in_call state.old (Call.Copy copying) bytes) (chunk_from copying number)
+        (λ m. copied_each (kept state.old m) copying (drop number (chunks_in copying))) (λ m. Done) state.old result state.new }
 {
     match copying.pair {
         CopyPair::Out(_) => send_chunk(state, copying, number),
@@ -65,11 +54,8 @@ fn send_chunk(state: &mut Data, copying: Copying, number: u32) -> Turn
     requires held { IsHeld state.old }
     requires out { is_out copying.pair ≡ true }
     requires may { MayCopy state.old copying number }
-    ensures sound { IsSoundAfter result state.new }
-    ensures proceeds { (bytes : List ℕ) → HeldTurns (in_call state.old (Call.Copy copying) bytes) result state.new }
-    ensures comes { ComesBy state.old (λ m. copied_each (kept state.old m) copying (drop number (chunks_in copying))) (λ m. Done) result state.new }
-    ensures stays { Stays state.old state.new }
-    ensures order { phase_after result state.new ≡ chunk_from copying number }
+    ensures { (bytes : List ℕ) → HeldGoesTo (in_call state.old (Call.Copy copying) bytes) (chunk_from copying number)
+        (λ m. copied_each (kept state.old m) copying (drop number (chunks_in copying))) (λ m. Done) state.old result state.new }
 {
     let Some(chunk) = chunks(copying).get(number) else {
         return Turn::Enter(End::Done);
@@ -86,11 +72,8 @@ fn load_chunk(state: &mut Data, copying: Copying, number: u32) -> Turn
     requires held { IsHeld state.old }
     requires shared { is_out copying.pair ≡ false }
     requires may { MayCopy state.old copying number }
-    ensures sound { IsSoundAfter result state.new }
-    ensures proceeds { (bytes : List ℕ) → HeldTurns (in_call state.old (Call.Copy copying) bytes) result state.new }
-    ensures comes { ComesBy state.old (λ m. copied_each (kept state.old m) copying (drop number (chunks_in copying))) (λ m. Done) result state.new }
-    ensures stays { Stays state.old state.new }
-    ensures order { phase_after result state.new ≡ chunk_from copying number }
+    ensures { (bytes : List ℕ) → HeldGoesTo (in_call state.old (Call.Copy copying) bytes) (chunk_from copying number)
+        (λ m. copied_each (kept state.old m) copying (drop number (chunks_in copying))) (λ m. Done) state.old result state.new }
 {
     let Some(reading) = chunk_reading(copying, number) else {
         return Turn::Enter(End::Done);
@@ -110,17 +93,12 @@ pub(crate) fn store_chunk(
 ) -> Turn
     requires held { IsHeld state.old }
     requires may { MayStore state.old copying number at size }
-    ensures sound { IsSoundAfter result state.new }
-    ensures proceeds { HeldTurns (in_call state.old (Call.Copy copying) state.old.gathered.items) result state.new }
-    ensures comes { ComesBy state.old (λ m. copied_each (written (kept state.old m) (copying.to + at) state.old.gathered.items) copying (drop (number + 1) (chunks_in copying)))
-        (λ m. Done) result state.new }
+    ensures goes { (bytes : List ℕ) (past : Phase) → chunk_source copying copying.pair (copying.to + at) size state.old.arena bytes ≡ state.old.gathered.items
+        → HeldGoesTo (in_call state.old (Call.Copy copying) bytes)
+        (place_from past (record { target = Target.Chunk copying number; at = copying.to + at; size = size; number = 0 }))
+        (λ m. copied_each (written (kept state.old m) (copying.to + at) state.old.gathered.items) copying (drop (number + 1) (chunks_in copying)))
+        (λ m. Done) state.old result state.new }
     ensures frame { state.new ≡ record state.old { writing = state.new.writing; got = state.new.got } }
-    ensures order { (past : Phase) → phase_after result state.new ≡ place_from past (record {
-      target = Target.Chunk copying number;
-      at = copying.to + at;
-      size = size;
-      number = 0;
-    }) }
 {
     are_bytes(&state.gathered);
     start(

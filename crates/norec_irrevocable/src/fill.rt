@@ -1,19 +1,15 @@
 //! Fills, chunk by chunk.
 
-ghost use Rattle.std.specs.Prelude.{◌≡◌, ℕ, List, drop, length, replicate, ◌+◌, ◌%◌, ◌≤◌, ◌<◌, false};
+ghost use Rattle.std.specs.Prelude.{◌≡◌, ℕ, List, drop, replicate, ◌+◌, ◌%◌, ◌≤◌};
 ghost use Rattle.itm_types.specs.declared.call.Reply.TheVariants.{Done};
-ghost use Rattle.itm_types.specs.declared.limits.TheConstants.{MAX_OPEN_BLOCKS};
-ghost use Rattle.itm_model.specs.Machine.{after, reply};
 ghost use Rattle.word_pieces.specs.declared.chunk.Direction.TheVariants.{Up};
 ghost use Rattle.word_pieces.specs.Chunks.{chunks_of};
-ghost use Rattle.norec_core.specs.Core.{came, handed};
-ghost use Rattle.norec_core.specs.Order.{fill_from, stage_at};
+ghost use Rattle.norec_core.specs.Order.{fill_from};
 ghost use Rattle.norec_core.specs.Parts.{filled_each};
 ghost use Rattle.norec_data.specs.Bounds.{IsHeld};
-ghost use Rattle.norec_data.specs.Turns.{phase_after, Stays};
-ghost use Rattle.norec_data.specs.View.{core_held};
-ghost use Rattle.norec_irrevocable.specs.Outcomes.{in_call, kept, ComesBy, HeldTurns, IsSoundAfter};
+ghost use Rattle.norec_irrevocable.specs.Outcomes.{in_call, kept};
 ghost use Rattle.norec_irrevocable.specs.Phases.{MayFill};
+ghost use Rattle.norec_irrevocable.specs.Moves.{HeldGoesTo, HeldCallTurns};
 
 use crate::access::{are_bytes, value_of};
 use crate::write::start;
@@ -25,12 +21,7 @@ use word_pieces::{Chunks, Direction};
 /// A fill comes.
 pub(crate) fn fill(state: &mut Data, hint: WriteHint, to: u64, byte: u64, size: u64) -> Turn
     requires held { IsHeld state.old }
-    ensures sound { IsSoundAfter result state.new }
-    ensures proceeds { HeldTurns (came (core_held state.old) (Call.Fill hint to byte size) false) result state.new }
-    ensures comes { ComesBy state.old (λ m. after MAX_OPEN_BLOCKS (kept state.old m) (Call.Fill hint to byte size))
-        (λ m. reply MAX_OPEN_BLOCKS (kept state.old m) (Call.Fill hint to byte size)) result state.new }
-    ensures stays { Stays state.old state.new }
-    ensures order { phase_after result state.new ≡ stage_at (core_held state.old) (Call.Fill hint to byte size) false }
+    ensures { HeldCallTurns state.old (Call.Fill hint to byte size) result state.new }
 {
     let refused = access_refusal(state, to, size);
     state.come();
@@ -54,11 +45,8 @@ pub(crate) fn fill_on(
 ) -> Turn
     requires held { IsHeld state.old }
     requires may { MayFill state.old to size number }
-    ensures sound { IsSoundAfter result state.new }
-    ensures proceeds { (bytes : List ℕ) → HeldTurns (in_call state.old (Call.Fill hint to byte size) bytes) result state.new }
-    ensures comes { ComesBy state.old (λ m. filled_each (kept state.old m) to (byte % 256) (drop number (chunks_of Up size))) (λ m. Done) result state.new }
-    ensures stays { Stays state.old state.new }
-    ensures order { phase_after result state.new ≡ fill_from hint to byte size number }
+    ensures { (bytes : List ℕ) → HeldGoesTo (in_call state.old (Call.Fill hint to byte size) bytes) (fill_from hint to byte size number)
+        (λ m. filled_each (kept state.old m) to (byte % 256) (drop number (chunks_of Up size))) (λ m. Done) state.old result state.new }
 {
     let Some(chunk) = Chunks::new(size as u32, Direction::Up).get(number) else {
         return Turn::Enter(End::Done);

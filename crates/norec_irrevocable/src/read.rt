@@ -1,17 +1,14 @@
 //! Reads, and chunks of a copy's source.
 
-ghost use Rattle.std.specs.Prelude.{◌≡◌, ℕ, List, ◌-◌, ◌+◌, ◌≤◌, ◌<◌, false};
-ghost use Rattle.itm_types.specs.declared.limits.TheConstants.{MAX_OPEN_BLOCKS};
-ghost use Rattle.itm_model.specs.Machine.{after, reply};
-ghost use Rattle.norec_core.specs.Core.{came, handed};
-ghost use Rattle.norec_core.specs.Held.{answered, answers, leaves, reading as reading_of};
-ghost use Rattle.norec_core.specs.Order.{read_past, stage_after, stage_at};
+ghost use Rattle.std.specs.Prelude.{◌-◌, ◌+◌};
+ghost use Rattle.norec_core.specs.Held.{answered, reading as reading_of};
+ghost use Rattle.norec_core.specs.Order.{read_past};
 ghost use Rattle.norec_core.specs.OwnAccesses.{access_saved};
 ghost use Rattle.norec_data.specs.Bounds.{IsHeld};
-ghost use Rattle.norec_data.specs.Turns.{phase_after, Stays};
-ghost use Rattle.norec_data.specs.View.{call_for, core_held, held};
-ghost use Rattle.norec_irrevocable.specs.Outcomes.{in_call, kept, ComesBy, HeldTurns, IsSoundAfter, Steps};
+ghost use Rattle.norec_data.specs.View.{call_for, held};
+ghost use Rattle.norec_irrevocable.specs.Outcomes.{in_call, kept};
 ghost use Rattle.norec_irrevocable.specs.Phases.{HasLoaded, IsSoundHeld};
+ghost use Rattle.norec_irrevocable.specs.Moves.{HeldGoesTo, HeldStepTurns, HeldCallTurns};
 
 use crate::copy::{chunk_on, store_chunk};
 use itm_types::{Call, CopyPair, ReadHint, Value, Width};
@@ -21,12 +18,7 @@ use norec_data::{Data, End, Pending, Turn, access_refusal};
 /// A read comes.
 pub(crate) fn read(state: &mut Data, hint: ReadHint, width: Width, at: u64) -> Turn
     requires held { IsHeld state.old }
-    ensures sound { IsSoundAfter result state.new }
-    ensures proceeds { HeldTurns (came (core_held state.old) (Call.Read hint width at) false) result state.new }
-    ensures comes { ComesBy state.old (λ m. after MAX_OPEN_BLOCKS (kept state.old m) (Call.Read hint width at))
-        (λ m. reply MAX_OPEN_BLOCKS (kept state.old m) (Call.Read hint width at)) result state.new }
-    ensures stays { Stays state.old state.new }
-    ensures order { phase_after result state.new ≡ stage_at (core_held state.old) (Call.Read hint width at) false }
+    ensures { HeldCallTurns state.old (Call.Read hint width at) result state.new }
 {
     let refused = access_refusal(state, at, u64::from(width.size()));
     state.come();
@@ -47,11 +39,7 @@ pub(crate) fn read(state: &mut Data, hint: ReadHint, width: Width, at: u64) -> T
 /// The word of a piece was loaded.
 pub(crate) fn loaded(state: &mut Data, seen: u64) -> Turn
     requires sound { IsSoundHeld state.old (Phase.Load state.old.reading) }
-    ensures sound { IsSoundAfter result state.new }
-    ensures proceeds { HeldTurns (handed (held state.old (Phase.Load state.old.reading)) seen) result state.new }
-    ensures steps { Steps state.old (Phase.Load state.old.reading) seen result state.new }
-    ensures stays { Stays state.old state.new }
-    ensures order { phase_after result state.new ≡ stage_after (held state.old (Phase.Load state.old.reading)) seen }
+    ensures { HeldStepTurns state.old (Phase.Load state.old.reading) seen result state.new }
 {
     let reading = state.reading;
     let Some(piece) = reading.piece() else {
@@ -71,14 +59,10 @@ pub(crate) fn loaded(state: &mut Data, seen: u64) -> Turn
 fn whole(state: &mut Data, reading: Reading) -> Turn
     requires held { IsHeld state.old }
     requires loaded { HasLoaded state.old reading }
-    ensures sound { IsSoundAfter result state.new }
-    ensures proceeds { HeldTurns (record (in_call state.old (call_for reading.purpose reading.at) state.old.gathered.items) {
+    ensures { HeldGoesTo (record (in_call state.old (call_for reading.purpose reading.at) state.old.gathered.items) {
       arena = access_saved reading.purpose reading.at state.old.arena state.old.gathered.items;
-    }) result state.new }
-    ensures comes { ComesBy state.old (λ m. reading_of reading.purpose reading (kept state.old m) state.old.gathered.items)
-        (λ m. answered reading.purpose state.old.gathered.items) result state.new }
-    ensures stays { Stays state.old state.new }
-    ensures order { phase_after result state.new ≡ read_past reading.purpose }
+    }) (read_past reading.purpose) (λ m. reading_of reading.purpose reading (kept state.old m) state.old.gathered.items)
+        (λ m. answered reading.purpose state.old.gathered.items) state.old result state.new }
 {
     match reading.purpose {
         Purpose::Value { .. } => Turn::Enter(End::Gathered),

@@ -4,7 +4,7 @@ ghost use Rattle.std.specs.Prelude.{◌≡◌, ℕ, ◌+◌, ◌*◌, ◌≤◌,
 ghost use Rattle.word_pieces.specs.Pieces.{count_of, IsPiece};
 ghost use Rattle.norec_core.specs.Order.{placed_piece};
 ghost use Rattle.norec_data.specs.Turns.{counted};
-ghost use Rattle.norec_data.specs.View.{held, phase_of, step_of};
+ghost use Rattle.norec_data.specs.View.{phase_of, step_of};
 ghost use Rattle.norec_irrevocable.specs.Phases.{IsSoundHeld};
 ghost use Rattle.norec_data.specs.Turns.{IsWaiting};
 

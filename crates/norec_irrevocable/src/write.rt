@@ -1,19 +1,16 @@
 //! Writes: each piece is one store, and before it one load where it is a part of its word.
 
-ghost use Rattle.std.specs.Prelude.{◌≡◌, ℕ, List, ◌+◌, ◌≤◌, ◌<◌, false};
+ghost use Rattle.std.specs.Prelude.{◌≡◌, ℕ, List, ◌+◌};
 ghost use Rattle.itm_types.specs.declared.call.Reply.TheVariants.{Done};
-ghost use Rattle.itm_types.specs.declared.limits.TheConstants.{MAX_OPEN_BLOCKS};
-ghost use Rattle.itm_model.specs.Machine.{after, reply};
 ghost use Rattle.word_pieces.specs.Pieces.{pieces_of, written};
-ghost use Rattle.norec_core.specs.Core.{came, handed};
-ghost use Rattle.norec_core.specs.Held.{answers, leaves, rest_of};
-ghost use Rattle.norec_core.specs.Order.{place_from, placed_past, stage_after, stage_at};
+ghost use Rattle.norec_core.specs.Held.{rest_of};
+ghost use Rattle.norec_core.specs.Order.{place_from, placed_past};
 ghost use Rattle.norec_core.specs.OwnAccesses.{written_by};
 ghost use Rattle.norec_data.specs.Bounds.{IsHeld};
-ghost use Rattle.norec_data.specs.Turns.{phase_after, Stays};
-ghost use Rattle.norec_data.specs.View.{core_held, held, placed_for};
-ghost use Rattle.norec_irrevocable.specs.Outcomes.{in_call, kept, ComesBy, HeldTurns, IsSoundAfter, Steps};
+ghost use Rattle.norec_data.specs.View.{held, placed_for};
+ghost use Rattle.norec_irrevocable.specs.Outcomes.{in_call, kept};
 ghost use Rattle.norec_irrevocable.specs.Phases.{HasPlaced, IsSoundHeld, MayPlace};
+ghost use Rattle.norec_irrevocable.specs.Moves.{HeldGoesTo, HeldStepTurns, HeldCallTurns};
 
 use crate::access::{are_bytes, next_place, value_of};
 use crate::copy::chunk_on;
@@ -25,12 +22,7 @@ use norec_data::{Data, End, Pending, Turn, access_refusal};
 /// A write comes.
 pub(crate) fn write(state: &mut Data, hint: WriteHint, at: u64, value: &Datum) -> Turn
     requires held { IsHeld state.old }
-    ensures sound { IsSoundAfter result state.new }
-    ensures proceeds { HeldTurns (came (core_held state.old) (Call.Write hint at value.now) false) result state.new }
-    ensures comes { ComesBy state.old (λ m. after MAX_OPEN_BLOCKS (kept state.old m) (Call.Write hint at value.now))
-        (λ m. reply MAX_OPEN_BLOCKS (kept state.old m) (Call.Write hint at value.now)) result state.new }
-    ensures stays { Stays state.old state.new }
-    ensures order { phase_after result state.new ≡ stage_at (core_held state.old) (Call.Write hint at value.now) false }
+    ensures { HeldCallTurns state.old (Call.Write hint at value.now) result state.new }
 {
     let refused = access_refusal(state, at, u64::from(value.width.size()));
     state.come();
@@ -58,13 +50,11 @@ pub(crate) fn write(state: &mut Data, hint: WriteHint, at: u64, value: &Datum) -
 pub(crate) fn start(state: &mut Data, writing: Writing) -> Turn
     requires held { IsHeld state.old }
     requires may { MayPlace state.old writing }
-    ensures sound { IsSoundAfter result state.new }
-    ensures proceeds { (bytes : List ℕ) → written_by writing.target writing.at writing.size state.old.arena bytes ≡ state.old.gathered.items
-        → HeldTurns (in_call state.old (placed_for state.old writing.target writing.at) bytes) result state.new }
-    ensures comes { ComesBy state.old (λ m. rest_of writing.target (kept state.old (written m (pieces_of writing.at writing.size) state.old.gathered.items)))
-        (λ m. Done) result state.new }
+    ensures goes { (bytes : List ℕ) (past : Phase) → written_by writing.target writing.at writing.size state.old.arena bytes ≡ state.old.gathered.items
+        → HeldGoesTo (in_call state.old (placed_for state.old writing.target writing.at) bytes) (place_from past writing)
+        (λ m. rest_of writing.target (kept state.old (written m (pieces_of writing.at writing.size) state.old.gathered.items)))
+        (λ m. Done) state.old result state.new }
     ensures frame { state.new ≡ record state.old { writing = state.new.writing; got = state.new.got } }
-    ensures order { (past : Phase) → phase_after result state.new ≡ place_from past writing }
 {
     match next_place(writing) {
         Some(pending) => {
@@ -79,11 +69,7 @@ pub(crate) fn start(state: &mut Data, writing: Writing) -> Turn
 /// The word of a piece was loaded, to be stored with the piece's bytes.
 pub(crate) fn fetched(state: &mut Data, seen: u64) -> Turn
     requires sound { IsSoundHeld state.old (Phase.Fetch state.old.writing) }
-    ensures sound { IsSoundAfter result state.new }
-    ensures proceeds { HeldTurns (handed (held state.old (Phase.Fetch state.old.writing)) seen) result state.new }
-    ensures steps { Steps state.old (Phase.Fetch state.old.writing) seen result state.new }
-    ensures stays { Stays state.old state.new }
-    ensures order { phase_after result state.new ≡ stage_after (held state.old (Phase.Fetch state.old.writing)) seen }
+    ensures { HeldStepTurns state.old (Phase.Fetch state.old.writing) seen result state.new }
 {
     state.got = Some(seen);
     Turn::Wait(Pending::Place)
@@ -92,11 +78,7 @@ pub(crate) fn fetched(state: &mut Data, seen: u64) -> Turn
 /// A piece was stored.
 pub(crate) fn placed(state: &mut Data) -> Turn
     requires sound { IsSoundHeld state.old (Phase.Place state.old.writing state.old.got) }
-    ensures sound { IsSoundAfter result state.new }
-    ensures proceeds { HeldTurns (handed (held state.old (Phase.Place state.old.writing state.old.got)) 0) result state.new }
-    ensures steps { Steps state.old (Phase.Place state.old.writing state.old.got) 0 result state.new }
-    ensures stays { Stays state.old state.new }
-    ensures order { phase_after result state.new ≡ stage_after (held state.old (Phase.Place state.old.writing state.old.got)) 0 }
+    ensures { HeldStepTurns state.old (Phase.Place state.old.writing state.old.got) 0 result state.new }
 {
     are_bytes(&state.gathered);
     let writing = state.writing;
@@ -118,11 +100,8 @@ pub(crate) fn placed(state: &mut Data) -> Turn
 fn past(state: &mut Data, writing: Writing) -> Turn
     requires held { IsHeld state.old }
     requires placed { HasPlaced state.old writing }
-    ensures sound { IsSoundAfter result state.new }
-    ensures proceeds { (bytes : List ℕ) → HeldTurns (in_call state.old (placed_for state.old writing.target writing.at) bytes) result state.new }
-    ensures comes { ComesBy state.old (λ m. rest_of writing.target (kept state.old m)) (λ m. Done) result state.new }
-    ensures stays { Stays state.old state.new }
-    ensures order { phase_after result state.new ≡ placed_past writing.target }
+    ensures { (bytes : List ℕ) → HeldGoesTo (in_call state.old (placed_for state.old writing.target writing.at) bytes) (placed_past writing.target)
+        (λ m. rest_of writing.target (kept state.old m)) (λ m. Done) state.old result state.new }
 {
     match writing.target {
         Target::Value { .. } => Turn::Enter(End::Done),

@@ -1,11 +1,10 @@
-use Rattle.std.proofs.Common.{◌≡◌, Bool, true, false, List, [], ℕ, length, drop, None, Some, sym, ap, subst, refl, ◌∙◌}
+use Rattle.std.proofs.Common.{◌≡◌, Bool, true, false, List, [], ℕ, length, drop, None, Some, sym, ap, subst, refl, ◌∙◌, rules}
 use Rattle.itm_types.specs.declared.limits.TheConstants.{MAX_OPEN_BLOCKS}
 use Rattle.itm_types.specs.declared.call.Call.TheVariants.{Copy}
 use Rattle.itm_types.specs.Memory.{IsMemory}
 use Rattle.itm_model.specs.Machine.{after}
 use Rattle.norec_irrevocable.specs.Outcomes.{kept}
 use Rattle.norec_irrevocable.proofs.KeptStates.{copy_kept}
-use Rattle.norec_irrevocable.proofs.HeldReplies.{refuses, refuses_comes}
 use Rattle.itm_types.specs.declared.call.Reply.{Reply}
 use Rattle.itm_types.specs.declared.call.Reply.TheVariants.{Done}
 use Rattle.itm_model.specs.State.{State}
@@ -19,31 +18,30 @@ use Rattle.norec_data.specs.declared.data.Data.{Data}
 use Rattle.norec_data.specs.View.{core_held}
 use Rattle.norec_irrevocable.specs.Outcomes.{held_after, in_call, HeldTurns}
 use Rattle.norec_irrevocable.specs.Phases.{IsServed}
+use Rattle.norec_irrevocable.proofs.Refused.{refused_copy}
 use Rattle.norec_irrevocable.proofs.copy.copy.Goals as goal
 
-pub returns-in-Some-clause-proceeds : goal.returns-in-Some-clause-proceeds
-returns-in-Some-clause-proceeds c =
-    let s = c.args.state.now in
-    refuses s c.come.new.self (Copy c.args.copying) c.in-Some.why c.come.ensures (λ m mem. copy_kept s.frames.blocks s.arena s.frames.actions m s.words mem c.args.copying ∙ (sym c.copy_refusal-refused.ensures ∙ c.in-Some.is))
+pub returns-in-Some : goal.returns-in-Some
+returns-in-Some c = refused_copy c.args.state.now c.args.copying c.in-Some.why c.come.new.self c.requires.held (sym c.copy_refusal-refused.ensures ∙ c.in-Some.is) c.come.ensures
 
-pub returns-in-Some-clause-comes : goal.returns-in-Some-clause-comes
-returns-in-Some-clause-comes c =
-    let s = c.args.state.now in
-    refuses_comes s c.come.new.self (Copy c.args.copying) c.in-Some.why c.come.ensures (λ m mem. copy_kept s.frames.blocks s.arena s.frames.actions m s.words mem c.args.copying ∙ (sym c.copy_refusal-refused.ensures ∙ c.in-Some.is))
-
-pub returns-in-None-clause-proceeds : goal.returns-in-None-clause-proceeds
-returns-in-None-clause-proceeds c =
-    let s = c.args.state.now in
-    let mid : in_call c.come.new.self (Copy c.args.copying) [] ≡ came (core_held s) (Copy c.args.copying) false = ap (λ (x : Data). in_call x (Copy c.args.copying) []) c.come.ensures in
-    subst (λ (x : Core). HeldTurns x c.chunk_on.result c.chunk_on.new.state) mid (c.chunk_on.ensures.proceeds [])
-
-pub returns-in-None-clause-comes : goal.returns-in-None-clause-comes
-returns-in-None-clause-comes c = λ m mem.
-    (let s = c.args.state.now in
-    let k = c.args.copying in
-    let served : IsServed s k = sym (ap (λ (o : Bool). copy_refusal o s.words (length s.arena) k) c.requires.held.is_open) ∙ (sym c.copy_refusal-refused.ensures ∙ c.in-None.is) in
-    let t = copy_comes s c.requires.held.is_open m mem k served in
-    let same = ap (λ (x : Data). copied_each (kept x m) k (drop 0 (chunks_in k))) c.come.ensures ∙ t.0 in
-    let there : IsMemory c.come.new.self.words m = subst (λ (n : ℕ). IsMemory n m) (sym (ap (λ (x : Data). x.words) c.come.ensures)) mem in
-    subst (λ (r : Reply). ComesTo (after MAX_OPEN_BLOCKS (kept s m) (Copy k)) r (next_of c.chunk_on.result c.chunk_on.new.state) (held_after c.chunk_on.result c.chunk_on.new.state) m) t.1
-    (subst (λ (x : State). ComesTo x Done (next_of c.chunk_on.result c.chunk_on.new.state) (held_after c.chunk_on.result c.chunk_on.new.state) m) same (c.chunk_on.ensures.comes m there)))
+pub returns-in-None : goal.returns-in-None
+returns-in-None c = record {
+  sound = (c.chunk_on.ensures []).sound;
+  proceeds =
+      (let s = c.args.state.now in
+      let mid : in_call c.come.new.self (Copy c.args.copying) [] ≡ came (core_held s) (Copy c.args.copying) false = ap (λ (x : Data). in_call x (Copy c.args.copying) []) c.come.ensures in
+      subst (λ (x : Core). HeldTurns x c.chunk_on.result c.chunk_on.new.state) mid (c.chunk_on.ensures []).proceeds);
+  comes =
+      (λ m mem.
+      (let s = c.args.state.now in
+      let k = c.args.copying in
+      let served : IsServed s k = sym (ap (λ (o : Bool). copy_refusal o s.words (length s.arena) k) c.requires.held.is_open) ∙ (sym c.copy_refusal-refused.ensures ∙ c.in-None.is) in
+      let t = copy_comes s c.requires.held.is_open m mem k served in
+      let same = ap (λ (x : Data). copied_each (kept x m) k (drop 0 (chunks_in k))) c.come.ensures ∙ t.0 in
+      let there : IsMemory c.come.new.self.words m = subst (λ (n : ℕ). IsMemory n m) (sym (ap (λ (x : Data). x.words) c.come.ensures)) mem in
+      subst (λ (r : Reply). ComesTo (after MAX_OPEN_BLOCKS (kept s m) (Copy k)) r (next_of c.chunk_on.result c.chunk_on.new.state) (held_after c.chunk_on.result c.chunk_on.new.state) m) t.1
+      (subst (λ (x : State). ComesTo x Done (next_of c.chunk_on.result c.chunk_on.new.state) (held_after c.chunk_on.result c.chunk_on.new.state) m) same ((c.chunk_on.ensures []).comes m there))));
+  stays = search (rules, c.chunk_on.ensures []);
+  order = search (rules, c.chunk_on.ensures []);
+  ends = (c.chunk_on.ensures []).ends;
+}

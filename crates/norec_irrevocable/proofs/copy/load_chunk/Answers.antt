@@ -1,4 +1,4 @@
-use Rattle.std.proofs.Common.{◌≡◌, ℕ, suc, ◌+◌, ◌-◌, List, [], ◌++◌, drop, refl, sym, ap, subst, ◌∙◌}
+use Rattle.std.proofs.Common.{◌≡◌, ℕ, suc, ◌+◌, ◌-◌, List, [], ◌++◌, drop, refl, sym, ap, subst, ◌∙◌, rules}
 use Rattle.itm_types.specs.declared.call.Call.TheVariants.{Copy}
 use Rattle.itm_types.specs.declared.call.Reply.TheVariants.{Done}
 use Rattle.itm_model.specs.State.{State}
@@ -22,16 +22,18 @@ use Rattle.norec_irrevocable.proofs.HeldCopies.{chunk_comes, copies_end}
 use Rattle.norec_irrevocable.proofs.HeldDone.{copy_done}
 use Rattle.norec_irrevocable.proofs.copy.load_chunk.Goals as goal
 
-pub returns-in_default-clause-proceeds : goal.returns-in_default-clause-proceeds
-returns-in_default-clause-proceeds c = λ bytes. copy_done c.args.state.now c.requires.held.is_open c.args.copying bytes c.requires.may.served
-
-pub returns-in_default-clause-comes : goal.returns-in_default-clause-comes
-returns-in_default-clause-comes c = λ m mem.
-    (let k = c.args.copying in
-    (sym (copies_end (kept c.args.state.now m) k c.args.number (no_loads k c.args.number _ (sym c.chunk_reading.ensures.value ∙ c.in_default.is))), refl))
-
-pub returns-in_default-clause-order : goal.returns-in_default-clause-order
-returns-in_default-clause-order c = (let k = c.args.copying in chunk_ends k c.args.number (no_loads k c.args.number _ (sym c.chunk_reading.ensures.value ∙ c.in_default.is)))
+pub returns-in_default : goal.returns-in_default
+returns-in_default c bytes = record {
+  sound = c.requires.held;
+  proceeds = copy_done c.args.state.now c.requires.held.is_open c.args.copying bytes c.requires.may.served;
+  comes =
+      (λ m mem.
+      (let k = c.args.copying in
+      (sym (copies_end (kept c.args.state.now m) k c.args.number (no_loads k c.args.number _ (sym c.chunk_reading.ensures.value ∙ c.in_default.is))), refl)));
+  stays = record { opens = λ o. o; log = λ o. refl; snapshot = refl };
+  order = (let k = c.args.copying in chunk_ends k c.args.number (no_loads k c.args.number _ (sym c.chunk_reading.ensures.value ∙ c.in_default.is)));
+  ends = tt;
+}
 
 -- nothing is gathered yet
 abbrev start : goal.After-reading-2-1 → Reading → Data
@@ -43,39 +45,37 @@ held_start c r = (let h = c.requires.held in record { bounds = h.bounds; is_open
 may_start : (c : goal.After-reading-2-1) (r : Reading) → MayCopy (start c r) c.args.copying c.args.number
 may_start c r = record { served = c.requires.may.served; spent = c.requires.may.spent }
 
-pub returns-clause-sound : goal.returns-clause-sound
-returns-clause-sound c =
-    let k = c.args.copying in
-    let loads = chunk_loads k c.args.number _ c.in-Some.reading (sym c.chunk_reading.ensures.value ∙ c.in-Some.is) in
-    let r : Reading = chunk_reading k c.args.number loads.0 in
-    subst (λ (x : Reading). IsSoundAfter (Wait waits.Load) (start c x)) (sym loads.2)
-    (load_sound (start c r) k c.args.number loads.0 loads.1 c.requires.shared (held_start c r) (may_start c r) c.new-state.ensures, tt)
-
-pub returns-clause-proceeds : goal.returns-clause-proceeds
-returns-clause-proceeds c =
-    let k = c.args.copying in
-    let loads = chunk_loads k c.args.number _ c.in-Some.reading (sym c.chunk_reading.ensures.value ∙ c.in-Some.is) in
-    let r : Reading = chunk_reading k c.args.number loads.0 in
-    subst (λ (x : Reading). (bytes : List ℕ) → HeldTurns (in_call c.args.state.now (Copy k) bytes) (Wait waits.Load) (start c x)) (sym loads.2)
-    (load_asks (start c r) k c.args.number loads.0 loads.1 c.requires.shared (held_start c r) c.requires.may.served c.new-state.ensures)
-
-pub returns-clause-comes : goal.returns-clause-comes
-returns-clause-comes c =
-    let k = c.args.copying in
-    let s = c.args.state.now in
-    let n = c.args.number in
-    let loads = chunk_loads k n _ c.in-Some.reading (sym c.chunk_reading.ensures.value ∙ c.in-Some.is) in
-    let chunk = loads.0 in
-    subst (λ (x : Reading). ComesBy s (λ m. copied_each (kept s m) k (drop n (chunks_in k))) (λ m. Done) (Wait waits.Load) (start c x)) (sym loads.2)
-    (λ m mem. (
-      ap (λ (bytes : List ℕ). copied_each (target_written (kept s m) k.pair (k.to + (k.from + chunk.at - k.from)) (bytes ++ gathered m (pieces_of (k.from + chunk.at) chunk.size))) k (drop (suc n) (chunks_in k))) c.new-state.ensures
-          ∙ chunk_comes s k c.requires.may.served n chunk loads.1 c.requires.shared m mem,
-      refl,
-    ))
-
-pub returns-clause-order : goal.returns-clause-order
-returns-clause-order c =
-    let k = c.args.copying in
-    let loads = chunk_loads k c.args.number _ c.in-Some.reading (sym c.chunk_reading.ensures.value ∙ c.in-Some.is) in
-    let r : Reading = chunk_reading k c.args.number loads.0 in
-    subst (λ (x : Reading). Load x ≡ chunk_from k c.args.number) (sym loads.2) (load_comes_next (start c r) k c.args.number loads.0 loads.1 c.requires.shared)
+pub returns : goal.returns
+returns c bytes = record {
+  sound =
+      (let k = c.args.copying in
+      let loads = chunk_loads k c.args.number _ c.in-Some.reading (sym c.chunk_reading.ensures.value ∙ c.in-Some.is) in
+      let r : Reading = chunk_reading k c.args.number loads.0 in
+      subst (λ (x : Reading). IsSoundAfter (Wait waits.Load) (start c x)) (sym loads.2)
+      (load_sound (start c r) k c.args.number loads.0 loads.1 c.requires.shared (held_start c r) (may_start c r) c.new-state.ensures, tt));
+  proceeds =
+      (let k = c.args.copying in
+      let loads = chunk_loads k c.args.number _ c.in-Some.reading (sym c.chunk_reading.ensures.value ∙ c.in-Some.is) in
+      let r : Reading = chunk_reading k c.args.number loads.0 in
+      subst (λ (x : Reading). HeldTurns (in_call c.args.state.now (Copy k) bytes) (Wait waits.Load) (start c x)) (sym loads.2)
+      (load_asks (start c r) k c.args.number loads.0 loads.1 c.requires.shared (held_start c r) c.requires.may.served c.new-state.ensures bytes));
+  comes =
+      (let k = c.args.copying in
+      let s = c.args.state.now in
+      let n = c.args.number in
+      let loads = chunk_loads k n _ c.in-Some.reading (sym c.chunk_reading.ensures.value ∙ c.in-Some.is) in
+      let chunk = loads.0 in
+      subst (λ (x : Reading). ComesBy s (λ m. copied_each (kept s m) k (drop n (chunks_in k))) (λ m. Done) (Wait waits.Load) (start c x)) (sym loads.2)
+      (λ m mem. (
+        ap (λ (bytes : List ℕ). copied_each (target_written (kept s m) k.pair (k.to + (k.from + chunk.at - k.from)) (bytes ++ gathered m (pieces_of (k.from + chunk.at) chunk.size))) k (drop (suc n) (chunks_in k))) c.new-state.ensures
+            ∙ chunk_comes s k c.requires.may.served n chunk loads.1 c.requires.shared m mem,
+        refl,
+      )));
+  stays = record { opens = λ o. o; log = λ o. refl; snapshot = refl };
+  order =
+      (let k = c.args.copying in
+      let loads = chunk_loads k c.args.number _ c.in-Some.reading (sym c.chunk_reading.ensures.value ∙ c.in-Some.is) in
+      let r : Reading = chunk_reading k c.args.number loads.0 in
+      subst (λ (x : Reading). Load x ≡ chunk_from k c.args.number) (sym loads.2) (load_comes_next (start c r) k c.args.number loads.0 loads.1 c.requires.shared));
+  ends = tt;
+}

@@ -1,4 +1,4 @@
-use Rattle.std.proofs.Common.{◌≡◌, ℕ, suc, ◌+◌, List, drop, refl, sym, ap, subst, ◌∙◌, add-one, arith}
+use Rattle.std.proofs.Common.{◌≡◌, ℕ, suc, ◌+◌, List, drop, refl, sym, ap, subst, ◌∙◌, add-one, arith, rules}
 use Rattle.itm_types.specs.declared.call.Reply.TheVariants.{Done}
 use Rattle.itm_types.specs.Slices.{AreBytes}
 use Rattle.itm_model.specs.Machine.{written as written_at}
@@ -37,13 +37,23 @@ start-requires-clause-may c =
       spent = may.spent;
     }
 
-pub returns-clause-comes : goal.returns-clause-comes
-returns-clause-comes c = λ m mem.
-    (let s = c.args.state.now in
-    let k = c.args.copying in
-    let may = c.requires.may in
-    let l = target_in_memory s k c.args.number (record { at = c.args.at; size = c.args.size }) may.served may.shared may.chunk in
-    let fit : AreBytes s.gathered.items = subst AreBytes c.deref.ensures.0 c.are_bytes.ensures in
-    let same : copied_each (kept s (written m (pieces_of (k.to + c.args.at) c.args.size) s.gathered.items)) k (drop (suc c.args.number) (chunks_in k)) ≡ copied_each (written_at (kept s m) (k.to + c.args.at) s.gathered.items) k (drop (c.args.number + 1) (chunks_in k)) =
-    (λ i. copied_each (kept_written s m s.gathered.items (k.to + c.args.at) c.args.size mem fit may.sized l i) k (drop (sym (add-one c.args.number) i) (chunks_in k))) in
-    subst (λ (x : State). ComesTo x Done (next_of c.start.result c.start.new.state) (held_after c.start.result c.start.new.state) m) same (c.start.ensures.comes m mem))
+pub returns-clause-goes : goal.returns-clause-goes
+returns-clause-goes c bytes past same =
+    let at = c.start.ensures.goes bytes past same in
+    record {
+      sound = at.sound;
+      proceeds = at.proceeds;
+      comes =
+          (λ m mem.
+          (let s = c.args.state.now in
+          let k = c.args.copying in
+          let may = c.requires.may in
+          let l = target_in_memory s k c.args.number (record { at = c.args.at; size = c.args.size }) may.served may.shared may.chunk in
+          let fit : AreBytes s.gathered.items = subst AreBytes c.deref.ensures.0 c.are_bytes.ensures in
+          let left : copied_each (kept s (written m (pieces_of (k.to + c.args.at) c.args.size) s.gathered.items)) k (drop (suc c.args.number) (chunks_in k)) ≡ copied_each (written_at (kept s m) (k.to + c.args.at) s.gathered.items) k (drop (c.args.number + 1) (chunks_in k)) =
+          (λ i. copied_each (kept_written s m s.gathered.items (k.to + c.args.at) c.args.size mem fit may.sized l i) k (drop (sym (add-one c.args.number) i) (chunks_in k))) in
+          subst (λ (x : State). ComesTo x Done (next_of c.start.result c.start.new.state) (held_after c.start.result c.start.new.state) m) left (at.comes m mem)));
+      stays = at.stays;
+      order = at.order;
+      ends = at.ends;
+    }

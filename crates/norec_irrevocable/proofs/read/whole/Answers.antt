@@ -1,13 +1,17 @@
-use Rattle.std.proofs.Common.{◌≡◌, ℕ, suc, ◌+◌, ◌-◌, ◌*◌, ◌≤◌, List, Bool, true, false, Option, drop, take, length, None, Some, slice_get, refl, sym, ap, subst, ◌∙◌, add-one, arith}
+use Rattle.std.proofs.Common.{◌≡◌, ℕ, suc, ◌+◌, ◌-◌, ◌*◌, ◌≤◌, List, Bool, true, false, Option, drop, take, length, None, Some, slice_get, refl, sym, ap, subst, ◌∙◌, add-one, arith, rules}
+use Rattle.norec_irrevocable.specs.Moves.{HeldGoesTo}
+use Rattle.std.proofs.lemmas.Grind.{common_steps}
+use Rattle.norec_data.specs.View.{call_for}
+use Rattle.norec_core.specs.Core.{Core}
 use Rattle.itm_types.specs.declared.access.Width.{Width}
-use Rattle.itm_types.specs.declared.call.Call.TheVariants.{Read}
+use Rattle.itm_types.specs.declared.call.Call.TheVariants.{Read, Copy}
 use Rattle.itm_types.specs.declared.call.Reply.{Reply}
 use Rattle.itm_types.specs.declared.call.Reply.TheVariants.{Bytes, Done}
 use Rattle.itm_types.specs.declared.copy.CopyPair.{CopyPair}
 use Rattle.itm_types.specs.Access.{size_of}
 use Rattle.itm_types.specs.Slices.{with_slice}
 use Rattle.itm_model.specs.State.{State}
-use Rattle.itm_model.specs.Machine.{target_written}
+use Rattle.itm_model.specs.Machine.{target_written, written}
 use Rattle.word_pieces.specs.declared.chunk.Chunk.{Chunk}
 use Rattle.word_pieces.specs.Pieces.{count_of}
 use Rattle.norec_core.specs.declared.phase.Phase.TheVariants.{Idle}
@@ -16,10 +20,10 @@ use Rattle.norec_core.specs.declared.phase.Target.TheVariants as into
 use Rattle.norec_core.specs.Copies.{chunks_in, copy_refusal, is_out, WritesShared}
 use Rattle.norec_core.specs.Held.{ComesTo, answered, reading as reading_of}
 use Rattle.norec_core.specs.Order.{chunk_from, place_from, read_past}
-use Rattle.norec_core.specs.OwnAccesses.{chunk_source}
+use Rattle.norec_core.specs.OwnAccesses.{chunk_source, access_saved, chunk_saved}
 use Rattle.norec_core.specs.Parts.{copied_each}
 use Rattle.norec_data.specs.Turns.{next_of, phase_after}
-use Rattle.norec_irrevocable.specs.Outcomes.{held_after, kept}
+use Rattle.norec_irrevocable.specs.Outcomes.{held_after, kept, in_call, HeldTurns}
 use Rattle.norec_irrevocable.specs.Phases.{IsServed, is_in}
 use Rattle.norec_irrevocable.proofs.ChunkPhases.{few_chunks, read_in_next, read_within_next, steps_in, steps_within, target_in_arena}
 use Rattle.norec_irrevocable.proofs.HeldDone.{read_done}
@@ -83,43 +87,87 @@ store_chunk-requires-clause-may c =
       spent = omega (arith, spent, next, same);
     }
 
-pub returns-in-Value-clause-proceeds : goal.returns-in-Value-clause-proceeds
-returns-in-Value-clause-proceeds c =
+pub returns-in-Value : goal.returns-in-Value
+returns-in-Value c = record {
+  sound = c.requires.held;
+  proceeds =
+      (let s = c.args.state.now in
+      let r = c.args.reading in
+      let size = rw c.in-Value.is at c.requires.loaded.purpose in
+      rw c.in-Value.is (read_done s c.requires.held.is_open c.in-Value.hint c.in-Value.width r.at s.gathered.items (omega (arith, c.requires.loaded.within, size))));
+  comes = first_of (search rules, grind (arith, common_steps));
+  stays = record { opens = λ o. o; log = λ o. refl; snapshot = refl };
+  order = first_of (search rules, grind (arith, common_steps));
+  ends = tt;
+}
+
+pub returns-in-In : goal.returns-in-In
+returns-in-In c = record {
+  sound = (c.chunk_on.ensures c.args.state.now.gathered.items).sound;
+  proceeds =
+      (let s = c.args.state.now in
+      let r = c.args.reading in
+      let k = c.in-Chunk.copying in
+      let saved : c.put.new.self ≡ with_slice s.arena (k.to + (r.at - k.from)) s.gathered.items = c.put.ensures.bytes ∙ ap (with_slice s.arena (k.to + (r.at - k.from))) c.deref.ensures.0 in
+      subst (λ (x : Core). HeldTurns x c.chunk_on.result c.chunk_on.new.state)
+      ((λ i. record (in_call s (Copy k) s.gathered.items) { arena = saved i })
+      ∙ ((λ i. record (in_call s (Copy k) s.gathered.items) { arena = chunk_saved k (sym c.in-In.is i) r.at s.arena s.gathered.items })
+      ∙ (λ i. record (in_call s (call_for (sym c.in-Chunk.is i) r.at) s.gathered.items) { arena = access_saved (sym c.in-Chunk.is i) r.at s.arena s.gathered.items })))
+      (c.chunk_on.ensures c.args.state.now.gathered.items).proceeds);
+  comes =
+      (λ m mem.
+      (let s = c.args.state.now in
+      let r = c.args.reading in
+      let k = c.in-Chunk.copying in
+      let n = c.in-Chunk.number in
+      let place = k.to + (r.at - k.from) in
+      let saved : c.put.new.self ≡ with_slice s.arena place s.gathered.items = c.put.ensures.bytes ∙ ap (with_slice s.arena place) c.deref.ensures.0 in
+      let same : copied_each (kept (record s { arena = c.put.new.self }) m) k (drop (n + 1) (chunks_in k)) ≡ reading_of r.purpose r (kept s m) s.gathered.items =
+      (λ i. copied_each (kept (record s { arena = saved i }) m) k (drop (add-one n i) (chunks_in k)))
+      ∙ (sym (ap (λ (pair : CopyPair). copied_each (target_written (kept s m) pair place s.gathered.items) k (drop (suc n) (chunks_in k))) c.in-In.is)
+      ∙ sym (ap (λ (p : Purpose). reading_of p r (kept s m) s.gathered.items) c.in-Chunk.is)) in
+      let told : Done ≡ answered r.purpose s.gathered.items = sym (ap (λ (p : Purpose). answered p s.gathered.items) c.in-Chunk.is) in
+      subst (λ (x : Reply). ComesTo (reading_of r.purpose r (kept s m) s.gathered.items) x (next_of c.chunk_on.result c.chunk_on.new.state) (held_after c.chunk_on.result c.chunk_on.new.state) m) told
+      (subst (λ (x : State). ComesTo x Done (next_of c.chunk_on.result c.chunk_on.new.state) (held_after c.chunk_on.result c.chunk_on.new.state) m) same ((c.chunk_on.ensures c.args.state.now.gathered.items).comes m mem))));
+  stays = record { opens = (c.chunk_on.ensures c.args.state.now.gathered.items).stays.opens; log = (c.chunk_on.ensures c.args.state.now.gathered.items).stays.log; snapshot = (c.chunk_on.ensures c.args.state.now.gathered.items).stays.snapshot };
+  order =
+      (let loads = rw c.in-Chunk.is at c.requires.loaded.purpose in
+      let chunk = loads.0 in
+      (c.chunk_on.ensures c.args.state.now.gathered.items).order ∙ (read_in_next c.in-Chunk.copying c.in-Chunk.number chunk.chunk chunk.is (ap is_in c.in-In.is) ∙ sym (ap read_past c.in-Chunk.is)));
+  ends = (c.chunk_on.ensures c.args.state.now.gathered.items).ends;
+}
+
+pub returns-in-Within : goal.returns-in-Within
+returns-in-Within c =
     let s = c.args.state.now in
     let r = c.args.reading in
-    let size = rw c.in-Value.is at c.requires.loaded.purpose in
-    rw c.in-Value.is (read_done s c.requires.held.is_open c.in-Value.hint c.in-Value.width r.at s.gathered.items (omega (arith, c.requires.loaded.within, size)))
-
-pub returns-in-In-clause-comes : goal.returns-in-In-clause-comes
-returns-in-In-clause-comes c = λ m mem.
-    (let s = c.args.state.now in
-    let r = c.args.reading in
     let k = c.in-Chunk.copying in
     let n = c.in-Chunk.number in
+    let bytes = s.gathered.items in
     let place = k.to + (r.at - k.from) in
-    let saved : c.put.new.self ≡ with_slice s.arena place s.gathered.items = c.put.ensures.bytes ∙ ap (with_slice s.arena place) c.deref.ensures.0 in
-    let same : copied_each (kept (record s { arena = c.put.new.self }) m) k (drop (n + 1) (chunks_in k)) ≡ reading_of r.purpose r (kept s m) s.gathered.items =
-    (λ i. copied_each (kept (record s { arena = saved i }) m) k (drop (add-one n i) (chunks_in k)))
-    ∙ (sym (ap (λ (pair : CopyPair). copied_each (target_written (kept s m) pair place s.gathered.items) k (drop (suc n) (chunks_in k))) c.in-In.is)
-    ∙ sym (ap (λ (p : Purpose). reading_of p r (kept s m) s.gathered.items) c.in-Chunk.is)) in
-    let told : Done ≡ answered r.purpose s.gathered.items = sym (ap (λ (p : Purpose). answered p s.gathered.items) c.in-Chunk.is) in
-    subst (λ (x : Reply). ComesTo (reading_of r.purpose r (kept s m) s.gathered.items) x (next_of c.chunk_on.result c.chunk_on.new.state) (held_after c.chunk_on.result c.chunk_on.new.state) m) told
-    (subst (λ (x : State). ComesTo x Done (next_of c.chunk_on.result c.chunk_on.new.state) (held_after c.chunk_on.result c.chunk_on.new.state) m) same (c.chunk_on.ensures.comes m mem)))
-
-pub returns-in-In-clause-order : goal.returns-in-In-clause-order
-returns-in-In-clause-order c =
-    let loads = rw c.in-Chunk.is at c.requires.loaded.purpose in
-    let chunk = loads.0 in
-    c.chunk_on.ensures.order ∙ (read_in_next c.in-Chunk.copying c.in-Chunk.number chunk.chunk chunk.is (ap is_in c.in-In.is) ∙ sym (ap read_past c.in-Chunk.is))
-
-pub returns-in-Within-clause-order : goal.returns-in-Within-clause-order
-returns-in-Within-clause-order c =
-    let r = c.args.reading in
-    let k = c.in-Chunk.copying in
-    let n = c.in-Chunk.number in
-    let loads = rw c.in-Chunk.is at c.requires.loaded.purpose in
-    let chunk = loads.0 in
-    let at : k.to + (r.at - k.from) ≡ k.to + (chunk.chunk).at = omega (arith, chunk.start_is) in
-    c.store_chunk.ensures.order Idle
-    ∙ ((λ i. place_from Idle (record { target = into.Chunk k n; at = at i; size = chunk.size_is i; number = 0 }))
-    ∙ (read_within_next k n chunk.chunk chunk.is loads.1 (ap is_in c.in-Within.is) ∙ sym (ap read_past c.in-Chunk.is)))
+    let chunk = (rw c.in-Chunk.is at c.requires.loaded.purpose).0 in
+    let shared = (rw c.in-Chunk.is at c.requires.loaded.purpose).1 in
+    let at = c.store_chunk.ensures.goes bytes Idle (ap (λ (pair : CopyPair). chunk_source k pair place r.size s.arena bytes) c.in-Within.is) in
+    let told : Done ≡ answered r.purpose bytes = sym (ap (λ (p : Purpose). answered p bytes) c.in-Chunk.is) in
+    let start : place ≡ k.to + (chunk.chunk).at = omega (arith, chunk.start_is) in
+    record {
+      sound = at.sound;
+      proceeds =
+          subst (λ (x : Core). HeldTurns x c.store_chunk.result c.store_chunk.new.state)
+          ((λ i. record (in_call s (Copy k) bytes) { arena = chunk_saved k (sym c.in-Within.is i) r.at s.arena bytes })
+          ∙ (λ i. record (in_call s (call_for (sym c.in-Chunk.is i) r.at) bytes) { arena = access_saved (sym c.in-Chunk.is i) r.at s.arena bytes }))
+          at.proceeds;
+      comes = λ m mem.
+          (let left : copied_each (written (kept s m) place bytes) k (drop (n + 1) (chunks_in k)) ≡ reading_of r.purpose r (kept s m) bytes =
+          (λ i. copied_each (written (kept s m) place bytes) k (drop (add-one n i) (chunks_in k)))
+          ∙ (sym (ap (λ (pair : CopyPair). copied_each (target_written (kept s m) pair place bytes) k (drop (suc n) (chunks_in k))) c.in-Within.is)
+          ∙ sym (ap (λ (p : Purpose). reading_of p r (kept s m) bytes) c.in-Chunk.is)) in
+          subst (λ (x : Reply). ComesTo (reading_of r.purpose r (kept s m) bytes) x (next_of c.store_chunk.result c.store_chunk.new.state) (held_after c.store_chunk.result c.store_chunk.new.state) m) told
+          (subst (λ (x : State). ComesTo x Done (next_of c.store_chunk.result c.store_chunk.new.state) (held_after c.store_chunk.result c.store_chunk.new.state) m) left (at.comes m mem)));
+      stays = at.stays;
+      order =
+          at.order
+          ∙ ((λ i. place_from Idle (record { target = into.Chunk k n; at = start i; size = chunk.size_is i; number = 0 }))
+          ∙ (read_within_next k n chunk.chunk chunk.is shared (ap is_in c.in-Within.is) ∙ sym (ap read_past c.in-Chunk.is)));
+      ends = at.ends;
+    }

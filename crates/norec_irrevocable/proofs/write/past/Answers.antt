@@ -1,4 +1,7 @@
-use Rattle.std.proofs.Common.{◌≡◌, ℕ, suc, ◌+◌, ◌*◌, ◌%◌, ◌≤◌, List, drop, take, length, Some, slice_get, refl, sym, ap, subst, ◌∙◌, add-one, arith}
+use Rattle.std.proofs.Common.{◌≡◌, ℕ, suc, ◌+◌, ◌*◌, ◌%◌, ◌≤◌, List, drop, take, length, Some, slice_get, refl, sym, ap, subst, ◌∙◌, add-one, arith, rules}
+use Rattle.std.proofs.lemmas.Grind.{common_steps}
+use Rattle.norec_data.specs.View.{placed_for}
+use Rattle.norec_core.specs.Order.{chunk_from, fill_from, placed_past}
 use Rattle.itm_types.specs.declared.call.Reply.TheVariants.{Done}
 use Rattle.itm_types.specs.Access.{size_of}
 use Rattle.itm_model.specs.State.{State}
@@ -13,7 +16,7 @@ use Rattle.norec_core.specs.Parts.{copied_each, filled_each}
 use Rattle.norec_core.proofs.CopyChunks.{chunk_there}
 use Rattle.norec_core.proofs.Readings.{words_in-next}
 use Rattle.norec_data.specs.Turns.{next_of}
-use Rattle.norec_irrevocable.specs.Outcomes.{held_after, kept}
+use Rattle.norec_irrevocable.specs.Outcomes.{held_after, kept, in_call, HeldTurns}
 use Rattle.norec_irrevocable.proofs.ChunkPhases.{few_chunks, steps_placed}
 use Rattle.norec_irrevocable.proofs.HeldDone.{write_done}
 use Rattle.norec_irrevocable.proofs.write.past.Goals as goal
@@ -49,25 +52,48 @@ chunk_on-requires-clause-may c =
     let same : count_of w.at w.size ≡ count_of (k.to + chunk.at) chunk.size = (λ i. count_of ((target.0).start_is i) ((target.0).size_is i)) in
     record { served = (target.0).served; spent = omega (arith, spent, next, same) }
 
-pub returns-in-Value-clause-proceeds : goal.returns-in-Value-clause-proceeds
-returns-in-Value-clause-proceeds c =
-    let s = c.args.state.now in
-    let w = c.args.writing in
-    let target = rw c.in-Value.is at c.requires.placed.target in
-    let size : w.size ≡ size_of s.value.width = target.1 ∙ ap size_of target.0 in
-    rw c.in-Value.is (λ bytes. write_done s c.requires.held.is_open c.in-Value.hint s.value w.at bytes (omega (arith, c.requires.placed.within, size)))
+pub returns-in-Value : goal.returns-in-Value
+returns-in-Value c bytes = record {
+  sound = c.requires.held;
+  proceeds =
+      (let s = c.args.state.now in
+      let w = c.args.writing in
+      let target = rw c.in-Value.is at c.requires.placed.target in
+      let size : w.size ≡ size_of s.value.width = target.1 ∙ ap size_of target.0 in
+      rw c.in-Value.is (write_done s c.requires.held.is_open c.in-Value.hint s.value w.at bytes (omega (arith, c.requires.placed.within, size))));
+  comes = first_of (search rules, grind (arith, common_steps));
+  stays = record { opens = λ o. o; log = λ o. refl; snapshot = refl };
+  order = sym (ap placed_past c.in-Value.is);
+  ends = tt;
+}
 
-pub returns-in-Fill-clause-comes : goal.returns-in-Fill-clause-comes
-returns-in-Fill-clause-comes c = λ m mem.
-    (let s = c.args.state.now in
-    let n = c.in-Fill.number in
-    let cs = chunks_of Up c.in-Fill.size in
-    subst (λ (x : State). ComesTo x Done (next_of c.fill_on.result c.fill_on.new.state) (held_after c.fill_on.result c.fill_on.new.state) m)
-    (ap (λ (x : ℕ). filled_each (kept s m) c.in-Fill.to (c.in-Fill.byte % 256) (drop x cs)) (add-one n) ∙ sym (ap (λ (t : Target). rest_of t (kept s m)) c.in-Fill.is)) (c.fill_on.ensures.comes m mem))
+pub returns-in-Fill : goal.returns-in-Fill
+returns-in-Fill c bytes = record {
+  sound = (c.fill_on.ensures bytes).sound;
+  proceeds = subst (λ (t : Target). HeldTurns (in_call c.args.state.now (placed_for c.args.state.now t c.args.writing.at) bytes) c.fill_on.result c.fill_on.new.state) (sym c.in-Fill.is) (c.fill_on.ensures bytes).proceeds;
+  comes =
+      (λ m mem.
+      (let s = c.args.state.now in
+      let n = c.in-Fill.number in
+      let cs = chunks_of Up c.in-Fill.size in
+      subst (λ (x : State). ComesTo x Done (next_of c.fill_on.result c.fill_on.new.state) (held_after c.fill_on.result c.fill_on.new.state) m)
+      (ap (λ (x : ℕ). filled_each (kept s m) c.in-Fill.to (c.in-Fill.byte % 256) (drop x cs)) (add-one n) ∙ sym (ap (λ (t : Target). rest_of t (kept s m)) c.in-Fill.is)) ((c.fill_on.ensures bytes).comes m mem)));
+  stays = (c.fill_on.ensures bytes).stays;
+  order = (c.fill_on.ensures bytes).order ∙ (ap (fill_from c.in-Fill.hint c.in-Fill.to c.in-Fill.byte c.in-Fill.size) (add-one c.in-Fill.number) ∙ sym (ap placed_past c.in-Fill.is));
+  ends = (c.fill_on.ensures bytes).ends;
+}
 
-pub returns-in-Chunk-clause-comes : goal.returns-in-Chunk-clause-comes
-returns-in-Chunk-clause-comes c = λ m mem.
-    (let s = c.args.state.now in
-    let k = c.in-Chunk.copying in
-    subst (λ (x : State). ComesTo x Done (next_of c.chunk_on.result c.chunk_on.new.state) (held_after c.chunk_on.result c.chunk_on.new.state) m)
-    (ap (λ (x : ℕ). copied_each (kept s m) k (drop x (chunks_in k))) (add-one c.in-Chunk.number) ∙ sym (ap (λ (t : Target). rest_of t (kept s m)) c.in-Chunk.is)) (c.chunk_on.ensures.comes m mem))
+pub returns-in-Chunk : goal.returns-in-Chunk
+returns-in-Chunk c bytes = record {
+  sound = (c.chunk_on.ensures bytes).sound;
+  proceeds = subst (λ (t : Target). HeldTurns (in_call c.args.state.now (placed_for c.args.state.now t c.args.writing.at) bytes) c.chunk_on.result c.chunk_on.new.state) (sym c.in-Chunk.is) (c.chunk_on.ensures bytes).proceeds;
+  comes =
+      (λ m mem.
+      (let s = c.args.state.now in
+      let k = c.in-Chunk.copying in
+      subst (λ (x : State). ComesTo x Done (next_of c.chunk_on.result c.chunk_on.new.state) (held_after c.chunk_on.result c.chunk_on.new.state) m)
+      (ap (λ (x : ℕ). copied_each (kept s m) k (drop x (chunks_in k))) (add-one c.in-Chunk.number) ∙ sym (ap (λ (t : Target). rest_of t (kept s m)) c.in-Chunk.is)) ((c.chunk_on.ensures bytes).comes m mem)));
+  stays = (c.chunk_on.ensures bytes).stays;
+  order = (c.chunk_on.ensures bytes).order ∙ (ap (chunk_from c.in-Chunk.copying) (add-one c.in-Chunk.number) ∙ sym (ap placed_past c.in-Chunk.is));
+  ends = (c.chunk_on.ensures bytes).ends;
+}

@@ -1,4 +1,5 @@
-use Rattle.std.proofs.Common.{None, refl, arith}
+use Rattle.std.proofs.Common.{None, refl, arith, rules}
+use Rattle.std.proofs.lemmas.Grind.{common_steps}
 use Rattle.norec_data.specs.declared.data.Data.{Data}
 use Rattle.norec_data.specs.Turns.{counted}
 use Rattle.norec_irrevocable.proofs.NextPlaces.{next_sound, places_later}
@@ -11,22 +12,29 @@ unreachable-requires c =
     let none = rw c.in-None.is at c.next_place.ensures.past in
     absurd (omega (arith, some_count_of c.args.writing.at c.args.writing.size may.some, may.first, none))
 
-pub returns-clause-sound : goal.returns-clause-sound
-returns-clause-sound c =
-    let s = c.args.state.now in
-    let w = c.args.writing in
-    let h = c.requires.held in
-    let may = c.requires.may in
-    let e : Data = record s { writing = w; got = None } in
-    let next = (rw c.in-Some.is at c.next_place.ensures.some) e refl refl in
-    next_sound e w c.in-Some.pending
-    (record { bounds = h.bounds; is_open = h.is_open; log = h.log; writes = h.writes; settled = h.settled; free = h.free; tries = h.tries })
-    (record {
-      within = may.within;
-      small = may.small;
-      some = next.1;
-      sized = may.sized;
-      target = places_later s (counted e) w.target w.at w.size refl refl refl refl may.target;
-      spent = omega (arith, may.spent, may.first);
-    })
-    next
+pub returns-clause-goes : goal.returns-clause-goes
+returns-clause-goes c bytes past same = record {
+  sound =
+      (let s = c.args.state.now in
+      let w = c.args.writing in
+      let h = c.requires.held in
+      let may = c.requires.may in
+      let e : Data = record s { writing = w; got = None } in
+      let next = (rw c.in-Some.is at c.next_place.ensures.some) e refl refl in
+      next_sound e w c.in-Some.pending
+      (record { bounds = h.bounds; is_open = h.is_open; log = h.log; writes = h.writes; settled = h.settled; free = h.free; tries = h.tries })
+      (record {
+        within = may.within;
+        small = may.small;
+        some = next.1;
+        sized = may.sized;
+        target = places_later s (counted e) w.target w.at w.size refl refl refl refl may.target;
+        spent = omega (arith, may.spent, may.first);
+      })
+      next);
+  proceeds = first_of (search rules, grind (arith, common_steps));
+  comes = first_of (search rules, grind (arith, common_steps));
+  stays = record { opens = λ o. o; log = λ o. refl; snapshot = refl };
+  order = first_of (search rules, grind (arith, common_steps));
+  ends = first_of (search rules, grind (arith, common_steps));
+}
