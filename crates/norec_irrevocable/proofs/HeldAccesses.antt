@@ -1,5 +1,5 @@
 -- What reads and writes of an irrevocable transaction come to.
-use Rattle.std.proofs.Common.{◌≡◌, ◌≢◌, ℕ, zero, suc, ◌+◌, ◌*◌, ◌/◌, ◌^◌, ◌<◌, ◌≤◌, ◌==◌, nat_le, Bool, true, false, List, [], ◌∷◌, ◌++◌, length, drop, take, Option, None, Some, slice_get, slice_set, refl, sym, ap, subst, ◌∙◌, inl, inr, arith, add-one}
+use Rattle.std.proofs.Common.{◌≡◌, ℕ, suc, ◌+◌, ◌*◌, ◌^◌, ◌<◌, ◌≤◌, nat_le, Bool, true, false, List, ◌++◌, length, drop, Option, None, Some, slice_get, slice_set, refl, sym, ap, subst, ◌∙◌, inl, inr, arith}
 use Rattle.std.specs.Prelude.{slice_index}
 use Rattle.std.proofs.lemmas.Bool.{cases_Bool, le-leb, leb-true}
 use Rattle.std.proofs.lemmas.List.{append_assoc, length-set}
@@ -15,13 +15,13 @@ use Rattle.itm_types.specs.declared.datum.Datum.{Datum}
 use Rattle.itm_types.specs.declared.limits.TheConstants.{MAX_OPEN_BLOCKS}
 use Rattle.itm_types.specs.Access.{size_of}
 use Rattle.itm_types.specs.Calls.{access_of}
-use Rattle.itm_types.specs.Memory.{AllFit, bytes_of, IsMemory}
-use Rattle.itm_types.specs.Slices.{AreBytes, slice}
+use Rattle.itm_types.specs.Memory.{AllFit, IsMemory}
+use Rattle.itm_types.specs.Slices.{AreBytes}
 use Rattle.itm_model.specs.State.{State}
 use Rattle.itm_model.specs.Machine.{after, after_unless, answer, bytes_reply, effect, or_else, refusal, reply, reply_unless, unless, written as written_at}
 use Rattle.word_pieces.specs.declared.piece.Piece.{Piece}
-use Rattle.word_pieces.specs.Masks.{mask_of, merge, merged_at, whole}
-use Rattle.word_pieces.specs.Pieces.{count_of, gathered, part_of, piece_of, pieces_of, scattered, with_piece, written, IsPiece}
+use Rattle.word_pieces.specs.Masks.{mask_of, merge, whole}
+use Rattle.word_pieces.specs.Pieces.{gathered, part_of, pieces_of, scattered, with_piece, written, IsPiece}
 use Rattle.word_pieces.proofs.Bits.{merge-lt, merge-whole}
 use Rattle.word_pieces.proofs.Covers.{AllFit-at, AllFit-set, bytes_of-written, gathered-pieces_of}
 use Rattle.norec_core.specs.Accesses.{access_refusal}

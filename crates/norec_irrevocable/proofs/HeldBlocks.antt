@@ -1,15 +1,13 @@
 -- Blocks that begin in an irrevocable transaction, and a call that would make it irrevocable.
-use Rattle.std.proofs.Common.{◌≡◌, ℕ, ◌<◌, nat_lt, Bool, true, false, List, [], ◌∷◌, length, replicate, Option, None, if◌then◌else◌, refl, sym, ap, subst, ◌∙◌}
+use Rattle.std.proofs.Common.{◌≡◌, ℕ, ◌<◌, Bool, true, false, List, [], ◌∷◌, length, replicate, Option, None, if◌then◌else◌, refl, sym, ap, subst, ◌∙◌}
 use Rattle.std.proofs.lemmas.Bool.{cond-true, lt-ltb}
 use Rattle.itm_types.specs.declared.limits.TheConstants.{MAX_OPEN_BLOCKS}
-use Rattle.itm_types.specs.declared.call.Call.{Call}
 use Rattle.itm_types.specs.declared.call.Call.TheVariants.{Begin, Mode}
 use Rattle.itm_types.specs.declared.call.Props.{Props}
 use Rattle.itm_types.specs.declared.call.Refusal.{Refusal}
 use Rattle.itm_types.specs.declared.call.Refusal.TheVariants.{NoIrrevocable, TooDeep}
 use Rattle.itm_types.specs.declared.call.Reply.TheVariants.{Done, Code}
-use Rattle.itm_types.specs.Memory.{IsMemory}
-use Rattle.nest_frames.specs.Nest.{Frame, begun, stays_revocable}
+use Rattle.nest_frames.specs.Nest.{begun, stays_revocable}
 use Rattle.itm_model.specs.State.{State}
 use Rattle.itm_model.specs.Machine.{after, after_unless, effect, entered, or_else, pushed, refusal, reply, reply_unless, unless}
 use Rattle.norec_core.specs.Accesses.{mode_refusal}
@@ -21,7 +19,7 @@ use Rattle.norec_data.specs.declared.turn.Turn.TheVariants.{Enter}
 use Rattle.norec_data.specs.View.{core_held, in_block}
 use Rattle.norec_irrevocable.specs.Outcomes.{kept, ComesBy, HeldTurns}
 use Rattle.norec_irrevocable.proofs.KeptStates.{begin_kept, mode_kept, open_kept}
-use Rattle.norec_irrevocable.proofs.HeldReplies.{room_kept, zeros}
+use Rattle.norec_irrevocable.proofs.HeldReplies.{room_kept}
 
 both_same : {X : Type 0} (b : Bool) (x : X) → (if b then x else x) ≡ x
 both_same true x = refl

@@ -1,5 +1,5 @@
 -- What copies and fills of an irrevocable transaction come to, chunk by chunk.
-use Rattle.std.proofs.Common.{◌≡◌, ℕ, zero, suc, ◌+◌, ◌-◌, ◌*◌, ◌%◌, ◌<◌, ◌≤◌, Bool, true, false, List, [], ◌∷◌, length, drop, take, replicate, Option, None, Some, slice_get, refl, sym, ap, subst, ◌∙◌, arith, add-one}
+use Rattle.std.proofs.Common.{◌≡◌, ℕ, suc, ◌+◌, ◌-◌, ◌*◌, ◌%◌, ◌<◌, ◌≤◌, true, false, List, length, drop, replicate, Option, None, Some, slice_get, refl, sym, ap, ◌∙◌, arith, add-one}
 use Rattle.itm_types.specs.declared.access.WriteHint.{WriteHint}
 use Rattle.itm_types.specs.declared.call.Call.TheVariants.{Copy, Fill}
 use Rattle.itm_types.specs.declared.call.Copying.{Copying}
@@ -16,7 +16,7 @@ use Rattle.itm_model.specs.Machine.{after, after_unless, copied, effect, reply, 
 use Rattle.word_pieces.specs.declared.chunk.Chunk.{Chunk}
 use Rattle.word_pieces.specs.declared.chunk.Direction.{Direction}
 use Rattle.word_pieces.specs.declared.chunk.Direction.TheVariants.{Up, Down}
-use Rattle.word_pieces.specs.Chunks.{chunk_count, chunk_of, chunks_of}
+use Rattle.word_pieces.specs.Chunks.{chunk_of, chunks_of}
 use Rattle.word_pieces.specs.Pieces.{gathered, pieces_of}
 use Rattle.word_pieces.proofs.Covers.{gathered-pieces_of}
 use Rattle.norec_core.specs.Copies.{chunks_in, direction_of, is_out, source_refusal}

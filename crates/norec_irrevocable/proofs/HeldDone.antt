@@ -3,7 +3,6 @@ use Rattle.std.proofs.Common.{◌≡◌, ℕ, ◌+◌, ◌*◌, ◌≤◌, true,
 use Rattle.itm_types.specs.declared.access.ReadHint.{ReadHint}
 use Rattle.itm_types.specs.declared.access.Width.{Width}
 use Rattle.itm_types.specs.declared.access.WriteHint.{WriteHint}
-use Rattle.itm_types.specs.declared.call.Call.{Call}
 use Rattle.itm_types.specs.declared.call.Call.TheVariants.{Read, Write, Copy, Fill}
 use Rattle.itm_types.specs.declared.call.Copying.{Copying}
 use Rattle.itm_types.specs.declared.call.Refusal.{Refusal}
@@ -14,7 +13,6 @@ use Rattle.itm_types.specs.Access.{size_of}
 use Rattle.itm_types.specs.Memory.{IsMemory}
 use Rattle.itm_model.specs.Machine.{bytes_reply, refusal, reply_unless}
 use Rattle.norec_core.specs.Copies.{copy_refusal}
-use Rattle.norec_core.specs.Core.{Core}
 use Rattle.norec_core.specs.Proceeds.{RepliesHeld}
 use Rattle.norec_data.specs.declared.data.Data.{Data}
 use Rattle.norec_data.specs.View.{core_held, in_block}

@@ -1,19 +1,18 @@
 -- Replies in an irrevocable transaction that leave the engine as it was, but for the counts.
-use Rattle.std.proofs.Common.{◌≡◌, ℕ, zero, suc, ◌^◌, ◌<◌, ◌&&◌, not, Bool, true, false, List, [], ◌∷◌, length, replicate, Option, None, Some, unwrap_or, nat_lt, refl, sym, ap, subst, ◌∙◌, arith, if◌then◌else◌}
+use Rattle.std.proofs.Common.{◌≡◌, ℕ, zero, suc, ◌&&◌, not, Bool, true, false, List, length, replicate, Option, None, Some, unwrap_or, nat_lt, refl, sym, ap, subst, ◌∙◌, arith, if◌then◌else◌}
 use Rattle.std.proofs.lemmas.List.{length-replicate}
 use Rattle.itm_types.specs.declared.limits.TheConstants.{MAX_OPEN_BLOCKS}
 use Rattle.itm_types.specs.declared.call.Call.{Call}
 use Rattle.itm_types.specs.declared.call.Call.TheVariants.{Begin, Mode, Read, CommitAction, Save}
 use Rattle.itm_types.specs.declared.call.Refusal.{Refusal}
-use Rattle.itm_types.specs.declared.call.Reply.{Reply as Replied}
 use Rattle.itm_types.specs.declared.call.Reply.TheVariants.{Refused}
 use Rattle.itm_types.specs.Memory.{AllFit, IsMemory}
 use Rattle.itm_model.specs.Machine.{after, after_unless, answer, bytes_reply, effect, refusal, reply, reply_unless}
 use Rattle.itm_model.specs.State.{State}
 use Rattle.norec_core.specs.Stands.{stands_for}
-use Rattle.norec_core.specs.Core.{Core, came, goes, in_transaction, may_go}
+use Rattle.norec_core.specs.Core.{Core, came, goes, may_go}
 use Rattle.nest_frames.specs.Nest.{stays_revocable}
-use Rattle.norec_core.specs.Proceeds.{RepliesHeld, actions_after, arena_held, blocks_after, reply_held, room_left}
+use Rattle.norec_core.specs.Proceeds.{RepliesHeld, arena_held, reply_held, room_left}
 use Rattle.norec_core.proofs.RefusedCalls.{actions_kept, blocks_kept}
 use Rattle.norec_data.specs.declared.data.Data.{Data}
 use Rattle.norec_data.specs.View.{core_held, in_block}

@@ -1,6 +1,5 @@
 -- What the plain machine refuses of an irrevocable transaction.
-use Rattle.std.proofs.Common.{◌≡◌, ℕ, suc, ◌+◌, ◌*◌, ◌<◌, ◌≤◌, ◌&&◌, ◌||◌, not, nat_le, nat_lt, Bool, true, false, List, [], ◌∷◌, length, map, Option, None, Some, if◌then◌else◌, refl, sym, ap, ◌∙◌, arith}
-use Rattle.std.specs.List.{list_any}
+use Rattle.std.proofs.Common.{◌≡◌, ℕ, suc, ◌+◌, ◌*◌, ◌&&◌, ◌||◌, not, nat_le, nat_lt, Bool, true, false, List, [], ◌∷◌, length, map, Option, None, Some, if◌then◌else◌, refl, ap, ◌∙◌, arith}
 use Rattle.std.proofs.lemmas.Bool.{lt-ltb}
 use Rattle.itm_types.specs.declared.limits.TheConstants.{MAX_OPEN_BLOCKS}
 use Rattle.itm_types.specs.declared.call.Call.{Call}

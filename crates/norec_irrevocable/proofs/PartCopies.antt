@@ -1,5 +1,5 @@
 -- A copy or a fill chunk by chunk comes to what one of the whole range does.
-use Rattle.std.proofs.Common.{◌≡◌, ℕ, ◌+◌, ◌*◌, ◌-◌, ◌<◌, ◌≤◌, ◌%◌, ◌&&◌, ◌||◌, nat_lt, if◌then◌else◌, Bool, true, false, List, [], ◌∷◌, length, replicate, take, drop, None, refl, ap, sym, subst, ◌∙◌, inl, inr, arith}
+use Rattle.std.proofs.Common.{◌≡◌, ℕ, ◌+◌, ◌*◌, ◌-◌, ◌<◌, ◌≤◌, ◌&&◌, nat_lt, if◌then◌else◌, Bool, true, false, List, [], ◌∷◌, length, replicate, take, None, refl, ap, sym, ◌∙◌, inl, inr, arith}
 use Rattle.std.specs.List.{AllByRecursion}
 use Rattle.std.proofs.lemmas.Bool.{ltb-true, ltb-false}
 use Rattle.std.proofs.lemmas.List.{drop-replicate, length-replicate, take_all, take-replicate}
@@ -16,10 +16,10 @@ use Rattle.word_pieces.specs.declared.chunk.Direction.TheVariants.{Up, Down}
 use Rattle.word_pieces.specs.Chunks.{chunk_of, chunk_count, chunks_of, chunks_before, chunks_written, chunks_moved, IsSafe}
 use Rattle.word_pieces.proofs.ChunkBytes.{all-moved}
 use Rattle.word_pieces.proofs.Lists.{slice-slice, length-slice}
-use Rattle.itm_model.specs.Machine.{copied, written, is_clear}
+use Rattle.itm_model.specs.Machine.{copied, written}
 use Rattle.itm_model.specs.State.{State}
 use Rattle.norec_core.specs.Copies.{copy_refusal, chunks_in, direction_of}
-use Rattle.norec_core.specs.Parts.{chunk_copying, copied_each, filled_each}
+use Rattle.norec_core.specs.Parts.{copied_each, filled_each}
 use Rattle.norec_core.proofs.CopyRefusals.{accepted_sides, arena_within, shared_within}
 use Rattle.norec_core.proofs.Ranges.{IsPart, parts-chunks_of, written-chunks_of}
 

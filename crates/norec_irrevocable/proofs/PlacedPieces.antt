@@ -11,7 +11,7 @@ use Rattle.std.specs.List.{AllByRecursion}
 use Rattle.norec_core.specs.declared.phase.Phase.{Phase}
 use Rattle.norec_core.specs.declared.phase.Phase.TheVariants.{Fetch, Place}
 use Rattle.norec_core.specs.declared.phase.Writing.{Writing}
-use Rattle.norec_core.specs.Order.{place_among, place_from, placed_piece}
+use Rattle.norec_core.specs.Order.{place_among, place_from}
 use Rattle.norec_data.specs.declared.data.Data.{Data}
 use Rattle.std.proofs.lemmas.List.{drop_all}
 use Rattle.norec_core.proofs.Readings.{none_count, none_drop, some_count, some_drop}

@@ -1,5 +1,5 @@
 -- What a turn makes of the fields of an irrevocable transaction.
-use Rattle.std.specs.Prelude.{◌≡◌, ℕ, false, List, Option, None, Result, MatchResult}
+use Rattle.std.specs.Prelude.{◌≡◌, ℕ, false, List, None, Result, MatchResult}
 use Rattle.itm_types.specs.declared.call.Call.{Call}
 use Rattle.itm_types.specs.declared.call.Reply.{Reply as Replied}
 use Rattle.itm_types.specs.declared.limits.TheConstants.{MAX_OPEN_BLOCKS}

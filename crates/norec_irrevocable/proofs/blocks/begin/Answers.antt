@@ -1,9 +1,6 @@
-use Rattle.std.proofs.Common.{◌≡◌, List, ◌∷◌, ℕ, Some, sym, ap, refl, ◌∙◌, true, length, ◌<◌, rules, Option, subst}
+use Rattle.std.proofs.Common.{◌≡◌, ◌∷◌, sym, ap, ◌∙◌, true, length, ◌<◌, rules, Option, subst}
 use Rattle.itm_types.specs.declared.limits.TheConstants.{MAX_OPEN_BLOCKS}
 use Rattle.itm_types.specs.declared.call.Call.TheVariants.{Begin}
-use Rattle.itm_types.specs.Memory.{IsMemory}
-use Rattle.itm_model.specs.Machine.{refusal}
-use Rattle.norec_irrevocable.specs.Outcomes.{kept}
 use Rattle.norec_irrevocable.proofs.KeptStates.{begin_kept}
 use Rattle.nest_frames.specs.Nest.{begun}
 use Rattle.write_set.specs.Marks.{Written}

@@ -1,9 +1,5 @@
-use Rattle.std.proofs.Common.{◌≡◌, List, ℕ, Some, sym, refl, ◌∙◌, rules, Option, subst}
-use Rattle.itm_types.specs.declared.limits.TheConstants.{MAX_OPEN_BLOCKS}
+use Rattle.std.proofs.Common.{sym, ◌∙◌, rules, Option, subst}
 use Rattle.itm_types.specs.declared.call.Call.TheVariants.{Mode}
-use Rattle.itm_types.specs.Memory.{IsMemory}
-use Rattle.itm_model.specs.Machine.{refusal}
-use Rattle.norec_irrevocable.specs.Outcomes.{kept}
 use Rattle.norec_irrevocable.proofs.KeptStates.{mode_kept}
 use Rattle.norec_irrevocable.proofs.HeldBlocks.{mode_replies, mode_comes}
 use Rattle.norec_irrevocable.proofs.Refused.{mode_ending, mode_stage, refused_turn}

@@ -1,10 +1,9 @@
-use Rattle.std.proofs.Common.{◌≡◌, Bool, true, false, List, [], ℕ, length, drop, None, Some, sym, ap, subst, refl, ◌∙◌, rules}
+use Rattle.std.proofs.Common.{◌≡◌, Bool, false, [], ℕ, length, drop, sym, ap, subst, ◌∙◌, rules}
 use Rattle.itm_types.specs.declared.limits.TheConstants.{MAX_OPEN_BLOCKS}
 use Rattle.itm_types.specs.declared.call.Call.TheVariants.{Copy}
 use Rattle.itm_types.specs.Memory.{IsMemory}
 use Rattle.itm_model.specs.Machine.{after}
 use Rattle.norec_irrevocable.specs.Outcomes.{kept}
-use Rattle.norec_irrevocable.proofs.KeptStates.{copy_kept}
 use Rattle.itm_types.specs.declared.call.Reply.{Reply}
 use Rattle.itm_types.specs.declared.call.Reply.TheVariants.{Done}
 use Rattle.itm_model.specs.State.{State}

@@ -1,15 +1,12 @@
-use Rattle.std.proofs.Common.{◌≡◌, ℕ, suc, ◌+◌, ◌-◌, take, List, Option, None, Some, drop, slice_get, refl, sym, ap, subst, ◌∙◌, arith, rules}
+use Rattle.std.proofs.Common.{◌≡◌, ◌+◌, ◌-◌, take, None, Some, drop, slice_get, refl, sym, subst, ◌∙◌, arith}
 use Rattle.itm_types.specs.Slices.{slice}
 use Rattle.itm_types.specs.declared.call.Reply.TheVariants.{Done}
 use Rattle.itm_model.specs.State.{State}
-use Rattle.word_pieces.specs.declared.chunk.Chunk.{Chunk}
 use Rattle.word_pieces.specs.Chunks.{chunks_of}
 use Rattle.norec_core.specs.Copies.{chunks_in}
 use Rattle.norec_core.specs.Held.{ComesTo}
-use Rattle.norec_core.specs.Order.{chunk_from}
 use Rattle.norec_core.specs.declared.phase.Phase.TheVariants.{Idle}
-use Rattle.norec_core.specs.Parts.{copied_each}
-use Rattle.norec_data.specs.Turns.{next_of, phase_after}
+use Rattle.norec_data.specs.Turns.{next_of}
 use Rattle.norec_irrevocable.specs.Outcomes.{held_after, kept}
 use Rattle.norec_irrevocable.proofs.ChunkPhases.{chunk_ends, out_comes_next}
 use Rattle.norec_irrevocable.proofs.HeldCopies.{copies_end, sent_comes, out_source}

@@ -1,10 +1,9 @@
-use Rattle.std.proofs.Common.{◌≡◌, List, [], ℕ, ◌%◌, drop, false, Some, sym, ap, subst, refl, ◌∙◌, rules}
+use Rattle.std.proofs.Common.{◌≡◌, [], ℕ, ◌%◌, drop, false, sym, ap, subst, refl, ◌∙◌, rules}
 use Rattle.itm_types.specs.declared.limits.TheConstants.{MAX_OPEN_BLOCKS}
 use Rattle.itm_types.specs.declared.call.Call.TheVariants.{Fill}
 use Rattle.itm_types.specs.Memory.{IsMemory}
 use Rattle.itm_model.specs.Machine.{after}
 use Rattle.norec_irrevocable.specs.Outcomes.{held_after, in_call, kept, HeldTurns}
-use Rattle.norec_irrevocable.proofs.KeptStates.{access_kept}
 use Rattle.itm_types.specs.declared.call.Reply.{Reply}
 use Rattle.itm_types.specs.declared.call.Reply.TheVariants.{Done}
 use Rattle.itm_model.specs.State.{State}

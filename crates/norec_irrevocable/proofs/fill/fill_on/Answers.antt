@@ -1,4 +1,4 @@
-use Rattle.std.proofs.Common.{◌≡◌, ℕ, suc, ◌+◌, ◌*◌, ◌%◌, ◌≤◌, List, Option, None, Some, drop, length, replicate, slice_get, refl, sym, ap, subst, ◌∙◌, arith, rules}
+use Rattle.std.proofs.Common.{◌≡◌, ℕ, suc, ◌+◌, ◌*◌, ◌%◌, ◌≤◌, None, Some, drop, length, slice_get, refl, sym, ap, subst, ◌∙◌, arith}
 use Rattle.itm_types.specs.declared.call.Reply.TheVariants.{Done}
 use Rattle.itm_types.specs.Slices.{AreBytes}
 use Rattle.std.proofs.lemmas.List.{length-replicate}
@@ -6,14 +6,13 @@ use Rattle.itm_model.specs.Machine.{written as written_at}
 use Rattle.itm_model.specs.State.{State}
 use Rattle.word_pieces.specs.Pieces.{pieces_of, written}
 use Rattle.norec_core.specs.Parts.{filled_each}
-use Rattle.word_pieces.specs.declared.chunk.Chunk.{Chunk}
 use Rattle.word_pieces.specs.declared.chunk.Direction.TheVariants.{Up}
 use Rattle.word_pieces.specs.Chunks.{chunks_of}
 use Rattle.norec_core.specs.Held.{ComesTo}
-use Rattle.norec_core.specs.Order.{fill_from, fill_stage}
+use Rattle.norec_core.specs.Order.{fill_stage}
 use Rattle.norec_core.specs.declared.phase.Phase.TheVariants.{Idle}
 use Rattle.norec_core.proofs.Readings.{none_drop, some_drop}
-use Rattle.norec_data.specs.Turns.{next_of, phase_after}
+use Rattle.norec_data.specs.Turns.{next_of}
 use Rattle.norec_irrevocable.specs.Outcomes.{held_after, kept}
 use Rattle.norec_irrevocable.proofs.HeldAccesses.{kept_written}
 use Rattle.norec_irrevocable.proofs.HeldCopies.{fills_end, fills_on}

@@ -1,7 +1,5 @@
-use Rattle.std.proofs.Common.{◌≡◌, ◌≢◌, ℕ, zero, suc, ◌+◌, ◌*◌, ◌<◌, ◌≤◌, ◌==◌, Bool, true, false, List, [], ◌++◌, length, drop, take, Option, Some, slice_get, refl, sym, ap, subst, ◌∙◌, add-one, arith, eq-eqb, rules}
+use Rattle.std.proofs.Common.{◌≡◌, ℕ, suc, ◌+◌, ◌<◌, ◌≤◌, ◌==◌, List, [], ◌++◌, length, drop, Some, slice_get, refl, sym, ap, subst, ◌∙◌, add-one, arith, eq-eqb}
 use Rattle.std.proofs.lemmas.Bool.{cond-false, cond-true, ne_eqb}
-use Rattle.itm_types.specs.declared.call.Reply.{Reply}
-use Rattle.itm_model.specs.State.{State}
 use Rattle.word_pieces.specs.declared.piece.Piece.{Piece}
 use Rattle.word_pieces.specs.Pieces.{count_of, gathered, part_of, pieces_of}
 use Rattle.word_pieces.proofs.Covers.{word-pieces_of}
@@ -15,11 +13,9 @@ use Rattle.norec_core.specs.OwnAccesses.{access_saved, word_of}
 use Rattle.norec_data.specs.declared.data.Data.{Data}
 use Rattle.norec_data.specs.declared.pending.Pending.TheVariants as waits
 use Rattle.norec_data.specs.declared.turn.Turn.TheVariants.{Wait}
-use Rattle.norec_data.specs.Bounds.{IsHeld}
-use Rattle.norec_data.specs.Turns.{counted, next_of, phase_after}
+use Rattle.norec_data.specs.Turns.{counted, next_of}
 use Rattle.norec_data.specs.View.{call_for, held}
 use Rattle.norec_irrevocable.specs.Outcomes.{held_after, in_call, kept, HeldTurns, IsSoundAfter, Steps}
-use Rattle.norec_irrevocable.specs.Phases.{IsLoading, IsSoundHeld}
 use Rattle.norec_irrevocable.proofs.ChunkPhases.{first_piece}
 use Rattle.norec_irrevocable.proofs.HeldAccesses.{gathers_on}
 use Rattle.norec_irrevocable.proofs.LoadedPieces.{gathers_all, loads_later, longer, more_left, none_left, read_ends, reading_next, whole_length}

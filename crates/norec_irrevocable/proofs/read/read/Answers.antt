@@ -1,14 +1,10 @@
-use Rattle.std.proofs.Common.{◌≡◌, List, ℕ, ◌+◌, ◌*◌, ◌≤◌, ◌++◌, Some, sym, ap, refl, ◌∙◌, rules, arith}
+use Rattle.std.proofs.Common.{ℕ, ◌+◌, ◌*◌, ◌≤◌, ◌++◌, sym, ap, refl, ◌∙◌, rules, arith}
 use Rattle.std.proofs.lemmas.Grind.{common_steps}
-use Rattle.itm_types.specs.declared.limits.TheConstants.{MAX_OPEN_BLOCKS}
 use Rattle.itm_types.specs.declared.call.Call.TheVariants.{Read}
 use Rattle.itm_types.specs.Access.{size_of}
-use Rattle.itm_types.specs.Memory.{IsMemory}
-use Rattle.itm_model.specs.Machine.{refusal}
 use Rattle.norec_core.specs.Accesses.{access_refusal}
 use Rattle.norec_data.specs.View.{in_block}
 use Rattle.norec_irrevocable.specs.Outcomes.{kept}
-use Rattle.norec_irrevocable.proofs.KeptStates.{access_kept}
 use Rattle.itm_model.specs.Machine.{bytes_reply}
 use Rattle.word_pieces.specs.Pieces.{gathered, pieces_of}
 use Rattle.norec_data.specs.declared.data.Data.{Data}

@@ -1,30 +1,26 @@
-use Rattle.std.proofs.Common.{◌≡◌, ℕ, suc, ◌+◌, ◌-◌, ◌*◌, ◌≤◌, List, Bool, true, false, Option, drop, take, length, None, Some, slice_get, refl, sym, ap, subst, ◌∙◌, add-one, arith, rules}
-use Rattle.norec_irrevocable.specs.Moves.{HeldGoesTo}
+use Rattle.std.proofs.Common.{◌≡◌, ℕ, suc, ◌+◌, ◌-◌, true, drop, length, None, Some, refl, sym, ap, subst, ◌∙◌, add-one, arith, rules}
 use Rattle.std.proofs.lemmas.Grind.{common_steps}
 use Rattle.norec_data.specs.View.{call_for}
 use Rattle.norec_core.specs.Core.{Core}
-use Rattle.itm_types.specs.declared.access.Width.{Width}
-use Rattle.itm_types.specs.declared.call.Call.TheVariants.{Read, Copy}
+use Rattle.itm_types.specs.declared.call.Call.TheVariants.{Copy}
 use Rattle.itm_types.specs.declared.call.Reply.{Reply}
-use Rattle.itm_types.specs.declared.call.Reply.TheVariants.{Bytes, Done}
+use Rattle.itm_types.specs.declared.call.Reply.TheVariants.{Done}
 use Rattle.itm_types.specs.declared.copy.CopyPair.{CopyPair}
-use Rattle.itm_types.specs.Access.{size_of}
 use Rattle.itm_types.specs.Slices.{with_slice}
 use Rattle.itm_model.specs.State.{State}
 use Rattle.itm_model.specs.Machine.{target_written, written}
-use Rattle.word_pieces.specs.declared.chunk.Chunk.{Chunk}
 use Rattle.word_pieces.specs.Pieces.{count_of}
 use Rattle.norec_core.specs.declared.phase.Phase.TheVariants.{Idle}
 use Rattle.norec_core.specs.declared.phase.Purpose.{Purpose}
 use Rattle.norec_core.specs.declared.phase.Target.TheVariants as into
-use Rattle.norec_core.specs.Copies.{chunks_in, copy_refusal, is_out, WritesShared}
+use Rattle.norec_core.specs.Copies.{chunks_in, copy_refusal, WritesShared}
 use Rattle.norec_core.specs.Held.{ComesTo, answered, reading as reading_of}
-use Rattle.norec_core.specs.Order.{chunk_from, place_from, read_past}
+use Rattle.norec_core.specs.Order.{place_from, read_past}
 use Rattle.norec_core.specs.OwnAccesses.{chunk_source, access_saved, chunk_saved}
 use Rattle.norec_core.specs.Parts.{copied_each}
-use Rattle.norec_data.specs.Turns.{next_of, phase_after}
+use Rattle.norec_data.specs.Turns.{next_of}
 use Rattle.norec_irrevocable.specs.Outcomes.{held_after, kept, in_call, HeldTurns}
-use Rattle.norec_irrevocable.specs.Phases.{IsServed, is_in}
+use Rattle.norec_irrevocable.specs.Phases.{is_in}
 use Rattle.norec_irrevocable.proofs.ChunkPhases.{few_chunks, read_in_next, read_within_next, steps_in, steps_within, target_in_arena}
 use Rattle.norec_irrevocable.proofs.HeldDone.{read_done}
 use Rattle.norec_irrevocable.proofs.read.whole.Goals as goal

@@ -1,11 +1,10 @@
-use Rattle.std.proofs.Common.{◌≡◌, ℕ, suc, ◌+◌, ◌*◌, ◌%◌, ◌≤◌, List, drop, take, length, Some, slice_get, refl, sym, ap, subst, ◌∙◌, add-one, arith, rules}
+use Rattle.std.proofs.Common.{◌≡◌, ℕ, ◌+◌, ◌%◌, drop, refl, sym, ap, subst, ◌∙◌, add-one, arith, rules}
 use Rattle.std.proofs.lemmas.Grind.{common_steps}
 use Rattle.norec_data.specs.View.{placed_for}
 use Rattle.norec_core.specs.Order.{chunk_from, fill_from, placed_past}
 use Rattle.itm_types.specs.declared.call.Reply.TheVariants.{Done}
 use Rattle.itm_types.specs.Access.{size_of}
 use Rattle.itm_model.specs.State.{State}
-use Rattle.word_pieces.specs.declared.chunk.Chunk.{Chunk}
 use Rattle.word_pieces.specs.declared.chunk.Direction.TheVariants.{Up}
 use Rattle.word_pieces.specs.Chunks.{chunks_of}
 use Rattle.word_pieces.specs.Pieces.{count_of}

@@ -1,10 +1,10 @@
-use Rattle.std.proofs.Common.{◌≡◌, ℕ, zero, suc, ◌+◌, ◌*◌, ◌<◌, ◌≤◌, List, [], drop, Option, None, Some, slice_get, slice_set, refl, sym, ap, subst, ◌∙◌, add-one, arith, inl, inr, rules}
+use Rattle.std.proofs.Common.{◌≡◌, ℕ, suc, ◌+◌, List, [], drop, None, slice_get, slice_set, refl, sym, ap, subst, ◌∙◌, add-one, arith, inl, inr, rules}
 use Rattle.itm_types.specs.declared.call.Reply.TheVariants.{Done}
 use Rattle.itm_types.specs.Memory.{IsMemory}
 use Rattle.itm_types.specs.Slices.{AreBytes}
 use Rattle.itm_model.specs.State.{State}
 use Rattle.word_pieces.specs.declared.piece.Piece.{Piece}
-use Rattle.word_pieces.specs.Pieces.{count_of, pieces_of, written, IsPiece}
+use Rattle.word_pieces.specs.Pieces.{pieces_of, written}
 use Rattle.norec_core.specs.declared.phase.Phase.{Phase}
 use Rattle.norec_core.specs.declared.phase.Phase.TheVariants.{Place}
 use Rattle.norec_core.specs.declared.phase.Writing.{Writing}
@@ -14,10 +14,8 @@ use Rattle.norec_data.specs.declared.data.Data.{Data}
 use Rattle.norec_data.specs.View.{held, step_of}
 use Rattle.norec_core.specs.Order.{place_from, placed_past, placed_piece, placed_value}
 use Rattle.norec_core.specs.Proceeds.{Got}
-use Rattle.norec_data.specs.Turns.{counted, next_of, phase_after}
-use Rattle.norec_data.specs.declared.turn.Turn.TheVariants.{Wait}
-use Rattle.norec_irrevocable.specs.Outcomes.{held_after, kept, Steps}
-use Rattle.norec_irrevocable.specs.Phases.{IsPlacing}
+use Rattle.norec_data.specs.Turns.{counted, next_of}
+use Rattle.norec_irrevocable.specs.Outcomes.{held_after, kept}
 use Rattle.norec_irrevocable.proofs.HeldAccesses.{fits_stored, stores_on}
 use Rattle.norec_irrevocable.proofs.NextPlaces.{next_sound, places_later}
 use Rattle.norec_irrevocable.proofs.PlacedPieces.{is_piece, no_pieces, piece_here, placing_facts}

@@ -1,4 +1,4 @@
-use Rattle.std.proofs.Common.{◌≡◌, List, ℕ, false, subst, Some, sym, ap, refl, ◌∙◌, rules}
+use Rattle.std.proofs.Common.{◌≡◌, ℕ, false, subst, sym, ap, refl, ◌∙◌, rules}
 use Rattle.itm_types.specs.declared.limits.TheConstants.{MAX_OPEN_BLOCKS}
 use Rattle.itm_types.specs.declared.call.Call.TheVariants.{Write}
 use Rattle.itm_types.specs.Access.{size_of}
@@ -7,7 +7,6 @@ use Rattle.itm_model.specs.Machine.{after}
 use Rattle.norec_core.specs.Accesses.{access_refusal}
 use Rattle.norec_data.specs.View.{core_held, in_block}
 use Rattle.norec_irrevocable.specs.Outcomes.{held_after, in_call, kept, HeldTurns}
-use Rattle.norec_irrevocable.proofs.KeptStates.{access_kept}
 use Rattle.itm_types.specs.declared.call.Reply.{Reply}
 use Rattle.itm_types.specs.declared.call.Reply.TheVariants.{Done}
 use Rattle.itm_types.specs.Slices.{AreBytes}
