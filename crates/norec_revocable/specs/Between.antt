@@ -1,5 +1,5 @@
 -- A turn, and what is true of the fields between two steps.
-use Rattle.std.specs.Prelude.{◌≡◌, ℕ, ◌+◌, ◌-◌, ◌*◌, ◌%◌, ◌<◌, ◌≤◌, true, List, [], ◌∷◌, length, take, Option, None, Some}
+use Rattle.std.specs.Prelude.{◌≡◌, ℕ, ◌+◌, ◌-◌, ◌*◌, ◌%◌, ◌<◌, ◌≤◌, List, [], ◌∷◌, length, take, Option, None, Some}
 use Rattle.itm_types.specs.declared.row.LogRow.{LogRow}
 use Rattle.norec_core.specs.declared.phase.Aim.{Aim}
 use Rattle.norec_core.specs.declared.phase.Aim.TheVariants as aims
@@ -19,7 +19,7 @@ use Rattle.itm_types.specs.declared.call.Props.{Props}
 use Rattle.nest_frames.specs.Nest.{Frame, Nest, begun}
 use Rattle.norec_core.specs.Core.{Core}
 use Rattle.norec_core.specs.Accesses.{count, passed}
-use Rattle.norec_data.specs.View.{in_block, core, phase_of}
+use Rattle.norec_data.specs.View.{core, phase_of}
 use Rattle.norec_data.specs.Turns.{counted, Asked}
 use Rattle.norec_revocable.specs.InPhases.{round_of, first_of, IsOpen, Copied, HasSource, IsReading, MayLog, MayTake, Aims, InRound, IsHolding, IsSound}
 use Rattle.norec_data.specs.Bounds.{IsBounded, IsHeld}

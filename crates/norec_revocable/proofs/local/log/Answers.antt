@@ -29,22 +29,22 @@ logged_turn c call by =
       | then-not-is_open w ↦ (
           let shut = sym c.is_open.ensures ∙ w.if-not-is_open.true in
           rw w.end-is (rw w.state-is (refused_as_it_was s call Outside none sound
-              (unlogged_replies s call place size Outside by sound (ap (λ (b : Bool). or_else (unless b Outside) (unless (nat_le (place + size) (length s.arena)) OutOfArena)) shut)))))
+          (unlogged_replies s call place size Outside by sound (ap (λ (b : Bool). or_else (unless b Outside) (unless (nat_le (place + size) (length s.arena)) OutOfArena)) shut)))))
       | else-not-is_open+then-not-contains w ↦ (
           let o = sym c.is_open.ensures ∙ w.if-not-is_open.false in
           let far = not_within (place + size) (length s.arena) w.contains.result w.contains.ensures w.if-not-contains.true in
           rw w.end-is (rw w.state-is (refused_as_it_was s call OutOfArena none sound
-              (unlogged_replies s call place size OutOfArena by sound (λ i. or_else (unless (o i) Outside) (unless (far i) OutOfArena))))))
+          (unlogged_replies s call place size OutOfArena by sound (λ i. or_else (unless (o i) Outside) (unless (far i) OutOfArena))))))
       | else-not-is_open+else-not-contains+in_ok-log w ↦ (
           let o = sym c.is_open.ensures ∙ w.if-not-is_open.false in
           let logs = w.in_ok-log.ensures in
           let kept = subst (λ (frames : Nest). kept_of s.arena (log_of frames.blocks) ≡ also_kept (kept_of s.arena (log_of s.frames.blocks)) s.arena place size) logs.ok logs.kept in
           let is : come (record s { frames = w.log.new.self }) ≡ with_log s (found s.arena place size) = ap (λ (frames : Nest). come (record s { frames = frames })) logs.ok in
           rw w.end-is (rw w.state-is (subst (λ (d : Data). CallTurns s call false (End ends.Done) d) (sym is)
-              (answered s call ends.Done (with_log s (found s.arena place size)) none
-              (record { asked = tt; sound = logged_sound s (found s.arena place size) o sound })
-              (logged_replies s place size o sound (w.contains.ensures.0 w.if-not-contains.false) kept call by)
-              (record { opens = λ yes. o; log = λ yes. refl; snapshot = refl }) tt))))
+          (answered s call ends.Done (with_log s (found s.arena place size)) none
+          (record { asked = tt; sound = logged_sound s (found s.arena place size) o sound })
+          (logged_replies s place size o sound (w.contains.ensures.0 w.if-not-contains.false) kept call by)
+          (record { opens = λ yes. o; log = λ yes. refl; snapshot = refl }) tt))))
     ])
 
 pub returns : goal.returns

@@ -27,8 +27,8 @@ registered_turn c call by =
           let o = sym c.is_open.ensures ∙ w.if-is_open.true in
           let is : come (record s { frames = w.register.new.self }) ≡ with_action s kind action = ap (λ (frames : Nest). come (record s { frames = frames })) w.in_ok-register.ensures.ok in
           rw w.end-is (rw w.state-is (subst (λ (d : Data). CallTurns s call false (End ends.Done) d) (sym is)
-              (answered s call ends.Done (with_action s kind action) none (record { asked = tt; sound = registered_sound s kind action o sound }) (registered_replies s call kind action by o sound)
-              (record { opens = λ yes. yes; log = λ yes. refl; snapshot = refl }) tt))))
+          (answered s call ends.Done (with_action s kind action) none (record { asked = tt; sound = registered_sound s kind action o sound }) (registered_replies s call kind action by o sound)
+          (record { opens = λ yes. yes; log = λ yes. refl; snapshot = refl }) tt))))
       | else-is_open w ↦ (
           let o = sym c.is_open.ensures ∙ w.if-is_open.false in
           rw w.end-is (rw w.state-is (refused_as_it_was s call Outside none sound (unregistered_replies s call kind action by o sound))))
