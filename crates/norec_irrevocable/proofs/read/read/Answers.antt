@@ -26,6 +26,6 @@ returns c = record {
       let t = read_comes s c.requires.held.is_open m mem c.args.hint c.args.width c.args.at l in
       (ap (λ (x : Data). kept x m) c.come.ensures ∙ t.0, ap bytes_reply (λ i. c.new-state.ensures i ++ gathered m (pieces_of c.args.at (c.size-2.ensures.value i))) ∙ t.1)));
   stays = search rules;
-  order = first_of (search rules, grind (arith, common_steps));
+  order = grind (arith, common_steps);
   ends = search rules;
 }

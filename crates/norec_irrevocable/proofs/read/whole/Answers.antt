@@ -91,9 +91,9 @@ returns-in-Value c = record {
       let r = c.args.reading in
       let size = rw c.in-Value.is at c.requires.loaded.purpose in
       rw c.in-Value.is (read_done s c.requires.held.is_open c.in-Value.hint c.in-Value.width r.at s.gathered.items (omega (arith, c.requires.loaded.within, size))));
-  comes = first_of (search rules, grind (arith, common_steps));
+  comes = search rules;
   stays = record { opens = λ o. o; log = λ o. refl; snapshot = refl };
-  order = first_of (search rules, grind (arith, common_steps));
+  order = search rules;
   ends = tt;
 }
 

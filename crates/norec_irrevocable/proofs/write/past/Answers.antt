@@ -60,7 +60,7 @@ returns-in-Value c bytes = record {
       let target = rw c.in-Value.is at c.requires.placed.target in
       let size : w.size ≡ size_of s.value.width = target.1 ∙ ap size_of target.0 in
       rw c.in-Value.is (write_done s c.requires.held.is_open c.in-Value.hint s.value w.at bytes (omega (arith, c.requires.placed.within, size))));
-  comes = first_of (search rules, grind (arith, common_steps));
+  comes = search rules;
   stays = record { opens = λ o. o; log = λ o. refl; snapshot = refl };
   order = sym (ap placed_past c.in-Value.is);
   ends = tt;

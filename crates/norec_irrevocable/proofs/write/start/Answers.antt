@@ -32,9 +32,9 @@ returns-clause-goes c bytes past same = record {
         spent = omega (arith, may.spent, may.first);
       })
       next);
-  proceeds = first_of (search rules, grind (arith, common_steps));
-  comes = first_of (search rules, grind (arith, common_steps));
+  proceeds = search rules;
+  comes = search rules;
   stays = record { opens = λ o. o; log = λ o. refl; snapshot = refl };
-  order = first_of (search rules, grind (arith, common_steps));
-  ends = first_of (search rules, grind (arith, common_steps));
+  order = search rules;
+  ends = search rules;
 }

@@ -1,5 +1,7 @@
-use Rattle.std.proofs.Common.{◌≡◌, ℕ, List, [], ◌∷◌, ◌++◌, Some, length, slice_get, take, sym, ap, subst, ◌∙◌, arith, rules}
-use Rattle.std.proofs.lemmas.Grind.{common_steps}
+use Rattle.std.proofs.Common.{◌≡◌, ℕ, List, [], ◌∷◌, ◌++◌, Some, length, slice_get, take, sym, ap, subst, ◌∙◌, arith, ◌==◌, eq-eqb, Option}
+use Rattle.std.proofs.lemmas.Bool.{cond-true}
+use Rattle.norec_core.specs.declared.answer.Answer.{Answer}
+use Rattle.norec_data.specs.Turns.{TurnEndsSo}
 use Rattle.std.proofs.lemmas.List.{length-append}
 use Rattle.std.specs.Prelude.{slice_index}
 use Rattle.itm_types.specs.declared.row.LogRow.{LogRow}
@@ -94,27 +96,22 @@ go_past-requires c =
     }
 
 pub returns-in-Some-piece : goal.returns-in-Some-piece
-returns-in-Some-piece c = record {
-  sound = search rules;
-  proceeds = search rules;
-  joins =
-      (let s = c.args.state.now in
-      let same = ap (λ (x : Piece). x.word) (part_is s.reading c.in-Some-piece.piece (sym c.piece.ensures.value ∙ c.in-Some-piece.is)) in
-      let added = c.add.ensures.rows ∙ ap (with_row s.log.rows c.args.value) same in
-      let stays = c.go_past.ensures.goes.stays in
-      joins s c.args.value c.args.seen c.add.new.self c.requires.sound c.if-seen-state.true added c.go_past.result c.go_past.new.state stays.log stays.snapshot);
-  order =
-      (let s = c.args.state.now in
-      let same = ap (λ (x : Piece). x.word) (part_is s.reading c.in-Some-piece.piece (sym c.piece.ensures.value ∙ c.in-Some-piece.is)) in
-      let added = c.add.ensures.rows ∙ ap (with_row s.log.rows c.args.value) same in
-      c.go_past.ensures.goes.order ∙ stage_joined s c.args.value c.args.seen c.add.new.self c.requires.sound c.if-seen-state.true added);
-  ends = first_of (search rules, grind (arith, common_steps));
-  tries = search rules;
-  snapshot = search rules;
-  log =
-      (λ o.
-      (let s = c.args.state.now in
-      let same = ap (λ (x : Piece). x.word) (part_is s.reading c.in-Some-piece.piece (sym c.piece.ensures.value ∙ c.in-Some-piece.is)) in
-      let added = c.add.ensures.rows ∙ ap (with_row s.log.rows c.args.value) same in
-      c.go_past.ensures.goes.stays.log o ∙ log_joined s c.args.value c.args.seen c.add.new.self c.requires.sound c.if-seen-state.true added));
-}
+returns-in-Some-piece c =
+    let s = c.args.state.now in
+    let same = ap (λ (x : Piece). x.word) (part_is s.reading c.in-Some-piece.piece (sym c.piece.ensures.value ∙ c.in-Some-piece.is)) in
+    let added = c.add.ensures.rows ∙ ap (with_row s.log.rows c.args.value) same in
+    record {
+      sound = c.go_past.ensures.goes.sound;
+      proceeds = c.go_past.ensures.proceeds s.log.rows;
+      joins =
+          (let stays = c.go_past.ensures.goes.stays in
+          joins s c.args.value c.args.seen c.add.new.self c.requires.sound c.if-seen-state.true added c.go_past.result c.go_past.new.state stays.log stays.snapshot);
+      order =
+          (c.go_past.ensures.goes.order ∙ stage_joined s c.args.value c.args.seen c.add.new.self c.requires.sound c.if-seen-state.true added);
+      ends = subst (λ (so : Option Answer). TurnEndsSo so c.go_past.result c.go_past.new.state) (sym (cond-true (c.args.seen == c.args.state.now.snapshot) _ _ (eq-eqb c.args.seen c.args.state.now.snapshot c.if-seen-state.true))) c.go_past.ensures.goes.ends;
+      tries = c.go_past.ensures.goes.tries;
+      snapshot = c.go_past.ensures.goes.stays.snapshot;
+      log =
+          (λ o.
+          (c.go_past.ensures.goes.stays.log o ∙ log_joined s c.args.value c.args.seen c.add.new.self c.requires.sound c.if-seen-state.true added));
+    }

@@ -91,7 +91,7 @@ returns-in_ok-reserve-in-Some-take_had c = record {
       ((λ i. record { purpose = for.Value hint width; at = c.args.at; size = c.size-2.ensures.value i; number = next.number }) ∙ sym c.set_value.ensures)
       (subst (λ (d : Data). IsSoundTurn (Wait waits.Load) (record d { reading = next })) (sym is)
       (load_sound (ready s g log) first next on (omega arith) sound.bounds (ready_open s hint width c.args.at sound may.0 within small g log rows) read (settled s hint width c.args.at sound may.0 within small) (omega arith))));
-  proceeds = first_of (search rules, grind (arith, common_steps));
+  proceeds = grind (arith, common_steps);
   stays = search rules;
   order =
       (let s = c.args.state.now in

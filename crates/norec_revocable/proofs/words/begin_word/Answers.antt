@@ -21,7 +21,7 @@ returns-clause-called c = record {
       subst (λ (r : Reading). IsSoundTurn (Wait waits.Load) (record c.start.new.state { reading = r })) (sym c.set_value.ensures)
       (subst (λ (d : Data). IsSoundTurn (Wait waits.Load) (record d { reading = value_reading c.args.hint c.args.width c.args.at })) (sym is)
       (starts s c.args.hint c.args.width c.args.at c.in_ok-word.word c.in_ok-word.ensures c.requires.sound g log c.reserve.ensures.rows c.new-state.ensures c.in-Ok.ensures.ok)));
-  proceeds = first_of (search rules, grind (arith, common_steps));
+  proceeds = grind (arith, common_steps);
   stays = search rules;
   order = search rules;
   ends = tt;
