@@ -12,3 +12,5 @@ pub mod StepToStep
 pub mod CallResults
 pub mod ThreadUndone
 pub mod WordReads
+pub mod NumberAnswers
+pub mod Examples

@@ -1,0 +1,13 @@
+use Rattle.std.proofs.Common.{sym, subst}
+use Rattle.itm_types.specs.declared.access.ReadHint.TheVariants.{R}
+use Rattle.norec_core.specs.declared.answer.Answer.{Answer}
+use Rattle.shared_words.specs.Passes.{view_of}
+use Rattle.itm_runtime.specs.Stops.{HasNumber}
+use Rattle.itm_runtime.proofs.NumberAnswers.{read_number}
+use Rattle.itm_runtime.proofs.thread.Thread.read_u64.Goals as goal
+
+pub number_in-requires : goal.number_in-requires
+number_in-requires c =
+    let t = c.read.new.self in
+    subst HasNumber (sym c.in_ok-answer.ensures.ok)
+    (read_number c.args.self.now R c.args.at c.in_ok-read.field-0 (view_of t.pass) t.engine c.in_ok-read.ensures.served c.in_ok-answer.ensures.goes_on)

@@ -1,0 +1,89 @@
+//! An engine that is driven by hand, over cells that no other thread has.
+
+use crate::tests::helpers::{BEGIN, DONE, IN, read, word, write};
+use itm_types::{Call, Limits, MAX_COMMITS, Step};
+use norec_core::{Answer, Next};
+use norec_engine::Engine;
+use std::alloc::{AllocError, Global};
+use std::process::Abort;
+use undo_log::Arena;
+
+/// More steps than any call of the test takes.
+const STEPS: u32 = 100;
+
+const LIMITS: Limits = Limits {
+    patience: 8,
+    retries: 0,
+    max_commits: MAX_COMMITS,
+};
+
+/// Does a step on the clock and the words, which follow it in order; the value that it found.
+fn step_on(rt: &impl Abort, cells: &mut [u64], step: Step) -> u64 {
+    let (Step::Load(cell) | Step::Store(cell, _) | Step::Cas(cell, _, _)) = step;
+    let cell = cell as usize;
+    assert!(rt; cell < cells.len());
+    let found = cells[cell];
+    match step {
+        Step::Load(_) => found,
+        Step::Store(_, new) => {
+            cells[cell] = new;
+            0
+        }
+        Step::Cas(_, old, new) => {
+            if found == old {
+                cells[cell] = new;
+            }
+            found
+        }
+    }
+}
+
+/// Does the steps of a call, from what it gave first, up to its answer.
+fn drive(rt: &impl Abort, engine: &mut Engine, cells: &mut [u64], first: Next) -> Answer {
+    let mut next = first;
+    for _ in 0..STEPS {
+        match next {
+            Next::Answer(answer) => return answer,
+            Next::Step(step) => {
+                let seen = step_on(rt, cells, step);
+                assert!(rt; engine.waits());
+                assert!(rt; engine.fits(seen));
+                next = engine.resume(seen);
+            }
+        }
+    }
+    panic!(rt; "more steps than a call takes")
+}
+
+/// A call is answered so.
+fn ask(
+    rt: &impl Abort,
+    engine: &mut Engine,
+    cells: &mut [u64],
+    call: &Call,
+    answer: &Answer,
+) -> Result<(), AllocError> {
+    assert!(rt; !engine.waits());
+    let first = engine.call(call)?;
+    assert_eq!(rt; drive(rt, engine, cells, first), *answer, "{call:?}");
+    Ok(())
+}
+
+/// A transaction adds 1 to the second of two words.
+fn add_one(rt: &impl Abort, alloc: Global, cells: &mut [u64; 3]) -> Result<(), AllocError> {
+    let mut engine = Engine::new(alloc, 2, Arena::new(alloc, 0)?, LIMITS);
+    let engine = &mut engine;
+    ask(rt, engine, cells, &BEGIN, &IN)?;
+    ask(rt, engine, cells, &read(8), &word(41))?;
+    ask(rt, engine, cells, &write(8, 42), &DONE)?;
+    let ends = Answer::Committed { at: 3, wrote: true };
+    ask(rt, engine, cells, &Call::Commit, &ends)
+}
+
+#[test]
+fn by_hand(rt: HostRuntime) {
+    // three have committed before
+    let mut cells = [6, 40, 41];
+    assert!(rt; add_one(&rt, rt.alloc(), &mut cells).is_ok());
+    assert_eq!(rt; cells, [8, 40, 42]);
+}
