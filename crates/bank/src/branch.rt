@@ -1,11 +1,12 @@
 //! The accounts, and the tellers that share them.
 
 ghost use Rattle.std.specs.Thread.{IsSync};
-ghost use Rattle.std.specs.Prelude.{◌≡◌, ◌<◌, ◌+◌, false, IfOk};
-ghost use Rattle.shared_words.specs.Passes.{Owns, view_of};
+ghost use Rattle.std.specs.Prelude.{◌≡◌, ◌<◌, ◌+◌, ◌*◌, IfOk};
+ghost use Rattle.shared_words.specs.Passes.{view_of};
+ghost use Rattle.bank.specs.Tellers.{HaveServed, IsReady, ended};
 
 use crate::fault::Fault;
-use crate::teller::{ACCOUNTS, Served, Tally, serve};
+use crate::teller::{ACCOUNTS, Served, TRANSFERS, Tally, serve};
 use itm_types::get_word;
 use shared_words::{Pass, Words};
 use std::alloc::{AllocError, Global};
@@ -44,15 +45,14 @@ fn sum_of(bytes: &[u8]) -> u64 {
     sum
 }
 
-/// What two tellers came to, as if one had been there. Their passes are joined.
-fn joined(words: &Words, first: Served, second: Served) -> Served
-    requires first { IfOk first (λ r. Owns words.now r.0 × ((view_of r.0).holds ≡ false)) }
-    requires second { IfOk second (λ r. Owns words.now r.0 × ((view_of r.0).holds ≡ false)) }
-    ensures own { IfOk result (λ r. Owns words.now r.0) }
-    ensures idle { IfOk result (λ r. (view_of r.0).holds ≡ false) }
+/// What a teller and so many others came to, as if one had been there. Their passes are joined.
+fn joined(words: &Words, own: Served, rest: Served, more: u8) -> Served
+    requires own { IfOk own (HaveServed words.now 1) }
+    requires rest { IfOk rest (HaveServed words.now more) }
+    ensures { IfOk result (HaveServed words.now (more + 1)) }
 {
-    let (mut pass, mine) = first?;
-    let (other, theirs) = second?;
+    let (mut pass, mine) = own?;
+    let (other, theirs) = rest?;
     words.join(&mut pass, other);
     Ok((pass, mine.and(theirs)))
 }
@@ -65,11 +65,9 @@ fn serve_all<R: Threads + Sync>(
     pass: Pass,
     more: u8,
 ) -> Served
-    requires own { Owns words.now pass }
-    requires idle { (view_of pass).holds ≡ false }
+    requires ready { IsReady words.now pass }
     requires room { more < (view_of pass).share }
-    ensures own { IfOk result (λ r. Owns words.now r.0) }
-    ensures idle { IfOk result (λ r. (view_of r.0).holds ≡ false) }
+    ensures { IfOk result (HaveServed words.now (more + 1)) }
 {
     if more == 0 {
         return serve(alloc, words, pass);
@@ -79,19 +77,22 @@ fn serve_all<R: Threads + Sync>(
     let (mine, theirs) = join(
         rt,
         move || -> Served
-            requires { Owns words.now own × ((view_of own).holds ≡ false) }
-            ensures { IfOk result (λ r. Owns words.entry.now r.0 × ((view_of r.0).holds ≡ false)) }
+            requires { IsReady words.now own }
+            ensures { IfOk result (HaveServed words.entry.now 1) }
         { serve(alloc, words, own) },
         move || -> Served
-            requires { IsSync R.row × Owns words.now rest × ((view_of rest).holds ≡ false) × (0 < more) × (more < (view_of rest).share + 1) }
-            ensures { IfOk result (λ r. Owns words.entry.now r.0 × ((view_of r.0).holds ≡ false)) }
+            requires { IsSync R.row × IsReady words.now rest × (0 < more) × (more < (view_of rest).share + 1) }
+            ensures { IfOk result (HaveServed words.entry.now more) }
         { serve_all(rt, alloc, words, rest, more - 1) },
     );
-    joined(words, mine, theirs)
+    joined(words, mine, theirs, more)
 }
 
 /// The tellers work for a day, and what is told of it is right.
-pub fn open_for_a_day<R: Threads + AllocGlobal + Sync>(rt: &R) -> Result<Day, Fault> {
+pub fn open_for_a_day<R: Threads + AllocGlobal + Sync>(rt: &R) -> Result<Day, Fault>
+    ensures all { IfOk result (λ day. ended day.tally ≡ TELLERS * TRANSFERS) }
+    ensures sum { IfOk result (λ day. day.sum ≡ START * ACCOUNTS) }
+{
     let alloc = rt.alloc();
     let mut bytes = accounts(alloc)?;
     let (words, pass) = Words::new(alloc, bytes.as_slice())?;

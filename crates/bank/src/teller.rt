@@ -1,12 +1,13 @@
 //! One thread of the program, which makes the transfers of one teller.
 
-ghost use Rattle.std.specs.Prelude.{◌≡◌, false, IfOk};
-ghost use Rattle.shared_words.specs.Passes.{Owns, view_of};
+ghost use Rattle.std.specs.Prelude.{◌≡◌, ◌+◌, ◌<◌, ◌^◌, IfOk};
+ghost use Rattle.shared_words.specs.Passes.{Owns};
+ghost use Rattle.bank.specs.Tellers.{HaveServed, IsReady, ended};
 
 use crate::fault::Fault;
 use crate::transfer::{Outcome, RECEIPT, Transfer, make};
 use itm_runtime::Thread;
-use itm_types::{Limits, MAX_COMMITS};
+use itm_types::{Limits, MAX_COMMITS, Ran};
 use shared_words::{Pass, Words};
 use std::alloc::Global;
 use undo_log::Arena;
@@ -41,10 +42,13 @@ pub struct Tally {
 
 impl Tally {
     /// What two did.
-    pub fn and(self, other: Tally) -> Tally {
+    pub fn and(self, other: Tally) -> Tally
+        requires { ended self + ended other < 2 ^ 64 }
+        ensures { ended result ≡ ended self + ended other }
+    {
         Tally {
-            made: self.made.saturating_add(other.made),
-            cancelled: self.cancelled.saturating_add(other.cancelled),
+            made: self.made + other.made,
+            cancelled: self.cancelled + other.cancelled,
             receipts: self.receipts.saturating_add(other.receipts),
             moved: self.moved.saturating_add(other.moved),
         }
@@ -62,21 +66,23 @@ fn transfer_of(number: u64) -> Transfer {
     Transfer { from, to, amount }
 }
 
-/// Runs the commit actions that are due: counts the receipts.
-fn count_receipts(thread: &mut Thread, tally: &mut Tally) {
-    for ran in thread.due() {
+/// Runs the actions that are due: counts the receipts.
+fn count_receipts(due: &[Ran], tally: &mut Tally)
+    ensures { ended tally.new ≡ ended tally.old }
+{
+    for ran in due {
         if ran.action.fun == RECEIPT {
             tally.receipts = tally.receipts.saturating_add(1);
             tally.moved = tally.moved.saturating_add(ran.action.arg);
         }
     }
-    thread.clear_due();
 }
 
 /// Makes all transfers of a teller.
 fn make_all(words: &Words, thread: &mut Thread) -> Result<Tally, Fault>
     requires own { Owns words.now thread.old.pass }
     ensures own { Owns words.now thread.new.pass }
+    ensures all { IfOk result (λ tally. ended tally ≡ TRANSFERS) }
 {
     let mut tally = Tally::default();
     for number in 0..TRANSFERS {
@@ -84,17 +90,16 @@ fn make_all(words: &Words, thread: &mut Thread) -> Result<Tally, Fault>
             Outcome::Made => tally.made += 1,
             Outcome::Cancelled => tally.cancelled += 1,
         }
-        count_receipts(thread, &mut tally);
+        count_receipts(thread.due(), &mut tally);
+        thread.clear_due();
     }
     Ok(tally)
 }
 
 /// A teller, with its own pass, which comes back.
 pub fn serve(alloc: Global, words: &Words, pass: Pass) -> Served
-    requires own { Owns words.now pass }
-    requires idle { (view_of pass).holds ≡ false }
-    ensures own { IfOk result (λ r. Owns words.now r.0) }
-    ensures idle { IfOk result (λ r. (view_of r.0).holds ≡ false) }
+    requires { IsReady words.now pass }
+    ensures { IfOk result (HaveServed words.now 1) }
 {
     let arena = Arena::new(alloc, 0)?;
     let mut thread = Thread::new(alloc, words, pass, arena, LIMITS);

@@ -1,0 +1,6 @@
+use Rattle.std.proofs.Common.{◌≡◌}
+use Rattle.bank.specs.Tellers.{ended}
+use Rattle.bank.proofs.teller.count_receipts.Given as goal
+
+abbrev pub invariant-loop-ran : goal.invariant-loop-ran
+invariant-loop-ran l = ended l.tally ≡ ended l.fn.tally
