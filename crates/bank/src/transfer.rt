@@ -1,6 +1,7 @@
 //! One transaction: an amount goes from one account to another.
 
-ghost use Rattle.std.specs.Prelude.{◌≡◌};
+ghost use Rattle.std.specs.Prelude.{◌≡◌, false, OnErr};
+ghost use Rattle.norec_core.specs.Core.{in_transaction};
 ghost use Rattle.shared_words.specs.Passes.{Owns};
 
 use crate::fault::Fault;
@@ -73,24 +74,33 @@ fn try_once(
     Ok(Outcome::Made)
 }
 
-/// Makes or cancels the transfer, however often it has to be tried. After an error no transaction is open.
+/// Rolls back what is open, and tells why.
+fn give_up(thread: &mut Thread, why: Fault) -> Result<Outcome, Fault>
+    ensures pass { thread.new.pass ≡ thread.old.pass }
+    ensures closed { thread.new.engine.irrevocable ≡ false → in_transaction thread.new.engine ≡ false }
+    ensures err { result ≡ Err why }
+{
+    thread.abort();
+    Err(why)
+}
+
+/// Makes or cancels the transfer, however often it has to be tried. After an error no transaction is open, unless one is
+/// irrevocable.
 pub fn make(words: &Words, thread: &mut Thread, transfer: Transfer) -> Result<Outcome, Fault>
     requires own { Owns words.now thread.old.pass }
     ensures own { Owns words.now thread.new.pass }
+    ensures closed { OnErr result (thread.new.engine.irrevocable ≡ false → in_transaction thread.new.engine ≡ false) }
 {
     let mut again = false;
     for _ in 0..u64::MAX {
         match try_once(words, thread, transfer, again) {
             Ok(outcome) => return Ok(outcome),
-            // it is rolled back already
+            // it is rolled back
             Err(Stop::Conflict { .. }) => again = true,
             // it did not begin
             Err(Stop::Busy { .. }) => spin_loop(),
-            Err(stop) => {
-                thread.abort();
-                return Err(Fault::Stopped(stop));
-            }
+            Err(stop) => return give_up(thread, Fault::Stopped(stop)),
         }
     }
-    Err(Fault::Tries)
+    give_up(thread, Fault::Tries)
 }

@@ -1,5 +1,5 @@
 -- Worked cases of the definitions in `Stops.antt`.
-use Rattle.std.proofs.Common.{◌≡◌, List, [], ◌∷◌, None, Some, Ok, Err, refl}
+use Rattle.std.proofs.Common.{◌≡◌, [], ◌∷◌, None, Some, Ok, Err, refl}
 use Rattle.itm_types.specs.declared.call.Refusal.TheVariants.{OutOfRange}
 use Rattle.itm_types.specs.declared.call.Reply.TheVariants.{Bytes, Done, Refused}
 use Rattle.norec_core.specs.declared.answer.Answer.TheVariants.{Reply, Conflict}

@@ -14,7 +14,7 @@ use Rattle.itm_types.specs.declared.call.Call.TheVariants.{Commit, Read, Write}
 use Rattle.itm_types.specs.declared.call.Refusal.{Refusal}
 use Rattle.itm_types.specs.declared.call.Refusal.TheVariants.{OutOfRange}
 use Rattle.itm_types.specs.declared.call.Reply.{Reply as Replied}
-use Rattle.itm_types.specs.declared.call.Reply.TheVariants.{Bytes, Done, Refused}
+use Rattle.itm_types.specs.declared.call.Reply.TheVariants.{Done}
 use Rattle.itm_types.specs.declared.limits.TheConstants.{MAX_OPEN_BLOCKS}
 use Rattle.itm_types.specs.Slices.{slice}
 use Rattle.itm_model.specs.Machine.{bytes_reply, or_else, ranges, refusal, reply_unless, standing, unless}
@@ -26,7 +26,7 @@ use Rattle.norec_core.specs.Core.{Core}
 use Rattle.norec_core.specs.Stands.{stands_for}
 use Rattle.shared_words.specs.declared.view.View.{View}
 use Rattle.itm_runtime.specs.declared.stop.Stop.TheVariants as stops
-use Rattle.itm_runtime.specs.Served.{Served, Start, came_over}
+use Rattle.itm_runtime.specs.Served.{Served, came_over}
 use Rattle.itm_runtime.specs.Standing.{Standing, start_of}
 use Rattle.itm_runtime.specs.Stops.{GoesOn, HasNumber, bytes_of_number, number}
 

@@ -1,6 +1,5 @@
 use Rattle.std.proofs.Common.{sym, subst}
 use Rattle.itm_types.specs.declared.access.ReadHint.TheVariants.{R}
-use Rattle.norec_core.specs.declared.answer.Answer.{Answer}
 use Rattle.shared_words.specs.Passes.{view_of}
 use Rattle.itm_runtime.specs.Stops.{HasNumber}
 use Rattle.itm_runtime.proofs.NumberAnswers.{read_number}
