@@ -1,4 +1,4 @@
-use Rattle.std.proofs.Common.{◌≡◌, Bool, true, false, absurd, if◌then◌else◌, refl, sym, ap, ◌∙◌}
+use Rattle.std.proofs.Common.{◌≡◌, Bool, true, false, if◌then◌else◌, refl, sym, ap, ◌∙◌}
 use Rattle.norec_core.specs.Core.{Core, in_transaction, rolled_back}
 use Rattle.norec_core.specs.Undoing.{after_undoing}
 use Rattle.norec_core.specs.declared.phase.Phase.TheVariants.{Idle}
