@@ -51,21 +51,21 @@ returns-then-is_open-2-clause-recorded g c was d =
     let opened : in_transaction a.engine ≡ true = sym c.is_open-is_open.ensures ∙ c.if-is_open-2.true in
     let none : a.pending ≡ None = sym c.in-None.ensures.value in
     let open_before : was ≡ true = was_open was (in_transaction a.engine) (g.P.Player.depth a.player) (length a.engine.blocks) c.args.call c.args.reply d.nested.deep (deep_of a.engine.blocks) (λ e. sym (d.in_call.begins e) ∙ ap is_some none) d.fits.0 opened in
+    let changed = changed_then r c.add.new.self c.run.new.self a.thread (λ row. record row { calls = grown row.calls (record { call = c.args.call; reply = c.args.reply }) c.args.self.now.ahead }) (λ row. record row { ran = c.due.result.now }) (λ x. refl) c.add.ensures.added c.run.ensures.ran in
     let h : HasRow true r a.thread = subst (λ (b : Bool). HasRow b r a.thread) open_before d.kept.row in
     record {
       done =
           after_reply g.P.Player g.met.P.Player.laws r c.run.new.self a c.args.call
           was c.args.reply d c.answer.new.self c.answer.ensures c.add.new.spare a.end_room c.run.new.spare c.add.ensures.empty c.taken.new.pending c.taken.ensures.after a.again
           (row_changed r c.run.new.self a.thread (in_transaction a.engine) (λ row. record row { calls = grown row.calls (record { call = c.args.call; reply = c.args.reply }) c.args.self.now.ahead; ran = c.due.result.now }) (λ x. refl) (λ x. refl)
-          (changed_then r c.add.new.self c.run.new.self a.thread (λ row. record row { calls = grown row.calls (record { call = c.args.call; reply = c.args.reply }) c.args.self.now.ahead }) (λ row. record row { ran = c.due.result.now }) (λ x. refl) c.add.ensures.added c.run.ensures.ran) h opened);
+          changed h opened);
       tells =
-          let rows = (changed_then r c.add.new.self c.run.new.self a.thread (λ row. record row { calls = grown row.calls (record { call = c.args.call; reply = c.args.reply }) c.args.self.now.ahead }) (λ row. record row { ran = c.due.result.now }) (λ x. refl) c.add.ensures.added c.run.ensures.ran)
-          ∙ ap (λ (ran : List Ran). with_changed a.thread (λ row. record row { calls = grown row.calls (record { call = c.args.call; reply = c.args.reply }) c.args.self.now.ahead; ran = ran }) r) c.due.ensures in
+          let rows = changed ∙ ap (λ (ran : List Ran). with_changed a.thread (λ row. record row { calls = grown row.calls (record { call = c.args.call; reply = c.args.reply }) c.args.self.now.ahead; ran = ran }) r) c.due.ensures in
           subst (λ (b : Bool). RecordsReply g.P.Player b (in_transaction a.engine) r c.run.new.self a (record a { player = c.answer.new.self; spare = c.add.new.spare; cancel_room = c.run.new.spare; pending = c.taken.new.pending }) c.args.call c.args.reply) (sym open_before)
           (subst (λ (n : Bool). RecordsReply g.P.Player true n r c.run.new.self a (record a { player = c.answer.new.self; spare = c.add.new.spare; cancel_room = c.run.new.spare; pending = c.taken.new.pending }) c.args.call c.args.reply) (sym opened) (rows, c.answer.ensures, refl, refl, refl));
       others =
-          others_changed c.args.self.now _ c.args.recorded.now c.run.new.self (λ row. record row { calls = grown row.calls (record { call = c.args.call; reply = c.args.reply }) c.args.self.now.ahead; ran = c.due.result.now }) (λ x. refl) refl
-          (c.taken.ensures.after ∙ sym (sym c.in-None.ensures.value)) (changed_then c.args.recorded.now c.add.new.self c.run.new.self c.args.self.now.thread (λ row. record row { calls = grown row.calls (record { call = c.args.call; reply = c.args.reply }) c.args.self.now.ahead }) (λ row. record row { ran = c.due.result.now }) (λ x. refl) c.add.ensures.added c.run.ensures.ran);
+          others_changed a _ r c.run.new.self (λ row. record row { calls = grown row.calls (record { call = c.args.call; reply = c.args.reply }) c.args.self.now.ahead; ran = c.due.result.now }) (λ x. refl) refl
+          (c.taken.ensures.after ∙ c.in-None.ensures.value) changed;
     }
 
 -- no transaction was open, nor is one now
@@ -100,7 +100,7 @@ returns-then-has_open-clause-recorded g c was d =
       tells = search rules;
       others =
           others_ended a c.close.new.self c.args.recorded.now c.close.new.recorded h.0 _ h.1 refl (ap (λ (x : Actor g.row.P.Denot). x.thread) c.close.ensures.actor)
-          (ap (λ (x : Actor g.row.P.Denot). x.pending) c.close.ensures.actor ∙ (c.taken.ensures.after ∙ sym (sym c.in-None.ensures.value))) (c.close.ensures.ended h.0 h.1);
+          (ap (λ (x : Actor g.row.P.Denot). x.pending) c.close.ensures.actor ∙ (c.taken.ensures.after ∙ c.in-None.ensures.value)) (c.close.ensures.ended h.0 h.1);
     }
 
 no_length : (xs : List Ran) → length xs ≡ 0 → xs ≡ []
