@@ -1,3 +1,4 @@
 pub mod Ended
 pub mod CallsInProgress
 mod OptionalRefusals
+pub mod RefusedAccesses

@@ -1,18 +1,16 @@
 -- Calls of an irrevocable transaction that are refused, and what is said of those that make another one irrevocable.
-use Rattle.std.proofs.Common.{◌≡◌, ℕ, ◌+◌, ◌*◌, ◌&&◌, nat_le, Bool, true, false, List, length, Option, None, Some, refl, sym, ap, subst, ◌∙◌, inl, inr, if◌then◌else◌}
-use Rattle.std.proofs.lemmas.Bool.{cases_Bool, cond-false, cond-true}
+use Rattle.std.proofs.Common.{◌≡◌, ℕ, Bool, true, false, List, length, Option, None, Some, refl, sym, ap, subst, ◌∙◌, if◌then◌else◌}
+use Rattle.std.proofs.lemmas.Bool.{cond-false, cond-true}
 use Rattle.std.specs.Prelude.{is_none}
 use Rattle.itm_types.specs.declared.call.Call.{Call}
-use Rattle.itm_types.specs.declared.call.Call.TheVariants.{Begin, Copy, Fill, Mode, Read, Write}
+use Rattle.itm_types.specs.declared.call.Call.TheVariants.{Begin, Copy, Mode}
 use Rattle.itm_types.specs.declared.call.Copying.{Copying}
 use Rattle.itm_types.specs.declared.call.Props.{Props}
 use Rattle.itm_types.specs.declared.call.Refusal.{Refusal}
-use Rattle.itm_types.specs.declared.call.Refusal.TheVariants.{OutOfRange}
 use Rattle.itm_types.specs.declared.limits.TheConstants.{MAX_OPEN_BLOCKS}
-use Rattle.itm_types.specs.Access.{size_of}
 use Rattle.itm_types.specs.Calls.{access_of}
 use Rattle.itm_types.specs.Memory.{IsMemory}
-use Rattle.itm_model.specs.Machine.{refusal, unless}
+use Rattle.itm_model.specs.Machine.{refusal}
 use Rattle.norec_core.specs.declared.answer.Answer.{Answer}
 use Rattle.norec_core.specs.declared.phase.Phase.TheVariants.{Idle}
 use Rattle.norec_core.specs.declared.phase.Taking.TheVariants as takings
@@ -20,6 +18,7 @@ use Rattle.norec_core.specs.Accesses.{access_refusal}
 use Rattle.norec_core.specs.Copies.{copy_refusal}
 use Rattle.norec_core.specs.Endings.{ending_at, going_ending}
 use Rattle.norec_core.specs.Order.{going_stage, stage_at}
+use Rattle.norec_data.proofs.RefusedAccesses.{access_ending, refused_stage}
 use Rattle.norec_data.specs.declared.data.Data.{Data}
 use Rattle.norec_data.specs.declared.end.End.TheVariants as ends
 use Rattle.norec_data.specs.declared.turn.Turn.TheVariants.{Enter}
@@ -70,34 +69,10 @@ module _ (d : Data) (call : Call) (why : Refusal) (h : IsHeld d) (refused : (m :
   refused_turn new is = subst (λ (x : Data). HeldCallTurns d call (Enter ends.Refused) (record x { why = why })) (sym is) denied_turn
 
 -- accesses
-unserved : (is_open : Bool) (words place size : ℕ) (why : Refusal) → access_refusal is_open words place size ≡ Some why → (is_open && nat_le (place + size) (8 * words)) ≡ false
-unserved false words place size why e = refl
-unserved true words place size why e = elim (cases_Bool (nat_le (place + size) (8 * words))) [
-  | inl within ↦ (let none : Some why ≡ None = sym e ∙ ap (λ (b : Bool). unless b OutOfRange) within in absurd (cc))
-  | inr far ↦ far
-]
-
-refused_here : (d : Data) (a b place size : ℕ) (why : Refusal) → ◌≡◌ {A = Option (ℕ × ℕ)} (Some (a, b)) (Some (place, size)) → access_refusal (in_block d) d.words place size ≡ Some why → (in_block d && nat_le (a + b) (8 * d.words)) ≡ false
-refused_here d a b place size why is e =
-    let same : ◌≡◌ {A = ℕ × ℕ} (a, b) (place, size) = cc in
-    unserved (in_block d) d.words a b why ((λ i. access_refusal (in_block d) d.words (same i).0 (same i).1) ∙ e)
-
-access_stage : (d : Data) (call : Call) (place size : ℕ) (why : Refusal) → access_of call ≡ Some (place, size) → access_refusal (in_block d) d.words place size ≡ Some why → stage_at (core_held d) call false ≡ Idle
-access_stage d (Read hint width at) place size why is e = cond-false (in_block d && nat_le (at + size_of width) (8 * d.words)) _ _ (refused_here d at (size_of width) place size why is e)
-access_stage d (Write hint at value) place size why is e = cond-false (in_block d && nat_le (at + size_of value.width) (8 * d.words)) _ _ (refused_here d at (size_of value.width) place size why is e)
-access_stage d (Fill hint to byte bytes) place size why is e = cond-false (in_block d && nat_le (to + bytes) (8 * d.words)) _ _ (refused_here d to bytes place size why is e)
-access_stage d call place size why is e = absurd (cc)
-
-access_ending : (d : Data) (call : Call) (place size : ℕ) → access_of call ≡ Some (place, size) → ending_at (core_held d) call ≡ None
-access_ending d (Read hint width at) place size is = refl
-access_ending d (Write hint at value) place size is = refl
-access_ending d (Fill hint to byte bytes) place size is = refl
-access_ending d call place size is = absurd (cc)
-
 pub refused_access : (d : Data) (call : Call) (why : Refusal) (place size : ℕ) (new : Data) → IsHeld d → access_of call ≡ Some (place, size) → access_refusal (in_block d) d.words place size ≡ Some why → new ≡ record d { spent = 0; entry = length d.log.rows }
     → HeldCallTurns d call (Enter ends.Refused) (record new { why = why })
 refused_access d call why place size new h is e came =
-    refused_turn d call why h (λ m mem. access_kept d.frames.blocks d.arena d.frames.actions m d.words mem call place size is ∙ e) (access_stage d call place size why is e) (access_ending d call place size is) new came
+    refused_turn d call why h (λ m mem. access_kept d.frames.blocks d.arena d.frames.actions m d.words mem call place size is ∙ e) (refused_stage (core_held d) place size why e call is) (access_ending (core_held d) call place size is) new came
 
 pub refused_copy : (d : Data) (k : Copying) (why : Refusal) (new : Data) → IsHeld d → copy_refusal (in_block d) d.words (length d.arena) k ≡ Some why → new ≡ record d { spent = 0; entry = length d.log.rows }
     → HeldCallTurns d (Copy k) (Enter ends.Refused) (record new { why = why })

@@ -1,18 +1,15 @@
 -- Calls that are answered with no step.
-use Rattle.std.proofs.Common.{◌≡◌, ℕ, ◌+◌, ◌*◌, ◌<◌, ◌≤◌, ◌&&◌, nat_le, Bool, true, false, length, Option, None, Some, refl, sym, ap, subst, ◌∙◌, if◌then◌else◌, inl, inr}
-use Rattle.std.proofs.lemmas.Bool.{cases_Bool, cond-false}
+use Rattle.std.proofs.Common.{◌≡◌, ℕ, ◌+◌, ◌*◌, ◌<◌, ◌≤◌, ◌&&◌, nat_le, Bool, true, false, length, Option, None, Some, refl, sym, ap, subst, if◌then◌else◌}
 use Rattle.itm_types.specs.declared.access.WriteHint.{WriteHint}
 use Rattle.itm_types.specs.declared.call.Action.{Action}
 use Rattle.itm_types.specs.declared.call.ActionKind.{ActionKind}
 use Rattle.itm_types.specs.declared.call.ActionKind.TheVariants as kinds
 use Rattle.itm_types.specs.declared.call.Call.{Call}
-use Rattle.itm_types.specs.declared.call.Call.TheVariants.{Read, Write, Fill, Log, LogBytes, CommitAction, UndoAction}
+use Rattle.itm_types.specs.declared.call.Call.TheVariants.{Fill, Log, LogBytes, CommitAction, UndoAction}
 use Rattle.itm_types.specs.declared.call.Refusal.{Refusal}
-use Rattle.itm_types.specs.declared.call.Refusal.TheVariants.{OutOfRange}
 use Rattle.itm_types.specs.declared.call.Reply.TheVariants.{Refused}
 use Rattle.itm_types.specs.Access.{size_of}
 use Rattle.itm_types.specs.Calls.{access_of, logged_of, registered_by}
-use Rattle.itm_model.specs.Machine.{unless}
 use Rattle.norec_core.specs.declared.answer.Answer.{Answer}
 use Rattle.norec_core.specs.declared.phase.Phase.TheVariants.{Idle}
 use Rattle.norec_core.specs.Accesses.{access_refusal}
@@ -20,6 +17,7 @@ use Rattle.norec_core.specs.Core.{came}
 use Rattle.norec_core.specs.Endings.{ending_at}
 use Rattle.norec_core.specs.Order.{stage_at}
 use Rattle.norec_core.specs.Proceeds.{MayStarve, Replies}
+use Rattle.norec_data.proofs.RefusedAccesses.{access_ending, refused_stage}
 use Rattle.norec_data.specs.declared.data.Data.{Data}
 use Rattle.norec_data.specs.declared.end.End.{End as Ending}
 use Rattle.norec_data.specs.declared.end.End.TheVariants as ends
@@ -61,27 +59,10 @@ starved s call d sound same may = record { sound = subst (λ (x : Data). IsSound
 
 -- ## Refusals
 
-unserved : (is_open : Bool) (words place size : ℕ) (why : Refusal) → access_refusal is_open words place size ≡ Some why → (is_open && nat_le (place + size) (8 * words)) ≡ false
-unserved false words place size why e = refl
-unserved true words place size why e = elim (cases_Bool (nat_le (place + size) (8 * words))) [
-  | inl within ↦ (let none : Some why ≡ None = sym e ∙ ap (λ (b : Bool). unless b OutOfRange) within in absurd (cc))
-  | inr far ↦ far
-]
-
-refused_here : (s : Data) (a b place size : ℕ) (why : Refusal) → ◌≡◌ {A = Option (ℕ × ℕ)} (Some (a, b)) (Some (place, size)) → access_refusal (in_block s) s.words place size ≡ Some why → (in_block s && nat_le (a + b) (8 * s.words)) ≡ false
-refused_here s a b place size why is e =
-    let same : ◌≡◌ {A = ℕ × ℕ} (a, b) (place, size) = cc in
-    unserved (in_block s) s.words a b why ((λ i. access_refusal (in_block s) s.words (same i).0 (same i).1) ∙ e)
-
-refused_at_once : (s : Data) (call : Call) (place size : ℕ) (why : Refusal) → access_of call ≡ Some (place, size) → access_refusal (in_block s) s.words place size ≡ Some why → IsAtOnce s call
-refused_at_once s (Read hint width at) place size why is e = record { stage = cond-false (in_block s && nat_le (at + size_of width) (8 * s.words)) _ _ (refused_here s at (size_of width) place size why is e); none = refl }
-refused_at_once s (Write hint at value) place size why is e = record { stage = cond-false (in_block s && nat_le (at + size_of value.width) (8 * s.words)) _ _ (refused_here s at (size_of value.width) place size why is e); none = refl }
-refused_at_once s (Fill hint to byte bytes) place size why is e = record { stage = cond-false (in_block s && nat_le (to + bytes) (8 * s.words)) _ _ (refused_here s to bytes place size why is e); none = refl }
-refused_at_once s call place size why is e = absurd (cc)
-
 pub refused_turn : (s : Data) (call : Call) (place size : ℕ) (why : Refusal) → IsSound s Idle → access_of call ≡ Some (place, size) → access_refusal (in_block s) s.words place size ≡ Some why
     → CallTurns s call false (End ends.Refused) (record (come s) { why = why })
-refused_turn s call place size why sound is e = refused_as_it_was s call why (refused_at_once s call place size why is e) sound (refused_replies s call place size why sound is e)
+refused_turn s call place size why sound is e =
+    refused_as_it_was s call why (record { stage = refused_stage (core s Idle) place size why e call is; none = access_ending (core s Idle) call place size is }) sound (refused_replies s call place size why sound is e)
 
 -- ## Fills
 

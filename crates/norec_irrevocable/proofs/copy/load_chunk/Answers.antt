@@ -43,36 +43,27 @@ may_start : (c : goal.After-reading-2-1) (r : Reading) → MayCopy (start c r) c
 may_start c r = record { served = c.requires.may.served; spent = c.requires.may.spent }
 
 pub returns : goal.returns
-returns c bytes = record {
-  sound =
-      (let k = c.args.copying in
-      let loads = chunk_loads k c.args.number _ c.in-Some.reading (sym c.chunk_reading.ensures.value ∙ c.in-Some.is) in
-      let r : Reading = chunk_reading k c.args.number loads.0 in
-      subst (λ (x : Reading). IsSoundAfter (Wait waits.Load) (start c x)) (sym loads.2)
-      (load_sound (start c r) k c.args.number loads.0 loads.1 c.requires.shared (held_start c r) (may_start c r) c.new-state.ensures, tt));
-  proceeds =
-      (let k = c.args.copying in
-      let loads = chunk_loads k c.args.number _ c.in-Some.reading (sym c.chunk_reading.ensures.value ∙ c.in-Some.is) in
-      let r : Reading = chunk_reading k c.args.number loads.0 in
-      subst (λ (x : Reading). HeldTurns (in_call c.args.state.now (Copy k) bytes) (Wait waits.Load) (start c x)) (sym loads.2)
-      (load_asks (start c r) k c.args.number loads.0 loads.1 c.requires.shared (held_start c r) c.requires.may.served c.new-state.ensures bytes));
-  comes =
-      (let k = c.args.copying in
-      let s = c.args.state.now in
-      let n = c.args.number in
-      let loads = chunk_loads k n _ c.in-Some.reading (sym c.chunk_reading.ensures.value ∙ c.in-Some.is) in
-      let chunk = loads.0 in
-      subst (λ (x : Reading). ComesBy s (λ m. copied_each (kept s m) k (drop n (chunks_in k))) (λ m. Done) (Wait waits.Load) (start c x)) (sym loads.2)
-      (λ m mem. (
-        ap (λ (bytes : List ℕ). copied_each (target_written (kept s m) k.pair (k.to + (k.from + chunk.at - k.from)) (bytes ++ gathered m (pieces_of (k.from + chunk.at) chunk.size))) k (drop (suc n) (chunks_in k))) c.new-state.ensures
-            ∙ chunk_comes s k c.requires.may.served n chunk loads.1 c.requires.shared m mem,
-        refl,
-      )));
-  stays = record { opens = λ o. o; log = λ o. refl; snapshot = refl };
-  order =
-      (let k = c.args.copying in
-      let loads = chunk_loads k c.args.number _ c.in-Some.reading (sym c.chunk_reading.ensures.value ∙ c.in-Some.is) in
-      let r : Reading = chunk_reading k c.args.number loads.0 in
-      subst (λ (x : Reading). Load x ≡ chunk_from k c.args.number) (sym loads.2) (load_comes_next (start c r) k c.args.number loads.0 loads.1 c.requires.shared));
-  ends = tt;
-}
+returns c bytes =
+    let s = c.args.state.now in
+    let k = c.args.copying in
+    let n = c.args.number in
+    let loads = chunk_loads k n _ c.in-Some.reading (sym c.chunk_reading.ensures.value ∙ c.in-Some.is) in
+    let chunk = loads.0 in
+    let shared = c.requires.shared in
+    let r : Reading = chunk_reading k n chunk in
+    record {
+      sound = subst (λ (x : Reading). IsSoundAfter (Wait waits.Load) (start c x)) (sym loads.2) (load_sound (start c r) k n chunk loads.1 shared (held_start c r) (may_start c r) c.new-state.ensures, tt);
+      proceeds =
+          subst (λ (x : Reading). HeldTurns (in_call s (Copy k) bytes) (Wait waits.Load) (start c x)) (sym loads.2)
+          (load_asks (start c r) k n chunk loads.1 shared (held_start c r) c.requires.may.served c.new-state.ensures bytes);
+      comes =
+          subst (λ (x : Reading). ComesBy s (λ m. copied_each (kept s m) k (drop n (chunks_in k))) (λ m. Done) (Wait waits.Load) (start c x)) (sym loads.2)
+          (λ m mem. (
+            ap (λ (bytes : List ℕ). copied_each (target_written (kept s m) k.pair (k.to + (k.from + chunk.at - k.from)) (bytes ++ gathered m (pieces_of (k.from + chunk.at) chunk.size))) k (drop (suc n) (chunks_in k))) c.new-state.ensures
+                ∙ chunk_comes s k c.requires.may.served n chunk loads.1 shared m mem,
+            refl,
+          ));
+      stays = record { opens = λ o. o; log = λ o. refl; snapshot = refl };
+      order = subst (λ (x : Reading). Load x ≡ chunk_from k n) (sym loads.2) (load_comes_next (start c r) k n chunk loads.1 shared);
+      ends = tt;
+    }

@@ -1,5 +1,4 @@
 use Rattle.std.proofs.Common.{◌≡◌, ℕ, suc, ◌+◌, ◌-◌, true, drop, length, None, Some, refl, sym, ap, subst, ◌∙◌, add-one, arith, rules}
-use Rattle.std.proofs.lemmas.Grind.{common_steps}
 use Rattle.norec_data.specs.View.{call_for}
 use Rattle.norec_core.specs.Core.{Core}
 use Rattle.itm_types.specs.declared.call.Call.TheVariants.{Copy}

@@ -1,5 +1,4 @@
 use Rattle.std.proofs.Common.{◌≡◌, ℕ, ◌+◌, ◌%◌, drop, refl, sym, ap, subst, ◌∙◌, add-one, arith, rules}
-use Rattle.std.proofs.lemmas.Grind.{common_steps}
 use Rattle.norec_data.specs.View.{placed_for}
 use Rattle.norec_core.specs.Order.{chunk_from, fill_from, placed_past}
 use Rattle.itm_types.specs.declared.call.Reply.TheVariants.{Done}

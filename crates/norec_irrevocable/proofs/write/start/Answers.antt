@@ -1,5 +1,4 @@
 use Rattle.std.proofs.Common.{None, refl, arith, rules}
-use Rattle.std.proofs.lemmas.Grind.{common_steps}
 use Rattle.norec_data.specs.declared.data.Data.{Data}
 use Rattle.norec_data.specs.Turns.{counted}
 use Rattle.norec_irrevocable.proofs.NextPlaces.{next_sound, places_later}

@@ -1,4 +1,4 @@
-use Rattle.std.proofs.Common.{arith, rules}
+use Rattle.std.proofs.Common.{rules}
 use Rattle.norec_revocable.proofs.commits.commit.Goals as goal
 
 pub returns-then-not-is_outermost : goal.returns-then-not-is_outermost
