@@ -1,5 +1,5 @@
 -- Replies in an irrevocable transaction that leave the engine as it was, but for the counts.
-use Rattle.std.proofs.Common.{◌≡◌, ℕ, zero, suc, ◌&&◌, not, Bool, true, false, List, length, replicate, Option, None, Some, unwrap_or, nat_lt, refl, sym, ap, subst, ◌∙◌, arith, if◌then◌else◌}
+use Rattle.std.proofs.Common.{◌≡◌, ℕ, zero, suc, ◌&&◌, not, Bool, true, false, List, length, replicate, Option, None, Some, unwrap_or, nat_lt, refl, sym, ap, ◌∙◌, arith, if◌then◌else◌}
 use Rattle.std.proofs.lemmas.List.{length-replicate}
 use Rattle.itm_types.specs.declared.limits.TheConstants.{MAX_OPEN_BLOCKS}
 use Rattle.itm_types.specs.declared.call.Call.{Call}
@@ -16,9 +16,7 @@ use Rattle.norec_core.specs.Proceeds.{RepliesHeld, arena_held, reply_held, room_
 use Rattle.norec_core.proofs.RefusedCalls.{actions_kept, blocks_kept}
 use Rattle.norec_data.specs.declared.data.Data.{Data}
 use Rattle.norec_data.specs.View.{core_held, in_block}
-use Rattle.norec_data.specs.declared.end.End.TheVariants as ends
-use Rattle.norec_data.specs.declared.turn.Turn.TheVariants.{Enter}
-use Rattle.norec_irrevocable.specs.Outcomes.{kept, ComesBy, HeldTurns}
+use Rattle.norec_irrevocable.specs.Outcomes.{kept}
 
 -- a memory of zeros
 fit-zeros : (n : ℕ) → AllFit (replicate n 0)
@@ -91,14 +89,3 @@ module _ (d : Data) (call : Call) (why : Refusal) (refused : (m : List ℕ) → 
     sym (ap (λ (o : Option Refusal). after_unless o (kept d m) (effect (kept d m) call)) (refused m mem)),
     sym (ap (λ (o : Option Refusal). reply_unless o (answer (kept d m) call)) (refused m mem)),
   )
-
--- of an engine that is left so
-module _ (d new : Data) (call : Call) (why : Refusal) (is : new ≡ record d { spent = 0; entry = length d.log.rows })
-    (refused : (m : List ℕ) → IsMemory d.words m → refusal MAX_OPEN_BLOCKS (kept d m) call ≡ Some why) where
-  pub refuses : HeldTurns (came (core_held d) call false) (Enter ends.Refused) (record new { why = why })
-  refuses = subst (λ (x : Data). HeldTurns (came (core_held d) call false) (Enter ends.Refused) (record x { why = why })) (sym is) (denied d call why refused)
-
-  pub refuses_comes : ComesBy d (λ m. after MAX_OPEN_BLOCKS (kept d m) call) (λ m. reply MAX_OPEN_BLOCKS (kept d m) call) (Enter ends.Refused) (record new { why = why })
-  refuses_comes =
-      subst (λ (x : Data). ComesBy d (λ m. after MAX_OPEN_BLOCKS (kept d m) call) (λ m. reply MAX_OPEN_BLOCKS (kept d m) call) (Enter ends.Refused) (record x { why = why })) (sym is)
-      (denied_comes d call why refused)
