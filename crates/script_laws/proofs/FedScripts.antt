@@ -1,4 +1,4 @@
--- A script tells its room truly, since its code is nested; and so its irrevocable attempt never wants memory.
+-- A thread of nested code tells its room truly; and so its irrevocable attempt never wants memory.
 use Rattle.std.proofs.Common.{◌≡◌, ℕ, zero, suc, ◌≤◌, List, [], ◌∷◌, map, Bool, true, false, None, Some, refl, sym, ap, subst, ◌∙◌, inl, inr, arith}
 use Rattle.std.specs.Prelude.{slice_get, if◌then◌else◌}
 use Rattle.itm_types.specs.declared.call.Call.{Call}
@@ -8,13 +8,13 @@ use Rattle.itm_types.specs.declared.call.Reply.TheVariants.{Bytes, Code, Done, R
 use Rattle.norec_world.specs.PlayerRooms.{ComesTo, EndsWithin, GoesTo, MayReply, TellsRoom, told_room}
 use Rattle.norec_world.proofs.Common.{slice_get_within}
 use Rattle.norec_world.proofs.SoundOthers.{there_is}
-use Rattle.script_laws.proofs.AssembledCode.{assembled_nests}
-use Rattle.script_laws.specs.Fed.{AreFed, TellRoom, TellsEachRoom, room_told}
+use Rattle.script_laws.specs.Fed.{AreFed, TellRoom, TellsEachRoom}
 use Rattle.script_program.specs.declared.instruction.Instruction.{Instruction}
 use Rattle.script_program.specs.Listing.{threads_of}
 use Rattle.script_vm.specs.Nesting.{Nests}
+use Rattle.script_vm.specs.Rooms.{room_told}
 use Rattle.script_vm.specs.Threads.{Thread, answered, depth_of, next_call, opening, thread_rules}
-use Rattle.script_vm.proofs.NestedThreads.{IsNested, IsReplied, asked_room, back_nested, left, opening_nested, plays, some_left}
+use Rattle.script_vm.proofs.NestedThreads.{IsNested, IsReplied, back_nested, left, opening_nested, plays, some_left}
 
 may_be : (depth : ℕ) (call : Call) (reply : Reply) → MayReply depth call reply → IsReplied depth call reply
 may_be depth (Begin props room) (Code n) m = tt
@@ -23,11 +23,6 @@ may_be depth (Begin props room) Done m = m
 may_be depth (Begin props room) (Bytes v) m = m
 may_be depth Commit reply m = m
 may_be depth call reply m = tt
-
-same_room : (call : Call) (n : ℕ) → room_told call ≡ Some n → asked_room call ≡ Some n
-same_room (Begin props room) n e = e
-same_room (Mode room) n e = e
-same_room call n e = absurd (cc)
 
 -- one that makes its transaction irrevocable is one of these
 only_told : (going : Bool) (room n : ℕ) → (if going then Some room else None) ≡ Some n → Some room ≡ Some n
@@ -58,13 +53,10 @@ ends_within (suc n) t nested few = λ some call reply next may.
     let falls = x.falls some in
     ends_within n (answered t reply) x.nested (omega arith))
 
-tells_each_room : (code : List Instruction) → Nests code [] → TellsEachRoom (opening code)
-tells_each_room code x n u call reply room comes next may told =
-    let p = plays u call reply (comes_nested n code u x comes) next (may_be (depth_of u) call reply may) in
-    ends_within room (answered u reply) p.nested (p.told room (same_room call room told))
-
 pub tell_room : TellRoom
-tell_room text p e place code is = tells_each_room code (assembled_nests text p e place code is)
+tell_room code x n u call reply room comes next may told =
+    let p = plays u call reply (comes_nested n code u x comes) next (may_be (depth_of u) call reply may) in
+    ends_within room (answered u reply) p.nested (p.told room told)
 
 tells_room : (t : Thread) → TellsEachRoom t → TellsRoom thread_rules t
 tells_room t each n u call reply room comes next may told = each n u call reply room comes next may (going_told call room told)
@@ -76,7 +68,7 @@ opened_at (x ∷ codes) zero t e = (x, refl, (let same : opening x ≡ t = cc in
 opened_at (x ∷ codes) (suc n) t e = opened_at codes n t e
 
 pub are_fed : AreFed
-are_fed text p w e players tied place a is starved =
+are_fed p w nested players tied place a is starved =
     let here = there_is w.opening place (let l = slice_get_within w.actors place a is in let long = tied.each in omega arith) in
     let thread = opened_at (threads_of p) place here.0 (ap (λ (l : List Thread). slice_get l place) (sym players) ∙ here.1) in
-    tied.fed place here.0 a here.1 is (subst (TellsRoom thread_rules) (sym thread.2) (tells_room (opening thread.0) (tell_room text p e place thread.0 thread.1))) starved
+    tied.fed place here.0 a here.1 is (subst (TellsRoom thread_rules) (sym thread.2) (tells_room (opening thread.0) (tell_room thread.0 (nested place thread.0 thread.1)))) starved

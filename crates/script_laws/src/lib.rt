@@ -10,7 +10,7 @@ pub fn nested()
     ensures { AreNested }
 {}
 
-/// Each thread of a script tells its room truly: at each begin, and as it makes its transaction irrevocable, how many calls
+/// Each thread of nested code tells its room truly: at each begin, and as it makes its transaction irrevocable, how many calls
 /// come at most until its outermost block ends. So in a world of a script's threads no actor that found no memory has an irrevocable
 /// attempt. Does nothing.
 pub fn fed()

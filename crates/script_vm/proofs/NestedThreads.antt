@@ -10,6 +10,7 @@ use Rattle.script_program.specs.declared.instruction.Instruction.TheVariants as 
 use Rattle.script_vm.specs.declared.stage.Stage.{Stage}
 use Rattle.script_vm.specs.declared.stage.Stage.TheVariants.{Runs, ToElse, ToEnd}
 use Rattle.script_vm.specs.Nesting.{Level, block, group, blocks_in, Nests}
+use Rattle.script_vm.specs.Rooms.{room_told}
 use Rattle.script_vm.specs.Registers.{bytes_at, number_at, with_bytes, with_number, zeros}
 use Rattle.script_vm.specs.ThreadLaws.{length-closed, length-deeper}
 use Rattle.script_vm.specs.Threads.{Block, Thread, answered, answered_at, back_to, begun, call_at, cancelled, cancelled_in, closed, deeper, depth_of, ended, goes_on, innermost, next_call, open_past, opening, past_block, restarted, room, told, took}
@@ -345,29 +346,24 @@ answered_goes registers code.Commit more blocks start levels x same c r e may =
     (goes_nested (record t { blocks = closed blocks }) registers more x.0 x.2 (let one = ap blocks_in x.1 in let fewer = length-closed blocks in omega arith) (closed_start blocks start)) (length-closed blocks))
 answered_goes registers call more blocks start levels x same c r e may = plain registers (call ∷ more) blocks start more levels same call registers x refl
 
--- the room that a call asks for
-abbrev pub asked_room : Call → Option ℕ
-asked_room (calls.Begin props n) = Some n
-asked_room (calls.Mode n) = Some n
-asked_room c = None
-
-told_room : (registers : List (List ℕ)) (i : Instruction) (more : List Instruction) (d : ℕ) (c : Call) (n : ℕ) → call_at registers d (i ∷ more) ≡ Some c → asked_room c ≡ Some n → room (open_past i d) more ≡ n
-told_room registers (code.Set to k) more d c n e asks = absurd (none_is_no_call c e)
-told_room registers (code.Bytes to literal) more d c n e asks = absurd (none_is_no_call c e)
-told_room registers (code.Move to from) more d c n e asks = absurd (none_is_no_call c e)
-told_room registers (code.Compute operation to y z) more d c n e asks = absurd (none_is_no_call c e)
-told_room registers (code.IfNotZero y) more d c n e asks = absurd (none_is_no_call c e)
-told_room registers code.Else more d c n e asks = absurd (none_is_no_call c e)
-told_room registers code.EndIf more d c n e asks = absurd (none_is_no_call c e)
-told_room registers (code.Begin props to) more d c n e asks = (let both : Some (room (suc d) more) ≡ Some n = ap asked_room (same_call _ c e) ∙ asks in cc)
-told_room registers code.Mode more d c n e asks = (let both : Some (room d more) ≡ Some n = ap asked_room (same_call _ c e) ∙ asks in cc)
-told_room registers call more d c n e asks = absurd (let both : None ≡ Some n = ap asked_room (same_call _ c e) ∙ asks in cc)
+-- the room that it tells is what is left of its blocks
+told_left : (registers : List (List ℕ)) (i : Instruction) (more : List Instruction) (d : ℕ) (c : Call) (n : ℕ) → call_at registers d (i ∷ more) ≡ Some c → room_told c ≡ Some n → room (open_past i d) more ≡ n
+told_left registers (code.Set to k) more d c n e asks = absurd (none_is_no_call c e)
+told_left registers (code.Bytes to literal) more d c n e asks = absurd (none_is_no_call c e)
+told_left registers (code.Move to from) more d c n e asks = absurd (none_is_no_call c e)
+told_left registers (code.Compute operation to y z) more d c n e asks = absurd (none_is_no_call c e)
+told_left registers (code.IfNotZero y) more d c n e asks = absurd (none_is_no_call c e)
+told_left registers code.Else more d c n e asks = absurd (none_is_no_call c e)
+told_left registers code.EndIf more d c n e asks = absurd (none_is_no_call c e)
+told_left registers (code.Begin props to) more d c n e asks = (let both : Some (room (suc d) more) ≡ Some n = ap room_told (same_call _ c e) ∙ asks in cc)
+told_left registers code.Mode more d c n e asks = (let both : Some (room d more) ≡ Some n = ap room_told (same_call _ c e) ∙ asks in cc)
+told_left registers call more d c n e asks = absurd (let both : None ≡ Some n = ap room_told (same_call _ c e) ∙ asks in cc)
 
 -- a reply came
 pub record Plays (t new : Thread) (c : Call) : Type 0 where
   pub nested : IsNested new
   pub falls : 0 < depth_of t → left new < left t
-  pub told : (n : ℕ) → asked_room c ≡ Some n → left new ≤ n
+  pub told : (n : ℕ) → room_told c ≡ Some n → left new ≤ n
 
 pub plays : (t : Thread) (c : Call) (r : Reply) → IsNested t → next_call t ≡ Some c → IsReplied (depth_of t) c r → Plays t (answered t r) c
 plays t c r nested e may = by_code t.rest nested.nests e
@@ -379,7 +375,7 @@ plays t c r nested e may = by_code t.rest nested.nests e
         record {
           nested = g.nested;
           falls = λ some. (let less = g.fewer in let step = room_step (depth_of t) i more some in omega arith);
-          told = λ n asks. (let less = g.fewer in let same = told_room t.registers i more (depth_of t) c n e asks in omega arith);
+          told = λ n asks. (let less = g.fewer in let same = told_left t.registers i more (depth_of t) c n e asks in omega arith);
         }
 
 -- a call within a block is one of those that were told

@@ -1,4 +1,4 @@
-//! The histories of worlds: each of them is legal.
+//! The histories of worlds: each of them is legal, and what they tell of threads that found no memory.
 #![tactic(auto)]
 
 ghost use Rattle.norec_world.specs.Commits.{CommitsInOrder};
@@ -8,6 +8,7 @@ ghost use Rattle.norec_world.specs.World.{World, observed};
 ghost use Rattle.tx_history.specs.Bounds.{AreLimited};
 ghost use Rattle.tx_history.specs.Legal.{IsLegal};
 ghost use Rattle.world_histories.specs.Limits.{HasArenaWidths, IsLimitedWorld};
+ghost use Rattle.world_histories.specs.Starved.{FedLeaveNoneOpen};
 ghost use Rattle.world_histories.specs.Told.{told_of};
 
 use tx_player::Player;
@@ -26,4 +27,10 @@ pub fn legal<P: Player>()
 pub fn limited<P: Player>()
     ensures { HasArenaWidths P.Player → (w : World P) → AreOpaque P.Player (observed w) → IsLimitedWorld w
         → AreLimited (told_of w) }
+{}
+
+/// Of an actor that found no memory only an irrevocable attempt stays open. So in the history of a world in which no such actor
+/// has one, each attempt of a thread that found no memory has ended. Does nothing.
+pub fn none_open<P: Player>()
+    ensures { FedLeaveNoneOpen P.Player }
 {}
