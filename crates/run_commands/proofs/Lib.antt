@@ -5,6 +5,7 @@ pub mod Items
 pub mod Plays
 pub mod Loops
 pub mod ScheduleItems
+pub mod FedRuns
 pub mod RoomlessTexts
 pub mod ProgramPages
 pub mod WrittenWorlds

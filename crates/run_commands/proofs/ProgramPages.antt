@@ -32,6 +32,8 @@ use Rattle.world_histories.specs.Limits.{IsLimitedWorld}
 use Rattle.world_laws.specs.ShownAlone.{DoneBy}
 use Rattle.world_laws.proofs.LedAlone.{led_alone}
 use Rattle.script_vm.specs.ThreadLaws.{thread_laws}
+use Rattle.script_laws.specs.Assembled.{HasNestedCode}
+use Rattle.run_commands.proofs.FedRuns.{even_starved, fed, none_open}
 use Rattle.run_commands.proofs.RoomlessTexts.{roomless_text}
 use Rattle.run_commands.proofs.ScheduleItems.{items_keep, items_led}
 
@@ -109,26 +111,29 @@ module _ (p : Listing) (w : World Thread) (began : BeganAs p w) (player : Thread
       → ((solo_of p).ending ≡ end) × (roomless (told_of w) ≡ page p) × (history_text (told_of w) ≡ history_text (page p))
   shows end all = (let same = is_page end all in (ap (λ (s : Solo). s.ending) all, same, sym (roomless_text (told_of w)) ∙ ap history_text same))
 
-  of_ending : (ending : Option End) → DoneBy thread_rules w player ending → IsOf p ending (told_of w)
-  of_ending None (memory, part, told) = (began.base, memory, so_far (w.cells.clock / 2) memory outcomes.Unfinished (attempts_of w) part, told)
-  of_ending (Some Finished) all = shows Finished (sym alone_is ∙ all)
-  of_ending (Some GaveUp) all = shows GaveUp (sym alone_is ∙ all)
-  of_ending (Some NoMemory) (inl part) = (began.base, inl (part.0, so_far (w.cells.clock / 2) (memory_of w) outcomes.NoMemory (attempts_of w) part.1))
-  of_ending (Some NoMemory) (inr part) = (began.base, inr (part.0, (part.1.0, so_far (w.cells.clock / 2) part.1.0 outcomes.Unfinished (attempts_of w) part.1.1)))
+  of_ending : (ending : Option End) → (ending ≡ Some NoMemory → w.cells.clock % 2 ≡ 0) → DoneBy thread_rules w player ending → IsOf p ending (told_of w)
+  of_ending None even (memory, part, told) = (began.base, memory, so_far (w.cells.clock / 2) memory outcomes.Unfinished (attempts_of w) part, told)
+  of_ending (Some Finished) even all = shows Finished (sym alone_is ∙ all)
+  of_ending (Some GaveUp) even all = shows GaveUp (sym alone_is ∙ all)
+  of_ending (Some NoMemory) even (inl part) = (began.base, part.0, so_far (w.cells.clock / 2) (memory_of w) outcomes.NoMemory (attempts_of w) part.1)
+  of_ending (Some NoMemory) even (inr part) = absurd (let odd : w.cells.clock % 2 ≡ 1 = part.0 in let none : w.cells.clock % 2 ≡ 0 = even refl in omega arith)
 
-pub world_of_run : (p : Listing) (w : World Thread) → Leaves p w → CommitsInOrder w → AreOpaque thread_rules (observed w) → AreTied thread_rules w → IsWorldOf p w
-world_of_run p w leaves commits opaque tied = record {
-  leaves = leaves;
-  base = (began_as p w leaves).base;
-  commits = commits;
-  opaque = opaque;
-  tied = tied;
-  legal = legal_world thread_rules w commits opaque tied;
-  alone = λ one.
-      let began = began_as p w leaves in
-      let first = leaves.1 in
-      let led = items_led leaves.0 w (schedule_of p) leaves.2 in
-      let single : (players : List Thread) → players ≡ players_of p → length players ≡ 1 = λ players is. ap (λ (l : List Thread). length l) is ∙ length-map (threads_of p) opening ∙ one in
-      let a = led_alone thread_rules thread_laws led.0 led.1.0 leaves.0 w first.anew first.commits first.opaque first.tied led.1.1 (single leaves.0.opening first.players) (single w.opening began.players) in
-      of_ending p w began a.0 (first_is (threads_of p) a.0 (sym began.players ∙ a.1)) (ending_at w 0) a.2;
-}
+pub world_of_run : (p : Listing) (w : World Thread) → HasNestedCode p → Leaves p w → CommitsInOrder w → AreOpaque thread_rules (observed w) → AreTied thread_rules w → IsWorldOf p w
+world_of_run p w nested leaves commits opaque tied =
+    let led = items_led leaves.0 w (schedule_of p) leaves.2 in
+    record {
+      leaves = leaves;
+      base = (began_as p w leaves).base;
+      commits = commits;
+      opaque = opaque;
+      tied = tied;
+      fed = fed p nested leaves.0 w leaves.1 led.0 led.1 commits tied;
+      none_open = none_open p nested leaves.0 w leaves.1 led.0 led.1 commits tied;
+      legal = legal_world thread_rules w commits opaque tied;
+      alone = λ one.
+          let began = began_as p w leaves in
+          let first = leaves.1 in
+          let single : (players : List Thread) → players ≡ players_of p → length players ≡ 1 = λ players is. ap (λ (l : List Thread). length l) is ∙ length-map (threads_of p) opening ∙ one in
+          let a = led_alone thread_rules thread_laws led.0 led.1.0 leaves.0 w first.anew first.commits first.opaque first.tied led.1.1 (single leaves.0.opening first.players) (single w.opening began.players) in
+          of_ending p w began a.0 (first_is (threads_of p) a.0 (sym began.players ∙ a.1)) (ending_at w 0) (even_starved p nested leaves.0 w leaves.1 led.0 led.1 commits tied one) a.2;
+    }

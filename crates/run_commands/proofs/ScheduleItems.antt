@@ -1,5 +1,5 @@
 -- The items of a program: one schedule, and what stays over it.
-use Rattle.std.proofs.Common.{◌≡◌, ℕ, zero, suc, ◌+◌, ◌<◌, List, [], ◌∷◌, ◌++◌, length, map, replicate, Option, Result, refl, sym, ap, ◌∙◌, arith}
+use Rattle.std.proofs.Common.{inl, inr, ◌≡◌, ℕ, zero, suc, ◌+◌, ◌<◌, List, [], ◌∷◌, ◌++◌, length, map, replicate, Option, Result, refl, sym, ap, ◌∙◌, arith}
 use Rattle.std.specs.List.{All, AllByRecursion, range_with_len}
 use Rattle.std.proofs.lemmas.List.Elements.{All-map}
 use Rattle.std.proofs.lemmas.List.FromFn.{get_or-range_with_len, length-range_with_len, map-range_with_len_more}
@@ -13,7 +13,7 @@ use Rattle.script_program.specs.declared.instruction.Instruction.{Instruction}
 use Rattle.script_program.specs.Listing.{thread_of}
 use Rattle.script_vm.specs.Threads.{Thread, opening, depth_of, thread_rules}
 use Rattle.world_laws.proofs.LedAlone.{takes_led}
-use Rattle.run_commands.specs.Items.{ItemLeads, ItemsLead}
+use Rattle.run_commands.specs.Items.{ItemBegins, ItemLeads, ItemsBegin, ItemsLead}
 use Rattle.run_commands.specs.Scheduled.{each_out, endings_of}
 use Rattle.run_commands.proofs.Items.{IsLed, led_append}
 
@@ -27,6 +27,19 @@ items_led old new [] e = ([], ([], e))
 items_led old new (item ∷ items) (next, first, rest) =
     let one = item_led old next item first in
     let more = items_led next new items rest in
+    (one.0 ++ more.0, led_append thread_rules old next new one.0 more.0 one.1 more.1)
+
+-- so is what is begun of it
+begun_led : (old new : World Thread) (item : Item) → ItemBegins thread_rules item old new → (schedule : List ℕ) × IsLed thread_rules old schedule new
+begun_led old new (Take thread count) (n, few, results, l) = (replicate n thread, (results, l))
+begun_led old new (Out thread) (n, t) = (replicate n thread, takes_led thread_rules thread n old new t)
+
+pub items_begun_led : (old new : World Thread) (items : List Item) → ItemsBegin thread_rules items old new → (schedule : List ℕ) × IsLed thread_rules old schedule new
+items_begun_led old new [] e = ([], ([], e))
+items_begun_led old new (item ∷ items) (inl b) = begun_led old new item b
+items_begun_led old new (item ∷ items) (inr (next, first, rest)) =
+    let one = item_led old next item first in
+    let more = items_begun_led next new items rest in
     (one.0 ++ more.0, led_append thread_rules old next new one.0 more.0 one.1 more.1)
 
 -- each of these items is of a thread that there is
@@ -69,7 +82,7 @@ keeps_then a b c k l = record {
 goes_keeps : (old new : World Thread) (thread : ℕ) (result : Result (Unit {0}) WorldFault) → Goes thread_rules thread old result new → Keeps old new
 goes_keeps old new thread result g = record { opening = g.opening; actors = g.actors }
 
-led_keeps : (old new : World Thread) (xs : List ℕ) → IsLed thread_rules old xs new → Keeps old new
+pub led_keeps : (old new : World Thread) (xs : List ℕ) → IsLed thread_rules old xs new → Keeps old new
 led_keeps old new [] ([], e) = keeps_same old new e
 led_keeps old new [] (r ∷ rs, e) = absurd e
 led_keeps old new (x ∷ xs) ([], e) = absurd e

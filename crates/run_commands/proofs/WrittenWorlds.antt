@@ -19,7 +19,10 @@ use Rattle.run_commands.specs.Pages.{IsWorldOf}
 use Rattle.world_histories.specs.Told.{told_of}
 use Rattle.run_commands.specs.Plays.{IsCutOff}
 use Rattle.tx_host.specs.Limits.{IsLimitedListing}
+use Rattle.script_laws.specs.Assembled.{HasNestedCode}
+use Rattle.run_commands.proofs.FedRuns.{fed, none_open}
 use Rattle.run_commands.proofs.ProgramPages.{read_as_legal}
+use Rattle.run_commands.proofs.ScheduleItems.{items_begun_led}
 use Rattle.run_commands.specs.Running.{IsRun, running}
 
 module _ (p : Listing) (w : World Thread) (o n : Option (List ℕ)) (is : IsWorldOf p w) where
@@ -36,18 +39,21 @@ cut_written (Ok x) u v text p = p
 cut_written (Err e) u v text p = (p.0, p.2)
 
 -- a beginning of it, where a write failed
-pub begun : (p : Listing) (first w : World Thread) (o n : Option (List ℕ)) → Begins p first → CommitsInOrder w → AreOpaque thread_rules (observed w) → AreTied thread_rules w
+pub begun : (p : Listing) (first w : World Thread) (o n : Option (List ℕ)) → HasNestedCode p → Begins p first → CommitsInOrder w → AreOpaque thread_rules (observed w) → AreTied thread_rules w
     → IsCutOff thread_rules (schedule_of p) first w o n → Outputs running (Err Writing) (Ok p) o n
-begun p first w o n begins commits opaque tied stops = (
-  p,
-  refl,
-  record {
-    first = first;
-    begins = begins;
-    world = w;
-    stops = stops;
-    commits = commits;
-    opaque = opaque;
-    tied = tied;
-  },
-)
+begun p first w o n nested begins commits opaque tied stops =
+    let led = items_begun_led first w (schedule_of p) stops.begun in (
+      p,
+      refl,
+      record {
+        first = first;
+        begins = begins;
+        world = w;
+        stops = stops;
+        commits = commits;
+        opaque = opaque;
+        tied = tied;
+        fed = fed p nested first w begins led.0 led.1 commits tied;
+        none_open = none_open p nested first w begins led.0 led.1 commits tied;
+      },
+    )

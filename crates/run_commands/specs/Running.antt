@@ -14,6 +14,7 @@ use Rattle.text_commands.specs.Answers.{Command}
 use Rattle.text_commands.specs.Lines.{script_line}
 use Rattle.tx_history.specs.Histories.{history_text}
 use Rattle.run_commands.specs.Endings.{ending_lines, endings_status}
+use Rattle.world_histories.specs.Starved.{IsFed, LeavesNoneOpen}
 use Rattle.world_histories.specs.Told.{told_of}
 use Rattle.run_commands.specs.Pages.{IsWorldOf}
 use Rattle.run_commands.specs.Plays.{IsCutOff}
@@ -27,7 +28,7 @@ pub record IsRun (p : Listing) (endings : ArrayVec (Option End)) (text : List �
   pub told : text ≡ history_text (told_of world)
   pub read : IsLegalText text  -- so who checks it finds it legal
 
--- A write failed, or the handing on of what was written: some first events of the program's schedule were taken, or all, and a beginning of the history was written, with all attempts that had ended before the last event.
+-- A write failed, or the handing on of what was written: some first events of the program's schedule were taken, or all, and a beginning of the history was written, with all attempts that had ended before the last event. In the world that they lead to no thread that found no memory has an irrevocable attempt, nor one that has not ended.
 pub record IsCutRun (p : Listing) (old new : Option (List ℕ)) : Type 0 where
   pub first : World Thread
   pub begins : Begins p first
@@ -36,6 +37,8 @@ pub record IsCutRun (p : Listing) (old new : Option (List ℕ)) : Type 0 where
   pub commits : CommitsInOrder world
   pub opaque : AreOpaque thread_rules (observed world)
   pub tied : AreTied thread_rules world
+  pub fed : IsFed world
+  pub none_open : LeavesNoneOpen world
 
 -- of a script the history of its program's run is written
 abbrev pub running : Command Listing AsmFault (ArrayVec (Option End))

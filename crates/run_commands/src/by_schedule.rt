@@ -14,6 +14,7 @@ ghost use Rattle.tx_host.specs.Limits.{IsLimitedListing};
 ghost use Rattle.text_commands.specs.declared.failure.Failure.TheVariants.{Writing};
 ghost use Rattle.text_commands.specs.Input.{IsFront};
 ghost use Rattle.text_commands.specs.Answers.{Answers, Outputs};
+ghost use Rattle.script_laws.specs.Assembled.{HasNestedCode};
 ghost use Rattle.script_program.specs.Listing.{thread_of, threads_of};
 ghost use Rattle.run_commands.specs.Items.{ItemsLead};
 ghost use Rattle.world_histories.specs.Told.{told_of};
@@ -85,6 +86,7 @@ fn run_items<W: Write>(
     items: &[Item],
     writer: &mut W,
 ) -> Result<Endings, Failure<AsmFault>>
+    requires nested { HasNestedCode program.now }
     requires begins { Begins program.now world }
     requires limits { IsLimitedListing program.now }
     requires items { items.now ≡ schedule_of program.now }
@@ -101,6 +103,7 @@ fn run_program<W: Write>(
     program: &Program,
     writer: &mut W,
 ) -> Result<Endings, Failure<AsmFault>>
+    requires { HasNestedCode program.now }
     ensures { Outputs running result (Ok program.now) (W.contents writer.old) (W.contents writer.new) }
 {
     let world = begin(alloc, program)?;
