@@ -8,8 +8,11 @@ use Rattle.itmrun.specs.declared.command.WordsFault.TheVariants as faults
 use Rattle.run_commands.specs.Running.{running}
 use Rattle.run_commands.specs.Threading.{threading}
 use Rattle.script_asm.specs.Assembly.{program_of}
+use Rattle.script_fields.specs.declared.fault.AsmFault.{AsmFault}
 use Rattle.text_commands.specs.Answers.{Answers, Says}
 use Rattle.text_commands.specs.Commands.{printing, judging}
+use Rattle.text_commands.specs.declared.failure.Failure.TheVariants.{NoMemory}
+use Rattle.text_commands.specs.Lines.{failure_line, failure_status, script_line}
 
 -- the word of a task on the command line
 unfoldable pub word_of : Task → List ℕ
@@ -28,14 +31,18 @@ Answered tasks.Check text status old new = (before after : Option (List ℕ)) ×
 abbrev pub Does : Task → ℕ → Option (List ℕ) → Option (List ℕ) → Type 0
 Does task status old new = (text : List ℕ) × Answered task text status old new
 
+-- how the program is used
+abbrev pub usage_line : List ℕ
+usage_line = codes "itmrun: usage: itmrun asm|sched|threads|check FILE\n"
+
 -- why the words say nothing that can be done
 unfoldable pub fault_line : WordsFault → List ℕ
-fault_line faults.Usage = codes "itmrun: usage: itmrun asm|sched|threads|check FILE\n"
-fault_line faults.Memory = codes "itmrun: no memory\n"
+fault_line faults.Usage = usage_line
+fault_line faults.Memory = failure_line script_line NoMemory
 
 abbrev pub fault_status : WordsFault → ℕ
 fault_status faults.Usage = 1
-fault_status faults.Memory = 4
+fault_status faults.Memory = failure_status {F = AsmFault} NoMemory
 
 -- one of the commands is done, or it is told why none is
 abbrev pub Runs : ℕ → Option (List ℕ) → Option (List ℕ) → Type 0

@@ -2,19 +2,22 @@
 
 ghost use Rattle.std.specs.Prelude.{◌≡◌, ℕ, List, IfErr, IfOk, IfSome, OnErr};
 ghost use Rattle.itmrun.specs.declared.command.Task.{Task};
-ghost use Rattle.itmrun.specs.Doing.{Answered, Does, Runs, fault_line, fault_status, word_of};
+ghost use Rattle.itmrun.specs.Doing.{Answered, Does, Runs, fault_line, fault_status, usage_line, word_of};
+ghost use Rattle.tx_history.specs.Spelling.{Puts};
 ghost use Rattle.text_commands.specs.Answers.{Says};
+ghost use Rattle.text_commands.specs.Lines.{failure_line, failure_status, script_line};
 
 use clap::error::ErrorKind;
 use clap::{Arg, ArgAction, ArgMatches, Command};
 use run_commands::{sched, threads};
+use script_asm::AsmFault;
 use std::alloc::{AllocError, Global};
 use std::io::{Read, Write};
 use std::rt::{Env, Files};
 use std::sync::Wait;
 use std::thread::Threads;
 use std::{env, fs, io};
-use text_commands::{asm, check};
+use text_commands::{Failure, asm, check, status_after};
 use tx_history::{Piece, put_pieces};
 
 /// Why the program's words say nothing that can be done.
@@ -39,14 +42,29 @@ enum Task {
     Check,
 }
 
-/// Says a line on the error writer, and answers the status; where the line cannot be written, the status is 5.
-fn say<E: Write>(errors: &mut E, line: &[u8], status: u8) -> u8
-    ensures { Says line.now status result (E.contents errors.old) (E.contents errors.new) }
+/// Says on the errors why no text came to a command, and answers the program's status.
+fn tell_no_text<E: Write>(errors: &mut E, failure: Failure<AsmFault>) -> u8
+    ensures { Says (failure_line script_line failure) (failure_status failure) result (E.contents errors.old) (E.contents
+        errors.new) }
 {
-    match put_pieces(errors, &[Piece::Text(line)]) {
-        Ok(()) => status,
-        Err(_) => 5,
-    }
+    failure.tell(errors)
+}
+
+/// Writes the line on how the program is used.
+fn put_usage<E: Write>(errors: &mut E) -> io::Result<()>
+    ensures { Puts (E.contents errors.old) (E.contents errors.new) result usage_line }
+{
+    put_pieces(
+        errors,
+        &[Piece::Text(b"itmrun: usage: itmrun asm|sched|threads|check FILE\n")],
+    )
+}
+
+/// Says on the errors how the program is used, and answers its status.
+fn tell_usage<E: Write>(errors: &mut E) -> u8
+    ensures { Says usage_line 1 result (E.contents errors.old) (E.contents errors.new) }
+{
+    status_after(put_usage(errors), 1)
 }
 
 /// Says why the words say nothing that can be done, and answers the program's status.
@@ -54,12 +72,8 @@ fn tell<E: Write>(errors: &mut E, fault: WordsFault) -> u8
     ensures { Says (fault_line fault) (fault_status fault) result (E.contents errors.old) (E.contents errors.new) }
 {
     match fault {
-        WordsFault::Usage => say(
-            errors,
-            b"itmrun: usage: itmrun asm|sched|threads|check FILE\n",
-            1,
-        ),
-        WordsFault::Memory => say(errors, b"itmrun: no memory\n", 4),
+        WordsFault::Usage => tell_usage(errors),
+        WordsFault::Memory => tell_no_text(errors, Failure::NoMemory),
     }
 }
 
@@ -160,7 +174,7 @@ fn do_file<T: Files + Input + Print + AllocGlobal + Threads + Wait, E: Write>(
     }
     match fs::open(rt, path) {
         Ok(mut file) => do_task(rt, task, &mut file, errors),
-        Err(_) => say(errors, b"itmrun: reading failed\n", 5),
+        Err(_) => tell_no_text(errors, Failure::Reading),
     }
 }
 

@@ -8,10 +8,10 @@ pub returns-in-Usage : goal.returns-in-Usage
 unfolding fault_line
 returns-in-Usage g c =
     let contents = g.E.Write.contents in
-    subst (λ (f : WordsFault). Says (fault_line f) (fault_status f) c.say.result (contents c.args.errors.now) (contents c.say.new.errors)) (sym c.in-Usage.is) c.say.ensures
+    subst (λ (f : WordsFault). Says (fault_line f) (fault_status f) c.tell_usage.result (contents c.args.errors.now) (contents c.tell_usage.new.errors)) (sym c.in-Usage.is) c.tell_usage.ensures
 
 pub returns-in-Memory : goal.returns-in-Memory
 unfolding fault_line
 returns-in-Memory g c =
     let contents = g.E.Write.contents in
-    subst (λ (f : WordsFault). Says (fault_line f) (fault_status f) c.say-in-Memory.result (contents c.args.errors.now) (contents c.say-in-Memory.new.errors)) (sym c.in-Memory.is) c.say-in-Memory.ensures
+    subst (λ (f : WordsFault). Says (fault_line f) (fault_status f) c.tell_no_text.result (contents c.args.errors.now) (contents c.tell_no_text.new.errors)) (sym c.in-Memory.is) c.tell_no_text.ensures
