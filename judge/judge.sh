@@ -1,0 +1,78 @@
+#!/bin/sh
+# sh judge/judge.sh PROGRAM.c [THREADS [METHOD]]
+#
+# Compiles a program with `gcc -fgnu-tm`, runs it with each call of its TM runtime recorded, and judges the run by
+# `itmrun check`. THREADS, the program's first argument, is 4 where it is not given. METHOD is one of libitm's: ml_wt,
+# gl_wt, serial, serialirr, serialirr_onwrite; or `default`, which names none; or `all`, each of them in turn.
+#
+# Environment:
+#   RUNTIME   another library with the same entry points, instead of GCC's libitm
+#   ORDER     how the order of the commits becomes known: `outside` (the default) or `inside`
+#   PAUSES    one call in about so many sleeps first, so that tries meet: 60 where it is not set, 0 for none
+#   LIMIT     seconds after which the program is ended: 60 where it is not set
+#   ARGS      further arguments of the program
+#   CFLAGS    for the compiler, -O2 where it is not set
+#   WORK      a folder for all files, which stay; without it they stay only where a run is not legal
+#   ITMRUN    the judge, instead of this repository's own
+#
+# A line for each run tells program, threads, method and verdict. The exit status is the worst of all: 0 legal, 1 nothing
+# to judge, 3 not legal, 4 undecided. README.md tells what each is worth.
+set -u
+here=$(CDPATH= cd -- "$(dirname -- "$0")" && pwd) || exit 1
+
+usage() {
+    sed -n '2,/^set/s/^# \{0,1\}//p' "$0" | sed '$d' >&2
+    exit 1
+}
+
+[ $# -ge 1 ] && [ $# -le 3 ] && [ -f "$1" ] || usage
+program=$1 threads=${2:-4} methods=${3:-default}
+name=$(basename "$program" .c)
+[ "$methods" = all ] && methods='ml_wt gl_wt serial serialirr serialirr_onwrite default'
+ITMRUN=${ITMRUN:-$here/../itmrun} ITMRUN_PROVED=1
+export ITMRUN ITMRUN_PROVED PYTHONDONTWRITEBYTECODE=1
+
+work=${WORK:-$(mktemp -d)}
+mkdir -p "$work" || exit 1
+recorder=$work/recorder.so
+"${CC:-gcc}" -O2 -fPIC -shared -fvisibility=hidden -ftls-model=initial-exec -o "$recorder" "$here"/recorder/*.c || exit 1
+"${CC:-gcc}" ${CFLAGS:--O2} -g -fgnu-tm -pthread -o "$work/$name" "$program" || exit 1
+
+# run METHOD FILE: the program, recorded in FILE.recording
+run() (
+    unset ITM_DEFAULT_METHOD
+    [ "$1" = default ] || export ITM_DEFAULT_METHOD="$1"
+    # BELOW stands between the recorder and the runtime: a library with planted faults (test.sh)
+    timeout "${LIMIT:-60}" env RECORD_TO="$2.recording" RECORD_ORDER="${ORDER:-outside}" RECORD_PAUSES="${PAUSES:-60}" \
+        LD_PRELOAD="$recorder ${BELOW:-} ${RUNTIME:-}" "$work/$name" "$threads" ${ARGS:-}
+)
+
+# judge METHOD: one run, told in a line
+judge() {
+    file=$work/$name.$threads.$1
+    rm -f "$file".*
+    run "$1" "$file" >"$file.out" 2>"$file.err"
+    went=$?
+    printf '%-9s %2s %-17s ' "$name" "$threads" "$1"
+    if [ ! -s "$file.recording" ]; then
+        echo "no recording: the program ended with status $went"
+        sed 's/^/    /' "$file.err"
+        return 1
+    fi
+    python3 "$here/settle/settle.py" "$file.recording" "$file.history" "$work/$name"
+    verdict=$?
+    [ "$went" = 0 ] || echo "    the program ended with status $went"
+    sed -n 's/^recorder: /    /p' "$file.err" | sort | uniq -c | sort -rn | head -n 5 | sed 's/^ *[0-9]* //'
+    return "$verdict"
+}
+
+worst=0
+for method in $methods; do
+    judge "$method"
+    status=$?
+    [ "$status" -gt "$worst" ] && worst=$status
+done
+if [ -z "${WORK:-}" ]; then
+    if [ "$worst" = 0 ]; then rm -rf "$work"; else echo "    the files are in $work"; fi
+fi
+exit "$worst"

@@ -1,0 +1,64 @@
+/* How the recorder starts with the program's first transaction, and ends with the program. */
+#include "recorder.h"
+#include <dlfcn.h>
+#include <signal.h>
+#include <stdarg.h>
+#include <stdio.h>
+#include <stdlib.h>
+#include <sys/mman.h>
+#include <unistd.h>
+
+enum { CANNOT_RECORD = 99 };
+
+unsigned pauses;
+atomic_bool stopping;
+
+_Noreturn void fail(const char *form, ...) {
+    va_list values;
+    va_start(values, form);
+    fputs("recorder: ", stderr);
+    vfprintf(stderr, form, values);
+    putc('\n', stderr);
+    _exit(CANNOT_RECORD);
+}
+
+void *reserve(size_t size) {
+    void *at = mmap(0, size, PROT_READ | PROT_WRITE, MAP_PRIVATE | MAP_ANONYMOUS | MAP_NORESERVE, -1, 0);
+    if (at == MAP_FAILED) fail("no address space for %zu bytes", size);
+    return at;
+}
+
+void *next(const char *name) {
+    void *entry = dlsym(RTLD_NEXT, name);
+    if (!entry) fail("the runtime has no %s", name);
+    return entry;
+}
+
+void pause_now_and_then(void) {
+    static __thread uint32_t random;
+    random = (random ? random : (uint32_t)(uintptr_t)&random) * 1664525 + 1013904223;
+    if ((random >> 8) % pauses == 0) usleep(random >> 26);
+}
+
+/* The program crashes or is stopped: its recording goes up to here. */
+static void stopped(int signal) {
+    static atomic_flag once = ATOMIC_FLAG_INIT;
+    while (atomic_flag_test_and_set(&once)) pause();
+    fprintf(stderr, "recorder: signal %d\n", signal);
+    write_recording();
+    _exit(128 + signal);
+}
+
+void set_up(void) {
+    static const int stops[] = {SIGSEGV, SIGBUS, SIGFPE, SIGILL, SIGABRT, SIGTERM};
+    for (size_t i = 0; i < sizeof stops / sizeof *stops; i++) signal(stops[i], stopped);
+    const char *calls = getenv("RECORD_PAUSES");
+    pauses = calls ? atoi(calls) : 0;
+    runtime_begin = next("_ITM_beginTransaction");
+    open_order();
+    open_space();
+}
+
+static void __attribute__((destructor)) program_ends(void) {
+    if (thread_count) write_recording();
+}

@@ -1,0 +1,107 @@
+#!/usr/bin/env python3
+"""Judges a recording by `itmrun check`.
+
+    settle.py RECORDING HISTORY PROGRAM
+
+Chooses the positions that the recorder left open, writes the history, and has it judged. It goes to HISTORY, or in
+pieces to HISTORY.1, HISTORY.2 and so on where it is too large for one. The program is asked for the names of its places.
+ITMRUN is the judge. The status is 0 where the run is legal, 3 where it is not, 4 where that stays undecided."""
+
+import collections
+import gc
+import os
+import subprocess
+import sys
+
+import explain
+import history
+import machine
+import names
+import recording
+import search
+
+LEGAL, FAILED, BAD, UNDECIDED = 0, 1, 3, 4
+
+
+def place_misfit(found, one):
+    """Gives a try that fits nowhere a position, that where most of it fits."""
+    position = len(found.levels)
+    if one.commits:
+        one.at = min(max(position, one.low), one.high)
+        return
+    fitted = {}
+
+    def look(memory, at):
+        if one.low <= at <= one.high:
+            fitted[at] = machine.fitting(memory, one.calls)
+
+    found.follow(found.order(), look)
+    one.at = max(fitted, key=lambda at: (fitted[at], at), default=one.low)
+
+
+def settled(run):
+    """The tries with their positions, in the order in which they ended; the memory that they left; whether it was all
+    told. Where there is no order, the tries of the longest one and the first that does not fit behind it."""
+    found = search.Search(run.opening, run.tries, run.ends_well)
+    success = found.run()
+    stuck = found.stuck()
+    if not stuck:
+        return run.tries, found.memory, success, stuck
+    place_misfit(found, stuck[0])
+    placed = [one for queue, done in zip(found.queues, found.done) for one in queue[:done]]
+    return sorted([*placed, stuck[0]], key=lambda one: one.ended), found.memory, success, stuck
+
+
+def check(path):
+    """The verdict of the judge on a history: its words."""
+    run = subprocess.run([os.environ.get("ITMRUN", "itmrun"), "check", path], capture_output=True, text=True)
+    if run.returncode not in (LEGAL, BAD):
+        raise recording.Fault(f"itmrun: {run.stderr.strip()}")
+    return run.stdout.split()
+
+
+def summary(run):
+    counts = collections.Counter(one.outcome for one in run.tries)
+    return ", ".join(f"{count} {outcome}" for outcome, count in sorted(counts.items())) or "no tries"
+
+
+def judge(path, to, program):
+    run = recording.Recording(path)
+    tries, memory, success, stuck = settled(run)
+    known = not stuck and not run.unfinished
+    texts = [history.Text(piece) for piece in history.pieces(run, tries, memory, known)]
+    for number, text in enumerate(texts, 1):
+        text.path = to if len(texts) == 1 else f"{to}.{number}"
+        text.write(text.path)
+    if success is None:
+        print(f"undecided: too many orders of the commits  {summary(run)}")
+        return UNDECIDED
+    for text in texts:
+        verdict, *words = check(text.path)
+        if verdict != "legal":
+            line, kind = words
+            print(f"bad {kind}  {summary(run)}")
+            print(f"    {text.path}, line {line}")
+            told = explain.Explanation(run, names.Names(program, run), texts).lines(text, int(line), kind)
+            print("".join(f"    {line}\n" for line in told), end="")
+            return BAD
+    print(f"legal  {summary(run)}")
+    return LEGAL
+
+
+def main(words):
+    if len(words) != 3:
+        sys.exit("usage: settle.py RECORDING HISTORY PROGRAM")
+    gc.disable()  # nothing here is in a cycle
+    try:
+        return judge(*words)
+    except history.TooLarge:
+        print("undecided: a try touched more than a history holds")
+        return UNDECIDED
+    except (OSError, recording.Fault) as fault:
+        print(f"settle: {fault}", file=sys.stderr)
+        return FAILED
+
+
+if __name__ == "__main__":
+    sys.exit(main(sys.argv[1:]))
