@@ -64,8 +64,12 @@ ENTRY void *calloc(size_t number, size_t size) {
 ENTRY void free(void *p) {
     if ((uintptr_t)p - (uintptr_t)heap >= heap_size) return; /* none, or the loader's own */
     struct block *block = block_of(p);
-    if (atomic_exchange(&block->freed, 1)) fprintf(stderr, "recorder: %p is freed twice\n", p);
-    else memset(p, POISON, block->size);
+    if (atomic_exchange(&block->freed, 1)) {
+        fprintf(stderr, "recorder: memory is freed twice: %p\n", p);
+        return;
+    }
+    last_touch(p, block->size);
+    memset(p, POISON, block->size);
 }
 
 ENTRY void *realloc(void *p, size_t size) {

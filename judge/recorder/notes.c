@@ -4,7 +4,7 @@
 #include <sys/mman.h>
 
 /* for a thread's events */
-static const size_t buffer_size = (size_t)4 << 30;
+static const size_t buffer_size = (size_t)256 << 20;
 
 struct thread *threads[THREADS];
 atomic_int thread_count;
@@ -31,7 +31,7 @@ struct event *note(struct thread *t, enum kind kind, const char *name, uint64_t 
                    const void *data) {
     struct event *event = (struct event *)t->end;
     size_t total = event_size(data ? size : 0);
-    if (size > UINT32_MAX || total > buffer_size - (t->end - t->start)) fail("a thread's buffer is full");
+    if (total > buffer_size - (t->end - t->start)) stop_here("a thread has made too many calls", 0);
     *event = (struct event){name, a, b, size, kind};
     if (data) memcpy(event->data, data, size);
     t->end += total;

@@ -6,7 +6,7 @@
  *          more there: what it read is its position. That is exact, but each writer now conflicts with all others, so
  *          that faults in the validation of a commit are hidden.
  *
- * A try that did not commit comes behind the commits that had returned before it began, and before those that were called
+ * A try that did not commit, or has not ended, comes behind the commits that had returned before it began, and before those that were called
  * after it ended. */
 #include "recorder.h"
 #include <stdlib.h>
@@ -45,6 +45,15 @@ void open_order(void) {
 
 uint64_t commits_returned(void) {
     return returned(commits);
+}
+
+uint64_t commits_called(void) {
+    return called(commits);
+}
+
+/* A number that changes with each call of a commit and each return. */
+uint64_t commits_so_far(void) {
+    return commits;
 }
 
 /* Before the commit of an outermost block is passed on. */

@@ -47,7 +47,7 @@ void *next(const char *name);
 struct word {
     uint64_t opening;     /* its bytes as transactions first touched them */
     uint64_t known;       /* its bytes as the try that is irrevocable left them (irrevocable.c) */
-    uint32_t number;      /* among the touched words, by address (tell.c) */
+    uint32_t number;      /* among the words that are told, by address (tell.c) */
     _Atomic byte touched; /* a bit for each byte */
 };
 
@@ -61,11 +61,13 @@ struct region {
 extern struct region regions[];
 extern int region_count;
 extern struct word *words;
-extern size_t *touched_words; /* in the order in which they were touched */
+extern size_t *touched_words; /* by transactions, in the order of their first touch */
 extern size_t touched_count;
+extern size_t space; /* its bytes */
 
 void open_space(void);
 void first_touch(size_t word, byte bits);
+void last_touch(const void *p, size_t size);
 byte *address_of(size_t place);
 uint64_t mask_of(byte bits);
 
@@ -141,6 +143,7 @@ struct thread {
     struct own own[LOGS];   /* the memory of its own that the try logged */
     size_t own_count, arena;
     bool mixed; /* two logs have some bytes in common, and not all */
+    byte *told; /* the end of what is told of its events */
 };
 
 extern struct thread *threads[];
@@ -157,6 +160,8 @@ const struct event *event_after(const struct event *);
 extern bool inside;
 void open_order(void);
 uint64_t commits_returned(void);
+uint64_t commits_called(void);
+uint64_t commits_so_far(void);
 void commit_called(struct thread *);
 void try_ended(struct thread *, const char *outcome);
 
@@ -179,6 +184,7 @@ extern void *runtime_begin;
 void set_up(void);
 void pause_now_and_then(void);
 void write_recording(void);
+_Noreturn void stop_here(const char *why, int number);
 
 /* Before a call is passed on. The thread where it is in a transaction. */
 static inline struct thread *before(void) {

@@ -11,8 +11,8 @@ int region_count;
 struct word *words;
 size_t *touched_words;
 size_t touched_count;
+size_t space;
 
-static size_t space;
 static atomic_flag touching = ATOMIC_FLAG_INIT;
 
 static void add_region(void *at, size_t size) {
@@ -35,8 +35,8 @@ static int add_program(struct dl_phdr_info *object, size_t size, void *none) {
 void open_space(void) {
     dl_iterate_phdr(add_program, 0);
     add_region(heap_memory(), heap_size);
-    words = reserve(space / 8 * sizeof *words);
     touched_words = reserve(space / 8 * sizeof *touched_words);
+    words = reserve(space / 8 * sizeof *words);
 }
 
 byte *address_of(size_t place) {
@@ -53,14 +53,33 @@ uint64_t mask_of(byte bits) {
     return mask;
 }
 
-void first_touch(size_t word, byte bits) {
-    while (atomic_flag_test_and_set_explicit(&touching, memory_order_acquire));
+static void keep_opening(size_t word, byte bits) {
     struct word *w = &words[word];
-    byte before = w->touched;
-    uint64_t fresh = mask_of(bits & ~before), now = word_now(word);
+    uint64_t fresh = mask_of(bits & ~w->touched), now = word_now(word);
     w->opening |= now & fresh;
     w->known = (w->known & ~fresh) | (now & fresh);
-    if (!before) touched_words[touched_count++] = word;
-    atomic_store_explicit(&w->touched, before | bits, memory_order_release);
+    atomic_store_explicit(&w->touched, w->touched | bits, memory_order_release);
+}
+
+static void lock(void) {
+    while (atomic_flag_test_and_set_explicit(&touching, memory_order_acquire));
+}
+
+static void unlock(void) {
     atomic_flag_clear_explicit(&touching, memory_order_release);
+}
+
+void first_touch(size_t word, byte bits) {
+    lock();
+    if (!words[word].touched) touched_words[touched_count++] = word;
+    keep_opening(word, bits);
+    unlock();
+}
+
+/* Before memory of the heap is freed: whoever touches it from now on is compared with what it was. */
+void last_touch(const void *p, size_t size) {
+    if (!words) return;
+    lock();
+    for (size_t word = place_of(p, size) / 8, count = (size + 7) / 8; count; count--) keep_opening(word++, 0xff);
+    unlock();
 }

@@ -40,13 +40,17 @@ void pause_now_and_then(void) {
     if ((random >> 8) % pauses == 0) usleep(random >> 26);
 }
 
-/* The program crashes or is stopped: its recording goes up to here. */
-static void stopped(int signal) {
+/* Writes the recording up to here, and ends the program. */
+_Noreturn void stop_here(const char *why, int number) {
     static atomic_flag once = ATOMIC_FLAG_INIT;
     while (atomic_flag_test_and_set(&once)) pause();
-    fprintf(stderr, "recorder: signal %d\n", signal);
+    fprintf(stderr, "recorder: stopped: %s %d\n", why, number);
     write_recording();
-    _exit(128 + signal);
+    _exit(128 + number);
+}
+
+static void stopped(int signal) {
+    stop_here("signal", signal);
 }
 
 void set_up(void) {

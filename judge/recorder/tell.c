@@ -1,5 +1,5 @@
-/* The recording, as a text. Its calls are lines of a history (docs/HISTORIES.md) on the words that transactions touched,
- * side by side by address. What a history has not:
+/* The recording, as a text. Its calls are lines of a history (docs/HISTORIES.md) on the words that they name, side by side
+ * by address. What a history has not:
  *
  *     itm-recording 1
  *     program ADDRESS                         where it was loaded
@@ -8,7 +8,8 @@
  *     attempt THREAD TRY LOW HIGH OUTCOME PROPS   a try with the range of its position
  *     unfinished N                            in place of the final line: so many tries have not ended
  *
- * Tries stand in the order in which they ended. */
+ * Tries stand in the order in which they ended, and then those that have not: `unfinished` ones, and `committing` ones,
+ * whose commit was called and has not returned, so that it may be done or not. An irrevocable one is left out. */
 #include "recorder.h"
 #include <link.h>
 #include <stdio.h>
@@ -18,6 +19,9 @@
 struct try {
     const struct event *from, *end;
     int thread;
+    uint64_t key; /* by how many commits had returned as it ended; a commit is itself one more */
+    uint64_t low, high;
+    const char *outcome;
 };
 
 static FILE *out;
@@ -86,10 +90,11 @@ static void tell_arena(const struct try *try) {
 
 static void tell_try(const struct try *try) {
     const struct event *from = try->from, *end = try->end;
-    fprintf(out, "attempt %d %d %llu %llu %s %s\n", try->thread, (int)from->b, (unsigned long long)end->a,
-            (unsigned long long)end->b, end->name, named(from->a));
+    fprintf(out, "attempt %d %d %llu %llu %s %s\n", try->thread, (int)from->b, (unsigned long long)try->low,
+            (unsigned long long)try->high, try->outcome, named(from->a));
     tell_arena(try);
     for (const struct event *e = event_after(from); e != end; e = event_after(e)) tell_call(e);
+    if (!strcmp(try->outcome, "committing")) fputs("call _ITM_commitTransaction = ok\n", out);
     fputs("end\n", out);
 }
 
@@ -114,56 +119,107 @@ static const struct block *block_with(const byte *at) {
     return last = block;
 }
 
-static void tell_words(void) {
-    qsort(touched_words, touched_count, sizeof *touched_words, by_place);
-    for (size_t i = 0; i < touched_count; i++) {
-        struct word *word = &words[touched_words[i]];
-        const byte *at = address_of(8 * touched_words[i]);
-        uint64_t now = word_now(touched_words[i]) & mask_of(word->touched);
-        const struct block *block = block_with(at);
-        word->number = i;
-        fprintf(out, "word %lx ", (long)at);
-        tell_hex(&word->opening, 8);
-        putc_unlocked(' ', out);
-        tell_hex(&now, 8);
-        fputs(block && block->freed ? " 0\n" : " 1\n", out);
+static void tell_word(size_t place) {
+    const struct word *word = &words[place / 8];
+    const byte *at = address_of(place);
+    uint64_t now = word_now(place / 8) & mask_of(word->touched);
+    const struct block *block = block_with(at);
+    fprintf(out, "word %lx ", (long)at);
+    tell_hex(&word->opening, 8);
+    putc_unlocked(' ', out);
+    tell_hex(&now, 8);
+    fputs(block && block->freed ? " 0\n" : " 1\n", out);
+}
+
+static size_t *told_words, told_count;
+
+static void find_words(size_t place, size_t size) {
+    for (size_t word = place / 8; word <= (place + size - 1) / 8; word++) {
+        if (words[word].number) continue;
+        words[word].number = 1;
+        told_words[told_count++] = 8 * word;
+    }
+}
+
+/* The words that the calls of these tries name, by address, get their numbers. */
+static void tell_words(const struct try *tries, size_t count) {
+    told_words = reserve(space / 8 * sizeof *told_words);
+    for (const struct try *try = tries; try < tries + count; try++)
+        for (const struct event *e = try->from; e != try->end; e = event_after(e)) {
+            bool names_words = e->kind == READ || e->kind == WRITE || e->kind == COPY || e->kind == SET;
+            if (names_words) find_words(e->a, e->size);
+            if (e->kind == COPY) find_words(e->b, e->size);
+        }
+    qsort(told_words, told_count, sizeof *told_words, by_place);
+    for (size_t i = 0; i < told_count; i++) {
+        words[told_words[i] / 8].number = i;
+        tell_word(told_words[i]);
     }
 }
 
 /* -- tries -- */
 
-/* As they ended: by how many commits had returned, and of a commit it is itself one more. */
+/* A moment at which no commit returns, with what each thread had done by then. Commits that are under way are given some
+ * time to return; no try begins any more. How many have not ended. */
+static int stop_tries(void) {
+    int open = 1;
+    stopping = true;
+    for (int turn = 0; open && turn < 100; turn++) {
+        if (turn) usleep(1000);
+        open = 0;
+        for (int i = 0; i < thread_count; i++) open += threads[i] && threads[i]->depth;
+    }
+    for (uint64_t now = ~commits_so_far(); now != commits_so_far();) {
+        now = commits_so_far();
+        for (int i = 0; i < thread_count; i++)
+            if (threads[i]) threads[i]->told = threads[i]->end;
+    }
+    return open;
+}
+
 static int by_end(const void *x, const void *y) {
     const struct try *a = x, *b = y;
-    uint64_t mine = 2ull * a->end->size + !strcmp(a->end->name, "committed");
-    uint64_t other = 2ull * b->end->size + !strcmp(b->end->name, "committed");
-    if (mine != other) return mine < other ? -1 : 1;
+    if (a->key != b->key) return a->key < b->key ? -1 : 1;
     if (a->thread != b->thread) return a->thread - b->thread;
     return a->from < b->from ? -1 : a->from > b->from;
 }
 
-/* The tries of a thread that have ended, or just their number. */
+static struct try ended(const struct event *from, const struct event *end, int thread) {
+    uint64_t key = 2ull * end->size + !strcmp(end->name, "committed");
+    return (struct try){from, end, thread, key, end->a, end->b, end->name};
+}
+
+static struct try unfinished(const struct event *from, const struct thread *t, int thread) {
+    uint64_t low = t->committing ? t->position : t->low, high = commits_called();
+    const char *outcome = t->committing ? "committing" : "unfinished";
+    return (struct try){from, (const struct event *)t->told, thread, UINT64_MAX, low, inside && t->committing ? low : high, outcome};
+}
+
+/* A thread's tries, or just their number. */
 static size_t tries_of(int number, struct try *tries) {
     const struct thread *t = threads[number];
     const struct event *from = 0;
     size_t count = 0;
     if (!t) return 0;
-    for (const struct event *e = (void *)t->start; (const byte *)e < t->end; e = event_after(e)) {
+    for (const struct event *e = (void *)t->start; (const byte *)e < t->told; e = event_after(e)) {
         if (e->kind == TRY) from = e;
         if (e->kind != END) continue;
-        if (tries) tries[count] = (struct try){from, e, number};
-        count++;
+        if (tries) tries[count] = ended(from, e, number);
+        count++, from = 0;
     }
-    return count;
+    if (!from || t->irrevocable) return count;
+    if (tries) tries[count] = unfinished(from, t, number);
+    return count + 1;
 }
 
-static void tell_tries(void) {
+static void tell_words_and_tries(void) {
     size_t count = 0;
     for (int i = 0; i < thread_count; i++) count += tries_of(i, 0);
     struct try *tries = reserve((count + 1) * sizeof *tries), *end = tries;
     for (int i = 0; i < thread_count; i++) end += tries_of(i, end);
     qsort(tries, count, sizeof *tries, by_end);
-    for (struct try *try = tries; try < end; try++) tell_try(try);
+    tell_words(tries, count);
+    for (struct try *try = tries; try < tries + count; try++) tell_try(try);
 }
 
 static int program_base(struct dl_phdr_info *object, size_t size, void *base) {
@@ -172,22 +228,10 @@ static int program_base(struct dl_phdr_info *object, size_t size, void *base) {
     return 1;
 }
 
-/* Lets commits that are under way return, and counts the tries that have not ended. */
-static int unfinished(void) {
-    int count = 0;
-    for (int turn = 0; turn < 2; turn++) {
-        count = 0;
-        for (int i = 0; i < thread_count; i++) count += threads[i] && threads[i]->depth;
-        if (count && !turn) usleep(100000);
-    }
-    return count;
-}
-
 void write_recording(void) {
     const char *name = getenv("RECORD_TO");
     if (!name) return;
-    stopping = true;
-    int open = unfinished();
+    int open = stop_tries();
     uint64_t elsewhere = 0;
     unsigned long base = 0;
     for (int i = 0; i < thread_count; i++) elsewhere += threads[i] ? threads[i]->elsewhere : 0;
@@ -196,8 +240,7 @@ void write_recording(void) {
     if (!out) fail("%s cannot be written", name);
     setvbuf(out, 0, _IOFBF, 1 << 20);
     fprintf(out, "itm-recording 1\nprogram %lx\n", base);
-    tell_words();
-    tell_tries();
+    tell_words_and_tries();
     fprintf(out, "unfinished %d\n", open);
     if (fclose(out)) fail("%s cannot be written", name);
     if (elsewhere) fprintf(stderr, "recorder: %llu accesses to other memory are left out\n", (unsigned long long)elsewhere);

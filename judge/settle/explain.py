@@ -5,84 +5,141 @@ import machine
 from recording import WORD
 
 
+FREED = 0xDB  # what recorder/heap.c fills freed memory with
+SIZES = {"U1": 1, "U2": 2, "U4": 4, "U8": 8, "F": 4, "D": 8, "M64": 8, "CF": 8, "M128": 16, "CD": 16, "M256": 32}
+
+
+def ordinal(number):
+    """1st, 2nd, 3rd, 4th, 11th, .."""
+    if number % 100 in (11, 12, 13):
+        return f"{number}th"
+    return f"{number}{ {1: 'st', 2: 'nd', 3: 'rd'}.get(number % 10, 'th')}"
+
+
 def whose(one):
-    again = f", entered for the {one.number}th time" if one.number > 1 else ""
-    where = f"{one.low} to {one.high}" if one.low != one.high else f"{one.low}"
-    return f"a {one.outcome} try of thread {one.thread}{again}; by its time its position is {where}"
+    range_ = f"{one.low} to {one.high}" if one.low != one.high else f"{one.low}"
+    outcome = "committed" if one.may_commit else one.outcome
+    return [
+        f"thread {one.thread}, {ordinal(one.number)} try of its block, {outcome}",
+        f"it stands after {one.at} commits; by its time that may be {range_}",
+    ]
+
+
+def writes_to(calls, start, stop):
+    """Whether one of these calls writes to any of these bytes."""
+    kinds = (machine.WRITE, machine.COPY, machine.FILL)
+    return any(call[0] in kinds and call[1] < stop and start < call[2] for call in calls)
+
+
+def _named(call):
+    """The entry of a call's line, its place and its size, or None, if they are of the thread's own memory."""
+    name, place, *rest = call.split()[1:]
+    if name == "_ITM_LB":
+        return "log", int(place), int(rest[0])
+    if name.startswith("_ITM_L"):
+        return "log", int(place), SIZES[name.removeprefix("_ITM_L")]
+    if name[:2] in ("ld", "st"):
+        return name[:2], int(place), int(name[2:])
+    return name, place, None
+
+
+def own_due(lines):
+    """What the plain machine has of the thread's own memory at the last of these lines of a try, which loads it."""
+    arena = bytearray.fromhex(lines[0].split()[1])
+    kept = [{}]  # of each open block what its logs keep
+    for line in lines[1:-1]:
+        name, place, size = _named(line)
+        if name == "log":
+            for at in range(place, place + size):
+                kept[-1].setdefault(at, arena[at])
+        elif name == "st":
+            arena[place : place + size] = bytes.fromhex(line.split()[3])
+        elif name == "_ITM_beginTransaction":
+            kept.append({})
+        elif name == "_ITM_commitTransaction":
+            inner = kept.pop()
+            kept[-1] = {**inner, **kept[-1]}
+        elif name == "_ITM_abortTransaction":
+            for at, byte in kept.pop().items():
+                arena[at] = byte
+    _, place, size = _named(lines[-1])
+    return arena[place : place + size]
 
 
 class Explanation:
-    def __init__(self, recording, names, texts):
-        self.recording, self.names, self.texts = recording, names, texts
+    """What can be told of a run that was settled, and written as these texts."""
+
+    def __init__(self, run, names, texts):
+        self.run, self.names, self.texts = run, names, texts
+        self.lines_of = {id(one): (text.path, line) for text in texts for one, line in zip(text.piece.tries, text.heads)}
         tries = [one for text in texts for one in text.piece.tries]
         self.order = sorted((one for one in tries if one.commits), key=lambda one: one.at)
 
-    def lines(self, text, line, kind):
-        """About a verdict on one of the texts."""
+    def about(self, text, line, kind):
+        """Lines on a verdict on one of the texts."""
         one, row = text.at_line(line)
         if one is None:
-            return self._final()
-        told = [whose(one), f"it stands at position {one.at}, after {one.at} commits"]
+            return self._final(text)
         if kind == "position":
-            return told + ["another commit must have this position, or there is none such"]
+            return whose(one) + ["another commit stands there, or there are not so many"]
         if kind != "reply":
-            return told
+            return whose(one)
         call = one.lines[row - 1].strip()
-        reads = machine.parse(call.split())
-        return [call] + (self._read(one) if reads else self._own(call)) + told
+        if call.startswith("call ld"):
+            due = own_due(one.lines[:row]).hex()
+            told = [f"the thread's own memory, which the block had logged, has to be {due} again"]
+        else:
+            told = self._read(one)
+        return [call, *told, *whose(one)]
 
-    def _memory_at(self, position, each=lambda memory, one: None):
-        """The plain machine's memory after so many commits."""
-        memory = bytearray(self.recording.opening)
-        for one in self.order[:position]:
-            each(memory, one)
+    def _memory_after(self, commits, look=lambda memory, one: None):
+        """The plain machine's memory after so many commits; looks at it before each."""
+        memory = bytearray(self.run.opening)
+        for one in self.order[:commits]:
+            look(memory, one)
             machine.run(memory, one.calls)
         return memory
 
     def _read(self, one):
-        """About a read that does not fit."""
-        memory = self._memory_at(one.at)
+        """Lines on a read that does not fit."""
+        memory = self._memory_after(one.at)
         _, done = machine.run(memory, one.calls)
         _, start, stop, told = one.calls[done]
-        due, earlier, writer = memory[start:stop], [], []
+        due, writers, had = memory[start:stop], [], []
 
-        def watch(memory, commit):
+        def look(memory, commit):
             if memory[start:stop] == told:
-                earlier.append(commit)
-            if any(a < stop and start < b and call[0] != machine.READ for call in commit.calls for a, b in call_ranges(call)):
-                writer.append(commit)
+                had.append(commit)
+            if writes_to(commit.calls, start, stop):
+                writers.append(commit)
 
-        self._memory_at(one.at, watch)
-        lines = [f"the plain machine has {due.hex()} there, {self._by(writer)}", f"place {start} is {self._spread(start, stop)}"]
-        if earlier:
-            lines.append(f"{told.hex()} stood there last before the commit at position {earlier[-1].at}, {short(earlier[-1])}")
+        self._memory_after(one.at, look)
+        own = writes_to(one.calls[:done], start, stop)
+        by = "by this try itself, or a block in it" if own else self._by(writers[-1]) if writers else "as at the start"
+        lines = [f"the plain machine has {due.hex()} there: {by}", f"place {start} is {self._spread(start, stop)}"]
+        if had:
+            lines.append(f"{told.hex()} stood there last before {self._commit(had[-1])}")
+        if set(told) == {FREED}:
+            lines.append("that is what the judge fills memory with as it is freed")
         return lines
 
-    def _by(self, writer):
-        return f"written by the commit at position {writer[-1].at}, {short(writer[-1])}" if writer else "as at the start"
+    def _by(self, one):
+        return f"written by {self._commit(one)}"
+
+    def _commit(self, one):
+        path, line = self.lines_of[id(one)]
+        return f"commit {one.at}, of thread {one.thread}, line {line}" + (f" of {path}" if len(self.texts) > 1 else "")
 
     def _spread(self, start, stop):
         first, last = self.names.of(start), self.names.of(stop - 1)
-        return first if stop - start <= WORD or first == last else f"{first} up to {last}"
+        return first if stop - start <= WORD else f"{first} up to {last}"
 
-    def _own(self, call):
-        return [f"the thread's own memory is not what it was at its log: {call}"]
-
-    def _final(self):
-        """About last bytes that are not those that the commits left."""
-        memory, text = self._memory_at(len(self.order)), self.texts[-1]
-        told = text.piece.final
+    def _final(self, text):
+        """Lines on last bytes that are not those that the commits left."""
+        memory, told = self._memory_after(len(self.order)), text.piece.final
         wrong = [at for at in range(0, len(memory), WORD) if memory[at : at + WORD] != told[at : at + WORD]]
-        lines = [f"{len(wrong)} words at the end are not what the commits left"]
+        lines = [f"{len(wrong)} words are at the end not what the commits left"]
         for at in wrong[:3]:
             left, now = memory[at : at + WORD].hex(), told[at : at + WORD].hex()
-            lines.append(f"{self.names.of(at)}: {now}, and the plain machine has {left}")
+            lines.append(f"{self.names.of(at)} is {now}; the plain machine has {left}")
         return lines
-
-
-def short(one):
-    return f"by thread {one.thread}"
-
-
-def call_ranges(call):
-    return [call[1:3]] if call[0] <= machine.FILL else []

@@ -76,8 +76,8 @@ class Text:
         return WORD * self.numbers[place // WORD] + place % WORD
 
     def _try(self, one):
-        at = one.at - self.piece.first
-        yield f"attempt {one.thread % THREADS} {one.number} {at} {one.outcome} {one.props}\n"
+        at, outcome = one.at - self.piece.first, "committed" if one.may_commit else one.outcome
+        yield f"attempt {one.thread % THREADS} {one.number} {at} {outcome} {one.props}\n"
         if self.numbers is None:
             yield from one.lines
         else:

@@ -5,8 +5,7 @@ import bisect
 import re
 import subprocess
 
-_ENTRY = re.compile(r" <\w+><(\w+)>: Abbrev Number: \d+ \(DW_TAG_(\w+)\)")
-_DEPTH = re.compile(r" <(\w+)>")
+_ENTRY = re.compile(r" <(\d+)><(\w+)>: Abbrev Number: \d+ \(DW_TAG_(\w+)\)")
 _FIELD = re.compile(r"\s+<\w+>\s+DW_AT_(\w+)\s*:\s*(.*?)\s*$")
 
 
@@ -23,8 +22,8 @@ def _entries(program):
     for line in _printed("readelf", "--debug-dump=info", program).splitlines():
         head, field = _ENTRY.match(line), _FIELD.match(line)
         if head:
-            depth = int(_DEPTH.match(line)[1], 16)
-            entry = entries[int(head[1], 16)] = {"tag": head[2], "members": []}
+            depth = int(head[1])
+            entry = entries[int(head[2], 16)] = {"tag": head[3], "members": []}
             parents[depth] = entry
             if depth:
                 parents[depth - 1]["members"].append(entry)

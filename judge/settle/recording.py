@@ -27,7 +27,12 @@ class Try:
 
     @property
     def commits(self):
-        return self.outcome == "committed"
+        return self.outcome == "committed" or self.may_commit
+
+    @property
+    def may_commit(self):
+        """Whether its commit was called and has not returned: it may be done or not."""
+        return self.outcome == "committing"
 
 
 class Recording:

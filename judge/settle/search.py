@@ -29,8 +29,9 @@ class Search:
         self.failed = set()
 
     def fronts(self):
-        """The next try of each thread."""
-        return [queue[done] for queue, done in zip(self.queues, self.done) if done < len(queue)]
+        """The next try of each thread that has one, without those that need no place."""
+        fronts = (queue[done] for queue, done in zip(self.queues, self.done) if done < len(queue))
+        return [one for one in fronts if not one.may_commit]
 
     def _state(self):
         return tuple(self.done), hashlib.blake2b(self.memory, digest_size=16).digest()

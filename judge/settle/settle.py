@@ -45,11 +45,11 @@ def settled(run):
     found = search.Search(run.opening, run.tries, run.ends_well)
     success = found.run()
     stuck = found.stuck()
-    if not stuck:
-        return run.tries, found.memory, success, stuck
-    place_misfit(found, stuck[0])
     placed = [one for queue, done in zip(found.queues, found.done) for one in queue[:done]]
-    return sorted([*placed, stuck[0]], key=lambda one: one.ended), found.memory, success, stuck
+    if stuck:
+        place_misfit(found, stuck[0])
+        placed.append(stuck[0])
+    return sorted(placed, key=lambda one: one.ended), found.memory, success, stuck
 
 
 def check(path):
@@ -82,7 +82,7 @@ def judge(path, to, program):
             line, kind = words
             print(f"bad {kind}  {summary(run)}")
             print(f"    {text.path}, line {line}")
-            told = explain.Explanation(run, names.Names(program, run), texts).lines(text, int(line), kind)
+            told = explain.Explanation(run, names.Names(program, run), texts).about(text, int(line), kind)
             print("".join(f"    {line}\n" for line in told), end="")
             return BAD
     print(f"legal  {summary(run)}")
