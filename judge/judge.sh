@@ -15,8 +15,8 @@
 #   WORK      a folder for all files, which stay; without it they stay only where a run is not legal
 #   ITMRUN    the judge, instead of this repository's own
 #
-# A line for each run tells program, threads, method and verdict. The exit status is the worst of all: 0 legal, 1 nothing
-# to judge, 3 not legal, 4 undecided. README.md tells what each is worth.
+# A line for each run tells program, threads, method and verdict. The exit status is the worst of all: 0 legal,
+# 1 nothing to judge, 3 not legal, 4 undecided. README.md tells what each is worth.
 set -u
 here=$(CDPATH= cd -- "$(dirname -- "$0")" && pwd) || exit 1
 
@@ -35,8 +35,10 @@ export ITMRUN ITMRUN_PROVED PYTHONDONTWRITEBYTECODE=1
 work=${WORK:-$(mktemp -d)}
 mkdir -p "$work" || exit 1
 recorder=$work/recorder.so
-"${CC:-gcc}" -O2 -fPIC -shared -fvisibility=hidden -ftls-model=initial-exec -o "$recorder" "$here"/recorder/*.c || exit 1
-"${CC:-gcc}" ${CFLAGS:--O2} -g -fgnu-tm -pthread -o "$work/$name" "$program" || exit 1
+if [ ! -f "$recorder" ] || [ -n "$(find "$here/recorder" -newer "$recorder")" ]; then
+    gcc -O2 -fPIC -shared -fvisibility=hidden -ftls-model=initial-exec -o "$recorder" "$here"/recorder/*.c || exit 1
+fi
+gcc ${CFLAGS:--O2} -g -fgnu-tm -pthread -o "$work/$name" "$program" || exit 1
 
 # run METHOD FILE: the program, recorded in FILE.recording
 run() (

@@ -1,5 +1,5 @@
-/* Makes a runtime faulty, to see that it is told: a library below the recorder and above the runtime, that serves one in
- * so many calls wrongly.
+/* Makes a runtime faulty, to see that it is told: a library below the recorder and above the runtime, that serves one
+ * in so many calls wrongly.
  *
  * FAULT   stale  a read gives what was there before the last write
  *         blind  a read looks at memory itself: what it saw is never validated

@@ -1,6 +1,6 @@
 /* A sorted list on the heap. Nodes are made before a transaction, and filled by plain stores, or inside; they are freed
- * inside, or behind the transaction that took them out. A block that has made or freed a node may cancel itself; what it
- * wrote to shared memory by then it had looked at before (undo.c has the other way). */
+ * inside, or behind the transaction that took them out. A block that has made or freed a node may cancel itself; what
+ * it wrote to shared memory by then it had looked at before (undo.c has the other way). */
 #include "program.h"
 
 enum { KEYS = 48 };

@@ -1,5 +1,5 @@
-/* Begins. The runtime saves its caller's registers and place on the stack, and comes back there as often as it likes. So
- * the call is passed on by a jump, with the stack as it was, but for the address to which it returns: that is
+/* Begins. The runtime saves its caller's registers and place on the stack, and comes back there as often as it likes.
+ * So the call is passed on by a jump, with the stack as it was, but for the address to which it returns: that is
  * begin_returned, which notes the answer and asks where the program goes on. */
 #include "recorder.h"
 #include <unistd.h>
@@ -26,7 +26,8 @@ static void open_inner(struct thread *t, uint32_t props) {
 }
 
 /* Before a begin is passed on. The properties for the runtime: code without barriers must not run where there is some
- * with them, as nothing of it would be seen. An inner block with barriers becomes irrevocable by its mode call alone. */
+ * with them, as nothing of it would be seen. An inner block with barriers becomes irrevocable by its mode call alone.
+ * */
 uint32_t begin_called(uint32_t props, void *back) {
     struct thread *t = before();
     bool has_barriers = props & INSTRUMENTED;

@@ -1,7 +1,7 @@
 /* The program's malloc: a region of its own that reuses nothing. So what a place of the history stands for never
- * changes, and a node's first bytes are those that its owner gave it before transactions saw it. What is freed is filled
- * with 0xdb: a transaction that still reads it, since the runtime freed it too early or let its owner free it while others
- * could see it, reads what no commit wrote. */
+ * changes, and a node's first bytes are those that its owner gave it before transactions saw it. What is freed is
+ * filled with 0xdb: a transaction that still reads it, since the runtime freed it too early or let its owner free it
+ * while others could see it, reads what no commit wrote. */
 #include "recorder.h"
 #include <errno.h>
 #include <malloc.h>

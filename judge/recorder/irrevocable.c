@@ -1,5 +1,6 @@
-/* Irrevocable tries. They run alone, and GCC lets them store without the ABI. So the bytes that transactions have touched
- * are compared before each call, and what has changed is noted as writes. What they read without the ABI is not seen. */
+/* Irrevocable tries. They run alone, and GCC lets them store without the ABI. So the bytes that transactions have
+ * touched are compared before each call, and what has changed is noted as writes. What they read without the ABI is not
+ * seen. */
 #include "recorder.h"
 
 /* GCC gives pr_hasNoIrrevocable also to blocks in which it emits the mode call itself: it is taken back, or the plain

@@ -6,8 +6,8 @@
  *          more there: what it read is its position. That is exact, but each writer now conflicts with all others, so
  *          that faults in the validation of a commit are hidden.
  *
- * A try that did not commit, or has not ended, comes behind the commits that had returned before it began, and before those that were called
- * after it ended. */
+ * A try that did not commit, or has not ended, comes behind the commits that had returned before it began, and before
+ * those that were called after it ended. */
 #include "recorder.h"
 #include <stdlib.h>
 

@@ -1,7 +1,7 @@
 /* What the files of the recorder share: the shared memory, the notes of a thread, and what is done before each call.
  *
- * The recorder stands between a program built with `gcc -fgnu-tm` and its runtime (LD_PRELOAD, x86-64). Each call of the
- * TM ABI is passed on and noted. At exit, or where the program crashes, tell.c writes the recording.
+ * The recorder stands between a program built with `gcc -fgnu-tm` and its runtime (LD_PRELOAD, x86-64). Each call of
+ * the TM ABI is passed on and noted. At exit, or where the program crashes, tell.c writes the recording.
  *
  * RECORD_TO      the file of the recording; nothing is recorded where it is not set
  * RECORD_ORDER   how the order of the commits becomes known, `outside` or `inside` (order.c)

@@ -71,9 +71,9 @@ class Explanation:
 
     def __init__(self, run, names, texts):
         self.run, self.names, self.texts = run, names, texts
-        self.lines_of = {id(one): (text.path, line) for text in texts for one, line in zip(text.piece.tries, text.heads)}
-        tries = [one for text in texts for one in text.piece.tries]
-        self.order = sorted((one for one in tries if one.commits), key=lambda one: one.at)
+        placed = [(one, text.path, line) for text in texts for one, line in zip(text.piece.tries, text.heads)]
+        self.line_of = {id(one): (path, line) for one, path, line in placed}
+        self.order = sorted((one for one, _, _ in placed if one.commits), key=lambda one: one.at)
 
     def about(self, text, line, kind):
         """Lines on a verdict on one of the texts."""
@@ -127,7 +127,7 @@ class Explanation:
         return f"written by {self._commit(one)}"
 
     def _commit(self, one):
-        path, line = self.lines_of[id(one)]
+        path, line = self.line_of[id(one)]
         return f"commit {one.at}, of thread {one.thread}, line {line}" + (f" of {path}" if len(self.texts) > 1 else "")
 
     def _spread(self, start, stop):

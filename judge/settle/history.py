@@ -10,8 +10,8 @@ from recording import WORD
 MOST_WORDS = 65_536 // WORD
 THREADS = 32
 
-# the tries in the order in which they ended; how many commits came before; the words that it tells, by their numbers, or
-# None for all; the memory before and after, and whether that is known
+# the tries in the order in which they ended; how many commits came before; the words that it tells, by their numbers,
+# or None for all; the memory before and after, and whether that is known
 Piece = collections.namedtuple("Piece", "tries first words opening final known")
 
 
@@ -54,7 +54,8 @@ def pieces(recording, tries, memory, known):
         commits = [one for one in ordered if one.commits]
         for one in commits:
             machine.run(memory, one.calls)
-        told.append(Piece(sorted(ordered, key=lambda one: one.ended), first, sorted(words), opening, bytes(memory), True))
+        ordered.sort(key=lambda one: one.ended)
+        told.append(Piece(ordered, first, sorted(words), opening, bytes(memory), True))
         first += len(commits)
     told[-1] = told[-1]._replace(final=final, known=known)
     return told

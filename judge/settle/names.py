@@ -63,7 +63,8 @@ class Names:
             found = re.search(r"DW_OP_addr: (\w+)", entry.get("location", ""))
             if entry["tag"] == "variable" and found:
                 declared = self._at(entry, "specification") or entry
-                yield int(found[1], 16), entry.get("name") or declared.get("name"), self._type(entry) or self._type(declared)
+                name = entry.get("name") or declared.get("name")
+                yield int(found[1], 16), name, self._type(entry) or self._type(declared)
 
     def _variable(self, address):
         i = bisect.bisect_right(self.variables, address, key=lambda found: found[0]) - 1

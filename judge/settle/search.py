@@ -8,9 +8,9 @@ import machine
 class Search:
     """Replays tries on the memory, each thread's in their order.
 
-    A try that commits nothing is placed as soon as it fits: that blocks nothing, and frees the next try of its thread. So
-    only commits are chosen among, and only where several threads stand at one that fits: the one that ended first goes
-    first. A state that led nowhere, the tries done and the memory, is not entered again."""
+    A try that commits nothing is placed as soon as it fits: that blocks nothing, and frees the next try of its thread.
+    So only commits are chosen among, and only where several threads stand at one that fits: the one that ended first
+    goes first. A state that led nowhere, the tries done and the memory, is not entered again."""
 
     def __init__(self, opening, tries, ends_well):
         threads = {}
@@ -89,8 +89,8 @@ class Search:
         return choice
 
     def run(self):
-        """Whether all tries have found a place, or None where too many orders were tried. Where not all have, the search
-        stands where it came farthest."""
+        """Whether all tries have found a place, or None where too many orders were tried. Where not all have, the
+        search stands where it came farthest."""
         best, best_chain, steps = -1, None, 0
         choice = self._enter()
         while self.fronts() or not self.ends_well(self.memory):

@@ -4,8 +4,8 @@
     settle.py RECORDING HISTORY PROGRAM
 
 Chooses the positions that the recorder left open, writes the history, and has it judged. It goes to HISTORY, or in
-pieces to HISTORY.1, HISTORY.2 and so on where it is too large for one. The program is asked for the names of its places.
-ITMRUN is the judge. The status is 0 where the run is legal, 3 where it is not, 4 where that stays undecided."""
+pieces to HISTORY.1, HISTORY.2 and so on where it is too large for one. The program is asked for the names of its
+places. ITMRUN is the judge. The status is 0 where the run is legal, 3 where it is not, 4 where that stays undecided."""
 
 import collections
 import gc

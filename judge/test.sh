@@ -1,0 +1,128 @@
+#!/bin/sh
+# Tests the judge: programs are legal, faults are told, and verdicts are those that are worked out again. Outside the
+# gate; needs gcc with its libitm, binutils and python3. Runs on threads are never the same twice: a fault that strikes
+# now and then has some runs to be told in.
+#
+#   sh judge/test.sh [LIBITM]    with the folder of libraries that faults/libitm.sh built, their faults too
+#
+# The last line is `N passed, M failed`; the exit status is 0 where none failed. ITMRUN=PROGRAM takes another judge.
+here=$(CDPATH= cd -- "$(dirname -- "$0")" && pwd) || exit 1
+ITMRUN=${ITMRUN:-$here/../itmrun} ITMRUN_PROVED=1
+WORK=$(mktemp -d) || exit 1
+export ITMRUN ITMRUN_PROVED WORK PYTHONDONTWRITEBYTECODE=1
+trap 'rm -rf "$WORK"' EXIT
+libraries=${1:-}
+methods='ml_wt gl_wt serial serialirr serialirr_onwrite default'
+passed=0
+failed=0
+
+if ! echo 'int main(void) { __transaction_atomic { } }' | gcc -fgnu-tm -x c -o "$WORK/empty" - 2>/dev/null; then
+    echo 'skipped: gcc has no -fgnu-tm here'
+    echo '0 passed, 0 failed'
+    exit 0
+fi
+
+# result NAME STATUS: one more test, whose last judgement is in $WORK/told
+result() {
+    if [ "$2" = 0 ]; then
+        passed=$((passed + 1))
+    else
+        failed=$((failed + 1))
+        echo "failed: $1"
+        cat "$WORK/told"
+    fi
+}
+
+judge() {
+    sh "$here/judge.sh" "$here/programs/$1.c" "$2" "$3" >"$WORK/told" 2>&1
+}
+
+# legal PROGRAM THREADS METHOD
+legal() {
+    judge "$1" "$2" "$3"
+    result "$1 on $2 threads under $3, ${ORDER:-outside}, has to be legal" $?
+}
+
+# told NAME PROGRAM METHOD: the fault that the environment plants shows in one of some runs
+told() {
+    for turn in 1 2 3 4 5 6 7 8 9 10; do
+        judge "$2" 4 "$3"
+        [ $? = 3 ] && break
+    done
+    grep -q ' bad ' "$WORK/told"
+    result "$1 has to be told in $2 under $3" $?
+}
+
+# programs that are legal
+for program in bank counters list words cancel relaxed heap; do
+    for threads in 2 4; do
+        for method in ml_wt gl_wt; do
+            ARGS=100 legal $program $threads $method
+        done
+    done
+    ARGS=100 ORDER=inside legal $program 4 ml_wt
+done
+for method in $methods; do
+    ARGS=200 legal heap 4 $method
+done
+RUNTIME=$(gcc -print-file-name=libitm.so.1) ARGS=100 legal bank 4 ml_wt
+
+# more than a history holds
+PAUSES=0 ARGS=4000 legal heap 4 ml_wt
+[ -f "$WORK/heap.4.ml_wt.history.2" ]
+result 'a long run has to be told in pieces' $?
+
+# the fault of libitm, where a run without the judge shows it too
+gcc -O2 -fgnu-tm -o "$WORK/cancelled" "$here/programs/cancelled.c" && "$WORK/cancelled" >"$WORK/cancelled.out"
+for method in $methods; do
+    if grep -q 'x is 1' "$WORK/cancelled.out"; then
+        ARGS=100 judge undo 2 $method
+        grep -q 'bad reply' "$WORK/told" && grep -q 'is shared.tried' "$WORK/told"
+        result "the fault of libitm has to be told under $method" $?
+    else
+        ARGS=100 legal undo 2 $method
+    fi
+done
+
+# faults that a library between the recorder and the runtime plants
+gcc -O2 -fPIC -shared -o "$WORK/wrapper.so" "$here/faults/wrapper.c"
+export BELOW="$WORK/wrapper.so" ONE_IN=100
+FAULT=stale told stale bank ml_wt
+FAULT=stale told stale heap gl_wt
+FAULT=drop told drop counters gl_wt
+FAULT=drop told drop heap ml_wt
+FAULT=naked told naked cancel ml_wt
+FAULT=blind ONE_IN=10 told blind counters ml_wt
+FAULT=wide told wide cancel ml_wt
+FAULT=free told free heap ml_wt
+unset BELOW ONE_IN
+
+# faults in libitm itself; README.md lists those that no run tells
+for library in ${libraries:+"$libraries"/*.so}; do
+    name=$(basename "$library" .so)
+    export RUNTIME="$library"
+    case $name in
+    plain) ARGS=100 legal bank 4 ml_wt ;;
+    serial-repaired) ARGS=100 legal undo 4 ml_wt ;;
+    ml-no-incarnation | gl-rollback-same-version) ;;
+    gl-*) told "$name" counters gl_wt ;;
+    ml-first-stripe-alone) told "$name" words ml_wt ;;
+    log-forgotten) told "$name" cancel ml_wt ;;
+    free-* | *-frees-*) told "$name" heap ml_wt ;;
+    *) told "$name" counters ml_wt ;;
+    esac
+done
+unset RUNTIME
+
+# changed copies of a legal run
+ARGS=100 legal counters 4 gl_wt
+for kind in recording history; do cp "$WORK/counters.4.gl_wt.$kind" "$WORK/run.$kind"; done
+python3 "$here/tests/changes.py" "$ITMRUN" "$WORK" >"$WORK/told" || echo '0 passed, 1 failed' >>"$WORK/told"
+sed '$d' "$WORK/told"
+last=$(tail -n 1 "$WORK/told")
+passed=$((passed + ${last%% *}))
+last=${last#*, }
+failed=$((failed + ${last%% *}))
+
+echo "$passed passed, $failed failed"
+[ "$failed" = 0 ]
