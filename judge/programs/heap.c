@@ -79,6 +79,16 @@ static void free_behind(int key) {
     free(old);
 }
 
+/* A copy of a node in the thread's own memory of the heap, which is stored to inside and outside transactions. */
+static void look_up(int key, struct node *copy) {
+    copy->key = -1;
+    __transaction_atomic {
+        struct node *found = *link_to(key);
+        if (found) *copy = *found;
+    }
+    if (copy->key >= 0 && copy->weight != 3 * copy->key) complain("heap: a torn node");
+}
+
 static bool is_whole(void) {
     bool whole = true;
     __transaction_atomic {
@@ -92,18 +102,21 @@ static bool is_whole(void) {
 }
 
 void work(int thread, unsigned *seed) {
+    struct node *copy = malloc(sizeof *copy);
     (void)thread;
     for (int i = 0; i < rounds; i++) {
         int key = pick(seed, KEYS);
-        switch (pick(seed, 10)) {
+        switch (pick(seed, 12)) {
         case 0: case 1: case 2: insert_made_before(key); break;
         case 3: case 4: insert_made_inside(key); break;
         case 5: case 6: free_inside(key, false); break;
         case 7: free_inside(key, true); break;
         case 8: free_behind(key); break;
+        case 9: case 10: look_up(key, copy); break;
         default: if (!is_whole()) complain("heap: a node is wrong, or out of order");
         }
     }
+    free(copy);
 }
 
 void before(void) {

@@ -39,7 +39,7 @@ struct event *note(struct thread *t, enum kind kind, const char *name, uint64_t 
 }
 
 const struct event *event_after(const struct event *event) {
-    bool has_data = (event->kind >= READ && event->kind <= STORE) || event->kind == LOG;
+    bool has_data = (event->kind >= READ && event->kind <= COPY) || event->kind == LOG;
     return (const struct event *)((const byte *)event + event_size(has_data ? event->size : 0));
 }
 

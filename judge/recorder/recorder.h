@@ -119,7 +119,7 @@ struct event {
     uint64_t a, b;    /* places; of TRY properties and number; of END the range of positions */
     uint32_t size;    /* of END: so many commits had returned */
     byte kind;
-    byte data[]; /* of READ, WRITE, LOAD, STORE and LOG */
+    byte data[]; /* the bytes of all from READ to COPY, and of LOG */
 };
 
 struct own {

@@ -6,6 +6,7 @@
  *     word ADDRESS OPENING FINAL KEPT             a word; KEPT is 0 where it was freed: its final bytes tell nothing
  *     block ADDRESS SIZE CALLER                   memory that the program asked for, if a word of it is told
  *     attempt THREAD TRY LOW HIGH OUTCOME PROPS   a try with the range of its position
+ *     call NAME DEST SOURCE SIZE = HEX            a copy, with its bytes
  *     unfinished N                                in place of the final line: so many tries have not ended
  *
  * Tries stand in the order in which they ended, and then those that have not: `unfinished` ones, and `committing` ones,

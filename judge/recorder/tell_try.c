@@ -37,7 +37,11 @@ static void tell_call(const struct event *e) {
     }
     case MODE: fputs("call _ITM_changeTransactionMode modeSerialIrrevocable = ok\n", out); break;
     case LOG: tell_log(e); break;
-    case COPY: fprintf(out, "call %s %llu %llu %u = ok\n", e->name, numbered(e->a), numbered(e->b), e->size); break;
+    case COPY:
+        fprintf(out, "call %s %llu %llu %u = ", e->name, numbered(e->a), numbered(e->b), e->size);
+        tell_hex(e->data, e->size);
+        putc_unlocked('\n', out);
+        break;
     case SET: fprintf(out, "call %s %llu %u %u = ok\n", e->name, numbered(e->a), (unsigned)e->b, e->size); break;
     default: tell_access(e);
     }

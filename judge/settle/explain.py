@@ -2,10 +2,10 @@
 has, whose try it was, and where in the program."""
 
 import machine
+from private import FREED
 from recording import WORD
 
 
-FREED = 0xDB  # what recorder/heap.c fills freed memory with
 SIZES = {"U1": 1, "U2": 2, "U4": 4, "U8": 8, "F": 4, "D": 8, "M64": 8, "CF": 8, "M128": 16, "CD": 16, "M256": 32}
 
 

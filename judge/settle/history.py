@@ -80,10 +80,10 @@ class Text:
         at, outcome = one.at - self.piece.first, "committed" if one.may_commit else one.outcome
         yield f"attempt {one.thread % THREADS} {one.number} {at} {outcome} {one.props}\n"
         if self.numbers is None:
-            yield from one.lines
+            yield from map(machine.in_history, one.lines)
         else:
             yield one.lines[0]
-            yield from (machine.moved(line, self._place) for line in one.lines[1:])
+            yield from (machine.in_history(machine.moved(line, self._place)) for line in one.lines[1:])
         yield "end\n"
 
     def write(self, path):

@@ -34,6 +34,19 @@ def parse(fields):
     return (kind,)
 
 
+def in_history(line):
+    """A call's line as a history has it: of a copy without the bytes."""
+    return f"{line[: line.index('=')]}= ok\n" if line.startswith("call _ITM_mem") else line
+
+
+def split_copy(fields, reads):
+    """A copy of which one side is left out, as the read or the writes of its bytes."""
+    place, data = int(fields[3] if reads else fields[2]), fields[5]
+    for at in range(0, len(data), 2):
+        byte = data[at : at + 2]
+        yield f"call _ITM_RU1 {place + at // 2} = {byte}\n" if reads else f"call _ITM_WU1 {place + at // 2} {byte} = ok\n"
+
+
 def moved(line, to):
     """A call's line with each of its places where this function puts it."""
     fields = line.split(" ")

@@ -46,7 +46,7 @@ class Recording:
             raise Fault(f"{path} is cut")
         self.opening = b"".join(word.opening for word in self.words)
         self.final = b"".join(word.final for word in self.words)
-        self.freed = [WORD * number for number, word in enumerate(self.words) if not word.kept]
+        self.unasked = [WORD * number for number, word in enumerate(self.words) if not word.kept]
 
     def _read(self, line):
         fields = line.split()
@@ -73,10 +73,14 @@ class Recording:
         elif start not in ("end", "itm-recording"):
             raise Fault(f"a line that begins with `{start}`")
 
+    def forget(self, numbers):
+        """Asks no more for the last bytes of these words."""
+        self.unasked += [WORD * number for number in numbers]
+
     def told_final(self, memory):
         """The last bytes as a history after this memory tells them: what was freed may have any bytes."""
         told = bytearray(self.final)
-        for place in self.freed:
+        for place in self.unasked:
             told[place : place + WORD] = memory[place : place + WORD]
         return told
 

@@ -16,7 +16,7 @@ class Search:
         threads = {}
         for one in tries:
             threads.setdefault(one.thread, []).append(one)
-        self.queues = list(threads.values())
+        self.threads, self.queues = list(threads), list(threads.values())
         self.opening, self.ends_well = opening, ends_well
         self.budget = 20 * len(tries) + 500_000  # of steps
         self._restart()
@@ -43,7 +43,7 @@ class Search:
         while self.done[number] < len(queue):
             front = queue[self.done[number]]
             if front.high < position:
-                return None, True
+                return None, not front.may_commit
             if front.low > position:
                 break
             if front.commits:
@@ -112,13 +112,18 @@ class Search:
         for position, one in enumerate(order):
             self._enter()
             look(self.memory, position)
-            number = next(i for i, queue in enumerate(self.queues) if queue[0].thread == one.thread)
-            self._go_on([number])
+            self._go_on([self.threads.index(one.thread)])
         self._enter()
         look(self.memory, len(self.levels))
 
     def order(self):
         return unchained(self.chain)
+
+    def last_before(self, one):
+        """The try of its thread that came before, if there is one."""
+        queue = self.queues[self.threads.index(one.thread)]
+        i = queue.index(one)
+        return queue[i - 1] if i else None
 
     def stuck(self):
         """The try at which the search stands, the one first that tells most: a try that fitted nowhere in its range, a

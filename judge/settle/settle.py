@@ -17,6 +17,7 @@ import explain
 import history
 import machine
 import names
+import private
 import recording
 import search
 
@@ -24,24 +25,27 @@ LEGAL, FAILED, BAD, UNDECIDED = 0, 1, 3, 4
 
 
 def place_misfit(found, one):
-    """Gives a try that fits nowhere a position, that where most of it fits."""
+    """Gives a try that fits nowhere a position, that where most of it fits: behind its thread's last one."""
     position = len(found.levels)
     if one.commits:
         one.at = min(max(position, one.low), one.high)
         return
+    last = found.last_before(one)
+    first = max(one.low, last.at + last.commits) if last else one.low
     fitted = {}
 
     def look(memory, at):
-        if one.low <= at <= one.high:
+        if first <= at <= one.high:
             fitted[at] = machine.fitting(memory, one.calls)
 
     found.follow(found.order(), look)
-    one.at = max(fitted, key=lambda at: (fitted[at], at), default=one.low)
+    one.at = max(fitted, key=lambda at: (fitted[at], at), default=first)
 
 
 def settled(run):
-    """The tries with their positions, in the order in which they ended; the memory that they left; whether it was all
-    told. Where there is no order, the tries of the longest one and the first that does not fit behind it."""
+    """The tries with their positions, in the order in which they ended; the memory that they left; whether an order was
+    found; and the tries at which the search stands where not. Then the tries are those of the longest order, and the
+    first that fits nowhere behind it."""
     found = search.Search(run.opening, run.tries, run.ends_well)
     success = found.run()
     stuck = found.stuck()
@@ -60,13 +64,16 @@ def check(path):
     return run.stdout.split()
 
 
-def summary(run):
+def summary(run, left_out):
     counts = collections.Counter(one.outcome for one in run.tries)
-    return ", ".join(f"{count} {outcome}" for outcome, count in sorted(counts.items())) or "no tries"
+    told = ", ".join(f"{count} {outcome}" for outcome, count in sorted(counts.items()))
+    blocks = f"\n    {left_out} blocks of the heap, which one thread alone touched, are left out"
+    return told + (blocks if left_out else "")
 
 
 def judge(path, to, program):
     run = recording.Recording(path)
+    left_out = private.leave_out(run)
     tries, memory, success, stuck = settled(run)
     known = not stuck and not run.unfinished
     texts = [history.Text(piece) for piece in history.pieces(run, tries, memory, known)]
@@ -74,18 +81,20 @@ def judge(path, to, program):
         text.path = to if len(texts) == 1 else f"{to}.{number}"
         text.write(text.path)
     if success is None:
-        print(f"undecided: too many orders of the commits  {summary(run)}")
+        print(f"undecided: too many orders of the commits; ORDER=inside needs none  {summary(run, left_out)}")
         return UNDECIDED
     for text in texts:
         verdict, *words = check(text.path)
         if verdict != "legal":
             line, kind = words
-            print(f"bad {kind}  {summary(run)}")
-            print(f"    {text.path}, line {line}")
+            print(f"bad {kind}  {summary(run, left_out)}\n    {text.path}, line {line}")
             told = explain.Explanation(run, names.Names(program, run), texts).about(text, int(line), kind)
             print("".join(f"    {line}\n" for line in told), end="")
             return BAD
-    print(f"legal  {summary(run)}")
+    if not success:
+        print(f"undecided: no order was found, though all that was read fits  {summary(run, left_out)}")
+        return UNDECIDED
+    print(f"legal  {summary(run, left_out)}")
     return LEGAL
 
 
