@@ -5,7 +5,6 @@ import machine
 from private import FREED
 from recording import WORD
 
-
 SIZES = {"U1": 1, "U2": 2, "U4": 4, "U8": 8, "F": 4, "D": 8, "M64": 8, "CF": 8, "M128": 16, "CD": 16, "M256": 32}
 
 
@@ -89,7 +88,7 @@ class Explanation:
             due = own_due(one.lines[:row]).hex()
             told = [f"the thread's own memory, which the block had logged, has to be {due} again"]
         else:
-            told = self._read(one)
+            told = self._read(one, one.lines[1:row])
         return [call, *told, *whose(one)]
 
     def _memory_after(self, commits, look=lambda memory, one: None):
@@ -100,11 +99,14 @@ class Explanation:
             machine.run(memory, one.calls)
         return memory
 
-    def _read(self, one):
-        """Lines on a read that does not fit."""
+    def _read(self, one, lines):
+        """Lines on a read of a try that does not fit, the last of these of its calls."""
+        calls = [call for call in (machine.parse(line.split()) for line in lines) if call]
+        if not calls or calls[-1][0] != machine.READ:
+            return ["the plain machine answers that call otherwise"]
+        _, start, stop, told = calls.pop()
         memory = self._memory_after(one.at)
-        _, done = machine.run(memory, one.calls)
-        _, start, stop, told = one.calls[done]
+        machine.run(memory, calls)
         due, writers, had = memory[start:stop], [], []
 
         def look(memory, commit):
@@ -114,7 +116,7 @@ class Explanation:
                 writers.append(commit)
 
         self._memory_after(one.at, look)
-        own = writes_to(one.calls[:done], start, stop)
+        own = writes_to(calls, start, stop)
         by = "by this try itself, or a block in it" if own else self._by(writers[-1]) if writers else "as at the start"
         lines = [f"the plain machine has {due.hex()} there: {by}", f"place {start} is {self._spread(start, stop)}"]
         if had:

@@ -71,6 +71,13 @@ def summary(run, left_out):
     return told + (blocks if left_out else "")
 
 
+def far(tries, run, stuck):
+    """A line on how far the search came, where it did not come through."""
+    ordered = sum(one.commits for one in tries if one is not stuck[0]) if stuck else 0
+    commits = sum(one.commits for one in run.tries)
+    return [f"no order of the commits goes on: the longest has {ordered} of {commits}"] if stuck else []
+
+
 def judge(path, to, program):
     run = recording.Recording(path)
     left_out = private.leave_out(run)
@@ -89,7 +96,7 @@ def judge(path, to, program):
             line, kind = words
             print(f"bad {kind}  {summary(run, left_out)}\n    {text.path}, line {line}")
             told = explain.Explanation(run, names.Names(program, run), texts).about(text, int(line), kind)
-            print("".join(f"    {line}\n" for line in told), end="")
+            print("".join(f"    {line}\n" for line in told + far(tries, run, stuck)), end="")
             return BAD
     if not success:
         print(f"undecided: no order was found, though all that was read fits  {summary(run, left_out)}")
