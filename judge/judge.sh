@@ -16,7 +16,8 @@
 #   ITMRUN    the judge, instead of this repository's own
 #
 # A line for each run tells program, threads, method and verdict. The exit status is the worst of all: 0 legal,
-# 1 nothing to judge, 3 not legal, 4 undecided. README.md tells what each is worth.
+# 1 nothing to judge, 3 not legal, 4 undecided, or legal only up to where a signal ended the program. README.md tells
+# what each is worth.
 set -u
 here=$(CDPATH= cd -- "$(dirname -- "$0")" && pwd) || exit 1
 
@@ -64,7 +65,9 @@ judge() {
     python3 "$here/settle/settle.py" "$file.recording" "$file.history" "$work/$name"
     verdict=$?
     [ "$went" = 0 ] || echo "    the program ended with status $went"
-    sed -n 's/^recorder: /    /p' "$file.err" | sort | uniq -c | sort -rn | head -n 5 | sed 's/^ *[0-9]* //'
+    sed -n 's/^recorder: /    /p' "$file.err" | head -n 5
+    # legal up to where a signal ended the program
+    [ "$verdict" = 0 ] && [ "$went" -ge 124 ] && return 4
     return "$verdict"
 }
 

@@ -3,7 +3,7 @@
  * The recorder stands between a program built with `gcc -fgnu-tm` and its runtime (LD_PRELOAD, x86-64). Each call of
  * the TM ABI is passed on and noted. At exit, or where the program crashes, tell.c writes the recording.
  *
- * RECORD_TO      the file of the recording; nothing is recorded where it is not set
+ * RECORD_TO      the file of the recording; nothing is written where it is not set
  * RECORD_ORDER   how the order of the commits becomes known, `outside` or `inside` (order.c)
  * RECORD_PAUSES  N: one call in about N sleeps first, up to 64 us, so that short tries of several threads meet */
 #ifndef RECORDER_H
@@ -26,7 +26,7 @@ enum { AGAIN = 8, CANCELLED = 16 };
 enum { OUTER_ABORT = 16 };
 
 /* of a history */
-enum { DEEPEST = 16, LAST_TRY = 10001, ARENA = 4096 };
+enum { DEEPEST = 16, LAST_TRY = 10001, ARENA = 4096, MEMORY = 65536 };
 
 /* limits of the recorder */
 enum { BLOCKS = 1024, THREADS = 4096, LOGS = 64 };

@@ -78,7 +78,7 @@ void first_touch(size_t word, byte bits) {
 
 /* Before memory of the heap is freed: whoever touches it from now on is compared with what it was. */
 void last_touch(const void *p, size_t size) {
-    if (!words) return;
+    if (!words || size > MEMORY) return;
     lock();
     for (size_t word = place_of(p, size) / 8, count = (size + 7) / 8; count; count--) keep_opening(word++, 0xff);
     unlock();
