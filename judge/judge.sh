@@ -22,7 +22,7 @@ set -u
 here=$(CDPATH= cd -- "$(dirname -- "$0")" && pwd) || exit 1
 
 usage() {
-    sed -n '2,/^set/s/^# \{0,1\}//p' "$0" | sed '$d' >&2
+    sed -n '2,/^set/s/^# \{0,1\}//p' "$0" >&2
     exit 1
 }
 
@@ -30,6 +30,11 @@ usage() {
 program=$1 threads=${2:-4} methods=${3:-default}
 name=$(basename "$program" .c)
 [ "$methods" = all ] && methods='ml_wt gl_wt serial serialirr serialirr_onwrite default'
+runtime=${RUNTIME:-}
+if [ -n "$runtime" ]; then
+    [ -f "$runtime" ] || { echo "judge.sh: there is no $runtime" >&2; exit 1; }
+    runtime=$(CDPATH= cd -- "$(dirname -- "$runtime")" && pwd)/$(basename "$runtime")
+fi
 ITMRUN=${ITMRUN:-$here/../itmrun} ITMRUN_PROVED=1
 export ITMRUN ITMRUN_PROVED PYTHONDONTWRITEBYTECODE=1
 
@@ -47,7 +52,7 @@ run() (
     [ "$1" = default ] || export ITM_DEFAULT_METHOD="$1"
     # BELOW stands between the recorder and the runtime: a library with planted faults (test.sh)
     timeout "${LIMIT:-60}" env RECORD_TO="$2.recording" RECORD_ORDER="${ORDER:-outside}" RECORD_PAUSES="${PAUSES:-60}" \
-        LD_PRELOAD="$recorder ${BELOW:-} ${RUNTIME:-}" "$work/$name" "$threads" ${ARGS:-}
+        LD_PRELOAD="$recorder ${BELOW:-} $runtime" "$work/$name" "$threads" ${ARGS:-}
 )
 
 # judge METHOD: one run, told in a line
