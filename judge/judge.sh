@@ -15,9 +15,9 @@
 #   WORK      a folder for all files, which stay; without it they stay only where a run is not legal
 #   ITMRUN    the judge, instead of this repository's own
 #
-# A line for each run tells program, threads, method and verdict. The exit status is the worst of all: 0 legal,
-# 1 nothing to judge, 3 not legal, 4 undecided, or legal only up to where a signal ended the program. README.md tells
-# what each is worth.
+# A line for each run tells program, threads, method and verdict. The exit status is 3 where one is not
+# legal, else 4 where one is undecided, or legal only up to where a signal ended the program, else 1 where there was
+# nothing to judge, else 0. README.md tells what each is worth.
 set -u
 here=$(CDPATH= cd -- "$(dirname -- "$0")" && pwd) || exit 1
 
@@ -80,7 +80,7 @@ worst=0
 for method in $methods; do
     judge "$method"
     status=$?
-    [ "$status" -gt "$worst" ] && worst=$status
+    if [ "$status" = 3 ] || { [ "$worst" != 3 ] && [ "$status" -gt "$worst" ]; }; then worst=$status; fi
 done
 if [ -z "${WORK:-}" ]; then
     if [ "$worst" = 0 ]; then rm -rf "$work"; else echo "    the files are in $work"; fi

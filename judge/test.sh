@@ -112,7 +112,7 @@ for library in ${libraries:+"$libraries"/*.so}; do
     ml-no-incarnation | gl-rollback-same-version) ;;
     gl-*) told "$name" counters gl_wt ;;
     ml-first-stripe-alone) told "$name" words ml_wt ;;
-    log-forgotten) told "$name" cancel ml_wt ;;
+    log-forgotten) told "$name" cancel serial ;;
     free-* | *-frees-*) told "$name" heap ml_wt ;;
     *) told "$name" counters ml_wt ;;
     esac

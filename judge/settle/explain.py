@@ -5,6 +5,7 @@ import machine
 from private import FREED
 from recording import WORD
 
+CALLS = 6  # so many are shown up to the one that is wrong
 SIZES = {"U1": 1, "U2": 2, "U4": 4, "U8": 8, "F": 4, "D": 8, "M64": 8, "CF": 8, "M128": 16, "CD": 16, "M256": 32}
 
 
@@ -83,13 +84,13 @@ class Explanation:
             return whose(one) + ["another commit stands there, or there are not so many"]
         if kind != "reply":
             return whose(one)
-        call = one.lines[row - 1].strip()
-        if call.startswith("call ld"):
+        calls = [f"{line - row + i}: {machine.in_history(one.lines[i - 1]).strip()}" for i in range(2, row + 1)]
+        if one.lines[row - 1].startswith("call ld"):
             due = own_due(one.lines[:row]).hex()
             told = [f"the thread's own memory, which the block had logged, has to be {due} again"]
         else:
             told = self._read(one, one.lines[1:row])
-        return [call, *told, *whose(one)]
+        return [*calls[-CALLS:], *told, *whose(one)]
 
     def _memory_after(self, commits, look=lambda memory, one: None):
         """The plain machine's memory after so many commits; looks at it before each."""
@@ -116,8 +117,10 @@ class Explanation:
                 writers.append(commit)
 
         self._memory_after(one.at, look)
-        own = writes_to(calls, start, stop)
-        by = "by this try itself, or a block in it" if own else self._by(writers[-1]) if writers else "as at the start"
+        by = self._by(writers[-1]) if writers else "as at the start"
+        if writes_to(calls, start, stop):
+            cancelled = ", of which a block was cancelled" if (machine.CANCEL,) in calls else ""
+            by = f"by this try itself{cancelled}"
         lines = [f"the plain machine has {due.hex()} there: {by}", f"place {start} is {self._spread(start, stop)}"]
         if had:
             lines.append(f"{told.hex()} stood there last before {self._commit(had[-1])}")
