@@ -51,8 +51,8 @@ run() (
     unset ITM_DEFAULT_METHOD
     [ "$1" = default ] || export ITM_DEFAULT_METHOD="$1"
     # BELOW stands between the recorder and the runtime: a library with planted faults (test.sh)
-    timeout "${LIMIT:-60}" env RECORD_TO="$2.recording" RECORD_ORDER="${ORDER:-outside}" RECORD_PAUSES="${PAUSES:-60}" \
-        LD_PRELOAD="$recorder ${BELOW:-} $runtime" "$work/$name" "$threads" ${ARGS:-}
+    timeout -k 60 "${LIMIT:-60}" env RECORD_TO="$2.recording" RECORD_ORDER="${ORDER:-outside}" \
+        RECORD_PAUSES="${PAUSES:-60}" LD_PRELOAD="$recorder ${BELOW:-} $runtime" "$work/$name" "$threads" ${ARGS:-}
 )
 
 # judge METHOD: one run, told in a line

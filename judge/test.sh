@@ -58,7 +58,7 @@ told() {
 }
 
 # programs that are legal
-for program in bank counters list words cancel relaxed heap mixed; do
+for program in bank counters list words cancel relaxed heap mixed pages; do
     for threads in 2 4; do
         for method in ml_wt gl_wt; do
             ARGS=100 legal $program $threads $method
@@ -111,7 +111,8 @@ for library in ${libraries:+"$libraries"/*.so}; do
     serial-repaired) ARGS=100 legal undo 4 ml_wt ;;
     ml-no-incarnation | gl-rollback-same-version) ;;
     gl-*) told "$name" counters gl_wt ;;
-    ml-first-stripe-alone) told "$name" words ml_wt ;;
+    ml-first-stripe-alone) told "$name" pages ml_wt ;;
+    ml-load-unchecked) ARGS=1000 told "$name" pages ml_wt ;;
     log-forgotten) told "$name" cancel serial ;;
     free-* | *-frees-*) told "$name" heap ml_wt ;;
     *) told "$name" counters ml_wt ;;

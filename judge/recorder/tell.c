@@ -13,6 +13,7 @@
  * whose commit was called and has not returned, so that it may be done or not. An irrevocable one is left out. */
 #include "tell.h"
 #include <link.h>
+#include <signal.h>
 #include <stdlib.h>
 #include <unistd.h>
 
@@ -99,7 +100,10 @@ static int program_base(struct dl_phdr_info *object, size_t size, void *base) {
 
 void write_recording(void) {
     const char *name = getenv("RECORD_TO");
+    sigset_t all;
     if (!name) return;
+    sigfillset(&all);
+    pthread_sigmask(SIG_BLOCK, &all, 0); /* what stops the program now waits, and this goes on */
     int open = stop_tries();
     unsigned long elsewhere = 0, base = 0;
     for (int i = 0; i < thread_count; i++) elsewhere += threads[i] ? threads[i]->elsewhere : 0;
