@@ -72,8 +72,8 @@ done
 RUNTIME=$(gcc -print-file-name=libitm.so.1) ARGS=100 legal bank 4 ml_wt
 
 # more than a history holds
-PAUSES=0 ARGS=4000 legal heap 4 ml_wt
-[ -f "$WORK/heap.4.ml_wt.history.2" ]
+ARGS=1200 legal mixed 4 gl_wt
+[ -f "$WORK/mixed.4.gl_wt.history.2" ]
 result 'a long run has to be told in pieces' $?
 
 # the fault of libitm, where a run without the judge shows it too
