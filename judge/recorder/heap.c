@@ -9,6 +9,7 @@
 #include <stdlib.h>
 
 enum { POISON = 0xdb, SMALLEST = 16, PAGE = 4096 };
+enum { KEPT = 1 << 20 }; /* bytes for what is written at the end, where the program has used up all others */
 
 const size_t heap_size = (size_t)4 << 30;
 
@@ -24,8 +25,10 @@ byte *heap_memory(void) {
 
 static void *take(size_t size, size_t alignment, const void *caller) {
     size_t chunk = (sizeof(struct block) + size + alignment + SMALLEST - 1) & -SMALLEST;
-    size_t at = size < heap_size && alignment < heap_size ? atomic_fetch_add(&used, chunk) : heap_size;
-    if (at + chunk > heap_size) return errno = ENOMEM, (void *)0;
+    size_t at = used, most = stopping ? heap_size : heap_size - KEPT;
+    do
+        if (size > most || alignment > most || at + chunk > most) return errno = ENOMEM, (void *)0;
+    while (!atomic_compare_exchange_weak(&used, &at, at + chunk));
     struct block *block = (struct block *)(heap_memory() + at);
     byte *memory = (byte *)(((uintptr_t)(block + 1) + alignment - 1) & -alignment);
     block->size = size;

@@ -40,10 +40,24 @@ void pause_now_and_then(void) {
     if ((random >> 8) % pauses == 0) usleep(random >> 26);
 }
 
+/* The first thread that ends the program does so alone. */
+static void end_alone(void) {
+    static atomic_flag ending = ATOMIC_FLAG_INIT;
+    static __thread bool mine;
+    while (!mine && atomic_flag_test_and_set(&ending)) pause();
+    mine = true;
+}
+
+ENTRY void exit(int status) {
+    void (*real)(int) = next("exit");
+    end_alone();
+    real(status);
+    __builtin_unreachable();
+}
+
 /* Writes the recording up to here, and ends the program. */
 _Noreturn void stop_here(const char *why, int number) {
-    static atomic_flag once = ATOMIC_FLAG_INIT;
-    while (atomic_flag_test_and_set(&once)) pause();
+    end_alone();
     fprintf(stderr, "recorder: stopped: %s %d\n", why, number);
     write_recording();
     _exit(128 + number);
