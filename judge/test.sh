@@ -58,7 +58,7 @@ told() {
 }
 
 # programs that are legal
-for program in bank counters list words cancel relaxed heap mixed pages; do
+for program in bank counters list words cancel relaxed heap mixed pages copies; do
     for threads in 2 4; do
         for method in ml_wt gl_wt; do
             ARGS=100 legal $program $threads $method

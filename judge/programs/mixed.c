@@ -1,6 +1,6 @@
-/* What a right program does beside its transactions: plain data in the same words as shared data, nodes that are filled
- * by plain stores, chains that a transaction takes out and plain code breaks up and frees, an array that grows by realloc
- * in an irrevocable block. */
+/* What a right program does beside its transactions: plain data in the same words as shared data, nodes that are
+ * filled by plain stores, chains that a transaction takes out and plain code breaks up and frees, an array that grows
+ * by realloc in an irrevocable block. */
 #include "program.h"
 
 enum { CHAINS = 16, PAIRS = 8 };

@@ -41,10 +41,9 @@ def in_history(line):
 
 def split_copy(fields, reads):
     """A copy of which one side is left out, as the read or the writes of its bytes."""
-    place, data = int(fields[3] if reads else fields[2]), fields[5]
-    for at in range(0, len(data), 2):
-        byte = data[at : at + 2]
-        yield f"call _ITM_RU1 {place + at // 2} = {byte}\n" if reads else f"call _ITM_WU1 {place + at // 2} {byte} = ok\n"
+    place, data = int(fields[3] if reads else fields[2]), bytes.fromhex(fields[6])
+    for at, byte in enumerate(data, place):
+        yield f"call _ITM_RU1 {at} = {byte:02x}\n" if reads else f"call _ITM_WU1 {at} {byte:02x} = ok\n"
 
 
 def moved(line, to):
