@@ -129,12 +129,12 @@ HISTORIES = {
 }
 
 RECORDINGS = {
-    "a reply of a commit": (turn("committed", 0.5, "call _ITM_R"), {"reply"}),
+    "a reply of a commit": (turn("committed", 0.5, "call _ITM_R"), {"reply", "position"}),
     "a reply of a conflict": (turn("conflict", 0.5, "call _ITM_R"), {"reply"}),
     "a reply of a reader": (turn("readonly", 0.5, "call _ITM_R"), {"reply"}),
-    "what a commit wrote": (turn("committed", 0.4, "call _ITM_W"), {"reply", "final"}),
+    "what a commit wrote": (turn("committed", 0.4, "call _ITM_W"), {"reply", "final", "position"}),
     "a dropped commit": (drop, {"reply", "final", "position", "at"}),
-    "a write left out": (drop_line("call _ITM_W"), {"reply", "final"}),
+    "a write left out": (drop_line("call _ITM_W"), {"reply", "final", "position"}),
 }
 
 
