@@ -101,7 +101,7 @@ class Documents:
         for it in paths:
             self.expect(self.is_path(it), page, "there is no file", it, "in", text)
         for owner, name in ITEM.findall(text):
-            self.expect(owner == "str" or self.is_item(owner, name), page, "there is no", f"{owner}::{name}")
+            self.expect(owner in ("std", "str") or self.is_item(owner, name), page, "there is no", f"{owner}::{name}")
         words = [it for it in WORD.findall(PATH.sub(" ", text)) if not CAPITALS.fullmatch(it)]
         lacking = [it for it in words if not self.is_word(it)]
         self.expect(not lacking, page, "nothing is named", ", ".join(lacking), "in", text)

@@ -1,5 +1,5 @@
 -- How a read and a write of a number are answered where the transaction goes on.
-use Rattle.std.proofs.Common.{◌≡◌, ℕ, ◌+◌, ◌≤◌, Bool, true, false, length, drop, List, Option, None, Some, refl, sym, ap, subst, arith, length-drop}
+use Rattle.std.proofs.Common.{◌≡◌, ◌∙◌, ℕ, ◌+◌, ◌≤◌, Bool, true, false, length, drop, List, Option, None, Some, refl, sym, ap, subst, arith, length-drop}
 use Rattle.std.proofs.lemmas.Bool.{leb-true}
 use Rattle.std.proofs.lemmas.List.{length-take-le}
 use mathlib.Core.HLevel.{is_prop→PathP}
@@ -25,10 +25,12 @@ use Rattle.norec_core.specs.declared.answer.Answer.TheVariants.{Reply, Committed
 use Rattle.norec_core.specs.Core.{Core}
 use Rattle.norec_core.specs.Stands.{stands_for}
 use Rattle.shared_words.specs.declared.view.View.{View}
+use Rattle.std.specs.Prelude.{IfSome}
+use Rattle.itm_runtime.specs.declared.stop.Stop.{Stop}
 use Rattle.itm_runtime.specs.declared.stop.Stop.TheVariants as stops
-use Rattle.itm_runtime.specs.Served.{Served, came_over}
+use Rattle.itm_runtime.specs.Served.{Served, Start, came_over}
 use Rattle.itm_runtime.specs.Standing.{Standing, start_of}
-use Rattle.itm_runtime.specs.Stops.{GoesOn, HasNumber, bytes_of_number, number}
+use Rattle.itm_runtime.specs.Stops.{GoesOn, HasNumber, answer_of, bytes_of_number, number}
 
 -- a value with the width and the bytes of a number is that number's
 pub number_is : (d : Datum) (n : ℕ) → d.width ≡ U8 → d.bytes.items ≡ bytes_of_number n → d ≡ number n
@@ -84,3 +86,7 @@ write_done t hint at value (Committed position wrote) v e served on = absurd (su
 write_done t hint at value (Conflict clock word) v e served on = absurd (on (stops.Conflict clock word) refl)
 write_done t hint at value (Busy clock) v e served on = absurd (on (stops.Busy clock) refl)
 write_done t hint at value (Full position) v e served on = absurd (on (stops.Full position) refl)
+
+-- a stop that tells of the answer of a call is told of it
+pub stopped : (stop : Stop) (told : Option Answer) (a : Answer) (s : Start) (v : View) (e : Core) → told ≡ answer_of stop → answer_of stop ≡ Some a → Served s a v e → IfSome told (λ (x : Answer). Served s x v e)
+stopped stop told a s v e is tells served = subst (λ (o : Option Answer). IfSome o (λ (x : Answer). Served s x v e)) (sym (is ∙ tells)) served

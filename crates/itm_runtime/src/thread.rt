@@ -61,7 +61,7 @@ impl Thread {
     }
 
     /// An outermost block begins, `again` where an earlier try of it got past its begin; inside a transaction this is
-    /// `call` (Intel TM ABI 1.1, section 5.10).
+    /// `call` (Intel TM ABI 1.1, section 5.7).
     pub fn begin(
         &mut self,
         words: &Words,
@@ -106,7 +106,7 @@ impl Thread {
         }
     }
 
-    /// A value is read, as by `call` of a `Read` (section 5.15).
+    /// A value is read, as by `call` of a `Read` (section 5.12).
     pub fn read(
         &mut self,
         words: &Words,
@@ -123,7 +123,7 @@ impl Thread {
         }
     }
 
-    /// A value is written, as by `call` of a `Write` (section 5.15).
+    /// A value is written, as by `call` of a `Write` (section 5.12).
     pub fn write(
         &mut self,
         words: &Words,
@@ -144,7 +144,7 @@ impl Thread {
         Ok(answer)
     }
 
-    /// The innermost block ends; with the outermost one the transaction commits (section 5.12). Takes no memory.
+    /// The innermost block ends; with the outermost one the transaction commits (section 5.9). Takes no memory.
     pub fn commit(&mut self, words: &Words) -> Answer
         requires own { Owns words.now self.old.pass }
         ensures { IsAnswered words.now (start_of self.old Call.Commit false) result self.new.pass self.new.engine }
@@ -163,7 +163,7 @@ impl Thread {
         }
     }
 
-    /// The innermost block is cancelled, or with `outer` all that are open (section 5.13). Takes no memory.
+    /// The innermost block is cancelled, or with `outer` all that are open (section 5.8). Takes no memory.
     pub fn cancel(&mut self, words: &Words, outer: bool) -> Answer
         requires own { Owns words.now self.old.pass }
         ensures { IsAnswered words.now (start_of self.old (Call.Abort outer) false) result self.new.pass self.new.engine }
