@@ -1,5 +1,5 @@
 -- In a world that a program's schedule leads to no thread that found no memory has an irrevocable attempt, nor any open one.
-use Rattle.std.proofs.Common.{inl, inr, ◌≡◌, ℕ, ◌%◌, List, length, map, Option, Some, slice_get, sym, ap, subst, ◌∙◌, arith}
+use Rattle.std.proofs.Common.{inl, inr, ◌≡◌, ℕ, ◌%◌, List, length, Some, sym, ap, subst, ◌∙◌, arith}
 use Rattle.std.proofs.lemmas.List.{length-map}
 use Rattle.norec_world.specs.Commits.{CommitsInOrder}
 use Rattle.norec_world.specs.Tied.{AreTied}

@@ -9,14 +9,13 @@ use Rattle.tx_runs.specs.declared.ending.End.{End}
 use Rattle.tx_runs.specs.declared.ending.End.TheVariants.{NoMemory}
 use Rattle.norec_world.specs.declared.actor.Actor.{Actor}
 use Rattle.norec_world.specs.declared.fault.WorldFault.{WorldFault}
-use Rattle.norec_world.specs.Commits.{CommitsInOrder}
 use Rattle.norec_world.specs.Rows.{AreEnded}
 use Rattle.norec_world.specs.Starts.{IsNew}
 use Rattle.norec_world.specs.World.{is_event}
 use Rattle.norec_world.proofs.Common.{AreTied, Goes, GoesOnAfter, IsEvent, Leads, Prior, Rows, Tries, TriesAgain, World, active_of, begins, between, both_ways, cases_Bool, ending_at, ending_of, none-some, option_and_then, outrun, over, runs, shut_out, slice_get-set_same, slice_get_within, turned_away}
 use Rattle.norec_world.proofs.SoundOthers.{set_place}
 use Rattle.norec_world.proofs.Worlds.{waits_there}
-use Rattle.world_histories.specs.Starved.{FedLeaveNoneOpen, IsFed, LeavesNoneOpen}
+use Rattle.world_histories.specs.Starved.{FedLeaveNoneOpen, IsFed}
 use Rattle.world_histories.proofs.Holders.{each_open}
 
 -- ## One actor
