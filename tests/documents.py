@@ -1,7 +1,7 @@
 """Reads README.md and docs/ against the repository: what stands in backticks exists, and what stands as an example is one.
 The last line is "N passed, M failed"; the exit status is 0 where none failed.
 
-- A path names a file or a folder, from the top, from docs/ or within a crate; words in capitals stand for any name.
+- A path names a file or a folder, from the top or within one; words in capitals stand for any name.
 - `Type::item` names an item of a type, a trait, an enum or a module that are declared.
 - An `_ITM_` name is an entry point or the beginning of one, and what docs/ABI.md lists as left out is none.
 - Of every other span each word stands in the code, the definitions, the proofs, the tests or the examples.
@@ -62,6 +62,8 @@ class Documents:
         self.texts = sources()
         self.code = {path: text for path, text in self.texts.items() if path.suffix == ".rt"}
         self.lines = {line.strip() for text in self.code.values() for line in text.splitlines()}
+        files = [*self.texts, *(it.relative_to(ROOT) for it in PAGES)]
+        self.paths = {str(it) for file in files for it in (file, *file.parents)}
         self.words = set(ABROAD)
         for path, text in self.texts.items():
             self.words.update(WORD.findall(text), WORD.findall(str(path)))
@@ -75,10 +77,10 @@ class Documents:
             print(f"failed: {page.relative_to(ROOT)}:", *said)
 
     def is_path(self, text):
-        """Whether a file or a folder has this name: from the top, from docs/, or within crates, tests or examples."""
-        pattern = re.sub(r"\b[A-Z]+\b(?!\.md)", "*", text.strip("./") if text.startswith("./") else text.rstrip("/"))
-        starts = ("", "docs/", "crates/*/", "crates/*/src/", "crates/*/specs/", "crates/*/proofs/", "**/")
-        return any(next(ROOT.glob(start + pattern), None) for start in starts)
+        """Whether a file or a folder has this path, from the top or from any folder on; capitals stand for any name."""
+        path = re.escape(text.removeprefix("./").rstrip("/")).replace(r"\*", "[^/]*")
+        path = re.sub(r"\b[A-Z]+\b(?!\\.md)", "[^/]*", path)
+        return any(re.fullmatch(rf"(?:.*/)?{path}", it) for it in self.paths)
 
     def is_item(self, owner, name):
         """Whether the owner is declared, and the name stands in a file that declares it or implements for it."""
