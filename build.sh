@@ -127,7 +127,9 @@ while [ "$count" -lt $((total - 1)) ]; do
     proved="$proved$name " idle=$((idle + jobs)) count=$((count + 1))
     echo "itmrun: proved $count of $total: $name" >&2
 done
+# (what is edited from here on is newer than the program)
+: >"$work/begun"
 (cd "$crates/itmrun" && printf '.memory 8\n.thread\n' | rt run --jobs "$most" -- sched -) >"$work/said" 2>&1 ||
     { cat "$work/said" >&2; stop "the program could not be proved and built; rt says above why"; }
-touch "$out/itmrun" || stop "the program was built, and cannot be marked as current: $out/itmrun"
+touch -r "$work/begun" "$out/itmrun" || stop "the program was built, and cannot be marked as current: $out/itmrun"
 echo "itmrun: proved $total of $total: itmrun" >&2

@@ -15,20 +15,30 @@ here=$(CDPATH= cd -- "$(dirname -- "$0")" && pwd) || exit 127
 command -v rt >/dev/null || stop 'the program is not built, and there is no rt on the path'
 echo 'itmrun: not proved on this machine yet; this answer is of the unproved sources. sh build.sh proves and builds:' \
     'some 20 minutes on four processors, 40 on two' >&2 || exit 5
-work=$(mktemp -d) || stop 'there is no place for temporary files'
+work=$(mktemp -d) && work=$(CDPATH= cd -- "$work" && pwd) || stop 'there is no place for temporary files'
 trap 'rm -rf "$work"' EXIT
 trap 'kill $running 2>/dev/null; wait; exit 143' HUP INT TERM
 
-# find FILE: sets `path` to that by which the program reads what FILE has; where this cannot be read, to that of no file,
-# so that the program says so itself
+# find FILE: sets `path` to that by which the program reads what FILE has: of a device, a process's own file or standard
+# input, also by links, a copy, of a script no longer than shows that it is too long. Where this cannot be read, there is
+# none, so that the program says so itself
 find() {
+    real=$(readlink -f -- "$1" && echo .) && real=${real%??} || real=
     case $1 in
-    - | /dev/* | /proc/*)
+    -) real=/dev/stdin ;;
+    '') real= ;;
+    /*) real=${real:-$1} ;;
+    *) real=${real:-$PWD/$1} ;;
+    esac
+    path=$real
+    case $real in
+    /dev/* | /proc/*)
         path=$work/input
-        cat -- "$1" >"$path" 2>/dev/null || rm -f "$path"
+        case $command in
+        check) cat -- "$1" ;;
+        *) head -c 16777217 -- "$1" ;;
+        esac >"$path" 2>/dev/null || rm -f "$path"
         ;;
-    '' | /*) path=$1 ;;
-    *) path=$PWD/$1 ;;
     esac
 }
 

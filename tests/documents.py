@@ -5,7 +5,8 @@ The last line is "N passed, M failed"; the exit status is 0 where none failed.
 - `Type::item` names an item of a type, a trait, an enum or a module that are declared.
 - An `_ITM_` name is an entry point or the beginning of one, and what docs/ABI.md lists as left out is none.
 - Of every other span each word stands in the code, the definitions, the proofs, the tests or the examples.
-- A block of Rattle is part of a source file, line by line; a history or a script in README.md is a file of examples/.
+- A block of Rattle is a part of a source file; a plain block of README.md or CALLING.md is a file of examples/, what a
+  program prints, or a line of crates.txt. README.md counts the must-fail edits right.
 - A link leads to a page that is there.
 """
 
@@ -16,7 +17,7 @@ import sys
 ROOT = pathlib.Path(__file__).resolve().parent.parent
 PAGES = [ROOT / "README.md", *sorted(ROOT.glob("docs/*.md"))]
 SOURCES = [
-    "crates.txt", "HANDLES", "itmrun", "*.sh", ".ci/run", "tests/**/*", "bench/*", "examples/*", "judge/**/*",
+    "crates.txt", "HANDLES", "itmrun", "crates/*/stdout", "*.sh", ".ci/run", "tests/**/*", "bench/*", "examples/*", "judge/**/*",
     *(f"crates/*/{part}/**/*" for part in ("src", "specs", "proofs", "must-fail", "wrong-bodies")),
 ]
 
@@ -56,14 +57,19 @@ def sources():
     return {it.relative_to(ROOT): it.read_text(errors="replace") for it in files}
 
 
+def unindented(text):
+    """The text between two line feeds, with no line indented."""
+    return "\n" + "\n".join(line.strip() for line in text.strip("\n").splitlines()) + "\n"
+
+
 class Documents:
     def __init__(self):
         self.passed = self.failed = 0
         self.texts = sources()
         self.code = {path: text for path, text in self.texts.items() if path.suffix == ".rt"}
-        self.lines = {line.strip() for text in self.code.values() for line in text.splitlines()}
         files = [*self.texts, *(it.relative_to(ROOT) for it in PAGES)]
         self.paths = {str(it) for file in files for it in (file, *file.parents)}
+        self.parts = [unindented(text) for text in self.code.values()]
         self.words = set(ABROAD)
         for path, text in self.texts.items():
             self.words.update(WORD.findall(text), WORD.findall(str(path)))
@@ -116,11 +122,12 @@ class Documents:
 
     def block(self, page, kind, text):
         if kind == "rust":
-            lacking = [it for it in text.splitlines() if it.strip() and it.strip() not in self.lines]
-            self.expect(not lacking, page, "no source has the line", *lacking[:1])
-        elif not kind and page.name == "README.md":
-            files = [it for path, it in self.texts.items() if path.parts[0] == "examples"]
-            self.expect(text in files, page, "no example is", text.splitlines()[0], "..")
+            held = any(unindented(text) in it for it in self.parts)
+            self.expect(held, page, "no source has the lines", text.splitlines()[0].strip(), "..")
+        elif not kind and page.name in ("README.md", "CALLING.md"):
+            files = [it for path, it in self.texts.items() if path.parts[0] == "examples" or path.name in ("stdout", "crates.txt")]
+            held = any(text == it or text in it.splitlines(keepends=True) for it in files)
+            self.expect(held, page, "no file has", text.splitlines()[0], "..")
 
     def page(self, page):
         text = page.read_text()
@@ -137,8 +144,16 @@ class Documents:
             self.span(page, it)
 
 
+    def counts(self):
+        """README.md tells how many planted errors the prover refuses."""
+        page = ROOT / "README.md"
+        there = len([*ROOT.glob("crates/*/must-fail/*.edit")])
+        self.expect(f"refuses {there} planted errors" in page.read_text(), page, "there are", str(there), "planted errors")
+
+
 def main():
     documents = Documents()
+    documents.counts()
     for page in PAGES:
         documents.page(page)
     print(f"{documents.passed} passed, {documents.failed} failed")

@@ -1,4 +1,5 @@
-# The part of tests/command.sh on the launcher: what it runs, and that the unproved sources answer as the proved program.
+# The part of tests/command.sh on the launcher: what it runs, and that what it hands on does not depend on which. Of the
+# unproved sources themselves the last case is.
 
 # a copy of the launcher beside stand-ins: an `rt` that runs the proved program as `rt try` runs the unproved one, and a
 # build.sh that has the program at once
@@ -61,6 +62,9 @@ both 'a script whose name begins with a dash' 0 sched -- -x
 both 'a script that is printed' 0 asm script
 both 'a script that is read as standard input' 4 sched -
 both 'a script that is read as a device' 4 sched /dev/stdin
+ln -s /dev/stdin "$work/here/in"
+both 'a link to standard input' 4 sched in
+both 'a device that never ends' 2 sched /dev/zero
 both 'a thread that gives up' 4 sched impatient
 both 'no history' 2 check script
 both 'no script' 2 sched 'no run'

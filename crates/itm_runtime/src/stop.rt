@@ -21,7 +21,7 @@ pub enum Stop {
     /// The transaction did not begin, and may be tried again.
     #[error("the clock is held")]
     Busy { clock: u64 },
-    /// The transaction is rolled back, and no other one writes any more.
+    /// The transaction is rolled back: as many have committed as this thread's limits allow.
     #[error("as many have committed as may")]
     Full { at: u64 },
     /// Memory was refused. The transaction is as it was, open or not.
