@@ -33,8 +33,29 @@ result() {
     fi
 }
 
+# printed PROGRAM THREADS METHOD [FOLDER]
+printed() {
+    sh "$here/judge.sh" "$here/${4:-programs}/$1.c" "$2" "$3"
+}
+
 judge() {
-    sh "$here/judge.sh" "$here/programs/$1.c" "$2" "$3" >"$WORK/told" 2>&1
+    printed "$@" >"$WORK/told" 2>&1
+}
+
+# gives NAME STATUS WORDS COMMAND..: what a command ends with, and tells
+gives() {
+    name=$1 due=$2 words=$3
+    shift 3
+    "$@" >"$WORK/told" 2>&1
+    [ $? = "$due" ] && grep -q -e "$words" "$WORK/told"
+    result "$name has to give status $due and tell: $words" $?
+}
+
+# narrow RUN OUTCOMES: no try of these outcomes has a range open
+narrow() {
+    awk -v outcomes="$2" '$1 == "attempt" && $6 ~ outcomes { n++; wide += $4 != $5 } END { exit !n || wide }' \
+        "$WORK/$1.recording"
+    result "$1, ${ORDER:-outside}, has to leave no range open" $?
 }
 
 # legal PROGRAM THREADS METHOD: again where libitm itself ended the program, as it may under `default` (README.md)
@@ -44,7 +65,8 @@ legal() {
         status=$?
         [ "$3" = default ] && grep -q 'signal 6' "$WORK/told" || break
     done
-    result "$1 on $2 threads under $3, ${ORDER:-outside}, has to be legal" $status
+    [ $status = 0 ] && ! grep -q 'the program ended' "$WORK/told" # it has seen nothing wrong itself
+    result "$1 on $2 threads under $3, ${ORDER:-outside}, has to be legal" $?
 }
 
 # told NAME PROGRAM METHOD: the fault that the environment plants shows in one of some runs
@@ -71,8 +93,44 @@ for method in $methods; do
 done
 RUNTIME=$(gcc -print-file-name=libitm.so.1) ARGS=100 legal bank 4 ml_wt
 
+# how narrow the ranges are
+for order in outside inside; do
+    ARGS=60 ORDER=$order legal cancel 1 ml_wt
+    ORDER=$order narrow cancel.1.ml_wt .
+done
+ARGS=100 ORDER=inside legal bank 4 ml_wt
+ORDER=inside narrow bank.4.ml_wt '^(committed|readonly)$'
+
+# each barrier is told once; a long double is told as two words
+CFLAGS='-O2 -mavx' judge barriers 1 ml_wt tests && awk '
+    BEGIN {
+        split("R RaR RaW RfW W WaR WaW", barriers)
+        split("U1 U2 U4 U8 F D CF CD M64 M128 M256", types)
+        for (i in barriers)
+            for (k in types) due["_ITM_" barriers[i] types[k]] = 1
+        due["_ITM_RU8"] = due["_ITM_RU2"] = 13
+        due["_ITM_WU8"] = due["_ITM_WU2"] = 10
+        due["_ITM_WU4"] = 2
+        due["_ITM_commitTransaction"] = 1
+    }
+    $1 == "call" { due[$2]-- }
+    END { for (name in due) wrong += due[name] != 0; exit wrong != 0 }' "$WORK/barriers.1.ml_wt.recording"
+result 'each barrier has to be told once' $?
+
+# what is no history of a whole run, and what cannot be judged
+gives 'a freed block' 3 'bad reply' printed freed 1 ml_wt tests
+gives 'a plain store' 3 'without a transaction' printed plain 1 ml_wt tests
+gives 'a crash' 4 'stopped: signal 4' printed crash 1 ml_wt tests
+LIMIT=2 gives 'a hang' 4 'stopped: signal 15' printed hang 1 ml_wt tests
+gives 'a misspelled method' 1 'no method mlwt' printed bank 4 mlwt
+ORDER=insde gives 'a misspelled order' 1 'outside or inside' printed bank 4 ml_wt
+python3 "$here/tests/undecided.py" 20 >"$WORK/undecided.recording"
+gives 'twenty commits in any order' 4 undecided python3 "$here/settle/settle.py" "$WORK/undecided.recording" \
+    "$WORK/undecided.history" "$WORK/empty"
+
 # more than a history holds
 ARGS=1200 legal mixed 4 gl_wt
+cp "$WORK/mixed.4.gl_wt.recording" "$WORK/long.recording"
 [ -f "$WORK/mixed.4.gl_wt.history.2" ]
 result 'a long run has to be told in pieces' $?
 
@@ -87,6 +145,10 @@ for method in $methods; do
         ARGS=100 legal undo 2 $method
     fi
 done
+if grep -q 'x is 1' "$WORK/cancelled.out"; then
+    ARGS=60 gives 'an outer cancel under serial' 3 'is shared.tried' printed outer 2 serial
+fi
+ARGS=60 legal outer 4 ml_wt
 
 # faults that a library between the recorder and the runtime plants
 gcc -O2 -fPIC -shared -o "$WORK/wrapper.so" "$here/faults/wrapper.c"

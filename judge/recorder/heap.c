@@ -23,11 +23,18 @@ byte *heap_memory(void) {
     return heap;
 }
 
+static void *none_left(size_t size) {
+    static atomic_flag told = ATOMIC_FLAG_INIT;
+    if (!atomic_flag_test_and_set(&told)) fprintf(stderr, "recorder: malloc gave nothing for %zu bytes\n", size);
+    errno = ENOMEM;
+    return 0;
+}
+
 static void *take(size_t size, size_t alignment, const void *caller) {
     size_t chunk = (sizeof(struct block) + size + alignment + SMALLEST - 1) & -SMALLEST;
     size_t at = used, most = stopping ? heap_size : heap_size - KEPT;
     do
-        if (size > most || alignment > most || at + chunk > most) return errno = ENOMEM, (void *)0;
+        if (size > most || alignment > most || at + chunk > most) return none_left(size);
     while (!atomic_compare_exchange_weak(&used, &at, at + chunk));
     struct block *block = (struct block *)(heap_memory() + at);
     byte *memory = (byte *)(((uintptr_t)(block + 1) + alignment - 1) & -alignment);
@@ -60,7 +67,7 @@ ENTRY void *malloc(size_t size) {
 
 ENTRY void *calloc(size_t number, size_t size) {
     size_t total;
-    if (__builtin_mul_overflow(number, size, &total)) return errno = ENOMEM, (void *)0;
+    if (__builtin_mul_overflow(number, size, &total)) return none_left(SIZE_MAX);
     return take(total, SMALLEST, __builtin_return_address(0));
 }
 

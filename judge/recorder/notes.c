@@ -31,7 +31,7 @@ struct event *note(struct thread *t, enum kind kind, const char *name, uint64_t 
                    const void *data) {
     struct event *event = (struct event *)t->end;
     size_t total = event_size(data ? size : 0);
-    if (total > buffer_size - (t->end - t->start)) stop_here("a thread has made too many calls", 0);
+    if (total > buffer_size - (t->end - t->start)) stop_here(0);
     *event = (struct event){name, a, b, size, kind};
     if (data) memcpy(event->data, data, size);
     t->end += total;

@@ -26,7 +26,7 @@ enum { AGAIN = 8, CANCELLED = 16 };
 enum { OUTER_ABORT = 16 };
 
 /* of a history */
-enum { DEEPEST = 16, LAST_TRY = 10001, ARENA = 4096, MEMORY = 65536 };
+enum { DEEPEST = 16, LAST_TRY = 10001, ARENA = 4096 };
 
 /* limits of the recorder */
 enum { BLOCKS = 1024, THREADS = 4096, LOGS = 64 };
@@ -47,7 +47,8 @@ void *next(const char *name);
 struct word {
     uint64_t opening;     /* its bytes as transactions first touched them */
     uint64_t known;       /* its bytes as the try that is irrevocable left them (irrevocable.c) */
-    uint32_t number;      /* among the words that are told, by address (tell.c) */
+    uint32_t number;      /* among the words that are told, by address (tell_words.c) */
+    bool told;            /* whether it is one of them */
     _Atomic byte touched; /* a bit for each byte */
 };
 
@@ -184,7 +185,7 @@ extern void *runtime_begin;
 void set_up(void);
 void pause_now_and_then(void);
 void write_recording(void);
-_Noreturn void stop_here(const char *why, int number);
+_Noreturn void stop_here(int signal);
 
 /* Before a call is passed on. The thread where it is in a transaction. */
 static inline struct thread *before(void) {

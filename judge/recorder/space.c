@@ -76,9 +76,10 @@ void first_touch(size_t word, byte bits) {
     unlock();
 }
 
-/* Before memory of the heap is freed: whoever touches it from now on is compared with what it was. */
+/* Before memory of the heap is freed: what it is filled with is never an opening, so whoever reads it from now on is
+ * compared with what it was. */
 void last_touch(const void *p, size_t size) {
-    if (!words || size > MEMORY) return;
+    if (!words) return;
     lock();
     for (size_t word = place_of(p, size) / 8, count = (size + 7) / 8; count; count--) keep_opening(word++, 0xff);
     unlock();

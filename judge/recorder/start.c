@@ -55,21 +55,18 @@ ENTRY void exit(int status) {
     __builtin_unreachable();
 }
 
-/* Writes the recording up to here, and ends the program. */
-_Noreturn void stop_here(const char *why, int number) {
+/* Writes the recording up to here, and ends the program: by this signal, or 0 where a buffer is full. */
+_Noreturn void stop_here(int signal) {
     end_alone();
-    fprintf(stderr, "recorder: stopped: %s %d\n", why, number);
+    if (signal) fprintf(stderr, "recorder: stopped: signal %d\n", signal);
+    else fputs("recorder: stopped: a thread has made too many calls\n", stderr);
     write_recording();
-    _exit(128 + number);
-}
-
-static void stopped(int signal) {
-    stop_here("signal", signal);
+    _exit(128 + signal);
 }
 
 void set_up(void) {
     static const int stops[] = {SIGSEGV, SIGBUS, SIGFPE, SIGILL, SIGABRT, SIGTERM};
-    for (size_t i = 0; i < sizeof stops / sizeof *stops; i++) signal(stops[i], stopped);
+    for (size_t i = 0; i < sizeof stops / sizeof *stops; i++) signal(stops[i], stop_here);
     const char *calls = getenv("RECORD_PAUSES");
     pauses = calls ? atoi(calls) : 0;
     runtime_begin = next("_ITM_beginTransaction");

@@ -37,8 +37,8 @@ static size_t *told_words, told_count;
 
 static void find_words(size_t place, size_t size) {
     for (size_t word = place / 8; word <= (place + size - 1) / 8; word++) {
-        if (words[word].number) continue;
-        words[word].number = 1;
+        if (words[word].told) continue;
+        words[word].told = true;
         told_words[told_count++] = 8 * word;
     }
 }

@@ -6,7 +6,7 @@ from private import FREED
 from recording import WORD
 
 CALLS = 6  # so many are shown up to the one that is wrong
-SIZES = {"U1": 1, "U2": 2, "U4": 4, "U8": 8, "F": 4, "D": 8, "M64": 8, "CF": 8, "M128": 16, "CD": 16, "M256": 32}
+PLAIN = "if the program stores here without a transaction, that is out of scope"
 
 
 def ordinal(number):
@@ -31,41 +31,6 @@ def writes_to(calls, start, stop):
     return any(call[0] in kinds and call[1] < stop and start < call[2] for call in calls)
 
 
-def _named(call):
-    """The entry of a call's line, its place and its size, or None, if they are of the thread's own memory."""
-    name, place, *rest = call.split()[1:]
-    if name == "_ITM_LB":
-        return "log", int(place), int(rest[0])
-    if name.startswith("_ITM_L"):
-        return "log", int(place), SIZES[name.removeprefix("_ITM_L")]
-    if name[:2] in ("ld", "st"):
-        return name[:2], int(place), int(name[2:])
-    return name, place, None
-
-
-def own_due(lines):
-    """What the plain machine has of the thread's own memory at the last of these lines of a try, which loads it."""
-    arena = bytearray.fromhex(lines[0].split()[1])
-    kept = [{}]  # of each open block what its logs keep
-    for line in lines[1:-1]:
-        name, place, size = _named(line)
-        if name == "log":
-            for at in range(place, place + size):
-                kept[-1].setdefault(at, arena[at])
-        elif name == "st":
-            arena[place : place + size] = bytes.fromhex(line.split()[3])
-        elif name == "_ITM_beginTransaction":
-            kept.append({})
-        elif name == "_ITM_commitTransaction":
-            inner = kept.pop()
-            kept[-1] = {**inner, **kept[-1]}
-        elif name == "_ITM_abortTransaction":
-            for at, byte in kept.pop().items():
-                arena[at] = byte
-    _, place, size = _named(lines[-1])
-    return arena[place : place + size]
-
-
 class Explanation:
     """What can be told of a run that was settled, and written as these texts."""
 
@@ -86,7 +51,7 @@ class Explanation:
             return whose(one)
         calls = [f"{line - row + i}: {machine.in_history(one.lines[i - 1]).strip()}" for i in range(2, row + 1)]
         if one.lines[row - 1].startswith("call ld"):
-            due = own_due(one.lines[:row]).hex()
+            due = machine.own_due(one.lines[:row]).hex()
             told = [f"the thread's own memory, which the block had logged, has to be {due} again"]
         else:
             told = self._read(one, one.lines[1:row])
@@ -117,8 +82,9 @@ class Explanation:
                 writers.append(commit)
 
         self._memory_after(one.at, look)
-        by = self._by(writers[-1]) if writers else "as at the start"
-        if writes_to(calls, start, stop):
+        own = writes_to(calls, start, stop)
+        by = f"written by {self._commit(writers[-1])}" if writers else "as at the start"
+        if own:
             cancelled = ", of which a block was cancelled" if (machine.CANCEL,) in calls else ""
             by = f"by this try itself{cancelled}"
         lines = [f"the plain machine has {due.hex()} there: {by}", f"place {start} is {self._spread(start, stop)}"]
@@ -126,10 +92,13 @@ class Explanation:
             lines.append(f"{told.hex()} stood there last before {self._commit(had[-1])}")
         if set(told) == {FREED}:
             lines.append("that is what the judge fills memory with as it is freed")
+        elif not own and (not writers or self._returned_before(writers[-1], one)):
+            lines.append(PLAIN)
         return lines
 
-    def _by(self, one):
-        return f"written by {self._commit(one)}"
+    def _returned_before(self, commit, one):
+        """Whether a commit had returned before all that the range of a try tells of its begin."""
+        return sum(other.commits and other.ended <= commit.ended for other in self.run.tries) <= one.low
 
     def _commit(self, one):
         path, line = self.line_of[id(one)]

@@ -1,7 +1,10 @@
-"""The plain machine on the shared memory: what calls read, and what they leave. docs/HISTORIES.md states it whole; the
-verdict is always that of `itmrun check`, and this machine only finds positions and tells what should have been read."""
+"""The plain machine on the shared memory, and on a thread's own: what calls read, and what they leave.
+docs/HISTORIES.md states it whole; the verdict is always that of `itmrun check`, and this machine only finds positions
+and tells what should have been read."""
 
 READ, WRITE, COPY, FILL, BEGIN, COMMIT, CANCEL, CANCEL_ALL = range(8)
+
+SIZES = {"U1": 1, "U2": 2, "U4": 4, "U8": 8, "F": 4, "D": 8, "M64": 8, "CF": 8, "M128": 16, "CD": 16, "M256": 32}
 
 _kinds = {
     "_ITM_beginTransaction": BEGIN,
@@ -118,3 +121,38 @@ def commits(memory, calls):
         return undo
     roll_back(memory, undo)
     return None
+
+
+def _on_own(call):
+    """The entry of a call's line, its place and its size, or None, if they are of the thread's own memory."""
+    name, place, *rest = call.split()[1:]
+    if name == "_ITM_LB":
+        return "log", int(place), int(rest[0])
+    if name.startswith("_ITM_L"):
+        return "log", int(place), SIZES[name.removeprefix("_ITM_L")]
+    if name[:2] in ("ld", "st"):
+        return name[:2], int(place), int(name[2:])
+    return name, place, None
+
+
+def own_due(lines):
+    """What the plain machine has of the thread's own memory at the last of these lines of a try, which loads it."""
+    arena = bytearray.fromhex(lines[0].split()[1])
+    kept = [{}]  # of each open block what its logs keep
+    for line in lines[1:-1]:
+        name, place, size = _on_own(line)
+        if name == "log":
+            for at in range(place, place + size):
+                kept[-1].setdefault(at, arena[at])
+        elif name == "st":
+            arena[place : place + size] = bytes.fromhex(line.split()[3])
+        elif name == "_ITM_beginTransaction":
+            kept.append({})
+        elif name == "_ITM_commitTransaction":
+            inner = kept.pop()
+            kept[-1] = {**inner, **kept[-1]}
+        elif name == "_ITM_abortTransaction":
+            for at, byte in kept.pop().items():
+                arena[at] = byte
+    _, place, size = _on_own(lines[-1])
+    return arena[place : place + size]

@@ -73,9 +73,11 @@ def summary(run, left_out):
 
 def far(tries, run, stuck):
     """A line on how far the search came, where it did not come through."""
-    ordered = sum(one.commits for one in tries if one is not stuck[0]) if stuck else 0
+    if not stuck:
+        return []
+    ordered = sum(one.commits for one in tries if one is not stuck[0])
     commits = sum(one.commits for one in run.tries)
-    return [f"no order of the commits goes on: the longest has {ordered} of {commits}"] if stuck else []
+    return [f"no order of the commits goes on: the longest has {ordered} of {commits}"]
 
 
 def judge(path, to, program):

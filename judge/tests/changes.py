@@ -3,7 +3,7 @@
     changes.py ITMRUN FOLDER
 
 FOLDER has a run of programs/counters.c, in which each commit changes memory: `run.recording`, `run.history` and the
-program `counters`. To each changed history `itmrun check` has to answer as tests/soak/verdict.py does, which works the
+program `counters`; and one of programs/mixed.c that is told in pieces: `long.recording`. To each changed history `itmrun check` has to answer as tests/soak/verdict.py does, which works the
 verdict out again; each changed recording has to be told by settle.py, with a kind that is due. Prints how many were."""
 
 import pathlib
@@ -57,6 +57,11 @@ def turn(outcome, which, start):
         lines.lines[i] = turned(lines.lines[i])
 
     return change
+
+
+def turn_final_word(lines):
+    i = next(i for i, line in enumerate(lines.lines) if line.startswith("word") and line.endswith(" 1"))
+    lines.lines[i] = f"{turned(lines.lines[i][:-2])} 1"
 
 
 def turn_last(lines):
@@ -133,8 +138,14 @@ RECORDINGS = {
     "a reply of a conflict": (turn("conflict", 0.5, "call _ITM_R"), {"reply"}),
     "a reply of a reader": (turn("readonly", 0.5, "call _ITM_R"), {"reply"}),
     "what a commit wrote": (turn("committed", 0.4, "call _ITM_W"), {"reply", "final", "position"}),
+    "the last bytes": (turn_final_word, {"final"}),
     "a dropped commit": (drop, {"reply", "final", "position", "at"}),
     "a write left out": (drop_line("call _ITM_W"), {"reply", "final", "position"}),
+}
+
+
+LONG_RECORDINGS = {
+    "a reply late in a long run": (turn("committed", 0.95, "call _ITM_RU8"), {"reply", "position"}),
 }
 
 
@@ -153,8 +164,8 @@ def history_is_told(itmrun, folder, change, kinds):
     return same and (kinds is None or due.kind in kinds), f"{run.stdout.strip()}, wanted {due}"
 
 
-def recording_is_told(itmrun, folder, change, kinds):
-    lines = Lines((folder / "run.recording").read_text())
+def recording_is_told(itmrun, folder, change, kinds, run="run"):
+    lines = Lines((folder / f"{run}.recording").read_text())
     change(lines)
     changed = folder / "changed.recording"
     changed.write_text(lines.text())
@@ -164,9 +175,14 @@ def recording_is_told(itmrun, folder, change, kinds):
     return run.returncode == 3 and told[0] == "bad" and told[1] in kinds, run.stdout + run.stderr
 
 
+def long_recording_is_told(itmrun, folder, change, kinds):
+    return recording_is_told(itmrun, folder, change, kinds, "long")
+
+
 def main(itmrun, folder):
     passed = failed = 0
-    for told, changes in ((history_is_told, HISTORIES), (recording_is_told, RECORDINGS)):
+    kinds_of = ((history_is_told, HISTORIES), (recording_is_told, RECORDINGS), (long_recording_is_told, LONG_RECORDINGS))
+    for told, changes in kinds_of:
         for name, (change, kinds) in changes.items():
             right, what = told(itmrun, pathlib.Path(folder), change, kinds)
             passed, failed = passed + right, failed + (not right)
