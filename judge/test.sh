@@ -163,7 +163,7 @@ FAULT=wide told wide cancel ml_wt
 FAULT=free told free heap ml_wt
 unset BELOW ONE_IN
 
-# faults in libitm itself; README.md lists those that no run tells
+# faults in libitm itself; TESTED.md lists those that no run tells
 for library in ${libraries:+"$libraries"/*.so}; do
     name=$(basename "$library" .so)
     export RUNTIME="$library"

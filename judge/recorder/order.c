@@ -7,7 +7,8 @@
  *          that faults in the validation of a commit are hidden.
  *
  * A try that did not commit, or has not ended, comes behind the commits that had returned before it began, and before
- * those that were called after it ended. */
+ * those that were called after it ended. The runtime restarts a try without telling when: such a one comes behind those
+ * that had returned before the try before it began. */
 #include "recorder.h"
 #include <stdlib.h>
 

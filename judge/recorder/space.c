@@ -1,6 +1,7 @@
 /* The shared memory: the program's writable data and its heap, side by side in one row of bytes. Of a byte that
  * transactions touch, the opening value is the one that it has before the first such call is passed on. So it does not
- * matter how the program filled it before, and a byte that no transaction touches may change at any time. */
+ * matter how the program filled it before, and a byte that no transaction touches may change at any time. Another
+ * thread's call on the same bytes waits until they are taken. */
 #include "recorder.h"
 #include <link.h>
 
