@@ -1,9 +1,13 @@
 /* Stores plainly between two transactions on the same place. */
-long x, seen;
+static long x;
+long seen;
+
+__attribute__((noipa)) static void store(void) {
+    x = 2;
+}
 
 int main(void) {
     __transaction_atomic { x = 1; }
-    *(volatile long *)&x = 2; /* GCC does not leave it out */
+    store();
     __transaction_atomic { seen = x; }
-    __transaction_atomic { x = seen + 1; }
 }
