@@ -3,8 +3,9 @@
     changes.py ITMRUN FOLDER
 
 FOLDER has a run of programs/counters.c, in which each commit changes memory: `run.recording`, `run.history` and the
-program `counters`; and one of programs/mixed.c that is told in pieces: `long.recording`. To each changed history `itmrun check` has to answer as tests/soak/verdict.py does, which works the
-verdict out again; each changed recording has to be told by settle.py, with a kind that is due. Prints how many were."""
+program `counters`; and one of programs/mixed.c that is told in pieces: `long.recording` and the program `mixed`. To
+each changed history `itmrun check` has to answer as tests/soak/verdict.py does, which works the verdict out again; each
+changed recording has to be told by settle.py, with a kind that is due. Prints how many were."""
 
 import pathlib
 import re
@@ -164,25 +165,25 @@ def history_is_told(itmrun, folder, change, kinds):
     return same and (kinds is None or due.kind in kinds), f"{run.stdout.strip()}, wanted {due}"
 
 
-def recording_is_told(itmrun, folder, change, kinds, run="run"):
-    lines = Lines((folder / f"{run}.recording").read_text())
+def recording_is_told(itmrun, folder, change, kinds, name="run", program="counters"):
+    lines = Lines((folder / f"{name}.recording").read_text())
     change(lines)
     changed = folder / "changed.recording"
     changed.write_text(lines.text())
     settle = HERE.parent / "settle" / "settle.py"
-    run = ran(sys.executable, str(settle), str(changed), str(folder / "settled.history"), str(folder / "counters"))
+    run = ran(sys.executable, str(settle), str(changed), str(folder / "settled.history"), str(folder / program))
     told = run.stdout.split()
     return run.returncode == 3 and told[0] == "bad" and told[1] in kinds, run.stdout + run.stderr
 
 
 def long_recording_is_told(itmrun, folder, change, kinds):
-    return recording_is_told(itmrun, folder, change, kinds, "long")
+    return recording_is_told(itmrun, folder, change, kinds, "long", "mixed")
 
 
 def main(itmrun, folder):
     passed = failed = 0
-    kinds_of = ((history_is_told, HISTORIES), (recording_is_told, RECORDINGS), (long_recording_is_told, LONG_RECORDINGS))
-    for told, changes in kinds_of:
+    histories, recordings = (history_is_told, HISTORIES), (recording_is_told, RECORDINGS)
+    for told, changes in (histories, recordings, (long_recording_is_told, LONG_RECORDINGS)):
         for name, (change, kinds) in changes.items():
             right, what = told(itmrun, pathlib.Path(folder), change, kinds)
             passed, failed = passed + right, failed + (not right)

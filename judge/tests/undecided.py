@@ -1,5 +1,5 @@
-"""A recording of so many threads, each with one commit to a word of its own anywhere among the others; the last bytes of
-one word fit none of their orders."""
+"""A recording of so many threads, each with one commit to a word of its own, anywhere among the others. The last bytes
+of one word fit none of their orders."""
 
 import sys
 
