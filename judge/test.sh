@@ -148,7 +148,7 @@ done
 if grep -q 'x is 1' "$WORK/cancelled.out"; then
     ARGS=60 gives 'an outer cancel under serial' 3 'is shared.tried' printed outer 2 serial
 fi
-ARGS=60 legal outer 4 ml_wt
+ARGS=60 legal outer 1 ml_wt
 
 # faults that a library between the recorder and the runtime plants
 gcc -O2 -fPIC -shared -o "$WORK/wrapper.so" "$here/faults/wrapper.c"
